@@ -1,0 +1,6 @@
+pub mod Aligned
+pub mod Fitting
+pub mod Found
+pub mod Returned
+pub mod Signed
+pub mod Written

@@ -1,0 +1,9 @@
+pub mod Examples
+pub mod Encoding
+pub mod Fields
+pub mod Formats
+pub mod Meaning
+pub mod Operations
+pub mod Registers
+pub mod Rows
+pub mod Widths

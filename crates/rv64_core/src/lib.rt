@@ -1,0 +1,29 @@
+//! The instructions of RV64IM, with the words of machine mode: what a word of 32 bits says, and what it does.
+//!
+//! [`decode`] reads a word by the table of the instruction set, [`encode`] writes it again, and [`plan`] says what an
+//! instruction does with the registers, as a [`Plan`]: the next place and a register's value, an access to memory, or an
+//! exception. Numbers wrap at 2^64, and an immediate is already sign extended.
+#![tactic(auto)]
+
+mod arithmetic;
+mod decoding;
+mod encoding;
+mod fields;
+mod instruction;
+mod operations;
+mod planning;
+mod plans;
+mod register;
+mod width;
+
+pub use decoding::decode;
+pub use encoding::encode;
+pub use instruction::Instr;
+pub use operations::{Condition, CsrOp, Division, Multiplication, Operation, WordOperation};
+pub use planning::plan;
+pub use plans::Plan;
+pub use register::{Register, Regs};
+pub use width::Width;
+
+#[cfg(test)]
+mod tests;
