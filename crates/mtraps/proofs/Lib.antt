@@ -1,0 +1,4 @@
+pub mod Due
+pub mod Handler
+pub mod Masks
+pub mod Table

@@ -1,0 +1,4 @@
+pub mod CsrTable
+pub mod Interrupts
+pub mod Status
+pub mod Traps
