@@ -1,0 +1,4 @@
+pub mod Walk
+pub mod Inside
+pub mod Gathered
+pub mod Scattered

@@ -1,0 +1,6 @@
+pub mod Queues
+pub mod Memory
+pub mod Areas
+pub mod Chains
+pub mod Parts
+pub mod Used

@@ -1,0 +1,19 @@
+//! Split virtqueues (OASIS virtio 1.1, 2.6) over any guest memory, from the device's side.
+//!
+//! The driver is not trusted: whatever bytes stand in the rings, every call answers, and a malformed
+//! queue or chain is named by [`Broken`].
+#![tactic(auto)]
+
+mod broken;
+mod chains;
+mod memory;
+mod parts;
+mod rings;
+
+pub use broken::Broken;
+pub use chains::{Chain, Descriptor};
+pub use memory::{GuestRam, RAM_START};
+pub use rings::Queue;
+
+#[cfg(test)]
+mod tests;
