@@ -1,0 +1,5 @@
+pub mod Kinds
+pub mod States
+pub mod Registers
+pub mod Transport
+pub mod Serving
