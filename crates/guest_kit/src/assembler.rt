@@ -1,0 +1,176 @@
+//! An assembler: each function gives the word of one instruction, by the names of the RISC-V assembly language.
+
+ghost use Rattle.std.specs.Prelude.{◌≡◌, ◌%◌, ◌^◌};
+ghost use Rattle.rv64_core.specs.Encoding.{u_word, j_word, i_word, s_word};
+ghost use Rattle.guest_kit.specs.Registers.{number_of};
+
+use rv64_core::{CsrOp, CsrSource, Instr, Operation, Register, Width, encode};
+
+/// A register, by its name in the calling convention.
+#[derive(Clone, Copy, Debug, PartialEq, Eq)]
+pub(crate) enum Name {
+    /// x0, which reads 0.
+    Zero = 0,
+    /// x5.
+    T0 = 5,
+    /// x6.
+    T1 = 6,
+    /// x7.
+    T2 = 7,
+    /// x8.
+    S0 = 8,
+}
+
+/// The register of this name.
+fn register(name: Name) -> Register
+    ensures { result ≡ number_of name }
+{
+    Register::new(name as u8).unwrap()
+}
+
+/// `lui`: `imm`, whose low 12 bits are 0, into `rd`.
+#[tactic(auto, unfolding(rv64_core::specs::Encoding::encoded))]
+pub(crate) fn lui(rd: Name, imm: u64) -> u32
+    ensures { result ≡ u_word 0x37 (number_of rd) imm }
+{
+    encode(Instr::Lui {
+        rd: register(rd),
+        imm,
+    })
+}
+
+/// `auipc`: the address of the instruction, plus `imm`, whose low 12 bits are 0, into `rd`.
+#[tactic(auto, unfolding(rv64_core::specs::Encoding::encoded))]
+pub(crate) fn auipc(rd: Name, imm: u64) -> u32
+    ensures { result ≡ u_word 0x17 (number_of rd) imm }
+{
+    encode(Instr::Auipc {
+        rd: register(rd),
+        imm,
+    })
+}
+
+/// `addi`: `rs1 + imm` into `rd`.
+#[tactic(auto, unfolding(rv64_core::specs::Encoding::encoded))]
+pub(crate) fn addi(rd: Name, rs1: Name, imm: u64) -> u32
+    ensures { result ≡ i_word 0x13 (number_of rd) (number_of rs1) imm }
+{
+    encode(Instr::OpImm {
+        op: Operation::Add,
+        rd: register(rd),
+        rs1: register(rs1),
+        imm,
+    })
+}
+
+/// `lw`: the 4 bytes at `rs1 + offset`, sign extended, into `rd`.
+#[tactic(auto, unfolding(rv64_core::specs::Encoding::encoded))]
+pub(crate) fn lw(rd: Name, offset: u64, rs1: Name) -> u32
+    ensures { result ≡ i_word 0x2003 (number_of rd) (number_of rs1) offset }
+{
+    encode(Instr::Load {
+        rd: register(rd),
+        rs1: register(rs1),
+        offset,
+        width: Width::Word,
+        signed: true,
+    })
+}
+
+/// `sw`: the low 4 bytes of `rs2` to `rs1 + offset`.
+#[tactic(auto, unfolding(rv64_core::specs::Encoding::encoded))]
+pub(crate) fn sw(rs2: Name, offset: u64, rs1: Name) -> u32
+    ensures { result ≡ s_word 0x2023 (number_of rs1) (number_of rs2) offset }
+{
+    encode(Instr::Store {
+        rs1: register(rs1),
+        rs2: register(rs2),
+        offset,
+        width: Width::Word,
+    })
+}
+
+/// `jal`: a jump by `offset` from the instruction itself, with the address behind it in `rd`.
+#[tactic(auto, unfolding(rv64_core::specs::Encoding::encoded))]
+pub(crate) fn jal(rd: Name, offset: u64) -> u32
+    ensures { result ≡ j_word 0x6f (number_of rd) offset }
+{
+    encode(Instr::Jal {
+        rd: register(rd),
+        offset,
+    })
+}
+
+/// `ld`: the 8 bytes at `rs1 + offset` into `rd`.
+#[tactic(auto, unfolding(rv64_core::specs::Encoding::encoded))]
+pub(crate) fn ld(rd: Name, offset: u64, rs1: Name) -> u32
+    ensures { result ≡ i_word 0x3003 (number_of rd) (number_of rs1) offset }
+{
+    encode(Instr::Load {
+        rd: register(rd),
+        rs1: register(rs1),
+        offset,
+        width: Width::Double,
+        signed: true,
+    })
+}
+
+/// `sd`: the 8 bytes of `rs2` to `rs1 + offset`.
+#[tactic(auto, unfolding(rv64_core::specs::Encoding::encoded))]
+pub(crate) fn sd(rs2: Name, offset: u64, rs1: Name) -> u32
+    ensures { result ≡ s_word 0x3023 (number_of rs1) (number_of rs2) offset }
+{
+    encode(Instr::Store {
+        rs1: register(rs1),
+        rs2: register(rs2),
+        offset,
+        width: Width::Double,
+    })
+}
+
+/// `csrrw`: `rs1` into a CSR, and what it held into `rd`.
+#[tactic(auto, unfolding(rv64_core::specs::Encoding::encoded))]
+pub(crate) fn csrrw(rd: Name, csr: u16, rs1: Name) -> u32
+    ensures { result ≡ i_word 0x1073 (number_of rd) (number_of rs1) csr }
+{
+    encode(Instr::Csr {
+        op: CsrOp::Write,
+        rd: register(rd),
+        csr,
+        source: CsrSource::Register(register(rs1)),
+    })
+}
+
+/// `csrrs`: the bits of `rs1` are set in a CSR, and what it held goes into `rd`.
+#[tactic(auto, unfolding(rv64_core::specs::Encoding::encoded))]
+pub(crate) fn csrrs(rd: Name, csr: u16, rs1: Name) -> u32
+    ensures { result ≡ i_word 0x2073 (number_of rd) (number_of rs1) csr }
+{
+    encode(Instr::Csr {
+        op: CsrOp::Set,
+        rd: register(rd),
+        csr,
+        source: CsrSource::Register(register(rs1)),
+    })
+}
+
+/// `csrrsi`: the bits of `bits`, of which there are 5, are set in a CSR, and what it held goes into `rd`.
+#[tactic(auto, unfolding(rv64_core::specs::Encoding::encoded))]
+pub(crate) fn csrrsi(rd: Name, csr: u16, bits: u8) -> u32
+    ensures { result ≡ i_word 0x6073 (number_of rd) (bits % 2 ^ 5) csr }
+{
+    encode(Instr::Csr {
+        op: CsrOp::Set,
+        rd: register(rd),
+        csr,
+        source: CsrSource::Immediate(bits),
+    })
+}
+
+/// `mret`: the return from a trap.
+#[tactic(auto, unfolding(rv64_core::specs::Encoding::encoded))]
+pub(crate) fn mret() -> u32
+    ensures { result ≡ 0x30200073 }
+{
+    encode(Instr::Mret)
+}

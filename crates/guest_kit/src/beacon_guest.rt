@@ -1,0 +1,131 @@
+//! The guest that sends one frame.
+
+ghost use Rattle.std.specs.Prelude.{◌≡◌, IfOk, vec_len};
+ghost use Rattle.guest_kit.specs.Image.{image_of};
+ghost use Rattle.guest_kit.specs.Beacon.{beacon_program, beacon_words, frame_buffer};
+
+use crate::assembler::Name::{S0, T0, T1, T2, Zero};
+use crate::assembler::{addi, jal, lui, lw, sw};
+use crate::image::{descriptor, place, push_words};
+use crate::virtio::{
+    ACKNOWLEDGE, DRIVER, DRIVER_FEATURES, DRIVER_FEATURES_SEL, DRIVER_OK, FEATURES_OK, NETWORK,
+    QUEUE_DESC, QUEUE_DEVICE, QUEUE_DRIVER, QUEUE_NOTIFY, QUEUE_NUM, QUEUE_READY, QUEUE_SEL,
+    STATUS,
+};
+use std::alloc::{AllocError, Global};
+
+/// Where the descriptors of the queue lie.
+const DESCRIPTORS: u64 = 0x8000_1000;
+/// Where its available ring lies. The used ring lies 64 bytes behind it.
+const AVAILABLE: u64 = 0x8000_1040;
+/// Where the frame lies, with the header of the network device before it.
+const BUFFER: u64 = 0x8000_1100;
+
+/// The available ring: flags 0, one chain so far, which begins at descriptor 0.
+const ONE_AVAILABLE: [u8; 6] = [0, 0, 1, 0, 0, 0];
+
+/// The header of the network device, of 12 zero bytes, and the frame from client 1's guest to client 1.
+const HEADER_AND_FRAME: &[u8; 26] =
+    b"\0\0\0\0\0\0\0\0\0\0\0\0\x02\0\0\0\x01\x01\x02\0\0\0\0\x01\x88\xb5";
+
+/// The image of the guest that sends one frame, of 14 bytes, to client 1, with its 22nd instruction, and then jumps to itself
+/// for ever. It needs 2 pages of RAM.
+///
+/// The only error is out of memory.
+#[tactic(auto, unfolding(crate::specs::Image::image_of))]
+pub fn beacon(alloc: Global) -> Result<Vec<u8>, AllocError>
+    ensures image { IfOk result (λ image. image.items ≡ image_of beacon_program) }
+    ensures size { IfOk result (λ image. vec_len image ≡ 0x111a) }
+{
+    let mut image = Vec::new(alloc);
+    push_words(&mut image, &words())?;
+    place(&mut image, DESCRIPTORS, &descriptor(BUFFER, 26, 0, 0))?;
+    place(&mut image, AVAILABLE, &ONE_AVAILABLE)?;
+    place(&mut image, BUFFER, HEADER_AND_FRAME)?;
+    Ok(image)
+}
+
+/// The instructions. `t0` holds the first register of the device, and `t1` the number 1.
+fn words() -> [u32; 23]
+    ensures { result ≡ beacon_words }
+{
+    [
+        lui(T0, NETWORK),
+        addi(T1, Zero, 1),
+        // the device's features: bit 32 alone
+        sw(T1, STATUS, T0),
+        addi(T2, Zero, ACKNOWLEDGE | DRIVER),
+        sw(T2, STATUS, T0),
+        sw(T1, DRIVER_FEATURES_SEL, T0),
+        sw(T1, DRIVER_FEATURES, T0),
+        addi(T2, Zero, ACKNOWLEDGE | DRIVER | FEATURES_OK),
+        sw(T2, STATUS, T0),
+        lw(S0, STATUS, T0),
+        // queue 1, for sending, with one descriptor
+        sw(T1, QUEUE_SEL, T0),
+        sw(T1, QUEUE_NUM, T0),
+        lui(T2, 0xffff_ffff_8000_1000),
+        sw(T2, QUEUE_DESC, T0),
+        addi(T2, T2, 0x40),
+        sw(T2, QUEUE_DRIVER, T0),
+        addi(T2, T2, 0x40),
+        sw(T2, QUEUE_DEVICE, T0),
+        sw(T1, QUEUE_READY, T0),
+        addi(T2, Zero, ACKNOWLEDGE | DRIVER | FEATURES_OK | DRIVER_OK),
+        sw(T2, STATUS, T0),
+        // the frame is sent
+        sw(T1, QUEUE_NOTIFY, T0),
+        jal(Zero, 0),
+    ]
+}
+
+#[cfg(test)]
+mod tests {
+    use super::*;
+    use std::test::Fail;
+
+    #[test]
+    fn the_bytes_of_the_data(rt: HostRuntime) -> Result<(), Fail> {
+        let image = beacon(rt.alloc())?;
+        let mut parts = Vec::new(rt.alloc());
+        for (at, byte) in image.iter().enumerate() {
+            if at >= 92 && *byte != 0 {
+                parts.push((at, *byte))?;
+            }
+        }
+        let want = [
+            // the descriptor 0011008000000000 1a000000 0000 0000
+            (0x1001, 0x11),
+            (0x1003, 0x80),
+            (0x1008, 0x1a),
+            // the available ring 0000 0100 0000
+            (0x1042, 0x01),
+            // the frame 02000000010102000000000188b5, behind 12 zero bytes
+            (0x110c, 0x02),
+            (0x1110, 0x01),
+            (0x1111, 0x01),
+            (0x1112, 0x02),
+            (0x1117, 0x01),
+            (0x1118, 0x88),
+            (0x1119, 0xb5),
+        ];
+        assert_eq!(rt; parts.as_slice(), want.as_slice());
+        assert_eq!(rt; image.len(), 0x111a);
+        Ok(())
+    }
+
+    #[test]
+    fn the_bytes_of_the_first_and_the_last_words(rt: HostRuntime) -> Result<(), Fail> {
+        let image = beacon(rt.alloc())?;
+        assert!(rt; image.len() > 96);
+        assert_eq!(rt;
+            &image[..8],
+            [0xb7, 0x12, 0x00, 0x10, 0x13, 0x03, 0x10, 0x00].as_slice()
+        );
+        assert_eq!(rt;
+            &image[84..96],
+            [0x23, 0xa8, 0x62, 0x04, 0x6f, 0, 0, 0, 0, 0, 0, 0].as_slice()
+        );
+        Ok(())
+    }
+}

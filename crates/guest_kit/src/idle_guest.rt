@@ -1,0 +1,35 @@
+//! The guest that does nothing.
+
+ghost use Rattle.std.specs.Prelude.{◌≡◌, IfOk, vec_len};
+ghost use Rattle.guest_kit.specs.Image.{image_of};
+ghost use Rattle.guest_kit.specs.Idle.{idle_program};
+
+use crate::assembler::Name::Zero;
+use crate::assembler::jal;
+use crate::image::push_words;
+use std::alloc::{AllocError, Global};
+
+/// The image of the guest that jumps to itself for ever, in one word at the start of RAM.
+///
+/// The only error is out of memory.
+#[tactic(auto, unfolding(crate::specs::Image::image_of))]
+pub fn idle(alloc: Global) -> Result<Vec<u8>, AllocError>
+    ensures image { IfOk result (λ image. image.items ≡ image_of idle_program) }
+    ensures size { IfOk result (λ image. vec_len image ≡ 4) }
+{
+    let mut image = Vec::new(alloc);
+    push_words(&mut image, &[jal(Zero, 0)])?;
+    Ok(image)
+}
+
+#[cfg(test)]
+mod tests {
+    use super::*;
+    use std::test::Fail;
+
+    #[test]
+    fn a_jump_to_itself(rt: HostRuntime) -> Result<(), Fail> {
+        assert_eq!(rt; idle(rt.alloc())?.as_slice(), [0x6f, 0, 0, 0].as_slice());
+        Ok(())
+    }
+}
