@@ -1,0 +1,4 @@
+pub mod BytesLemmas
+pub mod TransmitLemmas
+pub mod SentLemmas
+pub mod CountLemmas

@@ -1,0 +1,11 @@
+use Rattle.std.proofs.Common.{refl}
+use Rattle.guest_machine.specs.Guest.{boot_guest}
+use Rattle.guest_machine.proofs.CountLemmas.{steps-next}
+use Rattle.guest_machine.proofs.laws.counted_steps.Goals as goal
+
+pub returns-clause-step : goal.returns-clause-step
+returns-clause-step c g = steps-next g
+
+pub returns-clause-boot : goal.returns-clause-boot
+unfolding boot_guest
+returns-clause-boot c pages image = refl

@@ -1,0 +1,13 @@
+pub mod Beacon
+pub mod Bytes
+pub mod Errors
+pub mod Frames
+pub mod Guest
+pub mod Parts
+pub mod Places
+pub mod Step
+pub mod Transmit
+-- what public clauses cite of lower crates
+pub use Rattle.arrayvec.specs.ArrayVec
+pub use Rattle.rv64_core.specs.Registers
+pub use Rattle.virtio_mmio.specs.States

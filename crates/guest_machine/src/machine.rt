@@ -1,0 +1,216 @@
+//! A machine: the guest and the frames that it sent.
+ghost use Rattle.std.specs.Prelude.{◌≡◌, ◌+◌, ◌*◌, ◌<◌, ◌≤◌, ◌↔◌, [], ◌++◌, length, All, IsErr, IsOk, IfOk, OnOk, OnErr, Err, slice_range, slice_index};
+ghost use Rattle.rv64_core.specs.Registers.{register};
+ghost use Rattle.virtio_mmio.specs.declared.kinds.DeviceKind.TheVariants.{Network};
+ghost use Rattle.virtio_mmio.specs.States.{IsDeviceRecord};
+ghost use Rattle.guest_machine.specs.Guest.{boot_guest};
+ghost use Rattle.guest_machine.specs.Frames.{IsFrame};
+ghost use Rattle.guest_machine.specs.Step.{next, sent};
+
+use crate::errors::MachineError;
+use crate::frames::{Frame, Outbox};
+use crate::hart::Hart;
+use crate::places::RAM_BASE;
+use crate::ram::Ram;
+use crate::shapes::Shape;
+use crate::step::run_step;
+use rv64_core::{Register, Regs};
+use std::alloc::Global;
+use std::marker::Model;
+use virtio_mmio::{DeviceKind, DeviceState, Transport};
+
+/// How many frames the outbox may hold for a step: 64 of its 256 places are then free, as many as one step can take.
+const STEPPING_FRAMES: usize = 192;
+
+/// A guest, and the frames that it sent since the last [`settle`](Machine::settle). All memory that its calls need is reserved at boot.
+#[derive(Drop)]
+pub struct Machine {
+    hart: Hart,
+    ram: Ram,
+    net: Transport,
+    outbox: Outbox,
+}
+
+impl Model for Machine {
+    ghost use Rattle.std.specs.Prelude.{◌≡◌};
+    ghost use Rattle.virtio_mmio.specs.declared.kinds.DeviceKind.TheVariants.{Network};
+    ghost use Rattle.guest_machine.specs.Guest.{State};
+    ghost use Rattle.guest_machine.specs.Parts.{guest_of};
+
+    ghost Value = { State };
+
+    ghost view = { λ m. record { guest = guest_of m.hart m.ram m.net.state; outbox = m.outbox } };
+
+    ghost invariant = { λ m. m.net.kind ≡ Network };
+}
+
+impl Machine {
+    /// The guest at boot, with an empty outbox: the image's bytes stand from [`RAM_BASE`] on, where the pc is, and all
+    /// else is 0. The image fits in memory, as the caller knows. The number of sectors plays no part yet: there is no disk.
+    ///
+    /// # Errors
+    /// `NoMemory` where memory is refused.
+    #[tactic(auto, unfolding(crate::specs::Guest::boot_guest))]
+    pub fn boot(alloc: Global, shape: Shape, image: &[u8]) -> Result<Machine, MachineError>
+        requires { length image.now ≤ 4096 * shape.pages }
+        ensures guest { IfOk result (λ machine. machine.guest ≡ boot_guest shape.pages image.now) }
+        ensures outbox { IfOk result (λ machine. machine.outbox ≡ []) }
+        ensures err { OnErr result (result ≡ Err MachineError.NoMemory) }
+    {
+        let Ok(ram) = Ram::boot(alloc, shape.pages, image) else {
+            return Err(MachineError::NoMemory);
+        };
+        let Ok(outbox) = Outbox::new(alloc) else {
+            return Err(MachineError::NoMemory);
+        };
+        Ok(Machine {
+            hart: Hart {
+                regs: Regs::new(),
+                pc: RAM_BASE,
+                mepc: 0,
+                mcause: 0,
+                mtval: 0,
+                steps: 0,
+            },
+            ram,
+            net: Transport::boot(DeviceKind::Network),
+            outbox,
+        })
+    }
+
+    /// One step of the guest: one instruction, or its exception. The frames that it sends, at most 64 of them, go last
+    /// into the outbox. It takes no memory.
+    ///
+    /// # Errors
+    /// `CutNeeded`, exactly where the outbox holds more than 192 frames; nothing is changed then.
+    pub fn step(&mut self) -> Result<(), MachineError>
+        ensures guest { OnOk result (self.new.guest ≡ next self.old.guest) }
+        ensures outbox { OnOk result (self.new.outbox ≡ self.old.outbox ++ sent self.old.guest) }
+        ensures refused { IsErr result ↔ (192 < length self.old.outbox) }
+        ensures err { OnErr result ((result ≡ Err MachineError.CutNeeded) × (self.new ≡ self.old)) }
+    {
+        if self.outbox.len() > STEPPING_FRAMES {
+            return Err(MachineError::CutNeeded);
+        }
+        run_step(
+            &mut self.hart,
+            &mut self.ram,
+            &mut self.net,
+            &mut self.outbox,
+        );
+        Ok(())
+    }
+
+    /// The same machine once more: its guest and its outbox.
+    ///
+    /// # Errors
+    /// `NoMemory` where memory is refused.
+    pub fn copy(&self, alloc: Global) -> Result<Machine, MachineError>
+        ensures ok { IfOk result (λ machine. machine ≡ self.now) }
+        ensures err { OnErr result (result ≡ Err MachineError.NoMemory) }
+    {
+        let Ok(ram) = self.ram.copy(alloc) else {
+            return Err(MachineError::NoMemory);
+        };
+        let Ok(outbox) = self.outbox.copy(alloc) else {
+            return Err(MachineError::NoMemory);
+        };
+        Ok(Machine {
+            hart: self.hart,
+            ram,
+            net: self.net,
+            outbox,
+        })
+    }
+
+    /// The frames that the guest sent since the last settle, in order, at most 256 of them.
+    pub fn outbox(&self) -> &[Frame]
+        ensures value { result.now ≡ self.now.outbox }
+        ensures frames { All IsFrame self.now.outbox }
+        ensures most { length self.now.outbox ≤ 256 }
+    {
+        self.outbox.frames()
+    }
+
+    /// Empties the outbox.
+    pub fn settle(&mut self)
+        ensures { self.new ≡ record self.old { outbox = [] } }
+    {
+        self.outbox.clear();
+    }
+
+    /// How many steps the guest has made since boot, modulo 2^64.
+    pub fn steps(&self) -> u64
+        ensures { result ≡ self.now.guest.steps }
+    {
+        self.hart.steps
+    }
+
+    /// The address of the instruction that comes next.
+    pub fn pc(&self) -> u64
+        ensures { result ≡ self.now.guest.pc }
+    {
+        self.hart.pc
+    }
+
+    /// The value of one of the registers x0 to x31.
+    pub fn register(&self, which: Register) -> u64
+        ensures { result ≡ register self.now.guest.regs which }
+    {
+        self.hart.regs.get(which)
+    }
+
+    /// The pc of the last trap, 0 before the first.
+    pub fn mepc(&self) -> u64
+        ensures { result ≡ self.now.guest.mepc }
+    {
+        self.hart.mepc
+    }
+
+    /// The cause of the last trap, 0 before the first.
+    pub fn mcause(&self) -> u64
+        ensures { result ≡ self.now.guest.mcause }
+    {
+        self.hart.mcause
+    }
+
+    /// What the last trap was about, 0 before the first: an address, or the word that is no instruction.
+    pub fn mtval(&self) -> u64
+        ensures { result ≡ self.now.guest.mtval }
+    {
+        self.hart.mtval
+    }
+
+    /// What the network card keeps. It meets the rules of a network card's record.
+    pub fn net(&self) -> DeviceState
+        ensures value { result ≡ self.now.guest.net }
+        ensures rules { IsDeviceRecord Network result }
+    {
+        self.net.state()
+    }
+
+    /// How many bytes of memory the guest has: 1 to 4096 pages.
+    pub fn ram_size(&self) -> usize
+        ensures value { result ≡ length self.now.guest.ram }
+        ensures least { 4096 ≤ result }
+        ensures most { result ≤ 4096 * 4096 }
+    {
+        self.ram.size()
+    }
+
+    /// The 4096 bytes of a page of memory; the guest has it, as the caller knows.
+    pub fn page(&self, page: usize) -> &[u8]
+        requires { 4096 * page + 4096 ≤ length self.now.guest.ram }
+        ensures { result.now ≡ slice_range self.now.guest.ram (4096 * page) (4096 * page + 4096) }
+    {
+        self.ram.page(page)
+    }
+
+    /// The byte of memory at a place, from 0 for the byte at [`RAM_BASE`]; the guest has it, as the caller knows.
+    pub fn byte(&self, at: usize) -> u8
+        requires { at < length self.now.guest.ram }
+        ensures { result ≡ slice_index self.now.guest.ram at }
+    {
+        self.ram.byte(at)
+    }
+}

@@ -1,0 +1,15 @@
+//! How large a machine is.
+ghost use Rattle.std.specs.Prelude.{◌≤◌};
+
+/// How large a machine is: 1 to 4096 pages of memory, of 4096 bytes each, and 1 to 32768 sectors of disk, of 512 bytes each.
+#[derive(Clone, Copy, Debug, PartialEq, Eq)]
+pub struct Shape {
+    /// Pages of memory.
+    pub pages: u32,
+    /// Sectors of disk.
+    pub sectors: u32,
+    ghost some_pages: { 1 ≤ pages },
+    ghost most_pages: { pages ≤ 4096 },
+    ghost some_sectors: { 1 ≤ sectors },
+    ghost most_sectors: { sectors ≤ 32768 },
+}
