@@ -1,0 +1,5 @@
+mod PortsLemmas
+mod RingLemmas
+mod TargetLemmas
+pub mod LandLaws
+pub mod AddressLaws

@@ -1,0 +1,7 @@
+-- As many rings as iterations so far, each empty.
+use Rattle.std.proofs.Common.{◌≡◌, [], replicate}
+use Rattle.circular_buffer.specs.Buffer.{buffer}
+use Rattle.frame_ports.proofs.rings.rings.Given as goal
+
+abbrev pub invariant-loop : goal.invariant-loop
+invariant-loop g l = l.rings.items ≡ replicate l.counter (buffer [] l.fn.capacity)

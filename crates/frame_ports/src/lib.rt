@@ -1,0 +1,22 @@
+//! The ports of the virtual network: for each client an inbox, from which frames go to the guest, and a box, in
+//! which the guest's frames for that client land.
+//!
+//! A frame that a client delivers waits in its inbox under the next frame number. A frame that the guest sent
+//! goes to the client that its first six bytes name, or to all clients; where it lands is the client's box.
+//! Each inbox and each box holds at most 64 frames. All memory is reserved by [`Ports::new`].
+#![tactic(auto)]
+
+mod errors;
+mod limits;
+mod ports;
+mod rings;
+mod targets;
+#[cfg(test)]
+mod tests;
+
+pub use errors::PortError;
+pub use limits::{
+    BOX_FRAMES, Frame, INBOX_FRAMES, MAX_CLIENTS, MAX_FRAME, MIN_FRAME, NUMBER_LIMIT,
+};
+pub use ports::Ports;
+pub use targets::Targets;

@@ -1,0 +1,230 @@
+//! The inboxes and boxes of all clients.
+ghost use Rattle.std.specs.Prelude.{◌≡◌, ℕ, ◌≤◌, ◌<◌, ◌+◌, length, drop, remove, map, All, Option, IfOk, IfErr, IfSome, OnOk, OnErr, option_map, slice_get, nat_lt};
+ghost use Rattle.frame_ports.specs.Addresses.{IsFrame};
+ghost use Rattle.frame_ports.specs.Lands.{has_room, landed_at};
+ghost use Rattle.frame_ports.specs.Ports.{is_client, IsClient, IsPorts, empty_ports, delivery, after_delivery, for_client, inbox_of, box_of, with_inbox, with_box};
+ghost use Rattle.frame_ports.specs.Targets.{AreTargets};
+ghost use Rattle.frame_ports.specs.declared.errors.PortError.TheVariants.{NoMemory};
+
+use crate::errors::PortError;
+use crate::limits::{
+    BOX_FRAMES, Frame, INBOX_FRAMES, MAX_CLIENTS, MAX_FRAME, MIN_FRAME, NUMBER_LIMIT,
+};
+use crate::rings::{frame_of, put_last, remove_at, rings};
+use crate::targets::Targets;
+use circular_buffer::HeapCircularBuffer;
+use std::alloc::Global;
+use std::marker::Model;
+
+/// For each client, numbered from 1, an inbox of numbered frames for the guest and a box of frames that landed.
+///
+/// A call changes only the list that it names and, in [`Ports::deliver`], the next frame number. After a refusal
+/// nothing has changed. Only [`Ports::new`] takes memory.
+#[derive(Drop)]
+pub struct Ports {
+    /// The number that the next delivered frame gets, from 1.
+    next: u64,
+    /// The inbox of client c has the place c - 1.
+    inboxes: Vec<HeapCircularBuffer<(u64, Frame)>>,
+    /// The box of client c has the place c - 1.
+    boxes: Vec<HeapCircularBuffer<Frame>>,
+}
+
+impl Model for Ports {
+    ghost use Rattle.frame_ports.specs.Ports.{PortsState};
+
+    ghost Value = { PortsState };
+
+    ghost use Rattle.frame_ports.specs.Fields.{ports_state, AreFields};
+
+    ghost view = { ports_state };
+
+    ghost invariant = { AreFields };
+}
+
+impl Ports {
+    /// Ports for the clients 1 to `clients`, with nothing delivered and nothing landed. All room is reserved here.
+    ///
+    /// # Errors
+    ///
+    /// [`PortError::NoMemory`] if that room can't be had.
+    pub fn new(alloc: Global, clients: u64) -> Result<Ports, PortError>
+        requires some { 1 ≤ clients }
+        requires few { clients ≤ MAX_CLIENTS }
+        ensures ok { IfOk result (λ p. p ≡ empty_ports clients) }
+        ensures err { IfErr result (λ e. e ≡ NoMemory) }
+    {
+        let inboxes = rings(alloc, clients as usize, INBOX_FRAMES)?;
+        let boxes = rings(alloc, clients as usize, BOX_FRAMES)?;
+        Ok(Ports {
+            next: 1,
+            inboxes,
+            boxes,
+        })
+    }
+
+    /// How many clients there are, 1 to 16.
+    pub fn clients(&self) -> u64
+        ensures count { result ≡ length self.now.boxes }
+        // What is true of all ports.
+        ensures ports { IsPorts self.now }
+    {
+        self.boxes.len() as u64
+    }
+
+    /// Whether this is a client's number, 1 to the count of clients.
+    fn is_client(&self, client: u64) -> bool
+        ensures { result ≡ is_client self.now client }
+    {
+        client >= 1 && client <= self.clients()
+    }
+
+    /// Puts the frame of these bytes last in the client's inbox, under the next frame number, which it gives.
+    ///
+    /// # Errors
+    ///
+    /// In this order: [`PortError::NoClient`], [`PortError::BadFrame`] for fewer than 14 or more than 1514 bytes,
+    /// [`PortError::Full`] exactly where the inbox holds 64 frames, [`PortError::Exhausted`] where the number
+    /// would reach 2^62.
+    pub fn deliver(&mut self, client: u64, bytes: &[u8]) -> Result<u64, PortError>
+        ensures answer { result ≡ delivery self.old client bytes.now }
+        ensures delivered { OnOk result (self.new ≡ after_delivery self.old client bytes.now) }
+        ensures refused { OnErr result (self.new ≡ self.old) }
+    {
+        if !self.is_client(client) {
+            return Err(PortError::NoClient);
+        }
+        if bytes.len() < MIN_FRAME || bytes.len() > MAX_FRAME {
+            return Err(PortError::BadFrame);
+        }
+        if self.inbox_len(client) >= INBOX_FRAMES {
+            return Err(PortError::Full);
+        }
+        let number = self.next;
+        if number >= NUMBER_LIMIT {
+            return Err(PortError::Exhausted);
+        }
+        let inbox = &mut self.inboxes[(client - 1) as usize];
+        put_last(inbox, (number, frame_of(bytes)));
+        self.next = number + 1;
+        Ok(number)
+    }
+
+    /// Takes the first frame out of the client's inbox, with its number; `None` where the inbox is empty.
+    ///
+    /// # Errors
+    ///
+    /// [`PortError::NoClient`].
+    pub fn admit(&mut self, client: u64) -> Result<Option<(u64, Frame)>, PortError>
+        ensures answer { result ≡ for_client self.old client (slice_get (inbox_of self.old client) 0) }
+        ensures rest { OnOk result (self.new ≡ with_inbox self.old client (drop 1 (inbox_of self.old client))) }
+        ensures refused { OnErr result (self.new ≡ self.old) }
+        ensures frame { IfOk result (λ o. IfSome o (λ x. IsFrame x.1)) }
+    {
+        if !self.is_client(client) {
+            return Err(PortError::NoClient);
+        }
+        let inbox = &mut self.inboxes[(client - 1) as usize];
+        let arrived = inbox.pop_front();
+        Ok(arrived)
+    }
+
+    /// Takes the first frame out of the client's box; `None` where the box is empty.
+    ///
+    /// # Errors
+    ///
+    /// [`PortError::NoClient`].
+    pub fn take(&mut self, client: u64) -> Result<Option<Frame>, PortError>
+        ensures answer { result ≡ for_client self.old client (slice_get (box_of self.old client) 0) }
+        ensures rest { OnOk result (self.new ≡ with_box self.old client (drop 1 (box_of self.old client))) }
+        ensures refused { OnErr result (self.new ≡ self.old) }
+        ensures frame { IfOk result (λ o. IfSome o IsFrame) }
+    {
+        if !self.is_client(client) {
+            return Err(PortError::NoClient);
+        }
+        let landed = &mut self.boxes[(client - 1) as usize];
+        let taken = landed.pop_front();
+        Ok(taken)
+    }
+
+    /// To which clients a frame of the guest goes: the one that its first six bytes name, all of them if these
+    /// are 0xff, else none. A frame that is too short to name one goes nowhere.
+    pub fn route(&self, frame: &Frame) -> Targets
+        ensures { AreTargets (length self.now.boxes) frame.now.items result }
+    {
+        Targets::of_frame(self.clients(), frame.as_slice())
+    }
+
+    /// How many frames wait in the client's inbox, at most 64.
+    pub fn inbox_len(&self, client: u64) -> usize
+        requires { IsClient self.now client }
+        ensures len { result ≡ length (inbox_of self.now client) }
+        ensures bound { result ≤ INBOX_FRAMES }
+    {
+        self.inboxes[(client - 1) as usize].len()
+    }
+
+    /// How many frames lie in the client's box, at most 64.
+    pub fn box_len(&self, client: u64) -> usize
+        requires { IsClient self.now client }
+        ensures len { result ≡ length (box_of self.now client) }
+        ensures bound { result ≤ BOX_FRAMES }
+    {
+        self.boxes[(client - 1) as usize].len()
+    }
+
+    /// Lands a frame for a client: it goes last in the client's box. Answers `false` exactly where the box holds
+    /// 64 frames, and then drops the frame.
+    pub fn land(&mut self, client: u64, frame: &Frame) -> bool
+        requires client { IsClient self.old client }
+        requires frame { IsFrame frame.now }
+        ensures answer { result ≡ has_room self.old.boxes client }
+        ensures boxes { self.new ≡ record self.old { boxes = landed_at self.old.boxes client frame.now } }
+    {
+        let landed = &mut self.boxes[(client - 1) as usize];
+        if landed.len() >= BOX_FRAMES {
+            return false;
+        }
+        put_last(landed, frame_of(frame.as_slice()));
+        true
+    }
+
+    /// Drops the frame at `place`, from 0, of the client's inbox, and answers its number; `None` where no frame
+    /// is there.
+    ///
+    /// # Errors
+    ///
+    /// [`PortError::NoClient`].
+    pub fn lose_in(&mut self, client: u64, place: u64) -> Result<Option<u64>, PortError>
+        ensures answer { result ≡ for_client self.old client (option_map (λ x. x.0) (slice_get (inbox_of self.old client) place)) }
+        ensures rest { OnOk result (self.new ≡ with_inbox self.old client (remove (inbox_of self.old client) place)) }
+        ensures refused { OnErr result (self.new ≡ self.old) }
+    {
+        if !self.is_client(client) {
+            return Err(PortError::NoClient);
+        }
+        let inbox = &mut self.inboxes[(client - 1) as usize];
+        match remove_at(inbox, place as usize) {
+            Some((number, _frame)) => Ok(Some(number)),
+            None => Ok(None),
+        }
+    }
+
+    /// Drops the frame at `place`, from 0, of the client's box, and answers whether one was there.
+    ///
+    /// # Errors
+    ///
+    /// [`PortError::NoClient`].
+    pub fn lose_landed(&mut self, client: u64, place: u64) -> Result<bool, PortError>
+        ensures answer { result ≡ for_client self.old client (nat_lt place (length (box_of self.old client))) }
+        ensures rest { OnOk result (self.new ≡ with_box self.old client (remove (box_of self.old client) place)) }
+        ensures refused { OnErr result (self.new ≡ self.old) }
+    {
+        if !self.is_client(client) {
+            return Err(PortError::NoClient);
+        }
+        let landed = &mut self.boxes[(client - 1) as usize];
+        Ok(remove_at(landed, place as usize).is_some())
+    }
+}

@@ -1,0 +1,75 @@
+//! Small steps on one ring of frames, each with its effect on the list of its items.
+ghost use Rattle.std.specs.Prelude.{◌≡◌, ◌<◌, ◌≤◌, [], ◌∷◌, ◌++◌, length, take, drop, remove, replicate, slice_get, IfOk};
+ghost use Rattle.circular_buffer.specs.Buffer.{buffer};
+
+use crate::limits::Frame;
+use arrayvec::ArrayVec;
+use circular_buffer::HeapCircularBuffer;
+use std::alloc::{AllocError, Global};
+
+/// The frame of these bytes, of which there are at most 1514.
+pub(crate) fn frame_of(bytes: &[u8]) -> Frame
+    requires { length bytes.now ≤ 1514 }
+    ensures { result.items ≡ bytes.now }
+{
+    let mut frame = ArrayVec::new();
+    match frame.try_extend_from_slice(bytes) {
+        Ok(()) => frame,
+        Err(_) => unreachable!(),
+    }
+}
+
+/// Puts an item last in a ring that has room for it.
+pub(crate) fn put_last<T: Drop>(ring: &mut HeapCircularBuffer<T>, item: T)
+    requires { length ring.old.items < ring.old.capacity }
+    ensures { ring.new ≡ buffer (ring.old.items ++ item ∷ []) ring.old.capacity }
+{
+    match ring.try_push_back(item) {
+        Ok(()) => {}
+        Err(_) => unreachable!(),
+    }
+}
+
+/// Moves the first `count` items to the end, one by one.
+fn rotate<T: Drop>(ring: &mut HeapCircularBuffer<T>, count: usize)
+    requires within { count ≤ length ring.old.items }
+    requires fits { length ring.old.items ≤ ring.old.capacity }
+    ensures { ring.new ≡ buffer (drop count ring.old.items ++ take count ring.old.items) ring.old.capacity }
+{
+    for _ in 0..count {
+        if let Some(item) = ring.pop_front() {
+            put_last(ring, item);
+        }
+    }
+}
+
+/// Takes the item at `place`, from 0, out of a ring, and leaves the others in their order.
+pub(crate) fn remove_at<T: Drop>(ring: &mut HeapCircularBuffer<T>, place: usize) -> Option<T>
+    requires { length ring.old.items ≤ ring.old.capacity }
+    ensures item { result ≡ slice_get ring.old.items place }
+    ensures rest { ring.new ≡ buffer (remove ring.old.items place) ring.old.capacity }
+{
+    let len = ring.len();
+    if place >= len {
+        return None;
+    }
+    rotate(ring, place);
+    let item = ring.pop_front();
+    rotate(ring, len - place - 1);
+    item
+}
+
+/// That many empty rings, with room for `capacity` items each.
+pub(crate) fn rings<T: Drop>(
+    alloc: Global,
+    count: usize,
+    capacity: usize,
+) -> Result<Vec<HeapCircularBuffer<T>>, AllocError>
+    ensures { IfOk result (λ v. v.items ≡ replicate count (buffer [] capacity)) }
+{
+    let mut rings = Vec::with_capacity(alloc, count)?;
+    for _ in 0..count {
+        rings.push(HeapCircularBuffer::with_capacity(alloc, capacity)?)?;
+    }
+    Ok(rings)
+}
