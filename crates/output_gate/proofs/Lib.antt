@@ -1,0 +1,5 @@
+mod GateLemmas
+mod EpochLemmas
+mod StepLemmas
+pub mod EpochLaws
+pub mod PortsAfterLaws

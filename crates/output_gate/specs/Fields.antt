@@ -1,0 +1,26 @@
+-- How the fields of a gate stand for the epochs that it holds.
+use Rattle.std.specs.Prelude.{◌≡◌, ℕ, ◌*◌, ◌≤◌, List, [], ◌∷◌, length, take, drop, sum_by, vec_capacity}
+use Rattle.arrayvec.specs.ArrayVec.{ArrayVec}
+use Rattle.output_gate.specs.Epochs.{Epoch, epoch, IsGate}
+use Rattle.output_gate.specs.declared.gate.Gate.TheInside.{Inside}
+use Rattle.output_gate.specs.declared.marks.Mark.{Mark}
+use Rattle.output_gate.specs.declared.limits.TheConstants.{MAX_EPOCHS, MAX_FRAMES}
+
+-- how many frames these epochs have
+abbrev pub total : List Mark → ℕ
+total marks = sum_by (λ m. m.count) marks
+
+-- the frames, cut into epochs
+abbrev pub epochs_of : List Mark → List (ArrayVec ℕ) → List Epoch
+epochs_of [] frames = []
+epochs_of (m ∷ ms) frames = epoch m.number (take m.count frames) ∷ epochs_of ms (drop m.count frames)
+
+abbrev pub epochs_held : Inside → List Epoch
+epochs_held g = epochs_of g.marks.items g.frames.items
+
+-- no frame beside the epochs, and the room that was reserved
+pub record AreFields (g : Inside) : Type 0 where
+  pub gate : IsGate (epochs_held g)
+  pub whole : total g.marks.items ≡ length g.frames.items
+  pub marks : MAX_EPOCHS ≤ vec_capacity g.marks
+  pub frames : MAX_EPOCHS * MAX_FRAMES ≤ vec_capacity g.frames

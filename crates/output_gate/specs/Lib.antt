@@ -1,0 +1,6 @@
+pub use Rattle.frame_ports.specs.Addresses
+pub use Rattle.frame_ports.specs.Lands
+pub use Rattle.frame_ports.specs.Ports
+pub mod Epochs
+pub mod Fields
+pub mod Refusals

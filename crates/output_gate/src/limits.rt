@@ -1,0 +1,14 @@
+//! The limits of the gate.
+use arrayvec::ArrayVec;
+
+/// A network frame of 14 to 1514 bytes, as at the ports.
+pub type Frame = ArrayVec<u8, 1514>;
+
+/// How many epochs a gate holds: four of checkpoints that wait for their acknowledgement, and one more.
+pub const MAX_EPOCHS: usize = 5;
+
+/// How many frames an epoch has at most: as many as an outbox holds.
+pub const MAX_FRAMES: usize = 256;
+
+/// How many frames a gate holds at most.
+pub(crate) const ALL_FRAMES: usize = MAX_EPOCHS * MAX_FRAMES;

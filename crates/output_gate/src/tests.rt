@@ -1,0 +1,109 @@
+//! What no clause says: worked cases, and each call once with ample memory.
+ghost use Rattle.frame_ports.specs.Addresses.{IsFrame};
+
+use super::*;
+use arrayvec::ArrayVec;
+use frame_ports::{PortError, Ports};
+use std::test::Fail;
+
+/// A frame of 14 bytes from the guest to `client`, whose last byte is `mark`.
+fn frame_to(client: u8, mark: u8) -> Frame
+    ensures { IsFrame result }
+{
+    let mut frame = ArrayVec::new();
+    match frame.try_extend_from_slice(&[2, 0, 0, 0, 1, client, 2, 0, 0, 0, 0, 1, 0x88, mark]) {
+        Ok(()) => frame,
+        Err(_) => unreachable!(),
+    }
+}
+
+/// The last byte of the frame that the client takes, 0 where its box is empty.
+fn taken(ports: &mut Ports, client: u64) -> Result<u8, PortError> {
+    match ports.take(client)? {
+        Some(frame) => Ok(frame.as_slice()[13]),
+        None => Ok(0),
+    }
+}
+
+#[test]
+fn frames_land_at_their_acknowledgement(rt: HostRuntime) -> Result<(), Fail> {
+    let mut ports = Ports::new(rt.alloc(), 2)?;
+    let mut gate = Gate::new(rt.alloc())?;
+    gate.hold(1, &[frame_to(1, 1), frame_to(2, 2)]);
+    gate.hold(2, &[]);
+    gate.hold(3, &[frame_to(1, 3)]);
+    gate.hold(4, &[frame_to(1, 4)]);
+    assert_eq!(rt; taken(&mut ports, 1)?, 0);
+    assert_eq!(rt; gate.held(0).len(), 0);
+    assert_eq!(rt; gate.held(2).len(), 2);
+    assert_eq!(rt; gate.held(3).len(), 3);
+    assert_eq!(rt;
+        gate.ack(3, &mut ports),
+        Landed {
+            landed: 3,
+            dropped: 0
+        }
+    );
+    assert_eq!(rt; taken(&mut ports, 1)?, 1);
+    assert_eq!(rt; taken(&mut ports, 1)?, 3);
+    assert_eq!(rt; taken(&mut ports, 1)?, 0);
+    assert_eq!(rt; taken(&mut ports, 2)?, 2);
+    assert_eq!(rt; gate.held(9).len(), 1);
+    assert_eq!(rt;
+        gate.open_all(&mut ports),
+        Landed {
+            landed: 1,
+            dropped: 0
+        }
+    );
+    assert_eq!(rt; taken(&mut ports, 1)?, 4);
+    assert_eq!(rt; gate.held(9).len(), 0);
+    gate.hold(1, &[frame_to(1, 5)]);
+    gate.discard();
+    assert_eq!(rt;
+        gate.open_all(&mut ports),
+        Landed {
+            landed: 0,
+            dropped: 0
+        }
+    );
+    assert_eq!(rt; taken(&mut ports, 1)?, 0);
+    Ok(())
+}
+
+#[test]
+fn a_full_box_drops_and_a_frame_for_no_client_doesnt_count(rt: HostRuntime) -> Result<(), Fail> {
+    let mut ports = Ports::new(rt.alloc(), 1)?;
+    let mut gate = Gate::new(rt.alloc())?;
+    for _ in 0..64 {
+        gate.discard();
+        gate.hold(1, &[frame_to(1, 1), frame_to(9, 1)]);
+        assert_eq!(rt;
+            gate.ack(1, &mut ports),
+            Landed {
+                landed: 1,
+                dropped: 0
+            }
+        );
+    }
+    gate.discard();
+    gate.hold(1, &[frame_to(1, 1), frame_to(1, 2)]);
+    assert_eq!(rt;
+        gate.ack(1, &mut ports),
+        Landed {
+            landed: 0,
+            dropped: 2
+        }
+    );
+    Ok(())
+}
+
+#[test]
+fn the_refusal_is_that_of_the_table(rt: HostRuntime) -> Result<(), Fail> {
+    let error = GateError::NoMemory;
+    assert_eq!(rt; error.number(), 12);
+    assert_eq!(rt; error.name(), "NoMemory");
+    let text = format!(in rt.alloc(); "{error}")?;
+    assert_eq!(rt; text.as_str(), "NoMemory");
+    Ok(())
+}
