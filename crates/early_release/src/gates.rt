@@ -1,0 +1,47 @@
+//! Two gates that meet the starting contract.
+ghost use Rattle.std.specs.Prelude.{◌≡◌, ◌++◌, ◌∷◌, []};
+
+use crate::starting_gate::StartingGate;
+use frame_ports::Ports;
+use output_gate::{Frame, Gate, Landed};
+
+/// The gate as it should be: what it holds lands at the acknowledgement.
+#[derive(Drop)]
+pub(crate) struct HoldsUntilAcknowledged {
+    pub(crate) gate: Gate,
+}
+
+impl StartingGate for HoldsUntilAcknowledged {
+    ghost epochs = { λ g. g.gate };
+
+    fn hold(&mut self, number: u64, frames: &[Frame], _ports: &mut Ports) -> Landed {
+        self.gate.hold(number, frames);
+        Landed {
+            landed: 0,
+            dropped: 0,
+        }
+    }
+
+    fn ack(&mut self, number: u64, ports: &mut Ports) -> Landed {
+        self.gate.ack(number, ports)
+    }
+}
+
+/// The wrong gate: what it is given to hold lands at once.
+#[derive(Drop)]
+pub(crate) struct LandsAtOnce {
+    pub(crate) gate: Gate,
+}
+
+impl StartingGate for LandsAtOnce {
+    ghost epochs = { λ g. g.gate };
+
+    fn hold(&mut self, number: u64, frames: &[Frame], ports: &mut Ports) -> Landed {
+        self.gate.hold(number, frames);
+        self.gate.open_all(ports)
+    }
+
+    fn ack(&mut self, number: u64, ports: &mut Ports) -> Landed {
+        self.gate.ack(number, ports)
+    }
+}

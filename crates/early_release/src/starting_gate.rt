@@ -1,0 +1,28 @@
+//! The contract that says only that nothing is made up.
+ghost use Rattle.std.specs.Prelude.{ℕ, ◌<◌, ◌≤◌, ◌++◌, List, length, All};
+ghost use Rattle.frame_ports.specs.Addresses.{IsFrame};
+ghost use Rattle.output_gate.specs.Epochs.{Epoch, frames_of};
+ghost use Rattle.output_gate.specs.declared.limits.TheConstants.{MAX_EPOCHS, MAX_FRAMES};
+ghost use Rattle.early_release.specs.Weak.{OnlyLands};
+
+use frame_ports::Ports;
+use output_gate::{Frame, Landed};
+
+/// An output gate of which only this is known: what lands was held, so that the guest produced it. When it lands,
+/// whether all of it lands, and what stays held isn't said.
+pub(crate) trait StartingGate {
+    /// The epochs held.
+    ghost epochs: { Self → List Epoch };
+
+    /// Holds the frames of the epoch that the checkpoint `number` ends.
+    fn hold(&mut self, number: u64, frames: &[Frame], ports: &mut Ports) -> Landed
+        requires room { length (epochs self.old) < MAX_EPOCHS }
+        requires above { All (λ e. e.number < number) (epochs self.old) }
+        requires few { length frames.now ≤ MAX_FRAMES }
+        requires frames { All IsFrame frames.now }
+        ensures { OnlyLands (frames_of (epochs self.old) ++ frames.now) ports.old ports.new };
+
+    /// Takes the acknowledgement of the checkpoints up to `number`.
+    fn ack(&mut self, number: u64, ports: &mut Ports) -> Landed
+        ensures { OnlyLands (frames_of (epochs self.old)) ports.old ports.new };
+}
