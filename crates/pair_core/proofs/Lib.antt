@@ -1,0 +1,12 @@
+pub mod States
+pub mod LandingLaws
+pub mod Epochs
+pub mod Kept
+pub mod Events
+pub mod Outcomes
+pub mod WorldLaws
+pub mod PublicLaws
+pub mod LogLaws
+pub mod LengthLaws
+pub mod Receivers
+pub mod LineLaws

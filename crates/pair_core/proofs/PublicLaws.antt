@@ -1,0 +1,115 @@
+-- What the public calls say, from what each event does.
+use Rattle.std.proofs.Common.{◌≡◌, ℕ, zero, suc, ◌+◌, ◌-◌, ◌^◌, ◌<◌, ◌≤◌, List, [], ◌∷◌, ◌++◌, length, take, replicate, refl, sym, ap, ◌∙◌, subst, arith, append_assoc, Bool, true, false, cond, Option, None, Some, ◌⊎◌, inl, inr, Result, Ok, Err}
+use Rattle.std.specs.Prelude.{nat_lt, nat_le, ◌==◌, ◌&&◌, not, slice_get, IfOk, IfErr}
+use Rattle.guest_machine.specs.Guest.{Guest, State}
+use Rattle.frame_ports.specs.Addresses.{targets_of}
+use Rattle.frame_ports.specs.Lands.{list_of}
+use Rattle.frame_ports.specs.Ports.{PortsState, empty_ports}
+use Rattle.output_gate.specs.Epochs.{Epoch, frames_to}
+use Rattle.pair_core.specs.declared.event.Event.{Event}
+use Rattle.pair_core.specs.declared.event.Event.TheVariants.{Step, Cut, Send, BackupGet, AckGet, Take}
+use Rattle.pair_core.specs.declared.event.Packet.{Packet}
+use Rattle.pair_core.specs.declared.event.Refusal.{Refusal}
+use Rattle.pair_core.specs.declared.event.Refusal.TheVariants.{NoClient, Behind, Stale, Gap, NoMemory, CutNeeded, Exhausted}
+use Rattle.pair_core.specs.declared.event.Reply.{Reply}
+use Rattle.pair_core.specs.declared.event.Reply.TheVariants as replies
+use Rattle.pair_core.specs.Entries.{Frame, Entry, Took, Begins}
+use Rattle.pair_core.specs.HistoryState.{HistoryState, at}
+use Rattle.pair_core.specs.Protocol.{Record, Outcome, Answers, OnRefused, outcome, step_outcome, cut_outcome, send_outcome, backup_outcome, again_outcome, commit_outcome, ack_outcome, take_outcome, stepped_outcome, sealed_outcome, acked, taken_outcome, refused, first_kept, landings, exhausts, outbox_of, step_room, most_pending, number_end}
+use Rattle.pair_core.specs.Pair.{Pair, IsKept, BoxesFit}
+use Rattle.pair_core.specs.Runs.{Run}
+use Rattle.pair_core.specs.Start.{start_state, start_record}
+
+-- every event lets the history grow
+
+same_history : (r : Record) → Begins r.history r.history
+same_history r = ([], nil r.history)
+  where
+    nil : (es : List Entry) → es ≡ es ++ []
+    nil [] = refl
+    nil (e ∷ es) = ap (λ t. e ∷ t) (nil es)
+
+chosen_begins : (h : List Entry) (t : Bool) (x y : Outcome) → Begins h x.1.history → Begins h y.1.history → Begins h (cond t x y).1.history
+chosen_begins h true x y p q = p
+chosen_begins h false x y p q = q
+
+-- a choice whose first outcome changes nothing of the history
+unless : (r : Record) (t : Bool) (why : Refusal) (y : Outcome) → Begins r.history y.1.history → Begins r.history (cond t (refused r why) y).1.history
+unless r t why y q = chosen_begins r.history t (refused r why) y (same_history r) q
+
+backup_begins : (r : Record) (p : Option Packet) → Begins r.history (backup_outcome r p).1.history
+backup_begins r None = same_history r
+backup_begins r (Some p) =
+    let rest = cond (nat_lt p.number r.to_commit) (again_outcome r) (commit_outcome r) in
+    unless r (not (p.generation == r.generation)) Stale (cond (nat_lt r.to_commit p.number) (refused r Gap) rest)
+    (unless r (nat_lt r.to_commit p.number) Gap rest
+    (chosen_begins r.history (nat_lt p.number r.to_commit) (again_outcome r) (commit_outcome r) (same_history r) (first_kept r.kept, refl)))
+
+ack_begins : (start : HistoryState) (r : Record) (p : Option Packet) → Begins r.history (ack_outcome start r p).1.history
+ack_begins start r None = same_history r
+ack_begins start r (Some p) =
+    let boxes = (at start r.history).boxes in
+    let leaving = targets_of (length boxes) (frames_to p.number r.pending) in
+    let done : Outcome = acked start r p in
+    unless r (not (p.generation == r.generation)) Stale (cond (exhausts r (length leaving)) (refused r Exhausted) done)
+    (unless r (exhausts r (length leaving)) Exhausted done (landings boxes leaving, refl))
+
+pub outcome_begins : (start : HistoryState) (r : Record) (event : Event) → Begins r.history (outcome start r event).1.history
+outcome_begins start r Step =
+    unless r (nat_lt step_room (length (outbox_of start r))) CutNeeded (cond (exhausts r 1) (refused r Exhausted) (stepped_outcome start r))
+    (unless r (exhausts r 1) Exhausted (stepped_outcome start r) (same_history r))
+outcome_begins start r Cut =
+    unless r (nat_le most_pending (length r.pending)) Behind (cond (nat_le number_end r.to_cut) (refused r Exhausted) (sealed_outcome start r))
+    (unless r (nat_le number_end r.to_cut) Exhausted (sealed_outcome start r) (same_history r))
+outcome_begins start r Send = same_history r
+outcome_begins start r (BackupGet k) = backup_begins r (slice_get r.packets k)
+outcome_begins start r (AckGet k) = ack_begins start r (slice_get r.answers k)
+outcome_begins start r (Take c) =
+    let boxes = (at start r.history).boxes in
+    unless r (not (nat_le 1 c && nat_le c (length boxes))) NoClient (cond (exhausts r 1) (refused r Exhausted) (taken_outcome start r c))
+    (unless r (exhausts r 1) Exhausted (taken_outcome start r c) (Took c (slice_get (list_of boxes c) 0) ∷ [], refl))
+
+pub answers_begin : (start : HistoryState) (old : Record) (event : Event) (reply : Reply) (new : Record) → Answers start old event reply new → Begins old.history new.history
+answers_begin start old event reply new (inl e) = subst (λ (o : Outcome). Begins old.history o.1.history) (sym e) (outcome_begins start old event)
+answers_begin start old event reply new (inr e) = subst (λ (r : Record). Begins old.history r.history) (sym e.1) (same_history old)
+
+pub Begins-trans : (a b c : List Entry) → Begins a b → Begins b c → Begins a c
+Begins-trans a b c p q = (p.0 ++ q.0, q.1 ∙ ap (λ t. t ++ q.0) p.1 ∙ append_assoc a p.0 q.0)
+
+-- a run goes on by one event
+pub Run-more : (start : HistoryState) (events : List Event) (replies : List Reply) (old mid new : Record) (event : Event) (reply : Reply) → Run start old events replies mid → Answers start mid event reply new → Run start old (events ++ event ∷ []) (replies ++ reply ∷ []) new
+Run-more start [] [] old mid new event reply run step = (new, subst (λ (r : Record). Answers start r event reply new) run step, refl)
+Run-more start [] (r ∷ replies) old mid new event reply run step = absurd run
+Run-more start (e ∷ events) [] old mid new event reply run step = absurd run
+Run-more start (e ∷ events) (r ∷ replies) old mid new event reply run step = (run.0, run.1, Run-more start events replies run.0 mid new event reply run.2 step)
+
+-- what an event did, as a reply
+
+module _ (old new : Pair) (event : Event) (o : Result Reply Refusal) (reply : Reply)
+    (done : IfOk o (λ r. (r, new.protocol) ≡ outcome old.start old.protocol event))
+    (failed : IfErr o (λ e. (e ≡ NoMemory) × (new ≡ old)))
+    (ok : IfOk o (λ r. reply ≡ r))
+    (err : IfErr o (λ e. reply ≡ replies.Refused e)) where
+  pub answers_by_outcome : Answers old.start old.protocol event reply new.protocol
+  answers_by_outcome = by_result o done failed ok err
+    where
+      by_result : (o : Result Reply Refusal)
+          → IfOk o (λ r. (r, new.protocol) ≡ outcome old.start old.protocol event)
+          → IfErr o (λ e. (e ≡ NoMemory) × (new ≡ old))
+          → IfOk o (λ r. reply ≡ r)
+          → IfErr o (λ e. reply ≡ replies.Refused e)
+          → Answers old.start old.protocol event reply new.protocol
+      by_result (Ok r) d f k e = inl (ap (λ (x : Reply). (x, new.protocol)) k ∙ d)
+      by_result (Err x) d f k e = inr (e ∙ ap (λ (y : Refusal). replies.Refused y) f.0, ap (λ (w : Pair). w.protocol) f.1)
+
+  pub refused_by_outcome : IfOk o (λ r. OnRefused r (new ≡ old)) → OnRefused reply (new ≡ old)
+  refused_by_outcome refused = by_result o failed ok err refused
+    where
+      by_result : (o : Result Reply Refusal)
+          → IfErr o (λ e. (e ≡ NoMemory) × (new ≡ old))
+          → IfOk o (λ r. reply ≡ r)
+          → IfErr o (λ e. reply ≡ replies.Refused e)
+          → IfOk o (λ r. OnRefused r (new ≡ old))
+          → OnRefused reply (new ≡ old)
+      by_result (Ok r) f k e refused = subst (λ (x : Reply). OnRefused x (new ≡ old)) (sym k) refused
+      by_result (Err x) f k e refused = subst (λ (y : Reply). OnRefused y (new ≡ old)) (sym e) f.1

@@ -1,0 +1,37 @@
+use Rattle.std.proofs.Common.{◌≡◌, ◌+◌, ◌++◌, ◌∷◌, [], length, take, get_or, subst, ap, ◌∙◌, sym, arith, List, ◌<◌}
+use Rattle.std.proofs.lemmas.List.{take_more}
+use Rattle.pair_core.specs.declared.event.Event.{Event}
+use Rattle.pair_core.specs.declared.event.Event.TheVariants.{Step}
+use Rattle.pair_core.specs.declared.event.Reply.{Reply}
+use Rattle.pair_core.specs.HistoryState.{HistoryState}
+use Rattle.pair_core.specs.Protocol.{Answers}
+use Rattle.pair_core.specs.Runs.{Run}
+use Rattle.pair_core.proofs.PublicLaws.{Run-more, Begins-trans}
+use Rattle.pair_core.proofs.world.World.run.Goals as goal
+
+pub loop-event-preserved : goal.loop-event-preserved
+loop-event-preserved c =
+    let items = rw c.unwrap.ensures at c.push.ensures.items in
+    let len = rw c.unwrap.ensures at c.push.ensures.len in
+    let v = c.loop-event.invariant in
+    let a = c.apply-reply.ensures.answers in
+    let cap = c.push.ensures.capacity in
+    let i = c.loop-event.event-index in
+    let events = c.args.events.now in
+    let start = c.args.self.now.start in
+    let old = c.args.self.now.protocol in
+    let new = c.apply-reply.new.self.protocol in
+    let within : i < length events = omega arith in
+    let more : take (i + 1) events ≡ take i events ++ get_or events i Step ∷ [] = take_more events i Step within in
+    let step : Answers start c.loop-event.self.protocol (get_or events i Step) c.apply-reply.result new =
+    subst (λ (s : HistoryState). Answers s c.loop-event.self.protocol (get_or events i Step) c.apply-reply.result new) v.start a in
+    let run : Run start old (take i events ++ get_or events i Step ∷ []) (c.loop-event.replies.items ++ c.apply-reply.result ∷ []) new =
+    Run-more start (take i events) c.loop-event.replies.items old c.loop-event.self.protocol new (get_or events i Step) c.apply-reply.result v.replies step in
+    record {
+      replies = subst (λ (es : List Event). Run start old es c.push.new.self.items new) (sym more) (subst (λ (rs : List Reply). Run start old (take i events ++ get_or events i Step ∷ []) rs new) (sym items) run);
+      start = c.apply-reply.ensures.start ∙ v.start;
+      grows = Begins-trans c.args.self.now.protocol.history c.loop-event.self.protocol.history c.apply-reply.new.self.protocol.history v.grows c.apply-reply.ensures.grows;
+      consistent = c.apply-reply.ensures.consistent;
+      counted = let k = v.counted in omega arith;
+      room = let k = v.room in omega arith;
+    }

@@ -1,0 +1,11 @@
+pub mod Entries
+pub mod HistoryState
+pub mod Protocol
+pub mod Pair
+pub mod Log
+pub mod LogFields
+pub mod Lines
+pub mod Lengths
+pub mod Start
+pub mod WorldFields
+pub mod Runs

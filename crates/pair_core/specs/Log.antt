@@ -1,0 +1,22 @@
+-- What contracts see of a stored history: its entries, one by one, and how many more may be stored without taking memory.
+use Rattle.std.specs.Prelude.{ℕ, ◌-◌, List, [], ◌∷◌, ◌++◌, replicate, Option, None, Some, option_map, vec_len, vec_capacity}
+use Rattle.pair_core.specs.Entries as whole
+use Rattle.pair_core.specs.Entries.{Frame}
+use Rattle.pair_core.specs.declared.history.Entry.{Entry}
+use Rattle.pair_core.specs.declared.history.Entry.TheVariants.{Ran, Land, DropOut, Took}
+
+pub record Log : Type 0 where
+  pub entries : List whole.Entry
+  pub room : ℕ
+
+-- a stored entry stands for these: so many steps, or itself
+abbrev pub expanded : Entry → List whole.Entry
+expanded (Ran count) = replicate count whole.Ran
+expanded (Land client) = whole.Land client ∷ []
+expanded (DropOut client place) = whole.DropOut client place ∷ []
+expanded (Took client None) = whole.Took client None ∷ []
+expanded (Took client (Some frame)) = whole.Took client (Some frame.value) ∷ []
+
+abbrev pub all_expanded : List Entry → List whole.Entry
+all_expanded [] = []
+all_expanded (e ∷ es) = expanded e ++ all_expanded es

@@ -1,0 +1,37 @@
+-- Where a pair starts.
+use Rattle.std.specs.Prelude.{ℕ, List, [], length, replicate}
+use Rattle.guest_machine.specs.Guest.{boot_guest}
+use Rattle.pair_core.specs.declared.event.Mode.TheVariants.{Paired}
+use Rattle.pair_core.specs.declared.event.Show.{Show}
+use Rattle.pair_core.specs.HistoryState.{HistoryState}
+use Rattle.pair_core.specs.Protocol.{Record}
+use Rattle.pair_core.specs.Pair.{Pair}
+
+-- the boot guest, nothing on its way, and an empty box for each client
+abbrev pub start_state : ℕ → List ℕ → ℕ → HistoryState
+start_state pages image clients = record { guest = boot_guest pages image; out = []; boxes = replicate clients [] }
+
+-- Nothing happened yet. Both nodes were given the boot image, which counts as checkpoint 0, committed and acknowledged.
+abbrev pub start_record : Record
+start_record = record {
+  history = [];
+  kept = [];
+  running = [];
+  generation = 1;
+  to_cut = 1;
+  to_commit = 1;
+  to_acknowledge = 1;
+  pending = [];
+  packets = [];
+  answers = [];
+}
+
+-- what an operator is shown: the live guest's steps, and how long the history is
+abbrev pub shown : Pair → Show
+shown w = record {
+  mode = Paired;
+  generation = w.protocol.generation;
+  pending = length w.protocol.pending;
+  steps = w.live.steps;
+  entries = length w.protocol.history;
+}

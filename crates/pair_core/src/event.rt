@@ -1,0 +1,127 @@
+ghost use Rattle.std.specs.Prelude.{◌≡◌};
+ghost use Rattle.pair_core.specs.declared.event.Refusal.TheVariants.{NoMemory};
+
+use arrayvec::ArrayVec;
+use std::alloc::AllocError;
+use thiserror::Error;
+
+/// A frame of the network: 14 to 1514 bytes.
+pub type Frame = ArrayVec<u8, 1514>;
+
+/// What may happen next to the pair.
+#[derive(Clone, Copy, Debug, PartialEq, Eq)]
+pub enum Event {
+    /// The guest makes one step.
+    Step,
+    /// The running epoch ends, and its checkpoint waits to be sent.
+    Cut,
+    /// The primary sends one packet for each checkpoint that waits for its acknowledgement.
+    Send,
+    /// The backup gets the packet of this number, counted from 0 in the order sent.
+    BackupGet(u64),
+    /// The primary gets the acknowledgement of this number, counted from 0 in the order sent.
+    AckGet(u64),
+    /// The client of this number, counted from 1, takes the first frame of its box.
+    Take(u64),
+}
+
+/// Why an event was refused. Nothing changed.
+#[derive(Clone, Copy, Debug, PartialEq, Eq, Error)]
+pub enum Refusal {
+    /// The client number is 0 or above the count.
+    #[error("NoClient")]
+    NoClient,
+    /// Four checkpoints are pending.
+    #[error("Behind")]
+    Behind,
+    /// The message is of another generation.
+    #[error("Stale")]
+    Stale,
+    /// The checkpoint's number is beyond the next one.
+    #[error("Gap")]
+    Gap,
+    /// A growth was refused.
+    #[error("NoMemory")]
+    NoMemory,
+    /// Fewer than 64 places of the outbox are free.
+    #[error("CutNeeded")]
+    CutNeeded,
+    /// A number would reach 2^62.
+    #[error("Exhausted")]
+    Exhausted,
+}
+
+impl From<AllocError> for Refusal {
+    ghost from_gives = { λ _ e. e ≡ NoMemory };
+
+    fn from(_error: AllocError) -> Refusal {
+        Refusal::NoMemory
+    }
+}
+
+/// What an event is answered.
+#[derive(Debug, Drop)]
+pub enum Reply {
+    /// The guest's step count now.
+    Steps(u64),
+    /// The generation and the number of the checkpoint that was cut.
+    Cut {
+        generation: u64,
+        number: u64,
+    },
+    /// How many packets were sent.
+    Sent(u64),
+    /// The backup's image is now the guest at this checkpoint.
+    Committed {
+        generation: u64,
+        number: u64,
+    },
+    /// The checkpoint was committed before: the acknowledgement of the last committed one was sent again.
+    Again {
+        generation: u64,
+        number: u64,
+    },
+    /// There is no such packet.
+    Lost,
+    /// Checkpoints up to this one are acknowledged, and `landed` frames were put into boxes, counted for each client.
+    Acked {
+        generation: u64,
+        number: u64,
+        landed: u64,
+    },
+    /// The frame, or none where the box is empty.
+    Took(Option<Frame>),
+    /// Nothing happened.
+    Refused(Refusal),
+}
+
+/// The state of the pair.
+#[derive(Clone, Copy, Debug, PartialEq, Eq)]
+pub enum Mode {
+    /// The primary is live and the backup holds an image.
+    Paired,
+}
+
+/// What an operator sees of the pair.
+#[derive(Clone, Copy, Debug, PartialEq, Eq)]
+pub struct Show {
+    /// The state of the pair.
+    pub mode: Mode,
+    /// The generation, from 1.
+    pub generation: u64,
+    /// How many checkpoints wait for their acknowledgement.
+    pub pending: u64,
+    /// The guest's step count.
+    pub steps: u64,
+    /// The length of the history.
+    pub entries: u64,
+}
+
+/// A packet of either line: a checkpoint, or its acknowledgement.
+#[derive(Clone, Copy, Debug, PartialEq, Eq)]
+pub struct Packet {
+    /// The generation, from 1.
+    pub generation: u64,
+    /// The checkpoint's number.
+    pub number: u64,
+}

@@ -1,0 +1,16 @@
+//! The protected pair as one machine over events: a live guest, the backup's image, the gate between the guest and its
+//! clients, and one history that says what clients were shown.
+//!
+//! [`World::apply`] does one event and answers it; [`World::run`] does a list of them. Contracts see a world as a `Pair`
+//! of the specs, whose part `protocol` is the pair protocol's record.
+#![tactic(auto)]
+
+mod event;
+mod history;
+mod landings;
+mod packets;
+mod world;
+
+pub use event::{Event, Frame, Mode, Packet, Refusal, Reply, Show};
+pub use history::{Entry, History};
+pub use world::World;
