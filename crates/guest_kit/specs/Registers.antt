@@ -1,11 +1,11 @@
--- The names of the registers in the calling convention of RISC-V.
+-- The registers that the programs use, by their numbers.
 use Rattle.std.specs.Prelude.{ℕ}
-use Rattle.guest_kit.specs.declared.assembler.Name.{Name}
-use Rattle.guest_kit.specs.declared.assembler.Name.TheVariants.{Zero, T0, T1, T2, S0}
+use Rattle.guest_kit.specs.declared.assembler.Reg.{Reg}
+use Rattle.guest_kit.specs.declared.assembler.Reg.TheVariants.{X0, X5, X6, X7, X8}
 
-abbrev pub number_of : Name → ℕ
-number_of Zero = 0
-number_of T0 = 5
-number_of T1 = 6
-number_of T2 = 7
-number_of S0 = 8
+abbrev pub number_of : Reg → ℕ
+number_of X0 = 0
+number_of X5 = 5
+number_of X6 = 6
+number_of X7 = 7
+number_of X8 = 8

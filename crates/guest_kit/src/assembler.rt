@@ -4,33 +4,33 @@ ghost use Rattle.std.specs.Prelude.{◌≡◌, ◌%◌, ◌^◌};
 ghost use Rattle.rv64_core.specs.Encoding.{u_word, j_word, i_word, s_word};
 ghost use Rattle.guest_kit.specs.Registers.{number_of};
 
-use rv64_core::{CsrOp, CsrSource, Instr, Operation, Register, Width, encode};
+use rv64_core::{CsrOp, Instr, Operation, Register, Width, encode};
 
-/// A register, by its name in the calling convention.
+/// A register that the programs use.
 #[derive(Clone, Copy, Debug, PartialEq, Eq)]
-pub(crate) enum Name {
+pub(crate) enum Reg {
     /// x0, which reads 0.
-    Zero = 0,
+    X0 = 0,
     /// x5.
-    T0 = 5,
+    X5 = 5,
     /// x6.
-    T1 = 6,
+    X6 = 6,
     /// x7.
-    T2 = 7,
+    X7 = 7,
     /// x8.
-    S0 = 8,
+    X8 = 8,
 }
 
-/// The register of this name.
-fn register(name: Name) -> Register
-    ensures { result ≡ number_of name }
+/// Its number, as an instruction holds it.
+fn register(reg: Reg) -> Register
+    ensures { result ≡ number_of reg }
 {
-    Register::new(name as u8).unwrap()
+    Register::new(reg as u8).unwrap()
 }
 
 /// `lui`: `imm`, whose low 12 bits are 0, into `rd`.
 #[tactic(auto, unfolding(rv64_core::specs::Encoding::encoded))]
-pub(crate) fn lui(rd: Name, imm: u64) -> u32
+pub(crate) fn lui(rd: Reg, imm: u64) -> u32
     ensures { result ≡ u_word 0x37 (number_of rd) imm }
 {
     encode(Instr::Lui {
@@ -41,7 +41,7 @@ pub(crate) fn lui(rd: Name, imm: u64) -> u32
 
 /// `auipc`: the address of the instruction, plus `imm`, whose low 12 bits are 0, into `rd`.
 #[tactic(auto, unfolding(rv64_core::specs::Encoding::encoded))]
-pub(crate) fn auipc(rd: Name, imm: u64) -> u32
+pub(crate) fn auipc(rd: Reg, imm: u64) -> u32
     ensures { result ≡ u_word 0x17 (number_of rd) imm }
 {
     encode(Instr::Auipc {
@@ -52,7 +52,7 @@ pub(crate) fn auipc(rd: Name, imm: u64) -> u32
 
 /// `addi`: `rs1 + imm` into `rd`.
 #[tactic(auto, unfolding(rv64_core::specs::Encoding::encoded))]
-pub(crate) fn addi(rd: Name, rs1: Name, imm: u64) -> u32
+pub(crate) fn addi(rd: Reg, rs1: Reg, imm: u64) -> u32
     ensures { result ≡ i_word 0x13 (number_of rd) (number_of rs1) imm }
 {
     encode(Instr::OpImm {
@@ -65,7 +65,7 @@ pub(crate) fn addi(rd: Name, rs1: Name, imm: u64) -> u32
 
 /// `lw`: the 4 bytes at `rs1 + offset`, sign extended, into `rd`.
 #[tactic(auto, unfolding(rv64_core::specs::Encoding::encoded))]
-pub(crate) fn lw(rd: Name, offset: u64, rs1: Name) -> u32
+pub(crate) fn lw(rd: Reg, offset: u64, rs1: Reg) -> u32
     ensures { result ≡ i_word 0x2003 (number_of rd) (number_of rs1) offset }
 {
     encode(Instr::Load {
@@ -79,7 +79,7 @@ pub(crate) fn lw(rd: Name, offset: u64, rs1: Name) -> u32
 
 /// `sw`: the low 4 bytes of `rs2` to `rs1 + offset`.
 #[tactic(auto, unfolding(rv64_core::specs::Encoding::encoded))]
-pub(crate) fn sw(rs2: Name, offset: u64, rs1: Name) -> u32
+pub(crate) fn sw(rs2: Reg, offset: u64, rs1: Reg) -> u32
     ensures { result ≡ s_word 0x2023 (number_of rs1) (number_of rs2) offset }
 {
     encode(Instr::Store {
@@ -92,7 +92,7 @@ pub(crate) fn sw(rs2: Name, offset: u64, rs1: Name) -> u32
 
 /// `jal`: a jump by `offset` from the instruction itself, with the address behind it in `rd`.
 #[tactic(auto, unfolding(rv64_core::specs::Encoding::encoded))]
-pub(crate) fn jal(rd: Name, offset: u64) -> u32
+pub(crate) fn jal(rd: Reg, offset: u64) -> u32
     ensures { result ≡ j_word 0x6f (number_of rd) offset }
 {
     encode(Instr::Jal {
@@ -103,7 +103,7 @@ pub(crate) fn jal(rd: Name, offset: u64) -> u32
 
 /// `ld`: the 8 bytes at `rs1 + offset` into `rd`.
 #[tactic(auto, unfolding(rv64_core::specs::Encoding::encoded))]
-pub(crate) fn ld(rd: Name, offset: u64, rs1: Name) -> u32
+pub(crate) fn ld(rd: Reg, offset: u64, rs1: Reg) -> u32
     ensures { result ≡ i_word 0x3003 (number_of rd) (number_of rs1) offset }
 {
     encode(Instr::Load {
@@ -117,7 +117,7 @@ pub(crate) fn ld(rd: Name, offset: u64, rs1: Name) -> u32
 
 /// `sd`: the 8 bytes of `rs2` to `rs1 + offset`.
 #[tactic(auto, unfolding(rv64_core::specs::Encoding::encoded))]
-pub(crate) fn sd(rs2: Name, offset: u64, rs1: Name) -> u32
+pub(crate) fn sd(rs2: Reg, offset: u64, rs1: Reg) -> u32
     ensures { result ≡ s_word 0x3023 (number_of rs1) (number_of rs2) offset }
 {
     encode(Instr::Store {
@@ -130,40 +130,40 @@ pub(crate) fn sd(rs2: Name, offset: u64, rs1: Name) -> u32
 
 /// `csrrw`: `rs1` into a CSR, and what it held into `rd`.
 #[tactic(auto, unfolding(rv64_core::specs::Encoding::encoded))]
-pub(crate) fn csrrw(rd: Name, csr: u16, rs1: Name) -> u32
+pub(crate) fn csrrw(rd: Reg, csr: u16, rs1: Reg) -> u32
     ensures { result ≡ i_word 0x1073 (number_of rd) (number_of rs1) csr }
 {
     encode(Instr::Csr {
         op: CsrOp::Write,
         rd: register(rd),
+        rs1: register(rs1),
         csr,
-        source: CsrSource::Register(register(rs1)),
     })
 }
 
 /// `csrrs`: the bits of `rs1` are set in a CSR, and what it held goes into `rd`.
 #[tactic(auto, unfolding(rv64_core::specs::Encoding::encoded))]
-pub(crate) fn csrrs(rd: Name, csr: u16, rs1: Name) -> u32
+pub(crate) fn csrrs(rd: Reg, csr: u16, rs1: Reg) -> u32
     ensures { result ≡ i_word 0x2073 (number_of rd) (number_of rs1) csr }
 {
     encode(Instr::Csr {
         op: CsrOp::Set,
         rd: register(rd),
+        rs1: register(rs1),
         csr,
-        source: CsrSource::Register(register(rs1)),
     })
 }
 
 /// `csrrsi`: the bits of `bits`, of which there are 5, are set in a CSR, and what it held goes into `rd`.
 #[tactic(auto, unfolding(rv64_core::specs::Encoding::encoded))]
-pub(crate) fn csrrsi(rd: Name, csr: u16, bits: u8) -> u32
+pub(crate) fn csrrsi(rd: Reg, csr: u16, bits: u64) -> u32
     ensures { result ≡ i_word 0x6073 (number_of rd) (bits % 2 ^ 5) csr }
 {
-    encode(Instr::Csr {
+    encode(Instr::CsrImm {
         op: CsrOp::Set,
         rd: register(rd),
+        imm: bits,
         csr,
-        source: CsrSource::Immediate(bits),
     })
 }
 

@@ -4,7 +4,7 @@ ghost use Rattle.std.specs.Prelude.{◌≡◌, IfOk, vec_len};
 ghost use Rattle.guest_kit.specs.Image.{image_of};
 ghost use Rattle.guest_kit.specs.Beacon.{beacon_program, beacon_words, frame_buffer};
 
-use crate::assembler::Name::{S0, T0, T1, T2, Zero};
+use crate::assembler::Reg::{X0, X5, X6, X7, X8};
 use crate::assembler::{addi, jal, lui, lw, sw};
 use crate::image::{descriptor, place, push_words};
 use crate::virtio::{
@@ -45,37 +45,37 @@ pub fn beacon(alloc: Global) -> Result<Vec<u8>, AllocError>
     Ok(image)
 }
 
-/// The instructions. `t0` holds the first register of the device, and `t1` the number 1.
+/// The instructions. `x5` holds the first register of the device, and `x6` the number 1.
 fn words() -> [u32; 23]
     ensures { result ≡ beacon_words }
 {
     [
-        lui(T0, NETWORK),
-        addi(T1, Zero, 1),
+        lui(X5, NETWORK),
+        addi(X6, X0, 1),
         // the device's features: bit 32 alone
-        sw(T1, STATUS, T0),
-        addi(T2, Zero, ACKNOWLEDGE | DRIVER),
-        sw(T2, STATUS, T0),
-        sw(T1, DRIVER_FEATURES_SEL, T0),
-        sw(T1, DRIVER_FEATURES, T0),
-        addi(T2, Zero, ACKNOWLEDGE | DRIVER | FEATURES_OK),
-        sw(T2, STATUS, T0),
-        lw(S0, STATUS, T0),
+        sw(X6, STATUS, X5),
+        addi(X7, X0, ACKNOWLEDGE | DRIVER),
+        sw(X7, STATUS, X5),
+        sw(X6, DRIVER_FEATURES_SEL, X5),
+        sw(X6, DRIVER_FEATURES, X5),
+        addi(X7, X0, ACKNOWLEDGE | DRIVER | FEATURES_OK),
+        sw(X7, STATUS, X5),
+        lw(X8, STATUS, X5),
         // queue 1, for sending, with one descriptor
-        sw(T1, QUEUE_SEL, T0),
-        sw(T1, QUEUE_NUM, T0),
-        lui(T2, 0xffff_ffff_8000_1000),
-        sw(T2, QUEUE_DESC, T0),
-        addi(T2, T2, 0x40),
-        sw(T2, QUEUE_DRIVER, T0),
-        addi(T2, T2, 0x40),
-        sw(T2, QUEUE_DEVICE, T0),
-        sw(T1, QUEUE_READY, T0),
-        addi(T2, Zero, ACKNOWLEDGE | DRIVER | FEATURES_OK | DRIVER_OK),
-        sw(T2, STATUS, T0),
+        sw(X6, QUEUE_SEL, X5),
+        sw(X6, QUEUE_NUM, X5),
+        lui(X7, 0xffff_ffff_8000_1000),
+        sw(X7, QUEUE_DESC, X5),
+        addi(X7, X7, 0x40),
+        sw(X7, QUEUE_DRIVER, X5),
+        addi(X7, X7, 0x40),
+        sw(X7, QUEUE_DEVICE, X5),
+        sw(X6, QUEUE_READY, X5),
+        addi(X7, X0, ACKNOWLEDGE | DRIVER | FEATURES_OK | DRIVER_OK),
+        sw(X7, STATUS, X5),
         // the frame is sent
-        sw(T1, QUEUE_NOTIFY, T0),
-        jal(Zero, 0),
+        sw(X6, QUEUE_NOTIFY, X5),
+        jal(X0, 0),
     ]
 }
 

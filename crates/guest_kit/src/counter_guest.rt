@@ -4,7 +4,7 @@ ghost use Rattle.std.specs.Prelude.{◌≡◌, IfOk, vec_len};
 ghost use Rattle.guest_kit.specs.Image.{image_of};
 ghost use Rattle.guest_kit.specs.Counter.{counter_program, counter_words};
 
-use crate::assembler::Name::{S0, T0, T1, T2, Zero};
+use crate::assembler::Reg::{X0, X5, X6, X7, X8};
 use crate::assembler::{addi, auipc, csrrs, csrrsi, csrrw, jal, ld, lui, mret, sd};
 use crate::image::push_words;
 use std::alloc::{AllocError, Global};
@@ -27,7 +27,7 @@ const MTVEC: u16 = 0x305;
 /// The timer interrupt's bit of `mie`.
 const TIMER_ENABLED: u64 = 1 << 7;
 /// The bit of `mstatus` that enables interrupts.
-const INTERRUPTS_ENABLED: u8 = 1 << 3;
+const INTERRUPTS_ENABLED: u64 = 1 << 3;
 
 /// From the word that takes its own address to the handler, in bytes.
 const TO_HANDLER: u64 = 40;
@@ -46,34 +46,34 @@ pub fn counter(alloc: Global) -> Result<Vec<u8>, AllocError>
     Ok(image)
 }
 
-/// The instructions. `s0` holds the address of the count, `t0` the end of the timer's registers, and `t1` the address of
+/// The instructions. `x8` holds the address of the count, `x5` the end of the timer's registers, and `x6` the address of
 /// `mtimecmp`.
 fn words() -> [u32; 20]
     ensures { result ≡ counter_words }
 {
     [
-        auipc(S0, 0x1000),
-        lui(T0, TIMER_END),
-        lui(T1, MTIMECMP),
+        auipc(X8, 0x1000),
+        lui(X5, TIMER_END),
+        lui(X6, MTIMECMP),
         // traps go to the handler
-        auipc(T2, 0),
-        addi(T2, T2, TO_HANDLER),
-        csrrw(Zero, MTVEC, T2),
+        auipc(X7, 0),
+        addi(X7, X7, TO_HANDLER),
+        csrrw(X0, MTVEC, X7),
         // the first interrupt comes a period from now
-        ld(T2, MTIME, T0),
-        addi(T2, T2, PERIOD),
-        sd(T2, 0, T1),
-        addi(T2, Zero, TIMER_ENABLED),
-        csrrs(Zero, MIE, T2),
-        csrrsi(Zero, MSTATUS, INTERRUPTS_ENABLED),
-        jal(Zero, 0),
+        ld(X7, MTIME, X5),
+        addi(X7, X7, PERIOD),
+        sd(X7, 0, X6),
+        addi(X7, X0, TIMER_ENABLED),
+        csrrs(X0, MIE, X7),
+        csrrsi(X0, MSTATUS, INTERRUPTS_ENABLED),
+        jal(X0, 0),
         // the handler counts, and sets the next one
-        ld(T2, 0, S0),
-        addi(T2, T2, 1),
-        sd(T2, 0, S0),
-        ld(T2, MTIME, T0),
-        addi(T2, T2, PERIOD),
-        sd(T2, 0, T1),
+        ld(X7, 0, X8),
+        addi(X7, X7, 1),
+        sd(X7, 0, X8),
+        ld(X7, MTIME, X5),
+        addi(X7, X7, PERIOD),
+        sd(X7, 0, X6),
         mret(),
     ]
 }

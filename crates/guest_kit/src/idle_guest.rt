@@ -4,7 +4,7 @@ ghost use Rattle.std.specs.Prelude.{◌≡◌, IfOk, vec_len};
 ghost use Rattle.guest_kit.specs.Image.{image_of};
 ghost use Rattle.guest_kit.specs.Idle.{idle_program};
 
-use crate::assembler::Name::Zero;
+use crate::assembler::Reg::X0;
 use crate::assembler::jal;
 use crate::image::push_words;
 use std::alloc::{AllocError, Global};
@@ -18,7 +18,7 @@ pub fn idle(alloc: Global) -> Result<Vec<u8>, AllocError>
     ensures size { IfOk result (λ image. vec_len image ≡ 4) }
 {
     let mut image = Vec::new(alloc);
-    push_words(&mut image, &[jal(Zero, 0)])?;
+    push_words(&mut image, &[jal(X0, 0)])?;
     Ok(image)
 }
 

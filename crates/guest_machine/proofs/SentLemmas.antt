@@ -19,8 +19,8 @@ use Rattle.guest_machine.specs.declared.transmit.Buffer.{Buffer}
 use Rattle.guest_machine.specs.Frames.{IsFrame}
 use Rattle.guest_machine.specs.Places.{place_of}
 use Rattle.guest_machine.specs.Guest.{Guest}
-use Rattle.guest_machine.specs.Transmit.{Served, rests, sends, can_serve, has_good_areas, transmit_queue, available, next_buffer, frames_of, frames_in, chain_then, chains, available_served, served, broken, used_written, after_chain}
-use Rattle.guest_machine.specs.Step.{Effect, plan_at, loaded_from, load_ended, load_done, acted, net_stored, stored_to, store_done, carried_out, sent, trapped}
+use Rattle.guest_machine.specs.Transmit.{Served, rests, can_serve, has_good_areas, transmit_queue, available, next_buffer, frames_in, chain_then, chains, available_served, served, broken, used_written, after_chain}
+use Rattle.guest_machine.specs.Step.{Effect, plan_at, loaded_from, load_ended, acted, net_stored, stored_to, carried_out, sent, trapped}
 
 -- at most n frames
 pub record IsFew (fs : List (ArrayVec ℕ)) (n : ℕ) : Type 0 where

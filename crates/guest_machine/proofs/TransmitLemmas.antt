@@ -1,5 +1,5 @@
 -- How chains are served one after another.
-use Rattle.std.proofs.Common.{◌≡◌, ℕ, ◌+◌, ◌-◌, ◌<◌, ◌≤◌, ◌++◌, List, [], ◌∷◌, length, slice_index_or, slice_set, bit_and, bit_or, Option, Some, None, refl, sym, ap, ◌∙◌, subst, arith, append_assoc, add-one, zero, suc, Bool, true, false, ◌==◌, if◌then◌else◌, lit≤, min, max, ◌⊎◌, ◌≢◌, inl, inr}
+use Rattle.std.proofs.Common.{◌≡◌, ℕ, ◌+◌, ◌-◌, ◌<◌, ◌≤◌, ◌++◌, List, length, bit_and, bit_or, Option, Some, None, sym, ap, ◌∙◌, subst, arith, append_assoc, add-one, zero, suc, true, false, ◌==◌, if◌then◌else◌, lit≤, min, max, ◌⊎◌, ◌≢◌, inl, inr}
 use Rattle.std.proofs.lemmas.List.{append-nil, get_or-set_same, get_or-set_other}
 use Rattle.std.proofs.lemmas.Nat.Bits.{same_from_bits, bit_at_and, bit_at_or, bit_at-lt, bit_at-pow_other}
 use Rattle.std.specs.Int.{bit_at}
@@ -9,7 +9,7 @@ use Rattle.virtqueue.specs.declared.rings.Queue.{Queue}
 use Rattle.virtqueue.specs.Queues.{boot_queue}
 use Rattle.virtio_mmio.specs.declared.states.DeviceState.{DeviceState}
 use Rattle.virtio_mmio.specs.declared.kinds.DeviceKind.TheVariants.{Network}
-use Rattle.virtio_mmio.specs.States.{queue_at, IsQueueRecord, IsDeviceRecord}
+use Rattle.virtio_mmio.specs.States.{IsQueueRecord, IsDeviceRecord}
 use Rattle.guest_machine.specs.declared.transmit.Buffer.{Buffer}
 use Rattle.guest_machine.specs.Transmit.{Served, rests, sends, transmit_queue, next_buffer, frames_in, used_written, advanced, after_chain, broken, chain_then, chains, HasAreas}
 

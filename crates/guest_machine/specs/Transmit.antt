@@ -1,6 +1,6 @@
 -- How the network card serves its transmit queue (virtio 1.1, 2.6 for the rings, 5.1.6 for the frames). In this first
 -- form a chain is one readable descriptor wholly in memory, and any other chain is malformed.
-use Rattle.std.specs.Prelude.{ℕ, zero, suc, ◌+◌, ◌-◌, ◌*◌, ◌%◌, ◌^◌, Bool, ◌&&◌, ◌||◌, ◌==◌, ◌<◌, ◌≤◌, if◌then◌else◌, nat_lt, nat_le, List, [], ◌∷◌, ◌++◌, length, drop, slice_range, slice_set, bit_and, bit_or, Option, Some, None}
+use Rattle.std.specs.Prelude.{ℕ, zero, suc, ◌+◌, ◌-◌, ◌*◌, ◌%◌, ◌^◌, Bool, ◌&&◌, ◌==◌, ◌<◌, ◌≤◌, if◌then◌else◌, nat_lt, nat_le, List, [], ◌∷◌, ◌++◌, length, drop, slice_range, slice_set, bit_and, bit_or, Option, Some, None}
 use Rattle.arrayvec.specs.ArrayVec.{ArrayVec}
 use Rattle.virtqueue.specs.declared.rings.Queue.{Queue}
 use Rattle.virtio_mmio.specs.declared.states.DeviceState.{DeviceState}

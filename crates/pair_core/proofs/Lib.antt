@@ -6,6 +6,7 @@ pub mod Events
 pub mod Outcomes
 pub mod WorldLaws
 pub mod PublicLaws
+pub mod ReleasedLaws
 pub mod LogLaws
 pub mod LengthLaws
 pub mod Receivers

@@ -6,6 +6,8 @@ pub mod Log
 pub mod LogFields
 pub mod Lines
 pub mod Lengths
+pub mod Released
+pub mod Refusals
 pub mod Start
 pub mod WorldFields
 pub mod Runs

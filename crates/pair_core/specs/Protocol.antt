@@ -1,5 +1,5 @@
 -- The pair protocol: what each event is answered and what it leaves, over a record that holds no machine, page or byte.
-use Rattle.std.specs.Prelude.{◌≡◌, ℕ, ◌+◌, ◌-◌, ◌^◌, ◌==◌, ◌&&◌, not, nat_lt, nat_le, Bool, if◌then◌else◌, List, [], ◌∷◌, ◌++◌, length, map, slice_get, Option, None, Some, ◌⊎◌}
+use Rattle.std.specs.Prelude.{◌≡◌, ℕ, ◌+◌, ◌-◌, ◌^◌, ◌==◌, ◌&&◌, not, nat_lt, nat_le, Bool, if◌then◌else◌, List, [], ◌∷◌, ◌++◌, length, map, slice_get, Option, None, Some, Result, Ok, Err, ◌⊎◌}
 use Rattle.guest_machine.specs.Guest.{Guest}
 use Rattle.guest_machine.specs.Step.{next, sent}
 use Rattle.frame_ports.specs.Addresses.{targets_of}
@@ -237,3 +237,8 @@ OnRefused (replies.Again generation number) P = Unit {0}
 OnRefused replies.Lost P = Unit {0}
 OnRefused (replies.Acked generation number landed) P = Unit {0}
 OnRefused (replies.Took frame) P = Unit {0}
+
+-- what a step answers, as a reply
+abbrev pub step_reply : Result ℕ Refusal → Reply
+step_reply (Ok count) = replies.Steps count
+step_reply (Err why) = replies.Refused why

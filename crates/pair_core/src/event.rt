@@ -1,8 +1,9 @@
-ghost use Rattle.std.specs.Prelude.{◌≡◌};
+ghost use Rattle.std.specs.Prelude.{◌≡◌, Some, codes};
 ghost use Rattle.pair_core.specs.declared.event.Refusal.TheVariants.{NoMemory};
 
 use arrayvec::ArrayVec;
 use std::alloc::AllocError;
+use std::fmt;
 use thiserror::Error;
 
 /// A frame of the network: 14 to 1514 bytes.
@@ -49,6 +50,50 @@ pub enum Refusal {
     /// A number would reach 2^62.
     #[error("Exhausted")]
     Exhausted,
+}
+
+impl Refusal {
+    ghost use Rattle.pair_core.specs.Refusals.{number_of, name_of};
+
+    /// The number of the refusal, in the project's table of refusals.
+    pub fn number(self) -> u8
+        ensures { result ≡ number_of self }
+    {
+        match self {
+            Refusal::NoClient => 3,
+            Refusal::Behind => 5,
+            Refusal::Stale => 9,
+            Refusal::Gap => 10,
+            Refusal::NoMemory => 12,
+            Refusal::CutNeeded => 13,
+            Refusal::Exhausted => 14,
+        }
+    }
+
+    /// Its name in that table, which is also what `Display` prints.
+    pub fn name(self) -> &'static str
+        ensures { result.now ≡ name_of self }
+    {
+        match self {
+            Refusal::NoClient => "NoClient",
+            Refusal::Behind => "Behind",
+            Refusal::Stale => "Stale",
+            Refusal::Gap => "Gap",
+            Refusal::NoMemory => "NoMemory",
+            Refusal::CutNeeded => "CutNeeded",
+            Refusal::Exhausted => "Exhausted",
+        }
+    }
+}
+
+impl fmt::Display for Mode {
+    ghost output = { λ _. Some (codes "paired") };
+
+    fn fmt<W: fmt::Write>(&self, f: &mut fmt::Formatter<W>) -> fmt::Result {
+        match self {
+            Mode::Paired => write!(f, "paired"),
+        }
+    }
 }
 
 impl From<AllocError> for Refusal {

@@ -8,9 +8,14 @@
 mod event;
 mod history;
 mod landings;
+mod laws;
 mod packets;
+#[cfg(test)]
+mod tests;
 mod world;
 
 pub use event::{Event, Frame, Mode, Packet, Refusal, Reply, Show};
+pub use guest_machine::Shape;
 pub use history::{Entry, History};
+pub use laws::released_frames_were_sent;
 pub use world::World;

@@ -69,7 +69,7 @@ impl World {
     ghost use Rattle.std.specs.Prelude.{IsSome};
     ghost use Rattle.frame_ports.specs.declared.limits.TheConstants.{MAX_CLIENTS};
     ghost use Rattle.pair_core.specs.Entries.{Begins};
-    ghost use Rattle.pair_core.specs.Protocol.{Answers, OnRefused, outcome};
+    ghost use Rattle.pair_core.specs.Protocol.{Answers, OnRefused, outcome, step_outcome};
     ghost use Rattle.pair_core.specs.Pair.{Pair, IsConsistent};
     ghost use Rattle.pair_core.specs.Runs.{Run};
     ghost use Rattle.pair_core.specs.Start.{start_state, start_record, shown};
@@ -135,9 +135,6 @@ impl World {
         ensures grows { Begins self.old.protocol.history self.new.protocol.history }
         ensures consistent { IsConsistent self.new }
     {
-        if let Event::Step = event {
-            return self.step();
-        }
         let outcome = self.act(event);
         self.keep_consistent();
         answered(outcome)
@@ -151,12 +148,24 @@ impl World {
         ensures err { IfErr result (λ e. (e ≡ Refusal.NoMemory) × (self.new ≡ self.old)) }
     {
         match event {
-            Event::Step => Ok(self.step()),
+            Event::Step => Ok(self.stepped()),
             Event::Cut => self.cut(),
             Event::Send => self.send(),
             Event::BackupGet(k) => self.backup_get(k),
             Event::AckGet(k) => self.ack_get(k),
             Event::Take(client) => self.take(client),
+        }
+    }
+
+    /// One step, as a reply.
+    fn stepped(&mut self) -> Reply
+        ensures outcome { (result, self.new.protocol) ≡ step_outcome self.old.start self.old.protocol }
+        ensures start { self.new.start ≡ self.old.start }
+        ensures refused { OnRefused result (self.new ≡ self.old) }
+    {
+        match self.step() {
+            Ok(count) => Reply::Steps(count),
+            Err(refusal) => Reply::Refused(refusal),
         }
     }
 
@@ -221,7 +230,7 @@ fn answered(outcome: Result<Reply, Refusal>) -> Reply
 }
 
 impl World {
-    ghost use Rattle.pair_core.specs.Protocol.{Answers, OnRefused, exhausts, all_entries, number_end, step_outcome, cut_outcome, send_outcome, backup_outcome, again_outcome, commit_outcome, ack_outcome, take_outcome};
+    ghost use Rattle.pair_core.specs.Protocol.{Answers, OnRefused, step_reply, exhausts, all_entries, number_end, step_outcome, cut_outcome, send_outcome, backup_outcome, again_outcome, commit_outcome, ack_outcome, take_outcome};
     ghost use Rattle.pair_core.specs.Pair.{Pair, IsKept, IsConsistent};
 
     /// Whether so many more entries would be too many for the history.
@@ -232,35 +241,41 @@ impl World {
         self.history.len() + self.kept + more >= NUMBER_END
     }
 
-    /// The guest makes one step.
-    fn step(&mut self) -> Reply
-        ensures outcome { (result, self.new.protocol) ≡ step_outcome self.old.start self.old.protocol }
+    /// The guest makes one step, as [`World::apply`] of [`Event::Step`] does, and answers the guest's step count. This
+    /// form copies no reply, for callers that run many steps.
+    ///
+    /// # Errors
+    ///
+    /// [`Refusal::CutNeeded`] where fewer than 64 places of the outbox are free, else [`Refusal::Exhausted`] where the
+    /// history with what is kept would hold 2^62 entries. Nothing changed then.
+    pub fn step(&mut self) -> Result<u64, Refusal>
+        ensures outcome { (step_reply result, self.new.protocol) ≡ step_outcome self.old.start self.old.protocol }
         ensures start { self.new.start ≡ self.old.start }
-        ensures refused { OnRefused result (self.new ≡ self.old) }
+        ensures refused { OnErr result (self.new ≡ self.old) }
         ensures consistent { IsConsistent self.new }
     {
         if self.is_exhausted_by(1) {
-            return self.step_when_exhausted();
+            return Err(self.refusal_when_exhausted());
         }
         match self.live.step() {
             Ok(()) => {
                 self.running += 1;
                 self.kept += 1;
-                Reply::Steps(self.live.steps())
+                Ok(self.live.steps())
             }
-            Err(_) => Reply::Refused(Refusal::CutNeeded),
+            Err(_) => Err(Refusal::CutNeeded),
         }
     }
 
-    /// A step where the history has no room for one more entry.
-    fn step_when_exhausted(&self) -> Reply
+    /// Why a step is refused where the history has no room for one more entry.
+    fn refusal_when_exhausted(&self) -> Refusal
         requires { IsTrue (exhausts self.now.protocol 1) }
-        ensures { (result, self.now.protocol) ≡ step_outcome self.now.start self.now.protocol }
+        ensures { (Reply.Refused result, self.now.protocol) ≡ step_outcome self.now.start self.now.protocol }
     {
         if self.live.outbox().len() > STEP_ROOM {
-            Reply::Refused(Refusal::CutNeeded)
+            Refusal::CutNeeded
         } else {
-            Reply::Refused(Refusal::Exhausted)
+            Refusal::Exhausted
         }
     }
 

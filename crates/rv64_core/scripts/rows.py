@@ -51,12 +51,13 @@ unfolding decoded table
     premises = " → ".join(f"bit_and w {m:#x} ≡ {row.bits & m:#x}" for m in tests)
     names = [f"e{i}" for i in range(len(tests))]
     mask, bits, proof = joined([(m, row.bits & m, n) for m, n in zip(tests, names)])
+    form = f"({row.reads})" if " " in row.reads else row.reads
     return f"""
 pub {row.name} : (w : ℕ) → {premises} → decoded w ≡ Some ({row.reads} w)
 unfolding decoded table
 {row.name} w {" ".join(names)} =
     let e = {proof} in
-    narrowed {mask:#x} {bits:#x} w table e ∙ rw e refl
+    narrowed {mask:#x} {bits:#x} w table e ∙ only (row {row.mask:#x} {row.bits:#x} {form}) w e
 """
 
 
@@ -243,11 +244,11 @@ def found(table, all_functions):
     ).group()
     return (
         f"""-- Written by scripts/rows.py: each row is found by what the code tests, and where it finds none, no row fits.
-use Rattle.std.proofs.Common.{{◌≡◌, ℕ, ◌<◌, ◌*◌, ◌/◌, ◌%◌, ◌^◌, true, false, bit_and, refl, ◌∙◌, sym, ap, arith, Option, Some, None, Contains}}
+use Rattle.std.proofs.Common.{{◌≡◌, ℕ, ◌<◌, ◌*◌, ◌/◌, ◌%◌, ◌^◌, true, false, bit_and, refl, ◌∙◌, ap, arith, Some, None, Contains}}
 use Rattle.std.proofs.lemmas.Nat.{{and_mask}}
 use Rattle.std.proofs.lemmas.Nat.Bits.{{and_high}}
-use Rattle.rv64_core.specs.Rows.{{Row, table, fits, decoded}}
-use Rattle.rv64_core.proofs.Fitting.{{both, agree, narrowed, others, left_out, any_fit}}
+use Rattle.rv64_core.specs.Rows.{{Row, row, table, fits, decoded}}
+use Rattle.rv64_core.proofs.Fitting.{{both, agree, narrowed, only, others, left_out, any_fit}}
 {imports}
 
 -- any row that fits is the answer
@@ -298,7 +299,7 @@ def returned(table):
     lines = "\n".join(f"    (record {{ back = {BACK[r.reads.split()[0]]} {r.bits:#010x} }}," for r in table)
     names = ", ".join(dict.fromkeys(BACK.values()))
     return f"""-- Written by scripts/rows.py: each row's word is written as it was read.
-use Rattle.std.proofs.Common.{{◌≡◌, ℕ, ◌<◌, ◌^◌, Option, Some}}
+use Rattle.std.proofs.Common.{{◌≡◌, ℕ, ◌<◌, ◌^◌, Some}}
 use Rattle.rv64_core.specs.declared.instruction.Instr.{{Instr}}
 use Rattle.rv64_core.specs.Rows.{{table, decoded}}
 use Rattle.rv64_core.specs.Encoding.{{encoded}}

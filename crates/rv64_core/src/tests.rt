@@ -1,5 +1,9 @@
 //! The worked examples, run: each public call with values from outside.
 
+mod disassembly;
+mod walk;
+mod words;
+
 use crate::{
     CsrOp, Division, Instr, Multiplication, Operation, Plan, Register, Regs, Width, WordOperation,
     decode, encode, plan,

@@ -5,45 +5,73 @@ use crate::kinds::DeviceKind;
 use crate::transport::Transport;
 
 #[test]
-fn a_driver_starts_the_network_device(rt: HostRuntime) {
-    let mut device = Transport::boot(DeviceKind::Network);
+fn the_device_names_itself(rt: HostRuntime) {
+    let device = Transport::boot(DeviceKind::Network);
     assert_eq!(rt; device.load(0x000, 4), Some(0x7472_6976));
     assert_eq!(rt; device.load(0x004, 4), Some(2));
     assert_eq!(rt; device.load(0x008, 4), Some(1));
-    assert_eq!(rt; device.store(0x070, 4, 3), Some(Action::None));
     assert_eq!(rt; device.load(0x010, 4), Some(0x20));
-    assert_eq!(rt; device.store(0x014, 4, 1), Some(Action::None));
-    assert_eq!(rt; device.load(0x010, 4), Some(1));
-    // Without VERSION_1 the features are refused.
-    assert_eq!(rt; device.store(0x020, 4, 0x20), Some(Action::None));
-    assert_eq!(rt; device.store(0x070, 4, 11), Some(Action::None));
-    assert_eq!(rt; device.load(0x070, 4), Some(3));
-    // With it they are accepted.
-    assert_eq!(rt; device.store(0x024, 4, 1), Some(Action::None));
-    assert_eq!(rt; device.store(0x020, 4, 1), Some(Action::None));
-    assert_eq!(rt; device.store(0x070, 4, 11), Some(Action::None));
-    assert_eq!(rt; device.load(0x070, 4), Some(11));
-    // The transmit queue.
-    assert_eq!(rt; device.store(0x030, 4, 1), Some(Action::None));
     assert_eq!(rt; device.load(0x034, 4), Some(64));
-    assert_eq!(rt; device.store(0x038, 4, 3), Some(Action::None));
-    assert_eq!(rt; device.store(0x044, 4, 1), Some(Action::None));
-    assert_eq!(rt; device.load(0x044, 4), Some(0));
-    assert_eq!(rt; device.store(0x038, 4, 8), Some(Action::None));
-    assert_eq!(rt; device.store(0x080, 4, 0x8000_1000), Some(Action::None));
-    assert_eq!(rt; device.store(0x044, 4, 1), Some(Action::None));
-    assert_eq!(rt; device.load(0x044, 4), Some(1));
-    assert!(rt; !device.can_serve(1));
-    assert_eq!(rt; device.store(0x070, 4, 15), Some(Action::None));
+}
+
+/// A device whose driver stored these words at these registers, in order.
+fn driven(kind: DeviceKind, stores: &[(u64, u64)]) -> Transport {
+    let mut device = Transport::boot(kind);
+    for (offset, value) in stores {
+        let _ = device.store(*offset, 4, *value);
+    }
+    device
+}
+
+#[test]
+fn features_without_version_1_are_refused(rt: HostRuntime) {
+    let device = driven(
+        DeviceKind::Network,
+        &[(0x070, 3), (0x020, 0x20), (0x070, 11)],
+    );
+    assert_eq!(rt; device.load(0x070, 4), Some(3));
+    let device = driven(
+        DeviceKind::Network,
+        &[
+            (0x070, 3),
+            (0x020, 0x20),
+            (0x024, 1),
+            (0x020, 1),
+            (0x070, 11),
+        ],
+    );
+    assert_eq!(rt; device.load(0x070, 4), Some(11));
+    assert_eq!(rt; device.state().driver_features, 0x1_0000_0020);
+}
+
+/// A driver's whole start: features, the transmit queue of 8 at 0x80001000, DRIVER_OK.
+const START: [(u64, u64); 9] = [
+    (0x070, 3),
+    (0x024, 1),
+    (0x020, 1),
+    (0x070, 11),
+    (0x030, 1),
+    (0x038, 8),
+    (0x080, 0x8000_1000),
+    (0x044, 1),
+    (0x070, 15),
+];
+
+#[test]
+fn a_started_queue_is_served(rt: HostRuntime) {
+    let mut device = driven(DeviceKind::Network, &START);
     assert!(rt; device.can_serve(1));
     assert!(rt; !device.can_serve(0));
-    assert!(rt; device.queue_in_service(0).is_none());
     assert_eq!(rt; device.queue_in_service(1), Some(device.queue(1)));
     assert_eq!(rt; device.queue(1).num, 8);
     assert_eq!(rt; device.queue(1).desc, 0x8000_1000);
     assert_eq!(rt; device.store(0x050, 4, 1), Some(Action::Notify(1)));
     assert_eq!(rt; device.store(0x050, 4, 2), Some(Action::None));
-    // A served chain, then a broken one.
+}
+
+#[test]
+fn a_broken_device_waits_for_its_reset(rt: HostRuntime) {
+    let mut device = driven(DeviceKind::Network, &START);
     device.put_counters(1, 1, 1);
     device.signal_used();
     assert_eq!(rt; device.load(0x060, 4), Some(1));
@@ -55,6 +83,12 @@ fn a_driver_starts_the_network_device(rt: HostRuntime) {
     assert_eq!(rt; device.load(0x060, 4), Some(2));
     assert_eq!(rt; device.store(0x070, 4, 0), Some(Action::Reset));
     assert!(rt; device == Transport::boot(DeviceKind::Network));
+}
+
+#[test]
+fn a_queue_without_a_size_is_never_ready(rt: HostRuntime) {
+    let device = driven(DeviceKind::Network, &[(0x038, 3), (0x044, 1)]);
+    assert_eq!(rt; device.load(0x044, 4), Some(0));
 }
 
 #[test]

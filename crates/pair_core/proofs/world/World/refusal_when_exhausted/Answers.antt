@@ -5,7 +5,7 @@ use Rattle.pair_core.specs.Pair.{Pair}
 use Rattle.pair_core.specs.WorldFields.{pair_of}
 use Rattle.pair_core.proofs.Outcomes.{step_full, step_exhausted}
 use Rattle.pair_core.proofs.WorldLaws.{has_no_room_for}
-use Rattle.pair_core.proofs.world.World.step_when_exhausted.Goals as goal
+use Rattle.pair_core.proofs.world.World.refusal_when_exhausted.Goals as goal
 
 pub returns-then-outbox-gt-STEP_ROOM : goal.returns-then-outbox-gt-STEP_ROOM
 returns-then-outbox-gt-STEP_ROOM c =

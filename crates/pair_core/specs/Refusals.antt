@@ -1,0 +1,22 @@
+-- The table of refusals: the number and the name of each that the pair gives.
+use Rattle.std.specs.Prelude.{ℕ, List, codes}
+use Rattle.pair_core.specs.declared.event.Refusal.{Refusal}
+use Rattle.pair_core.specs.declared.event.Refusal.TheVariants.{NoClient, Behind, Stale, Gap, NoMemory, CutNeeded, Exhausted}
+
+abbrev pub number_of : Refusal → ℕ
+number_of NoClient = 3
+number_of Behind = 5
+number_of Stale = 9
+number_of Gap = 10
+number_of NoMemory = 12
+number_of CutNeeded = 13
+number_of Exhausted = 14
+
+abbrev pub name_of : Refusal → List ℕ
+name_of NoClient = codes "NoClient"
+name_of Behind = codes "Behind"
+name_of Stale = codes "Stale"
+name_of Gap = codes "Gap"
+name_of NoMemory = codes "NoMemory"
+name_of CutNeeded = codes "CutNeeded"
+name_of Exhausted = codes "Exhausted"

@@ -1,0 +1,139 @@
+//! Whole runs with the expected replies of the beacon's worked example, and what no clause says: that calls succeed
+//! where there is memory.
+use crate::{Event, Refusal, Shape, World};
+use std::alloc::Global;
+use std::fmt::Write;
+use std::test::Fail;
+
+/// The words of the guest that sends one frame to client 1, and then runs on the spot.
+const BEACON: [u32; 23] = [
+    0x100012b7, 0x00100313, 0x0662a823, 0x00300393, 0x0672a823, 0x0262a223, 0x0262a023, 0x00b00393,
+    0x0672a823, 0x0702a403, 0x0262a823, 0x0262ac23, 0x800013b7, 0x0872a023, 0x04038393, 0x0872a823,
+    0x04038393, 0x0a72a023, 0x0462a223, 0x00f00393, 0x0672a823, 0x0462a823, 0x0000006f,
+];
+
+/// The frame that it sends.
+const FRAME: [u8; 14] = [2, 0, 0, 0, 1, 1, 2, 0, 0, 0, 0, 1, 0x88, 0xb5];
+
+const SHAPE: (u32, u32) = (2, 1);
+
+/// The beacon's image: its words, a descriptor, an available ring with one entry, and the frame behind 12 bytes of header.
+fn beacon(alloc: Global) -> Result<Vec<u8>, Fail> {
+    let mut image = Vec::new(alloc);
+    for word in BEACON {
+        image.extend_from_slice(&word.to_le_bytes())?;
+    }
+    fill(&mut image, 0x1000)?;
+    image.extend_from_slice(&0x8000_1100u64.to_le_bytes())?;
+    image.extend_from_slice(&26u32.to_le_bytes())?;
+    fill(&mut image, 0x1042)?;
+    image.extend_from_slice(&1u16.to_le_bytes())?;
+    fill(&mut image, 0x110c)?;
+    image.extend_from_slice(&FRAME)?;
+    Ok(image)
+}
+
+fn fill(image: &mut Vec<u8>, end: usize) -> Result<(), Fail> {
+    if image.len() < end {
+        let more = end - image.len();
+        image.resize(image.len() + more, 0)?;
+    }
+    Ok(())
+}
+
+fn pair(alloc: Global, image: &[u8]) -> Result<World, Refusal> {
+    let (pages, sectors) = SHAPE;
+    if image.len() > 4096 * 2 {
+        return Err(Refusal::NoMemory);
+    }
+    World::boot(alloc, Shape { pages, sectors }, 1, image)
+}
+
+/// The replies as they print, one a line.
+fn printed(alloc: Global, world: &mut World, events: &[Event]) -> Result<String, Fail> {
+    let mut text = String::new(alloc);
+    for reply in world.run(events)?.as_slice() {
+        writeln!(text, "{reply:?}")?;
+    }
+    Ok(text)
+}
+
+#[test]
+fn the_beacons_frame_reaches_client_1_after_its_acknowledgement(
+    rt: HostRuntime,
+) -> Result<(), Fail> {
+    let image = beacon(rt.alloc())?;
+    let mut world = pair(rt.alloc(), &image)?;
+    let mut events = Vec::new(rt.alloc());
+    let mut wanted = String::new(rt.alloc());
+    for step in 1..23 {
+        events.push(Event::Step)?;
+        writeln!(wanted, "Steps({step})")?;
+    }
+    events.extend_from_slice(&[
+        Event::Cut,
+        Event::Take(1),
+        Event::Send,
+        Event::BackupGet(0),
+        Event::Take(1),
+        Event::AckGet(0),
+        Event::Take(1),
+        Event::Take(1),
+    ])?;
+    wanted.push_str(
+        "Cut { generation: 1, number: 1 }\nTook(None)\nSent(1)\nCommitted { generation: 1, number: 1 }\nTook(None)\n\
+        Acked { generation: 1, number: 1, landed: 1 }\n\
+        Took(Some([2, 0, 0, 0, 1, 1, 2, 0, 0, 0, 0, 1, 136, 181]))\nTook(None)\n",
+    )?;
+    let text = printed(rt.alloc(), &mut world, &events)?;
+    assert_eq!(rt; text.as_str(), wanted.as_str());
+    assert_eq!(rt; world.history().len(), 27);
+    assert_eq!(rt; world.show().entries, 27);
+    Ok(())
+}
+
+#[test]
+fn packets_out_of_order_and_a_fifth_checkpoint(rt: HostRuntime) -> Result<(), Fail> {
+    let mut world = pair(rt.alloc(), &[0x6f, 0, 0, 0])?;
+    let events = [
+        Event::Cut,
+        Event::Cut,
+        Event::Cut,
+        Event::Cut,
+        Event::Cut,
+        Event::Send,
+        Event::BackupGet(1),
+        Event::BackupGet(0),
+        Event::BackupGet(0),
+        Event::BackupGet(9),
+        Event::AckGet(0),
+        Event::Cut,
+        Event::Take(0),
+        Event::Take(2),
+    ];
+    let text = printed(rt.alloc(), &mut world, &events)?;
+    let wanted = "Cut { generation: 1, number: 1 }\nCut { generation: 1, number: 2 }\n\
+        Cut { generation: 1, number: 3 }\nCut { generation: 1, number: 4 }\nRefused(Behind)\nSent(4)\nRefused(Gap)\n\
+        Committed { generation: 1, number: 1 }\nAgain { generation: 1, number: 1 }\nLost\n\
+        Acked { generation: 1, number: 1, landed: 0 }\nCut { generation: 1, number: 5 }\n\
+        Refused(NoClient)\nRefused(NoClient)\n";
+    assert_eq!(rt; text.as_str(), wanted);
+    Ok(())
+}
+
+#[test]
+fn refusals_print_their_names(rt: HostRuntime) -> Result<(), Fail> {
+    for refusal in [
+        Refusal::NoClient,
+        Refusal::Behind,
+        Refusal::Stale,
+        Refusal::Gap,
+        Refusal::NoMemory,
+        Refusal::CutNeeded,
+        Refusal::Exhausted,
+    ] {
+        let text = format!(in rt.alloc(); "{refusal}")?;
+        assert_eq!(rt; text.as_str(), refusal.name());
+    }
+    Ok(())
+}

@@ -1,0 +1,33 @@
+-- The lines behind the boot line: a name, and what it is told.
+use Rattle.std.specs.Prelude.{◌≡◌, ℕ, ◌≤◌, nat_eq, List, ◌++◌, Option, Some, None, codes, if◌then◌else◌}
+use Rattle.std.specs.Option.{option_map_or}
+use Rattle.std.specs.Str.{bytes_eq}
+use Rattle.remus.specs.Fields.{number_of, numbered_by}
+use Rattle.remus.specs.declared.script.Command.{Command}
+use Rattle.remus.specs.declared.script.Command.TheVariants.{Step, Cut, Send, Backup, Ack, Take, Show}
+
+-- the front, and digits that write n
+abbrev pub IsNumbered : List ℕ → ℕ → List ℕ → Type 0
+IsNumbered front n text = (digits : List ℕ) × (text ≡ front ++ digits) × (number_of digits ≡ Some n)
+
+-- how each command is spelled; a count of steps is at least 1
+abbrev pub IsCommand : List ℕ → Command → Type 0
+IsCommand text (Step n) = IsNumbered (codes "step ") n text × (1 ≤ n)
+IsCommand text Cut = text ≡ codes "cut"
+IsCommand text Send = text ≡ codes "send"
+IsCommand text (Backup k) = IsNumbered (codes "backup ") k text
+IsCommand text (Ack k) = IsNumbered (codes "ack ") k text
+IsCommand text (Take client) = IsNumbered (codes "take ") client text
+IsCommand text Show = text ≡ codes "show"
+
+-- the command that a line spells, by the first form that fits
+abbrev pub command_of : List ℕ → Option Command
+command_of text =
+    if bytes_eq text (codes "cut") then Some Cut
+    else if bytes_eq text (codes "send") then Some Send
+    else if bytes_eq text (codes "show") then Some Show
+    else option_map_or (λ n. if nat_eq n 0 then None else Some (Step n)) (numbered_by (codes "step ") text)
+    (option_map_or (λ k. Some (Backup k)) (numbered_by (codes "backup ") text)
+    (option_map_or (λ k. Some (Ack k)) (numbered_by (codes "ack ") text)
+    (option_map_or (λ client. Some (Take client)) (numbered_by (codes "take ") text)
+    None)))

@@ -1,0 +1,4 @@
+pub mod Fields
+pub mod Command
+pub mod Boot
+pub mod Printed

@@ -1,0 +1,35 @@
+-- The lines that are printed.
+use Rattle.std.specs.Prelude.{ℕ, ◌++◌, ◌∷◌, [], List, Option, Some, None, codes, decimal}
+use Rattle.std.specs.List.{join_with_byte}
+use Rattle.hex.specs.Hex.{encode_lower}
+use Rattle.pair_core.specs.declared.event.Refusal.{Refusal}
+use Rattle.pair_core.specs.Refusals.{number_of, name_of}
+use Rattle.pair_core.specs.declared.event.Show.{Show}
+use Rattle.pair_core.specs.declared.event.Reply.{Reply}
+use Rattle.pair_core.specs.declared.event.Reply.TheVariants.{Steps, Cut, Sent, Committed, Again, Lost, Acked, Took, Refused}
+
+-- fields parted by one space, and the end of the line
+abbrev pub line : List (List ℕ) → List ℕ
+line fields = join_with_byte 32 fields ++ codes "\n"
+
+-- what a refusal prints
+abbrev pub refusal_line : Refusal → List ℕ
+refusal_line refusal = line (codes "refused" ∷ decimal (number_of refusal) ∷ name_of refusal ∷ [])
+
+-- what a reply prints
+abbrev pub reply_line : Reply → List ℕ
+reply_line (Steps n) = line (codes "steps" ∷ decimal n ∷ [])
+reply_line (Cut g n) = line (codes "cut" ∷ decimal g ∷ decimal n ∷ [])
+reply_line (Sent k) = line (codes "sent" ∷ decimal k ∷ [])
+reply_line (Committed g n) = line (codes "committed" ∷ decimal g ∷ decimal n ∷ [])
+reply_line (Again g n) = line (codes "again" ∷ decimal g ∷ decimal n ∷ [])
+reply_line Lost = line (codes "lost" ∷ [])
+reply_line (Acked g n m) = line (codes "acked" ∷ decimal g ∷ decimal n ∷ codes "landed" ∷ decimal m ∷ [])
+reply_line (Took None) = line (codes "none" ∷ [])
+reply_line (Took (Some frame)) = line (codes "frame" ∷ encode_lower frame.items ∷ [])
+reply_line (Refused refusal) = refusal_line refusal
+
+-- the state in one line
+abbrev pub show_line : Show → List ℕ
+show_line s = line (codes "mode" ∷ codes "paired" ∷ codes "generation" ∷ decimal s.generation ∷ codes "pending" ∷ decimal s.pending
+    ∷ codes "steps" ∷ decimal s.steps ∷ codes "entries" ∷ decimal s.entries ∷ [])

@@ -1,0 +1,94 @@
+//! What is printed: one line for each reply.
+
+ghost use Rattle.std.specs.Prelude.{◌∷◌, [], OnOk, codes, decimal};
+ghost use Rattle.std.specs.Io.KnownBytes.{Appends};
+ghost use Rattle.hex.specs.Hex.{encode_lower};
+ghost use Rattle.remus.specs.Printed.{line, refusal_line, reply_line, show_line};
+
+use pair_core::{Frame, Refusal, Reply, Show};
+use std::io::{Result, Write};
+
+/// The bytes of the longest frame.
+const MOST_BYTES: usize = 1514;
+
+/// Prints a reply as its line.
+///
+/// # Errors
+///
+/// That of the writer.
+pub fn write_reply<W: Write>(out: &mut W, reply: &Reply) -> Result<()>
+    ensures { OnOk result (Appends (W.contents out.old) (W.contents out.new) (reply_line reply.now)) }
+{
+    match reply {
+        Reply::Steps(steps) => writeln!(out, "steps {steps}"),
+        Reply::Cut { generation, number } => write_checkpoint(out, "cut", *generation, *number),
+        Reply::Sent(packets) => writeln!(out, "sent {packets}"),
+        Reply::Committed { generation, number } => {
+            write_checkpoint(out, "committed", *generation, *number)
+        }
+        Reply::Again { generation, number } => write_checkpoint(out, "again", *generation, *number),
+        Reply::Lost => writeln!(out, "lost"),
+        Reply::Acked {
+            generation,
+            number,
+            landed,
+        } => writeln!(out, "acked {generation} {number} landed {landed}"),
+        Reply::Took(Some(frame)) => write_frame(out, frame),
+        Reply::Took(None) => writeln!(out, "none"),
+        Reply::Refused(refusal) => write_refusal(out, *refusal),
+    }
+}
+
+/// Prints `refused NO NAME`.
+///
+/// # Errors
+///
+/// That of the writer.
+pub fn write_refusal<W: Write>(out: &mut W, refusal: Refusal) -> Result<()>
+    ensures { OnOk result (Appends (W.contents out.old) (W.contents out.new) (refusal_line refusal)) }
+{
+    let number = refusal.number();
+    let name = refusal.name();
+    writeln!(out, "refused {number} {name}")
+}
+
+/// Prints the state in one line.
+///
+/// # Errors
+///
+/// That of the writer.
+pub fn write_show<W: Write>(out: &mut W, show: &Show) -> Result<()>
+    ensures { OnOk result (Appends (W.contents out.old) (W.contents out.new) (show_line show.now)) }
+{
+    let Show {
+        mode,
+        generation,
+        pending,
+        steps,
+        entries,
+    } = *show;
+    writeln!(
+        out,
+        "mode {mode} generation {generation} pending {pending} steps {steps} entries {entries}"
+    )
+}
+
+/// Prints what happened to a checkpoint, and which one it is.
+fn write_checkpoint<W: Write>(out: &mut W, event: &str, generation: u64, number: u64) -> Result<()>
+    ensures { OnOk result (Appends (W.contents out.old) (W.contents out.new) (line (event.now ∷ decimal generation ∷ decimal number ∷ []))) }
+{
+    writeln!(out, "{event} {generation} {number}")
+}
+
+/// Prints `frame` and the bytes in lower case hex.
+fn write_frame<W: Write>(out: &mut W, frame: &Frame) -> Result<()>
+    ensures { OnOk result (Appends (W.contents out.old) (W.contents out.new) (line (codes "frame" ∷ encode_lower frame.now.items ∷ []))) }
+{
+    let bytes = frame.as_slice();
+    let mut digits = [0; 2 * MOST_BYTES];
+    let text = &mut digits[..2 * bytes.len()];
+    hex::encode_to_slice(bytes, text).unwrap();
+    out.write_all(b"frame ")?;
+    out.write_all(text)?;
+    out.write_all(b"\n")
+}

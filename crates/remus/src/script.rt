@@ -1,0 +1,69 @@
+//! The lines of a script: what each form is, and how it is read.
+
+ghost use Rattle.std.specs.Prelude.{◌≡◌, Some, IfSome};
+ghost use Rattle.remus.specs.Command.{command_of, IsCommand};
+ghost use Rattle.remus.specs.declared.script.Command.{Command};
+
+use crate::fields::numbered;
+
+/// A line behind the boot line.
+#[derive(Clone, Copy, Debug, PartialEq, Eq)]
+pub enum Command {
+    /// `step N`: so many guest steps, at least 1.
+    Step(u64),
+    /// `cut`: ends the epoch.
+    Cut,
+    /// `send`: sends each pending checkpoint.
+    Send,
+    /// `backup K`: the backup gets packet `K`.
+    Backup(u64),
+    /// `ack K`: the primary gets acknowledgement `K`.
+    Ack(u64),
+    /// `take C`: client `C` takes the first frame of its box.
+    Take(u64),
+    /// `show`: the state in one line.
+    Show,
+}
+
+/// The command that a line spells, if it has one of their forms: fields parted by one space, nothing before
+/// or behind them. A line has one reading at most.
+pub fn read_command(text: &[u8]) -> Option<Command>
+    // What is read is spelled so.
+    ensures found { IfSome result (λ command. IsCommand text.now command) }
+    // What is spelled so is read so.
+    ensures only { (command : Command) → IsCommand text.now command → result ≡ Some command }
+{
+    first_form(text)
+}
+
+/// The first form that fits.
+fn first_form(text: &[u8]) -> Option<Command>
+    ensures { result ≡ command_of text.now }
+{
+    if text == b"cut".as_slice() {
+        return Some(Command::Cut);
+    }
+    if text == b"send".as_slice() {
+        return Some(Command::Send);
+    }
+    if text == b"show".as_slice() {
+        return Some(Command::Show);
+    }
+    if let Some(count) = numbered(text, b"step ") {
+        return if count == 0 {
+            None
+        } else {
+            Some(Command::Step(count))
+        };
+    }
+    if let Some(packet) = numbered(text, b"backup ") {
+        return Some(Command::Backup(packet));
+    }
+    if let Some(acknowledgement) = numbered(text, b"ack ") {
+        return Some(Command::Ack(acknowledgement));
+    }
+    if let Some(client) = numbered(text, b"take ") {
+        return Some(Command::Take(client));
+    }
+    None
+}

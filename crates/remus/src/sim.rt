@@ -1,0 +1,138 @@
+//! `remus sim FILE`: plays a script of events to a pair.
+
+ghost use Rattle.std.specs.Prelude.{◌≤◌, ◌*◌, IfOk, length};
+ghost use Rattle.remus.specs.Boot.{IsInLimits, boot_line};
+
+use crate::boot::{Boot, Guest, image_of, read_boot};
+use crate::replies::{write_refusal, write_reply, write_show};
+use crate::script::{Command, read_command};
+use guest_kit::{beacon, idle};
+use pair_core::{Event, Refusal, Reply, Shape, World};
+use std::alloc::{AllocError, Global};
+use std::io;
+use std::io::Write;
+
+/// Why a script ends early.
+#[derive(Debug, Drop)]
+enum Stop {
+    /// The line of this number has no known form.
+    Bad(u64),
+    /// The boot line was refused.
+    Refused,
+    /// A write failed.
+    Failed,
+}
+
+impl From<io::Error> for Stop {
+    fn from(_: io::Error) -> Stop {
+        Stop::Failed
+    }
+}
+
+/// Plays the script `source`, and prints the replies on `out` and a bad line on `err`. Answers the exit
+/// status: 0, or 1 after a bad line, a refused boot line or a write that failed.
+pub fn sim<O: Write, E: Write>(alloc: Global, source: &[u8], out: &mut O, err: &mut E) -> u8
+    ensures { result ≤ 1 }
+{
+    let played = play(alloc, source, out);
+    if out.flush().is_err() {
+        return 1;
+    }
+    match played {
+        Ok(()) => 0,
+        Err(Stop::Bad(number)) => {
+            let _ = writeln!(err, "remus: line {number}: bad");
+            let _ = err.flush();
+            1
+        }
+        Err(Stop::Refused | Stop::Failed) => 1,
+    }
+}
+
+/// Plays the lines in turn. The first that counts is the boot line.
+fn play<O: Write>(alloc: Global, source: &[u8], out: &mut O) -> Result<(), Stop> {
+    let mut world = None;
+    for (index, text) in source.split(|byte| *byte == b'\n').enumerate() {
+        if is_silent(text) {
+            continue;
+        }
+        let number = index as u64 + 1;
+        match &mut world {
+            None => world = Some(boot(alloc, text, number, out)?),
+            Some(world) => match read_command(text) {
+                Some(command) => obey(world, command, out)?,
+                None => return Err(Stop::Bad(number)),
+            },
+        }
+    }
+    Ok(())
+}
+
+/// Whether a line prints nothing: it is empty, or a comment.
+fn is_silent(text: &[u8]) -> bool {
+    matches!(text, [] | [b'#', ..])
+}
+
+/// Boots the pair that the boot line asks for, and prints `booted` or the refusal.
+fn boot<O: Write>(alloc: Global, text: &[u8], number: u64, out: &mut O) -> Result<World, Stop> {
+    let started = match read_boot(alloc, text) {
+        Ok(Some(boot)) => {
+            let shape = Shape {
+                pages: boot.pages,
+                sectors: boot.sectors,
+            };
+            match image(alloc, &boot) {
+                Ok(image) => World::boot(alloc, shape, boot.clients, image.as_slice()),
+                Err(AllocError) => Err(Refusal::NoMemory),
+            }
+        }
+        Ok(None) => return Err(Stop::Bad(number)),
+        Err(AllocError) => Err(Refusal::NoMemory),
+    };
+    match started {
+        Ok(world) => {
+            writeln!(out, "booted")?;
+            Ok(world)
+        }
+        Err(refusal) => {
+            write_refusal(out, refusal)?;
+            Err(Stop::Refused)
+        }
+    }
+}
+
+/// The bytes of a guest's program.
+fn image(alloc: Global, boot: &Boot) -> Result<Vec<u8>, AllocError>
+    requires { IsInLimits (boot_line boot.now) }
+    ensures { IfOk result (λ image. length image.items ≤ 4096 * boot.now.pages) }
+{
+    match &boot.guest {
+        Guest::Idle => idle(alloc),
+        Guest::Beacon => beacon(alloc),
+        Guest::Words(words) => image_of(alloc, words),
+    }
+}
+
+/// Does what a command says, and prints the answer.
+fn obey<O: Write>(world: &mut World, command: Command, out: &mut O) -> io::Result<()> {
+    let reply = match command {
+        Command::Step(count) => run_steps(world, count),
+        Command::Cut => world.apply(Event::Cut),
+        Command::Send => world.apply(Event::Send),
+        Command::Backup(packet) => world.apply(Event::BackupGet(packet)),
+        Command::Ack(packet) => world.apply(Event::AckGet(packet)),
+        Command::Take(client) => world.apply(Event::Take(client)),
+        Command::Show => return write_show(out, &world.show()),
+    };
+    write_reply(out, &reply)
+}
+
+/// The last of `count` steps' replies, or the first refusal.
+fn run_steps(world: &mut World, count: u64) -> Reply {
+    for _ in 1..count {
+        if let Err(refusal) = world.step() {
+            return Reply::Refused(refusal);
+        }
+    }
+    world.apply(Event::Step)
+}
