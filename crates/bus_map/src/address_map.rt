@@ -28,6 +28,7 @@ pub const RAM_BASE: u64 = 0x8000_0000;
 /// The access is aligned, as the machine has tested before; an access that isn't names nothing, or what its
 /// first byte names. The timer's registers are named by their first byte and whole width alone. The devices
 /// and RAM hold any width: a device answers which it takes, and the machine knows the size of its RAM.
+#[inline]
 #[tactic(auto, unfolding(crate::specs::AddressMap::address_map, crate::specs::AddressMap::place_of))]
 pub fn place(addr: u64, width: u8) -> Place
     ensures value { result ≡ place_of addr width }

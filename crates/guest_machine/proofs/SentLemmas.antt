@@ -4,23 +4,15 @@ use Rattle.std.proofs.lemmas.Bool.{leb-true}
 use Rattle.std.proofs.lemmas.List.{length-append}
 use Rattle.std.proofs.lemmas.List.Elements.{All-nil, All-cons, All-append}
 use Rattle.arrayvec.specs.ArrayVec.{ArrayVec}
-use Rattle.rv64_core.specs.declared.plans.Plan.{Plan}
-use Rattle.rv64_core.specs.declared.plans.Plan.TheVariants as does
-use Rattle.rv64_core.specs.Widths.{width_bytes}
-use Rattle.virtio_mmio.specs.declared.kinds.DeviceKind.TheVariants.{Network}
 use Rattle.virtio_mmio.specs.declared.states.DeviceState.{DeviceState}
 use Rattle.virtio_mmio.specs.declared.actions.Action.{Action}
 use Rattle.virtio_mmio.specs.declared.actions.Action.TheVariants as asks
-use Rattle.virtio_mmio.specs.Registers.{Stored}
-use Rattle.virtio_mmio.specs.Transport.{stored}
-use Rattle.guest_machine.specs.declared.places.Place.{Place}
-use Rattle.guest_machine.specs.declared.places.Place.TheVariants.{Ram, Net, Fault}
 use Rattle.guest_machine.specs.declared.transmit.Buffer.{Buffer}
 use Rattle.guest_machine.specs.Frames.{IsFrame}
-use Rattle.guest_machine.specs.Places.{place_of}
 use Rattle.guest_machine.specs.Guest.{Guest}
 use Rattle.guest_machine.specs.Transmit.{Served, rests, can_serve, has_good_areas, transmit_queue, available, next_buffer, frames_in, chain_then, chains, available_served, served, broken, used_written, after_chain}
-use Rattle.guest_machine.specs.Step.{Effect, plan_at, loaded_from, load_ended, acted, net_stored, stored_to, carried_out, sent, trapped}
+use Rattle.guest_machine.specs.Step.{acted, sent}
+use Rattle.guest_machine.proofs.StepCases.{step_case}
 
 -- at most n frames
 pub record IsFew (fs : List (ArrayVec ℕ)) (n : ℕ) : Type 0 where
@@ -37,10 +29,6 @@ few_more fs gs n m a b = record { frames = All-append IsFrame fs gs a.frames b.f
 few_when : (b : Bool) (x y : Served) (n : ℕ) → (b ≡ true → IsFew x.frames n) → IsFew y.frames n → IsFew (if b then x else y).frames n
 few_when true x y n f h = f refl
 few_when false x y n f h = h
-
-few_if : (b : Bool) (x y : Effect) (n : ℕ) → IsFew x.frames n → IsFew y.frames n → IsFew (if b then x else y).frames n
-few_if true x y n f h = f
-few_if false x y n f h = h
 
 -- one frame, where both tests of its length hold
 few_of : (bytes : List ℕ) (a b : Bool) → (a ≡ true → 14 ≤ length bytes) → (b ≡ true → length bytes ≤ 1514) → IsFew (if a && b then record { items = bytes } ∷ [] else []) 1
@@ -85,34 +73,16 @@ few_acted ram net asks.None = none_sent 64
 few_acted ram net (asks.Notify queue) = few_when (queue == 1) (served ram net) (rests ram net) 64 (λ _. few_served ram net) (none_sent 64)
 few_acted ram net asks.Reset = none_sent 64
 
-few_net_stored : (g : Guest) (address : ℕ) (s : Option Stored) → IsFew (net_stored g address s).frames 64
-few_net_stored g address None = none_sent 64
-few_net_stored g address (Some after) = few_acted g.ram after.state after.action
-
-few_stored_to : (g : Guest) (address n value : ℕ) (p : Place) → IsFew (stored_to g address n value p).frames 64
-few_stored_to g address n value (Ram at) = none_sent 64
-few_stored_to g address n value (Net offset) = few_net_stored g address (stored Network g.net offset n value)
-few_stored_to g address n value Fault = none_sent 64
-
-few_load_ended : (g : Guest) (rd address : ℕ) (signed : Bool) (n : ℕ) (v : Option ℕ) → IsFew (load_ended g rd address signed n v).frames 64
-few_load_ended g rd address signed n None = none_sent 64
-few_load_ended g rd address signed n (Some value) = none_sent 64
-
-few_carried : (g : Guest) (p : Plan) → IsFew (carried_out g p).frames 64
-unfolding carried_out
-few_carried g (does.Next pc rd value) = none_sent 64
-few_carried g (does.Load rd address width signed) =
-    let n = width_bytes width in
-    few_if (address % n == 0) (load_ended g rd address signed n (loaded_from g.ram g.net n (place_of (length g.ram) address n))) (trapped g 4 address) 64
-    (few_load_ended g rd address signed n (loaded_from g.ram g.net n (place_of (length g.ram) address n))) (none_sent 64)
-few_carried g (does.Store address width value) =
-    let n = width_bytes width in
-    few_if (address % n == 0) (stored_to g address n value (place_of (length g.ram) address n)) (trapped g 6 address) 64
-    (few_stored_to g address n value (place_of (length g.ram) address n)) (none_sent 64)
-few_carried g (does.Trap cause value) = none_sent 64
-few_carried g (does.Csr rd csr op operand writes) = none_sent 64
-few_carried g does.Mret = none_sent 64
-
 pub few_sent : (g : Guest) → IsFew (sent g) 64
 unfolding sent
-few_sent g = few_carried g (plan_at g)
+few_sent g =
+    step_case (λ e. IsFew e.frames 64) g (record {
+      trap = λ cause value. none_sent 64;
+      goes_on = λ regs pc aligned. none_sent 64;
+      loads = λ regs. none_sent 64;
+      stores = λ offset n value inside. none_sent 64;
+      sets_timer = λ register value. none_sent 64;
+      serves = λ after. few_acted g.ram after.state after.action;
+      writes_csr = λ regs number value. none_sent 64;
+      returns = none_sent 64;
+    })

@@ -1,35 +1,37 @@
-//! What the hart itself keeps.
+//! What the hart itself keeps, and its timer.
 ghost use Rattle.std.specs.Prelude.{◌≡◌, ◌+◌, ◌%◌, ◌^◌};
+ghost use Rattle.mtraps.specs.Traps.{after_entry, handler};
 
+use mtraps::Csrs;
 use rv64_core::Regs;
 
-/// The registers of the hart, and its step count.
+/// The registers of the hart, those of its timer, and its step count.
 #[derive(Clone, Copy)]
 pub(crate) struct Hart {
     /// x0 to x31.
     pub(crate) regs: Regs,
     /// The address of the instruction that comes next.
     pub(crate) pc: u64,
-    /// The pc of the last trap.
-    pub(crate) mepc: u64,
-    /// The cause of the last trap.
-    pub(crate) mcause: u64,
-    /// What the last trap was about: an address or a word.
-    pub(crate) mtval: u64,
+    /// The control and status registers.
+    pub(crate) csrs: Csrs,
+    /// Whether the software interrupt is pending, bit 0 of msip.
+    pub(crate) msip: bool,
+    /// The step count from which the timer interrupt is pending.
+    pub(crate) mtimecmp: u64,
     /// How many steps were made since boot, modulo 2^64.
     pub(crate) steps: u64,
 }
 
 impl Hart {
-    /// Takes an exception, with mtvec 0.
+    /// Takes a trap, and goes on at its handler.
     #[inline]
     pub(crate) fn trap(&mut self, cause: u64, value: u64)
-        ensures { self.new ≡ record self.old { mepc = self.old.pc; mcause = cause; mtval = value; pc = 0 } }
+        ensures { self.new ≡ record self.old {
+          csrs = after_entry cause value self.old.pc self.old.csrs;
+          pc = handler cause self.old.csrs.mtvec;
+        } }
     {
-        self.mepc = self.pc;
-        self.mcause = cause;
-        self.mtval = value;
-        self.pc = 0;
+        self.pc = self.csrs.enter(cause, value, self.pc);
     }
 
     /// Goes on at the word behind this one.

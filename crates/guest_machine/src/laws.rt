@@ -1,7 +1,10 @@
 //! Laws of the guest's step, each the contract of a function that does nothing.
 ghost use Rattle.std.specs.Prelude.{◌≡◌, ℕ, ◌+◌, ◌%◌, ◌^◌, ◌≤◌, List, [], ◌∷◌, All, length, replicate};
+ghost use Rattle.mtraps.specs.CsrTable.{boot_values};
+ghost use Rattle.guest_machine.specs.Aligned.{IsAligned};
 ghost use Rattle.guest_machine.specs.Beacon.{beacon, beacon_with, beacon_frame, after_steps, sent_in};
 ghost use Rattle.guest_machine.specs.Bytes.{number_at};
+ghost use Rattle.guest_machine.specs.Examples.{two_branches, mhartid_written, timer_due};
 ghost use Rattle.guest_machine.specs.Guest.{Guest, boot_guest};
 ghost use Rattle.guest_machine.specs.Frames.{IsFrame};
 ghost use Rattle.guest_machine.specs.Step.{next, sent};
@@ -16,6 +19,40 @@ pub fn sent_frames()
 pub fn counted_steps()
     ensures step { (g : Guest) → (next g).steps ≡ (g.steps + 1) % 2 ^ 64 }
     ensures boot { (pages : ℕ) (image : List ℕ) → (boot_guest pages image).steps ≡ 0 }
+{}
+
+/// The pc is a multiple of 4 from boot on.
+pub fn aligned_pc()
+    ensures boot { (pages : ℕ) (image : List ℕ) → IsAligned (boot_guest pages image) }
+    ensures step { (g : Guest) → IsAligned g → IsAligned (next g) }
+{}
+
+/// Two branches from boot: the first isn't taken, the second traps on itself, with its target, and the handler at 0 lies
+/// outside memory.
+pub fn branches_trap()
+    ensures first { (next two_branches).pc ≡ 0x80000004 }
+    ensures second { (after_steps 2 two_branches).csrs ≡ record boot_values { mepc = 0x80000004; mtval = 0x80000006 } }
+    ensures second_pc { (after_steps 2 two_branches).pc ≡ 0 }
+    ensures third { (after_steps 3 two_branches).csrs ≡ record boot_values { mcause = 1 } }
+    ensures third_pc { (after_steps 3 two_branches).pc ≡ 0 }
+{}
+
+/// A write to a read-only CSR is an illegal instruction, and mtval is its word.
+pub fn read_only_csrs_trap()
+    ensures csrs { (next mhartid_written).csrs ≡ record boot_values { mcause = 2; mepc = 0x80000000; mtval = 0xf1401073 } }
+    ensures pc { (next mhartid_written).pc ≡ 0 }
+{}
+
+/// A timer interrupt that is due is taken in place of the instruction: the pc is its handler's, and the step counts. Then
+/// interrupts are disabled, and the handler runs, whose word is 0 here.
+pub fn timer_interrupts()
+    ensures cause { (next timer_due).csrs.mcause ≡ 0x8000000000000007 }
+    ensures value { (next timer_due).csrs.mtval ≡ 0 }
+    ensures from { (next timer_due).csrs.mepc ≡ 0x80000000 }
+    ensures disabled { (next timer_due).csrs.mstatus ≡ 0x1880 }
+    ensures pc { (next timer_due).pc ≡ 0x8000021c }
+    ensures steps { (next timer_due).steps ≡ 6 }
+    ensures once { (after_steps 2 timer_due).csrs.mcause ≡ 2 }
 {}
 
 /// A worked guest, from boot: the beacon sends nothing in its first 21 steps, and its frame in the next, which the card tells

@@ -1,26 +1,33 @@
-//! The guest: one RISC-V hart in machine mode, its memory and its network card, and one step of them.
+//! The guest: one RISC-V hart in machine mode with its timer, its memory and its network card, and one step of them.
 //!
-//! [`Machine::boot`] makes the machine, [`Machine::step`] runs one instruction, [`Machine::outbox`] gives the frames
+//! [`Machine::boot`] makes the machine, [`Machine::step`] takes an interrupt or runs one instruction, [`Machine::outbox`] gives the frames
 //! that the guest sent since the last [`Machine::settle`]. Contracts see a machine as a `State` of the specs: its `Guest`,
 //! a record of plain data, and its outbox.
 #![tactic(auto)]
 
+mod csr_access;
 mod errors;
 mod frames;
 mod hart;
+mod interrupts;
 mod laws;
+mod loads;
 mod machine;
 mod places;
 mod ram;
 mod shapes;
 mod step;
+mod stores;
 mod transmit;
 
+pub use bus_map::RAM_BASE;
 pub use errors::MachineError;
 pub use frames::Frame;
-pub use laws::{beacon_breaks, beacon_loses, beacon_sends, counted_steps, sent_frames};
+pub use laws::{
+    aligned_pc, beacon_breaks, beacon_loses, beacon_sends, branches_trap, counted_steps,
+    read_only_csrs_trap, sent_frames, timer_interrupts,
+};
 pub use machine::Machine;
-pub use places::{NET_BASE, NET_END, RAM_BASE};
 pub use ram::PAGE_BYTES;
 pub use shapes::Shape;
 

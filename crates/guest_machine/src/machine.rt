@@ -1,6 +1,7 @@
 //! A machine: the guest and the frames that it sent.
 ghost use Rattle.std.specs.Prelude.{◌≡◌, ◌+◌, ◌*◌, ◌<◌, ◌≤◌, ◌↔◌, [], ◌++◌, length, All, IsErr, IsOk, IfOk, OnOk, OnErr, Err, slice_range, slice_index};
 ghost use Rattle.rv64_core.specs.Registers.{register};
+ghost use Rattle.mtraps.specs.CsrTable.{IsLegal};
 ghost use Rattle.virtio_mmio.specs.declared.kinds.DeviceKind.TheVariants.{Network};
 ghost use Rattle.virtio_mmio.specs.States.{IsDeviceRecord};
 ghost use Rattle.guest_machine.specs.Guest.{boot_guest};
@@ -10,10 +11,11 @@ ghost use Rattle.guest_machine.specs.Step.{next, sent};
 use crate::errors::MachineError;
 use crate::frames::{Frame, Outbox};
 use crate::hart::Hart;
-use crate::places::RAM_BASE;
 use crate::ram::Ram;
 use crate::shapes::Shape;
 use crate::step::run_step;
+use bus_map::RAM_BASE;
+use mtraps::{CsrValues, Csrs};
 use rv64_core::{Register, Regs};
 use std::alloc::Global;
 use std::marker::Model;
@@ -67,9 +69,9 @@ impl Machine {
             hart: Hart {
                 regs: Regs::new(),
                 pc: RAM_BASE,
-                mepc: 0,
-                mcause: 0,
-                mtval: 0,
+                csrs: Csrs::boot(),
+                msip: false,
+                mtimecmp: u64::MAX,
                 steps: 0,
             },
             ram,
@@ -78,7 +80,7 @@ impl Machine {
         })
     }
 
-    /// One step of the guest: one instruction, or its exception. The frames that it sends, at most 64 of them, go last
+    /// One step of the guest: an interrupt that is due, or else one instruction or its exception. The frames that it sends, at most 64 of them, go last
     /// into the outbox. It takes no memory.
     ///
     /// # Errors
@@ -160,25 +162,27 @@ impl Machine {
         self.hart.regs.get(which)
     }
 
-    /// The pc of the last trap, 0 before the first.
-    pub fn mepc(&self) -> u64
-        ensures { result ≡ self.now.guest.mepc }
+    /// The values of the control and status registers that hold one. A write leaves each as it is.
+    pub fn csrs(&self) -> CsrValues
+        ensures value { result ≡ self.now.guest.csrs }
+        ensures legal { IsLegal result }
     {
-        self.hart.mepc
+        self.hart.csrs.values()
     }
 
-    /// The cause of the last trap, 0 before the first.
-    pub fn mcause(&self) -> u64
-        ensures { result ≡ self.now.guest.mcause }
+    /// The register msip: 1 where the software interrupt is pending, and else 0.
+    pub fn msip(&self) -> u32
+        ensures value { result ≡ self.now.guest.msip }
+        ensures bit { result ≤ 1 }
     {
-        self.hart.mcause
+        u32::from(self.hart.msip)
     }
 
-    /// What the last trap was about, 0 before the first: an address, or the word that is no instruction.
-    pub fn mtval(&self) -> u64
-        ensures { result ≡ self.now.guest.mtval }
+    /// The register mtimecmp: the timer interrupt is pending from this step count on.
+    pub fn mtimecmp(&self) -> u64
+        ensures { result ≡ self.now.guest.mtimecmp }
     {
-        self.hart.mtval
+        self.hart.mtimecmp
     }
 
     /// What the network card keeps. It meets the rules of a network card's record.

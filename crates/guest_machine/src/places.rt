@@ -1,26 +1,9 @@
-//! The address map of this machine.
-ghost use Rattle.std.specs.Prelude.{◌≡◌, ◌+◌, ◌≤◌, ◌^◌};
-ghost use Rattle.guest_machine.specs.Places.{in_ram, place_of, ram_place, IsInside};
+//! Where addresses lie in the guest's memory.
+ghost use Rattle.std.specs.Prelude.{◌≡◌, ◌≤◌, ◌^◌};
+ghost use Rattle.guest_machine.specs.Places.{in_ram, ram_place};
 
 /// The address of the first byte of memory.
-pub const RAM_BASE: u64 = 0x8000_0000;
-
-/// The address of the network card's first register.
-pub const NET_BASE: u64 = 0x1000_1000;
-
-/// The first address behind the network card.
-pub const NET_END: u64 = 0x1000_2000;
-
-/// Where an access goes.
-#[derive(Clone, Copy)]
-pub(crate) enum Place {
-    /// Memory, from this place on.
-    Ram(usize),
-    /// The network card, at this offset.
-    Net(u64),
-    /// Nowhere: an access fault.
-    Fault,
-}
+pub(crate) const RAM_BASE: u64 = bus_map::RAM_BASE;
 
 /// Whether `n` bytes from `address` on lie wholly in a memory of `size` bytes.
 #[inline]
@@ -39,21 +22,4 @@ pub(crate) fn ram_place(address: u64) -> usize
     ensures { result ≡ ram_place address }
 {
     (address - RAM_BASE) as usize
-}
-
-/// Where an access of `n` bytes at `address` goes, in a machine with `size` bytes of memory.
-#[inline]
-pub(crate) fn place_at(size: usize, address: u64, n: u64) -> Place
-    requires not_more { n ≤ size }
-    requires bounded { size ≤ 2 ^ 32 }
-    ensures value { result ≡ place_of size address n }
-    ensures inside { IsInside size n result }
-{
-    if in_ram(size, address, n) {
-        Place::Ram(ram_place(address))
-    } else if NET_BASE <= address && address < NET_END {
-        Place::Net(address - NET_BASE)
-    } else {
-        Place::Fault
-    }
 }

@@ -215,14 +215,20 @@ fn a_step_needs_64_free_places(rt: HostRuntime) -> Result<(), Fail> {
     Ok(())
 }
 
+/// The trap registers hold the cause, the value and the pc of a trap.
+fn assert_trap(rt: &impl Abort, machine: &Machine, cause: u64, value: u64, pc: u64) {
+    let csrs = machine.csrs();
+    assert_eq!(rt; csrs.mcause, cause);
+    assert_eq!(rt; csrs.mtval, value);
+    assert_eq!(rt; csrs.mepc, pc);
+}
+
 /// After one step of a word the trap registers hold these values, and the pc is 0.
 fn traps(rt: &impl Abort, alloc: Global, word: u32, cause: u64, value: u64) -> Result<(), Fail> {
     let image = words(alloc, &[word])?;
     let mut machine = boot(rt, alloc, &image)?;
     run(rt, &mut machine, 1);
-    assert_eq!(rt; machine.mcause(), cause);
-    assert_eq!(rt; machine.mtval(), value);
-    assert_eq!(rt; machine.mepc(), 0x80000000);
+    assert_trap(rt, &machine, cause, value, 0x80000000);
     assert_eq!(rt; machine.pc(), 0);
     assert_eq!(rt; machine.steps(), 1);
     for number in 0..32 {
@@ -245,7 +251,265 @@ fn exceptions_have_their_causes(rt: HostRuntime) -> Result<(), Fail> {
     traps(&rt, rt.alloc(), 0xffc02083, 5, 0xfffffffffffffffc)?;
     // SW x1, 2(x0), and SW x1, 8(x0)
     traps(&rt, rt.alloc(), 0x00102123, 6, 2)?;
-    traps(&rt, rt.alloc(), 0x00102423, 7, 8)
+    traps(&rt, rt.alloc(), 0x00102423, 7, 8)?;
+    // EBREAK and ECALL
+    traps(&rt, rt.alloc(), 0x00100073, 3, 0x80000000)?;
+    traps(&rt, rt.alloc(), 0x00000073, 11, 0)
+}
+
+#[test]
+fn illegal_accesses_to_csrs_trap(rt: HostRuntime) -> Result<(), Fail> {
+    // CSRRW x0, mhartid, x0
+    traps(&rt, rt.alloc(), 0xf1401073, 2, 0xf1401073)?;
+    // CSRRS x1, mhartid, x2 is a write, though x2 holds 0; CSRRSI x1, mhartid, 1
+    traps(&rt, rt.alloc(), 0xf14120f3, 2, 0xf14120f3)?;
+    traps(&rt, rt.alloc(), 0xf140e0f3, 2, 0xf140e0f3)?;
+    // CSRRS x1, cycle, x0: there is no such CSR
+    traps(&rt, rt.alloc(), 0xc00020f3, 2, 0xc00020f3)
+}
+
+#[test]
+fn csrs_are_read_and_written(rt: HostRuntime) -> Result<(), Fail> {
+    let image = words(
+        rt.alloc(),
+        &[
+            0x301020f3, // CSRRS x1, misa, x0
+            0x30101173, // CSRRW x2, misa, x0: ignored
+            0x3406d1f3, // CSRRWI x3, mscratch, 13
+            0x34096273, // CSRRSI x4, mscratch, 18
+            0x3402f2f3, // CSRRCI x5, mscratch, 5
+            0x34002373, // CSRRS x6, mscratch, x0
+            0x34409073, // CSRRW x0, mip, x1: ignored
+            0xf14023f3, // CSRRS x7, mhartid, x0: no write
+            0x34033473, // CSRRC x8, mscratch, x6
+            0x3010a4f3, // CSRRS x9, misa, x1
+        ],
+    )?;
+    let mut machine = boot(&rt, rt.alloc(), &image)?;
+    run(&rt, &mut machine, 10);
+    let want = [
+        0x8000000000001100,
+        0x8000000000001100,
+        0,
+        13,
+        31,
+        26,
+        0,
+        26,
+        0x8000000000001100,
+    ];
+    for (i, value) in want.iter().enumerate() {
+        if i < 9 {
+            assert_eq!(rt; register(&rt, &machine, i as u8 + 1), *value);
+        }
+    }
+    assert_eq!(rt; machine.csrs().mscratch, 0);
+    assert_eq!(rt; machine.csrs().mcause, 0);
+    assert_eq!(rt; machine.pc(), 0x80000028);
+    Ok(())
+}
+
+#[test]
+fn mret_goes_back(rt: HostRuntime) -> Result<(), Fail> {
+    // AUIPC x1, 0; ADDI x1, x1, 0x102; CSRRW x0, mepc, x1: bit 1 isn't kept; MRET
+    let image = words(
+        rt.alloc(),
+        &[0x00000097, 0x10208093, 0x34109073, 0x30200073],
+    )?;
+    let mut machine = boot(&rt, rt.alloc(), &image)?;
+    run(&rt, &mut machine, 4);
+    assert_eq!(rt; machine.pc(), 0x80000100);
+    // MIE is MPIE, which was 0, and MPIE is 1
+    assert_eq!(rt; machine.csrs().mstatus, 0x1880);
+    Ok(())
+}
+
+#[test]
+fn a_branch_traps_on_itself_only_where_it_is_taken(rt: HostRuntime) -> Result<(), Fail> {
+    // BNE x0, x0, 2 and BEQ x0, x0, 2
+    let image = words(rt.alloc(), &[0x00001163, 0x00000163])?;
+    let mut machine = boot(&rt, rt.alloc(), &image)?;
+    run(&rt, &mut machine, 1);
+    assert_eq!(rt; machine.pc(), 0x80000004);
+    run(&rt, &mut machine, 1);
+    assert_trap(&rt, &machine, 0, 0x80000006, 0x80000004);
+    assert_eq!(rt; machine.pc(), 0);
+    run(&rt, &mut machine, 1);
+    assert_trap(&rt, &machine, 1, 0, 0);
+    Ok(())
+}
+
+#[test]
+fn jalr_clears_bit_0(rt: HostRuntime) -> Result<(), Fail> {
+    // AUIPC x1, 0; ADDI x1, x1, 1; JALR x5, 0x100(x1)
+    let image = words(rt.alloc(), &[0x00000097, 0x00108093, 0x100082e7])?;
+    let mut machine = boot(&rt, rt.alloc(), &image)?;
+    run(&rt, &mut machine, 3);
+    assert_eq!(rt; machine.pc(), 0x80000100);
+    assert_eq!(rt; register(&rt, &machine, 5), 0x8000000c);
+    Ok(())
+}
+
+#[test]
+fn timer_registers_have_their_widths(rt: HostRuntime) -> Result<(), Fail> {
+    let image = words(
+        rt.alloc(),
+        &[
+            0x020000b7, // LUI x1, 0x2000
+            0xfff00113, // ADDI x2, x0, -1
+            0x0020a023, // SW x2, 0(x1): msip keeps bit 0
+            0x0000a183, // LW x3, 0(x1)
+            0x02004237, // LUI x4, 0x2004
+            0x00023283, // LD x5, 0(x4)
+            0x00323023, // SD x3, 0(x4): mtimecmp
+            0x00023303, // LD x6, 0(x4)
+            0x0200c3b7, // LUI x7, 0x200c
+            0xfe03bc23, // SD x0, -8(x7): mtime ignores it
+            0xff83b403, // LD x8, -8(x7): 10 steps were made
+        ],
+    )?;
+    let mut machine = boot(&rt, rt.alloc(), &image)?;
+    run(&rt, &mut machine, 11);
+    assert_eq!(rt; register(&rt, &machine, 3), 1);
+    assert_eq!(rt; register(&rt, &machine, 5), 0xffffffffffffffff);
+    assert_eq!(rt; register(&rt, &machine, 6), 1);
+    assert_eq!(rt; register(&rt, &machine, 8), 10);
+    assert_eq!(rt; machine.msip(), 1);
+    assert_eq!(rt; machine.mtimecmp(), 1);
+    assert_eq!(rt; machine.csrs().mcause, 0);
+    Ok(())
+}
+
+/// An access of x2 at x1, which one word sets, is this access fault.
+fn faults(
+    rt: &impl Abort,
+    alloc: Global,
+    sets: u32,
+    access: u32,
+    cause: u64,
+    address: u64,
+) -> Result<(), Fail> {
+    let image = words(alloc, &[sets, access])?;
+    let mut machine = boot(rt, alloc, &image)?;
+    run(rt, &mut machine, 2);
+    assert_trap(rt, &machine, cause, address, 0x80000004);
+    Ok(())
+}
+
+#[test]
+fn other_widths_and_the_disk_are_access_faults(rt: HostRuntime) -> Result<(), Fail> {
+    // msip by LD and SD
+    faults(&rt, rt.alloc(), 0x020000b7, 0x0000b103, 5, 0x02000000)?;
+    faults(&rt, rt.alloc(), 0x020000b7, 0x0020b023, 7, 0x02000000)?;
+    // mtimecmp by LW and SW
+    faults(&rt, rt.alloc(), 0x020040b7, 0x0000a103, 5, 0x02004000)?;
+    faults(&rt, rt.alloc(), 0x020040b7, 0x0020a023, 7, 0x02004000)?;
+    // mtime by LW
+    faults(&rt, rt.alloc(), 0x0200c0b7, 0xff80a103, 5, 0x0200bff8)?;
+    // the disk, which isn't there yet, by LW and SW
+    faults(&rt, rt.alloc(), 0x100020b7, 0x0000a103, 5, 0x10002000)?;
+    faults(&rt, rt.alloc(), 0x100020b7, 0x0020a023, 7, 0x10002000)?;
+    // a register of the network card by LD and SD
+    faults(&rt, rt.alloc(), 0x100010b7, 0x0000b103, 5, 0x10001000)?;
+    faults(&rt, rt.alloc(), 0x100010b7, 0x0020b023, 7, 0x10001000)
+}
+
+/// In step 10 the timer interrupt is taken: `sets_mtvec` adds 0x200 and the mode to the first word's address.
+fn takes_timer_interrupt(
+    rt: &impl Abort,
+    alloc: Global,
+    sets_mtvec: u32,
+    handler: u64,
+) -> Result<(), Fail> {
+    let image = words(
+        alloc,
+        &[
+            0x00000097, // AUIPC x1, 0
+            sets_mtvec, //
+            0x30509073, // CSRRW x0, mtvec, x1
+            0x02004137, // LUI x2, 0x2004
+            0x00900193, // ADDI x3, x0, 9
+            0x00313023, // SD x3, 0(x2): mtimecmp
+            0x08000213, // ADDI x4, x0, 0x80
+            0x30422073, // CSRRS x0, mie, x4
+            0x30046073, // CSRRSI x0, mstatus, 8
+            0x00000013, // ADDI x0, x0, 0
+        ],
+    )?;
+    let mut machine = boot(rt, alloc, &image)?;
+    run(rt, &mut machine, 9);
+    assert_eq!(rt; machine.csrs().mstatus, 0x1808);
+    assert_eq!(rt; machine.csrs().mcause, 0);
+    run(rt, &mut machine, 1);
+    assert_trap(rt, &machine, 0x8000000000000007, 0, 0x80000024);
+    assert_eq!(rt; machine.csrs().mstatus, 0x1880);
+    assert_eq!(rt; machine.pc(), handler);
+    assert_eq!(rt; machine.steps(), 10);
+    Ok(())
+}
+
+#[test]
+fn timer_interrupts_go_to_their_handler(rt: HostRuntime) -> Result<(), Fail> {
+    // vectored and direct: ADDI x1, x1, 0x201 and ADDI x1, x1, 0x200
+    takes_timer_interrupt(&rt, rt.alloc(), 0x20108093, 0x8000021c)?;
+    takes_timer_interrupt(&rt, rt.alloc(), 0x20008093, 0x80000200)
+}
+
+/// What stands in the place of the beacon's loop, where the card's interrupt is pending already: the other two are made
+/// pending, some are enabled, and then all.
+const ALL_PENDING: [u32; 8] = [
+    0x020004b7, // LUI x9, 0x2000
+    0x0064a023, // SW x6, 0(x9): msip
+    0x020044b7, // LUI x9, 0x2004
+    0x0004b023, // SD x0, 0(x9): mtimecmp
+    0x00000493, // ADDI x9, x0, n
+    0x30449073, // CSRRW x0, mie, x9
+    0x34402573, // CSRRS x10, mip, x0
+    0x30046073, // CSRRSI x0, mstatus, 8
+];
+
+/// With all three pending and the mie that a word sets in x9, the step after enabling them has this cause.
+fn first_taken(rt: &impl Abort, alloc: Global, sets_mie: u32, cause: u64) -> Result<(), Fail> {
+    let mut image = beacon(alloc)?;
+    put_words(&mut image, 22, &ALL_PENDING);
+    put_words(&mut image, 26, &[sets_mie]);
+    let mut machine = boot(rt, alloc, &image)?;
+    run(rt, &mut machine, 30);
+    assert_eq!(rt; register(rt, &machine, 10), 0x888);
+    assert_eq!(rt; machine.pc(), 0x80000078);
+    run(rt, &mut machine, 1);
+    assert_eq!(rt; machine.csrs().mcause, cause);
+    Ok(())
+}
+
+#[test]
+fn interrupts_are_taken_in_their_order(rt: HostRuntime) -> Result<(), Fail> {
+    // ADDI x9, x0, -1912: all of them; 0x88: software and timer; 0x80: the timer's alone
+    first_taken(&rt, rt.alloc(), 0x88800493, 0x800000000000000b)?;
+    first_taken(&rt, rt.alloc(), 0x08800493, 0x8000000000000003)?;
+    first_taken(&rt, rt.alloc(), 0x08000493, 0x8000000000000007)?;
+    // none of them: the word 0 behind is illegal
+    first_taken(&rt, rt.alloc(), 0x00000493, 2)
+}
+
+/// The guest that counts timer interrupts at 0x80001000, each 100 steps after the one before (crate `guest_kit`).
+const COUNTER: [u32; 20] = [
+    0x00001417, 0x0200c2b7, 0x02004337, 0x00000397, 0x02838393, 0x30539073, 0xff82b383, 0x06438393,
+    0x00733023, 0x08000393, 0x3043a073, 0x30046073, 0x0000006f, 0x00043383, 0x00138393, 0x00743023,
+    0xff82b383, 0x06438393, 0x00733023, 0x30200073,
+];
+
+#[test]
+fn the_counter_counts_timer_interrupts(rt: HostRuntime) -> Result<(), Fail> {
+    let image = words(rt.alloc(), &COUNTER)?;
+    let mut machine = boot(&rt, rt.alloc(), &image)?;
+    run(&rt, &mut machine, 10_000);
+    let count = number(&rt, &machine, 0x1000);
+    assert!(rt; 50 <= count && count <= 100);
+    for i in 1..4 {
+        assert_eq!(rt; number(&rt, &machine, 0x1000 + 2 * i), 0);
+    }
+    Ok(())
 }
 
 #[test]
@@ -257,13 +521,9 @@ fn a_pc_outside_memory_is_an_access_fault(rt: HostRuntime) -> Result<(), Fail> {
     assert_eq!(rt; machine.pc(), 0x7ffffff8);
     assert_eq!(rt; register(&rt, &machine, 1), 0x80000004);
     run(&rt, &mut machine, 1);
-    assert_eq!(rt; machine.mcause(), 1);
-    assert_eq!(rt; machine.mepc(), 0x7ffffff8);
-    assert_eq!(rt; machine.mtval(), 0x7ffffff8);
+    assert_trap(&rt, &machine, 1, 0x7ffffff8, 0x7ffffff8);
     run(&rt, &mut machine, 1);
-    assert_eq!(rt; machine.mcause(), 1);
-    assert_eq!(rt; machine.mepc(), 0);
-    assert_eq!(rt; machine.mtval(), 0);
+    assert_trap(&rt, &machine, 1, 0, 0);
     assert_eq!(rt; machine.steps(), 3);
     Ok(())
 }

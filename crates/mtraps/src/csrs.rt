@@ -36,7 +36,7 @@ const BASE: u64 = !3;
 const VECTORED: u64 = 1;
 
 impl Csrs {
-    ghost use Rattle.std.specs.Prelude.{◌≡◌, ◌%◌, ◌≢◌, IsSome, ◌↔◌, IsTrue, All, bit_and};
+    ghost use Rattle.std.specs.Prelude.{◌≡◌, ◌%◌, ◌≢◌, IsSome, IfNone, ◌↔◌, IsTrue, All, bit_and, ℕ, false, None};
     ghost use Rattle.mtraps.specs.Status.{mie_bit};
     ghost use Rattle.mtraps.specs.Interrupts.{due_interrupt};
     ghost use Rattle.mtraps.specs.Traps.{handler, after_entry, after_return};
@@ -102,6 +102,7 @@ impl Csrs {
     pub fn write(&mut self, number: u16, value: u64) -> Option<()>
         ensures legal { IsSome result ↔ IsTrue (is_writable number) }
         ensures values { self.new ≡ written number value self.old }
+        ensures unchanged { IfNone result (self.new ≡ self.old) }
     {
         match number {
             numbers::MSTATUS => self.values.mstatus = value & MSTATUS_KEPT | status::CLEAR,
@@ -165,15 +166,26 @@ impl Csrs {
         self.values.mepc
     }
 
+    /// Whether interrupts are enabled at all. Where they aren't, none is taken, whatever is pending.
+    #[inline]
+    #[tactic(auto, unfolding(crate::specs::Interrupts::due_interrupt))]
+    pub fn are_interrupts_enabled(&self) -> bool
+        ensures value { result ≡ mie_bit self.now.mstatus }
+        ensures none { result ≡ false → (mip : ℕ) → due_interrupt self.now mip ≡ None }
+    {
+        status::mie(self.values.mstatus)
+    }
+
     /// The cause of the interrupt that is to be taken now, where one is: it is enabled, and pending in `mip`, and interrupts
     /// are enabled at all. An external one comes before a software one before a timer one.
+    #[inline]
     #[tactic(auto, using(crate::proofs::Due::dues), unfolding(crate::specs::Interrupts::due_interrupt))]
     pub fn pending(&self, mip: u64) -> Option<u64>
         ensures cause { result ≡ due_interrupt self.now mip }
         ensures due { IsSome result ↔ (IsTrue (mie_bit self.now.mstatus) × (bit_and self.now.mie mip ≢ 0)) }
     {
         let due = self.values.mie & mip;
-        if due == 0 || !status::mie(self.values.mstatus) {
+        if due == 0 || !self.are_interrupts_enabled() {
             None
         } else if due & EXTERNAL != 0 {
             Some(INTERRUPT + 11)

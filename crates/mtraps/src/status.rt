@@ -23,6 +23,7 @@ pub(crate) fn with_enables(mie: bool, mpie: bool) -> u64
 }
 
 /// Whether interrupts are enabled.
+#[inline]
 #[tactic(auto, using(crate::proofs::Masks::mie_mask))]
 pub(crate) fn mie(mstatus: u64) -> bool
     ensures { result ≡ mie_bit mstatus }

@@ -65,6 +65,18 @@ impl Transport {
         self.state
     }
 
+    /// Which interrupts wait for the driver: bit 0 where a buffer was used, bit 1 where the configuration changed.
+    #[inline]
+    pub fn interrupt_status(&self) -> u32
+        ensures value { result ≡ self.now.state.interrupt_status }
+        ensures bits { result ≤ 3 }
+    {
+        let DeviceState {
+            interrupt_status, ..
+        } = self.state;
+        interrupt_status
+    }
+
     /// Puts another record in the place of this one; the caller knows that it meets the rules of a
     /// device record.
     pub fn put_state(&mut self, state: &DeviceState)

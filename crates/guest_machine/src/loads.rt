@@ -1,0 +1,103 @@
+//! Loads from memory and from the devices.
+ghost use Rattle.std.specs.Prelude.{◌≡◌, ℕ, List, ◌%◌, ◌==◌};
+ghost use Rattle.rv64_core.specs.Widths.{width_bytes};
+ghost use Rattle.virtio_mmio.specs.declared.kinds.DeviceKind.TheVariants.{Network};
+ghost use Rattle.virtio_mmio.specs.declared.states.DeviceState.{DeviceState};
+ghost use Rattle.guest_machine.specs.Parts.{guest_of};
+ghost use Rattle.guest_machine.specs.Step.{quiet, extended, timer_loaded, loaded_from, load_done};
+
+use crate::hart::Hart;
+use crate::ram::Ram;
+use bus_map::{Place, TimerRegister, place};
+use rv64_core::{Register, Width};
+use virtio_mmio::Transport;
+
+/// Causes of exceptions (the Privileged ISA, mcause).
+const LOAD_MISALIGNED: u64 = 4;
+
+const LOAD_ACCESS_FAULT: u64 = 5;
+
+/// A load: its value into a register, or its exception.
+#[inline]
+pub(crate) fn load(
+    hart: &mut Hart,
+    ram: &Ram,
+    net: &Transport,
+    rd: Register,
+    address: u64,
+    width: Width,
+    signed: bool,
+)
+    requires { net.now.kind ≡ Network }
+    ensures { load_done (guest_of hart.old ram.now net.now.state) rd address signed (width_bytes width)
+        ≡ quiet (guest_of hart.new ram.now net.now.state) }
+{
+    if !is_aligned(address, width) {
+        hart.trap(LOAD_MISALIGNED, address);
+        return;
+    }
+    let place = place(address, width.bytes() as u8);
+    match read(hart, ram, net, place, width) {
+        Some(value) => {
+            hart.regs.set(rd, extend(value, width, signed));
+            hart.pass();
+        }
+        None => hart.trap(LOAD_ACCESS_FAULT, address),
+    }
+}
+
+/// Whether an access of this width at an address is aligned.
+#[inline]
+pub(crate) fn is_aligned(address: u64, width: Width) -> bool
+    ensures { result ≡ (address % width_bytes width == 0) }
+{
+    match width {
+        Width::Byte => true,
+        Width::Half => address % 2 == 0,
+        Width::Word => address % 4 == 0,
+        Width::Double => address % 8 == 0,
+    }
+}
+
+/// What stands at a place, or `None` for an access fault.
+#[inline]
+fn read(hart: &Hart, ram: &Ram, net: &Transport, place: Place, width: Width) -> Option<u64>
+    requires { net.now.kind ≡ Network }
+    ensures { result ≡ loaded_from (guest_of hart.now ram.now net.now.state) (width_bytes width) place }
+{
+    match place {
+        Place::Ram(offset) => ram.load(offset, width),
+        Place::Clint(register) => Some(timer_value(hart, register)),
+        Place::Net(offset) => net.load(offset, width.bytes() as u8),
+        Place::Block(_) | Place::Fault => None,
+    }
+}
+
+/// What a register of the timer reads.
+fn timer_value(hart: &Hart, register: TimerRegister) -> u64
+    ensures { (ram : List ℕ) (net : DeviceState) → result ≡ timer_loaded (guest_of hart.now ram net) register }
+{
+    match register {
+        TimerRegister::Msip => u64::from(hart.msip),
+        TimerRegister::Mtimecmp => hart.mtimecmp,
+        TimerRegister::Mtime => hart.steps,
+    }
+}
+
+/// A loaded value as a register holds it: sign extended from its width, or filled with zeros.
+#[inline]
+fn extend(value: u64, width: Width, signed: bool) -> u64
+    ensures { result ≡ extended signed (width_bytes width) value }
+{
+    let (sign, ones) = match width {
+        Width::Byte => (0x80, 0xffff_ffff_ffff_ff00),
+        Width::Half => (0x8000, 0xffff_ffff_ffff_0000),
+        Width::Word => (0x8000_0000, 0xffff_ffff_0000_0000),
+        Width::Double => (0x8000_0000_0000_0000, 0),
+    };
+    if signed && sign <= value {
+        value.wrapping_add(ones)
+    } else {
+        value
+    }
+}
