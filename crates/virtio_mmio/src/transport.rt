@@ -72,7 +72,8 @@ impl Transport {
         ensures bits { result ≤ 3 }
     {
         let DeviceState {
-            interrupt_status, ..
+            interrupt_status,
+            ..
         } = self.state;
         interrupt_status
     }
