@@ -1,5 +1,5 @@
 //! A machine: the guest and the frames that it sent.
-ghost use Rattle.std.specs.Prelude.{◌≡◌, ◌+◌, ◌*◌, ◌<◌, ◌≤◌, ◌↔◌, [], ◌++◌, length, All, IsErr, IsOk, IfOk, OnOk, OnErr, Err, slice_range, slice_index};
+ghost use Rattle.std.specs.Prelude.{◌≡◌, ◌+◌, ◌*◌, ◌%◌, ◌<◌, ◌≤◌, ◌↔◌, [], ◌++◌, length, All, IsErr, IsOk, IfOk, OnOk, OnErr, Err, slice_range, slice_index};
 ghost use Rattle.rv64_core.specs.Registers.{register};
 ghost use Rattle.mtraps.specs.CsrTable.{IsLegal};
 ghost use Rattle.virtio_mmio.specs.declared.kinds.DeviceKind.TheVariants.{Network};
@@ -36,6 +36,7 @@ pub struct Machine {
 impl Model for Machine {
     ghost use Rattle.std.specs.Prelude.{◌≡◌};
     ghost use Rattle.virtio_mmio.specs.declared.kinds.DeviceKind.TheVariants.{Network};
+    ghost use Rattle.guest_machine.specs.Aligned.{IsAligned};
     ghost use Rattle.guest_machine.specs.Guest.{State};
     ghost use Rattle.guest_machine.specs.Parts.{guest_of};
 
@@ -43,7 +44,7 @@ impl Model for Machine {
 
     ghost view = { λ m. record { guest = guest_of m.hart m.ram m.net.state; outbox = m.outbox } };
 
-    ghost invariant = { λ m. m.net.kind ≡ Network };
+    ghost invariant = { λ m. (m.net.kind ≡ Network) × IsAligned (guest_of m.hart m.ram m.net.state) };
 }
 
 impl Machine {
@@ -52,7 +53,7 @@ impl Machine {
     ///
     /// # Errors
     /// `NoMemory` where memory is refused.
-    #[tactic(auto, unfolding(crate::specs::Guest::boot_guest))]
+    #[tactic(auto, using(crate::proofs::AlignedLemmas::aligned), unfolding(crate::specs::Guest::boot_guest))]
     pub fn boot(alloc: Global, shape: Shape, image: &[u8]) -> Result<Machine, MachineError>
         requires { length image.now ≤ 4096 * shape.pages }
         ensures guest { IfOk result (λ machine. machine.guest ≡ boot_guest shape.pages image.now) }
@@ -88,6 +89,7 @@ impl Machine {
     pub fn step(&mut self) -> Result<(), MachineError>
         ensures guest { OnOk result (self.new.guest ≡ next self.old.guest) }
         ensures outbox { OnOk result (self.new.outbox ≡ self.old.outbox ++ sent self.old.guest) }
+        ensures size { length self.new.guest.ram ≡ length self.old.guest.ram }
         ensures refused { IsErr result ↔ (192 < length self.old.outbox) }
         ensures err { OnErr result ((result ≡ Err MachineError.CutNeeded) × (self.new ≡ self.old)) }
     {
@@ -148,9 +150,10 @@ impl Machine {
         self.hart.steps
     }
 
-    /// The address of the instruction that comes next.
+    /// The address of the instruction that comes next, a multiple of 4.
     pub fn pc(&self) -> u64
-        ensures { result ≡ self.now.guest.pc }
+        ensures value { result ≡ self.now.guest.pc }
+        ensures aligned { result % 4 ≡ 0 }
     {
         self.hart.pc
     }

@@ -32,6 +32,7 @@ pub(crate) fn run_step(hart: &mut Hart, ram: &mut Ram, net: &mut Transport, outb
     ensures guest { guest_of hart.new ram.new net.new.state ≡ next (guest_of hart.old ram.old net.old.state) }
     ensures frames { outbox.new ≡ outbox.old ++ sent (guest_of hart.old ram.old net.old.state) }
     ensures kind { net.new.kind ≡ Network }
+    ensures size { length ram.new ≡ length ram.old }
 {
     match due(hart, net) {
         Some(cause) => hart.trap(cause, 0),
@@ -49,6 +50,7 @@ fn run_instruction(hart: &mut Hart, ram: &mut Ram, net: &mut Transport, outbox: 
     ensures guest { guest_of hart.new ram.new net.new.state ≡ (instruction_done (guest_of hart.old ram.old net.old.state)).guest }
     ensures frames { outbox.new ≡ outbox.old ++ (instruction_done (guest_of hart.old ram.old net.old.state)).frames }
     ensures kind { net.new.kind ≡ Network }
+    ensures size { length ram.new ≡ length ram.old }
 {
     if !in_ram(ram.size(), hart.pc, INSTRUCTION_BYTES) {
         hart.trap(INSTRUCTION_ACCESS_FAULT, hart.pc);
@@ -89,6 +91,7 @@ fn carry_out(
     ensures guest { guest_of hart.new ram.new net.new.state ≡ (carried_out (guest_of hart.old ram.old net.old.state) word plan).guest }
     ensures frames { outbox.new ≡ outbox.old ++ (carried_out (guest_of hart.old ram.old net.old.state) word plan).frames }
     ensures kind { net.new.kind ≡ Network }
+    ensures size { length ram.new ≡ length ram.old }
 {
     match plan {
         Plan::Next { pc, rd, value } => {

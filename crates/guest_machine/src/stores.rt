@@ -37,6 +37,7 @@ pub(crate) fn store(
     ensures guest { guest_of hart.new ram.new net.new.state ≡ (store_done (guest_of hart.old ram.old net.old.state) address (width_bytes width) value).guest }
     ensures frames { outbox.new ≡ outbox.old ++ (store_done (guest_of hart.old ram.old net.old.state) address (width_bytes width) value).frames }
     ensures kind { net.new.kind ≡ Network }
+    ensures size { length ram.new ≡ length ram.old }
 {
     if !is_aligned(address, width) {
         hart.trap(STORE_MISALIGNED, address);
@@ -95,6 +96,7 @@ fn act(ram: &mut Ram, net: &mut Transport, outbox: &mut Outbox, action: Action)
     ensures card { net.new.state ≡ (acted ram.old net.old.state action).net }
     ensures frames { outbox.new ≡ outbox.old ++ (acted ram.old net.old.state action).frames }
     ensures kind { net.new.kind ≡ Network }
+    ensures size { length ram.new ≡ length ram.old }
 {
     match action {
         Action::Notify(queue) => {

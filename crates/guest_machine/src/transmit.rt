@@ -43,6 +43,7 @@ pub(crate) fn serve(ram: &mut Ram, net: &mut Transport, outbox: &mut Outbox)
     ensures memory { ram.new ≡ (served ram.old net.old.state).ram }
     ensures card { net.new ≡ record net.old { state = (served ram.old net.old.state).net } }
     ensures frames { outbox.new ≡ outbox.old ++ (served ram.old net.old.state).frames }
+    ensures size { length ram.new ≡ length ram.old }
 {
     let mut state = net.state();
     serve_queue(ram, &mut state, outbox);
@@ -58,6 +59,7 @@ fn serve_queue(ram: &mut Ram, state: &mut DeviceState, outbox: &mut Outbox)
     ensures card { state.new ≡ (served ram.old state.old).net }
     ensures frames { outbox.new ≡ outbox.old ++ (served ram.old state.old).frames }
     ensures rules { IsDeviceRecord Network state.new }
+    ensures size { length ram.new ≡ length ram.old }
 {
     if !can_serve(state) {
         return;
@@ -84,6 +86,7 @@ fn serve_chains(ram: &mut Ram, state: &mut DeviceState, outbox: &mut Outbox, cou
     ensures card { state.new ≡ (chains count ram.old state.old).net }
     ensures frames { outbox.new ≡ outbox.old ++ (chains count ram.old state.old).frames }
     ensures rules { IsDeviceRecord Network state.new }
+    ensures size { length ram.new ≡ length ram.old }
 {
     let mut left = count;
     while left > 0 {

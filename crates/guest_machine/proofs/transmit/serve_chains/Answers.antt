@@ -28,6 +28,7 @@ loop-left-preserved c =
     let C : List (ArrayVec ℕ) → Type 0 = λ o. IsAhead (c.loop-left.left - 1) c.put_used.new.ram c.advance.new.state o c.args.outbox.now whole in
     record {
       room = omega (arith, c.send.ensures.one, inv.room);
+      size = c.put_used.ensures.size ∙ inv.size;
       rules = subst Rules (sym after) (rules_after_chain net (omega (arith, two)) inv.rules);
       areas = subst Areas (sym after) (subst Sizes (sym c.put_used.ensures.size) (areas_after_chain _ net (omega (arith, two)) inv.areas));
       ahead = subst C (sym c.send.ensures.frames) (subst B (sym after) (subst A (sym ram) sent));

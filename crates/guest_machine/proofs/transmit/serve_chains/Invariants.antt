@@ -1,4 +1,4 @@
-use Rattle.std.proofs.Common.{◌+◌, ◌≤◌, length}
+use Rattle.std.proofs.Common.{◌≡◌, ◌+◌, ◌≤◌, length}
 use Rattle.virtio_mmio.specs.States.{IsDeviceRecord}
 use Rattle.virtio_mmio.specs.declared.kinds.DeviceKind.TheVariants.{Network}
 use Rattle.guest_machine.specs.Transmit.{transmit_queue, HasAreas, chains}
@@ -9,6 +9,7 @@ abbrev pub invariant-loop-left : goal.invariant-loop-left
 invariant-loop-left l = record {
   room : length l.outbox + l.left ≤ 256;
   rules : IsDeviceRecord Network l.state;
+  size : length l.ram ≡ length l.fn.ram;
   areas : HasAreas (length l.ram) (transmit_queue l.state);
   ahead : IsAhead l.left l.ram l.state l.outbox l.fn.outbox (chains l.count l.fn.ram l.fn.state);
 }
