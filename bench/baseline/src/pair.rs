@@ -75,8 +75,9 @@ impl Pair {
             "backup" => self.backup(number(1)?),
             "ack" => self.acknowledge(number(1)?),
             "sector" => {
-                let start = 512 * number(1)? as usize;
-                format!("sector {}", hex(self.machine.disk.bytes()?.get(start..start + 512)?))
+                let sector = number(1)? as usize;
+                let bytes = self.machine.disk.bytes()?.get(512 * sector..512 * sector + 512)?;
+                format!("sector {sector} {}", hex(bytes))
             }
             _ => return None,
         })

@@ -1,0 +1,135 @@
+#!/usr/bin/env python3
+"""Writes ../examples/ping.sim and ../examples/disk.sim from the words of the guests, and beside each what it prints. The
+frames, their answers and the hash are worked out here, with no part of the guests."""
+import struct
+from pathlib import Path
+
+HERE = Path(__file__).parent
+EXAMPLES = HERE.parent / "examples"
+GUEST_MAC, GUEST_IP = bytes.fromhex("020000000001"), bytes([10, 0, 0, 1])
+CLIENT_MAC, CLIENT_IP = bytes.fromhex("020000000101"), bytes([10, 0, 0, 2])
+EVERYONE = b"\xff" * 6
+
+
+def checksum(data):
+    data += b"\0" * (len(data) % 2)
+    total = sum(struct.unpack(f">{len(data) // 2}H", data))
+    while total >> 16:
+        total = (total & 0xFFFF) + (total >> 16)
+    return ~total & 0xFFFF
+
+
+def ethernet(to, source, kind, payload):
+    return to + source + struct.pack(">H", kind) + payload
+
+
+def arp(operation, to, mac, ip, target_mac, target_ip):
+    head = struct.pack(">HHBBH", 1, 0x0800, 6, 4, operation)
+    return ethernet(to, mac, 0x0806, head + mac + ip + target_mac + target_ip)
+
+
+def echo(kind, source, target, source_ip, target_ip, ttl, number, text):
+    body = struct.pack(">BBHHH", kind, 0, 0, 0x7069, number) + text
+    body = body[:2] + struct.pack(">H", checksum(body)) + body[4:]
+    head = struct.pack(">BBHHHBBH", 0x45, 0, 20 + len(body), 7, 0x4000, ttl, 1, 0) + source_ip + target_ip
+    head = head[:10] + struct.pack(">H", checksum(head)) + head[12:]
+    return ethernet(target, source, 0x0800, head + body)
+
+
+def echo_request(number, text):
+    return echo(8, CLIENT_MAC, GUEST_MAC, CLIENT_IP, GUEST_IP, 61, number, text)
+
+
+def echo_reply(number, text):
+    return echo(0, GUEST_MAC, CLIENT_MAC, GUEST_IP, CLIENT_IP, 64, number, text)
+
+
+def words(name):
+    return (HERE / "words" / f"{name}.words").read_text().strip()
+
+
+def write(name, lines):
+    """Lines are comments, or pairs of a line and what it prints."""
+    script, printed = [], []
+    for line in lines:
+        if isinstance(line, str):
+            script.append(f"# {line}")
+        else:
+            script.append(line[0])
+            printed.append(line[1])
+    (EXAMPLES / f"{name}.sim").write_text("\n".join(script) + "\n")
+    (EXAMPLES / f"{name}.expected").write_text("\n".join(printed) + "\n")
+
+
+def ping():
+    text = b"is anyone there?"
+    request = arp(1, EVERYONE, CLIENT_MAC, CLIENT_IP, b"\0" * 6, GUEST_IP)
+    reply = arp(2, CLIENT_MAC, GUEST_MAC, GUEST_IP, CLIENT_MAC, CLIENT_IP)
+    write("ping", [
+        "The guest of guests/ping.c answers ARP and ICMP echo at 10.0.0.1; client 1 is 10.0.0.2.",
+        (f"boot 32 1 1 words {words('ping')}", "booted"),
+        "The driver sets up the device, and the guest waits for interrupts.",
+        ("step 5000", "steps 5000"),
+        "Who has 10.0.0.1? The answer waits until the backup has the state that sent it.",
+        (f"deliver 1 {request.hex()}", "delivered 1"),
+        ("admit 1", "admitted 1"),
+        ("step 2000", "steps 7000"),
+        ("cut", "cut 1 1"),
+        ("send", "sent 1"),
+        ("backup 0", "committed 1 1"),
+        ("ack 0", "acked 1 1 landed 1"),
+        ("take 1", f"frame {reply.hex()}"),
+        "A ping is delivered, and the guest answers it.",
+        (f"deliver 1 {echo_request(1, text).hex()}", "delivered 2"),
+        ("admit 1", "admitted 2"),
+        ("step 3000", "steps 10000"),
+        "Held back: the epoch that sent the answer isn't cut, then not sent, then not acknowledged.",
+        ("take 1", "none"),
+        ("cut", "cut 1 2"),
+        ("take 1", "none"),
+        ("send", "sent 1"),
+        ("backup 1", "committed 1 2"),
+        ("take 1", "none"),
+        "Answered after the acknowledgement.",
+        ("ack 1", "acked 1 2 landed 1"),
+        ("take 1", f"frame {echo_reply(1, text).hex()}"),
+        ("take 1", "none"),
+        "A ping with one bit wrong, and one to another address, are not answered.",
+        (f"deliver 1 {(echo_request(2, text)[:-1] + b'!').hex()}", "delivered 3"),
+        (f"deliver 1 {echo(8, CLIENT_MAC, GUEST_MAC, CLIENT_IP, bytes([10, 0, 0, 9]), 61, 3, text).hex()}", "delivered 4"),
+        ("admit 1", "admitted 3"),
+        ("admit 1", "admitted 4"),
+        ("step 5000", "steps 15000"),
+        ("cut", "cut 1 3"),
+        ("send", "sent 1"),
+        ("backup 2", "committed 1 3"),
+        ("ack 2", "acked 1 3 landed 0"),
+        ("take 1", "none"),
+    ])
+
+
+def disk():
+    sectors, mask = 200, 2**64 - 1
+    content = bytes((at + 1) * 0x9E3779B97F4A7C15 % 2**64 >> 56 for at in range(512 * sectors))
+    fnv = 0xCBF29CE484222325
+    for byte in content:
+        fnv = (fnv ^ byte) * 0x100000001B3 & mask
+    frame = ethernet(CLIENT_MAC, GUEST_MAC, 0x88B5, struct.pack(">QQ", 0, fnv))
+    lines = [
+        "The guest of guests/disk.c writes 200 sectors in requests of 1 to 16, reads them back, and sends their hash.",
+        (f"boot 32 200 1 words {words('disk')}", "booted"),
+        ("step 1500000", "steps 1500000"),
+        ("cut", "cut 1 1"),
+        ("send", "sent 1"),
+        ("backup 0", "committed 1 1"),
+        ("take 1", "none"),
+        ("ack 0", "acked 1 1 landed 1"),
+        ("take 1", f"frame {frame.hex()}"),
+        "The first and the last sector.",
+    ]
+    lines += [(f"sector {i}", f"sector {i} {content[512 * i:512 * i + 512].hex()}") for i in (0, sectors - 1)]
+    write("disk", lines)
+
+
+ping()
+disk()
