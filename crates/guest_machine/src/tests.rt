@@ -1,4 +1,7 @@
 //! Whole runs of small guests, with the values that the rules give.
+mod program_words;
+mod programs;
+
 use crate::{Machine, MachineError, PAGE_BYTES, Shape};
 use rv64_core::Register;
 use std::alloc::{AllocError, Global};

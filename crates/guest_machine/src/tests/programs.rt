@@ -1,0 +1,65 @@
+//! Programs that a stock compiler made of C, run until each jumps to itself. The answers are those of Python's `zlib`, `hashlib`
+//! and whole numbers (`guests/expected.py`), the step counts those of the interpreter in `bench/baseline`.
+
+use super::program_words::{CRC32, DIVISION, SHA256, SORT};
+use super::{boot, register, run, words};
+use crate::Machine;
+use std::alloc::Global;
+use std::process::Abort;
+use std::test::Fail;
+
+/// Where each program stops: it jumps to itself.
+const STOP: u64 = 0x8000_0010;
+
+/// The register that holds the answer.
+const A0: u8 = 10;
+
+/// The place in memory of what a program answers beside its register.
+const ANSWER: usize = 0x1000;
+
+/// The machine after the steps that a program takes.
+fn after(rt: &impl Abort, alloc: Global, program: &[u32], steps: u32) -> Result<Machine, Fail> {
+    let image = words(alloc, program)?;
+    let mut machine = boot(rt, alloc, image.as_slice())?;
+    run(rt, &mut machine, steps);
+    assert_eq!(rt; machine.pc(), STOP);
+    Ok(machine)
+}
+
+#[test]
+fn sorts_a_hundred_numbers(rt: HostRuntime) -> Result<(), Fail> {
+    let machine = after(&rt, rt.alloc(), &SORT, 16136)?;
+    assert_eq!(rt; register(&rt, &machine, A0), 0xdeb9_69f6_7aa6_1aa2);
+    Ok(())
+}
+
+#[test]
+fn checksum_of_nine_digits(rt: HostRuntime) -> Result<(), Fail> {
+    let machine = after(&rt, rt.alloc(), &CRC32, 532)?;
+    assert_eq!(rt; register(&rt, &machine, A0), 0xcbf4_3926);
+    Ok(())
+}
+
+#[test]
+fn digest_of_three_letters(rt: HostRuntime) -> Result<(), Fail> {
+    let machine = after(&rt, rt.alloc(), &SHA256, 5909)?;
+    assert_eq!(rt; register(&rt, &machine, A0), 0xba78_16bf_8f01_cfea);
+    assert!(rt; machine.ram_size() >= 8192);
+    assert_eq!(rt;
+        &machine.page(ANSWER / 4096)[..32],
+        [
+            0xba, 0x78, 0x16, 0xbf, 0x8f, 0x01, 0xcf, 0xea, 0x41, 0x41, 0x40, 0xde, 0x5d, 0xae,
+            0x22, 0x23, 0xb0, 0x03, 0x61, 0xa3, 0x96, 0x17, 0x7a, 0x9c, 0xb4, 0x10, 0xff, 0x61,
+            0xf2, 0x00, 0x15, 0xad,
+        ]
+        .as_slice()
+    );
+    Ok(())
+}
+
+#[test]
+fn division_agrees_with_long_division(rt: HostRuntime) -> Result<(), Fail> {
+    let machine = after(&rt, rt.alloc(), &DIVISION, 725_971)?;
+    assert_eq!(rt; register(&rt, &machine, A0), 0x02a8_7200_df38_d16b);
+    Ok(())
+}
