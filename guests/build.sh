@@ -28,6 +28,8 @@ for name in sort crc32 sha256 division; do
 done
 make ping large.ld start.s interrupts.s ping.c
 make disk large.ld start.s disk.c
+make flood small.ld start.s flood.c
+make stream large.ld start.s stream.c
 
 # The loops of bench/loops.sh are assembled as they stand.
 for source in ../bench/loops/*.s; do

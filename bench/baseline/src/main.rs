@@ -16,7 +16,7 @@ use pair::Pair;
 use std::time::Instant;
 
 const PAGES: usize = 64;
-const SECTORS: usize = 256;
+const SECTORS: usize = 4096;
 /// JAL x0, 0.
 const SELF_LOOP: u32 = 0x0000_006f;
 
