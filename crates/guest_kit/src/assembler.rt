@@ -1,10 +1,10 @@
 //! An assembler: each function gives the word of one instruction, by the names of the RISC-V assembly language.
 
-ghost use Rattle.std.specs.Prelude.{◌≡◌, ◌%◌, ◌^◌};
-ghost use Rattle.rv64_core.specs.Encoding.{u_word, j_word, i_word, s_word};
+ghost use Rattle.std.specs.Prelude.{◌≡◌, ◌-◌, ◌*◌, ◌<◌, ◌%◌, ◌^◌};
+ghost use Rattle.rv64_core.specs.Encoding.{u_word, j_word, i_word, s_word, b_word, r_word, shift_word};
 ghost use Rattle.guest_kit.specs.Registers.{number_of};
 
-use rv64_core::{CsrOp, Instr, Operation, Register, Width, encode};
+use rv64_core::{Condition, CsrOp, Instr, Operation, Register, Width, encode};
 
 /// A register that the programs use.
 #[derive(Clone, Copy, Debug, PartialEq, Eq)]
@@ -19,6 +19,20 @@ pub(crate) enum Reg {
     X7 = 7,
     /// x8.
     X8 = 8,
+    /// x9.
+    X9 = 9,
+    /// x10.
+    X10 = 10,
+    /// x11.
+    X11 = 11,
+    /// x12.
+    X12 = 12,
+    /// x13.
+    X13 = 13,
+    /// x14.
+    X14 = 14,
+    /// x15.
+    X15 = 15,
 }
 
 /// Its number, as an instruction holds it.
@@ -126,6 +140,145 @@ pub(crate) fn sd(rs2: Reg, offset: u64, rs1: Reg) -> u32
         offset,
         width: Width::Double,
     })
+}
+
+/// `andi`: the bits that `rs1` and `imm` share into `rd`.
+#[tactic(auto, unfolding(rv64_core::specs::Encoding::encoded))]
+pub(crate) fn andi(rd: Reg, rs1: Reg, imm: u64) -> u32
+    ensures { result ≡ i_word 0x7013 (number_of rd) (number_of rs1) imm }
+{
+    encode(Instr::OpImm {
+        op: Operation::And,
+        rd: register(rd),
+        rs1: register(rs1),
+        imm,
+    })
+}
+
+/// `slli`: `rs1`, shifted left by `amount`, below 64, into `rd`.
+#[tactic(auto, unfolding(rv64_core::specs::Encoding::encoded))]
+pub(crate) fn slli(rd: Reg, rs1: Reg, amount: u64) -> u32
+    ensures { result ≡ shift_word 0x1013 (number_of rd) (number_of rs1) amount }
+{
+    encode(Instr::OpImm {
+        op: Operation::Sll,
+        rd: register(rd),
+        rs1: register(rs1),
+        imm: amount,
+    })
+}
+
+/// `srli`: `rs1`, shifted right by `amount`, below 64, with zeros from the left, into `rd`.
+#[tactic(auto, unfolding(rv64_core::specs::Encoding::encoded))]
+pub(crate) fn srli(rd: Reg, rs1: Reg, amount: u64) -> u32
+    ensures { result ≡ shift_word 0x5013 (number_of rd) (number_of rs1) amount }
+{
+    encode(Instr::OpImm {
+        op: Operation::Srl,
+        rd: register(rd),
+        rs1: register(rs1),
+        imm: amount,
+    })
+}
+
+/// `add`: `rs1 + rs2` into `rd`.
+#[tactic(auto, unfolding(rv64_core::specs::Encoding::encoded))]
+pub(crate) fn add(rd: Reg, rs1: Reg, rs2: Reg) -> u32
+    ensures { result ≡ r_word 0x33 (number_of rd) (number_of rs1) (number_of rs2) }
+{
+    encode(Instr::Op {
+        op: Operation::Add,
+        rd: register(rd),
+        rs1: register(rs1),
+        rs2: register(rs2),
+    })
+}
+
+/// `lhu`: the 2 bytes at `rs1 + offset`, with zeros from the left, into `rd`.
+#[tactic(auto, unfolding(rv64_core::specs::Encoding::encoded))]
+pub(crate) fn lhu(rd: Reg, offset: u64, rs1: Reg) -> u32
+    ensures { result ≡ i_word 0x5003 (number_of rd) (number_of rs1) offset }
+{
+    encode(Instr::Load {
+        rd: register(rd),
+        rs1: register(rs1),
+        offset,
+        width: Width::Half,
+        signed: false,
+    })
+}
+
+/// `lwu`: the 4 bytes at `rs1 + offset`, with zeros from the left, into `rd`.
+#[tactic(auto, unfolding(rv64_core::specs::Encoding::encoded))]
+pub(crate) fn lwu(rd: Reg, offset: u64, rs1: Reg) -> u32
+    ensures { result ≡ i_word 0x6003 (number_of rd) (number_of rs1) offset }
+{
+    encode(Instr::Load {
+        rd: register(rd),
+        rs1: register(rs1),
+        offset,
+        width: Width::Word,
+        signed: false,
+    })
+}
+
+/// `sh`: the low 2 bytes of `rs2` to `rs1 + offset`.
+#[tactic(auto, unfolding(rv64_core::specs::Encoding::encoded))]
+pub(crate) fn sh(rs2: Reg, offset: u64, rs1: Reg) -> u32
+    ensures { result ≡ s_word 0x1023 (number_of rs1) (number_of rs2) offset }
+{
+    encode(Instr::Store {
+        rs1: register(rs1),
+        rs2: register(rs2),
+        offset,
+        width: Width::Half,
+    })
+}
+
+/// `beq`: a jump by `offset` from the instruction itself, where `rs1` and `rs2` hold the same.
+#[tactic(auto, unfolding(rv64_core::specs::Encoding::encoded))]
+pub(crate) fn beq(rs1: Reg, rs2: Reg, offset: u64) -> u32
+    ensures { result ≡ b_word 0x63 (number_of rs1) (number_of rs2) offset }
+{
+    encode(Instr::Branch {
+        condition: Condition::Eq,
+        rs1: register(rs1),
+        rs2: register(rs2),
+        offset,
+    })
+}
+
+/// `bne`: a jump by `offset` from the instruction itself, where `rs1` and `rs2` don't hold the same.
+#[tactic(auto, unfolding(rv64_core::specs::Encoding::encoded))]
+pub(crate) fn bne(rs1: Reg, rs2: Reg, offset: u64) -> u32
+    ensures { result ≡ b_word 0x1063 (number_of rs1) (number_of rs2) offset }
+{
+    encode(Instr::Branch {
+        condition: Condition::Ne,
+        rs1: register(rs1),
+        rs2: register(rs2),
+        offset,
+    })
+}
+
+/// `fence`: what was loaded and stored before comes before what is loaded and stored after, for the devices too.
+#[tactic(auto, unfolding(rv64_core::specs::Encoding::encoded))]
+pub(crate) fn fence() -> u32
+    ensures { result ≡ 0x0ff0000f }
+{
+    encode(Instr::Fence {
+        rd: register(Reg::X0),
+        rs1: register(Reg::X0),
+        ordering: 0x0ff,
+    })
+}
+
+/// The offset of a jump back over so many words.
+pub(crate) fn back(words: u64) -> u64
+    requires { words < 2 ^ 62 }
+    ensures { result ≡ (2 ^ 64 - 4 * words) % 2 ^ 64 }
+{
+    0_u64.wrapping_sub(4 * words)
 }
 
 /// `csrrw`: `rs1` into a CSR, and what it held into `rd`.

@@ -7,10 +7,14 @@
 mod assembler;
 mod beacon_guest;
 mod counter_guest;
+mod disk_guest;
+mod echo_guest;
 mod idle_guest;
 mod image;
 mod virtio;
 
 pub use beacon_guest::beacon;
 pub use counter_guest::counter;
+pub use disk_guest::disk_once;
+pub use echo_guest::echo;
 pub use idle_guest::idle;
