@@ -68,6 +68,7 @@ module _ (w : Pair) (h : IsKept w) where
     drops = h.drops;
     live = sym live_is;
     image = h.image;
+    outbox = sym outbox_is;
     boxes = h.boxes;
     owed = owed_is;
     held = h.held;

@@ -8,7 +8,7 @@ use Rattle.output_gate.specs.Epochs.{Epoch, frames_of}
 use Rattle.pair_core.specs.declared.event.Packet.{Packet}
 use Rattle.pair_core.specs.Entries.{Frame, Entry, Ran, Land, DropOut, Took}
 use Rattle.pair_core.specs.HistoryState.{HistoryState, at, after, Legal}
-use Rattle.pair_core.specs.Protocol.{Record, packet, packet_of, joined, kept_entries, all_entries, guest_along, sent_along, number_end, most_pending}
+use Rattle.pair_core.specs.Protocol.{Record, packet, packet_of, joined, kept_entries, all_entries, guest_along, sent_along, outbox_of, number_end, most_pending}
 
 pub record Pair : Type 0 where
   -- the state that the history starts from
@@ -49,6 +49,8 @@ pub record IsConsistent (w : Pair) : Type 0 where
   -- the live machine is the guest of the history followed by what is kept, the image the guest of the history
   pub live : w.live ≡ (live_state w).guest
   pub image : w.image ≡ (shown_state w).guest
+  -- the outbox is all that the guest sent along the epoch that runs, also what goes nowhere
+  pub outbox : w.outbox ≡ outbox_of w.start w.protocol
   -- the boxes are the history's
   pub boxes : w.boxes ≡ (shown_state w).boxes
   -- what is held, with the outbox, is what is still on its way to each client

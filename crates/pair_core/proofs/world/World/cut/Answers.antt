@@ -1,6 +1,6 @@
 use Rattle.std.proofs.Common.{◌≡◌, ◌<◌, ◌≤◌, ◌+◌, ◌++◌, ◌∷◌, [], length, subst, ap, ◌∙◌, sym, arith, ℕ, List}
 use Rattle.output_gate.specs.Epochs.{Epoch}
-use Rattle.guest_machine.specs.Guest.{State}
+use Rattle.pair_core.specs.Entries.{Frame}
 use Rattle.pair_core.specs.declared.event.Refusal.TheVariants.{Behind, Exhausted}
 use Rattle.pair_core.specs.declared.event.Reply.TheVariants as replies
 use Rattle.pair_core.specs.Protocol.{refused, cut_outcome}
@@ -9,27 +9,30 @@ use Rattle.pair_core.specs.WorldFields.{pair_of, record_of}
 use Rattle.pair_core.proofs.Outcomes.{cut_behind, cut_exhausted}
 use Rattle.pair_core.proofs.WorldLaws.{rising, cut_fields, cut_fields_now, cut_reply}
 use Rattle.pair_core.proofs.world.World.cut.Goals as goal
-use Rattle.pair_core.proofs.world.World.cut.Goals.{After-self-2-1}
 
 pub hold-requires-clause-above : goal.hold-requires-clause-above
 hold-requires-clause-above c = rising c.self.inside c.self.invariant
 
-few : (c : After-self-2-1) → length c.self.inside.gate < 4
-few c =
-    let p = c.pending.ensures in
-    let e = ap (λ (w : Pair). length w.protocol.pending) c.self.view_is in
-    let t = c.if-pending-ge-MOST_PENDING.false in
-    omega arith
-
-held : (c : After-self-2-1) → c.hold.new.self ≡ c.self.inside.gate ++ record { number = c.self.inside.to_cut; frames = c.self.inside.live.outbox } ∷ []
-held c = c.hold.ensures ∙ ap (λ fs. c.self.inside.gate ++ record { number = c.self.inside.to_cut; frames = fs } ∷ []) c.outbox.ensures.value
+-- the gate after the new checkpoint's frames were held
+held : (gate now : List Epoch) (number : ℕ) (frames outbox : List Frame) → now ≡ gate ++ record { number = number; frames = frames } ∷ [] → frames ≡ outbox → now ≡ gate ++ record { number = number; frames = outbox } ∷ []
+held gate now number frames outbox e f = e ∙ ap (λ fs. gate ++ record { number = number; frames = fs } ∷ []) f
 
 pub invariant_of-self-2 : goal.invariant_of-self-2
 invariant_of-self-2 c =
-    cut_fields c.self.inside c.self.invariant c.settle.new.self c.hold.new.self c.seal.new.sealed c.settle.ensures (held c) c.in_ok-seal.ensures.ok (few c) (let t = c.if-self-ge-NUMBER_END.false in omega arith)
+    let p = c.pending.ensures in
+    let e = ap (λ (w : Pair). length w.protocol.pending) c.self.view_is in
+    let t = c.if-pending-ge-MOST_PENDING.false in
+    let u = c.if-self-ge-NUMBER_END.false in
+    let gate = held c.self.inside.gate c.hold.new.self c.self.inside.to_cut c.outbox.result.now c.self.inside.live.outbox c.hold.ensures c.outbox.ensures.value in
+    cut_fields c.self.inside c.self.invariant c.settle.new.self c.hold.new.self c.seal.new.sealed c.settle.ensures gate c.in_ok-seal.ensures.ok (omega arith) (omega arith)
 
 pub returns-clause-outcome : goal.returns-clause-outcome
 returns-clause-outcome c =
-    let now = cut_fields_now c.self.inside c.self.invariant c.settle.new.self c.hold.new.self c.seal.new.sealed c.settle.ensures (held c) c.in_ok-seal.ensures.ok in
+    let p = c.pending.ensures in
+    let e = ap (λ (w : Pair). length w.protocol.pending) c.self.view_is in
+    let t = c.if-pending-ge-MOST_PENDING.false in
+    let u = c.if-self-ge-NUMBER_END.false in
+    let gate = held c.self.inside.gate c.hold.new.self c.self.inside.to_cut c.outbox.result.now c.self.inside.live.outbox c.hold.ensures c.outbox.ensures.value in
+    let now = cut_fields_now c.self.inside c.self.invariant c.settle.new.self c.hold.new.self c.seal.new.sealed c.settle.ensures gate c.in_ok-seal.ensures.ok in
     subst (λ (w : Pair). (replies.Cut 1 c.self.inside.to_cut, record_of now) ≡ cut_outcome w.start w.protocol) c.self.view_is
-    (cut_reply c.self.inside c.self.invariant c.settle.new.self c.hold.new.self c.seal.new.sealed c.settle.ensures (held c) c.in_ok-seal.ensures.ok (few c) (let t = c.if-self-ge-NUMBER_END.false in omega arith))
+    (cut_reply c.self.inside c.self.invariant c.settle.new.self c.hold.new.self c.seal.new.sealed c.settle.ensures gate c.in_ok-seal.ensures.ok (omega arith) (omega arith))
