@@ -230,3 +230,32 @@ fn a_chain_is_served(rt: HostRuntime) {
     assert_eq!(rt; device.load(0x060, 4), Some(1));
     assert_eq!(rt; device.queue(0).next_available, 1);
 }
+
+#[test]
+fn a_malformed_chain_ends_the_serving(rt: HostRuntime) {
+    let mut device = served_device();
+    let mut ram = ram_with(2);
+    let mut counter = Counter { chains: 0 };
+    device.serve(0, &mut ram, &mut counter);
+    assert_eq!(rt; counter.chains, 1);
+    assert_eq!(rt;
+        used_ring(&ram),
+        [1, 0, 0, 0, 0, 0, 5, 0, 0, 0, 0, 0, 0, 0, 0, 0, 0, 0]
+    );
+    assert_eq!(rt; device.load(0x060, 4), Some(3));
+    assert_eq!(rt; device.load(0x070, 4), Some(0x4f));
+    put_one(&mut device, &mut ram);
+    assert_eq!(rt; device.queue(0).next_used, 1);
+}
+
+#[test]
+fn a_used_chain_is_told(rt: HostRuntime) {
+    let mut device = served_device();
+    let mut ram = ram_with(2);
+    put_one(&mut device, &mut ram);
+    assert_eq!(rt;
+        used_ring(&ram),
+        [1, 0, 1, 0, 0, 0, 3, 0, 0, 0, 0, 0, 0, 0, 0, 0, 0, 0]
+    );
+    assert_eq!(rt; device.load(0x060, 4), Some(1));
+}
