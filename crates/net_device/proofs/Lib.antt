@@ -1,0 +1,3 @@
+pub mod InFront
+pub mod Receiving
+pub mod Lengths

@@ -1,0 +1,7 @@
+pub mod Errors
+pub mod Frames
+pub mod Transmit
+pub mod Receive
+-- what public clauses cite of lower crates
+pub use Rattle.arrayvec.specs.ArrayVec
+pub use Rattle.virtio_mmio.specs.States
