@@ -1,5 +1,4 @@
 pub mod BytesLemmas
-pub mod TransmitLemmas
 pub mod TimerLemmas
 pub mod StepCases
 pub mod SentLemmas

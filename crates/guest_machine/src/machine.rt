@@ -4,22 +4,23 @@ ghost use Rattle.rv64_core.specs.Registers.{register};
 ghost use Rattle.mtraps.specs.CsrTable.{IsLegal};
 ghost use Rattle.virtio_mmio.specs.declared.kinds.DeviceKind.TheVariants.{Network};
 ghost use Rattle.virtio_mmio.specs.States.{IsDeviceRecord};
+ghost use Rattle.net_device.specs.Frames.{IsFrame};
+ghost use Rattle.net_device.specs.Receive.{received};
 ghost use Rattle.guest_machine.specs.Guest.{boot_guest};
-ghost use Rattle.guest_machine.specs.Frames.{IsFrame};
-ghost use Rattle.guest_machine.specs.Step.{next, sent};
+ghost use Rattle.guest_machine.specs.Step.{next, sent, arrived};
 
 use crate::errors::MachineError;
-use crate::frames::{Frame, Outbox};
 use crate::hart::Hart;
 use crate::ram::Ram;
 use crate::shapes::Shape;
 use crate::step::run_step;
 use bus_map::RAM_BASE;
 use mtraps::{CsrValues, Csrs};
+use net_device::{Frame, NetDevice, Outbox};
 use rv64_core::{Register, Regs};
 use std::alloc::Global;
 use std::marker::Model;
-use virtio_mmio::{DeviceKind, DeviceState, Transport};
+use virtio_mmio::DeviceState;
 
 /// How many frames the outbox may hold for a step: 64 of its 256 places are then free, as many as one step can take.
 const STEPPING_FRAMES: usize = 192;
@@ -29,7 +30,7 @@ const STEPPING_FRAMES: usize = 192;
 pub struct Machine {
     hart: Hart,
     ram: Ram,
-    net: Transport,
+    net: NetDevice,
     outbox: Outbox,
 }
 
@@ -41,9 +42,9 @@ impl Model for Machine {
 
     ghost Value = { State };
 
-    ghost view = { λ m. record { guest = guest_of m.hart m.ram m.net.state; outbox = m.outbox } };
+    ghost view = { λ m. record { guest = guest_of m.hart m.ram m.net.transport.state; outbox = m.outbox } };
 
-    ghost invariant = { λ m. m.net.kind ≡ Network };
+    ghost invariant = { λ m. m.net.transport.kind ≡ Network };
 }
 
 impl Machine {
@@ -75,7 +76,7 @@ impl Machine {
                 steps: 0,
             },
             ram,
-            net: Transport::boot(DeviceKind::Network),
+            net: NetDevice::boot(),
             outbox,
         })
     }
@@ -101,6 +102,19 @@ impl Machine {
             &mut self.outbox,
         );
         Ok(())
+    }
+
+    /// A frame arrives at the guest: its network card puts it into the next chain of the receive queue. Says whether the guest
+    /// has it; otherwise it is lost. It is no step, it sends nothing, and it takes no memory. The frame has at least 14
+    /// bytes, as the caller knows.
+    #[tactic(auto, unfolding(crate::specs::Step::arrived))]
+    pub fn arrive(&mut self, frame: &Frame) -> bool
+        requires long { 14 ≤ length frame.now.items }
+        ensures guest { self.new.guest ≡ arrived self.old.guest frame.now }
+        ensures outbox { self.new.outbox ≡ self.old.outbox }
+        ensures taken { result ≡ (received self.old.guest.ram self.old.guest.net frame.now).taken }
+    {
+        self.net.receive(&mut self.ram, frame)
     }
 
     /// The same machine once more: its guest and its outbox.
@@ -190,7 +204,7 @@ impl Machine {
         ensures value { result ≡ self.now.guest.net }
         ensures rules { IsDeviceRecord Network result }
     {
-        self.net.state()
+        self.net.transport.state()
     }
 
     /// How many bytes of memory the guest has: 1 to 4096 pages.
