@@ -8,11 +8,13 @@
 mod device;
 mod errors;
 mod frames;
+mod laws;
 mod sending;
 
 pub use device::NetDevice;
 pub use errors::OutboxError;
 pub use frames::{Frame, Outbox};
+pub use laws::{kept_rules, sent_frames};
 
 #[cfg(test)]
 mod tests;

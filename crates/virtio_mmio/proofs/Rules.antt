@@ -14,7 +14,7 @@ use Rattle.virtio_mmio.specs.declared.kinds.DeviceKind.TheVariants.{Network, Blo
 use Rattle.virtio_mmio.specs.declared.states.DeviceState.{DeviceState}
 use Rattle.virtio_mmio.specs.Kinds.{queue_count}
 use Rattle.virtio_mmio.specs.States.{boot_state, queue_at, is_queue_size, IsQueueRecord, AbsentQueuesAtBoot, IsDeviceRecord}
-use Rattle.virtio_mmio.specs.Serving.{with_counters, needing_reset}
+use Rattle.virtio_mmio.specs.Serving.{with_counters, used_signalled, needing_reset}
 use Rattle.virtqueue.specs.Areas.{AreasFit, IsSized}
 use Rattle.virtio_mmio.specs.ServingLoop.{state_after_use}
 use Rattle.virtio_mmio.specs.Registers.{is_set, Row, ignored, status_store, driver_features_after, registers, row_in, row_at, has_queue, selected_queue, on_queue, num_after, ready_after, address_after, with_low, with_high, status_after, kept_bits}
@@ -270,6 +270,12 @@ needing_reset_keeps k d h =
     let both : (if is_set d.status 4 then bit_or d.interrupt_status 2 else d.interrupt_status) ≤ 3 =
     either (λ n. n ≤ 3) (is_set d.status 4) (bit_or d.interrupt_status 2) d.interrupt_status (λ e. omega arith) (omega arith) in
     plain-keeps k d (needing_reset d) (and_or d.status 0x40 0xcf ∙ ap (λ x. bit_or x 0x40) h.status_bits) both refl h
+
+pub signalled_keeps : (k : DeviceKind) (d : DeviceState) → IsDeviceRecord k d → IsDeviceRecord k (used_signalled d)
+signalled_keeps k d h =
+    let small : d.interrupt_status < 2 ^ 2 = omega arith in
+    let more : bit_or d.interrupt_status 1 < 2 ^ 2 = or_lt 2 d.interrupt_status 1 small (lit< tt) in
+    plain-keeps k d (used_signalled d) h.status_bits (omega arith) refl h
 
 -- ---- the configuration space
 
