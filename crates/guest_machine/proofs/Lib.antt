@@ -5,3 +5,4 @@ pub mod StepCases
 pub mod SentLemmas
 pub mod CountLemmas
 pub mod AlignedLemmas
+pub mod RunLemmas

@@ -8,6 +8,7 @@ pub mod Guest
 pub mod Parts
 pub mod Pending
 pub mod Places
+pub mod Runs
 pub mod Step
 pub mod Transmit
 -- what public clauses cite of lower crates

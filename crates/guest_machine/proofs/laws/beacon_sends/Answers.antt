@@ -7,7 +7,8 @@ use Rattle.mtraps.specs.Traps.{after_entry, handler}
 use Rattle.bus_map.specs.AddressMap.{address_map, place_of}
 use Rattle.virtio_mmio.specs.Registers.{row_at}
 use Rattle.virtio_mmio.specs.Transport.{loaded, stored}
-use Rattle.guest_machine.specs.Beacon.{beacon_with, after_steps, sent_in}
+use Rattle.guest_machine.specs.Beacon.{beacon_with}
+use Rattle.guest_machine.specs.Runs.{after_steps, sent_in}
 use Rattle.guest_machine.specs.Bytes.{number_at, with_number}
 use Rattle.guest_machine.specs.Guest.{boot_guest}
 use Rattle.guest_machine.specs.Pending.{mip}
