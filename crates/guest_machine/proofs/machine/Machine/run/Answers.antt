@@ -1,4 +1,4 @@
-use Rattle.std.proofs.Common.{arith, ap, sym, subst}
+use Rattle.std.proofs.Common.{arith, subst}
 use Rattle.guest_machine.specs.Guest.{State}
 use Rattle.guest_machine.specs.Parts.{guest_of}
 use Rattle.guest_machine.proofs.RunLemmas.{IsRun, no_run, longer_run}
@@ -19,5 +19,5 @@ loop-made-preserved c = record {
   most = omega arith;
   kind = c.run_step.ensures.kind;
   run =
-    longer_run _ _ _ _ _ _ _ c.loop-made.invariant.run (omega arith) c.run_step.ensures.guest c.run_step.ensures.frames;
+      longer_run _ _ _ _ _ _ _ c.loop-made.invariant.run (omega arith) c.run_step.ensures.guest c.run_step.ensures.frames;
 }

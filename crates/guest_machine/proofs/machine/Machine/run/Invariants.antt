@@ -9,7 +9,7 @@ invariant-loop-made l = record {
   most : l.made ≤ l.count;
   kind : l.self-inside.net.kind ≡ Network;
   run :
-    IsRun l.made l.fn.self.guest l.fn.self.outbox
+      IsRun l.made l.fn.self.guest l.fn.self.outbox
       (guest_of l.self-inside.hart l.self-inside.ram l.self-inside.net.state) l.self-inside.outbox;
 }
 
