@@ -4,3 +4,4 @@ pub mod StepCases
 pub mod SentLemmas
 pub mod CountLemmas
 pub mod AlignedLemmas
+pub mod RunLemmas

@@ -7,6 +7,7 @@ pub mod Guest
 pub mod Parts
 pub mod Pending
 pub mod Places
+pub mod Runs
 pub mod Step
 -- what public clauses cite of lower crates
 pub use Rattle.arrayvec.specs.ArrayVec

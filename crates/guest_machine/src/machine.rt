@@ -7,6 +7,7 @@ ghost use Rattle.virtio_mmio.specs.States.{IsDeviceRecord};
 ghost use Rattle.net_device.specs.Frames.{IsFrame};
 ghost use Rattle.net_device.specs.Receive.{received};
 ghost use Rattle.guest_machine.specs.Guest.{boot_guest};
+ghost use Rattle.guest_machine.specs.Runs.{after_steps, sent_in, HaveRoom};
 ghost use Rattle.guest_machine.specs.Step.{next, sent, arrived};
 
 use crate::errors::MachineError;
@@ -92,16 +93,33 @@ impl Machine {
         ensures refused { IsErr result ↔ (192 < length self.old.outbox) }
         ensures err { OnErr result ((result ≡ Err MachineError.CutNeeded) × (self.new ≡ self.old)) }
     {
-        if self.outbox.len() > STEPPING_FRAMES {
-            return Err(MachineError::CutNeeded);
+        if self.run(1) == 1 {
+            Ok(())
+        } else {
+            Err(MachineError::CutNeeded)
         }
-        run_step(
-            &mut self.hart,
-            &mut self.ram,
-            &mut self.net,
-            &mut self.outbox,
-        );
-        Ok(())
+    }
+
+    /// Steps of the guest, as [`step`](Machine::step) makes them one by one: `count` of them, or fewer where one finds more than 192
+    /// frames in the outbox, so that a cut is needed before it. The answer is how many were made. It takes no memory.
+    pub fn run(&mut self, count: u64) -> u64
+        ensures most { result ≤ count }
+        ensures guest { self.new.guest ≡ after_steps result self.old.guest }
+        ensures outbox { self.new.outbox ≡ self.old.outbox ++ sent_in result self.old.guest }
+        ensures room { HaveRoom result self.old.guest self.old.outbox }
+        ensures cut_needed { result < count → 192 < length self.new.outbox }
+    {
+        let mut made = 0;
+        while made < count && self.outbox.len() <= STEPPING_FRAMES {
+            run_step(
+                &mut self.hart,
+                &mut self.ram,
+                &mut self.net,
+                &mut self.outbox,
+            );
+            made += 1;
+        }
+        made
     }
 
     /// A frame arrives at the guest: its network card puts it into the next chain of the receive queue. Says whether the guest

@@ -199,14 +199,15 @@ fn a_step_needs_64_free_places(rt: HostRuntime) -> Result<(), Fail> {
     put(&mut image, AVAILABLE + 2, &[64]);
     put_words(&mut image, 22, &NOTIFY_MORE);
     let mut machine = boot(&rt, rt.alloc(), &image)?;
-    run(&rt, &mut machine, 31);
+    assert_eq!(rt; machine.run(31), 31);
     assert_eq!(rt; machine.outbox().len(), 192);
-    // at 192 frames steps go on, and the last of these sends one more
-    run(&rt, &mut machine, 3);
+    // at 192 frames steps go on, and the third of these sends one more
+    assert_eq!(rt; machine.run(u64::MAX), 3);
     assert_eq!(rt; machine.outbox().len(), 193);
     assert_eq!(rt; machine.steps(), 34);
     // at 193 a step is refused, and nothing is changed
     let pc = machine.pc();
+    assert_eq!(rt; machine.run(2), 0);
     assert_eq!(rt; machine.step(), Err(MachineError::CutNeeded));
     assert_eq!(rt; machine.steps(), 34);
     assert_eq!(rt; machine.pc(), pc);

@@ -12,7 +12,8 @@ use Rattle.virtio_mmio.specs.Registers.{row_at}
 use Rattle.virtio_mmio.specs.ServingLoop.{chains_served, served as loop_served}
 use Rattle.virtio_mmio.specs.Transport.{loaded, stored}
 use Rattle.net_device.specs.Transmit.{served}
-use Rattle.guest_machine.specs.Beacon.{beacon_with, after_steps, sent_in}
+use Rattle.guest_machine.specs.Beacon.{beacon_with}
+use Rattle.guest_machine.specs.Runs.{after_steps, sent_in}
 use Rattle.guest_machine.specs.Bytes.{number_at, with_number}
 use Rattle.guest_machine.specs.Guest.{boot_guest}
 use Rattle.guest_machine.specs.Pending.{mip}
