@@ -31,7 +31,7 @@ running = record {
   queues = worked_queue ∷ worked_queue ∷ [];
 }
 
--- the same with other areas, and before DRIVER_OK
+-- the same with the table elsewhere, and before DRIVER_OK
 abbrev pub with_table_at : ℕ → DeviceState
 with_table_at desc = record running { queues = record worked_queue { desc = desc } ∷ record worked_queue { desc = desc } ∷ [] }
 
@@ -48,11 +48,12 @@ readable len = descriptor 0x80000100 len 0 0
 abbrev pub writable : ℕ → List ℕ
 writable len = descriptor 0x80000100 len 2 0
 
--- so many chains are available, each of descriptor 0 or 1 in turn; from 0x100 on 12 bytes of header, a frame of 14
--- bytes and zeros
+-- to 02:00:00:00:01:01, from 02:00:00:00:00:01, of type 88b5
 abbrev pub worked_frame : ArrayVec ℕ
 worked_frame = record { items = 2 ∷ 0 ∷ 0 ∷ 0 ∷ 1 ∷ 1 ∷ 2 ∷ 0 ∷ 0 ∷ 0 ∷ 0 ∷ 1 ∷ 0x88 ∷ 0xb5 ∷ [] }
 
+-- these two descriptors; so many chains are available, of descriptor 0 and 1 in turn; from 0x100 on 12 bytes of header,
+-- that frame, and zeros
 unfoldable pub ram_with : ℕ → List ℕ → List ℕ → List ℕ
 ram_with available first second =
     first ++ (second ++ (replicate 32 0
