@@ -1,5 +1,5 @@
 -- A notify sends few frames, each of a frame's length; and the rules of the card's record stay.
-use Rattle.std.proofs.Common.{◌≡◌, ℕ, ◌+◌, ◌≤◌, ◌&&◌, nat_le, Bool, true, false, if◌then◌else◌, List, [], ◌∷◌, ◌++◌, length, drop, All, arith, refl, subst, sym, ap, ◌∙◌}
+use Rattle.std.proofs.Common.{◌≡◌, ℕ, ◌+◌, ◌≤◌, ◌&&◌, nat_le, Bool, true, false, if◌then◌else◌, List, [], ◌∷◌, ◌++◌, length, drop, All, arith, refl, subst}
 use Rattle.std.specs.Prelude.{Option, Some, None, Result, Ok, Err}
 use Rattle.std.proofs.lemmas.Bool.{leb-true}
 use Rattle.std.proofs.lemmas.List.{length-append}
@@ -13,12 +13,12 @@ use Rattle.virtio_mmio.specs.declared.kinds.DeviceKind.TheVariants.{Network}
 use Rattle.virtio_mmio.specs.declared.states.DeviceState.{DeviceState}
 use Rattle.virtio_mmio.specs.States.{queue_at, IsDeviceRecord}
 use Rattle.virtio_mmio.specs.Serving.{can_serve}
-use Rattle.virtio_mmio.specs.ServingLoop.{Acted, standing, Served as LoopServed}
+use Rattle.virtio_mmio.specs.ServingLoop.{Acted, standing}
 use Rattle.virtio_mmio.proofs.Rules.{needing_reset_keeps}
 use Rattle.virtio_mmio.proofs.Loop.{served_keeps, served_keeps_rules, use_keeps_rules}
 use Rattle.net_device.specs.Frames.{IsFrame}
 use Rattle.net_device.specs.Transmit.{frame_in, send, served}
-use Rattle.net_device.specs.Receive.{Received, packet, puts, put_into, put_next, received}
+use Rattle.net_device.specs.Receive.{Received, packet, put_next, received}
 
 -- frames of a frame's length, and room for so many more of 64
 pub record IsFew (n : ℕ) (sent : List (ArrayVec ℕ)) : Type 0 where

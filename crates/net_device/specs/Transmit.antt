@@ -28,6 +28,10 @@ pub record Served : Type 0 where
   pub net : DeviceState
   pub frames : List (ArrayVec ℕ)
 
+-- nothing is done
+abbrev pub rests : List ℕ → DeviceState → Served
+rests ram net = record { ram = ram; net = net; frames = [] }
+
 abbrev pub served_net : LoopServed (List (ArrayVec ℕ)) → Served
 served_net s = record { ram = s.ram; net = s.state; frames = s.kept }
 

@@ -89,7 +89,7 @@ impl Outbox {
         requires fits { at + len ≤ readable_len chain.now.parts }
         ensures { self.new ≡ self.old ++ record { items = take len (drop at (readable_bytes (R.bytes ram.now) chain.now.parts)) } ∷ [] }
     {
-        let place = self.frames.len();
+        let place = self.len();
         push_blank(&mut self.frames, len);
         gather_into(ram, chain, at, &mut self.frames[place]);
     }

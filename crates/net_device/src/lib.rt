@@ -14,7 +14,10 @@ mod sending;
 pub use device::NetDevice;
 pub use errors::OutboxError;
 pub use frames::{Frame, Outbox};
-pub use laws::{kept_rules, sent_frames};
+pub use laws::{
+    earlier_chains_stay, kept_rules, packets_received, packets_sent, receive_breaks, sent_frames,
+    transmit_breaks,
+};
 
 #[cfg(test)]
 mod tests;

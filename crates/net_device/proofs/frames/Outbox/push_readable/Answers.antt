@@ -1,4 +1,4 @@
-use Rattle.std.proofs.Common.{◌≡◌, ℕ, List, ◌++◌, [], ◌∷◌, ap, ◌∙◌, length, take, drop, replicate, get_or, arith}
+use Rattle.std.proofs.Common.{◌≡◌, ℕ, List, ◌++◌, [], ◌∷◌, ap, ◌∙◌, length, take, drop, replicate, get_or, sym}
 use Rattle.std.proofs.lemmas.List.{length-replicate}
 use Rattle.std.proofs.Math.Seq.{get_or-append_seam}
 use Rattle.arrayvec.specs.ArrayVec.{ArrayVec}
@@ -11,7 +11,7 @@ returns g c =
     let before : List (ArrayVec ℕ) = c.self.inside.frames.items in
     let blank : ArrayVec ℕ = record { items = replicate c.args.len 0 } in
     let framed : ℕ → ArrayVec ℕ = λ n. record { items = take n (drop c.args.at (readable_bytes (g.R.GuestRam.bytes c.args.ram.now) c.args.chain.now.parts)) } in
-    let place : c.len-place.result ≡ length before = omega (arith, c.len-place.ensures, c.self.inside.frames.ok.0) in
+    let place : c.len-place.result ≡ length before = c.len-place.ensures.value ∙ ap length (sym c.self.view_is) in
     let d : ArrayVec ℕ = c.index_mut.result.now in
     let was : c.index_mut.result.now ≡ blank =
     c.index_mut.ensures.value
