@@ -1,7 +1,7 @@
 pub mod BytesLemmas
-pub mod TransmitLemmas
 pub mod TimerLemmas
 pub mod StepCases
 pub mod SentLemmas
 pub mod CountLemmas
 pub mod AlignedLemmas
+pub mod RunLemmas

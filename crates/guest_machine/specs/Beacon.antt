@@ -1,10 +1,8 @@
 -- A worked guest: the beacon sets up the network card's transmit queue with one descriptor, and notifies it in step 22.
-use Rattle.std.specs.Prelude.{ℕ, zero, suc, List, [], ◌∷◌, ◌++◌, replicate}
+use Rattle.std.specs.Prelude.{ℕ, List, [], ◌∷◌, ◌++◌, replicate}
 use Rattle.std.specs.List.{flat_map}
 use Rattle.byteorder.specs.Endian.{little_bytes}
 use Rattle.arrayvec.specs.ArrayVec.{ArrayVec}
-use Rattle.guest_machine.specs.Guest.{Guest}
-use Rattle.guest_machine.specs.Step.{next, sent}
 
 -- LUI, ADDI, SW, LW and JAL; the 22nd word notifies queue 1, and the 23rd jumps to itself
 abbrev pub beacon_words : List ℕ
@@ -29,13 +27,3 @@ beacon_with len flags idx =
 -- the beacon itself: a buffer of 26 bytes, in one chain
 abbrev pub beacon : List ℕ
 beacon = beacon_with 26 0 1
-
--- the guest after n steps
-unfoldable pub after_steps : ℕ → Guest → Guest
-after_steps zero g = g
-after_steps (suc n) g = after_steps n (next g)
-
--- the frames that n steps send, in order
-unfoldable pub sent_in : ℕ → Guest → List (ArrayVec ℕ)
-sent_in zero g = []
-sent_in (suc n) g = sent g ++ sent_in n (next g)

@@ -1,12 +1,13 @@
 //! Laws of the guest's step, each the contract of a function that does nothing.
 ghost use Rattle.std.specs.Prelude.{◌≡◌, ℕ, ◌+◌, ◌%◌, ◌^◌, ◌≤◌, List, [], ◌∷◌, All, length, replicate};
 ghost use Rattle.mtraps.specs.CsrTable.{boot_values};
+ghost use Rattle.net_device.specs.Frames.{IsFrame};
 ghost use Rattle.guest_machine.specs.Aligned.{IsAligned};
-ghost use Rattle.guest_machine.specs.Beacon.{beacon, beacon_with, beacon_frame, after_steps, sent_in};
+ghost use Rattle.guest_machine.specs.Beacon.{beacon, beacon_with, beacon_frame};
 ghost use Rattle.guest_machine.specs.Bytes.{number_at};
 ghost use Rattle.guest_machine.specs.Examples.{two_branches, mhartid_written, timer_due};
 ghost use Rattle.guest_machine.specs.Guest.{Guest, boot_guest};
-ghost use Rattle.guest_machine.specs.Frames.{IsFrame};
+ghost use Rattle.guest_machine.specs.Runs.{after_steps, sent_in};
 ghost use Rattle.guest_machine.specs.Step.{next, sent};
 
 /// Whatever the guest, its next step sends at most 64 frames, each of 14 to 1514 bytes.

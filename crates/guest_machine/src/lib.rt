@@ -1,13 +1,12 @@
 //! The guest: one RISC-V hart in machine mode with its timer, its memory and its network card, and one step of them.
 //!
 //! [`Machine::boot`] makes the machine, [`Machine::step`] takes an interrupt or runs one instruction, [`Machine::outbox`] gives the frames
-//! that the guest sent since the last [`Machine::settle`]. Contracts see a machine as a `State` of the specs: its `Guest`,
+//! that the guest sent since the last [`Machine::settle`], and [`Machine::arrive`] has one arrive at it. Contracts see a machine as a `State` of the specs: its `Guest`,
 //! a record of plain data, and its outbox.
 #![tactic(auto)]
 
 mod csr_access;
 mod errors;
-mod frames;
 mod hart;
 mod interrupts;
 mod laws;
@@ -18,16 +17,15 @@ mod ram;
 mod shapes;
 mod step;
 mod stores;
-mod transmit;
 
 pub use bus_map::RAM_BASE;
 pub use errors::MachineError;
-pub use frames::Frame;
 pub use laws::{
     aligned_pc, beacon_breaks, beacon_loses, beacon_sends, branches_trap, counted_steps,
     read_only_csrs_trap, sent_frames, timer_interrupts,
 };
 pub use machine::Machine;
+pub use net_device::Frame;
 pub use ram::PAGE_BYTES;
 pub use shapes::Shape;
 

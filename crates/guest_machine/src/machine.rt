@@ -1,25 +1,27 @@
 //! A machine: the guest and the frames that it sent.
-ghost use Rattle.std.specs.Prelude.{◌≡◌, ◌+◌, ◌*◌, ◌%◌, ◌<◌, ◌≤◌, ◌↔◌, [], ◌++◌, length, All, IsErr, IsOk, IfOk, OnOk, OnErr, Err, slice_range, slice_index};
+ghost use Rattle.std.specs.Prelude.{◌≡◌, ◌+◌, ◌*◌, ◌<◌, ◌≤◌, ◌↔◌, [], ◌++◌, length, All, IsErr, IsOk, IfOk, OnOk, OnErr, Err, slice_range, slice_index};
 ghost use Rattle.rv64_core.specs.Registers.{register};
 ghost use Rattle.mtraps.specs.CsrTable.{IsLegal};
 ghost use Rattle.virtio_mmio.specs.declared.kinds.DeviceKind.TheVariants.{Network};
 ghost use Rattle.virtio_mmio.specs.States.{IsDeviceRecord};
+ghost use Rattle.net_device.specs.Frames.{IsFrame};
+ghost use Rattle.net_device.specs.Receive.{received};
 ghost use Rattle.guest_machine.specs.Guest.{boot_guest};
-ghost use Rattle.guest_machine.specs.Frames.{IsFrame};
-ghost use Rattle.guest_machine.specs.Step.{next, sent};
+ghost use Rattle.guest_machine.specs.Runs.{after_steps, sent_in, HaveRoom};
+ghost use Rattle.guest_machine.specs.Step.{next, sent, arrived};
 
 use crate::errors::MachineError;
-use crate::frames::{Frame, Outbox};
 use crate::hart::Hart;
 use crate::ram::Ram;
 use crate::shapes::Shape;
 use crate::step::run_step;
 use bus_map::RAM_BASE;
 use mtraps::{CsrValues, Csrs};
+use net_device::{Frame, NetDevice, Outbox};
 use rv64_core::{Register, Regs};
 use std::alloc::Global;
 use std::marker::Model;
-use virtio_mmio::{DeviceKind, DeviceState, Transport};
+use virtio_mmio::DeviceState;
 
 /// How many frames the outbox may hold for a step: 64 of its 256 places are then free, as many as one step can take.
 const STEPPING_FRAMES: usize = 192;
@@ -29,22 +31,21 @@ const STEPPING_FRAMES: usize = 192;
 pub struct Machine {
     hart: Hart,
     ram: Ram,
-    net: Transport,
+    net: NetDevice,
     outbox: Outbox,
 }
 
 impl Model for Machine {
     ghost use Rattle.std.specs.Prelude.{◌≡◌};
     ghost use Rattle.virtio_mmio.specs.declared.kinds.DeviceKind.TheVariants.{Network};
-    ghost use Rattle.guest_machine.specs.Aligned.{IsAligned};
     ghost use Rattle.guest_machine.specs.Guest.{State};
     ghost use Rattle.guest_machine.specs.Parts.{guest_of};
 
     ghost Value = { State };
 
-    ghost view = { λ m. record { guest = guest_of m.hart m.ram m.net.state; outbox = m.outbox } };
+    ghost view = { λ m. record { guest = guest_of m.hart m.ram m.net.transport.state; outbox = m.outbox } };
 
-    ghost invariant = { λ m. (m.net.kind ≡ Network) × IsAligned (guest_of m.hart m.ram m.net.state) };
+    ghost invariant = { λ m. m.net.transport.kind ≡ Network };
 }
 
 impl Machine {
@@ -53,7 +54,7 @@ impl Machine {
     ///
     /// # Errors
     /// `NoMemory` where memory is refused.
-    #[tactic(auto, using(crate::proofs::AlignedLemmas::aligned), unfolding(crate::specs::Guest::boot_guest))]
+    #[tactic(auto, unfolding(crate::specs::Guest::boot_guest))]
     pub fn boot(alloc: Global, shape: Shape, image: &[u8]) -> Result<Machine, MachineError>
         requires { length image.now ≤ 4096 * shape.pages }
         ensures guest { IfOk result (λ machine. machine.guest ≡ boot_guest shape.pages image.now) }
@@ -76,7 +77,7 @@ impl Machine {
                 steps: 0,
             },
             ram,
-            net: Transport::boot(DeviceKind::Network),
+            net: NetDevice::boot(),
             outbox,
         })
     }
@@ -89,20 +90,49 @@ impl Machine {
     pub fn step(&mut self) -> Result<(), MachineError>
         ensures guest { OnOk result (self.new.guest ≡ next self.old.guest) }
         ensures outbox { OnOk result (self.new.outbox ≡ self.old.outbox ++ sent self.old.guest) }
-        ensures size { length self.new.guest.ram ≡ length self.old.guest.ram }
         ensures refused { IsErr result ↔ (192 < length self.old.outbox) }
         ensures err { OnErr result ((result ≡ Err MachineError.CutNeeded) × (self.new ≡ self.old)) }
     {
-        if self.outbox.len() > STEPPING_FRAMES {
-            return Err(MachineError::CutNeeded);
+        if self.run(1) == 1 {
+            Ok(())
+        } else {
+            Err(MachineError::CutNeeded)
         }
-        run_step(
-            &mut self.hart,
-            &mut self.ram,
-            &mut self.net,
-            &mut self.outbox,
-        );
-        Ok(())
+    }
+
+    /// Steps of the guest, as [`step`](Machine::step) makes them one by one: `count` of them, or fewer where one finds more than 192
+    /// frames in the outbox, so that a cut is needed before it. The answer is how many were made. It takes no memory.
+    pub fn run(&mut self, count: u64) -> u64
+        ensures most { result ≤ count }
+        ensures guest { self.new.guest ≡ after_steps result self.old.guest }
+        ensures outbox { self.new.outbox ≡ self.old.outbox ++ sent_in result self.old.guest }
+        ensures room { HaveRoom result self.old.guest self.old.outbox }
+        ensures cut_needed { result < count → 192 < length self.new.outbox }
+    {
+        let mut made = 0;
+        while made < count && self.outbox.len() <= STEPPING_FRAMES {
+            run_step(
+                &mut self.hart,
+                &mut self.ram,
+                &mut self.net,
+                &mut self.outbox,
+            );
+            made += 1;
+        }
+        made
+    }
+
+    /// A frame arrives at the guest: its network card puts it into the next chain of the receive queue. Says whether the guest
+    /// has it; otherwise it is lost. It is no step, it sends nothing, and it takes no memory. The frame has at least 14
+    /// bytes, as the caller knows.
+    #[tactic(auto, unfolding(crate::specs::Step::arrived))]
+    pub fn arrive(&mut self, frame: &Frame) -> bool
+        requires long { 14 ≤ length frame.now.items }
+        ensures guest { self.new.guest ≡ arrived self.old.guest frame.now }
+        ensures outbox { self.new.outbox ≡ self.old.outbox }
+        ensures taken { result ≡ (received self.old.guest.ram self.old.guest.net frame.now).taken }
+    {
+        self.net.receive(&mut self.ram, frame)
     }
 
     /// The same machine once more: its guest and its outbox.
@@ -150,10 +180,9 @@ impl Machine {
         self.hart.steps
     }
 
-    /// The address of the instruction that comes next, a multiple of 4.
+    /// The address of the instruction that comes next.
     pub fn pc(&self) -> u64
-        ensures value { result ≡ self.now.guest.pc }
-        ensures aligned { result % 4 ≡ 0 }
+        ensures { result ≡ self.now.guest.pc }
     {
         self.hart.pc
     }
@@ -193,7 +222,7 @@ impl Machine {
         ensures value { result ≡ self.now.guest.net }
         ensures rules { IsDeviceRecord Network result }
     {
-        self.net.state()
+        self.net.transport.state()
     }
 
     /// How many bytes of memory the guest has: 1 to 4096 pages.

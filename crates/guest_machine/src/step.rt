@@ -6,15 +6,14 @@ ghost use Rattle.guest_machine.specs.Parts.{guest_of};
 ghost use Rattle.guest_machine.specs.Step.{planned, carried_out, instruction_done, next, sent};
 
 use crate::csr_access::{ILLEGAL_INSTRUCTION, access_csr};
-use crate::frames::Outbox;
 use crate::hart::Hart;
 use crate::interrupts::due;
 use crate::loads::load;
 use crate::places::{in_ram, ram_place};
 use crate::ram::Ram;
 use crate::stores::store;
+use net_device::{NetDevice, Outbox};
 use rv64_core::{Plan, Regs, decode, plan};
-use virtio_mmio::Transport;
 
 /// The cause of a pc outside memory (the Privileged ISA, mcause).
 const INSTRUCTION_ACCESS_FAULT: u64 = 1;
@@ -26,15 +25,14 @@ const INSTRUCTION_BYTES: u64 = 4;
 /// outbox.
 #[inline]
 #[tactic(auto, unfolding(crate::specs::Step::step_done, crate::specs::Step::next, crate::specs::Step::sent))]
-pub(crate) fn run_step(hart: &mut Hart, ram: &mut Ram, net: &mut Transport, outbox: &mut Outbox)
+pub(crate) fn run_step(hart: &mut Hart, ram: &mut Ram, net: &mut NetDevice, outbox: &mut Outbox)
     requires room { length outbox.old + 64 ≤ 256 }
-    requires network { net.old.kind ≡ Network }
-    ensures guest { guest_of hart.new ram.new net.new.state ≡ next (guest_of hart.old ram.old net.old.state) }
-    ensures frames { outbox.new ≡ outbox.old ++ sent (guest_of hart.old ram.old net.old.state) }
-    ensures kind { net.new.kind ≡ Network }
-    ensures size { length ram.new ≡ length ram.old }
+    requires network { net.old.transport.kind ≡ Network }
+    ensures guest { guest_of hart.new ram.new net.new.transport.state ≡ next (guest_of hart.old ram.old net.old.transport.state) }
+    ensures frames { outbox.new ≡ outbox.old ++ sent (guest_of hart.old ram.old net.old.transport.state) }
+    ensures kind { net.new.transport.kind ≡ Network }
 {
-    match due(hart, net) {
+    match due(hart, &net.transport) {
         Some(cause) => hart.trap(cause, 0),
         None => run_instruction(hart, ram, net, outbox),
     }
@@ -43,14 +41,13 @@ pub(crate) fn run_step(hart: &mut Hart, ram: &mut Ram, net: &mut Transport, outb
 
 /// The instruction at the pc, or its exception.
 #[inline]
-#[tactic(auto, unfolding(crate::specs::Step::instruction_done))]
-fn run_instruction(hart: &mut Hart, ram: &mut Ram, net: &mut Transport, outbox: &mut Outbox)
+#[tactic(auto, unfolding(crate::specs::Step::instruction_done, crate::specs::Step::carried_out))]
+fn run_instruction(hart: &mut Hart, ram: &mut Ram, net: &mut NetDevice, outbox: &mut Outbox)
     requires room { length outbox.old + 64 ≤ 256 }
-    requires network { net.old.kind ≡ Network }
-    ensures guest { guest_of hart.new ram.new net.new.state ≡ (instruction_done (guest_of hart.old ram.old net.old.state)).guest }
-    ensures frames { outbox.new ≡ outbox.old ++ (instruction_done (guest_of hart.old ram.old net.old.state)).frames }
-    ensures kind { net.new.kind ≡ Network }
-    ensures size { length ram.new ≡ length ram.old }
+    requires network { net.old.transport.kind ≡ Network }
+    ensures guest { guest_of hart.new ram.new net.new.transport.state ≡ (instruction_done (guest_of hart.old ram.old net.old.transport.state)).guest }
+    ensures frames { outbox.new ≡ outbox.old ++ (instruction_done (guest_of hart.old ram.old net.old.transport.state)).frames }
+    ensures kind { net.new.transport.kind ≡ Network }
 {
     if !in_ram(ram.size(), hart.pc, INSTRUCTION_BYTES) {
         hart.trap(INSTRUCTION_ACCESS_FAULT, hart.pc);
@@ -58,7 +55,13 @@ fn run_instruction(hart: &mut Hart, ram: &mut Ram, net: &mut Transport, outbox: 
     }
     let word = ram.read_u32(ram_place(hart.pc));
     let plan = plan_word(&hart.regs, hart.pc, word);
-    carry_out(hart, ram, net, outbox, word, plan);
+    // The commonest plan is told from the others here, so that the compiler leads it past the choice among them.
+    if let Plan::Next { pc, rd, value } = plan {
+        hart.regs.set(rd, value);
+        hart.pc = pc;
+    } else {
+        carry_out(hart, ram, net, outbox, word, plan);
+    }
 }
 
 /// What a word says to do; one that is no instruction is an exception.
@@ -81,17 +84,16 @@ fn plan_word(regs: &Regs, pc: u64, word: u32) -> Plan
 fn carry_out(
     hart: &mut Hart,
     ram: &mut Ram,
-    net: &mut Transport,
+    net: &mut NetDevice,
     outbox: &mut Outbox,
     word: u32,
     plan: Plan,
 )
     requires room { length outbox.old + 64 ≤ 256 }
-    requires network { net.old.kind ≡ Network }
-    ensures guest { guest_of hart.new ram.new net.new.state ≡ (carried_out (guest_of hart.old ram.old net.old.state) word plan).guest }
-    ensures frames { outbox.new ≡ outbox.old ++ (carried_out (guest_of hart.old ram.old net.old.state) word plan).frames }
-    ensures kind { net.new.kind ≡ Network }
-    ensures size { length ram.new ≡ length ram.old }
+    requires network { net.old.transport.kind ≡ Network }
+    ensures guest { guest_of hart.new ram.new net.new.transport.state ≡ (carried_out (guest_of hart.old ram.old net.old.transport.state) word plan).guest }
+    ensures frames { outbox.new ≡ outbox.old ++ (carried_out (guest_of hart.old ram.old net.old.transport.state) word plan).frames }
+    ensures kind { net.new.transport.kind ≡ Network }
 {
     match plan {
         Plan::Next { pc, rd, value } => {
@@ -103,7 +105,7 @@ fn carry_out(
             address,
             width,
             signed,
-        } => load(hart, ram, net, rd, address, width, signed),
+        } => load(hart, ram, &net.transport, rd, address, width, signed),
         Plan::Store {
             address,
             width,
@@ -115,7 +117,7 @@ fn carry_out(
             op,
             operand,
             writes,
-        } => access_csr(hart, net, word, rd, csr, op, operand, writes),
+        } => access_csr(hart, &net.transport, word, rd, csr, op, operand, writes),
         Plan::Trap { cause, value } => hart.trap(cause, value),
         Plan::Mret => hart.pc = hart.csrs.mret(),
     }

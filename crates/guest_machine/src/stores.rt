@@ -7,12 +7,11 @@ ghost use Rattle.virtio_mmio.specs.declared.states.DeviceState.{DeviceState};
 ghost use Rattle.guest_machine.specs.Parts.{guest_of};
 ghost use Rattle.guest_machine.specs.Step.{acted, passed, timer_stored, store_done};
 
-use crate::frames::Outbox;
 use crate::hart::Hart;
 use crate::loads::is_aligned;
 use crate::ram::Ram;
-use crate::transmit::{TRANSMIT_QUEUE, serve};
 use bus_map::{Place, TimerRegister, place};
+use net_device::{NetDevice, Outbox};
 use rv64_core::Width;
 use virtio_mmio::{Action, Transport};
 
@@ -21,23 +20,25 @@ const STORE_MISALIGNED: u64 = 6;
 
 const STORE_ACCESS_FAULT: u64 = 7;
 
+/// The number of the network card's transmit queue (virtio 1.1, 5.1.2).
+const TRANSMIT_QUEUE: u32 = 1;
+
 /// A store: its bytes into memory or a device, or its exception.
 #[inline]
 pub(crate) fn store(
     hart: &mut Hart,
     ram: &mut Ram,
-    net: &mut Transport,
+    net: &mut NetDevice,
     outbox: &mut Outbox,
     address: u64,
     width: Width,
     value: u64,
 )
     requires room { length outbox.old + 64 ≤ 256 }
-    requires network { net.old.kind ≡ Network }
-    ensures guest { guest_of hart.new ram.new net.new.state ≡ (store_done (guest_of hart.old ram.old net.old.state) address (width_bytes width) value).guest }
-    ensures frames { outbox.new ≡ outbox.old ++ (store_done (guest_of hart.old ram.old net.old.state) address (width_bytes width) value).frames }
-    ensures kind { net.new.kind ≡ Network }
-    ensures size { length ram.new ≡ length ram.old }
+    requires network { net.old.transport.kind ≡ Network }
+    ensures guest { guest_of hart.new ram.new net.new.transport.state ≡ (store_done (guest_of hart.old ram.old net.old.transport.state) address (width_bytes width) value).guest }
+    ensures frames { outbox.new ≡ outbox.old ++ (store_done (guest_of hart.old ram.old net.old.transport.state) address (width_bytes width) value).frames }
+    ensures kind { net.new.transport.kind ≡ Network }
 {
     if !is_aligned(address, width) {
         hart.trap(STORE_MISALIGNED, address);
@@ -52,7 +53,7 @@ pub(crate) fn store(
             }
         }
         Place::Clint(register) => timer_store(hart, register, value),
-        Place::Net(offset) => match net_store(net, offset, width, value) {
+        Place::Net(offset) => match net_store(&mut net.transport, offset, width, value) {
             Some(action) => {
                 hart.pass();
                 act(ram, net, outbox, action);
@@ -89,19 +90,18 @@ fn net_store(net: &mut Transport, offset: u64, width: Width, value: u64) -> Opti
 }
 
 /// What the network card does that a store asked to act.
-fn act(ram: &mut Ram, net: &mut Transport, outbox: &mut Outbox, action: Action)
+fn act(ram: &mut Ram, net: &mut NetDevice, outbox: &mut Outbox, action: Action)
     requires room { length outbox.old + 64 ≤ 256 }
-    requires network { net.old.kind ≡ Network }
-    ensures memory { ram.new ≡ (acted ram.old net.old.state action).ram }
-    ensures card { net.new.state ≡ (acted ram.old net.old.state action).net }
-    ensures frames { outbox.new ≡ outbox.old ++ (acted ram.old net.old.state action).frames }
-    ensures kind { net.new.kind ≡ Network }
-    ensures size { length ram.new ≡ length ram.old }
+    requires network { net.old.transport.kind ≡ Network }
+    ensures memory { ram.new ≡ (acted ram.old net.old.transport.state action).ram }
+    ensures card { net.new.transport.state ≡ (acted ram.old net.old.transport.state action).net }
+    ensures frames { outbox.new ≡ outbox.old ++ (acted ram.old net.old.transport.state action).frames }
+    ensures kind { net.new.transport.kind ≡ Network }
 {
     match action {
         Action::Notify(queue) => {
             if queue == TRANSMIT_QUEUE {
-                serve(ram, net, outbox);
+                net.transmit(ram, outbox);
             }
         }
         Action::None | Action::Reset => {}

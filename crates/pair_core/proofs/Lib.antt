@@ -4,6 +4,7 @@ pub mod Epochs
 pub mod Kept
 pub mod Events
 pub mod Outcomes
+pub mod StepRuns
 pub mod WorldLaws
 pub mod PublicLaws
 pub mod ReleasedLaws

@@ -14,7 +14,9 @@ use Rattle.virtio_mmio.specs.declared.kinds.DeviceKind.TheVariants.{Network, Blo
 use Rattle.virtio_mmio.specs.declared.states.DeviceState.{DeviceState}
 use Rattle.virtio_mmio.specs.Kinds.{queue_count}
 use Rattle.virtio_mmio.specs.States.{boot_state, queue_at, is_queue_size, IsQueueRecord, AbsentQueuesAtBoot, IsDeviceRecord}
-use Rattle.virtio_mmio.specs.Serving.{with_counters, needing_reset}
+use Rattle.virtio_mmio.specs.Serving.{with_counters, used_signalled, needing_reset}
+use Rattle.virtqueue.specs.Areas.{AreasFit, IsSized}
+use Rattle.virtio_mmio.specs.ServingLoop.{state_after_use}
 use Rattle.virtio_mmio.specs.Registers.{is_set, Row, ignored, status_store, driver_features_after, registers, row_in, row_at, has_queue, selected_queue, on_queue, num_after, ready_after, address_after, with_low, with_high, status_after, kept_bits}
 
 -- ---- bits
@@ -269,6 +271,12 @@ needing_reset_keeps k d h =
     either (λ n. n ≤ 3) (is_set d.status 4) (bit_or d.interrupt_status 2) d.interrupt_status (λ e. omega arith) (omega arith) in
     plain-keeps k d (needing_reset d) (and_or d.status 0x40 0xcf ∙ ap (λ x. bit_or x 0x40) h.status_bits) both refl h
 
+pub signalled_keeps : (k : DeviceKind) (d : DeviceState) → IsDeviceRecord k d → IsDeviceRecord k (used_signalled d)
+signalled_keeps k d h =
+    let small : d.interrupt_status < 2 ^ 2 = omega arith in
+    let more : bit_or d.interrupt_status 1 < 2 ^ 2 = or_lt 2 d.interrupt_status 1 small (lit< tt) in
+    plain-keeps k d (used_signalled d) h.status_bits (omega arith) refl h
+
 -- ---- the configuration space
 
 pow_of_pow : (p : ℕ) → 2 ^ (8 * p) ≡ 256 ^ p
@@ -286,3 +294,18 @@ past_end c p h l =
     let large : 2 ^ 64 ≤ 2 ^ (8 * p) = pow_mono more in
     let below : c < 2 ^ (8 * p) = omega arith in
     sym (shift_is_places c p) ∙ div-eq_of_lt below
+
+-- what holds of a queue whatever its counters are holds after they are replaced
+queue_with_counters : (P : Queue → Type 0) (k : DeviceKind) (d : DeviceState) (i available used : ℕ) →
+    P (record (queue_at d i) { next_available = available; next_used = used }) → P (queue_at d i) → P (queue_at (with_counters k d i available used) i)
+queue_with_counters P k d i available used new old =
+    either (λ (xs : List Queue). P (slice_index_or xs i boot_queue)) (has_queue k i) (slice_set d.queues i (record (queue_at d i) { next_available = available; next_used = used })) d.queues
+    (λ e. set-keeps P d.queues i i (record (queue_at d i) { next_available = available; next_used = used }) boot_queue new old) old
+
+-- a queue's areas stay where they are
+pub areas_after_use : (k : DeviceKind) (d : DeviceState) (i size : ℕ) → AreasFit (queue_at d i) size → AreasFit (queue_at (state_after_use k i d) i) size
+areas_after_use k d i size h =
+    queue_with_counters (λ q. AreasFit q size) k d i _ _ (record { desc_from = h.desc_from; desc_to = h.desc_to; driver_from = h.driver_from; driver_to = h.driver_to; device_from = h.device_from; device_to = h.device_to }) h
+
+pub sized_after_use : (k : DeviceKind) (d : DeviceState) (i : ℕ) → IsSized (queue_at d i) → IsSized (queue_at (state_after_use k i d) i)
+sized_after_use k d i h = queue_with_counters IsSized k d i _ _ (record { some = h.some; few = h.few }) h

@@ -3,3 +3,4 @@ pub mod States
 pub mod Registers
 pub mod Transport
 pub mod Serving
+pub mod ServingLoop

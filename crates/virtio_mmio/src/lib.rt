@@ -9,11 +9,13 @@ mod actions;
 mod changes;
 mod kinds;
 mod registers;
+mod serving;
 mod states;
 mod transport;
 
 pub use actions::Action;
 pub use kinds::DeviceKind;
+pub use serving::ChainHandler;
 pub use states::DeviceState;
 pub use transport::Transport;
 

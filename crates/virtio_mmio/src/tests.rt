@@ -1,8 +1,14 @@
 //! A driver's first steps with a device (virtio 1.1, 3.1.1 and 4.2.3), and the worked values of the table.
 
+ghost use Rattle.std.specs.Prelude.{◌≡◌, ℕ, ◌+◌, ◌-◌, ◌^◌, ◌≤◌, length, take, drop, Ok, Err, if◌then◌else◌};
+ghost use Rattle.virtqueue.specs.Parts.{all_readable};
+ghost use Rattle.virtqueue.specs.declared.broken.Broken.TheVariants.{Direction};
+
 use crate::actions::Action;
 use crate::kinds::DeviceKind;
+use crate::serving::ChainHandler;
 use crate::transport::Transport;
+use virtqueue::{Broken, Chain, GuestRam};
 
 #[test]
 fn the_device_names_itself(rt: HostRuntime) {
@@ -119,4 +125,137 @@ fn other_widths_are_access_faults(rt: HostRuntime) {
     assert_eq!(rt; device.load(0x034, 4), Some(64));
     assert_eq!(rt; device.store(0x030, 4, 1), Some(Action::None));
     assert_eq!(rt; device.load(0x034, 4), Some(0));
+}
+
+#[derive(Drop)]
+struct Ram {
+    bytes: [u8; 4096],
+}
+
+impl GuestRam for Ram {
+    ghost bytes = { λ ram. ram.bytes };
+
+    fn size(&self) -> usize {
+        self.bytes.len()
+    }
+
+    fn read(&self, place: usize, into: &mut [u8]) {
+        into.copy_from_slice(&self.bytes[place..place + into.len()]);
+    }
+
+    fn write(&mut self, place: usize, from: &[u8]) {
+        self.bytes[place..place + from.len()].copy_from_slice(from);
+    }
+}
+
+/// A device that counts readable chains, and says that it wrote 5 bytes.
+#[derive(Drop)]
+struct Counter {
+    chains: u32,
+}
+
+impl ChainHandler for Counter {
+    ghost room = { λ counter. 2 ^ 32 - 1 - counter.chains };
+
+    ghost act = { λ bytes counter chain. if all_readable chain.parts
+        then Ok (record { ram = bytes; kept = record { chains = counter.chains + 1 }; len = 5 })
+        else Err Direction };
+
+    fn act<R: GuestRam>(&mut self, _ram: &mut R, chain: &Chain) -> Result<u32, Broken> {
+        if !chain.is_all_readable() {
+            return Err(Broken::Direction);
+        }
+        self.chains += 1;
+        Ok(5)
+    }
+}
+
+/// A queue of 2 in RAM, of which so many chains are available: descriptor 0 has one readable byte and descriptor 1 one
+/// writable byte, and the ring's entries are 0 and 1 in turn. Its areas are at 0, 0x40 and 0x80.
+fn ram_with(available: u8) -> Ram {
+    let mut ram = Ram { bytes: [0; 4096] };
+    ram.write(0, &[0, 1, 0, 0x80, 0, 0, 0, 0, 1, 0, 0, 0, 0, 0, 0, 0]);
+    ram.write(16, &[0, 1, 0, 0x80, 0, 0, 0, 0, 1, 0, 0, 0, 2, 0, 0, 0]);
+    ram.write(0x40, &[0, 0, available, 0, 0, 0, 1, 0]);
+    ram
+}
+
+/// A running block device with that queue.
+fn served_device() -> Transport {
+    driven(
+        DeviceKind::Block { capacity: 8 },
+        &[
+            (0x070, 3),
+            (0x024, 1),
+            (0x020, 1),
+            (0x070, 11),
+            (0x038, 2),
+            (0x080, 0x8000_0000),
+            (0x090, 0x8000_0040),
+            (0x0a0, 0x8000_0080),
+            (0x044, 1),
+            (0x070, 15),
+        ],
+    )
+}
+
+/// Puts a chain whose first descriptor is 1 into the used ring, with 3 bytes written.
+fn put_one(device: &mut Transport, ram: &mut Ram) {
+    let Some(queue) = device.queue_in_service(0) else {
+        return;
+    };
+    if queue.available(ram).is_ok() {
+        device.put_used(0, ram, 1, 3);
+    }
+}
+
+/// What a used ring of 0x80 has in its idx and its two entries.
+fn used_ring(ram: &Ram) -> [u8; 18] {
+    let mut bytes = [0; 18];
+    ram.read(0x82, &mut bytes);
+    bytes
+}
+
+#[test]
+fn a_chain_is_served(rt: HostRuntime) {
+    let mut device = served_device();
+    let mut ram = ram_with(1);
+    let mut counter = Counter { chains: 0 };
+    device.serve(0, &mut ram, &mut counter);
+    assert_eq!(rt; counter.chains, 1);
+    assert_eq!(rt;
+        used_ring(&ram),
+        [1, 0, 0, 0, 0, 0, 5, 0, 0, 0, 0, 0, 0, 0, 0, 0, 0, 0]
+    );
+    assert_eq!(rt; device.load(0x060, 4), Some(1));
+    assert_eq!(rt; device.queue(0).next_available, 1);
+}
+
+#[test]
+fn a_malformed_chain_ends_the_serving(rt: HostRuntime) {
+    let mut device = served_device();
+    let mut ram = ram_with(2);
+    let mut counter = Counter { chains: 0 };
+    device.serve(0, &mut ram, &mut counter);
+    assert_eq!(rt; counter.chains, 1);
+    assert_eq!(rt;
+        used_ring(&ram),
+        [1, 0, 0, 0, 0, 0, 5, 0, 0, 0, 0, 0, 0, 0, 0, 0, 0, 0]
+    );
+    assert_eq!(rt; device.load(0x060, 4), Some(3));
+    assert_eq!(rt; device.load(0x070, 4), Some(0x4f));
+    put_one(&mut device, &mut ram);
+    assert_eq!(rt; device.queue(0).next_used, 1);
+}
+
+#[test]
+fn a_used_chain_is_told(rt: HostRuntime) {
+    let mut device = served_device();
+    let mut ram = ram_with(2);
+    put_one(&mut device, &mut ram);
+    assert_eq!(rt;
+        used_ring(&ram),
+        [1, 0, 1, 0, 0, 0, 3, 0, 0, 0, 0, 0, 0, 0, 0, 0, 0, 0]
+    );
+    assert_eq!(rt; device.load(0x060, 4), Some(1));
 }

@@ -1,8 +1,54 @@
-use Rattle.std.proofs.Common.{sym, subst}
-use Rattle.guest_machine.specs.Aligned.{IsAligned}
-use Rattle.guest_machine.proofs.AlignedLemmas.{aligned-next}
+use Rattle.std.proofs.Common.{◌≡◌, ℕ, ◌<◌, ◌++◌, List, length, arith, ap, subst, ◌∙◌, refl}
+use Rattle.std.proofs.lemmas.List.{append-nil}
+use Rattle.arrayvec.specs.ArrayVec.{ArrayVec}
+use Rattle.guest_machine.specs.Guest.{Guest, State}
+use Rattle.guest_machine.specs.Runs.{after_steps, sent_in, HaveRoom}
+use Rattle.guest_machine.proofs.RunLemmas.{no_steps, none_sent, one_step, sent_in_one, room_for_one}
 use Rattle.guest_machine.proofs.machine.Machine.step.Goals as goal
 
-pub invariant_of-self : goal.invariant_of-self
-invariant_of-self c =
-    (c.run_step.ensures.kind, subst IsAligned (sym c.run_step.ensures.guest) (aligned-next _ c.self.invariant.1))
+same_guest : (g : Guest) {n : ℕ} {g' : Guest} → n ≡ 0 → g' ≡ after_steps n g → g' ≡ g
+same_guest g none is = is ∙ ap (λ (n : ℕ). after_steps n g) none ∙ no_steps g
+
+same_outbox : (g : Guest) {n : ℕ} {o o' : List (ArrayVec ℕ)} → n ≡ 0 → o' ≡ o ++ sent_in n g → o' ≡ o
+same_outbox g {o = o} none is =
+    is ∙ ap (λ (n : ℕ). o ++ sent_in n g) none ∙ ap (λ (x : List (ArrayVec ℕ)). o ++ x) (none_sent g) ∙ append-nil o
+
+same_state : (s t : State) → s.guest ≡ t.guest → s.outbox ≡ t.outbox → s ≡ t
+same_state s t p q =
+    let with_guest : Guest → State = λ g. record { guest = g; outbox = s.outbox } in
+    let with_outbox : List (ArrayVec ℕ) → State = λ o. record { guest = t.guest; outbox = o } in
+    ap with_guest p ∙ ap with_outbox q
+
+pub returns-then-run-eq1-clause-guest : goal.returns-then-run-eq1-clause-guest
+returns-then-run-eq1-clause-guest c =
+    let g = c.args.self.now.guest in
+    c.run.ensures.guest ∙ ap (λ (n : ℕ). after_steps n g) c.if-run-eq1.true ∙ one_step g
+
+pub returns-then-run-eq1-clause-outbox : goal.returns-then-run-eq1-clause-outbox
+returns-then-run-eq1-clause-outbox c =
+    let g = c.args.self.now.guest in
+    let o = c.args.self.now.outbox in
+    c.run.ensures.outbox ∙ ap (λ (n : ℕ). o ++ sent_in n g) c.if-run-eq1.true
+    ∙ ap (λ (x : List (ArrayVec ℕ)). o ++ x) (sent_in_one g)
+
+pub returns-then-run-eq1-clause-refused : goal.returns-then-run-eq1-clause-refused
+returns-then-run-eq1-clause-refused c =
+    let g = c.args.self.now.guest in
+    let o = c.args.self.now.outbox in
+    let Room : ℕ → Type 0 = λ n. HaveRoom n g o in
+    let few = room_for_one g o (subst Room c.if-run-eq1.true c.run.ensures.room) in
+    ((λ e. cc), λ many. absurd (omega (arith, few, many)))
+
+pub returns-else-run-eq1-clause-refused : goal.returns-else-run-eq1-clause-refused
+returns-else-run-eq1-clause-refused c =
+    let g = c.args.self.now.guest in
+    let none : c.run.result ≡ 0 = omega arith in
+    let Many : List (ArrayVec ℕ) → Type 0 = λ o. 192 < length o in
+    let same = same_outbox g none c.run.ensures.outbox in
+    ((λ e. subst Many same (c.run.ensures.cut_needed (omega arith))), λ many. refl)
+
+pub returns-else-run-eq1-clause-err : goal.returns-else-run-eq1-clause-err
+returns-else-run-eq1-clause-err c =
+    let g = c.args.self.now.guest in
+    let none : c.run.result ≡ 0 = omega arith in
+    (refl, same_state c.run.new.self c.args.self.now (same_guest g none c.run.ensures.guest) (same_outbox g none c.run.ensures.outbox))

@@ -1,0 +1,4 @@
+pub mod InFront
+pub mod Receiving
+pub mod Lengths
+pub mod Few

@@ -1,0 +1,195 @@
+//! A card over a RAM of 4096 bytes, as a driver sets it up: 2 descriptors at 0x80000000, the available ring at 0x80000040
+//! and the used ring at 0x80000080 of the queue that is tried; buffers from 0x80000100 on.
+
+ghost use Rattle.std.specs.Prelude.{◌≡◌, ◌≤◌, length, take, drop};
+ghost use Rattle.virtio_mmio.specs.declared.kinds.DeviceKind.TheVariants.{Network};
+
+use crate::device::NetDevice;
+use crate::errors::OutboxError;
+use crate::frames::{Frame, Outbox};
+use std::test::Fail;
+use virtqueue::GuestRam;
+
+#[derive(Drop)]
+struct Ram {
+    bytes: [u8; 4096],
+}
+
+impl GuestRam for Ram {
+    ghost bytes = { λ ram. ram.bytes };
+
+    fn size(&self) -> usize {
+        self.bytes.len()
+    }
+
+    fn read(&self, place: usize, into: &mut [u8]) {
+        into.copy_from_slice(&self.bytes[place..place + into.len()]);
+    }
+
+    fn write(&mut self, place: usize, from: &[u8]) {
+        self.bytes[place..place + from.len()].copy_from_slice(from);
+    }
+}
+
+/// A card whose driver set queue `queue` up and is ready.
+fn running(queue: u64) -> NetDevice
+    ensures { result.transport.kind ≡ Network }
+{
+    let stores: [(u64, u64); 11] = [
+        (0x070, 3),
+        (0x024, 1),
+        (0x020, 1),
+        (0x070, 11),
+        (0x030, queue),
+        (0x038, 2),
+        (0x080, 0x8000_0000),
+        (0x090, 0x8000_0040),
+        (0x0a0, 0x8000_0080),
+        (0x044, 1),
+        (0x070, 15),
+    ];
+    let mut net = NetDevice::boot();
+    for (offset, value) in &stores {
+        let _ = net.transport.store(*offset, 4, *value);
+    }
+    net
+}
+
+/// RAM with these two descriptors, and so many chains of them available in turn.
+fn ram_with(first: &[u8; 16], second: &[u8; 16], available: u8) -> Ram {
+    let mut ram = Ram { bytes: [0; 4096] };
+    ram.write(0, first);
+    ram.write(16, second);
+    ram.write(0x40, &[0, 0, available, 0, 0, 0, 1, 0]);
+    ram
+}
+
+/// 26 readable bytes at 0x80000100; 26 at 0x80000110; and 25 at 0x80000100.
+const PACKET: [u8; 16] = [0, 1, 0, 0x80, 0, 0, 0, 0, 26, 0, 0, 0, 0, 0, 0, 0];
+
+const NEXT_PACKET: [u8; 16] = [0x10, 1, 0, 0x80, 0, 0, 0, 0, 26, 0, 0, 0, 0, 0, 0, 0];
+
+const SHORT_PACKET: [u8; 16] = [0, 1, 0, 0x80, 0, 0, 0, 0, 25, 0, 0, 0, 0, 0, 0, 0];
+
+/// 32 writable bytes at 0x80000100.
+const ROOM: [u8; 16] = [0, 1, 0, 0x80, 0, 0, 0, 0, 32, 0, 0, 0, 2, 0, 0, 0];
+
+/// The bytes of the used ring: its idx and its two entries.
+fn used_ring(ram: &Ram) -> [u8; 18] {
+    let mut bytes = [0; 18];
+    ram.read(0x82, &mut bytes);
+    bytes
+}
+
+/// The 28 bytes at 0x80000100.
+fn buffer(ram: &Ram) -> [u8; 28] {
+    let mut bytes = [0; 28];
+    ram.read(0x100, &mut bytes);
+    bytes
+}
+
+/// Notifies the transmit queue, if the outbox has room.
+fn transmit(net: &mut NetDevice, ram: &mut Ram, outbox: &mut Outbox)
+    requires { net.old.transport.kind ≡ Network }
+{
+    if outbox.len() <= 192 {
+        net.transmit(ram, outbox);
+    }
+}
+
+#[test]
+fn two_packets_are_sent(rt: HostRuntime) -> Result<(), Fail> {
+    let mut ram = ram_with(&PACKET, &NEXT_PACKET, 2);
+    ram.write(0x10c, &[1, 2, 3, 4, 5, 6, 7, 8, 9, 10, 11, 12, 13, 14]);
+    let mut net = running(1);
+    let mut outbox = Outbox::new(rt.alloc())?;
+    transmit(&mut net, &mut ram, &mut outbox);
+    assert_eq!(rt; outbox.len(), 2);
+    assert_eq!(rt;
+        outbox.frames()[0].as_slice(),
+        [1, 2, 3, 4, 5, 6, 7, 8, 9, 10, 11, 12, 13, 14].as_slice()
+    );
+    assert_eq!(rt; outbox.frames()[1].as_slice(), [0; 14].as_slice());
+    assert_eq!(rt;
+        used_ring(&ram),
+        [2, 0, 0, 0, 0, 0, 0, 0, 0, 0, 1, 0, 0, 0, 0, 0, 0, 0]
+    );
+    assert_eq!(rt; net.transport.load(0x060, 4), Some(1));
+    Ok(())
+}
+
+#[test]
+fn a_short_packet_is_used_and_lost(rt: HostRuntime) -> Result<(), Fail> {
+    let mut ram = ram_with(&SHORT_PACKET, &ROOM, 2);
+    let mut net = running(1);
+    let mut outbox = Outbox::new(rt.alloc())?;
+    transmit(&mut net, &mut ram, &mut outbox);
+    assert_eq!(rt; outbox.len(), 0);
+    assert_eq!(rt;
+        used_ring(&ram),
+        [1, 0, 0, 0, 0, 0, 0, 0, 0, 0, 0, 0, 0, 0, 0, 0, 0, 0]
+    );
+    assert_eq!(rt; net.transport.load(0x060, 4), Some(3));
+    assert_eq!(rt; net.transport.load(0x070, 4), Some(0x4f));
+    Ok(())
+}
+
+#[test]
+fn a_frame_is_received(rt: HostRuntime) -> Result<(), Fail> {
+    let mut ram = ram_with(&ROOM, &PACKET, 1);
+    ram.write(0x100, &[0xff; 32]);
+    let mut net = running(0);
+    let mut frame = Frame::new();
+    frame.try_extend_from_slice(&[1, 2, 3, 4, 5, 6, 7, 8, 9, 10, 11, 12, 13, 14])?;
+    assert!(rt; net.receive(&mut ram, &frame));
+    assert_eq!(rt;
+        buffer(&ram),
+        [
+            0, 0, 0, 0, 0, 0, 0, 0, 0, 0, 1, 0, 1, 2, 3, 4, 5, 6, 7, 8, 9, 10, 11, 12, 13, 14,
+            0xff, 0xff
+        ]
+    );
+    assert_eq!(rt;
+        used_ring(&ram),
+        [1, 0, 0, 0, 0, 0, 26, 0, 0, 0, 0, 0, 0, 0, 0, 0, 0, 0]
+    );
+    assert_eq!(rt; net.transport.load(0x060, 4), Some(1));
+    assert!(rt; !net.receive(&mut ram, &frame));
+    assert_eq!(rt; net.transport.load(0x070, 4), Some(0x0f));
+    Ok(())
+}
+
+#[test]
+fn a_readable_buffer_takes_no_frame(rt: HostRuntime) {
+    let mut ram = ram_with(&PACKET, &ROOM, 1);
+    let mut net = running(0);
+    assert!(rt; !net.receive(&mut ram, &Frame::new()));
+    assert_eq!(rt; net.transport.load(0x070, 4), Some(0x4f));
+    assert_eq!(rt; net.transport.load(0x060, 4), Some(2));
+}
+
+#[test]
+fn an_outbox_keeps_frames_in_order(rt: HostRuntime) -> Result<(), Fail> {
+    let mut outbox = Outbox::new(rt.alloc())?;
+    outbox.push(&[1; 14]);
+    outbox.push(&[2; 1514]);
+    let copy = outbox.copy(rt.alloc())?;
+    outbox.clear();
+    assert_eq!(rt; outbox.len(), 0);
+    assert_eq!(rt; copy.len(), 2);
+    assert_eq!(rt; copy.frames()[0].as_slice(), [1; 14].as_slice());
+    assert_eq!(rt; copy.frames()[1].len(), 1514);
+    Ok(())
+}
+
+#[test]
+fn a_refusal_has_its_number_and_name(rt: HostRuntime) -> Result<(), Fail> {
+    let alloc = rt.alloc();
+    assert_eq!(rt; OutboxError::NoMemory.number(), 12);
+    assert_eq!(rt; OutboxError::NoMemory.name(), "NoMemory");
+    assert_eq!(rt;
+        format!(in alloc; "{}", OutboxError::NoMemory)?.as_str(),
+        "NoMemory"
+    );
+    Ok(())
+}
