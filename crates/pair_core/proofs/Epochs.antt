@@ -3,13 +3,13 @@ use Rattle.std.proofs.Common.{◌≡◌, ℕ, zero, suc, ◌+◌, ◌-◌, ◌<�
 use Rattle.std.specs.Prelude.{map, nat_lt, nat_le}
 use Rattle.std.proofs.lemmas.Bool.Decides.{nat_tests}
 use Rattle.guest_machine.specs.Guest.{Guest}
-use Rattle.guest_machine.specs.Step.{next, sent}
 use Rattle.output_gate.specs.Epochs.{Epoch, frames_to, after_number, frames_of}
 use Rattle.pair_core.specs.declared.event.Packet.{Packet}
-use Rattle.pair_core.specs.Entries.{Frame, Entry, Ran, Land, DropOut, Took}
-use Rattle.pair_core.specs.Protocol.{packet, packet_of, joined, guest_along, sent_along}
-use Rattle.pair_core.specs.Pair.{epoch_guests, epoch_frames, NumberedFrom, AllBelow}
-use Rattle.pair_core.proofs.States.{append-nil, guest_along-append}
+use Rattle.pair_core.specs.Entries.{Frame, Entry}
+use Rattle.pair_core.specs.Protocol.{packet, packet_of, joined}
+use Rattle.pair_core.specs.Kept.{Move, entries_of, guest_along, frames_along, all_moves, epoch_guests, epoch_frames, NumberedFrom, AllBelow}
+use Rattle.pair_core.proofs.States.{append-nil}
+use Rattle.pair_core.proofs.Moves.{guest_along-append}
 
 pub length-append' : {A : Type 0} (xs ys : List A) → length (xs ++ ys) ≡ length xs + length ys
 length-append' [] ys = omega arith
@@ -19,25 +19,38 @@ pub length-map' : {A B : Type 0} (f : A → B) (xs : List A) → length (map f x
 length-map' f [] = refl
 length-map' f (x ∷ xs) = ap suc (length-map' f xs)
 
+pub map-append' : {A B : Type 0} (f : A → B) (xs ys : List A) → map f (xs ++ ys) ≡ map f xs ++ map f ys
+map-append' f [] ys = refl
+map-append' f (x ∷ xs) ys = ap (λ t. f x ∷ t) (map-append' f xs ys)
+
 pub joined-push : (ess : List (List Entry)) (es : List Entry) → joined (ess ++ es ∷ []) ≡ joined ess ++ es
 joined-push [] es = append-nil es
 joined-push (x ∷ ess) es = ap (λ t. x ++ t) (joined-push ess es) ∙ sym (append_assoc x (joined ess) es)
 
-pub epoch_guests-push : (g : Guest) (ess : List (List Entry)) (es : List Entry) → epoch_guests g (ess ++ es ∷ []) ≡ epoch_guests g ess ++ guest_along (guest_along g (joined ess)) es ∷ []
-epoch_guests-push g [] es = refl
-epoch_guests-push g (x ∷ ess) es =
-    ap (λ t. guest_along g x ∷ t) (epoch_guests-push (guest_along g x) ess es)
-    ∙ ap (λ h. guest_along g x ∷ (epoch_guests (guest_along g x) ess ++ guest_along h es ∷ [])) (sym (guest_along-append g x (joined ess)))
+pub all_moves-push : (mss : List (List Move)) (ms : List Move) → all_moves (mss ++ ms ∷ []) ≡ all_moves mss ++ ms
+all_moves-push [] ms = append-nil ms
+all_moves-push (x ∷ mss) ms = ap (λ t. x ++ t) (all_moves-push mss ms) ∙ sym (append_assoc x (all_moves mss) ms)
 
-pub epoch_frames-push : (g : Guest) (ess : List (List Entry)) (es : List Entry) → epoch_frames g (ess ++ es ∷ []) ≡ epoch_frames g ess ++ sent_along (guest_along g (joined ess)) es ∷ []
-epoch_frames-push g [] es = refl
-epoch_frames-push g (x ∷ ess) es =
-    ap (λ t. sent_along g x ∷ t) (epoch_frames-push (guest_along g x) ess es)
-    ∙ ap (λ h. sent_along g x ∷ (epoch_frames (guest_along g x) ess ++ sent_along h es ∷ [])) (sym (guest_along-append g x (joined ess)))
+-- the entries of moves
+pub entries_of-append : (ms ns : List Move) → entries_of (ms ++ ns) ≡ entries_of ms ++ entries_of ns
+entries_of-append [] ns = refl
+entries_of-append (m ∷ ms) ns = ap (λ t. entries_of (m ∷ []) ++ t) (entries_of-append ms ns)
 
-pub map-append' : {A B : Type 0} (f : A → B) (xs ys : List A) → map f (xs ++ ys) ≡ map f xs ++ map f ys
-map-append' f [] ys = refl
-map-append' f (x ∷ xs) ys = ap (λ t. f x ∷ t) (map-append' f xs ys)
+pub joined-entries : (mss : List (List Move)) → joined (map entries_of mss) ≡ entries_of (all_moves mss)
+joined-entries [] = refl
+joined-entries (ms ∷ mss) = ap (λ t. entries_of ms ++ t) (joined-entries mss) ∙ sym (entries_of-append ms (all_moves mss))
+
+pub epoch_guests-push : (g : Guest) (mss : List (List Move)) (ms : List Move) → epoch_guests g (mss ++ ms ∷ []) ≡ epoch_guests g mss ++ guest_along (guest_along g (all_moves mss)) ms ∷ []
+epoch_guests-push g [] ms = refl
+epoch_guests-push g (x ∷ mss) ms =
+    ap (λ t. guest_along g x ∷ t) (epoch_guests-push (guest_along g x) mss ms)
+    ∙ ap (λ h. guest_along g x ∷ (epoch_guests (guest_along g x) mss ++ guest_along h ms ∷ [])) (sym (guest_along-append g x (all_moves mss)))
+
+pub epoch_frames-push : (g : Guest) (mss : List (List Move)) (ms : List Move) → epoch_frames g (mss ++ ms ∷ []) ≡ epoch_frames g mss ++ frames_along (guest_along g (all_moves mss)) ms ∷ []
+epoch_frames-push g [] ms = refl
+epoch_frames-push g (x ∷ mss) ms =
+    ap (λ t. frames_along g x ∷ t) (epoch_frames-push (guest_along g x) mss ms)
+    ∙ ap (λ h. frames_along g x ∷ (epoch_frames (guest_along g x) mss ++ frames_along h ms ∷ [])) (sym (guest_along-append g x (all_moves mss)))
 
 pub frames_of-append : (xs ys : List Epoch) → frames_of (xs ++ ys) ≡ frames_of xs ++ frames_of ys
 frames_of-append [] ys = refl

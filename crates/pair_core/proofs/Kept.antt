@@ -1,53 +1,72 @@
--- What holds between events is kept by each event, and gives what contracts say.
-use Rattle.std.proofs.Common.{◌≡◌, ℕ, zero, suc, ◌+◌, ◌-◌, ◌<◌, ◌≤◌, List, [], ◌∷◌, ◌++◌, length, take, drop, refl, sym, ap, ◌∙◌, subst, arith, append_assoc, Bool, true, false, cond, Option, None, Some}
-use Rattle.std.specs.Prelude.{map, nat_lt, nat_le, slice_get}
-use Rattle.std.proofs.lemmas.Bool.Decides.{nat_tests}
+-- What is kept true from event to event gives what contracts say.
+use Rattle.std.proofs.Common.{◌≡◌, ℕ, ◌≤◌, List, [], ◌∷◌, ◌++◌, length, refl, sym, ap, ◌∙◌, subst, append_assoc}
+use Rattle.std.specs.Prelude.{map}
 use Rattle.guest_machine.specs.Guest.{Guest}
-use Rattle.guest_machine.specs.Step.{next, sent}
 use Rattle.frame_ports.specs.Addresses.{targets_of}
-use Rattle.frame_ports.specs.Lands.{list_of, with_list, lands, put_count}
-use Rattle.frame_ports.specs.declared.limits.TheConstants.{BOX_FRAMES}
-use Rattle.output_gate.specs.Epochs.{Epoch, frames_to, after_number, frames_of}
-use Rattle.pair_core.specs.Entries.{Frame, Entry, Ran, Land, DropOut, Took}
-use Rattle.pair_core.specs.HistoryState.{HistoryState, at, after, Legal, Allows, IsClient}
-use Rattle.pair_core.specs.Protocol.{Record, joined, kept_entries, all_entries, guest_along, sent_along, outbox_of, landings, first_kept, later_kept, number_end, most_pending}
-use Rattle.pair_core.specs.Pair.{Pair, shown_state, live_state, DropsAtFull, IsConsistent, IsKept, epoch_guests, epoch_frames, NumberedFrom, OnlySteps, AllBelow, BoxesFit}
-use Rattle.pair_core.proofs.States.{append-nil, at-append, Legal-append, DropsAtFull-append, targets_of-append, guest_along-append, sent_along-append, OnlySteps-append, OnlySteps-front, OnlySteps-back, at-steps, stepped, Legal-steps, DropsAtFull-steps}
-use Rattle.pair_core.proofs.LandingLaws.{length-set', length-lands, BoxesFit-set, BoxesFit-at, BoxesFit-lands, AllClients-targets, landings-land, AllLand}
-use Rattle.pair_core.proofs.Epochs.{length-append', length-map', joined-push, epoch_guests-push, epoch_frames-push, map-append', frames_of-append, NumberedFrom-push, AllBelow-append, AllBelow-more, AllBelow-numbered, taken, Taken}
+use Rattle.frame_ports.specs.Lands.{list_of}
+use Rattle.output_gate.specs.Epochs.{Epoch, frames_of}
+use Rattle.pair_core.specs.Entries.{Frame, Entry}
+use Rattle.pair_core.specs.HistoryState.{HistoryState, Waiting, inbox_of, at, Legal}
+use Rattle.pair_core.specs.Protocol.{joined, kept_entries, all_entries, sent_along, outbox_of}
+use Rattle.pair_core.specs.Pair.{Pair, shown_state, live_state, IsConsistent}
+use Rattle.pair_core.specs.Kept.{Move, entries_of, guest_along, frames_along, left, AllCan, all_moves, epoch_frames, AreInboxes, IsKept}
+use Rattle.pair_core.proofs.States.{at-append, targets_of-append}
+use Rattle.pair_core.proofs.Moves.{moved, at-moves, Legal-moves, sent_along-moves, guest_along-append, frames_along-append, AllCan-front, AllCan-back}
+use Rattle.pair_core.proofs.Epochs.{frames_of-append, joined-entries, entries_of-append}
 
 -- what the kept entries do to the shown state
 module _ (w : Pair) (h : IsKept w) where
-  pub live_is_stepped : live_state w ≡ stepped (shown_state w) (kept_entries w.protocol)
-  live_is_stepped = at-append w.start w.protocol.history (kept_entries w.protocol) ∙ at-steps (shown_state w) (kept_entries w.protocol) h.steps
+  abbrev pub moves : List Move
+  moves = all_moves h.sealed_moves ++ h.running_moves
+
+  pub sealed_entries : joined w.protocol.kept ≡ entries_of (all_moves h.sealed_moves)
+  sealed_entries = ap joined h.kept_are ∙ joined-entries h.sealed_moves
+
+  pub kept_is : kept_entries w.protocol ≡ entries_of moves
+  kept_is =
+      ap (λ t. t ++ w.protocol.running) sealed_entries
+      ∙ ap (λ t. entries_of (all_moves h.sealed_moves) ++ t) h.running_are
+      ∙ sym (entries_of-append (all_moves h.sealed_moves) h.running_moves)
+
+  pub live_is_moved : live_state w ≡ moved (shown_state w) moves
+  live_is_moved = at-append w.start w.protocol.history (kept_entries w.protocol) ∙ ap (at (shown_state w)) kept_is ∙ at-moves (shown_state w) moves h.can
 
   pub live_is : (live_state w).guest ≡ w.live
-  live_is = ap (λ s. s.guest) live_is_stepped ∙ ap (λ g. guest_along g (kept_entries w.protocol)) (sym h.image) ∙ sym h.live
+  live_is = ap (λ s. s.guest) live_is_moved ∙ ap (λ g. guest_along g moves) (sym h.image) ∙ sym h.live
 
-  pub sealed_is : (at w.start (w.protocol.history ++ joined w.protocol.kept)).guest ≡ guest_along w.image (joined w.protocol.kept)
-  sealed_is =
-      ap (λ s. s.guest) (at-append w.start w.protocol.history (joined w.protocol.kept) ∙ at-steps (shown_state w) (joined w.protocol.kept) (OnlySteps-front (joined w.protocol.kept) w.protocol.running h.steps))
-      ∙ ap (λ g. guest_along g (joined w.protocol.kept)) (sym h.image)
+  pub live_waiting : (live_state w).waiting ≡ left (shown_state w).waiting moves
+  live_waiting = ap (λ s. s.waiting) live_is_moved
+
+  sealed_state : at w.start (w.protocol.history ++ joined w.protocol.kept) ≡ moved (shown_state w) (all_moves h.sealed_moves)
+  sealed_state =
+      at-append w.start w.protocol.history (joined w.protocol.kept)
+      ∙ ap (at (shown_state w)) sealed_entries
+      ∙ at-moves (shown_state w) (all_moves h.sealed_moves) (AllCan-front (shown_state w).waiting (all_moves h.sealed_moves) h.running_moves h.can)
 
   pub outbox_is : outbox_of w.start w.protocol ≡ w.outbox
-  outbox_is = ap (λ g. sent_along g w.protocol.running) sealed_is ∙ sym h.outbox
+  outbox_is =
+      ap (λ s. sent_along s w.protocol.running) sealed_state
+      ∙ ap (sent_along (moved (shown_state w) (all_moves h.sealed_moves))) h.running_are
+      ∙ sent_along-moves (moved (shown_state w) (all_moves h.sealed_moves)) h.running_moves (AllCan-back (shown_state w).waiting (all_moves h.sealed_moves) h.running_moves h.can)
+      ∙ ap (λ g. frames_along (guest_along g (all_moves h.sealed_moves)) h.running_moves) (sym h.image)
+      ∙ sym h.outbox
 
   -- the frames sent along all that is kept
-  kept_frames : sent_along (shown_state w).guest (kept_entries w.protocol) ≡ frames_of h.uncommitted ++ w.outbox
+  kept_frames : frames_along (shown_state w).guest moves ≡ frames_of h.uncommitted ++ w.outbox
   kept_frames =
-      ap (λ g. sent_along g (kept_entries w.protocol)) (sym h.image)
-      ∙ sent_along-append w.image (joined w.protocol.kept) w.protocol.running
-      ∙ ap (λ t. t ++ sent_along (guest_along w.image (joined w.protocol.kept)) w.protocol.running) (sym (of_epochs w.image w.protocol.kept h.uncommitted h.frames))
+      ap (λ g. frames_along g moves) (sym h.image)
+      ∙ frames_along-append w.image (all_moves h.sealed_moves) h.running_moves
+      ∙ ap (λ t. t ++ frames_along (guest_along w.image (all_moves h.sealed_moves)) h.running_moves) (sym (of_epochs w.image h.sealed_moves h.uncommitted h.frames))
       ∙ ap (λ t. frames_of h.uncommitted ++ t) (sym h.outbox)
     where
-      of_epochs : (g : Guest) (ess : List (List Entry)) (es : List Epoch) → map (λ e. e.frames) es ≡ epoch_frames g ess → frames_of es ≡ sent_along g (joined ess)
+      of_epochs : (g : Guest) (mss : List (List Move)) (es : List Epoch) → map (λ e. e.frames) es ≡ epoch_frames g mss → frames_of es ≡ frames_along g (all_moves mss)
       of_epochs g [] [] e = refl
       of_epochs g [] (x ∷ es) e = cc
-      of_epochs g (k ∷ ess) [] e = cc
-      of_epochs g (k ∷ ess) (x ∷ es) e =
-          let head : x.frames ≡ sent_along g k = cc in
-          let tail : map (λ e. e.frames) es ≡ epoch_frames (guest_along g k) ess = cc in
-          ap (λ t. t ++ frames_of es) head ∙ ap (λ t. sent_along g k ++ t) (of_epochs (guest_along g k) ess es tail) ∙ sym (sent_along-append g k (joined ess))
+      of_epochs g (k ∷ mss) [] e = cc
+      of_epochs g (k ∷ mss) (x ∷ es) e =
+          let head : x.frames ≡ frames_along g k = cc in
+          let tail : map (λ e. e.frames) es ≡ epoch_frames (guest_along g k) mss = cc in
+          ap (λ t. t ++ frames_of es) head ∙ ap (λ t. frames_along g k ++ t) (of_epochs (guest_along g k) mss es tail) ∙ sym (frames_along-append g k (all_moves mss))
 
   pub owed_is : targets_of (length w.boxes) (frames_of w.held ++ w.outbox) ≡ (live_state w).out
   owed_is =
@@ -59,16 +78,20 @@ module _ (w : Pair) (h : IsKept w) where
       ∙ targets_of-append n (frames_of h.waiting) (frames_of h.uncommitted ++ w.outbox)
       ∙ ap (λ t. t ++ targets_of n (frames_of h.uncommitted ++ w.outbox)) (sym h.owed)
       ∙ ap (λ t. (shown_state w).out ++ targets_of n t) (sym kept_frames)
-      ∙ ap (λ (b : List (List Frame)). (shown_state w).out ++ targets_of (length b) (sent_along (shown_state w).guest (kept_entries w.protocol))) h.boxes
-      ∙ sym (ap (λ s. s.out) live_is_stepped)
+      ∙ ap (λ (b : List (List Frame)). (shown_state w).out ++ targets_of (length b) (frames_along (shown_state w).guest moves)) h.boxes
+      ∙ sym (ap (λ s. s.out) live_is_moved)
 
   pub consistent : IsConsistent w
   consistent = record {
     legal = h.legal;
     drops = h.drops;
+    goes_on = subst (Legal (shown_state w)) (sym kept_is) (Legal-moves (shown_state w) moves h.can);
     live = sym live_is;
     image = h.image;
     outbox = sym outbox_is;
+    number = h.number;
+    clients = h.clients;
+    inboxes = subst (AreInboxes (length w.boxes) w.inboxes) (sym live_waiting) h.inboxes;
     boxes = h.boxes;
     owed = owed_is;
     held = h.held;

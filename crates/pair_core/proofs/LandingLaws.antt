@@ -12,7 +12,8 @@ use Rattle.frame_ports.specs.declared.limits.TheConstants.{BOX_FRAMES}
 use Rattle.pair_core.specs.Entries.{Frame, Entry, Ran, Land, DropOut, Took}
 use Rattle.pair_core.specs.HistoryState.{HistoryState, at, after, Legal, Allows, IsClient, out_of, out_without}
 use Rattle.pair_core.specs.Protocol.{landings}
-use Rattle.pair_core.specs.Pair.{DropsAtFull, BoxesFit}
+use Rattle.pair_core.specs.Pair.{DropsAtFull}
+use Rattle.pair_core.specs.Kept.{BoxesFit}
 
 -- boxes keep their number and their limit
 
@@ -99,7 +100,7 @@ module _ (s : HistoryState) (c : ℕ) (f : Frame) (qs : List (ℕ × Frame)) (fi
   the_entry t = cond t (Land c) (DropOut c BOX_FRAMES)
 
   abbrev the_state : HistoryState
-  the_state = record { guest = s.guest; out = qs; boxes = landed_at s.boxes c f }
+  the_state = record s { out = qs; boxes = landed_at s.boxes c f }
 
   abbrev Lands : Entry → Type 0
   Lands e = Allows s e × (after s e ≡ the_state) × ((es : List Entry) → DropsAtFull (after s e) es → DropsAtFull s (e ∷ es))
@@ -113,7 +114,7 @@ module _ (s : HistoryState) (c : ℕ) (f : Frame) (qs : List (ℕ × Frame)) (fi
   with_room : has_room s.boxes c ≡ true → Lands (Land c)
   with_room e = (
     ((low, high), subst (λ (fs : List Frame). 0 < length fs) (sym front) (omega arith), ltb-true (length the_box) BOX_FRAMES e),
-    (λ i. record { guest = s.guest; out = rest i; boxes = (ap (λ (fs : List Frame). with_list s.boxes c (the_box ++ take 1 fs)) front ∙ sym (ap (λ t. cond t (with_list s.boxes c (the_box ++ f ∷ [])) s.boxes) e)) i }),
+    (λ i. record s { out = rest i; boxes = (ap (λ (fs : List Frame). with_list s.boxes c (the_box ++ take 1 fs)) front ∙ sym (ap (λ t. cond t (with_list s.boxes c (the_box ++ f ∷ [])) s.boxes) e)) i }),
     (λ es d. d),
   )
 
@@ -127,8 +128,7 @@ module _ (s : HistoryState) (c : ℕ) (f : Frame) (qs : List (ℕ × Frame)) (fi
       let here : BOX_FRAMES - length the_box ≡ 0 = omega arith in
       let some : length (out_of c s.out) ≡ suc (length (out_of c qs)) = ap length front in (
         ((low, high), omega arith),
-        (λ i. record {
-          guest = s.guest;
+        (λ i. record s {
           out = (ap (λ t. cond t s.out (out_without c (BOX_FRAMES - length the_box) s.out)) test ∙ ap (λ k. out_without c k s.out) here ∙ rest) i;
           boxes = (ap (λ t. cond t (with_list s.boxes c (remove the_box BOX_FRAMES)) s.boxes) test ∙ sym (ap (λ t. cond t (with_list s.boxes c (the_box ++ f ∷ [])) s.boxes) e)) i;
         }),
@@ -144,14 +144,14 @@ module _ (s : HistoryState) (c : ℕ) (f : Frame) (qs : List (ℕ × Frame)) (fi
 
 -- all of them do
 abbrev pub AllLand : HistoryState → List (ℕ × Frame) → List (ℕ × Frame) → List Entry → Type 0
-AllLand s ps qs es = Legal s es × (at s es ≡ record { guest = s.guest; out = qs; boxes = lands s.boxes ps }) × DropsAtFull s es
+AllLand s ps qs es = Legal s es × (at s es ≡ record s { out = qs; boxes = lands s.boxes ps }) × DropsAtFull s es
 
 pub landings-land : (s : HistoryState) (ps qs : List (ℕ × Frame)) → s.out ≡ ps ++ qs → AllClients (length s.boxes) ps → BoxesFit s.boxes → AllLand s ps qs (landings s.boxes ps)
-landings-land s [] qs e a fit = (tt, (λ i. record { guest = s.guest; out = e i; boxes = s.boxes }), tt)
+landings-land s [] qs e a fit = (tt, (λ i. record s { out = e i }), tt)
 landings-land s (p ∷ ps) qs e a fit =
     let one = one_lands s p.0 p.1 (ps ++ qs) e a.0 a.1 fit in
     let entry = cond (has_room s.boxes p.0) (Land p.0) (DropOut p.0 BOX_FRAMES) in
-    let t : HistoryState = record { guest = s.guest; out = ps ++ qs; boxes = landed_at s.boxes p.0 p.1 } in
+    let t : HistoryState = record s { out = ps ++ qs; boxes = landed_at s.boxes p.0 p.1 } in
     let more : AllLand t ps qs (landings t.boxes ps) =
     landings-land t ps qs refl (subst (λ n. AllClients n ps) (sym (length-landed_at s.boxes p.0 p.1)) a.2) (BoxesFit-landed_at s.boxes p.0 p.1 fit) in
     let es = landings t.boxes ps in

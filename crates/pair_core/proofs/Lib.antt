@@ -1,4 +1,6 @@
 pub mod States
+pub mod Waiting
+pub mod Moves
 pub mod LandingLaws
 pub mod Epochs
 pub mod Kept
@@ -12,3 +14,4 @@ pub mod LogLaws
 pub mod LengthLaws
 pub mod Receivers
 pub mod LineLaws
+pub mod Clients

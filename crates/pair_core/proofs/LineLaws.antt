@@ -4,7 +4,7 @@ use Rattle.std.specs.Prelude.{map}
 use Rattle.output_gate.specs.Epochs.{Epoch}
 use Rattle.pair_core.specs.declared.event.Packet.{Packet}
 use Rattle.pair_core.specs.Protocol.{packet, packet_of}
-use Rattle.pair_core.specs.Pair.{NumberedFrom}
+use Rattle.pair_core.specs.Kept.{NumberedFrom}
 use Rattle.pair_core.specs.Lines.{packets_from}
 
 -- the next packet, and those behind it

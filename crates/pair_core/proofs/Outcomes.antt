@@ -1,25 +1,28 @@
 -- What the protocol answers, by the tests that the code makes.
 use Rattle.std.proofs.Common.{◌≡◌, ◌≢◌, ℕ, zero, suc, ◌+◌, ◌-◌, ◌^◌, ◌<◌, ◌≤◌, List, [], ◌∷◌, ◌++◌, length, refl, sym, ap, ◌∙◌, subst, arith, Bool, true, false, cond, Option, None, Some}
-use Rattle.std.specs.Prelude.{map, nat_lt, nat_le, slice_get, ◌==◌, ◌&&◌, not}
+use Rattle.std.specs.Prelude.{map, nat_lt, nat_le, slice_get, ◌==◌, ◌&&◌, ◌||◌, not}
 use Rattle.std.proofs.lemmas.Bool.Decides.{nat_tests}
 use Rattle.std.proofs.lemmas.Bool.{eq-eqb}
 use Rattle.guest_machine.specs.Guest.{Guest}
 use Rattle.guest_machine.specs.Step.{next}
 use Rattle.frame_ports.specs.Addresses.{targets_of}
 use Rattle.frame_ports.specs.Lands.{list_of, put_count}
+use Rattle.frame_ports.specs.declared.limits.TheConstants.{INBOX_FRAMES}
 use Rattle.output_gate.specs.Epochs.{frames_to, after_number}
 use Rattle.pair_core.specs.declared.event.Event.{Event}
 use Rattle.pair_core.specs.declared.event.Packet.{Packet}
 use Rattle.pair_core.specs.declared.event.Refusal.{Refusal}
-use Rattle.pair_core.specs.declared.event.Refusal.TheVariants.{NoClient, Behind, Stale, Gap, CutNeeded, Exhausted}
+use Rattle.pair_core.specs.declared.event.Refusal.TheVariants.{Full, BadFrame, NoClient, Behind, Stale, Gap, CutNeeded, Exhausted}
 use Rattle.pair_core.specs.declared.event.Reply.{Reply}
 use Rattle.pair_core.specs.declared.event.Reply.TheVariants as replies
 use Rattle.pair_core.specs.Entries.{Entry, Frame, Took}
-use Rattle.pair_core.specs.HistoryState.{HistoryState, at}
-use Rattle.pair_core.specs.Protocol.{Record, Outcome, packet, first_kept, later_kept, landings, refused, step_outcome, cut_outcome, send_outcome, backup_outcome, again_outcome, commit_outcome, ack_outcome, take_outcome, all_entries, outbox_of, exhausts, number_end, step_room, most_pending}
-use Rattle.pair_core.specs.Pair.{Pair, IsKept, shown_state, live_state}
-use Rattle.pair_core.proofs.Kept.{live_is, outbox_is}
-use Rattle.pair_core.proofs.Events.{step_done, cut_done, cut_epoch, send_done, again_done, commit_done, ack_done, take_done, leaving}
+use Rattle.pair_core.specs.Entries as entries
+use Rattle.pair_core.specs.HistoryState.{HistoryState, Waiting, inbox_of, at}
+use Rattle.pair_core.specs.Protocol.{Record, Outcome, packet, first_kept, later_kept, landings, refused, step_outcome, cut_outcome, send_outcome, backup_outcome, again_outcome, commit_outcome, ack_outcome, admit_outcome, admit_first, admitted_outcome, deliver_outcome, delivered_outcome, full_outcome, take_outcome, is_among, is_bad_length, inbox_now, all_entries, outbox_of, exhausts, number_end, step_room, most_pending}
+use Rattle.pair_core.specs.Pair.{Pair, shown_state, live_state}
+use Rattle.pair_core.specs.Kept.{IsKept}
+use Rattle.pair_core.proofs.Kept.{live_is, live_waiting, outbox_is}
+use Rattle.pair_core.proofs.Events.{step_done, cut_done, cut_epoch, send_done, again_done, commit_done, ack_done, admit_done, deliver_done, full_done, take_done, leaving}
 
 le_yes : (a b : ℕ) → a ≤ b → nat_le a b ≡ true
 le_yes a b h = grind (arith, nat_tests)
@@ -127,19 +130,86 @@ module _ (w : Pair) (h : IsKept w) where
         )) h.boxes
         ∙ sym (other _ _ _ (agree p.generation w.protocol.generation e) ∙ other _ _ _ (le_no number_end (length (all_entries w.protocol) + length (targets_of (length (shown_state w).boxes) (frames_to p.number w.protocol.pending))) (omega arith)))
 
-  is_client : (c n : ℕ) → 1 ≤ c → c ≤ n → not (nat_le 1 c && nat_le c n) ≡ false
-  is_client c n l m = ap (λ (t : Bool). not (t && nat_le c n)) (le_yes 1 c l) ∙ ap not (le_yes c n m)
+  client_yes : (c n : ℕ) → 1 ≤ c → c ≤ n → not (is_among c n) ≡ false
+  client_yes c n l m = ap (λ (t : Bool). not (t && nat_le c n)) (le_yes 1 c l) ∙ ap not (le_yes c n m)
 
-  pub take_none : (c : ℕ) → (nat_le 1 c && nat_le c (length w.boxes)) ≡ false → refused w.protocol NoClient ≡ take_outcome w.start w.protocol c
-  take_none c e = sym (chosen _ _ _ (ap (λ (b : List (List Frame)). not (nat_le 1 c && nat_le c (length b))) (sym h.boxes) ∙ ap not e))
+  -- the tests of a client's number, by the boxes
+  pub not_client : (c : ℕ) → is_among c (length w.boxes) ≡ false → not (is_among c (length (shown_state w).boxes)) ≡ true
+  not_client c e = ap (λ (b : List (List Frame)). not (is_among c (length b))) (sym h.boxes) ∙ ap not e
 
-  pub take_exhausted : (c : ℕ) → 1 ≤ c → c ≤ length w.boxes → number_end ≤ length (all_entries w.protocol) + 1 → refused w.protocol Exhausted ≡ take_outcome w.start w.protocol c
-  take_exhausted c l m k =
-      sym (other _ _ _ (ap (λ (b : List (List Frame)). not (nat_le 1 c && nat_le c (length b))) (sym h.boxes) ∙ is_client c (length w.boxes) l m)
-      ∙ chosen _ _ _ (le_yes number_end (length (all_entries w.protocol) + 1) k))
+  pub one_client : (c : ℕ) → 1 ≤ c → c ≤ length w.boxes → not (is_among c (length (shown_state w).boxes)) ≡ false
+  one_client c l m = ap (λ (b : List (List Frame)). not (is_among c (length b))) (sym h.boxes) ∙ client_yes c (length w.boxes) l m
 
-  pub take_goes : (c : ℕ) → 1 ≤ c → c ≤ length w.boxes → length (all_entries w.protocol) + 1 < number_end → (replies.Took (slice_get (list_of w.boxes c) 0), (take_done w c).protocol) ≡ take_outcome w.start w.protocol c
-  take_goes c l m k =
-      ap (λ (b : List (List Frame)). (replies.Took (slice_get (list_of b c) 0), record w.protocol { history = w.protocol.history ++ Took c (slice_get (list_of b c) 0) ∷ [] })) h.boxes
-      ∙ sym (other _ _ _ (ap (λ (b : List (List Frame)). not (nat_le 1 c && nat_le c (length b))) (sym h.boxes) ∙ is_client c (length w.boxes) l m)
-      ∙ other _ _ _ (le_no number_end (length (all_entries w.protocol) + 1) k))
+  module _ (c : ℕ) where
+    pub take_none : is_among c (length w.boxes) ≡ false → refused w.protocol NoClient ≡ take_outcome w.start w.protocol c
+    take_none e = sym (chosen _ _ _ (not_client c e))
+
+    pub admit_none : is_among c (length w.boxes) ≡ false → refused w.protocol NoClient ≡ admit_outcome w.start w.protocol c
+    admit_none e = sym (chosen _ _ _ (not_client c e))
+
+    pub deliver_none : (bytes : List ℕ) → is_among c (length w.boxes) ≡ false → refused w.protocol NoClient ≡ deliver_outcome w.start w.protocol c bytes
+    deliver_none bytes e = sym (chosen _ _ _ (not_client c e))
+
+    module _ (low : 1 ≤ c) (high : c ≤ length w.boxes) where
+      pub take_exhausted : number_end ≤ length (all_entries w.protocol) + 1 → refused w.protocol Exhausted ≡ take_outcome w.start w.protocol c
+      take_exhausted k = sym (other _ _ _ (one_client c low high) ∙ chosen _ _ _ (le_yes number_end (length (all_entries w.protocol) + 1) k))
+
+      pub take_goes : length (all_entries w.protocol) + 1 < number_end → (replies.Took (slice_get (list_of w.boxes c) 0), (take_done w c).protocol) ≡ take_outcome w.start w.protocol c
+      take_goes k =
+          ap (λ (b : List (List Frame)). (replies.Took (slice_get (list_of b c) 0), record w.protocol { history = w.protocol.history ++ Took c (slice_get (list_of b c) 0) ∷ [] })) h.boxes
+          ∙ sym (other _ _ _ (one_client c low high) ∙ other _ _ _ (le_no number_end (length (all_entries w.protocol) + 1) k))
+
+      inbox_is : inbox_now w.start w.protocol c ≡ list_of w.inboxes c
+      inbox_is = ap (inbox_of c) (live_waiting w h) ∙ sym (h.inboxes c low high)
+
+      -- Admit
+
+      first_is : (first : Option (ℕ × Frame)) → slice_get (list_of w.inboxes c) 0 ≡ first → admit_first w.protocol first ≡ admit_outcome w.start w.protocol c
+      first_is first e = sym (other _ _ _ (one_client c low high) ∙ ap (λ xs. admit_first w.protocol (slice_get xs 0)) inbox_is ∙ ap (admit_first w.protocol) e)
+
+      pub admit_empty : slice_get (list_of w.inboxes c) 0 ≡ None → (replies.Empty, w.protocol) ≡ admit_outcome w.start w.protocol c
+      admit_empty e = first_is None e
+
+      module _ (n : ℕ) (f : Frame) (first : slice_get (list_of w.inboxes c) 0 ≡ Some (n, f)) where
+        pub admit_exhausted : number_end ≤ length (all_entries w.protocol) + 1 → refused w.protocol Exhausted ≡ admit_outcome w.start w.protocol c
+        admit_exhausted k = sym (chosen _ _ _ (le_yes number_end (length (all_entries w.protocol) + 1) k)) ∙ first_is (Some (n, f)) first
+
+        pub admit_goes : length (all_entries w.protocol) + 1 < number_end → (replies.Admitted n, (admit_done w c n f).protocol) ≡ admit_outcome w.start w.protocol c
+        admit_goes k = sym (other _ _ _ (le_no number_end (length (all_entries w.protocol) + 1) k)) ∙ first_is (Some (n, f)) first
+
+      -- Deliver
+
+      module _ (bytes : List ℕ) where
+        pub deliver_bad : is_bad_length (length bytes) ≡ true → refused w.protocol BadFrame ≡ deliver_outcome w.start w.protocol c bytes
+        deliver_bad e = sym (other _ _ _ (one_client c low high) ∙ chosen _ _ _ e)
+
+        module _ (good : is_bad_length (length bytes) ≡ false) where
+          pub deliver_exhausted : number_end ≤ length (all_entries w.protocol) + 1 → refused w.protocol Exhausted ≡ deliver_outcome w.start w.protocol c bytes
+          deliver_exhausted k = sym (other _ _ _ (one_client c low high) ∙ other _ _ _ good ∙ chosen _ _ _ (le_yes number_end (length (all_entries w.protocol) + 1) k))
+
+          module _ (room : length (all_entries w.protocol) + 1 < number_end) where
+            no_end : nat_le number_end (length (all_entries w.protocol) + 1) ≡ false
+            no_end = le_no number_end (length (all_entries w.protocol) + 1) room
+
+            long_is : length (inbox_now w.start w.protocol c) ≡ length (list_of w.inboxes c)
+            long_is = ap length inbox_is
+
+            pub deliver_full : INBOX_FRAMES ≤ length (list_of w.inboxes c) → (replies.Refused Full, (full_done w c (record { items = bytes })).protocol) ≡ deliver_outcome w.start w.protocol c bytes
+            deliver_full l =
+                let e = long_is in
+                sym (other _ _ _ (one_client c low high) ∙ other _ _ _ good ∙ other _ _ _ no_end ∙ chosen _ _ _ (le_yes INBOX_FRAMES (length (inbox_now w.start w.protocol c)) (omega arith)))
+
+            pub deliver_numbered : length (list_of w.inboxes c) < INBOX_FRAMES → number_end ≤ w.number → refused w.protocol Exhausted ≡ deliver_outcome w.start w.protocol c bytes
+            deliver_numbered l k =
+                let e = long_is in
+                let n = h.number in
+                sym (other _ _ _ (one_client c low high) ∙ other _ _ _ good ∙ other _ _ _ no_end ∙ other _ _ _ (le_no INBOX_FRAMES (length (inbox_now w.start w.protocol c)) (omega arith))
+                ∙ chosen _ _ _ (le_yes number_end (shown_state w).number (omega arith)))
+
+            pub deliver_goes : length (list_of w.inboxes c) < INBOX_FRAMES → w.number < number_end → (replies.Delivered w.number, (deliver_done w c (record { items = bytes })).protocol) ≡ deliver_outcome w.start w.protocol c bytes
+            deliver_goes l k =
+                let e = long_is in
+                let n = h.number in
+                ap (λ (m : ℕ). (replies.Delivered m, record w.protocol { history = w.protocol.history ++ entries.Delivered c (record { items = bytes }) m ∷ [] })) h.number
+                ∙ sym (other _ _ _ (one_client c low high) ∙ other _ _ _ good ∙ other _ _ _ no_end ∙ other _ _ _ (le_no INBOX_FRAMES (length (inbox_now w.start w.protocol c)) (omega arith))
+                ∙ other _ _ _ (le_no number_end (shown_state w).number (omega arith)))

@@ -5,18 +5,20 @@ use Rattle.guest_machine.specs.Guest.{Guest, State}
 use Rattle.frame_ports.specs.Addresses.{targets_of}
 use Rattle.frame_ports.specs.Lands.{list_of}
 use Rattle.frame_ports.specs.Ports.{PortsState, empty_ports}
+use Rattle.frame_ports.specs.declared.limits.TheConstants.{INBOX_FRAMES}
 use Rattle.output_gate.specs.Epochs.{Epoch, frames_to}
 use Rattle.pair_core.specs.declared.event.Event.{Event}
-use Rattle.pair_core.specs.declared.event.Event.TheVariants.{Step, Cut, Send, BackupGet, AckGet, Take}
+use Rattle.pair_core.specs.declared.event.Event.TheVariants.{Step, Cut, Send, BackupGet, AckGet, Admit, Deliver, Take}
 use Rattle.pair_core.specs.declared.event.Packet.{Packet}
 use Rattle.pair_core.specs.declared.event.Refusal.{Refusal}
-use Rattle.pair_core.specs.declared.event.Refusal.TheVariants.{NoClient, Behind, Stale, Gap, NoMemory, CutNeeded, Exhausted}
+use Rattle.pair_core.specs.declared.event.Refusal.TheVariants.{Full, BadFrame, NoClient, Behind, Stale, Gap, NoMemory, CutNeeded, Exhausted}
 use Rattle.pair_core.specs.declared.event.Reply.{Reply}
 use Rattle.pair_core.specs.declared.event.Reply.TheVariants as replies
-use Rattle.pair_core.specs.Entries.{Frame, Entry, Took, Begins}
+use Rattle.pair_core.specs.Entries.{Frame, Entry, Delivered, Took, Begins}
+use Rattle.pair_core.specs.Entries as entries
 use Rattle.pair_core.specs.HistoryState.{HistoryState, at}
-use Rattle.pair_core.specs.Protocol.{Record, Outcome, Answers, OnRefused, outcome, step_outcome, cut_outcome, send_outcome, backup_outcome, again_outcome, commit_outcome, ack_outcome, take_outcome, stepped_outcome, sealed_outcome, acked, taken_outcome, refused, first_kept, landings, exhausts, outbox_of, step_room, most_pending, number_end}
-use Rattle.pair_core.specs.Pair.{Pair, IsKept, BoxesFit}
+use Rattle.pair_core.specs.Protocol.{Record, Outcome, Answers, outcome, step_outcome, cut_outcome, send_outcome, backup_outcome, again_outcome, commit_outcome, ack_outcome, admit_outcome, admit_first, admitted_outcome, deliver_outcome, delivered_outcome, full_outcome, take_outcome, is_among, is_bad_length, inbox_now, client_count, stepped_outcome, sealed_outcome, acked, taken_outcome, refused, first_kept, landings, exhausts, outbox_of, step_room, most_pending, number_end}
+use Rattle.pair_core.specs.Pair.{Pair, OnRefused}
 use Rattle.pair_core.specs.Runs.{Run}
 use Rattle.pair_core.specs.Start.{start_state, start_record}
 
@@ -54,6 +56,24 @@ ack_begins start r (Some p) =
     unless r (not (p.generation == r.generation)) Stale (cond (exhausts r (length leaving)) (refused r Exhausted) done)
     (unless r (exhausts r (length leaving)) Exhausted done (landings boxes leaving, refl))
 
+admit_begins : (r : Record) (first : Option (ℕ × Frame)) → Begins r.history (admit_first r first).1.history
+admit_begins r None = same_history r
+admit_begins r (Some first) = unless r (exhausts r 1) Exhausted (admitted_outcome r first.0) (same_history r)
+
+deliver_begins : (start : HistoryState) (r : Record) (c : ℕ) (bytes : List ℕ) → Begins r.history (deliver_outcome start r c bytes).1.history
+deliver_begins start r c bytes =
+    let f : Frame = record { items = bytes } in
+    let number = (at start r.history).number in
+    let done = delivered_outcome start r c f in
+    let numbered = cond (nat_le number_end number) (refused r Exhausted) done in
+    let fitting = cond (nat_le INBOX_FRAMES (length (inbox_now start r c))) (full_outcome r c f) numbered in
+    let recorded = cond (exhausts r 1) (refused r Exhausted) fitting in
+    unless r (not (is_among c (client_count start r))) NoClient (cond (is_bad_length (length bytes)) (refused r BadFrame) recorded)
+    (unless r (is_bad_length (length bytes)) BadFrame recorded
+    (unless r (exhausts r 1) Exhausted fitting
+    (chosen_begins r.history (nat_le INBOX_FRAMES (length (inbox_now start r c))) (full_outcome r c f) numbered (entries.Refused c f ∷ [], refl)
+    (unless r (nat_le number_end number) Exhausted done (Delivered c f number ∷ [], refl)))))
+
 pub outcome_begins : (start : HistoryState) (r : Record) (event : Event) → Begins r.history (outcome start r event).1.history
 outcome_begins start r Step =
     unless r (nat_lt step_room (length (outbox_of start r))) CutNeeded (cond (exhausts r 1) (refused r Exhausted) (stepped_outcome start r))
@@ -64,9 +84,12 @@ outcome_begins start r Cut =
 outcome_begins start r Send = same_history r
 outcome_begins start r (BackupGet k) = backup_begins r (slice_get r.packets k)
 outcome_begins start r (AckGet k) = ack_begins start r (slice_get r.answers k)
+outcome_begins start r (Admit c) =
+    unless r (not (is_among c (client_count start r))) NoClient (admit_first r (slice_get (inbox_now start r c) 0)) (admit_begins r (slice_get (inbox_now start r c) 0))
+outcome_begins start r (Deliver c bytes) = deliver_begins start r c bytes.now
 outcome_begins start r (Take c) =
     let boxes = (at start r.history).boxes in
-    unless r (not (nat_le 1 c && nat_le c (length boxes))) NoClient (cond (exhausts r 1) (refused r Exhausted) (taken_outcome start r c))
+    unless r (not (is_among c (client_count start r))) NoClient (cond (exhausts r 1) (refused r Exhausted) (taken_outcome start r c))
     (unless r (exhausts r 1) Exhausted (taken_outcome start r c) (Took c (slice_get (list_of boxes c) 0) ∷ [], refl))
 
 pub answers_begin : (start : HistoryState) (old : Record) (event : Event) (reply : Reply) (new : Record) → Answers start old event reply new → Begins old.history new.history
@@ -102,14 +125,14 @@ module _ (old new : Pair) (event : Event) (o : Result Reply Refusal) (reply : Re
       by_result (Ok r) d f k e = inl (ap (λ (x : Reply). (x, new.protocol)) k ∙ d)
       by_result (Err x) d f k e = inr (e ∙ ap (λ (y : Refusal). replies.Refused y) f.0, ap (λ (w : Pair). w.protocol) f.1)
 
-  pub refused_by_outcome : IfOk o (λ r. OnRefused r (new ≡ old)) → OnRefused reply (new ≡ old)
+  pub refused_by_outcome : IfOk o (λ r. OnRefused r old new) → OnRefused reply old new
   refused_by_outcome refused = by_result o failed ok err refused
     where
       by_result : (o : Result Reply Refusal)
           → IfErr o (λ e. (e ≡ NoMemory) × (new ≡ old))
           → IfOk o (λ r. reply ≡ r)
           → IfErr o (λ e. reply ≡ replies.Refused e)
-          → IfOk o (λ r. OnRefused r (new ≡ old))
-          → OnRefused reply (new ≡ old)
-      by_result (Ok r) f k e refused = subst (λ (x : Reply). OnRefused x (new ≡ old)) (sym k) refused
-      by_result (Err x) f k e refused = subst (λ (y : Reply). OnRefused y (new ≡ old)) (sym e) f.1
+          → IfOk o (λ r. OnRefused r old new)
+          → OnRefused reply old new
+      by_result (Ok r) f k e refused = subst (λ (x : Reply). OnRefused x old new) (sym k) refused
+      by_result (Err x) f k e refused = subst (λ (y : Reply). OnRefused y old new) (sym (e ∙ ap (λ (y : Refusal). replies.Refused y) f.0)) f.1

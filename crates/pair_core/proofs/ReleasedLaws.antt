@@ -7,7 +7,7 @@ use Rattle.std.proofs.lemmas.List.{get_or-set_same, get_or-set_other}
 use Rattle.guest_machine.specs.Step.{sent}
 use Rattle.frame_ports.specs.Addresses.{targets_of}
 use Rattle.frame_ports.specs.Lands.{list_of, with_list}
-use Rattle.pair_core.specs.Entries.{Frame, Entry, Ran, Land, DropOut, Took}
+use Rattle.pair_core.specs.Entries.{Frame, Entry, Ran, Arrive, Delivered, Refused, Land, DropOut, Took}
 use Rattle.pair_core.specs.HistoryState.{HistoryState, at, after, Legal, out_of, out_without}
 use Rattle.pair_core.specs.Released.{IsAmong, released, WasSent, IsFresh}
 
@@ -76,6 +76,9 @@ released_was_sent s (Ran ∷ es) c f h =
     ⊎_elim (λ (j : IsAmong (c, f) s.out). inl j) (λ (j : IsAmong (c, f) (targets_of (length s.boxes) (sent s.guest))). inr (inl j)) (among-append (c, f) s.out (targets_of (length s.boxes) (sent s.guest)) i))
     (λ (i : WasSent (after s Ran) es (c, f)). inr (inr i))
     (released_was_sent (after s Ran) es c f h)
+released_was_sent s (Arrive n ∷ es) c f h = released_was_sent (after s (Arrive n)) es c f h
+released_was_sent s (Delivered d g n ∷ es) c f h = released_was_sent (after s (Delivered d g n)) es c f h
+released_was_sent s (Refused d g ∷ es) c f h = released_was_sent (after s (Refused d g)) es c f h
 released_was_sent s (Land d ∷ es) c f h =
     ⊎_elim
     (λ (i : IsAmong f (cond (d == c) (take 1 (out_of d s.out)) [])). inl (landed (d == c) refl i))
@@ -133,6 +136,9 @@ taken boxes c d low_c low_d high f i =
 pub boxed_was_released : (s : HistoryState) (es : List Entry) (c : ℕ) (f : Frame) → 1 ≤ c → Legal s es → IsAmong f (list_of (at s es).boxes c) → IsAmong f (list_of s.boxes c) ⊎ IsAmong f (released s es c)
 boxed_was_released s [] c f low legal h = inl h
 boxed_was_released s (Ran ∷ es) c f low legal h = boxed_was_released (after s Ran) es c f low legal.1 h
+boxed_was_released s (Arrive n ∷ es) c f low legal h = boxed_was_released (after s (Arrive n)) es c f low legal.1 h
+boxed_was_released s (Delivered d g n ∷ es) c f low legal h = boxed_was_released (after s (Delivered d g n)) es c f low legal.1 h
+boxed_was_released s (Refused d g ∷ es) c f low legal h = boxed_was_released (after s (Refused d g)) es c f low legal.1 h
 boxed_was_released s (Land d ∷ es) c f low legal h =
     ⊎_elim
     (λ (i : IsAmong f (list_of (after s (Land d)).boxes c)).
@@ -168,6 +174,9 @@ pub WasSent-append : (s : HistoryState) (es more : List Entry) (p : ℕ × Frame
 WasSent-append s [] more p h = absurd h
 WasSent-append s (Ran ∷ es) more p (inl h) = inl h
 WasSent-append s (Ran ∷ es) more p (inr h) = inr (WasSent-append (after s Ran) es more p h)
+WasSent-append s (Arrive n ∷ es) more p h = WasSent-append (after s (Arrive n)) es more p h
+WasSent-append s (Delivered d f n ∷ es) more p h = WasSent-append (after s (Delivered d f n)) es more p h
+WasSent-append s (Refused d f ∷ es) more p h = WasSent-append (after s (Refused d f)) es more p h
 WasSent-append s (Land d ∷ es) more p h = WasSent-append (after s (Land d)) es more p h
 WasSent-append s (DropOut d place ∷ es) more p h = WasSent-append (after s (DropOut d place)) es more p h
 WasSent-append s (Took d answer ∷ es) more p h = WasSent-append (after s (Took d answer)) es more p h

@@ -6,29 +6,34 @@ use Rattle.std.specs.declared.vec.Vec.{Vec}
 use Rattle.std.specs.declared.alloc.Global.{Global}
 use Rattle.arrayvec.specs.ArrayVec.{ArrayVec}
 use Rattle.guest_machine.specs.Guest.{Guest, State, boot_guest}
-use Rattle.guest_machine.specs.Step.{next, sent}
+use Rattle.guest_machine.specs.Step.{next, sent, arrived}
+use Rattle.frame_ports.specs.Addresses.{IsFrame, targets_of}
 use Rattle.frame_ports.specs.Lands.{list_of, with_list, lands, put_count}
-use Rattle.frame_ports.specs.Ports.{PortsState}
+use Rattle.frame_ports.specs.Ports.{PortsState, empty_ports, after_delivery, with_inbox, inbox_of}
+use Rattle.frame_ports.specs.declared.limits.TheConstants.{INBOX_FRAMES}
 use Rattle.output_gate.specs.Epochs.{Epoch, frames_to, after_number}
 use Rattle.pair_core.specs.declared.event.Packet.{Packet}
-use Rattle.pair_core.specs.declared.event.Refusal.TheVariants.{NoClient, Behind, Stale, Gap, CutNeeded, Exhausted}
+use Rattle.pair_core.specs.declared.event.Refusal.TheVariants.{Full, BadFrame, NoClient, Behind, Stale, Gap, CutNeeded, Exhausted}
 use Rattle.pair_core.specs.declared.event.Reply.TheVariants as replies
-use Rattle.pair_core.specs.declared.world.Sealed.{Sealed}
+use Rattle.pair_core.specs.declared.sealed.Arrival.{Arrival}
+use Rattle.pair_core.specs.declared.sealed.Sealed.{Sealed}
 use Rattle.pair_core.specs.declared.world.World.TheInside.{Inside}
-use Rattle.pair_core.specs.Entries.{Frame, Entry, Ran, Took}
+use Rattle.pair_core.specs.Entries.{Frame, Entry, Ran, Arrive, Delivered, Refused, Took}
+use Rattle.pair_core.specs.Arrivals.{steps_of, arrival_of, arrivals_of, epoch_entries}
 use Rattle.pair_core.specs.Log.{Log}
-use Rattle.pair_core.specs.Protocol.{Record, Outcome, packet, packet_of, refused, step_outcome, cut_outcome, send_outcome, backup_outcome, again_outcome, commit_outcome, ack_outcome, take_outcome, kept_entries, all_entries, exhausts, number_end, joined, landings, first_kept, later_kept}
-use Rattle.pair_core.specs.Pair.{Pair, IsKept, NumberedFrom, AllBelow, BoxesFit}
+use Rattle.pair_core.specs.Protocol.{Record, Outcome, packet, packet_of, refused, step_outcome, cut_outcome, send_outcome, backup_outcome, again_outcome, commit_outcome, ack_outcome, admit_outcome, deliver_outcome, take_outcome, is_among, is_bad_length, kept_entries, all_entries, exhausts, number_end, joined, landings, first_kept, later_kept}
+use Rattle.pair_core.specs.Pair.{Pair}
+use Rattle.pair_core.specs.Kept.{IsKept, NumberedFrom, AllBelow, BoxesFit}
 use Rattle.pair_core.specs.Start.{start_state, start_record}
 use Rattle.pair_core.specs.Lines.{packets_from}
 use Rattle.pair_core.specs.WorldFields.{pair_of, record_of, AreFields, epoch_of, guest_of}
+use Rattle.pair_core.proofs.States.{append-nil}
 use Rattle.pair_core.proofs.Epochs.{length-append', map-append', joined-push}
 use Rattle.pair_core.specs.Lengths.{receivers}
-use Rattle.frame_ports.specs.Addresses.{targets_of}
 use Rattle.pair_core.proofs.LengthLaws.{length-receivers}
 use Rattle.pair_core.proofs.LineLaws.{packets_from-numbered}
-use Rattle.pair_core.proofs.Events.{step_done, step_kept, cut_done, cut_kept, cut_epoch, send_done, send_kept, again_done, again_kept, commit_done, commit_kept, ack_done, ack_kept, take_done, take_kept, leaving}
-use Rattle.pair_core.proofs.Outcomes.{step_full, step_exhausted, step_goes, cut_behind, cut_exhausted, cut_goes, backup_stale, backup_gap, backup_again, backup_commits, ack_stale, ack_exhausted, ack_goes, take_none, take_exhausted, take_goes}
+use Rattle.pair_core.proofs.Events.{step_done, step_kept, cut_done, cut_kept, cut_epoch, send_done, send_kept, again_done, again_kept, commit_done, commit_kept, ack_done, ack_kept, admit_done, admit_kept, deliver_done, deliver_kept, full_done, full_kept, take_done, take_kept, leaving}
+use Rattle.pair_core.proofs.Outcomes.{step_full, step_exhausted, step_goes, cut_behind, cut_exhausted, cut_goes, backup_stale, backup_gap, backup_again, backup_commits, ack_stale, ack_exhausted, ack_goes, admit_none, admit_empty, admit_exhausted, admit_goes, deliver_none, deliver_bad, deliver_exhausted, deliver_full, deliver_numbered, deliver_goes, take_none, take_exhausted, take_goes}
 
 replicate-more : (n : ℕ) → replicate n Ran ++ Ran ∷ [] ≡ replicate (n + 1) Ran
 replicate-more n = up n ∙ (let e : suc n ≡ n + 1 = omega arith in ap (λ k. replicate k Ran) e)
@@ -36,6 +41,28 @@ replicate-more n = up n ∙ (let e : suc n ≡ n + 1 = omega arith in ap (λ k. 
     up : (n : ℕ) → replicate n Ran ++ Ran ∷ [] ≡ replicate (suc n) Ran
     up zero = refl
     up (suc n) = ap (λ t. Ran ∷ t) (up n)
+
+-- an epoch goes on by a step, or by an arrival
+
+steps-more : (arrivals : List Arrival) (n : ℕ) → epoch_entries arrivals n ++ Ran ∷ [] ≡ epoch_entries arrivals (n + 1)
+steps-more arrivals n = append_assoc (arrivals_of arrivals) (steps_of n) (Ran ∷ []) ∙ ap (λ t. arrivals_of arrivals ++ t) (replicate-more n)
+
+arrivals_of-push : (arrivals : List Arrival) (x : Arrival) → arrivals_of (arrivals ++ x ∷ []) ≡ arrivals_of arrivals ++ arrival_of x
+arrivals_of-push [] x = append-nil (arrival_of x)
+arrivals_of-push (y ∷ arrivals) x = ap (λ t. arrival_of y ++ t) (arrivals_of-push arrivals x) ∙ sym (append_assoc (arrival_of y) (arrivals_of arrivals) (arrival_of x))
+
+arrivals-more : (arrivals : List Arrival) (n k : ℕ) → epoch_entries arrivals n ++ Arrive k ∷ [] ≡ epoch_entries (arrivals ++ record { steps = n; number = k } ∷ []) 0
+arrivals-more arrivals n k =
+    append_assoc (arrivals_of arrivals) (steps_of n) (Arrive k ∷ [])
+    ∙ sym (append-nil (arrivals_of (arrivals ++ record { steps = n; number = k } ∷ [])) ∙ arrivals_of-push arrivals (record { steps = n; number = k }))
+
+kept_more : (es rs ts : List Entry) (e : Entry) → rs ++ e ∷ [] ≡ ts → length (es ++ ts) ≡ length (es ++ rs) + 1
+kept_more es rs ts e is =
+    let e1 = length-append' es rs in
+    let e2 = length-append' es ts in
+    let e3 = ap length is in
+    let e4 = length-append' rs (e ∷ []) in
+    omega arith
 
 pub at_most_unless : (n k : ℕ) → (k < n → ⊥) → n ≤ k
 at_most_unless n k h = by_test (nat_le n k) refl
@@ -71,15 +98,10 @@ module _ (a : Inside) (h : AreFields a) where
     stepped_fields = record a { live = m; running = a.running + 1; kept = a.kept + 1 }
 
     stepped : step_done (pair_of a) ≡ pair_of stepped_fields
-    stepped = λ i. record {
-      start = (pair_of a).start;
-      protocol = record (record_of a) { running = replicate-more a.running i };
+    stepped = λ i. record (pair_of a) {
+      protocol = record (record_of a) { running = steps-more a.arrivals.items a.running i };
       live = sym guest i;
       outbox = sym outbox i;
-      image = (pair_of a).image;
-      sealed = (pair_of a).sealed;
-      boxes = (pair_of a).boxes;
-      held = (pair_of a).held;
     }
 
     pub step_fields : length (all_entries (record_of a)) + 1 < number_end → AreFields stepped_fields
@@ -87,11 +109,7 @@ module _ (a : Inside) (h : AreFields a) where
       kept = subst IsKept stepped (step_kept (pair_of a) h.kept room);
       counted =
           let c = h.counted in
-          let es = joined (map epoch_of a.sealed.items) in
-          let e1 = length-append' es (replicate a.running Ran) in
-          let e2 = length-append' es (replicate (a.running + 1) Ran) in
-          let e3 = ap length (replicate-more a.running) in
-          let e4 = length-append' (replicate a.running Ran) (Ran ∷ []) in
+          let e = kept_more (joined (map epoch_of a.sealed.items)) (epoch_entries a.arrivals.items a.running) (epoch_entries a.arrivals.items (a.running + 1)) Ran (steps-more a.arrivals.items a.running) in
           omega arith;
     }
 
@@ -118,29 +136,27 @@ module _ (a : Inside) (h : AreFields a) where
   rising = numbered_below a.to_acknowledge a.to_cut a.gate h.kept.numbers (let e = pending_counted in omega arith)
 
   abbrev pub sealed_now : Sealed
-  sealed_now = record { machine = a.live; steps = a.running }
+  sealed_now = record { machine = a.live; arrivals = a.arrivals; steps = a.running }
 
-  module _ (m : State) (gate : List Epoch) (sealed : Vec Sealed Global)
+  module _ (m : State) (gate : List Epoch) (sealed : Vec Sealed Global) (arrivals : Vec Arrival Global)
       (m_is : m ≡ record a.live { outbox = [] })
       (gate_is : gate ≡ a.gate ++ record { number = a.to_cut; frames = a.live.outbox } ∷ [])
-      (sealed_is : sealed.items ≡ a.sealed.items ++ sealed_now ∷ []) where
+      (sealed_is : sealed.items ≡ a.sealed.items ++ sealed_now ∷ [])
+      (none_are : arrivals.items ≡ []) where
     abbrev pub cut_fields_now : Inside
-    cut_fields_now = record a { live = m; sealed = sealed; running = 0; to_cut = a.to_cut + 1; gate = gate }
+    cut_fields_now = record a { live = m; sealed = sealed; arrivals = arrivals; running = 0; to_cut = a.to_cut + 1; gate = gate }
 
     cut_is : cut_done (pair_of a) ≡ pair_of cut_fields_now
-    cut_is = λ i. record {
-      start = (pair_of a).start;
+    cut_is = λ i. record (pair_of a) {
       protocol = record (record_of a) {
         kept = sym (ap (map epoch_of) sealed_is ∙ map-append' epoch_of a.sealed.items (sealed_now ∷ [])) i;
-        running = [];
+        running = epoch_entries (sym none_are i) 0;
         to_cut = a.to_cut + 1;
         pending = sym gate_is i;
       };
       live = sym (ap (λ (s : State). s.guest) m_is) i;
       outbox = sym (ap (λ (s : State). s.outbox) m_is) i;
-      image = a.image.guest;
       sealed = sym (ap (map guest_of) sealed_is ∙ map-append' guest_of a.sealed.items (sealed_now ∷ [])) i;
-      boxes = a.ports.boxes;
       held = sym gate_is i;
     }
 
@@ -149,10 +165,11 @@ module _ (a : Inside) (h : AreFields a) where
       kept = subst IsKept cut_is (cut_kept (pair_of a) h.kept few last);
       counted =
           let c = h.counted in
-          let e1 = length-append' (joined (map epoch_of a.sealed.items)) (replicate a.running Ran) in
+          let es = epoch_entries a.arrivals.items a.running in
+          let e1 = length-append' (joined (map epoch_of a.sealed.items)) es in
           let e2 = ap (λ (p : Pair). length (kept_entries p.protocol)) cut_is in
-          let e3 = length-append' (joined (map epoch_of a.sealed.items ++ replicate a.running Ran ∷ [])) [] in
-          let e4 = ap length (joined-push (map epoch_of a.sealed.items) (replicate a.running Ran)) in
+          let e3 = length-append' (joined (map epoch_of a.sealed.items ++ es ∷ [])) [] in
+          let e4 = ap length (joined-push (map epoch_of a.sealed.items) es) in
           omega arith;
     }
 
@@ -215,66 +232,59 @@ module _ (a : Inside) (h : AreFields a) where
     pub sealed_split : a.sealed.items ≡ s ∷ remove a.sealed.items 0
     sealed_split = first_of a.sealed.items s some is
 
-    kept_split : kept_entries (record_of a) ≡ replicate s.steps Ran ++ (joined (map epoch_of (remove a.sealed.items 0)) ++ replicate a.running Ran)
+    abbrev pub epoch_now : List Entry
+    epoch_now = epoch_entries a.arrivals.items a.running
+
+    kept_split : kept_entries (record_of a) ≡ epoch_of s ++ (joined (map epoch_of (remove a.sealed.items 0)) ++ epoch_now)
     kept_split =
-        ap (λ xs. joined (map epoch_of xs) ++ replicate a.running Ran) sealed_split
-        ∙ append_assoc (replicate s.steps Ran) (joined (map epoch_of (remove a.sealed.items 0))) (replicate a.running Ran)
+        ap (λ xs. joined (map epoch_of xs) ++ epoch_now) sealed_split
+        ∙ append_assoc (epoch_of s) (joined (map epoch_of (remove a.sealed.items 0))) epoch_now
 
-    length-steps : (n : ℕ) → length (replicate n Ran) ≡ n
-    length-steps zero = refl
-    length-steps (suc n) = ap suc (length-steps n)
-
-    pub steps_counted : a.kept ≡ s.steps + length (joined (map epoch_of (remove a.sealed.items 0)) ++ replicate a.running Ran)
-    steps_counted =
+    pub epoch_counted : a.kept ≡ length (epoch_of s) + length (joined (map epoch_of (remove a.sealed.items 0)) ++ epoch_now)
+    epoch_counted =
         let c = h.counted in
         let e1 = ap length kept_split in
-        let e2 = length-append' (replicate s.steps Ran) (joined (map epoch_of (remove a.sealed.items 0)) ++ replicate a.running Ran) in
-        let e3 = length-steps s.steps in
+        let e2 = length-append' (epoch_of s) (joined (map epoch_of (remove a.sealed.items 0)) ++ epoch_now) in
         omega arith
 
-    pub commit_fits : length (a.history.entries ++ replicate s.steps Ran) < number_end
+    pub commit_fits : length (a.history.entries ++ epoch_of s) < number_end
     commit_fits =
         let f = h.kept.fits in
         let e1 = length-append' a.history.entries (kept_entries (record_of a)) in
-        let e2 = length-append' a.history.entries (replicate s.steps Ran) in
-        let e3 = length-steps s.steps in
-        let e4 = steps_counted in
+        let e2 = length-append' a.history.entries (epoch_of s) in
+        let e4 = epoch_counted in
         let c = h.counted in
         omega arith
 
-    module _ (sealed : Vec Sealed Global) (history : Log) (answers : Vec Packet Global)
+    module _ (sealed : Vec Sealed Global) (history : Log) (answers : Vec Packet Global) (kept : ℕ)
         (sealed_is : sealed.items ≡ remove a.sealed.items 0)
-        (history_is : history.entries ≡ a.history.entries ++ replicate s.steps Ran)
-        (answers_are : answers.items ≡ a.answers.items ++ packet 1 a.to_commit ∷ []) where
+        (history_is : history.entries ≡ a.history.entries ++ epoch_of s)
+        (answers_are : answers.items ≡ a.answers.items ++ packet 1 a.to_commit ∷ [])
+        (kept_is : kept + length (epoch_of s) ≡ a.kept) where
       abbrev pub commit_fields_now : Inside
-      commit_fields_now = record a { image = s.machine; sealed = sealed; kept = a.kept - s.steps; to_commit = a.to_commit + 1; answers = answers; history = history }
+      commit_fields_now = record a { image = s.machine; sealed = sealed; kept = kept; to_commit = a.to_commit + 1; answers = answers; history = history }
 
       split : a.sealed.items ≡ s ∷ sealed.items
       split = sealed_split ∙ ap (λ xs. s ∷ xs) (sym sealed_is)
 
       commit_is : commit_done (pair_of a) s.machine.guest (map guest_of sealed.items) ≡ pair_of commit_fields_now
-      commit_is = λ i. record {
-        start = (pair_of a).start;
+      commit_is = λ i. record (pair_of a) {
         protocol = record (record_of a) {
           history = (ap (λ xs. a.history.entries ++ first_kept (map epoch_of xs)) split ∙ sym history_is) i;
           kept = ap (λ xs. later_kept (map epoch_of xs)) split i;
           to_commit = a.to_commit + 1;
           answers = sym answers_are i;
         };
-        live = a.live.guest;
-        outbox = a.live.outbox;
         image = s.machine.guest;
         sealed = map guest_of sealed.items;
-        boxes = a.ports.boxes;
-        held = a.gate;
       }
 
       pub commit_fields : a.to_commit < a.to_cut → AreFields commit_fields_now
       commit_fields more = record {
         kept = subst IsKept commit_is (commit_kept (pair_of a) h.kept s.machine.guest (map guest_of sealed.items) (ap (map guest_of) split) more);
         counted =
-            let e = steps_counted in
-            let f = ap (λ xs. length (joined (map epoch_of xs) ++ replicate a.running Ran)) sealed_is in
+            let e = epoch_counted in
+            let f = ap (λ xs. length (joined (map epoch_of xs) ++ epoch_now)) sealed_is in
             omega arith;
       }
 
@@ -312,17 +322,14 @@ module _ (a : Inside) (h : AreFields a) where
     ack_fields_now = record a { to_acknowledge = to_acknowledge; gate = gate; ports = ports; history = history }
 
     ack_is : ack_done (pair_of a) n ≡ pair_of ack_fields_now
-    ack_is = λ i. record {
-      start = (pair_of a).start;
+    ack_is = λ i. record (pair_of a) {
       protocol = record (record_of a) {
         history = sym history_is i;
         to_acknowledge = sym to_is i;
         pending = sym gate_is i;
       };
-      live = a.live.guest;
-      outbox = a.live.outbox;
-      image = a.image.guest;
-      sealed = map guest_of a.sealed.items;
+      number = sym (ap (λ (s : PortsState). s.next) ports_are) i;
+      inboxes = sym (ap (λ (s : PortsState). s.inboxes) ports_are) i;
       boxes = sym (ap (λ (s : PortsState). s.boxes) ports_are) i;
       held = sym gate_is i;
     }
@@ -346,15 +353,11 @@ module _ (a : Inside) (h : AreFields a) where
     take_fields_now = record a { ports = ports; history = history }
 
     take_is : take_done (pair_of a) c ≡ pair_of take_fields_now
-    take_is = λ i. record {
-      start = (pair_of a).start;
+    take_is = λ i. record (pair_of a) {
       protocol = record (record_of a) { history = sym history_is i };
-      live = a.live.guest;
-      outbox = a.live.outbox;
-      image = a.image.guest;
-      sealed = map guest_of a.sealed.items;
+      number = sym (ap (λ (s : PortsState). s.next) ports_are) i;
+      inboxes = sym (ap (λ (s : PortsState). s.inboxes) ports_are) i;
       boxes = sym (ap (λ (s : PortsState). s.boxes) ports_are) i;
-      held = a.gate;
     }
 
     pub take_fields : 1 ≤ c → c ≤ length a.ports.boxes → length (all_entries (record_of a)) + 1 < number_end → AreFields take_fields_now
@@ -363,6 +366,82 @@ module _ (a : Inside) (h : AreFields a) where
     pub take_reply : 1 ≤ c → c ≤ length a.ports.boxes → length (all_entries (record_of a)) + 1 < number_end
         → (replies.Took (slice_get (list_of a.ports.boxes c) 0), record_of take_fields_now) ≡ take_outcome (pair_of a).start (record_of a) c
     take_reply low high room = (λ i. (replies.Took (slice_get (list_of a.ports.boxes c) 0), sym (ap (λ (p : Pair). p.protocol) take_is) i)) ∙ take_goes (pair_of a) h.kept c low high room
+
+  -- Admit
+
+  module _ (c n : ℕ) (f : Frame) (m : State) (ports : PortsState) (arrivals : Vec Arrival Global)
+      (guest : m.guest ≡ arrived a.live.guest f)
+      (outbox : m.outbox ≡ a.live.outbox)
+      (ports_are : ports ≡ with_inbox a.ports c (drop 1 (inbox_of a.ports c)))
+      (arrivals_are : arrivals.items ≡ a.arrivals.items ++ record { steps = a.running; number = n } ∷ []) where
+    abbrev pub admit_fields_now : Inside
+    admit_fields_now = record a { live = m; ports = ports; arrivals = arrivals; running = 0; kept = a.kept + 1 }
+
+    running_is : epoch_entries a.arrivals.items a.running ++ Arrive n ∷ [] ≡ epoch_entries arrivals.items 0
+    running_is = arrivals-more a.arrivals.items a.running n ∙ ap (λ xs. epoch_entries xs 0) (sym arrivals_are)
+
+    admit_is : admit_done (pair_of a) c n f ≡ pair_of admit_fields_now
+    admit_is = λ i. record (pair_of a) {
+      protocol = record (record_of a) { running = running_is i };
+      live = sym guest i;
+      outbox = (append-nil a.live.outbox ∙ sym outbox) i;
+      number = sym (ap (λ (s : PortsState). s.next) ports_are) i;
+      inboxes = sym (ap (λ (s : PortsState). s.inboxes) ports_are) i;
+      boxes = sym (ap (λ (s : PortsState). s.boxes) ports_are) i;
+    }
+
+    module _ (low : 1 ≤ c) (high : c ≤ length a.ports.boxes) (first : slice_get (inbox_of a.ports c) 0 ≡ Some (n, f)) (room : length (all_entries (record_of a)) + 1 < number_end) where
+      pub admit_fields : AreFields admit_fields_now
+      admit_fields = record {
+        kept = subst IsKept admit_is (admit_kept (pair_of a) h.kept c n f low high first room);
+        counted =
+            let k = h.counted in
+            let e = kept_more (joined (map epoch_of a.sealed.items)) (epoch_entries a.arrivals.items a.running) (epoch_entries arrivals.items 0) (Arrive n) running_is in
+            omega arith;
+      }
+
+      pub admit_reply : (replies.Admitted n, record_of admit_fields_now) ≡ admit_outcome (pair_of a).start (record_of a) c
+      admit_reply = (λ i. (replies.Admitted n, sym (ap (λ (p : Pair). p.protocol) admit_is) i)) ∙ admit_goes (pair_of a) h.kept c low high n f first room
+
+  -- Deliver
+
+  module _ (c : ℕ) (bytes : List ℕ) (frame : IsFrame (record { items = bytes })) (history : Log)
+      (low : 1 ≤ c) (high : c ≤ length a.ports.boxes) (good : is_bad_length (length bytes) ≡ false) (room : length (all_entries (record_of a)) + 1 < number_end) where
+    abbrev the_frame : Frame
+    the_frame = record { items = bytes }
+
+    module _ (ports : PortsState) (ports_are : ports ≡ after_delivery a.ports c bytes)
+        (history_is : history.entries ≡ a.history.entries ++ Delivered c the_frame a.ports.next ∷ []) where
+      abbrev pub deliver_fields_now : Inside
+      deliver_fields_now = record a { ports = ports; history = history }
+
+      deliver_is : deliver_done (pair_of a) c the_frame ≡ pair_of deliver_fields_now
+      deliver_is = λ i. record (pair_of a) {
+        protocol = record (record_of a) { history = sym history_is i };
+        number = sym (ap (λ (s : PortsState). s.next) ports_are) i;
+        inboxes = sym (ap (λ (s : PortsState). s.inboxes) ports_are) i;
+        boxes = sym (ap (λ (s : PortsState). s.boxes) ports_are) i;
+      }
+
+      pub deliver_fields : AreFields deliver_fields_now
+      deliver_fields = record { kept = subst IsKept deliver_is (deliver_kept (pair_of a) h.kept c the_frame frame low high room); counted = h.counted }
+
+      pub deliver_reply : length (inbox_of a.ports c) < INBOX_FRAMES → a.ports.next < number_end
+          → (replies.Delivered a.ports.next, record_of deliver_fields_now) ≡ deliver_outcome (pair_of a).start (record_of a) c bytes
+      deliver_reply l k = (λ i. (replies.Delivered a.ports.next, sym (ap (λ (p : Pair). p.protocol) deliver_is) i)) ∙ deliver_goes (pair_of a) h.kept c low high bytes good room l k
+
+    module _ (full : INBOX_FRAMES ≤ length (inbox_of a.ports c)) (history_is : history.entries ≡ a.history.entries ++ Refused c the_frame ∷ []) where
+      abbrev pub full_fields_now : Inside
+      full_fields_now = record a { history = history }
+
+      full_is : full_done (pair_of a) c the_frame ≡ pair_of full_fields_now
+      full_is = λ i. record (pair_of a) { protocol = record (record_of a) { history = sym history_is i } }
+
+      pub full_fields : AreFields full_fields_now
+      full_fields = record { kept = subst IsKept full_is (full_kept (pair_of a) h.kept c the_frame frame low high full room); counted = h.counted }
+
+      pub full_reply : (replies.Refused Full, record_of full_fields_now) ≡ deliver_outcome (pair_of a).start (record_of a) c bytes
+      full_reply = (λ i. (replies.Refused Full, sym (ap (λ (p : Pair). p.protocol) full_is) i)) ∙ deliver_full (pair_of a) h.kept c low high bytes good room full
 
 -- Boot
 
@@ -374,6 +453,8 @@ start_pair pages image clients = record {
   outbox = [];
   image = boot_guest pages image;
   sealed = [];
+  number = 1;
+  inboxes = replicate clients [];
   boxes = replicate clients [];
   held = [];
 }
@@ -381,6 +462,15 @@ start_pair pages image clients = record {
 empty_fit : (n : ℕ) → BoxesFit (replicate n [])
 empty_fit zero = tt
 empty_fit (suc n) = (omega arith, empty_fit n)
+
+nothing : {A : Type 0} (n i : ℕ) → get_or (replicate {A = List A} n []) i [] ≡ []
+nothing zero i = refl
+nothing (suc n) zero = refl
+nothing (suc n) (suc i) = nothing n i
+
+length-replicated : (n : ℕ) → length (replicate {A = List (ℕ × Frame)} n []) ≡ length (replicate {A = List Frame} n [])
+length-replicated zero = refl
+length-replicated (suc n) = ap suc (length-replicated n)
 
 start_kept : (pages : ℕ) (image : List ℕ) (clients : ℕ) → IsKept (start_pair pages image clients)
 start_kept pages image clients = record {
@@ -399,12 +489,20 @@ start_kept pages image clients = record {
   fits = omega arith;
   legal = tt;
   drops = tt;
-  steps = tt;
+  sealed_moves = [];
+  running_moves = [];
+  kept_are = refl;
+  running_are = refl;
+  can = tt;
   image = refl;
   sealed = refl;
   frames = refl;
   live = refl;
   outbox = refl;
+  number = refl;
+  rising = omega arith;
+  clients = length-replicated clients;
+  inboxes = λ c low high. nothing clients (c - 1);
   boxes = refl;
   boxes_fit = empty_fit clients;
   held = refl;
@@ -415,21 +513,22 @@ pub boot_fields : (a : Inside)
     → a.live.guest ≡ boot_guest a.shape.pages a.boot_image.items
     → a.live.outbox ≡ []
     → a.image ≡ a.live
-    → a.ports.boxes ≡ replicate a.clients []
+    → a.ports ≡ empty_ports a.clients
     → a.gate ≡ []
     → a.history.entries ≡ []
     → a.sealed.items ≡ []
     → a.packets.items ≡ []
     → a.answers.items ≡ []
+    → a.arrivals.items ≡ []
     → (a.running ≡ 0) × (a.kept ≡ 0) × (a.to_cut ≡ 1) × (a.to_commit ≡ 1) × (a.to_acknowledge ≡ 1)
     → AreFields a
-boot_fields a guest outbox image ports gate history sealed packets answers numbers =
+boot_fields a guest outbox image ports gate history sealed packets answers arrivals numbers =
     let is : start_pair a.shape.pages a.boot_image.items a.clients ≡ pair_of a = (λ i. record {
       start = (pair_of a).start;
       protocol = record {
         history = sym history i;
         kept = map epoch_of (sym sealed i);
-        running = replicate (sym numbers.0 i) Ran;
+        running = epoch_entries (sym arrivals i) (sym numbers.0 i);
         generation = 1;
         to_cut = sym numbers.2 i;
         to_commit = sym numbers.3 i;
@@ -442,7 +541,9 @@ boot_fields a guest outbox image ports gate history sealed packets answers numbe
       outbox = sym outbox i;
       image = sym (ap (λ (s : State). s.guest) image ∙ guest) i;
       sealed = map guest_of (sym sealed i);
-      boxes = sym ports i;
+      number = sym (ap (λ (s : PortsState). s.next) ports) i;
+      inboxes = sym (ap (λ (s : PortsState). s.inboxes) ports) i;
+      boxes = sym (ap (λ (s : PortsState). s.boxes) ports) i;
       held = sym gate i;
     }) in
     record {

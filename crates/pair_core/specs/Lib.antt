@@ -2,6 +2,8 @@ pub mod Entries
 pub mod HistoryState
 pub mod Protocol
 pub mod Pair
+pub mod Kept
+pub mod Arrivals
 pub mod Log
 pub mod LogFields
 pub mod Lines

@@ -3,7 +3,7 @@ use Rattle.std.specs.Prelude.{ℕ, ◌-◌, List, [], ◌∷◌, ◌++◌, repli
 use Rattle.pair_core.specs.Entries as whole
 use Rattle.pair_core.specs.Entries.{Frame}
 use Rattle.pair_core.specs.declared.history.Entry.{Entry}
-use Rattle.pair_core.specs.declared.history.Entry.TheVariants.{Ran, Land, DropOut, Took}
+use Rattle.pair_core.specs.declared.history.Entry.TheVariants.{Ran, Arrive, Delivered, Refused, Land, DropOut, Took}
 
 pub record Log : Type 0 where
   pub entries : List whole.Entry
@@ -12,6 +12,9 @@ pub record Log : Type 0 where
 -- a stored entry stands for these: so many steps, or itself
 abbrev pub expanded : Entry → List whole.Entry
 expanded (Ran count) = replicate count whole.Ran
+expanded (Arrive number) = whole.Arrive number ∷ []
+expanded (Delivered client frame number) = whole.Delivered client frame.value number ∷ []
+expanded (Refused client frame) = whole.Refused client frame.value ∷ []
 expanded (Land client) = whole.Land client ∷ []
 expanded (DropOut client place) = whole.DropOut client place ∷ []
 expanded (Took client None) = whole.Took client None ∷ []

@@ -1,18 +1,18 @@
 -- The pair protocol: what each event is answered and what it leaves, over a record that holds no machine, page or byte.
-use Rattle.std.specs.Prelude.{◌≡◌, ℕ, ◌+◌, ◌-◌, ◌^◌, ◌==◌, ◌&&◌, not, nat_lt, nat_le, Bool, if◌then◌else◌, List, [], ◌∷◌, ◌++◌, length, map, slice_get, Option, None, Some, Result, Ok, Err, ◌⊎◌}
-use Rattle.guest_machine.specs.Guest.{Guest}
+use Rattle.std.specs.Prelude.{◌≡◌, ℕ, ◌+◌, ◌-◌, ◌^◌, ◌==◌, ◌&&◌, ◌||◌, not, nat_lt, nat_le, Bool, if◌then◌else◌, List, [], ◌∷◌, ◌++◌, length, map, slice_get, Option, None, Some, Result, Ok, Err, ◌⊎◌}
 use Rattle.guest_machine.specs.Step.{next, sent}
 use Rattle.frame_ports.specs.Addresses.{targets_of}
 use Rattle.frame_ports.specs.Lands.{list_of, has_room, landed_at, put_count}
-use Rattle.frame_ports.specs.declared.limits.TheConstants.{BOX_FRAMES}
+use Rattle.frame_ports.specs.declared.limits.TheConstants.{MIN_FRAME, MAX_FRAME, INBOX_FRAMES, BOX_FRAMES}
 use Rattle.output_gate.specs.Epochs.{Epoch, frames_to, after_number}
-use Rattle.pair_core.specs.Entries.{Frame, Entry, Ran, Land, DropOut, Took}
-use Rattle.pair_core.specs.HistoryState.{HistoryState, at}
+use Rattle.pair_core.specs.Entries.{Frame, Entry, Ran, Arrive, Delivered, Land, DropOut, Took}
+use Rattle.pair_core.specs.Entries as entries
+use Rattle.pair_core.specs.HistoryState.{HistoryState, at, after, inbox_of}
 use Rattle.pair_core.specs.declared.event.Event.{Event}
-use Rattle.pair_core.specs.declared.event.Event.TheVariants.{Step, Cut, Send, BackupGet, AckGet, Take}
+use Rattle.pair_core.specs.declared.event.Event.TheVariants.{Step, Cut, Send, BackupGet, AckGet, Admit, Deliver, Take}
 use Rattle.pair_core.specs.declared.event.Packet.{Packet}
 use Rattle.pair_core.specs.declared.event.Refusal.{Refusal}
-use Rattle.pair_core.specs.declared.event.Refusal.TheVariants.{NoClient, Behind, Stale, Gap, NoMemory, CutNeeded, Exhausted}
+use Rattle.pair_core.specs.declared.event.Refusal.TheVariants.{Full, BadFrame, NoClient, Behind, Stale, Gap, NoMemory, CutNeeded, Exhausted}
 use Rattle.pair_core.specs.declared.event.Reply.{Reply}
 use Rattle.pair_core.specs.declared.event.Reply.TheVariants as replies
 
@@ -53,30 +53,23 @@ kept_entries r = joined r.kept ++ r.running
 abbrev pub all_entries : Record → List Entry
 all_entries r = r.history ++ kept_entries r
 
--- the guest behind these entries of an epoch, and the frames that it sends along them
-abbrev pub guest_moved : Guest → Entry → Guest
-guest_moved g Ran = next g
-guest_moved g (Land c) = g
-guest_moved g (DropOut c place) = g
-guest_moved g (Took c answer) = g
+-- the frames that the guest sends along these entries
+abbrev pub sent_by : HistoryState → Entry → List Frame
+sent_by s Ran = sent s.guest
+sent_by s (Arrive n) = []
+sent_by s (Delivered c f n) = []
+sent_by s (entries.Refused c f) = []
+sent_by s (Land c) = []
+sent_by s (DropOut c place) = []
+sent_by s (Took c answer) = []
 
-abbrev pub sent_by : Guest → Entry → List Frame
-sent_by g Ran = sent g
-sent_by g (Land c) = []
-sent_by g (DropOut c place) = []
-sent_by g (Took c answer) = []
-
-abbrev pub guest_along : Guest → List Entry → Guest
-guest_along g [] = g
-guest_along g (e ∷ es) = guest_along (guest_moved g e) es
-
-abbrev pub sent_along : Guest → List Entry → List Frame
-sent_along g [] = []
-sent_along g (e ∷ es) = sent_by g e ++ sent_along (guest_moved g e) es
+abbrev pub sent_along : HistoryState → List Entry → List Frame
+sent_along s [] = []
+sent_along s (e ∷ es) = sent_by s e ++ sent_along (after s e) es
 
 -- the frames that the guest sent along the epoch that runs
 abbrev pub outbox_of : HistoryState → Record → List Frame
-outbox_of start r = sent_along (at start (r.history ++ joined r.kept)).guest r.running
+outbox_of start r = sent_along (at start (r.history ++ joined r.kept)) r.running
 
 -- how many frames the outbox may hold for a step, how many checkpoints may be pending, and where numbers end
 abbrev pub step_room : ℕ
@@ -201,6 +194,54 @@ ack_outcome start r (Some p) =
     else if exhausts r (length (let_go start r p.number)) then refused r Exhausted
     else acked start r p
 
+-- whether that many clients have one of this number
+abbrev pub is_among : ℕ → ℕ → Bool
+is_among c count = nat_le 1 c && nat_le c count
+
+-- how many clients there are
+abbrev pub client_count : HistoryState → Record → ℕ
+client_count start r = length (at start r.history).boxes
+
+-- the frames of client c that wait behind all that is kept
+abbrev pub inbox_now : HistoryState → Record → ℕ → List (ℕ × Frame)
+inbox_now start r c = inbox_of c (at start (all_entries r)).waiting
+
+-- the first frame of the client's inbox arrives at the guest, in the epoch that runs
+abbrev pub admitted_outcome : Record → ℕ → Outcome
+admitted_outcome r n = (replies.Admitted n, record r { running = r.running ++ Arrive n ∷ [] })
+
+abbrev pub admit_first : Record → Option (ℕ × Frame) → Outcome
+admit_first r None = (replies.Empty, r)
+admit_first r (Some first) = if exhausts r 1 then refused r Exhausted else admitted_outcome r first.0
+
+abbrev pub admit_outcome : HistoryState → Record → ℕ → Outcome
+admit_outcome start r c =
+    if not (is_among c (client_count start r)) then refused r NoClient
+    else admit_first r (slice_get (inbox_now start r c) 0)
+
+-- whether so many bytes are no frame
+abbrev pub is_bad_length : ℕ → Bool
+is_bad_length n = nat_lt n MIN_FRAME || nat_lt MAX_FRAME n
+
+-- the frame waits for the guest under the next number
+abbrev pub delivered_outcome : HistoryState → Record → ℕ → Frame → Outcome
+delivered_outcome start r c f =
+    let n = (at start r.history).number in
+    (replies.Delivered n, record r { history = r.history ++ Delivered c f n ∷ [] })
+
+-- too many frames of the client wait: that is all that is recorded
+abbrev pub full_outcome : Record → ℕ → Frame → Outcome
+full_outcome r c f = (replies.Refused Full, record r { history = r.history ++ entries.Refused c f ∷ [] })
+
+abbrev pub deliver_outcome : HistoryState → Record → ℕ → List ℕ → Outcome
+deliver_outcome start r c bytes =
+    if not (is_among c (client_count start r)) then refused r NoClient
+    else if is_bad_length (length bytes) then refused r BadFrame
+    else if exhausts r 1 then refused r Exhausted
+    else if nat_le INBOX_FRAMES (length (inbox_now start r c)) then full_outcome r c (record { items = bytes })
+    else if nat_le number_end (at start r.history).number then refused r Exhausted
+    else delivered_outcome start r c (record { items = bytes })
+
 -- the first frame of the client's box, or none
 abbrev pub taken_outcome : HistoryState → Record → ℕ → Outcome
 taken_outcome start r c =
@@ -209,7 +250,7 @@ taken_outcome start r c =
 
 abbrev pub take_outcome : HistoryState → Record → ℕ → Outcome
 take_outcome start r c =
-    if not (nat_le 1 c && nat_le c (length (at start r.history).boxes)) then refused r NoClient
+    if not (is_among c (client_count start r)) then refused r NoClient
     else if exhausts r 1 then refused r Exhausted
     else taken_outcome start r c
 
@@ -219,24 +260,14 @@ outcome start r Cut = cut_outcome start r
 outcome start r Send = send_outcome r
 outcome start r (BackupGet k) = backup_outcome r (slice_get r.packets k)
 outcome start r (AckGet k) = ack_outcome start r (slice_get r.answers k)
+outcome start r (Admit c) = admit_outcome start r c
+outcome start r (Deliver c bytes) = deliver_outcome start r c bytes.now
 outcome start r (Take c) = take_outcome start r c
 
 -- From the record old an event may be answered reply and leave new: by the protocol, or for want of memory with nothing changed.
 abbrev pub Answers : HistoryState → Record → Event → Reply → Record → Type 0
 Answers start old event reply new =
     ((reply, new) ≡ outcome start old event) ⊎ ((reply ≡ replies.Refused NoMemory) × (new ≡ old))
-
--- the fact holds if the reply is a refusal
-abbrev pub OnRefused : Reply → Type 0 → Type 0
-OnRefused (replies.Refused why) P = P
-OnRefused (replies.Steps count) P = Unit {0}
-OnRefused (replies.Cut generation number) P = Unit {0}
-OnRefused (replies.Sent count) P = Unit {0}
-OnRefused (replies.Committed generation number) P = Unit {0}
-OnRefused (replies.Again generation number) P = Unit {0}
-OnRefused replies.Lost P = Unit {0}
-OnRefused (replies.Acked generation number landed) P = Unit {0}
-OnRefused (replies.Took frame) P = Unit {0}
 
 -- what a step answers, as a reply
 abbrev pub step_reply : Result ℕ Refusal → Reply

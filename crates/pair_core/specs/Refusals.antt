@@ -1,9 +1,11 @@
 -- The table of refusals: the number and the name of each that the pair gives.
 use Rattle.std.specs.Prelude.{ℕ, List, codes}
 use Rattle.pair_core.specs.declared.event.Refusal.{Refusal}
-use Rattle.pair_core.specs.declared.event.Refusal.TheVariants.{NoClient, Behind, Stale, Gap, NoMemory, CutNeeded, Exhausted}
+use Rattle.pair_core.specs.declared.event.Refusal.TheVariants.{Full, BadFrame, NoClient, Behind, Stale, Gap, NoMemory, CutNeeded, Exhausted}
 
 abbrev pub number_of : Refusal → ℕ
+number_of Full = 1
+number_of BadFrame = 2
 number_of NoClient = 3
 number_of Behind = 5
 number_of Stale = 9
@@ -13,6 +15,8 @@ number_of CutNeeded = 13
 number_of Exhausted = 14
 
 abbrev pub name_of : Refusal → List ℕ
+name_of Full = codes "Full"
+name_of BadFrame = codes "BadFrame"
 name_of NoClient = codes "NoClient"
 name_of Behind = codes "Behind"
 name_of Stale = codes "Stale"

@@ -7,9 +7,15 @@ use Rattle.pair_core.specs.HistoryState.{HistoryState}
 use Rattle.pair_core.specs.Protocol.{Record}
 use Rattle.pair_core.specs.Pair.{Pair}
 
--- the boot guest, nothing on its way, and an empty box for each client
+-- the boot guest, nothing delivered, nothing on its way, and an empty box for each client
 abbrev pub start_state : ℕ → List ℕ → ℕ → HistoryState
-start_state pages image clients = record { guest = boot_guest pages image; out = []; boxes = replicate clients [] }
+start_state pages image clients = record {
+  guest = boot_guest pages image;
+  number = 1;
+  waiting = [];
+  out = [];
+  boxes = replicate clients [];
+}
 
 -- Nothing happened yet. Both nodes were given the boot image, which counts as checkpoint 0, committed and acknowledged.
 abbrev pub start_record : Record

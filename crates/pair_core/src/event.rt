@@ -11,7 +11,7 @@ pub type Frame = ArrayVec<u8, 1514>;
 
 /// What may happen next to the pair.
 #[derive(Clone, Copy, Debug, PartialEq, Eq)]
-pub enum Event {
+pub enum Event<'a> {
     /// The guest makes one step.
     Step,
     /// The running epoch ends, and its checkpoint waits to be sent.
@@ -22,13 +22,23 @@ pub enum Event {
     BackupGet(u64),
     /// The primary gets the acknowledgement of this number, counted from 0 in the order sent.
     AckGet(u64),
+    /// The first frame of this client's inbox arrives at the guest.
+    Admit(u64),
+    /// The client of this number, counted from 1, delivers the frame of these bytes.
+    Deliver(u64, &'a [u8]),
     /// The client of this number, counted from 1, takes the first frame of its box.
     Take(u64),
 }
 
-/// Why an event was refused. Nothing changed.
+/// Why an event was refused. Nothing changed, but that the history tells of a refusal [`Refusal::Full`].
 #[derive(Clone, Copy, Debug, PartialEq, Eq, Error)]
 pub enum Refusal {
+    /// The client's inbox holds 64 frames.
+    #[error("Full")]
+    Full,
+    /// The frame has fewer than 14 or more than 1514 bytes.
+    #[error("BadFrame")]
+    BadFrame,
     /// The client number is 0 or above the count.
     #[error("NoClient")]
     NoClient,
@@ -60,6 +70,8 @@ impl Refusal {
         ensures { result ≡ number_of self }
     {
         match self {
+            Refusal::Full => 1,
+            Refusal::BadFrame => 2,
             Refusal::NoClient => 3,
             Refusal::Behind => 5,
             Refusal::Stale => 9,
@@ -75,6 +87,8 @@ impl Refusal {
         ensures { result.now ≡ name_of self }
     {
         match self {
+            Refusal::Full => "Full",
+            Refusal::BadFrame => "BadFrame",
             Refusal::NoClient => "NoClient",
             Refusal::Behind => "Behind",
             Refusal::Stale => "Stale",
@@ -134,9 +148,15 @@ pub enum Reply {
         number: u64,
         landed: u64,
     },
+    /// The frame of this number arrived at the guest.
+    Admitted(u64),
+    /// No frame waits: nothing happened.
+    Empty,
+    /// The frame waits for the guest under this number, counted from 1.
+    Delivered(u64),
     /// The frame, or none where the box is empty.
     Took(Option<Frame>),
-    /// Nothing happened.
+    /// Nothing happened, or a frame found the inbox full.
     Refused(Refusal),
 }
 

@@ -9,6 +9,12 @@ use std::marker::Model;
 pub enum Entry {
     /// The guest made so many steps.
     Ran(u64),
+    /// The delivered frame of this number arrived at the guest.
+    Arrive(u64),
+    /// This client delivered the frame, which got this number.
+    Delivered(u64, Box<Frame>, u64),
+    /// This client's frame wasn't taken, since its inbox was full.
+    Refused(u64, Box<Frame>),
     /// The first frame on its way to this client was put into its box.
     Land(u64),
     /// The frame at this place, from 0, of the client's box followed by the frames on their way to it was dropped.
@@ -104,7 +110,12 @@ impl Entry {
     {
         match self {
             Entry::Ran(steps) => *steps,
-            Entry::Land(_) | Entry::DropOut { .. } | Entry::Took(_, _) => 1,
+            Entry::Arrive(_)
+            | Entry::Delivered(_, _, _)
+            | Entry::Refused(_, _)
+            | Entry::Land(_)
+            | Entry::DropOut { .. }
+            | Entry::Took(_, _) => 1,
         }
     }
 }

@@ -10,6 +10,7 @@ mod history;
 mod landings;
 mod laws;
 mod packets;
+mod sealed;
 #[cfg(test)]
 mod tests;
 mod world;

@@ -1,6 +1,6 @@
 //! Whole runs with the expected replies of the beacon's worked example, and what no clause says: that calls succeed
 //! where there is memory.
-use crate::{Event, Refusal, Shape, World};
+use crate::{Event, Refusal, Reply, Shape, World};
 use std::alloc::Global;
 use std::fmt::Write;
 use std::test::Fail;
@@ -50,7 +50,7 @@ fn pair(alloc: Global, image: &[u8]) -> Result<World, Refusal> {
 }
 
 /// The replies as they print, one a line.
-fn printed(alloc: Global, world: &mut World, events: &[Event]) -> Result<String, Fail> {
+fn printed(alloc: Global, world: &mut World, events: &[Event<'_>]) -> Result<String, Fail> {
     let mut text = String::new(alloc);
     for reply in world.run(events)?.as_slice() {
         writeln!(text, "{reply:?}")?;
@@ -122,8 +122,69 @@ fn packets_out_of_order_and_a_fifth_checkpoint(rt: HostRuntime) -> Result<(), Fa
 }
 
 #[test]
+fn a_delivered_frame_arrives_at_the_guest(rt: HostRuntime) -> Result<(), Fail> {
+    let mut world = pair(rt.alloc(), &[0x6f, 0, 0, 0])?;
+    let events = [Event::Deliver(1, &FRAME), Event::Admit(1), Event::Admit(1)];
+    let text = printed(rt.alloc(), &mut world, &events)?;
+    assert_eq!(rt; text.as_str(), "Delivered(1)\nAdmitted(1)\nEmpty\n");
+    let show = world.show();
+    assert_eq!(rt; show.pending, 0);
+    assert_eq!(rt; show.steps, 0);
+    assert_eq!(rt; show.entries, 1);
+    Ok(())
+}
+
+/// Delivers the frame that often, and says whether the replies are the numbers from 1.
+fn are_numbered(world: &mut World, count: u64) -> bool {
+    for number in 1..count + 1 {
+        match world.apply(Event::Deliver(1, &FRAME)) {
+            Reply::Delivered(given) if given == number => {}
+            _ => return false,
+        }
+    }
+    true
+}
+
+#[test]
+fn an_inbox_holds_64_frames(rt: HostRuntime) -> Result<(), Fail> {
+    let mut world = pair(rt.alloc(), &[0x6f, 0, 0, 0])?;
+    assert!(rt; are_numbered(&mut world, 64));
+    let text = printed(
+        rt.alloc(),
+        &mut world,
+        &[Event::Deliver(1, &FRAME), Event::Take(1)],
+    )?;
+    assert_eq!(rt; text.as_str(), "Refused(Full)\nTook(None)\n");
+    assert_eq!(rt; world.show().entries, 66);
+    Ok(())
+}
+
+#[test]
+fn frames_have_14_to_1514_bytes(rt: HostRuntime) -> Result<(), Fail> {
+    let (pages, sectors) = SHAPE;
+    let mut world = World::boot(rt.alloc(), Shape { pages, sectors }, 2, &[0x6f, 0, 0, 0])?;
+    let events = [
+        Event::Deliver(1, &[2; 13]),
+        Event::Deliver(1, &[2; 1515]),
+        Event::Deliver(1, &[2; 1514]),
+        Event::Deliver(0, &[2; 13]),
+        Event::Deliver(3, &FRAME),
+        Event::Admit(0),
+        Event::Admit(3),
+    ];
+    let text = printed(rt.alloc(), &mut world, &events)?;
+    let wanted =
+        "Refused(BadFrame)\nRefused(BadFrame)\nDelivered(1)\nRefused(NoClient)\nRefused(NoClient)\n\
+        Refused(NoClient)\nRefused(NoClient)\n";
+    assert_eq!(rt; text.as_str(), wanted);
+    Ok(())
+}
+
+#[test]
 fn refusals_print_their_names(rt: HostRuntime) -> Result<(), Fail> {
     for refusal in [
+        Refusal::Full,
+        Refusal::BadFrame,
         Refusal::NoClient,
         Refusal::Behind,
         Refusal::Stale,

@@ -1,11 +1,12 @@
 //! The pair as one value, and what each event does to it.
 ghost use Rattle.std.specs.Prelude.{◌≡◌, ◌+◌, ◌-◌, ◌*◌, ◌^◌, ◌≤◌, ◌<◌, ◌++◌, ◌∷◌, [], length, IfOk, IfErr, OnOk, OnErr, IsOkUnless, IsTrue, slice_get, nat_le, if◌then◌else◌};
 
+use crate::sealed::{Arrival, Sealed, add_epoch, seal};
 use crate::event::{Event, Frame, Mode, Packet, Refusal, Reply, Show};
 use crate::history::{Entry, History};
 use crate::landings::{add_landings, count_landings};
 use crate::packets::{packet_at, send_all, send_one};
-use frame_ports::Ports;
+use frame_ports::{INBOX_FRAMES, MAX_FRAME, MIN_FRAME, Ports};
 use guest_machine::{Machine, Shape};
 use output_gate::Gate;
 use std::alloc::Global;
@@ -23,13 +24,6 @@ const NUMBER_END: u64 = 1 << 62;
 /// A step needs 64 free places of the 256 in the outbox.
 const STEP_ROOM: usize = 192;
 
-/// A checkpoint that the backup has not committed: the machine at the cut, and the steps of its epoch.
-#[derive(Drop)]
-pub struct Sealed {
-    machine: Machine,
-    steps: u64,
-}
-
 /// A protected pair: the primary's live machine, the backup's image, the lines between them, the gate and the clients'
 /// ports, and the history of all that happened. Contracts see it as a `Pair` of the specs.
 #[derive(Drop)]
@@ -41,6 +35,7 @@ pub struct World {
     live: Machine,
     image: Machine,
     sealed: Vec<Sealed>,
+    arrivals: Vec<Arrival>,
     running: u64,
     kept: u64,
     to_cut: u64,
@@ -69,8 +64,8 @@ impl World {
     ghost use Rattle.std.specs.Prelude.{IsSome};
     ghost use Rattle.frame_ports.specs.declared.limits.TheConstants.{MAX_CLIENTS};
     ghost use Rattle.pair_core.specs.Entries.{Begins};
-    ghost use Rattle.pair_core.specs.Protocol.{Answers, OnRefused, outcome, step_outcome};
-    ghost use Rattle.pair_core.specs.Pair.{Pair, IsConsistent};
+    ghost use Rattle.pair_core.specs.Protocol.{Answers, outcome, step_outcome};
+    ghost use Rattle.pair_core.specs.Pair.{Pair, OnRefused, IsConsistent};
     ghost use Rattle.pair_core.specs.Runs.{Run};
     ghost use Rattle.pair_core.specs.Start.{start_state, start_record, shown};
 
@@ -110,6 +105,7 @@ impl World {
             live,
             image,
             sealed: Vec::new(alloc),
+            arrivals: Vec::new(alloc),
             running: 0,
             kept: 0,
             to_cut: 1,
@@ -123,13 +119,13 @@ impl World {
         })
     }
 
-    /// Does one event and answers it, as the pair protocol says. A refusal leaves everything as it was;
-    /// [`Refusal::NoMemory`] may come in place of any other answer, where memory was asked for and refused.
-    pub fn apply(&mut self, event: Event) -> Reply
+    /// Does one event and answers it, as the pair protocol says. A refusal leaves everything as it was, but that the
+    /// history tells of a refusal [`Refusal::Full`]; [`Refusal::NoMemory`] may come in place of any other answer, where memory was asked for and refused.
+    pub fn apply(&mut self, event: Event<'_>) -> Reply
         // The reply and the next record are the protocol's.
-        ensures answers { Answers self.old.start self.old.protocol event result self.new.protocol }
+        ensures answers { Answers self.old.start self.old.protocol event.entry result self.new.protocol }
         ensures start { self.new.start ≡ self.old.start }
-        ensures refused { OnRefused result (self.new ≡ self.old) }
+        ensures refused { OnRefused result self.old self.new }
 
         // The history is that of a guest that never fails, and begins with the history before.
         ensures grows { Begins self.old.protocol.history self.new.protocol.history }
@@ -141,10 +137,10 @@ impl World {
     }
 
     /// Does one event, or finds no memory for it.
-    fn act(&mut self, event: Event) -> Result<Reply, Refusal>
-        ensures outcome { IfOk result (λ reply. (reply, self.new.protocol) ≡ outcome self.old.start self.old.protocol event) }
+    fn act(&mut self, event: Event<'_>) -> Result<Reply, Refusal>
+        ensures outcome { IfOk result (λ reply. (reply, self.new.protocol) ≡ outcome self.old.start self.old.protocol event.entry) }
         ensures start { self.new.start ≡ self.old.start }
-        ensures refused { IfOk result (λ reply. OnRefused reply (self.new ≡ self.old)) }
+        ensures refused { IfOk result (λ reply. OnRefused reply self.old self.new) }
         ensures err { IfErr result (λ e. (e ≡ Refusal.NoMemory) × (self.new ≡ self.old)) }
     {
         match event {
@@ -153,6 +149,8 @@ impl World {
             Event::Send => self.send(),
             Event::BackupGet(k) => self.backup_get(k),
             Event::AckGet(k) => self.ack_get(k),
+            Event::Admit(client) => self.admit(client),
+            Event::Deliver(client, bytes) => self.deliver(client, bytes),
             Event::Take(client) => self.take(client),
         }
     }
@@ -161,7 +159,7 @@ impl World {
     fn stepped(&mut self) -> Reply
         ensures outcome { (result, self.new.protocol) ≡ step_outcome self.old.start self.old.protocol }
         ensures start { self.new.start ≡ self.old.start }
-        ensures refused { OnRefused result (self.new ≡ self.old) }
+        ensures refused { OnRefused result self.old self.new }
     {
         match self.step() {
             Ok(count) => Reply::Steps(count),
@@ -181,7 +179,7 @@ impl World {
     /// # Errors
     ///
     /// [`Refusal::NoMemory`] where the list of replies can't be had. Nothing was done then.
-    pub fn run(&mut self, events: &[Event]) -> Result<Vec<Reply>, Refusal>
+    pub fn run(&mut self, events: &[Event<'_>]) -> Result<Vec<Reply>, Refusal>
         ensures replies { IfOk result (λ replies. Run self.old.start self.old.protocol events.now replies.items self.new.protocol) }
         ensures start { self.new.start ≡ self.old.start }
         ensures grows { Begins self.old.protocol.history self.new.protocol.history }
@@ -230,8 +228,8 @@ fn answered(outcome: Result<Reply, Refusal>) -> Reply
 }
 
 impl World {
-    ghost use Rattle.pair_core.specs.Protocol.{Answers, OnRefused, step_reply, exhausts, all_entries, number_end, step_outcome, cut_outcome, send_outcome, backup_outcome, again_outcome, commit_outcome, ack_outcome, take_outcome};
-    ghost use Rattle.pair_core.specs.Pair.{Pair, IsKept, IsConsistent};
+    ghost use Rattle.pair_core.specs.Protocol.{Answers, step_reply, exhausts, is_among, all_entries, number_end, step_outcome, cut_outcome, send_outcome, backup_outcome, again_outcome, commit_outcome, ack_outcome, admit_outcome, deliver_outcome, take_outcome};
+    ghost use Rattle.pair_core.specs.Pair.{Pair, OnRefused, IsConsistent};
 
     /// Whether so many more entries would be too many for the history.
     fn is_exhausted_by(&self, more: u64) -> bool
@@ -279,6 +277,13 @@ impl World {
         }
     }
 
+    /// Whether a client has this number.
+    fn is_client(&self, client: u64) -> bool
+        ensures { result ≡ is_among client (length self.now.boxes) }
+    {
+        client >= 1 && client <= self.ports.clients()
+    }
+
     /// How many checkpoints are pending.
     fn pending(&self) -> u64
         ensures { result ≡ length self.now.protocol.pending }
@@ -290,7 +295,7 @@ impl World {
     fn cut(&mut self) -> Result<Reply, Refusal>
         ensures outcome { IfOk result (λ reply. (reply, self.new.protocol) ≡ cut_outcome self.old.start self.old.protocol) }
         ensures start { self.new.start ≡ self.old.start }
-        ensures refused { IfOk result (λ reply. OnRefused reply (self.new ≡ self.old)) }
+        ensures refused { IfOk result (λ reply. OnRefused reply self.old self.new) }
         ensures err { IfErr result (λ e. (e ≡ Refusal.NoMemory) × (self.new ≡ self.old)) }
     {
         if self.pending() >= MOST_PENDING {
@@ -299,7 +304,13 @@ impl World {
         if self.to_cut >= NUMBER_END {
             return Ok(Reply::Refused(Refusal::Exhausted));
         }
-        seal(self.alloc, &self.live, self.running, &mut self.sealed)?;
+        seal(
+            self.alloc,
+            &self.live,
+            &mut self.arrivals,
+            self.running,
+            &mut self.sealed,
+        )?;
         self.gate.hold(self.to_cut, self.live.outbox());
         self.live.settle();
         self.running = 0;
@@ -315,7 +326,7 @@ impl World {
     fn send(&mut self) -> Result<Reply, Refusal>
         ensures outcome { IfOk result (λ reply. (reply, self.new.protocol) ≡ send_outcome self.old.protocol) }
         ensures start { self.new.start ≡ self.old.start }
-        ensures refused { IfOk result (λ reply. OnRefused reply (self.new ≡ self.old)) }
+        ensures refused { IfOk result (λ reply. OnRefused reply self.old self.new) }
         ensures err { IfErr result (λ e. (e ≡ Refusal.NoMemory) × (self.new ≡ self.old)) }
     {
         let count = self.pending();
@@ -332,7 +343,7 @@ impl World {
     fn backup_get(&mut self, k: u64) -> Result<Reply, Refusal>
         ensures outcome { IfOk result (λ reply. (reply, self.new.protocol) ≡ backup_outcome self.old.protocol (slice_get self.old.protocol.packets k)) }
         ensures start { self.new.start ≡ self.old.start }
-        ensures refused { IfOk result (λ reply. OnRefused reply (self.new ≡ self.old)) }
+        ensures refused { IfOk result (λ reply. OnRefused reply self.old self.new) }
         ensures err { IfErr result (λ e. (e ≡ Refusal.NoMemory) × (self.new ≡ self.old)) }
     {
         let Some(packet) = packet_at(&self.packets, k) else {
@@ -355,7 +366,7 @@ impl World {
     fn acknowledge_again(&mut self) -> Result<Reply, Refusal>
         ensures outcome { IfOk result (λ reply. (reply, self.new.protocol) ≡ again_outcome self.old.protocol) }
         ensures start { self.new.start ≡ self.old.start }
-        ensures refused { IfOk result (λ reply. OnRefused reply (self.new ≡ self.old)) }
+        ensures refused { IfOk result (λ reply. OnRefused reply self.old self.new) }
         ensures err { IfErr result (λ e. (e ≡ Refusal.NoMemory) × (self.new ≡ self.old)) }
     {
         let number = self.to_commit - 1;
@@ -371,17 +382,23 @@ impl World {
         requires { self.old.protocol.to_commit < self.old.protocol.to_cut }
         ensures outcome { IfOk result (λ reply. (reply, self.new.protocol) ≡ commit_outcome self.old.protocol) }
         ensures start { self.new.start ≡ self.old.start }
-        ensures refused { IfOk result (λ reply. OnRefused reply (self.new ≡ self.old)) }
+        ensures refused { IfOk result (λ reply. OnRefused reply self.old self.new) }
         ensures err { IfErr result (λ e. (e ≡ Refusal.NoMemory) × (self.new ≡ self.old)) }
     {
         let number = self.to_commit;
-        self.history.reserve(1)?;
+        let arrivals = self.sealed[0].arrivals.len();
+        self.history.reserve(2 * arrivals + 1)?;
         send_one(&mut self.answers, GENERATION, number)?;
         let checkpoint = self.sealed.remove(0);
-        let Sealed { machine, steps } = checkpoint;
+        let Sealed {
+            machine,
+            arrivals,
+            steps,
+        } = checkpoint;
         self.image = machine;
-        self.history.add(Entry::Ran(steps));
-        self.kept -= steps;
+        let before = self.history.len();
+        add_epoch(&mut self.history, arrivals.as_slice(), steps);
+        self.kept -= self.history.len() - before;
         self.to_commit += 1;
         Ok(Reply::Committed {
             generation: GENERATION,
@@ -393,7 +410,7 @@ impl World {
     fn ack_get(&mut self, k: u64) -> Result<Reply, Refusal>
         ensures outcome { IfOk result (λ reply. (reply, self.new.protocol) ≡ ack_outcome self.old.start self.old.protocol (slice_get self.old.protocol.answers k)) }
         ensures start { self.new.start ≡ self.old.start }
-        ensures refused { IfOk result (λ reply. OnRefused reply (self.new ≡ self.old)) }
+        ensures refused { IfOk result (λ reply. OnRefused reply self.old self.new) }
         ensures err { IfErr result (λ e. (e ≡ Refusal.NoMemory) × (self.new ≡ self.old)) }
     {
         let Some(packet) = packet_at(&self.answers, k) else {
@@ -419,14 +436,76 @@ impl World {
         })
     }
 
+    /// The first frame of a client's inbox arrives at the guest.
+    fn admit(&mut self, client: u64) -> Result<Reply, Refusal>
+        ensures outcome { IfOk result (λ reply. (reply, self.new.protocol) ≡ admit_outcome self.old.start self.old.protocol client) }
+        ensures start { self.new.start ≡ self.old.start }
+        ensures refused { IfOk result (λ reply. OnRefused reply self.old self.new) }
+        ensures err { IfErr result (λ e. (e ≡ Refusal.NoMemory) × (self.new ≡ self.old)) }
+    {
+        if !self.is_client(client) {
+            return Ok(Reply::Refused(Refusal::NoClient));
+        }
+        if self.ports.inbox_len(client) == 0 {
+            return Ok(Reply::Empty);
+        }
+        if self.is_exhausted_by(1) {
+            return Ok(Reply::Refused(Refusal::Exhausted));
+        }
+        self.arrivals.reserve(1)?;
+        let Ok(Some((number, frame))) = self.ports.admit(client) else {
+            unreachable!();
+        };
+        let _taken = self.live.arrive(&frame);
+        self.arrivals
+            .push(Arrival {
+                steps: self.running,
+                number,
+            })
+            .unwrap();
+        self.running = 0;
+        self.kept += 1;
+        Ok(Reply::Admitted(number))
+    }
+
+    /// A client delivers a frame of these bytes.
+    fn deliver(&mut self, client: u64, bytes: &[u8]) -> Result<Reply, Refusal>
+        ensures outcome { IfOk result (λ reply. (reply, self.new.protocol) ≡ deliver_outcome self.old.start self.old.protocol client bytes.now) }
+        ensures start { self.new.start ≡ self.old.start }
+        ensures refused { IfOk result (λ reply. OnRefused reply self.old self.new) }
+        ensures err { IfErr result (λ e. (e ≡ Refusal.NoMemory) × (self.new ≡ self.old)) }
+    {
+        if !self.is_client(client) {
+            return Ok(Reply::Refused(Refusal::NoClient));
+        }
+        if bytes.len() < MIN_FRAME || bytes.len() > MAX_FRAME {
+            return Ok(Reply::Refused(Refusal::BadFrame));
+        }
+        if self.is_exhausted_by(1) {
+            return Ok(Reply::Refused(Refusal::Exhausted));
+        }
+        self.history.reserve(1)?;
+        let mut place = place_for_frame(self.alloc)?;
+        *place = frame_of(bytes);
+        if self.ports.inbox_len(client) >= INBOX_FRAMES {
+            self.history.add(Entry::Refused(client, place));
+            return Ok(Reply::Refused(Refusal::Full));
+        }
+        let Ok(number) = self.ports.deliver(client, bytes) else {
+            return Ok(Reply::Refused(Refusal::Exhausted));
+        };
+        self.history.add(Entry::Delivered(client, place, number));
+        Ok(Reply::Delivered(number))
+    }
+
     /// A client takes the first frame of its box.
     fn take(&mut self, client: u64) -> Result<Reply, Refusal>
         ensures outcome { IfOk result (λ reply. (reply, self.new.protocol) ≡ take_outcome self.old.start self.old.protocol client) }
         ensures start { self.new.start ≡ self.old.start }
-        ensures refused { IfOk result (λ reply. OnRefused reply (self.new ≡ self.old)) }
+        ensures refused { IfOk result (λ reply. OnRefused reply self.old self.new) }
         ensures err { IfErr result (λ e. (e ≡ Refusal.NoMemory) × (self.new ≡ self.old)) }
     {
-        if client < 1 || client > self.ports.clients() {
+        if !self.is_client(client) {
             return Ok(Reply::Refused(Refusal::NoClient));
         }
         if self.is_exhausted_by(1) {
@@ -436,7 +515,7 @@ impl World {
         let mut place = place_for_frame(self.alloc)?;
         match self.ports.take(client) {
             Ok(Some(frame)) => {
-                *place = copy_of(&frame);
+                *place = frame_of(frame.as_slice());
                 self.history.add(Entry::Took(client, Some(place)));
                 Ok(Reply::Took(Some(frame)))
             }
@@ -467,27 +546,14 @@ fn place_for_frame(alloc: Global) -> Result<Box<Frame>, Refusal>
     }
 }
 
-/// The same frame once more.
-fn copy_of(frame: &Frame) -> Frame
-    ensures { result ≡ frame.now }
+/// The frame of these bytes.
+fn frame_of(bytes: &[u8]) -> Frame
+    requires { length bytes.now ≤ 1514 }
+    ensures { result.items ≡ bytes.now }
 {
-    let mut copy = Frame::new();
-    if copy.try_extend_from_slice(frame.as_slice()).is_err() {
+    let mut frame = Frame::new();
+    if frame.try_extend_from_slice(bytes).is_err() {
         unreachable!();
     }
-    copy
-}
-
-/// Puts a copy of the machine behind the sealed ones, with the steps of its epoch.
-fn seal(alloc: Global, live: &Machine, steps: u64, sealed: &mut Vec<Sealed>) -> Result<(), Refusal>
-    ensures ok { OnOk result (sealed.new.items ≡ sealed.old.items ++ record { machine = live.now; steps = steps } ∷ []) }
-    ensures err { IfErr result (λ e. (e ≡ Refusal.NoMemory) × (sealed.new.items ≡ sealed.old.items)) }
-{
-    let Ok(machine) = live.copy(alloc) else {
-        return Err(Refusal::NoMemory);
-    };
-    match sealed.push(Sealed { machine, steps }) {
-        Ok(()) => Ok(()),
-        Err(_) => Err(Refusal::NoMemory),
-    }
+    frame
 }

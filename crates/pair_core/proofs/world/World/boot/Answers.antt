@@ -10,10 +10,11 @@ invariant_of-result c =
     (c.in-Ok.ensures.guest ∙ ap (boot_guest c.args.shape.pages) (sym c.in_ok-boot_image.ensures.items))
     c.in-Ok.ensures.outbox
     c.in-Ok-copy.ensures.ok
-    (ap (λ (s : PortsState). s.boxes) c.in-Ok-new.ensures.ok)
+    c.in-Ok-new.ensures.ok
     c.in-Ok-new-2.ensures.ok
-    c.new-6.ensures
+    c.new-7.ensures
     c.new-3.ensures.items
-    c.new-4.ensures.items
     c.new-5.ensures.items
+    c.new-6.ensures.items
+    c.new-4.ensures.items
     (refl, refl, refl, refl, refl)

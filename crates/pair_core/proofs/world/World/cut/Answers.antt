@@ -24,7 +24,7 @@ invariant_of-self-2 c =
     let t = c.if-pending-ge-MOST_PENDING.false in
     let u = c.if-self-ge-NUMBER_END.false in
     let gate = held c.self.inside.gate c.hold.new.self c.self.inside.to_cut c.outbox.result.now c.self.inside.live.outbox c.hold.ensures c.outbox.ensures.value in
-    cut_fields c.self.inside c.self.invariant c.settle.new.self c.hold.new.self c.seal.new.sealed c.settle.ensures gate c.in_ok-seal.ensures.ok (omega arith) (omega arith)
+    cut_fields c.self.inside c.self.invariant c.settle.new.self c.hold.new.self c.seal.new.sealed c.seal.new.arrivals c.settle.ensures gate c.in_ok-seal.ensures.ok c.in_ok-seal.ensures.none (omega arith) (omega arith)
 
 pub returns-clause-outcome : goal.returns-clause-outcome
 returns-clause-outcome c =
@@ -33,6 +33,6 @@ returns-clause-outcome c =
     let t = c.if-pending-ge-MOST_PENDING.false in
     let u = c.if-self-ge-NUMBER_END.false in
     let gate = held c.self.inside.gate c.hold.new.self c.self.inside.to_cut c.outbox.result.now c.self.inside.live.outbox c.hold.ensures c.outbox.ensures.value in
-    let now = cut_fields_now c.self.inside c.self.invariant c.settle.new.self c.hold.new.self c.seal.new.sealed c.settle.ensures gate c.in_ok-seal.ensures.ok in
+    let now = cut_fields_now c.self.inside c.self.invariant c.settle.new.self c.hold.new.self c.seal.new.sealed c.seal.new.arrivals c.settle.ensures gate c.in_ok-seal.ensures.ok c.in_ok-seal.ensures.none in
     subst (λ (w : Pair). (replies.Cut 1 c.self.inside.to_cut, record_of now) ≡ cut_outcome w.start w.protocol) c.self.view_is
-    (cut_reply c.self.inside c.self.invariant c.settle.new.self c.hold.new.self c.seal.new.sealed c.settle.ensures gate c.in_ok-seal.ensures.ok (omega arith) (omega arith))
+    (cut_reply c.self.inside c.self.invariant c.settle.new.self c.hold.new.self c.seal.new.sealed c.seal.new.arrivals c.settle.ensures gate c.in_ok-seal.ensures.ok c.in_ok-seal.ensures.none (omega arith) (omega arith))
