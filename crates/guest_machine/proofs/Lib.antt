@@ -5,3 +5,5 @@ pub mod SentLemmas
 pub mod CountLemmas
 pub mod AlignedLemmas
 pub mod RunLemmas
+pub mod RamLength
+pub mod MemoryLemmas

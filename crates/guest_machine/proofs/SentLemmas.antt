@@ -6,10 +6,10 @@ use Rattle.virtio_mmio.specs.declared.states.DeviceState.{DeviceState}
 use Rattle.virtio_mmio.specs.declared.actions.Action.{Action}
 use Rattle.virtio_mmio.specs.declared.actions.Action.TheVariants as asks
 use Rattle.net_device.specs.Frames.{IsFrame}
-use Rattle.net_device.specs.Transmit.{Served, served}
+use Rattle.net_device.specs.Transmit.{Served, rests, served}
 use Rattle.net_device.proofs.Few.{few_served}
 use Rattle.guest_machine.specs.Guest.{Guest}
-use Rattle.guest_machine.specs.Step.{rests, acted, sent}
+use Rattle.guest_machine.specs.Step.{acted, sent}
 use Rattle.guest_machine.proofs.StepCases.{step_case}
 
 -- at most 64 frames
@@ -43,7 +43,7 @@ few_sent g =
       loads = λ regs. none_sent;
       stores = λ offset n value inside. none_sent;
       sets_timer = λ register value. none_sent;
-      serves = λ after. few_acted g.ram after.state after.action;
+      serves = λ offset n value after is. few_acted g.ram after.state after.action;
       writes_csr = λ regs number value. none_sent;
       returns = none_sent;
     })

@@ -1,6 +1,9 @@
 //! Laws of the guest's step, each the contract of a function that does nothing.
 ghost use Rattle.std.specs.Prelude.{◌≡◌, ℕ, ◌+◌, ◌%◌, ◌^◌, ◌≤◌, List, [], ◌∷◌, All, length, replicate};
 ghost use Rattle.mtraps.specs.CsrTable.{boot_values};
+ghost use Rattle.arrayvec.specs.ArrayVec.{ArrayVec};
+ghost use Rattle.virtio_mmio.specs.declared.kinds.DeviceKind.TheVariants.{Network};
+ghost use Rattle.virtio_mmio.specs.States.{IsDeviceRecord};
 ghost use Rattle.net_device.specs.Frames.{IsFrame};
 ghost use Rattle.guest_machine.specs.Aligned.{IsAligned};
 ghost use Rattle.guest_machine.specs.Beacon.{beacon, beacon_with, beacon_frame};
@@ -8,7 +11,7 @@ ghost use Rattle.guest_machine.specs.Bytes.{number_at};
 ghost use Rattle.guest_machine.specs.Examples.{two_branches, mhartid_written, timer_due};
 ghost use Rattle.guest_machine.specs.Guest.{Guest, boot_guest};
 ghost use Rattle.guest_machine.specs.Runs.{after_steps, sent_in};
-ghost use Rattle.guest_machine.specs.Step.{next, sent};
+ghost use Rattle.guest_machine.specs.Step.{next, sent, arrived};
 
 /// Whatever the guest, its next step sends at most 64 frames, each of 14 to 1514 bytes.
 pub fn sent_frames()
@@ -20,6 +23,21 @@ pub fn sent_frames()
 pub fn counted_steps()
     ensures step { (g : Guest) → (next g).steps ≡ (g.steps + 1) % 2 ^ 64 }
     ensures boot { (pages : ℕ) (image : List ℕ) → (boot_guest pages image).steps ≡ 0 }
+{}
+
+/// The memory has as many bytes as at boot after each step and after each frame that arrives, and the network card's record
+/// meets its rules.
+pub fn kept_memory()
+    ensures boot { (pages : ℕ) (image : List ℕ) → IsDeviceRecord Network (boot_guest pages image).net }
+    ensures bytes { (g : Guest) → IsDeviceRecord Network g.net → length (next g).ram ≡ length g.ram }
+    ensures rules { (g : Guest) → IsDeviceRecord Network g.net → IsDeviceRecord Network (next g).net }
+    ensures bytes_at_arrival { (g : Guest) (frame : ArrayVec ℕ) → IsDeviceRecord Network g.net → length (arrived g frame).ram ≡ length g.ram }
+    ensures rules_at_arrival { (g : Guest) (frame : ArrayVec ℕ) → IsDeviceRecord Network g.net → IsDeviceRecord Network (arrived g frame).net }
+{}
+
+/// A frame that arrives at a guest that has set up no queue is lost.
+pub fn early_frames_are_lost()
+    ensures { (pages : ℕ) (image : List ℕ) (frame : ArrayVec ℕ) → arrived (boot_guest pages image) frame ≡ boot_guest pages image }
 {}
 
 /// The pc is a multiple of 4 from boot on.

@@ -7,7 +7,7 @@ use Rattle.guest_machine.proofs.machine.Machine.run.Goals as goal
 pub loop-made-init : goal.loop-made-init
 loop-made-init c =
     let parts = c.self.inside in
-    let Run : State → Type 0 = λ s. IsRun 0 s.guest s.outbox (guest_of parts.hart parts.ram parts.net.state) parts.outbox in
+    let Run : State → Type 0 = λ s. IsRun 0 s.guest s.outbox (guest_of parts.hart parts.ram parts.net.transport.state) parts.outbox in
     record {
       most = omega arith;
       kind = c.self.invariant;

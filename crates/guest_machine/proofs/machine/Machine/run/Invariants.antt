@@ -7,10 +7,10 @@ use Rattle.guest_machine.proofs.machine.Machine.run.Given as goal
 abbrev pub invariant-loop-made : goal.invariant-loop-made
 invariant-loop-made l = record {
   most : l.made ≤ l.count;
-  kind : l.self-inside.net.kind ≡ Network;
+  kind : l.self-inside.net.transport.kind ≡ Network;
   run :
       IsRun l.made l.fn.self.guest l.fn.self.outbox
-      (guest_of l.self-inside.hart l.self-inside.ram l.self-inside.net.state) l.self-inside.outbox;
+      (guest_of l.self-inside.hart l.self-inside.ram l.self-inside.net.transport.state) l.self-inside.outbox;
 }
 
 abbrev pub decreases-loop-made : goal.decreases-loop-made
