@@ -44,7 +44,9 @@ fn read(file: &str) -> String {
 
 fn words_of(text: &str) -> Vec<u32> {
     let words = text.split_whitespace();
-    words.map(|word| u32::from_str_radix(word, 16).expect("a word of eight hex digits")).collect()
+    words
+        .map(|word| u32::from_str_radix(word, 16).expect("a word of eight hex digits"))
+        .collect()
 }
 
 fn run(file: &str, steps: u64) {
@@ -53,7 +55,11 @@ fn run(file: &str, steps: u64) {
     machine.run(steps);
     let seconds = start.elapsed().as_secs_f64();
     show(&machine);
-    println!("{:.3} s, {:.1} million steps a second", seconds, steps as f64 / seconds / 1e6);
+    println!(
+        "{:.3} s, {:.1} million steps a second",
+        seconds,
+        steps as f64 / seconds / 1e6
+    );
 }
 
 fn until(file: &str, most: u64) {
@@ -75,14 +81,20 @@ fn show(machine: &Machine) {
         print!("x{number:<2} {value:016x}{end}");
     }
     let csrs = &machine.csrs;
-    println!("mepc {:016x} mcause {:016x} mtval {:016x}", csrs.mepc, csrs.mcause, csrs.mtval);
+    println!(
+        "mepc {:016x} mcause {:016x} mtval {:016x}",
+        csrs.mepc, csrs.mcause, csrs.mtval
+    );
     println!("sent {} frames", machine.sent.len());
 }
 
 fn sim(file: &str) {
     let text = read(file);
     let mut pair = None;
-    for line in text.lines().filter(|line| !line.is_empty() && !line.starts_with('#')) {
+    for line in text
+        .lines()
+        .filter(|line| !line.is_empty() && !line.starts_with('#'))
+    {
         let answer = match &mut pair {
             None => boot(line).map(|started| {
                 pair = Some(started);
@@ -110,7 +122,12 @@ fn boot(line: &str) -> Option<Pair> {
     if words.next()? != "words" {
         return None;
     }
-    Some(Pair::boot(pages as usize, sectors as usize, clients, &words_of(words.next()?)))
+    Some(Pair::boot(
+        pages as usize,
+        sectors as usize,
+        clients,
+        &words_of(words.next()?),
+    ))
 }
 
 fn copy(bytes: usize, times: u64) {

@@ -76,7 +76,11 @@ impl Pair {
             "ack" => self.acknowledge(number(1)?),
             "sector" => {
                 let sector = number(1)? as usize;
-                let bytes = self.machine.disk.bytes()?.get(512 * sector..512 * sector + 512)?;
+                let bytes = self
+                    .machine
+                    .disk
+                    .bytes()?
+                    .get(512 * sector..512 * sector + 512)?;
                 format!("sector {sector} {}", hex(bytes))
             }
             _ => return None,
@@ -84,7 +88,9 @@ impl Pair {
     }
 
     fn index(&self, client: u64) -> Option<usize> {
-        (1..=self.clients).contains(&client).then(|| client as usize - 1)
+        (1..=self.clients)
+            .contains(&client)
+            .then(|| client as usize - 1)
     }
 
     fn step(&mut self, count: u64) -> String {
@@ -126,7 +132,11 @@ impl Pair {
         if number > self.committed + 1 {
             return "refused 10 Gap".into();
         }
-        let word = if number == self.committed + 1 { "committed" } else { "again" };
+        let word = if number == self.committed + 1 {
+            "committed"
+        } else {
+            "again"
+        };
         self.committed = self.committed.max(number);
         self.answers.push(self.committed);
         format!("{word} 1 {}", self.committed)
@@ -166,7 +176,8 @@ fn targets(frame: &[u8], clients: u64) -> std::ops::Range<usize> {
 }
 
 fn bytes(digits: &str) -> Option<Vec<u8>> {
-    let pairs = (0..digits.len() / 2).map(|i| u8::from_str_radix(digits.get(2 * i..2 * i + 2)?, 16).ok());
+    let pairs =
+        (0..digits.len() / 2).map(|i| u8::from_str_radix(digits.get(2 * i..2 * i + 2)?, 16).ok());
     pairs.collect()
 }
 

@@ -116,7 +116,9 @@ impl Device {
     pub fn load(&mut self, offset: u64, width: usize) -> Option<u64> {
         if offset >= 0x100 {
             let bytes = (0..width as u64).rev();
-            return Some(bytes.fold(0, |sum, i| sum << 8 | u64::from(self.config_byte(offset - 0x100 + i))));
+            return Some(bytes.fold(0, |sum, i| {
+                sum << 8 | u64::from(self.config_byte(offset - 0x100 + i))
+            }));
         }
         if width != 4 {
             return None;
@@ -198,7 +200,9 @@ impl Device {
         let low = |old: u64| old >> 32 << 32 | u64::from(value);
         let high = |old: u64| u64::from(value) << 32 | old & 0xffff_ffff;
         match offset {
-            0x038 if value.is_power_of_two() && value <= u32::from(MOST) => queue.num = value as u16,
+            0x038 if value.is_power_of_two() && value <= u32::from(MOST) => {
+                queue.num = value as u16
+            }
             0x080 => queue.desc = low(queue.desc),
             0x084 => queue.desc = high(queue.desc),
             0x090 => queue.driver = low(queue.driver),
@@ -216,7 +220,8 @@ impl Device {
             return;
         }
         let mut status = value & ACKNOWLEDGE_TO_FEATURES_OK | self.status & NEEDS_RESET;
-        let is_accepted = self.driver_features & !self.offered() == 0 && self.driver_features & VERSION_1 != 0;
+        let is_accepted =
+            self.driver_features & !self.offered() == 0 && self.driver_features & VERSION_1 != 0;
         if status & FEATURES_OK != 0 && self.status & FEATURES_OK == 0 && !is_accepted {
             status &= !FEATURES_OK;
         }
@@ -244,7 +249,12 @@ impl Device {
             if chain.has_writable {
                 return Err(Broken);
             }
-            let frame: Vec<u8> = chain.readable.iter().skip(HEADER).map(|at| ram[*at]).collect();
+            let frame: Vec<u8> = chain
+                .readable
+                .iter()
+                .skip(HEADER)
+                .map(|at| ram[*at])
+                .collect();
             if (SHORTEST..=LONGEST).contains(&frame.len()) {
                 sent.push(frame);
             }
@@ -280,7 +290,9 @@ impl Device {
         if queue != 0 || !self.is_serving(queue) {
             return;
         }
-        let Kind::Block(disk) = &mut self.kind else { return };
+        let Kind::Block(disk) = &mut self.kind else {
+            return;
+        };
         let served = self.queues[queue].serve(ram, |chain, ram| serve_request(disk, chain, ram));
         self.finish(served);
     }
@@ -394,7 +406,11 @@ impl Queue {
             if flags & INDIRECT != 0 {
                 return Err(Broken);
             }
-            let start = if length == 0 { 0 } else { place(ram, address, length)? };
+            let start = if length == 0 {
+                0
+            } else {
+                place(ram, address, length)?
+            };
             if flags & WRITE != 0 {
                 chain.has_writable = true;
                 chain.writable.extend(start..start + length);
