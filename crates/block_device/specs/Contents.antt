@@ -1,0 +1,45 @@
+-- What a disk holds.
+use Rattle.std.specs.Prelude.{◌≡◌, ℕ, ◌+◌, ◌*◌, ◌/◌, ◌%◌, ◌≤◌, Bool, ◌==◌, ◌&&◌, List, [], length, replicate, nat_le, slice_range}
+use Rattle.virtqueue.specs.Memory.{written}
+use Rattle.block_device.specs.Dirty.{Rises, with_written}
+
+-- the bytes of all sectors, one after another, and the sectors that were written since the list was last emptied
+pub record Contents : Type 0 where
+  pub bytes : List ℕ
+  pub dirty : List ℕ
+
+abbrev pub contents_of : List ℕ → List ℕ → Contents
+contents_of bytes dirty = record { bytes = bytes; dirty = dirty }
+
+-- a sector has 512 bytes (virtio 1.1, 5.2.4: the capacity is in sectors of 512 bytes)
+abbrev pub capacity : Contents → ℕ
+capacity c = length c.bytes / 512
+
+abbrev pub sector_at : Contents → ℕ → List ℕ
+sector_at c i = slice_range c.bytes (512 * i) (512 * i + 512)
+
+-- what is true of each disk: it has 1 to 32768 whole sectors, and its list rises and names sectors of its own
+pub record IsDisk (c : Contents) : Type 0 where
+  pub whole : length c.bytes ≡ 512 * capacity c
+  pub least : 1 ≤ capacity c
+  pub most : capacity c ≤ 32768
+  pub dirty : Rises 0 (capacity c) c.dirty
+
+-- a disk at boot: each byte is 0, and nothing was written
+abbrev pub boot_contents : ℕ → Contents
+boot_contents sectors = record { bytes = replicate (512 * sectors) 0; dirty = [] }
+
+-- so many bytes from a sector on are whole sectors of the disk. Numbers do not wrap here
+abbrev pub in_capacity : Contents → ℕ → ℕ → Bool
+in_capacity c sector n = n % 512 == 0 && nat_le (sector + n / 512) (capacity c)
+
+-- the bytes from a sector on
+abbrev pub bytes_at : Contents → ℕ → ℕ → List ℕ
+bytes_at c sector n = slice_range c.bytes (512 * sector) (512 * sector + n)
+
+-- a disk after whole sectors were written from one on
+abbrev pub contents_with : Contents → ℕ → List ℕ → Contents
+contents_with c sector new = record {
+  bytes = written c.bytes (512 * sector) new;
+  dirty = with_written c.dirty sector (length new / 512);
+}

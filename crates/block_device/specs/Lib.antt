@@ -1,0 +1,5 @@
+pub mod Dirty
+pub mod Contents
+pub mod Request
+pub mod Disk
+pub mod Errors

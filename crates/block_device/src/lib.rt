@@ -1,0 +1,20 @@
+//! A virtio block device (OASIS virtio 1.1, 5.2): a disk of sectors in memory, and the requests of its one queue.
+#![tactic(auto)]
+
+mod dirty;
+mod disk;
+mod errors;
+mod laws;
+mod requests;
+mod storage;
+
+pub use disk::Disk;
+pub use errors::DiskError;
+pub use laws::{
+    other_sectors, reading_back, serving_keeps_the_disk, worked_lengths, worked_requests,
+    written_sectors,
+};
+pub use storage::SECTOR_BYTES;
+
+#[cfg(test)]
+mod tests;

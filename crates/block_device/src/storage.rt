@@ -1,0 +1,188 @@
+//! The sectors of a disk in memory.
+ghost use Rattle.std.specs.Prelude.{◌≡◌, ◌+◌, ◌-◌, ◌*◌, ◌/◌, ◌<◌, ◌≤◌, IfOk, IsTrue, [], drop, length};
+ghost use Rattle.virtqueue.specs.Chains.{BuffersInside};
+ghost use Rattle.virtqueue.specs.Memory.{written};
+ghost use Rattle.virtqueue.specs.Parts.{readable_len, writable_len, readable_bytes, writable_places, put_at};
+ghost use Rattle.block_device.specs.Contents.{capacity, sector_at, boot_contents, in_capacity, bytes_at, contents_with, IsDisk};
+ghost use Rattle.block_device.specs.Dirty.{Rises};
+
+use crate::dirty::mark_written;
+use std::alloc::{AllocError, Global};
+use std::marker::Model;
+use virtqueue::{Chain, GuestRam, Queue};
+
+/// Bytes in a sector (virtio 1.1, 5.2.4).
+pub const SECTOR_BYTES: usize = 512;
+
+/// The sectors of a disk, and which of them were written since the list of these was last emptied. The list has room for
+/// each sector from the start.
+#[derive(Drop)]
+pub(crate) struct Storage {
+    bytes: Vec<u8>,
+    dirty: Vec<u32>,
+}
+
+impl Model for Storage {
+    ghost use Rattle.std.specs.Prelude.{◌≤◌, vec_capacity};
+    ghost use Rattle.block_device.specs.Contents.{Contents, IsDisk, capacity, contents_of};
+
+    ghost Value = { Contents };
+
+    ghost view = { λ s. contents_of s.bytes.items s.dirty.items };
+
+    ghost invariant = { λ s. IsDisk (contents_of s.bytes.items s.dirty.items) × (capacity (contents_of s.bytes.items s.dirty.items) ≤ vec_capacity s.dirty) };
+}
+
+impl Storage {
+    /// So many sectors, all bytes 0, none of them written.
+    pub(crate) fn boot(alloc: Global, sectors: u32) -> Result<Storage, AllocError>
+        requires some { 1 ≤ sectors }
+        requires most { sectors ≤ 32768 }
+        ensures { IfOk result (λ storage. storage ≡ boot_contents sectors) }
+    {
+        let size = SECTOR_BYTES * sectors as usize;
+        let mut bytes = Vec::with_capacity(alloc, size)?;
+        bytes.resize(size, 0)?;
+        let dirty = Vec::with_capacity(alloc, sectors as usize)?;
+        Ok(Storage { bytes, dirty })
+    }
+
+    /// The same sectors once more, and the same list.
+    pub(crate) fn copy(&self, alloc: Global) -> Result<Storage, AllocError>
+        ensures { IfOk result (λ storage. storage ≡ self.now) }
+    {
+        let mut bytes = Vec::with_capacity(alloc, self.bytes.len())?;
+        bytes.extend_from_slice(self.bytes.as_slice())?;
+        let mut dirty = Vec::with_capacity(alloc, self.bytes.len() / SECTOR_BYTES)?;
+        dirty.extend_from_slice(self.dirty.as_slice())?;
+        Ok(Storage { bytes, dirty })
+    }
+
+    /// How many sectors there are: 1 to 32768.
+    pub(crate) fn sectors(&self) -> u32
+        ensures value { result ≡ capacity self.now }
+        ensures least { 1 ≤ result }
+        ensures most { result ≤ 32768 }
+        ensures disk { IsDisk self.now }
+    {
+        (self.bytes.len() / SECTOR_BYTES) as u32
+    }
+
+    /// The 512 bytes of a sector.
+    pub(crate) fn sector(&self, sector: u32) -> &[u8]
+        requires { sector < capacity self.now }
+        ensures value { result.now ≡ sector_at self.now sector }
+        ensures len { length result.now ≡ 512 }
+    {
+        let start = SECTOR_BYTES * sector as usize;
+        &self.bytes[start..start + SECTOR_BYTES]
+    }
+
+    /// The sectors that were written since the list was last emptied, in rising order.
+    pub(crate) fn dirty(&self) -> &[u32]
+        ensures value { result.now ≡ self.now.dirty }
+        ensures rises { Rises 0 (capacity self.now) result.now }
+    {
+        self.dirty.as_slice()
+    }
+
+    /// Empties the list of the written sectors.
+    pub(crate) fn settle(&mut self)
+        ensures { self.new ≡ record self.old { dirty = [] } }
+    {
+        self.dirty.clear();
+    }
+
+    /// Whether so many bytes from a sector on are whole sectors of the disk.
+    pub(crate) fn in_capacity(&self, sector: u64, len: u64) -> bool
+        ensures { result ≡ in_capacity self.now sector len }
+    {
+        let sectors = u64::from(self.sectors());
+        len % 512 == 0 && sector <= sectors && len / 512 <= sectors - sector
+    }
+
+    /// Where a sector begins from which so many bytes are whole sectors of the disk.
+    fn start_of(&self, sector: u64, len: u64) -> usize
+        requires { IsTrue (in_capacity self.now sector len) }
+        ensures start { result ≡ 512 * sector }
+        ensures fits { result + len ≤ length self.now.bytes }
+        ensures whole { 512 * (len / 512) ≡ len }
+        ensures few { sector + len / 512 ≤ 32768 }
+        ensures within { sector + len / 512 ≤ capacity self.now }
+    {
+        let _sectors = self.sectors();
+        SECTOR_BYTES * sector as usize
+    }
+
+    /// Copies so many bytes from a sector on into a chain's writable buffers, from the first place on.
+    pub(crate) fn read<R: GuestRam>(&self, ram: &mut R, chain: &Chain, sector: u64, len: u64)
+        requires whole { IsTrue (in_capacity self.now sector len) }
+        requires inside { BuffersInside (length (R.bytes ram.old)) chain.now.parts }
+        requires fits { len ≤ writable_len chain.now.parts }
+        ensures value { R.bytes ram.new ≡ put_at (R.bytes ram.old) (writable_places chain.now.parts) (bytes_at self.now sector len) }
+        ensures size { length (R.bytes ram.new) ≡ length (R.bytes ram.old) }
+        ensures len { length (bytes_at self.now sector len) ≡ len }
+        ensures few { len ≤ 512 * 32768 }
+    {
+        let start = self.start_of(sector, len);
+        let end = start + len as usize;
+        Queue::scatter(chain, ram, 0, &self.bytes[start..end]);
+    }
+
+    /// Copies the bytes of a chain's readable buffers, from the one at `at` on, to so many bytes from a sector on, and puts these
+    /// sectors into the list of the written ones.
+    pub(crate) fn write<R: GuestRam>(
+        &mut self,
+        ram: &R,
+        chain: &Chain,
+        at: u64,
+        sector: u64,
+        len: u64,
+    )
+        requires whole { IsTrue (in_capacity self.old sector len) }
+        requires inside { BuffersInside (length (R.bytes ram.now)) chain.now.parts }
+        requires all { at + len ≡ readable_len chain.now.parts }
+        ensures { self.new ≡ contents_with self.old sector (drop at (readable_bytes (R.bytes ram.now) chain.now.parts)) }
+    {
+        let start = self.start_of(sector, len);
+        gather_at(&mut self.bytes, start, len as usize, ram, chain, at);
+        mark_written(&mut self.dirty, sector as u32, (len / 512) as u32);
+    }
+}
+
+/// Copies the bytes of a chain's readable buffers, from the one at `at` on, to the `len` places from `start` on.
+fn gather_at<R: GuestRam>(
+    bytes: &mut Vec<u8>,
+    start: usize,
+    len: usize,
+    ram: &R,
+    chain: &Chain,
+    at: u64,
+)
+    requires within { start + len ≤ length bytes.old.items }
+    requires inside { BuffersInside (length (R.bytes ram.now)) chain.now.parts }
+    requires all { at + len ≡ readable_len chain.now.parts }
+    ensures items { bytes.new.items ≡ written bytes.old.items start (drop at (readable_bytes (R.bytes ram.now) chain.now.parts)) }
+    ensures count { length (drop at (readable_bytes (R.bytes ram.now) chain.now.parts)) ≡ len }
+    ensures size { length bytes.new.items ≡ length bytes.old.items }
+{
+    gather_part(bytes.as_mut_slice(), start, len, ram, chain, at);
+}
+
+/// The same at a slice.
+fn gather_part<R: GuestRam>(
+    places: &mut [u8],
+    start: usize,
+    len: usize,
+    ram: &R,
+    chain: &Chain,
+    at: u64,
+)
+    requires within { start + len ≤ length places.old }
+    requires inside { BuffersInside (length (R.bytes ram.now)) chain.now.parts }
+    requires all { at + len ≡ readable_len chain.now.parts }
+    ensures value { places.new ≡ written places.old start (drop at (readable_bytes (R.bytes ram.now) chain.now.parts)) }
+    ensures count { length (drop at (readable_bytes (R.bytes ram.now) chain.now.parts)) ≡ len }
+{
+    Queue::gather(chain, ram, at, &mut places[start..start + len]);
+}
