@@ -45,8 +45,10 @@ fn digest_of_three_letters(rt: HostRuntime) -> Result<(), Fail> {
     let machine = after(&rt, rt.alloc(), &SHA256, 5909)?;
     assert_eq!(rt; register(&rt, &machine, A0), 0xba78_16bf_8f01_cfea);
     assert!(rt; machine.ram_size() >= 8192);
+    let answers = machine.page(ANSWER / 4096);
+    assert!(rt; answers.len() >= 32);
     assert_eq!(rt;
-        &machine.page(ANSWER / 4096)[..32],
+        &answers[..32],
         [
             0xba, 0x78, 0x16, 0xbf, 0x8f, 0x01, 0xcf, 0xea, 0x41, 0x41, 0x40, 0xde, 0x5d, 0xae,
             0x22, 0x23, 0xb0, 0x03, 0x61, 0xa3, 0x96, 0x17, 0x7a, 0x9c, 0xb4, 0x10, 0xff, 0x61,
