@@ -40,8 +40,11 @@ pub fn place(addr: u64, width: u8) -> Place
     ensures fault { list_any (λ row. holds row addr width) address_map ≡ false → result ≡ Place.Fault }
     ensures offset { IsOffsetWithin result }
 {
+    // Most accesses are to RAM.
+    if addr >= RAM_BASE {
+        return Place::Ram(addr - RAM_BASE);
+    }
     match addr {
-        RAM_BASE.. => Place::Ram(addr - RAM_BASE),
         NET..=NET_LAST => Place::Net(addr - NET),
         BLOCK..=BLOCK_LAST => Place::Block(addr - BLOCK),
         MSIP if width == 4 => Place::Clint(TimerRegister::Msip),
