@@ -6,7 +6,7 @@ use Rattle.std.proofs.lemmas.Slice.Eq.{bytes_eq-Decides}
 use Rattle.remus.specs.Fields.{behind, number_of, numbered_by}
 use Rattle.remus.specs.Command.{IsNumbered, IsCommand, command_of}
 use Rattle.remus.specs.declared.script.Command.{Command}
-use Rattle.remus.specs.declared.script.Command.TheVariants.{Step, Cut, Send, Backup, Ack, Take, Show}
+use Rattle.remus.specs.declared.script.Command.TheVariants.{Step, Cut, Send, Backup, Ack, Admit, Take, Show}
 use Rattle.remus.proofs.FieldLemmas.{behind-some}
 
 -- what is spelled so is read so
@@ -18,6 +18,7 @@ command_of-spelled text Cut shape = ap command_of shape
 command_of-spelled text Send shape = ap command_of shape
 command_of-spelled text (Backup k) (digits, shape, value) = ap command_of shape ∙ ap (λ o. option_map_or (λ k. Some (Backup k)) o None) value
 command_of-spelled text (Ack k) (digits, shape, value) = ap command_of shape ∙ ap (λ o. option_map_or (λ k. Some (Ack k)) o None) value
+command_of-spelled text (Admit client) (digits, shape, value) = ap command_of shape ∙ ap (λ o. option_map_or (λ k. Some (Admit k)) o None) value
 command_of-spelled text (Take client) (digits, shape, value) = ap command_of shape ∙ ap (λ o. option_map_or (λ k. Some (Take k)) o None) value
 command_of-spelled text Show shape = ap command_of shape
 
@@ -44,8 +45,11 @@ steps text n command spelled false e h = let low : 1 ≤ n = grind arith in let 
 abbrev take_form : List ℕ → Option Command
 take_form text = option_map_or (λ client. Some (Take client)) (numbered_by (codes "take ") text) None
 
+abbrev admit_form : List ℕ → Option Command
+admit_form text = option_map_or (λ client. Some (Admit client)) (numbered_by (codes "admit ") text) (take_form text)
+
 abbrev ack_form : List ℕ → Option Command
-ack_form text = option_map_or (λ k. Some (Ack k)) (numbered_by (codes "ack ") text) (take_form text)
+ack_form text = option_map_or (λ k. Some (Ack k)) (numbered_by (codes "ack ") text) (admit_form text)
 
 abbrev backup_form : List ℕ → Option Command
 backup_form text = option_map_or (λ k. Some (Backup k)) (numbered_by (codes "backup ") text) (ack_form text)
@@ -58,10 +62,15 @@ from_take text command = told (IsCommand text command) (λ n. Some (Take n)) (nu
     (λ n spelled e. let same : Take n ≡ command = cc in subst (IsCommand text) same (is_numbered (codes "take ") text n spelled))
     (λ e. cc)
 
-from_ack : (text : List ℕ) (command : Command) → ack_form text ≡ Some command → IsCommand text command
-from_ack text command = told (IsCommand text command) (λ n. Some (Ack n)) (numbered_by (codes "ack ") text) (take_form text) command
-    (λ n spelled e. let same : Ack n ≡ command = cc in subst (IsCommand text) same (is_numbered (codes "ack ") text n spelled))
+from_admit : (text : List ℕ) (command : Command) → admit_form text ≡ Some command → IsCommand text command
+from_admit text command = told (IsCommand text command) (λ n. Some (Admit n)) (numbered_by (codes "admit ") text) (take_form text) command
+    (λ n spelled e. let same : Admit n ≡ command = cc in subst (IsCommand text) same (is_numbered (codes "admit ") text n spelled))
     (from_take text command)
+
+from_ack : (text : List ℕ) (command : Command) → ack_form text ≡ Some command → IsCommand text command
+from_ack text command = told (IsCommand text command) (λ n. Some (Ack n)) (numbered_by (codes "ack ") text) (admit_form text) command
+    (λ n spelled e. let same : Ack n ≡ command = cc in subst (IsCommand text) same (is_numbered (codes "ack ") text n spelled))
+    (from_admit text command)
 
 from_backup : (text : List ℕ) (command : Command) → backup_form text ≡ Some command → IsCommand text command
 from_backup text command = told (IsCommand text command) (λ n. Some (Backup n)) (numbered_by (codes "backup ") text) (ack_form text) command

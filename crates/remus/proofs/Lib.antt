@@ -4,3 +4,4 @@ pub mod WordLemmas
 pub mod WordsLemmas
 pub mod BootLemmas
 pub mod ImageLemmas
+pub mod DeliveryLemmas

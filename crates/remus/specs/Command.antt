@@ -4,7 +4,7 @@ use Rattle.std.specs.Option.{option_map_or}
 use Rattle.std.specs.Str.{bytes_eq}
 use Rattle.remus.specs.Fields.{number_of, numbered_by}
 use Rattle.remus.specs.declared.script.Command.{Command}
-use Rattle.remus.specs.declared.script.Command.TheVariants.{Step, Cut, Send, Backup, Ack, Take, Show}
+use Rattle.remus.specs.declared.script.Command.TheVariants.{Step, Cut, Send, Backup, Ack, Admit, Take, Show}
 
 -- the front, and digits that write n
 abbrev pub IsNumbered : List ℕ → ℕ → List ℕ → Type 0
@@ -17,6 +17,7 @@ IsCommand text Cut = text ≡ codes "cut"
 IsCommand text Send = text ≡ codes "send"
 IsCommand text (Backup k) = IsNumbered (codes "backup ") k text
 IsCommand text (Ack k) = IsNumbered (codes "ack ") k text
+IsCommand text (Admit client) = IsNumbered (codes "admit ") client text
 IsCommand text (Take client) = IsNumbered (codes "take ") client text
 IsCommand text Show = text ≡ codes "show"
 
@@ -29,5 +30,6 @@ command_of text =
     else option_map_or (λ n. if nat_eq n 0 then None else Some (Step n)) (numbered_by (codes "step ") text)
     (option_map_or (λ k. Some (Backup k)) (numbered_by (codes "backup ") text)
     (option_map_or (λ k. Some (Ack k)) (numbered_by (codes "ack ") text)
+    (option_map_or (λ client. Some (Admit client)) (numbered_by (codes "admit ") text)
     (option_map_or (λ client. Some (Take client)) (numbered_by (codes "take ") text)
-    None)))
+    None))))

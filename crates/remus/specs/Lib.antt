@@ -2,3 +2,4 @@ pub mod Fields
 pub mod Command
 pub mod Boot
 pub mod Printed
+pub mod Delivery

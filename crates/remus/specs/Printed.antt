@@ -6,7 +6,7 @@ use Rattle.pair_core.specs.declared.event.Refusal.{Refusal}
 use Rattle.pair_core.specs.Refusals.{number_of, name_of}
 use Rattle.pair_core.specs.declared.event.Show.{Show}
 use Rattle.pair_core.specs.declared.event.Reply.{Reply}
-use Rattle.pair_core.specs.declared.event.Reply.TheVariants.{Steps, Cut, Sent, Committed, Again, Lost, Acked, Took, Refused}
+use Rattle.pair_core.specs.declared.event.Reply.TheVariants.{Steps, Cut, Sent, Committed, Again, Lost, Acked, Admitted, Empty, Delivered, Took, Refused}
 
 -- fields parted by one space, and the end of the line
 abbrev pub line : List (List ℕ) → List ℕ
@@ -25,6 +25,9 @@ reply_line (Committed g n) = line (codes "committed" ∷ decimal g ∷ decimal n
 reply_line (Again g n) = line (codes "again" ∷ decimal g ∷ decimal n ∷ [])
 reply_line Lost = line (codes "lost" ∷ [])
 reply_line (Acked g n m) = line (codes "acked" ∷ decimal g ∷ decimal n ∷ codes "landed" ∷ decimal m ∷ [])
+reply_line (Admitted n) = line (codes "admitted" ∷ decimal n ∷ [])
+reply_line Empty = line (codes "empty" ∷ [])
+reply_line (Delivered n) = line (codes "delivered" ∷ decimal n ∷ [])
 reply_line (Took None) = line (codes "none" ∷ [])
 reply_line (Took (Some frame)) = line (codes "frame" ∷ encode_lower frame.items ∷ [])
 reply_line (Refused refusal) = refusal_line refusal

@@ -3,6 +3,7 @@
 
 mod boot;
 mod command_line;
+mod delivery;
 mod fields;
 mod replies;
 mod script;

@@ -19,6 +19,8 @@ pub enum Command {
     Backup(u64),
     /// `ack K`: the primary gets acknowledgement `K`.
     Ack(u64),
+    /// `admit C`: the first frame of client `C`'s inbox arrives at the guest.
+    Admit(u64),
     /// `take C`: client `C` takes the first frame of its box.
     Take(u64),
     /// `show`: the state in one line.
@@ -61,6 +63,9 @@ fn first_form(text: &[u8]) -> Option<Command>
     }
     if let Some(acknowledgement) = numbered(text, b"ack ") {
         return Some(Command::Ack(acknowledgement));
+    }
+    if let Some(client) = numbered(text, b"admit ") {
+        return Some(Command::Admit(client));
     }
     if let Some(client) = numbered(text, b"take ") {
         return Some(Command::Take(client));

@@ -4,6 +4,7 @@ ghost use Rattle.std.specs.Prelude.{◌≤◌, ◌*◌, IfOk, length};
 ghost use Rattle.remus.specs.Boot.{IsInLimits, boot_line};
 
 use crate::boot::{Boot, Guest, image_of, read_boot};
+use crate::delivery::read_delivery;
 use crate::replies::{write_refusal, write_reply, write_show};
 use crate::script::{Command, read_command};
 use guest_kit::{beacon, idle};
@@ -59,12 +60,32 @@ fn play<O: Write>(alloc: Global, source: &[u8], out: &mut O) -> Result<(), Stop>
         let number = index as u64 + 1;
         match &mut world {
             None => world = Some(boot(alloc, text, number, out)?),
-            Some(world) => match read_command(text) {
-                Some(command) => obey(world, command, out)?,
-                None => return Err(Stop::Bad(number)),
-            },
+            Some(world) => play_line(alloc, world, text, number, out)?,
         }
     }
+    Ok(())
+}
+
+/// Does what a line behind the boot line says, and prints the answer.
+fn play_line<O: Write>(
+    alloc: Global,
+    world: &mut World,
+    text: &[u8],
+    number: u64,
+    out: &mut O,
+) -> Result<(), Stop> {
+    if let Some(command) = read_command(text) {
+        obey(world, command, out)?;
+        return Ok(());
+    }
+    let reply = match read_delivery(alloc, text) {
+        Ok(Some(delivery)) => {
+            world.apply(Event::Deliver(delivery.client, delivery.bytes.as_slice()))
+        }
+        Ok(None) => return Err(Stop::Bad(number)),
+        Err(AllocError) => Reply::Refused(Refusal::NoMemory),
+    };
+    write_reply(out, &reply)?;
     Ok(())
 }
 
@@ -121,6 +142,7 @@ fn obey<O: Write>(world: &mut World, command: Command, out: &mut O) -> io::Resul
         Command::Send => world.apply(Event::Send),
         Command::Backup(packet) => world.apply(Event::BackupGet(packet)),
         Command::Ack(packet) => world.apply(Event::AckGet(packet)),
+        Command::Admit(client) => world.apply(Event::Admit(client)),
         Command::Take(client) => world.apply(Event::Take(client)),
         Command::Show => return write_show(out, &world.show()),
     };

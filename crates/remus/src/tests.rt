@@ -78,6 +78,26 @@ fn a_refusal_does_not_end_a_script(rt: HostRuntime) {
 }
 
 #[test]
+fn a_delivered_frame_is_admitted(rt: HostRuntime) -> Result<(), Fail> {
+    let script = format!(in rt.alloc();
+        "boot 2 1 1 idle\ndeliver 1 {FRAME}\nadmit 1\nadmit 1\nshow\n"
+    )?;
+    let printed =
+        "booted\ndelivered 1\nadmitted 1\nempty\nmode paired generation 1 pending 0 steps 0 entries 1\n";
+    plays(&rt, rt.alloc(), script.as_bytes(), 0, printed, "");
+    Ok(())
+}
+
+#[test]
+fn deliveries_that_are_refused(rt: HostRuntime) {
+    let script =
+        b"boot 2 1 2 idle\ndeliver 0 00\ndeliver 3 00\ndeliver 1 00\nadmit 3\ntake 1\nshow\n";
+    let printed =
+        "booted\nrefused 3 NoClient\nrefused 3 NoClient\nrefused 2 BadFrame\nrefused 3 NoClient\nnone\nmode paired generation 1 pending 0 steps 0 entries 1\n";
+    plays(&rt, rt.alloc(), script, 0, printed, "");
+}
+
+#[test]
 fn words_run_from_the_start_of_ram(rt: HostRuntime) {
     // JAL x0, 0, and a machine that they fill.
     let script = b"boot 1 1 16 words 0000006f\nstep 1\nstep 0002\n";
@@ -148,7 +168,7 @@ fn bad_lines_in_place_of_the_boot_line(rt: HostRuntime) {
 
 #[test]
 fn bad_lines_behind_the_boot_line(rt: HostRuntime) -> Result<(), Fail> {
-    let lines: [&[u8]; 34] = [
+    let lines: [&[u8]; 40] = [
         b"boot 2 1 1 idle",
         b"step",
         b"step ",
@@ -180,7 +200,13 @@ fn bad_lines_behind_the_boot_line(rt: HostRuntime) -> Result<(), Fail> {
         b"ack ",
         b"take",
         b"take 18446744073709551616",
-        b"deliver 1 00",
+        b"deliver 1",
+        b"deliver 1 ",
+        b"deliver 1 0",
+        b"deliver 1 0A",
+        b"deliver 1 00 ",
+        b"deliver x 00",
+        b"admit",
         b"cu\xff",
         b"\xef\xbb\xbfcut",
     ];
