@@ -1,16 +1,18 @@
 -- What so many steps of the guest leave, and what the protocol answers to them.
-use Rattle.std.proofs.Common.{◌≡◌, ℕ, zero, suc, ◌+◌, ◌<◌, ◌≤◌, List, [], ◌∷◌, ◌++◌, length, replicate, refl, sym, ap, ◌∙◌, subst, arith, append_assoc, Bool, true, false}
+use Rattle.std.proofs.Common.{◌≡◌, ℕ, zero, suc, ◌+◌, ◌<◌, ◌≤◌, List, [], ◌∷◌, ◌++◌, length, replicate, refl, sym, ap, ◌∙◌, subst, arith, append_assoc, Bool, true, false, cond, Result, Ok, Err, OnErr}
 use Rattle.std.specs.Prelude.{nat_lt}
 use Rattle.std.proofs.lemmas.Bool.Decides.{nat_tests}
 use Rattle.guest_machine.specs.Guest.{Guest}
 use Rattle.guest_machine.specs.Step.{next, sent}
 use Rattle.guest_machine.specs.Runs.{after_steps, sent_in, HaveRoom}
 use Rattle.pair_core.specs.declared.event.Refusal.{Refusal}
+use Rattle.pair_core.specs.declared.event.Refusal.TheVariants.{CutNeeded, Exhausted}
 use Rattle.pair_core.specs.declared.event.Reply.TheVariants as replies
 use Rattle.pair_core.specs.Entries.{Frame, Entry, Ran}
 use Rattle.pair_core.specs.HistoryState.{HistoryState, at}
-use Rattle.pair_core.specs.Protocol.{Record, Outcome, joined, kept_entries, all_entries, refused, step_outcome, number_end}
-use Rattle.pair_core.specs.Pair.{Pair, IsKept}
+use Rattle.pair_core.specs.Protocol.{Record, Outcome, joined, kept_entries, all_entries, outbox_of, step_room, exhausts, refused, stepped_outcome, step_outcome, step_reply, number_end}
+use Rattle.pair_core.specs.Pair.{Pair}
+use Rattle.pair_core.specs.Kept.{IsKept}
 use Rattle.pair_core.specs.Runs.{goes_on, steps_outcome, with_steps}
 use Rattle.pair_core.proofs.States.{append-nil}
 use Rattle.pair_core.proofs.Epochs.{length-append'}
@@ -65,7 +67,7 @@ replicate-append (suc n) m =
     let e : suc (n + m) ≡ suc n + m = omega arith in
     ap (λ t. Ran ∷ t) (replicate-append n m) ∙ ap (λ k. replicate k Ran) e
 
-length-replicate : (n : ℕ) → length (replicate n Ran) ≡ n
+pub length-replicate : (n : ℕ) → length (replicate n Ran) ≡ n
 length-replicate zero = refl
 length-replicate (suc n) = ap suc (length-replicate n)
 
@@ -165,3 +167,33 @@ module _ (start : HistoryState) (r r' : Record) (n k : ℕ) (why : Refusal)
       by_test : (m : ℕ) → n < suc m → (t : Bool) → nat_lt n m ≡ t → (n < m → refused r' why ≡ steps_outcome start r m) → refused r' why ≡ steps_outcome start r (suc m)
       by_test m l true e more = longer m (more (is_below n m e))
       by_test m l false e more = let from = is_from n m e in after m (omega arith)
+
+-- A refused step changes nothing
+
+refused_stays : (start : HistoryState) (r r' : Record) (why : Refusal) → refused r' why ≡ step_outcome start r → r' ≡ r
+refused_stays start r r' why e =
+    by_tests (nat_lt step_room (length (outbox_of start r))) (exhausts r 1) e
+  where
+    by_tests :
+        (t u : Bool) → refused r' why ≡ cond t (refused r CutNeeded) (cond u (refused r Exhausted) (stepped_outcome start r))
+        → r' ≡ r
+    by_tests true u e = ap (λ (o : Outcome). o.1) e
+    by_tests false true e = ap (λ (o : Outcome). o.1) e
+    by_tests false false e =
+        let clash : replies.Refused why ≡ replies.Steps (next (at start (all_entries r)).guest).steps = ap (λ (o : Outcome). o.0) e in
+        cc
+
+none-made : (n : ℕ) (w : Pair) → (with_steps n w).protocol ≡ w.protocol → n ≡ 0
+none-made n w e =
+    let c = steps-counted n w in
+    let same = ap (λ (r : Record). length (all_entries r)) e in
+    omega arith
+
+pub refused_step :
+    (w v : Pair) (answer : Result ℕ Refusal) → (step_reply answer, v.protocol) ≡ step_outcome w.start w.protocol
+    → (n : ℕ) → v ≡ with_steps n w → OnErr answer (v ≡ w)
+refused_step w v (Ok k) e n is = tt
+refused_step w v (Err why) e n is =
+    let stays = refused_stays w.start w.protocol v.protocol why e in
+    let none = none-made n w (ap (λ (u : Pair). u.protocol) (sym is) ∙ stays) in
+    is ∙ ap (λ (k : ℕ). with_steps k w) none ∙ with_no_steps w

@@ -6,7 +6,8 @@ use Rattle.std.specs.declared.vec.Vec.{Vec}
 use Rattle.std.specs.declared.alloc.Global.{Global}
 use Rattle.arrayvec.specs.ArrayVec.{ArrayVec}
 use Rattle.guest_machine.specs.Guest.{Guest, State, boot_guest}
-use Rattle.guest_machine.specs.Step.{next, sent, arrived}
+use Rattle.guest_machine.specs.Step.{arrived}
+use Rattle.guest_machine.specs.Runs.{after_steps, sent_in, HaveRoom}
 use Rattle.frame_ports.specs.Addresses.{IsFrame, targets_of}
 use Rattle.frame_ports.specs.Lands.{list_of, with_list, lands, put_count}
 use Rattle.frame_ports.specs.Ports.{PortsState, empty_ports, after_delivery, with_inbox, inbox_of}
@@ -32,20 +33,15 @@ use Rattle.pair_core.proofs.Epochs.{length-append', map-append', joined-push}
 use Rattle.pair_core.specs.Lengths.{receivers}
 use Rattle.pair_core.proofs.LengthLaws.{length-receivers}
 use Rattle.pair_core.proofs.LineLaws.{packets_from-numbered}
-use Rattle.pair_core.proofs.Events.{step_done, step_kept, cut_done, cut_kept, cut_epoch, send_done, send_kept, again_done, again_kept, commit_done, commit_kept, ack_done, ack_kept, admit_done, admit_kept, deliver_done, deliver_kept, full_done, full_kept, take_done, take_kept, leaving}
-use Rattle.pair_core.proofs.Outcomes.{step_full, step_exhausted, step_goes, cut_behind, cut_exhausted, cut_goes, backup_stale, backup_gap, backup_again, backup_commits, ack_stale, ack_exhausted, ack_goes, admit_none, admit_empty, admit_exhausted, admit_goes, deliver_none, deliver_bad, deliver_exhausted, deliver_full, deliver_numbered, deliver_goes, take_none, take_exhausted, take_goes}
+use Rattle.pair_core.proofs.Events.{cut_done, cut_kept, cut_epoch, send_done, send_kept, again_done, again_kept, commit_done, commit_kept, ack_done, ack_kept, admit_done, admit_kept, deliver_done, deliver_kept, full_done, full_kept, take_done, take_kept, leaving}
+use Rattle.pair_core.specs.Runs.{steps_outcome, with_steps}
+use Rattle.pair_core.proofs.StepRuns.{replicate-append, length-replicate, steps_kept, steps_answered}
+use Rattle.pair_core.proofs.Outcomes.{cut_behind, cut_exhausted, cut_goes, backup_stale, backup_gap, backup_again, backup_commits, ack_stale, ack_exhausted, ack_goes, admit_none, admit_empty, admit_exhausted, admit_goes, deliver_none, deliver_bad, deliver_exhausted, deliver_full, deliver_numbered, deliver_goes, take_none, take_exhausted, take_goes}
 
-replicate-more : (n : ℕ) → replicate n Ran ++ Ran ∷ [] ≡ replicate (n + 1) Ran
-replicate-more n = up n ∙ (let e : suc n ≡ n + 1 = omega arith in ap (λ k. replicate k Ran) e)
-  where
-    up : (n : ℕ) → replicate n Ran ++ Ran ∷ [] ≡ replicate (suc n) Ran
-    up zero = refl
-    up (suc n) = ap (λ t. Ran ∷ t) (up n)
+-- an epoch goes on by steps, or by an arrival
 
--- an epoch goes on by a step, or by an arrival
-
-steps-more : (arrivals : List Arrival) (n : ℕ) → epoch_entries arrivals n ++ Ran ∷ [] ≡ epoch_entries arrivals (n + 1)
-steps-more arrivals n = append_assoc (arrivals_of arrivals) (steps_of n) (Ran ∷ []) ∙ ap (λ t. arrivals_of arrivals ++ t) (replicate-more n)
+steps-more : (arrivals : List Arrival) (n k : ℕ) → epoch_entries arrivals n ++ steps_of k ≡ epoch_entries arrivals (n + k)
+steps-more arrivals n k = append_assoc (arrivals_of arrivals) (steps_of n) (steps_of k) ∙ ap (λ t. arrivals_of arrivals ++ t) (replicate-append n k)
 
 arrivals_of-push : (arrivals : List Arrival) (x : Arrival) → arrivals_of (arrivals ++ x ∷ []) ≡ arrivals_of arrivals ++ arrival_of x
 arrivals_of-push [] x = append-nil (arrival_of x)
@@ -91,31 +87,40 @@ has_no_room_for r more e = is_from number_end (length (all_entries r) + more) e
     is_from a b e = grind (arith, nat_tests)
 
 module _ (a : Inside) (h : AreFields a) where
-  -- Step
+  -- Steps
 
-  module _ (m : State) (guest : m.guest ≡ next a.live.guest) (outbox : m.outbox ≡ a.live.outbox ++ sent a.live.guest) where
+  module _ (m : State) (n : ℕ) (guest : m.guest ≡ after_steps n a.live.guest) (outbox : m.outbox ≡ a.live.outbox ++ sent_in n a.live.guest) where
     abbrev pub stepped_fields : Inside
-    stepped_fields = record a { live = m; running = a.running + 1; kept = a.kept + 1 }
+    stepped_fields = record a { live = m; running = a.running + n; kept = a.kept + n }
 
-    stepped : step_done (pair_of a) ≡ pair_of stepped_fields
+    pub stepped : with_steps n (pair_of a) ≡ pair_of stepped_fields
     stepped = λ i. record (pair_of a) {
-      protocol = record (record_of a) { running = steps-more a.arrivals.items a.running i };
+      protocol = record (record_of a) { running = steps-more a.arrivals.items a.running n i };
       live = sym guest i;
       outbox = sym outbox i;
     }
 
-    pub step_fields : length (all_entries (record_of a)) + 1 < number_end → AreFields stepped_fields
+    pub step_fields : length (all_entries (record_of a)) + n < number_end → AreFields stepped_fields
     step_fields room = record {
-      kept = subst IsKept stepped (step_kept (pair_of a) h.kept room);
+      kept = subst IsKept stepped (steps_kept n (pair_of a) h.kept room);
       counted =
           let c = h.counted in
-          let e = kept_more (joined (map epoch_of a.sealed.items)) (epoch_entries a.arrivals.items a.running) (epoch_entries a.arrivals.items (a.running + 1)) Ran (steps-more a.arrivals.items a.running) in
+          let es = joined (map epoch_of a.sealed.items) in
+          let rs = epoch_entries a.arrivals.items a.running in
+          let e1 = length-append' es rs in
+          let e2 = length-append' es (epoch_entries a.arrivals.items (a.running + n)) in
+          let e3 = ap length (steps-more a.arrivals.items a.running n) in
+          let e4 = length-append' rs (steps_of n) in
+          let e5 = length-replicate n in
           omega arith;
     }
 
-    pub step_reply : length a.live.outbox ≤ 192 → length (all_entries (record_of a)) + 1 < number_end → (replies.Steps m.guest.steps, record_of stepped_fields) ≡ step_outcome (pair_of a).start (record_of a)
-    step_reply few room =
-        (λ i. (replies.Steps (guest i).steps, sym (ap (λ (p : Pair). p.protocol) stepped) i)) ∙ step_goes (pair_of a) h.kept few room
+    pub steps_reply :
+        HaveRoom n a.live.guest a.live.outbox → length (all_entries (record_of a)) + n < number_end
+        → (replies.Steps m.guest.steps, record_of stepped_fields) ≡ steps_outcome (pair_of a).start (record_of a) n
+    steps_reply have room =
+        (λ i. (replies.Steps (guest i).steps, sym (ap (λ (p : Pair). p.protocol) stepped) i))
+        ∙ steps_answered n (pair_of a) h.kept room have
 
   -- Cut
 

@@ -181,6 +181,18 @@ fn frames_have_14_to_1514_bytes(rt: HostRuntime) -> Result<(), Fail> {
 }
 
 #[test]
+fn many_steps_are_made_in_one_call(rt: HostRuntime) -> Result<(), Fail> {
+    let image = beacon(rt.alloc())?;
+    let mut world = pair(rt.alloc(), &image)?;
+    assert_eq!(rt; world.run_steps(22), Ok(22));
+    assert_eq!(rt; world.run_steps(1000), Ok(1022));
+    assert_eq!(rt; world.run_steps(0), Ok(1022));
+    assert_eq!(rt; world.step(), Ok(1023));
+    assert_eq!(rt; world.show().steps, 1023);
+    Ok(())
+}
+
+#[test]
 fn refusals_print_their_names(rt: HostRuntime) -> Result<(), Fail> {
     for refusal in [
         Refusal::Full,

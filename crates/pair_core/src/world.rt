@@ -1,5 +1,5 @@
 //! The pair as one value, and what each event does to it.
-ghost use Rattle.std.specs.Prelude.{◌≡◌, ◌+◌, ◌-◌, ◌*◌, ◌^◌, ◌≤◌, ◌<◌, ◌++◌, ◌∷◌, [], length, IfOk, IfErr, OnOk, OnErr, IsOkUnless, IsTrue, slice_get, nat_le, if◌then◌else◌};
+ghost use Rattle.std.specs.Prelude.{◌≡◌, ℕ, ◌+◌, ◌-◌, ◌*◌, ◌^◌, ◌≤◌, ◌<◌, ◌++◌, ◌∷◌, [], length, IfOk, IfErr, OnOk, OnErr, IsOkUnless, IsTrue, slice_get, nat_le, if◌then◌else◌};
 
 use crate::sealed::{Arrival, Sealed, add_epoch, seal};
 use crate::event::{Event, Frame, Mode, Packet, Refusal, Reply, Show};
@@ -230,6 +230,7 @@ fn answered(outcome: Result<Reply, Refusal>) -> Reply
 impl World {
     ghost use Rattle.pair_core.specs.Protocol.{Answers, step_reply, exhausts, is_among, all_entries, number_end, step_outcome, cut_outcome, send_outcome, backup_outcome, again_outcome, commit_outcome, ack_outcome, admit_outcome, deliver_outcome, take_outcome};
     ghost use Rattle.pair_core.specs.Pair.{Pair, OnRefused, IsConsistent};
+    ghost use Rattle.pair_core.specs.Runs.{steps_outcome, with_steps};
 
     /// Whether so many more entries would be too many for the history.
     fn is_exhausted_by(&self, more: u64) -> bool
@@ -240,7 +241,7 @@ impl World {
     }
 
     /// The guest makes one step, as [`World::apply`] of [`Event::Step`] does, and answers the guest's step count. This
-    /// form copies no reply, for callers that run many steps.
+    /// form copies no reply.
     ///
     /// # Errors
     ///
@@ -252,22 +253,42 @@ impl World {
         ensures refused { OnErr result (self.new ≡ self.old) }
         ensures consistent { IsConsistent self.new }
     {
-        if self.is_exhausted_by(1) {
-            return Err(self.refusal_when_exhausted());
-        }
-        match self.live.step() {
-            Ok(()) => {
-                self.running += 1;
-                self.kept += 1;
-                Ok(self.live.steps())
-            }
-            Err(_) => Err(Refusal::CutNeeded),
+        self.run_steps(1)
+    }
+
+    /// The guest makes `count` steps, each as [`World::step`] makes one, and answers its step count after the last. The first step that
+    /// is refused ends them, and those before it stay made. One call for a long run is much faster than a call for each step.
+    ///
+    /// # Errors
+    ///
+    /// What the first refused step answers.
+    pub fn run_steps(&mut self, count: u64) -> Result<u64, Refusal>
+        ensures outcome { (step_reply result, self.new.protocol) ≡ steps_outcome self.old.start self.old.protocol count }
+        ensures start { self.new.start ≡ self.old.start }
+        ensures made { (made : ℕ) × (self.new ≡ with_steps made self.old) }
+        ensures consistent { IsConsistent self.new }
+    {
+        let most = count.min(self.entries_left());
+        let made = self.live.run(most);
+        self.running += made;
+        self.kept += made;
+        if made == count {
+            Ok(self.live.steps())
+        } else {
+            Err(self.step_refusal())
         }
     }
 
-    /// Why a step is refused where the history has no room for one more entry.
-    fn refusal_when_exhausted(&self) -> Refusal
-        requires { IsTrue (exhausts self.now.protocol 1) }
+    /// How many more entries the history has numbers for.
+    fn entries_left(&self) -> u64
+        ensures { length (all_entries self.now.protocol) + (result + 1) ≡ number_end }
+    {
+        NUMBER_END - 1 - (self.history.len() + self.kept)
+    }
+
+    /// Why the next step is refused: the outbox is too full, or else the history has no room for one more entry.
+    fn step_refusal(&self) -> Refusal
+        requires { length self.now.outbox ≤ 192 → number_end ≤ length (all_entries self.now.protocol) + 1 }
         ensures { (Reply.Refused result, self.now.protocol) ≡ step_outcome self.now.start self.now.protocol }
     {
         if self.live.outbox().len() > STEP_ROOM {
