@@ -1,8 +1,11 @@
 -- A delivery is read from the left, and has one reading.
-use Rattle.std.proofs.Common.{◌≡◌, ◌<◌, ℕ, List, [], ◌∷◌, ◌++◌, length, Option, Some, None, Result, Ok, Err, refl, sym, ap, subst, arith, ◌∙◌, codes}
+use Rattle.std.proofs.Common.{◌≡◌, ◌≢◌, ◌<◌, ℕ, Bool, true, false, not, nat_eq, List, [], ◌∷◌, ◌++◌, length, Option, Some, None, Result, Ok, Err, refl, sym, ap, subst, arith, ◌∙◌, ◌⊎◌, inl, inr, IfOk, IfSome, Bor, codes}
+use Rattle.std.specs.Cmp.Lexicographic.{pointwise}
+use Rattle.std.proofs.lemmas.Bool.{and_parts}
 use Rattle.std.specs.Option.{option_and_then, option_map}
 use Rattle.hex.specs.Hex.{encode_lower, decode_of, IsBytes}
 use Rattle.hex.specs.declared.error.FromHexError.{FromHexError}
+use Rattle.hex.specs.declared.error.FromHexError.TheVariants.{OutOfMemory}
 use Rattle.hex.proofs.HexLemmas.{decode_of-encode_lower, decode_of-ok}
 use Rattle.remus.specs.Fields.{behind, number_of, operand_of}
 use Rattle.remus.specs.Delivery.{IsHex, IsDelivery, delivery_head}
@@ -40,3 +43,110 @@ decoded-same digits found bytes e h =
 
 pub decoded-bytes : (digits found : List ℕ) → decode_of digits ≡ Ok found → IsBytes found
 decoded-bytes digits found e = (decode_of-ok digits found e).3
+
+-- ---- digits and what they stand for, compared one by one
+
+pub same-digits : (xs ys : List ℕ) → pointwise nat_eq xs ys ≡ true → xs ≡ ys
+same-digits [] [] h = refl
+same-digits [] (y ∷ ys) h = cc
+same-digits (x ∷ xs) [] h = cc
+same-digits (x ∷ xs) (y ∷ ys) h =
+    let both = and_parts (nat_eq x y) (pointwise nat_eq xs ys) h in
+    let first : x ≡ y = grind (arith, both.0) in
+    let rest : xs ≡ ys = same-digits xs ys both.1 in
+    cc
+
+pub digits-alike : (xs : List ℕ) → pointwise nat_eq xs xs ≡ true
+digits-alike [] = refl
+digits-alike (x ∷ xs) = let first : nat_eq x x ≡ true = grind arith in rw first (digits-alike xs)
+
+not-false : (b : Bool) → not b ≡ false → b ≡ true
+not-false true h = refl
+not-false false h = cc
+
+-- digits that are compared with those of what was found, and are others, write no bytes
+pub others-write-none : (digits found spelled bytes : List ℕ) → decode_of digits ≡ Ok found → spelled ≡ encode_lower found
+    → not (pointwise nat_eq digits spelled) ≡ true → IsHex digits bytes → ⊥
+others-write-none digits found spelled bytes decoded same other h =
+    let is : found ≡ bytes = decoded-same digits found bytes decoded h in
+    let alike : spelled ≡ digits = same ∙ ap encode_lower is ∙ sym h.shape in
+    let yes : pointwise nat_eq digits spelled ≡ true = ap (pointwise nat_eq digits) alike ∙ digits-alike digits in
+    let no : not true ≡ true = sym (ap not yes) ∙ other in
+    cc
+
+-- no bytes are no delivery
+pub none-are-none : (digits found bytes : List ℕ) → decode_of digits ≡ Ok found → length found ≡ 0 → IsHex digits bytes → ⊥
+none-are-none digits found bytes decoded none h =
+    let is : length bytes ≡ 0 = sym (ap length (decoded-same digits found bytes decoded h)) ∙ none in
+    absurd (omega (arith, is, h.some))
+
+-- what was found, spelled again as it stood there
+pub found-written : (digits found spelled : List ℕ) → decode_of digits ≡ Ok found → spelled ≡ encode_lower found
+    → not (pointwise nat_eq digits spelled) ≡ false → 0 < length found → IsHex digits found
+found-written digits found spelled decoded same alike some = record {
+  shape = same-digits digits spelled (not-false (pointwise nat_eq digits spelled) alike) ∙ same;
+  some = some;
+  below = decoded-bytes digits found decoded;
+}
+
+-- digits that can't be decoded write no bytes
+pub undecoded-write-none : (digits bytes : List ℕ) (e : FromHexError) → (e ≡ OutOfMemory) ⊎ (decode_of digits ≡ Err e) → e ≢ OutOfMemory → IsHex digits bytes → ⊥
+undecoded-write-none digits bytes e (inl memory) apart h = apart memory
+undecoded-write-none digits bytes e (inr err) apart h =
+    let both : ◌≡◌ {A = Result (List ℕ) FromHexError} (Err e) (Ok bytes) = sym err ∙ hex-decodes digits bytes h in
+    cc
+
+-- so nothing is found, and there was nothing to find
+pub unread-finds : {V E : Type 0} (items : V → List ℕ) (digits : List ℕ) (e : FromHexError) (r : Result (Option V) E)
+    → IfOk r (λ found. (found ≡ None) × (e ≢ OutOfMemory)) → IfOk r (λ found. IfSome found (λ v. IsHex digits (items v)))
+unread-finds items digits e (Ok found) h = subst (λ o. IfSome o (λ v. IsHex digits (items v))) (sym h.0) tt
+unread-finds items digits e (Err x) h = tt
+
+pub unread-only : {V E : Type 0} (items : V → List ℕ) (digits bytes : List ℕ) (e : FromHexError) (r : Result (Option V) E)
+    → (e ≡ OutOfMemory) ⊎ (decode_of digits ≡ Err e) → IfOk r (λ found. (found ≡ None) × (e ≢ OutOfMemory)) → IsHex digits bytes
+    → IfOk r (λ found. option_map items found ≡ Some bytes)
+unread-only items digits bytes e (Ok found) why h hex = absurd (undecoded-write-none digits bytes e why h.1 hex)
+unread-only items digits bytes e (Err x) why h hex = tt
+
+-- ---- the client's number and the digits
+
+abbrev pub head_view : ℕ × Bor (List ℕ) → ℕ × List ℕ
+head_view head = (head.0, head.1.now)
+
+abbrev first_of : Option (ℕ × List ℕ) → ℕ
+first_of (Some p) = p.0
+first_of None = 0
+
+abbrev second_of : Option (ℕ × List ℕ) → List ℕ
+second_of (Some p) = p.1
+second_of None = []
+
+pub nothing-is-some : {A : Type 0} (x : A) → ◌≡◌ {A = Option A} None (Some x) → ⊥
+nothing-is-some x h = cc
+
+-- a line without such a front is no delivery
+pub headless : (text : List ℕ) (client : ℕ) (bytes : List ℕ) (r : Option (ℕ × Bor (List ℕ))) → r ≡ None → option_map head_view r ≡ delivery_head text
+    → IsDelivery text client bytes → ⊥
+headless text client bytes r none is h =
+    nothing-is-some (client, h.digits) (sym (ap (option_map head_view) none) ∙ is ∙ delivery-spelled text client bytes h)
+
+pub head-found : (text : List ℕ) (n : ℕ) (digits : Bor (List ℕ)) (r : Option (ℕ × Bor (List ℕ))) → r ≡ Some (n, digits)
+    → option_map head_view r ≡ delivery_head text → delivery_head text ≡ Some (n, digits.now)
+head-found text n digits r some is = sym is ∙ ap (option_map head_view) some
+
+-- a delivery has the number and the digits that are read
+pub one-reading : (text : List ℕ) (client : ℕ) (bytes : List ℕ) (n : ℕ) (digits : List ℕ) → delivery_head text ≡ Some (n, digits)
+    → IsDelivery text client bytes → (n ≡ client) × IsHex digits bytes
+one-reading text client bytes n digits head h =
+    let same = sym head ∙ delivery-spelled text client bytes h in
+    (ap first_of same, subst (λ ds. IsHex ds bytes) (sym (ap second_of same)) h.bytes_written)
+
+pub both-same : (a c : ℕ) (b d : List ℕ) → a ≡ c → b ≡ d → ◌≡◌ {A = Option (ℕ × List ℕ)} (Some (a, b)) (Some (c, d))
+both-same a c b d p q = cc
+
+abbrev bytes_of : Option (List ℕ) → List ℕ
+bytes_of (Some bytes) = bytes
+bytes_of None = []
+
+pub bytes-same : (b d : List ℕ) → Some b ≡ Some d → b ≡ d
+bytes-same b d h = ap bytes_of h

@@ -1,6 +1,6 @@
 //! The line of a client's frame: `deliver CLIENT HEX`.
 
-ghost use Rattle.std.specs.Prelude.{◌≡◌, ℕ, List, Some, IfOk, IfSome, option_map};
+ghost use Rattle.std.specs.Prelude.{◌≡◌, ◌≢◌, ℕ, List, Some, None, IfOk, IfSome, option_map};
 ghost use Rattle.remus.specs.Delivery.{IsHex, IsDelivery, delivery_head, delivery_view};
 
 use crate::fields::{after, operand};
@@ -51,8 +51,7 @@ fn read_bytes(alloc: Global, digits: &[u8]) -> Result<Option<Vec<u8>>, AllocErro
 {
     let bytes = match hex::decode(alloc, digits) {
         Ok(bytes) => bytes,
-        Err(FromHexError::OutOfMemory) => return Err(AllocError),
-        Err(_) => return Ok(None),
+        Err(error) => return undecoded(error),
     };
     let spelled = hex::encode(alloc, bytes.as_slice())?;
     if bytes.is_empty() {
@@ -62,4 +61,14 @@ fn read_bytes(alloc: Global, digits: &[u8]) -> Result<Option<Vec<u8>>, AllocErro
         return Ok(None);
     }
     Ok(Some(bytes))
+}
+
+/// What there is where digits can't be decoded: nothing, unless it was for want of memory.
+fn undecoded(error: FromHexError) -> Result<Option<Vec<u8>>, AllocError>
+    ensures { IfOk result (λ found. (found ≡ None) × (error ≢ FromHexError.OutOfMemory)) }
+{
+    match error {
+        FromHexError::OutOfMemory => Err(AllocError),
+        _ => Ok(None),
+    }
 }

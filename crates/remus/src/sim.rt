@@ -1,6 +1,7 @@
 //! `remus sim FILE`: plays a script of events to a pair.
 
-ghost use Rattle.std.specs.Prelude.{◌≤◌, ◌*◌, IfOk, length};
+ghost use Rattle.std.specs.Prelude.{◌≡◌, ◌≤◌, ◌*◌, IfOk, length};
+ghost use Rattle.pair_core.specs.Runs.{steps_outcome};
 ghost use Rattle.remus.specs.Boot.{IsInLimits, boot_line};
 
 use crate::boot::{Boot, Guest, image_of, read_boot};
@@ -150,11 +151,11 @@ fn obey<O: Write>(world: &mut World, command: Command, out: &mut O) -> io::Resul
 }
 
 /// The last of `count` steps' replies, or the first refusal.
-fn run_steps(world: &mut World, count: u64) -> Reply {
-    for _ in 1..count {
-        if let Err(refusal) = world.step() {
-            return Reply::Refused(refusal);
-        }
+fn run_steps(world: &mut World, count: u64) -> Reply
+    ensures { (result, world.new.protocol) ≡ steps_outcome world.old.start world.old.protocol count }
+{
+    match world.run_steps(count) {
+        Ok(steps) => Reply::Steps(steps),
+        Err(refusal) => Reply::Refused(refusal),
     }
-    world.apply(Event::Step)
 }
