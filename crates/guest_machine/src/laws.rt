@@ -1,5 +1,5 @@
 //! Laws of the guest's step, each the contract of a function that does nothing.
-ghost use Rattle.std.specs.Prelude.{◌≡◌, ℕ, ◌+◌, ◌%◌, ◌^◌, ◌≤◌, List, [], ◌∷◌, All, length, replicate};
+ghost use Rattle.std.specs.Prelude.{◌≡◌, ℕ, ◌+◌, ◌%◌, ◌^◌, ◌≤◌, List, [], ◌∷◌, All, length, replicate, slice_range};
 ghost use Rattle.mtraps.specs.CsrTable.{boot_values};
 ghost use Rattle.arrayvec.specs.ArrayVec.{ArrayVec};
 ghost use Rattle.virtio_mmio.specs.declared.kinds.DeviceKind.TheVariants.{Network};
@@ -8,8 +8,9 @@ ghost use Rattle.net_device.specs.Frames.{IsFrame};
 ghost use Rattle.guest_machine.specs.Aligned.{IsAligned};
 ghost use Rattle.guest_machine.specs.Beacon.{beacon, beacon_with, beacon_frame};
 ghost use Rattle.guest_machine.specs.Bytes.{number_at};
-ghost use Rattle.guest_machine.specs.Examples.{two_branches, mhartid_written, timer_due};
+ghost use Rattle.guest_machine.specs.Examples.{two_branches, mhartid_written, timer_due, receiver, client_frame};
 ghost use Rattle.guest_machine.specs.Guest.{Guest, boot_guest};
+ghost use Rattle.guest_machine.specs.Pending.{mip};
 ghost use Rattle.guest_machine.specs.Runs.{after_steps, sent_in};
 ghost use Rattle.guest_machine.specs.Step.{next, sent, arrived};
 
@@ -38,6 +39,20 @@ pub fn kept_memory()
 /// A frame that arrives at a guest that has set up no queue is lost.
 pub fn early_frames_are_lost()
     ensures { (pages : ℕ) (image : List ℕ) (frame : ArrayVec ℕ) → arrived (boot_guest pages image) frame ≡ boot_guest pages image }
+{}
+
+/// A worked arrival, at a guest whose receive queue has one buffer of 26 bytes: there stand ten zero bytes, le16 1 and the
+/// frame; the used ring tells its length; the card's interrupt is pending, and no step is counted. A second frame has no chain.
+pub fn frames_arrive()
+    ensures quiet { mip receiver ≡ 0 }
+    ensures header { number_at (arrived receiver client_frame).ram 0x1100 12 ≡ 2 ^ 80 }
+    ensures frame { slice_range (arrived receiver client_frame).ram 0x110c 0x111a ≡ client_frame.items }
+    ensures used { number_at (arrived receiver client_frame).ram 0x1080 4 ≡ 0x10000 }
+    ensures used_len { number_at (arrived receiver client_frame).ram 0x1088 4 ≡ 26 }
+    ensures told { (arrived receiver client_frame).net.interrupt_status ≡ 1 }
+    ensures pending { mip (arrived receiver client_frame) ≡ 0x800 }
+    ensures steps { (arrived receiver client_frame).steps ≡ 21 }
+    ensures second { arrived (arrived receiver client_frame) client_frame ≡ arrived receiver client_frame }
 {}
 
 /// The pc is a multiple of 4 from boot on.
@@ -97,7 +112,7 @@ pub fn beacon_loses()
     ensures long { sent_in 22 (boot_guest 2 (beacon_with 1527 0 1)) ≡ [] }
 {}
 
-/// Malformed chains break the card: with flags NEXT, and with 65 chains available.
+/// Malformed chains break the card: one that comes back to itself (flags NEXT, next 0), and 65 chains available.
 pub fn beacon_breaks()
     ensures nothing { sent_in 22 (boot_guest 2 (beacon_with 26 1 1)) ≡ [] }
     ensures status { (after_steps 22 (boot_guest 2 (beacon_with 26 1 1))).net.status ≡ 0x4f }

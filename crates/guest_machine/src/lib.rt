@@ -22,7 +22,8 @@ pub use bus_map::RAM_BASE;
 pub use errors::MachineError;
 pub use laws::{
     aligned_pc, beacon_breaks, beacon_loses, beacon_sends, branches_trap, counted_steps,
-    early_frames_are_lost, kept_memory, read_only_csrs_trap, sent_frames, timer_interrupts,
+    early_frames_are_lost, frames_arrive, kept_memory, read_only_csrs_trap, sent_frames,
+    timer_interrupts,
 };
 pub use machine::Machine;
 pub use net_device::Frame;

@@ -122,9 +122,11 @@ impl Machine {
         made
     }
 
-    /// A frame arrives at the guest: its network card puts it into the next chain of the receive queue. Says whether the guest
-    /// has it; otherwise it is lost. It is no step, it sends nothing, and it takes no memory. The frame has at least 14
-    /// bytes, as the caller knows.
+    /// A frame arrives at the guest: its network card puts it into the next chain of the receive queue (virtio 1.1, 5.1.6). Says
+    /// whether the guest has it. It is lost, and nothing changes, where that queue isn't in service, has no chain available, or
+    /// the chain is too short; where the queue or the chain is malformed, it is lost and the card needs a reset.
+    ///
+    /// It is no step, it sends nothing, and it takes no memory. The frame has at least 14 bytes, as the caller knows.
     #[tactic(auto, unfolding(crate::specs::Step::arrived))]
     pub fn arrive(&mut self, frame: &Frame) -> bool
         requires long { 14 ≤ length frame.now.items }
