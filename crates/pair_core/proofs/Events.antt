@@ -92,7 +92,7 @@ module _ (w : Pair) (h : IsKept w) (m : Move) (inboxes : List (List (ℕ × Fram
         sealed = h.sealed;
         frames = h.frames;
         live = ap (λ g. guest_moved g m) h.live ∙ sym (guest_along-append w.image ms one) ∙ ap (guest_along w.image) regroup;
-        outbox = 
+        outbox =
             ap (λ t. t ++ frames_by w.live m) h.outbox
             ∙ ap (λ x. frames_along g h.running_moves ++ frames_by x m) live
             ∙ ap (λ t. frames_along g h.running_moves ++ t) (sym (append-nil (frames_by (guest_along g h.running_moves) m)))
@@ -216,18 +216,18 @@ cut_kept w h few last =
       drops = h.drops;
       sealed_moves = h.sealed_moves ++ h.running_moves ∷ [];
       running_moves = [];
-      kept_are = 
+      kept_are =
           ap (λ t. t ++ r.running ∷ []) h.kept_are
           ∙ ap (λ t. map entries_of h.sealed_moves ++ t ∷ []) h.running_are
           ∙ sym (map-append' entries_of h.sealed_moves (h.running_moves ∷ []));
       running_are = refl;
       can = subst (AllCan ws) same_moves h.can;
       image = h.image;
-      sealed = 
+      sealed =
           ap (λ t. t ++ w.live ∷ []) h.sealed
           ∙ ap (λ g. epoch_guests w.image h.sealed_moves ++ g ∷ []) last_guest
           ∙ sym (epoch_guests-push w.image h.sealed_moves h.running_moves);
-      frames = 
+      frames =
           map-append' (λ (x : Epoch). x.frames) h.uncommitted (e ∷ [])
           ∙ ap (λ t. t ++ w.outbox ∷ []) h.frames
           ∙ ap (λ t. epoch_frames w.image h.sealed_moves ++ t ∷ []) h.outbox
@@ -421,10 +421,10 @@ module _ (w : Pair) (h : IsKept w) (g : Guest) (gs : List Guest) (sealed_are : w
         image = g_is ∙ ap (λ x. guest_along x ms) h.image ∙ sym (ap (λ t. t.guest) shown);
         sealed = gs_are ∙ ap (λ x. epoch_guests x mss) (sym g_is);
         frames = us_sent ∙ ap (λ x. epoch_frames x mss) (sym g_is);
-        live = 
+        live =
             h.live ∙ ap (guest_along w.image) split_moves ∙ guest_along-append w.image ms rest
             ∙ ap (λ x. guest_along x rest) (sym g_is);
-        outbox = 
+        outbox =
             h.outbox ∙ ap (λ t. frames_along (guest_along w.image t) h.running_moves) all_is
             ∙ ap (λ x. frames_along x h.running_moves) (guest_along-append w.image ms (all_moves mss))
             ∙ ap (λ x. frames_along (guest_along x (all_moves mss)) h.running_moves) (sym g_is);
@@ -435,7 +435,7 @@ module _ (w : Pair) (h : IsKept w) (g : Guest) (gs : List Guest) (sealed_are : w
         boxes = h.boxes ∙ sym (ap (λ t. t.boxes) shown);
         boxes_fit = h.boxes_fit;
         held = h.held;
-        owed = 
+        owed =
             ap (λ t. t.out) shown
             ∙ ap (λ t. t ++ targets_of (length s.boxes) (frames_along s.guest ms)) h.owed
             ∙ ap (λ (b : List (List Frame)). targets_of n (frames_of h.waiting) ++ targets_of (length b) (frames_along s.guest ms)) (sym h.boxes)
@@ -666,7 +666,7 @@ deliver_kept w h c f frame low high room =
       number = ap (λ k. k + 1) h.number ∙ sym (ap (λ t. t.number) shown);
       rising = subst (AreRising 1 (w.number + 1)) left_is (AreRising-push 1 w.number ws x h.rising refl);
       clients = length-with w.inboxes (c - 1) (list_of w.inboxes c ++ (w.number, f) ∷ []) ∙ h.clients;
-      inboxes = 
+      inboxes =
           subst (AreInboxes (length w.boxes) (with_list w.inboxes c (list_of w.inboxes c ++ (w.number, f) ∷ []))) left_is
           (AreInboxes-with (length w.boxes) c w.inboxes (list_of w.inboxes c ++ (w.number, f) ∷ []) ws (ws ++ x ∷ []) low high h.clients h.inboxes
           (ap (λ t. t ++ (w.number, f) ∷ []) mine ∙ ap (λ (t : Bool). inbox_of c ws ++ cond t ((w.number, f) ∷ []) []) (sym (eq-eqb c c refl)) ∙ sym (inbox_of-append c ws (x ∷ [])))

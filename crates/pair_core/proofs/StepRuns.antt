@@ -162,8 +162,10 @@ module _ (start : HistoryState) (r r' : Record) (n k : ℕ) (why : Refusal)
     where
       is_below : (a b : ℕ) → nat_lt a b ≡ true → a < b
       is_below a b e = grind (arith, nat_tests)
+
       is_from : (a b : ℕ) → nat_lt a b ≡ false → b ≤ a
       is_from a b e = grind (arith, nat_tests)
+
       by_test : (m : ℕ) → n < suc m → (t : Bool) → nat_lt n m ≡ t → (n < m → refused r' why ≡ steps_outcome start r m) → refused r' why ≡ steps_outcome start r (suc m)
       by_test m l true e more = longer m (more (is_below n m e))
       by_test m l false e more = let from = is_from n m e in after m (omega arith)

@@ -103,9 +103,9 @@ module _ (c n : ℕ) (f : Frame) (x : Waiting) (xs : List Waiting) where
       let found : (x.number == n) ≡ true = eq-eqb x.number n is in (
         ap (λ t. cond t (Some x.frame) (frame_numbered n xs)) found ∙ ap (λ (g : Frame). Some g) same,
         λ d.
-        ap (λ (t : Bool). inbox_of d (cond t xs (x ∷ without_number n xs))) found
-        ∙ others_here mine d (d == c) refl
-        ∙ ap (λ (t : Bool). cond (d == c) (drop 1 (with_first t (inbox_of c xs))) (with_first (x.client == d) (inbox_of d xs))) (sym mine),
+            ap (λ (t : Bool). inbox_of d (cond t xs (x ∷ without_number n xs))) found
+            ∙ others_here mine d (d == c) refl
+            ∙ ap (λ (t : Bool). cond (d == c) (drop 1 (with_first t (inbox_of c xs))) (with_first (x.client == d) (inbox_of d xs))) (sym mine),
       )
 
   others_there : (x.client == c) ≡ false → (d : ℕ) (t : Bool) → (d == c) ≡ t
@@ -119,10 +119,10 @@ module _ (c n : ℕ) (f : Frame) (x : Waiting) (xs : List Waiting) where
       let off : (x.number == n) ≡ false = apart x.number n (λ (k : x.number ≡ n). omega arith) in (
         ap (λ t. cond t (Some x.frame) (frame_numbered n xs)) off ∙ more.0,
         λ d.
-        ap (λ (t : Bool). inbox_of d (cond t xs (x ∷ without_number n xs))) off
-        ∙ ap (with_first (x.client == d)) (more.1 d)
-        ∙ others_there other d (d == c) refl
-        ∙ ap (λ (t : Bool). cond (d == c) (drop 1 (with_first t (inbox_of c xs))) (with_first (x.client == d) (inbox_of d xs))) (sym other),
+            ap (λ (t : Bool). inbox_of d (cond t xs (x ∷ without_number n xs))) off
+            ∙ ap (with_first (x.client == d)) (more.1 d)
+            ∙ others_there other d (d == c) refl
+            ∙ ap (λ (t : Bool). cond (d == c) (drop 1 (with_first t (inbox_of c xs))) (with_first (x.client == d) (inbox_of d xs))) (sym other),
       )
 
   leaves_by : (t : Bool) → (x.client == c) ≡ t → slice_get (with_first t (inbox_of c xs)) 0 ≡ Some (n, f)

@@ -1,11 +1,11 @@
 //! The pair as one value, and what each event does to it.
 ghost use Rattle.std.specs.Prelude.{◌≡◌, ℕ, ◌+◌, ◌-◌, ◌*◌, ◌^◌, ◌≤◌, ◌<◌, ◌++◌, ◌∷◌, [], length, IfOk, IfErr, OnOk, OnErr, IsOkUnless, IsTrue, slice_get, nat_le, if◌then◌else◌};
 
-use crate::sealed::{Arrival, Sealed, add_epoch, seal};
 use crate::event::{Event, Frame, Mode, Packet, Refusal, Reply, Show};
 use crate::history::{Entry, History};
 use crate::landings::{add_landings, count_landings};
 use crate::packets::{packet_at, send_all, send_one};
+use crate::sealed::{Arrival, Sealed, add_epoch, seal};
 use frame_ports::{INBOX_FRAMES, MAX_FRAME, MIN_FRAME, Ports};
 use guest_machine::{Machine, Shape};
 use output_gate::Gate;

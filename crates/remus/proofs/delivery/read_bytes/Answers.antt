@@ -17,12 +17,12 @@ returns-then-is_empty-clause-only c = λ bytes h.
 pub returns-then-ne-clause-only : goal.returns-then-ne-clause-only
 returns-then-ne-clause-only c = λ bytes h.
     absurd (others-write-none c.args.digits.now c.in-Ok.bytes.items c.as_bytes.result.now bytes c.in-Ok.ensures.ok
-      (c.as_bytes.ensures.value ∙ c.in_ok-spelled.ensures ∙ ap encode_lower c.as_slice.ensures.value) (sym c.if-ne.ensures) h)
+    (c.as_bytes.ensures.value ∙ c.in_ok-spelled.ensures ∙ ap encode_lower c.as_slice.ensures.value) (sym c.if-ne.ensures) h)
 
 pub returns-clause-found : goal.returns-clause-found
 returns-clause-found c =
     found-written c.args.digits.now c.in-Ok.bytes.items c.as_bytes.result.now c.in-Ok.ensures.ok
-      (c.as_bytes.ensures.value ∙ c.in_ok-spelled.ensures ∙ ap encode_lower c.as_slice.ensures.value) (sym c.if-ne.ensures) (grind (arith, c.if-is_empty.ensures))
+    (c.as_bytes.ensures.value ∙ c.in_ok-spelled.ensures ∙ ap encode_lower c.as_slice.ensures.value) (sym c.if-ne.ensures) (grind (arith, c.if-is_empty.ensures))
 
 pub returns-clause-only : goal.returns-clause-only
 returns-clause-only c = λ bytes h. ap Some (decoded-same c.args.digits.now c.in-Ok.bytes.items bytes c.in-Ok.ensures.ok h)

@@ -14,13 +14,13 @@ returns-in_default-2-clause-only c = λ client bytes h.
     let head = head-found c.args.text.now c.in-Some.client c.in-Some.digits c.read_head.result c.in-Some.is c.read_head.ensures in
     let read = one-reading c.args.text.now client bytes c.in-Some.client c.in-Some.digits.now head h in
     absurd (nothing-is-some bytes
-      (sym (ap (option_map (λ (v : Vec ℕ Global). v.items)) c.in_default-2.is) ∙ c.in_ok-bytes.ensures.only bytes read.1))
+    (sym (ap (option_map (λ (v : Vec ℕ Global). v.items)) c.in_default-2.is) ∙ c.in_ok-bytes.ensures.only bytes read.1))
 
 pub returns-clause-found : goal.returns-clause-found
 returns-clause-found c =
     delivery-read c.args.text.now c.in-Some.client c.in-Some.digits.now c.in-Some-2.bytes.items
-      (head-found c.args.text.now c.in-Some.client c.in-Some.digits c.read_head.result c.in-Some.is c.read_head.ensures)
-      (subst (λ (o : Option (Vec ℕ Global)). IfSome o (λ v. IsHex c.in-Some.digits.now v.items)) c.in-Some-2.is c.in_ok-bytes.ensures.found)
+    (head-found c.args.text.now c.in-Some.client c.in-Some.digits c.read_head.result c.in-Some.is c.read_head.ensures)
+    (subst (λ (o : Option (Vec ℕ Global)). IfSome o (λ v. IsHex c.in-Some.digits.now v.items)) c.in-Some-2.is c.in_ok-bytes.ensures.found)
 
 pub returns-clause-only : goal.returns-clause-only
 returns-clause-only c = λ client bytes h.

@@ -45,7 +45,7 @@ answered c =
     subst (λ (w : Pair). (replies.Steps c.run-made.new.self.guest.steps, record_of (now c)) ≡ steps_outcome w.start w.protocol c.run-made.result)
     c.self.view_is
     (steps_reply c.self.inside c.self.invariant c.run-made.new.self c.run-made.result c.run-made.ensures.guest c.run-made.ensures.outbox
-      c.run-made.ensures.room (fits c))
+    c.run-made.ensures.room (fits c))
 
 fewer : (c : After-run-made) → c.run-made.result ≢ c.args.count → c.run-made.result < c.args.count
 fewer c other =
