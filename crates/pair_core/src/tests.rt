@@ -135,8 +135,8 @@ fn a_delivered_frame_arrives_at_the_guest(rt: HostRuntime) -> Result<(), Fail> {
 }
 
 /// Delivers the frame that often, and says whether the replies are the numbers from 1.
-fn are_numbered(world: &mut World, count: u64) -> bool {
-    for number in 1..count + 1 {
+fn are_numbered(world: &mut World, count: u32) -> bool {
+    for number in 1..u64::from(count) + 1 {
         match world.apply(Event::Deliver(1, &FRAME)) {
             Reply::Delivered(given) if given == number => {}
             _ => return false,
