@@ -76,7 +76,7 @@ fn request(len: u16, flags: u8, byte: u8) -> Ram {
     let mut ram = Ram {
         bytes: [byte; 4096],
     };
-    ram.write(0, &[0; 0x100]);
+    ram.write(0, &[0; 0x110]);
     put_descriptor(&mut ram, 0, 0x100, 16, NEXT, 1);
     put_descriptor(&mut ram, 1, 0x200, len, flags | NEXT, 2);
     put_descriptor(&mut ram, 2, 0x110, 1, WRITE, 0);
