@@ -1,9 +1,9 @@
 pub mod Rising
-pub mod ChainLens
 pub mod Parts
 pub mod DiskLemmas
 pub mod RequestLemmas
 pub mod Serving
+pub mod Kept
 pub mod ReadBack
 pub mod Members
 pub mod ListApart

@@ -6,7 +6,8 @@ use Rattle.std.proofs.Math.Seq.{drop-append-add}
 use Rattle.virtqueue.specs.Memory.{written}
 use Rattle.block_device.specs.Contents.{Contents, sector_at, in_capacity, contents_with, bytes_at}
 use Rattle.block_device.specs.Request.{Outcome, Request, outcome, read_outcome, write_outcome}
-use Rattle.block_device.proofs.Serving.{length_written, in_capacity_tells, whole_sectors, read_size, by_test}
+use Rattle.virtqueue.proofs.Lengths.{length_written}
+use Rattle.block_device.proofs.Serving.{in_capacity_tells, whole_sectors, read_size, by_test}
 
 -- the written bytes stand where they were written
 read_written : (bytes new : List ℕ) (place : ℕ) → place + length new ≤ length bytes → slice_range (written bytes place new) place (place + length new) ≡ new

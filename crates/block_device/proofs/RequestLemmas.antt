@@ -9,7 +9,12 @@ use Rattle.virtqueue.specs.Parts.{readable_len, writable_len, readable_bytes, wr
 use Rattle.virtio_mmio.specs.ServingLoop.{Acted}
 use Rattle.block_device.specs.Contents.{Contents, in_capacity, contents_with}
 use Rattle.block_device.specs.Request.{Outcome, Request, request_of, outcome, write_outcome, chain_answered, written_len, is_short, request_act}
-use Rattle.block_device.proofs.ChainLens.{length_readable, length_places}
+use Rattle.virtqueue.proofs.Lengths.{length_readable, length_places}
+
+-- where no value is put, nothing changes
+pub put_none : (bytes ps : List ℕ) → put_at bytes ps [] ≡ bytes
+put_none bytes [] = refl
+put_none bytes (p ∷ ps) = refl
 
 -- the data of a request is all behind its header
 pub length_payload : (bytes : List ℕ) (ds : List Descriptor) (len : ℕ) → BuffersInside (length bytes) ds → 16 + len ≡ readable_len ds →

@@ -1,5 +1,5 @@
 -- However many requests are served, a disk stays one, of the same size.
-use Rattle.std.proofs.Common.{◌≡◌, ℕ, zero, suc, ◌+◌, ◌-◌, ◌*◌, ◌/◌, ◌%◌, ◌≤◌, Bool, true, false, ◌&&◌, ◌==◌, ◌++◌, List, [], refl, sym, ap, subst, ◌∙◌, if◌then◌else◌, length, take, drop, nat_le, arith, ◌⊎◌, inl, inr, length-append, length-take-le, length-drop}
+use Rattle.std.proofs.Common.{◌≡◌, ℕ, zero, suc, ◌+◌, ◌-◌, ◌*◌, ◌/◌, ◌%◌, ◌≤◌, Bool, true, false, ◌&&◌, ◌==◌, List, [], refl, sym, ap, subst, ◌∙◌, if◌then◌else◌, length, nat_le, arith, ◌⊎◌, inl, inr}
 use Rattle.std.specs.Prelude.{Result, Ok, Err}
 use Rattle.std.proofs.lemmas.Bool.Decides.{nat_tests}
 use Rattle.virtqueue.specs.declared.broken.Broken.{Broken}
@@ -8,8 +8,8 @@ use Rattle.virtqueue.specs.Memory.{written}
 use Rattle.virtqueue.specs.Areas.{available_of}
 use Rattle.virtqueue.specs.Chains.{Spelled, chain_of, ◌>>=◌}
 use Rattle.virtqueue.specs.Parts.{readable_bytes, writable_places}
+use Rattle.virtqueue.proofs.Lengths.{length_written}
 use Rattle.virtio_mmio.specs.declared.kinds.DeviceKind.{DeviceKind}
-use Rattle.virtio_mmio.specs.declared.kinds.DeviceKind.TheVariants.{Block}
 use Rattle.virtio_mmio.specs.declared.states.DeviceState.{DeviceState}
 use Rattle.virtio_mmio.specs.States.{queue_at}
 use Rattle.virtio_mmio.specs.Serving.{can_serve}
@@ -17,7 +17,6 @@ use Rattle.virtio_mmio.specs.ServingLoop.{Acted, Served, standing, puts_used, on
 use Rattle.block_device.specs.Dirty.{with_written}
 use Rattle.block_device.specs.Contents.{Contents, capacity, in_capacity, contents_with, bytes_at, IsDisk}
 use Rattle.block_device.specs.Request.{Outcome, Request, request_of, outcome, read_outcome, write_outcome, chain_answered, is_short, request_act}
-use Rattle.block_device.specs.Disk.{disk_served}
 use Rattle.block_device.proofs.DiskLemmas.{disk_kept}
 
 -- ---- one request
@@ -37,10 +36,6 @@ in_capacity_tells disk sector n h =
     let whole : n % 512 ≡ 0 = both.0 in
     let within : sector + n / 512 ≤ length disk.bytes / 512 = both.1 in
     omega arith
-
-pub length_written : (bytes new : List ℕ) (place : ℕ) → place + length new ≤ length bytes → length (written bytes place new) ≡ length bytes
-length_written bytes new place l =
-    omega (arith, length-append (take place bytes ++ new) (drop (place + length new) bytes), length-append (take place bytes) new, length-take-le place bytes (omega arith), length-drop (place + length new) bytes)
 
 pub by_test : {A : Type 0} (b : Bool) (x y : A) → ((b ≡ true) × ((if b then x else y) ≡ x)) ⊎ ((b ≡ false) × ((if b then x else y) ≡ y))
 by_test true x y = inl (refl, refl)
@@ -156,10 +151,5 @@ pub disk_size : (ram : List ℕ) (state : DeviceState) (c : Contents) (k : Devic
 disk_size ram state c k =
     served_keeps (λ (d : Contents). length d.bytes ≡ length c.bytes) (λ disk r room p. outcome_size disk r room ∙ p) k 0 (standing ram state c) refl
 
-pub disk_rules : (ram : List ℕ) (state : DeviceState) (c : Contents) → IsDisk c → IsDisk (disk_served ram state c).kept
-unfolding disk_served
-disk_rules ram state c is = served_keeps IsDisk outcome_disk (Block (capacity c)) 0 (standing ram state c) is
-
-pub disk_sectors : (ram : List ℕ) (state : DeviceState) (c : Contents) → capacity (disk_served ram state c).kept ≡ capacity c
-unfolding disk_served
-disk_sectors ram state c = ap (λ n. n / 512) (disk_size ram state c (Block (capacity c)))
+pub disk_stays : (ram : List ℕ) (state : DeviceState) (c : Contents) (k : DeviceKind) → IsDisk c → IsDisk (served k 0 request_act (standing ram state c)).kept
+disk_stays ram state c k is = served_keeps IsDisk outcome_disk k 0 (standing ram state c) is

@@ -1,6 +1,8 @@
 //! Laws of the disk's definitions, each the contract of a function that does nothing.
 ghost use Rattle.std.specs.Prelude.{◌≡◌, ℕ, ◌+◌, ◌-◌, ◌/◌, ◌^◌, ◌≤◌, ◌<◌, ◌⊎◌, ◌++◌, ◌&&◌, ◌||◌, List, [], ◌∷◌, length, replicate, nat_le, nat_lt, IsTrue};
+ghost use Rattle.virtio_mmio.specs.declared.kinds.DeviceKind.TheVariants.{Block};
 ghost use Rattle.virtio_mmio.specs.declared.states.DeviceState.{DeviceState};
+ghost use Rattle.virtio_mmio.specs.States.{IsDeviceRecord};
 ghost use Rattle.block_device.specs.Contents.{Contents, IsDisk, capacity, sector_at, boot_contents, in_capacity, contents_with, contents_of};
 ghost use Rattle.block_device.specs.Dirty.{with_written, is_in};
 ghost use Rattle.block_device.specs.Disk.{disk_served};
@@ -20,10 +22,13 @@ pub fn other_sectors()
         (i < sector) ⊎ (sector + length new / 512 ≤ i) → sector_at (contents_with disk sector new) i ≡ sector_at disk i }
 {}
 
-/// However many requests are served, a disk stays one, with as many sectors.
+/// However many requests are served, a disk stays one, with as many sectors. RAM is as long as it was, and the record of the
+/// registers still meets the rules of a block device's.
 pub fn serving_keeps_the_disk()
     ensures sectors { (ram : List ℕ) (state : DeviceState) (disk : Contents) → capacity (disk_served ram state disk).kept ≡ capacity disk }
     ensures rules { (ram : List ℕ) (state : DeviceState) (disk : Contents) → IsDisk disk → IsDisk (disk_served ram state disk).kept }
+    ensures memory { (ram : List ℕ) (state : DeviceState) (disk : Contents) → IsDeviceRecord (Block (capacity disk)) state → length (disk_served ram state disk).ram ≡ length ram }
+    ensures record { (ram : List ℕ) (state : DeviceState) (disk : Contents) → IsDeviceRecord (Block (capacity disk)) state → IsDeviceRecord (Block (capacity disk)) (disk_served ram state disk).state }
 {}
 
 /// What the driver sees of a disk's serving, the bytes of RAM, the registers and the sectors, is the same whatever list of written

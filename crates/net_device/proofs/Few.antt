@@ -1,24 +1,22 @@
--- A notify sends few frames, each of a frame's length; and the rules of the card's record stay.
+-- A notify sends few frames, each of a frame's length.
 use Rattle.std.proofs.Common.{◌≡◌, ℕ, ◌+◌, ◌≤◌, ◌&&◌, nat_le, Bool, true, false, if◌then◌else◌, List, [], ◌∷◌, ◌++◌, length, drop, All, arith, refl, subst}
-use Rattle.std.specs.Prelude.{Option, Some, None, Result, Ok, Err}
+use Rattle.std.specs.Prelude.{Ok, Err}
 use Rattle.std.proofs.lemmas.Bool.{leb-true}
 use Rattle.std.proofs.lemmas.List.{length-append}
 use Rattle.std.proofs.lemmas.List.Elements.{All-nil, All-cons, All-append}
 use Rattle.arrayvec.specs.ArrayVec.{ArrayVec}
-use Rattle.virtqueue.specs.declared.broken.Broken.{Broken}
 use Rattle.virtqueue.specs.declared.broken.Broken.TheVariants.{Direction}
-use Rattle.virtqueue.specs.Chains.{Spelled, next_chain_of}
-use Rattle.virtqueue.specs.Parts.{all_readable, readable_bytes, all_writable, writable_len}
+use Rattle.virtqueue.specs.Chains.{Spelled}
+use Rattle.virtqueue.specs.Parts.{all_readable, readable_bytes}
 use Rattle.virtio_mmio.specs.declared.kinds.DeviceKind.TheVariants.{Network}
 use Rattle.virtio_mmio.specs.declared.states.DeviceState.{DeviceState}
-use Rattle.virtio_mmio.specs.States.{queue_at, IsDeviceRecord}
-use Rattle.virtio_mmio.specs.Serving.{can_serve}
+use Rattle.virtio_mmio.specs.States.{IsDeviceRecord}
 use Rattle.virtio_mmio.specs.ServingLoop.{Acted, standing}
-use Rattle.virtio_mmio.proofs.Rules.{needing_reset_keeps}
-use Rattle.virtio_mmio.proofs.Loop.{served_keeps, served_keeps_rules, use_keeps_rules}
+use Rattle.virtio_mmio.proofs.Loop.{served_keeps}
 use Rattle.net_device.specs.Frames.{IsFrame}
 use Rattle.net_device.specs.Transmit.{frame_in, send, served}
-use Rattle.net_device.specs.Receive.{Received, packet, put_next, received}
+use Rattle.net_device.specs.Receive.{received}
+use Rattle.net_device.proofs.Kept.{served-rules, received-rules}
 
 -- frames of a frame's length, and room for so many more of 64
 pub record IsFew (n : ℕ) (sent : List (ArrayVec ℕ)) : Type 0 where
@@ -56,24 +54,10 @@ few_served ram net =
     served_keeps Network 1 send (λ n s. IsFew n s.kept) (λ n m s l p. few_fewer n m s.kept l p) (λ n s p. p)
     (λ n s c a e p. few_acted n s.ram s.kept c a (all_readable c.parts) e p) (standing ram net []) (record { frames = All-nil IsFrame; room = omega arith })
 
--- ---- the rules of the record
+-- ---- the rules of the record, under the names that the machine cites
 
 pub served_keeps_the_rules : (ram : List ℕ) (net : DeviceState) → IsDeviceRecord Network net → IsDeviceRecord Network (served ram net).net
-unfolding served
-served_keeps_the_rules ram net h = served_keeps_rules Network 1 send (standing ram net []) h
-
-either : (b : Bool) (x y : Received) → IsDeviceRecord Network x.net → IsDeviceRecord Network y.net → IsDeviceRecord Network (if b then x else y).net
-either true x y f g = f
-either false x y f g = g
-
-put_next_keeps : (ram : List ℕ) (net : DeviceState) (frame : ArrayVec ℕ) (r : Result (Option Spelled) Broken) → IsDeviceRecord Network net →
-    IsDeviceRecord Network (put_next ram net frame r).net
-put_next_keeps ram net frame (Ok (Some c)) h =
-    either (all_writable c.parts) _ _ (either (nat_le (length (packet frame)) (writable_len c.parts)) _ _ (use_keeps_rules Network 0 net h) h) (needing_reset_keeps Network net h)
-put_next_keeps ram net frame (Ok None) h = h
-put_next_keeps ram net frame (Err b) h = needing_reset_keeps Network net h
+served_keeps_the_rules ram net h = served-rules ram net h
 
 pub received_keeps_the_rules : (ram : List ℕ) (net : DeviceState) (frame : ArrayVec ℕ) → IsDeviceRecord Network net → IsDeviceRecord Network (received ram net frame).net
-unfolding received
-received_keeps_the_rules ram net frame h =
-    either (can_serve Network net 0) _ _ (put_next_keeps ram net frame (next_chain_of (queue_at net 0) ram) h) h
+received_keeps_the_rules ram net frame h = received-rules ram net frame h

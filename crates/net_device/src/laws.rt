@@ -15,10 +15,13 @@ pub fn sent_frames()
     ensures most { (ram : List ℕ) (net : DeviceState) → length (served ram net).frames ≤ 64 }
 {}
 
-/// A record that meets the rules of a network card's record still meets them after a notify and after a frame arrived.
+/// A record that meets the rules of a network card's record still meets them after a notify and after a frame arrived, and RAM
+/// is as long as it was.
 pub fn kept_rules()
     ensures sending { (ram : List ℕ) (net : DeviceState) → IsDeviceRecord Network net → IsDeviceRecord Network (served ram net).net }
     ensures receiving { (ram : List ℕ) (net : DeviceState) (frame : ArrayVec ℕ) → IsDeviceRecord Network net → IsDeviceRecord Network (received ram net frame).net }
+    ensures sending_memory { (ram : List ℕ) (net : DeviceState) → IsDeviceRecord Network net → length (served ram net).ram ≡ length ram }
+    ensures receiving_memory { (ram : List ℕ) (net : DeviceState) (frame : ArrayVec ℕ) → IsDeviceRecord Network net → length (received ram net frame).ram ≡ length ram }
 {}
 
 /// Worked packets: two by an available idx of 2 and 64 by one of 64; a packet of 25 bytes has no frame, but its chain is

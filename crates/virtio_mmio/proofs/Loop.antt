@@ -113,7 +113,7 @@ module _ {A : Type 0} (k : DeviceKind) (i : ℕ) (act : Act A) (P : ℕ → Serv
   keeps_by_chain n rest h s (Ok c) p = keeps_by_act n rest h s c (act s.ram s.kept c) refl p
   keeps_by_chain n rest h s (Err b) p = fewer 0 (n + 1) (breaks s) (omega arith) (broken (n + 1) s p)
 
-  chains_keep : (n : ℕ) (s : Served A) → P n s → P 0 (chains_served k i act n s)
+  pub chains_keep : (n : ℕ) (s : Served A) → P n s → P 0 (chains_served k i act n s)
   unfolding chains_served
   chains_keep zero s p = p
   chains_keep (suc n) s p = keeps_by_chain n (chains_served k i act n) (chains_keep n) s (chain_of (queue_at s.state i) s.ram) (fewer (n + 1) (suc n) s (omega arith) p)

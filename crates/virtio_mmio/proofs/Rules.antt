@@ -1,4 +1,5 @@
-use Rattle.std.proofs.Common.{◌≡◌, ◌≢◌, ℕ, ◌+◌, ◌<◌, ◌≤◌, suc, Bool, true, false, List, [], ◌∷◌, refl, sym, ap, ◌∙◌, lit≤, lit<, ◌/◌, ◌*◌, ◌^◌, ◌%◌, zero, subst, arith, slice_set, slice_index_or, bit_and, bit_or, ◌==◌, if◌then◌else◌, ◌||◌, IsTrue}
+use Rattle.std.proofs.Common.{◌≡◌, ◌≢◌, ℕ, ◌+◌, ◌<◌, ◌≤◌, suc, Bool, true, false, List, [], ◌∷◌, refl, sym, ap, ◌∙◌, lit≤, lit<, ◌/◌, ◌*◌, ◌^◌, ◌%◌, zero, subst, arith, slice_set, slice_index_or, bit_and, bit_or, ◌==◌, if◌then◌else◌, ◌||◌, IsTrue, nat_lt}
+use Rattle.std.specs.Prelude.{Some, None}
 use borrow.Author.Tests.{ltb-true}
 use Rattle.std.specs.Int.{bit_not, w32}
 use Rattle.std.proofs.lemmas.List.{get_or-set_other}
@@ -17,7 +18,8 @@ use Rattle.virtio_mmio.specs.States.{boot_state, queue_at, is_queue_size, IsQueu
 use Rattle.virtio_mmio.specs.Serving.{with_counters, used_signalled, needing_reset}
 use Rattle.virtqueue.specs.Areas.{AreasFit, IsSized}
 use Rattle.virtio_mmio.specs.ServingLoop.{state_after_use}
-use Rattle.virtio_mmio.specs.Registers.{is_set, Row, ignored, status_store, driver_features_after, registers, row_in, row_at, has_queue, selected_queue, on_queue, num_after, ready_after, address_after, with_low, with_high, status_after, kept_bits}
+use Rattle.virtio_mmio.specs.Transport.{is_width, stored}
+use Rattle.virtio_mmio.specs.Registers.{Stored, leaves, is_set, Row, ignored, status_store, driver_features_after, registers, row_in, row_at, has_queue, selected_queue, on_queue, num_after, ready_after, address_after, with_low, with_high, status_after, kept_bits}
 
 -- ---- bits
 
@@ -100,9 +102,13 @@ count-le : (k : DeviceKind) → queue_count k ≤ 2
 count-le Network = lit≤ tt
 count-le (Block capacity) = lit≤ tt
 
+-- each queue that the device has meets the rules
+pub present-keeps : (k : DeviceKind) (d : DeviceState) (i : ℕ) → IsDeviceRecord k d → has_queue k i ≡ true → IsQueueRecord (queue_at d i)
+present-keeps k d i h e = queue_at-keeps k d h i (omega (arith, has-below k i e, count-le k))
+
 selected-keeps : (k : DeviceKind) (d : DeviceState) → IsDeviceRecord k d → IsQueueRecord (selected_queue k d)
 selected-keeps k d h = either IsQueueRecord (has_queue k d.queue_sel) (queue_at d d.queue_sel) boot_queue
-    (λ e. queue_at-keeps k d h d.queue_sel (omega (arith, has-below k d.queue_sel e, count-le k))) boot_queue-keeps
+    (λ e. present-keeps k d d.queue_sel h e) boot_queue-keeps
 
 absent-keeps : (k : DeviceKind) (d : DeviceState) (i : ℕ) (q : Queue) → AbsentQueuesAtBoot k d →
     AbsentQueuesAtBoot k (record d { queues = if has_queue k i then slice_set d.queues i q else d.queues })
@@ -255,12 +261,25 @@ pub store_keeps : (k : DeviceKind) (d : DeviceState) (o v : ℕ) → IsDeviceRec
 unfolding row_at RowKeeps
 store_keeps k d o v h = row_in-keeps registers o each-row-keeps k d v h
 
+-- so does every access that is no fault
+pub stored-rules : (k : DeviceKind) (d : DeviceState) (offset n value : ℕ) (s : Stored) → stored k d offset n value ≡ Some s → IsDeviceRecord k d → IsDeviceRecord k s.state
+unfolding stored
+stored-rules k d offset n value s e h =
+    by_tests ((row_at offset).store k d (value % 2 ^ 32)) (leaves d) (nat_lt offset 0x100) (n == 4) (is_width n) (store_keeps k d offset (value % 2 ^ 32) h) h e
+  where
+    by_tests : (x y : Stored) (a b c : Bool) → IsDeviceRecord k x.state → IsDeviceRecord k y.state →
+        (if a then (if b then Some x else None) else (if c then Some y else None)) ≡ Some s → IsDeviceRecord k s.state
+    by_tests x y true true c f g is = let same : x ≡ s = cc in subst (λ t. IsDeviceRecord k t.state) same f
+    by_tests x y true false c f g is = cc
+    by_tests x y false b true f g is = let same : y ≡ s = cc in subst (λ t. IsDeviceRecord k t.state) same g
+    by_tests x y false b false f g is = cc
+
 -- ---- serving
 
 pub counters_keep : (k : DeviceKind) (d : DeviceState) (i available used : ℕ) → IsDeviceRecord k d → IsDeviceRecord k (with_counters k d i available used)
 counters_keep k d i available used h =
     put-keeps k d i (record (queue_at d i) { next_available = available; next_used = used }) (λ e.
-    let old : IsQueueRecord (queue_at d i) = queue_at-keeps k d h i (omega (arith, has-below k i e, count-le k)) in
+    let old : IsQueueRecord (queue_at d i) = present-keeps k d i h e in
     record { size = old.size; ready_has_size = old.ready_has_size }) h
 
 pub needing_reset_keeps : (k : DeviceKind) (d : DeviceState) → IsDeviceRecord k d → IsDeviceRecord k (needing_reset d)

@@ -8,6 +8,7 @@
 mod actions;
 mod changes;
 mod kinds;
+mod laws;
 mod registers;
 mod serving;
 mod states;
@@ -15,6 +16,7 @@ mod transport;
 
 pub use actions::Action;
 pub use kinds::DeviceKind;
+pub use laws::kept_records;
 pub use serving::ChainHandler;
 pub use states::DeviceState;
 pub use transport::Transport;

@@ -1,13 +1,10 @@
-use Rattle.std.proofs.Common.{◌≡◌, ℕ, zero, suc, ◌+◌, ◌-◌, ◌<◌, ◌≤◌, min, Bool, true, false, List, [], ◌∷◌, ◌++◌, refl, sym, ap, ◌∙◌, if◌then◌else◌, ◌||◌, length, take, drop, get_or, arith, append_assoc, append-nil, length-append, length-drop, IsTrue, nat_le, not, sum, map, filter, ◌&&◌, ◌==◌}
+use Rattle.std.proofs.Common.{◌≡◌, ℕ, zero, suc, ◌+◌, ◌-◌, ◌<◌, ◌≤◌, min, true, false, List, [], ◌∷◌, ◌++◌, refl, sym, ap, ◌∙◌, if◌then◌else◌, length, take, drop, get_or, arith, append_assoc, append-nil, length-append, length-drop, IsTrue}
 use Rattle.std.proofs.Math.Seq.{drop-append-add}
 use Rattle.std.proofs.lemmas.List.{drop-append-le, take_all, length-take-le, drop_all, drop_more, take_at}
-use Rattle.std.proofs.lemmas.List.Sums.{sum_by-cons}
-use borrow.Author.Tests.{leb-true}
 use Rattle.virtqueue.specs.declared.chains.Descriptor.{Descriptor}
-use Rattle.virtqueue.specs.declared.memory.TheConstants.{RAM_START}
-use Rattle.virtqueue.specs.Memory.{place_of, is_inside}
 use Rattle.virtqueue.specs.Chains.{buffer_inside, BuffersInside}
-use Rattle.virtqueue.specs.Parts.{bytes_of, readable_bytes, readable_len}
+use Rattle.virtqueue.specs.Parts.{bytes_of, readable_bytes}
+use Rattle.virtqueue.proofs.Lengths.{length_bytes_of}
 
 -- ---- lists
 
@@ -30,27 +27,6 @@ drop_past x y s r e = ap (λ n. drop n (x ++ y)) e ∙ drop-append-add x y r
 
 -- ---- one buffer
 
--- a buffer that lies inside has as many bytes as it says
-pub length_bytes_of : (bytes : List ℕ) (d : Descriptor) → IsTrue (buffer_inside (length bytes) d.address d.len) → length (bytes_of bytes d) ≡ d.len
-length_bytes_of bytes d h = length_inside bytes d.address d.len h
-  where
-    later : (a b : Bool) → a ≡ false → IsTrue (a || b) → IsTrue b
-    later true b e h = let none : ⊥ = cc in absurd none
-    later false b e h = h
-
-    split : (a b : Bool) → IsTrue (a && b) → (a ≡ true) × (b ≡ true)
-    split true b h = (refl, h)
-    split false b h = let none : ⊥ = cc in absurd none
-
-    length_inside : (bytes : List ℕ) (address len : ℕ) → IsTrue (buffer_inside (length bytes) address len) → length (take len (drop (place_of address) bytes)) ≡ len
-    length_inside bytes address zero h = length-take-le 0 (drop (place_of address) bytes) (omega arith)
-    length_inside bytes address (suc len) h =
-        let some : (suc len == 0) ≡ false = grind arith in
-        let both = split (nat_le RAM_START address) (nat_le (address + suc len) (RAM_START + length bytes)) (later (suc len == 0) (is_inside (length bytes) address (suc len)) some h) in
-        let from : RAM_START ≤ address = leb-true RAM_START address both.0 in
-        let to : address + suc len ≤ RAM_START + length bytes = leb-true (address + suc len) (RAM_START + length bytes) both.1 in
-        length-take-le (suc len) (drop (place_of address) bytes) (omega (arith, length-drop (place_of address) bytes))
-
 pub skip_writable : (bytes : List ℕ) (d : Descriptor) (ds : List Descriptor) → d.writable ≡ true → readable_bytes bytes (d ∷ ds) ≡ readable_bytes bytes ds
 skip_writable bytes d ds w = ap (λ b. (if b then [] else bytes_of bytes d) ++ readable_bytes bytes ds) w
 
@@ -62,16 +38,6 @@ pub inside_at : (size : ℕ) (ds : List Descriptor) (k : ℕ) (d : Descriptor) �
 inside_at size [] k d h l = let none : ⊥ = omega arith in absurd none
 inside_at size (x ∷ ds) zero d h l = h.0
 inside_at size (x ∷ ds) (suc k) d h l = inside_at size ds k d h.1 (omega arith)
-
--- all the readable bytes
-len_step : (w : Bool) (d : Descriptor) (x rest : List ℕ) (fs : List Descriptor) → length x ≡ d.len → length rest ≡ sum (map (λ d. d.len) fs) →
-    length ((if w then [] else x) ++ rest) ≡ sum (map (λ d. d.len) (if not w then d ∷ fs else fs))
-len_step true d x rest fs e f = f
-len_step false d x rest fs e f = length-append x rest ∙ (ap (λ n. n + length rest) e ∙ (ap (λ n. d.len + n) f ∙ sym (sum_by-cons (λ x. x) d.len (map (λ d. d.len) fs))))
-
-pub length_readable : (bytes : List ℕ) (ds : List Descriptor) → BuffersInside (length bytes) ds → length (readable_bytes bytes ds) ≡ readable_len ds
-length_readable bytes [] h = refl
-length_readable bytes (d ∷ ds) h = len_step d.writable d (bytes_of bytes d) (readable_bytes bytes ds) (filter (λ d. not d.writable) ds) (length_bytes_of bytes d h.0) (length_readable bytes ds h.1)
 
 -- ---- the steps of a walk along the buffers
 

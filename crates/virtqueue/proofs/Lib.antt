@@ -1,4 +1,5 @@
 pub mod Walk
 pub mod Inside
+pub mod Lengths
 pub mod Gathered
 pub mod Scattered

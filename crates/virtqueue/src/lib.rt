@@ -6,12 +6,14 @@
 
 mod broken;
 mod chains;
+mod laws;
 mod memory;
 mod parts;
 mod rings;
 
 pub use broken::Broken;
 pub use chains::{Chain, Descriptor};
+pub use laws::joined_lengths;
 pub use memory::{GuestRam, RAM_START};
 pub use rings::Queue;
 

@@ -4,7 +4,8 @@ use Rattle.std.proofs.lemmas.List.{length-take-le, drop_all}
 use Rattle.virtqueue.specs.declared.chains.Descriptor.{Descriptor}
 use Rattle.virtqueue.specs.Chains.{buffer_inside, BuffersInside}
 use Rattle.virtqueue.specs.Parts.{readable_bytes, bytes_of, readable_len}
-use Rattle.virtqueue.proofs.Gathered.{inside_at, length_bytes_of, step_before, step_in, read_more, read_all, length_readable}
+use Rattle.virtqueue.proofs.Gathered.{inside_at, step_before, step_in, read_more, read_all}
+use Rattle.virtqueue.proofs.Lengths.{length_bytes_of, length_readable}
 use Rattle.virtqueue.proofs.rings.Queue.gather.Goals as goal
 
 pub loop-part-preserved-then-skip-len : goal.loop-part-preserved-then-skip-len
