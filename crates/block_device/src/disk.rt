@@ -7,7 +7,7 @@ ghost use Rattle.block_device.specs.Dirty.{Rises};
 ghost use Rattle.block_device.specs.Disk.{disk_of, kind_of, disk_served};
 
 use crate::errors::DiskError;
-use crate::storage::Storage;
+use crate::storage::{SECTOR_BYTES, Storage};
 use std::alloc::Global;
 use std::marker::Model;
 use virtio_mmio::{Action, DeviceKind, DeviceState, Transport};
@@ -81,10 +81,9 @@ impl Disk {
     }
 
     /// The 512 bytes of a sector that the disk has, as the caller knows.
-    pub fn sector(&self, sector: u32) -> &[u8]
+    pub fn sector(&self, sector: u32) -> &[u8; SECTOR_BYTES]
         requires { sector < capacity self.now.contents }
-        ensures value { result.now ≡ sector_at self.now.contents sector }
-        ensures len { length result.now ≡ 512 }
+        ensures { result.now ≡ sector_at self.now.contents sector }
     {
         self.storage.sector(sector)
     }

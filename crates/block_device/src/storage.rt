@@ -69,13 +69,12 @@ impl Storage {
     }
 
     /// The 512 bytes of a sector.
-    pub(crate) fn sector(&self, sector: u32) -> &[u8]
+    pub(crate) fn sector(&self, sector: u32) -> &[u8; SECTOR_BYTES]
         requires { sector < capacity self.now }
-        ensures value { result.now ≡ sector_at self.now sector }
-        ensures len { length result.now ≡ 512 }
+        ensures { result.now ≡ sector_at self.now sector }
     {
         let start = SECTOR_BYTES * sector as usize;
-        &self.bytes[start..start + SECTOR_BYTES]
+        as_sector(&self.bytes[start..start + SECTOR_BYTES])
     }
 
     /// The sectors that were written since the list was last emptied, in rising order.
@@ -148,6 +147,17 @@ impl Storage {
         gather_at(&mut self.bytes, start, len as usize, ram, chain, at);
         mark_written(&mut self.dirty, sector as u32, (len / 512) as u32);
     }
+}
+
+/// A sector's bytes as an array.
+fn as_sector(bytes: &[u8]) -> &[u8; SECTOR_BYTES]
+    requires { length bytes.now ≡ 512 }
+    ensures { result.now ≡ bytes.now }
+{
+    let Ok(sector) = <&[u8; SECTOR_BYTES]>::try_from(bytes) else {
+        unreachable!()
+    };
+    sector
 }
 
 /// Copies the bytes of a chain's readable buffers, from the one at `at` on, to the `len` places from `start` on.

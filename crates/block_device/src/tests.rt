@@ -107,8 +107,8 @@ fn a_sector_is_written_and_read(rt: HostRuntime) -> Result<(), Fail> {
         [0, 0, 0, 0, 1, 0, 0, 0].as_slice()
     );
     assert_eq!(rt; disk.sectors(), 8);
-    assert_eq!(rt; disk.sector(7), [0xab; 512].as_slice());
-    assert_eq!(rt; disk.sector(6), [0; 512].as_slice());
+    assert_eq!(rt; disk.sector(7).as_slice(), [0xab; 512].as_slice());
+    assert_eq!(rt; disk.sector(6).as_slice(), [0; 512].as_slice());
     assert_eq!(rt; disk.dirty_sectors(), [7].as_slice());
     assert_eq!(rt; disk.load(0x060, 4), Some(1));
     let copy = disk.copy(rt.alloc())?;
@@ -143,7 +143,7 @@ fn requests_out_of_range_change_nothing(rt: HostRuntime) -> Result<(), Fail> {
     assert_eq!(rt; ask(&mut disk, &mut two, 5, 1, 0xffff_ffff_ffff_ffff), 1);
     assert_eq!(rt; disk.dirty_sectors().len(), 0);
     assert_eq!(rt; disk.sectors(), 8);
-    assert_eq!(rt; disk.sector(7), [0; 512].as_slice());
+    assert_eq!(rt; disk.sector(7).as_slice(), [0; 512].as_slice());
     assert_eq!(rt; disk.load(0x070, 4), Some(15));
     Ok(())
 }

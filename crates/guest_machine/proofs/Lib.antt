@@ -6,3 +6,4 @@ pub mod CountLemmas
 pub mod AlignedLemmas
 pub mod ApartLemmas
 pub mod RunLemmas
+pub mod MemoryLemmas

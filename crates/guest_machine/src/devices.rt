@@ -11,7 +11,7 @@ ghost use Rattle.guest_machine.specs.Guest.{sector_count};
 ghost use Rattle.guest_machine.specs.Step.{acted, disk_acted};
 
 use crate::ram::Ram;
-use block_device::{Disk, DiskError};
+use block_device::{Disk, DiskError, SECTOR_BYTES};
 use net_device::{Frame, NetDevice, Outbox};
 use rv64_core::Width;
 use std::alloc::Global;
@@ -184,10 +184,9 @@ impl Devices {
     }
 
     /// The bytes of a sector.
-    pub(crate) fn sector(&self, sector: u32) -> &[u8]
+    pub(crate) fn sector(&self, sector: u32) -> &[u8; SECTOR_BYTES]
         requires { sector < sector_count self.now.contents.bytes }
-        ensures value { result.now ≡ slice_range self.now.contents.bytes (512 * sector) (512 * sector + 512) }
-        ensures len { length result.now ≡ 512 }
+        ensures { result.now ≡ slice_range self.now.contents.bytes (512 * sector) (512 * sector + 512) }
     {
         self.disk.sector(sector)
     }

@@ -26,6 +26,22 @@ pub fn counted_steps()
     ensures boot { (pages sectors : ℕ) (image : List ℕ) → (boot_guest pages sectors image).steps ≡ 0 }
 {}
 
+/// The memory has as many bytes as at boot after each step and after each frame that arrives, and the records of both devices
+/// meet their rules.
+pub fn kept_memory()
+    ensures boot { (pages sectors : ℕ) (image : List ℕ) → HasDeviceRecords (boot_guest pages sectors image) }
+    ensures bytes { (g : Guest) → HasDeviceRecords g → length (next g).ram ≡ length g.ram }
+    ensures rules { (g : Guest) → HasDeviceRecords g → HasDeviceRecords (next g) }
+    ensures bytes_at_arrival { (g : Guest) (frame : ArrayVec ℕ) → HasDeviceRecords g → length (arrived g frame).ram ≡ length g.ram }
+    ensures rules_at_arrival { (g : Guest) (frame : ArrayVec ℕ) → HasDeviceRecords g → HasDeviceRecords (arrived g frame) }
+{}
+
+/// The disk has as many sectors as at boot after each step.
+pub fn kept_disk()
+    ensures boot { (pages sectors : ℕ) (image : List ℕ) → sector_count (boot_guest pages sectors image).sectors ≡ sectors }
+    ensures step { (g : Guest) → sector_count (next g).sectors ≡ sector_count g.sectors }
+{}
+
 /// No step changes what the network card keeps and also what the disk keeps, and a frame that arrives changes nothing of the disk.
 pub fn devices_apart()
     ensures step { (g : Guest) → ((next g).net ≡ g.net) ⊎ (((next g).disk ≡ g.disk) × ((next g).sectors ≡ g.sectors)) }

@@ -17,6 +17,7 @@ use crate::hart::Hart;
 use crate::ram::Ram;
 use crate::shapes::Shape;
 use crate::step::run_step;
+use block_device::SECTOR_BYTES;
 use bus_map::RAM_BASE;
 use mtraps::{CsrValues, Csrs};
 use net_device::{Frame, Outbox};
@@ -255,10 +256,9 @@ impl Machine {
     }
 
     /// The 512 bytes of a sector of the disk; the disk has it, as the caller knows.
-    pub fn sector(&self, sector: u32) -> &[u8]
+    pub fn sector(&self, sector: u32) -> &[u8; SECTOR_BYTES]
         requires { sector < sector_count self.now.guest.sectors }
-        ensures value { result.now ≡ slice_range self.now.guest.sectors (512 * sector) (512 * sector + 512) }
-        ensures len { length result.now ≡ 512 }
+        ensures { result.now ≡ slice_range self.now.guest.sectors (512 * sector) (512 * sector + 512) }
     {
         self.devices.sector(sector)
     }
