@@ -16,7 +16,7 @@ mod tests;
 mod world;
 
 pub use event::{Event, Frame, Mode, Packet, Refusal, Reply, Show};
-pub use guest_machine::Shape;
+pub use guest_machine::{SECTOR_BYTES, Shape};
 pub use history::{Entry, History};
 pub use laws::released_frames_were_sent;
 pub use world::World;

@@ -7,7 +7,7 @@ use crate::landings::{add_landings, count_landings};
 use crate::packets::{packet_at, send_all, send_one};
 use crate::sealed::{Arrival, Sealed, add_epoch, seal};
 use frame_ports::{INBOX_FRAMES, MAX_FRAME, MIN_FRAME, Ports};
-use guest_machine::{Machine, Shape};
+use guest_machine::{Machine, SECTOR_BYTES, Shape};
 use output_gate::Gate;
 use std::alloc::Global;
 use std::marker::Model;
@@ -61,7 +61,7 @@ impl Model for World {
 }
 
 impl World {
-    ghost use Rattle.std.specs.Prelude.{IfSome, option_map};
+    ghost use Rattle.std.specs.Prelude.{option_map};
     ghost use Rattle.guest_machine.specs.Guest.{sector_in};
     ghost use Rattle.frame_ports.specs.declared.limits.TheConstants.{MAX_CLIENTS};
     ghost use Rattle.pair_core.specs.Entries.{Begins};
@@ -217,9 +217,8 @@ impl World {
     }
 
     /// The 512 bytes of a sector, counted from 0, of the live guest's disk; `None` beyond the disk.
-    pub fn sector(&self, sector: u32) -> Option<&[u8]>
+    pub fn sector(&self, sector: u32) -> Option<&[u8; SECTOR_BYTES]>
         ensures value { option_map (λ bytes. bytes.now) result ≡ shown_sector self.now sector }
-        ensures len { IfSome result (λ bytes. length bytes.now ≡ 512) }
 
         // They are those of the guest of the history followed by what is kept.
         ensures history { option_map (λ bytes. bytes.now) result ≡ sector_in (live_state self.now).guest.sectors sector }
