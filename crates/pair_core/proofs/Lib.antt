@@ -10,6 +10,8 @@ pub mod StepRuns
 pub mod WorldLaws
 pub mod PublicLaws
 pub mod ReleasedLaws
+pub mod Parts
+pub mod OrderLaws
 pub mod LogLaws
 pub mod LengthLaws
 pub mod Receivers
