@@ -9,8 +9,8 @@ ghost use Rattle.frame_ports.specs.Lands.{list_of};
 /// frame that lies in a client's box was released to it. A history that goes on keeps the step, and what was released.
 ///
 /// What was released to a client, and then what is on its way to it, is what the guest sent to it, in order and each sent frame
-/// once at most, with those left out that were dropped. What the client took, and then what lies in its box, is what was
-/// released to it, likewise. With as many as were dropped these frames are as many as the guest sent to it.
+/// once at most, with some left out. What the client took, and then what lies in its box, is what was released to it, likewise.
+/// In all, as many frames are left out as were dropped.
 pub fn released_frames_were_sent()
     ensures sent { (s : HistoryState) (es : List Entry) (c : ℕ) (f : Frame) → IsFresh s → IsAmong f (released s es c) → WasSent s es (c, f) }
     ensures boxed { (s : HistoryState) (es : List Entry) (c : ℕ) (f : Frame) → IsFresh s → Legal s es → 1 ≤ c → IsAmong f (list_of (at s es).boxes c) → IsAmong f (released s es c) }
