@@ -10,6 +10,10 @@ pub mod StepRuns
 pub mod WorldLaws
 pub mod PublicLaws
 pub mod ReleasedLaws
+pub mod Parts
+pub mod ClientLists
+pub mod OrderLaws
+pub mod CountLaws
 pub mod LogLaws
 pub mod LengthLaws
 pub mod Receivers
