@@ -111,6 +111,7 @@ fn a_sector_is_written_and_read(rt: HostRuntime) -> Result<(), Fail> {
     assert_eq!(rt; disk.sector(6).as_slice(), [0; 512].as_slice());
     assert_eq!(rt; disk.dirty_sectors(), [7].as_slice());
     assert_eq!(rt; disk.load(0x060, 4), Some(1));
+    assert_eq!(rt; disk.interrupt_status(), 1);
     let copy = disk.copy(rt.alloc())?;
     disk.settle();
     assert_eq!(rt; disk.dirty_sectors().len(), 0);
