@@ -1,5 +1,5 @@
 -- The lines that are printed.
-use Rattle.std.specs.Prelude.{ℕ, ◌++◌, ◌∷◌, [], List, Option, Some, None, codes, decimal}
+use Rattle.std.specs.Prelude.{ℕ, ◌++◌, ◌∷◌, [], List, Some, None, codes, decimal}
 use Rattle.std.specs.List.{join_with_byte}
 use Rattle.hex.specs.Hex.{encode_lower}
 use Rattle.pair_core.specs.declared.event.Refusal.{Refusal}

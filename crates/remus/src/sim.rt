@@ -2,13 +2,13 @@
 
 ghost use Rattle.std.specs.Prelude.{◌≡◌, ◌≤◌, ◌*◌, IfOk, length};
 ghost use Rattle.pair_core.specs.Runs.{steps_outcome};
-ghost use Rattle.remus.specs.Boot.{IsInLimits, boot_line};
+ghost use Rattle.remus.specs.Boot.{IsInLimits, boot_line, guest_image, named_guest};
 
 use crate::boot::{Boot, Guest, image_of, read_boot};
 use crate::delivery::read_delivery;
 use crate::replies::{write_refusal, write_reply, write_show};
 use crate::script::{Command, read_command};
-use guest_kit::{beacon, idle};
+use guest_kit::{beacon, disk_once, idle};
 use pair_core::{Event, Refusal, Reply, Shape, World};
 use std::alloc::{AllocError, Global};
 use std::io;
@@ -126,11 +126,13 @@ fn boot<O: Write>(alloc: Global, text: &[u8], number: u64, out: &mut O) -> Resul
 /// The bytes of a guest's program.
 fn image(alloc: Global, boot: &Boot) -> Result<Vec<u8>, AllocError>
     requires { IsInLimits (boot_line boot.now) }
-    ensures { IfOk result (λ image. length image.items ≤ 4096 * boot.now.pages) }
+    ensures fits { IfOk result (λ image. length image.items ≤ 4096 * boot.now.pages) }
+    ensures bytes { IfOk result (λ image. image.items ≡ guest_image (named_guest boot.now.guest)) }
 {
     match &boot.guest {
         Guest::Idle => idle(alloc),
         Guest::Beacon => beacon(alloc),
+        Guest::Disk { sector, byte } => disk_once(alloc, *sector, *byte),
         Guest::Words(words) => image_of(alloc, words),
     }
 }

@@ -105,6 +105,21 @@ fn words_run_from_the_start_of_ram(rt: HostRuntime) {
 }
 
 #[test]
+fn the_guest_of_the_disk_boots(rt: HostRuntime) {
+    let printed = "booted\nsteps 23\n";
+    let scripts: [&[u8]; 4] = [
+        b"boot 2 8 1 disk 7 ab\nstep 23\n",
+        b"boot 2 8 1 disk 0007 00\nstep 23\n",
+        // The disk doesn't have these sectors.
+        b"boot 2 8 1 disk 8 ff\nstep 23\n",
+        b"boot 2 8 1 disk 18446744073709551615 ff\nstep 23\n",
+    ];
+    for script in scripts {
+        plays(&rt, rt.alloc(), script, 0, printed, "");
+    }
+}
+
+#[test]
 fn lines_that_print_nothing(rt: HostRuntime) {
     plays(&rt, rt.alloc(), b"", 0, "", "");
     plays(&rt, rt.alloc(), b"\n\n# no boot line\n#", 0, "", "");
@@ -121,7 +136,7 @@ fn lines_that_print_nothing(rt: HostRuntime) {
 
 #[test]
 fn bad_lines_in_place_of_the_boot_line(rt: HostRuntime) {
-    let lines: [&[u8]; 38] = [
+    let lines: [&[u8]; 59] = [
         b"cut",
         b"boot",
         b"boot ",
@@ -148,6 +163,27 @@ fn bad_lines_in_place_of_the_boot_line(rt: HostRuntime) {
         b"boot 18446744073709551617 1 1 idle",
         b"boot 1 1 1 beacon",
         b"boot 2 1 1 echo",
+        b"boot 1 8 1 disk 7 ab",
+        b"boot 2 8 1 Disk 7 ab",
+        b"boot 2 8 1 disk",
+        b"boot 2 8 1 disk ",
+        b"boot 2 8 1 disk 7",
+        b"boot 2 8 1 disk 7 ",
+        b"boot 2 8 1 disk ab",
+        b"boot 2 8 1 disk 7 a",
+        b"boot 2 8 1 disk 7 abc",
+        b"boot 2 8 1 disk 7 abcd",
+        b"boot 2 8 1 disk 7 AB",
+        b"boot 2 8 1 disk 7 aB",
+        b"boot 2 8 1 disk 7 ag",
+        b"boot 2 8 1 disk 7 +a",
+        b"boot 2 8 1 disk 7 ab ",
+        b"boot 2 8 1 disk 7 ab cd",
+        b"boot 2 8 1 disk 7  ab",
+        b"boot 2 8 1 disk  7 ab",
+        b"boot 2 8 1 disk x ab",
+        b"boot 2 8 1 disk -7 ab",
+        b"boot 2 8 1 disk 18446744073709551616 ab",
         b"boot 2 1 1 words",
         b"boot 2 1 1 words ",
         b"boot 2 1 1 words 0000006",
