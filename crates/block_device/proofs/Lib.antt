@@ -6,3 +6,4 @@ pub mod RequestLemmas
 pub mod Serving
 pub mod ReadBack
 pub mod Members
+pub mod ListApart

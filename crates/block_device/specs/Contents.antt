@@ -11,6 +11,10 @@ pub record Contents : Type 0 where
 abbrev pub contents_of : List ℕ → List ℕ → Contents
 contents_of bytes dirty = record { bytes = bytes; dirty = dirty }
 
+-- the same bytes, and none of the sectors in the list
+abbrev pub unlisted : Contents → Contents
+unlisted c = contents_of c.bytes []
+
 -- a sector has 512 bytes (virtio 1.1, 5.2.4: the capacity is in sectors of 512 bytes)
 abbrev pub capacity : Contents → ℕ
 capacity c = length c.bytes / 512

@@ -2,7 +2,7 @@
 ghost use Rattle.std.specs.Prelude.{◌≡◌, ◌+◌, ◌*◌, ◌<◌, ◌≤◌, IfOk, OnErr, Err, [], length};
 ghost use Rattle.virtio_mmio.specs.States.{boot_state, IsDeviceRecord};
 ghost use Rattle.virtio_mmio.specs.Transport.{loaded, store_answer, state_after_store};
-ghost use Rattle.block_device.specs.Contents.{capacity, sector_at, boot_contents, IsDisk};
+ghost use Rattle.block_device.specs.Contents.{capacity, sector_at, boot_contents, unlisted, IsDisk};
 ghost use Rattle.block_device.specs.Dirty.{Rises};
 ghost use Rattle.block_device.specs.Disk.{disk_of, kind_of, disk_served};
 
@@ -112,6 +112,15 @@ impl Disk {
         self.transport.state()
     }
 
+    /// Which interrupts wait for the driver: bit 0 where a buffer was used, bit 1 where the configuration changed.
+    #[inline]
+    pub fn interrupt_status(&self) -> u32
+        ensures value { result ≡ self.now.state.interrupt_status }
+        ensures bits { result ≤ 3 }
+    {
+        self.transport.interrupt_status()
+    }
+
     /// Puts another record in the place of this one; the caller knows that it meets the rules of a block device's record.
     pub fn put_state(&mut self, state: &DeviceState)
         requires { IsDeviceRecord (kind_of self.old) state.now }
@@ -141,12 +150,17 @@ impl Disk {
     ///
     /// Nothing happens unless the device and its queue are ready. A malformation, of the queue, of a chain or of a request,
     /// takes the device out of service until its reset, and leaves the requests before it served. A request that is refused
-    /// by its status changes no sector. It takes no memory.
+    /// by its status changes no sector. It takes no memory. The list of the written sectors plays no part in what it leaves
+    /// beside that list itself.
     #[tactic(auto, unfolding(crate::specs::Disk::disk_served))]
     pub fn serve<R: GuestRam>(&mut self, ram: &mut R)
         ensures memory { R.bytes ram.new ≡ (disk_served (R.bytes ram.old) self.old.state self.old.contents).ram }
         ensures state { self.new.state ≡ (disk_served (R.bytes ram.old) self.old.state self.old.contents).state }
         ensures contents { self.new.contents ≡ (disk_served (R.bytes ram.old) self.old.state self.old.contents).kept }
+        ensures apart_memory { R.bytes ram.new ≡ (disk_served (R.bytes ram.old) self.old.state (unlisted self.old.contents)).ram }
+        ensures apart_state { self.new.state ≡ (disk_served (R.bytes ram.old) self.old.state (unlisted self.old.contents)).state }
+        ensures apart_bytes { self.new.contents.bytes ≡ (disk_served (R.bytes ram.old) self.old.state (unlisted self.old.contents)).kept.bytes }
+        ensures list { self.new.contents.dirty ≡ (disk_served (R.bytes ram.old) self.old.state self.old.contents).kept.dirty }
         ensures size { length (R.bytes ram.new) ≡ length (R.bytes ram.old) }
         ensures sectors { capacity self.new.contents ≡ capacity self.old.contents }
         ensures rules { IsDeviceRecord (kind_of self.new) self.new.state }

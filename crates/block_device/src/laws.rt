@@ -26,6 +26,17 @@ pub fn serving_keeps_the_disk()
     ensures rules { (ram : List ℕ) (state : DeviceState) (disk : Contents) → IsDisk disk → IsDisk (disk_served ram state disk).kept }
 {}
 
+/// What the driver sees of a disk's serving, the bytes of RAM, the registers and the sectors, is the same whatever list of written
+/// sectors the disk had before.
+pub fn the_list_plays_no_part()
+    ensures memory { (ram : List ℕ) (state : DeviceState) (bytes one other : List ℕ) →
+        (disk_served ram state (contents_of bytes one)).ram ≡ (disk_served ram state (contents_of bytes other)).ram }
+    ensures state { (ram : List ℕ) (state : DeviceState) (bytes one other : List ℕ) →
+        (disk_served ram state (contents_of bytes one)).state ≡ (disk_served ram state (contents_of bytes other)).state }
+    ensures sectors { (ram : List ℕ) (state : DeviceState) (bytes one other : List ℕ) →
+        (disk_served ram state (contents_of bytes one)).kept.bytes ≡ (disk_served ram state (contents_of bytes other)).kept.bytes }
+{}
+
 /// A sector stands in the list after a write exactly if it stood there before, or is one of those that were written.
 pub fn written_sectors()
     ensures { (dirty : List ℕ) (first count i : ℕ) → is_in i (with_written dirty first count) ≡ (is_in i dirty || (nat_le first i && nat_lt i (first + count))) }

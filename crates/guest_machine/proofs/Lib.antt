@@ -4,6 +4,5 @@ pub mod StepCases
 pub mod SentLemmas
 pub mod CountLemmas
 pub mod AlignedLemmas
+pub mod ApartLemmas
 pub mod RunLemmas
-pub mod RamLength
-pub mod MemoryLemmas

@@ -44,6 +44,7 @@ few_sent g =
       stores = λ offset n value inside. none_sent;
       sets_timer = λ register value. none_sent;
       serves = λ offset n value after is. few_acted g.ram after.state after.action;
+      serves_disk = λ offset n value after is. none_sent;
       writes_csr = λ regs number value. none_sent;
       returns = none_sent;
     })

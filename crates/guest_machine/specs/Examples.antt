@@ -10,7 +10,7 @@ use Rattle.guest_machine.specs.Guest.{Guest, boot_guest}
 
 -- the guest at boot whose memory begins with these words
 unfoldable pub words_guest : List ℕ → Guest
-words_guest words = boot_guest 1 (flat_map (little_bytes 4) words)
+words_guest words = boot_guest 1 1 (flat_map (little_bytes 4) words)
 
 -- BNE x0, x0, 2, which isn't taken, and BEQ x0, x0, 2, whose target isn't a multiple of 4
 abbrev pub two_branches : Guest
@@ -29,7 +29,7 @@ timer_due =
 -- a guest that receives: it's the beacon before its notify, with a buffer that the card may write, and its queue is the receive queue
 unfoldable pub receiver : Guest
 receiver =
-    let g = after_steps 21 (boot_guest 2 (beacon_with 26 2 1)) in
+    let g = after_steps 21 (boot_guest 2 1 (beacon_with 26 2 1)) in
     record g { net = record g.net { queues = queue_at g.net 1 ∷ queue_at g.net 0 ∷ [] } }
 
 -- from client 1: to 02:00:00:00:00:01, from 02:00:00:00:01:01, of type 88b5

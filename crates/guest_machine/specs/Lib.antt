@@ -1,6 +1,7 @@
 pub mod Aligned
 pub mod Beacon
 pub mod Bytes
+pub mod DiskGuest
 pub mod Errors
 pub mod Examples
 pub mod Guest
@@ -11,6 +12,9 @@ pub mod Runs
 pub mod Step
 -- what public clauses cite of lower crates
 pub use Rattle.arrayvec.specs.ArrayVec
+pub use Rattle.block_device.specs.Contents
+pub use Rattle.block_device.specs.Dirty
+pub use Rattle.block_device.specs.Disk
 pub use Rattle.mtraps.specs.CsrTable
 pub use Rattle.net_device.specs.Frames
 pub use Rattle.net_device.specs.Receive

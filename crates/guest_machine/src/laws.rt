@@ -1,17 +1,17 @@
 //! Laws of the guest's step, each the contract of a function that does nothing.
-ghost use Rattle.std.specs.Prelude.{◌≡◌, ℕ, ◌+◌, ◌%◌, ◌^◌, ◌≤◌, List, [], ◌∷◌, All, length, replicate, slice_range};
+ghost use Rattle.std.specs.Prelude.{◌≡◌, ℕ, ◌+◌, ◌%◌, ◌^◌, ◌≤◌, ◌⊎◌, List, [], ◌∷◌, ◌++◌, All, length, replicate, slice_range};
 ghost use Rattle.mtraps.specs.CsrTable.{boot_values};
 ghost use Rattle.arrayvec.specs.ArrayVec.{ArrayVec};
-ghost use Rattle.virtio_mmio.specs.declared.kinds.DeviceKind.TheVariants.{Network};
-ghost use Rattle.virtio_mmio.specs.States.{IsDeviceRecord};
+ghost use Rattle.virtio_mmio.specs.States.{boot_state};
 ghost use Rattle.net_device.specs.Frames.{IsFrame};
 ghost use Rattle.guest_machine.specs.Aligned.{IsAligned};
 ghost use Rattle.guest_machine.specs.Beacon.{beacon, beacon_with, beacon_frame};
 ghost use Rattle.guest_machine.specs.Bytes.{number_at};
+ghost use Rattle.guest_machine.specs.DiskGuest.{disk_guest, IsAnswered};
 ghost use Rattle.guest_machine.specs.Examples.{two_branches, mhartid_written, timer_due, receiver, client_frame};
-ghost use Rattle.guest_machine.specs.Guest.{Guest, boot_guest};
+ghost use Rattle.guest_machine.specs.Guest.{Guest, HasDeviceRecords, sector_count, boot_guest};
 ghost use Rattle.guest_machine.specs.Pending.{mip};
-ghost use Rattle.guest_machine.specs.Runs.{after_steps, sent_in};
+ghost use Rattle.guest_machine.specs.Runs.{after_steps, sent_in, marked_in};
 ghost use Rattle.guest_machine.specs.Step.{next, sent, arrived};
 
 /// Whatever the guest, its next step sends at most 64 frames, each of 14 to 1514 bytes.
@@ -23,22 +23,18 @@ pub fn sent_frames()
 /// Each step counts 1, modulo 2^64, and a guest at boot has made none.
 pub fn counted_steps()
     ensures step { (g : Guest) → (next g).steps ≡ (g.steps + 1) % 2 ^ 64 }
-    ensures boot { (pages : ℕ) (image : List ℕ) → (boot_guest pages image).steps ≡ 0 }
+    ensures boot { (pages sectors : ℕ) (image : List ℕ) → (boot_guest pages sectors image).steps ≡ 0 }
 {}
 
-/// The memory has as many bytes as at boot after each step and after each frame that arrives, and the network card's record
-/// meets its rules.
-pub fn kept_memory()
-    ensures boot { (pages : ℕ) (image : List ℕ) → IsDeviceRecord Network (boot_guest pages image).net }
-    ensures bytes { (g : Guest) → IsDeviceRecord Network g.net → length (next g).ram ≡ length g.ram }
-    ensures rules { (g : Guest) → IsDeviceRecord Network g.net → IsDeviceRecord Network (next g).net }
-    ensures bytes_at_arrival { (g : Guest) (frame : ArrayVec ℕ) → IsDeviceRecord Network g.net → length (arrived g frame).ram ≡ length g.ram }
-    ensures rules_at_arrival { (g : Guest) (frame : ArrayVec ℕ) → IsDeviceRecord Network g.net → IsDeviceRecord Network (arrived g frame).net }
+/// No step changes what the network card keeps and also what the disk keeps, and a frame that arrives changes nothing of the disk.
+pub fn devices_apart()
+    ensures step { (g : Guest) → ((next g).net ≡ g.net) ⊎ (((next g).disk ≡ g.disk) × ((next g).sectors ≡ g.sectors)) }
+    ensures arrival { (g : Guest) (frame : ArrayVec ℕ) → ((arrived g frame).disk ≡ g.disk) × ((arrived g frame).sectors ≡ g.sectors) }
 {}
 
 /// A frame that arrives at a guest that has set up no queue is lost.
 pub fn early_frames_are_lost()
-    ensures { (pages : ℕ) (image : List ℕ) (frame : ArrayVec ℕ) → arrived (boot_guest pages image) frame ≡ boot_guest pages image }
+    ensures { (pages sectors : ℕ) (image : List ℕ) (frame : ArrayVec ℕ) → arrived (boot_guest pages sectors image) frame ≡ boot_guest pages sectors image }
 {}
 
 /// A worked arrival, at a guest whose receive queue has one buffer of 26 bytes: there stand ten zero bytes, le16 1 and the
@@ -57,7 +53,7 @@ pub fn frames_arrive()
 
 /// The pc is a multiple of 4 from boot on.
 pub fn aligned_pc()
-    ensures boot { (pages : ℕ) (image : List ℕ) → IsAligned (boot_guest pages image) }
+    ensures boot { (pages sectors : ℕ) (image : List ℕ) → IsAligned (boot_guest pages sectors image) }
     ensures step { (g : Guest) → IsAligned g → IsAligned (next g) }
 {}
 
@@ -92,31 +88,59 @@ pub fn timer_interrupts()
 /// A worked guest, from boot: the beacon sends nothing in its first 21 steps, and its frame in the next, which the card tells
 /// in the used ring (idx 1, at 0x82 of its page) and by InterruptStatus. With idx 2 it sends the frame twice, with 64 so often.
 pub fn beacon_sends()
-    ensures quiet { sent_in 21 (boot_guest 2 beacon) ≡ [] }
-    ensures frame { sent_in 22 (boot_guest 2 beacon) ≡ beacon_frame ∷ [] }
-    ensures used { number_at (after_steps 22 (boot_guest 2 beacon)).ram 0x1080 4 ≡ 0x10000 }
-    ensures told { (after_steps 22 (boot_guest 2 beacon)).net.interrupt_status ≡ 1 }
-    ensures status { (after_steps 22 (boot_guest 2 beacon)).net.status ≡ 0x0f }
-    ensures twice { sent_in 22 (boot_guest 2 (beacon_with 26 0 2)) ≡ beacon_frame ∷ beacon_frame ∷ [] }
-    ensures used_twice { number_at (after_steps 22 (boot_guest 2 (beacon_with 26 0 2))).ram 0x1080 4 ≡ 0x20000 }
-    ensures often { sent_in 22 (boot_guest 2 (beacon_with 26 0 64)) ≡ replicate 64 beacon_frame }
+    ensures quiet { sent_in 21 (boot_guest 2 1 beacon) ≡ [] }
+    ensures frame { sent_in 22 (boot_guest 2 1 beacon) ≡ beacon_frame ∷ [] }
+    ensures used { number_at (after_steps 22 (boot_guest 2 1 beacon)).ram 0x1080 4 ≡ 0x10000 }
+    ensures told { (after_steps 22 (boot_guest 2 1 beacon)).net.interrupt_status ≡ 1 }
+    ensures status { (after_steps 22 (boot_guest 2 1 beacon)).net.status ≡ 0x0f }
+    ensures twice { sent_in 22 (boot_guest 2 1 (beacon_with 26 0 2)) ≡ beacon_frame ∷ beacon_frame ∷ [] }
+    ensures used_twice { number_at (after_steps 22 (boot_guest 2 1 (beacon_with 26 0 2))).ram 0x1080 4 ≡ 0x20000 }
+    ensures often { sent_in 22 (boot_guest 2 1 (beacon_with 26 0 64)) ≡ replicate 64 beacon_frame }
 {}
 
 /// Frames of a wrong length are lost, and their chains are served: with 13 bytes of frame, and with 1515; not with 1514.
 pub fn beacon_loses()
-    ensures short { sent_in 22 (boot_guest 2 (beacon_with 25 0 1)) ≡ [] }
-    ensures used { number_at (after_steps 22 (boot_guest 2 (beacon_with 25 0 1))).ram 0x1080 4 ≡ 0x10000 }
-    ensures length_0 { number_at (after_steps 22 (boot_guest 2 (beacon_with 25 0 1))).ram 0x1088 4 ≡ 0 }
-    ensures told { (after_steps 22 (boot_guest 2 (beacon_with 25 0 1))).net.interrupt_status ≡ 1 }
-    ensures longest { length (sent_in 22 (boot_guest 2 (beacon_with 1526 0 1))) ≡ 1 }
-    ensures long { sent_in 22 (boot_guest 2 (beacon_with 1527 0 1)) ≡ [] }
+    ensures short { sent_in 22 (boot_guest 2 1 (beacon_with 25 0 1)) ≡ [] }
+    ensures used { number_at (after_steps 22 (boot_guest 2 1 (beacon_with 25 0 1))).ram 0x1080 4 ≡ 0x10000 }
+    ensures length_0 { number_at (after_steps 22 (boot_guest 2 1 (beacon_with 25 0 1))).ram 0x1088 4 ≡ 0 }
+    ensures told { (after_steps 22 (boot_guest 2 1 (beacon_with 25 0 1))).net.interrupt_status ≡ 1 }
+    ensures longest { length (sent_in 22 (boot_guest 2 1 (beacon_with 1526 0 1))) ≡ 1 }
+    ensures long { sent_in 22 (boot_guest 2 1 (beacon_with 1527 0 1)) ≡ [] }
 {}
 
 /// Malformed chains break the card: one that comes back to itself (flags NEXT, next 0), and 65 chains available.
 pub fn beacon_breaks()
-    ensures nothing { sent_in 22 (boot_guest 2 (beacon_with 26 1 1)) ≡ [] }
-    ensures status { (after_steps 22 (boot_guest 2 (beacon_with 26 1 1))).net.status ≡ 0x4f }
-    ensures told { (after_steps 22 (boot_guest 2 (beacon_with 26 1 1))).net.interrupt_status ≡ 2 }
-    ensures too_many { sent_in 22 (boot_guest 2 (beacon_with 26 0 65)) ≡ [] }
-    ensures too_many_status { (after_steps 22 (boot_guest 2 (beacon_with 26 0 65))).net.status ≡ 0x4f }
+    ensures nothing { sent_in 22 (boot_guest 2 1 (beacon_with 26 1 1)) ≡ [] }
+    ensures status { (after_steps 22 (boot_guest 2 1 (beacon_with 26 1 1))).net.status ≡ 0x4f }
+    ensures told { (after_steps 22 (boot_guest 2 1 (beacon_with 26 1 1))).net.interrupt_status ≡ 2 }
+    ensures disk { (after_steps 22 (boot_guest 2 1 (beacon_with 26 1 1))).disk ≡ boot_state }
+    ensures too_many { sent_in 22 (boot_guest 2 1 (beacon_with 26 0 65)) ≡ [] }
+    ensures too_many_status { (after_steps 22 (boot_guest 2 1 (beacon_with 26 0 65))).net.status ≡ 0x4f }
+{}
+
+/// A worked guest, from boot, on a disk of 8 sectors: it writes bytes ab to sector 7. Its first 22 steps leave the disk as it was,
+/// and the next writes the sector: the status byte, at 0x1110, is 0, the used ring, at 0x1080, has one entry, whose length is 1,
+/// the external interrupt is pending, no other sector is written, and the network card is as at boot.
+pub fn disk_writes()
+    ensures before { (after_steps 22 (boot_guest 2 8 (disk_guest 7 0xab))).sectors ≡ replicate 4096 0 }
+    ensures sectors { (after_steps 23 (boot_guest 2 8 (disk_guest 7 0xab))).sectors ≡ replicate 3584 0 ++ replicate 512 0xab }
+    ensures list { marked_in 23 (boot_guest 2 8 (disk_guest 7 0xab)) [] ≡ 7 ∷ [] }
+    ensures status { number_at (after_steps 23 (boot_guest 2 8 (disk_guest 7 0xab))).ram 0x1110 1 ≡ 0 }
+    ensures used { number_at (after_steps 23 (boot_guest 2 8 (disk_guest 7 0xab))).ram 0x1080 4 ≡ 0x10000 }
+    ensures used_len { number_at (after_steps 23 (boot_guest 2 8 (disk_guest 7 0xab))).ram 0x1088 4 ≡ 1 }
+    ensures told { (after_steps 23 (boot_guest 2 8 (disk_guest 7 0xab))).disk.interrupt_status ≡ 1 }
+    ensures pending { mip (after_steps 23 (boot_guest 2 8 (disk_guest 7 0xab))) ≡ 0x800 }
+    ensures net { (after_steps 23 (boot_guest 2 8 (disk_guest 7 0xab))).net ≡ boot_state }
+    ensures frames { sent_in 23 (boot_guest 2 8 (disk_guest 7 0xab)) ≡ [] }
+{}
+
+/// The same guest asks for other things, and the disk of 8 sectors stays all zero: sector 8 isn't there, a flush has nothing to do,
+/// type 9 isn't supported. The status bytes are 1, 0 and 2, and each used length is 1. A read whose chain has no place for data
+/// reads no bytes: at sector 8, the end, that is done, and at sector 9 it is refused.
+pub fn disk_refuses()
+    ensures past_the_end { IsAnswered 1 8 1 }
+    ensures flush { IsAnswered 4 7 0 }
+    ensures unknown { IsAnswered 9 7 2 }
+    ensures nothing_at_the_end { IsAnswered 0 8 0 }
+    ensures nothing_behind { IsAnswered 0 9 1 }
 {}

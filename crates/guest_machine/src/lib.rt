@@ -1,11 +1,12 @@
-//! The guest: one RISC-V hart in machine mode with its timer, its memory and its network card, and one step of them.
+//! The guest: one RISC-V hart in machine mode with its timer, its memory, its network card and its disk, and one step of them.
 //!
 //! [`Machine::boot`] makes the machine, [`Machine::step`] takes an interrupt or runs one instruction, [`Machine::outbox`] gives the frames
-//! that the guest sent since the last [`Machine::settle`], and [`Machine::arrive`] has one arrive at it. Contracts see a machine as a `State` of the specs: its `Guest`,
-//! a record of plain data, and its outbox.
+//! that the guest sent since the last [`Machine::settle`], and [`Machine::arrive`] has one arrive at it. Contracts see a machine as a
+//! `State` of the specs: its `Guest`, a record of plain data, its outbox, and the list of the sectors that the guest wrote.
 #![tactic(auto)]
 
 mod csr_access;
+mod devices;
 mod errors;
 mod hart;
 mod interrupts;
@@ -22,8 +23,7 @@ pub use bus_map::RAM_BASE;
 pub use errors::MachineError;
 pub use laws::{
     aligned_pc, beacon_breaks, beacon_loses, beacon_sends, branches_trap, counted_steps,
-    early_frames_are_lost, frames_arrive, kept_memory, read_only_csrs_trap, sent_frames,
-    timer_interrupts,
+    devices_apart, disk_refuses, disk_writes, early_frames_are_lost, frames_arrive, read_only_csrs_trap, sent_frames, timer_interrupts,
 };
 pub use machine::Machine;
 pub use net_device::Frame;

@@ -1,16 +1,14 @@
 //! Loads from memory and from the devices.
 ghost use Rattle.std.specs.Prelude.{◌≡◌, ℕ, List, ◌%◌, ◌==◌};
 ghost use Rattle.rv64_core.specs.Widths.{width_bytes};
-ghost use Rattle.virtio_mmio.specs.declared.kinds.DeviceKind.TheVariants.{Network};
-ghost use Rattle.virtio_mmio.specs.declared.states.DeviceState.{DeviceState};
-ghost use Rattle.guest_machine.specs.Parts.{guest_of};
+ghost use Rattle.guest_machine.specs.Parts.{Attached, guest_of};
 ghost use Rattle.guest_machine.specs.Step.{quiet, extended, timer_loaded, loaded_from, load_done};
 
+use crate::devices::Devices;
 use crate::hart::Hart;
 use crate::ram::Ram;
 use bus_map::{Place, TimerRegister, place};
 use rv64_core::{Register, Width};
-use virtio_mmio::Transport;
 
 /// Causes of exceptions (the Privileged ISA, mcause).
 const LOAD_MISALIGNED: u64 = 4;
@@ -22,22 +20,21 @@ const LOAD_ACCESS_FAULT: u64 = 5;
 pub(crate) fn load(
     hart: &mut Hart,
     ram: &Ram,
-    net: &Transport,
+    devices: &Devices,
     rd: Register,
     address: u64,
     width: Width,
     signed: bool,
 )
-    requires { net.now.kind ≡ Network }
-    ensures { load_done (guest_of hart.old ram.now net.now.state) rd address signed (width_bytes width)
-        ≡ quiet (guest_of hart.new ram.now net.now.state) }
+    ensures { load_done (guest_of hart.old ram.now devices.now) rd address signed (width_bytes width)
+        ≡ quiet (guest_of hart.new ram.now devices.now) }
 {
     if !is_aligned(address, width) {
         hart.trap(LOAD_MISALIGNED, address);
         return;
     }
     let place = place(address, width.bytes() as u8);
-    match read(hart, ram, net, place, width) {
+    match read(hart, ram, devices, place, width) {
         Some(value) => {
             hart.regs.set(rd, extend(value, width, signed));
             hart.pass();
@@ -61,21 +58,21 @@ pub(crate) fn is_aligned(address: u64, width: Width) -> bool
 
 /// What stands at a place, or `None` for an access fault.
 #[inline]
-fn read(hart: &Hart, ram: &Ram, net: &Transport, place: Place, width: Width) -> Option<u64>
-    requires { net.now.kind ≡ Network }
-    ensures { result ≡ loaded_from (guest_of hart.now ram.now net.now.state) (width_bytes width) place }
+fn read(hart: &Hart, ram: &Ram, devices: &Devices, place: Place, width: Width) -> Option<u64>
+    ensures { result ≡ loaded_from (guest_of hart.now ram.now devices.now) (width_bytes width) place }
 {
     match place {
         Place::Ram(offset) => ram.load(offset, width),
         Place::Clint(register) => Some(timer_value(hart, register)),
-        Place::Net(offset) => net.load(offset, width.bytes() as u8),
-        Place::Block(_) | Place::Fault => None,
+        Place::Net(offset) => devices.load_net(offset, width),
+        Place::Block(offset) => devices.load_disk(offset, width),
+        Place::Fault => None,
     }
 }
 
 /// What a register of the timer reads.
 fn timer_value(hart: &Hart, register: TimerRegister) -> u64
-    ensures { (ram : List ℕ) (net : DeviceState) → result ≡ timer_loaded (guest_of hart.now ram net) register }
+    ensures { (ram : List ℕ) (devices : Attached) → result ≡ timer_loaded (guest_of hart.now ram devices) register }
 {
     match register {
         TimerRegister::Msip => u64::from(hart.msip),

@@ -1,18 +1,18 @@
 //! One step of the guest.
 ghost use Rattle.std.specs.Prelude.{◌≡◌, ◌+◌, ◌≤◌, ◌++◌, length};
 ghost use Rattle.rv64_core.specs.Rows.{decoded};
-ghost use Rattle.virtio_mmio.specs.declared.kinds.DeviceKind.TheVariants.{Network};
 ghost use Rattle.guest_machine.specs.Parts.{guest_of};
-ghost use Rattle.guest_machine.specs.Step.{planned, carried_out, instruction_done, next, sent};
+ghost use Rattle.guest_machine.specs.Step.{planned, carried_out, instruction_done, next, sent, marked};
 
 use crate::csr_access::{ILLEGAL_INSTRUCTION, access_csr};
+use crate::devices::Devices;
 use crate::hart::Hart;
 use crate::interrupts::due;
 use crate::loads::load;
 use crate::places::{in_ram, ram_place};
 use crate::ram::Ram;
 use crate::stores::store;
-use net_device::{NetDevice, Outbox};
+use net_device::Outbox;
 use rv64_core::{Plan, Regs, decode, plan};
 
 /// The cause of a pc outside memory (the Privileged ISA, mcause).
@@ -24,17 +24,16 @@ const INSTRUCTION_BYTES: u64 = 4;
 /// One step: the interrupt that is due, or else the instruction at the pc, and then the step count. Sent frames go last into the
 /// outbox.
 #[inline]
-#[tactic(auto, unfolding(crate::specs::Step::step_done, crate::specs::Step::next, crate::specs::Step::sent))]
-pub(crate) fn run_step(hart: &mut Hart, ram: &mut Ram, net: &mut NetDevice, outbox: &mut Outbox)
+#[tactic(auto, unfolding(crate::specs::Step::step_done, crate::specs::Step::next, crate::specs::Step::sent, crate::specs::Step::marked))]
+pub(crate) fn run_step(hart: &mut Hart, ram: &mut Ram, devices: &mut Devices, outbox: &mut Outbox)
     requires room { length outbox.old + 64 ≤ 256 }
-    requires network { net.old.transport.kind ≡ Network }
-    ensures guest { guest_of hart.new ram.new net.new.transport.state ≡ next (guest_of hart.old ram.old net.old.transport.state) }
-    ensures frames { outbox.new ≡ outbox.old ++ sent (guest_of hart.old ram.old net.old.transport.state) }
-    ensures kind { net.new.transport.kind ≡ Network }
+    ensures guest { guest_of hart.new ram.new devices.new ≡ next (guest_of hart.old ram.old devices.old) }
+    ensures frames { outbox.new ≡ outbox.old ++ sent (guest_of hart.old ram.old devices.old) }
+    ensures list { devices.new.contents.dirty ≡ marked (guest_of hart.old ram.old devices.old) devices.old.contents.dirty }
 {
-    match due(hart, &net.transport) {
+    match due(hart, devices) {
         Some(cause) => hart.trap(cause, 0),
-        None => run_instruction(hart, ram, net, outbox),
+        None => run_instruction(hart, ram, devices, outbox),
     }
     hart.steps = hart.steps.wrapping_add(1);
 }
@@ -42,12 +41,11 @@ pub(crate) fn run_step(hart: &mut Hart, ram: &mut Ram, net: &mut NetDevice, outb
 /// The instruction at the pc, or its exception.
 #[inline]
 #[tactic(auto, unfolding(crate::specs::Step::instruction_done, crate::specs::Step::carried_out))]
-fn run_instruction(hart: &mut Hart, ram: &mut Ram, net: &mut NetDevice, outbox: &mut Outbox)
+fn run_instruction(hart: &mut Hart, ram: &mut Ram, devices: &mut Devices, outbox: &mut Outbox)
     requires room { length outbox.old + 64 ≤ 256 }
-    requires network { net.old.transport.kind ≡ Network }
-    ensures guest { guest_of hart.new ram.new net.new.transport.state ≡ (instruction_done (guest_of hart.old ram.old net.old.transport.state)).guest }
-    ensures frames { outbox.new ≡ outbox.old ++ (instruction_done (guest_of hart.old ram.old net.old.transport.state)).frames }
-    ensures kind { net.new.transport.kind ≡ Network }
+    ensures guest { guest_of hart.new ram.new devices.new ≡ (instruction_done (guest_of hart.old ram.old devices.old)).guest }
+    ensures frames { outbox.new ≡ outbox.old ++ (instruction_done (guest_of hart.old ram.old devices.old)).frames }
+    ensures list { devices.new.contents.dirty ≡ (instruction_done (guest_of hart.old ram.old devices.old)).marks devices.old.contents.dirty }
 {
     if !in_ram(ram.size(), hart.pc, INSTRUCTION_BYTES) {
         hart.trap(INSTRUCTION_ACCESS_FAULT, hart.pc);
@@ -60,7 +58,7 @@ fn run_instruction(hart: &mut Hart, ram: &mut Ram, net: &mut NetDevice, outbox: 
         hart.regs.set(rd, value);
         hart.pc = pc;
     } else {
-        carry_out(hart, ram, net, outbox, word, plan);
+        carry_out(hart, ram, devices, outbox, word, plan);
     }
 }
 
@@ -84,16 +82,15 @@ fn plan_word(regs: &Regs, pc: u64, word: u32) -> Plan
 fn carry_out(
     hart: &mut Hart,
     ram: &mut Ram,
-    net: &mut NetDevice,
+    devices: &mut Devices,
     outbox: &mut Outbox,
     word: u32,
     plan: Plan,
 )
     requires room { length outbox.old + 64 ≤ 256 }
-    requires network { net.old.transport.kind ≡ Network }
-    ensures guest { guest_of hart.new ram.new net.new.transport.state ≡ (carried_out (guest_of hart.old ram.old net.old.transport.state) word plan).guest }
-    ensures frames { outbox.new ≡ outbox.old ++ (carried_out (guest_of hart.old ram.old net.old.transport.state) word plan).frames }
-    ensures kind { net.new.transport.kind ≡ Network }
+    ensures guest { guest_of hart.new ram.new devices.new ≡ (carried_out (guest_of hart.old ram.old devices.old) word plan).guest }
+    ensures frames { outbox.new ≡ outbox.old ++ (carried_out (guest_of hart.old ram.old devices.old) word plan).frames }
+    ensures list { devices.new.contents.dirty ≡ (carried_out (guest_of hart.old ram.old devices.old) word plan).marks devices.old.contents.dirty }
 {
     match plan {
         Plan::Next { pc, rd, value } => {
@@ -105,19 +102,19 @@ fn carry_out(
             address,
             width,
             signed,
-        } => load(hart, ram, &net.transport, rd, address, width, signed),
+        } => load(hart, ram, devices, rd, address, width, signed),
         Plan::Store {
             address,
             width,
             value,
-        } => store(hart, ram, net, outbox, address, width, value),
+        } => store(hart, ram, devices, outbox, address, width, value),
         Plan::Csr {
             rd,
             csr,
             op,
             operand,
             writes,
-        } => access_csr(hart, &net.transport, word, rd, csr, op, operand, writes),
+        } => access_csr(hart, devices, word, rd, csr, op, operand, writes),
         Plan::Trap { cause, value } => hart.trap(cause, value),
         Plan::Mret => hart.pc = hart.csrs.mret(),
     }

@@ -144,7 +144,7 @@ module _ (a : Inside) (h : AreFields a) where
   sealed_now = record { machine = a.live; arrivals = a.arrivals; steps = a.running }
 
   module _ (m : State) (gate : List Epoch) (sealed : Vec Sealed Global) (arrivals : Vec Arrival Global)
-      (m_is : m ≡ record a.live { outbox = [] })
+      (m_is : m ≡ record a.live { outbox = []; dirty = [] })
       (gate_is : gate ≡ a.gate ++ record { number = a.to_cut; frames = a.live.outbox } ∷ [])
       (sealed_is : sealed.items ≡ a.sealed.items ++ sealed_now ∷ [])
       (none_are : arrivals.items ≡ []) where
@@ -450,13 +450,13 @@ module _ (a : Inside) (h : AreFields a) where
 
 -- Boot
 
-abbrev pub start_pair : ℕ → List ℕ → ℕ → Pair
-start_pair pages image clients = record {
-  start = start_state pages image clients;
+abbrev pub start_pair : ℕ → ℕ → List ℕ → ℕ → Pair
+start_pair pages sectors image clients = record {
+  start = start_state pages sectors image clients;
   protocol = start_record;
-  live = boot_guest pages image;
+  live = boot_guest pages sectors image;
   outbox = [];
-  image = boot_guest pages image;
+  image = boot_guest pages sectors image;
   sealed = [];
   number = 1;
   inboxes = replicate clients [];
@@ -477,8 +477,8 @@ length-replicated : (n : ℕ) → length (replicate {A = List (ℕ × Frame)} n 
 length-replicated zero = refl
 length-replicated (suc n) = ap suc (length-replicated n)
 
-start_kept : (pages : ℕ) (image : List ℕ) (clients : ℕ) → IsKept (start_pair pages image clients)
-start_kept pages image clients = record {
+start_kept : (pages sectors : ℕ) (image : List ℕ) (clients : ℕ) → IsKept (start_pair pages sectors image clients)
+start_kept pages sectors image clients = record {
   waiting = [];
   uncommitted = [];
   split = refl;
@@ -515,7 +515,7 @@ start_kept pages image clients = record {
 }
 
 pub boot_fields : (a : Inside)
-    → a.live.guest ≡ boot_guest a.shape.pages a.boot_image.items
+    → a.live.guest ≡ boot_guest a.shape.pages a.shape.sectors a.boot_image.items
     → a.live.outbox ≡ []
     → a.image ≡ a.live
     → a.ports ≡ empty_ports a.clients
@@ -528,7 +528,7 @@ pub boot_fields : (a : Inside)
     → (a.running ≡ 0) × (a.kept ≡ 0) × (a.to_cut ≡ 1) × (a.to_commit ≡ 1) × (a.to_acknowledge ≡ 1)
     → AreFields a
 boot_fields a guest outbox image ports gate history sealed packets answers arrivals numbers =
-    let is : start_pair a.shape.pages a.boot_image.items a.clients ≡ pair_of a = (λ i. record {
+    let is : start_pair a.shape.pages a.shape.sectors a.boot_image.items a.clients ≡ pair_of a = (λ i. record {
       start = (pair_of a).start;
       protocol = record {
         history = sym history i;
@@ -552,6 +552,6 @@ boot_fields a guest outbox image ports gate history sealed packets answers arriv
       held = sym gate i;
     }) in
     record {
-      kept = subst IsKept is (start_kept a.shape.pages a.boot_image.items a.clients);
+      kept = subst IsKept is (start_kept a.shape.pages a.shape.sectors a.boot_image.items a.clients);
       counted = numbers.1 ∙ ap (λ (w : Pair). length (kept_entries w.protocol)) is;
     }

@@ -1,6 +1,6 @@
 -- Where a pair starts.
-use Rattle.std.specs.Prelude.{ℕ, List, [], length, replicate}
-use Rattle.guest_machine.specs.Guest.{boot_guest}
+use Rattle.std.specs.Prelude.{ℕ, List, [], length, replicate, Option}
+use Rattle.guest_machine.specs.Guest.{boot_guest, sector_in}
 use Rattle.pair_core.specs.declared.event.Mode.TheVariants.{Paired}
 use Rattle.pair_core.specs.declared.event.Show.{Show}
 use Rattle.pair_core.specs.HistoryState.{HistoryState}
@@ -8,9 +8,9 @@ use Rattle.pair_core.specs.Protocol.{Record}
 use Rattle.pair_core.specs.Pair.{Pair}
 
 -- the boot guest, nothing delivered, nothing on its way, and an empty box for each client
-abbrev pub start_state : ℕ → List ℕ → ℕ → HistoryState
-start_state pages image clients = record {
-  guest = boot_guest pages image;
+abbrev pub start_state : ℕ → ℕ → List ℕ → ℕ → HistoryState
+start_state pages sectors image clients = record {
+  guest = boot_guest pages sectors image;
   number = 1;
   waiting = [];
   out = [];
@@ -41,3 +41,7 @@ shown w = record {
   steps = w.live.steps;
   entries = length w.protocol.history;
 }
+
+-- what an operator is shown of the disk: the bytes of a sector of the live guest's, none beyond it
+abbrev pub shown_sector : Pair → ℕ → Option (List ℕ)
+shown_sector w sector = sector_in w.live.sectors sector

@@ -33,7 +33,7 @@ record_of a = record {
 
 abbrev pub pair_of : Inside → Pair
 pair_of a = record {
-  start = start_state a.shape.pages a.boot_image.items a.clients;
+  start = start_state a.shape.pages a.shape.sectors a.boot_image.items a.clients;
   protocol = record_of a;
   live = a.live.guest;
   outbox = a.live.outbox;

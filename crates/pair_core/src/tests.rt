@@ -159,22 +159,32 @@ fn an_inbox_holds_64_frames(rt: HostRuntime) -> Result<(), Fail> {
     Ok(())
 }
 
+/// So many bytes.
+fn twos(alloc: Global, count: usize) -> Result<Vec<u8>, Fail> {
+    let mut bytes = Vec::with_capacity(alloc, count)?;
+    bytes.resize(count, 2)?;
+    Ok(bytes)
+}
+
 #[test]
 fn frames_have_14_to_1514_bytes(rt: HostRuntime) -> Result<(), Fail> {
     let (pages, sectors) = SHAPE;
     let mut world = World::boot(rt.alloc(), Shape { pages, sectors }, 2, &[0x6f, 0, 0, 0])?;
+    let (short, least) = (twos(rt.alloc(), 13)?, twos(rt.alloc(), 14)?);
+    let (most, long) = (twos(rt.alloc(), 1514)?, twos(rt.alloc(), 1515)?);
     let events = [
-        Event::Deliver(1, &[2; 13]),
-        Event::Deliver(1, &[2; 1515]),
-        Event::Deliver(1, &[2; 1514]),
-        Event::Deliver(0, &[2; 13]),
+        Event::Deliver(1, &short),
+        Event::Deliver(1, &long),
+        Event::Deliver(1, &most),
+        Event::Deliver(1, &least),
+        Event::Deliver(0, &short),
         Event::Deliver(3, &FRAME),
         Event::Admit(0),
         Event::Admit(3),
     ];
     let text = printed(rt.alloc(), &mut world, &events)?;
     let wanted =
-        "Refused(BadFrame)\nRefused(BadFrame)\nDelivered(1)\nRefused(NoClient)\nRefused(NoClient)\n\
+        "Refused(BadFrame)\nRefused(BadFrame)\nDelivered(1)\nDelivered(2)\nRefused(NoClient)\nRefused(NoClient)\n\
         Refused(NoClient)\nRefused(NoClient)\n";
     assert_eq!(rt; text.as_str(), wanted);
     Ok(())

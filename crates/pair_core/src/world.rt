@@ -61,13 +61,14 @@ impl Model for World {
 }
 
 impl World {
-    ghost use Rattle.std.specs.Prelude.{IsSome};
+    ghost use Rattle.std.specs.Prelude.{IfSome, option_map};
+    ghost use Rattle.guest_machine.specs.Guest.{sector_in};
     ghost use Rattle.frame_ports.specs.declared.limits.TheConstants.{MAX_CLIENTS};
     ghost use Rattle.pair_core.specs.Entries.{Begins};
     ghost use Rattle.pair_core.specs.Protocol.{Answers, outcome, step_outcome};
-    ghost use Rattle.pair_core.specs.Pair.{Pair, OnRefused, IsConsistent};
+    ghost use Rattle.pair_core.specs.Pair.{Pair, live_state, OnRefused, IsConsistent};
     ghost use Rattle.pair_core.specs.Runs.{Run};
-    ghost use Rattle.pair_core.specs.Start.{start_state, start_record, shown};
+    ghost use Rattle.pair_core.specs.Start.{start_state, start_record, shown, shown_sector};
 
     /// A pair at its start: both nodes were given this boot image, which counts as checkpoint 0, committed and
     /// acknowledged.
@@ -79,7 +80,7 @@ impl World {
         requires some { 1 ≤ clients }
         requires few { clients ≤ MAX_CLIENTS }
         requires fits { length image.now ≤ 4096 * shape.pages }
-        ensures start { IfOk result (λ w. w.start ≡ start_state shape.pages image.now clients) }
+        ensures start { IfOk result (λ w. w.start ≡ start_state shape.pages shape.sectors image.now clients) }
         ensures protocol { IfOk result (λ w. w.protocol ≡ start_record) }
         ensures consistent { IfOk result IsConsistent }
         ensures err { IfErr result (λ e. e ≡ Refusal.NoMemory) }
@@ -212,6 +213,22 @@ impl World {
             pending: self.pending(),
             steps: self.live.steps(),
             entries: self.history.len(),
+        }
+    }
+
+    /// The 512 bytes of a sector, counted from 0, of the live guest's disk; `None` beyond the disk.
+    pub fn sector(&self, sector: u32) -> Option<&[u8]>
+        ensures value { option_map (λ bytes. bytes.now) result ≡ shown_sector self.now sector }
+        ensures len { IfSome result (λ bytes. length bytes.now ≡ 512) }
+
+        // They are those of the guest of the history followed by what is kept.
+        ensures history { option_map (λ bytes. bytes.now) result ≡ sector_in (live_state self.now).guest.sectors sector }
+    {
+        self.keep_consistent();
+        if sector < self.live.sectors() {
+            Some(self.live.sector(sector))
+        } else {
+            None
         }
     }
 }

@@ -26,6 +26,7 @@ returns c = record {
   nothing = refl;
   status = refl;
   told = refl;
+  disk = refl;
   too_many = refl;
   too_many_status = refl;
 }

@@ -8,4 +8,4 @@ returns-clause-step c g = steps-next g
 
 pub returns-clause-boot : goal.returns-clause-boot
 unfolding boot_guest
-returns-clause-boot c pages image = refl
+returns-clause-boot c pages sectors image = refl

@@ -6,4 +6,4 @@ use Rattle.guest_machine.proofs.laws.early_frames_are_lost.Goals as goal
 
 pub returns : goal.returns
 unfolding arrived received boot_guest
-returns c pages image frame = refl
+returns c pages sectors image frame = refl

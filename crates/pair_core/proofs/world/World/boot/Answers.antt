@@ -7,7 +7,7 @@ use Rattle.pair_core.proofs.world.World.boot.Goals as goal
 pub invariant_of-result : goal.invariant_of-result
 invariant_of-result c =
     boot_fields _
-    (c.in-Ok.ensures.guest ∙ ap (boot_guest c.args.shape.pages) (sym c.in_ok-boot_image.ensures.items))
+    (c.in-Ok.ensures.guest ∙ ap (boot_guest c.args.shape.pages c.args.shape.sectors) (sym c.in_ok-boot_image.ensures.items))
     c.in-Ok.ensures.outbox
     c.in-Ok-copy.ensures.ok
     c.in-Ok-new.ensures.ok

@@ -1,0 +1,209 @@
+//! The devices of a machine: its network card and its disk.
+ghost use Rattle.std.specs.Prelude.{◌≡◌, ◌+◌, ◌*◌, ◌/◌, ◌<◌, ◌≤◌, ◌++◌, ◌==◌, ◌&&◌, not, IfOk, IfSome, IfNone, Some, None, [], length, slice_range};
+ghost use Rattle.rv64_core.specs.Widths.{width_bytes};
+ghost use Rattle.virtio_mmio.specs.declared.kinds.DeviceKind.TheVariants.{Network, Block};
+ghost use Rattle.virtio_mmio.specs.States.{boot_state, IsDeviceRecord};
+ghost use Rattle.virtio_mmio.specs.Transport.{loaded, stored};
+ghost use Rattle.net_device.specs.Receive.{received};
+ghost use Rattle.block_device.specs.Contents.{capacity, boot_contents, unlisted};
+ghost use Rattle.block_device.specs.Dirty.{Rises};
+ghost use Rattle.guest_machine.specs.Guest.{sector_count};
+ghost use Rattle.guest_machine.specs.Step.{acted, disk_acted};
+
+use crate::ram::Ram;
+use block_device::{Disk, DiskError};
+use net_device::{Frame, NetDevice, Outbox};
+use rv64_core::Width;
+use std::alloc::Global;
+use std::marker::Model;
+use virtio_mmio::{Action, DeviceState};
+
+/// The number of the network card's transmit queue (virtio 1.1, 5.1.2).
+const TRANSMIT_QUEUE: u32 = 1;
+
+/// The number of the disk's queue (virtio 1.1, 5.2.2).
+const REQUEST_QUEUE: u32 = 0;
+
+/// The network card and the disk.
+#[derive(Drop)]
+pub(crate) struct Devices {
+    net: NetDevice,
+    disk: Disk,
+}
+
+impl Model for Devices {
+    ghost use Rattle.std.specs.Prelude.{◌≡◌};
+    ghost use Rattle.virtio_mmio.specs.declared.kinds.DeviceKind.TheVariants.{Network};
+    ghost use Rattle.guest_machine.specs.Parts.{Attached};
+
+    ghost Value = { Attached };
+
+    ghost view = { λ d. record { net = d.net.transport.state; disk = d.disk.state; contents = d.disk.contents } };
+
+    ghost invariant = { λ d. d.net.transport.kind ≡ Network };
+}
+
+impl Devices {
+    /// A network card, and a disk of 1 to 32768 sectors that are 0, both as at boot.
+    pub(crate) fn boot(alloc: Global, sectors: u32) -> Result<Devices, DiskError>
+        requires some { 1 ≤ sectors }
+        requires most { sectors ≤ 32768 }
+        ensures { IfOk result (λ devices. devices ≡ record { net = boot_state; disk = boot_state; contents = boot_contents sectors }) }
+    {
+        let disk = Disk::boot(alloc, sectors)?;
+        Ok(Devices {
+            net: NetDevice::boot(),
+            disk,
+        })
+    }
+
+    /// The same devices once more.
+    pub(crate) fn copy(&self, alloc: Global) -> Result<Devices, DiskError>
+        ensures { IfOk result (λ devices. devices ≡ self.now) }
+    {
+        let disk = self.disk.copy(alloc)?;
+        Ok(Devices {
+            net: self.net,
+            disk,
+        })
+    }
+
+    /// Whether a device has an interrupt for its driver.
+    #[inline]
+    pub(crate) fn interrupts_wait(&self) -> bool
+        ensures { result ≡ not (self.now.net.interrupt_status == 0 && self.now.disk.interrupt_status == 0) }
+    {
+        self.net.transport.interrupt_status() != 0 || self.disk.interrupt_status() != 0
+    }
+
+    /// What a load from the network card's registers gives; `None` is an access fault.
+    pub(crate) fn load_net(&self, offset: u64, width: Width) -> Option<u64>
+        ensures { result ≡ loaded Network self.now.net offset (width_bytes width) }
+    {
+        self.net.transport.load(offset, width.bytes() as u8)
+    }
+
+    /// What a load from the disk's registers gives; `None` is an access fault.
+    pub(crate) fn load_disk(&self, offset: u64, width: Width) -> Option<u64>
+        ensures { result ≡ loaded (Block (sector_count self.now.contents.bytes)) self.now.disk offset (width_bytes width) }
+    {
+        self.disk.load(offset, width.bytes() as u8)
+    }
+
+    /// A store to a register of the network card, and what it asks of the card; `None` is an access fault.
+    pub(crate) fn store_net(&mut self, offset: u64, width: Width, value: u64) -> Option<Action>
+        ensures none { IfNone result (stored Network self.old.net offset (width_bytes width) value ≡ None) }
+        ensures unchanged { IfNone result (self.new ≡ self.old) }
+        ensures some { IfSome result (λ action. stored Network self.old.net offset (width_bytes width) value
+            ≡ Some (record { action = action; state = self.new.net })) }
+        ensures other { self.new ≡ record self.old { net = self.new.net } }
+    {
+        self.net
+            .transport
+            .store(offset, width.bytes() as u8, value)
+    }
+
+    /// A store to a register of the disk, and what it asks of the disk; `None` is an access fault.
+    pub(crate) fn store_disk(&mut self, offset: u64, width: Width, value: u64) -> Option<Action>
+        ensures none { IfNone result (stored (Block (sector_count self.old.contents.bytes)) self.old.disk offset (width_bytes width) value ≡ None) }
+        ensures unchanged { IfNone result (self.new ≡ self.old) }
+        ensures some { IfSome result (λ action. stored (Block (sector_count self.old.contents.bytes)) self.old.disk offset (width_bytes width) value
+            ≡ Some (record { action = action; state = self.new.disk })) }
+        ensures other { self.new ≡ record self.old { disk = self.new.disk } }
+    {
+        self.disk.store(offset, width.bytes() as u8, value)
+    }
+
+    /// What the network card does that a store asked to act.
+    pub(crate) fn act_net(&mut self, ram: &mut Ram, outbox: &mut Outbox, action: Action)
+        requires room { length outbox.old + 64 ≤ 256 }
+        ensures memory { ram.new ≡ (acted ram.old self.old.net action).ram }
+        ensures card { self.new ≡ record self.old { net = (acted ram.old self.old.net action).net } }
+        ensures frames { outbox.new ≡ outbox.old ++ (acted ram.old self.old.net action).frames }
+    {
+        match action {
+            Action::Notify(queue) => {
+                if queue == TRANSMIT_QUEUE {
+                    self.net.transmit(ram, outbox);
+                }
+            }
+            Action::None | Action::Reset => {}
+        }
+    }
+
+    /// What the disk does that a store asked to act.
+    pub(crate) fn act_disk(&mut self, ram: &mut Ram, action: Action)
+        ensures memory { ram.new ≡ (disk_acted ram.old self.old.disk (unlisted self.old.contents) action).ram }
+        ensures disk { self.new.disk ≡ (disk_acted ram.old self.old.disk (unlisted self.old.contents) action).state }
+        ensures sectors { self.new.contents.bytes ≡ (disk_acted ram.old self.old.disk (unlisted self.old.contents) action).kept.bytes }
+        ensures list { self.new.contents.dirty ≡ (disk_acted ram.old self.old.disk self.old.contents action).kept.dirty }
+        ensures net { self.new.net ≡ self.old.net }
+    {
+        match action {
+            Action::Notify(queue) => {
+                if queue == REQUEST_QUEUE {
+                    self.disk.serve(ram);
+                }
+            }
+            Action::None | Action::Reset => {}
+        }
+    }
+
+    /// A frame arrives at the network card, and is put into the next chain of its receive queue. Says whether it was.
+    pub(crate) fn receive(&mut self, ram: &mut Ram, frame: &Frame) -> bool
+        ensures taken { result ≡ (received ram.old self.old.net frame.now).taken }
+        ensures memory { ram.new ≡ (received ram.old self.old.net frame.now).ram }
+        ensures card { self.new ≡ record self.old { net = (received ram.old self.old.net frame.now).net } }
+    {
+        self.net.receive(ram, frame)
+    }
+
+    /// What the network card keeps.
+    pub(crate) fn net(&self) -> DeviceState
+        ensures value { result ≡ self.now.net }
+        ensures rules { IsDeviceRecord Network result }
+    {
+        self.net.transport.state()
+    }
+
+    /// What the disk's registers keep.
+    pub(crate) fn disk(&self) -> DeviceState
+        ensures value { result ≡ self.now.disk }
+        ensures rules { IsDeviceRecord (Block (sector_count self.now.contents.bytes)) result }
+    {
+        self.disk.state()
+    }
+
+    /// How many sectors the disk has.
+    pub(crate) fn sectors(&self) -> u32
+        ensures value { result ≡ sector_count self.now.contents.bytes }
+        ensures least { 1 ≤ result }
+        ensures most { result ≤ 32768 }
+    {
+        self.disk.sectors()
+    }
+
+    /// The bytes of a sector.
+    pub(crate) fn sector(&self, sector: u32) -> &[u8]
+        requires { sector < sector_count self.now.contents.bytes }
+        ensures value { result.now ≡ slice_range self.now.contents.bytes (512 * sector) (512 * sector + 512) }
+        ensures len { length result.now ≡ 512 }
+    {
+        self.disk.sector(sector)
+    }
+
+    /// The sectors that were written since the last settle, in rising order.
+    pub(crate) fn dirty_sectors(&self) -> &[u32]
+        ensures value { result.now ≡ self.now.contents.dirty }
+        ensures rises { Rises 0 (sector_count self.now.contents.bytes) result.now }
+    {
+        self.disk.dirty_sectors()
+    }
+
+    /// Empties the list of the written sectors.
+    pub(crate) fn settle(&mut self)
+        ensures { self.new ≡ record self.old { contents = record self.old.contents { dirty = [] } } }
+    {
+        self.disk.settle();
+    }
+}
