@@ -6,7 +6,7 @@ use Rattle.std.proofs.lemmas.Slice.Eq.{bytes_eq-Decides}
 use Rattle.remus.specs.Fields.{behind, number_of, numbered_by}
 use Rattle.remus.specs.Command.{IsNumbered, IsCommand, command_of}
 use Rattle.remus.specs.declared.script.Command.{Command}
-use Rattle.remus.specs.declared.script.Command.TheVariants.{Step, Cut, Send, Backup, Ack, Admit, Take, Show}
+use Rattle.remus.specs.declared.script.Command.TheVariants.{Step, Cut, Send, Backup, Ack, Admit, Take, Sector, Show}
 use Rattle.remus.proofs.FieldLemmas.{behind-some}
 
 -- what is spelled so is read so
@@ -20,6 +20,7 @@ command_of-spelled text (Backup k) (digits, shape, value) = ap command_of shape 
 command_of-spelled text (Ack k) (digits, shape, value) = ap command_of shape ∙ ap (λ o. option_map_or (λ k. Some (Ack k)) o None) value
 command_of-spelled text (Admit client) (digits, shape, value) = ap command_of shape ∙ ap (λ o. option_map_or (λ k. Some (Admit k)) o None) value
 command_of-spelled text (Take client) (digits, shape, value) = ap command_of shape ∙ ap (λ o. option_map_or (λ k. Some (Take k)) o None) value
+command_of-spelled text (Sector sector) (digits, shape, value) = ap command_of shape ∙ ap (λ o. option_map_or (λ k. Some (Sector k)) o None) value
 command_of-spelled text Show shape = ap command_of shape
 
 named : (P : Type 0) (test : Bool) (first : Command) (others : Option Command) (command : Command) → (test ≡ true → first ≡ command → P) → (others ≡ Some command → P) → cond test (Some first) others ≡ Some command → P
@@ -42,8 +43,11 @@ steps text n command spelled true e h = cc
 steps text n command spelled false e h = let low : 1 ≤ n = grind arith in let same : Step n ≡ command = cc in subst (IsCommand text) same (spelled, low)
 
 -- the forms, from the last one up
+abbrev sector_form : List ℕ → Option Command
+sector_form text = option_map_or (λ sector. Some (Sector sector)) (numbered_by (codes "sector ") text) None
+
 abbrev take_form : List ℕ → Option Command
-take_form text = option_map_or (λ client. Some (Take client)) (numbered_by (codes "take ") text) None
+take_form text = option_map_or (λ client. Some (Take client)) (numbered_by (codes "take ") text) (sector_form text)
 
 abbrev admit_form : List ℕ → Option Command
 admit_form text = option_map_or (λ client. Some (Admit client)) (numbered_by (codes "admit ") text) (take_form text)
@@ -57,10 +61,15 @@ backup_form text = option_map_or (λ k. Some (Backup k)) (numbered_by (codes "ba
 abbrev step_form : List ℕ → Option Command
 step_form text = option_map_or (λ n. cond (nat_eq n 0) None (Some (Step n))) (numbered_by (codes "step ") text) (backup_form text)
 
-from_take : (text : List ℕ) (command : Command) → take_form text ≡ Some command → IsCommand text command
-from_take text command = told (IsCommand text command) (λ n. Some (Take n)) (numbered_by (codes "take ") text) None command
-    (λ n spelled e. let same : Take n ≡ command = cc in subst (IsCommand text) same (is_numbered (codes "take ") text n spelled))
+from_sector : (text : List ℕ) (command : Command) → sector_form text ≡ Some command → IsCommand text command
+from_sector text command = told (IsCommand text command) (λ n. Some (Sector n)) (numbered_by (codes "sector ") text) None command
+    (λ n spelled e. let same : Sector n ≡ command = cc in subst (IsCommand text) same (is_numbered (codes "sector ") text n spelled))
     (λ e. cc)
+
+from_take : (text : List ℕ) (command : Command) → take_form text ≡ Some command → IsCommand text command
+from_take text command = told (IsCommand text command) (λ n. Some (Take n)) (numbered_by (codes "take ") text) (sector_form text) command
+    (λ n spelled e. let same : Take n ≡ command = cc in subst (IsCommand text) same (is_numbered (codes "take ") text n spelled))
+    (from_sector text command)
 
 from_admit : (text : List ℕ) (command : Command) → admit_form text ≡ Some command → IsCommand text command
 from_admit text command = told (IsCommand text command) (λ n. Some (Admit n)) (numbered_by (codes "admit ") text) (take_form text) command

@@ -7,7 +7,7 @@ use Rattle.hex.specs.Hex.{encode_lower, decode_of, IsBytes}
 use Rattle.hex.specs.declared.error.FromHexError.{FromHexError}
 use Rattle.hex.specs.declared.error.FromHexError.TheVariants.{OutOfMemory}
 use Rattle.hex.proofs.HexLemmas.{decode_of-encode_lower, decode_of-ok}
-use Rattle.remus.specs.Fields.{behind, number_of, operand_of}
+use Rattle.remus.specs.Fields.{behind, operand_of}
 use Rattle.remus.specs.Delivery.{IsHex, IsDelivery, delivery_head}
 use Rattle.remus.proofs.FieldLemmas.{behind-some, operand_of-spelled, operand_of-read}
 

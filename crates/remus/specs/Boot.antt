@@ -3,6 +3,10 @@ use Rattle.std.specs.Prelude.{◌≡◌, ℕ, ◌*◌, ◌^◌, ◌<◌, ◌≤�
 use Rattle.std.specs.List.{join_with_byte, flat_map, AllByRecursion}
 use Rattle.std.specs.Int.{to_be_bytes, to_le_bytes, w32}
 use Rattle.hex.specs.Hex.{encode_lower}
+use Rattle.guest_kit.specs.Image.{image_of}
+use Rattle.guest_kit.specs.Idle.{idle_program}
+use Rattle.guest_kit.specs.Beacon.{beacon_program}
+use Rattle.guest_kit.specs.Disk.{disk_program}
 use Rattle.remus.specs.Fields.{behind, number_of, operand_of}
 use Rattle.remus.specs.declared.boot.Boot.{Boot}
 use Rattle.remus.specs.declared.boot.Head.{Head}
@@ -13,11 +17,13 @@ use Rattle.remus.specs.declared.boot.Guest.TheVariants as guests
 pub data NamedGuest : Type 0 where
   idle : NamedGuest
   beacon : NamedGuest
+  disk : (sector byte : ℕ) → NamedGuest
   words : List ℕ → NamedGuest
 
 abbrev pub named_guest : Guest → NamedGuest
 named_guest guests.Idle = idle
 named_guest guests.Beacon = beacon
+named_guest (guests.Disk sector byte) = disk sector byte
 named_guest (guests.Words ws) = words ws.items
 
 -- a word: a space, and eight hex digits in lower case, the highest first
@@ -30,16 +36,28 @@ pub record IsWords (text : List ℕ) (ws : List ℕ) : Type 0 where
   pub some : 0 < length ws
   pub below : AllByRecursion (λ w. w < 2 ^ 32) ws
 
+-- the guest that fills one sector with a byte: the sector is a number, also of one that the disk doesn't have, and the byte two
+-- hex digits in lower case
+pub record IsDisk (text : List ℕ) (sector byte : ℕ) : Type 0 where
+  pub number : List ℕ
+  pub digits : List ℕ
+  pub shape : text ≡ join_with_byte 32 (codes "disk" ∷ number ∷ digits ∷ [])
+  pub sector_written : number_of number ≡ Some sector
+  pub byte_written : digits ≡ encode_lower (byte ∷ [])
+  pub below : byte < 2 ^ 8
+
 -- the guest that a text names
 abbrev pub NamesGuest : List ℕ → NamedGuest → Type 0
 NamesGuest text idle = text ≡ codes "idle"
 NamesGuest text beacon = text ≡ codes "beacon"
+NamesGuest text (disk sector byte) = IsDisk text sector byte
 NamesGuest text (words ws) = (fields : List ℕ) × (text ≡ codes "words" ++ fields) × IsWords fields ws
 
 -- whether a guest fits in so many pages of 4096 bytes
 abbrev pub GuestFits : ℕ → NamedGuest → Type 0
 GuestFits pages idle = Unit {0}
 GuestFits pages beacon = 2 ≤ pages
+GuestFits pages (disk sector byte) = 2 ≤ pages
 GuestFits pages (words ws) = 4 * length ws ≤ 4096 * pages
 
 abbrev pub IsGuest : ℕ → List ℕ → NamedGuest → Type 0
@@ -104,3 +122,10 @@ pub record IsInLimits (line : BootLine) : Type 0 where
 -- the bytes of a guest's words, which stand in RAM the lowest first
 abbrev pub words_image : List ℕ → List ℕ
 words_image ws = flat_map (to_le_bytes w32) ws
+
+-- the bytes that RAM begins with
+abbrev pub guest_image : NamedGuest → List ℕ
+guest_image idle = image_of idle_program
+guest_image beacon = image_of beacon_program
+guest_image (disk sector byte) = image_of (disk_program sector byte)
+guest_image (words ws) = words_image ws

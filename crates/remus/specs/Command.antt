@@ -4,7 +4,7 @@ use Rattle.std.specs.Option.{option_map_or}
 use Rattle.std.specs.Str.{bytes_eq}
 use Rattle.remus.specs.Fields.{number_of, numbered_by}
 use Rattle.remus.specs.declared.script.Command.{Command}
-use Rattle.remus.specs.declared.script.Command.TheVariants.{Step, Cut, Send, Backup, Ack, Admit, Take, Show}
+use Rattle.remus.specs.declared.script.Command.TheVariants.{Step, Cut, Send, Backup, Ack, Admit, Take, Sector, Show}
 
 -- the front, and digits that write n
 abbrev pub IsNumbered : List ℕ → ℕ → List ℕ → Type 0
@@ -19,6 +19,7 @@ IsCommand text (Backup k) = IsNumbered (codes "backup ") k text
 IsCommand text (Ack k) = IsNumbered (codes "ack ") k text
 IsCommand text (Admit client) = IsNumbered (codes "admit ") client text
 IsCommand text (Take client) = IsNumbered (codes "take ") client text
+IsCommand text (Sector sector) = IsNumbered (codes "sector ") sector text
 IsCommand text Show = text ≡ codes "show"
 
 -- the command that a line spells, by the first form that fits
@@ -32,4 +33,5 @@ command_of text =
     (option_map_or (λ k. Some (Ack k)) (numbered_by (codes "ack ") text)
     (option_map_or (λ client. Some (Admit client)) (numbered_by (codes "admit ") text)
     (option_map_or (λ client. Some (Take client)) (numbered_by (codes "take ") text)
-    None))))
+    (option_map_or (λ sector. Some (Sector sector)) (numbered_by (codes "sector ") text)
+    None)))))

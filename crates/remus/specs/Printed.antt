@@ -1,7 +1,9 @@
 -- The lines that are printed.
-use Rattle.std.specs.Prelude.{ℕ, ◌++◌, ◌∷◌, [], List, Option, Some, None, codes, decimal}
+use Rattle.std.specs.Prelude.{ℕ, ◌^◌, nat_lt, if◌then◌else◌, ◌++◌, ◌∷◌, [], List, Option, Some, None, codes, decimal}
 use Rattle.std.specs.List.{join_with_byte}
 use Rattle.hex.specs.Hex.{encode_lower}
+use Rattle.pair_core.specs.Pair.{Pair}
+use Rattle.pair_core.specs.Start.{shown_sector}
 use Rattle.pair_core.specs.declared.event.Refusal.{Refusal}
 use Rattle.pair_core.specs.Refusals.{number_of, name_of}
 use Rattle.pair_core.specs.declared.event.Show.{Show}
@@ -36,3 +38,12 @@ reply_line (Refused refusal) = refusal_line refusal
 abbrev pub show_line : Show → List ℕ
 show_line s = line (codes "mode" ∷ codes "paired" ∷ codes "generation" ∷ decimal s.generation ∷ codes "pending" ∷ decimal s.pending
     ∷ codes "steps" ∷ decimal s.steps ∷ codes "entries" ∷ decimal s.entries ∷ [])
+
+-- The bytes of the sector that a script's number names, none beyond the disk. A disk has 32768 sectors at most, so a number of
+-- more than 32 bits is beyond each.
+abbrev pub named_sector : Pair → ℕ → Option (List ℕ)
+named_sector w sector = if nat_lt sector (2 ^ 32) then shown_sector w sector else None
+
+-- a sector of the disk: its number, and its bytes, each as two hex digits in lower case
+abbrev pub sector_line : ℕ → List ℕ → List ℕ
+sector_line sector bytes = line (codes "sector" ∷ decimal sector ∷ encode_lower bytes ∷ [])

@@ -1,9 +1,9 @@
 //! The boot line of a script: the size of the machine, the number of clients, and the guest.
 
 ghost use Rattle.std.specs.Prelude.{◌≡◌, ℕ, ◌*◌, ◌^◌, ◌<◌, ◌≤◌, List, Some, IfOk, IfSome, IsTrue, option_map, length};
-ghost use Rattle.remus.specs.Boot.{word_field, IsWords, IsGuest, IsBoot, in_limits, head_of, head_view, NamedGuest, BootLine, named_guest, boot_line, IsInLimits, words_image};
+ghost use Rattle.remus.specs.Boot.{word_field, IsWords, IsDisk, IsGuest, IsBoot, in_limits, head_of, head_view, NamedGuest, BootLine, named_guest, boot_line, IsInLimits, words_image};
 
-use crate::fields::{after, operand};
+use crate::fields::{after, hex_bytes, operand};
 use std::alloc::{AllocError, Global};
 
 /// Pages of RAM, at most.
@@ -14,6 +14,9 @@ const MOST_SECTORS: u64 = 32768;
 
 /// Clients, at most.
 const MOST_CLIENTS: u64 = 16;
+
+/// The pages that a guest with a driver needs: its program lies in the first, and its rings in the second.
+const DRIVER_PAGES: u32 = 2;
 
 /// The instruction words of a page of 4096 bytes.
 const PAGE_WORDS: u64 = 1024;
@@ -28,6 +31,13 @@ pub enum Guest {
     Idle,
     /// Sends one frame, and then idles. It needs 2 pages.
     Beacon,
+    /// Fills one sector of the disk, where the disk has it, and then idles. It needs 2 pages.
+    Disk {
+        /// The sector's number.
+        sector: u64,
+        /// The byte that each of its bytes becomes.
+        byte: u8,
+    },
     /// These instruction words, placed from the start of RAM: at least one, and they fit.
     Words(Vec<u32>),
 }
@@ -111,7 +121,7 @@ fn are_in_limits(pages: u64, sectors: u64, clients: u64) -> bool
         && (1 <= clients && clients <= MOST_CLIENTS)
 }
 
-/// The guest that a text names, in a machine of so many pages.
+/// The guest that a text names, in a machine of so many pages, where it fits.
 fn read_guest(alloc: Global, pages: u32, text: &[u8]) -> Result<Option<Guest>, AllocError>
     ensures found { IfOk result (λ found. IfSome found (λ guest. IsGuest pages text.now (named_guest guest))) }
     ensures only { (guest : NamedGuest) → IsGuest pages text.now guest → IfOk result (λ found. option_map named_guest found ≡ Some guest) }
@@ -120,11 +130,10 @@ fn read_guest(alloc: Global, pages: u32, text: &[u8]) -> Result<Option<Guest>, A
         return Ok(Some(Guest::Idle));
     }
     if text == b"beacon".as_slice() {
-        return Ok(if pages >= 2 {
-            Some(Guest::Beacon)
-        } else {
-            None
-        });
+        return Ok((pages >= DRIVER_PAGES).then_some(Guest::Beacon));
+    }
+    if let Some((sector, byte)) = read_disk(text) {
+        return Ok((pages >= DRIVER_PAGES).then_some(Guest::Disk { sector, byte }));
     }
     let Some(fields) = after(text, b"words") else {
         return Ok(None);
@@ -136,6 +145,16 @@ fn read_guest(alloc: Global, pages: u32, text: &[u8]) -> Result<Option<Guest>, A
         return Ok(None);
     }
     Ok(Some(Guest::Words(words)))
+}
+
+/// The sector and the byte of a text that names the guest `disk`.
+fn read_disk(text: &[u8]) -> Option<(u64, u8)>
+    ensures found { IfSome result (λ request. IsDisk text.now request.0 request.1) }
+    ensures only { (sector byte : ℕ) → IsDisk text.now sector byte → result ≡ Some (sector, byte) }
+{
+    let (sector, digits) = operand(after(text, b"disk ")?)?;
+    let [byte] = hex_bytes::<1>(digits)?;
+    Some((sector, byte))
 }
 
 /// The words of a text, each a space and eight digits.
@@ -161,20 +180,12 @@ fn read_words(alloc: Global, text: &[u8]) -> Result<Option<Vec<u32>>, AllocError
     Ok(Some(words))
 }
 
-/// A word from its field, a space and eight digits. It has one spelling: what the digits stand for is written
-/// again and compared, since `hex` reads upper case too.
+/// A word from its field, a space and eight digits.
 fn read_word(field: &[u8]) -> Option<u32>
     ensures found { IfSome result (λ w. field.now ≡ word_field w) }
     ensures only { (w : ℕ) → w < 2 ^ 32 → field.now ≡ word_field w → result ≡ Some w }
 {
-    let digits = after(field, b" ")?;
-    let mut bytes = [0; 4];
-    hex::decode_to_slice(digits, &mut bytes).ok()?;
-    let mut spelled = [0; 8];
-    hex::encode_to_slice(bytes.as_slice(), &mut spelled).ok()?;
-    if digits != spelled.as_slice() {
-        return None;
-    }
+    let bytes = hex_bytes(after(field, b" ")?)?;
     Some(u32::from_be_bytes(bytes))
 }
 

@@ -1,7 +1,12 @@
 //! The fields of a script's line: names and numbers, each with the one way that it may be spelled.
 
-ghost use Rattle.std.specs.Prelude.{◌≡◌, ◌==◌, None, Some, MatchOption, option_map, position};
+ghost use Rattle.std.specs.Prelude.{◌≡◌, ◌==◌, ℕ, List, length, None, Some, IfSome, MatchOption, option_map, position};
+ghost use Rattle.std.specs.Char.{is_ascii_uppercase};
+ghost use Rattle.std.specs.List.{list_any};
+ghost use Rattle.hex.specs.Hex.{encode_lower, IsBytes};
 ghost use Rattle.remus.specs.Fields.{behind, number_of, numbered_by, operand_of, parted};
+
+use hex::FromHex;
 
 /// The bytes behind `front`, where the text begins with it.
 pub fn after<'a>(text: &'a [u8], front: &[u8]) -> Option<&'a [u8]>
@@ -48,4 +53,25 @@ fn first_space(text: &[u8]) -> Option<usize>
     ensures { result ≡ position (λ c. c == 32) text.now }
 {
     text.iter().position(|c| *c == b' ')
+}
+
+/// The `N` bytes that the text writes, each as two hex digits in lower case.
+pub fn hex_bytes<const N: usize>(text: &[u8]) -> Option<[u8; N]>
+    // What is read is spelled so.
+    ensures found { IfSome result (λ bytes. text.now ≡ encode_lower bytes) }
+    ensures bytes { IfSome result (λ bytes. (length bytes ≡ N) × IsBytes bytes) }
+    // What is spelled so is read so.
+    ensures only { (bytes : List ℕ) → length bytes ≡ N → IsBytes bytes → text.now ≡ encode_lower bytes → result ≡ Some bytes }
+{
+    if has_upper_case(text) {
+        return None;
+    }
+    <[u8; N]>::from_hex(text).ok()
+}
+
+/// Whether a letter in upper case is in the text. `hex` reads such letters as digits too.
+fn has_upper_case(text: &[u8]) -> bool
+    ensures { result ≡ list_any is_ascii_uppercase text.now }
+{
+    text.iter().any(|c| c.is_ascii_uppercase())
 }

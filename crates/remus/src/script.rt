@@ -23,6 +23,8 @@ pub enum Command {
     Admit(u64),
     /// `take C`: client `C` takes the first frame of its box.
     Take(u64),
+    /// `sector S`: the bytes of sector `S` of the live guest's disk, from 0. Beyond the disk it is a bad line.
+    Sector(u64),
     /// `show`: the state in one line.
     Show,
 }
@@ -69,6 +71,9 @@ fn first_form(text: &[u8]) -> Option<Command>
     }
     if let Some(client) = numbered(text, b"take ") {
         return Some(Command::Take(client));
+    }
+    if let Some(sector) = numbered(text, b"sector ") {
+        return Some(Command::Sector(sector));
     }
     None
 }

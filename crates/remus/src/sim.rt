@@ -1,14 +1,16 @@
 //! `remus sim FILE`: plays a script of events to a pair.
 
-ghost use Rattle.std.specs.Prelude.{◌≡◌, ◌≤◌, ◌*◌, IfOk, length};
+ghost use Rattle.std.specs.Prelude.{◌≡◌, ◌≤◌, ◌*◌, Err, IfOk, IfErr, IfSome, IfNone, IsSome, OnOk, length, option_map};
+ghost use Rattle.std.specs.Io.KnownBytes.{Appends};
 ghost use Rattle.pair_core.specs.Runs.{steps_outcome};
-ghost use Rattle.remus.specs.Boot.{IsInLimits, boot_line};
+ghost use Rattle.remus.specs.Printed.{named_sector, sector_line};
+ghost use Rattle.remus.specs.Boot.{IsInLimits, boot_line, guest_image, named_guest};
 
 use crate::boot::{Boot, Guest, image_of, read_boot};
 use crate::delivery::read_delivery;
-use crate::replies::{write_refusal, write_reply, write_show};
+use crate::replies::{write_refusal, write_reply, write_sector, write_show};
 use crate::script::{Command, read_command};
-use guest_kit::{beacon, idle};
+use guest_kit::{beacon, disk_once, idle};
 use pair_core::{Event, Refusal, Reply, Shape, World};
 use std::alloc::{AllocError, Global};
 use std::io;
@@ -26,6 +28,10 @@ enum Stop {
 }
 
 impl From<io::Error> for Stop {
+    ghost use Rattle.remus.specs.declared.sim.Stop.TheVariants.{Failed};
+
+    ghost from_gives = { λ _ stop. stop ≡ Failed };
+
     fn from(_: io::Error) -> Stop {
         Stop::Failed
     }
@@ -76,8 +82,7 @@ fn play_line<O: Write>(
     out: &mut O,
 ) -> Result<(), Stop> {
     if let Some(command) = read_command(text) {
-        obey(world, command, out)?;
-        return Ok(());
+        return obey(world, command, number, out);
     }
     let reply = match read_delivery(alloc, text) {
         Ok(Some(delivery)) => {
@@ -126,17 +131,24 @@ fn boot<O: Write>(alloc: Global, text: &[u8], number: u64, out: &mut O) -> Resul
 /// The bytes of a guest's program.
 fn image(alloc: Global, boot: &Boot) -> Result<Vec<u8>, AllocError>
     requires { IsInLimits (boot_line boot.now) }
-    ensures { IfOk result (λ image. length image.items ≤ 4096 * boot.now.pages) }
+    ensures fits { IfOk result (λ image. length image.items ≤ 4096 * boot.now.pages) }
+    ensures bytes { IfOk result (λ image. image.items ≡ guest_image (named_guest boot.now.guest)) }
 {
     match &boot.guest {
         Guest::Idle => idle(alloc),
         Guest::Beacon => beacon(alloc),
+        Guest::Disk { sector, byte } => disk_once(alloc, *sector, *byte),
         Guest::Words(words) => image_of(alloc, words),
     }
 }
 
-/// Does what a command says, and prints the answer.
-fn obey<O: Write>(world: &mut World, command: Command, out: &mut O) -> io::Result<()> {
+/// Does what a command says, and prints the answer. The line's number is for one that turns out to be bad.
+fn obey<O: Write>(
+    world: &mut World,
+    command: Command,
+    number: u64,
+    out: &mut O,
+) -> Result<(), Stop> {
     let reply = match command {
         Command::Step(count) => run_steps(world, count),
         Command::Cut => world.apply(Event::Cut),
@@ -145,9 +157,35 @@ fn obey<O: Write>(world: &mut World, command: Command, out: &mut O) -> io::Resul
         Command::Ack(packet) => world.apply(Event::AckGet(packet)),
         Command::Admit(client) => world.apply(Event::Admit(client)),
         Command::Take(client) => world.apply(Event::Take(client)),
-        Command::Show => return write_show(out, &world.show()),
+        Command::Sector(sector) => return show_sector(world, sector, number, out),
+        Command::Show => {
+            write_show(out, &world.show())?;
+            return Ok(());
+        }
     };
-    write_reply(out, &reply)
+    write_reply(out, &reply)?;
+    Ok(())
+}
+
+/// Prints the bytes of a sector. Beyond the disk the line is a bad one, and nothing is printed.
+fn show_sector<O: Write>(world: &World, sector: u64, number: u64, out: &mut O) -> Result<(), Stop>
+    ensures shown { IfSome (named_sector world.now sector) (λ bytes. OnOk result (Appends (O.contents out.old) (O.contents out.new) (sector_line sector bytes))) }
+    ensures failed { IsSome (named_sector world.now sector) → IfErr result (λ stop. stop ≡ Stop.Failed) }
+    ensures bad { IfNone (named_sector world.now sector) ((result ≡ Err (Stop.Bad number)) × (out.new ≡ out.old)) }
+{
+    let Some(bytes) = sector_of(world, sector) else {
+        return Err(Stop::Bad(number));
+    };
+    write_sector(out, sector, bytes)?;
+    Ok(())
+}
+
+/// The bytes of the sector that a number names.
+fn sector_of(world: &World, sector: u64) -> Option<&[u8]>
+    ensures value { option_map (λ bytes. bytes.now) result ≡ named_sector world.now sector }
+    ensures len { IfSome result (λ bytes. length bytes.now ≡ 512) }
+{
+    world.sector(u32::try_from(sector).ok()?)
 }
 
 /// The last of `count` steps' replies, or the first refusal.

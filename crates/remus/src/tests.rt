@@ -105,6 +105,66 @@ fn words_run_from_the_start_of_ram(rt: HostRuntime) {
 }
 
 #[test]
+fn the_guest_of_the_disk_boots(rt: HostRuntime) {
+    let printed = "booted\nsteps 23\n";
+    let scripts: [&[u8]; 4] = [
+        b"boot 2 8 1 disk 7 ab\nstep 23\n",
+        b"boot 2 8 1 disk 0007 00\nstep 23\n",
+        // The disk doesn't have these sectors.
+        b"boot 2 8 1 disk 8 ff\nstep 23\n",
+        b"boot 2 8 1 disk 18446744073709551615 ff\nstep 23\n",
+    ];
+    for script in scripts {
+        plays(&rt, rt.alloc(), script, 0, printed, "");
+    }
+}
+
+/// Prints the line of a sector that is filled with the byte of these two digits.
+fn push_sector(printed: &mut String, sector: u64, digits: &str) -> Result<(), Fail> {
+    write!(printed, "sector {sector} ")?;
+    for _ in 0..512 {
+        printed.push_str(digits)?;
+    }
+    printed.push_str("\n")?;
+    Ok(())
+}
+
+#[test]
+fn the_disk_guest_fills_a_sector(rt: HostRuntime) -> Result<(), Fail> {
+    let script =
+        b"boot 2 8 1 disk 7 ab\nstep 22\nsector 7\nstep 1\nsector 7\nsector 0006\nsector 0\ncut\nsector 7\n";
+    let mut printed = String::from_str(rt.alloc(), "booted\nsteps 22\n")?;
+    push_sector(&mut printed, 7, "00")?;
+    printed.push_str("steps 23\n")?;
+    push_sector(&mut printed, 7, "ab")?;
+    push_sector(&mut printed, 6, "00")?;
+    push_sector(&mut printed, 0, "00")?;
+    printed.push_str("cut 1 1\n")?;
+    push_sector(&mut printed, 7, "ab")?;
+    plays(&rt, rt.alloc(), script, 0, printed.as_str(), "");
+    Ok(())
+}
+
+#[test]
+fn a_request_beyond_the_disk_writes_nothing(rt: HostRuntime) -> Result<(), Fail> {
+    let script =
+        b"boot 2 8 1 disk 8 ab\nstep 23\nsector 0\nsector 1\nsector 2\nsector 3\nsector 4\nsector 5\nsector 6\nsector 7\nsector 8\nshow\n";
+    let mut printed = String::from_str(rt.alloc(), "booted\nsteps 23\n")?;
+    for sector in 0..8u64 {
+        push_sector(&mut printed, sector, "00")?;
+    }
+    plays(
+        &rt,
+        rt.alloc(),
+        script,
+        1,
+        printed.as_str(),
+        "remus: line 11: bad\n",
+    );
+    Ok(())
+}
+
+#[test]
 fn lines_that_print_nothing(rt: HostRuntime) {
     plays(&rt, rt.alloc(), b"", 0, "", "");
     plays(&rt, rt.alloc(), b"\n\n# no boot line\n#", 0, "", "");
@@ -121,7 +181,7 @@ fn lines_that_print_nothing(rt: HostRuntime) {
 
 #[test]
 fn bad_lines_in_place_of_the_boot_line(rt: HostRuntime) {
-    let lines: [&[u8]; 38] = [
+    let lines: [&[u8]; 59] = [
         b"cut",
         b"boot",
         b"boot ",
@@ -148,6 +208,27 @@ fn bad_lines_in_place_of_the_boot_line(rt: HostRuntime) {
         b"boot 18446744073709551617 1 1 idle",
         b"boot 1 1 1 beacon",
         b"boot 2 1 1 echo",
+        b"boot 1 8 1 disk 7 ab",
+        b"boot 2 8 1 Disk 7 ab",
+        b"boot 2 8 1 disk",
+        b"boot 2 8 1 disk ",
+        b"boot 2 8 1 disk 7",
+        b"boot 2 8 1 disk 7 ",
+        b"boot 2 8 1 disk ab",
+        b"boot 2 8 1 disk 7 a",
+        b"boot 2 8 1 disk 7 abc",
+        b"boot 2 8 1 disk 7 abcd",
+        b"boot 2 8 1 disk 7 AB",
+        b"boot 2 8 1 disk 7 aB",
+        b"boot 2 8 1 disk 7 ag",
+        b"boot 2 8 1 disk 7 +a",
+        b"boot 2 8 1 disk 7 ab ",
+        b"boot 2 8 1 disk 7 ab cd",
+        b"boot 2 8 1 disk 7  ab",
+        b"boot 2 8 1 disk  7 ab",
+        b"boot 2 8 1 disk x ab",
+        b"boot 2 8 1 disk -7 ab",
+        b"boot 2 8 1 disk 18446744073709551616 ab",
         b"boot 2 1 1 words",
         b"boot 2 1 1 words ",
         b"boot 2 1 1 words 0000006",
@@ -168,7 +249,7 @@ fn bad_lines_in_place_of_the_boot_line(rt: HostRuntime) {
 
 #[test]
 fn bad_lines_behind_the_boot_line(rt: HostRuntime) -> Result<(), Fail> {
-    let lines: [&[u8]; 40] = [
+    let lines: [&[u8]; 54] = [
         b"boot 2 1 1 idle",
         b"step",
         b"step ",
@@ -200,6 +281,20 @@ fn bad_lines_behind_the_boot_line(rt: HostRuntime) -> Result<(), Fail> {
         b"ack ",
         b"take",
         b"take 18446744073709551616",
+        b"sector",
+        b"sector ",
+        b"sector x",
+        b"sector -1",
+        b"sector +0",
+        b"sector 0 ",
+        b"sector 0 0",
+        b"sector  0",
+        b"sectors 0",
+        b"Sector 0",
+        b"sector 1",
+        b"sector 4294967296",
+        b"sector 18446744073709551615",
+        b"sector 18446744073709551616",
         b"deliver 1",
         b"deliver 1 ",
         b"deliver 1 0",
@@ -293,6 +388,19 @@ fn a_write_that_fails_gives_status_1(rt: HostRuntime) {
         );
         // `booted`, `cut 1 1` and `none`, each with its newline, are 20 bytes.
         assert_eq!(rt; status, if room < 20 { 1 } else { 0 }, "room for {room}");
+        assert_eq!(rt; err.len(), 0);
+    }
+    // `booted` and the sector's line, each with its newline, are 1041 bytes.
+    for room in [7usize, 15, 16, 1039, 1040, 1041] {
+        let mut out = Short(room);
+        let mut err = Vec::new(rt.alloc());
+        let status = sim(
+            rt.alloc(),
+            b"boot 2 1 1 idle\nsector 0\n",
+            &mut out,
+            &mut err,
+        );
+        assert_eq!(rt; status, if room < 1041 { 1 } else { 0 }, "room for {room}");
         assert_eq!(rt; err.len(), 0);
     }
     let mut out = Vec::new(rt.alloc());

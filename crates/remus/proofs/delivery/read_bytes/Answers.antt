@@ -1,5 +1,5 @@
 -- digits are decoded, and what they stand for is spelled again: the same digits
-use Rattle.std.proofs.Common.{◌≡◌, ◌∙◌, ap, sym, arith, Some, List, ℕ, Vec, Global}
+use Rattle.std.proofs.Common.{◌∙◌, ap, sym, arith, Some, ℕ, Vec, Global}
 use Rattle.hex.specs.Hex.{encode_lower}
 use Rattle.remus.proofs.DeliveryLemmas.{decoded-same, others-write-none, none-are-none, found-written, unread-finds, unread-only}
 use Rattle.remus.proofs.delivery.read_bytes.Goals as goal

@@ -1,5 +1,5 @@
 -- the client's number stands before the digits
-use Rattle.std.proofs.Common.{◌≡◌, ◌∙◌, ap, sym, subst, List, ℕ, Option, Some, None, Vec, Global, IfSome}
+use Rattle.std.proofs.Common.{◌∙◌, ap, sym, subst, ℕ, Option, Vec, Global, IfSome}
 use Rattle.std.specs.Option.{option_map}
 use Rattle.remus.specs.Delivery.{IsHex}
 use Rattle.remus.proofs.DeliveryLemmas.{delivery-read, headless, head-found, one-reading, nothing-is-some, both-same, bytes-same}
