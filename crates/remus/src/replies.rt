@@ -1,18 +1,15 @@
 //! What is printed: one line for each reply.
 
-ghost use Rattle.std.specs.Prelude.{◌≡◌, ◌∷◌, [], OnOk, codes, decimal, length};
+ghost use Rattle.std.specs.Prelude.{◌≡◌, ◌∷◌, [], OnOk, codes, decimal};
 ghost use Rattle.std.specs.Io.KnownBytes.{Appends};
 ghost use Rattle.hex.specs.Hex.{encode_lower};
 ghost use Rattle.remus.specs.Printed.{line, refusal_line, reply_line, sector_line, show_line};
 
-use pair_core::{Frame, Refusal, Reply, Show};
+use pair_core::{Frame, Refusal, Reply, SECTOR_BYTES, Show};
 use std::io::{Result, Write};
 
 /// The bytes of the longest frame.
 const MOST_BYTES: usize = 1514;
-
-/// The bytes of a sector.
-const SECTOR_BYTES: usize = 512;
 
 /// Prints a reply as its line.
 ///
@@ -84,12 +81,15 @@ pub fn write_show<W: Write>(out: &mut W, show: &Show) -> Result<()>
 /// # Errors
 ///
 /// That of the writer.
-pub fn write_sector<W: Write>(out: &mut W, sector: u64, bytes: &[u8]) -> Result<()>
-    requires { length bytes.now ≡ SECTOR_BYTES }
+pub fn write_sector<W: Write>(
+    out: &mut W,
+    sector: u64,
+    bytes: &[u8; SECTOR_BYTES],
+) -> Result<()>
     ensures { OnOk result (Appends (W.contents out.old) (W.contents out.new) (sector_line sector bytes.now)) }
 {
     let mut digits = [0; 2 * SECTOR_BYTES];
-    hex::encode_to_slice(bytes, &mut digits).unwrap();
+    hex::encode_to_slice(bytes.as_slice(), &mut digits).unwrap();
     write!(out, "sector {sector} ")?;
     out.write_all(&digits)?;
     out.write_all(b"\n")

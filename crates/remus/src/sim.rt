@@ -11,7 +11,7 @@ use crate::delivery::read_delivery;
 use crate::replies::{write_refusal, write_reply, write_sector, write_show};
 use crate::script::{Command, read_command};
 use guest_kit::{beacon, disk_once, idle};
-use pair_core::{Event, Refusal, Reply, Shape, World};
+use pair_core::{Event, Refusal, Reply, SECTOR_BYTES, Shape, World};
 use std::alloc::{AllocError, Global};
 use std::io;
 use std::io::Write;
@@ -181,9 +181,8 @@ fn show_sector<O: Write>(world: &World, sector: u64, number: u64, out: &mut O) -
 }
 
 /// The bytes of the sector that a number names.
-fn sector_of(world: &World, sector: u64) -> Option<&[u8]>
+fn sector_of(world: &World, sector: u64) -> Option<&[u8; SECTOR_BYTES]>
     ensures value { option_map (λ bytes. bytes.now) result ≡ named_sector world.now sector }
-    ensures len { IfSome result (λ bytes. length bytes.now ≡ 512) }
 {
     world.sector(u32::try_from(sector).ok()?)
 }
