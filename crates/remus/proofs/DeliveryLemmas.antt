@@ -1,12 +1,13 @@
 -- A delivery is read from the left, and has one reading.
-use Rattle.std.proofs.Common.{◌≡◌, ◌≢◌, ◌<◌, ℕ, Bool, true, false, not, nat_eq, List, [], ◌∷◌, ◌++◌, length, Option, Some, None, Result, Ok, Err, refl, sym, ap, subst, arith, ◌∙◌, ◌⊎◌, inl, inr, IfOk, IfSome, Bor, codes}
-use Rattle.std.specs.Cmp.Lexicographic.{pointwise}
-use Rattle.std.proofs.lemmas.Bool.{and_parts}
+use Rattle.std.proofs.Common.{◌≡◌, ◌≢◌, ◌<◌, ℕ, true, false, List, [], ◌++◌, length, Option, Some, None, Result, Ok, Err, refl, sym, ap, subst, arith, ◌∙◌, ◌⊎◌, inl, inr, IfOk, IfSome, Bor, codes}
 use Rattle.std.specs.Option.{option_and_then, option_map}
-use Rattle.hex.specs.Hex.{encode_lower, decode_of, IsBytes}
+use Rattle.hex.specs.Hex.{decode_of, IsBytes}
 use Rattle.hex.specs.declared.error.FromHexError.{FromHexError}
 use Rattle.hex.specs.declared.error.FromHexError.TheVariants.{OutOfMemory}
 use Rattle.hex.proofs.HexLemmas.{decode_of-encode_lower, decode_of-ok}
+use Rattle.std.specs.Char.{is_ascii_uppercase}
+use Rattle.std.specs.List.{list_any}
+use Rattle.remus.proofs.DigitLemmas.{lower-again, none_in_upper_case}
 use Rattle.remus.specs.Fields.{behind, operand_of}
 use Rattle.remus.specs.Delivery.{IsHex, IsDelivery, delivery_head}
 use Rattle.remus.proofs.FieldLemmas.{behind-some, operand_of-spelled, operand_of-read}
@@ -44,35 +45,11 @@ decoded-same digits found bytes e h =
 pub decoded-bytes : (digits found : List ℕ) → decode_of digits ≡ Ok found → IsBytes found
 decoded-bytes digits found e = (decode_of-ok digits found e).3
 
--- ---- digits and what they stand for, compared one by one
-
-pub same-digits : (xs ys : List ℕ) → pointwise nat_eq xs ys ≡ true → xs ≡ ys
-same-digits [] [] h = refl
-same-digits [] (y ∷ ys) h = cc
-same-digits (x ∷ xs) [] h = cc
-same-digits (x ∷ xs) (y ∷ ys) h =
-    let both = and_parts (nat_eq x y) (pointwise nat_eq xs ys) h in
-    let first : x ≡ y = grind (arith, both.0) in
-    let rest : xs ≡ ys = same-digits xs ys both.1 in
-    cc
-
-pub digits-alike : (xs : List ℕ) → pointwise nat_eq xs xs ≡ true
-digits-alike [] = refl
-digits-alike (x ∷ xs) = let first : nat_eq x x ≡ true = grind arith in rw first (digits-alike xs)
-
-not-false : (b : Bool) → not b ≡ false → b ≡ true
-not-false true h = refl
-not-false false h = cc
-
--- digits that are compared with those of what was found, and are others, write no bytes
-pub others-write-none : (digits found spelled bytes : List ℕ) → decode_of digits ≡ Ok found → spelled ≡ encode_lower found
-    → not (pointwise nat_eq digits spelled) ≡ true → IsHex digits bytes → ⊥
-others-write-none digits found spelled bytes decoded same other h =
-    let is : found ≡ bytes = decoded-same digits found bytes decoded h in
-    let alike : spelled ≡ digits = same ∙ ap encode_lower is ∙ sym h.shape in
-    let yes : pointwise nat_eq digits spelled ≡ true = ap (pointwise nat_eq digits) alike ∙ digits-alike digits in
-    let no : not true ≡ true = sym (ap not yes) ∙ other in
-    cc
+-- digits in upper case write no bytes
+pub capitals-write-none : (digits bytes : List ℕ) → list_any is_ascii_uppercase digits ≡ true → IsHex digits bytes → ⊥
+capitals-write-none digits bytes some h =
+    let none = ap (list_any is_ascii_uppercase) h.shape ∙ none_in_upper_case bytes h.below in
+    cc (sym some ∙ none)
 
 -- no bytes are no delivery
 pub none-are-none : (digits found bytes : List ℕ) → decode_of digits ≡ Ok found → length found ≡ 0 → IsHex digits bytes → ⊥
@@ -80,11 +57,10 @@ none-are-none digits found bytes decoded none h =
     let is : length bytes ≡ 0 = sym (ap length (decoded-same digits found bytes decoded h)) ∙ none in
     absurd (omega (arith, is, h.some))
 
--- what was found, spelled again as it stood there
-pub found-written : (digits found spelled : List ℕ) → decode_of digits ≡ Ok found → spelled ≡ encode_lower found
-    → not (pointwise nat_eq digits spelled) ≡ false → 0 < length found → IsHex digits found
-found-written digits found spelled decoded same alike some = record {
-  shape = same-digits digits spelled (not-false (pointwise nat_eq digits spelled) alike) ∙ same;
+-- what was found is spelled as it stood there
+pub found-written : (digits found : List ℕ) → decode_of digits ≡ Ok found → list_any is_ascii_uppercase digits ≡ false → 0 < length found → IsHex digits found
+found-written digits found decoded low some = record {
+  shape = lower-again digits found decoded low;
   some = some;
   below = decoded-bytes digits found decoded;
 }

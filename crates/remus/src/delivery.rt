@@ -3,7 +3,7 @@
 ghost use Rattle.std.specs.Prelude.{◌≡◌, ◌≢◌, ℕ, List, Some, None, IfOk, IfSome, option_map};
 ghost use Rattle.remus.specs.Delivery.{IsHex, IsDelivery, delivery_head, delivery_view};
 
-use crate::fields::{after, operand};
+use crate::fields::{after, has_upper_case, operand};
 use hex::FromHexError;
 use std::alloc::{AllocError, Global};
 
@@ -43,21 +43,19 @@ fn read_head(text: &[u8]) -> Option<(u64, &[u8])>
     operand(after(text, b"deliver ")?)
 }
 
-/// The bytes that digits write, at least one. They have one spelling: what the digits stand for is written again and
-/// compared, since `hex` reads upper case too.
+/// The bytes that digits write, at least one.
 fn read_bytes(alloc: Global, digits: &[u8]) -> Result<Option<Vec<u8>>, AllocError>
     ensures found { IfOk result (λ found. IfSome found (λ bytes. IsHex digits.now bytes.items)) }
     ensures only { (bytes : List ℕ) → IsHex digits.now bytes → IfOk result (λ found. option_map (λ v. v.items) found ≡ Some bytes) }
 {
+    if has_upper_case(digits) {
+        return Ok(None);
+    }
     let bytes = match hex::decode(alloc, digits) {
         Ok(bytes) => bytes,
         Err(error) => return undecoded(error),
     };
-    let spelled = hex::encode(alloc, bytes.as_slice())?;
     if bytes.is_empty() {
-        return Ok(None);
-    }
-    if digits != spelled.as_bytes() {
         return Ok(None);
     }
     Ok(Some(bytes))

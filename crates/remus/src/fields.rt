@@ -69,8 +69,8 @@ pub fn hex_bytes<const N: usize>(text: &[u8]) -> Option<[u8; N]>
     <[u8; N]>::from_hex(text).ok()
 }
 
-/// Whether a letter in upper case is in the text. `hex` reads such letters as digits too.
-fn has_upper_case(text: &[u8]) -> bool
+/// Whether a letter in upper case is in the text. `hex` reads such letters as digits too, and a script has none.
+pub fn has_upper_case(text: &[u8]) -> bool
     ensures { result ≡ list_any is_ascii_uppercase text.now }
 {
     text.iter().any(|c| c.is_ascii_uppercase())

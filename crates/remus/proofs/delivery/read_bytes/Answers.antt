@@ -1,7 +1,6 @@
--- digits are decoded, and what they stand for is spelled again: the same digits
+-- digits without upper case are decoded, and spelled as what they stand for is
 use Rattle.std.proofs.Common.{◌∙◌, ap, sym, arith, Some, ℕ, Vec, Global}
-use Rattle.hex.specs.Hex.{encode_lower}
-use Rattle.remus.proofs.DeliveryLemmas.{decoded-same, others-write-none, none-are-none, found-written, unread-finds, unread-only}
+use Rattle.remus.proofs.DeliveryLemmas.{decoded-same, capitals-write-none, none-are-none, found-written, unread-finds, unread-only}
 use Rattle.remus.proofs.delivery.read_bytes.Goals as goal
 
 pub returns-in-Err : goal.returns-in-Err
@@ -14,15 +13,13 @@ pub returns-then-is_empty-clause-only : goal.returns-then-is_empty-clause-only
 returns-then-is_empty-clause-only c = λ bytes h.
     absurd (none-are-none c.args.digits.now c.in-Ok.bytes.items bytes c.in-Ok.ensures.ok (grind (arith, c.if-is_empty.ensures)) h)
 
-pub returns-then-ne-clause-only : goal.returns-then-ne-clause-only
-returns-then-ne-clause-only c = λ bytes h.
-    absurd (others-write-none c.args.digits.now c.in-Ok.bytes.items c.as_bytes.result.now bytes c.in-Ok.ensures.ok
-    (c.as_bytes.ensures.value ∙ c.in_ok-spelled.ensures ∙ ap encode_lower c.as_slice.ensures.value) (sym c.if-ne.ensures) h)
+pub returns-then-has_upper_case-clause-only : goal.returns-then-has_upper_case-clause-only
+returns-then-has_upper_case-clause-only c = λ bytes h.
+    absurd (capitals-write-none c.args.digits.now bytes (sym c.has_upper_case.ensures ∙ c.if-has_upper_case.true) h)
 
 pub returns-clause-found : goal.returns-clause-found
 returns-clause-found c =
-    found-written c.args.digits.now c.in-Ok.bytes.items c.as_bytes.result.now c.in-Ok.ensures.ok
-    (c.as_bytes.ensures.value ∙ c.in_ok-spelled.ensures ∙ ap encode_lower c.as_slice.ensures.value) (sym c.if-ne.ensures) (grind (arith, c.if-is_empty.ensures))
+    found-written c.args.digits.now c.in-Ok.bytes.items c.in-Ok.ensures.ok (sym c.has_upper_case.ensures ∙ c.if-has_upper_case.false) (grind (arith, c.if-is_empty.ensures))
 
 pub returns-clause-only : goal.returns-clause-only
 returns-clause-only c = λ bytes h. ap Some (decoded-same c.args.digits.now c.in-Ok.bytes.items bytes c.in-Ok.ensures.ok h)
