@@ -1,10 +1,10 @@
 -- A step changes what one device keeps at most, and keeps the number of the disk's sectors.
-use Rattle.std.proofs.Common.{◌≡◌, ℕ, ◌==◌, Bool, true, false, if◌then◌else◌, List, ◌⊎◌, inl, inr, refl}
+use Rattle.std.proofs.Common.{◌≡◌, ℕ, ◌⊎◌, inl, inr, refl}
 use Rattle.arrayvec.specs.ArrayVec.{ArrayVec}
 use Rattle.bus_map.specs.declared.parts.TimerRegister.{TimerRegister}
 use Rattle.bus_map.specs.declared.parts.TimerRegister.TheVariants.{Msip, Mtimecmp, Mtime}
 use Rattle.guest_machine.specs.Guest.{Guest}
-use Rattle.guest_machine.specs.Step.{Effect, timer_stored, next, arrived}
+use Rattle.guest_machine.specs.Step.{timer_stored, next, arrived}
 use Rattle.guest_machine.proofs.StepCases.{step_case}
 
 -- the network card is as it was, or else the disk is

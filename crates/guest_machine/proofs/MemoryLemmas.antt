@@ -1,17 +1,16 @@
 -- A step keeps the number of the memory's bytes and of the disk's sectors, and the rules of both devices' records.
-use Rattle.std.proofs.Common.{◌≡◌, ℕ, ◌+◌, ◌*◌, ◌/◌, ◌<◌, ◌==◌, Bool, true, false, if◌then◌else◌, List, [], length, replicate, arith, refl, sym, ap, ◌∙◌, subst}
+use Rattle.std.proofs.Common.{◌≡◌, ℕ, ◌*◌, ◌/◌, ◌==◌, Bool, true, false, if◌then◌else◌, List, [], length, arith, refl, sym, ap, ◌∙◌, subst}
 use Rattle.std.proofs.lemmas.List.{length-replicate}
 use Rattle.arrayvec.specs.ArrayVec.{ArrayVec}
 use Rattle.byteorder.specs.Numbers.{length-bytes_low_first}
 use Rattle.bus_map.specs.declared.parts.TimerRegister.{TimerRegister}
 use Rattle.bus_map.specs.declared.parts.TimerRegister.TheVariants.{Msip, Mtimecmp, Mtime}
 use Rattle.virtqueue.specs.Queues.{boot_queue}
-use Rattle.virtio_mmio.specs.declared.kinds.DeviceKind.{DeviceKind}
 use Rattle.virtio_mmio.specs.declared.kinds.DeviceKind.TheVariants.{Network, Block}
 use Rattle.virtio_mmio.specs.declared.states.DeviceState.{DeviceState}
 use Rattle.virtio_mmio.specs.declared.actions.Action.{Action}
 use Rattle.virtio_mmio.specs.declared.actions.Action.TheVariants as asks
-use Rattle.virtio_mmio.specs.States.{boot_state, IsQueueRecord, IsDeviceRecord}
+use Rattle.virtio_mmio.specs.States.{IsQueueRecord, IsDeviceRecord}
 use Rattle.virtio_mmio.specs.ServingLoop.{Served as DiskServed, standing}
 use Rattle.virtio_mmio.proofs.Rules.{stored-rules}
 use Rattle.net_device.specs.Transmit.{Served, rests, served}

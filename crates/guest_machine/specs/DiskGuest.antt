@@ -3,7 +3,7 @@ use Rattle.std.specs.Prelude.{◌≡◌, ℕ, List, [], ◌∷◌, ◌++◌, rep
 use Rattle.std.specs.List.{flat_map}
 use Rattle.byteorder.specs.Endian.{little_bytes}
 use Rattle.guest_machine.specs.Bytes.{number_at}
-use Rattle.guest_machine.specs.Guest.{Guest, boot_guest}
+use Rattle.guest_machine.specs.Guest.{boot_guest}
 use Rattle.guest_machine.specs.Runs.{after_steps, marked_in}
 
 -- LUI, ADDI, SW, LW and JAL; the 23rd word notifies queue 0, and the 24th jumps to itself

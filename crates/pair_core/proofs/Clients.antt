@@ -1,6 +1,6 @@
 -- Laws of the numbers of clients, and of what the ports answer for one.
-use Rattle.std.proofs.Common.{◌≡◌, refl, ℕ, ◌<◌, ◌≤◌, List, [], ◌∷◌, length, sym, ap, ◌∙◌, arith, Bool, true, false, cond, Option, None, Some, Result, Ok, Err}
-use Rattle.std.specs.Prelude.{nat_le, nat_lt, ◌&&◌, ◌||◌, not, slice_get}
+use Rattle.std.proofs.Common.{◌≡◌, refl, ℕ, ◌<◌, ◌≤◌, List, [], ◌∷◌, length, ap, ◌∙◌, arith, Bool, true, false, cond, None, Some, Result, Ok, Err}
+use Rattle.std.specs.Prelude.{nat_le, ◌&&◌, slice_get}
 use Rattle.std.proofs.lemmas.Bool.Decides.{nat_tests}
 use Rattle.frame_ports.specs.Ports.{PortsState, for_client, is_client, inbox_of, delivery}
 use Rattle.frame_ports.specs.declared.errors.PortError.{PortError}

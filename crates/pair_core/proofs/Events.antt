@@ -1,21 +1,19 @@
 -- Each event keeps what holds between events. `X_done` is the pair after the event X.
-use Rattle.std.proofs.Common.{◌≡◌, ◌≢◌, ℕ, zero, suc, ◌+◌, ◌-◌, ◌<◌, ◌≤◌, List, [], ◌∷◌, ◌++◌, length, take, drop, set, get_or, refl, sym, ap, ◌∙◌, subst, arith, append_assoc, Bool, true, false, cond, Option, None, Some, ⊎_elim}
-use Rattle.std.specs.Prelude.{map, nat_lt, nat_le, slice_get, ◌==◌}
+use Rattle.std.proofs.Common.{◌≡◌, ◌≢◌, ℕ, zero, suc, ◌+◌, ◌-◌, ◌<◌, ◌≤◌, List, [], ◌∷◌, ◌++◌, length, drop, set, refl, sym, ap, ◌∙◌, subst, arith, append_assoc, Bool, true, false, cond, Some, ⊎_elim}
+use Rattle.std.specs.Prelude.{map, nat_le, slice_get, ◌==◌}
 use Rattle.std.proofs.lemmas.Bool.{eq-eqb}
 use Rattle.std.proofs.lemmas.Bool.Decides.{nat_tests, eqb_tells}
 use Rattle.std.proofs.lemmas.List.{get_or-set_same, get_or-set_other}
 use Rattle.guest_machine.specs.Guest.{Guest}
-use Rattle.guest_machine.specs.Step.{next, sent, arrived}
 use Rattle.frame_ports.specs.Addresses.{IsFrame, targets_of}
-use Rattle.frame_ports.specs.Lands.{list_of, with_list, landed_at, lands, put_count}
+use Rattle.frame_ports.specs.Lands.{list_of, with_list, landed_at, lands}
 use Rattle.frame_ports.specs.declared.limits.TheConstants.{INBOX_FRAMES, BOX_FRAMES}
 use Rattle.output_gate.specs.Epochs.{Epoch, frames_to, after_number, frames_of}
-use Rattle.pair_core.specs.declared.event.Packet.{Packet}
-use Rattle.pair_core.specs.Entries.{Frame, Entry, Ran, Arrive, Delivered, Refused, Land, DropOut, Took}
-use Rattle.pair_core.specs.HistoryState.{HistoryState, Waiting, inbox_of, without_number, at, after, Legal, Allows, IsClient}
+use Rattle.pair_core.specs.Entries.{Frame, Entry, Delivered, Refused, Took}
+use Rattle.pair_core.specs.HistoryState.{HistoryState, Waiting, inbox_of, without_number, at, Legal, Allows}
 use Rattle.pair_core.specs.Protocol.{Record, packet, packet_of, joined, kept_entries, all_entries, landings, first_kept, later_kept, number_end, most_pending}
-use Rattle.pair_core.specs.Pair.{Pair, shown_state, live_state, DropsAtFull}
-use Rattle.pair_core.specs.Kept.{Move, Steps, Arrives, entry_of, entries_of, guest_moved, frames_by, guest_along, frames_along, left_by, left, CanMove, AllCan, all_moves, epoch_guests, epoch_frames, AreRising, NumberedFrom, AllBelow, BoxesFit, AreInboxes, IsKept}
+use Rattle.pair_core.specs.Pair.{Pair, shown_state, DropsAtFull}
+use Rattle.pair_core.specs.Kept.{Move, Steps, Arrives, entry_of, entries_of, guest_moved, frames_by, guest_along, frames_along, left_by, left, CanMove, AllCan, all_moves, epoch_guests, epoch_frames, AreRising, NumberedFrom, BoxesFit, AreInboxes, IsKept}
 use Rattle.pair_core.proofs.States.{append-nil, at-append, Legal-append, DropsAtFull-append, targets_of-append}
 use Rattle.pair_core.proofs.Waiting.{inbox_of-append, AreRising-push, AreRising-without, StartsWith, Leaves, first-leaves}
 use Rattle.pair_core.proofs.Moves.{guest_along-append, frames_along-append, left-append, AllCan-append, AllCan-front, AllCan-back, moved, at-moves, Legal-moves, DropsAtFull-moves, AllCan-more, left-more, left-shorter}

@@ -1,16 +1,13 @@
 -- Laws of landings: what the entries that an acknowledgement adds do to a history's state.
-use Rattle.std.proofs.Common.{◌≡◌, ℕ, zero, suc, ◌+◌, ◌-◌, ◌<◌, ◌≤◌, List, [], ◌∷◌, ◌++◌, length, take, drop, set, remove, get_or, refl, sym, ap, ◌∙◌, subst, arith, rules, append_assoc, Bool, true, false, cond, Option, None, Some, inl, inr, ◌⊎◌}
-use Rattle.std.specs.Prelude.{map, nat_lt, nat_eq, nat_le}
+use Rattle.std.proofs.Common.{◌≡◌, ℕ, zero, suc, ◌+◌, ◌-◌, ◌<◌, ◌≤◌, List, [], ◌∷◌, ◌++◌, length, take, set, remove, get_or, refl, sym, ap, ◌∙◌, subst, arith, Bool, true, false, cond}
+use Rattle.std.specs.Prelude.{nat_lt}
 use Rattle.std.proofs.lemmas.Bool.{eq-eqb, ltb-true}
-use Rattle.std.proofs.lemmas.List.{set-get_or}
-use Rattle.std.proofs.lemmas.Bool.Decides.{eqb_tells, nat_tests}
-use Rattle.guest_machine.specs.Guest.{Guest}
-use Rattle.guest_machine.specs.Step.{next, sent}
+use Rattle.std.proofs.lemmas.Bool.Decides.{nat_tests}
 use Rattle.frame_ports.specs.Addresses.{addressed, targets_of, paired_with, clients_of, clients_from}
-use Rattle.frame_ports.specs.Lands.{list_of, with_list, has_room, landed_at, lands, put_count}
+use Rattle.frame_ports.specs.Lands.{list_of, with_list, has_room, landed_at, lands}
 use Rattle.frame_ports.specs.declared.limits.TheConstants.{BOX_FRAMES}
-use Rattle.pair_core.specs.Entries.{Frame, Entry, Ran, Land, DropOut, Took}
-use Rattle.pair_core.specs.HistoryState.{HistoryState, at, after, Legal, Allows, IsClient, out_of, out_without}
+use Rattle.pair_core.specs.Entries.{Frame, Entry, Land, DropOut}
+use Rattle.pair_core.specs.HistoryState.{HistoryState, at, after, Legal, Allows, out_of, out_without}
 use Rattle.pair_core.specs.Protocol.{landings}
 use Rattle.pair_core.specs.Pair.{DropsAtFull}
 use Rattle.pair_core.specs.Kept.{BoxesFit}

@@ -1,5 +1,5 @@
 -- Laws of stored histories.
-use Rattle.std.proofs.Common.{◌≡◌, ℕ, ◌+◌, List, [], ◌∷◌, ◌++◌, length, refl, sym, ap, ◌∙◌, append_assoc}
+use Rattle.std.proofs.Common.{◌≡◌, ◌+◌, List, [], ◌∷◌, ◌++◌, sym, ap, ◌∙◌, append_assoc}
 use Rattle.pair_core.specs.Entries as whole
 use Rattle.pair_core.specs.declared.history.Entry.{Entry}
 use Rattle.pair_core.specs.Log.{expanded, all_expanded}

@@ -1,6 +1,6 @@
 -- What the protocol answers, by the tests that the code makes.
-use Rattle.std.proofs.Common.{◌≡◌, ◌≢◌, ℕ, zero, suc, ◌+◌, ◌-◌, ◌^◌, ◌<◌, ◌≤◌, List, [], ◌∷◌, ◌++◌, length, refl, sym, ap, ◌∙◌, subst, arith, Bool, true, false, cond, Option, None, Some}
-use Rattle.std.specs.Prelude.{map, nat_lt, nat_le, slice_get, ◌==◌, ◌&&◌, ◌||◌, not}
+use Rattle.std.proofs.Common.{◌≡◌, ◌≢◌, ℕ, ◌+◌, ◌-◌, ◌<◌, ◌≤◌, List, [], ◌∷◌, ◌++◌, length, sym, ap, ◌∙◌, arith, Bool, true, false, cond, Option, None, Some}
+use Rattle.std.specs.Prelude.{nat_lt, nat_le, slice_get, ◌==◌, ◌&&◌, not}
 use Rattle.std.proofs.lemmas.Bool.Decides.{nat_tests}
 use Rattle.std.proofs.lemmas.Bool.{eq-eqb}
 use Rattle.guest_machine.specs.Guest.{Guest}
@@ -9,20 +9,17 @@ use Rattle.frame_ports.specs.Addresses.{targets_of}
 use Rattle.frame_ports.specs.Lands.{list_of, put_count}
 use Rattle.frame_ports.specs.declared.limits.TheConstants.{INBOX_FRAMES}
 use Rattle.output_gate.specs.Epochs.{frames_to, after_number}
-use Rattle.pair_core.specs.declared.event.Event.{Event}
 use Rattle.pair_core.specs.declared.event.Packet.{Packet}
-use Rattle.pair_core.specs.declared.event.Refusal.{Refusal}
 use Rattle.pair_core.specs.declared.event.Refusal.TheVariants.{Full, BadFrame, NoClient, Behind, Stale, Gap, CutNeeded, Exhausted}
-use Rattle.pair_core.specs.declared.event.Reply.{Reply}
 use Rattle.pair_core.specs.declared.event.Reply.TheVariants as replies
-use Rattle.pair_core.specs.Entries.{Entry, Frame, Took}
+use Rattle.pair_core.specs.Entries.{Frame, Took}
 use Rattle.pair_core.specs.Entries as entries
-use Rattle.pair_core.specs.HistoryState.{HistoryState, Waiting, inbox_of, at}
-use Rattle.pair_core.specs.Protocol.{Record, Outcome, packet, first_kept, later_kept, landings, refused, step_outcome, cut_outcome, send_outcome, backup_outcome, again_outcome, commit_outcome, ack_outcome, admit_outcome, admit_first, admitted_outcome, deliver_outcome, delivered_outcome, full_outcome, take_outcome, is_among, is_bad_length, inbox_now, all_entries, outbox_of, exhausts, number_end, step_room, most_pending}
-use Rattle.pair_core.specs.Pair.{Pair, shown_state, live_state}
+use Rattle.pair_core.specs.HistoryState.{inbox_of}
+use Rattle.pair_core.specs.Protocol.{Record, landings, refused, step_outcome, cut_outcome, backup_outcome, again_outcome, commit_outcome, ack_outcome, admit_outcome, admit_first, deliver_outcome, take_outcome, is_among, is_bad_length, inbox_now, all_entries, outbox_of, number_end}
+use Rattle.pair_core.specs.Pair.{Pair, shown_state}
 use Rattle.pair_core.specs.Kept.{IsKept}
 use Rattle.pair_core.proofs.Kept.{live_is, live_waiting, outbox_is}
-use Rattle.pair_core.proofs.Events.{step_done, cut_done, cut_epoch, send_done, again_done, commit_done, ack_done, admit_done, deliver_done, full_done, take_done, leaving}
+use Rattle.pair_core.proofs.Events.{step_done, cut_done, ack_done, admit_done, deliver_done, full_done, take_done, leaving}
 
 le_yes : (a b : ℕ) → a ≤ b → nat_le a b ≡ true
 le_yes a b h = grind (arith, nat_tests)

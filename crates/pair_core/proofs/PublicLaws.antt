@@ -1,26 +1,23 @@
 -- What the public calls say, from what each event does.
-use Rattle.std.proofs.Common.{◌≡◌, ℕ, zero, suc, ◌+◌, ◌-◌, ◌^◌, ◌<◌, ◌≤◌, List, [], ◌∷◌, ◌++◌, length, take, replicate, refl, sym, ap, ◌∙◌, subst, arith, append_assoc, Bool, true, false, cond, Option, None, Some, ◌⊎◌, inl, inr, Result, Ok, Err}
-use Rattle.std.specs.Prelude.{nat_lt, nat_le, ◌==◌, ◌&&◌, not, slice_get, IfOk, IfErr}
-use Rattle.guest_machine.specs.Guest.{Guest, State}
+use Rattle.std.proofs.Common.{◌≡◌, ℕ, ◌+◌, ◌-◌, List, [], ◌∷◌, ◌++◌, length, refl, sym, ap, ◌∙◌, subst, append_assoc, Bool, true, false, cond, Option, None, Some, inl, inr, Result, Ok, Err}
+use Rattle.std.specs.Prelude.{nat_lt, nat_le, ◌==◌, not, slice_get, IfOk, IfErr}
 use Rattle.frame_ports.specs.Addresses.{targets_of}
 use Rattle.frame_ports.specs.Lands.{list_of}
-use Rattle.frame_ports.specs.Ports.{PortsState, empty_ports}
 use Rattle.frame_ports.specs.declared.limits.TheConstants.{INBOX_FRAMES}
-use Rattle.output_gate.specs.Epochs.{Epoch, frames_to}
+use Rattle.output_gate.specs.Epochs.{frames_to}
 use Rattle.pair_core.specs.declared.event.Event.{Event}
 use Rattle.pair_core.specs.declared.event.Event.TheVariants.{Step, Cut, Send, BackupGet, AckGet, Admit, Deliver, Take}
 use Rattle.pair_core.specs.declared.event.Packet.{Packet}
 use Rattle.pair_core.specs.declared.event.Refusal.{Refusal}
-use Rattle.pair_core.specs.declared.event.Refusal.TheVariants.{Full, BadFrame, NoClient, Behind, Stale, Gap, NoMemory, CutNeeded, Exhausted}
+use Rattle.pair_core.specs.declared.event.Refusal.TheVariants.{BadFrame, NoClient, Behind, Stale, Gap, NoMemory, CutNeeded, Exhausted}
 use Rattle.pair_core.specs.declared.event.Reply.{Reply}
 use Rattle.pair_core.specs.declared.event.Reply.TheVariants as replies
 use Rattle.pair_core.specs.Entries.{Frame, Entry, Delivered, Took, Begins}
 use Rattle.pair_core.specs.Entries as entries
 use Rattle.pair_core.specs.HistoryState.{HistoryState, at}
-use Rattle.pair_core.specs.Protocol.{Record, Outcome, Answers, outcome, step_outcome, cut_outcome, send_outcome, backup_outcome, again_outcome, commit_outcome, ack_outcome, admit_outcome, admit_first, admitted_outcome, deliver_outcome, delivered_outcome, full_outcome, take_outcome, is_among, is_bad_length, inbox_now, client_count, stepped_outcome, sealed_outcome, acked, taken_outcome, refused, first_kept, landings, exhausts, outbox_of, step_room, most_pending, number_end}
+use Rattle.pair_core.specs.Protocol.{Record, Outcome, Answers, outcome, backup_outcome, again_outcome, commit_outcome, ack_outcome, admit_first, admitted_outcome, deliver_outcome, delivered_outcome, full_outcome, is_among, is_bad_length, inbox_now, client_count, stepped_outcome, sealed_outcome, acked, taken_outcome, refused, first_kept, landings, exhausts, outbox_of, step_room, most_pending, number_end}
 use Rattle.pair_core.specs.Pair.{Pair, OnRefused}
 use Rattle.pair_core.specs.Runs.{Run}
-use Rattle.pair_core.specs.Start.{start_state, start_record}
 
 -- every event lets the history grow
 

@@ -1,13 +1,12 @@
 -- Laws of the clients to whom frames go, as the loops over them want them.
-use Rattle.std.proofs.Common.{◌≡◌, ℕ, zero, suc, ◌+◌, ◌-◌, ◌<◌, ◌≤◌, List, [], ◌∷◌, ◌++◌, length, drop, get_or, refl, sym, ap, ◌∙◌, subst, arith, append_assoc, Bool, true, false, cond, add-one, drop-cons}
+use Rattle.std.proofs.Common.{◌≡◌, ℕ, zero, suc, ◌+◌, ◌-◌, ◌<◌, ◌≤◌, List, [], ◌∷◌, ◌++◌, length, drop, get_or, refl, sym, ap, ◌∙◌, arith, append_assoc, true, false, cond}
 use Rattle.std.specs.Prelude.{nat_le, ◌&&◌}
 use Rattle.std.proofs.lemmas.Bool.Decides.{nat_tests}
 use Rattle.frame_ports.specs.Addresses.{addressed, clients_from, clients_of}
 use Rattle.frame_ports.specs.Targets.{has_target, AreTargets}
 use Rattle.pair_core.specs.Entries.{Frame, Entry}
 use Rattle.pair_core.specs.Lengths.{receivers, landing_by, landings_by, lengths_at, lengths_after}
-use Rattle.pair_core.proofs.LengthLaws.{landings_by-append, lengths_after-append}
-use Rattle.pair_core.proofs.Epochs.{length-append'}
+use Rattle.pair_core.proofs.LengthLaws.{landings_by-append}
 
 -- the clients from c on, of n
 abbrev pub from_on : ℕ → ℕ → List ℕ → List ℕ

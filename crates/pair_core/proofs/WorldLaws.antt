@@ -1,11 +1,10 @@
 -- What each event does to the fields of a world keeps them as they have to be, and is what the protocol answers.
-use Rattle.std.proofs.Common.{◌≡◌, ◌≢◌, ℕ, zero, suc, ◌+◌, ◌-◌, ◌^◌, ◌<◌, ◌≤◌, List, [], ◌∷◌, ◌++◌, length, drop, get_or, remove, replicate, refl, sym, ap, ◌∙◌, subst, arith, append_assoc, Bool, true, false, cond, Option, None, Some}
-use Rattle.std.specs.Prelude.{map, nat_lt, nat_le, slice_get}
+use Rattle.std.proofs.Common.{◌≡◌, ℕ, zero, suc, ◌+◌, ◌-◌, ◌<◌, ◌≤◌, List, [], ◌∷◌, ◌++◌, length, drop, get_or, remove, replicate, refl, sym, ap, ◌∙◌, subst, arith, append_assoc, Bool, true, false, cond, Some}
+use Rattle.std.specs.Prelude.{map, nat_le, slice_get}
 use Rattle.std.proofs.lemmas.Bool.Decides.{nat_tests}
 use Rattle.std.specs.declared.vec.Vec.{Vec}
 use Rattle.std.specs.declared.alloc.Global.{Global}
-use Rattle.arrayvec.specs.ArrayVec.{ArrayVec}
-use Rattle.guest_machine.specs.Guest.{Guest, State, boot_guest}
+use Rattle.guest_machine.specs.Guest.{State, boot_guest}
 use Rattle.guest_machine.specs.Step.{arrived}
 use Rattle.guest_machine.specs.Runs.{after_steps, sent_in, HaveRoom}
 use Rattle.frame_ports.specs.Addresses.{IsFrame, targets_of}
@@ -14,15 +13,15 @@ use Rattle.frame_ports.specs.Ports.{PortsState, empty_ports, after_delivery, wit
 use Rattle.frame_ports.specs.declared.limits.TheConstants.{INBOX_FRAMES}
 use Rattle.output_gate.specs.Epochs.{Epoch, frames_to, after_number}
 use Rattle.pair_core.specs.declared.event.Packet.{Packet}
-use Rattle.pair_core.specs.declared.event.Refusal.TheVariants.{Full, BadFrame, NoClient, Behind, Stale, Gap, CutNeeded, Exhausted}
+use Rattle.pair_core.specs.declared.event.Refusal.TheVariants.{Full, Exhausted}
 use Rattle.pair_core.specs.declared.event.Reply.TheVariants as replies
 use Rattle.pair_core.specs.declared.sealed.Arrival.{Arrival}
 use Rattle.pair_core.specs.declared.sealed.Sealed.{Sealed}
 use Rattle.pair_core.specs.declared.world.World.TheInside.{Inside}
-use Rattle.pair_core.specs.Entries.{Frame, Entry, Ran, Arrive, Delivered, Refused, Took}
+use Rattle.pair_core.specs.Entries.{Frame, Entry, Arrive, Delivered, Refused, Took}
 use Rattle.pair_core.specs.Arrivals.{steps_of, arrival_of, arrivals_of, epoch_entries}
 use Rattle.pair_core.specs.Log.{Log}
-use Rattle.pair_core.specs.Protocol.{Record, Outcome, packet, packet_of, refused, step_outcome, cut_outcome, send_outcome, backup_outcome, again_outcome, commit_outcome, ack_outcome, admit_outcome, deliver_outcome, take_outcome, is_among, is_bad_length, kept_entries, all_entries, exhausts, number_end, joined, landings, first_kept, later_kept}
+use Rattle.pair_core.specs.Protocol.{Record, packet, packet_of, refused, cut_outcome, send_outcome, again_outcome, commit_outcome, ack_outcome, admit_outcome, deliver_outcome, take_outcome, is_bad_length, kept_entries, all_entries, exhausts, number_end, joined, landings, first_kept, later_kept}
 use Rattle.pair_core.specs.Pair.{Pair}
 use Rattle.pair_core.specs.Kept.{IsKept, NumberedFrom, AllBelow, BoxesFit}
 use Rattle.pair_core.specs.Start.{start_state, start_record}
@@ -33,10 +32,10 @@ use Rattle.pair_core.proofs.Epochs.{length-append', map-append', joined-push}
 use Rattle.pair_core.specs.Lengths.{receivers}
 use Rattle.pair_core.proofs.LengthLaws.{length-receivers}
 use Rattle.pair_core.proofs.LineLaws.{packets_from-numbered}
-use Rattle.pair_core.proofs.Events.{cut_done, cut_kept, cut_epoch, send_done, send_kept, again_done, again_kept, commit_done, commit_kept, ack_done, ack_kept, admit_done, admit_kept, deliver_done, deliver_kept, full_done, full_kept, take_done, take_kept, leaving}
+use Rattle.pair_core.proofs.Events.{cut_done, cut_kept, send_done, send_kept, again_done, again_kept, commit_done, commit_kept, ack_done, ack_kept, admit_done, admit_kept, deliver_done, deliver_kept, full_done, full_kept, take_done, take_kept, leaving}
 use Rattle.pair_core.specs.Runs.{steps_outcome, with_steps}
 use Rattle.pair_core.proofs.StepRuns.{replicate-append, length-replicate, steps_kept, steps_answered}
-use Rattle.pair_core.proofs.Outcomes.{cut_behind, cut_exhausted, cut_goes, backup_stale, backup_gap, backup_again, backup_commits, ack_stale, ack_exhausted, ack_goes, admit_none, admit_empty, admit_exhausted, admit_goes, deliver_none, deliver_bad, deliver_exhausted, deliver_full, deliver_numbered, deliver_goes, take_none, take_exhausted, take_goes}
+use Rattle.pair_core.proofs.Outcomes.{cut_goes, ack_exhausted, ack_goes, admit_goes, deliver_full, deliver_goes, take_goes}
 
 -- an epoch goes on by steps, or by an arrival
 

@@ -1,5 +1,5 @@
 -- What is kept true from event to event, so that what contracts say of a pair follows.
-use Rattle.std.specs.Prelude.{◌≡◌, ℕ, ◌+◌, ◌<◌, ◌≤◌, List, [], ◌∷◌, ◌++◌, length, map, Option, Some}
+use Rattle.std.specs.Prelude.{◌≡◌, ℕ, ◌+◌, ◌<◌, ◌≤◌, List, [], ◌∷◌, ◌++◌, length, map, Some}
 use Rattle.guest_machine.specs.Guest.{Guest}
 use Rattle.guest_machine.specs.Step.{next, sent, arrived}
 use Rattle.frame_ports.specs.Addresses.{targets_of}
@@ -8,8 +8,8 @@ use Rattle.frame_ports.specs.declared.limits.TheConstants.{BOX_FRAMES}
 use Rattle.output_gate.specs.Epochs.{Epoch, frames_of}
 use Rattle.pair_core.specs.declared.event.Packet.{Packet}
 use Rattle.pair_core.specs.Entries.{Frame, Entry, Ran, Arrive}
-use Rattle.pair_core.specs.HistoryState.{HistoryState, Waiting, inbox_of, frame_numbered, without_number, IsFirst, Legal}
-use Rattle.pair_core.specs.Protocol.{Record, joined, all_entries, number_end, most_pending}
+use Rattle.pair_core.specs.HistoryState.{Waiting, inbox_of, frame_numbered, without_number, IsFirst, Legal}
+use Rattle.pair_core.specs.Protocol.{all_entries, number_end, most_pending}
 use Rattle.pair_core.specs.Pair.{Pair, shown_state, DropsAtFull}
 
 -- What an epoch keeps: the guest's steps, and the frames that arrived at it.

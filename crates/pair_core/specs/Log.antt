@@ -1,7 +1,6 @@
 -- What contracts see of a stored history: its entries, one by one, and how many more may be stored without taking memory.
-use Rattle.std.specs.Prelude.{ℕ, ◌-◌, List, [], ◌∷◌, ◌++◌, replicate, Option, None, Some, option_map, vec_len, vec_capacity}
+use Rattle.std.specs.Prelude.{ℕ, List, [], ◌∷◌, ◌++◌, replicate, None, Some}
 use Rattle.pair_core.specs.Entries as whole
-use Rattle.pair_core.specs.Entries.{Frame}
 use Rattle.pair_core.specs.declared.history.Entry.{Entry}
 use Rattle.pair_core.specs.declared.history.Entry.TheVariants.{Ran, Arrive, Delivered, Refused, Land, DropOut, Took}
 

@@ -1,5 +1,5 @@
 -- How the fields of a stored history stand for what contracts see.
-use Rattle.std.specs.Prelude.{◌≡◌, ◌-◌, length, vec_len, vec_capacity}
+use Rattle.std.specs.Prelude.{◌-◌, vec_len, vec_capacity}
 use Rattle.pair_core.specs.Log.{Log, all_expanded}
 use Rattle.pair_core.specs.declared.history.History.TheInside.{Inside}
 

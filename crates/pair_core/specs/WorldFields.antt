@@ -1,5 +1,5 @@
 -- How the fields of a world stand for what contracts see.
-use Rattle.std.specs.Prelude.{◌≡◌, ℕ, List, length, map}
+use Rattle.std.specs.Prelude.{◌≡◌, List, length, map}
 use Rattle.guest_machine.specs.Guest.{Guest}
 use Rattle.pair_core.specs.declared.sealed.Sealed.{Sealed}
 use Rattle.pair_core.specs.declared.world.World.TheInside.{Inside}

@@ -1,8 +1,7 @@
-use Rattle.std.proofs.Common.{◌≡◌, ◌+◌, ◌≤◌, ◌++◌, length, get_or, drop, ap, ◌∙◌, sym, arith, refl}
-use Rattle.frame_ports.specs.Addresses.{clients_of, targets_of}
+use Rattle.std.proofs.Common.{◌+◌, ◌++◌, length, drop, ap, ◌∙◌, sym, arith, refl}
+use Rattle.frame_ports.specs.Addresses.{clients_of}
 use Rattle.pair_core.specs.Entries.{Frame}
-use Rattle.pair_core.specs.Log.{Log}
-use Rattle.pair_core.specs.Lengths.{receivers, landings_by, lengths_after}
+use Rattle.pair_core.specs.Lengths.{receivers, landings_by}
 use Rattle.pair_core.proofs.Epochs.{length-append'}
 use Rattle.pair_core.proofs.LengthLaws.{landings_by-targets}
 use Rattle.pair_core.proofs.Receivers.{receivers-next, receivers-none, frames_more, nil-append, landings_length}

@@ -1,4 +1,4 @@
-use Rattle.std.proofs.Common.{◌≡◌, ◌+◌, length, get_or, drop, ap, ◌∙◌, sym, arith}
+use Rattle.std.proofs.Common.{◌≡◌, ◌+◌, length, get_or, drop, ap, arith}
 use Rattle.pair_core.specs.Lengths.{receivers}
 use Rattle.pair_core.proofs.Receivers.{receivers-next}
 use Rattle.pair_core.proofs.Epochs.{length-append'}

@@ -1,7 +1,7 @@
-use Rattle.std.proofs.Common.{◌≡◌, ◌+◌, ◌≤◌, length, ap, ◌∙◌, sym, subst, refl, arith}
+use Rattle.std.proofs.Common.{◌+◌, ◌≤◌, length, ap, ◌∙◌, sym, subst, arith}
 use Rattle.frame_ports.specs.Targets.{AreTargets}
 use Rattle.frame_ports.specs.Addresses.{clients_of}
-use Rattle.pair_core.proofs.Receivers.{from_on, next_yes, next_no, from_none, counted_more}
+use Rattle.pair_core.proofs.Receivers.{from_on, next_yes, next_no, counted_more}
 use Rattle.pair_core.proofs.landings.count_receivers.Goals as goal
 use Rattle.pair_core.proofs.landings.count_receivers.Goals.{then-contains, else-contains}
 

@@ -1,5 +1,4 @@
-use Rattle.std.proofs.Common.{◌≡◌, ◌+◌, ◌++◌, List, [], ◌∷◌, length, ap, ◌∙◌, sym, arith}
-use Rattle.std.specs.Prelude.{vec_len, vec_capacity}
+use Rattle.std.proofs.Common.{◌≡◌, ◌+◌, ◌++◌, [], length, ap, ◌∙◌, arith}
 use Rattle.pair_core.specs.Entries as whole
 use Rattle.pair_core.specs.Log.{Log, expanded, all_expanded}
 use Rattle.pair_core.proofs.LogLaws.{all_expanded-push}

@@ -1,9 +1,7 @@
-use Rattle.std.proofs.Common.{◌≡◌, ◌<◌, ◌≤◌, ◌+◌, ◌++◌, ◌∙◌, ap, sym, subst, refl, arith, length, ℕ, Bool, true, false, cond, Some, w64, Fits}
-use Rattle.std.specs.Prelude.{slice_get, nat_le}
-use Rattle.std.proofs.lemmas.Bool.Decides.{nat_tests}
+use Rattle.std.proofs.Common.{◌≡◌, ◌<◌, ◌≤◌, ◌+◌, ◌++◌, ◌∙◌, ap, sym, subst, refl, arith, length, ℕ, true, false, Some}
+use Rattle.std.specs.Prelude.{slice_get}
 use Rattle.pair_core.specs.declared.event.Refusal.TheVariants.{Exhausted}
 use Rattle.pair_core.specs.declared.event.Reply.TheVariants as replies
-use Rattle.pair_core.specs.declared.event.Packet.{Packet}
 use Rattle.pair_core.specs.Protocol.{refused, ack_outcome, exhausts, all_entries, landings, number_end}
 use Rattle.pair_core.specs.Pair.{Pair}
 use Rattle.pair_core.specs.WorldFields.{record_of, pair_of}

@@ -1,9 +1,6 @@
-use Rattle.std.proofs.Common.{◌≡◌, ◌-◌, subst}
+use Rattle.std.proofs.Common.{◌-◌}
 use Rattle.pair_core.specs.declared.event.Reply.TheVariants as replies
-use Rattle.pair_core.specs.Protocol.{again_outcome}
-use Rattle.pair_core.specs.Pair.{Pair}
-use Rattle.pair_core.specs.WorldFields.{record_of}
-use Rattle.pair_core.proofs.WorldLaws.{again_fields, again_fields_now, again_reply}
+use Rattle.pair_core.proofs.WorldLaws.{again_fields}
 use Rattle.pair_core.proofs.world.World.acknowledge_again.Goals as goal
 
 pub invariant_of-self-2 : goal.invariant_of-self-2

@@ -1,10 +1,8 @@
-use Rattle.std.proofs.Common.{◌≡◌, ◌<◌, ◌≤◌, ◌+◌, ◌++◌, ◌∷◌, [], ◌∙◌, ap, sym, subst, refl, arith, length, ℕ, true, Some}
+use Rattle.std.proofs.Common.{◌≡◌, ◌<◌, ◌≤◌, ◌+◌, ◌++◌, ◌∷◌, [], ◌∙◌, ap, sym, subst, length, true, Some}
 use Rattle.std.specs.Prelude.{slice_get}
 use Rattle.frame_ports.specs.Ports.{inbox_of}
 use Rattle.pair_core.specs.declared.event.Refusal.TheVariants.{Exhausted}
 use Rattle.pair_core.specs.declared.event.Reply.TheVariants as replies
-use Rattle.pair_core.specs.declared.sealed.Arrival.{Arrival}
-use Rattle.pair_core.specs.Entries.{Frame}
 use Rattle.pair_core.specs.Protocol.{refused, is_among, exhausts, number_end, all_entries, admit_outcome}
 use Rattle.pair_core.specs.Pair.{Pair}
 use Rattle.pair_core.specs.WorldFields.{record_of, pair_of}

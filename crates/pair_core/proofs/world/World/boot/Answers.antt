@@ -1,6 +1,5 @@
-use Rattle.std.proofs.Common.{◌≡◌, ap, ◌∙◌, sym, refl, replicate, []}
+use Rattle.std.proofs.Common.{ap, ◌∙◌, sym, refl, []}
 use Rattle.guest_machine.specs.Guest.{boot_guest}
-use Rattle.frame_ports.specs.Ports.{PortsState}
 use Rattle.pair_core.proofs.WorldLaws.{boot_fields}
 use Rattle.pair_core.proofs.world.World.boot.Goals as goal
 

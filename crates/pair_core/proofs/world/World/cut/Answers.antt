@@ -1,12 +1,10 @@
-use Rattle.std.proofs.Common.{◌≡◌, ◌<◌, ◌≤◌, ◌+◌, ◌++◌, ◌∷◌, [], length, subst, ap, ◌∙◌, sym, arith, ℕ, List}
+use Rattle.std.proofs.Common.{◌≡◌, ◌+◌, ◌++◌, ◌∷◌, [], length, subst, ap, ◌∙◌, arith, ℕ, List}
 use Rattle.output_gate.specs.Epochs.{Epoch}
 use Rattle.pair_core.specs.Entries.{Frame}
-use Rattle.pair_core.specs.declared.event.Refusal.TheVariants.{Behind, Exhausted}
 use Rattle.pair_core.specs.declared.event.Reply.TheVariants as replies
-use Rattle.pair_core.specs.Protocol.{refused, cut_outcome}
+use Rattle.pair_core.specs.Protocol.{cut_outcome}
 use Rattle.pair_core.specs.Pair.{Pair}
-use Rattle.pair_core.specs.WorldFields.{pair_of, record_of}
-use Rattle.pair_core.proofs.Outcomes.{cut_behind, cut_exhausted}
+use Rattle.pair_core.specs.WorldFields.{record_of}
 use Rattle.pair_core.proofs.WorldLaws.{rising, cut_fields, cut_fields_now, cut_reply}
 use Rattle.pair_core.proofs.world.World.cut.Goals as goal
 

@@ -1,6 +1,6 @@
-use Rattle.std.proofs.Common.{◌≡◌, ◌<◌, ◌≤◌, ◌+◌, ◌++◌, ◌∷◌, [], ◌∙◌, ap, sym, subst, refl, arith, length, ℕ, List, false}
+use Rattle.std.proofs.Common.{◌≡◌, ◌<◌, ◌≤◌, ◌+◌, ◌++◌, ◌∷◌, [], ◌∙◌, ap, sym, subst, arith, length, ℕ, List, false}
 use Rattle.frame_ports.specs.Addresses.{IsFrame}
-use Rattle.frame_ports.specs.Ports.{PortsState, inbox_of}
+use Rattle.frame_ports.specs.Ports.{inbox_of}
 use Rattle.frame_ports.specs.declared.limits.TheConstants.{INBOX_FRAMES}
 use Rattle.pair_core.specs.declared.event.Refusal.TheVariants.{Full, Exhausted}
 use Rattle.pair_core.specs.declared.event.Reply.TheVariants as replies

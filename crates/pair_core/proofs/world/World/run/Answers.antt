@@ -1,4 +1,4 @@
-use Rattle.std.proofs.Common.{◌≡◌, ◌+◌, ◌++◌, ◌∷◌, [], length, take, get_or, subst, ap, ◌∙◌, sym, arith, List, ◌<◌}
+use Rattle.std.proofs.Common.{◌≡◌, ◌+◌, ◌++◌, ◌∷◌, [], length, take, get_or, subst, ◌∙◌, sym, arith, List, ◌<◌}
 use Rattle.std.proofs.lemmas.List.{take_more}
 use Rattle.pair_core.specs.declared.event.Event.{Event}
 use Rattle.pair_core.specs.declared.event.Event.TheVariants.{Step}

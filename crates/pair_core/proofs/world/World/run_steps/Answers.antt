@@ -1,12 +1,12 @@
-use Rattle.std.proofs.Common.{◌≡◌, ◌≢◌, ◌<◌, ◌≤◌, ◌+◌, ℕ, length, subst, ap, ◌∙◌, sym, arith}
+use Rattle.std.proofs.Common.{◌≡◌, ◌≢◌, ◌<◌, ◌+◌, ℕ, length, subst, ap, ◌∙◌, sym, arith}
 use Rattle.pair_core.specs.declared.event.Reply.TheVariants as replies
 use Rattle.pair_core.specs.declared.world.World.TheInside.{Inside}
 use Rattle.pair_core.specs.Protocol.{all_entries, number_end, refused, step_outcome}
-use Rattle.pair_core.specs.Pair.{Pair, IsConsistent}
+use Rattle.pair_core.specs.Pair.{Pair}
 use Rattle.pair_core.specs.Runs.{steps_outcome, with_steps}
 use Rattle.pair_core.specs.WorldFields.{pair_of, record_of, AreFields}
 use Rattle.pair_core.proofs.Kept.{consistent}
-use Rattle.pair_core.proofs.StepRuns.{refusal_answered, steps-counted}
+use Rattle.pair_core.proofs.StepRuns.{refusal_answered}
 use Rattle.pair_core.proofs.WorldLaws.{stepped_fields, stepped, step_fields, steps_reply}
 use Rattle.pair_core.proofs.world.World.run_steps.Goals as goal
 use Rattle.pair_core.proofs.world.World.run_steps.Goals.{After-run-made}

@@ -2,7 +2,7 @@ use Rattle.std.proofs.Common.{◌≡◌, subst, ap, ◌∙◌, sym, ℕ, length}
 use Rattle.pair_core.specs.declared.event.Reply.TheVariants as replies
 use Rattle.pair_core.specs.Protocol.{send_outcome}
 use Rattle.pair_core.specs.Pair.{Pair}
-use Rattle.pair_core.specs.WorldFields.{pair_of, record_of}
+use Rattle.pair_core.specs.WorldFields.{record_of}
 use Rattle.pair_core.proofs.WorldLaws.{send_fields, send_fields_now, send_reply}
 use Rattle.pair_core.proofs.world.World.send.Goals as goal
 

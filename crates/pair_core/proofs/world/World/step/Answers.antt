@@ -1,4 +1,4 @@
-use Rattle.std.proofs.Common.{◌≡◌, ◌∙◌}
+use Rattle.std.proofs.Common.{◌∙◌}
 use Rattle.pair_core.proofs.StepRuns.{one-step-answered, refused_step}
 use Rattle.pair_core.proofs.world.World.step.Goals as goal
 

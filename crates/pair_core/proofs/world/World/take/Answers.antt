@@ -1,14 +1,12 @@
-use Rattle.std.proofs.Common.{◌≡◌, ◌<◌, ◌≤◌, ◌+◌, ◌++◌, ◌∷◌, [], ◌∙◌, ap, sym, subst, refl, arith, length, ℕ, List, Bool, true, false, cond, Option, Some, None, Result, Ok, Err}
-use Rattle.std.specs.Prelude.{slice_get, nat_le, ◌&&◌}
-use Rattle.std.proofs.lemmas.Bool.Decides.{nat_tests}
-use Rattle.frame_ports.specs.Lands.{list_of}
+use Rattle.std.proofs.Common.{◌<◌, ◌≤◌, ◌+◌, ◌++◌, ◌∷◌, [], ◌∙◌, ap, sym, length, ℕ, List, false, Some, None}
+use Rattle.std.specs.Prelude.{slice_get}
 use Rattle.frame_ports.specs.Ports.{box_of}
 use Rattle.pair_core.proofs.Clients.{among-range, answered}
-use Rattle.pair_core.specs.Entries.{Frame, Took}
+use Rattle.pair_core.specs.Entries.{Took}
 use Rattle.pair_core.specs.Protocol.{is_among, exhausts, number_end, all_entries}
 use Rattle.pair_core.specs.Pair.{Pair}
-use Rattle.pair_core.specs.WorldFields.{record_of, pair_of}
-use Rattle.pair_core.proofs.WorldLaws.{take_fields, take_reply, has_room_for}
+use Rattle.pair_core.specs.WorldFields.{record_of}
+use Rattle.pair_core.proofs.WorldLaws.{take_fields, has_room_for}
 use Rattle.pair_core.proofs.world.World.take.Goals as goal
 use Rattle.pair_core.proofs.world.World.take.Goals.{Else-is_exhausted_by}
 
