@@ -1,6 +1,6 @@
 //! Whole runs with the expected replies of the beacon's worked example, and what no clause says: that calls succeed
 //! where there is memory.
-use crate::{Event, Refusal, Reply, Shape, World};
+use crate::{Event, Mode, Refusal, Reply, Shape, Show, World};
 use std::alloc::Global;
 use std::fmt::Write;
 use std::test::Fail;
@@ -15,7 +15,7 @@ const BEACON: [u32; 23] = [
 /// The frame that it sends.
 const FRAME: [u8; 14] = [2, 0, 0, 0, 1, 1, 2, 0, 0, 0, 0, 1, 0x88, 0xb5];
 
-const SHAPE: (u32, u32) = (2, 1);
+const SHAPE: (u32, u32) = (2, 8);
 
 /// The beacon's image: its words, a descriptor, an available ring with one entry, and the frame behind 12 bytes of header.
 fn beacon(alloc: Global) -> Result<Vec<u8>, Fail> {
@@ -33,6 +33,17 @@ fn beacon(alloc: Global) -> Result<Vec<u8>, Fail> {
     Ok(image)
 }
 
+/// A pair whose guest is the beacon.
+fn beacon_pair(alloc: Global) -> Result<Box<World>, Fail> {
+    let image = beacon(alloc)?;
+    pair(alloc, &image)
+}
+
+/// A pair whose guest runs on the spot.
+fn idle_pair(alloc: Global) -> Result<Box<World>, Fail> {
+    pair(alloc, &[0x6f, 0, 0, 0])
+}
+
 fn fill(image: &mut Vec<u8>, end: usize) -> Result<(), Fail> {
     if image.len() < end {
         let more = end - image.len();
@@ -41,12 +52,14 @@ fn fill(image: &mut Vec<u8>, end: usize) -> Result<(), Fail> {
     Ok(())
 }
 
-fn pair(alloc: Global, image: &[u8]) -> Result<World, Refusal> {
+/// A pair with two clients whose guest has this image. It stands in a box, so that a test holds no large value.
+fn pair(alloc: Global, image: &[u8]) -> Result<Box<World>, Fail> {
     let (pages, sectors) = SHAPE;
     if image.len() > 4096 * 2 {
-        return Err(Refusal::NoMemory);
+        return Err(Refusal::NoMemory.into());
     }
-    World::boot(alloc, Shape { pages, sectors }, 1, image)
+    let world = World::boot(alloc, Shape { pages, sectors }, 2, image)?;
+    Ok(Box::new(alloc, world)?)
 }
 
 /// The replies as they print, one a line.
@@ -58,19 +71,46 @@ fn printed(alloc: Global, world: &mut World, events: &[Event<'_>]) -> Result<Str
     Ok(text)
 }
 
+/// Whether the replies to these events print so.
+fn answers(
+    alloc: Global,
+    world: &mut World,
+    events: &[Event<'_>],
+    wanted: &str,
+) -> Result<bool, Fail> {
+    let text = printed(alloc, world, events)?;
+    Ok(text.as_str() == wanted)
+}
+
+/// A pair in its first generation.
+fn paired(pending: u64, steps: u64, entries: u64) -> Show {
+    Show {
+        mode: Mode::Paired,
+        generation: 1,
+        pending,
+        steps,
+        entries,
+    }
+}
+
+/// Makes so many steps, and says whether the replies count them from 1.
+fn are_counted(world: &mut World, count: u32) -> bool {
+    for step in 1..u64::from(count) + 1 {
+        match world.apply(Event::Step) {
+            Reply::Steps(made) if made == step => {}
+            _ => return false,
+        }
+    }
+    true
+}
+
 #[test]
 fn the_beacons_frame_reaches_client_1_after_its_acknowledgement(
     rt: HostRuntime,
 ) -> Result<(), Fail> {
-    let image = beacon(rt.alloc())?;
-    let mut world = pair(rt.alloc(), &image)?;
-    let mut events = Vec::new(rt.alloc());
-    let mut wanted = String::new(rt.alloc());
-    for step in 1..23 {
-        events.push(Event::Step)?;
-        writeln!(wanted, "Steps({step})")?;
-    }
-    events.extend_from_slice(&[
+    let mut world = beacon_pair(rt.alloc())?;
+    assert!(rt; are_counted(&mut world, 22));
+    let events = [
         Event::Cut,
         Event::Take(1),
         Event::Send,
@@ -79,22 +119,22 @@ fn the_beacons_frame_reaches_client_1_after_its_acknowledgement(
         Event::AckGet(0),
         Event::Take(1),
         Event::Take(1),
-    ])?;
-    wanted.push_str(
+    ];
+    let wanted =
         "Cut { generation: 1, number: 1 }\nTook(None)\nSent(1)\nCommitted { generation: 1, number: 1 }\nTook(None)\n\
         Acked { generation: 1, number: 1, landed: 1 }\n\
-        Took(Some([2, 0, 0, 0, 1, 1, 2, 0, 0, 0, 0, 1, 136, 181]))\nTook(None)\n",
-    )?;
-    let text = printed(rt.alloc(), &mut world, &events)?;
-    assert_eq!(rt; text.as_str(), wanted.as_str());
-    assert_eq!(rt; world.history().len(), 27);
-    assert_eq!(rt; world.show().entries, 27);
+        Took(Some([2, 0, 0, 0, 1, 1, 2, 0, 0, 0, 0, 1, 136, 181]))\nTook(None)\n";
+    assert!(rt; answers(rt.alloc(), &mut world, &events, wanted)?);
+    assert_eq!(rt;
+        (world.history().len(), world.show()),
+        (27, paired(0, 22, 27))
+    );
     Ok(())
 }
 
 #[test]
 fn packets_out_of_order_and_a_fifth_checkpoint(rt: HostRuntime) -> Result<(), Fail> {
-    let mut world = pair(rt.alloc(), &[0x6f, 0, 0, 0])?;
+    let mut world = idle_pair(rt.alloc())?;
     let events = [
         Event::Cut,
         Event::Cut,
@@ -109,28 +149,24 @@ fn packets_out_of_order_and_a_fifth_checkpoint(rt: HostRuntime) -> Result<(), Fa
         Event::AckGet(0),
         Event::Cut,
         Event::Take(0),
-        Event::Take(2),
+        Event::Take(3),
     ];
-    let text = printed(rt.alloc(), &mut world, &events)?;
     let wanted = "Cut { generation: 1, number: 1 }\nCut { generation: 1, number: 2 }\n\
         Cut { generation: 1, number: 3 }\nCut { generation: 1, number: 4 }\nRefused(Behind)\nSent(4)\nRefused(Gap)\n\
         Committed { generation: 1, number: 1 }\nAgain { generation: 1, number: 1 }\nLost\n\
         Acked { generation: 1, number: 1, landed: 0 }\nCut { generation: 1, number: 5 }\n\
         Refused(NoClient)\nRefused(NoClient)\n";
-    assert_eq!(rt; text.as_str(), wanted);
+    assert!(rt; answers(rt.alloc(), &mut world, &events, wanted)?);
     Ok(())
 }
 
 #[test]
 fn a_delivered_frame_arrives_at_the_guest(rt: HostRuntime) -> Result<(), Fail> {
-    let mut world = pair(rt.alloc(), &[0x6f, 0, 0, 0])?;
+    let mut world = idle_pair(rt.alloc())?;
     let events = [Event::Deliver(1, &FRAME), Event::Admit(1), Event::Admit(1)];
-    let text = printed(rt.alloc(), &mut world, &events)?;
-    assert_eq!(rt; text.as_str(), "Delivered(1)\nAdmitted(1)\nEmpty\n");
-    let show = world.show();
-    assert_eq!(rt; show.pending, 0);
-    assert_eq!(rt; show.steps, 0);
-    assert_eq!(rt; show.entries, 1);
+    let wanted = "Delivered(1)\nAdmitted(1)\nEmpty\n";
+    assert!(rt; answers(rt.alloc(), &mut world, &events, wanted)?);
+    assert_eq!(rt; world.show(), paired(0, 0, 1));
     Ok(())
 }
 
@@ -147,58 +183,132 @@ fn are_numbered(world: &mut World, count: u32) -> bool {
 
 #[test]
 fn an_inbox_holds_64_frames(rt: HostRuntime) -> Result<(), Fail> {
-    let mut world = pair(rt.alloc(), &[0x6f, 0, 0, 0])?;
+    let mut world = idle_pair(rt.alloc())?;
     assert!(rt; are_numbered(&mut world, 64));
-    let text = printed(
-        rt.alloc(),
-        &mut world,
-        &[Event::Deliver(1, &FRAME), Event::Take(1)],
-    )?;
-    assert_eq!(rt; text.as_str(), "Refused(Full)\nTook(None)\n");
-    assert_eq!(rt; world.show().entries, 66);
+    let events = [Event::Deliver(1, &FRAME), Event::Take(1)];
+    let wanted = "Refused(Full)\nTook(None)\n";
+    assert!(rt; answers(rt.alloc(), &mut world, &events, wanted)?);
+    assert_eq!(rt; world.show(), paired(0, 0, 66));
     Ok(())
 }
 
-/// So many bytes.
-fn twos(alloc: Global, count: usize) -> Result<Vec<u8>, Fail> {
+/// One byte, so many times.
+fn repeated(alloc: Global, byte: u8, count: usize) -> Result<Vec<u8>, Fail> {
     let mut bytes = Vec::with_capacity(alloc, count)?;
-    bytes.resize(count, 2)?;
+    bytes.resize(count, byte)?;
     Ok(bytes)
+}
+
+/// What client 1 is answered that delivers a frame of so many bytes.
+fn answers_to_length(alloc: Global, world: &mut World, count: usize) -> Result<String, Fail> {
+    let bytes = repeated(alloc, 2, count)?;
+    printed(alloc, world, &[Event::Deliver(1, &bytes)])
 }
 
 #[test]
 fn frames_have_14_to_1514_bytes(rt: HostRuntime) -> Result<(), Fail> {
-    let (pages, sectors) = SHAPE;
-    let mut world = World::boot(rt.alloc(), Shape { pages, sectors }, 2, &[0x6f, 0, 0, 0])?;
-    let (short, least) = (twos(rt.alloc(), 13)?, twos(rt.alloc(), 14)?);
-    let (most, long) = (twos(rt.alloc(), 1514)?, twos(rt.alloc(), 1515)?);
+    let mut world = idle_pair(rt.alloc())?;
+    for (count, wanted) in [
+        (13, "Refused(BadFrame)\n"),
+        (1515, "Refused(BadFrame)\n"),
+        (1514, "Delivered(1)\n"),
+        (14, "Delivered(2)\n"),
+    ] {
+        let text = answers_to_length(rt.alloc(), &mut world, count)?;
+        assert_eq!(rt; text.as_str(), wanted);
+    }
+    Ok(())
+}
+
+#[test]
+fn clients_have_the_numbers_from_1(rt: HostRuntime) -> Result<(), Fail> {
+    let mut world = idle_pair(rt.alloc())?;
     let events = [
-        Event::Deliver(1, &short),
-        Event::Deliver(1, &long),
-        Event::Deliver(1, &most),
-        Event::Deliver(1, &least),
-        Event::Deliver(0, &short),
+        Event::Deliver(0, &[2; 13]),
         Event::Deliver(3, &FRAME),
+        Event::Deliver(2, &FRAME),
         Event::Admit(0),
         Event::Admit(3),
     ];
-    let text = printed(rt.alloc(), &mut world, &events)?;
     let wanted =
-        "Refused(BadFrame)\nRefused(BadFrame)\nDelivered(1)\nDelivered(2)\nRefused(NoClient)\nRefused(NoClient)\n\
-        Refused(NoClient)\nRefused(NoClient)\n";
-    assert_eq!(rt; text.as_str(), wanted);
+        "Refused(NoClient)\nRefused(NoClient)\nDelivered(1)\nRefused(NoClient)\nRefused(NoClient)\n";
+    assert!(rt; answers(rt.alloc(), &mut world, &events, wanted)?);
     Ok(())
 }
 
 #[test]
 fn many_steps_are_made_in_one_call(rt: HostRuntime) -> Result<(), Fail> {
-    let image = beacon(rt.alloc())?;
-    let mut world = pair(rt.alloc(), &image)?;
-    assert_eq!(rt; world.run_steps(22), Ok(22));
-    assert_eq!(rt; world.run_steps(1000), Ok(1022));
-    assert_eq!(rt; world.run_steps(0), Ok(1022));
-    assert_eq!(rt; world.step(), Ok(1023));
-    assert_eq!(rt; world.show().steps, 1023);
+    let mut world = beacon_pair(rt.alloc())?;
+    let counts = [
+        world.run_steps(22),
+        world.run_steps(1000),
+        world.run_steps(0),
+        world.step(),
+    ];
+    assert_eq!(rt; counts, [Ok(22), Ok(1022), Ok(1022), Ok(1023)]);
+    assert_eq!(rt; world.show(), paired(0, 1023, 0));
+    Ok(())
+}
+
+/// The words of the guest that writes ab into each byte of sector 7, and then runs on the spot.
+const WRITER: [u32; 24] = [
+    0x100022b7, 0x00100313, 0x0662a823, 0x00300393, 0x0672a823, 0x0262a223, 0x0262a023, 0x00b00393,
+    0x0672a823, 0x0702a403, 0x0202a823, 0x00400393, 0x0272ac23, 0x800013b7, 0x0872a023, 0x04038393,
+    0x0872a823, 0x04038393, 0x0a72a023, 0x0462a223, 0x00f00393, 0x0672a823, 0x0402a823, 0x0000006f,
+];
+
+/// Its descriptors: the head of the request and the data, which the disk reads, and the status byte, which it writes.
+const REQUEST: [u32; 12] = [
+    0x80001100, 0, 16, 0x10001, 0x80001200, 0, 512, 0x20001, 0x80001110, 0, 1, 2,
+];
+
+/// Its image: the words, the descriptors, an available ring with one entry, the head of a write to sector 7, and the data.
+fn writer(alloc: Global) -> Result<Vec<u8>, Fail> {
+    let mut image = Vec::new(alloc);
+    put_words(&mut image, 0, &WRITER)?;
+    put_words(&mut image, 0x1000, &REQUEST)?;
+    put_words(&mut image, 0x1040, &[0x10000])?;
+    put_words(&mut image, 0x1100, &[1, 0, 7, 0, 0xff])?;
+    fill(&mut image, 0x1200)?;
+    image.extend_from_slice(&repeated(alloc, 0xab, 512)?)?;
+    Ok(image)
+}
+
+fn put_words(image: &mut Vec<u8>, place: usize, words: &[u32]) -> Result<(), Fail> {
+    fill(image, place)?;
+    for word in words {
+        image.extend_from_slice(&word.to_le_bytes())?;
+    }
+    Ok(())
+}
+
+/// A pair whose guest writes sector 7.
+fn writer_pair(alloc: Global) -> Result<Box<World>, Fail> {
+    let image = writer(alloc)?;
+    pair(alloc, &image)
+}
+
+/// Whether the disk has this sector, and each of its bytes is this one.
+fn is_filled(world: &World, sector: u32, byte: u8) -> bool {
+    let Some(bytes) = world.sector(sector) else {
+        return false;
+    };
+    for held in bytes {
+        if *held != byte {
+            return false;
+        }
+    }
+    true
+}
+
+#[test]
+fn a_sector_is_the_live_guests(rt: HostRuntime) -> Result<(), Fail> {
+    let mut world = writer_pair(rt.alloc())?;
+    let ready = world.run_steps(22).is_ok();
+    assert!(rt; ready && is_filled(&world, 7, 0));
+    let written = world.step().is_ok();
+    assert!(rt; written && is_filled(&world, 7, 0xab) && is_filled(&world, 6, 0));
+    assert!(rt; world.sector(8).is_none());
     Ok(())
 }
 
