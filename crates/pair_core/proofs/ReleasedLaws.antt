@@ -1,5 +1,5 @@
 -- What was released was sent, and what lies in a box was released.
-use Rattle.std.proofs.Common.{◌≡◌, ◌≢◌, ℕ, zero, suc, ◌-◌, ◌<◌, ◌≤◌, List, [], ◌∷◌, ◌++◌, length, take, drop, set, get_or, remove, refl, sym, ap, ◌∙◌, subst, arith, Bool, true, false, cond, ◌⊎◌, inl, inr, ⊎_elim}
+use Rattle.std.proofs.Common.{◌≡◌, ◌≢◌, ℕ, zero, suc, ◌-◌, ◌<◌, ◌≤◌, List, [], ◌∷◌, ◌++◌, length, take, drop, set, get_or, remove, refl, sym, ap, ◌∙◌, subst, arith, replicate, Bool, true, false, cond, ◌⊎◌, inl, inr, ⊎_elim}
 use Rattle.std.specs.Prelude.{nat_lt, ◌==◌, Some, None}
 use Rattle.std.proofs.lemmas.Bool.{eqb-true, eq-eqb}
 use Rattle.std.proofs.lemmas.Bool.Decides.{eqb_tells}
@@ -188,3 +188,13 @@ fresh_sent s es c f fresh h =
 pub fresh_boxed : (s : HistoryState) (es : List Entry) (c : ℕ) (f : Frame) → IsFresh s → Legal s es → 1 ≤ c → IsAmong f (list_of (at s es).boxes c) → IsAmong f (released s es c)
 fresh_boxed s es c f fresh legal low h =
     ⊎_elim (λ (i : IsAmong f (list_of s.boxes c)). absurd (subst (λ (b : List Frame). IsAmong f b) (fresh.boxes c) i)) (λ (i : IsAmong f (released s es c)). i) (boxed_was_released s es c f low legal h)
+
+-- a pair starts with nothing on its way and empty boxes
+
+empty_box : (clients place : ℕ) → get_or {A = List Frame} (replicate clients []) place [] ≡ []
+empty_box zero place = refl
+empty_box (suc clients) zero = refl
+empty_box (suc clients) (suc place) = empty_box clients place
+
+pub start_fresh : (s : HistoryState) (clients : ℕ) → s.out ≡ [] → s.boxes ≡ replicate clients [] → IsFresh s
+start_fresh s clients out boxes = record { out = out; boxes = λ c. ap (λ (bs : List (List Frame)). list_of bs c) boxes ∙ empty_box clients (c - 1) }

@@ -1,4 +1,6 @@
-use Rattle.pair_core.proofs.ReleasedLaws.{fresh_sent, fresh_boxed, WasSent-append}
+use Rattle.std.proofs.Common.{refl}
+use Rattle.pair_core.specs.Start.{start_state}
+use Rattle.pair_core.proofs.ReleasedLaws.{fresh_sent, fresh_boxed, WasSent-append, start_fresh}
 use Rattle.pair_core.proofs.OrderLaws.{fresh_in_order, fresh_taken_in_order, released-append}
 use Rattle.pair_core.proofs.CountLaws.{fresh_none_missing}
 use Rattle.pair_core.proofs.laws.released_frames_were_sent.Goals as goal
@@ -23,3 +25,6 @@ returns-clause-none_missing c = fresh_none_missing
 
 pub returns-clause-released_stays : goal.returns-clause-released_stays
 returns-clause-released_stays c = released-append
+
+pub returns-clause-start_fresh : goal.returns-clause-start_fresh
+returns-clause-start_fresh c pages image clients = start_fresh (start_state pages image clients) clients refl refl
