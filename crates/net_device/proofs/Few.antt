@@ -53,11 +53,3 @@ unfolding served
 few_served ram net =
     served_keeps Network 1 send (λ n s. IsFew n s.kept) (λ n m s l p. few_fewer n m s.kept l p) (λ n s p. p)
     (λ n s c a e p. few_acted n s.ram s.kept c a (all_readable c.parts) e p) (standing ram net []) (record { frames = All-nil IsFrame; room = omega arith })
-
--- ---- the rules of the record, under the names that the machine cites
-
-pub served_keeps_the_rules : (ram : List ℕ) (net : DeviceState) → IsDeviceRecord Network net → IsDeviceRecord Network (served ram net).net
-served_keeps_the_rules ram net h = served-rules ram net h
-
-pub received_keeps_the_rules : (ram : List ℕ) (net : DeviceState) (frame : ArrayVec ℕ) → IsDeviceRecord Network net → IsDeviceRecord Network (received ram net frame).net
-received_keeps_the_rules ram net frame h = received-rules ram net frame h

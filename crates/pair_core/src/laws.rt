@@ -22,5 +22,5 @@ pub fn released_frames_were_sent()
     ensures in_order { (s : HistoryState) (es : List Entry) (c : ℕ) → IsFresh s → IsPartOf (released s es c ++ out_of c (at s es).out) (sent_to s es c) }
     ensures taken_in_order { (s : HistoryState) (es : List Entry) (c : ℕ) → IsFresh s → Legal s es → 1 ≤ c → IsPartOf (taken es c ++ list_of (at s es).boxes c) (released s es c) }
     ensures none_missing { (s : HistoryState) (es : List Entry) (c : ℕ) → IsFresh s → Legal s es → 1 ≤ c → length (taken es c) + length (list_of (at s es).boxes c) + length (out_of c (at s es).out) + dropped_count es c ≡ length (sent_to s es c) }
-    ensures start_fresh { (pages : ℕ) (image : List ℕ) (clients : ℕ) → IsFresh (start_state pages image clients) }
+    ensures start_fresh { (pages sectors : ℕ) (image : List ℕ) (clients : ℕ) → IsFresh (start_state pages sectors image clients) }
 {}

@@ -27,4 +27,4 @@ pub returns-clause-released_stays : goal.returns-clause-released_stays
 returns-clause-released_stays c = released-append
 
 pub returns-clause-start_fresh : goal.returns-clause-start_fresh
-returns-clause-start_fresh c pages image clients = start_fresh (start_state pages image clients) clients refl refl
+returns-clause-start_fresh c pages sectors image clients = start_fresh (start_state pages sectors image clients) clients refl refl
