@@ -523,7 +523,7 @@ impl World {
         }
         self.history.reserve(1)?;
         let mut place = place_for_frame(self.alloc)?;
-        *place = frame_of(bytes);
+        fill(&mut place, bytes);
         if self.ports.inbox_len(client) >= INBOX_FRAMES {
             self.history.add(Entry::Refused(client, place));
             return Ok(Reply::Refused(Refusal::Full));
@@ -552,7 +552,7 @@ impl World {
         let mut place = place_for_frame(self.alloc)?;
         match self.ports.take(client) {
             Ok(Some(frame)) => {
-                *place = frame_of(frame.as_slice());
+                fill(&mut place, frame.as_slice());
                 self.history.add(Entry::Took(client, Some(place)));
                 Ok(Reply::Took(Some(frame)))
             }
@@ -573,9 +573,10 @@ fn first_after(next: u64, number: u64) -> u64
     if next <= number { number + 1 } else { next }
 }
 
-/// A place on the heap for one frame.
+/// A place on the heap for one frame, with no byte in it yet.
 fn place_for_frame(alloc: Global) -> Result<Box<Frame>, Refusal>
-    ensures { IfErr result (λ e. e ≡ Refusal.NoMemory) }
+    ensures ok { IfOk result (λ place. place.value.items ≡ []) }
+    ensures err { IfErr result (λ e. e ≡ Refusal.NoMemory) }
 {
     match Box::new(alloc, Frame::new()) {
         Ok(place) => Ok(place),
@@ -583,14 +584,13 @@ fn place_for_frame(alloc: Global) -> Result<Box<Frame>, Refusal>
     }
 }
 
-/// The frame of these bytes.
-fn frame_of(bytes: &[u8]) -> Frame
-    requires { length bytes.now ≤ 1514 }
-    ensures { result.items ≡ bytes.now }
+/// Puts the bytes of a frame into its place.
+fn fill(place: &mut Frame, bytes: &[u8])
+    requires empty { place.old.items ≡ [] }
+    requires fits { length bytes.now ≤ 1514 }
+    ensures { place.new.items ≡ bytes.now }
 {
-    let mut frame = Frame::new();
-    if frame.try_extend_from_slice(bytes).is_err() {
+    if place.try_extend_from_slice(bytes).is_err() {
         unreachable!();
     }
-    frame
 }

@@ -38,7 +38,7 @@ invariant_of-self-then-inbox_len-ge-INBOX_FRAMES c =
     let test = c.if-inbox_len-ge-INBOX_FRAMES.true in
     let full : INBOX_FRAMES ≤ length (inbox_of a.ports c.args.client) = omega arith in
     full_fields a c.self.invariant c.args.client c.args.bytes.now (frame at) c.add.new.self (range at).0 (range at).1 (good at) (room at) full
-    (added a.history.entries c.reserve.new.self.entries c.add.new.self.entries (Refused c.args.client) c.frame_of.result c.args.bytes.now c.add.ensures.entries c.in_ok-reserve.ensures.entries c.frame_of.ensures)
+    (added a.history.entries c.reserve.new.self.entries c.add.new.self.entries (Refused c.args.client) c.fill.new.place c.args.bytes.now c.add.ensures.entries c.in_ok-reserve.ensures.entries c.fill.ensures)
 
 pub returns-then-inbox_len-ge-INBOX_FRAMES-clause-outcome : goal.returns-then-inbox_len-ge-INBOX_FRAMES-clause-outcome
 returns-then-inbox_len-ge-INBOX_FRAMES-clause-outcome c =
@@ -47,7 +47,7 @@ returns-then-inbox_len-ge-INBOX_FRAMES-clause-outcome c =
     let long = c.inbox_len.ensures.len in
     let test = c.if-inbox_len-ge-INBOX_FRAMES.true in
     let full : INBOX_FRAMES ≤ length (inbox_of a.ports c.args.client) = omega arith in
-    let history = added a.history.entries c.reserve.new.self.entries c.add.new.self.entries (Refused c.args.client) c.frame_of.result c.args.bytes.now c.add.ensures.entries c.in_ok-reserve.ensures.entries c.frame_of.ensures in
+    let history = added a.history.entries c.reserve.new.self.entries c.add.new.self.entries (Refused c.args.client) c.fill.new.place c.args.bytes.now c.add.ensures.entries c.in_ok-reserve.ensures.entries c.fill.ensures in
     let now = full_fields_now a c.self.invariant c.args.client c.args.bytes.now (frame at) c.add.new.self (range at).0 (range at).1 (good at) (room at) full history in
     subst (λ (w : Pair). (replies.Refused Full, record_of now) ≡ deliver_outcome w.start w.protocol c.args.client c.args.bytes.now) c.self.view_is
     (full_reply a c.self.invariant c.args.client c.args.bytes.now (frame at) c.add.new.self (range at).0 (range at).1 (good at) (room at) full history)
@@ -73,7 +73,7 @@ invariant_of-self-2 c =
     let test = c.if-inbox_len-ge-INBOX_FRAMES.false in
     let space : length (inbox_of a.ports c.args.client) < INBOX_FRAMES = omega arith in
     let number = delivered-number a.ports c.args.client c.args.bytes.now (range at).0 (range at).1 (frame at).0 (frame at).1 space c.in-Ok.number c.in-Ok.ensures.answer in
-    let added_is = added a.history.entries c.reserve.new.self.entries c.add-2.new.self.entries (λ f. Delivered c.args.client f c.in-Ok.number) c.frame_of.result c.args.bytes.now c.add-2.ensures.entries c.in_ok-reserve.ensures.entries c.frame_of.ensures in
+    let added_is = added a.history.entries c.reserve.new.self.entries c.add-2.new.self.entries (λ f. Delivered c.args.client f c.in-Ok.number) c.fill.new.place c.args.bytes.now c.add-2.ensures.entries c.in_ok-reserve.ensures.entries c.fill.ensures in
     let history = added_is ∙ ap (λ (n : ℕ). a.history.entries ++ Delivered c.args.client (record { items = c.args.bytes.now }) n ∷ []) number.0 in
     deliver_fields a c.self.invariant c.args.client c.args.bytes.now (frame at) c.add-2.new.self (range at).0 (range at).1 (good at) (room at) c.deliver.new.self c.in-Ok.ensures.delivered history
 
@@ -85,7 +85,7 @@ returns-clause-outcome c =
     let test = c.if-inbox_len-ge-INBOX_FRAMES.false in
     let space : length (inbox_of a.ports c.args.client) < INBOX_FRAMES = omega arith in
     let number = delivered-number a.ports c.args.client c.args.bytes.now (range at).0 (range at).1 (frame at).0 (frame at).1 space c.in-Ok.number c.in-Ok.ensures.answer in
-    let added_is = added a.history.entries c.reserve.new.self.entries c.add-2.new.self.entries (λ f. Delivered c.args.client f c.in-Ok.number) c.frame_of.result c.args.bytes.now c.add-2.ensures.entries c.in_ok-reserve.ensures.entries c.frame_of.ensures in
+    let added_is = added a.history.entries c.reserve.new.self.entries c.add-2.new.self.entries (λ f. Delivered c.args.client f c.in-Ok.number) c.fill.new.place c.args.bytes.now c.add-2.ensures.entries c.in_ok-reserve.ensures.entries c.fill.ensures in
     let history = added_is ∙ ap (λ (n : ℕ). a.history.entries ++ Delivered c.args.client (record { items = c.args.bytes.now }) n ∷ []) number.0 in
     let now = deliver_fields_now a c.self.invariant c.args.client c.args.bytes.now (frame at) c.add-2.new.self (range at).0 (range at).1 (good at) (room at) c.deliver.new.self c.in-Ok.ensures.delivered history in
     ap (λ (n : ℕ). (replies.Delivered n, record_of now)) number.0

@@ -22,8 +22,8 @@ invariant_of-self-in-Ok-Some c =
     let a = c.self.inside in
     let first = sym c.in-Ok-Some.field-0-is ∙ answered a.ports c.args.client c.in-Ok-Some.field-0 (slice_get (box_of a.ports c.args.client) 0) (range at).0 (range at).1 c.in-Ok-Some.ensures.answer in
     take_fields a c.self.invariant c.args.client c.take.new.self c.add.new.self c.in-Ok-Some.ensures.rest
-    (c.add.ensures.entries ∙ ap (λ es. es ++ Took c.args.client (Some c.frame_of.result) ∷ []) c.in_ok-reserve.ensures.entries
-    ∙ ap (λ (b : List ℕ). a.history.entries ++ Took c.args.client (Some (record { items = b })) ∷ []) (c.frame_of.ensures ∙ c.as_slice.ensures.value) ∙ ap (λ o. a.history.entries ++ Took c.args.client o ∷ []) first)
+    (c.add.ensures.entries ∙ ap (λ es. es ++ Took c.args.client (Some c.fill.new.place) ∷ []) c.in_ok-reserve.ensures.entries
+    ∙ ap (λ (b : List ℕ). a.history.entries ++ Took c.args.client (Some (record { items = b })) ∷ []) (c.fill.ensures ∙ c.as_slice.ensures.value) ∙ ap (λ o. a.history.entries ++ Took c.args.client o ∷ []) first)
     (range at).0 (range at).1 (room at)
 
 pub invariant_of-self-in-None-1 : goal.invariant_of-self-in-None-1
