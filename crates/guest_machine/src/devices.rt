@@ -98,9 +98,7 @@ impl Devices {
             ≡ Some (record { action = action; state = self.new.net })) }
         ensures other { self.new ≡ record self.old { net = self.new.net } }
     {
-        self.net
-            .transport
-            .store(offset, width.bytes() as u8, value)
+        self.net.transport.store(offset, width.bytes() as u8, value)
     }
 
     /// A store to a register of the disk, and what it asks of the disk; `None` is an access fault.

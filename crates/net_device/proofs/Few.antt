@@ -10,13 +10,10 @@ use Rattle.virtqueue.specs.Chains.{Spelled}
 use Rattle.virtqueue.specs.Parts.{all_readable, readable_bytes}
 use Rattle.virtio_mmio.specs.declared.kinds.DeviceKind.TheVariants.{Network}
 use Rattle.virtio_mmio.specs.declared.states.DeviceState.{DeviceState}
-use Rattle.virtio_mmio.specs.States.{IsDeviceRecord}
 use Rattle.virtio_mmio.specs.ServingLoop.{Acted, standing}
 use Rattle.virtio_mmio.proofs.Loop.{served_keeps}
 use Rattle.net_device.specs.Frames.{IsFrame}
 use Rattle.net_device.specs.Transmit.{frame_in, send, served}
-use Rattle.net_device.specs.Receive.{received}
-use Rattle.net_device.proofs.Kept.{served-rules, received-rules}
 
 -- frames of a frame's length, and room for so many more of 64
 pub record IsFew (n : ℕ) (sent : List (ArrayVec ℕ)) : Type 0 where

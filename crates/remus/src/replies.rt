@@ -81,11 +81,7 @@ pub fn write_show<W: Write>(out: &mut W, show: &Show) -> Result<()>
 /// # Errors
 ///
 /// That of the writer.
-pub fn write_sector<W: Write>(
-    out: &mut W,
-    sector: u64,
-    bytes: &[u8; SECTOR_BYTES],
-) -> Result<()>
+pub fn write_sector<W: Write>(out: &mut W, sector: u64, bytes: &[u8; SECTOR_BYTES]) -> Result<()>
     ensures { OnOk result (Appends (W.contents out.old) (W.contents out.new) (sector_line sector bytes.now)) }
 {
     let mut digits = [0; 2 * SECTOR_BYTES];
