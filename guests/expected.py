@@ -58,5 +58,13 @@ def division():
     return total
 
 
-for guest in (sort, crc32, sha256, division):
+def disk():
+    total = 0xCBF29CE484222325
+    for place in range(200 * 512):
+        byte = (place + 1) * 0x9E3779B97F4A7C15 % 2**64 >> 56
+        total = (total ^ byte) * 0x100000001B3 & MASK
+    return total
+
+
+for guest in (sort, crc32, sha256, division, disk):
     print(f"{guest.__name__} {guest():016x}")

@@ -9,6 +9,7 @@ WHAT = {
     "crc32": 'The CRC-32 of "123456789".',
     "sha256": 'The SHA-256 of "abc".',
     "division": "Compares the division instructions with long division.",
+    "disk": "Writes 200 sectors of the disk, reads them back, and sends their hash.",
 }
 
 lines = [

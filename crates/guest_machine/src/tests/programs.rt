@@ -1,9 +1,9 @@
 //! Programs that a stock compiler made of C, run until each jumps to itself. The answers are those of Python's `zlib`, `hashlib`
 //! and whole numbers (`guests/expected.py`), the step counts those of the interpreter in `bench/baseline`.
 
-use super::program_words::{CRC32, DIVISION, SHA256, SORT};
-use super::{boot, register, run, words};
-use crate::Machine;
+use super::program_words::{CRC32, DISK, DIVISION, SHA256, SORT};
+use super::{boot, boot_shape, register, run, words};
+use crate::{Machine, Shape};
 use std::alloc::Global;
 use std::process::Abort;
 use std::test::Fail;
@@ -63,5 +63,41 @@ fn digest_of_three_letters(rt: HostRuntime) -> Result<(), Fail> {
 fn division_agrees_with_long_division(rt: HostRuntime) -> Result<(), Fail> {
     let machine = after(&rt, rt.alloc(), &DIVISION, 725_971)?;
     assert_eq!(rt; register(&rt, &machine, A0), 0x02a8_7200_df38_d16b);
+    Ok(())
+}
+
+/// The hash of all bytes that the disk's guest read back.
+const HASH: u64 = 0x016a_9914_076e_e016;
+
+/// Its frame to client 1: the addresses, the type 88b5, how many requests failed, and the hash.
+const REPORT: [u8; 30] = [
+    2, 0, 0, 0, 1, 1, 2, 0, 0, 0, 0, 1, 0x88, 0xb5, 0, 0, 0, 0, 0, 0, 0, 0, 0x01, 0x6a, 0x99, 0x14,
+    0x07, 0x6e, 0xe0, 0x16,
+];
+
+#[test]
+fn writes_200_sectors_and_reads_them_back(rt: HostRuntime) -> Result<(), Fail> {
+    let image = words(rt.alloc(), &DISK)?;
+    let shape = Shape {
+        pages: 32,
+        sectors: 200,
+    };
+    let mut machine = boot_shape(&rt, rt.alloc(), shape, &image)?;
+    assert_eq!(rt; machine.run(1_342_483), 1_342_483);
+    assert_eq!(rt; machine.pc(), STOP);
+    assert_eq!(rt; register(&rt, &machine, A0), HASH);
+    let outbox = machine.outbox();
+    assert_eq!(rt; outbox.len(), 1);
+    assert_eq!(rt; outbox[0].as_slice(), REPORT.as_slice());
+    assert_eq!(rt; machine.sectors(), 200);
+    assert_eq!(rt; machine.dirty_sectors().len(), 200);
+    // each byte is the top one of a multiple of its place, counted from 1
+    let mut factor: u64 = 0;
+    for sector in 0..200 {
+        for byte in machine.sector(sector) {
+            factor = factor.wrapping_add(0x9e37_79b9_7f4a_7c15);
+            assert_eq!(rt; *byte, factor.to_be_bytes()[0]);
+        }
+    }
     Ok(())
 }
