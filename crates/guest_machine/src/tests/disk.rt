@@ -29,21 +29,14 @@ const DATA: usize = 0x1200;
 
 /// The head and the data, which the disk reads, and the status byte, which it writes.
 const CHAIN: [u32; 12] = [
-    0x80001100,
-    0,
-    16,
-    0x0001_0001,
-    0x80001200,
-    0,
-    512,
-    0x0002_0001,
-    0x80001110,
-    0,
-    1,
-    0x0000_0002,
+    0x80001100, 0, 16, 0x00010001, 0x80001200, 0, 512, 0x00020001, 0x80001110, 0, 1, 0x00000002,
 ];
 
-/// Places in the second and the third descriptor: of the buffer's address, of its length, and of the flags.
+/// Places in the three descriptors: of a buffer's address, of its length, and of its flags and next.
+const HEAD_LEN: usize = DESCRIPTOR + 8;
+
+const HEAD_FLAGS: usize = DESCRIPTOR + 12;
+
 const DATA_ADDRESS: usize = DESCRIPTOR + 16;
 
 const DATA_LEN: usize = DESCRIPTOR + 16 + 8;
@@ -97,7 +90,7 @@ fn assert_last_sector(rt: &impl Abort, machine: &Machine, byte: u8) {
     assert_eq!(rt; machine.sector(7), [byte; 512].as_slice());
 }
 
-/// The used ring has one entry, of the chain at descriptor 0, of which so many bytes were written.
+/// The used ring has one entry, of the chain at descriptor 0, into which so many bytes were written.
 fn assert_used(rt: &impl Abort, machine: &Machine, len: u16) {
     let len = len.to_le_bytes();
     let ring = [0, 0, 1, 0, 0, 0, 0, 0, len[0], len[1], 0, 0];
@@ -198,22 +191,8 @@ fn a_head_may_lie_in_two_buffers(rt: HostRuntime) -> Result<(), Fail> {
         &mut image,
         DESCRIPTOR / 4,
         &[
-            0x80001100,
-            0,
-            5,
-            0x0003_0001,
-            0x80001200,
-            0,
-            512,
-            0x0002_0001,
-            0x80001110,
-            0,
-            1,
-            0x0000_0002,
-            0x80001105,
-            0,
-            11,
-            0x0001_0001,
+            0x80001100, 0, 5, 0x00030001, 0x80001200, 0, 512, 0x00020001, 0x80001110, 0, 1,
+            0x00000002, 0x80001105, 0, 11, 0x00010001,
         ],
     );
     let machine = after(&rt, rt.alloc(), &image, 23)?;
@@ -260,26 +239,22 @@ fn malformed_rings_break_the_disk(rt: HostRuntime) -> Result<(), Fail> {
 #[test]
 fn malformed_requests_break_the_disk(rt: HostRuntime) -> Result<(), Fail> {
     // a next of 4, and INDIRECT
-    breaks(&rt, rt.alloc(), &[(DESCRIPTOR + 12, 0x0004_0001)])?;
-    breaks(&rt, rt.alloc(), &[(DESCRIPTOR + 12, 0x0001_0005)])?;
+    breaks(&rt, rt.alloc(), &[(HEAD_FLAGS, 0x00040001)])?;
+    breaks(&rt, rt.alloc(), &[(HEAD_FLAGS, 0x00010005)])?;
     // data that end a byte behind memory
     breaks(&rt, rt.alloc(), &[(DATA_ADDRESS, 0x8000_1e01)])?;
     // the status byte before the head and the data, and a head that the disk may write
     breaks(
         &rt,
         rt.alloc(),
-        &[
-            (AVAILABLE + 4, 2),
-            (STATUS_FLAGS, 0x0000_0003),
-            (DATA_FLAGS, 0),
-        ],
+        &[(AVAILABLE + 4, 2), (STATUS_FLAGS, 3), (DATA_FLAGS, 0)],
     )?;
-    breaks(&rt, rt.alloc(), &[(DESCRIPTOR + 12, 0x0001_0003)])?;
+    breaks(&rt, rt.alloc(), &[(HEAD_FLAGS, 0x00010003)])?;
     // chains that come back to the head, and to the status byte
-    breaks(&rt, rt.alloc(), &[(DATA_FLAGS, 0x0000_0001)])?;
-    breaks(&rt, rt.alloc(), &[(STATUS_FLAGS, 0x0002_0003)])?;
+    breaks(&rt, rt.alloc(), &[(DATA_FLAGS, 1)])?;
+    breaks(&rt, rt.alloc(), &[(STATUS_FLAGS, 0x00020003)])?;
     // 15 bytes of head and no data, no place for the status byte, and one of no bytes
-    breaks(&rt, rt.alloc(), &[(DESCRIPTOR + 8, 15), (DATA_LEN, 0)])?;
+    breaks(&rt, rt.alloc(), &[(HEAD_LEN, 15), (DATA_LEN, 0)])?;
     breaks(&rt, rt.alloc(), &[(STATUS_FLAGS, 0)])?;
     breaks(&rt, rt.alloc(), &[(STATUS_LEN, 0)])
 }
