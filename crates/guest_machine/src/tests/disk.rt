@@ -85,9 +85,9 @@ fn after(rt: &impl Abort, alloc: Global, image: &[u8], steps: u32) -> Result<Mac
 fn assert_last_sector(rt: &impl Abort, machine: &Machine, byte: u8) {
     assert_eq!(rt; machine.sectors(), 8);
     for sector in 0..7 {
-        assert_eq!(rt; machine.sector(sector), [0; 512].as_slice());
+        assert_eq!(rt; machine.sector(sector).as_slice(), [0; 512].as_slice());
     }
-    assert_eq!(rt; machine.sector(7), [byte; 512].as_slice());
+    assert_eq!(rt; machine.sector(7).as_slice(), [byte; 512].as_slice());
 }
 
 /// The used ring has one entry, of the chain at descriptor 0, into which so many bytes were written.

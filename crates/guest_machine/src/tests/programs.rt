@@ -94,7 +94,7 @@ fn writes_200_sectors_and_reads_them_back(rt: HostRuntime) -> Result<(), Fail> {
     // each byte is the top one of a multiple of its place, counted from 1
     let mut factor: u64 = 0;
     for sector in 0..200 {
-        for byte in machine.sector(sector) {
+        for byte in machine.sector(sector).as_slice() {
             factor = factor.wrapping_add(0x9e37_79b9_7f4a_7c15);
             assert_eq!(rt; *byte, factor.to_be_bytes()[0]);
         }
