@@ -10,10 +10,11 @@ mod programs;
 mod refusals;
 mod traps;
 
-use crate::{Machine, MachineError, PAGE_BYTES, Shape};
+use crate::{Machine, PAGE_BYTES, Shape};
 use rv64_core::Register;
 use std::alloc::{AllocError, Global};
 use std::process::Abort;
+use std::test::Fail;
 
 /// The guest that sends one frame to client 1: it sets up queue 1 with one descriptor, notifies it in step 22, and then loops.
 const BEACON: [u32; 23] = [
@@ -72,7 +73,7 @@ fn words(alloc: Global, list: &[u32]) -> Result<Vec<u8>, AllocError> {
 }
 
 /// The machine of two pages and one sector with this image.
-fn boot(rt: &impl Abort, alloc: Global, image: &[u8]) -> Result<Machine, MachineError> {
+fn boot(rt: &impl Abort, alloc: Global, image: &[u8]) -> Result<Box<Machine>, Fail> {
     let shape = Shape {
         pages: 2,
         sectors: 1,
@@ -80,15 +81,16 @@ fn boot(rt: &impl Abort, alloc: Global, image: &[u8]) -> Result<Machine, Machine
     boot_shape(rt, alloc, shape, image)
 }
 
-/// The machine of this shape with this image.
+/// The machine of this shape with this image, in a box: it's large, and a test that holds it by value is slow to prove.
 fn boot_shape(
     rt: &impl Abort,
     alloc: Global,
     shape: Shape,
     image: &[u8],
-) -> Result<Machine, MachineError> {
+) -> Result<Box<Machine>, Fail> {
     assert!(rt; image.len() <= PAGE_BYTES * shape.pages as usize);
-    Machine::boot(alloc, shape, image)
+    let machine = Machine::boot(alloc, shape, image)?;
+    Ok(Box::new(alloc, machine)?)
 }
 
 /// So many steps, none of which is refused.

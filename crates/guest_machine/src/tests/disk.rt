@@ -71,7 +71,7 @@ fn request(alloc: Global, kind: u32, sector: u32, byte: u8) -> Result<Vec<u8>, A
 }
 
 /// The machine with a disk of 8 sectors after so many steps of an image.
-fn after(rt: &impl Abort, alloc: Global, image: &[u8], steps: u32) -> Result<Machine, Fail> {
+fn after(rt: &impl Abort, alloc: Global, image: &[u8], steps: u32) -> Result<Box<Machine>, Fail> {
     let shape = Shape {
         pages: 2,
         sectors: 8,

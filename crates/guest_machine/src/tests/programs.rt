@@ -18,7 +18,12 @@ const A0: u8 = 10;
 const ANSWER: usize = 0x1000;
 
 /// The machine after the steps that a program takes.
-fn after(rt: &impl Abort, alloc: Global, program: &[u32], steps: u32) -> Result<Machine, Fail> {
+fn after(
+    rt: &impl Abort,
+    alloc: Global,
+    program: &[u32],
+    steps: u32,
+) -> Result<Box<Machine>, Fail> {
     let image = words(alloc, program)?;
     let mut machine = boot(rt, alloc, image.as_slice())?;
     run(rt, &mut machine, steps);
