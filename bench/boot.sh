@@ -1,6 +1,6 @@
 #!/usr/bin/env bash
-# How long a boot of the largest memory takes, both nodes' 16 MiB, beside the time that writing 32 MiB of zeros into
-# memory takes (dd into /dev/shm).
+# How long a boot of the largest machine takes, with 16 MiB of memory and 16 MiB of disk at each of both nodes, beside the time
+# that writing 64 MiB of zeros into memory takes (dd into /dev/shm).
 set -eu
 cd "$(dirname "$0")/.."
 script=$(mktemp)
@@ -13,7 +13,7 @@ printf 'boot 4096 32768 16 idle\n' >"$script"
 start=$EPOCHREALTIME
 crates/remus/out/remus sim "$script" >/dev/null
 middle=$EPOCHREALTIME
-dd if=/dev/zero of="$target" bs=16M count=2 status=none
+dd if=/dev/zero of="$target" bs=16M count=4 status=none
 end=$EPOCHREALTIME
 awk -v a="$start" -v b="$middle" -v c="$end" \
     'BEGIN { printf "boot %.3f s, filling %.3f s, ratio %.1f\n", b - a, c - b, (b - a) / (c - b) }'
