@@ -110,10 +110,14 @@ next-kept g h =
     let after = step_done-kept g h in
     record { bytes = after.bytes; sectors = after.sectors; rules = record { net = after.rules.net; disk = after.rules.disk } }
 
+pub arrived-bytes : (g : Guest) (frame : ArrayVec ℕ) → IsDeviceRecord Network g.net → length (arrived g frame).ram ≡ length g.ram
+unfolding arrived
+arrived-bytes g frame h = received-length g.ram g.net frame h
+
 pub arrived-kept : (g : Guest) (frame : ArrayVec ℕ) → HasDeviceRecords g → IsKept g (arrived g frame)
 unfolding arrived
 arrived-kept g frame h = record {
-  bytes = received-length g.ram g.net frame h.net;
+  bytes = arrived-bytes g frame h.net;
   sectors = refl;
   rules = record { net = received-rules g.ram g.net frame h.net; disk = h.disk };
 }

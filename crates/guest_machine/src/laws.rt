@@ -2,7 +2,8 @@
 ghost use Rattle.std.specs.Prelude.{◌≡◌, ℕ, ◌+◌, ◌%◌, ◌^◌, ◌≤◌, ◌⊎◌, List, [], ◌∷◌, ◌++◌, All, length, replicate, slice_range};
 ghost use Rattle.mtraps.specs.CsrTable.{boot_values};
 ghost use Rattle.arrayvec.specs.ArrayVec.{ArrayVec};
-ghost use Rattle.virtio_mmio.specs.States.{boot_state};
+ghost use Rattle.virtio_mmio.specs.declared.kinds.DeviceKind.TheVariants.{Network};
+ghost use Rattle.virtio_mmio.specs.States.{boot_state, IsDeviceRecord};
 ghost use Rattle.net_device.specs.Frames.{IsFrame};
 ghost use Rattle.guest_machine.specs.Aligned.{IsAligned};
 ghost use Rattle.guest_machine.specs.Beacon.{beacon, beacon_with, beacon_frame};
@@ -32,7 +33,7 @@ pub fn kept_memory()
     ensures boot { (pages sectors : ℕ) (image : List ℕ) → HasDeviceRecords (boot_guest pages sectors image) }
     ensures bytes { (g : Guest) → HasDeviceRecords g → length (next g).ram ≡ length g.ram }
     ensures rules { (g : Guest) → HasDeviceRecords g → HasDeviceRecords (next g) }
-    ensures bytes_at_arrival { (g : Guest) (frame : ArrayVec ℕ) → HasDeviceRecords g → length (arrived g frame).ram ≡ length g.ram }
+    ensures bytes_at_arrival { (g : Guest) (frame : ArrayVec ℕ) → IsDeviceRecord Network g.net → length (arrived g frame).ram ≡ length g.ram }
     ensures rules_at_arrival { (g : Guest) (frame : ArrayVec ℕ) → HasDeviceRecords g → HasDeviceRecords (arrived g frame) }
 {}
 

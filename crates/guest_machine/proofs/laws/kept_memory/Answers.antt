@@ -1,4 +1,4 @@
-use Rattle.guest_machine.proofs.MemoryLemmas.{boot-kept, next-kept, arrived-kept}
+use Rattle.guest_machine.proofs.MemoryLemmas.{boot-kept, next-kept, arrived-bytes, arrived-kept}
 use Rattle.guest_machine.proofs.laws.kept_memory.Goals as goal
 
 pub returns : goal.returns
@@ -6,6 +6,6 @@ returns c = record {
   boot = λ pages sectors image. boot-kept pages sectors image;
   bytes = λ g h. (next-kept g h).bytes;
   rules = λ g h. (next-kept g h).rules;
-  bytes_at_arrival = λ g frame h. (arrived-kept g frame h).bytes;
+  bytes_at_arrival = λ g frame h. arrived-bytes g frame h;
   rules_at_arrival = λ g frame h. (arrived-kept g frame h).rules;
 }
