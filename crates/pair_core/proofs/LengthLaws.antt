@@ -95,3 +95,8 @@ landings_by-append lengths (c ∷ cs) ds = ap (λ t. landing_by lengths c ∷ t)
 pub lengths_after-append : (lengths : List ℕ) (cs ds : List ℕ) → lengths_after lengths (cs ++ ds) ≡ lengths_after (lengths_after lengths cs) ds
 lengths_after-append lengths [] ds = refl
 lengths_after-append lengths (c ∷ cs) ds = lengths_after-append (lengths_at lengths c) cs ds
+
+-- each landing is one entry
+pub length-landings : (bs : List (List Frame)) (ps : List (ℕ × Frame)) → length (landings bs ps) ≡ length ps
+length-landings bs [] = refl
+length-landings bs (p ∷ ps) = ap suc (length-landings (landed_at bs p.0 p.1) ps)

@@ -5,12 +5,18 @@
 //! of the specs, whose part `protocol` is the pair protocol's record.
 #![tactic(auto)]
 
+mod epochs;
 mod event;
+mod frames;
+mod journal;
 mod landings;
-mod packets;
-mod sealed;
+mod limits;
+mod lines;
+mod nodes;
+mod record;
 #[cfg(test)]
 mod tests;
+mod window;
 mod world;
 
 pub use event::{Event, Mode, Packet, Refusal, Reply, Show};
