@@ -60,19 +60,6 @@ full_rows false false false true e p = (refl, refl, refl)
 full_rows false false false false true p = absurd (cc)
 full_rows false false false false false p = absurd (cc)
 
--- BackupGet, once no row applies
-pub backup_again : (r : Record) (p : Packet) → p.number < r.window.to_commit → again_done r ≡ backup_done r p
-backup_again r p l = let t : nat_lt p.number r.window.to_commit ≡ true = yes p.number r.window.to_commit l in ap (λ b. cond b (again_done r) (commit_done r)) (sym t)
-  where
-    yes : (a b : ℕ) → a < b → nat_lt a b ≡ true
-    yes a b l = grind (arith, nat_tests)
-
-pub backup_commits : (r : Record) (p : Packet) → r.window.to_commit ≤ p.number → commit_done r ≡ backup_done r p
-backup_commits r p l = let t : nat_lt p.number r.window.to_commit ≡ false = no p.number r.window.to_commit l in ap (λ b. cond b (again_done r) (commit_done r)) (sym t)
-  where
-    no : (a b : ℕ) → b ≤ a → nat_lt a b ≡ false
-    no a b l = grind (arith, nat_tests)
-
 -- WHAT AN EVENT LOOKS AT
 
 module _ (w : Pair) (h : Holds w) where

@@ -144,7 +144,8 @@ impl Journal {
     pub(crate) fn land(&mut self, ports: &Ports, frames: &[Frame])
         requires room { length (receivers (length ports.now.boxes) frames.now) ≤ self.old.room }
         requires fits { length (all_entries self.old.journal) + length (receivers (length ports.now.boxes) frames.now) < NUMBER_LIMIT }
-        ensures { self.new.journal ≡ with_history self.old.journal (landings ports.now.boxes (targets_of (length ports.now.boxes) frames.now)) }
+        ensures { self.new.journal
+            ≡ with_history self.old.journal (landings ports.now.boxes (targets_of (length ports.now.boxes) frames.now)) }
     {
         add_landings(&mut self.history, ports, frames);
     }

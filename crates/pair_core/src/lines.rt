@@ -79,12 +79,7 @@ impl Lines {
     }
 
     /// Sends the backup one packet for each of these numbers, rising.
-    pub(crate) fn send(
-        &mut self,
-        generation: u64,
-        first: u64,
-        end: u64,
-    ) -> Result<(), AllocError>
+    pub(crate) fn send(&mut self, generation: u64, first: u64, end: u64) -> Result<(), AllocError>
         requires { first ≤ end }
         ensures ok { OnOk result (self.new.lines ≡ with_forward self.old.lines (packets_from generation first (end - first))) }
         ensures err { OnErr result (self.new.lines ≡ self.old.lines) }

@@ -248,8 +248,10 @@ impl World {
     fn make_steps(&mut self, count: u64) -> u64
         ensures most { result ≤ count }
         ensures made { self.new ≡ with_steps result self.old }
-        ensures answered { (Reply.Steps self.new.nodes.live.guest.steps, self.new.protocol) ≡ steps_outcome self.old.start self.old.protocol result }
-        ensures ended { result < count → length self.new.nodes.live.outbox ≤ 192 → NUMBER_LIMIT ≤ length (all_entries self.new.protocol.journal) + 1 }
+        ensures answered { (Reply.Steps self.new.nodes.live.guest.steps, self.new.protocol)
+            ≡ steps_outcome self.old.start self.old.protocol result }
+        ensures ended { result < count
+            → length self.new.nodes.live.outbox ≤ 192 → NUMBER_LIMIT ≤ length (all_entries self.new.protocol.journal) + 1 }
     {
         let most = count.min(self.record.entries_left());
         let made = self.nodes.run(most);
@@ -260,7 +262,8 @@ impl World {
     /// Why the next step is refused.
     fn step_refusal(&self) -> Option<Refusal>
         ensures refused { IfSome result (λ why. refused self.now.protocol why ≡ step_outcome self.now.start self.now.protocol) }
-        ensures none { IfNone result ((length self.now.nodes.live.outbox ≤ 192) × (length (all_entries self.now.protocol.journal) + 1 < NUMBER_LIMIT)) }
+        ensures none { IfNone result ((length self.now.nodes.live.outbox ≤ 192) × (length (all_entries self.now.protocol.journal) + 1
+            < NUMBER_LIMIT)) }
     {
         self.record.step_refusal(self.nodes.outbox())
     }
@@ -295,7 +298,8 @@ impl World {
 
     /// The backup gets a packet.
     fn backup_get(&mut self, k: u64) -> Result<Reply, AllocError>
-        ensures outcome { IfOk result (λ reply. (reply, self.new.protocol) ≡ outcome self.old.start self.old.protocol (events.BackupGet k)) }
+        ensures outcome { IfOk result (λ reply. (reply, self.new.protocol)
+            ≡ outcome self.old.start self.old.protocol (events.BackupGet k)) }
         ensures start { self.new.start ≡ self.old.start }
         ensures refused { IfOk result (λ reply. OnRefused reply self.old self.new) }
         ensures memory { OnErr result (MayWantMemory (outcome self.old.start self.old.protocol (events.BackupGet k)).0) }
@@ -334,7 +338,8 @@ impl World {
 
     /// The first frame of a client's inbox arrives at the guest.
     fn admit(&mut self, client: u64) -> Result<Reply, AllocError>
-        ensures outcome { IfOk result (λ reply. (reply, self.new.protocol) ≡ outcome self.old.start self.old.protocol (events.Admit client)) }
+        ensures outcome { IfOk result (λ reply. (reply, self.new.protocol)
+            ≡ outcome self.old.start self.old.protocol (events.Admit client)) }
         ensures start { self.new.start ≡ self.old.start }
         ensures refused { IfOk result (λ reply. OnRefused reply self.old self.new) }
         ensures memory { OnErr result (MayWantMemory (outcome self.old.start self.old.protocol (events.Admit client)).0) }
@@ -356,7 +361,8 @@ impl World {
 
     /// A client delivers a frame of these bytes.
     fn deliver(&mut self, client: u64, bytes: &[u8]) -> Result<Reply, AllocError>
-        ensures outcome { IfOk result (λ reply. (reply, self.new.protocol) ≡ outcome self.old.start self.old.protocol (events.Deliver client bytes.entry)) }
+        ensures outcome { IfOk result (λ reply. (reply, self.new.protocol)
+            ≡ outcome self.old.start self.old.protocol (events.Deliver client bytes.entry)) }
         ensures start { self.new.start ≡ self.old.start }
         ensures refused { IfOk result (λ reply. OnRefused reply self.old self.new) }
         ensures memory { OnErr result (MayWantMemory (outcome self.old.start self.old.protocol (events.Deliver client bytes.entry)).0) }
@@ -373,7 +379,8 @@ impl World {
 
     /// A client takes the first frame of its box.
     fn take(&mut self, client: u64) -> Result<Reply, AllocError>
-        ensures outcome { IfOk result (λ reply. (reply, self.new.protocol) ≡ outcome self.old.start self.old.protocol (events.Take client)) }
+        ensures outcome { IfOk result (λ reply. (reply, self.new.protocol)
+            ≡ outcome self.old.start self.old.protocol (events.Take client)) }
         ensures start { self.new.start ≡ self.old.start }
         ensures refused { IfOk result (λ reply. OnRefused reply self.old self.new) }
         ensures memory { OnErr result (MayWantMemory (outcome self.old.start self.old.protocol (events.Take client)).0) }
