@@ -72,6 +72,13 @@ impl Ports {
         self.boxes.len() as u64
     }
 
+    /// The number that the next delivered frame gets, from 1.
+    pub fn next_number(&self) -> u64
+        ensures { result ≡ self.now.next }
+    {
+        self.next
+    }
+
     /// Whether this is a client's number, 1 to the count of clients.
     fn is_client(&self, client: u64) -> bool
         ensures { result ≡ is_client self.now client }

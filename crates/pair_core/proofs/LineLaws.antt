@@ -3,9 +3,8 @@ use Rattle.std.proofs.Common.{◌≡◌, ℕ, suc, ◌+◌, ◌-◌, ◌<◌, �
 use Rattle.std.specs.Prelude.{map}
 use Rattle.output_gate.specs.Epochs.{Epoch}
 use Rattle.pair_core.specs.declared.event.Packet.{Packet}
-use Rattle.pair_core.specs.Protocol.{packet, packet_of}
-use Rattle.pair_core.specs.Kept.{NumberedFrom}
-use Rattle.pair_core.specs.Lines.{packets_from}
+use Rattle.pair_core.specs.Lines.{packet, packet_of, packets_from}
+use Rattle.pair_core.specs.Window.{NumberedFrom}
 
 -- the next packet, and those behind it
 pub packets_from-next : (g n e : ℕ) → n < e → packets_from g n (e - n) ≡ packet g n ∷ packets_from g (n + 1) (e - (n + 1))

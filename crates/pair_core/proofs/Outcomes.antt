@@ -1,212 +1,185 @@
--- What the protocol answers, by the tests that the code makes.
-use Rattle.std.proofs.Common.{◌≡◌, ◌≢◌, ℕ, ◌+◌, ◌-◌, ◌<◌, ◌≤◌, List, [], ◌∷◌, ◌++◌, length, sym, ap, ◌∙◌, arith, Bool, true, false, cond, Option, None, Some}
-use Rattle.std.specs.Prelude.{nat_lt, nat_le, slice_get, ◌==◌, ◌&&◌, not}
+-- What the protocol answers: what an event looks at is what the world has, and its table of refusals decides.
+use Rattle.std.proofs.Common.{◌≡◌, ℕ, ◌+◌, ◌<◌, ◌≤◌, List, [], ◌∷◌, ◌++◌, length, refl, sym, ap, ◌∙◌, subst, arith, Bool, true, false, cond, Option, None, Some}
+use Rattle.std.specs.Prelude.{slice_get, IfSome, nat_lt, nat_le, ◌&&◌, not}
 use Rattle.std.proofs.lemmas.Bool.Decides.{nat_tests}
-use Rattle.std.proofs.lemmas.Bool.{eq-eqb}
 use Rattle.guest_machine.specs.Guest.{Guest}
 use Rattle.guest_machine.specs.Step.{next}
-use Rattle.frame_ports.specs.Addresses.{targets_of}
-use Rattle.frame_ports.specs.Lands.{list_of, put_count}
-use Rattle.frame_ports.specs.declared.limits.TheConstants.{INBOX_FRAMES}
-use Rattle.output_gate.specs.Epochs.{frames_to, after_number}
+use Rattle.frame_ports.specs.Lands.{list_of}
+use Rattle.frame_ports.specs.Addresses.{IsFrame}
+use Rattle.frame_ports.specs.declared.limits.TheConstants.{INBOX_FRAMES, NUMBER_LIMIT}
+use Rattle.pair_history.specs.Entries.{Frame}
+use Rattle.pair_history.specs.HistoryState.{Waiting, inbox_of}
+use Rattle.pair_core.specs.declared.event.Event.TheVariants.{Admit}
 use Rattle.pair_core.specs.declared.event.Packet.{Packet}
-use Rattle.pair_core.specs.declared.event.Refusal.TheVariants.{Full, BadFrame, NoClient, Behind, Stale, Gap, CutNeeded, Exhausted}
+use Rattle.pair_core.specs.declared.event.Refusal.{Refusal}
+use Rattle.pair_core.specs.declared.event.Refusal.TheVariants.{Full, BadFrame, NoClient, Behind, Stale, Gap, NoMemory, CutNeeded, Exhausted}
 use Rattle.pair_core.specs.declared.event.Reply.TheVariants as replies
-use Rattle.pair_core.specs.Entries.{Frame, Took}
-use Rattle.pair_core.specs.Entries as entries
-use Rattle.pair_core.specs.HistoryState.{inbox_of}
-use Rattle.pair_core.specs.Protocol.{Record, landings, refused, step_outcome, cut_outcome, backup_outcome, again_outcome, commit_outcome, ack_outcome, admit_outcome, admit_first, deliver_outcome, take_outcome, is_among, is_bad_length, inbox_now, all_entries, outbox_of, number_end}
-use Rattle.pair_core.specs.Pair.{Pair, shown_state}
-use Rattle.pair_core.specs.Kept.{IsKept}
-use Rattle.pair_core.proofs.Kept.{live_is, live_waiting, outbox_is}
-use Rattle.pair_core.proofs.Events.{step_done, cut_done, ack_done, admit_done, deliver_done, full_done, take_done, leaving}
+use Rattle.pair_core.specs.Invariant.{Holds}
+use Rattle.pair_core.specs.Pair.{Pair, shown_state, live_state, AfterRefusal}
+use Rattle.pair_core.specs.Protocol.{Record, Outcome, Row, MayWantMemory, outcome, first_refusal, or_else, unless, refused, exhausts, is_among, is_bad_length, step_outcome, step_outcome_at, step_refusals, step_done, cut_refusals, cut_done, outbox_of, ack_outcome_at, admit_outcome_at, admit_first, admit_refusals, admit_done, client_refusals, deliver_outcome_at, deliver_refusals, take_outcome_at, take_refusals, delivery_refused, deliver_done, backup_done, again_done, commit_done}
+use Rattle.pair_core.proofs.Consistent.{live_is, live_waiting, outbox_is}
+use Rattle.pair_core.proofs.RecordLaws.{passed, is_below}
 
-le_yes : (a b : ℕ) → a ≤ b → nat_le a b ≡ true
-le_yes a b h = grind (arith, nat_tests)
+-- a table decides
+pub stops : (r : Record) (rows : List Row) (done : Outcome) (o : Option Refusal) (why : Refusal) → o ≡ first_refusal rows → o ≡ Some why → refused r why ≡ unless r rows done
+stops r rows done o why e f = ap (λ x. or_else x (refused r) done) (sym f ∙ e)
 
-le_no : (a b : ℕ) → b < a → nat_le a b ≡ false
-le_no a b h = grind (arith, nat_tests)
+pub goes : (r : Record) (rows : List Row) (done : Outcome) (o : Option Refusal) → o ≡ first_refusal rows → o ≡ None → done ≡ unless r rows done
+goes r rows done o e f = ap (λ x. or_else x (refused r) done) (sym f ∙ e)
 
-lt_yes : (a b : ℕ) → a < b → nat_lt a b ≡ true
-lt_yes a b h = grind (arith, nat_tests)
+pub all_stop : (r : Record) (rows : List Row) (done out : Outcome) (o : Option Refusal) → o ≡ first_refusal rows → unless r rows done ≡ out → IfSome o (λ why. refused r why ≡ out)
+all_stop r rows done out None e f = tt
+all_stop r rows done out (Some why) e f = stops r rows done (Some why) why e refl ∙ f
 
-lt_no : (a b : ℕ) → b ≤ a → nat_lt a b ≡ false
-lt_no a b h = grind (arith, nat_tests)
+-- an empty list has no first element, another has one
+pub no_first : {A : Type 0} (xs : List A) → length xs ≡ 0 → slice_get xs 0 ≡ None
+no_first [] e = refl
+no_first (x ∷ xs) e = absurd (omega arith)
 
--- a choice whose test is known
-chosen : {A : Type 0} (t : Bool) (x y : A) → t ≡ true → cond t x y ≡ x
-chosen t x y e = ap (λ b. cond b x y) e
+pub some_first : {A : Type 0} (xs : List A) → (length xs ≡ 0 → ⊥) → (x : A) × (slice_get xs 0 ≡ Some x)
+some_first [] h = absurd (h refl)
+some_first (x ∷ xs) h = (x, refl)
 
-other : {A : Type 0} (t : Bool) (x y : A) → t ≡ false → cond t x y ≡ y
-other t x y e = ap (λ b. cond b x y) e
+-- a client's number, by a table that didn't refuse it
+pub client_range : (c count : ℕ) → not (is_among c count) ≡ false → (1 ≤ c) × (c ≤ count)
+client_range c count e = grind (arith, nat_tests)
 
-module _ (w : Pair) (h : IsKept w) where
-  abbrev the_record : Record
-  the_record = w.protocol
+-- a frame's length, likewise
+pub frame_range : (bytes : List ℕ) → is_bad_length (length bytes) ≡ false → IsFrame (record { items = bytes })
+frame_range bytes e = grind (arith, nat_tests)
 
-  size_is : length (outbox_of w.start w.protocol) ≡ length w.outbox
-  size_is = ap length (outbox_is w h)
+pub inbox_full : (n : ℕ) → nat_le INBOX_FRAMES n ≡ true → INBOX_FRAMES ≤ n
+inbox_full n e = grind (arith, nat_tests)
 
-  pub step_full : 192 < length w.outbox → refused w.protocol CutNeeded ≡ step_outcome w.start w.protocol
-  step_full l =
-      let more : 192 < length (outbox_of w.start w.protocol) = let e = size_is in omega arith in
-      sym (chosen _ _ _ (lt_yes 192 (length (outbox_of w.start w.protocol)) more))
+-- of a full inbox the rows before don't apply
+pub full_rows : (a b c d e : Bool) → first_refusal ((a, NoClient) ∷ (b, BadFrame) ∷ (c, Exhausted) ∷ (d, Full) ∷ (e, Exhausted) ∷ []) ≡ Some Full → (a ≡ false) × (b ≡ false) × (d ≡ true)
+full_rows true b c d e p = absurd (cc)
+full_rows false true c d e p = absurd (cc)
+full_rows false false true d e p = absurd (cc)
+full_rows false false false true e p = (refl, refl, refl)
+full_rows false false false false true p = absurd (cc)
+full_rows false false false false false p = absurd (cc)
 
-  pub step_exhausted : length w.outbox ≤ 192 → number_end ≤ length (all_entries w.protocol) + 1 → refused w.protocol Exhausted ≡ step_outcome w.start w.protocol
-  step_exhausted l m =
-      let few : length (outbox_of w.start w.protocol) ≤ 192 = let e = size_is in omega arith in
-      sym (other _ _ _ (lt_no 192 (length (outbox_of w.start w.protocol)) few) ∙ chosen _ _ _ (le_yes number_end (length (all_entries w.protocol) + 1) m))
+-- WHAT AN EVENT LOOKS AT
 
-  pub step_goes : length w.outbox ≤ 192 → length (all_entries w.protocol) + 1 < number_end → (replies.Steps (next w.live).steps, (step_done w).protocol) ≡ step_outcome w.start w.protocol
-  step_goes l m =
-      let few : length (outbox_of w.start w.protocol) ≤ 192 = let e = size_is in omega arith in
-      ap (λ (g : Guest). (replies.Steps (next g).steps, (step_done w).protocol)) (sym (live_is w h))
-      ∙ sym (other _ _ _ (lt_no 192 (length (outbox_of w.start w.protocol)) few) ∙ other _ _ _ (le_no number_end (length (all_entries w.protocol) + 1) m))
+module _ (w : Pair) (h : Holds w) where
+  pub step_sight : step_outcome_at w.nodes.live.outbox (next w.nodes.live.guest).steps w.protocol ≡ step_outcome w.start w.protocol
+  step_sight =
+      ap (λ (fs : List Frame). step_outcome_at fs (next w.nodes.live.guest).steps w.protocol) (sym (outbox_is w h))
+      ∙ ap (λ (g : Guest). step_outcome_at (outbox_of w.start w.protocol) (next g).steps w.protocol) (sym (live_is w h))
 
-  pub cut_behind : 4 ≤ length w.protocol.pending → refused w.protocol Behind ≡ cut_outcome w.start w.protocol
-  cut_behind l = sym (chosen _ _ _ (le_yes 4 (length w.protocol.pending) l))
+  pub cut_sight : unless w.protocol (cut_refusals w.protocol) (cut_done w.nodes.live.outbox w.protocol) ≡ unless w.protocol (cut_refusals w.protocol) (cut_done (outbox_of w.start w.protocol) w.protocol)
+  cut_sight = ap (λ (fs : List Frame). unless w.protocol (cut_refusals w.protocol) (cut_done fs w.protocol)) (sym (outbox_is w h))
 
-  pub cut_exhausted : length w.protocol.pending < 4 → number_end ≤ w.protocol.to_cut → refused w.protocol Exhausted ≡ cut_outcome w.start w.protocol
-  cut_exhausted l m = sym (other _ _ _ (le_no 4 (length w.protocol.pending) l) ∙ chosen _ _ _ (le_yes number_end w.protocol.to_cut m))
+  pub ack_sight : (o : Option Packet) → ack_outcome_at w.ports.boxes w.protocol o ≡ ack_outcome_at (shown_state w).boxes w.protocol o
+  ack_sight o = ap (λ (b : List (List Frame)). ack_outcome_at b w.protocol o) h.clients.boxes
 
-  pub cut_goes : length w.protocol.pending < 4 → w.protocol.to_cut < number_end → (replies.Cut w.protocol.generation w.protocol.to_cut, (cut_done w).protocol) ≡ cut_outcome w.start w.protocol
-  cut_goes l m =
-      ap (λ (o : List Frame). (
-        replies.Cut w.protocol.generation w.protocol.to_cut,
-        record w.protocol {
-          kept = w.protocol.kept ++ w.protocol.running ∷ [];
-          running = [];
-          to_cut = w.protocol.to_cut + 1;
-          pending = w.protocol.pending ++ record { number = w.protocol.to_cut; frames = o } ∷ [];
-        },
-      )) (sym (outbox_is w h))
-      ∙ sym (other _ _ _ (le_no 4 (length w.protocol.pending) l) ∙ other _ _ _ (le_no number_end w.protocol.to_cut m))
+  pub take_sight : (c : ℕ) → take_outcome_at w.ports.boxes w.protocol c ≡ take_outcome_at (shown_state w).boxes w.protocol c
+  take_sight c = ap (λ (b : List (List Frame)). take_outcome_at b w.protocol c) h.clients.boxes
 
-  differ : (a b : ℕ) → a ≢ b → not (a == b) ≡ true
-  differ a b e = grind (arith, nat_tests)
+  inbox_is : (c : ℕ) → 1 ≤ c → c ≤ length w.ports.boxes → list_of w.ports.inboxes c ≡ inbox_of c (live_state w).waiting
+  inbox_is c low high = h.clients.inboxes c low high ∙ ap (inbox_of c) (sym (live_waiting w h))
 
-  agree : (a b : ℕ) → a ≡ b → not (a == b) ≡ false
-  agree a b e = ap not (eq-eqb a b e)
+  -- where no client has the number, what would wait of it doesn't count
+  pub admit_sight : (c : ℕ) → admit_outcome_at (length w.ports.boxes) (list_of w.ports.inboxes c) w.protocol c ≡ admit_outcome_at (length (shown_state w).boxes) (inbox_of c (live_state w).waiting) w.protocol c
+  admit_sight c =
+      by_test (not (is_among c (length w.ports.boxes))) refl
+      ∙ ap (λ (b : List (List Frame)). admit_outcome_at (length b) (inbox_of c (live_state w).waiting) w.protocol c) h.clients.boxes
+    where
+      by_test : (t : Bool) → not (is_among c (length w.ports.boxes)) ≡ t
+          → unless w.protocol ((t, NoClient) ∷ []) (admit_first w.protocol (slice_get (list_of w.ports.inboxes c) 0))
+          ≡ unless w.protocol ((t, NoClient) ∷ []) (admit_first w.protocol (slice_get (inbox_of c (live_state w).waiting) 0))
+      by_test true e = refl
+      by_test false e =
+          let range = client_range c (length w.ports.boxes) e in
+          ap (λ xs. admit_first w.protocol (slice_get xs 0)) (inbox_is c range.0 range.1)
 
-  module _ (p : Packet) where
-    pub backup_stale : p.generation ≢ w.protocol.generation → refused w.protocol Stale ≡ backup_outcome w.protocol (Some p)
-    backup_stale e = sym (chosen _ _ _ (differ p.generation w.protocol.generation e))
+  -- the table of a delivery, by its first test
+  abbrev at_rows : ℕ → List ℕ → Bool → List (ℕ × Frame) → Outcome
+  at_rows c bytes t inbox =
+      or_else (first_refusal ((t, NoClient) ∷ (is_bad_length (length bytes), BadFrame) ∷ (exhausts w.protocol 1, Exhausted) ∷ (nat_le INBOX_FRAMES (length inbox), Full) ∷ (nat_le NUMBER_LIMIT (shown_state w).number, Exhausted) ∷ []))
+      (delivery_refused w.protocol c (record { items = bytes })) (deliver_done w.protocol c (record { items = bytes }) (shown_state w).number)
 
-    pub backup_gap : p.generation ≡ w.protocol.generation → w.protocol.to_commit < p.number → refused w.protocol Gap ≡ backup_outcome w.protocol (Some p)
-    backup_gap e l = sym (other _ _ _ (agree p.generation w.protocol.generation e) ∙ chosen _ _ _ (lt_yes w.protocol.to_commit p.number l))
+  pub deliver_sight : (c : ℕ) (bytes : List ℕ)
+      → deliver_outcome_at (length w.ports.boxes) (list_of w.ports.inboxes c) w.ports.next w.protocol c bytes
+      ≡ deliver_outcome_at (length (shown_state w).boxes) (inbox_of c (live_state w).waiting) (shown_state w).number w.protocol c bytes
+  deliver_sight c bytes =
+      ap (λ (n : ℕ). deliver_outcome_at (length w.ports.boxes) (list_of w.ports.inboxes c) n w.protocol c bytes) h.clients.number
+      ∙ by_test (not (is_among c (length w.ports.boxes))) refl
+      ∙ ap (λ (b : List (List Frame)). deliver_outcome_at (length b) (inbox_of c (live_state w).waiting) (shown_state w).number w.protocol c bytes) h.clients.boxes
+    where
+      by_test : (t : Bool) → not (is_among c (length w.ports.boxes)) ≡ t → at_rows c bytes t (list_of w.ports.inboxes c) ≡ at_rows c bytes t (inbox_of c (live_state w).waiting)
+      by_test true e = refl
+      by_test false e =
+          let range = client_range c (length w.ports.boxes) e in
+          ap (at_rows c bytes false) (inbox_is c range.0 range.1)
 
-    pub backup_again : p.generation ≡ w.protocol.generation → p.number < w.protocol.to_commit → again_outcome w.protocol ≡ backup_outcome w.protocol (Some p)
-    backup_again e l = sym (other _ _ _ (agree p.generation w.protocol.generation e) ∙ other _ _ _ (lt_no w.protocol.to_commit p.number (omega arith)) ∙ chosen _ _ _ (lt_yes p.number w.protocol.to_commit l))
+  -- ADMIT, step by step: the client, the inbox, the table
+  module _ (c : ℕ) (client : Option Refusal) (is : client ≡ first_refusal (client_refusals (length w.ports.boxes) c)) (none : client ≡ None) where
+    admits : (o : Option (ℕ × Frame)) → slice_get (list_of w.ports.inboxes c) 0 ≡ o → admit_first w.protocol o ≡ outcome w.start w.protocol (Admit c)
+    admits o e =
+        ap (admit_first w.protocol) (sym e)
+        ∙ goes w.protocol (client_refusals (length w.ports.boxes) c) (admit_first w.protocol (slice_get (list_of w.ports.inboxes c) 0)) client is none
+        ∙ admit_sight c
 
-    pub backup_commits : p.generation ≡ w.protocol.generation → p.number ≡ w.protocol.to_commit → commit_outcome w.protocol ≡ backup_outcome w.protocol (Some p)
-    backup_commits e n =
-        sym (other _ _ _ (agree p.generation w.protocol.generation e) ∙ other _ _ _ (lt_no w.protocol.to_commit p.number (omega arith)) ∙ other _ _ _ (lt_no p.number w.protocol.to_commit (omega arith)))
+    pub admit_empty : length (list_of w.ports.inboxes c) ≡ 0 → (replies.Empty, w.protocol) ≡ outcome w.start w.protocol (Admit c)
+    admit_empty e = admits None (no_first (list_of w.ports.inboxes c) e)
 
-    leaving_is : targets_of (length (shown_state w).boxes) (frames_to p.number w.protocol.pending) ≡ leaving w p.number
-    leaving_is = ap (λ (b : List (List Frame)). targets_of (length b) (frames_to p.number w.protocol.pending)) (sym h.boxes)
+    module _ (some : length (list_of w.ports.inboxes c) ≡ 0 → ⊥) (o : Option Refusal) (row : o ≡ first_refusal (admit_refusals w.protocol)) where
+      pub admit_stops : (why : Refusal) → o ≡ Some why → refused w.protocol why ≡ outcome w.start w.protocol (Admit c)
+      admit_stops why e =
+          let first = some_first (list_of w.ports.inboxes c) some in
+          stops w.protocol (admit_refusals w.protocol) (admit_done w.protocol first.0.0) o why row e ∙ admits (Some first.0) first.1
 
-    pub ack_stale : p.generation ≢ w.protocol.generation → refused w.protocol Stale ≡ ack_outcome w.start w.protocol (Some p)
-    ack_stale e = sym (chosen _ _ _ (differ p.generation w.protocol.generation e))
+      pub admit_goes : (n : ℕ) (f : Frame) → slice_get (list_of w.ports.inboxes c) 0 ≡ Some (n, f) → o ≡ None → admit_done w.protocol n ≡ outcome w.start w.protocol (Admit c)
+      admit_goes n f first e = goes w.protocol (admit_refusals w.protocol) (admit_done w.protocol n) o row e ∙ admits (Some (n, f)) first
 
-    pub ack_exhausted : p.generation ≡ w.protocol.generation → number_end ≤ length (all_entries w.protocol) + length (leaving w p.number) → refused w.protocol Exhausted ≡ ack_outcome w.start w.protocol (Some p)
-    ack_exhausted e l =
-        let is = ap length leaving_is in
-        sym (other _ _ _ (agree p.generation w.protocol.generation e) ∙ chosen _ _ _ (le_yes number_end (length (all_entries w.protocol) + length (targets_of (length (shown_state w).boxes) (frames_to p.number w.protocol.pending))) (omega arith)))
+      pub admit_wants : o ≡ None → MayWantMemory (outcome w.start w.protocol (Admit c)).0
+      admit_wants e =
+          let first = some_first (list_of w.ports.inboxes c) some in
+          subst (λ (x : Outcome). MayWantMemory x.0) (admit_goes first.0.0 first.0.1 first.1 e) tt
 
-    pub ack_goes : p.generation ≡ w.protocol.generation → length (all_entries w.protocol) + length (leaving w p.number) < number_end → (replies.Acked w.protocol.generation p.number (put_count w.boxes (leaving w p.number)), (ack_done w p.number).protocol) ≡ ack_outcome w.start w.protocol (Some p)
-    ack_goes e l =
-        let is = ap length leaving_is in
-        ap (λ (b : List (List Frame)).
-        let ps = targets_of (length b) (frames_to p.number w.protocol.pending) in (
-          replies.Acked w.protocol.generation p.number (put_count b ps),
-          record w.protocol {
-            history = w.protocol.history ++ landings b ps;
-            to_acknowledge = cond (nat_le w.protocol.to_acknowledge p.number) (p.number + 1) w.protocol.to_acknowledge;
-            pending = after_number p.number w.protocol.pending;
-          },
-        )) h.boxes
-        ∙ sym (other _ _ _ (agree p.generation w.protocol.generation e) ∙ other _ _ _ (le_no number_end (length (all_entries w.protocol) + length (targets_of (length (shown_state w).boxes) (frames_to p.number w.protocol.pending))) (omega arith)))
+  -- DELIVER, by its table
+  module _ (c : ℕ) (bytes : List ℕ) (o : Option Refusal)
+      (row : o ≡ first_refusal (deliver_refusals (length w.ports.boxes) (list_of w.ports.inboxes c) w.ports.next w.protocol c bytes)) where
+    by_table : (x : Option Refusal) → o ≡ x
+        → or_else x (delivery_refused w.protocol c (record { items = bytes })) (deliver_done w.protocol c (record { items = bytes }) w.ports.next)
+        ≡ deliver_outcome_at (length (shown_state w).boxes) (inbox_of c (live_state w).waiting) (shown_state w).number w.protocol c bytes
+    by_table x e =
+        ap (λ (y : Option Refusal). or_else y (delivery_refused w.protocol c (record { items = bytes })) (deliver_done w.protocol c (record { items = bytes }) w.ports.next)) (sym e ∙ row)
+        ∙ deliver_sight c bytes
 
-  client_yes : (c n : ℕ) → 1 ≤ c → c ≤ n → not (is_among c n) ≡ false
-  client_yes c n l m = ap (λ (t : Bool). not (t && nat_le c n)) (le_yes 1 c l) ∙ ap not (le_yes c n m)
+    pub deliver_goes : o ≡ None → deliver_done w.protocol c (record { items = bytes }) w.ports.next
+        ≡ deliver_outcome_at (length (shown_state w).boxes) (inbox_of c (live_state w).waiting) (shown_state w).number w.protocol c bytes
+    deliver_goes = by_table None
 
-  -- the tests of a client's number, by the boxes
-  pub not_client : (c : ℕ) → is_among c (length w.boxes) ≡ false → not (is_among c (length (shown_state w).boxes)) ≡ true
-  not_client c e = ap (λ (b : List (List Frame)). not (is_among c (length b))) (sym h.boxes) ∙ ap not e
+    pub deliver_full : o ≡ Some Full → delivery_refused w.protocol c (record { items = bytes }) Full
+        ≡ deliver_outcome_at (length (shown_state w).boxes) (inbox_of c (live_state w).waiting) (shown_state w).number w.protocol c bytes
+    deliver_full = by_table (Some Full)
 
-  pub one_client : (c : ℕ) → 1 ≤ c → c ≤ length w.boxes → not (is_among c (length (shown_state w).boxes)) ≡ false
-  one_client c l m = ap (λ (b : List (List Frame)). not (is_among c (length b))) (sym h.boxes) ∙ client_yes c (length w.boxes) l m
+    pub deliver_stops : (why : Refusal) → (why ≡ Full → ⊥) → o ≡ Some why → refused w.protocol why
+        ≡ deliver_outcome_at (length (shown_state w).boxes) (inbox_of c (live_state w).waiting) (shown_state w).number w.protocol c bytes
+    deliver_stops why other e = other_refusal why other ∙ by_table (Some why) e
+      where
+        other_refusal : (why : Refusal) → (why ≡ Full → ⊥) → refused w.protocol why ≡ delivery_refused w.protocol c (record { items = bytes }) why
+        other_refusal Full n = absurd (n refl)
+        other_refusal BadFrame n = refl
+        other_refusal NoClient n = refl
+        other_refusal Behind n = refl
+        other_refusal Stale n = refl
+        other_refusal Gap n = refl
+        other_refusal NoMemory n = refl
+        other_refusal CutNeeded n = refl
+        other_refusal Exhausted n = refl
 
-  module _ (c : ℕ) where
-    pub take_none : is_among c (length w.boxes) ≡ false → refused w.protocol NoClient ≡ take_outcome w.start w.protocol c
-    take_none e = sym (chosen _ _ _ (not_client c e))
-
-    pub admit_none : is_among c (length w.boxes) ≡ false → refused w.protocol NoClient ≡ admit_outcome w.start w.protocol c
-    admit_none e = sym (chosen _ _ _ (not_client c e))
-
-    pub deliver_none : (bytes : List ℕ) → is_among c (length w.boxes) ≡ false → refused w.protocol NoClient ≡ deliver_outcome w.start w.protocol c bytes
-    deliver_none bytes e = sym (chosen _ _ _ (not_client c e))
-
-    module _ (low : 1 ≤ c) (high : c ≤ length w.boxes) where
-      pub take_exhausted : number_end ≤ length (all_entries w.protocol) + 1 → refused w.protocol Exhausted ≡ take_outcome w.start w.protocol c
-      take_exhausted k = sym (other _ _ _ (one_client c low high) ∙ chosen _ _ _ (le_yes number_end (length (all_entries w.protocol) + 1) k))
-
-      pub take_goes : length (all_entries w.protocol) + 1 < number_end → (replies.Took (slice_get (list_of w.boxes c) 0), (take_done w c).protocol) ≡ take_outcome w.start w.protocol c
-      take_goes k =
-          ap (λ (b : List (List Frame)). (replies.Took (slice_get (list_of b c) 0), record w.protocol { history = w.protocol.history ++ Took c (slice_get (list_of b c) 0) ∷ [] })) h.boxes
-          ∙ sym (other _ _ _ (one_client c low high) ∙ other _ _ _ (le_no number_end (length (all_entries w.protocol) + 1) k))
-
-      inbox_is : inbox_now w.start w.protocol c ≡ list_of w.inboxes c
-      inbox_is = ap (inbox_of c) (live_waiting w h) ∙ sym (h.inboxes c low high)
-
-      -- Admit
-
-      first_is : (first : Option (ℕ × Frame)) → slice_get (list_of w.inboxes c) 0 ≡ first → admit_first w.protocol first ≡ admit_outcome w.start w.protocol c
-      first_is first e = sym (other _ _ _ (one_client c low high) ∙ ap (λ xs. admit_first w.protocol (slice_get xs 0)) inbox_is ∙ ap (admit_first w.protocol) e)
-
-      pub admit_empty : slice_get (list_of w.inboxes c) 0 ≡ None → (replies.Empty, w.protocol) ≡ admit_outcome w.start w.protocol c
-      admit_empty e = first_is None e
-
-      module _ (n : ℕ) (f : Frame) (first : slice_get (list_of w.inboxes c) 0 ≡ Some (n, f)) where
-        pub admit_exhausted : number_end ≤ length (all_entries w.protocol) + 1 → refused w.protocol Exhausted ≡ admit_outcome w.start w.protocol c
-        admit_exhausted k = sym (chosen _ _ _ (le_yes number_end (length (all_entries w.protocol) + 1) k)) ∙ first_is (Some (n, f)) first
-
-        pub admit_goes : length (all_entries w.protocol) + 1 < number_end → (replies.Admitted n, (admit_done w c n f).protocol) ≡ admit_outcome w.start w.protocol c
-        admit_goes k = sym (other _ _ _ (le_no number_end (length (all_entries w.protocol) + 1) k)) ∙ first_is (Some (n, f)) first
-
-      -- Deliver
-
-      module _ (bytes : List ℕ) where
-        pub deliver_bad : is_bad_length (length bytes) ≡ true → refused w.protocol BadFrame ≡ deliver_outcome w.start w.protocol c bytes
-        deliver_bad e = sym (other _ _ _ (one_client c low high) ∙ chosen _ _ _ e)
-
-        module _ (good : is_bad_length (length bytes) ≡ false) where
-          pub deliver_exhausted : number_end ≤ length (all_entries w.protocol) + 1 → refused w.protocol Exhausted ≡ deliver_outcome w.start w.protocol c bytes
-          deliver_exhausted k = sym (other _ _ _ (one_client c low high) ∙ other _ _ _ good ∙ chosen _ _ _ (le_yes number_end (length (all_entries w.protocol) + 1) k))
-
-          module _ (room : length (all_entries w.protocol) + 1 < number_end) where
-            no_end : nat_le number_end (length (all_entries w.protocol) + 1) ≡ false
-            no_end = le_no number_end (length (all_entries w.protocol) + 1) room
-
-            long_is : length (inbox_now w.start w.protocol c) ≡ length (list_of w.inboxes c)
-            long_is = ap length inbox_is
-
-            pub deliver_full : INBOX_FRAMES ≤ length (list_of w.inboxes c) → (replies.Refused Full, (full_done w c (record { items = bytes })).protocol) ≡ deliver_outcome w.start w.protocol c bytes
-            deliver_full l =
-                let e = long_is in
-                sym (other _ _ _ (one_client c low high) ∙ other _ _ _ good ∙ other _ _ _ no_end ∙ chosen _ _ _ (le_yes INBOX_FRAMES (length (inbox_now w.start w.protocol c)) (omega arith)))
-
-            pub deliver_numbered : length (list_of w.inboxes c) < INBOX_FRAMES → number_end ≤ w.number → refused w.protocol Exhausted ≡ deliver_outcome w.start w.protocol c bytes
-            deliver_numbered l k =
-                let e = long_is in
-                let n = h.number in
-                sym (other _ _ _ (one_client c low high) ∙ other _ _ _ good ∙ other _ _ _ no_end ∙ other _ _ _ (le_no INBOX_FRAMES (length (inbox_now w.start w.protocol c)) (omega arith))
-                ∙ chosen _ _ _ (le_yes number_end (shown_state w).number (omega arith)))
-
-            pub deliver_goes : length (list_of w.inboxes c) < INBOX_FRAMES → w.number < number_end → (replies.Delivered w.number, (deliver_done w c (record { items = bytes })).protocol) ≡ deliver_outcome w.start w.protocol c bytes
-            deliver_goes l k =
-                let e = long_is in
-                let n = h.number in
-                ap (λ (m : ℕ). (replies.Delivered m, record w.protocol { history = w.protocol.history ++ entries.Delivered c (record { items = bytes }) m ∷ [] })) h.number
-                ∙ sym (other _ _ _ (one_client c low high) ∙ other _ _ _ good ∙ other _ _ _ no_end ∙ other _ _ _ (le_no INBOX_FRAMES (length (inbox_now w.start w.protocol c)) (omega arith))
-                ∙ other _ _ _ (le_no number_end (shown_state w).number (omega arith)))
+  -- a refusal that left all as it was
+  pub after_none : (why : Refusal) → AfterRefusal why w w
+  after_none Full = refl
+  after_none BadFrame = refl
+  after_none NoClient = refl
+  after_none Behind = refl
+  after_none Stale = refl
+  after_none Gap = refl
+  after_none NoMemory = refl
+  after_none CutNeeded = refl
+  after_none Exhausted = refl

@@ -1,24 +1,28 @@
 -- What so many steps of the guest leave, and what the protocol answers to them.
-use Rattle.std.proofs.Common.{◌≡◌, ℕ, zero, suc, ◌+◌, ◌<◌, ◌≤◌, List, [], ◌∷◌, ◌++◌, length, replicate, refl, sym, ap, ◌∙◌, subst, arith, append_assoc, Bool, true, false, cond, Result, Ok, Err, OnErr}
-use Rattle.std.specs.Prelude.{nat_lt}
+use Rattle.std.proofs.Common.{◌≡◌, ℕ, zero, suc, ◌+◌, ◌<◌, ◌≤◌, List, [], ◌∷◌, ◌++◌, length, replicate, refl, sym, ap, ◌∙◌, subst, arith, append_assoc, Bool, true, false, cond, Option, None, Some, Result, Ok, Err, OnErr}
+use Rattle.std.specs.Prelude.{nat_lt, nat_le}
 use Rattle.std.proofs.lemmas.Bool.Decides.{nat_tests}
+use Rattle.std.proofs.lemmas.List.{append-nil, length-append, length-replicate}
 use Rattle.guest_machine.specs.Guest.{Guest}
 use Rattle.guest_machine.specs.Step.{next, sent}
-use Rattle.guest_machine.specs.Runs.{after_steps, sent_in, HaveRoom}
+use Rattle.guest_machine.specs.Runs.{after_steps, sent_in, marked_in, HaveRoom}
+use Rattle.frame_ports.specs.declared.limits.TheConstants.{NUMBER_LIMIT}
+use Rattle.pair_history.specs.Entries.{Frame, Ran}
+use Rattle.pair_history.specs.HistoryState.{HistoryState, Waiting}
+use Rattle.pair_history.specs.Moves.{Move, Steps, entries_of, guest_along, frames_along, left, AllCan}
 use Rattle.pair_core.specs.declared.event.Refusal.{Refusal}
 use Rattle.pair_core.specs.declared.event.Refusal.TheVariants.{CutNeeded, Exhausted}
 use Rattle.pair_core.specs.declared.event.Reply.TheVariants as replies
-use Rattle.pair_core.specs.Entries.{Frame, Ran}
-use Rattle.pair_core.specs.HistoryState.{HistoryState, at}
-use Rattle.pair_core.specs.Protocol.{Record, Outcome, joined, all_entries, outbox_of, step_room, exhausts, refused, stepped_outcome, step_outcome, step_reply, number_end}
-use Rattle.pair_core.specs.Pair.{Pair}
-use Rattle.pair_core.specs.Kept.{IsKept}
+use Rattle.pair_core.specs.Invariant.{AreClients, Holds}
+use Rattle.pair_core.specs.Journal.{Journal, joined, all_entries, with_running}
+use Rattle.pair_core.specs.Nodes.{after_run}
+use Rattle.pair_core.specs.Pair.{Pair, shown_state}
+use Rattle.pair_core.specs.Protocol.{Record, Outcome, first_refusal, or_else, unless, refused, live_at, exhausts, step_refusals, step_done, step_outcome, step_reply, outbox_of}
 use Rattle.pair_core.specs.Runs.{goes_on, steps_outcome, with_steps}
-use Rattle.pair_core.proofs.States.{append-nil}
-use Rattle.pair_core.proofs.Epochs.{length-append'}
-use Rattle.pair_core.proofs.Kept.{live_is}
-use Rattle.pair_core.proofs.Events.{step_done, step_kept}
-use Rattle.pair_core.proofs.Outcomes.{step_goes}
+use Rattle.pair_core.proofs.Consistent.{live_is}
+use Rattle.pair_core.proofs.Events.{left_now, moves_hold}
+use Rattle.pair_core.proofs.JournalLaws.{length-all}
+use Rattle.pair_core.proofs.Outcomes.{goes, step_sight}
 
 -- Runs of the guest alone
 
@@ -30,17 +34,14 @@ none-sent : (g : Guest) → sent_in 0 g ≡ []
 unfolding sent_in
 none-sent g = refl
 
+none-marked : (g : Guest) (ds : List ℕ) → marked_in 0 g ds ≡ ds
+unfolding marked_in
+none-marked g ds = refl
+
 after_steps-last : (n : ℕ) (g : Guest) → after_steps (suc n) g ≡ next (after_steps n g)
 unfolding after_steps
 after_steps-last zero g = refl
 after_steps-last (suc n) g = after_steps-last n (next g)
-
-sent_in-last : (n : ℕ) (g : Guest) → sent_in (suc n) g ≡ sent_in n g ++ sent (after_steps n g)
-unfolding after_steps sent_in
-sent_in-last zero g = append-nil (sent g)
-sent_in-last (suc n) g =
-    ap (λ (rest : List Frame). sent g ++ rest) (sent_in-last n (next g))
-    ∙ sym (append_assoc (sent g) (sent_in n (next g)) (sent (after_steps n (next g))))
 
 -- the last of several steps has room, and so have those before it
 room-last : (n : ℕ) (g : Guest) (o : List Frame) → HaveRoom (suc n) g o → length (o ++ sent_in n g) ≤ 192
@@ -55,64 +56,69 @@ unfolding HaveRoom
 room-before zero g o room = tt
 room-before (suc n) g o room = (room.0, room-before n (next g) (o ++ sent g) room.1)
 
+-- They are moves
+
+entries-steps : (n : ℕ) → replicate n Ran ≡ entries_of (replicate n Steps)
+entries-steps zero = refl
+entries-steps (suc n) = ap (λ t. Ran ∷ t) (entries-steps n)
+
+guest-steps : (n : ℕ) (g : Guest) → after_steps n g ≡ guest_along g (replicate n Steps)
+unfolding after_steps
+guest-steps zero g = refl
+guest-steps (suc n) g = guest-steps n (next g)
+
+frames-steps : (n : ℕ) (g : Guest) → sent_in n g ≡ frames_along g (replicate n Steps)
+unfolding sent_in
+frames-steps zero g = refl
+frames-steps (suc n) g = ap (λ t. sent g ++ t) (frames-steps n (next g))
+
+can-steps : (n : ℕ) (ws : List Waiting) → AllCan ws (replicate n Steps)
+can-steps zero ws = tt
+can-steps (suc n) ws = (tt, can-steps n ws)
+
+left-steps : (n : ℕ) (ws : List Waiting) → left ws (replicate n Steps) ≡ ws
+left-steps zero ws = refl
+left-steps (suc n) ws = left-steps n ws
+
 -- What they leave
+
+pub steps_hold : (n : ℕ) (w : Pair) → Holds w → Holds (with_steps n w)
+steps_hold n w h =
+    moves_hold w h (replicate n Steps) (replicate n Ran) (after_run n w.nodes).live w.ports.inboxes (entries-steps n)
+    (guest-steps n w.nodes.live.guest)
+    (ap (λ t. w.nodes.live.outbox ++ t) (frames-steps n w.nodes.live.guest))
+    (can-steps n (left_now w h))
+    (subst (λ (ws : List Waiting). AreClients (shown_state w) ws w.ports) (sym (left-steps n (left_now w h))) h.clients)
 
 replicate-last : (n : ℕ) → replicate (suc n) Ran ≡ replicate n Ran ++ Ran ∷ []
 replicate-last zero = refl
 replicate-last (suc n) = ap (λ t. Ran ∷ t) (replicate-last n)
 
-pub replicate-append : (n m : ℕ) → replicate n Ran ++ replicate m Ran ≡ replicate (n + m) Ran
-replicate-append zero m = let e : m ≡ 0 + m = omega arith in ap (λ k. replicate k Ran) e
-replicate-append (suc n) m =
-    let e : suc (n + m) ≡ suc n + m = omega arith in
-    ap (λ t. Ran ∷ t) (replicate-append n m) ∙ ap (λ k. replicate k Ran) e
-
-pub length-replicate : (n : ℕ) → length (replicate n Ran) ≡ n
-length-replicate zero = refl
-length-replicate (suc n) = ap suc (length-replicate n)
-
 pub with_no_steps : (w : Pair) → with_steps 0 w ≡ w
 with_no_steps w = λ i. record w {
-  protocol = record w.protocol { running = append-nil w.protocol.running i };
-  live = no-steps w.live i;
-  outbox = (ap (λ (t : List Frame). w.outbox ++ t) (none-sent w.live) ∙ append-nil w.outbox) i;
+  protocol = record w.protocol { journal = record w.protocol.journal { running = append-nil w.protocol.journal.running i } };
+  nodes = record w.nodes {
+    live = record {
+      guest = no-steps w.nodes.live.guest i;
+      outbox = (ap (λ (t : List Frame). w.nodes.live.outbox ++ t) (none-sent w.nodes.live.guest) ∙ append-nil w.nodes.live.outbox) i;
+      dirty = none-marked w.nodes.live.guest w.nodes.live.dirty i;
+    };
+  };
 }
 
-pub with_steps-last : (n : ℕ) (w : Pair) → with_steps (suc n) w ≡ step_done (with_steps n w)
-with_steps-last n w =
-    let ran = w.protocol.running in
-    let g = w.live in
-    λ i. record w {
-      protocol = record w.protocol {
-        running = (ap (λ t. ran ++ t) (replicate-last n) ∙ sym (append_assoc ran (replicate n Ran) (Ran ∷ []))) i;
-      };
-      live = after_steps-last n g i;
-      outbox =
-          (ap (λ t. w.outbox ++ t) (sent_in-last n g) ∙ sym (append_assoc w.outbox (sent_in n g) (sent (after_steps n g)))) i;
-    }
-
 -- each step is one entry more
-pub steps-counted : (n : ℕ) (w : Pair) → length (all_entries (with_steps n w).protocol) ≡ length (all_entries w.protocol) + n
+pub steps-counted : (n : ℕ) (w : Pair) → length (all_entries (with_steps n w).protocol.journal) ≡ length (all_entries w.protocol.journal) + n
 steps-counted n w =
-    let r = w.protocol in
-    let ran = r.running ++ replicate n Ran in
-    let e1 = length-append' r.history (joined r.kept ++ ran) in
-    let e2 = length-append' (joined r.kept) ran in
-    let e3 = length-append' r.running (replicate n Ran) in
-    let e4 = length-replicate n in
-    let f1 = length-append' r.history (joined r.kept ++ r.running) in
-    let f2 = length-append' (joined r.kept) r.running in
+    let j = w.protocol.journal in
+    let e1 = length-all (with_running j (replicate n Ran)) in
+    let e2 = length-append j.running (replicate n Ran) in
+    let e3 = length-replicate n Ran in
+    let e4 = length-all j in
     omega arith
-
-pub steps_kept : (n : ℕ) (w : Pair) → IsKept w → length (all_entries w.protocol) + n < number_end → IsKept (with_steps n w)
-steps_kept zero w h room = subst IsKept (sym (with_no_steps w)) h
-steps_kept (suc n) w h room =
-    let e = steps-counted n w in
-    subst IsKept (sym (with_steps-last n w)) (step_kept (with_steps n w) (steps_kept n w h (omega arith)) (omega arith))
 
 -- What is answered
 
-no-steps-answered : (start : HistoryState) (r : Record) → steps_outcome start r 0 ≡ (replies.Steps (at start (all_entries r)).guest.steps, r)
+no-steps-answered : (start : HistoryState) (r : Record) → steps_outcome start r 0 ≡ (replies.Steps (live_at start r).guest.steps, r)
 unfolding steps_outcome
 no-steps-answered start r = refl
 
@@ -127,21 +133,40 @@ pub one-step-answered : (start : HistoryState) (r : Record) → steps_outcome st
 unfolding steps_outcome
 one-step-answered start r = refl
 
+-- where the outbox and the history have room, no row applies
+none_applies : (r : Record) (outbox : List Frame) → length outbox ≤ 192 → length (all_entries r.journal) + 1 < NUMBER_LIMIT → first_refusal (step_refusals outbox r) ≡ None
+none_applies r outbox few room = λ i. cond (no_lt 192 (length outbox) few i) (Some CutNeeded) (cond (no_le NUMBER_LIMIT (length (all_entries r.journal) + 1) room i) (Some Exhausted) None)
+  where
+    no_lt : (a b : ℕ) → b ≤ a → nat_lt a b ≡ false
+    no_lt a b l = grind (arith, nat_tests)
+
+    no_le : (a b : ℕ) → b < a → nat_le a b ≡ false
+    no_le a b l = grind (arith, nat_tests)
+
+step_goes : (w : Pair) → Holds w → length w.nodes.live.outbox ≤ 192 → length (all_entries w.protocol.journal) + 1 < NUMBER_LIMIT
+    → step_done (next w.nodes.live.guest).steps w.protocol ≡ step_outcome w.start w.protocol
+step_goes w h few room =
+    goes w.protocol (step_refusals w.nodes.live.outbox w.protocol) (step_done (next w.nodes.live.guest).steps w.protocol) None (sym (none_applies w.protocol w.nodes.live.outbox few room)) refl
+    ∙ step_sight w h
+
 pub steps_answered :
-    (n : ℕ) (w : Pair) → IsKept w → length (all_entries w.protocol) + n < number_end → HaveRoom n w.live w.outbox
-    → (replies.Steps (after_steps n w.live).steps, (with_steps n w).protocol) ≡ steps_outcome w.start w.protocol n
+    (n : ℕ) (w : Pair) → Holds w → length (all_entries w.protocol.journal) + n < NUMBER_LIMIT → HaveRoom n w.nodes.live.guest w.nodes.live.outbox
+    → (replies.Steps (after_steps n w.nodes.live.guest).steps, (with_steps n w).protocol) ≡ steps_outcome w.start w.protocol n
 steps_answered zero w h fits room =
-    ap (λ (g : Guest). (replies.Steps g.steps, (with_steps 0 w).protocol)) (no-steps w.live ∙ sym (live_is w h))
-    ∙ ap (λ (v : Pair). (replies.Steps (at w.start (all_entries w.protocol)).guest.steps, v.protocol)) (with_no_steps w)
+    ap (λ (g : Guest). (replies.Steps g.steps, (with_steps 0 w).protocol)) (no-steps w.nodes.live.guest ∙ sym (live_is w h))
+    ∙ ap (λ (v : Pair). (replies.Steps (live_at w.start w.protocol).guest.steps, v.protocol)) (with_no_steps w)
     ∙ sym (no-steps-answered w.start w.protocol)
 steps_answered (suc n) w h fits room =
     let v = with_steps n w in
+    let g = w.nodes.live.guest in
+    let ran = w.protocol.journal.running in
     let e = steps-counted n w in
-    let kept = steps_kept n w h (omega arith) in
-    let before = steps_answered n w h (omega arith) (room-before n w.live w.outbox room) in
-    ap (λ (g : Guest). (replies.Steps g.steps, (with_steps (suc n) w).protocol)) (after_steps-last n w.live)
-    ∙ ap (λ (u : Pair). (replies.Steps (next (after_steps n w.live)).steps, u.protocol)) (with_steps-last n w)
-    ∙ step_goes v kept (room-last n w.live w.outbox room) (omega arith)
+    let before = steps_answered n w h (omega arith) (room-before n g w.nodes.live.outbox room) in
+    (λ i. (
+      replies.Steps (after_steps-last n g i).steps,
+      record w.protocol { journal = record w.protocol.journal { running = (ap (λ t. ran ++ t) (replicate-last n) ∙ sym (append_assoc ran (replicate n Ran) (Ran ∷ []))) i } },
+    ))
+    ∙ step_goes v (steps_hold n w h) (room-last n g w.nodes.live.outbox room) (omega arith)
     ∙ ap (λ (o : Outcome). goes_on w.start o.0 o.1) before
     ∙ sym (more-answered w.start w.protocol n)
 
@@ -173,22 +198,18 @@ module _ (start : HistoryState) (r r' : Record) (n k : ℕ) (why : Refusal)
 -- A refused step changes nothing
 
 refused_stays : (start : HistoryState) (r r' : Record) (why : Refusal) → refused r' why ≡ step_outcome start r → r' ≡ r
-refused_stays start r r' why e =
-    by_tests (nat_lt step_room (length (outbox_of start r))) (exhausts r 1) e
+refused_stays start r r' why e = by_refusal (first_refusal (step_refusals (outbox_of start r) r)) e
   where
-    by_tests :
-        (t u : Bool) → refused r' why ≡ cond t (refused r CutNeeded) (cond u (refused r Exhausted) (stepped_outcome start r))
-        → r' ≡ r
-    by_tests true u e = ap (λ (o : Outcome). o.1) e
-    by_tests false true e = ap (λ (o : Outcome). o.1) e
-    by_tests false false e =
-        let clash : replies.Refused why ≡ replies.Steps (next (at start (all_entries r)).guest).steps = ap (λ (o : Outcome). o.0) e in
+    by_refusal : (o : Option Refusal) → refused r' why ≡ or_else o (refused r) (step_done (next (live_at start r).guest).steps r) → r' ≡ r
+    by_refusal (Some x) e = ap (λ (o : Outcome). o.1) e
+    by_refusal None e =
+        let clash : replies.Refused why ≡ replies.Steps (next (live_at start r).guest).steps = ap (λ (o : Outcome). o.0) e in
         cc
 
 none-made : (n : ℕ) (w : Pair) → (with_steps n w).protocol ≡ w.protocol → n ≡ 0
 none-made n w e =
     let c = steps-counted n w in
-    let same = ap (λ (r : Record). length (all_entries r)) e in
+    let same = ap (λ (r : Record). length (all_entries r.journal)) e in
     omega arith
 
 pub refused_step :

@@ -1,273 +1,284 @@
 -- The pair protocol: what each event is answered and what it leaves, over a record that holds no machine, page or byte.
-use Rattle.std.specs.Prelude.{◌≡◌, ℕ, ◌+◌, ◌-◌, ◌^◌, ◌==◌, ◌&&◌, ◌||◌, not, nat_lt, nat_le, Bool, if◌then◌else◌, List, [], ◌∷◌, ◌++◌, length, map, slice_get, Option, None, Some, Result, Ok, Err, ◌⊎◌}
-use Rattle.guest_machine.specs.Step.{next, sent}
+-- An event has a table of refusals, in which the first row whose test holds decides; else it is done: `X_done` is its reply, with
+-- the record after it, and the only place that spells them. What it looks at beside the record (the frames that the guest sent
+-- along the running epoch, its step count, the clients' boxes and inboxes) is an argument, and `outcome` gives what the history
+-- says of it.
+use Rattle.std.specs.Prelude.{◌≡◌, ℕ, ◌+◌, ◌-◌, ◌<◌, ◌==◌, ◌&&◌, ◌||◌, not, nat_lt, nat_le, Bool, if◌then◌else◌, List, [], ◌∷◌, ◌++◌, length, map, slice_get, Option, None, Some, Result, Ok, Err, ◌⊎◌}
+use Rattle.guest_machine.specs.Step.{next}
 use Rattle.frame_ports.specs.Addresses.{targets_of}
-use Rattle.frame_ports.specs.Lands.{list_of, has_room, landed_at, put_count}
-use Rattle.frame_ports.specs.declared.limits.TheConstants.{MIN_FRAME, MAX_FRAME, INBOX_FRAMES, BOX_FRAMES}
+use Rattle.frame_ports.specs.Lands.{list_of, put_count}
+use Rattle.frame_ports.specs.declared.limits.TheConstants.{MIN_FRAME, MAX_FRAME, INBOX_FRAMES, NUMBER_LIMIT}
 use Rattle.output_gate.specs.Epochs.{Epoch, frames_to, after_number}
-use Rattle.pair_core.specs.Entries.{Frame, Entry, Ran, Arrive, Delivered, Land, DropOut, Took}
-use Rattle.pair_core.specs.Entries as entries
-use Rattle.pair_core.specs.HistoryState.{HistoryState, at, after, inbox_of}
+use Rattle.pair_history.specs.Entries.{Frame, Entry, Ran, Arrive, Delivered, Took}
+use Rattle.pair_history.specs.Entries as entries
+use Rattle.pair_history.specs.HistoryState.{HistoryState, at, inbox_of, sent_along}
+use Rattle.pair_history.specs.Landings.{landings}
 use Rattle.pair_core.specs.declared.event.Event.{Event}
 use Rattle.pair_core.specs.declared.event.Event.TheVariants.{Step, Cut, Send, BackupGet, AckGet, Admit, Deliver, Take}
+use Rattle.pair_core.specs.declared.event.Mode.{Mode}
 use Rattle.pair_core.specs.declared.event.Packet.{Packet}
 use Rattle.pair_core.specs.declared.event.Refusal.{Refusal}
 use Rattle.pair_core.specs.declared.event.Refusal.TheVariants.{Full, BadFrame, NoClient, Behind, Stale, Gap, NoMemory, CutNeeded, Exhausted}
 use Rattle.pair_core.specs.declared.event.Reply.{Reply}
 use Rattle.pair_core.specs.declared.event.Reply.TheVariants as replies
-
-abbrev pub packet : ℕ → ℕ → Packet
-packet generation number = record { generation = generation; number = number }
-
--- the packet of a pending checkpoint
-abbrev pub packet_of : ℕ → Epoch → Packet
-packet_of generation e = packet generation e.number
+use Rattle.pair_core.specs.declared.limits.TheConstants.{MOST_PENDING, STEP_ROOM}
+use Rattle.pair_core.specs.declared.window.Window.{Window}
+use Rattle.pair_core.specs.Journal.{Journal, joined, all_entries, with_history, with_running, sealed_off, committed}
+use Rattle.pair_core.specs.Lines.{Lines, packet, packet_of, with_forward, with_back}
+use Rattle.pair_core.specs.Window.{with_cut, with_commit, with_acknowledged}
 
 pub record Record : Type 0 where
-  pub history : List Entry
-  -- the sealed epochs whose checkpoints no commit has covered yet, the oldest first
-  pub kept : List (List Entry)
-  -- the epoch that runs
-  pub running : List Entry
+  pub mode : Mode
   pub generation : ℕ
+  pub journal : Journal
   -- the numbers of the next checkpoint to be cut, to be committed, to be acknowledged
-  pub to_cut : ℕ
-  pub to_commit : ℕ
-  pub to_acknowledge : ℕ
+  pub window : Window
+  pub lines : Lines
   -- each pending checkpoint's number with the frames that the guest sent along its epoch
   pub pending : List Epoch
-  -- what was sent on the line to the backup, and on the line back
-  pub packets : List Packet
-  pub answers : List Packet
-
--- lists, one after another
-abbrev pub joined : List (List Entry) → List Entry
-joined [] = []
-joined (es ∷ ess) = es ++ joined ess
-
--- what is kept and doesn't stand in the history yet
-abbrev pub kept_entries : Record → List Entry
-kept_entries r = joined r.kept ++ r.running
-
--- the history followed by what is kept
-abbrev pub all_entries : Record → List Entry
-all_entries r = r.history ++ kept_entries r
-
--- the frames that the guest sends along these entries
-abbrev pub sent_by : HistoryState → Entry → List Frame
-sent_by s Ran = sent s.guest
-sent_by s (Arrive n) = []
-sent_by s (Delivered c f n) = []
-sent_by s (entries.Refused c f) = []
-sent_by s (Land c) = []
-sent_by s (DropOut c place) = []
-sent_by s (Took c answer) = []
-
-abbrev pub sent_along : HistoryState → List Entry → List Frame
-sent_along s [] = []
-sent_along s (e ∷ es) = sent_by s e ++ sent_along (after s e) es
-
--- the frames that the guest sent along the epoch that runs
-abbrev pub outbox_of : HistoryState → Record → List Frame
-outbox_of start r = sent_along (at start (r.history ++ joined r.kept)) r.running
-
--- how many frames the outbox may hold for a step, how many checkpoints may be pending, and where numbers end
-abbrev pub step_room : ℕ
-step_room = 192
-
-abbrev pub most_pending : ℕ
-most_pending = 4
-
-abbrev pub number_end : ℕ
-number_end = 2 ^ 62
-
--- that many more entries would be too many for the history
-abbrev pub exhausts : Record → ℕ → Bool
-exhausts r more = nat_le number_end (length (all_entries r) + more)
 
 -- An answer, and the record after it.
 abbrev pub Outcome : Type 0
 Outcome = Reply × Record
 
+-- The rows of a table of refusals, in order: a test, and the refusal where it holds.
+abbrev pub Row : Type 0
+Row = Bool × Refusal
+
+-- the first refusal whose test holds
+abbrev pub first_refusal : List Row → Option Refusal
+first_refusal [] = None
+first_refusal (row ∷ rows) = if row.0 then Some row.1 else first_refusal rows
+
 -- a refusal changes nothing
 abbrev pub refused : Record → Refusal → Outcome
 refused r why = (replies.Refused why, r)
 
--- the guest makes one step
-abbrev pub stepped_outcome : HistoryState → Record → Outcome
-stepped_outcome start r = (
-  replies.Steps (next (at start (all_entries r)).guest).steps,
-  record r { running = r.running ++ Ran ∷ [] },
-)
+-- the refusal, or else what is done
+abbrev pub or_else : Option Refusal → (Refusal → Outcome) → Outcome → Outcome
+or_else None refuse done = done
+or_else (Some why) refuse done = refuse why
 
-abbrev pub step_outcome : HistoryState → Record → Outcome
-step_outcome start r =
-    if nat_lt step_room (length (outbox_of start r)) then refused r CutNeeded
-    else if exhausts r 1 then refused r Exhausted
-    else stepped_outcome start r
+-- an event that these rows refuse, and that else is done so
+abbrev pub unless : Record → List Row → Outcome → Outcome
+unless r rows done = or_else (first_refusal rows) (refused r) done
 
--- the running epoch is sealed, and its checkpoint is pending under the next number
-abbrev pub sealed_outcome : HistoryState → Record → Outcome
-sealed_outcome start r = (
-  replies.Cut r.generation r.to_cut,
-  record r {
-    kept = r.kept ++ r.running ∷ [];
-    running = [];
-    to_cut = r.to_cut + 1;
-    pending = r.pending ++ record { number = r.to_cut; frames = outbox_of start r } ∷ [];
-  },
-)
-
-abbrev pub cut_outcome : HistoryState → Record → Outcome
-cut_outcome start r =
-    if nat_le most_pending (length r.pending) then refused r Behind
-    else if nat_le number_end r.to_cut then refused r Exhausted
-    else sealed_outcome start r
-
--- one packet for each pending checkpoint, rising
-abbrev pub send_outcome : Record → Outcome
-send_outcome r =
-    (replies.Sent (length r.pending), record r { packets = r.packets ++ map (packet_of r.generation) r.pending })
-
-abbrev pub first_kept : List (List Entry) → List Entry
-first_kept [] = []
-first_kept (es ∷ ess) = es
-
-abbrev pub later_kept : List (List Entry) → List (List Entry)
-later_kept [] = []
-later_kept (es ∷ ess) = ess
-
--- the last committed checkpoint is acknowledged again
-abbrev pub again_outcome : Record → Outcome
-again_outcome r = (
-  replies.Again r.generation (r.to_commit - 1),
-  record r { answers = r.answers ++ packet r.generation (r.to_commit - 1) ∷ [] },
-)
-
--- the next checkpoint is committed and acknowledged: its epoch moves to the history
-abbrev pub commit_outcome : Record → Outcome
-commit_outcome r = (
-  replies.Committed r.generation r.to_commit,
-  record r {
-    history = r.history ++ first_kept r.kept;
-    kept = later_kept r.kept;
-    to_commit = r.to_commit + 1;
-    answers = r.answers ++ packet r.generation r.to_commit ∷ [];
-  },
-)
-
-abbrev pub backup_outcome : Record → Option Packet → Outcome
-backup_outcome r None = (replies.Lost, r)
-backup_outcome r (Some p) =
-    if not (p.generation == r.generation) then refused r Stale
-    else if nat_lt r.to_commit p.number then refused r Gap
-    else if nat_lt p.number r.to_commit then again_outcome r
-    else commit_outcome r
-
--- what each frame that leaves the gate for a client adds: it lands, or is dropped at a full box
-abbrev pub landings : List (List Frame) → List (ℕ × Frame) → List Entry
-landings boxes [] = []
-landings boxes (p ∷ ps) =
-    (if has_room boxes p.0 then Land p.0 else DropOut p.0 BOX_FRAMES) ∷ landings (landed_at boxes p.0 p.1) ps
-
--- the frames that an acknowledgement of checkpoint n lets go, each with its clients
-abbrev pub let_go : HistoryState → Record → ℕ → List (ℕ × Frame)
-let_go start r n = targets_of (length (at start r.history).boxes) (frames_to n r.pending)
-
--- pending checkpoints up to that number leave, and their frames land
-abbrev pub acked : HistoryState → Record → Packet → Outcome
-acked start r p =
-    let boxes = (at start r.history).boxes in
-    let leaving = let_go start r p.number in (
-      replies.Acked r.generation p.number (put_count boxes leaving),
-      record r {
-        history = r.history ++ landings boxes leaving;
-        to_acknowledge = if nat_le r.to_acknowledge p.number then p.number + 1 else r.to_acknowledge;
-        pending = after_number p.number r.pending;
-      },
-    )
-
-abbrev pub ack_outcome : HistoryState → Record → Option Packet → Outcome
-ack_outcome start r None = (replies.Lost, r)
-ack_outcome start r (Some p) =
-    if not (p.generation == r.generation) then refused r Stale
-    else if exhausts r (length (let_go start r p.number)) then refused r Exhausted
-    else acked start r p
+-- that many more entries would be too many for the history
+abbrev pub exhausts : Record → ℕ → Bool
+exhausts r more = nat_le NUMBER_LIMIT (length (all_entries r.journal) + more)
 
 -- whether that many clients have one of this number
 abbrev pub is_among : ℕ → ℕ → Bool
 is_among c count = nat_le 1 c && nat_le c count
 
--- how many clients there are
-abbrev pub client_count : HistoryState → Record → ℕ
-client_count start r = length (at start r.history).boxes
+-- STEP
 
--- the frames of client c that wait behind all that is kept
-abbrev pub inbox_now : HistoryState → Record → ℕ → List (ℕ × Frame)
-inbox_now start r c = inbox_of c (at start (all_entries r)).waiting
+abbrev pub step_refusals : List Frame → Record → List Row
+step_refusals outbox r = (nat_lt STEP_ROOM (length outbox), CutNeeded) ∷ (exhausts r 1, Exhausted) ∷ []
+
+-- the guest makes one step, its `steps`th
+abbrev pub step_done : ℕ → Record → Outcome
+step_done steps r = (replies.Steps steps, record r { journal = with_running r.journal (Ran ∷ []) })
+
+abbrev pub step_outcome_at : List Frame → ℕ → Record → Outcome
+step_outcome_at outbox steps r = unless r (step_refusals outbox r) (step_done steps r)
+
+-- CUT
+
+abbrev pub cut_refusals : Record → List Row
+cut_refusals r = (nat_le MOST_PENDING (length r.pending), Behind) ∷ (nat_le NUMBER_LIMIT r.window.to_cut, Exhausted) ∷ []
+
+-- the running epoch, along which the guest sent these frames, is sealed, and its checkpoint is pending under the next number
+abbrev pub cut_done : List Frame → Record → Outcome
+cut_done outbox r = (
+  replies.Cut r.generation r.window.to_cut,
+  record r {
+    journal = sealed_off r.journal;
+    window = with_cut r.window;
+    pending = r.pending ++ record { number = r.window.to_cut; frames = outbox } ∷ [];
+  },
+)
+
+-- SEND
+
+-- one packet for each pending checkpoint, rising
+abbrev pub send_done : Record → Outcome
+send_done r =
+    (replies.Sent (length r.pending), record r { lines = with_forward r.lines (map (packet_of r.generation) r.pending) })
+
+-- BACKUPGET
+
+abbrev pub backup_refusals : Record → Packet → List Row
+backup_refusals r p = (not (p.generation == r.generation), Stale) ∷ (nat_lt r.window.to_commit p.number, Gap) ∷ []
+
+-- the last committed checkpoint is acknowledged again
+abbrev pub again_done : Record → Outcome
+again_done r =
+    let last = r.window.to_commit - 1 in
+    (replies.Again r.generation last, record r { lines = with_back r.lines (packet r.generation last) })
+
+-- the next checkpoint is committed and acknowledged: its epoch moves to the history
+abbrev pub commit_done : Record → Outcome
+commit_done r = (
+  replies.Committed r.generation r.window.to_commit,
+  record r {
+    journal = committed r.journal;
+    window = with_commit r.window;
+    lines = with_back r.lines (packet r.generation r.window.to_commit);
+  },
+)
+
+abbrev pub backup_done : Record → Packet → Outcome
+backup_done r p = if nat_lt p.number r.window.to_commit then again_done r else commit_done r
+
+abbrev pub backup_outcome : Record → Option Packet → Outcome
+backup_outcome r None = (replies.Lost, r)
+backup_outcome r (Some p) = unless r (backup_refusals r p) (backup_done r p)
+
+-- ACKGET
+
+-- the frames that leave the gate at that number, each with its clients, where these are the boxes
+abbrev pub let_go : List (List Frame) → Record → ℕ → List (ℕ × Frame)
+let_go boxes r n = targets_of (length boxes) (frames_to n r.pending)
+
+abbrev pub ack_refusals : List (List Frame) → Record → Packet → List Row
+ack_refusals boxes r p = (not (p.generation == r.generation), Stale) ∷ (exhausts r (length (let_go boxes r p.number)), Exhausted) ∷ []
+
+-- the checkpoints up to that number are no longer pending, and their frames land
+abbrev pub ack_done : List (List Frame) → Record → ℕ → Outcome
+ack_done boxes r n =
+    let leaving = let_go boxes r n in (
+      replies.Acked r.generation n (put_count boxes leaving),
+      record r {
+        journal = with_history r.journal (landings boxes leaving);
+        window = with_acknowledged n r.window;
+        pending = after_number n r.pending;
+      },
+    )
+
+abbrev pub ack_outcome_at : List (List Frame) → Record → Option Packet → Outcome
+ack_outcome_at boxes r None = (replies.Lost, r)
+ack_outcome_at boxes r (Some p) = unless r (ack_refusals boxes r p) (ack_done boxes r p.number)
+
+-- ADMIT: of so many clients, where these frames of client c wait
+
+abbrev pub client_refusals : ℕ → ℕ → List Row
+client_refusals count c = (not (is_among c count), NoClient) ∷ []
+
+abbrev pub admit_refusals : Record → List Row
+admit_refusals r = (exhausts r 1, Exhausted) ∷ []
 
 -- the first frame of the client's inbox arrives at the guest, in the epoch that runs
-abbrev pub admitted_outcome : Record → ℕ → Outcome
-admitted_outcome r n = (replies.Admitted n, record r { running = r.running ++ Arrive n ∷ [] })
+abbrev pub admit_done : Record → ℕ → Outcome
+admit_done r n = (replies.Admitted n, record r { journal = with_running r.journal (Arrive n ∷ []) })
 
 abbrev pub admit_first : Record → Option (ℕ × Frame) → Outcome
 admit_first r None = (replies.Empty, r)
-admit_first r (Some first) = if exhausts r 1 then refused r Exhausted else admitted_outcome r first.0
+admit_first r (Some first) = unless r (admit_refusals r) (admit_done r first.0)
 
-abbrev pub admit_outcome : HistoryState → Record → ℕ → Outcome
-admit_outcome start r c =
-    if not (is_among c (client_count start r)) then refused r NoClient
-    else admit_first r (slice_get (inbox_now start r c) 0)
+abbrev pub admit_outcome_at : ℕ → List (ℕ × Frame) → Record → ℕ → Outcome
+admit_outcome_at count inbox r c = unless r (client_refusals count c) (admit_first r (slice_get inbox 0))
+
+-- DELIVER: of so many clients, where these frames of client c wait and the next frame gets this number
 
 -- whether so many bytes are no frame
 abbrev pub is_bad_length : ℕ → Bool
 is_bad_length n = nat_lt n MIN_FRAME || nat_lt MAX_FRAME n
 
--- the frame waits for the guest under the next number
-abbrev pub delivered_outcome : HistoryState → Record → ℕ → Frame → Outcome
-delivered_outcome start r c f =
-    let n = (at start r.history).number in
-    (replies.Delivered n, record r { history = r.history ++ Delivered c f n ∷ [] })
+abbrev pub deliver_refusals : ℕ → List (ℕ × Frame) → ℕ → Record → ℕ → List ℕ → List Row
+deliver_refusals count inbox number r c bytes =
+    (not (is_among c count), NoClient)
+    ∷ (is_bad_length (length bytes), BadFrame)
+    ∷ (exhausts r 1, Exhausted)
+    ∷ (nat_le INBOX_FRAMES (length inbox), Full)
+    ∷ (nat_le NUMBER_LIMIT number, Exhausted)
+    ∷ []
 
--- too many frames of the client wait: that is all that is recorded
-abbrev pub full_outcome : Record → ℕ → Frame → Outcome
-full_outcome r c f = (replies.Refused Full, record r { history = r.history ++ entries.Refused c f ∷ [] })
+-- a full inbox: that is recorded, and that is all. The other refusals change nothing
+abbrev pub delivery_refused : Record → ℕ → Frame → Refusal → Outcome
+delivery_refused r c f Full = (replies.Refused Full, record r { journal = with_history r.journal (entries.Refused c f ∷ []) })
+delivery_refused r c f BadFrame = refused r BadFrame
+delivery_refused r c f NoClient = refused r NoClient
+delivery_refused r c f Behind = refused r Behind
+delivery_refused r c f Stale = refused r Stale
+delivery_refused r c f Gap = refused r Gap
+delivery_refused r c f NoMemory = refused r NoMemory
+delivery_refused r c f CutNeeded = refused r CutNeeded
+delivery_refused r c f Exhausted = refused r Exhausted
 
-abbrev pub deliver_outcome : HistoryState → Record → ℕ → List ℕ → Outcome
-deliver_outcome start r c bytes =
-    if not (is_among c (client_count start r)) then refused r NoClient
-    else if is_bad_length (length bytes) then refused r BadFrame
-    else if exhausts r 1 then refused r Exhausted
-    else if nat_le INBOX_FRAMES (length (inbox_now start r c)) then full_outcome r c (record { items = bytes })
-    else if nat_le number_end (at start r.history).number then refused r Exhausted
-    else delivered_outcome start r c (record { items = bytes })
+-- the frame waits for the guest under that number
+abbrev pub deliver_done : Record → ℕ → Frame → ℕ → Outcome
+deliver_done r c f n = (replies.Delivered n, record r { journal = with_history r.journal (Delivered c f n ∷ []) })
+
+abbrev pub deliver_outcome_at : ℕ → List (ℕ × Frame) → ℕ → Record → ℕ → List ℕ → Outcome
+deliver_outcome_at count inbox number r c bytes =
+    let f : Frame = record { items = bytes } in
+    or_else (first_refusal (deliver_refusals count inbox number r c bytes)) (delivery_refused r c f) (deliver_done r c f number)
+
+-- TAKE
+
+abbrev pub take_refusals : ℕ → Record → ℕ → List Row
+take_refusals count r c = (not (is_among c count), NoClient) ∷ (exhausts r 1, Exhausted) ∷ []
 
 -- the first frame of the client's box, or none
-abbrev pub taken_outcome : HistoryState → Record → ℕ → Outcome
-taken_outcome start r c =
-    let first = slice_get (list_of (at start r.history).boxes c) 0 in
-    (replies.Took first, record r { history = r.history ++ Took c first ∷ [] })
+abbrev pub take_done : List (List Frame) → Record → ℕ → Outcome
+take_done boxes r c =
+    let first = slice_get (list_of boxes c) 0 in
+    (replies.Took first, record r { journal = with_history r.journal (Took c first ∷ []) })
 
-abbrev pub take_outcome : HistoryState → Record → ℕ → Outcome
-take_outcome start r c =
-    if not (is_among c (client_count start r)) then refused r NoClient
-    else if exhausts r 1 then refused r Exhausted
-    else taken_outcome start r c
+abbrev pub take_outcome_at : List (List Frame) → Record → ℕ → Outcome
+take_outcome_at boxes r c = unless r (take_refusals (length boxes) r c) (take_done boxes r c)
+
+-- WHAT THE HISTORY SAYS of what an event looks at
+
+-- the state that clients see, and the one after all that is kept
+abbrev pub shown_at : HistoryState → Record → HistoryState
+shown_at start r = at start r.journal.history
+
+abbrev pub live_at : HistoryState → Record → HistoryState
+live_at start r = at start (all_entries r.journal)
+
+-- the frames that the guest sent along the epoch that runs
+abbrev pub outbox_of : HistoryState → Record → List Frame
+outbox_of start r = sent_along (at start (r.journal.history ++ joined r.journal.sealed)) r.journal.running
+
+abbrev pub step_outcome : HistoryState → Record → Outcome
+step_outcome start r = step_outcome_at (outbox_of start r) (next (live_at start r).guest).steps r
 
 abbrev pub outcome : HistoryState → Record → Event → Outcome
 outcome start r Step = step_outcome start r
-outcome start r Cut = cut_outcome start r
-outcome start r Send = send_outcome r
-outcome start r (BackupGet k) = backup_outcome r (slice_get r.packets k)
-outcome start r (AckGet k) = ack_outcome start r (slice_get r.answers k)
-outcome start r (Admit c) = admit_outcome start r c
-outcome start r (Deliver c bytes) = deliver_outcome start r c bytes.now
-outcome start r (Take c) = take_outcome start r c
+outcome start r Cut = unless r (cut_refusals r) (cut_done (outbox_of start r) r)
+outcome start r Send = send_done r
+outcome start r (BackupGet k) = backup_outcome r (slice_get r.lines.forward k)
+outcome start r (AckGet k) = ack_outcome_at (shown_at start r).boxes r (slice_get r.lines.back k)
+outcome start r (Admit c) = admit_outcome_at (length (shown_at start r).boxes) (inbox_of c (live_at start r).waiting) r c
+outcome start r (Deliver c bytes) =
+    deliver_outcome_at (length (shown_at start r).boxes) (inbox_of c (live_at start r).waiting) (shown_at start r).number r c bytes.now
+outcome start r (Take c) = take_outcome_at (shown_at start r).boxes r c
+
+-- WANT OF MEMORY
+
+-- An event that the protocol answers so may want memory first: it adds to the history, to a line, or to what is sealed or kept. A
+-- step doesn't, nor does one that changes nothing.
+abbrev pub MayWantMemory : Reply → Type 0
+MayWantMemory (replies.Steps count) = ⊥
+MayWantMemory (replies.Cut generation number) = Unit {0}
+MayWantMemory (replies.Sent count) = 0 < count
+MayWantMemory (replies.Committed generation number) = Unit {0}
+MayWantMemory (replies.Again generation number) = Unit {0}
+MayWantMemory replies.Lost = ⊥
+MayWantMemory (replies.Acked generation number landed) = Unit {0}
+MayWantMemory (replies.Admitted number) = Unit {0}
+MayWantMemory replies.Empty = ⊥
+MayWantMemory (replies.Delivered number) = Unit {0}
+MayWantMemory (replies.Took frame) = Unit {0}
+MayWantMemory (replies.Refused why) = why ≡ Full
 
 -- From the record old an event may be answered reply and leave new: by the protocol, or for want of memory with nothing changed.
 abbrev pub Answers : HistoryState → Record → Event → Reply → Record → Type 0
 Answers start old event reply new =
-    ((reply, new) ≡ outcome start old event) ⊎ ((reply ≡ replies.Refused NoMemory) × (new ≡ old))
+    ((reply, new) ≡ outcome start old event)
+    ⊎ (MayWantMemory (outcome start old event).0 × (reply ≡ replies.Refused NoMemory) × (new ≡ old))
 
 -- what a step answers, as a reply
 abbrev pub step_reply : Result ℕ Refusal → Reply

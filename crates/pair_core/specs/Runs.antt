@@ -1,12 +1,13 @@
 -- Whole runs: of events, and of the guest's steps.
 use Rattle.std.specs.Prelude.{◌≡◌, ℕ, zero, suc, List, [], ◌∷◌, ◌++◌, replicate}
-use Rattle.guest_machine.specs.Runs.{after_steps, sent_in}
 use Rattle.pair_core.specs.declared.event.Event.{Event}
 use Rattle.pair_core.specs.declared.event.Reply.{Reply}
 use Rattle.pair_core.specs.declared.event.Reply.TheVariants as replies
-use Rattle.pair_core.specs.Entries.{Ran}
-use Rattle.pair_core.specs.HistoryState.{HistoryState, at}
-use Rattle.pair_core.specs.Protocol.{Record, Outcome, Answers, all_entries, refused, step_outcome}
+use Rattle.pair_history.specs.Entries.{Ran}
+use Rattle.pair_history.specs.HistoryState.{HistoryState}
+use Rattle.pair_core.specs.Journal.{with_running}
+use Rattle.pair_core.specs.Nodes.{after_run}
+use Rattle.pair_core.specs.Protocol.{Record, Outcome, Answers, live_at, refused, step_outcome}
 use Rattle.pair_core.specs.Pair.{Pair}
 
 -- These events, one after another, may be answered so, and lead from the record old to new.
@@ -24,7 +25,7 @@ goes_on start reply r = step_outcome start r
 -- so many steps, one after another: the answer is the last one's, or the first refusal. No step at all answers the step count
 -- as it is
 unfoldable pub steps_outcome : HistoryState → Record → ℕ → Outcome
-steps_outcome start r zero = (replies.Steps (at start (all_entries r)).guest.steps, r)
+steps_outcome start r zero = (replies.Steps (live_at start r).guest.steps, r)
 steps_outcome start r (suc n) =
     let before = steps_outcome start r n in
     goes_on start before.0 before.1
@@ -32,7 +33,6 @@ steps_outcome start r (suc n) =
 -- the pair after n steps of its live guest
 abbrev pub with_steps : ℕ → Pair → Pair
 with_steps n w = record w {
-  protocol = record w.protocol { running = w.protocol.running ++ replicate n Ran };
-  live = after_steps n w.live;
-  outbox = w.outbox ++ sent_in n w.live;
+  protocol = record w.protocol { journal = with_running w.protocol.journal (replicate n Ran) };
+  nodes = after_run n w.nodes;
 }

@@ -5,18 +5,21 @@
 //! of the specs, whose part `protocol` is the pair protocol's record.
 #![tactic(auto)]
 
+mod epochs;
 mod event;
-mod history;
+mod frames;
+mod journal;
 mod landings;
-mod laws;
-mod packets;
-mod sealed;
+mod limits;
+mod lines;
+mod nodes;
+mod record;
 #[cfg(test)]
 mod tests;
+mod window;
 mod world;
 
-pub use event::{Event, Frame, Mode, Packet, Refusal, Reply, Show};
+pub use event::{Event, Mode, Packet, Refusal, Reply, Show};
 pub use guest_machine::{SECTOR_BYTES, Shape};
-pub use history::{Entry, History};
-pub use laws::released_frames_were_sent;
+pub use pair_history::{Entry, Frame, History, released_frames_were_sent};
 pub use world::World;

@@ -1,51 +1,23 @@
 //! The pair as one value, and what each event does to it.
-ghost use Rattle.std.specs.Prelude.{◌≡◌, ℕ, ◌+◌, ◌-◌, ◌*◌, ◌^◌, ◌≤◌, ◌<◌, ◌++◌, ◌∷◌, [], length, IfOk, IfErr, OnOk, OnErr, IsOkUnless, IsTrue, slice_get, nat_le, if◌then◌else◌};
+ghost use Rattle.std.specs.Prelude.{◌≡◌, ℕ, ◌+◌, ◌*◌, ◌≤◌, ◌<◌, length, IfOk, IfErr, IfSome, IfNone, OnErr};
 
-use crate::event::{Event, Frame, Mode, Packet, Refusal, Reply, Show};
-use crate::history::{Entry, History};
-use crate::landings::{add_landings, count_landings};
-use crate::packets::{packet_at, send_all, send_one};
-use crate::sealed::{Arrival, Sealed, add_epoch, seal};
-use frame_ports::{INBOX_FRAMES, MAX_FRAME, MIN_FRAME, Ports};
-use guest_machine::{Machine, SECTOR_BYTES, Shape};
-use output_gate::Gate;
-use std::alloc::Global;
+use crate::event::{Event, Refusal, Reply, Show};
+use crate::nodes::Nodes;
+use crate::record::PairRecord;
+use guest_machine::{SECTOR_BYTES, Shape};
+use pair_history::History;
+use std::alloc::{AllocError, Global};
 use std::marker::Model;
 
-/// The only generation: no failure has come.
-const GENERATION: u64 = 1;
-
-/// How many checkpoints may be pending.
-const MOST_PENDING: u64 = 4;
-
-/// Numbers are below this.
-const NUMBER_END: u64 = 1 << 62;
-
-/// A step needs 64 free places of the 256 in the outbox.
-const STEP_ROOM: usize = 192;
-
-/// A protected pair: the primary's live machine, the backup's image, the lines between them, the gate and the clients'
-/// ports, and the history of all that happened. Contracts see it as a `Pair` of the specs.
+/// A protected pair: its record, and the machines of its two nodes. Contracts see it as a `Pair` of the specs.
 #[derive(Drop)]
 pub struct World {
     alloc: Global,
     boot_image: Vec<u8>,
     shape: Shape,
     clients: u64,
-    live: Machine,
-    image: Machine,
-    sealed: Vec<Sealed>,
-    arrivals: Vec<Arrival>,
-    running: u64,
-    kept: u64,
-    to_cut: u64,
-    to_commit: u64,
-    to_acknowledge: u64,
-    packets: Vec<Packet>,
-    answers: Vec<Packet>,
-    gate: Gate,
-    ports: Ports,
-    history: History,
+    record: PairRecord,
+    nodes: Nodes,
 }
 
 impl Model for World {
@@ -64,11 +36,13 @@ impl World {
     ghost use Rattle.std.specs.Prelude.{option_map};
     ghost use Rattle.guest_machine.specs.Guest.{sector_in};
     ghost use Rattle.frame_ports.specs.declared.limits.TheConstants.{MAX_CLIENTS};
-    ghost use Rattle.pair_core.specs.Entries.{Begins};
-    ghost use Rattle.pair_core.specs.Protocol.{Answers, outcome, step_outcome};
+    ghost use Rattle.pair_history.specs.Entries.{Begins};
+    ghost use Rattle.pair_history.specs.HistoryState.{start_state};
+    ghost use Rattle.pair_core.specs.Protocol.{Answers, MayWantMemory, outcome, step_reply, step_outcome};
     ghost use Rattle.pair_core.specs.Pair.{Pair, live_state, OnRefused, IsConsistent};
-    ghost use Rattle.pair_core.specs.Runs.{Run};
-    ghost use Rattle.pair_core.specs.Start.{start_state, start_record, shown, shown_sector};
+    ghost use Rattle.pair_core.specs.Record.{start_record};
+    ghost use Rattle.pair_core.specs.Runs.{Run, steps_outcome, with_steps};
+    ghost use Rattle.pair_core.specs.Start.{shown, shown_sector};
 
     /// A pair at its start: both nodes were given this boot image, which counts as checkpoint 0, committed and
     /// acknowledged.
@@ -86,42 +60,21 @@ impl World {
         ensures err { IfErr result (λ e. e ≡ Refusal.NoMemory) }
     {
         let boot_image = Vec::from_slice(alloc, image)?;
-        let Ok(live) = Machine::boot(alloc, shape, image) else {
-            return Err(Refusal::NoMemory);
-        };
-        let Ok(image) = live.copy(alloc) else {
-            return Err(Refusal::NoMemory);
-        };
-        let Ok(ports) = Ports::new(alloc, clients) else {
-            return Err(Refusal::NoMemory);
-        };
-        let Ok(gate) = Gate::new(alloc) else {
-            return Err(Refusal::NoMemory);
-        };
+        let nodes = Nodes::boot(alloc, shape, image)?;
+        let record = PairRecord::new(alloc, clients)?;
         Ok(World {
             alloc,
             boot_image,
             shape,
             clients,
-            live,
-            image,
-            sealed: Vec::new(alloc),
-            arrivals: Vec::new(alloc),
-            running: 0,
-            kept: 0,
-            to_cut: 1,
-            to_commit: 1,
-            to_acknowledge: 1,
-            packets: Vec::new(alloc),
-            answers: Vec::new(alloc),
-            gate,
-            ports,
-            history: History::new(alloc),
+            record,
+            nodes,
         })
     }
 
     /// Does one event and answers it, as the pair protocol says. A refusal leaves everything as it was, but that the
-    /// history tells of a refusal [`Refusal::Full`]; [`Refusal::NoMemory`] may come in place of any other answer, where memory was asked for and refused.
+    /// history tells of a refusal [`Refusal::Full`]. [`Refusal::NoMemory`] may come in place of an answer that takes memory, where
+    /// memory was asked for and refused; a step, and an event that changes nothing, takes none.
     pub fn apply(&mut self, event: Event<'_>) -> Reply
         // The reply and the next record are the protocol's.
         ensures answers { Answers self.old.start self.old.protocol event.entry result self.new.protocol }
@@ -129,7 +82,7 @@ impl World {
         ensures refused { OnRefused result self.old self.new }
 
         // The history is that of a guest that never fails, and begins with the history before.
-        ensures grows { Begins self.old.protocol.history self.new.protocol.history }
+        ensures grows { Begins self.old.protocol.journal.history self.new.protocol.journal.history }
         ensures consistent { IsConsistent self.new }
     {
         let outcome = self.act(event);
@@ -138,11 +91,12 @@ impl World {
     }
 
     /// Does one event, or finds no memory for it.
-    fn act(&mut self, event: Event<'_>) -> Result<Reply, Refusal>
+    fn act(&mut self, event: Event<'_>) -> Result<Reply, AllocError>
         ensures outcome { IfOk result (λ reply. (reply, self.new.protocol) ≡ outcome self.old.start self.old.protocol event.entry) }
         ensures start { self.new.start ≡ self.old.start }
         ensures refused { IfOk result (λ reply. OnRefused reply self.old self.new) }
-        ensures err { IfErr result (λ e. (e ≡ Refusal.NoMemory) × (self.new ≡ self.old)) }
+        ensures memory { OnErr result (MayWantMemory (outcome self.old.start self.old.protocol event.entry).0) }
+        ensures err { OnErr result (self.new ≡ self.old) }
     {
         match event {
             Event::Step => Ok(self.stepped()),
@@ -172,7 +126,7 @@ impl World {
     fn keep_consistent(&self)
         ensures { IsConsistent self.now }
     {
-        let _kept = self.kept;
+        let _clients = self.clients;
     }
 
     /// Does these events in order, and gives their replies.
@@ -183,7 +137,7 @@ impl World {
     pub fn run(&mut self, events: &[Event<'_>]) -> Result<Vec<Reply>, Refusal>
         ensures replies { IfOk result (λ replies. Run self.old.start self.old.protocol events.now replies.items self.new.protocol) }
         ensures start { self.new.start ≡ self.old.start }
-        ensures grows { Begins self.old.protocol.history self.new.protocol.history }
+        ensures grows { Begins self.old.protocol.journal.history self.new.protocol.journal.history }
         ensures consistent { IsConsistent self.new }
         ensures err { IfErr result (λ e. (e ≡ Refusal.NoMemory) × (self.new ≡ self.old)) }
     {
@@ -198,9 +152,9 @@ impl World {
 
     /// The history so far.
     pub fn history(&self) -> &History
-        ensures { result.now.entries ≡ self.now.protocol.history }
+        ensures { result.now.entries ≡ self.now.protocol.journal.history }
     {
-        &self.history
+        self.record.history()
     }
 
     /// The state of the pair. The steps are the live guest's.
@@ -208,11 +162,11 @@ impl World {
         ensures { result ≡ shown self.now }
     {
         Show {
-            mode: Mode::Paired,
-            generation: GENERATION,
-            pending: self.pending(),
-            steps: self.live.steps(),
-            entries: self.history.len(),
+            mode: self.record.mode(),
+            generation: self.record.generation(),
+            pending: self.record.pending(),
+            steps: self.nodes.steps(),
+            entries: self.record.history().len(),
         }
     }
 
@@ -224,36 +178,11 @@ impl World {
         ensures history { option_map (λ bytes. bytes.now) result ≡ sector_in (live_state self.now).guest.sectors sector }
     {
         self.keep_consistent();
-        if sector < self.live.sectors() {
-            Some(self.live.sector(sector))
+        if sector < self.nodes.sectors() {
+            Some(self.nodes.sector(sector))
         } else {
             None
         }
-    }
-}
-
-/// A refusal for want of memory is an answer like the others.
-fn answered(outcome: Result<Reply, Refusal>) -> Reply
-    ensures ok { IfOk outcome (λ reply. result ≡ reply) }
-    ensures err { IfErr outcome (λ e. result ≡ Reply.Refused e) }
-{
-    match outcome {
-        Ok(reply) => reply,
-        Err(refusal) => Reply::Refused(refusal),
-    }
-}
-
-impl World {
-    ghost use Rattle.pair_core.specs.Protocol.{Answers, step_reply, exhausts, is_among, all_entries, number_end, step_outcome, cut_outcome, send_outcome, backup_outcome, again_outcome, commit_outcome, ack_outcome, admit_outcome, deliver_outcome, take_outcome};
-    ghost use Rattle.pair_core.specs.Pair.{Pair, OnRefused, IsConsistent};
-    ghost use Rattle.pair_core.specs.Runs.{steps_outcome, with_steps};
-
-    /// Whether so many more entries would be too many for the history.
-    fn is_exhausted_by(&self, more: u64) -> bool
-        requires { more ≤ 2 ^ 62 }
-        ensures { result ≡ exhausts self.now.protocol more }
-    {
-        self.history.len() + self.kept + more >= NUMBER_END
     }
 
     /// The guest makes one step, as [`World::apply`] of [`Event::Step`] does, and answers the guest's step count. This
@@ -284,313 +213,182 @@ impl World {
         ensures made { (made : ℕ) × (self.new ≡ with_steps made self.old) }
         ensures consistent { IsConsistent self.new }
     {
-        let most = count.min(self.entries_left());
-        let made = self.live.run(most);
-        self.running += made;
-        self.kept += made;
+        let made = self.make_steps(count);
+        self.keep_consistent();
         if made == count {
-            Ok(self.live.steps())
-        } else {
-            Err(self.step_refusal())
+            return Ok(self.nodes.steps());
+        }
+        match self.step_refusal() {
+            Some(why) => Err(why),
+            None => unreachable!(),
         }
     }
+}
 
-    /// How many more entries the history has numbers for.
-    fn entries_left(&self) -> u64
-        ensures { length (all_entries self.now.protocol) + (result + 1) ≡ number_end }
+/// Want of memory is a refusal like the others.
+fn answered(outcome: Result<Reply, AllocError>) -> Reply
+    ensures ok { IfOk outcome (λ reply. result ≡ reply) }
+    ensures err { OnErr outcome (result ≡ Reply.Refused Refusal.NoMemory) }
+{
+    match outcome {
+        Ok(reply) => reply,
+        Err(_) => Reply::Refused(Refusal::NoMemory),
+    }
+}
+
+impl World {
+    ghost use Rattle.frame_ports.specs.declared.limits.TheConstants.{NUMBER_LIMIT};
+    ghost use Rattle.pair_core.specs.declared.event.Event.TheVariants as events;
+    ghost use Rattle.pair_core.specs.Journal.{all_entries};
+    ghost use Rattle.pair_core.specs.Protocol.{MayWantMemory, refused, outcome, step_outcome};
+    ghost use Rattle.pair_core.specs.Pair.{Pair, OnRefused};
+    ghost use Rattle.pair_core.specs.Runs.{steps_outcome, with_steps};
+
+    /// Makes as many of these steps as there is room for, in the outbox and in the history.
+    fn make_steps(&mut self, count: u64) -> u64
+        ensures most { result ≤ count }
+        ensures made { self.new ≡ with_steps result self.old }
+        ensures answered { (Reply.Steps self.new.nodes.live.guest.steps, self.new.protocol)
+            ≡ steps_outcome self.old.start self.old.protocol result }
+        ensures ended { result < count
+            → length self.new.nodes.live.outbox ≤ 192 → NUMBER_LIMIT ≤ length (all_entries self.new.protocol.journal) + 1 }
     {
-        NUMBER_END - 1 - (self.history.len() + self.kept)
+        let most = count.min(self.record.entries_left());
+        let made = self.nodes.run(most);
+        self.record.run(made);
+        made
     }
 
-    /// Why the next step is refused: the outbox is too full, or else the history has no room for one more entry.
-    fn step_refusal(&self) -> Refusal
-        requires { length self.now.outbox ≤ 192 → number_end ≤ length (all_entries self.now.protocol) + 1 }
-        ensures { (Reply.Refused result, self.now.protocol) ≡ step_outcome self.now.start self.now.protocol }
+    /// Why the next step is refused.
+    fn step_refusal(&self) -> Option<Refusal>
+        ensures refused { IfSome result (λ why. refused self.now.protocol why ≡ step_outcome self.now.start self.now.protocol) }
+        ensures none { IfNone result ((length self.now.nodes.live.outbox ≤ 192) × (length (all_entries self.now.protocol.journal) + 1
+            < NUMBER_LIMIT)) }
     {
-        if self.live.outbox().len() > STEP_ROOM {
-            Refusal::CutNeeded
-        } else {
-            Refusal::Exhausted
-        }
-    }
-
-    /// Whether a client has this number.
-    fn is_client(&self, client: u64) -> bool
-        ensures { result ≡ is_among client (length self.now.boxes) }
-    {
-        client >= 1 && client <= self.ports.clients()
-    }
-
-    /// How many checkpoints are pending.
-    fn pending(&self) -> u64
-        ensures { result ≡ length self.now.protocol.pending }
-    {
-        self.to_cut - self.to_acknowledge
+        self.record.step_refusal(self.nodes.outbox())
     }
 
     /// The running epoch ends: its checkpoint is sealed, and its frames go to the gate.
-    fn cut(&mut self) -> Result<Reply, Refusal>
-        ensures outcome { IfOk result (λ reply. (reply, self.new.protocol) ≡ cut_outcome self.old.start self.old.protocol) }
+    fn cut(&mut self) -> Result<Reply, AllocError>
+        ensures outcome { IfOk result (λ reply. (reply, self.new.protocol) ≡ outcome self.old.start self.old.protocol events.Cut) }
         ensures start { self.new.start ≡ self.old.start }
         ensures refused { IfOk result (λ reply. OnRefused reply self.old self.new) }
-        ensures err { IfErr result (λ e. (e ≡ Refusal.NoMemory) × (self.new ≡ self.old)) }
+        ensures memory { OnErr result (MayWantMemory (outcome self.old.start self.old.protocol events.Cut).0) }
+        ensures err { OnErr result (self.new ≡ self.old) }
     {
-        if self.pending() >= MOST_PENDING {
-            return Ok(Reply::Refused(Refusal::Behind));
+        if let Some(why) = self.record.cut_refusal() {
+            return Ok(Reply::Refused(why));
         }
-        if self.to_cut >= NUMBER_END {
-            return Ok(Reply::Refused(Refusal::Exhausted));
-        }
-        seal(
-            self.alloc,
-            &self.live,
-            &mut self.arrivals,
-            self.running,
-            &mut self.sealed,
-        )?;
-        self.gate.hold(self.to_cut, self.live.outbox());
-        self.live.settle();
-        self.running = 0;
-        let number = self.to_cut;
-        self.to_cut += 1;
-        Ok(Reply::Cut {
-            generation: GENERATION,
-            number,
-        })
+        let checkpoint = self.nodes.checkpoint()?;
+        let reply = self.record.cut(self.nodes.outbox())?;
+        self.nodes.seal(checkpoint);
+        Ok(reply)
     }
 
     /// One packet for each pending checkpoint is sent.
-    fn send(&mut self) -> Result<Reply, Refusal>
-        ensures outcome { IfOk result (λ reply. (reply, self.new.protocol) ≡ send_outcome self.old.protocol) }
+    fn send(&mut self) -> Result<Reply, AllocError>
+        ensures outcome { IfOk result (λ reply. (reply, self.new.protocol) ≡ outcome self.old.start self.old.protocol events.Send) }
         ensures start { self.new.start ≡ self.old.start }
         ensures refused { IfOk result (λ reply. OnRefused reply self.old self.new) }
-        ensures err { IfErr result (λ e. (e ≡ Refusal.NoMemory) × (self.new ≡ self.old)) }
+        ensures memory { OnErr result (MayWantMemory (outcome self.old.start self.old.protocol events.Send).0) }
+        ensures err { OnErr result (self.new ≡ self.old) }
     {
-        let count = self.pending();
-        send_all(
-            &mut self.packets,
-            GENERATION,
-            self.to_acknowledge,
-            self.to_cut,
-        )?;
-        Ok(Reply::Sent(count))
+        self.record.send()
     }
 
     /// The backup gets a packet.
-    fn backup_get(&mut self, k: u64) -> Result<Reply, Refusal>
-        ensures outcome { IfOk result (λ reply. (reply, self.new.protocol) ≡ backup_outcome self.old.protocol (slice_get self.old.protocol.packets k)) }
+    fn backup_get(&mut self, k: u64) -> Result<Reply, AllocError>
+        ensures outcome { IfOk result (λ reply. (reply, self.new.protocol)
+            ≡ outcome self.old.start self.old.protocol (events.BackupGet k)) }
         ensures start { self.new.start ≡ self.old.start }
         ensures refused { IfOk result (λ reply. OnRefused reply self.old self.new) }
-        ensures err { IfErr result (λ e. (e ≡ Refusal.NoMemory) × (self.new ≡ self.old)) }
+        ensures memory { OnErr result (MayWantMemory (outcome self.old.start self.old.protocol (events.BackupGet k)).0) }
+        ensures err { OnErr result (self.new ≡ self.old) }
     {
-        let Some(packet) = packet_at(&self.packets, k) else {
+        let Some(packet) = self.record.packet(k) else {
             return Ok(Reply::Lost);
         };
-        if packet.generation != GENERATION {
-            return Ok(Reply::Refused(Refusal::Stale));
+        if let Some(why) = self.record.backup_refusal(packet) {
+            return Ok(Reply::Refused(why));
         }
-        if packet.number > self.to_commit {
-            return Ok(Reply::Refused(Refusal::Gap));
+        if packet.number < self.record.to_commit() {
+            return self.record.acknowledge_again();
         }
-        if packet.number < self.to_commit {
-            self.acknowledge_again()
-        } else {
-            self.commit()
-        }
-    }
-
-    /// The backup sends the acknowledgement of the last committed checkpoint once more.
-    fn acknowledge_again(&mut self) -> Result<Reply, Refusal>
-        ensures outcome { IfOk result (λ reply. (reply, self.new.protocol) ≡ again_outcome self.old.protocol) }
-        ensures start { self.new.start ≡ self.old.start }
-        ensures refused { IfOk result (λ reply. OnRefused reply self.old self.new) }
-        ensures err { IfErr result (λ e. (e ≡ Refusal.NoMemory) × (self.new ≡ self.old)) }
-    {
-        let number = self.to_commit - 1;
-        send_one(&mut self.answers, GENERATION, number)?;
-        Ok(Reply::Again {
-            generation: GENERATION,
-            number,
-        })
-    }
-
-    /// The backup commits the next checkpoint: its epoch moves to the history, and the image becomes its machine.
-    fn commit(&mut self) -> Result<Reply, Refusal>
-        requires { self.old.protocol.to_commit < self.old.protocol.to_cut }
-        ensures outcome { IfOk result (λ reply. (reply, self.new.protocol) ≡ commit_outcome self.old.protocol) }
-        ensures start { self.new.start ≡ self.old.start }
-        ensures refused { IfOk result (λ reply. OnRefused reply self.old self.new) }
-        ensures err { IfErr result (λ e. (e ≡ Refusal.NoMemory) × (self.new ≡ self.old)) }
-    {
-        let number = self.to_commit;
-        let arrivals = self.sealed[0].arrivals.len();
-        self.history.reserve(2 * arrivals + 1)?;
-        send_one(&mut self.answers, GENERATION, number)?;
-        let checkpoint = self.sealed.remove(0);
-        let Sealed {
-            machine,
-            arrivals,
-            steps,
-        } = checkpoint;
-        self.image = machine;
-        let before = self.history.len();
-        add_epoch(&mut self.history, arrivals.as_slice(), steps);
-        self.kept -= self.history.len() - before;
-        self.to_commit += 1;
-        Ok(Reply::Committed {
-            generation: GENERATION,
-            number,
-        })
+        let reply = self.record.commit()?;
+        self.nodes.commit();
+        Ok(reply)
     }
 
     /// The primary gets an acknowledgement.
-    fn ack_get(&mut self, k: u64) -> Result<Reply, Refusal>
-        ensures outcome { IfOk result (λ reply. (reply, self.new.protocol) ≡ ack_outcome self.old.start self.old.protocol (slice_get self.old.protocol.answers k)) }
+    fn ack_get(&mut self, k: u64) -> Result<Reply, AllocError>
+        ensures outcome { IfOk result (λ reply. (reply, self.new.protocol) ≡ outcome self.old.start self.old.protocol (events.AckGet k)) }
         ensures start { self.new.start ≡ self.old.start }
         ensures refused { IfOk result (λ reply. OnRefused reply self.old self.new) }
-        ensures err { IfErr result (λ e. (e ≡ Refusal.NoMemory) × (self.new ≡ self.old)) }
+        ensures memory { OnErr result (MayWantMemory (outcome self.old.start self.old.protocol (events.AckGet k)).0) }
+        ensures err { OnErr result (self.new ≡ self.old) }
     {
-        let Some(packet) = packet_at(&self.answers, k) else {
+        let Some(packet) = self.record.acknowledgement(k) else {
             return Ok(Reply::Lost);
         };
-        if packet.generation != GENERATION {
-            return Ok(Reply::Refused(Refusal::Stale));
+        if let Some(why) = self.record.ack_refusal(packet) {
+            return Ok(Reply::Refused(why));
         }
-        let number = packet.number;
-        let count = count_landings(&self.ports, self.gate.held(number));
-        if self.is_exhausted_by(count) {
-            return Ok(Reply::Refused(Refusal::Exhausted));
-        }
-        self.history.reserve(count as usize)?;
-        add_landings(&mut self.history, &self.ports, self.gate.held(number));
-        let landed = self.gate.ack(number, &mut self.ports);
-        let next = first_after(self.to_acknowledge, number);
-        self.to_acknowledge = next;
-        Ok(Reply::Acked {
-            generation: GENERATION,
-            number,
-            landed: landed.landed,
-        })
+        self.record.acknowledge(packet)
     }
 
     /// The first frame of a client's inbox arrives at the guest.
-    fn admit(&mut self, client: u64) -> Result<Reply, Refusal>
-        ensures outcome { IfOk result (λ reply. (reply, self.new.protocol) ≡ admit_outcome self.old.start self.old.protocol client) }
+    fn admit(&mut self, client: u64) -> Result<Reply, AllocError>
+        ensures outcome { IfOk result (λ reply. (reply, self.new.protocol)
+            ≡ outcome self.old.start self.old.protocol (events.Admit client)) }
         ensures start { self.new.start ≡ self.old.start }
         ensures refused { IfOk result (λ reply. OnRefused reply self.old self.new) }
-        ensures err { IfErr result (λ e. (e ≡ Refusal.NoMemory) × (self.new ≡ self.old)) }
+        ensures memory { OnErr result (MayWantMemory (outcome self.old.start self.old.protocol (events.Admit client)).0) }
+        ensures err { OnErr result (self.new ≡ self.old) }
     {
-        if !self.is_client(client) {
-            return Ok(Reply::Refused(Refusal::NoClient));
+        if let Some(why) = self.record.client_refusal(client) {
+            return Ok(Reply::Refused(why));
         }
-        if self.ports.inbox_len(client) == 0 {
+        if self.record.inbox_len(client) == 0 {
             return Ok(Reply::Empty);
         }
-        if self.is_exhausted_by(1) {
-            return Ok(Reply::Refused(Refusal::Exhausted));
+        if let Some(why) = self.record.admit_refusal() {
+            return Ok(Reply::Refused(why));
         }
-        self.arrivals.reserve(1)?;
-        let Ok(Some((number, frame))) = self.ports.admit(client) else {
-            unreachable!();
-        };
-        let _taken = self.live.arrive(&frame);
-        self.arrivals
-            .push(Arrival {
-                steps: self.running,
-                number,
-            })
-            .unwrap();
-        self.running = 0;
-        self.kept += 1;
+        let (number, frame) = self.record.admit(client)?;
+        self.nodes.arrive(&frame);
         Ok(Reply::Admitted(number))
     }
 
     /// A client delivers a frame of these bytes.
-    fn deliver(&mut self, client: u64, bytes: &[u8]) -> Result<Reply, Refusal>
-        ensures outcome { IfOk result (λ reply. (reply, self.new.protocol) ≡ deliver_outcome self.old.start self.old.protocol client bytes.now) }
+    fn deliver(&mut self, client: u64, bytes: &[u8]) -> Result<Reply, AllocError>
+        ensures outcome { IfOk result (λ reply. (reply, self.new.protocol)
+            ≡ outcome self.old.start self.old.protocol (events.Deliver client bytes.entry)) }
         ensures start { self.new.start ≡ self.old.start }
         ensures refused { IfOk result (λ reply. OnRefused reply self.old self.new) }
-        ensures err { IfErr result (λ e. (e ≡ Refusal.NoMemory) × (self.new ≡ self.old)) }
+        ensures memory { OnErr result (MayWantMemory (outcome self.old.start self.old.protocol (events.Deliver client bytes.entry)).0) }
+        ensures err { OnErr result (self.new ≡ self.old) }
     {
-        if !self.is_client(client) {
-            return Ok(Reply::Refused(Refusal::NoClient));
-        }
-        if bytes.len() < MIN_FRAME || bytes.len() > MAX_FRAME {
-            return Ok(Reply::Refused(Refusal::BadFrame));
-        }
-        if self.is_exhausted_by(1) {
-            return Ok(Reply::Refused(Refusal::Exhausted));
-        }
-        self.history.reserve(1)?;
-        let mut place = place_for_frame(self.alloc)?;
-        fill(&mut place, bytes);
-        if self.ports.inbox_len(client) >= INBOX_FRAMES {
-            self.history.add(Entry::Refused(client, place));
-            return Ok(Reply::Refused(Refusal::Full));
-        }
-        let Ok(number) = self.ports.deliver(client, bytes) else {
-            return Ok(Reply::Refused(Refusal::Exhausted));
+        let Some(why) = self.record.deliver_refusal(client, bytes) else {
+            return self.record.deliver(client, bytes);
         };
-        self.history.add(Entry::Delivered(client, place, number));
-        Ok(Reply::Delivered(number))
+        match why {
+            Refusal::Full => self.record.refuse_delivery(client, bytes),
+            _ => Ok(Reply::Refused(why)),
+        }
     }
 
     /// A client takes the first frame of its box.
-    fn take(&mut self, client: u64) -> Result<Reply, Refusal>
-        ensures outcome { IfOk result (λ reply. (reply, self.new.protocol) ≡ take_outcome self.old.start self.old.protocol client) }
+    fn take(&mut self, client: u64) -> Result<Reply, AllocError>
+        ensures outcome { IfOk result (λ reply. (reply, self.new.protocol)
+            ≡ outcome self.old.start self.old.protocol (events.Take client)) }
         ensures start { self.new.start ≡ self.old.start }
         ensures refused { IfOk result (λ reply. OnRefused reply self.old self.new) }
-        ensures err { IfErr result (λ e. (e ≡ Refusal.NoMemory) × (self.new ≡ self.old)) }
+        ensures memory { OnErr result (MayWantMemory (outcome self.old.start self.old.protocol (events.Take client)).0) }
+        ensures err { OnErr result (self.new ≡ self.old) }
     {
-        if !self.is_client(client) {
-            return Ok(Reply::Refused(Refusal::NoClient));
+        if let Some(why) = self.record.take_refusal(client) {
+            return Ok(Reply::Refused(why));
         }
-        if self.is_exhausted_by(1) {
-            return Ok(Reply::Refused(Refusal::Exhausted));
-        }
-        self.history.reserve(1)?;
-        let mut place = place_for_frame(self.alloc)?;
-        match self.ports.take(client) {
-            Ok(Some(frame)) => {
-                fill(&mut place, frame.as_slice());
-                self.history.add(Entry::Took(client, Some(place)));
-                Ok(Reply::Took(Some(frame)))
-            }
-            Ok(None) => {
-                self.history.add(Entry::Took(client, None));
-                Ok(Reply::Took(None))
-            }
-            Err(_) => Ok(Reply::Refused(Refusal::NoClient)),
-        }
-    }
-}
-
-/// The next number to be acknowledged once this one is, where `next` was it before.
-fn first_after(next: u64, number: u64) -> u64
-    requires { number < 2 ^ 62 }
-    ensures { result ≡ (if nat_le next number then number + 1 else next) }
-{
-    if next <= number { number + 1 } else { next }
-}
-
-/// A place on the heap for one frame, with no byte in it yet.
-fn place_for_frame(alloc: Global) -> Result<Box<Frame>, Refusal>
-    ensures ok { IfOk result (λ place. place.value.items ≡ []) }
-    ensures err { IfErr result (λ e. e ≡ Refusal.NoMemory) }
-{
-    match Box::new(alloc, Frame::new()) {
-        Ok(place) => Ok(place),
-        Err(_) => Err(Refusal::NoMemory),
-    }
-}
-
-/// Puts the bytes of a frame into its place.
-fn fill(place: &mut Frame, bytes: &[u8])
-    requires empty { place.old.items ≡ [] }
-    requires fits { length bytes.now ≤ 1514 }
-    ensures { place.new.items ≡ bytes.now }
-{
-    if place.try_extend_from_slice(bytes).is_err() {
-        unreachable!();
+        self.record.take(client)
     }
 }

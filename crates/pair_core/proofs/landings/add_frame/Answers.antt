@@ -1,9 +1,9 @@
 use Rattle.std.proofs.Common.{◌≡◌, ◌+◌, ◌≤◌, ◌++◌, length, ap, ◌∙◌, sym, subst, arith, true, [], ◌∷◌}
 use Rattle.frame_ports.specs.Targets.{AreTargets, has_target}
 use Rattle.frame_ports.specs.Addresses.{clients_of}
-use Rattle.pair_core.specs.Log.{Log}
+use Rattle.pair_history.specs.Log.{Log}
 use Rattle.pair_core.specs.Lengths.{landing_by, landings_by, lengths_after}
-use Rattle.pair_core.proofs.Epochs.{length-append'}
+use Rattle.std.proofs.lemmas.List.{length-append}
 use Rattle.pair_core.proofs.Receivers.{from_on, next_yes, next_no, entries_more}
 use Rattle.pair_core.proofs.landings.add_frame.Goals as goal
 use Rattle.pair_core.proofs.landings.add_frame.Goals.{then-contains, else-contains, After-contains}
@@ -60,7 +60,7 @@ loop-client-preserved c =
             lengths = ap (λ t. lengths_after t rest) a_is ∙ ap (lengths_after c.loop-client.lengths) (sym e) ∙ v.lengths;
             size =
                 let x = ap length n_is in
-                let y = length-append' old (landing_by c.loop-client.lengths i ∷ []) in
+                let y = length-append old (landing_by c.loop-client.lengths i ∷ []) in
                 let z = ap length e in
                 let s = v.size in
                 omega arith;

@@ -1,8 +1,8 @@
 use Rattle.std.proofs.Common.{◌+◌, ◌++◌, length, drop, ap, ◌∙◌, sym, arith, refl}
 use Rattle.frame_ports.specs.Addresses.{clients_of}
-use Rattle.pair_core.specs.Entries.{Frame}
+use Rattle.pair_history.specs.Entries.{Frame}
 use Rattle.pair_core.specs.Lengths.{receivers, landings_by}
-use Rattle.pair_core.proofs.Epochs.{length-append'}
+use Rattle.std.proofs.lemmas.List.{length-append}
 use Rattle.pair_core.proofs.LengthLaws.{landings_by-targets}
 use Rattle.pair_core.proofs.Receivers.{receivers-next, receivers-none, frames_more, nil-append, landings_length}
 use Rattle.pair_core.proofs.landings.add_landings.Goals as goal
@@ -19,13 +19,13 @@ loop-frame-preserved c =
     let old = c.loop-frame.history.entries in
     let e = receivers-next n fs i f (omega arith) ∙ ap (λ (x : Frame). clients_of n x.items ++ rest) (sym c.frame-item.is) in
     let counted = ap length e in
-    let both = length-append' cs rest in
+    let both = length-append cs rest in
     let added = ap length c.add_frame.ensures.entries in
     record {
       places = c.add_frame.array_long;
       entries = frames_more old c.add_frame.new.history.entries c.loop-frame.lengths c.add_frame.new.lengths cs rest now (c.args.history.now.entries ++ landings_by c.box_lengths-lengths.result (receivers n fs)) e c.add_frame.ensures.entries c.add_frame.ensures.lengths c.loop-frame.invariant.entries;
       size =
-          let x = length-append' old (landings_by c.loop-frame.lengths cs) in
+          let x = length-append old (landings_by c.loop-frame.lengths cs) in
           let y = landings_length c.loop-frame.lengths cs in
           let s = c.loop-frame.invariant.size in
           omega arith;

@@ -1,7 +1,7 @@
 use Rattle.std.proofs.Common.{◌≡◌, ◌+◌, length, get_or, drop, ap, arith}
 use Rattle.pair_core.specs.Lengths.{receivers}
 use Rattle.pair_core.proofs.Receivers.{receivers-next}
-use Rattle.pair_core.proofs.Epochs.{length-append'}
+use Rattle.std.proofs.lemmas.List.{length-append}
 use Rattle.frame_ports.specs.Addresses.{clients_of}
 use Rattle.pair_core.proofs.landings.count_landings.Goals as goal
 
@@ -12,7 +12,7 @@ loop-frame-preserved c =
     let i = c.loop-frame.frame-index in
     let f = c.frame-item.result in
     let next = ap length (receivers-next n fs i f (omega arith)) in
-    let both = length-append' (clients_of n (get_or fs i f).items) (receivers n (drop (i + 1) fs)) in
+    let both = length-append (clients_of n (get_or fs i f).items) (receivers n (drop (i + 1) fs)) in
     let here : length (clients_of n f.items) ≡ length (clients_of n (get_or fs i f).items) = ap (λ x. length (clients_of n x.items)) c.frame-item.is in
     let k = c.count_receivers-count.ensures.count in
     let few = c.count_receivers-count.ensures.few in

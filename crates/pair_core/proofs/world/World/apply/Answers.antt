@@ -1,13 +1,22 @@
 use Rattle.pair_core.proofs.PublicLaws.{answers_by_outcome, refused_by_outcome, answers_begin}
+use Rattle.pair_core.specs.Protocol.{Answers}
 use Rattle.pair_core.proofs.world.World.apply.Goals as goal
+use Rattle.pair_core.proofs.world.World.apply.Goals.{After-answered}
+
+answers : (c : After-answered) → Answers c.args.self.now.start c.args.self.now.protocol c.args.event c.answered.result c.act-outcome.new.self.protocol
+answers c =
+    answers_by_outcome c.args.self.now c.act-outcome.new.self c.args.event c.act-outcome.result c.answered.result c.answered.ensures.ok c.answered.ensures.err
+    c.act-outcome.ensures.outcome c.act-outcome.ensures.memory c.act-outcome.ensures.err
 
 pub returns-clause-answers : goal.returns-clause-answers
-returns-clause-answers c = answers_by_outcome c.args.self.now c.act-outcome.new.self c.args.event c.act-outcome.result c.answered.result c.act-outcome.ensures.outcome c.act-outcome.ensures.err c.answered.ensures.ok c.answered.ensures.err
+returns-clause-answers c = answers (goal.at.returns-clause-answers c).After-answered
 
 pub returns-clause-refused : goal.returns-clause-refused
-returns-clause-refused c = refused_by_outcome c.args.self.now c.act-outcome.new.self c.args.event c.act-outcome.result c.answered.result c.act-outcome.ensures.outcome c.act-outcome.ensures.err c.answered.ensures.ok c.answered.ensures.err c.act-outcome.ensures.refused
+returns-clause-refused c =
+    refused_by_outcome c.args.self.now c.act-outcome.new.self c.args.event c.act-outcome.result c.answered.result c.answered.ensures.ok c.answered.ensures.err
+    c.act-outcome.ensures.refused c.act-outcome.ensures.err
 
 pub returns-clause-grows : goal.returns-clause-grows
 returns-clause-grows c =
     answers_begin c.args.self.now.start c.args.self.now.protocol c.args.event c.answered.result c.act-outcome.new.self.protocol
-    (answers_by_outcome c.args.self.now c.act-outcome.new.self c.args.event c.act-outcome.result c.answered.result c.act-outcome.ensures.outcome c.act-outcome.ensures.err c.answered.ensures.ok c.answered.ensures.err)
+    (answers (goal.at.returns-clause-grows c).After-answered)

@@ -1,8 +1,8 @@
 use Rattle.std.proofs.Common.{subst}
 use Rattle.pair_core.specs.Pair.{IsConsistent}
 use Rattle.pair_core.specs.WorldFields.{pair_of}
-use Rattle.pair_core.proofs.Kept.{consistent}
+use Rattle.pair_core.proofs.Consistent.{consistent}
 use Rattle.pair_core.proofs.world.World.keep_consistent.Goals as goal
 
 pub returns : goal.returns
-returns c = subst IsConsistent c.self.view_is (consistent (pair_of c.self.inside) c.self.invariant.kept)
+returns c = subst IsConsistent c.self.view_is (consistent (pair_of c.self.inside) c.self.invariant)

@@ -3,7 +3,7 @@ use Rattle.std.proofs.lemmas.List.{take_more}
 use Rattle.pair_core.specs.declared.event.Event.{Event}
 use Rattle.pair_core.specs.declared.event.Event.TheVariants.{Step}
 use Rattle.pair_core.specs.declared.event.Reply.{Reply}
-use Rattle.pair_core.specs.HistoryState.{HistoryState}
+use Rattle.pair_history.specs.HistoryState.{HistoryState}
 use Rattle.pair_core.specs.Protocol.{Answers}
 use Rattle.pair_core.specs.Runs.{Run}
 use Rattle.pair_core.proofs.PublicLaws.{Run-more, Begins-trans}
@@ -30,7 +30,7 @@ loop-event-preserved c =
     record {
       replies = subst (λ (es : List Event). Run start old es c.push.new.self.items new) (sym more) (subst (λ (rs : List Reply). Run start old (take i events ++ get_or events i Step ∷ []) rs new) (sym items) run);
       start = c.apply-reply.ensures.start ∙ v.start;
-      grows = Begins-trans c.args.self.now.protocol.history c.loop-event.self.protocol.history c.apply-reply.new.self.protocol.history v.grows c.apply-reply.ensures.grows;
+      grows = Begins-trans c.args.self.now.protocol.journal.history c.loop-event.self.protocol.journal.history c.apply-reply.new.self.protocol.journal.history v.grows c.apply-reply.ensures.grows;
       consistent = c.apply-reply.ensures.consistent;
       counted = let k = v.counted in omega arith;
       room = let k = v.room in omega arith;

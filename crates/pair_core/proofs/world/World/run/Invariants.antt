@@ -1,6 +1,6 @@
 use Rattle.std.proofs.Common.{◌≡◌, ◌≤◌, length, take, vec_len}
 use Rattle.std.specs.Prelude.{vec_capacity}
-use Rattle.pair_core.specs.Entries.{Begins}
+use Rattle.pair_history.specs.Entries.{Begins}
 use Rattle.pair_core.specs.Pair.{IsConsistent}
 use Rattle.pair_core.specs.Runs.{Run}
 use Rattle.pair_core.proofs.world.World.run.Given as goal
@@ -9,7 +9,7 @@ abbrev pub invariant-loop-event : goal.invariant-loop-event
 invariant-loop-event l = record {
   replies : Run l.initial.self.start l.initial.self.protocol (take l.event-index l.events) l.replies.items l.self.protocol;
   start : l.self.start ≡ l.initial.self.start;
-  grows : Begins l.initial.self.protocol.history l.self.protocol.history;
+  grows : Begins l.initial.self.protocol.journal.history l.self.protocol.journal.history;
   consistent : IsConsistent l.self;
   counted : vec_len l.replies ≡ l.event-index;
   room : length l.events ≤ vec_capacity l.replies;

@@ -1,0 +1,31 @@
+-- From what a call of the record ensures of its result, to the invariant of the world.
+use Rattle.std.proofs.Common.{◌≡◌, ◌∙◌, sym, ap, subst, Result, Ok, Err, OnErr}
+use Rattle.std.specs.Prelude.{IfOk, OnOk}
+use Rattle.std.specs.declared.alloc.AllocError.{AllocError}
+use Rattle.frame_ports.specs.Ports.{PortsState}
+use Rattle.pair_core.specs.declared.event.Reply.{Reply}
+use Rattle.pair_core.specs.Invariant.{Holds}
+use Rattle.pair_core.specs.Pair.{Pair}
+use Rattle.pair_core.specs.Protocol.{Record, Outcome}
+use Rattle.pair_core.specs.Record.{RecordState}
+
+-- on either result
+pub on_ok : {A : Type 0} (o : Result A AllocError) (P : Type 0) → P → OnOk o P
+on_ok (Ok x) P p = p
+on_ok (Err e) P p = tt
+
+pub on_err : {A : Type 0} (o : Result A AllocError) (P : Type 0) → P → OnErr o P
+on_err (Ok x) P p = tt
+on_err (Err e) P p = p
+
+-- it is answered and leaves what the protocol says
+pub answered_so : (o : Result Reply AllocError) (r : Record) (done out : Outcome) → done ≡ out → IfOk o (λ reply. (reply, r) ≡ done) → IfOk o (λ reply. (reply, r) ≡ out)
+answered_so (Ok x) r done out e k = k ∙ e
+answered_so (Err x) r done out e k = tt
+
+-- the invariant after a call that did all or nothing
+pub after_call : (w : Pair) → Holds w → (s : RecordState) (o : Result Reply AllocError) (done : Outcome) (ports : PortsState)
+    → IfOk o (λ reply. (reply, s.protocol) ≡ done) → OnOk o (s.ports ≡ ports) → OnErr o (s ≡ record { protocol = w.protocol; ports = w.ports })
+    → Holds (record w { protocol = done.1; ports = ports }) → Holds (record w { protocol = s.protocol; ports = s.ports })
+after_call w h s (Ok x) done ports k p e now = subst Holds (λ i. record w { protocol = sym (ap (λ (q : Outcome). q.1) k) i; ports = sym p i }) now
+after_call w h s (Err x) done ports k p e now = subst Holds (λ i. record w { protocol = (sym e i).protocol; ports = (sym e i).ports }) h

@@ -1,0 +1,107 @@
+-- What is kept true from event to event gives what contracts say.
+use Rattle.std.proofs.Common.{◌≡◌, List, [], ◌∷◌, ◌++◌, length, take, drop, refl, sym, ap, ◌∙◌, subst, append_assoc}
+use Rattle.std.specs.Prelude.{map}
+use Rattle.std.proofs.lemmas.List.{map-append, take-append-drop}
+use Rattle.guest_machine.specs.Guest.{Guest}
+use Rattle.frame_ports.specs.Addresses.{targets_of}
+use Rattle.output_gate.specs.Epochs.{Epoch, frames_of}
+use Rattle.pair_history.specs.Entries.{Frame}
+use Rattle.pair_history.specs.HistoryState.{at, sent_along, Legal}
+use Rattle.pair_history.specs.Moves.{Move, entry_of, entries_of, guest_along, frames_along, left}
+use Rattle.pair_history.proofs.States.{at-append, targets_of-append}
+use Rattle.pair_history.proofs.Moves.{moved, at-moves, Legal-moves, sent_along-moves, frames_along-append, AllCan-front, AllCan-back}
+use Rattle.pair_core.specs.Invariant.{all_moves, epoch_nodes, epoch_frames, frames_by_epoch, AreInboxes, Holds}
+use Rattle.pair_core.specs.Journal.{joined, kept_entries}
+use Rattle.pair_core.specs.Nodes.{Node}
+use Rattle.pair_core.specs.Pair.{Pair, shown_state, live_state, AllSettled, IsConsistent}
+use Rattle.pair_core.specs.Protocol.{outbox_of}
+use Rattle.pair_core.specs.Window.{committed_count, committed_of, uncommitted_of}
+use Rattle.pair_core.proofs.Events.{frames_of-append, kept_moves, left_now}
+
+joined-entries : (mss : List (List Move)) → joined (map entries_of mss) ≡ entries_of (all_moves mss)
+joined-entries [] = refl
+joined-entries (ms ∷ mss) = ap (λ t. entries_of ms ++ t) (joined-entries mss) ∙ sym (map-append entry_of ms (all_moves mss))
+
+all_settled : (g : Guest) (mss : List (List Move)) → AllSettled (epoch_nodes g mss)
+all_settled g [] = tt
+all_settled g (ms ∷ mss) = (refl, all_settled (guest_along g ms) mss)
+
+-- what the kept entries do to the shown state
+module _ (w : Pair) (h : Holds w) where
+  abbrev sealed_moves : List Move
+  sealed_moves = all_moves h.journal.sealed_moves
+
+  sealed_entries : joined w.protocol.journal.sealed ≡ entries_of sealed_moves
+  sealed_entries = ap joined h.journal.sealed_are ∙ joined-entries h.journal.sealed_moves
+
+  kept_is : kept_entries w.protocol.journal ≡ entries_of (kept_moves w h)
+  kept_is =
+      ap (λ t. t ++ w.protocol.journal.running) sealed_entries ∙ ap (λ t. entries_of sealed_moves ++ t) h.journal.running_are
+      ∙ sym (map-append entry_of sealed_moves h.journal.running_moves)
+
+  live_is_moved : live_state w ≡ moved (shown_state w) (kept_moves w h)
+  live_is_moved = at-append w.start w.protocol.journal.history (kept_entries w.protocol.journal) ∙ ap (at (shown_state w)) kept_is ∙ at-moves (shown_state w) (kept_moves w h) h.journal.can
+
+  pub live_is : (live_state w).guest ≡ w.nodes.live.guest
+  live_is = ap (λ s. s.guest) live_is_moved ∙ sym h.nodes.live
+
+  pub live_waiting : (live_state w).waiting ≡ left_now w h
+  live_waiting = ap (λ s. s.waiting) live_is_moved
+
+  sealed_state : at w.start (w.protocol.journal.history ++ joined w.protocol.journal.sealed) ≡ moved (shown_state w) sealed_moves
+  sealed_state =
+      at-append w.start w.protocol.journal.history (joined w.protocol.journal.sealed) ∙ ap (at (shown_state w)) sealed_entries
+      ∙ at-moves (shown_state w) sealed_moves (AllCan-front (shown_state w).waiting sealed_moves h.journal.running_moves h.journal.can)
+
+  pub outbox_is : outbox_of w.start w.protocol ≡ w.nodes.live.outbox
+  outbox_is =
+      ap (λ s. sent_along s w.protocol.journal.running) sealed_state
+      ∙ ap (sent_along (moved (shown_state w) sealed_moves)) h.journal.running_are
+      ∙ sent_along-moves (moved (shown_state w) sealed_moves) h.journal.running_moves (AllCan-back (shown_state w).waiting sealed_moves h.journal.running_moves h.journal.can)
+      ∙ sym h.nodes.outbox
+
+  -- the frames sent along all that is kept
+  kept_frames : frames_along (shown_state w).guest (kept_moves w h) ≡ frames_of (uncommitted_of w.protocol.window w.protocol.pending) ++ w.nodes.live.outbox
+  kept_frames =
+      frames_along-append (shown_state w).guest sealed_moves h.journal.running_moves
+      ∙ ap (λ t. t ++ frames_along (guest_along (shown_state w).guest sealed_moves) h.journal.running_moves) (sym (of_epochs (shown_state w).guest h.journal.sealed_moves (uncommitted_of w.protocol.window w.protocol.pending) h.nodes.frames))
+      ∙ ap (λ t. frames_of (uncommitted_of w.protocol.window w.protocol.pending) ++ t) (sym h.nodes.outbox)
+    where
+      of_epochs : (g : Guest) (mss : List (List Move)) (es : List Epoch) → frames_by_epoch es ≡ epoch_frames g mss → frames_of es ≡ frames_along g (all_moves mss)
+      of_epochs g [] [] e = refl
+      of_epochs g [] (x ∷ es) e = cc
+      of_epochs g (k ∷ mss) [] e = cc
+      of_epochs g (k ∷ mss) (x ∷ es) e =
+          let head : x.frames ≡ frames_along g k = cc in
+          let tail : frames_by_epoch es ≡ epoch_frames (guest_along g k) mss = cc in
+          ap (λ t. t ++ frames_of es) head ∙ ap (λ t. frames_along g k ++ t) (of_epochs (guest_along g k) mss es tail) ∙ sym (frames_along-append g k (all_moves mss))
+
+  owed_is : targets_of (length w.ports.boxes) (frames_of w.protocol.pending ++ w.nodes.live.outbox) ≡ (live_state w).out
+  owed_is =
+      let n = length w.ports.boxes in
+      let covered = committed_of w.protocol.window w.protocol.pending in
+      let others = uncommitted_of w.protocol.window w.protocol.pending in
+      ap (λ t. targets_of n (frames_of t ++ w.nodes.live.outbox)) (sym (take-append-drop (committed_count w.protocol.window) w.protocol.pending))
+      ∙ ap (λ t. targets_of n (t ++ w.nodes.live.outbox)) (frames_of-append covered others)
+      ∙ ap (targets_of n) (append_assoc (frames_of covered) (frames_of others) w.nodes.live.outbox)
+      ∙ targets_of-append n (frames_of covered) (frames_of others ++ w.nodes.live.outbox)
+      ∙ ap (λ t. t ++ targets_of n (frames_of others ++ w.nodes.live.outbox)) (sym h.owed)
+      ∙ ap (λ t. (shown_state w).out ++ targets_of n t) (sym kept_frames)
+      ∙ ap (λ (b : List (List Frame)). (shown_state w).out ++ targets_of (length b) (frames_along (shown_state w).guest (kept_moves w h))) h.clients.boxes
+      ∙ sym (ap (λ s. s.out) live_is_moved)
+
+  pub consistent : IsConsistent w
+  consistent = record {
+    legal = h.journal.legal;
+    drops = h.journal.drops;
+    goes_on = subst (Legal (shown_state w)) (sym kept_is) (Legal-moves (shown_state w) (kept_moves w h) h.journal.can);
+    live = sym live_is;
+    image = h.nodes.image;
+    sealed = subst AllSettled (sym h.nodes.sealed) (all_settled (shown_state w).guest h.journal.sealed_moves);
+    outbox = sym outbox_is;
+    number = h.clients.number;
+    clients = h.clients.count;
+    inboxes = subst (AreInboxes (length w.ports.boxes) w.ports.inboxes) (sym live_waiting) h.clients.inboxes;
+    boxes = h.clients.boxes;
+    owed = owed_is;
+  }

@@ -1,0 +1,140 @@
+-- Each event leaves what is true of every record, and what the tables of refusals say.
+use Rattle.std.proofs.Common.{◌≡◌, ℕ, zero, suc, ◌+◌, ◌-◌, ◌<◌, ◌≤◌, List, [], ◌∷◌, ◌++◌, length, get_or, refl, sym, ap, ◌∙◌, subst, arith, Bool, true, false, cond, Option, None, Some}
+use Rattle.std.specs.Prelude.{map, slice_get, IfSome, nat_le, ◌==◌, not}
+use Rattle.std.proofs.lemmas.Bool.{eq-eqb}
+use Rattle.std.proofs.lemmas.Bool.Decides.{nat_tests}
+use Rattle.std.proofs.lemmas.List.{length-append}
+use Rattle.frame_ports.specs.declared.limits.TheConstants.{NUMBER_LIMIT}
+use Rattle.output_gate.specs.Epochs.{Epoch, frames_to}
+use Rattle.pair_history.specs.Entries.{Frame, Entry}
+use Rattle.pair_core.specs.declared.event.Packet.{Packet}
+use Rattle.pair_core.specs.declared.event.Refusal.TheVariants.{Stale, Exhausted}
+use Rattle.pair_core.specs.Journal.{all_entries, rest_of}
+use Rattle.pair_core.specs.Lengths.{receivers}
+use Rattle.pair_core.specs.Lines.{packet, packet_of, packets_from, AreBelow}
+use Rattle.pair_core.specs.Protocol.{Record, first_refusal, cut_refusals, ack_refusals, exhausts, let_go, cut_done, send_done, again_done, commit_done, ack_done}
+use Rattle.pair_core.specs.Record.{IsRecord}
+use Rattle.pair_core.specs.Window.{NumberedFrom}
+use Rattle.pair_core.proofs.LengthLaws.{length-receivers}
+use Rattle.pair_core.proofs.LineLaws.{packets_from-numbered}
+use Rattle.pair_core.proofs.WindowLaws.{numbered_below, cut_window, commit_window, ack_window}
+
+-- Tables of refusals
+
+-- no row applies: the first doesn't, nor do the others
+pub passed : {A : Type 0} (t : Bool) (x : A) (o : Option A) → cond t (Some x) o ≡ None → (t ≡ false) × (o ≡ None)
+passed true x o e = absurd (cc)
+passed false x o e = (refl, e)
+
+pub is_below : (a b : ℕ) → nat_le a b ≡ false → b < a
+is_below a b e = grind (arith, nat_tests)
+
+pub has_room_for : (r : Record) (more : ℕ) → exhausts r more ≡ false → length (all_entries r.journal) + more < NUMBER_LIMIT
+has_room_for r more e = is_below NUMBER_LIMIT (length (all_entries r.journal) + more) e
+
+-- an acknowledgement of this generation, for whose landings so many entries come
+pub ack_row : (boxes : List (List Frame)) (r : Record) (p : Packet) (count : ℕ) (fs : List Frame)
+    → count ≡ length (receivers (length boxes) fs) → fs ≡ frames_to p.number r.pending → p.generation ≡ r.generation
+    → first_refusal (ack_refusals boxes r p) ≡ cond (exhausts r count) (Some Exhausted) None
+ack_row boxes r p count fs is held same =
+    let n : count ≡ length (let_go boxes r p.number) = is ∙ ap (λ gs. length (receivers (length boxes) gs)) held ∙ length-receivers (length boxes) (frames_to p.number r.pending) in
+    ap (λ t. cond (not t) (Some Stale) (cond (exhausts r (length (let_go boxes r p.number))) (Some Exhausted) None)) (eq-eqb p.generation r.generation same)
+    ∙ ap (λ k. cond (exhausts r k) (Some Exhausted) None) (sym n)
+
+-- Lines
+
+AreBelow-append : (g n : ℕ) (ps qs : List Packet) → AreBelow g n ps → AreBelow g n qs → AreBelow g n (ps ++ qs)
+AreBelow-append g n [] qs h k = k
+AreBelow-append g n (p ∷ ps) qs h k = (h.0, h.1, AreBelow-append g n ps qs h.2 k)
+
+AreBelow-more : (g n m : ℕ) (ps : List Packet) → n ≤ m → AreBelow g n ps → AreBelow g m ps
+AreBelow-more g n m [] l h = tt
+AreBelow-more g n m (p ∷ ps) l h = (h.0, λ e. let k = h.1 e in omega arith, AreBelow-more g n m ps l h.2)
+
+-- the packets of numbered checkpoints
+AreBelow-numbered : (g n m : ℕ) (es : List Epoch) → NumberedFrom n es → n + length es ≤ m → AreBelow g m (map (packet_of g) es)
+AreBelow-numbered g n m [] h l = tt
+AreBelow-numbered g n m (e ∷ es) h l = (omega arith, λ s. omega arith, AreBelow-numbered g (n + 1) m es h.1 (omega arith))
+
+-- what a packet on the line names
+pub below_at : (g n : ℕ) (ps : List Packet) (k : ℕ) (o : Option Packet) → AreBelow g n ps → o ≡ slice_get ps k → IfSome o (λ p. p.generation ≡ g → p.number < n)
+below_at g n [] k None h e = tt
+below_at g n [] k (Some p) h e = absurd (cc)
+below_at g n (q ∷ ps) zero None h e = tt
+below_at g n (q ∷ ps) zero (Some p) h e =
+    let same : p ≡ q = cc in
+    subst (λ (x : Packet). x.generation ≡ g → x.number < n) (sym same) h.1
+below_at g n (q ∷ ps) (suc k) o h e = below_at g n ps k o h.2 e
+
+-- Events
+
+length-rest : (ess : List (List Entry)) → 0 < length ess → suc (length (rest_of ess)) ≡ length ess
+length-rest [] l = absurd (omega arith)
+length-rest (es ∷ ess) l = refl
+
+module _ (r : Record) (h : IsRecord r) where
+  pub rising : (k : ℕ) (d : Epoch) → k < length r.pending → (get_or r.pending k d).number < r.window.to_cut
+  rising = numbered_below r.window.to_acknowledge r.window.to_cut r.pending h.window.numbers (let e = h.window.count in omega arith)
+
+  pub cut_record : (fs : List Frame) → first_refusal (cut_refusals r) ≡ None → IsRecord (cut_done fs r).1
+  cut_record fs free =
+      let rows = passed _ _ _ free in
+      let few = is_below 4 (length r.pending) rows.0 in
+      let last = is_below NUMBER_LIMIT r.window.to_cut (passed _ _ _ rows.1).0 in
+      record {
+        window = cut_window r.window r.pending h.window (record { number = r.window.to_cut; frames = fs }) refl few last;
+        forward = AreBelow-more r.generation r.window.to_cut (r.window.to_cut + 1) r.lines.forward (omega arith) h.forward;
+        back = h.back;
+        sealed = let s = h.sealed in let e = length-append r.journal.sealed (r.journal.running ∷ []) in omega arith;
+      }
+
+  pub sent_are : packets_from r.generation r.window.to_acknowledge (r.window.to_cut - r.window.to_acknowledge) ≡ map (packet_of r.generation) r.pending
+  sent_are =
+      let e : r.window.to_cut - r.window.to_acknowledge ≡ length r.pending = let p = h.window.count in omega arith in
+      ap (packets_from r.generation r.window.to_acknowledge) e ∙ packets_from-numbered r.generation r.window.to_acknowledge r.pending h.window.numbers
+
+  pub send_record : IsRecord (send_done r).1
+  send_record = record {
+    window = h.window;
+    forward =
+        AreBelow-append r.generation r.window.to_cut r.lines.forward (map (packet_of r.generation) r.pending) h.forward
+        (AreBelow-numbered r.generation r.window.to_acknowledge r.window.to_cut r.pending h.window.numbers (let p = h.window.count in omega arith));
+    back = h.back;
+    sealed = h.sealed;
+  }
+
+  pub again_record : 0 < r.window.to_commit → IsRecord (again_done r).1
+  again_record some = record {
+    window = h.window;
+    forward = h.forward;
+    back =
+        AreBelow-append r.generation r.window.to_commit r.lines.back (packet r.generation (r.window.to_commit - 1) ∷ []) h.back
+        (omega arith, λ s. omega arith, tt);
+    sealed = h.sealed;
+  }
+
+  pub some_sealed : r.window.to_commit < r.window.to_cut → 0 < length r.journal.sealed
+  some_sealed more = let s = h.sealed in omega arith
+
+  pub commit_record : r.window.to_commit < r.window.to_cut → IsRecord (commit_done r).1
+  commit_record more = record {
+    window = commit_window r.window r.pending h.window more;
+    forward = h.forward;
+    back =
+        AreBelow-append r.generation (r.window.to_commit + 1) r.lines.back (packet r.generation r.window.to_commit ∷ [])
+        (AreBelow-more r.generation r.window.to_commit (r.window.to_commit + 1) r.lines.back (omega arith) h.back)
+        (omega arith, λ s. omega arith, tt);
+    sealed = let s = h.sealed in let l = length-rest r.journal.sealed (some_sealed more) in omega arith;
+  }
+
+  pub ack_record : (boxes : List (List Frame)) (n : ℕ) → n < r.window.to_commit → IsRecord (ack_done boxes r n).1
+  ack_record boxes n below = record {
+    window = ack_window r.window r.pending h.window n below;
+    forward = h.forward;
+    back = h.back;
+    sealed = h.sealed;
+  }
+
+-- a packet of the current generation
+pub generation_is : (a b : ℕ) → not (a == b) ≡ false → a ≡ b
+generation_is a b e = grind (arith, nat_tests)

@@ -1,0 +1,72 @@
+-- What is kept true from event to event, so that what contracts say of a pair follows: a record of parts, each over the values that
+-- it speaks of. A part that an event doesn't touch passes on by name.
+use Rattle.std.specs.Prelude.{◌≡◌, ℕ, ◌≤◌, List, [], ◌∷◌, ◌++◌, length, map}
+use Rattle.guest_machine.specs.Guest.{Guest}
+use Rattle.frame_ports.specs.Addresses.{targets_of}
+use Rattle.frame_ports.specs.Lands.{list_of}
+use Rattle.frame_ports.specs.Ports.{PortsState}
+use Rattle.output_gate.specs.Epochs.{Epoch, frames_of}
+use Rattle.pair_history.specs.Entries.{Frame}
+use Rattle.pair_history.specs.HistoryState.{HistoryState, Waiting, inbox_of, at, Legal}
+use Rattle.pair_history.specs.Landings.{DropsAtFull, BoxesFit}
+use Rattle.pair_history.specs.Moves.{Move, entries_of, guest_along, frames_along, left, AllCan, AreRising}
+use Rattle.pair_core.specs.Journal.{Journal}
+use Rattle.pair_core.specs.Nodes.{Node, Nodes, settled}
+use Rattle.pair_core.specs.Pair.{Pair, shown_state}
+use Rattle.pair_core.specs.Window.{committed_of, uncommitted_of}
+
+-- moves, epoch by epoch
+abbrev pub all_moves : List (List Move) → List Move
+all_moves [] = []
+all_moves (ms ∷ mss) = ms ++ all_moves mss
+
+-- each epoch's machine at its end, and the frames that its guest sent
+abbrev pub epoch_nodes : Guest → List (List Move) → List Node
+epoch_nodes g [] = []
+epoch_nodes g (ms ∷ mss) = settled (guest_along g ms) ∷ epoch_nodes (guest_along g ms) mss
+
+abbrev pub epoch_frames : Guest → List (List Move) → List (List Frame)
+epoch_frames g [] = []
+epoch_frames g (ms ∷ mss) = frames_along g ms ∷ epoch_frames (guest_along g ms) mss
+
+-- the frames of pending checkpoints, epoch by epoch
+abbrev pub frames_by_epoch : List Epoch → List (List Frame)
+frames_by_epoch es = map (λ e. e.frames) es
+
+-- the inboxes are what waits, client by client
+abbrev pub AreInboxes : ℕ → List (List (ℕ × Frame)) → List Waiting → Type 0
+AreInboxes count inboxes ws = (c : ℕ) → 1 ≤ c → c ≤ count → list_of inboxes c ≡ inbox_of c ws
+
+-- The history is legal, and what is kept are moves of the guest that go on from it.
+pub record IsJournal (start : HistoryState) (j : Journal) : Type 0 where
+  pub legal : Legal start j.history
+  pub drops : DropsAtFull start j.history
+  pub sealed_moves : List (List Move)
+  pub running_moves : List Move
+  pub sealed_are : j.sealed ≡ map entries_of sealed_moves
+  pub running_are : j.running ≡ entries_of running_moves
+  pub can : AllCan (at start j.history).waiting (all_moves sealed_moves ++ running_moves)
+
+-- The nodes, where the history's guest is g, these moves are kept, and the gate holds these frames of uncommitted checkpoints.
+pub record AreNodes (g : Guest) (sealed_moves : List (List Move)) (running_moves : List Move) (held : List (List Frame)) (x : Nodes) : Type 0 where
+  pub image : x.image ≡ settled g
+  pub sealed : x.sealed ≡ epoch_nodes g sealed_moves
+  pub frames : held ≡ epoch_frames g sealed_moves
+  pub live : x.live.guest ≡ guest_along g (all_moves sealed_moves ++ running_moves)
+  pub outbox : x.live.outbox ≡ frames_along (guest_along g (all_moves sealed_moves)) running_moves
+
+-- The ports, where the history's state is s and these frames still wait after what is kept.
+pub record AreClients (s : HistoryState) (waiting : List Waiting) (p : PortsState) : Type 0 where
+  pub number : p.next ≡ s.number
+  pub rising : AreRising 1 p.next waiting
+  pub count : length p.inboxes ≡ length p.boxes
+  pub inboxes : AreInboxes (length p.boxes) p.inboxes waiting
+  pub boxes : p.boxes ≡ s.boxes
+  pub fit : BoxesFit p.boxes
+
+pub record Holds (w : Pair) : Type 0 where
+  pub journal : IsJournal w.start w.protocol.journal
+  pub nodes : AreNodes (shown_state w).guest journal.sealed_moves journal.running_moves (frames_by_epoch (uncommitted_of w.protocol.window w.protocol.pending)) w.nodes
+  pub clients : AreClients (shown_state w) (left (shown_state w).waiting (all_moves journal.sealed_moves ++ journal.running_moves)) w.ports
+  -- what the history's state owes is what the gate holds of committed checkpoints
+  pub owed : (shown_state w).out ≡ targets_of (length w.ports.boxes) (frames_of (committed_of w.protocol.window w.protocol.pending))

@@ -1,0 +1,36 @@
+-- What contracts see of the pair's record: the protocol's record, and the clients' ports; and what is true of every record.
+use Rattle.std.specs.Prelude.{◌≡◌, ℕ, ◌+◌, ◌-◌, List, [], length, drop}
+use Rattle.frame_ports.specs.Lands.{list_of, with_list, lands}
+use Rattle.frame_ports.specs.Ports.{PortsState}
+use Rattle.pair_core.specs.Journal.{empty_journal}
+use Rattle.pair_core.specs.Lines.{no_packets, AreBelow}
+use Rattle.pair_core.specs.Protocol.{Record, let_go}
+use Rattle.pair_core.specs.Window.{start_window, IsWindow}
+use Rattle.pair_core.specs.declared.event.Mode.TheVariants.{Paired}
+
+pub record RecordState : Type 0 where
+  pub protocol : Record
+  pub ports : PortsState
+
+-- nothing happened yet
+abbrev pub start_record : Record
+start_record = record { mode = Paired; generation = 1; journal = empty_journal; window = start_window; lines = no_packets; pending = [] }
+
+-- the ports once what leaves the gate at that number has landed
+abbrev pub ports_after_ack : PortsState → Record → ℕ → PortsState
+ports_after_ack p r n = record p { boxes = lands p.boxes (let_go p.boxes r n) }
+
+-- once the first frame of a client's inbox has left it, and once that of its box has
+abbrev pub ports_after_admit : PortsState → ℕ → PortsState
+ports_after_admit p c = record p { inboxes = with_list p.inboxes c (drop 1 (list_of p.inboxes c)) }
+
+abbrev pub ports_after_take : PortsState → ℕ → PortsState
+ports_after_take p c = record p { boxes = with_list p.boxes c (drop 1 (list_of p.boxes c)) }
+
+-- The window is that of what is pending; every packet of this generation names a checkpoint that was cut, every acknowledgement of
+-- it one that was committed; and each checkpoint that was cut and not committed has its epoch.
+pub record IsRecord (r : Record) : Type 0 where
+  pub window : IsWindow r.window r.pending
+  pub forward : AreBelow r.generation r.window.to_cut r.lines.forward
+  pub back : AreBelow r.generation r.window.to_commit r.lines.back
+  pub sealed : r.window.to_commit + length r.journal.sealed ≡ r.window.to_cut

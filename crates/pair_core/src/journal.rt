@@ -1,0 +1,152 @@
+//! The journal: the history, the sealed epochs that no commit has covered yet, and the one that runs.
+ghost use Rattle.std.specs.Prelude.{◌≡◌, ◌+◌, ◌-◌, ◌*◌, ◌^◌, ◌≤◌, ◌<◌, ◌++◌, ◌∷◌, [], length, replicate, OnOk, OnErr, IfOk};
+ghost use Rattle.frame_ports.specs.Addresses.{targets_of};
+ghost use Rattle.frame_ports.specs.declared.limits.TheConstants.{NUMBER_LIMIT};
+ghost use Rattle.pair_history.specs.Entries.{Ran, Arrive};
+ghost use Rattle.pair_history.specs.Landings.{landings};
+ghost use Rattle.pair_history.specs.Log.{expanded};
+ghost use Rattle.pair_core.specs.Journal.{all_entries, kept_entries, empty_journal, with_history, with_running, sealed_off, committed};
+ghost use Rattle.pair_core.specs.Lengths.{receivers};
+
+use crate::epochs::{Arrival, RunningEpoch, add_epoch};
+use crate::landings::add_landings;
+use frame_ports::{NUMBER_LIMIT, Ports};
+use pair_history::{Entry, Frame, History};
+use std::alloc::{AllocError, Global};
+use std::marker::Model;
+
+/// The history and what it doesn't have yet. Contracts see it as a `Stored` journal of the specs.
+#[derive(Drop)]
+pub struct Journal {
+    alloc: Global,
+    history: History,
+    sealed: Vec<RunningEpoch>,
+    running: RunningEpoch,
+    kept: u64,
+}
+
+impl Model for Journal {
+    ghost use Rattle.pair_core.specs.Journal.{Stored};
+
+    ghost Value = { Stored };
+
+    ghost use Rattle.pair_core.specs.JournalFields.{stored, AreFields};
+
+    ghost view = { stored };
+
+    ghost invariant = { AreFields };
+}
+
+impl Journal {
+    /// A journal in which nothing happened yet.
+    pub(crate) fn new(alloc: Global) -> Journal
+        ensures { result.journal ≡ empty_journal }
+    {
+        Journal {
+            alloc,
+            history: History::new(alloc),
+            sealed: Vec::new(alloc),
+            running: RunningEpoch::new(alloc),
+            kept: 0,
+        }
+    }
+
+    /// The history.
+    pub(crate) fn history(&self) -> &History
+        ensures { result.now.entries ≡ self.now.journal.history }
+    {
+        &self.history
+    }
+
+    /// How many more entries have numbers.
+    pub(crate) fn entries_left(&self) -> u64
+        ensures { length (all_entries self.now.journal) + (result + 1) ≡ NUMBER_LIMIT }
+    {
+        NUMBER_LIMIT - 1 - (self.history.len() + self.kept)
+    }
+
+    /// The guest made so many steps.
+    pub(crate) fn run(&mut self, steps: u64)
+        requires fits { length (all_entries self.old.journal) + steps < NUMBER_LIMIT }
+        ensures { self.new.journal ≡ with_running self.old.journal (replicate steps Ran) }
+    {
+        self.running.steps += steps;
+        self.kept += steps;
+    }
+
+    /// Makes room for one more arrival in the running epoch.
+    pub(crate) fn reserve_arrival(&mut self) -> Result<(), AllocError>
+        ensures journal { self.new.journal ≡ self.old.journal }
+        ensures room { OnOk result (0 < self.new.arrival_room) }
+    {
+        self.running.arrivals.reserve(1)
+    }
+
+    /// The frame of this number arrived at the guest.
+    pub(crate) fn arrive(&mut self, number: u64)
+        requires room { 0 < self.old.arrival_room }
+        requires fits { length (all_entries self.old.journal) + 1 < NUMBER_LIMIT }
+        ensures { self.new.journal ≡ with_running self.old.journal (Arrive number ∷ []) }
+    {
+        let steps = self.running.steps;
+        self.running
+            .arrivals
+            .push(Arrival { steps, number })
+            .unwrap();
+        self.running.steps = 0;
+        self.kept += 1;
+    }
+
+    /// The running epoch is sealed, and the next one begins.
+    pub(crate) fn seal(&mut self) -> Result<(), AllocError>
+        ensures ok { OnOk result (self.new.journal ≡ sealed_off self.old.journal) }
+        ensures err { OnErr result (self.new.journal ≡ self.old.journal) }
+    {
+        self.sealed.reserve(1)?;
+        let epoch = std::mem::replace(&mut self.running, RunningEpoch::new(self.alloc));
+        self.sealed.push(epoch).unwrap();
+        Ok(())
+    }
+
+    /// The oldest sealed epoch moves to the history.
+    pub(crate) fn commit(&mut self) -> Result<(), AllocError>
+        requires { 0 < length self.old.journal.sealed }
+        ensures ok { OnOk result (self.new.journal ≡ committed self.old.journal) }
+        ensures err { OnErr result (self.new.journal ≡ self.old.journal) }
+    {
+        let arrivals = self.sealed[0].arrivals.len();
+        self.history.reserve(2 * arrivals + 1)?;
+        let RunningEpoch { arrivals, steps } = self.sealed.remove(0);
+        let before = self.history.len();
+        add_epoch(&mut self.history, arrivals.as_slice(), steps);
+        self.kept -= self.history.len() - before;
+        Ok(())
+    }
+
+    /// Makes room for so many more stored entries in the history.
+    pub(crate) fn reserve(&mut self, additional: usize) -> Result<(), AllocError>
+        ensures journal { self.new.journal ≡ self.old.journal }
+        ensures room { OnOk result (additional ≤ self.new.room) }
+    {
+        self.history.reserve(additional)
+    }
+
+    /// Adds an entry of a client's to the history, in the room that was reserved.
+    pub(crate) fn add(&mut self, entry: Entry)
+        requires room { 0 < self.old.room }
+        requires fits { length (all_entries self.old.journal) + length (expanded entry) < NUMBER_LIMIT }
+        ensures { self.new.journal ≡ with_history self.old.journal (expanded entry) }
+    {
+        self.history.add(entry);
+    }
+
+    /// Adds what becomes of the frames once they land in these ports, in the room that was reserved.
+    pub(crate) fn land(&mut self, ports: &Ports, frames: &[Frame])
+        requires room { length (receivers (length ports.now.boxes) frames.now) ≤ self.old.room }
+        requires fits { length (all_entries self.old.journal) + length (receivers (length ports.now.boxes) frames.now) < NUMBER_LIMIT }
+        ensures { self.new.journal
+            ≡ with_history self.old.journal (landings ports.now.boxes (targets_of (length ports.now.boxes) frames.now)) }
+    {
+        add_landings(&mut self.history, ports, frames);
+    }
+}

@@ -1,0 +1,11 @@
+//! The limits of the pair. Those of frames, clients, inboxes, boxes and numbers are `frame_ports`'s, those of the outbox and of
+//! memory and disk `guest_machine`'s, that of held epochs `output_gate`'s.
+
+/// How many checkpoints may be pending.
+pub(crate) const MOST_PENDING: u64 = 4;
+
+/// A step needs 64 free places of the 256 in the outbox.
+pub(crate) const STEP_ROOM: usize = 192;
+
+/// The generation before any failure.
+pub(crate) const FIRST_GENERATION: u64 = 1;

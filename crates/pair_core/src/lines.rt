@@ -1,0 +1,106 @@
+//! The two lines between the nodes: each packet that was ever sent.
+ghost use Rattle.std.specs.Prelude.{◌≡◌, ◌+◌, ◌-◌, ◌^◌, ◌≤◌, ◌<◌, ◌++◌, ◌∷◌, [], OnOk, OnErr, slice_get};
+ghost use Rattle.pair_core.specs.Lines.{packet, packets_from, no_packets, with_forward, with_back};
+
+use crate::event::Packet;
+use std::alloc::{AllocError, Global};
+use std::marker::Model;
+
+/// What was sent to the backup, and what was sent back. Contracts see them as `Carried` lines of the specs.
+#[derive(Drop)]
+pub struct Lines {
+    forward: Vec<Packet>,
+    back: Vec<Packet>,
+}
+
+impl Model for Lines {
+    ghost use Rattle.std.specs.Prelude.{◌-◌, vec_len, vec_capacity};
+    ghost use Rattle.pair_core.specs.Lines.{Carried};
+
+    ghost Value = { Carried };
+
+    ghost view = { λ a. record { lines = record { forward = a.forward.items; back = a.back.items }; room = vec_capacity a.back - vec_len a.back } };
+}
+
+/// The packet of this number, counted from 0 in the order sent.
+fn packet_at(packets: &[Packet], k: u64) -> Option<Packet>
+    ensures { result ≡ slice_get packets.now k }
+{
+    let place = k as usize;
+    if place < packets.len() {
+        Some(packets[place])
+    } else {
+        None
+    }
+}
+
+/// Adds one packet for each of these numbers, rising.
+fn send_all(
+    packets: &mut Vec<Packet>,
+    generation: u64,
+    first: u64,
+    end: u64,
+) -> Result<(), AllocError>
+    requires { first ≤ end }
+    ensures ok { OnOk result (packets.new.items ≡ packets.old.items ++ packets_from generation first (end - first)) }
+    ensures err { OnErr result (packets.new.items ≡ packets.old.items) }
+    ensures none { OnErr result (first < end) }
+{
+    packets.reserve((end - first) as usize)?;
+    for number in first..end {
+        packets.push(Packet { generation, number }).unwrap();
+    }
+    Ok(())
+}
+
+impl Lines {
+    /// Lines on which nothing was sent.
+    pub(crate) fn new(alloc: Global) -> Lines
+        ensures { result.lines ≡ no_packets }
+    {
+        Lines {
+            forward: Vec::new(alloc),
+            back: Vec::new(alloc),
+        }
+    }
+
+    /// The packet of this number on the line to the backup.
+    pub(crate) fn packet(&self, k: u64) -> Option<Packet>
+        ensures { result ≡ slice_get self.now.lines.forward k }
+    {
+        packet_at(&self.forward, k)
+    }
+
+    /// The packet of this number on the line back.
+    pub(crate) fn acknowledgement(&self, k: u64) -> Option<Packet>
+        ensures { result ≡ slice_get self.now.lines.back k }
+    {
+        packet_at(&self.back, k)
+    }
+
+    /// Sends the backup one packet for each of these numbers, rising.
+    pub(crate) fn send(&mut self, generation: u64, first: u64, end: u64) -> Result<(), AllocError>
+        requires { first ≤ end }
+        ensures ok { OnOk result (self.new.lines ≡ with_forward self.old.lines (packets_from generation first (end - first))) }
+        ensures err { OnErr result (self.new.lines ≡ self.old.lines) }
+        ensures none { OnErr result (first < end) }
+    {
+        send_all(&mut self.forward, generation, first, end)
+    }
+
+    /// Makes room for one more packet on the line back.
+    pub(crate) fn reserve_acknowledgement(&mut self) -> Result<(), AllocError>
+        ensures lines { self.new.lines ≡ self.old.lines }
+        ensures room { OnOk result (0 < self.new.room) }
+    {
+        self.back.reserve(1)
+    }
+
+    /// Sends one packet back, in the room that was reserved.
+    pub(crate) fn acknowledge(&mut self, generation: u64, number: u64)
+        requires { 0 < self.old.room }
+        ensures { self.new.lines ≡ with_back self.old.lines (packet generation number) }
+    {
+        self.back.push(Packet { generation, number }).unwrap();
+    }
+}

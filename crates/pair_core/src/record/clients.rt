@@ -1,0 +1,162 @@
+//! What clients do, at the pair's record.
+ghost use Rattle.std.specs.Prelude.{◌≡◌, ◌<◌, ◌∷◌, [], length, IfOk, OnOk, OnErr, None, Some, slice_get};
+ghost use Rattle.frame_ports.specs.Addresses.{IsFrame};
+ghost use Rattle.frame_ports.specs.Ports.{IsClient, inbox_of, after_delivery};
+ghost use Rattle.pair_history.specs.Entries.{Took};
+ghost use Rattle.pair_history.specs.Log.{expanded};
+ghost use Rattle.pair_core.specs.Protocol.{first_refusal, client_refusals, admit_refusals, admit_done, deliver_refusals, delivery_refused, deliver_done, take_refusals, take_done};
+ghost use Rattle.pair_core.specs.Record.{ports_after_admit, ports_after_take};
+
+use super::PairRecord;
+use crate::event::{Refusal, Reply};
+use crate::frames::{fill, place_for_frame};
+use frame_ports::{INBOX_FRAMES, MAX_FRAME, MIN_FRAME, NUMBER_LIMIT};
+use pair_history::{Entry, Frame};
+use std::alloc::AllocError;
+
+impl PairRecord {
+    /// Why an event of this client's is refused whatever it is.
+    pub(crate) fn client_refusal(&self, client: u64) -> Option<Refusal>
+        ensures { result ≡ first_refusal (client_refusals (length self.now.ports.boxes) client) }
+    {
+        if self.is_client(client) {
+            None
+        } else {
+            Some(Refusal::NoClient)
+        }
+    }
+
+    /// How many frames of this client wait for the guest.
+    pub(crate) fn inbox_len(&self, client: u64) -> usize
+        requires { IsClient self.now.ports client }
+        ensures { result ≡ length (inbox_of self.now.ports client) }
+    {
+        self.ports.inbox_len(client)
+    }
+
+    /// Why a frame that waits isn't admitted.
+    pub(crate) fn admit_refusal(&self) -> Option<Refusal>
+        ensures { result ≡ first_refusal (admit_refusals self.now.protocol) }
+    {
+        if self.is_exhausted_by(1) {
+            Some(Refusal::Exhausted)
+        } else {
+            None
+        }
+    }
+
+    /// The first frame of this client's inbox leaves it for the guest, with its number.
+    pub(crate) fn admit(&mut self, client: u64) -> Result<(u64, Frame), AllocError>
+        requires free { first_refusal (admit_refusals self.old.protocol) ≡ None }
+        requires client { IsClient self.old.ports client }
+        requires some { 0 < length (inbox_of self.old.ports client) }
+        ensures first { IfOk result (λ x. slice_get (inbox_of self.old.ports client) 0 ≡ Some x) }
+        ensures frame { IfOk result (λ x. IsFrame x.1) }
+        ensures protocol { IfOk result (λ x. self.new.protocol ≡ (admit_done self.old.protocol x.0).1) }
+        ensures ports { OnOk result (self.new.ports ≡ ports_after_admit self.old.ports client) }
+        ensures err { OnErr result (self.new ≡ self.old) }
+    {
+        self.journal.reserve_arrival()?;
+        let Ok(Some((number, frame))) = self.ports.admit(client) else {
+            unreachable!();
+        };
+        self.journal.arrive(number);
+        Ok((number, frame))
+    }
+
+    /// Why a delivery is refused.
+    pub(crate) fn deliver_refusal(&self, client: u64, bytes: &[u8]) -> Option<Refusal>
+        ensures { result
+            ≡ first_refusal (deliver_refusals (length self.now.ports.boxes) (inbox_of self.now.ports client) self.now.ports.next self.now.protocol client bytes.now) }
+    {
+        if !self.is_client(client) {
+            Some(Refusal::NoClient)
+        } else if bytes.len() < MIN_FRAME || bytes.len() > MAX_FRAME {
+            Some(Refusal::BadFrame)
+        } else if self.is_exhausted_by(1) {
+            Some(Refusal::Exhausted)
+        } else if self.ports.inbox_len(client) >= INBOX_FRAMES {
+            Some(Refusal::Full)
+        } else if self.ports.next_number() >= NUMBER_LIMIT {
+            Some(Refusal::Exhausted)
+        } else {
+            None
+        }
+    }
+
+    /// A delivery to a full inbox is recorded, and that is all.
+    pub(crate) fn refuse_delivery(&mut self, client: u64, bytes: &[u8]) -> Result<Reply, AllocError>
+        requires { first_refusal (deliver_refusals (length self.old.ports.boxes) (inbox_of self.old.ports client) self.old.ports.next self.old.protocol client bytes.now) ≡ Some Refusal.Full }
+        ensures ok { IfOk result (λ reply. (reply, self.new.protocol)
+            ≡ delivery_refused self.old.protocol client (record { items = bytes.now }) Refusal.Full) }
+        ensures ports { self.new.ports ≡ self.old.ports }
+        ensures err { OnErr result (self.new ≡ self.old) }
+    {
+        let mut place = place_for_frame(self.alloc)?;
+        self.journal.reserve(1)?;
+        fill(&mut place, bytes);
+        self.journal.add(Entry::Refused(client, place));
+        Ok(Reply::Refused(Refusal::Full))
+    }
+
+    /// The client delivers a frame of these bytes, which waits for the guest.
+    pub(crate) fn deliver(&mut self, client: u64, bytes: &[u8]) -> Result<Reply, AllocError>
+        requires { first_refusal (deliver_refusals (length self.old.ports.boxes) (inbox_of self.old.ports client) self.old.ports.next self.old.protocol client bytes.now) ≡ None }
+        ensures ok { IfOk result (λ reply. (reply, self.new.protocol)
+            ≡ deliver_done self.old.protocol client (record { items = bytes.now }) self.old.ports.next) }
+        ensures ports { OnOk result (self.new.ports ≡ after_delivery self.old.ports client bytes.now) }
+        ensures err { OnErr result (self.new ≡ self.old) }
+    {
+        let mut place = place_for_frame(self.alloc)?;
+        self.journal.reserve(1)?;
+        fill(&mut place, bytes);
+        let Ok(number) = self.ports.deliver(client, bytes) else {
+            unreachable!();
+        };
+        self.journal.add(Entry::Delivered(client, place, number));
+        Ok(Reply::Delivered(number))
+    }
+
+    /// Why a client can't take a frame.
+    pub(crate) fn take_refusal(&self, client: u64) -> Option<Refusal>
+        ensures { result ≡ first_refusal (take_refusals (length self.now.ports.boxes) self.now.protocol client) }
+    {
+        if !self.is_client(client) {
+            Some(Refusal::NoClient)
+        } else if self.is_exhausted_by(1) {
+            Some(Refusal::Exhausted)
+        } else {
+            None
+        }
+    }
+
+    /// The client takes the first frame of its box, or finds none.
+    pub(crate) fn take(&mut self, client: u64) -> Result<Reply, AllocError>
+        requires { first_refusal (take_refusals (length self.old.ports.boxes) self.old.protocol client) ≡ None }
+        ensures ok { IfOk result (λ reply. (reply, self.new.protocol) ≡ take_done self.old.ports.boxes self.old.protocol client) }
+        ensures ports { OnOk result (self.new.ports ≡ ports_after_take self.old.ports client) }
+        ensures err { OnErr result (self.new ≡ self.old) }
+    {
+        let mut place = place_for_frame(self.alloc)?;
+        self.journal.reserve(1)?;
+        let Ok(taken) = self.ports.take(client) else {
+            unreachable!();
+        };
+        self.journal.add(took(client, &taken, place));
+        Ok(Reply::Took(taken))
+    }
+}
+
+/// The entry of a client that takes this frame, which is put into its place, or finds none.
+fn took(client: u64, taken: &Option<Frame>, mut place: Box<Frame>) -> Entry
+    requires { place.value.items ≡ [] }
+    ensures { expanded result ≡ Took client taken.now ∷ [] }
+{
+    match taken {
+        Some(frame) => {
+            fill(&mut place, frame.as_slice());
+            Entry::Took(client, Some(place))
+        }
+        None => Entry::Took(client, None),
+    }
+}

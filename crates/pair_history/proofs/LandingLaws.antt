@@ -1,0 +1,157 @@
+-- Laws of landings: what the entries that an acknowledgement adds do to a history's state.
+use Rattle.std.proofs.Common.{◌≡◌, ℕ, zero, suc, ◌+◌, ◌-◌, ◌<◌, ◌≤◌, List, [], ◌∷◌, ◌++◌, length, take, set, remove, get_or, refl, sym, ap, ◌∙◌, subst, arith, Bool, true, false, cond}
+use Rattle.std.specs.Prelude.{nat_lt}
+use Rattle.std.proofs.lemmas.Bool.{eq-eqb, ltb-true}
+use Rattle.std.proofs.lemmas.Bool.Decides.{nat_tests}
+use Rattle.frame_ports.specs.Addresses.{addressed, targets_of, paired_with, clients_of, clients_from}
+use Rattle.frame_ports.specs.Lands.{list_of, with_list, has_room, landed_at, lands}
+use Rattle.frame_ports.specs.declared.limits.TheConstants.{BOX_FRAMES}
+use Rattle.pair_history.specs.Entries.{Frame, Entry, Land, DropOut}
+use Rattle.pair_history.specs.HistoryState.{HistoryState, at, after, Legal, Allows, out_of, out_without}
+use Rattle.pair_history.specs.Landings.{landings}
+use Rattle.pair_history.specs.Landings.{DropsAtFull}
+use Rattle.pair_history.specs.Landings.{BoxesFit}
+
+-- boxes keep their number and their limit
+
+pub length-set' : (bs : List (List Frame)) (i : ℕ) (b : List Frame) → length (set bs i b) ≡ length bs
+length-set' [] i b = refl
+length-set' (x ∷ bs) zero b = refl
+length-set' (x ∷ bs) (suc i) b = ap suc (length-set' bs i b)
+
+pub length-landed_at : (bs : List (List Frame)) (c : ℕ) (f : Frame) → length (landed_at bs c f) ≡ length bs
+length-landed_at bs c f = by_test (has_room bs c)
+  where
+    by_test : (t : Bool) → length (cond t (with_list bs c (list_of bs c ++ f ∷ [])) bs) ≡ length bs
+    by_test true = length-set' bs (c - 1) (list_of bs c ++ f ∷ [])
+    by_test false = refl
+
+pub length-lands : (bs : List (List Frame)) (ps : List (ℕ × Frame)) → length (lands bs ps) ≡ length bs
+length-lands bs [] = refl
+length-lands bs (p ∷ ps) = length-lands (landed_at bs p.0 p.1) ps ∙ length-landed_at bs p.0 p.1
+
+pub BoxesFit-set : (bs : List (List Frame)) (i : ℕ) (b : List Frame) → BoxesFit bs → length b ≤ BOX_FRAMES → BoxesFit (set bs i b)
+BoxesFit-set [] i b h k = tt
+BoxesFit-set (x ∷ bs) zero b h k = (k, h.1)
+BoxesFit-set (x ∷ bs) (suc i) b h k = (h.0, BoxesFit-set bs i b h.1 k)
+
+pub BoxesFit-at : (bs : List (List Frame)) (i : ℕ) → BoxesFit bs → length (get_or bs i []) ≤ BOX_FRAMES
+BoxesFit-at [] i h = omega arith
+BoxesFit-at (x ∷ bs) zero h = h.0
+BoxesFit-at (x ∷ bs) (suc i) h = BoxesFit-at bs i h.1
+
+length-push : (xs : List Frame) (f : Frame) → length (xs ++ f ∷ []) ≡ suc (length xs)
+length-push [] f = refl
+length-push (x ∷ xs) f = ap suc (length-push xs f)
+
+pub BoxesFit-landed_at : (bs : List (List Frame)) (c : ℕ) (f : Frame) → BoxesFit bs → BoxesFit (landed_at bs c f)
+BoxesFit-landed_at bs c f h = by_test (has_room bs c) refl
+  where
+    by_test : (t : Bool) → has_room bs c ≡ t → BoxesFit (cond t (with_list bs c (list_of bs c ++ f ∷ [])) bs)
+    by_test true e =
+        let below : length (list_of bs c) < BOX_FRAMES = ltb-true (length (list_of bs c)) BOX_FRAMES e in
+        BoxesFit-set bs (c - 1) (list_of bs c ++ f ∷ []) h (omega (arith, length-push (list_of bs c) f))
+    by_test false e = h
+
+pub BoxesFit-lands : (bs : List (List Frame)) (ps : List (ℕ × Frame)) → BoxesFit bs → BoxesFit (lands bs ps)
+BoxesFit-lands bs [] h = h
+BoxesFit-lands bs (p ∷ ps) h = BoxesFit-lands (landed_at bs p.0 p.1) ps (BoxesFit-landed_at bs p.0 p.1 h)
+
+-- each pair's client is one of n
+abbrev pub AllClients : ℕ → List (ℕ × Frame) → Type 0
+AllClients n [] = Unit {0}
+AllClients n (p ∷ ps) = (1 ≤ p.0) × (p.0 ≤ n) × AllClients n ps
+
+AllClients-append : (n : ℕ) (ps qs : List (ℕ × Frame)) → AllClients n ps → AllClients n qs → AllClients n (ps ++ qs)
+AllClients-append n [] qs h k = k
+AllClients-append n (p ∷ ps) qs h k = (h.0, h.1, AllClients-append n ps qs h.2 k)
+
+clients_more : (n first : ℕ) (rest : List ℕ) (f : Frame) (t : Bool) → 1 ≤ first → first ≤ n → AllClients n (paired_with rest f) → AllClients n (paired_with (cond t (first ∷ rest) rest) f)
+clients_more n first rest f true low high later = (low, high, later)
+clients_more n first rest f false low high later = later
+
+clients_in_range : (n k first : ℕ) (bytes : List ℕ) (f : Frame) → 1 ≤ first → first + k ≤ n + 1 → AllClients n (paired_with (clients_from k first bytes) f)
+clients_in_range n zero first bytes f h l = tt
+clients_in_range n (suc k) first bytes f h l =
+    clients_more n first (clients_from k (first + 1) bytes) f (addressed bytes first) h (omega arith) (clients_in_range n k (first + 1) bytes f (omega arith) (omega arith))
+
+pub AllClients-targets : (n : ℕ) (fs : List Frame) → AllClients n (targets_of n fs)
+AllClients-targets n [] = tt
+AllClients-targets n (f ∷ fs) =
+    AllClients-append n (paired_with (clients_of n f.items) f) (targets_of n fs) (clients_in_range n n 1 f.items f (omega arith) (omega arith)) (AllClients-targets n fs)
+
+-- the first frame on its way
+
+out_of-first : (c : ℕ) (f : Frame) (qs : List (ℕ × Frame)) → out_of c ((c, f) ∷ qs) ≡ f ∷ out_of c qs
+out_of-first c f qs = ap (λ t. cond t (f ∷ out_of c qs) (out_of c qs)) (eq-eqb c c refl)
+
+out_without-first : (c : ℕ) (f : Frame) (qs : List (ℕ × Frame)) → out_without c 0 ((c, f) ∷ qs) ≡ qs
+out_without-first c f qs = ap (λ t. cond t qs ((c, f) ∷ out_without c 0 qs)) (eq-eqb c c refl)
+
+-- one frame lands, or is dropped at a full box
+module _ (s : HistoryState) (c : ℕ) (f : Frame) (qs : List (ℕ × Frame)) (first : s.out ≡ (c, f) ∷ qs) (low : 1 ≤ c) (high : c ≤ length s.boxes) (fit : BoxesFit s.boxes) where
+  abbrev the_box : List Frame
+  the_box = list_of s.boxes c
+
+  abbrev the_entry : Bool → Entry
+  the_entry t = cond t (Land c) (DropOut c BOX_FRAMES)
+
+  abbrev the_state : HistoryState
+  the_state = record s { out = qs; boxes = landed_at s.boxes c f }
+
+  abbrev Lands : Entry → Type 0
+  Lands e = Allows s e × (after s e ≡ the_state) × ((es : List Entry) → DropsAtFull (after s e) es → DropsAtFull s (e ∷ es))
+
+  front : out_of c s.out ≡ f ∷ out_of c qs
+  front = ap (out_of c) first ∙ out_of-first c f qs
+
+  rest : out_without c 0 s.out ≡ qs
+  rest = ap (out_without c 0) first ∙ out_without-first c f qs
+
+  with_room : has_room s.boxes c ≡ true → Lands (Land c)
+  with_room e = (
+    ((low, high), subst (λ (fs : List Frame). 0 < length fs) (sym front) (omega arith), ltb-true (length the_box) BOX_FRAMES e),
+    (λ i. record s { out = rest i; boxes = (ap (λ (fs : List Frame). with_list s.boxes c (the_box ++ take 1 fs)) front ∙ sym (ap (λ t. cond t (with_list s.boxes c (the_box ++ f ∷ [])) s.boxes) e)) i }),
+    (λ es d. d),
+  )
+
+  at_limit : has_room s.boxes c ≡ false → length the_box ≡ BOX_FRAMES
+  at_limit e = let most : length the_box ≤ BOX_FRAMES = BoxesFit-at s.boxes (c - 1) fit in grind (arith, nat_tests)
+
+  full : has_room s.boxes c ≡ false → Lands (DropOut c BOX_FRAMES)
+  full e =
+      let is : length the_box ≡ BOX_FRAMES = at_limit e in
+      let test : nat_lt BOX_FRAMES (length the_box) ≡ false = ap (nat_lt BOX_FRAMES) is in
+      let here : BOX_FRAMES - length the_box ≡ 0 = omega arith in
+      let some : length (out_of c s.out) ≡ suc (length (out_of c qs)) = ap length front in (
+        ((low, high), omega arith),
+        (λ i. record s {
+          out = (ap (λ t. cond t s.out (out_without c (BOX_FRAMES - length the_box) s.out)) test ∙ ap (λ k. out_without c k s.out) here ∙ rest) i;
+          boxes = (ap (λ t. cond t (with_list s.boxes c (remove the_box BOX_FRAMES)) s.boxes) test ∙ sym (ap (λ t. cond t (with_list s.boxes c (the_box ++ f ∷ [])) s.boxes) e)) i;
+        }),
+        (λ es d. (refl, is, d)),
+      )
+
+  pub one_lands : Lands (the_entry (has_room s.boxes c))
+  one_lands = by_test (has_room s.boxes c) refl
+    where
+      by_test : (t : Bool) → has_room s.boxes c ≡ t → Lands (the_entry t)
+      by_test true e = with_room e
+      by_test false e = full e
+
+-- all of them do
+abbrev pub AllLand : HistoryState → List (ℕ × Frame) → List (ℕ × Frame) → List Entry → Type 0
+AllLand s ps qs es = Legal s es × (at s es ≡ record s { out = qs; boxes = lands s.boxes ps }) × DropsAtFull s es
+
+pub landings-land : (s : HistoryState) (ps qs : List (ℕ × Frame)) → s.out ≡ ps ++ qs → AllClients (length s.boxes) ps → BoxesFit s.boxes → AllLand s ps qs (landings s.boxes ps)
+landings-land s [] qs e a fit = (tt, (λ i. record s { out = e i }), tt)
+landings-land s (p ∷ ps) qs e a fit =
+    let one = one_lands s p.0 p.1 (ps ++ qs) e a.0 a.1 fit in
+    let entry = cond (has_room s.boxes p.0) (Land p.0) (DropOut p.0 BOX_FRAMES) in
+    let t : HistoryState = record s { out = ps ++ qs; boxes = landed_at s.boxes p.0 p.1 } in
+    let more : AllLand t ps qs (landings t.boxes ps) =
+    landings-land t ps qs refl (subst (λ n. AllClients n ps) (sym (length-landed_at s.boxes p.0 p.1)) a.2) (BoxesFit-landed_at s.boxes p.0 p.1 fit) in
+    let es = landings t.boxes ps in
+    let legal : Legal (after s entry) es = subst (λ (v : HistoryState). Legal v es) (sym one.1) more.0 in
+    let drops : DropsAtFull (after s entry) es = subst (λ (v : HistoryState). DropsAtFull v es) (sym one.1) more.2 in
+    ((one.0, legal), ap (λ v. at v es) one.1 ∙ more.1, one.2 es drops)

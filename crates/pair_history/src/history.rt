@@ -1,0 +1,117 @@
+ghost use Rattle.std.specs.Prelude.{◌≡◌, ◌+◌, ◌^◌, ◌<◌, ◌≤◌, ◌++◌, [], length, OnOk, IsTrue, ◌↔◌};
+
+use frame_ports::Frame;
+use std::alloc::{AllocError, Global};
+use std::marker::Model;
+
+/// One entry of the history, or a number of steps that came one after another.
+#[derive(Drop)]
+pub enum Entry {
+    /// The guest made so many steps.
+    Ran(u64),
+    /// The delivered frame of this number arrived at the guest.
+    Arrive(u64),
+    /// This client delivered the frame, which got this number.
+    Delivered(u64, Box<Frame>, u64),
+    /// This client's frame wasn't taken, since its inbox was full.
+    Refused(u64, Box<Frame>),
+    /// The first frame on its way to this client was put into its box.
+    Land(u64),
+    /// The frame at this place, from 0, of the client's box followed by the frames on their way to it was dropped.
+    DropOut { client: u64, place: u64 },
+    /// This client took the first frame of its box, or found the box empty.
+    Took(u64, Option<Box<Frame>>),
+}
+
+/// The history of the guest and its clients. It only grows. Contracts see its entries one by one.
+#[derive(Drop)]
+pub struct History {
+    entries: Vec<Entry>,
+    len: u64,
+}
+
+impl Model for History {
+    ghost use Rattle.std.specs.Prelude.{◌≡◌, length};
+    ghost use Rattle.pair_history.specs.Log.{Log};
+
+    ghost Value = { Log };
+
+    ghost use Rattle.pair_history.specs.LogFields.{log_of};
+
+    ghost view = { log_of };
+
+    ghost invariant = { λ h. h.len ≡ length (log_of h).entries };
+}
+
+impl History {
+    ghost use Rattle.pair_history.specs.Log.{expanded, all_expanded};
+
+    /// An empty history.
+    pub fn new(alloc: Global) -> History
+        ensures { result.entries ≡ [] }
+    {
+        History {
+            entries: Vec::new(alloc),
+            len: 0,
+        }
+    }
+
+    /// Makes room for so many more stored entries, or is refused for want of memory.
+    pub fn reserve(&mut self, additional: usize) -> Result<(), AllocError>
+        ensures entries { self.new.entries ≡ self.old.entries }
+        ensures room { OnOk result (additional ≤ self.new.room) }
+    {
+        self.entries.reserve(additional)
+    }
+
+    /// Adds an entry at the end, in the room that was reserved.
+    pub fn add(&mut self, entry: Entry)
+        requires room { 0 < self.old.room }
+        requires fits { length (self.old.entries ++ expanded entry) < 2 ^ 62 }
+        ensures entries { self.new.entries ≡ self.old.entries ++ expanded entry }
+        ensures room { self.old.room ≤ self.new.room + 1 }
+    {
+        self.len += entry.count();
+        self.entries.push(entry).unwrap();
+    }
+
+    /// How many entries there are, each step counted.
+    pub fn len(&self) -> u64
+        ensures { result ≡ length self.now.entries }
+    {
+        self.len
+    }
+
+    /// Whether nothing has happened yet.
+    pub fn is_empty(&self) -> bool
+        ensures { IsTrue result ↔ (self.now.entries ≡ []) }
+    {
+        self.len == 0
+    }
+
+    /// The entries as they are stored.
+    pub fn entries(&self) -> &[Entry]
+        ensures { all_expanded result.now ≡ self.now.entries }
+    {
+        self.entries.as_slice()
+    }
+}
+
+impl Entry {
+    ghost use Rattle.pair_history.specs.Log.{expanded};
+
+    /// How many entries it stands for.
+    pub fn count(&self) -> u64
+        ensures { result ≡ length (expanded self.now) }
+    {
+        match self {
+            Entry::Ran(steps) => *steps,
+            Entry::Arrive(_)
+            | Entry::Delivered(_, _, _)
+            | Entry::Refused(_, _)
+            | Entry::Land(_)
+            | Entry::DropOut { .. }
+            | Entry::Took(_, _) => 1,
+        }
+    }
+}
