@@ -2,9 +2,7 @@ pub mod States
 pub mod Waiting
 pub mod Moves
 pub mod LandingLaws
-pub mod ReleasedLaws
 pub mod Parts
 pub mod ClientLists
-pub mod OrderLaws
-pub mod CountLaws
+pub mod AccountLaws
 pub mod LogLaws

@@ -100,19 +100,18 @@ abbrev pub Legal : HistoryState → List Entry → Type 0
 Legal s [] = Unit {0}
 Legal s (e ∷ es) = Allows s e × Legal (after s e) es
 
+-- what entries contribute in their turn, one after another
+abbrev pub along : {X : Type 0} → (HistoryState → Entry → List X) → HistoryState → List Entry → List X
+along gives s [] = []
+along gives s (e ∷ es) = gives s e ++ along gives (after s e) es
+
 -- the frames that the guest sends along these entries
 abbrev pub sent_by : HistoryState → Entry → List Frame
 sent_by s Ran = sent s.guest
-sent_by s (Arrive n) = []
-sent_by s (Delivered c f n) = []
-sent_by s (Refused c f) = []
-sent_by s (Land c) = []
-sent_by s (DropOut c place) = []
-sent_by s (Took c answer) = []
+sent_by s other = []
 
 abbrev pub sent_along : HistoryState → List Entry → List Frame
-sent_along s [] = []
-sent_along s (e ∷ es) = sent_by s e ++ sent_along (after s e) es
+sent_along s es = along sent_by s es
 
 -- the boot guest, nothing delivered, nothing on its way, and an empty box for each client
 abbrev pub start_state : ℕ → ℕ → List ℕ → ℕ → HistoryState
