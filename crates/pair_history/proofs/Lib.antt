@@ -5,4 +5,5 @@ pub mod LandingLaws
 pub mod Parts
 pub mod ClientLists
 pub mod AccountLaws
+pub mod OrderLaws
 pub mod LogLaws

@@ -32,6 +32,17 @@ first-more (x ∷ xs) ys a e = e
 pub IsFirst-more : (n : ℕ) (xs ys : List Waiting) → IsFirst n xs → IsFirst n (xs ++ ys)
 IsFirst-more n xs ys h = (h.0, h.1, ap (λ t. slice_get t 0) (inbox_of-append h.0 xs ys) ∙ first-more (inbox_of h.0 xs) (inbox_of h.0 ys) (n, h.1) h.2)
 
+-- the first of a client has its number
+pub first-waits : (n c : ℕ) (f : Frame) (ws : List Waiting) → slice_get (inbox_of c ws) 0 ≡ Some (n, f) → (g : Frame) × (frame_numbered n ws ≡ Some g)
+first-waits n c f [] e = absurd (cc)
+first-waits n c f (x ∷ xs) e = by_tests (x.number == n) (x.client == c) refl e (first-waits n c f xs)
+  where
+    by_tests : (t u : Bool) → (x.number == n) ≡ t → slice_get (cond u ((x.number, x.frame) ∷ inbox_of c xs) (inbox_of c xs)) 0 ≡ Some (n, f)
+        → (slice_get (inbox_of c xs) 0 ≡ Some (n, f) → (g : Frame) × (frame_numbered n xs ≡ Some g)) → (g : Frame) × (cond t (Some x.frame) (frame_numbered n xs) ≡ Some g)
+    by_tests true u is e more = (x.frame, refl)
+    by_tests false true off e more = let p : ◌≡◌ {A = ℕ × Frame} (x.number, x.frame) (n, f) = cc in clash (x.number == n) (eq-eqb x.number n (ap (λ (q : ℕ × Frame). q.0) p)) off
+    by_tests false false off e more = more e
+
 pub frame_numbered-more : (n : ℕ) (f : Frame) (xs ys : List Waiting) → frame_numbered n xs ≡ Some f → frame_numbered n (xs ++ ys) ≡ Some f
 frame_numbered-more n f [] ys e = absurd (cc)
 frame_numbered-more n f (x ∷ xs) ys e = by_test (x.number == n) e (frame_numbered-more n f xs ys)

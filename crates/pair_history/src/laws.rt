@@ -2,7 +2,8 @@
 ghost use Rattle.std.specs.Prelude.{◌≡◌, ℕ, ◌+◌, ◌≤◌, ◌++◌, List, length};
 ghost use Rattle.std.specs.List.{All};
 ghost use Rattle.pair_history.specs.Entries.{Entry};
-ghost use Rattle.pair_history.specs.HistoryState.{HistoryState, at, Legal, out_of, start_state};
+ghost use Rattle.pair_history.specs.HistoryState.{HistoryState, after, at, Legal, out_of, start_state};
+ghost use Rattle.pair_history.specs.Order.{AreGuests, IsReady};
 ghost use Rattle.pair_history.specs.Released.{frames, Sent, goes_on, account, WasSent, IsSound, released, taken, dropped_count, IsFresh};
 ghost use Rattle.frame_ports.specs.Lands.{list_of};
 
@@ -25,4 +26,12 @@ pub fn released_frames_were_sent()
     ensures taken { (s : HistoryState) (es : List Entry) (c : ℕ) → IsFresh s → Legal s es → 1 ≤ c → frames (account s es c).taken ≡ taken es c }
     ensures dropped { (s : HistoryState) (es : List Entry) (c : ℕ) → IsFresh s → Legal s es → 1 ≤ c → length (account s es c).dropped ≡ dropped_count es c }
     ensures start_fresh { (pages sectors : ℕ) (image : List ℕ) (clients : ℕ) → IsFresh (start_state pages sectors image clients) }
+{}
+
+/// What clients and their lines do can come before what the guest does: a delivery, a landing, a drop or a take that is ready before
+/// the guest's entries leaves them legal, and the state after all of them is the same. So what a client is answered while an epoch
+/// is kept can stand in the history before that epoch.
+pub fn client_entries_go_first()
+    ensures { (s : HistoryState) (es : List Entry) (e : Entry) → AreGuests es → Legal s es → IsReady s e
+        → Legal (after s e) es × (at (after s e) es ≡ after (at s es) e) }
 {}
