@@ -9,14 +9,13 @@ use Rattle.pair_history.specs.HistoryState.{out_of, out_without}
 
 -- What is on its way to a client.
 
+pub cond_more : {X : Type 0} (t : Bool) (x : X) (xs ys : List X) → cond t (x ∷ (xs ++ ys)) (xs ++ ys) ≡ cond t (x ∷ xs) xs ++ ys
+cond_more true x xs ys = refl
+cond_more false x xs ys = refl
+
 pub out_of-append : (c : ℕ) (ps qs : List (ℕ × Frame)) → out_of c (ps ++ qs) ≡ out_of c ps ++ out_of c qs
 out_of-append c [] qs = refl
-out_of-append c (p ∷ ps) qs = by_test (p.0 == c) (out_of-append c ps qs)
-  where
-    by_test : (t : Bool) → out_of c (ps ++ qs) ≡ out_of c ps ++ out_of c qs
-        → cond t (p.1 ∷ out_of c (ps ++ qs)) (out_of c (ps ++ qs)) ≡ cond t (p.1 ∷ out_of c ps) (out_of c ps) ++ out_of c qs
-    by_test true e = ap (λ fs. p.1 ∷ fs) e
-    by_test false e = e
+out_of-append c (p ∷ ps) qs = ap (λ fs. cond (p.0 == c) (p.1 ∷ fs) fs) (out_of-append c ps qs) ∙ cond_more (p.0 == c) p.1 (out_of c ps) (out_of c qs)
 
 -- without one that is for this client
 out_of-own : (c place : ℕ) (ps : List (ℕ × Frame)) → out_of c (out_without c place ps) ≡ remove (out_of c ps) place

@@ -10,7 +10,7 @@ use Rattle.pair_history.specs.Entries.{Frame, Entry, Ran, Arrive, Delivered, Ref
 use Rattle.pair_history.specs.HistoryState.{HistoryState, Waiting, inbox_of, frame_numbered, without_number, with_arrived, IsFirst, out_of, out_without, at, after, Allows, Legal}
 use Rattle.pair_history.specs.Order.{IsGuests, AreGuests, IsReady}
 use Rattle.pair_history.proofs.ClientLists.{out_of-append}
-use Rattle.pair_history.proofs.Waiting.{IsFirst-more, frame_numbered-more, without_number-more, first-waits}
+use Rattle.pair_history.proofs.Waiting.{IsFirst-more, frame_numbered-more, first-waits}
 
 -- what is sent later goes behind what is on its way
 out_without-more : (c place : ℕ) (ps qs : List (ℕ × Frame)) → place < length (out_of c ps) → out_without c place (ps ++ qs) ≡ out_without c place ps ++ qs
@@ -82,12 +82,13 @@ module _ (s : HistoryState) where
   arrival-swaps : (n : ℕ) (e : Entry) → IsFirst n s.waiting → IsReady s e → Swaps s (Arrive n) e
   arrival-swaps n (Delivered c f m) h r =
       let new : List Waiting = record { number = m; client = c; frame = f } ∷ [] in
-      let waits = first-waits n h.0 h.1 s.waiting h.2 in (
+      let waits = first-waits n h.0 h.1 s.waiting h.2 in
+      let still = frame_numbered-more n waits.0 s.waiting new waits.1 in (
         IsFirst-more n s.waiting new h,
         (λ i. record s {
-          guest = with_arrived s.guest ((frame_numbered-more n waits.0 s.waiting new waits.1 ∙ sym waits.1) i);
+          guest = with_arrived s.guest ((still.0 ∙ sym waits.1) i);
           number = s.number + 1;
-          waiting = without_number-more n waits.0 s.waiting new waits.1 i;
+          waiting = still.1 i;
         }),
         tt,
       )

@@ -1,13 +1,10 @@
 -- Laws of histories: what a list of entries does, in two parts.
 use Rattle.std.proofs.Common.{◌≡◌, ℕ, List, [], ◌∷◌, ◌++◌, refl, sym, ap, ◌∙◌, append_assoc}
-use Rattle.frame_ports.specs.Addresses.{targets_of, paired_with, clients_of}
+pub use Rattle.frame_ports.proofs.AddressLaws.{targets_of-append}
+pub use Rattle.std.proofs.lemmas.List.{append-nil}
 use Rattle.pair_history.specs.Entries.{Frame, Entry, DropOut}
 use Rattle.pair_history.specs.HistoryState.{HistoryState, at, after, Legal, along}
 use Rattle.pair_history.specs.Landings.{DropsAtFull}
-
-pub append-nil : {A : Type 0} (xs : List A) → xs ++ [] ≡ xs
-append-nil [] = refl
-append-nil (x ∷ xs) = ap (λ ys. x ∷ ys) (append-nil xs)
 
 pub at-append : (s : HistoryState) (es fs : List Entry) → at s (es ++ fs) ≡ at (at s es) fs
 at-append s [] fs = refl
@@ -21,15 +18,6 @@ pub DropsAtFull-append : (s : HistoryState) (es fs : List Entry) → DropsAtFull
 DropsAtFull-append s [] fs p q = q
 DropsAtFull-append s (DropOut c place ∷ es) fs p q = (p.0, p.1, DropsAtFull-append (after s (DropOut c place)) es fs p.2 q)
 DropsAtFull-append s (other ∷ es) fs p q = DropsAtFull-append (after s other) es fs p q
-
-pub targets_of-append : (n : ℕ) (xs ys : List Frame) → targets_of n (xs ++ ys) ≡ targets_of n xs ++ targets_of n ys
-targets_of-append n [] ys = refl
-targets_of-append n (x ∷ xs) ys =
-    ap (λ t. paired_with (clients_of n x.items) x ++ t) (targets_of-append n xs ys)
-    ∙ sym (append_assoc (paired_with (clients_of n x.items) x) (targets_of n xs) (targets_of n ys))
-
-pub at-push : (s : HistoryState) (es : List Entry) (e : Entry) → at s (es ++ e ∷ []) ≡ after (at s es) e
-at-push s es e = at-append s es (e ∷ [])
 
 pub along-append : {X : Type 0} (gives : HistoryState → Entry → List X) (s : HistoryState) (es fs : List Entry) → along gives s (es ++ fs) ≡ along gives s es ++ along gives (at s es) fs
 along-append gives s [] fs = refl

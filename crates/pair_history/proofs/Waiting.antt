@@ -6,6 +6,7 @@ use Rattle.std.proofs.lemmas.Bool.Decides.{nat_tests}
 use Rattle.pair_history.specs.Entries.{Frame}
 use Rattle.pair_history.specs.HistoryState.{Waiting, inbox_of, frame_numbered, without_number, IsFirst}
 use Rattle.pair_history.specs.Moves.{AreRising}
+use Rattle.pair_history.proofs.ClientLists.{cond_more}
 
 -- an equation with true against one with false
 clash : {A : Type 0} (t : Bool) → t ≡ true → t ≡ false → A
@@ -18,12 +19,9 @@ apart a b h = grind (arith, nat_tests)
 
 pub inbox_of-append : (c : ℕ) (xs ys : List Waiting) → inbox_of c (xs ++ ys) ≡ inbox_of c xs ++ inbox_of c ys
 inbox_of-append c [] ys = refl
-inbox_of-append c (x ∷ xs) ys = by_test (x.client == c) (inbox_of-append c xs ys)
-  where
-    by_test : (t : Bool) → inbox_of c (xs ++ ys) ≡ inbox_of c xs ++ inbox_of c ys
-        → cond t ((x.number, x.frame) ∷ inbox_of c (xs ++ ys)) (inbox_of c (xs ++ ys)) ≡ cond t ((x.number, x.frame) ∷ inbox_of c xs) (inbox_of c xs) ++ inbox_of c ys
-    by_test true e = ap (λ t. (x.number, x.frame) ∷ t) e
-    by_test false e = e
+inbox_of-append c (x ∷ xs) ys =
+    let first : ℕ × Frame = (x.number, x.frame) in
+    ap (λ ps. cond (x.client == c) (first ∷ ps) ps) (inbox_of-append c xs ys) ∙ cond_more (x.client == c) first (inbox_of c xs) (inbox_of c ys)
 
 first-more : {A : Type 0} (xs ys : List A) (a : A) → slice_get xs 0 ≡ Some a → slice_get (xs ++ ys) 0 ≡ Some a
 first-more [] ys a e = absurd (cc)
@@ -43,23 +41,16 @@ first-waits n c f (x ∷ xs) e = by_tests (x.number == n) (x.client == c) refl e
     by_tests false true off e more = let p : ◌≡◌ {A = ℕ × Frame} (x.number, x.frame) (n, f) = cc in clash (x.number == n) (eq-eqb x.number n (ap (λ (q : ℕ × Frame). q.0) p)) off
     by_tests false false off e more = more e
 
-pub frame_numbered-more : (n : ℕ) (f : Frame) (xs ys : List Waiting) → frame_numbered n xs ≡ Some f → frame_numbered n (xs ++ ys) ≡ Some f
+pub frame_numbered-more : (n : ℕ) (f : Frame) (xs ys : List Waiting) → frame_numbered n xs ≡ Some f
+    → (frame_numbered n (xs ++ ys) ≡ Some f) × (without_number n (xs ++ ys) ≡ without_number n xs ++ ys)
 frame_numbered-more n f [] ys e = absurd (cc)
 frame_numbered-more n f (x ∷ xs) ys e = by_test (x.number == n) e (frame_numbered-more n f xs ys)
   where
-    by_test : (t : Bool) → cond t (Some x.frame) (frame_numbered n xs) ≡ Some f → (frame_numbered n xs ≡ Some f → frame_numbered n (xs ++ ys) ≡ Some f)
-        → cond t (Some x.frame) (frame_numbered n (xs ++ ys)) ≡ Some f
-    by_test true e more = e
-    by_test false e more = more e
-
-pub without_number-more : (n : ℕ) (f : Frame) (xs ys : List Waiting) → frame_numbered n xs ≡ Some f → without_number n (xs ++ ys) ≡ without_number n xs ++ ys
-without_number-more n f [] ys e = absurd (cc)
-without_number-more n f (x ∷ xs) ys e = by_test (x.number == n) e (without_number-more n f xs ys)
-  where
-    by_test : (t : Bool) → cond t (Some x.frame) (frame_numbered n xs) ≡ Some f → (frame_numbered n xs ≡ Some f → without_number n (xs ++ ys) ≡ without_number n xs ++ ys)
-        → cond t (xs ++ ys) (x ∷ without_number n (xs ++ ys)) ≡ cond t xs (x ∷ without_number n xs) ++ ys
-    by_test true e more = refl
-    by_test false e more = ap (λ t. x ∷ t) (more e)
+    by_test : (t : Bool) → cond t (Some x.frame) (frame_numbered n xs) ≡ Some f
+        → (frame_numbered n xs ≡ Some f → (frame_numbered n (xs ++ ys) ≡ Some f) × (without_number n (xs ++ ys) ≡ without_number n xs ++ ys))
+        → (cond t (Some x.frame) (frame_numbered n (xs ++ ys)) ≡ Some f) × (cond t (xs ++ ys) (x ∷ without_number n (xs ++ ys)) ≡ cond t xs (x ∷ without_number n xs) ++ ys)
+    by_test true e more = (e, refl)
+    by_test false e more = let m = more e in (m.0, ap (λ ws. x ∷ ws) m.1)
 
 -- What waits has rising numbers.
 
