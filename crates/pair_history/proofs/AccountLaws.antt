@@ -11,7 +11,7 @@ use Rattle.guest_machine.specs.Step.{sent}
 use Rattle.frame_ports.specs.Lands.{list_of, with_list}
 use Rattle.pair_history.specs.Entries.{Frame, Entry, Ran, Arrive, Delivered, Refused, Land, DropOut, Took}
 use Rattle.pair_history.specs.HistoryState.{HistoryState, at, after, along, Allows, Legal, out_of, out_without}
-use Rattle.pair_history.specs.Released.{frames_for, Sent, sent_at, frames, Effect, Sends, Lands, DropsBoxed, DropsOnWay, Takes, Nothing, effect_on, Account, empty_account, booked, goes_on, account, WasSent, IsPartOf, IsSound, landed_by, released, taken_by, taken, is_drop, dropped_count, IsFresh}
+use Rattle.pair_history.specs.Released.{frames_for, Sent, sent_at, frames, Effect, Sends, Lands, DropsBoxed, DropsOnWay, Takes, Nothing, effect_on, Account, empty_account, booked, goes_on, account, WasSent, IsPartOf, IsSound, sent_for, landed_by, released, taken_by, taken, is_drop, dropped_count, IsFresh}
 use Rattle.pair_history.proofs.ClientLists.{out_of-append, out_of-without, list_of-with}
 use Rattle.pair_history.proofs.Parts.{part-trans, part-append, part-remove}
 
@@ -111,18 +111,21 @@ booked_sent place other a P old new = old
 none : (f : Frame) → Contains [] f → ⊥
 none f h = omega arith
 
-sends_none : (f : Frame) (t : Bool) (x y : Effect) → (Contains (sent_frames x) f → ⊥) → (Contains (sent_frames y) f → ⊥) → Contains (sent_frames (cond t x y)) f → ⊥
-sends_none f true x y h k = h
-sends_none f false x y h k = k
+sends_none : (t : Bool) (x y : Effect) → sent_frames x ≡ [] → sent_frames y ≡ [] → sent_frames (cond t x y) ≡ []
+sends_none true x y e d = e
+sends_none false x y e d = d
 
-step_sends : (c : ℕ) (s : HistoryState) (e : Entry) (f : Frame) → Contains (sent_frames (effect_on c s e)) f → (e ≡ Ran) × Contains (frames_for c s) f
-step_sends c s Ran f h = (refl, h)
-step_sends c s (Land d) f h = absurd (sends_none f (d == c) Lands Nothing (none f) (none f) h)
-step_sends c s (DropOut d place) f h =
+sends : (c : ℕ) (s : HistoryState) (e : Entry) → sent_frames (effect_on c s e) ≡ sent_for c s e
+sends c s (Land d) = sends_none (d == c) Lands Nothing refl refl
+sends c s (DropOut d place) =
     let boxed = length (list_of s.boxes d) in
-    absurd (sends_none f (d == c) (cond (nat_lt place boxed) (DropsBoxed place) (DropsOnWay (place - boxed))) Nothing
-    (sends_none f (nat_lt place boxed) (DropsBoxed place) (DropsOnWay (place - boxed)) (none f) (none f)) (none f) h)
-step_sends c s (Took d answer) f h = absurd (sends_none f (d == c) Takes Nothing (none f) (none f) h)
+    let dropped = cond (nat_lt place boxed) (DropsBoxed place) (DropsOnWay (place - boxed)) in
+    sends_none (d == c) dropped Nothing (sends_none (nat_lt place boxed) (DropsBoxed place) (DropsOnWay (place - boxed)) refl refl) refl
+sends c s (Took d answer) = sends_none (d == c) Takes Nothing refl refl
+sends c s other = refl
+
+step_sends : (c : ℕ) (s : HistoryState) (e : Entry) (f : Frame) → Contains (sent_for c s e) f → (e ≡ Ran) × Contains (frames_for c s) f
+step_sends c s Ran f h = (refl, h)
 step_sends c s other f h = absurd (none f h)
 
 pub sent_by_steps : (c : ℕ) (s : HistoryState) (place : ℕ) (a : Account) (es : List Entry) (P : Sent → Type 0) → All P a.sent → ((k : ℕ) (f : Frame) → WasSent s es c (k, f) → P (place + k, f))
@@ -130,7 +133,7 @@ pub sent_by_steps : (c : ℕ) (s : HistoryState) (place : ℕ) (a : Account) (es
 sent_by_steps c s place a [] P old new = old
 sent_by_steps c s place a (e ∷ es) P old new =
     sent_by_steps c (after s e) (1 + place) (booked place (effect_on c s e) a) es P
-    (booked_sent place (effect_on c s e) a P old (λ f h. let is = step_sends c s e f h in let same : place + 0 ≡ place = omega arith in subst (λ (n : ℕ). P (n, f)) same (new 0 f (record { step = ap (λ x. Some x) is.0; frame = is.1 }))))
+    (booked_sent place (effect_on c s e) a P old (λ f h. let is = step_sends c s e f (subst (λ (fs : List Frame). Contains fs f) (sends c s e) h) in let same : place + 0 ≡ place = omega arith in subst (λ (n : ℕ). P (n, f)) same (new 0 f (record { step = ap (λ x. Some x) is.0; frame = is.1 }))))
     (λ k f h. let same : place + suc k ≡ 1 + place + k = omega arith in subst (λ (n : ℕ). P (n, f)) same (new (suc k) f (record { step = h.step; frame = h.frame })))
 
 -- The account's lists are the state's.
@@ -151,6 +154,20 @@ frames-more ps qs fs gs e d = map-append (λ (p : Sent). p.1) ps qs ∙ ap (λ x
 
 frames-first : (ps : List Sent) (fs : List Frame) → frames ps ≡ fs → frames (take 1 ps) ≡ take 1 fs
 frames-first ps fs e = sym (take-map (λ (p : Sent). p.1) 1 ps) ∙ ap (take 1) e
+
+-- all that was sent
+booked_frames : (place : ℕ) (e : Effect) (a : Account) → frames (booked place e a).sent ≡ frames a.sent ++ sent_frames e
+booked_frames place (Sends fs) a = frames-more a.sent (sent_at place fs) (frames a.sent) fs refl (sent_at-frames place fs)
+booked_frames place other a = sym (append-nil (frames a.sent))
+
+pub sent-is : (c : ℕ) (s : HistoryState) (place : ℕ) (a : Account) (es : List Entry)
+    → frames (goes_on c s place a es).sent ≡ frames a.sent ++ along (sent_for c) s es
+sent-is c s place a [] = sym (append-nil (frames a.sent))
+sent-is c s place a (e ∷ es) =
+    let one = booked_frames place (effect_on c s e) a ∙ ap (λ fs. frames a.sent ++ fs) (sends c s e) in
+    sent-is c (after s e) (1 + place) (booked place (effect_on c s e) a) es
+    ∙ ap (λ fs. fs ++ along (sent_for c) (after s e) es) one
+    ∙ append_assoc (frames a.sent) (sent_for c s e) (along (sent_for c) (after s e) es)
 
 -- what is on its way, and what landed
 pub record OnWay (way landed : List Frame) (a b : Account) : Type 0 where

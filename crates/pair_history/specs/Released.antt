@@ -97,6 +97,14 @@ pub record IsSound (a : Account) : Type 0 where
   pub taken_in_order : IsPartOf (a.taken ++ a.boxed) a.released
   pub none_missing : length a.taken + length a.boxed + length a.on_way + length a.dropped ≡ length a.sent
 
+-- The frames that the guest sent to a client in the steps of a history, in order.
+abbrev pub sent_for : ℕ → HistoryState → Entry → List Frame
+sent_for c s Ran = frames_for c s
+sent_for c s other = []
+
+abbrev pub sent_to : HistoryState → List Entry → ℕ → List Frame
+sent_to s es c = along (sent_for c) s es
+
 -- The released frames of a client: those that the history put into its box, in order. What a full box drops isn't among them:
 -- a legal history drops it on its way, since a frame lands only where the box has room.
 abbrev pub landed_by : ℕ → HistoryState → Entry → List Frame

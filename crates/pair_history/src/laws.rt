@@ -4,7 +4,7 @@ ghost use Rattle.std.specs.List.{All};
 ghost use Rattle.pair_history.specs.Entries.{Entry};
 ghost use Rattle.pair_history.specs.HistoryState.{HistoryState, after, at, Legal, out_of, start_state};
 ghost use Rattle.pair_history.specs.Order.{AreGuests, IsReady};
-ghost use Rattle.pair_history.specs.Released.{frames, Sent, goes_on, account, WasSent, IsSound, released, taken, dropped_count, IsFresh};
+ghost use Rattle.pair_history.specs.Released.{frames, Sent, goes_on, account, WasSent, IsSound, sent_to, released, taken, dropped_count, IsFresh};
 ghost use Rattle.frame_ports.specs.Lands.{list_of};
 
 /// Each frame that a history released to a client stands in that client's account with the step of the history that sent it.
@@ -17,6 +17,7 @@ ghost use Rattle.frame_ports.specs.Lands.{list_of};
 /// frames are those that the history's state and its entries say.
 pub fn released_frames_were_sent()
     ensures sent { (s : HistoryState) (es : List Entry) (c : ℕ) → All (WasSent s es c) (account s es c).sent }
+    ensures all_sent { (s : HistoryState) (es : List Entry) (c : ℕ) → frames (account s es c).sent ≡ sent_to s es c }
     ensures sound { (s : HistoryState) (es : List Entry) (c : ℕ) → IsSound (account s es c) }
     ensures goes_on { (s : HistoryState) (es more : List Entry) (c : ℕ) → account s (es ++ more) c ≡ goes_on c (at s es) (length es) (account s es c) more }
     ensures stays { (s : HistoryState) (es more : List Entry) (c : ℕ) → (later : List Sent) × ((account s (es ++ more) c).released ≡ (account s es c).released ++ later) }

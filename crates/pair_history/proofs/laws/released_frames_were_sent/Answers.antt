@@ -3,12 +3,15 @@ use Rattle.std.proofs.lemmas.List.Elements.{All-nil}
 use Rattle.pair_history.specs.Entries.{Entry}
 use Rattle.pair_history.specs.HistoryState.{HistoryState, at, out_of, start_state}
 use Rattle.pair_history.specs.Released.{empty_account, account, goes_on, WasSent, IsFresh}
-use Rattle.pair_history.proofs.AccountLaws.{sound, account-append, released_later, sent_by_steps, on_way-is, boxed-is, start_fresh}
+use Rattle.pair_history.proofs.AccountLaws.{sound, account-append, released_later, sent_by_steps, sent-is, on_way-is, boxed-is, start_fresh}
 use Rattle.pair_history.proofs.laws.released_frames_were_sent.Goals as goal
 
 pub returns-clause-sent : goal.returns-clause-sent
 returns-clause-sent c s es client =
     sent_by_steps client s 0 empty_account es (WasSent s es client) (All-nil (WasSent s es client)) (λ k f h. let same : k ≡ 0 + k = omega arith in subst (λ (n : ℕ). WasSent s es client (n, f)) same h)
+
+pub returns-clause-all_sent : goal.returns-clause-all_sent
+returns-clause-all_sent c s es client = sent-is client s 0 empty_account es
 
 pub returns-clause-sound : goal.returns-clause-sound
 returns-clause-sound c s es client = sound client s 0 empty_account es (record { in_order = tt; taken_in_order = tt; none_missing = refl })
