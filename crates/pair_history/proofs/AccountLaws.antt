@@ -74,7 +74,8 @@ sound-booked place Nothing a h = h
 
 pub sound : (c : ℕ) (s : HistoryState) (place : ℕ) (a : Account) (es : List Entry) → IsSound a → IsSound (goes_on c s place a es)
 sound c s place a [] h = h
-sound c s place a (e ∷ es) h = sound c (after s e) (1 + place) (booked place (effect_on c s e) a) es (sound-booked place (effect_on c s e) a h)
+sound c s place a (e ∷ es) h =
+    sound c (after s e) (1 + place) (booked place (effect_on c s e) a) es (sound-booked place (effect_on c s e) a h)
 
 pub account-append : (c : ℕ) (s : HistoryState) (place : ℕ) (a : Account) (es more : List Entry)
     → goes_on c s place a (es ++ more) ≡ goes_on c (at s es) (length es + place) (goes_on c s place a es) more
@@ -85,7 +86,8 @@ account-append c s place a (e ∷ es) more =
     ∙ ap (λ n. goes_on c (at s (e ∷ es)) n (goes_on c s place a (e ∷ es)) more) k
 
 -- what was released stays so
-pub released_later : (c : ℕ) (s : HistoryState) (place : ℕ) (a : Account) (es : List Entry) → (later : List Sent) × ((goes_on c s place a es).released ≡ a.released ++ later)
+pub released_later : (c : ℕ) (s : HistoryState) (place : ℕ) (a : Account) (es : List Entry)
+    → (later : List Sent) × ((goes_on c s place a es).released ≡ a.released ++ later)
 released_later c s place a [] = ([], sym (append-nil a.released))
 released_later c s place a (e ∷ es) =
     let one = by_effect (effect_on c s e) in
@@ -102,7 +104,8 @@ abbrev sent_frames : Effect → List Frame
 sent_frames (Sends fs) = fs
 sent_frames other = []
 
-booked_sent : (place : ℕ) (e : Effect) (a : Account) (P : Sent → Type 0) → All P a.sent → ((f : Frame) → Contains (sent_frames e) f → P (place, f)) → All P (booked place e a).sent
+booked_sent : (place : ℕ) (e : Effect) (a : Account) (P : Sent → Type 0) → All P a.sent
+    → ((f : Frame) → Contains (sent_frames e) f → P (place, f)) → All P (booked place e a).sent
 booked_sent place (Sends fs) a P old new =
     All-append P a.sent (sent_at place fs) old (All-map P (λ f. (place, f)) fs (λ k d l. new (get_or fs k d) (k, l, get_or_default fs k (get_or fs k d) d l)))
 booked_sent place other a P old new = old
@@ -128,13 +131,15 @@ step_sends : (c : ℕ) (s : HistoryState) (e : Entry) (f : Frame) → Contains (
 step_sends c s Ran f h = (refl, h)
 step_sends c s other f h = absurd (none f h)
 
-pub sent_by_steps : (c : ℕ) (s : HistoryState) (place : ℕ) (a : Account) (es : List Entry) (P : Sent → Type 0) → All P a.sent → ((k : ℕ) (f : Frame) → WasSent s es c (k, f) → P (place + k, f))
+pub sent_by_steps : (c : ℕ) (s : HistoryState) (place : ℕ) (a : Account) (es : List Entry) (P : Sent → Type 0) → All P a.sent
+    → ((k : ℕ) (f : Frame) → WasSent s es c (k, f) → P (place + k, f))
     → All P (goes_on c s place a es).sent
 sent_by_steps c s place a [] P old new = old
 sent_by_steps c s place a (e ∷ es) P old new =
     sent_by_steps c (after s e) (1 + place) (booked place (effect_on c s e) a) es P
     (booked_sent place (effect_on c s e) a P old (λ f h. let is = step_sends c s e f (subst (λ (fs : List Frame). Contains fs f) (sends c s e) h) in let same : place + 0 ≡ place = omega arith in subst (λ (n : ℕ). P (n, f)) same (new 0 f (record { step = ap (λ x. Some x) is.0; frame = is.1 }))))
-    (λ k f h. let same : place + suc k ≡ 1 + place + k = omega arith in subst (λ (n : ℕ). P (n, f)) same (new (suc k) f (record { step = h.step; frame = h.frame })))
+    (λ k f h. let same : place + suc k ≡ 1 + place + k =
+    omega arith in subst (λ (n : ℕ). P (n, f)) same (new (suc k) f (record { step = h.step; frame = h.frame })))
 
 -- The account's lists are the state's.
 
@@ -199,7 +204,8 @@ on_way-booked c s place a (DropOut d k) h = by_tests (d == c) (nat_lt k boxed) (
     by_tests : (t u : Bool) → out_of c (out_without d (k - boxed) s.out) ≡ cond t (remove (out_of c s.out) (k - boxed)) (out_of c s.out)
         → OnWay (out_of c (cond u s.out (out_without d (k - boxed) s.out))) [] a (booked place (cond t (cond u (DropsBoxed k) (DropsOnWay (k - boxed))) Nothing) a)
     by_tests true true e = record { on_way = h; released = sym (append-nil (frames a.released)) }
-    by_tests true false e = record { on_way = frames-remove a.on_way (k - boxed) (out_of c s.out) h ∙ sym e; released = sym (append-nil (frames a.released)) }
+    by_tests true false e =
+        record { on_way = frames-remove a.on_way (k - boxed) (out_of c s.out) h ∙ sym e; released = sym (append-nil (frames a.released)) }
     by_tests false true e = record { on_way = h; released = sym (append-nil (frames a.released)) }
     by_tests false false e = record { on_way = h ∙ sym e; released = sym (append-nil (frames a.released)) }
 on_way-booked c s place a (Took d answer) h = by_test (d == c)
@@ -243,14 +249,16 @@ module _ (c : ℕ) (s : HistoryState) (place : ℕ) (a : Account) (low : 1 ≤ c
   same : Boxed (list_of s.boxes c) [] 0 a a
   same = record { boxed = box; taken = sym (append-nil (frames a.taken)); dropped = omega arith }
 
-  dropped_one : (ps : List Sent) (k : ℕ) (fs : List Frame) → frames ps ≡ fs → k < length fs → length (a.dropped ++ take 1 (drop k ps)) ≡ length a.dropped + 1
+  dropped_one : (ps : List Sent) (k : ℕ) (fs : List Frame) → frames ps ≡ fs → k < length fs
+      → length (a.dropped ++ take 1 (drop k ps)) ≡ length a.dropped + 1
   dropped_one ps k fs e l =
       let n = length-map ps (λ (p : Sent). p.1) in
       let m = ap length e in
       length-append a.dropped (take 1 (drop k ps)) ∙ ap (λ i. length a.dropped + i) (length-one ps k (omega arith))
 
   module _ (d : ℕ) (low_d : 1 ≤ d) (high : d ≤ length s.boxes) where
-    box_landed : (t : Bool) → (d == c) ≡ t → Boxed (cond t (list_of s.boxes d ++ take 1 (out_of d s.out)) (list_of s.boxes c)) [] 0 a (booked place (cond t Lands Nothing) a)
+    box_landed : (t : Bool) → (d == c) ≡ t
+        → Boxed (cond t (list_of s.boxes d ++ take 1 (out_of d s.out)) (list_of s.boxes c)) [] 0 a (booked place (cond t Lands Nothing) a)
     box_landed false is = same
     box_landed true is = record {
       boxed = frames-more a.boxed (take 1 a.on_way) (list_of s.boxes d) (take 1 (out_of d s.out))
@@ -263,7 +271,8 @@ module _ (c : ℕ) (s : HistoryState) (place : ℕ) (a : Account) (low : 1 ≤ c
     abbrev lost : ℕ → Bool → Effect
     lost k u = cond u (DropsBoxed k) (DropsOnWay (k - length (list_of s.boxes d)))
 
-    box_dropped : (k : ℕ) → k < length (list_of s.boxes d) + length (out_of d s.out) → (t u : Bool) → (d == c) ≡ t → nat_lt k (length (list_of s.boxes d)) ≡ u
+    box_dropped : (k : ℕ) → k < length (list_of s.boxes d) + length (out_of d s.out) → (t u : Bool) → (d == c) ≡ t
+        → nat_lt k (length (list_of s.boxes d)) ≡ u
         → Boxed (cond u (cond t (remove (list_of s.boxes d) k) (list_of s.boxes c)) (list_of s.boxes c)) [] (cond t 1 0) a (booked place (cond t (lost k u) Nothing) a)
     box_dropped k within false true is e = same
     box_dropped k within false false is e = same
@@ -284,7 +293,8 @@ module _ (c : ℕ) (s : HistoryState) (place : ℕ) (a : Account) (low : 1 ≤ c
 
     box_taken : (took : List Frame) (t : Bool) → (d == c) ≡ t → took ≡ cond t (take 1 (list_of s.boxes d)) []
         → Boxed (cond t (drop 1 (list_of s.boxes d)) (list_of s.boxes c)) took 0 a (booked place (cond t Takes Nothing) a)
-    box_taken took false is e = record { boxed = box; taken = sym (append-nil (frames a.taken)) ∙ ap (λ fs. frames a.taken ++ fs) (sym e); dropped = omega arith }
+    box_taken took false is e =
+        record { boxed = box; taken = sym (append-nil (frames a.taken)) ∙ ap (λ fs. frames a.taken ++ fs) (sym e); dropped = omega arith }
     box_taken took true is e =
         let mine : frames a.boxed ≡ list_of s.boxes d = box ∙ ap (list_of s.boxes) (sym (eqb-true d c is)) in
         record {
@@ -293,7 +303,8 @@ module _ (c : ℕ) (s : HistoryState) (place : ℕ) (a : Account) (low : 1 ≤ c
           dropped = omega arith;
         }
 
-  boxed-booked : (e : Entry) → Allows s e → Boxed (list_of (after s e).boxes c) (taken_by c e) (cond (is_drop c e) 1 0) a (booked place (effect_on c s e) a)
+  boxed-booked : (e : Entry) → Allows s e
+      → Boxed (list_of (after s e).boxes c) (taken_by c e) (cond (is_drop c e) 1 0) a (booked place (effect_on c s e) a)
   boxed-booked Ran p = record { boxed = box; taken = sym (append-nil (frames a.taken)); dropped = omega arith }
   boxed-booked (Land d) p =
       subst (λ fs. Boxed fs [] 0 a (booked place (effect_on c s (Land d)) a)) (sym (list_of-with s.boxes c d (list_of s.boxes d ++ take 1 (out_of d s.out)) low p.0.0 p.0.1)) (box_landed d p.0.0 p.0.1 (d == c) refl)
@@ -312,12 +323,14 @@ module _ (c : ℕ) (s : HistoryState) (place : ℕ) (a : Account) (low : 1 ≤ c
       is_client (Some f) p = p.0
       is_client None p = p.0
 
-      first : (answer : Option Frame) → Allows s (Took d answer) → taken_by c (Took d answer) ≡ cond (d == c) (take 1 (list_of s.boxes d)) []
+      first : (answer : Option Frame) → Allows s (Took d answer)
+          → taken_by c (Took d answer) ≡ cond (d == c) (take 1 (list_of s.boxes d)) []
       first (Some f) p = ap (λ fs. cond (d == c) fs []) (first_of (list_of s.boxes d) f p.1)
       first None p = nothing (d == c) ∙ ap (λ fs. cond (d == c) (take 1 fs) []) (sym p.1)
   boxed-booked other p = same
 
-pub boxed-is : (c : ℕ) (s : HistoryState) (place : ℕ) (a : Account) (es : List Entry) → 1 ≤ c → Legal s es → frames a.on_way ≡ out_of c s.out → frames a.boxed ≡ list_of s.boxes c
+pub boxed-is : (c : ℕ) (s : HistoryState) (place : ℕ) (a : Account) (es : List Entry) → 1 ≤ c → Legal s es
+    → frames a.on_way ≡ out_of c s.out → frames a.boxed ≡ list_of s.boxes c
     → Boxed (list_of (at s es).boxes c) (flat_map (taken_by c) es) (count_by (is_drop c) es) a (goes_on c s place a es)
 boxed-is c s place a [] low legal way box = record { boxed = box; taken = sym (append-nil (frames a.taken)); dropped = omega arith }
 boxed-is c s place a (e ∷ es) low legal way box =
@@ -338,4 +351,5 @@ empty_box (suc clients) zero = refl
 empty_box (suc clients) (suc place) = empty_box clients place
 
 pub start_fresh : (s : HistoryState) (clients : ℕ) → s.out ≡ [] → s.boxes ≡ replicate clients [] → IsFresh s
-start_fresh s clients out boxes = record { out = out; boxes = λ c. ap (λ (bs : List (List Frame)). list_of bs c) boxes ∙ empty_box clients (c - 1) }
+start_fresh s clients out boxes =
+    record { out = out; boxes = λ c. ap (λ (bs : List (List Frame)). list_of bs c) boxes ∙ empty_box clients (c - 1) }

@@ -120,7 +120,8 @@ module _ (s : HistoryState) (c : ℕ) (f : Frame) (qs : List (ℕ × Frame)) (fi
 abbrev pub AllLand : HistoryState → List (ℕ × Frame) → List (ℕ × Frame) → List Entry → Type 0
 AllLand s ps qs es = Legal s es × (at s es ≡ record s { out = qs; boxes = lands s.boxes ps }) × DropsAtFull s es
 
-pub landings-land : (s : HistoryState) (ps qs : List (ℕ × Frame)) → s.out ≡ ps ++ qs → AllClients (length s.boxes) ps → BoxesFit s.boxes → AllLand s ps qs (landings s.boxes ps)
+pub landings-land : (s : HistoryState) (ps qs : List (ℕ × Frame)) → s.out ≡ ps ++ qs → AllClients (length s.boxes) ps → BoxesFit s.boxes
+    → AllLand s ps qs (landings s.boxes ps)
 landings-land s [] qs e a fit = (tt, (λ i. record s { out = e i }), tt)
 landings-land s (p ∷ ps) qs e a fit =
     let one = one_lands s p.0 p.1 (ps ++ qs) e a.0 a.1 fit in

@@ -16,7 +16,8 @@ pub guest_along-append : (g : Guest) (ms ns : List Move) → guest_along g (ms +
 guest_along-append g [] ns = refl
 guest_along-append g (m ∷ ms) ns = guest_along-append (guest_moved g m) ms ns
 
-pub frames_along-append : (g : Guest) (ms ns : List Move) → frames_along g (ms ++ ns) ≡ frames_along g ms ++ frames_along (guest_along g ms) ns
+pub frames_along-append : (g : Guest) (ms ns : List Move)
+    → frames_along g (ms ++ ns) ≡ frames_along g ms ++ frames_along (guest_along g ms) ns
 frames_along-append g [] ns = refl
 frames_along-append g (m ∷ ms) ns =
     ap (λ t. frames_by g m ++ t) (frames_along-append (guest_moved g m) ms ns)

@@ -13,17 +13,21 @@ use Rattle.pair_history.proofs.ClientLists.{out_of-append}
 use Rattle.pair_history.proofs.Waiting.{IsFirst-more, frame_numbered-more, first-waits}
 
 -- what is sent later goes behind what is on its way
-out_without-more : (c place : ℕ) (ps qs : List (ℕ × Frame)) → place < length (out_of c ps) → out_without c place (ps ++ qs) ≡ out_without c place ps ++ qs
+out_without-more : (c place : ℕ) (ps qs : List (ℕ × Frame)) → place < length (out_of c ps)
+    → out_without c place (ps ++ qs) ≡ out_without c place ps ++ qs
 out_without-more c place [] qs l = absurd (omega arith)
 out_without-more c zero (p ∷ ps) qs l = by_test (p.0 == c) l (out_without-more c zero ps qs)
   where
-    by_test : (t : Bool) → 0 < length (cond t (p.1 ∷ out_of c ps) (out_of c ps)) → (0 < length (out_of c ps) → out_without c zero (ps ++ qs) ≡ out_without c zero ps ++ qs)
+    by_test : (t : Bool) → 0 < length (cond t (p.1 ∷ out_of c ps) (out_of c ps))
+        → (0 < length (out_of c ps) → out_without c zero (ps ++ qs) ≡ out_without c zero ps ++ qs)
         → cond t (ps ++ qs) (p ∷ out_without c zero (ps ++ qs)) ≡ cond t ps (p ∷ out_without c zero ps) ++ qs
     by_test true l more = refl
     by_test false l more = ap (λ rs. p ∷ rs) (more l)
-out_without-more c (suc place) (p ∷ ps) qs l = ap (λ rs. p ∷ rs) (by_test (p.0 == c) l (out_without-more c place ps qs) (out_without-more c (suc place) ps qs))
+out_without-more c (suc place) (p ∷ ps) qs l =
+    ap (λ rs. p ∷ rs) (by_test (p.0 == c) l (out_without-more c place ps qs) (out_without-more c (suc place) ps qs))
   where
-    by_test : (t : Bool) → suc place < length (cond t (p.1 ∷ out_of c ps) (out_of c ps)) → (place < length (out_of c ps) → out_without c place (ps ++ qs) ≡ out_without c place ps ++ qs)
+    by_test : (t : Bool) → suc place < length (cond t (p.1 ∷ out_of c ps) (out_of c ps))
+        → (place < length (out_of c ps) → out_without c place (ps ++ qs) ≡ out_without c place ps ++ qs)
         → (suc place < length (out_of c ps) → out_without c (suc place) (ps ++ qs) ≡ out_without c (suc place) ps ++ qs)
         → out_without c (cond t place (suc place)) (ps ++ qs) ≡ out_without c (cond t place (suc place)) ps ++ qs
     by_test true l nearer more = nearer (omega arith)
@@ -55,7 +59,8 @@ module _ (s : HistoryState) where
         boxes = ap (λ fs. with_list s.boxes c (list_of s.boxes c ++ fs)) (sym (ap (take 1) (out_of-append c s.out new) ∙ take-append-le 1 (out_of c s.out) (out_of c new) some)) i;
       }
 
-  drop-swaps : (c place : ℕ) → place < length (list_of s.boxes c) + length (out_of c s.out) → after (after s (DropOut c place)) Ran ≡ after (after s Ran) (DropOut c place)
+  drop-swaps : (c place : ℕ) → place < length (list_of s.boxes c) + length (out_of c s.out)
+      → after (after s (DropOut c place)) Ran ≡ after (after s Ran) (DropOut c place)
   drop-swaps c place r = by_test (nat_lt place (length (list_of s.boxes c))) refl
     where
       fewer : List (List Frame)
@@ -69,7 +74,12 @@ module _ (s : HistoryState) where
       by_test true e = ap (stepped s.out fewer) (length-set s.boxes (c - 1) (remove (list_of s.boxes c) place))
       by_test false e =
           let far : length (list_of s.boxes c) ≤ place = ltb-false place (length (list_of s.boxes c)) e in
-          λ i. record s { guest = next s.guest; out = sym (out_without-more c (place - length (list_of s.boxes c)) s.out new (omega arith)) i; boxes = s.boxes }
+          λ i. record s {
+            guest =
+                next s.guest;
+            out = sym (out_without-more c (place - length (list_of s.boxes c)) s.out new (omega arith)) i;
+            boxes = s.boxes;
+          }
 
   step-swaps : (e : Entry) → IsReady s e → Swaps s Ran e
   step-swaps (Delivered c f n) r = (tt, refl, tt)
@@ -103,7 +113,8 @@ swaps s Ran e k a r = step-swaps s e r
 swaps s (Arrive n) e k a r = arrival-swaps s n e a r
 swaps s other e k a r = absurd k
 
-pub goes_first : (s : HistoryState) (es : List Entry) (e : Entry) → AreGuests es → Legal s es → IsReady s e → Legal (after s e) es × (at (after s e) es ≡ after (at s es) e)
+pub goes_first : (s : HistoryState) (es : List Entry) (e : Entry) → AreGuests es → Legal s es → IsReady s e
+    → Legal (after s e) es × (at (after s e) es ≡ after (at s es) e)
 goes_first s [] e k legal r = (tt, refl)
 goes_first s (g ∷ es) e k legal r =
     let one = swaps s g e k.0 legal.0 r in

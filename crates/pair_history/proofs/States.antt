@@ -19,7 +19,8 @@ DropsAtFull-append s [] fs p q = q
 DropsAtFull-append s (DropOut c place ∷ es) fs p q = (p.0, p.1, DropsAtFull-append (after s (DropOut c place)) es fs p.2 q)
 DropsAtFull-append s (other ∷ es) fs p q = DropsAtFull-append (after s other) es fs p q
 
-pub along-append : {X : Type 0} (gives : HistoryState → Entry → List X) (s : HistoryState) (es fs : List Entry) → along gives s (es ++ fs) ≡ along gives s es ++ along gives (at s es) fs
+pub along-append : {X : Type 0} (gives : HistoryState → Entry → List X) (s : HistoryState) (es fs : List Entry)
+    → along gives s (es ++ fs) ≡ along gives s es ++ along gives (at s es) fs
 along-append gives s [] fs = refl
 along-append gives s (e ∷ es) fs =
     ap (λ t. gives s e ++ t) (along-append gives (after s e) es fs)

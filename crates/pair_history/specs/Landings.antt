@@ -14,7 +14,8 @@ landings boxes (p ∷ ps) =
 -- frames were dropped at full boxes alone
 abbrev pub DropsAtFull : HistoryState → List Entry → Type 0
 DropsAtFull s [] = Unit {0}
-DropsAtFull s (DropOut c place ∷ es) = (place ≡ BOX_FRAMES) × (length (list_of s.boxes c) ≡ BOX_FRAMES) × DropsAtFull (after s (DropOut c place)) es
+DropsAtFull s (DropOut c place ∷ es) =
+    (place ≡ BOX_FRAMES) × (length (list_of s.boxes c) ≡ BOX_FRAMES) × DropsAtFull (after s (DropOut c place)) es
 DropsAtFull s (other ∷ es) = DropsAtFull (after s other) es
 
 -- no box holds more than it has room for

@@ -8,7 +8,8 @@ use Rattle.pair_history.proofs.laws.released_frames_were_sent.Goals as goal
 
 pub returns-clause-sent : goal.returns-clause-sent
 returns-clause-sent c s es client =
-    sent_by_steps client s 0 empty_account es (WasSent s es client) (All-nil (WasSent s es client)) (λ k f h. let same : k ≡ 0 + k = omega arith in subst (λ (n : ℕ). WasSent s es client (n, f)) same h)
+    sent_by_steps client s 0 empty_account es (WasSent s es client) (All-nil (WasSent s es client)) (λ k f h. let same : k ≡ 0 + k =
+    omega arith in subst (λ (n : ℕ). WasSent s es client (n, f)) same h)
 
 pub returns-clause-all_sent : goal.returns-clause-all_sent
 returns-clause-all_sent c s es client = sent-is client s 0 empty_account es
@@ -33,10 +34,12 @@ pub returns-clause-released : goal.returns-clause-released
 returns-clause-released c s es client fresh = (on_way-is client s 0 empty_account es (ap (out_of client) (sym fresh.out))).released
 
 pub returns-clause-boxed : goal.returns-clause-boxed
-returns-clause-boxed c s es client fresh legal low = (boxed-is client s 0 empty_account es low legal (ap (out_of client) (sym fresh.out)) (sym (fresh.boxes client))).boxed
+returns-clause-boxed c s es client fresh legal low =
+    (boxed-is client s 0 empty_account es low legal (ap (out_of client) (sym fresh.out)) (sym (fresh.boxes client))).boxed
 
 pub returns-clause-taken : goal.returns-clause-taken
-returns-clause-taken c s es client fresh legal low = (boxed-is client s 0 empty_account es low legal (ap (out_of client) (sym fresh.out)) (sym (fresh.boxes client))).taken
+returns-clause-taken c s es client fresh legal low =
+    (boxed-is client s 0 empty_account es low legal (ap (out_of client) (sym fresh.out)) (sym (fresh.boxes client))).taken
 
 pub returns-clause-dropped : goal.returns-clause-dropped
 returns-clause-dropped c s es client fresh legal low =
