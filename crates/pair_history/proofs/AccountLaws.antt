@@ -137,7 +137,10 @@ pub sent_by_steps : (c : ℕ) (s : HistoryState) (place : ℕ) (a : Account) (es
 sent_by_steps c s place a [] P old new = old
 sent_by_steps c s place a (e ∷ es) P old new =
     sent_by_steps c (after s e) (1 + place) (booked place (effect_on c s e) a) es P
-    (booked_sent place (effect_on c s e) a P old (λ f h. let is = step_sends c s e f (subst (λ (fs : List Frame). Contains fs f) (sends c s e) h) in let same : place + 0 ≡ place = omega arith in subst (λ (n : ℕ). P (n, f)) same (new 0 f (record { step = ap (λ x. Some x) is.0; frame = is.1 }))))
+    (booked_sent place (effect_on c s e) a P old (λ f h.
+    let is = step_sends c s e f (subst (λ (fs : List Frame). Contains fs f) (sends c s e) h) in
+    let same : place + 0 ≡ place = omega arith in
+    subst (λ (n : ℕ). P (n, f)) same (new 0 f (record { step = ap (λ x. Some x) is.0; frame = is.1 }))))
     (λ k f h. let same : place + suc k ≡ 1 + place + k =
     omega arith in subst (λ (n : ℕ). P (n, f)) same (new (suc k) f (record { step = h.step; frame = h.frame })))
 
@@ -307,7 +310,9 @@ module _ (c : ℕ) (s : HistoryState) (place : ℕ) (a : Account) (low : 1 ≤ c
       → Boxed (list_of (after s e).boxes c) (taken_by c e) (cond (is_drop c e) 1 0) a (booked place (effect_on c s e) a)
   boxed-booked Ran p = record { boxed = box; taken = sym (append-nil (frames a.taken)); dropped = omega arith }
   boxed-booked (Land d) p =
-      subst (λ fs. Boxed fs [] 0 a (booked place (effect_on c s (Land d)) a)) (sym (list_of-with s.boxes c d (list_of s.boxes d ++ take 1 (out_of d s.out)) low p.0.0 p.0.1)) (box_landed d p.0.0 p.0.1 (d == c) refl)
+      let box = list_of s.boxes d ++ take 1 (out_of d s.out) in
+      subst (λ fs. Boxed fs [] 0 a (booked place (effect_on c s (Land d)) a)) (sym (list_of-with s.boxes c d box low p.0.0 p.0.1))
+      (box_landed d p.0.0 p.0.1 (d == c) refl)
   boxed-booked (DropOut d k) p = by_test (nat_lt k (length (list_of s.boxes d))) (box_dropped d p.0.0 p.0.1 k p.1 (d == c) (nat_lt k (length (list_of s.boxes d))) refl refl)
     where
       by_test : (u : Bool)

@@ -4,7 +4,8 @@ ghost use Rattle.std.specs.List.{All};
 ghost use Rattle.pair_history.specs.Entries.{Entry};
 ghost use Rattle.pair_history.specs.HistoryState.{HistoryState, after, at, Legal, out_of, start_state};
 ghost use Rattle.pair_history.specs.Order.{AreGuests, IsReady};
-ghost use Rattle.pair_history.specs.Released.{frames, Sent, goes_on, account, WasSent, IsSound, sent_to, released, taken, dropped_count, IsFresh};
+ghost use Rattle.pair_history.specs.Released.{frames, Sent, goes_on, account, WasSent, IsSound};
+ghost use Rattle.pair_history.specs.Released.{sent_to, released, taken, dropped_count, IsFresh};
 ghost use Rattle.frame_ports.specs.Lands.{list_of};
 
 /// Each frame that a history released to a client stands in that client's account with the step of the history that sent it.
@@ -19,13 +20,18 @@ pub fn released_frames_were_sent()
     ensures sent { (s : HistoryState) (es : List Entry) (c : ℕ) → All (WasSent s es c) (account s es c).sent }
     ensures all_sent { (s : HistoryState) (es : List Entry) (c : ℕ) → frames (account s es c).sent ≡ sent_to s es c }
     ensures sound { (s : HistoryState) (es : List Entry) (c : ℕ) → IsSound (account s es c) }
-    ensures goes_on { (s : HistoryState) (es more : List Entry) (c : ℕ) → account s (es ++ more) c ≡ goes_on c (at s es) (length es) (account s es c) more }
-    ensures stays { (s : HistoryState) (es more : List Entry) (c : ℕ) → (later : List Sent) × ((account s (es ++ more) c).released ≡ (account s es c).released ++ later) }
+    ensures goes_on { (s : HistoryState) (es more : List Entry) (c : ℕ)
+        → account s (es ++ more) c ≡ goes_on c (at s es) (length es) (account s es c) more }
+    ensures stays { (s : HistoryState) (es more : List Entry) (c : ℕ)
+        → (later : List Sent) × ((account s (es ++ more) c).released ≡ (account s es c).released ++ later) }
     ensures on_way { (s : HistoryState) (es : List Entry) (c : ℕ) → IsFresh s → frames (account s es c).on_way ≡ out_of c (at s es).out }
     ensures released { (s : HistoryState) (es : List Entry) (c : ℕ) → IsFresh s → frames (account s es c).released ≡ released s es c }
-    ensures boxed { (s : HistoryState) (es : List Entry) (c : ℕ) → IsFresh s → Legal s es → 1 ≤ c → frames (account s es c).boxed ≡ list_of (at s es).boxes c }
-    ensures taken { (s : HistoryState) (es : List Entry) (c : ℕ) → IsFresh s → Legal s es → 1 ≤ c → frames (account s es c).taken ≡ taken es c }
-    ensures dropped { (s : HistoryState) (es : List Entry) (c : ℕ) → IsFresh s → Legal s es → 1 ≤ c → length (account s es c).dropped ≡ dropped_count es c }
+    ensures boxed { (s : HistoryState) (es : List Entry) (c : ℕ) → IsFresh s → Legal s es → 1 ≤ c
+        → frames (account s es c).boxed ≡ list_of (at s es).boxes c }
+    ensures taken { (s : HistoryState) (es : List Entry) (c : ℕ) → IsFresh s → Legal s es → 1 ≤ c
+        → frames (account s es c).taken ≡ taken es c }
+    ensures dropped { (s : HistoryState) (es : List Entry) (c : ℕ) → IsFresh s → Legal s es → 1 ≤ c
+        → length (account s es c).dropped ≡ dropped_count es c }
     ensures start_fresh { (pages sectors : ℕ) (image : List ℕ) (clients : ℕ) → IsFresh (start_state pages sectors image clients) }
 {}
 
