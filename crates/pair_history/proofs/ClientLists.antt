@@ -9,14 +9,14 @@ use Rattle.pair_history.specs.HistoryState.{out_of, out_without}
 
 -- What is on its way to a client.
 
+pub cond_more : {X : Type 0} (t : Bool) (x : X) (xs ys : List X) → cond t (x ∷ (xs ++ ys)) (xs ++ ys) ≡ cond t (x ∷ xs) xs ++ ys
+cond_more true x xs ys = refl
+cond_more false x xs ys = refl
+
 pub out_of-append : (c : ℕ) (ps qs : List (ℕ × Frame)) → out_of c (ps ++ qs) ≡ out_of c ps ++ out_of c qs
 out_of-append c [] qs = refl
-out_of-append c (p ∷ ps) qs = by_test (p.0 == c) (out_of-append c ps qs)
-  where
-    by_test : (t : Bool) → out_of c (ps ++ qs) ≡ out_of c ps ++ out_of c qs
-        → cond t (p.1 ∷ out_of c (ps ++ qs)) (out_of c (ps ++ qs)) ≡ cond t (p.1 ∷ out_of c ps) (out_of c ps) ++ out_of c qs
-    by_test true e = ap (λ fs. p.1 ∷ fs) e
-    by_test false e = e
+out_of-append c (p ∷ ps) qs =
+    ap (λ fs. cond (p.0 == c) (p.1 ∷ fs) fs) (out_of-append c ps qs) ∙ cond_more (p.0 == c) p.1 (out_of c ps) (out_of c qs)
 
 -- without one that is for this client
 out_of-own : (c place : ℕ) (ps : List (ℕ × Frame)) → out_of c (out_without c place ps) ≡ remove (out_of c ps) place
@@ -30,7 +30,8 @@ out_of-own c zero (p ∷ ps) = by_test (p.0 == c) refl (out_of-own c zero ps)
     by_test false e rest = ap (λ t. cond t (p.1 ∷ out_of c (out_without c zero ps)) (out_of c (out_without c zero ps))) e ∙ rest
 out_of-own c (suc place) (p ∷ ps) = by_test (p.0 == c) (out_of-own c place ps) (out_of-own c (suc place) ps)
   where
-    by_test : (t : Bool) → out_of c (out_without c place ps) ≡ remove (out_of c ps) place → out_of c (out_without c (suc place) ps) ≡ remove (out_of c ps) (suc place)
+    by_test : (t : Bool) → out_of c (out_without c place ps) ≡ remove (out_of c ps) place
+        → out_of c (out_without c (suc place) ps) ≡ remove (out_of c ps) (suc place)
         → cond t (p.1 ∷ out_of c (out_without c (cond t place (suc place)) ps)) (out_of c (out_without c (cond t place (suc place)) ps))
         ≡ remove (cond t (p.1 ∷ out_of c ps) (out_of c ps)) (suc place)
     by_test true nearer rest = ap (λ fs. p.1 ∷ fs) nearer
@@ -42,17 +43,21 @@ out_of-other c d zero [] other = refl
 out_of-other c d (suc place) [] other = refl
 out_of-other c d zero (p ∷ ps) other = by_test (p.0 == d) refl (out_of-other c d zero ps other)
   where
-    by_test : (t : Bool) → (p.0 == d) ≡ t → out_of c (out_without d zero ps) ≡ out_of c ps → out_of c (cond t ps (p ∷ out_without d zero ps)) ≡ out_of c (p ∷ ps)
+    by_test : (t : Bool) → (p.0 == d) ≡ t → out_of c (out_without d zero ps) ≡ out_of c ps
+        → out_of c (cond t ps (p ∷ out_without d zero ps)) ≡ out_of c (p ∷ ps)
     by_test true e rest = ap (λ t. cond t (p.1 ∷ out_of c ps) (out_of c ps)) (sym (ap (λ k. k == c) (eqb-true p.0 d e) ∙ other))
     by_test false e rest = ap (λ fs. cond (p.0 == c) (p.1 ∷ fs) fs) rest
-out_of-other c d (suc place) (p ∷ ps) other = ap (λ fs. cond (p.0 == c) (p.1 ∷ fs) fs) (by_test (p.0 == d) (out_of-other c d place ps other) (out_of-other c d (suc place) ps other))
+out_of-other c d (suc place) (p ∷ ps) other =
+    ap (λ fs. cond (p.0 == c) (p.1 ∷ fs) fs) (by_test (p.0 == d) (out_of-other c d place ps other) (out_of-other c d (suc place) ps other))
   where
-    by_test : (t : Bool) → out_of c (out_without d place ps) ≡ out_of c ps → out_of c (out_without d (suc place) ps) ≡ out_of c ps → out_of c (out_without d (cond t place (suc place)) ps) ≡ out_of c ps
+    by_test : (t : Bool) → out_of c (out_without d place ps) ≡ out_of c ps → out_of c (out_without d (suc place) ps) ≡ out_of c ps
+        → out_of c (out_without d (cond t place (suc place)) ps) ≡ out_of c ps
     by_test true nearer rest = nearer
     by_test false nearer rest = rest
 
 -- either
-pub out_of-without : (c d place : ℕ) (ps : List (ℕ × Frame)) → out_of c (out_without d place ps) ≡ cond (d == c) (remove (out_of c ps) place) (out_of c ps)
+pub out_of-without : (c d place : ℕ) (ps : List (ℕ × Frame))
+    → out_of c (out_without d place ps) ≡ cond (d == c) (remove (out_of c ps) place) (out_of c ps)
 out_of-without c d place ps = by_test (d == c) refl
   where
     by_test : (t : Bool) → (d == c) ≡ t → out_of c (out_without d place ps) ≡ cond t (remove (out_of c ps) place) (out_of c ps)

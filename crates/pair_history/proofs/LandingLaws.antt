@@ -1,11 +1,17 @@
 -- Laws of landings: what the entries that an acknowledgement adds do to a history's state.
 use Rattle.std.proofs.Common.{◌≡◌, ℕ, zero, suc, ◌+◌, ◌-◌, ◌<◌, ◌≤◌, List, [], ◌∷◌, ◌++◌, length, take, set, remove, get_or, refl, sym, ap, ◌∙◌, subst, arith, Bool, true, false, cond}
 use Rattle.std.specs.Prelude.{nat_lt}
+use Rattle.std.specs.List.{All}
 use Rattle.std.proofs.lemmas.Bool.{eq-eqb, ltb-true}
 use Rattle.std.proofs.lemmas.Bool.Decides.{nat_tests}
-use Rattle.frame_ports.specs.Addresses.{addressed, targets_of, paired_with, clients_of, clients_from}
+use Rattle.std.proofs.lemmas.List.{length-append}
+use Rattle.std.proofs.lemmas.List.Elements.{All-head, All-tail}
+pub use Rattle.std.proofs.lemmas.List.{length-set as length-set'}
+use Rattle.frame_ports.specs.Addresses.{targets_of}
 use Rattle.frame_ports.specs.Lands.{list_of, with_list, has_room, landed_at, lands}
 use Rattle.frame_ports.specs.declared.limits.TheConstants.{BOX_FRAMES}
+use Rattle.frame_ports.proofs.AddressLaws.{targets_of-clients}
+pub use Rattle.frame_ports.proofs.LandLaws.{length-landed_at, length-lands}
 use Rattle.pair_history.specs.Entries.{Frame, Entry, Land, DropOut}
 use Rattle.pair_history.specs.HistoryState.{HistoryState, at, after, Legal, Allows, out_of, out_without}
 use Rattle.pair_history.specs.Landings.{landings}
@@ -13,22 +19,6 @@ use Rattle.pair_history.specs.Landings.{DropsAtFull}
 use Rattle.pair_history.specs.Landings.{BoxesFit}
 
 -- boxes keep their number and their limit
-
-pub length-set' : (bs : List (List Frame)) (i : ℕ) (b : List Frame) → length (set bs i b) ≡ length bs
-length-set' [] i b = refl
-length-set' (x ∷ bs) zero b = refl
-length-set' (x ∷ bs) (suc i) b = ap suc (length-set' bs i b)
-
-pub length-landed_at : (bs : List (List Frame)) (c : ℕ) (f : Frame) → length (landed_at bs c f) ≡ length bs
-length-landed_at bs c f = by_test (has_room bs c)
-  where
-    by_test : (t : Bool) → length (cond t (with_list bs c (list_of bs c ++ f ∷ [])) bs) ≡ length bs
-    by_test true = length-set' bs (c - 1) (list_of bs c ++ f ∷ [])
-    by_test false = refl
-
-pub length-lands : (bs : List (List Frame)) (ps : List (ℕ × Frame)) → length (lands bs ps) ≡ length bs
-length-lands bs [] = refl
-length-lands bs (p ∷ ps) = length-lands (landed_at bs p.0 p.1) ps ∙ length-landed_at bs p.0 p.1
 
 pub BoxesFit-set : (bs : List (List Frame)) (i : ℕ) (b : List Frame) → BoxesFit bs → length b ≤ BOX_FRAMES → BoxesFit (set bs i b)
 BoxesFit-set [] i b h k = tt
@@ -40,17 +30,13 @@ BoxesFit-at [] i h = omega arith
 BoxesFit-at (x ∷ bs) zero h = h.0
 BoxesFit-at (x ∷ bs) (suc i) h = BoxesFit-at bs i h.1
 
-length-push : (xs : List Frame) (f : Frame) → length (xs ++ f ∷ []) ≡ suc (length xs)
-length-push [] f = refl
-length-push (x ∷ xs) f = ap suc (length-push xs f)
-
 pub BoxesFit-landed_at : (bs : List (List Frame)) (c : ℕ) (f : Frame) → BoxesFit bs → BoxesFit (landed_at bs c f)
 BoxesFit-landed_at bs c f h = by_test (has_room bs c) refl
   where
     by_test : (t : Bool) → has_room bs c ≡ t → BoxesFit (cond t (with_list bs c (list_of bs c ++ f ∷ [])) bs)
     by_test true e =
         let below : length (list_of bs c) < BOX_FRAMES = ltb-true (length (list_of bs c)) BOX_FRAMES e in
-        BoxesFit-set bs (c - 1) (list_of bs c ++ f ∷ []) h (omega (arith, length-push (list_of bs c) f))
+        BoxesFit-set bs (c - 1) (list_of bs c ++ f ∷ []) h (omega (arith, length-append (list_of bs c) (f ∷ [])))
     by_test false e = h
 
 pub BoxesFit-lands : (bs : List (List Frame)) (ps : List (ℕ × Frame)) → BoxesFit bs → BoxesFit (lands bs ps)
@@ -62,23 +48,14 @@ abbrev pub AllClients : ℕ → List (ℕ × Frame) → Type 0
 AllClients n [] = Unit {0}
 AllClients n (p ∷ ps) = (1 ≤ p.0) × (p.0 ≤ n) × AllClients n ps
 
-AllClients-append : (n : ℕ) (ps qs : List (ℕ × Frame)) → AllClients n ps → AllClients n qs → AllClients n (ps ++ qs)
-AllClients-append n [] qs h k = k
-AllClients-append n (p ∷ ps) qs h k = (h.0, h.1, AllClients-append n ps qs h.2 k)
-
-clients_more : (n first : ℕ) (rest : List ℕ) (f : Frame) (t : Bool) → 1 ≤ first → first ≤ n → AllClients n (paired_with rest f) → AllClients n (paired_with (cond t (first ∷ rest) rest) f)
-clients_more n first rest f true low high later = (low, high, later)
-clients_more n first rest f false low high later = later
-
-clients_in_range : (n k first : ℕ) (bytes : List ℕ) (f : Frame) → 1 ≤ first → first + k ≤ n + 1 → AllClients n (paired_with (clients_from k first bytes) f)
-clients_in_range n zero first bytes f h l = tt
-clients_in_range n (suc k) first bytes f h l =
-    clients_more n first (clients_from k (first + 1) bytes) f (addressed bytes first) h (omega arith) (clients_in_range n k (first + 1) bytes f (omega arith) (omega arith))
+AllClients-from : (n : ℕ) (ps : List (ℕ × Frame)) → All (λ p. (1 ≤ p.0) × (p.0 ≤ n)) ps → AllClients n ps
+AllClients-from n [] h = tt
+AllClients-from n (p ∷ ps) h =
+    let first = All-head (λ (q : ℕ × Frame). (1 ≤ q.0) × (q.0 ≤ n)) p ps h in
+    (first.0, first.1, AllClients-from n ps (All-tail (λ (q : ℕ × Frame). (1 ≤ q.0) × (q.0 ≤ n)) p ps h))
 
 pub AllClients-targets : (n : ℕ) (fs : List Frame) → AllClients n (targets_of n fs)
-AllClients-targets n [] = tt
-AllClients-targets n (f ∷ fs) =
-    AllClients-append n (paired_with (clients_of n f.items) f) (targets_of n fs) (clients_in_range n n 1 f.items f (omega arith) (omega arith)) (AllClients-targets n fs)
+AllClients-targets n fs = AllClients-from n (targets_of n fs) (targets_of-clients n fs)
 
 -- the first frame on its way
 
@@ -143,7 +120,8 @@ module _ (s : HistoryState) (c : ℕ) (f : Frame) (qs : List (ℕ × Frame)) (fi
 abbrev pub AllLand : HistoryState → List (ℕ × Frame) → List (ℕ × Frame) → List Entry → Type 0
 AllLand s ps qs es = Legal s es × (at s es ≡ record s { out = qs; boxes = lands s.boxes ps }) × DropsAtFull s es
 
-pub landings-land : (s : HistoryState) (ps qs : List (ℕ × Frame)) → s.out ≡ ps ++ qs → AllClients (length s.boxes) ps → BoxesFit s.boxes → AllLand s ps qs (landings s.boxes ps)
+pub landings-land : (s : HistoryState) (ps qs : List (ℕ × Frame)) → s.out ≡ ps ++ qs → AllClients (length s.boxes) ps → BoxesFit s.boxes
+    → AllLand s ps qs (landings s.boxes ps)
 landings-land s [] qs e a fit = (tt, (λ i. record s { out = e i }), tt)
 landings-land s (p ∷ ps) qs e a fit =
     let one = one_lands s p.0 p.1 (ps ++ qs) e a.0 a.1 fit in

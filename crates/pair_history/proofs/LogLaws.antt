@@ -6,4 +6,5 @@ use Rattle.pair_history.proofs.States.{append-nil}
 
 pub all_expanded-push : (es : List Entry) (e : Entry) → all_expanded (es ++ e ∷ []) ≡ all_expanded es ++ expanded e
 all_expanded-push [] e = append-nil (expanded e)
-all_expanded-push (x ∷ es) e = ap (λ t. expanded x ++ t) (all_expanded-push es e) ∙ sym (append_assoc (expanded x) (all_expanded es) (expanded e))
+all_expanded-push (x ∷ es) e =
+    ap (λ t. expanded x ++ t) (all_expanded-push es e) ∙ sym (append_assoc (expanded x) (all_expanded es) (expanded e))

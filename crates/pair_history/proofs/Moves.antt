@@ -10,13 +10,14 @@ use Rattle.pair_history.specs.HistoryState.{sent_along}
 use Rattle.pair_history.specs.Landings.{DropsAtFull}
 use Rattle.pair_history.specs.Moves.{Move, Steps, Arrives, entry_of, entries_of, guest_moved, frames_by, guest_along, frames_along, left_by, left, CanMove, AllCan}
 use Rattle.pair_history.proofs.States.{append-nil, targets_of-append}
-use Rattle.pair_history.proofs.Waiting.{IsFirst-more, frame_numbered-more, without_number-more, shorter}
+use Rattle.pair_history.proofs.Waiting.{IsFirst-more, frame_numbered-more, shorter}
 
 pub guest_along-append : (g : Guest) (ms ns : List Move) → guest_along g (ms ++ ns) ≡ guest_along (guest_along g ms) ns
 guest_along-append g [] ns = refl
 guest_along-append g (m ∷ ms) ns = guest_along-append (guest_moved g m) ms ns
 
-pub frames_along-append : (g : Guest) (ms ns : List Move) → frames_along g (ms ++ ns) ≡ frames_along g ms ++ frames_along (guest_along g ms) ns
+pub frames_along-append : (g : Guest) (ms ns : List Move)
+    → frames_along g (ms ++ ns) ≡ frames_along g ms ++ frames_along (guest_along g ms) ns
 frames_along-append g [] ns = refl
 frames_along-append g (m ∷ ms) ns =
     ap (λ t. frames_by g m ++ t) (frames_along-append (guest_moved g m) ms ns)
@@ -102,11 +103,11 @@ sent_along-moves s (Arrives n f ∷ ms) p =
 
 CanMove-more : (ws xs : List Waiting) (m : Move) → CanMove ws m → CanMove (ws ++ xs) m
 CanMove-more ws xs Steps h = tt
-CanMove-more ws xs (Arrives n f) h = (IsFirst-more n ws xs h.0, frame_numbered-more n f ws xs h.1)
+CanMove-more ws xs (Arrives n f) h = (IsFirst-more n ws xs h.0, (frame_numbered-more n f ws xs h.1).0)
 
 left_by-more : (ws xs : List Waiting) (m : Move) → CanMove ws m → left_by (ws ++ xs) m ≡ left_by ws m ++ xs
 left_by-more ws xs Steps h = refl
-left_by-more ws xs (Arrives n f) h = without_number-more n f ws xs h.1
+left_by-more ws xs (Arrives n f) h = (frame_numbered-more n f ws xs h.1).1
 
 pub AllCan-more : (ws xs : List Waiting) (ms : List Move) → AllCan ws ms → AllCan (ws ++ xs) ms
 AllCan-more ws xs [] h = tt

@@ -1,196 +1,122 @@
--- What was released, and then what is on its way, was sent in that order; what was taken, and then what lies in the box, was
--- released in that order.
-use Rattle.std.proofs.Common.{◌≡◌, ℕ, ◌-◌, ◌≤◌, List, [], ◌∷◌, ◌++◌, length, take, drop, remove, refl, sym, ap, ◌∙◌, subst, append_assoc, Bool, true, false, cond, inl}
-use Rattle.std.specs.Prelude.{nat_lt, ◌==◌, slice_get, Option, Some, None}
-use Rattle.std.proofs.lemmas.Bool.{eqb-true}
-use Rattle.guest_machine.specs.Step.{sent}
+-- What clients and their lines do can come before what the guest does.
+use Rattle.std.proofs.Common.{◌≡◌, ℕ, zero, suc, ◌+◌, ◌-◌, ◌<◌, ◌≤◌, List, [], ◌∷◌, ◌++◌, length, take, drop, remove, refl, sym, ap, ◌∙◌, subst, arith, Bool, true, false, cond}
+use Rattle.std.specs.Prelude.{nat_lt, ◌==◌, slice_get, Some}
+use Rattle.std.proofs.lemmas.Bool.{eqb-true, ltb-true, ltb-false}
+use Rattle.std.proofs.lemmas.List.{length-append, length-set, take-append-le}
+use Rattle.guest_machine.specs.Step.{next, sent, arrived}
 use Rattle.frame_ports.specs.Addresses.{targets_of}
 use Rattle.frame_ports.specs.Lands.{list_of, with_list}
 use Rattle.pair_history.specs.Entries.{Frame, Entry, Ran, Arrive, Delivered, Refused, Land, DropOut, Took}
-use Rattle.pair_history.specs.HistoryState.{HistoryState, at, after, Legal, out_of, out_without}
-use Rattle.pair_history.specs.Released.{IsPartOf, released, taken, sent_to, IsFresh}
-use Rattle.pair_history.proofs.ClientLists.{out_of-append, out_of-without, list_of-with}
-use Rattle.pair_history.proofs.Parts.{part-front, part-removed, part-dropped, part-taken}
+use Rattle.pair_history.specs.HistoryState.{HistoryState, Waiting, inbox_of, frame_numbered, without_number, with_arrived, IsFirst, out_of, out_without, at, after, Allows, Legal}
+use Rattle.pair_history.specs.Order.{IsGuests, AreGuests, IsReady}
+use Rattle.pair_history.proofs.ClientLists.{out_of-append}
+use Rattle.pair_history.proofs.Waiting.{IsFirst-more, frame_numbered-more, first-waits}
 
--- What was released, and what is on its way.
+-- what is sent later goes behind what is on its way
+out_without-more : (c place : ℕ) (ps qs : List (ℕ × Frame)) → place < length (out_of c ps)
+    → out_without c place (ps ++ qs) ≡ out_without c place ps ++ qs
+out_without-more c place [] qs l = absurd (omega arith)
+out_without-more c zero (p ∷ ps) qs l = by_test (p.0 == c) l (out_without-more c zero ps qs)
+  where
+    by_test : (t : Bool) → 0 < length (cond t (p.1 ∷ out_of c ps) (out_of c ps))
+        → (0 < length (out_of c ps) → out_without c zero (ps ++ qs) ≡ out_without c zero ps ++ qs)
+        → cond t (ps ++ qs) (p ∷ out_without c zero (ps ++ qs)) ≡ cond t ps (p ∷ out_without c zero ps) ++ qs
+    by_test true l more = refl
+    by_test false l more = ap (λ rs. p ∷ rs) (more l)
+out_without-more c (suc place) (p ∷ ps) qs l =
+    ap (λ rs. p ∷ rs) (by_test (p.0 == c) l (out_without-more c place ps qs) (out_without-more c (suc place) ps qs))
+  where
+    by_test : (t : Bool) → suc place < length (cond t (p.1 ∷ out_of c ps) (out_of c ps))
+        → (place < length (out_of c ps) → out_without c place (ps ++ qs) ≡ out_without c place ps ++ qs)
+        → (suc place < length (out_of c ps) → out_without c (suc place) (ps ++ qs) ≡ out_without c (suc place) ps ++ qs)
+        → out_without c (cond t place (suc place)) (ps ++ qs) ≡ out_without c (cond t place (suc place)) ps ++ qs
+    by_test true l nearer more = nearer (omega arith)
+    by_test false l nearer more = more l
 
-abbrev IsSent : HistoryState → List Entry → ℕ → Type 0
-IsSent s es c = IsPartOf (released s es c ++ out_of c (at s es).out) (out_of c s.out ++ sent_to s es c)
+-- two entries change places: the guest's is still allowed, and the state after both is the same
+abbrev Swaps : HistoryState → Entry → Entry → Type 0
+Swaps s g e = Allows (after s e) g × (after (after s e) g ≡ after (after s g) e) × IsReady (after s g) e
 
-module _ (s : HistoryState) (es : List Entry) (c : ℕ) where
-  ran : IsSent (after s Ran) es c → IsSent s (Ran ∷ es) c
-  ran h =
-      let targets = targets_of (length s.boxes) (sent s.guest) in
-      let rest = sent_to (after s Ran) es c in
-      subst
-      (λ (fs : List Frame). IsPartOf (released (after s Ran) es c ++ out_of c (at (after s Ran) es).out) fs)
-      (ap (λ fs. fs ++ rest) (out_of-append c s.out targets) ∙ append_assoc (out_of c s.out) (out_of c targets) rest)
-      h
+module _ (s : HistoryState) where
+  -- a step, where the boxes are as many and so the frames go to the same clients
+  abbrev stepped : List (ℕ × Frame) → List (List Frame) → ℕ → HistoryState
+  stepped out boxes n = record s { guest = next s.guest; out = out ++ targets_of n (sent s.guest); boxes = boxes }
 
-  landed : (d : ℕ) → IsSent (after s (Land d)) es c → IsSent s (Land d ∷ es) c
-  landed d h = by_test (d == c) refl (subst (λ (fs : List Frame). IsPartOf (more ++ last) (fs ++ rest)) (out_of-without c d 0 s.out) h)
+  -- the frames that the step sends
+  abbrev new : List (ℕ × Frame)
+  new = targets_of (length s.boxes) (sent s.guest)
+
+  more_out : (c : ℕ) → length (out_of c (s.out ++ new)) ≡ length (out_of c s.out) + length (out_of c new)
+  more_out c = ap length (out_of-append c s.out new) ∙ length-append (out_of c s.out) (out_of c new)
+
+  landing-swaps : (c : ℕ) → 0 < length (out_of c s.out) → after (after s (Land c)) Ran ≡ after (after s Ran) (Land c)
+  landing-swaps c r =
+      let some : 1 ≤ length (out_of c s.out) = omega arith in
+      let boxed = list_of s.boxes c ++ take 1 (out_of c s.out) in
+      λ i. record s {
+        guest = next s.guest;
+        out = (ap (λ n. out_without c 0 s.out ++ targets_of n (sent s.guest)) (length-set s.boxes (c - 1) boxed) ∙ sym (out_without-more c 0 s.out new r)) i;
+        boxes = ap (λ fs. with_list s.boxes c (list_of s.boxes c ++ fs)) (sym (ap (take 1) (out_of-append c s.out new) ∙ take-append-le 1 (out_of c s.out) (out_of c new) some)) i;
+      }
+
+  drop-swaps : (c place : ℕ) → place < length (list_of s.boxes c) + length (out_of c s.out)
+      → after (after s (DropOut c place)) Ran ≡ after (after s Ran) (DropOut c place)
+  drop-swaps c place r = by_test (nat_lt place (length (list_of s.boxes c))) refl
     where
-      more : List Frame
-      more = released (after s (Land d)) es c
+      fewer : List (List Frame)
+      fewer = with_list s.boxes c (remove (list_of s.boxes c) place)
 
-      last : List Frame
-      last = out_of c (at (after s (Land d)) es).out
+      on_way : List (ℕ × Frame) → List (ℕ × Frame)
+      on_way = out_without c (place - length (list_of s.boxes c))
 
-      rest : List Frame
-      rest = sent_to (after s (Land d)) es c
+      by_test : (u : Bool) → nat_lt place (length (list_of s.boxes c)) ≡ u
+          → stepped (cond u s.out (on_way s.out)) (cond u fewer s.boxes) (length (cond u fewer s.boxes)) ≡ record s { guest = next s.guest; out = cond u (s.out ++ new) (on_way (s.out ++ new)); boxes = cond u fewer s.boxes }
+      by_test true e = ap (stepped s.out fewer) (length-set s.boxes (c - 1) (remove (list_of s.boxes c) place))
+      by_test false e =
+          let far : length (list_of s.boxes c) ≤ place = ltb-false place (length (list_of s.boxes c)) e in
+          λ i. record s {
+            guest =
+                next s.guest;
+            out = sym (out_without-more c (place - length (list_of s.boxes c)) s.out new (omega arith)) i;
+            boxes = s.boxes;
+          }
 
-      by_test : (t : Bool) → (d == c) ≡ t → IsPartOf (more ++ last) (cond t (remove (out_of c s.out) 0) (out_of c s.out) ++ rest)
-          → IsPartOf ((cond t (take 1 (out_of d s.out)) [] ++ more) ++ last) (out_of c s.out ++ rest)
-      by_test true e i =
-          subst
-          (λ (fs : List Frame). IsPartOf fs (out_of c s.out ++ rest))
-          (sym (append_assoc (take 1 (out_of c s.out)) more last) ∙ ap (λ k. (take 1 (out_of k s.out) ++ more) ++ last) (sym (eqb-true d c e)))
-          (part-taken (more ++ last) (out_of c s.out) rest i)
-      by_test false e i = i
+  step-swaps : (e : Entry) → IsReady s e → Swaps s Ran e
+  step-swaps (Delivered c f n) r = (tt, refl, tt)
+  step-swaps (Refused c f) r = (tt, refl, tt)
+  step-swaps (Took c answer) r = let box = with_list s.boxes c (drop 1 (list_of s.boxes c)) in (tt, ap (stepped s.out box) (length-set s.boxes (c - 1) (drop 1 (list_of s.boxes c))), tt)
+  step-swaps (Land c) r = (tt, landing-swaps c r, let n = more_out c in omega arith)
+  step-swaps (DropOut c place) r = (tt, drop-swaps c place r, let n = more_out c in omega arith)
+  step-swaps other r = absurd r
 
-  dropped : (d place : ℕ) → IsSent (after s (DropOut d place)) es c → IsSent s (DropOut d place ∷ es) c
-  dropped d place h = in_box (nat_lt place (length (list_of s.boxes d))) h
-    where
-      left : List Frame
-      left = released (after s (DropOut d place)) es c ++ out_of c (at (after s (DropOut d place)) es).out
+  arrival-swaps : (n : ℕ) (e : Entry) → IsFirst n s.waiting → IsReady s e → Swaps s (Arrive n) e
+  arrival-swaps n (Delivered c f m) h r =
+      let new : List Waiting = record { number = m; client = c; frame = f } ∷ [] in
+      let waits = first-waits n h.0 h.1 s.waiting h.2 in
+      let still = frame_numbered-more n waits.0 s.waiting new waits.1 in (
+        IsFirst-more n s.waiting new h,
+        (λ i. record s {
+          guest = with_arrived s.guest ((still.0 ∙ sym waits.1) i);
+          number = s.number + 1;
+          waiting = still.1 i;
+        }),
+        tt,
+      )
+  arrival-swaps n (Refused c f) h r = (h, refl, tt)
+  arrival-swaps n (Land c) h r = (h, refl, r)
+  arrival-swaps n (DropOut c place) h r = (h, refl, r)
+  arrival-swaps n (Took c answer) h r = (h, refl, tt)
+  arrival-swaps n other h r = absurd r
 
-      rest : List Frame
-      rest = sent_to (after s (DropOut d place)) es c
+swaps : (s : HistoryState) (g e : Entry) → IsGuests g → Allows s g → IsReady s e → Swaps s g e
+swaps s Ran e k a r = step-swaps s e r
+swaps s (Arrive n) e k a r = arrival-swaps s n e a r
+swaps s other e k a r = absurd k
 
-      on_way : (k : ℕ) (t : Bool) → IsPartOf left (cond t (remove (out_of c s.out) k) (out_of c s.out) ++ rest) → IsPartOf left (out_of c s.out ++ rest)
-      on_way k true i = part-removed left (out_of c s.out) rest k i
-      on_way k false i = i
-
-      in_box : (t : Bool) → IsPartOf left (out_of c (cond t s.out (out_without d (place - length (list_of s.boxes d)) s.out)) ++ rest) → IsPartOf left (out_of c s.out ++ rest)
-      in_box true i = i
-      in_box false i =
-          let k = place - length (list_of s.boxes d) in
-          on_way k (d == c) (subst (λ (fs : List Frame). IsPartOf left (fs ++ rest)) (out_of-without c d k s.out) i)
-
-sent_in_order : (s : HistoryState) (es : List Entry) (c : ℕ) → IsSent s es c
-sent_in_order s [] c = part-front (out_of c s.out) []
-sent_in_order s (Ran ∷ es) c = ran s es c (sent_in_order (after s Ran) es c)
-sent_in_order s (Arrive n ∷ es) c = sent_in_order (after s (Arrive n)) es c
-sent_in_order s (Delivered d f n ∷ es) c = sent_in_order (after s (Delivered d f n)) es c
-sent_in_order s (Refused d f ∷ es) c = sent_in_order s es c
-sent_in_order s (Land d ∷ es) c = landed s es c d (sent_in_order (after s (Land d)) es c)
-sent_in_order s (DropOut d place ∷ es) c = dropped s es c d place (sent_in_order (after s (DropOut d place)) es c)
-sent_in_order s (Took d answer ∷ es) c = sent_in_order (after s (Took d answer)) es c
-
-pub fresh_in_order : (s : HistoryState) (es : List Entry) (c : ℕ) → IsFresh s → IsPartOf (released s es c ++ out_of c (at s es).out) (sent_to s es c)
-fresh_in_order s es c fresh =
-    subst (λ (ps : List (ℕ × Frame)). IsPartOf (released s es c ++ out_of c (at s es).out) (out_of c ps ++ sent_to s es c)) fresh.out (sent_in_order s es c)
-
--- What was taken, and what lies in the box.
-
-abbrev IsBoxed : HistoryState → List Entry → ℕ → Type 0
-IsBoxed s es c = IsPartOf (taken es c ++ list_of (at s es).boxes c) (list_of s.boxes c ++ released s es c)
-
-first_taken : (f : Frame) (xs ys zs : List Frame) → slice_get ys 0 ≡ Some f → IsPartOf xs (drop 1 ys ++ zs) → IsPartOf (f ∷ xs) (ys ++ zs)
-first_taken f xs [] zs e h = absurd (cc)
-first_taken f xs (y ∷ ys) zs e h = let same : f ≡ y = cc in inl (same, h)
-
-module _ (s : HistoryState) (es : List Entry) (c d : ℕ) (low_c : 1 ≤ c) (low_d : 1 ≤ d) (high : d ≤ length s.boxes) where
-  box_landed : IsBoxed (after s (Land d)) es c → IsBoxed s (Land d ∷ es) c
-  box_landed h =
-      by_test (d == c) refl (subst (λ (fs : List Frame). IsPartOf given (fs ++ more)) (list_of-with s.boxes c d (list_of s.boxes d ++ take 1 (out_of d s.out)) low_c low_d high) h)
-    where
-      given : List Frame
-      given = taken es c ++ list_of (at (after s (Land d)) es).boxes c
-
-      more : List Frame
-      more = released (after s (Land d)) es c
-
-      by_test : (t : Bool) → (d == c) ≡ t → IsPartOf given (cond t (list_of s.boxes d ++ take 1 (out_of d s.out)) (list_of s.boxes c) ++ more)
-          → IsPartOf given (list_of s.boxes c ++ (cond t (take 1 (out_of d s.out)) [] ++ more))
-      by_test true e i =
-          subst
-          (λ (fs : List Frame). IsPartOf given fs)
-          (append_assoc (list_of s.boxes d) (take 1 (out_of d s.out)) more ∙ ap (λ k. list_of s.boxes k ++ (take 1 (out_of d s.out) ++ more)) (eqb-true d c e))
-          i
-      by_test false e i = i
-
-  box_dropped : (place : ℕ) → IsBoxed (after s (DropOut d place)) es c → IsBoxed s (DropOut d place ∷ es) c
-  box_dropped place h = in_box (nat_lt place (length (list_of s.boxes d))) h
-    where
-      given : List Frame
-      given = taken es c ++ list_of (at (after s (DropOut d place)) es).boxes c
-
-      more : List Frame
-      more = released (after s (DropOut d place)) es c
-
-      by_test : (t : Bool) → (d == c) ≡ t → IsPartOf given (cond t (remove (list_of s.boxes d) place) (list_of s.boxes c) ++ more) → IsPartOf given (list_of s.boxes c ++ more)
-      by_test true e i = part-removed given (list_of s.boxes c) more place (subst (λ (k : ℕ). IsPartOf given (remove (list_of s.boxes k) place ++ more)) (eqb-true d c e) i)
-      by_test false e i = i
-
-      in_box : (t : Bool) → IsPartOf given (list_of (cond t (with_list s.boxes d (remove (list_of s.boxes d) place)) s.boxes) c ++ more) → IsPartOf given (list_of s.boxes c ++ more)
-      in_box true i =
-          by_test (d == c) refl (subst (λ (fs : List Frame). IsPartOf given (fs ++ more)) (list_of-with s.boxes c d (remove (list_of s.boxes d) place) low_c low_d high) i)
-      in_box false i = i
-
-  -- what is left in the box where its first is taken
-  box_without_first : (answer : Option Frame) → IsBoxed (after s (Took d answer)) es c
-      → IsPartOf (taken es c ++ list_of (at (after s (Took d answer)) es).boxes c) (cond (d == c) (drop 1 (list_of s.boxes d)) (list_of s.boxes c) ++ released (after s (Took d answer)) es c)
-  box_without_first answer h =
-      subst
-      (λ (fs : List Frame). IsPartOf (taken es c ++ list_of (at (after s (Took d answer)) es).boxes c) (fs ++ released (after s (Took d answer)) es c))
-      (list_of-with s.boxes c d (drop 1 (list_of s.boxes d)) low_c low_d high)
-      h
-
-  box_took : (f : Frame) → slice_get (list_of s.boxes d) 0 ≡ Some f → IsBoxed (after s (Took d (Some f))) es c → IsBoxed s (Took d (Some f) ∷ es) c
-  box_took f first h = by_test (d == c) refl (box_without_first (Some f) h)
-    where
-      last : List Frame
-      last = list_of (at (after s (Took d (Some f))) es).boxes c
-
-      more : List Frame
-      more = released (after s (Took d (Some f))) es c
-
-      by_test : (t : Bool) → (d == c) ≡ t → IsPartOf (taken es c ++ last) (cond t (drop 1 (list_of s.boxes d)) (list_of s.boxes c) ++ more)
-          → IsPartOf (cond t (f ∷ taken es c) (taken es c) ++ last) (list_of s.boxes c ++ more)
-      by_test true e i =
-          subst (λ (k : ℕ). IsPartOf (f ∷ taken es c ++ last) (list_of s.boxes k ++ more)) (eqb-true d c e) (first_taken f (taken es c ++ last) (list_of s.boxes d) more first i)
-      by_test false e i = i
-
-  box_found_empty : IsBoxed (after s (Took d None)) es c → IsBoxed s (Took d None ∷ es) c
-  box_found_empty h = by_test (d == c) refl (box_without_first None h)
-    where
-      given : List Frame
-      given = taken es c ++ list_of (at (after s (Took d None)) es).boxes c
-
-      more : List Frame
-      more = released (after s (Took d None)) es c
-
-      by_test : (t : Bool) → (d == c) ≡ t → IsPartOf given (cond t (drop 1 (list_of s.boxes d)) (list_of s.boxes c) ++ more) → IsPartOf given (list_of s.boxes c ++ more)
-      by_test true e i = part-dropped given (list_of s.boxes c) more (subst (λ (k : ℕ). IsPartOf given (drop 1 (list_of s.boxes k) ++ more)) (eqb-true d c e) i)
-      by_test false e i = i
-
-boxed_in_order : (s : HistoryState) (es : List Entry) (c : ℕ) → 1 ≤ c → Legal s es → IsBoxed s es c
-boxed_in_order s [] c low legal = part-front (list_of s.boxes c) []
-boxed_in_order s (Ran ∷ es) c low legal = boxed_in_order (after s Ran) es c low legal.1
-boxed_in_order s (Arrive n ∷ es) c low legal = boxed_in_order (after s (Arrive n)) es c low legal.1
-boxed_in_order s (Delivered d f n ∷ es) c low legal = boxed_in_order (after s (Delivered d f n)) es c low legal.1
-boxed_in_order s (Refused d f ∷ es) c low legal = boxed_in_order s es c low legal.1
-boxed_in_order s (Land d ∷ es) c low legal = box_landed s es c d low legal.0.0.0 legal.0.0.1 (boxed_in_order (after s (Land d)) es c low legal.1)
-boxed_in_order s (DropOut d place ∷ es) c low legal = box_dropped s es c d low legal.0.0.0 legal.0.0.1 place (boxed_in_order (after s (DropOut d place)) es c low legal.1)
-boxed_in_order s (Took d (Some f) ∷ es) c low legal = box_took s es c d low legal.0.0.0 legal.0.0.1 f legal.0.1 (boxed_in_order (after s (Took d (Some f))) es c low legal.1)
-boxed_in_order s (Took d None ∷ es) c low legal = box_found_empty s es c d low legal.0.0.0 legal.0.0.1 (boxed_in_order (after s (Took d None)) es c low legal.1)
-
-pub fresh_taken_in_order : (s : HistoryState) (es : List Entry) (c : ℕ) → IsFresh s → Legal s es → 1 ≤ c → IsPartOf (taken es c ++ list_of (at s es).boxes c) (released s es c)
-fresh_taken_in_order s es c fresh legal low =
-    subst (λ (box : List Frame). IsPartOf (taken es c ++ list_of (at s es).boxes c) (box ++ released s es c)) (fresh.boxes c) (boxed_in_order s es c low legal)
-
--- What was released stays so.
-
-pub released-append : (s : HistoryState) (es more : List Entry) (c : ℕ) → released s (es ++ more) c ≡ released s es c ++ released (at s es) more c
-released-append s [] more c = refl
-released-append s (Ran ∷ es) more c = released-append (after s Ran) es more c
-released-append s (Arrive n ∷ es) more c = released-append (after s (Arrive n)) es more c
-released-append s (Delivered d f n ∷ es) more c = released-append (after s (Delivered d f n)) es more c
-released-append s (Refused d f ∷ es) more c = released-append s es more c
-released-append s (Land d ∷ es) more c =
-    let t = after s (Land d) in
-    let first = cond (d == c) (take 1 (out_of d s.out)) [] in
-    ap (λ fs. first ++ fs) (released-append t es more c) ∙ sym (append_assoc first (released t es c) (released (at t es) more c))
-released-append s (DropOut d place ∷ es) more c = released-append (after s (DropOut d place)) es more c
-released-append s (Took d answer ∷ es) more c = released-append (after s (Took d answer)) es more c
+pub goes_first : (s : HistoryState) (es : List Entry) (e : Entry) → AreGuests es → Legal s es → IsReady s e
+    → Legal (after s e) es × (at (after s e) es ≡ after (at s es) e)
+goes_first s [] e k legal r = (tt, refl)
+goes_first s (g ∷ es) e k legal r =
+    let one = swaps s g e k.0 legal.0 r in
+    let more = goes_first (after s g) es e k.1 legal.1 one.2 in
+    ((one.0, subst (λ (t : HistoryState). Legal t es) (sym one.1) more.0), ap (λ t. at t es) one.1 ∙ more.1)

@@ -1,31 +1,36 @@
 -- Laws of lists that are a part of another, in order.
-use Rattle.std.proofs.Common.{ℕ, zero, suc, List, [], ◌∷◌, ◌++◌, take, drop, remove, refl, inl, inr}
+use Rattle.std.proofs.Common.{◌≡◌, ◌∙◌, ℕ, zero, suc, List, [], ◌∷◌, ◌++◌, remove, refl, inl, inr}
 use Rattle.pair_history.specs.Released.{IsPartOf}
 
 module _ {X : Type 0} where
-  later : (xs ys : List X) (y : X) → IsPartOf xs ys → IsPartOf xs (y ∷ ys)
-  later [] ys y h = tt
-  later (x ∷ xs) ys y h = inr h
+  part-later : (xs ys : List X) (y : X) → IsPartOf xs ys → IsPartOf xs (y ∷ ys)
+  part-later [] ys y h = tt
+  part-later (x ∷ xs) ys y h = inr h
 
-  -- a list with more behind it has the list as a part
-  pub part-front : (xs ys : List X) → IsPartOf xs (xs ++ ys)
-  part-front [] ys = tt
-  part-front (x ∷ xs) ys = inl (refl, part-front xs ys)
+  part-refl : (xs : List X) → IsPartOf xs xs
+  part-refl [] = tt
+  part-refl (x ∷ xs) = inl (refl, part-refl xs)
 
-  -- one that lacks the element at a place, or the first
-  pub part-removed : (xs ys zs : List X) (i : ℕ) → IsPartOf xs (remove ys i ++ zs) → IsPartOf xs (ys ++ zs)
-  part-removed xs [] zs zero h = h
-  part-removed xs [] zs (suc i) h = h
-  part-removed xs (y ∷ ys) zs zero h = later xs (ys ++ zs) y h
-  part-removed [] (y ∷ ys) zs (suc i) h = tt
-  part-removed (x ∷ xs) (y ∷ ys) zs (suc i) (inl h) = inl (h.0, part-removed xs ys zs i h.1)
-  part-removed (x ∷ xs) (y ∷ ys) zs (suc i) (inr h) = inr (part-removed (x ∷ xs) ys zs i h)
+  pub part-trans : (xs ys zs : List X) → IsPartOf xs ys → IsPartOf ys zs → IsPartOf xs zs
+  part-trans [] ys zs h k = tt
+  part-trans (x ∷ xs) [] zs h k = absurd h
+  part-trans (x ∷ xs) (y ∷ ys) [] h k = absurd k
+  part-trans (x ∷ xs) (y ∷ ys) (z ∷ zs) (inl h) (inl k) = inl (h.0 ∙ k.0, part-trans xs ys zs h.1 k.1)
+  part-trans (x ∷ xs) (y ∷ ys) (z ∷ zs) (inr h) (inl k) = inr (part-trans (x ∷ xs) ys zs h k.1)
+  part-trans (x ∷ xs) (y ∷ ys) (z ∷ zs) h (inr k) = inr (part-trans (x ∷ xs) (y ∷ ys) zs h k)
 
-  pub part-dropped : (xs ys zs : List X) → IsPartOf xs (drop 1 ys ++ zs) → IsPartOf xs (ys ++ zs)
-  part-dropped xs [] zs h = h
-  part-dropped xs (y ∷ ys) zs h = later xs (ys ++ zs) y h
+  -- both with the same at the end
+  pub part-append : (xs ys zs : List X) → IsPartOf xs ys → IsPartOf (xs ++ zs) (ys ++ zs)
+  part-append [] [] zs h = part-refl zs
+  part-append [] (y ∷ ys) zs h = part-later zs (ys ++ zs) y (part-append [] ys zs tt)
+  part-append (x ∷ xs) [] zs h = absurd h
+  part-append (x ∷ xs) (y ∷ ys) zs (inl h) = inl (h.0, part-append xs ys zs h.1)
+  part-append (x ∷ xs) (y ∷ ys) zs (inr h) = inr (part-append (x ∷ xs) ys zs h)
 
-  -- the first goes from the one to the other
-  pub part-taken : (xs ys zs : List X) → IsPartOf xs (remove ys 0 ++ zs) → IsPartOf (take 1 ys ++ xs) (ys ++ zs)
-  part-taken xs [] zs h = h
-  part-taken xs (y ∷ ys) zs h = inl (refl, h)
+  -- without an element
+  pub part-remove : (xs ys : List X) (i : ℕ) → IsPartOf (xs ++ remove ys i) (xs ++ ys)
+  part-remove (x ∷ xs) ys i = inl (refl, part-remove xs ys i)
+  part-remove [] [] zero = tt
+  part-remove [] [] (suc i) = tt
+  part-remove [] (y ∷ ys) zero = part-later ys ys y (part-refl ys)
+  part-remove [] (y ∷ ys) (suc i) = inl (refl, part-remove [] ys i)

@@ -6,6 +6,7 @@ use Rattle.std.proofs.lemmas.Bool.Decides.{nat_tests}
 use Rattle.pair_history.specs.Entries.{Frame}
 use Rattle.pair_history.specs.HistoryState.{Waiting, inbox_of, frame_numbered, without_number, IsFirst}
 use Rattle.pair_history.specs.Moves.{AreRising}
+use Rattle.pair_history.proofs.ClientLists.{cond_more}
 
 -- an equation with true against one with false
 clash : {A : Type 0} (t : Bool) → t ≡ true → t ≡ false → A
@@ -18,41 +19,46 @@ apart a b h = grind (arith, nat_tests)
 
 pub inbox_of-append : (c : ℕ) (xs ys : List Waiting) → inbox_of c (xs ++ ys) ≡ inbox_of c xs ++ inbox_of c ys
 inbox_of-append c [] ys = refl
-inbox_of-append c (x ∷ xs) ys = by_test (x.client == c) (inbox_of-append c xs ys)
-  where
-    by_test : (t : Bool) → inbox_of c (xs ++ ys) ≡ inbox_of c xs ++ inbox_of c ys
-        → cond t ((x.number, x.frame) ∷ inbox_of c (xs ++ ys)) (inbox_of c (xs ++ ys)) ≡ cond t ((x.number, x.frame) ∷ inbox_of c xs) (inbox_of c xs) ++ inbox_of c ys
-    by_test true e = ap (λ t. (x.number, x.frame) ∷ t) e
-    by_test false e = e
+inbox_of-append c (x ∷ xs) ys =
+    let first : ℕ × Frame = (x.number, x.frame) in
+    ap (λ ps. cond (x.client == c) (first ∷ ps) ps) (inbox_of-append c xs ys) ∙ cond_more (x.client == c) first (inbox_of c xs) (inbox_of c ys)
 
 first-more : {A : Type 0} (xs ys : List A) (a : A) → slice_get xs 0 ≡ Some a → slice_get (xs ++ ys) 0 ≡ Some a
 first-more [] ys a e = absurd (cc)
 first-more (x ∷ xs) ys a e = e
 
 pub IsFirst-more : (n : ℕ) (xs ys : List Waiting) → IsFirst n xs → IsFirst n (xs ++ ys)
-IsFirst-more n xs ys h = (h.0, h.1, ap (λ t. slice_get t 0) (inbox_of-append h.0 xs ys) ∙ first-more (inbox_of h.0 xs) (inbox_of h.0 ys) (n, h.1) h.2)
+IsFirst-more n xs ys h =
+    (h.0, h.1, ap (λ t. slice_get t 0) (inbox_of-append h.0 xs ys) ∙ first-more (inbox_of h.0 xs) (inbox_of h.0 ys) (n, h.1) h.2)
 
-pub frame_numbered-more : (n : ℕ) (f : Frame) (xs ys : List Waiting) → frame_numbered n xs ≡ Some f → frame_numbered n (xs ++ ys) ≡ Some f
+-- the first of a client has its number
+pub first-waits : (n c : ℕ) (f : Frame) (ws : List Waiting) → slice_get (inbox_of c ws) 0 ≡ Some (n, f)
+    → (g : Frame) × (frame_numbered n ws ≡ Some g)
+first-waits n c f [] e = absurd (cc)
+first-waits n c f (x ∷ xs) e = by_tests (x.number == n) (x.client == c) refl e (first-waits n c f xs)
+  where
+    by_tests : (t u : Bool) → (x.number == n) ≡ t → slice_get (cond u ((x.number, x.frame) ∷ inbox_of c xs) (inbox_of c xs)) 0 ≡ Some (n, f)
+        → (slice_get (inbox_of c xs) 0 ≡ Some (n, f) → (g : Frame) × (frame_numbered n xs ≡ Some g))
+        → (g : Frame) × (cond t (Some x.frame) (frame_numbered n xs) ≡ Some g)
+    by_tests true u is e more = (x.frame, refl)
+    by_tests false true off e more = let p : ◌≡◌ {A = ℕ × Frame} (x.number, x.frame) (n, f) = cc in clash (x.number == n) (eq-eqb x.number n (ap (λ (q : ℕ × Frame). q.0) p)) off
+    by_tests false false off e more = more e
+
+pub frame_numbered-more : (n : ℕ) (f : Frame) (xs ys : List Waiting) → frame_numbered n xs ≡ Some f
+    → (frame_numbered n (xs ++ ys) ≡ Some f) × (without_number n (xs ++ ys) ≡ without_number n xs ++ ys)
 frame_numbered-more n f [] ys e = absurd (cc)
 frame_numbered-more n f (x ∷ xs) ys e = by_test (x.number == n) e (frame_numbered-more n f xs ys)
   where
-    by_test : (t : Bool) → cond t (Some x.frame) (frame_numbered n xs) ≡ Some f → (frame_numbered n xs ≡ Some f → frame_numbered n (xs ++ ys) ≡ Some f)
-        → cond t (Some x.frame) (frame_numbered n (xs ++ ys)) ≡ Some f
-    by_test true e more = e
-    by_test false e more = more e
-
-pub without_number-more : (n : ℕ) (f : Frame) (xs ys : List Waiting) → frame_numbered n xs ≡ Some f → without_number n (xs ++ ys) ≡ without_number n xs ++ ys
-without_number-more n f [] ys e = absurd (cc)
-without_number-more n f (x ∷ xs) ys e = by_test (x.number == n) e (without_number-more n f xs ys)
-  where
-    by_test : (t : Bool) → cond t (Some x.frame) (frame_numbered n xs) ≡ Some f → (frame_numbered n xs ≡ Some f → without_number n (xs ++ ys) ≡ without_number n xs ++ ys)
-        → cond t (xs ++ ys) (x ∷ without_number n (xs ++ ys)) ≡ cond t xs (x ∷ without_number n xs) ++ ys
-    by_test true e more = refl
-    by_test false e more = ap (λ t. x ∷ t) (more e)
+    by_test : (t : Bool) → cond t (Some x.frame) (frame_numbered n xs) ≡ Some f
+        → (frame_numbered n xs ≡ Some f → (frame_numbered n (xs ++ ys) ≡ Some f) × (without_number n (xs ++ ys) ≡ without_number n xs ++ ys))
+        → (cond t (Some x.frame) (frame_numbered n (xs ++ ys)) ≡ Some f) × (cond t (xs ++ ys) (x ∷ without_number n (xs ++ ys)) ≡ cond t xs (x ∷ without_number n xs) ++ ys)
+    by_test true e more = (e, refl)
+    by_test false e more = let m = more e in (m.0, ap (λ ws. x ∷ ws) m.1)
 
 -- What waits has rising numbers.
 
-pub AreRising-push : (first end : ℕ) (xs : List Waiting) (x : Waiting) → AreRising first end xs → x.number ≡ end → AreRising first (end + 1) (xs ++ x ∷ [])
+pub AreRising-push : (first end : ℕ) (xs : List Waiting) (x : Waiting) → AreRising first end xs → x.number ≡ end
+    → AreRising first (end + 1) (xs ++ x ∷ [])
 AreRising-push first end [] x h e = (omega arith, omega arith)
 AreRising-push first end (y ∷ xs) x h e = (h.0, AreRising-push (y.number + 1) end xs x h.1 e)
 
@@ -77,13 +83,15 @@ first-from : (c n : ℕ) (f : Frame) (first end : ℕ) (ws : List Waiting) → A
 first-from c n f first end [] h s = absurd (cc)
 first-from c n f first end (x ∷ xs) h s = by_test (x.client == c) (first-from c n f (x.number + 1) end xs h.1) s
   where
-    by_test : (t : Bool) → (StartsWith c n f xs → x.number + 1 ≤ n) → slice_get (cond t ((x.number, x.frame) ∷ inbox_of c xs) (inbox_of c xs)) 0 ≡ Some (n, f) → first ≤ n
+    by_test : (t : Bool) → (StartsWith c n f xs → x.number + 1 ≤ n)
+        → slice_get (cond t ((x.number, x.frame) ∷ inbox_of c xs) (inbox_of c xs)) 0 ≡ Some (n, f) → first ≤ n
     by_test true more e = let p : ◌≡◌ {A = ℕ × Frame} (x.number, x.frame) (n, f) = cc in let is : x.number ≡ n = ap (λ (q : ℕ × Frame). q.0) p in let k = h.0 in omega arith
     by_test false more e = let k = h.0 in let l = more e in omega arith
 
 -- what is so of the first of client c where it has number n
 abbrev pub Leaves : ℕ → ℕ → Frame → List Waiting → Type 0
-Leaves c n f ws = (frame_numbered n ws ≡ Some f) × ((d : ℕ) → inbox_of d (without_number n ws) ≡ cond (d == c) (drop 1 (inbox_of c ws)) (inbox_of d ws))
+Leaves c n f ws =
+    (frame_numbered n ws ≡ Some f) × ((d : ℕ) → inbox_of d (without_number n ws) ≡ cond (d == c) (drop 1 (inbox_of c ws)) (inbox_of d ws))
 
 module _ (c n : ℕ) (f : Frame) (x : Waiting) (xs : List Waiting) where
   abbrev with_first : Bool → List (ℕ × Frame) → List (ℕ × Frame)
@@ -93,7 +101,8 @@ module _ (c n : ℕ) (f : Frame) (x : Waiting) (xs : List Waiting) where
   same_client d mine e false k = k
   same_client d mine e true k = clash (d == c) (eq-eqb d c (sym (eqb-true x.client d k) ∙ eqb-true x.client c mine)) e
 
-  others_here : (x.client == c) ≡ true → (d : ℕ) (t : Bool) → (d == c) ≡ t → inbox_of d xs ≡ cond t (inbox_of c xs) (with_first (x.client == d) (inbox_of d xs))
+  others_here : (x.client == c) ≡ true → (d : ℕ) (t : Bool) → (d == c) ≡ t
+      → inbox_of d xs ≡ cond t (inbox_of c xs) (with_first (x.client == d) (inbox_of d xs))
   others_here mine d true e = ap (λ k. inbox_of k xs) (eqb-true d c e)
   others_here mine d false e = sym (ap (λ t. with_first t (inbox_of d xs)) (same_client d mine e (x.client == d) refl))
 
@@ -130,7 +139,8 @@ module _ (c n : ℕ) (f : Frame) (x : Waiting) (xs : List Waiting) where
   leaves_by true mine e below more = let p : ◌≡◌ {A = ℕ × Frame} (x.number, x.frame) (n, f) = cc in leaves_here mine (ap (λ (q : ℕ × Frame). q.0) p) (ap (λ (q : ℕ × Frame). q.1) p)
   leaves_by false other e below more = leaves_there other (below e) (more e)
 
-pub first-leaves : (c n : ℕ) (f : Frame) (first end : ℕ) (ws : List Waiting) → AreRising first end ws → StartsWith c n f ws → Leaves c n f ws
+pub first-leaves : (c n : ℕ) (f : Frame) (first end : ℕ) (ws : List Waiting) → AreRising first end ws → StartsWith c n f ws
+    → Leaves c n f ws
 first-leaves c n f first end [] h s = absurd (cc)
 first-leaves c n f first end (x ∷ xs) h s =
     leaves_by c n f x xs (x.client == c) refl s (first-from c n f (x.number + 1) end xs h.1) (first-leaves c n f (x.number + 1) end xs h.1)
@@ -144,10 +154,12 @@ shorter c n (x ∷ xs) = by_test (x.number == n) (shorter c n xs)
     longer true ps = omega arith
     longer false ps = omega arith
 
-    both : (u : Bool) (ps qs : List (ℕ × Frame)) → length ps ≤ length qs → length (cond u ((x.number, x.frame) ∷ ps) ps) ≤ length (cond u ((x.number, x.frame) ∷ qs) qs)
+    both : (u : Bool) (ps qs : List (ℕ × Frame)) → length ps ≤ length qs
+        → length (cond u ((x.number, x.frame) ∷ ps) ps) ≤ length (cond u ((x.number, x.frame) ∷ qs) qs)
     both true ps qs l = omega arith
     both false ps qs l = l
 
-    by_test : (t : Bool) → length (inbox_of c (without_number n xs)) ≤ length (inbox_of c xs) → length (inbox_of c (cond t xs (x ∷ without_number n xs))) ≤ length (inbox_of c (x ∷ xs))
+    by_test : (t : Bool) → length (inbox_of c (without_number n xs)) ≤ length (inbox_of c xs)
+        → length (inbox_of c (cond t xs (x ∷ without_number n xs))) ≤ length (inbox_of c (x ∷ xs))
     by_test true l = longer (x.client == c) (inbox_of c xs)
     by_test false l = both (x.client == c) (inbox_of c (without_number n xs)) (inbox_of c xs) l

@@ -16,6 +16,8 @@ pub data Entry : Type 0 where
   Delivered : ℕ → Frame → ℕ → Entry
   -- this client's frame wasn't taken, since too many of its frames wait
   Refused : ℕ → Frame → Entry
+  -- the delivered frame of this number, which hadn't arrived, was dropped
+  DropIn : ℕ → Entry
   -- the first frame on its way to this client was put into its box
   Land : ℕ → Entry
   -- the frame at this place of the client's box followed by the frames on their way to it was dropped

@@ -5,7 +5,7 @@ use Rattle.guest_machine.specs.Step.{next, sent, arrived}
 use Rattle.frame_ports.specs.Addresses.{IsFrame, targets_of}
 use Rattle.frame_ports.specs.Lands.{list_of, with_list}
 use Rattle.frame_ports.specs.declared.limits.TheConstants.{INBOX_FRAMES, BOX_FRAMES}
-use Rattle.pair_history.specs.Entries.{Frame, Entry, Ran, Arrive, Delivered, Refused, Land, DropOut, Took}
+use Rattle.pair_history.specs.Entries.{Frame, Entry, Ran, Arrive, Delivered, Refused, DropIn, Land, DropOut, Took}
 
 -- a frame that a client delivered and that hasn't arrived at the guest
 pub record Waiting : Type 0 where
@@ -69,6 +69,7 @@ Allows s Ran = Unit {0}
 Allows s (Arrive n) = IsFirst n s.waiting
 Allows s (Delivered c f n) = IsClient s c × IsFrame f × (n ≡ s.number)
 Allows s (Refused c f) = IsClient s c × IsFrame f × (INBOX_FRAMES ≤ length (inbox_of c s.waiting))
+Allows s (DropIn n) = (f : Frame) × (frame_numbered n s.waiting ≡ Some f)
 Allows s (Land c) = IsClient s c × (0 < length (out_of c s.out)) × (length (list_of s.boxes c) < BOX_FRAMES)
 Allows s (DropOut c place) = IsClient s c × (place < length (list_of s.boxes c) + length (out_of c s.out))
 Allows s (Took c (Some f)) = IsClient s c × (slice_get (list_of s.boxes c) 0 ≡ Some f)
@@ -81,6 +82,7 @@ after s (Arrive n) = record s { guest = with_arrived s.guest (frame_numbered n s
 after s (Delivered c f n) =
     record s { number = s.number + 1; waiting = s.waiting ++ record { number = n; client = c; frame = f } ∷ [] }
 after s (Refused c f) = s
+after s (DropIn n) = record s { waiting = without_number n s.waiting }
 after s (Land c) = record s { out = out_without c 0 s.out; boxes = with_list s.boxes c (list_of s.boxes c ++ take 1 (out_of c s.out)) }
 after s (DropOut c place) =
     let box = list_of s.boxes c in
@@ -100,19 +102,18 @@ abbrev pub Legal : HistoryState → List Entry → Type 0
 Legal s [] = Unit {0}
 Legal s (e ∷ es) = Allows s e × Legal (after s e) es
 
+-- what entries contribute in their turn, one after another
+abbrev pub along : {X : Type 0} → (HistoryState → Entry → List X) → HistoryState → List Entry → List X
+along gives s [] = []
+along gives s (e ∷ es) = gives s e ++ along gives (after s e) es
+
 -- the frames that the guest sends along these entries
 abbrev pub sent_by : HistoryState → Entry → List Frame
 sent_by s Ran = sent s.guest
-sent_by s (Arrive n) = []
-sent_by s (Delivered c f n) = []
-sent_by s (Refused c f) = []
-sent_by s (Land c) = []
-sent_by s (DropOut c place) = []
-sent_by s (Took c answer) = []
+sent_by s other = []
 
 abbrev pub sent_along : HistoryState → List Entry → List Frame
-sent_along s [] = []
-sent_along s (e ∷ es) = sent_by s e ++ sent_along (after s e) es
+sent_along s es = along sent_by s es
 
 -- the boot guest, nothing delivered, nothing on its way, and an empty box for each client
 abbrev pub start_state : ℕ → ℕ → List ℕ → ℕ → HistoryState

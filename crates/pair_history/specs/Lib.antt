@@ -1,5 +1,6 @@
 pub mod Entries
 pub mod HistoryState
+pub mod Order
 pub mod Landings
 pub mod Moves
 pub mod Log

@@ -2,7 +2,7 @@
 use Rattle.std.specs.Prelude.{ℕ, List, [], ◌∷◌, ◌++◌, replicate, None, Some}
 use Rattle.pair_history.specs.Entries as whole
 use Rattle.pair_history.specs.declared.history.Entry.{Entry}
-use Rattle.pair_history.specs.declared.history.Entry.TheVariants.{Ran, Arrive, Delivered, Refused, Land, DropOut, Took}
+use Rattle.pair_history.specs.declared.history.Entry.TheVariants.{Ran, Arrive, Delivered, Refused, DropIn, Land, DropOut, Took}
 
 pub record Log : Type 0 where
   pub entries : List whole.Entry
@@ -14,6 +14,7 @@ expanded (Ran count) = replicate count whole.Ran
 expanded (Arrive number) = whole.Arrive number ∷ []
 expanded (Delivered client frame number) = whole.Delivered client frame.value number ∷ []
 expanded (Refused client frame) = whole.Refused client frame.value ∷ []
+expanded (DropIn number) = whole.DropIn number ∷ []
 expanded (Land client) = whole.Land client ∷ []
 expanded (DropOut client place) = whole.DropOut client place ∷ []
 expanded (Took client None) = whole.Took client None ∷ []

@@ -15,6 +15,8 @@ pub enum Entry {
     Delivered(u64, Box<Frame>, u64),
     /// This client's frame wasn't taken, since its inbox was full.
     Refused(u64, Box<Frame>),
+    /// The delivered frame of this number, which hadn't arrived, was dropped.
+    DropIn(u64),
     /// The first frame on its way to this client was put into its box.
     Land(u64),
     /// The frame at this place, from 0, of the client's box followed by the frames on their way to it was dropped.
@@ -106,12 +108,7 @@ impl Entry {
     {
         match self {
             Entry::Ran(steps) => *steps,
-            Entry::Arrive(_)
-            | Entry::Delivered(_, _, _)
-            | Entry::Refused(_, _)
-            | Entry::Land(_)
-            | Entry::DropOut { .. }
-            | Entry::Took(_, _) => 1,
+            _ => 1,
         }
     }
 }

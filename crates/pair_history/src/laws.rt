@@ -1,25 +1,44 @@
 //! What every legal history gives its clients.
-ghost use Rattle.std.specs.Prelude.{◌≡◌, ℕ, ◌+◌, ◌≤◌, ◌++◌, [], List, length};
-ghost use Rattle.pair_history.specs.Entries.{Frame, Entry};
-ghost use Rattle.pair_history.specs.HistoryState.{HistoryState, at, Legal, out_of, start_state};
-ghost use Rattle.pair_history.specs.Released.{IsAmong, IsPartOf, released, taken, dropped_count, sent_to, WasSent, IsFresh};
+ghost use Rattle.std.specs.Prelude.{◌≡◌, ℕ, ◌+◌, ◌≤◌, ◌++◌, List, length};
+ghost use Rattle.std.specs.List.{All};
+ghost use Rattle.pair_history.specs.Entries.{Entry};
+ghost use Rattle.pair_history.specs.HistoryState.{HistoryState, after, at, Legal, out_of, start_state};
+ghost use Rattle.pair_history.specs.Order.{AreGuests, IsReady};
+ghost use Rattle.pair_history.specs.Released.{frames, Sent, goes_on, account, WasSent, IsSound};
+ghost use Rattle.pair_history.specs.Released.{sent_to, released, taken, dropped_count, IsFresh};
 ghost use Rattle.frame_ports.specs.Lands.{list_of};
 
-/// Each frame that a legal history released to a client was sent to it by the guest in a step of that history, and each
-/// frame that lies in a client's box was released to it. A history that goes on keeps the step, and what was released.
+/// Each frame that a history released to a client stands in that client's account with the step of the history that sent it.
 ///
 /// What was released to a client, and then what is on its way to it, is what the guest sent to it, in order and each sent frame
 /// once at most, with some left out. What the client took, and then what lies in its box, is what was released to it, likewise.
 /// In all, as many frames are left out as were dropped.
 ///
-/// All of it holds from where a pair starts: that state is fresh.
+/// A history that goes on goes on with the same account, and what was released stays so. From where a pair starts, the account's
+/// frames are those that the history's state and its entries say.
 pub fn released_frames_were_sent()
-    ensures sent { (s : HistoryState) (es : List Entry) (c : ℕ) (f : Frame) → IsFresh s → IsAmong f (released s es c) → WasSent s es (c, f) }
-    ensures boxed { (s : HistoryState) (es : List Entry) (c : ℕ) (f : Frame) → IsFresh s → Legal s es → 1 ≤ c → IsAmong f (list_of (at s es).boxes c) → IsAmong f (released s es c) }
-    ensures stays { (s : HistoryState) (es more : List Entry) (c : ℕ) (f : Frame) → WasSent s es (c, f) → WasSent s (es ++ more) (c, f) }
-    ensures released_stays { (s : HistoryState) (es more : List Entry) (c : ℕ) → released s (es ++ more) c ≡ released s es c ++ released (at s es) more c }
-    ensures in_order { (s : HistoryState) (es : List Entry) (c : ℕ) → IsFresh s → IsPartOf (released s es c ++ out_of c (at s es).out) (sent_to s es c) }
-    ensures taken_in_order { (s : HistoryState) (es : List Entry) (c : ℕ) → IsFresh s → Legal s es → 1 ≤ c → IsPartOf (taken es c ++ list_of (at s es).boxes c) (released s es c) }
-    ensures none_missing { (s : HistoryState) (es : List Entry) (c : ℕ) → IsFresh s → Legal s es → 1 ≤ c → length (taken es c) + length (list_of (at s es).boxes c) + length (out_of c (at s es).out) + dropped_count es c ≡ length (sent_to s es c) }
+    ensures sent { (s : HistoryState) (es : List Entry) (c : ℕ) → All (WasSent s es c) (account s es c).sent }
+    ensures all_sent { (s : HistoryState) (es : List Entry) (c : ℕ) → frames (account s es c).sent ≡ sent_to s es c }
+    ensures sound { (s : HistoryState) (es : List Entry) (c : ℕ) → IsSound (account s es c) }
+    ensures goes_on { (s : HistoryState) (es more : List Entry) (c : ℕ)
+        → account s (es ++ more) c ≡ goes_on c (at s es) (length es) (account s es c) more }
+    ensures stays { (s : HistoryState) (es more : List Entry) (c : ℕ)
+        → (later : List Sent) × ((account s (es ++ more) c).released ≡ (account s es c).released ++ later) }
+    ensures on_way { (s : HistoryState) (es : List Entry) (c : ℕ) → IsFresh s → frames (account s es c).on_way ≡ out_of c (at s es).out }
+    ensures released { (s : HistoryState) (es : List Entry) (c : ℕ) → IsFresh s → frames (account s es c).released ≡ released s es c }
+    ensures boxed { (s : HistoryState) (es : List Entry) (c : ℕ) → IsFresh s → Legal s es → 1 ≤ c
+        → frames (account s es c).boxed ≡ list_of (at s es).boxes c }
+    ensures taken { (s : HistoryState) (es : List Entry) (c : ℕ) → IsFresh s → Legal s es → 1 ≤ c
+        → frames (account s es c).taken ≡ taken es c }
+    ensures dropped { (s : HistoryState) (es : List Entry) (c : ℕ) → IsFresh s → Legal s es → 1 ≤ c
+        → length (account s es c).dropped ≡ dropped_count es c }
     ensures start_fresh { (pages sectors : ℕ) (image : List ℕ) (clients : ℕ) → IsFresh (start_state pages sectors image clients) }
+{}
+
+/// What clients and their lines do can come before what the guest does: a delivery, a landing, a drop or a take that is ready before
+/// the guest's entries leaves them legal, and the state after all of them is the same. So what a client is answered while an epoch
+/// is kept can stand in the history before that epoch.
+pub fn client_entries_go_first()
+    ensures { (s : HistoryState) (es : List Entry) (e : Entry) → AreGuests es → Legal s es → IsReady s e
+        → Legal (after s e) es × (at (after s e) es ≡ after (at s es) e) }
 {}

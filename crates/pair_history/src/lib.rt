@@ -6,7 +6,9 @@
 
 mod history;
 mod laws;
+#[cfg(test)]
+mod tests;
 
 pub use frame_ports::Frame;
 pub use history::{Entry, History};
-pub use laws::released_frames_were_sent;
+pub use laws::{client_entries_go_first, released_frames_were_sent};

@@ -6,7 +6,9 @@ use Rattle.pair_history.proofs.history.History.add.Goals as goal
 use Rattle.pair_history.proofs.history.History.add.Goals.{After-unwrap}
 
 pushed : (c : After-unwrap) → all_expanded c.push.new.self.items ≡ all_expanded c.self.inside.entries.items ++ expanded c.args.entry
-pushed c = let items = rw c.unwrap.ensures at c.push.ensures.items in ap all_expanded items ∙ all_expanded-push c.self.inside.entries.items c.args.entry
+pushed c =
+    let items = rw c.unwrap.ensures at c.push.ensures.items in ap all_expanded items
+    ∙ all_expanded-push c.self.inside.entries.items c.args.entry
 
 pub invariant_of-self : goal.invariant_of-self
 invariant_of-self c =
