@@ -81,7 +81,8 @@ impl Storage {
         ensures status { result.status ≡ (read_outcome self.now sector room).status }
         ensures len { result.len ≡ length (read_outcome self.now sector room).payload }
         ensures few { result.len ≤ 512 * 32768 }
-        ensures memory { R.bytes ram.new ≡ put_at (R.bytes ram.old) (writable_places chain.now.parts) (read_outcome self.now sector room).payload }
+        ensures memory { R.bytes ram.new ≡ put_at (R.bytes ram.old) (writable_places chain.now.parts)
+            (read_outcome self.now sector room).payload }
         ensures size { length (R.bytes ram.new) ≡ length (R.bytes ram.old) }
     {
         if !self.in_capacity(sector, room) {
@@ -130,7 +131,8 @@ impl Storage {
         ensures len { result.len ≡ length (outcome self.old (request_of (readable_bytes (R.bytes ram.old) chain.now.parts)) room).payload }
         ensures few { result.len ≤ 512 * 32768 }
         ensures disk { self.new ≡ (outcome self.old (request_of (readable_bytes (R.bytes ram.old) chain.now.parts)) room).disk }
-        ensures memory { R.bytes ram.new ≡ put_at (R.bytes ram.old) (writable_places chain.now.parts) (outcome self.old (request_of (readable_bytes (R.bytes ram.old) chain.now.parts)) room).payload }
+        ensures memory { R.bytes ram.new ≡ put_at (R.bytes ram.old) (writable_places chain.now.parts)
+            (outcome self.old (request_of (readable_bytes (R.bytes ram.old) chain.now.parts)) room).payload }
         ensures size { length (R.bytes ram.new) ≡ length (R.bytes ram.old) }
     {
         match header.kind {
