@@ -13,11 +13,6 @@ use Rattle.block_device.specs.Request.{Outcome, Request, request_of, outcome, wr
     request_act}
 use Rattle.virtqueue.proofs.Lengths.{length_readable, length_places}
 
--- where no value is put, nothing changes
-pub put_none : (bytes ps : List ℕ) → put_at bytes ps [] ≡ bytes
-put_none bytes [] = refl
-put_none bytes (p ∷ ps) = refl
-
 -- the data of a request is all behind its header
 pub length_payload : (bytes : List ℕ) (ds : List Descriptor) (len : ℕ) → BuffersInside (length bytes) ds → 16 + len ≡ readable_len ds →
     length (drop 16 (readable_bytes bytes ds)) ≡ len

@@ -13,7 +13,7 @@ use Rattle.virtio_mmio.specs.declared.states.DeviceState.{DeviceState}
 use Rattle.virtio_mmio.specs.States.{queue_at, IsDeviceRecord}
 use Rattle.virtio_mmio.specs.Serving.{can_serve}
 use Rattle.virtio_mmio.specs.ServingLoop.{Acted, standing}
-use Rattle.virtio_mmio.proofs.Rules.{needing_reset_keeps}
+use Rattle.virtio_mmio.proofs.Rules.{either, needing_reset_keeps}
 use Rattle.virtio_mmio.proofs.Loop.{served_keeps_rules, use_keeps_rules}
 use Rattle.virtio_mmio.proofs.Lengths.{served-length as loop-length, sized_in_service}
 use Rattle.net_device.specs.Transmit.{frame_in, send, served}
@@ -40,10 +40,6 @@ served-length ram net h =
 
 -- ---- a frame that arrives
 
-either : (P : Received → Type 0) (b : Bool) (x y : Received) → (b ≡ true → P x) → P y → P (if b then x else y)
-either P true x y f g = f refl
-either P false x y f g = g
-
 next-rules : (ram : List ℕ) (net : DeviceState) (frame : ArrayVec ℕ) (r : Result (Option Spelled) Broken) → IsDeviceRecord Network net →
     IsDeviceRecord Network (put_next ram net frame r).net
 next-rules ram net frame (Ok (Some c)) h =
@@ -58,7 +54,7 @@ pub received-rules : (ram : List ℕ) (net : DeviceState) (frame : ArrayVec ℕ)
     IsDeviceRecord Network (received ram net frame).net
 unfolding received
 received-rules ram net frame h =
-    either (λ x. IsDeviceRecord Network x.net) (can_serve Network net 0) _ _
+    either (λ (x : Received). IsDeviceRecord Network x.net) (can_serve Network net 0) _ _
         (λ e. next-rules ram net frame (next_chain_of (queue_at net 0) ram) h) h
 
 next-length : (ram : List ℕ) (net : DeviceState) (frame : ArrayVec ℕ) (r : Result (Option Spelled) Broken) →
@@ -85,7 +81,7 @@ pub received-length : (ram : List ℕ) (net : DeviceState) (frame : ArrayVec ℕ
     length (received ram net frame).ram ≡ length ram
 unfolding received next_chain_of
 received-length ram net frame h =
-    either (λ x. length x.ram ≡ length ram) (can_serve Network net 0) _ _ (λ e.
+    either (λ (x : Received). length x.ram ≡ length ram) (can_serve Network net 0) _ _ (λ e.
     counted-length ram net frame (available_of (queue_at net 0) ram)
         (λ n. if n == 0 then Ok None else chain_of (queue_at net 0) ram >>= (λ c. Ok (Some c))) refl
     (sized_in_service Network net 0 h e)) refl

@@ -91,7 +91,7 @@ set-keeps P (x ∷ xs) zero (suc j) q d new old = old
 set-keeps P (x ∷ xs) (suc i) zero q d new old = old
 set-keeps P (x ∷ xs) (suc i) (suc j) q d new old = set-keeps P xs i j q d new old
 
-either : {A : Type 0} (P : A → Type 0) (b : Bool) (x y : A) → (b ≡ true → P x) → P y → P (if b then x else y)
+pub either : {A : Type 0} (P : A → Type 0) (b : Bool) (x y : A) → (b ≡ true → P x) → P y → P (if b then x else y)
 either P true x y f g = f refl
 either P false x y f g = g
 

@@ -10,7 +10,8 @@ use Rattle.virtqueue.specs.Memory.{place_of}
 use Rattle.virtqueue.specs.Chains.{◌>>=◌, entry_at, sound_entry, spelled_from, goes_on, is_writable, is_indirect, buffer_inside,
     descriptor_of, BuffersInside}
 
-bind_ok : {A B : Type 0} (r : Result A Broken) (f : A → Result B Broken) (y : B) → r >>= f ≡ Ok y → (x : A) × (r ≡ Ok x) × (f x ≡ Ok y)
+-- a good answer of two steps comes from good answers of both
+pub bind_ok : {A B : Type 0} (r : Result A Broken) (f : A → Result B Broken) (y : B) → r >>= f ≡ Ok y → (x : A) × (r ≡ Ok x) × (f x ≡ Ok y)
 bind_ok (Ok x) f y h = (x, refl, h)
 bind_ok (Err b) f y h = let none : ⊥ = cc in absurd none
 
