@@ -11,7 +11,7 @@ use Rattle.virtio_mmio.specs.declared.kinds.DeviceKind.TheVariants.{Block}
 use Rattle.virtio_mmio.specs.declared.states.DeviceState.{DeviceState}
 use Rattle.virtio_mmio.specs.States.{queue_at}
 use Rattle.virtio_mmio.specs.Serving.{can_serve}
-use Rattle.virtio_mmio.specs.ServingLoop.{Acted, Served, standing, puts_used, then_go_on, chains_served, available_served, served}
+use Rattle.virtio_mmio.specs.ServingLoop.{Acted, Served, standing, puts_used, or_breaks, chains_served, served}
 use Rattle.block_device.specs.Contents.{Contents, capacity, in_capacity, contents_of, unlisted}
 use Rattle.block_device.specs.Request.{Outcome, Request, request_of, outcome, chain_answered, is_short, request_act}
 use Rattle.block_device.specs.Disk.{disk_served}
@@ -66,8 +66,8 @@ module _ (k : DeviceKind) (i : ℕ) where
   acted_apart : (rest : Served Contents → Served Contents) →
       ((s t : Served Contents) → bare_served s ≡ bare_served t → bare_served (rest s) ≡ bare_served (rest t)) →
       (s : Served Contents) (d : List ℕ) (head : ℕ) (x y : Result (Acted Contents) Broken) → bare x ≡ bare y →
-      bare_served (then_go_on rest (listed s d) (x >>= (λ a. Ok (puts_used k i (listed s d) head a))))
-          ≡ bare_served (then_go_on rest s (y >>= (λ a. Ok (puts_used k i s head a))))
+      bare_served (or_breaks rest (listed s d) (x >>= (λ a. Ok (puts_used k i (listed s d) head a))))
+          ≡ bare_served (or_breaks rest s (y >>= (λ a. Ok (puts_used k i s head a))))
   acted_apart rest h s d head (Ok a) (Ok b) e =
       let same : bare_acted a ≡ bare_acted b = cc in
       h (puts_used k i s head a) (puts_used k i s head b) (ap (puts_used k i s head) same)
@@ -78,9 +78,9 @@ module _ (k : DeviceKind) (i : ℕ) where
   chain_apart : (rest : Served Contents → Served Contents) →
       ((s t : Served Contents) → bare_served s ≡ bare_served t → bare_served (rest s) ≡ bare_served (rest t)) →
       (s : Served Contents) (d : List ℕ) (r : Result Spelled Broken) →
-      bare_served (then_go_on rest (listed s d) (r >>=
+      bare_served (or_breaks rest (listed s d) (r >>=
           (λ c. request_act s.ram (contents_of s.kept.bytes d) c >>= (λ a. Ok (puts_used k i (listed s d) c.head a)))))
-      ≡ bare_served (then_go_on rest s (r >>= (λ c. request_act s.ram s.kept c >>= (λ a. Ok (puts_used k i s c.head a)))))
+      ≡ bare_served (or_breaks rest s (r >>= (λ c. request_act s.ram s.kept c >>= (λ a. Ok (puts_used k i s c.head a)))))
   chain_apart rest h s d (Ok c) =
       acted_apart rest h s d c.head (request_act s.ram (contents_of s.kept.bytes d) c) (request_act s.ram s.kept c)
           (act_apart s.ram s.kept.bytes d s.kept.dirty c)
@@ -95,8 +95,9 @@ module _ (k : DeviceKind) (i : ℕ) where
       ap (λ u. bare_served (chains_served k i request_act (suc n) u)) same
       ∙ chain_apart (chains_served k i request_act n) (chains_apart n) t s.kept.dirty (chain_of (queue_at t.state i) t.ram)
 
-  available_apart : (s : Served Contents) (d : List ℕ) (r : Result ℕ Broken) → bare_served (available_served k i request_act (listed s d) r)
-      ≡ bare_served (available_served k i request_act s r)
+  available_apart : (s : Served Contents) (d : List ℕ) (r : Result ℕ Broken) →
+      bare_served (or_breaks (λ n. chains_served k i request_act n (listed s d)) (listed s d) r)
+      ≡ bare_served (or_breaks (λ n. chains_served k i request_act n s) s r)
   available_apart s d (Ok n) = chains_apart n (listed s d) s refl
   available_apart s d (Err b) = refl
 

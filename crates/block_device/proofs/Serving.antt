@@ -14,8 +14,9 @@ use Rattle.virtio_mmio.specs.declared.kinds.DeviceKind.{DeviceKind}
 use Rattle.virtio_mmio.specs.declared.states.DeviceState.{DeviceState}
 use Rattle.virtio_mmio.specs.States.{queue_at}
 use Rattle.virtio_mmio.specs.Serving.{can_serve}
-use Rattle.virtio_mmio.specs.ServingLoop.{Acted, Served, standing, puts_used, one_served, then_go_on, chains_served,
-    available_served, served}
+use Rattle.virtqueue.proofs.Inside.{bind_ok}
+use Rattle.virtio_mmio.specs.ServingLoop.{Acted, Served, standing, puts_used, one_served, or_breaks, chains_served,
+    served}
 use Rattle.block_device.specs.Dirty.{with_written}
 use Rattle.block_device.specs.Contents.{Contents, capacity, in_capacity, contents_with, bytes_at, IsDisk}
 use Rattle.block_device.specs.Request.{Outcome, Request, request_of, outcome, read_outcome, write_outcome, chain_answered, is_short,
@@ -108,10 +109,6 @@ outcome_disk disk r room is =
 
 -- ---- all of them: what each request keeps, serving keeps
 
-bind_ok : {A B : Type 0} (r : Result A Broken) (f : A → Result B Broken) (y : B) → r >>= f ≡ Ok y → (x : A) × (r ≡ Ok x) × (f x ≡ Ok y)
-bind_ok (Ok x) f y h = (x, refl, h)
-bind_ok (Err b) f y h = let none : ⊥ = cc in absurd none
-
 module _ (P : Contents → Type 0) (keeps : (disk : Contents) (r : Request) (room : ℕ) → P disk → P (outcome disk r room).disk) where
   act_keeps : (ram : List ℕ) (disk : Contents) (chain : Spelled) (a : Acted Contents) → request_act ram disk chain ≡ Ok a →
       P disk → P a.kept
@@ -141,7 +138,7 @@ module _ (P : Contents → Type 0) (keeps : (disk : Contents) (r : Request) (roo
 
     go_on : (rest : Served Contents → Served Contents) (s : Served Contents) (r : Result (Served Contents) Broken) →
         ((t : Served Contents) → r ≡ Ok t → P s.kept → P t.kept) → ((t : Served Contents) → P t.kept → P (rest t).kept) →
-        P s.kept → P (then_go_on rest s r).kept
+        P s.kept → P (or_breaks rest s r).kept
     go_on rest s (Ok t) here later p = later t (here t refl p)
     go_on rest s (Err b) here later p = p
 
@@ -150,7 +147,8 @@ module _ (P : Contents → Type 0) (keeps : (disk : Contents) (r : Request) (roo
     chains_keep zero s p = p
     chains_keep (suc n) s p = go_on (chains_served k i request_act n) s (one_served k i request_act s) (one_keeps s) (chains_keep n) p
 
-    available_keep : (s : Served Contents) (r : Result ℕ Broken) → P s.kept → P (available_served k i request_act s r).kept
+    available_keep : (s : Served Contents) (r : Result ℕ Broken) → P s.kept →
+        P (or_breaks (λ n. chains_served k i request_act n s) s r).kept
     available_keep s (Ok n) p = chains_keep n s p
     available_keep s (Err b) p = p
 
@@ -158,7 +156,7 @@ module _ (P : Contents → Type 0) (keeps : (disk : Contents) (r : Request) (roo
     unfolding served
     served_keeps s p =
         elim (by_test {A = Served Contents} (can_serve k s.state i)
-            (available_served k i request_act s (available_of (queue_at s.state i) s.ram)) s) [
+            (or_breaks (λ n. chains_served k i request_act n s) s (available_of (queue_at s.state i) s.ram)) s) [
           | inl w ↦ subst (λ (x : Served Contents). P x.kept) (sym w.1) (available_keep s (available_of (queue_at s.state i) s.ram) p)
           | inr w ↦ subst (λ (x : Served Contents). P x.kept) (sym w.1) p
         ]

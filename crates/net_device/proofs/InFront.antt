@@ -13,8 +13,8 @@ use Rattle.virtio_mmio.specs.declared.kinds.DeviceKind.TheVariants.{Network}
 use Rattle.virtio_mmio.specs.declared.states.DeviceState.{DeviceState}
 use Rattle.virtio_mmio.specs.States.{queue_at}
 use Rattle.virtio_mmio.specs.Serving.{can_serve}
-use Rattle.virtio_mmio.specs.ServingLoop.{Acted, Served as LoopServed, standing, puts_used, one_served, then_go_on, chains_served,
-    available_served, served as loop_served}
+use Rattle.virtio_mmio.specs.ServingLoop.{Acted, Served as LoopServed, standing, puts_used, one_served, or_breaks, chains_served,
+    served as loop_served}
 use Rattle.virtio_mmio.specs.Transport.{Device}
 use Rattle.net_device.specs.declared.device.NetDevice.{NetDevice}
 use Rattle.net_device.specs.Transmit.{frame_in, send, served}
@@ -55,7 +55,7 @@ module _ (front : List (ArrayVec ℕ)) where
 
   rest_in_front : (rest : Sending → Sending) → ((t : Sending) → rest (in_front front t) ≡ in_front front (rest t)) →
       (s : Sending) (r : Result Sending Broken) →
-      then_go_on rest (in_front front s) (both (in_front front) r) ≡ in_front front (then_go_on rest s r)
+      or_breaks rest (in_front front s) (both (in_front front) r) ≡ in_front front (or_breaks rest s r)
   rest_in_front rest h s (Ok t) = h t
   rest_in_front rest h s (Err b) = refl
 
@@ -64,11 +64,12 @@ module _ (front : List (ArrayVec ℕ)) where
   unfolding chains_served
   chains_in_front zero s = refl
   chains_in_front (suc n) s =
-      ap (then_go_on (chains_served Network 1 send n) (in_front front s)) (one_in_front s)
+      ap (or_breaks (chains_served Network 1 send n) (in_front front s)) (one_in_front s)
       ∙ rest_in_front (chains_served Network 1 send n) (chains_in_front n) s (one_served Network 1 send s)
 
-  available_in_front : (s : Sending) (r : Result ℕ Broken) → available_served Network 1 send (in_front front s) r
-      ≡ in_front front (available_served Network 1 send s r)
+  available_in_front : (s : Sending) (r : Result ℕ Broken) →
+      or_breaks (λ n. chains_served Network 1 send n (in_front front s)) (in_front front s) r
+      ≡ in_front front (or_breaks (λ n. chains_served Network 1 send n s) s r)
   available_in_front s (Ok n) = chains_in_front n s
   available_in_front s (Err b) = refl
 
@@ -80,8 +81,9 @@ module _ (front : List (ArrayVec ℕ)) where
   served_in_front : (s : Sending) → loop_served Network 1 send (in_front front s) ≡ in_front front (loop_served Network 1 send s)
   unfolding loop_served
   served_in_front s =
-      when_in_front (can_serve Network s.state 1) s (available_served Network 1 send s (available_of (queue_at s.state 1) s.ram))
-      (available_served Network 1 send (in_front front s) (available_of (queue_at s.state 1) s.ram))
+      when_in_front (can_serve Network s.state 1) s
+          (or_breaks (λ n. chains_served Network 1 send n s) s (available_of (queue_at s.state 1) s.ram))
+      (or_breaks (λ n. chains_served Network 1 send n (in_front front s)) (in_front front s) (available_of (queue_at s.state 1) s.ram))
       (available_in_front s (available_of (queue_at s.state 1) s.ram))
 
 -- what serving the transmit queue leaves, whatever was sent before

@@ -12,7 +12,7 @@ use Rattle.virtio_mmio.specs.declared.states.DeviceState.{DeviceState}
 use Rattle.virtio_mmio.specs.Registers.{has_queue}
 use Rattle.virtio_mmio.specs.States.{queue_at, is_queue_size, IsQueueRecord, IsDeviceRecord}
 use Rattle.virtio_mmio.specs.Serving.{is_running, can_serve}
-use Rattle.virtio_mmio.specs.ServingLoop.{Acted, Act, Served, puts_used, available_served, chains_served, served}
+use Rattle.virtio_mmio.specs.ServingLoop.{Acted, Act, Served, puts_used, or_breaks, chains_served, served}
 use Rattle.virtio_mmio.proofs.Loop.{chains_keep}
 use Rattle.virtio_mmio.proofs.Rules.{present-keeps, areas_after_use, sized_after_use}
 
@@ -63,7 +63,7 @@ module _ {A : Type 0} (k : DeviceKind) (i : ℕ) (act : Act A)
       (λ m t c a e p. used_steady (length s.ram) t c a e p) n s (record { bytes = refl; areas = areas; sized = sized })).bytes
 
   available-length : (s : Served A) (r : Result ℕ Broken) → available_of (queue_at s.state i) s.ram ≡ r → IsSized (queue_at s.state i) →
-      length (available_served k i act s r).ram ≡ length s.ram
+      length (or_breaks (λ n. chains_served k i act n s) s r).ram ≡ length s.ram
   available-length s (Ok n) e sized = chains-length n s (areas_available (queue_at s.state i) s.ram n e) sized
   available-length s (Err b) e sized = refl
 
@@ -75,5 +75,5 @@ module _ {A : Type 0} (k : DeviceKind) (i : ℕ) (act : Act A)
   unfolding served
   served-length s h =
       let count : Result ℕ Broken = available_of (queue_at s.state i) s.ram in
-      when (can_serve k s.state i) s (available_served k i act s count)
+      when (can_serve k s.state i) s (or_breaks (λ n. chains_served k i act n s) s count)
           (λ e. available-length s count refl (sized_in_service k s.state i h e))
