@@ -22,13 +22,15 @@ answered-length : (ram places : List ℕ) (o : Outcome) → length (answered ram
 answered-length ram places o =
     length_put_at (put_at ram places o.payload) (drop (length places - 1) places) (o.status ∷ []) ∙ length_put_at ram places o.payload
 
-acted-length : (ram places : List ℕ) (o : Outcome) (a : Acted Contents) (b : Bool) → (if b then Err Short else Ok (chain_answered ram places o)) ≡ Ok a → length a.ram ≡ length ram
+acted-length : (ram places : List ℕ) (o : Outcome) (a : Acted Contents) (b : Bool) →
+    (if b then Err Short else Ok (chain_answered ram places o)) ≡ Ok a → length a.ram ≡ length ram
 acted-length ram places o a true e = let none : ⊥ = cc in absurd none
 acted-length ram places o a false e =
     let is : a.ram ≡ answered ram places o = cc in
     ap length is ∙ answered-length ram places o
 
-act-length : (ram : List ℕ) (disk : Contents) (chain : Spelled) (a : Acted Contents) → request_act ram disk chain ≡ Ok a → length a.ram ≡ length ram
+act-length : (ram : List ℕ) (disk : Contents) (chain : Spelled) (a : Acted Contents) → request_act ram disk chain ≡ Ok a →
+    length a.ram ≡ length ram
 unfolding request_act
 act-length ram disk chain a e =
     let readable : List ℕ = readable_bytes ram chain.parts in

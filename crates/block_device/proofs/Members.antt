@@ -1,5 +1,6 @@
 -- Which numbers stand in a list of written sectors.
-use Rattle.std.proofs.Common.{◌≡◌, ℕ, zero, suc, ◌+◌, Bool, true, false, ◌&&◌, ◌||◌, ◌==◌, ◌⊎◌, inl, inr, List, [], ◌∷◌, ◌++◌, refl, sym, ap, ◌∙◌, nat_le, nat_lt, filter, cond, arith}
+use Rattle.std.proofs.Common.{◌≡◌, ℕ, zero, suc, ◌+◌, Bool, true, false, ◌&&◌, ◌||◌, ◌==◌, ◌⊎◌, inl, inr, List, [], ◌∷◌, ◌++◌, refl, sym,
+    ap, ◌∙◌, nat_le, nat_lt, filter, cond, arith}
 use Rattle.std.specs.List.{range_with_len}
 use Rattle.std.proofs.lemmas.Bool.Decides.{nat_tests}
 use Rattle.block_device.specs.Dirty.{with_written, is_in}
@@ -53,11 +54,13 @@ in_range : (i a n : ℕ) → is_in i (range_with_len a n) ≡ (nat_le a i && nat
 in_range i a zero = no_number i a
 in_range i a (suc n) = ap (λ b. i == a || b) (in_range i (a + 1) n) ∙ one_number i a n
 
-three_parts : (m : Bool) (i first n : ℕ) → (((m && nat_lt i first) || (nat_le first i && nat_lt i (first + n))) || (m && nat_le (first + n) i)) ≡ (m || (nat_le first i && nat_lt i (first + n)))
+three_parts : (m : Bool) (i first n : ℕ) → (((m && nat_lt i first) || (nat_le first i && nat_lt i (first + n)))
+    || (m && nat_le (first + n) i)) ≡ (m || (nat_le first i && nat_lt i (first + n)))
 three_parts true i first n = grind (arith, nat_tests)
 three_parts false i first n = grind (arith, nat_tests)
 
-pub in_written : (dirty : List ℕ) (first n i : ℕ) → is_in i (with_written dirty first n) ≡ (is_in i dirty || (nat_le first i && nat_lt i (first + n)))
+pub in_written : (dirty : List ℕ) (first n i : ℕ) →
+    is_in i (with_written dirty first n) ≡ (is_in i dirty || (nat_le first i && nat_lt i (first + n)))
 in_written dirty first n i =
     let below : List ℕ = filter (λ k. nat_lt k first) dirty in
     let above : List ℕ = filter (λ k. nat_le (first + n) k) dirty in
@@ -66,5 +69,6 @@ in_written dirty first n i =
     ∙ (ap (λ b. b || is_in i above) (in_append i below range)
     ∙ (ap (λ b. (b || is_in i range) || is_in i above) (in_filter (λ k. nat_lt k first) i dirty)
     ∙ (ap (λ b. ((is_in i dirty && nat_lt i first) || b) || is_in i above) (in_range i first n)
-    ∙ (ap (λ b. ((is_in i dirty && nat_lt i first) || (nat_le first i && nat_lt i (first + n))) || b) (in_filter (λ k. nat_le (first + n) k) i dirty)
+    ∙ (ap (λ b. ((is_in i dirty && nat_lt i first) || (nat_le first i && nat_lt i (first + n))) || b)
+        (in_filter (λ k. nat_le (first + n) k) i dirty)
     ∙ three_parts (is_in i dirty) i first n))))

@@ -1,5 +1,6 @@
 -- What a request does, by the lengths of its chain.
-use Rattle.std.proofs.Common.{◌≡◌, ℕ, ◌+◌, ◌-◌, ◌<◌, ◌≤◌, true, false, ◌||◌, ◌==◌, List, [], ◌∷◌, refl, ap, ◌∙◌, if◌then◌else◌, length, drop, nat_lt, arith, length-drop, ◌⊎◌}
+use Rattle.std.proofs.Common.{◌≡◌, ℕ, ◌+◌, ◌-◌, ◌<◌, ◌≤◌, true, false, ◌||◌, ◌==◌, List, [], ◌∷◌, refl, ap, ◌∙◌, if◌then◌else◌, length,
+    drop, nat_lt, arith, length-drop, ◌⊎◌}
 use Rattle.std.specs.Prelude.{Ok, Err}
 use Rattle.std.proofs.lemmas.Bool.Decides.{nat_tests}
 use Rattle.virtqueue.specs.declared.broken.Broken.TheVariants.{Short}
@@ -8,13 +9,9 @@ use Rattle.virtqueue.specs.Chains.{Spelled, BuffersInside}
 use Rattle.virtqueue.specs.Parts.{readable_len, writable_len, readable_bytes, writable_places, put_at}
 use Rattle.virtio_mmio.specs.ServingLoop.{Acted}
 use Rattle.block_device.specs.Contents.{Contents, in_capacity, contents_with}
-use Rattle.block_device.specs.Request.{Outcome, Request, request_of, outcome, write_outcome, chain_answered, written_len, is_short, request_act}
+use Rattle.block_device.specs.Request.{Outcome, Request, request_of, outcome, write_outcome, chain_answered, written_len, is_short,
+    request_act}
 use Rattle.virtqueue.proofs.Lengths.{length_readable, length_places}
-
--- where no value is put, nothing changes
-pub put_none : (bytes ps : List ℕ) → put_at bytes ps [] ≡ bytes
-put_none bytes [] = refl
-put_none bytes (p ∷ ps) = refl
 
 -- the data of a request is all behind its header
 pub length_payload : (bytes : List ℕ) (ds : List Descriptor) (len : ℕ) → BuffersInside (length bytes) ds → 16 + len ≡ readable_len ds →
@@ -25,13 +22,15 @@ length_payload bytes ds len inside all = omega (arith, length_readable bytes ds 
 pub write_done : (disk : Contents) (sector : ℕ) (payload : List ℕ) (len : ℕ) → length payload ≡ len → in_capacity disk sector len ≡ true →
     write_outcome disk sector payload ≡ record { status = 0; payload = []; disk = contents_with disk sector payload }
 write_done disk sector payload len is fits =
-    ap (λ b. if b then record { status = 0; payload = []; disk = contents_with disk sector payload } else record { status = 1; payload = []; disk = disk })
+    ap (λ b. if b then record { status = 0; payload = []; disk = contents_with disk sector payload } else record
+        { status = 1; payload = []; disk = disk })
     (ap (in_capacity disk sector) is ∙ fits)
 
 pub write_fails : (disk : Contents) (sector : ℕ) (payload : List ℕ) (len : ℕ) → length payload ≡ len → in_capacity disk sector len ≡ false →
     write_outcome disk sector payload ≡ record { status = 1; payload = []; disk = disk }
 write_fails disk sector payload len is fits =
-    ap (λ b. if b then record { status = 0; payload = []; disk = contents_with disk sector payload } else record { status = 1; payload = []; disk = disk })
+    ap (λ b. if b then record { status = 0; payload = []; disk = contents_with disk sector payload } else record
+        { status = 1; payload = []; disk = disk })
     (ap (in_capacity disk sector) is ∙ fits)
 
 -- what a chain of enough bytes and places leaves
@@ -43,7 +42,8 @@ left_by ram places room o = record {
 }
 
 module _ (ram : List ℕ) (disk : Contents) (chain : Spelled) (inside : BuffersInside (length ram) chain.parts) where
-  short_test : is_short (readable_bytes ram chain.parts) (writable_places chain.parts) ≡ (nat_lt (readable_len chain.parts) 16 || writable_len chain.parts == 0)
+  short_test : is_short (readable_bytes ram chain.parts) (writable_places chain.parts)
+      ≡ (nat_lt (readable_len chain.parts) 16 || writable_len chain.parts == 0)
   short_test =
       ap (λ n. nat_lt n 16 || length (writable_places chain.parts) == 0) (length_readable ram chain.parts inside)
       ∙ ap (λ n. nat_lt (readable_len chain.parts) 16 || n == 0) (length_places chain.parts)
@@ -54,20 +54,24 @@ module _ (ram : List ℕ) (disk : Contents) (chain : Spelled) (inside : BuffersI
       let places : List ℕ = writable_places chain.parts in
       let readable : List ℕ = readable_bytes ram chain.parts in
       let test : (nat_lt (readable_len chain.parts) 16 || writable_len chain.parts == 0) ≡ true = grind (arith, nat_tests) in
-      ap (λ b. if b then Err Short else Ok (chain_answered ram places (outcome disk (request_of readable) (length places - 1)))) (short_test ∙ test)
+      ap (λ b. if b then Err Short else Ok (chain_answered ram places (outcome disk (request_of readable) (length places - 1))))
+          (short_test ∙ test)
 
   pub act_done : 16 ≤ readable_len chain.parts → 0 < writable_len chain.parts →
-      request_act ram disk chain ≡ Ok (left_by ram (writable_places chain.parts) (writable_len chain.parts - 1) (outcome disk (request_of (readable_bytes ram chain.parts)) (writable_len chain.parts - 1)))
+      request_act ram disk chain ≡ Ok (left_by ram (writable_places chain.parts) (writable_len chain.parts - 1)
+          (outcome disk (request_of (readable_bytes ram chain.parts)) (writable_len chain.parts - 1)))
   unfolding request_act
   act_done long some =
       let places : List ℕ = writable_places chain.parts in
       let readable : List ℕ = readable_bytes ram chain.parts in
       let test : (nat_lt (readable_len chain.parts) 16 || writable_len chain.parts == 0) ≡ false = grind (arith, nat_tests) in
-      ap (λ b. if b then Err Short else Ok (chain_answered ram places (outcome disk (request_of readable) (length places - 1)))) (short_test ∙ test)
+      ap (λ b. if b then Err Short else Ok (chain_answered ram places (outcome disk (request_of readable) (length places - 1))))
+          (short_test ∙ test)
       ∙ ap (λ n. Ok (left_by ram places (n - 1) (outcome disk (request_of readable) (n - 1)))) (length_places chain.parts)
 
 -- a request of another type reads nothing
-pub other_kind : (disk : Contents) (r : Request) (room : ℕ) → (r.kind ≡ 0 → ⊥) → (r.kind ≡ 1 → ⊥) → (r.kind ≡ 4 → ⊥) → (outcome disk r room).payload ≡ []
+pub other_kind : (disk : Contents) (r : Request) (room : ℕ) → (r.kind ≡ 0 → ⊥) → (r.kind ≡ 1 → ⊥) → (r.kind ≡ 4 → ⊥) →
+    (outcome disk r room).payload ≡ []
 other_kind disk r room not_0 not_1 not_4 =
     let a : (r.kind == 0) ≡ false = grind (arith, nat_tests) in
     let b : (r.kind == 1) ≡ false = grind (arith, nat_tests) in

@@ -1,5 +1,6 @@
 -- However many requests are served, a disk stays one, of the same size.
-use Rattle.std.proofs.Common.{◌≡◌, ℕ, zero, suc, ◌+◌, ◌-◌, ◌*◌, ◌/◌, ◌%◌, ◌≤◌, Bool, true, false, ◌&&◌, ◌==◌, List, [], refl, sym, ap, subst, ◌∙◌, if◌then◌else◌, length, nat_le, arith, ◌⊎◌, inl, inr}
+use Rattle.std.proofs.Common.{◌≡◌, ℕ, zero, suc, ◌+◌, ◌-◌, ◌*◌, ◌/◌, ◌%◌, ◌≤◌, Bool, true, false, ◌&&◌, ◌==◌, List, [], refl, sym, ap,
+    subst, ◌∙◌, if◌then◌else◌, length, nat_le, arith, ◌⊎◌, inl, inr}
 use Rattle.std.specs.Prelude.{Result, Ok, Err}
 use Rattle.std.proofs.lemmas.Bool.Decides.{nat_tests}
 use Rattle.virtqueue.specs.declared.broken.Broken.{Broken}
@@ -13,10 +14,13 @@ use Rattle.virtio_mmio.specs.declared.kinds.DeviceKind.{DeviceKind}
 use Rattle.virtio_mmio.specs.declared.states.DeviceState.{DeviceState}
 use Rattle.virtio_mmio.specs.States.{queue_at}
 use Rattle.virtio_mmio.specs.Serving.{can_serve}
-use Rattle.virtio_mmio.specs.ServingLoop.{Acted, Served, standing, puts_used, one_served, then_go_on, chains_served, available_served, served}
+use Rattle.virtqueue.proofs.Inside.{bind_ok}
+use Rattle.virtio_mmio.specs.ServingLoop.{Acted, Served, standing, puts_used, one_served, or_breaks, chains_served,
+    served}
 use Rattle.block_device.specs.Dirty.{with_written}
 use Rattle.block_device.specs.Contents.{Contents, capacity, in_capacity, contents_with, bytes_at, IsDisk}
-use Rattle.block_device.specs.Request.{Outcome, Request, request_of, outcome, read_outcome, write_outcome, chain_answered, is_short, request_act}
+use Rattle.block_device.specs.Request.{Outcome, Request, request_of, outcome, read_outcome, write_outcome, chain_answered, is_short,
+    request_act}
 use Rattle.block_device.proofs.DiskLemmas.{disk_kept}
 
 -- ---- one request
@@ -26,13 +30,15 @@ tells a b c h = (grind (arith, nat_tests), grind (arith, nat_tests))
 
 pub whole_sectors : (disk : Contents) (sector n : ℕ) → in_capacity disk sector n ≡ true → 512 * (n / 512) ≡ n
 whole_sectors disk sector n h =
-    let both : (n % 512 ≡ 0) × (sector + n / 512 ≤ length disk.bytes / 512) = tells (n % 512) (sector + n / 512) (length disk.bytes / 512) h in
+    let both : (n % 512 ≡ 0) × (sector + n / 512 ≤ length disk.bytes / 512) =
+        tells (n % 512) (sector + n / 512) (length disk.bytes / 512) h in
     let whole : n % 512 ≡ 0 = both.0 in
     omega arith
 
 pub in_capacity_tells : (disk : Contents) (sector n : ℕ) → in_capacity disk sector n ≡ true → 512 * sector + n ≤ length disk.bytes
 in_capacity_tells disk sector n h =
-    let both : (n % 512 ≡ 0) × (sector + n / 512 ≤ length disk.bytes / 512) = tells (n % 512) (sector + n / 512) (length disk.bytes / 512) h in
+    let both : (n % 512 ≡ 0) × (sector + n / 512 ≤ length disk.bytes / 512) =
+        tells (n % 512) (sector + n / 512) (length disk.bytes / 512) h in
     let whole : n % 512 ≡ 0 = both.0 in
     let within : sector + n / 512 ≤ length disk.bytes / 512 = both.1 in
     omega arith
@@ -43,19 +49,24 @@ by_test false x y = inr (refl, refl)
 
 write_size : (disk : Contents) (sector : ℕ) (payload : List ℕ) → length (write_outcome disk sector payload).disk.bytes ≡ length disk.bytes
 write_size disk sector payload =
-    elim (by_test {A = Outcome} (in_capacity disk sector (length payload)) (record { status = 0; payload = []; disk = contents_with disk sector payload }) (record { status = 1; payload = []; disk = disk })) [
-      | inl w ↦ ap (λ (o : Outcome). length o.disk.bytes) w.1 ∙ length_written disk.bytes payload (512 * sector) (in_capacity_tells disk sector (length payload) w.0)
+    elim (by_test {A = Outcome} (in_capacity disk sector (length payload))
+        (record { status = 0; payload = []; disk = contents_with disk sector payload }) (record { status = 1; payload = []; disk = disk }))
+        [
+      | inl w ↦ ap (λ (o : Outcome). length o.disk.bytes) w.1 ∙ length_written disk.bytes payload (512 * sector)
+          (in_capacity_tells disk sector (length payload) w.0)
       | inr w ↦ ap (λ (o : Outcome). length o.disk.bytes) w.1
     ]
 
 pub read_size : (disk : Contents) (sector room : ℕ) → (read_outcome disk sector room).disk ≡ disk
 read_size disk sector room =
-    elim (by_test {A = Outcome} (in_capacity disk sector room) (record { status = 0; payload = bytes_at disk sector room; disk = disk }) (record { status = 1; payload = []; disk = disk })) [
+    elim (by_test {A = Outcome} (in_capacity disk sector room) (record { status = 0; payload = bytes_at disk sector room; disk = disk })
+        (record { status = 1; payload = []; disk = disk })) [
       | inl w ↦ ap (λ (o : Outcome). o.disk) w.1
       | inr w ↦ ap (λ (o : Outcome). o.disk) w.1
     ]
 
-chosen_size : (a b d : Bool) (w x y z : Outcome) (n : ℕ) → length w.disk.bytes ≡ n → length x.disk.bytes ≡ n → length y.disk.bytes ≡ n → length z.disk.bytes ≡ n →
+chosen_size : (a b d : Bool) (w x y z : Outcome) (n : ℕ) → length w.disk.bytes ≡ n → length x.disk.bytes ≡ n → length y.disk.bytes ≡ n →
+    length z.disk.bytes ≡ n →
     length (if a then w else (if b then x else (if d then y else z))).disk.bytes ≡ n
 chosen_size true b d w x y z n ew ex ey ez = ew
 chosen_size false true d w x y z n ew ex ey ez = ex
@@ -84,23 +95,23 @@ outcome_disk disk r room is =
 
     written_disk : (disk : Contents) (sector : ℕ) (payload : List ℕ) → IsDisk disk → IsDisk (write_outcome disk sector payload).disk
     written_disk disk sector payload is =
-        elim (by_test {A = Outcome} (in_capacity disk sector (length payload)) (record { status = 0; payload = []; disk = contents_with disk sector payload }) (record { status = 1; payload = []; disk = disk })) [
+        elim (by_test {A = Outcome} (in_capacity disk sector (length payload))
+            (record { status = 0; payload = []; disk = contents_with disk sector payload })
+            (record { status = 1; payload = []; disk = disk })) [
           | inl w ↦
               (let size = length_written disk.bytes payload (512 * sector) (in_capacity_tells disk sector (length payload) w.0) in
               let both = tells (length payload % 512) (sector + length payload / 512) (capacity disk) w.0 in
-              let kept = disk_kept disk.bytes (written disk.bytes (512 * sector) payload) disk.dirty (with_written disk.dirty sector (length payload / 512)) sector (length payload / 512) size refl both.1 is in
+              let kept = disk_kept disk.bytes (written disk.bytes (512 * sector) payload) disk.dirty
+                  (with_written disk.dirty sector (length payload / 512)) sector (length payload / 512) size refl both.1 is in
               subst (λ (o : Outcome). IsDisk o.disk) (sym w.1) kept)
           | inr w ↦ subst (λ (o : Outcome). IsDisk o.disk) (sym w.1) is
         ]
 
 -- ---- all of them: what each request keeps, serving keeps
 
-bind_ok : {A B : Type 0} (r : Result A Broken) (f : A → Result B Broken) (y : B) → r >>= f ≡ Ok y → (x : A) × (r ≡ Ok x) × (f x ≡ Ok y)
-bind_ok (Ok x) f y h = (x, refl, h)
-bind_ok (Err b) f y h = let none : ⊥ = cc in absurd none
-
 module _ (P : Contents → Type 0) (keeps : (disk : Contents) (r : Request) (room : ℕ) → P disk → P (outcome disk r room).disk) where
-  act_keeps : (ram : List ℕ) (disk : Contents) (chain : Spelled) (a : Acted Contents) → request_act ram disk chain ≡ Ok a → P disk → P a.kept
+  act_keeps : (ram : List ℕ) (disk : Contents) (chain : Spelled) (a : Acted Contents) → request_act ram disk chain ≡ Ok a →
+      P disk → P a.kept
   unfolding request_act
   act_keeps ram disk chain a h p =
       let readable : List ℕ = readable_bytes ram chain.parts in
@@ -117,7 +128,8 @@ module _ (P : Contents → Type 0) (keeps : (disk : Contents) (r : Request) (roo
   module _ (k : DeviceKind) (i : ℕ) where
     one_keeps : (s t : Served Contents) → one_served k i request_act s ≡ Ok t → P s.kept → P t.kept
     one_keeps s t h p =
-        let first = bind_ok (chain_of (queue_at s.state i) s.ram) (λ c. request_act s.ram s.kept c >>= (λ a. Ok (puts_used k i s c.head a))) t h in
+        let first = bind_ok (chain_of (queue_at s.state i) s.ram)
+            (λ c. request_act s.ram s.kept c >>= (λ a. Ok (puts_used k i s c.head a))) t h in
         let chain : Spelled = first.0 in
         let second = bind_ok (request_act s.ram s.kept chain) (λ a. Ok (puts_used k i s chain.head a)) t first.2 in
         let a : Acted Contents = second.0 in
@@ -126,7 +138,7 @@ module _ (P : Contents → Type 0) (keeps : (disk : Contents) (r : Request) (roo
 
     go_on : (rest : Served Contents → Served Contents) (s : Served Contents) (r : Result (Served Contents) Broken) →
         ((t : Served Contents) → r ≡ Ok t → P s.kept → P t.kept) → ((t : Served Contents) → P t.kept → P (rest t).kept) →
-        P s.kept → P (then_go_on rest s r).kept
+        P s.kept → P (or_breaks rest s r).kept
     go_on rest s (Ok t) here later p = later t (here t refl p)
     go_on rest s (Err b) here later p = p
 
@@ -135,21 +147,26 @@ module _ (P : Contents → Type 0) (keeps : (disk : Contents) (r : Request) (roo
     chains_keep zero s p = p
     chains_keep (suc n) s p = go_on (chains_served k i request_act n) s (one_served k i request_act s) (one_keeps s) (chains_keep n) p
 
-    available_keep : (s : Served Contents) (r : Result ℕ Broken) → P s.kept → P (available_served k i request_act s r).kept
+    available_keep : (s : Served Contents) (r : Result ℕ Broken) → P s.kept →
+        P (or_breaks (λ n. chains_served k i request_act n s) s r).kept
     available_keep s (Ok n) p = chains_keep n s p
     available_keep s (Err b) p = p
 
     served_keeps : (s : Served Contents) → P s.kept → P (served k i request_act s).kept
     unfolding served
     served_keeps s p =
-        elim (by_test {A = Served Contents} (can_serve k s.state i) (available_served k i request_act s (available_of (queue_at s.state i) s.ram)) s) [
+        elim (by_test {A = Served Contents} (can_serve k s.state i)
+            (or_breaks (λ n. chains_served k i request_act n s) s (available_of (queue_at s.state i) s.ram)) s) [
           | inl w ↦ subst (λ (x : Served Contents). P x.kept) (sym w.1) (available_keep s (available_of (queue_at s.state i) s.ram) p)
           | inr w ↦ subst (λ (x : Served Contents). P x.kept) (sym w.1) p
         ]
 
-pub disk_size : (ram : List ℕ) (state : DeviceState) (c : Contents) (k : DeviceKind) → length (served k 0 request_act (standing ram state c)).kept.bytes ≡ length c.bytes
+pub disk_size : (ram : List ℕ) (state : DeviceState) (c : Contents) (k : DeviceKind) →
+    length (served k 0 request_act (standing ram state c)).kept.bytes ≡ length c.bytes
 disk_size ram state c k =
-    served_keeps (λ (d : Contents). length d.bytes ≡ length c.bytes) (λ disk r room p. outcome_size disk r room ∙ p) k 0 (standing ram state c) refl
+    served_keeps (λ (d : Contents). length d.bytes ≡ length c.bytes) (λ disk r room p. outcome_size disk r room ∙ p) k 0
+        (standing ram state c) refl
 
-pub disk_stays : (ram : List ℕ) (state : DeviceState) (c : Contents) (k : DeviceKind) → IsDisk c → IsDisk (served k 0 request_act (standing ram state c)).kept
+pub disk_stays : (ram : List ℕ) (state : DeviceState) (c : Contents) (k : DeviceKind) → IsDisk c →
+    IsDisk (served k 0 request_act (standing ram state c)).kept
 disk_stays ram state c k is = served_keeps IsDisk outcome_disk k 0 (standing ram state c) is

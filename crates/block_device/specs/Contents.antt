@@ -1,6 +1,7 @@
 -- What a disk holds.
 use Rattle.std.specs.Prelude.{◌≡◌, ℕ, ◌+◌, ◌*◌, ◌/◌, ◌%◌, ◌≤◌, Bool, ◌==◌, ◌&&◌, List, [], length, replicate, nat_le, slice_range}
 use Rattle.virtqueue.specs.Memory.{written}
+use Rattle.block_device.specs.Sectors.{sector_count, sector_of}
 use Rattle.block_device.specs.Dirty.{Rises, with_written}
 
 -- the bytes of all sectors, one after another, and the sectors that were written since the list was last emptied
@@ -15,12 +16,12 @@ contents_of bytes dirty = record { bytes = bytes; dirty = dirty }
 abbrev pub unlisted : Contents → Contents
 unlisted c = contents_of c.bytes []
 
--- a sector has 512 bytes (virtio 1.1, 5.2.4: the capacity is in sectors of 512 bytes)
+-- how many sectors it has, and one of them
 abbrev pub capacity : Contents → ℕ
-capacity c = length c.bytes / 512
+capacity c = sector_count c.bytes
 
 abbrev pub sector_at : Contents → ℕ → List ℕ
-sector_at c i = slice_range c.bytes (512 * i) (512 * i + 512)
+sector_at c i = sector_of c.bytes i
 
 -- what is true of each disk: it has 1 to 32768 whole sectors, and its list rises and names sectors of its own
 pub record IsDisk (c : Contents) : Type 0 where

@@ -1,3 +1,4 @@
+pub mod Sectors
 pub mod Dirty
 pub mod Contents
 pub mod Request

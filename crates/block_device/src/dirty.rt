@@ -41,7 +41,8 @@ fn push_range(list: &mut Vec<u32>, first: u32, count: u32)
 /// Moves the last `count` numbers to the place `at`, in front of those that stand there.
 fn move_last(list: &mut Vec<u32>, at: usize, count: usize)
     requires { at + count ≤ length list.old.items }
-    ensures items { list.new.items ≡ take at list.old.items ++ (drop (length list.old.items - count) list.old.items ++ take (length list.old.items - count - at) (drop at list.old.items)) }
+    ensures items { list.new.items ≡ take at list.old.items
+        ++ (drop (length list.old.items - count) list.old.items ++ take (length list.old.items - count - at) (drop at list.old.items)) }
     ensures capacity { vec_capacity list.new ≡ vec_capacity list.old }
 {
     let numbers = list.as_mut_slice();

@@ -158,7 +158,8 @@ impl Disk {
         ensures contents { self.new.contents ≡ (disk_served (R.bytes ram.old) self.old.state self.old.contents).kept }
         ensures apart_memory { R.bytes ram.new ≡ (disk_served (R.bytes ram.old) self.old.state (unlisted self.old.contents)).ram }
         ensures apart_state { self.new.state ≡ (disk_served (R.bytes ram.old) self.old.state (unlisted self.old.contents)).state }
-        ensures apart_bytes { self.new.contents.bytes ≡ (disk_served (R.bytes ram.old) self.old.state (unlisted self.old.contents)).kept.bytes }
+        ensures apart_bytes { self.new.contents.bytes
+            ≡ (disk_served (R.bytes ram.old) self.old.state (unlisted self.old.contents)).kept.bytes }
         ensures list { self.new.contents.dirty ≡ (disk_served (R.bytes ram.old) self.old.state self.old.contents).kept.dirty }
         ensures size { length (R.bytes ram.new) ≡ length (R.bytes ram.old) }
         ensures sectors { capacity self.new.contents ≡ capacity self.old.contents }

@@ -1,22 +1,27 @@
 //! Laws of the disk's definitions, each the contract of a function that does nothing.
-ghost use Rattle.std.specs.Prelude.{◌≡◌, ℕ, ◌+◌, ◌-◌, ◌/◌, ◌^◌, ◌≤◌, ◌<◌, ◌⊎◌, ◌++◌, ◌&&◌, ◌||◌, List, [], ◌∷◌, length, replicate, nat_le, nat_lt, IsTrue};
+ghost use Rattle.std.specs.Prelude.{◌≡◌, ℕ, ◌+◌, ◌-◌, ◌/◌, ◌^◌, ◌≤◌, ◌<◌, ◌⊎◌, ◌++◌, ◌&&◌, ◌||◌, List, [], ◌∷◌, length, replicate, nat_le,
+    nat_lt, IsTrue};
 ghost use Rattle.virtio_mmio.specs.declared.kinds.DeviceKind.TheVariants.{Block};
 ghost use Rattle.virtio_mmio.specs.declared.states.DeviceState.{DeviceState};
 ghost use Rattle.virtio_mmio.specs.States.{IsDeviceRecord};
-ghost use Rattle.block_device.specs.Contents.{Contents, IsDisk, capacity, sector_at, boot_contents, in_capacity, contents_with, contents_of};
+ghost use Rattle.block_device.specs.Contents.{Contents, IsDisk, capacity, sector_at, boot_contents, in_capacity, contents_with,
+    contents_of};
 ghost use Rattle.block_device.specs.Dirty.{with_written, is_in};
 ghost use Rattle.block_device.specs.Disk.{disk_served};
 ghost use Rattle.block_device.specs.Request.{Request, outcome, written_len};
 
 /// A read of the sectors that a request has just written gives the bytes that it wrote.
 pub fn reading_back()
-    ensures { (disk : Contents) (w r : Request) (room : ℕ) → w.kind ≡ 1 → (outcome disk w room).status ≡ 0 → r.kind ≡ 0 → r.sector ≡ w.sector →
-        outcome (outcome disk w room).disk r (length w.payload) ≡ record { status = 0; payload = w.payload; disk = (outcome disk w room).disk } }
+    ensures { (disk : Contents) (w r : Request) (room : ℕ) → w.kind ≡ 1 → (outcome disk w room).status ≡ 0 → r.kind ≡ 0 →
+        r.sector ≡ w.sector →
+        outcome (outcome disk w room).disk r (length w.payload)
+            ≡ record { status = 0; payload = w.payload; disk = (outcome disk w room).disk } }
 {}
 
 /// A request changes a disk only if it is a write of whole sectors of it, and then no other sector.
 pub fn other_sectors()
-    ensures refused { (disk : Contents) (r : Request) (room : ℕ) → ((outcome disk r room).status ≡ 0 → ⊥) → (outcome disk r room).disk ≡ disk }
+    ensures refused { (disk : Contents) (r : Request) (room : ℕ) → ((outcome disk r room).status ≡ 0 → ⊥) →
+        (outcome disk r room).disk ≡ disk }
     ensures other_types { (disk : Contents) (r : Request) (room : ℕ) → (r.kind ≡ 1 → ⊥) → (outcome disk r room).disk ≡ disk }
     ensures others { (disk : Contents) (sector i : ℕ) (new : List ℕ) → IsTrue (in_capacity disk sector (length new)) →
         (i < sector) ⊎ (sector + length new / 512 ≤ i) → sector_at (contents_with disk sector new) i ≡ sector_at disk i }
@@ -27,8 +32,10 @@ pub fn other_sectors()
 pub fn serving_keeps_the_disk()
     ensures sectors { (ram : List ℕ) (state : DeviceState) (disk : Contents) → capacity (disk_served ram state disk).kept ≡ capacity disk }
     ensures rules { (ram : List ℕ) (state : DeviceState) (disk : Contents) → IsDisk disk → IsDisk (disk_served ram state disk).kept }
-    ensures memory { (ram : List ℕ) (state : DeviceState) (disk : Contents) → IsDeviceRecord (Block (capacity disk)) state → length (disk_served ram state disk).ram ≡ length ram }
-    ensures record { (ram : List ℕ) (state : DeviceState) (disk : Contents) → IsDeviceRecord (Block (capacity disk)) state → IsDeviceRecord (Block (capacity disk)) (disk_served ram state disk).state }
+    ensures memory { (ram : List ℕ) (state : DeviceState) (disk : Contents) → IsDeviceRecord (Block (capacity disk)) state →
+        length (disk_served ram state disk).ram ≡ length ram }
+    ensures record { (ram : List ℕ) (state : DeviceState) (disk : Contents) → IsDeviceRecord (Block (capacity disk)) state →
+        IsDeviceRecord (Block (capacity disk)) (disk_served ram state disk).state }
 {}
 
 /// What the driver sees of a disk's serving, the bytes of RAM, the registers and the sectors, is the same whatever list of written
@@ -44,7 +51,8 @@ pub fn the_list_plays_no_part()
 
 /// A sector stands in the list after a write exactly if it stood there before, or is one of those that were written.
 pub fn written_sectors()
-    ensures { (dirty : List ℕ) (first count i : ℕ) → is_in i (with_written dirty first count) ≡ (is_in i dirty || (nat_le first i && nat_lt i (first + count))) }
+    ensures { (dirty : List ℕ) (first count i : ℕ) → is_in i (with_written dirty first count)
+        ≡ (is_in i dirty || (nat_le first i && nat_lt i (first + count))) }
 {}
 
 /// Worked requests to a disk of 8 sectors, all zero. A sector of bytes ab goes to sector 7, and not to sector 8, which is not

@@ -74,14 +74,15 @@ fn used_len(room: u64, len: u32) -> u32
 
 impl Storage {
     /// Reads sectors into the `room` first places of a chain.
-    #[tactic(auto, using(crate::proofs::RequestLemmas::put_none))]
+    #[tactic(auto, using(virtqueue::proofs::Scattered::put_none))]
     fn read_request<R: GuestRam>(&self, ram: &mut R, chain: &Chain, sector: u64, room: u64) -> Done
         requires inside { BuffersInside (length (R.bytes ram.old)) chain.now.parts }
         requires fits { room ≤ writable_len chain.now.parts }
         ensures status { result.status ≡ (read_outcome self.now sector room).status }
         ensures len { result.len ≡ length (read_outcome self.now sector room).payload }
         ensures few { result.len ≤ 512 * 32768 }
-        ensures memory { R.bytes ram.new ≡ put_at (R.bytes ram.old) (writable_places chain.now.parts) (read_outcome self.now sector room).payload }
+        ensures memory { R.bytes ram.new ≡ put_at (R.bytes ram.old) (writable_places chain.now.parts)
+            (read_outcome self.now sector room).payload }
         ensures size { length (R.bytes ram.new) ≡ length (R.bytes ram.old) }
     {
         if !self.in_capacity(sector, room) {
@@ -112,7 +113,7 @@ impl Storage {
     }
 
     /// Does what a request asks of the disk, and reads what it asks for into the `room` first places of its chain.
-    #[tactic(auto, using(crate::proofs::RequestLemmas::put_none))]
+    #[tactic(auto, using(virtqueue::proofs::Scattered::put_none))]
     fn carry_out<R: GuestRam>(
         &mut self,
         ram: &mut R,
@@ -130,7 +131,8 @@ impl Storage {
         ensures len { result.len ≡ length (outcome self.old (request_of (readable_bytes (R.bytes ram.old) chain.now.parts)) room).payload }
         ensures few { result.len ≤ 512 * 32768 }
         ensures disk { self.new ≡ (outcome self.old (request_of (readable_bytes (R.bytes ram.old) chain.now.parts)) room).disk }
-        ensures memory { R.bytes ram.new ≡ put_at (R.bytes ram.old) (writable_places chain.now.parts) (outcome self.old (request_of (readable_bytes (R.bytes ram.old) chain.now.parts)) room).payload }
+        ensures memory { R.bytes ram.new ≡ put_at (R.bytes ram.old) (writable_places chain.now.parts)
+            (outcome self.old (request_of (readable_bytes (R.bytes ram.old) chain.now.parts)) room).payload }
         ensures size { length (R.bytes ram.new) ≡ length (R.bytes ram.old) }
     {
         match header.kind {

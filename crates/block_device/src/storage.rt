@@ -30,7 +30,8 @@ impl Model for Storage {
 
     ghost view = { λ s. contents_of s.bytes.items s.dirty.items };
 
-    ghost invariant = { λ s. IsDisk (contents_of s.bytes.items s.dirty.items) × (capacity (contents_of s.bytes.items s.dirty.items) ≤ vec_capacity s.dirty) };
+    ghost invariant = { λ s. IsDisk (contents_of s.bytes.items s.dirty.items)
+        × (capacity (contents_of s.bytes.items s.dirty.items) ≤ vec_capacity s.dirty) };
 }
 
 impl Storage {

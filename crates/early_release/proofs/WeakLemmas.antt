@@ -1,8 +1,10 @@
 -- What lands was held, whenever it lands.
-use Rattle.std.proofs.Common.{◌≡◌, ℕ, ◌-◌, ◌<◌, Bool, true, false, if◌then◌else◌, nat_le, ◌⊎◌, ⊎_elim, inl, inr, List, [], ◌∷◌, ◌++◌, length, get_or, refl, sym, ◌∙◌, ap, subst, All}
+use Rattle.std.proofs.Common.{◌≡◌, ℕ, ◌-◌, ◌<◌, Bool, true, false, if◌then◌else◌, nat_le, ◌⊎◌,
+    ⊎_elim, inl, inr, List, [], ◌∷◌, ◌++◌, length, get_or, refl, sym, ◌∙◌, ap, subst, All}
 use Rattle.std.proofs.lemmas.Bool.{cases_eq, cases_lt}
 use Rattle.std.proofs.lemmas.List.{get_or-set_same, get_or-set_other, set_past, append-nil}
-use Rattle.std.proofs.lemmas.List.Elements.{Contains-push_cases, Contains-append_cases, Contains-append_left, Contains-append_right, All-contains_itself, All-head, All-tail}
+use Rattle.std.proofs.lemmas.List.Elements.{Contains-push_cases, Contains-append_cases, Contains-append_left, Contains-append_right,
+    All-contains_itself, All-head, All-tail}
 use Rattle.std.specs.List.{Contains}
 use Rattle.arrayvec.specs.ArrayVec.{ArrayVec}
 use Rattle.frame_ports.specs.Lands.{list_of, with_list, has_room, landed_at, lands}
@@ -14,18 +16,23 @@ use Rattle.early_release.specs.Weak.{OnlyLands}
 
 module _ (held : List (ArrayVec ℕ)) where
   -- one landing of a held frame adds only that frame
-  landed_contains : (boxes : List (List (ArrayVec ℕ))) (d : ℕ) (g : ArrayVec ℕ) → Contains held g → (c : ℕ) (f : ArrayVec ℕ) → Contains (list_of (landed_at boxes d g) c) f → Contains (list_of boxes c) f ⊎ Contains held f
+  landed_contains : (boxes : List (List (ArrayVec ℕ))) (d : ℕ) (g : ArrayVec ℕ) → Contains held g → (c : ℕ) (f : ArrayVec ℕ) →
+      Contains (list_of (landed_at boxes d g) c) f → Contains (list_of boxes c) f ⊎ Contains held f
   landed_contains boxes d g was c f = by_room (has_room boxes d)
     where
-      same_box : (c - 1) ≡ (d - 1) → d - 1 < length boxes → Contains (list_of (with_list boxes d (list_of boxes d ++ g ∷ [])) c) f → Contains (list_of boxes c) f ⊎ Contains held f
+      same_box : (c - 1) ≡ (d - 1) → d - 1 < length boxes → Contains (list_of (with_list boxes d (list_of boxes d ++ g ∷ [])) c) f →
+          Contains (list_of boxes c) f ⊎ Contains held f
       same_box same inside h =
-          let pushed : list_of (with_list boxes d (list_of boxes d ++ g ∷ [])) c ≡ list_of boxes d ++ g ∷ [] = ap (λ k. get_or (with_list boxes d (list_of boxes d ++ g ∷ [])) k []) same ∙ get_or-set_same boxes (d - 1) (list_of boxes d ++ g ∷ []) [] inside in
+          let pushed : list_of (with_list boxes d (list_of boxes d ++ g ∷ [])) c ≡ list_of boxes d ++ g ∷ [] =
+              ap (λ k. get_or (with_list boxes d (list_of boxes d ++ g ∷ [])) k []) same
+              ∙ get_or-set_same boxes (d - 1) (list_of boxes d ++ g ∷ []) [] inside in
           ⊎_elim
           (λ before. inl (subst (λ k. Contains (get_or boxes k []) f) (sym same) before))
           (λ this. inr (subst (λ x. Contains held x) this was))
           (Contains-push_cases (list_of boxes d) g f (subst (λ l. Contains l f) pushed h))
 
-      by_room : (b : Bool) → Contains (list_of (if b then with_list boxes d (list_of boxes d ++ g ∷ []) else boxes) c) f → Contains (list_of boxes c) f ⊎ Contains held f
+      by_room : (b : Bool) → Contains (list_of (if b then with_list boxes d (list_of boxes d ++ g ∷ []) else boxes) c) f →
+          Contains (list_of boxes c) f ⊎ Contains held f
       by_room true h =
           ⊎_elim
           (λ same. ⊎_elim
@@ -36,7 +43,8 @@ module _ (held : List (ArrayVec ℕ)) where
           (cases_eq (c - 1) (d - 1))
       by_room false h = inl h
 
-  lands_contains : (boxes : List (List (ArrayVec ℕ))) (ps : List (ℕ × ArrayVec ℕ)) → All (λ p. Contains held p.1) ps → (c : ℕ) (f : ArrayVec ℕ) → Contains (list_of (lands boxes ps) c) f → Contains (list_of boxes c) f ⊎ Contains held f
+  lands_contains : (boxes : List (List (ArrayVec ℕ))) (ps : List (ℕ × ArrayVec ℕ)) → All (λ p. Contains held p.1) ps →
+      (c : ℕ) (f : ArrayVec ℕ) → Contains (list_of (lands boxes ps) c) f → Contains (list_of boxes c) f ⊎ Contains held f
   lands_contains boxes [] all c f h = inl h
   lands_contains boxes (p ∷ ps) all c f h =
       ⊎_elim
@@ -47,12 +55,14 @@ module _ (held : List (ArrayVec ℕ)) where
 -- frames that landed were held
 pub only_lands : (p : PortsState) (fs : List (ArrayVec ℕ)) → OnlyLands fs p (ports_after p fs)
 only_lands p fs = record {
-  boxes = λ c f h. lands_contains fs p.boxes (landings p fs) (targets_of-frames (λ g. Contains fs g) (length p.boxes) fs (All-contains_itself fs)) c f h;
+  boxes = λ c f h. lands_contains fs p.boxes (landings p fs)
+      (targets_of-frames (λ g. Contains fs g) (length p.boxes) fs (All-contains_itself fs)) c f h;
   rest = refl;
 }
 
 -- and where more was held
-pub only_lands_some : (held fs : List (ArrayVec ℕ)) (p q : PortsState) → ((f : ArrayVec ℕ) → Contains fs f → Contains held f) → OnlyLands fs p q → OnlyLands held p q
+pub only_lands_some : (held fs : List (ArrayVec ℕ)) (p q : PortsState) → ((f : ArrayVec ℕ) → Contains fs f → Contains held f) →
+    OnlyLands fs p q → OnlyLands held p q
 only_lands_some held fs p q some h = record {
   boxes = λ c f inside. ⊎_elim (λ before. inl before) (λ was. inr (some f was)) (h.boxes c f inside);
   rest = h.rest;
@@ -63,7 +73,8 @@ pub up_to_among_all : (n : ℕ) (es : List Epoch) (f : ArrayVec ℕ) → Contain
 up_to_among_all n [] f h = h
 up_to_among_all n (e ∷ es) f h = by_number (nat_le e.number n) (λ g. up_to_among_all n es f g) h
   where
-    by_number : (b : Bool) → (Contains (frames_to n es) f → Contains (frames_of es) f) → Contains (if b then e.frames ++ frames_to n es else frames_to n es) f → Contains (e.frames ++ frames_of es) f
+    by_number : (b : Bool) → (Contains (frames_to n es) f → Contains (frames_of es) f) →
+        Contains (if b then e.frames ++ frames_to n es else frames_to n es) f → Contains (e.frames ++ frames_of es) f
     by_number true rest g =
         ⊎_elim
         (λ first. Contains-append_left e.frames (frames_of es) f first)

@@ -2,6 +2,7 @@
 //! frame out before its checkpoint is acknowledged. Prints one script over each. docs/OUTPUT_COMMIT.md says more.
 #![tactic(auto)]
 
+mod acknowledged_gate;
 mod gates;
 mod script;
 mod stand_in;

@@ -1,5 +1,6 @@
 -- Laws of landing, for the crates above.
-use Rattle.std.proofs.Common.{◌≡◌, ℕ, ◌+◌, ◌-◌, ◌<◌, ◌≤◌, Bool, true, false, if◌then◌else◌, List, [], ◌∷◌, ◌++◌, length, refl, sym, ◌∙◌, ap, arith, length-set, All, ◌≢◌, subst}
+use Rattle.std.proofs.Common.{◌≡◌, ℕ, ◌+◌, ◌-◌, ◌<◌, ◌≤◌, Bool, true, false, if◌then◌else◌, List, [], ◌∷◌, ◌++◌, length, refl, sym, ◌∙◌, ap,
+    arith, length-set, All, ◌≢◌, subst}
 use Rattle.std.proofs.lemmas.Bool.{ltb-true}
 use Rattle.std.proofs.lemmas.List.{get_or-set_same, get_or-set_other, length_push}
 use Rattle.std.proofs.lemmas.List.Elements.{All-set, All-push, All-head, All-tail}
@@ -10,7 +11,8 @@ use Rattle.arrayvec.specs.ArrayVec.{ArrayVec}
 use Rattle.frame_ports.specs.Lands.{list_of, with_list, has_room, landed_at, lands, put_count, drop_count}
 
 -- a landing where the box has room, and where it has none
-pub landed_at-room : (boxes : List (List (ArrayVec ℕ))) (c : ℕ) (f : ArrayVec ℕ) → has_room boxes c ≡ true → landed_at boxes c f ≡ with_list boxes c (list_of boxes c ++ f ∷ [])
+pub landed_at-room : (boxes : List (List (ArrayVec ℕ))) (c : ℕ) (f : ArrayVec ℕ) → has_room boxes c ≡ true →
+    landed_at boxes c f ≡ with_list boxes c (list_of boxes c ++ f ∷ [])
 landed_at-room boxes c f room = ap (λ b. if b then with_list boxes c (list_of boxes c ++ f ∷ []) else boxes) room
 
 pub landed_at-full : (boxes : List (List (ArrayVec ℕ))) (c : ℕ) (f : ArrayVec ℕ) → has_room boxes c ≡ false → landed_at boxes c f ≡ boxes
@@ -33,16 +35,19 @@ pub lands-append : (boxes : List (List (ArrayVec ℕ))) (ps qs : List (ℕ × Ar
 lands-append boxes [] qs = refl
 lands-append boxes (p ∷ ps) qs = lands-append (landed_at boxes p.0 p.1) ps qs
 
-pub put_count-append : (boxes : List (List (ArrayVec ℕ))) (ps qs : List (ℕ × ArrayVec ℕ)) → put_count boxes (ps ++ qs) ≡ put_count boxes ps + put_count (lands boxes ps) qs
+pub put_count-append : (boxes : List (List (ArrayVec ℕ))) (ps qs : List (ℕ × ArrayVec ℕ)) →
+    put_count boxes (ps ++ qs) ≡ put_count boxes ps + put_count (lands boxes ps) qs
 put_count-append boxes [] qs = omega arith
 put_count-append boxes (p ∷ ps) qs = omega (arith, put_count-append (landed_at boxes p.0 p.1) ps qs)
 
-pub drop_count-append : (boxes : List (List (ArrayVec ℕ))) (ps qs : List (ℕ × ArrayVec ℕ)) → drop_count boxes (ps ++ qs) ≡ drop_count boxes ps + drop_count (lands boxes ps) qs
+pub drop_count-append : (boxes : List (List (ArrayVec ℕ))) (ps qs : List (ℕ × ArrayVec ℕ)) →
+    drop_count boxes (ps ++ qs) ≡ drop_count boxes ps + drop_count (lands boxes ps) qs
 drop_count-append boxes [] qs = omega arith
 drop_count-append boxes (p ∷ ps) qs = omega (arith, drop_count-append (landed_at boxes p.0 p.1) ps qs)
 
 -- each pair is put into a box or dropped
-pub put_count-drop_count : (boxes : List (List (ArrayVec ℕ))) (ps : List (ℕ × ArrayVec ℕ)) → put_count boxes ps + drop_count boxes ps ≡ length ps
+pub put_count-drop_count : (boxes : List (List (ArrayVec ℕ))) (ps : List (ℕ × ArrayVec ℕ)) → put_count boxes ps + drop_count boxes ps
+    ≡ length ps
 put_count-drop_count boxes [] = refl
 put_count-drop_count boxes (p ∷ ps) = omega (arith, put_count-drop_count (landed_at boxes p.0 p.1) ps, one (has_room boxes p.0))
   where
@@ -51,14 +56,17 @@ put_count-drop_count boxes (p ∷ ps) = omega (arith, put_count-drop_count (land
     one false = refl
 
 -- the box of the client, and the boxes of the others
-pub list_of-landed_at_same : (boxes : List (List (ArrayVec ℕ))) (c : ℕ) (f : ArrayVec ℕ) → c - 1 < length boxes → list_of (landed_at boxes c f) c ≡ (if has_room boxes c then list_of boxes c ++ f ∷ [] else list_of boxes c)
+pub list_of-landed_at_same : (boxes : List (List (ArrayVec ℕ))) (c : ℕ) (f : ArrayVec ℕ) → c - 1 < length boxes →
+    list_of (landed_at boxes c f) c ≡ (if has_room boxes c then list_of boxes c ++ f ∷ [] else list_of boxes c)
 list_of-landed_at_same boxes c f inside = by_room (has_room boxes c)
   where
-    by_room : (b : Bool) → list_of (if b then with_list boxes c (list_of boxes c ++ f ∷ []) else boxes) c ≡ (if b then list_of boxes c ++ f ∷ [] else list_of boxes c)
+    by_room : (b : Bool) → list_of (if b then with_list boxes c (list_of boxes c ++ f ∷ []) else boxes) c
+        ≡ (if b then list_of boxes c ++ f ∷ [] else list_of boxes c)
     by_room true = get_or-set_same boxes (c - 1) (list_of boxes c ++ f ∷ []) [] inside
     by_room false = refl
 
-pub list_of-landed_at_other : (boxes : List (List (ArrayVec ℕ))) (c d : ℕ) (f : ArrayVec ℕ) → 1 ≤ c → 1 ≤ d → d ≢ c → list_of (landed_at boxes c f) d ≡ list_of boxes d
+pub list_of-landed_at_other : (boxes : List (List (ArrayVec ℕ))) (c d : ℕ) (f : ArrayVec ℕ) → 1 ≤ c → 1 ≤ d → d ≢ c →
+    list_of (landed_at boxes c f) d ≡ list_of boxes d
 list_of-landed_at_other boxes c d f cpos dpos other = by_room (has_room boxes c)
   where
     by_room : (b : Bool) → list_of (if b then with_list boxes c (list_of boxes c ++ f ∷ []) else boxes) d ≡ list_of boxes d
@@ -66,7 +74,8 @@ list_of-landed_at_other boxes c d f cpos dpos other = by_room (has_room boxes c)
     by_room false = refl
 
 -- landings leave boxes that are boxes
-pub boxes-landed_at : (boxes : List (List (ArrayVec ℕ))) (c : ℕ) (f : ArrayVec ℕ) → IsFrame f → c - 1 < length boxes → All IsBox boxes → All IsBox (landed_at boxes c f)
+pub boxes-landed_at : (boxes : List (List (ArrayVec ℕ))) (c : ℕ) (f : ArrayVec ℕ) → IsFrame f → c - 1 < length boxes → All IsBox boxes →
+    All IsBox (landed_at boxes c f)
 boxes-landed_at boxes c f frame inside all = by_room (has_room boxes c) refl
   where
     box : IsBox (list_of boxes c)
@@ -75,10 +84,12 @@ boxes-landed_at boxes c f frame inside all = by_room (has_room boxes c) refl
     by_room : (b : Bool) → has_room boxes c ≡ b → All IsBox (if b then with_list boxes c (list_of boxes c ++ f ∷ []) else boxes)
     by_room true room =
         let lt : length (list_of boxes c) < BOX_FRAMES = ltb-true (length (list_of boxes c)) BOX_FRAMES room in
-        All-set IsBox boxes (c - 1) (list_of boxes c ++ f ∷ []) (omega (arith, length_push (list_of boxes c) f), All-push IsFrame (list_of boxes c) f box.1 frame) all
+        All-set IsBox boxes (c - 1) (list_of boxes c ++ f ∷ [])
+            (omega (arith, length_push (list_of boxes c) f), All-push IsFrame (list_of boxes c) f box.1 frame) all
     by_room false room = all
 
-pub boxes-lands : (boxes : List (List (ArrayVec ℕ))) (ps : List (ℕ × ArrayVec ℕ)) → All (λ p. IsFrame p.1) ps → All (λ p. (1 ≤ p.0) × (p.0 ≤ length boxes)) ps → All IsBox boxes → All IsBox (lands boxes ps)
+pub boxes-lands : (boxes : List (List (ArrayVec ℕ))) (ps : List (ℕ × ArrayVec ℕ)) → All (λ p. IsFrame p.1) ps →
+    All (λ p. (1 ≤ p.0) × (p.0 ≤ length boxes)) ps → All IsBox boxes → All IsBox (lands boxes ps)
 boxes-lands boxes [] frames clients all = all
 boxes-lands boxes (p ∷ ps) frames clients all =
     let first : (1 ≤ p.0) × (p.0 ≤ length boxes) = All-head (λ p. (1 ≤ p.0) × (p.0 ≤ length boxes)) p ps clients in
@@ -89,7 +100,8 @@ boxes-lands boxes (p ∷ ps) frames clients all =
     (boxes-landed_at boxes p.0 p.1 (All-head (λ p. IsFrame p.1) p ps frames) (omega arith) all)
 
 -- and ports that are ports
-pub ports-lands : (s : PortsState) (ps : List (ℕ × ArrayVec ℕ)) → All (λ p. IsFrame p.1) ps → All (λ p. (1 ≤ p.0) × (p.0 ≤ length s.boxes)) ps → IsPorts s → IsPorts (record s { boxes = lands s.boxes ps })
+pub ports-lands : (s : PortsState) (ps : List (ℕ × ArrayVec ℕ)) → All (λ p. IsFrame p.1) ps →
+    All (λ p. (1 ≤ p.0) × (p.0 ≤ length s.boxes)) ps → IsPorts s → IsPorts (record s { boxes = lands s.boxes ps })
 ports-lands s ps frames clients ok =
     let same : length (lands s.boxes ps) ≡ length s.boxes = length-lands s.boxes ps in
     record {

@@ -1,29 +1,35 @@
 -- How a change of one ring changes what contracts see of the ports.
-use Rattle.std.proofs.Common.{◌≡◌, ℕ, ◌-◌, ◌<◌, ◌≤◌, true, List, [], ◌∷◌, ◌++◌, length, take, drop, slice_index_or, All, remove, refl, sym, ◌∙◌, ap, subst, arith, length-append, length-set, IfSome, slice_get, zero, suc, replicate, lit≤, nat_lt, is_some, Result, Ok, Err, OnOk, if◌then◌else◌}
+use Rattle.std.proofs.Common.{◌≡◌, ℕ, ◌-◌, ◌<◌, ◌≤◌, true, List, [], ◌∷◌, ◌++◌, length, take, drop, slice_index_or, All, remove, refl, sym,
+    ◌∙◌, ap, subst, arith, length-append, length-set, IfSome, slice_get, zero, suc, replicate, lit≤, nat_lt, is_some, Result, Ok, Err, OnOk,
+    if◌then◌else◌}
 use Rattle.std.proofs.lemmas.Bool.{lt-ltb, le-ltb}
 use Rattle.std.proofs.lemmas.Bool.Decides.{nat_tests}
 use Rattle.frame_ports.specs.declared.errors.PortError.TheVariants.{NoClient}
 use Rattle.std.proofs.Math.ListN.{length-take, length-drop}
 use Rattle.std.proofs.lemmas.List.{length-map, length-replicate, map-set, get_or-map, length_push}
-use Rattle.std.proofs.lemmas.List.Elements.{All-set, All-take, All-drop, All-append, All-push, All-head, All-tail, All-replicate, All-nil, All-same}
+use Rattle.std.proofs.lemmas.List.Elements.{All-set, All-take, All-drop, All-append, All-push, All-head, All-tail, All-replicate,
+    All-nil, All-same}
 use Rattle.std.specs.Vec.{with_item}
 use Rattle.arrayvec.specs.ArrayVec.{ArrayVec}
 use Rattle.circular_buffer.specs.Buffer.{Buffer, buffer}
 use Rattle.frame_ports.specs.Addresses.{IsFrame}
 use Rattle.frame_ports.specs.Lands.{list_of}
-use Rattle.frame_ports.specs.Ports.{PortsState, IsPorts, empty_ports, for_client, IsInbox, IsBox, IsClient, is_client, inbox_of, box_of, with_inbox, with_box}
+use Rattle.frame_ports.specs.Ports.{PortsState, IsPorts, empty_ports, for_client, IsInbox, IsBox, IsClient, is_client, inbox_of, box_of,
+    with_inbox, with_box}
 use Rattle.frame_ports.specs.Fields.{rings_items, ports_state, AreFields}
 use Rattle.frame_ports.specs.declared.limits.TheConstants.{MAX_CLIENTS, INBOX_FRAMES, BOX_FRAMES, NUMBER_LIMIT}
 use Rattle.frame_ports.specs.declared.ports.Ports.TheInside.{Inside}
 
 module _ {X : Type 0} where
   -- the list of a client is what its ring holds
-  pub list_of-ring : (rings : List (Buffer X)) (c : ℕ) (r : Buffer X) → c - 1 < length rings → r ≡ slice_index_or rings (c - 1) r → list_of (rings_items rings) c ≡ r.items
+  pub list_of-ring : (rings : List (Buffer X)) (c : ℕ) (r : Buffer X) → c - 1 < length rings → r ≡ slice_index_or rings (c - 1) r →
+      list_of (rings_items rings) c ≡ r.items
   list_of-ring rings c r inside read =
       get_or-map (λ (b : Buffer X). b.items) rings (c - 1) r [] inside ∙ sym (ap (λ (b : Buffer X). b.items) read)
 
   -- a fact of each element, at the element that was read
-  pub at_ring : (P : Buffer X → Type 0) (rings : List (Buffer X)) (i : ℕ) (r : Buffer X) → i < length rings → r ≡ slice_index_or rings i r → All P rings → P r
+  pub at_ring : (P : Buffer X → Type 0) (rings : List (Buffer X)) (i : ℕ) (r : Buffer X) → i < length rings → r ≡ slice_index_or rings i r →
+      All P rings → P r
   at_ring P rings i r inside read all = subst P (sym read) (all i r inside)
 
 -- a client's number, from the test
@@ -32,22 +38,31 @@ client_from_test s c h = grind arith
 
 module _ (p : Inside) (c : ℕ) where
   -- what an inbox and a box hold, and how much they can hold
-  pub inbox_at : (r : Buffer (ℕ × ArrayVec ℕ)) → AreFields p → IsClient (ports_state p) c → r ≡ slice_index_or p.inboxes.items (c - 1) r → (inbox_of (ports_state p) c ≡ r.items) × IsInbox r.items × (r.capacity ≡ INBOX_FRAMES)
+  pub inbox_at : (r : Buffer (ℕ × ArrayVec ℕ)) → AreFields p → IsClient (ports_state p) c → r ≡ slice_index_or p.inboxes.items (c - 1) r →
+      (inbox_of (ports_state p) c ≡ r.items) × IsInbox r.items × (r.capacity ≡ INBOX_FRAMES)
   inbox_at r ok client read =
-      let pairs : length p.inboxes.items ≡ length p.boxes.items = sym (length-map p.inboxes.items (λ (b : Buffer (ℕ × ArrayVec ℕ)). b.items)) ∙ ok.state.pairs ∙ length-map p.boxes.items (λ (b : Buffer (ArrayVec ℕ)). b.items) in
-      let count : length (rings_items p.boxes.items) ≡ length p.boxes.items = length-map p.boxes.items (λ (b : Buffer (ArrayVec ℕ)). b.items) in
+      let pairs : length p.inboxes.items ≡ length p.boxes.items =
+          sym (length-map p.inboxes.items (λ (b : Buffer (ℕ × ArrayVec ℕ)). b.items)) ∙ ok.state.pairs
+          ∙ length-map p.boxes.items (λ (b : Buffer (ArrayVec ℕ)). b.items) in
+      let count : length (rings_items p.boxes.items) ≡ length p.boxes.items =
+          length-map p.boxes.items (λ (b : Buffer (ArrayVec ℕ)). b.items) in
       let inside : c - 1 < length p.inboxes.items = omega arith in
-      let inside' : c - 1 < length (rings_items p.inboxes.items) = omega (arith, length-map p.inboxes.items (λ (b : Buffer (ℕ × ArrayVec ℕ)). b.items)) in
+      let inside' : c - 1 < length (rings_items p.inboxes.items) =
+          omega (arith, length-map p.inboxes.items (λ (b : Buffer (ℕ × ArrayVec ℕ)). b.items)) in
       let same : inbox_of (ports_state p) c ≡ r.items = list_of-ring p.inboxes.items c r inside read in
-      (same, subst IsInbox same (ok.state.inboxes (c - 1) [] inside'), at_ring (λ b. b.capacity ≡ INBOX_FRAMES) p.inboxes.items (c - 1) r inside read ok.inboxes)
+      (same, subst IsInbox same (ok.state.inboxes (c - 1) [] inside'), at_ring (λ b. b.capacity ≡ INBOX_FRAMES) p.inboxes.items (c - 1) r
+          inside read ok.inboxes)
 
-  pub box_at : (r : Buffer (ArrayVec ℕ)) → AreFields p → IsClient (ports_state p) c → r ≡ slice_index_or p.boxes.items (c - 1) r → (box_of (ports_state p) c ≡ r.items) × IsBox r.items × (r.capacity ≡ BOX_FRAMES)
+  pub box_at : (r : Buffer (ArrayVec ℕ)) → AreFields p → IsClient (ports_state p) c → r ≡ slice_index_or p.boxes.items (c - 1) r →
+      (box_of (ports_state p) c ≡ r.items) × IsBox r.items × (r.capacity ≡ BOX_FRAMES)
   box_at r ok client read =
-      let count : length (rings_items p.boxes.items) ≡ length p.boxes.items = length-map p.boxes.items (λ (b : Buffer (ArrayVec ℕ)). b.items) in
+      let count : length (rings_items p.boxes.items) ≡ length p.boxes.items =
+          length-map p.boxes.items (λ (b : Buffer (ArrayVec ℕ)). b.items) in
       let inside : c - 1 < length p.boxes.items = omega arith in
       let inside' : c - 1 < length (rings_items p.boxes.items) = omega arith in
       let same : box_of (ports_state p) c ≡ r.items = list_of-ring p.boxes.items c r inside read in
-      (same, subst IsBox same (ok.state.boxes (c - 1) [] inside'), at_ring (λ b. b.capacity ≡ BOX_FRAMES) p.boxes.items (c - 1) r inside read ok.boxes)
+      (same, subst IsBox same (ok.state.boxes (c - 1) [] inside'), at_ring (λ b. b.capacity ≡ BOX_FRAMES) p.boxes.items (c - 1) r inside
+          read ok.boxes)
 
   -- the ports with one ring changed
   abbrev pub inbox_put : ℕ → Buffer (ℕ × ArrayVec ℕ) → Inside
@@ -57,14 +72,20 @@ module _ (p : Inside) (c : ℕ) where
   box_put r = record { next = p.next; inboxes = p.inboxes; boxes = with_item p.boxes (c - 1) r }
 
   -- what contracts see of them
-  pub state-inbox_put : (n : ℕ) (r : Buffer (ℕ × ArrayVec ℕ)) → ports_state (inbox_put n r) ≡ record (with_inbox (ports_state p) c r.items) { next = n }
-  state-inbox_put n r = ap (λ (l : List (List (ℕ × ArrayVec ℕ))). let s : PortsState = record { next = n; inboxes = l; boxes = rings_items p.boxes.items } in s) (map-set (λ (b : Buffer (ℕ × ArrayVec ℕ)). b.items) p.inboxes.items (c - 1) r)
+  pub state-inbox_put : (n : ℕ) (r : Buffer (ℕ × ArrayVec ℕ)) →
+      ports_state (inbox_put n r) ≡ record (with_inbox (ports_state p) c r.items) { next = n }
+  state-inbox_put n r = ap (λ (l : List (List (ℕ × ArrayVec ℕ))). let s : PortsState =
+      record { next = n; inboxes = l; boxes = rings_items p.boxes.items } in s)
+      (map-set (λ (b : Buffer (ℕ × ArrayVec ℕ)). b.items) p.inboxes.items (c - 1) r)
 
   pub state-box_put : (r : Buffer (ArrayVec ℕ)) → ports_state (box_put r) ≡ with_box (ports_state p) c r.items
-  state-box_put r = ap (λ (l : List (List (ArrayVec ℕ))). let s : PortsState = record { next = p.next; inboxes = rings_items p.inboxes.items; boxes = l } in s) (map-set (λ (b : Buffer (ArrayVec ℕ)). b.items) p.boxes.items (c - 1) r)
+  state-box_put r = ap (λ (l : List (List (ArrayVec ℕ))). let s : PortsState =
+      record { next = p.next; inboxes = rings_items p.inboxes.items; boxes = l } in s)
+      (map-set (λ (b : Buffer (ArrayVec ℕ)). b.items) p.boxes.items (c - 1) r)
 
   -- they are ports again
-  pub fields-inbox_put : (n : ℕ) (r : Buffer (ℕ × ArrayVec ℕ)) → AreFields p → (1 ≤ n) × (n ≤ NUMBER_LIMIT) → IsInbox r.items → r.capacity ≡ INBOX_FRAMES → AreFields (inbox_put n r)
+  pub fields-inbox_put : (n : ℕ) (r : Buffer (ℕ × ArrayVec ℕ)) → AreFields p → (1 ≤ n) × (n ≤ NUMBER_LIMIT) → IsInbox r.items →
+      r.capacity ≡ INBOX_FRAMES → AreFields (inbox_put n r)
   fields-inbox_put n r ok number inbox capacity = record {
     state = subst IsPorts (sym (state-inbox_put n r)) (record {
       next = number;
@@ -111,7 +132,8 @@ inbox-drop xs ok = (omega (arith, length-drop 1 xs, ok.0), All-drop (λ x. IsFra
 pub inbox-remove : (xs : List (ℕ × ArrayVec ℕ)) (i : ℕ) → IsInbox xs → IsInbox (remove xs i)
 inbox-remove xs i ok = (length-remove-le xs i INBOX_FRAMES ok.0, All-remove (λ x. IsFrame x.1) xs i ok.1)
 
-pub inbox-push : (xs : List (ℕ × ArrayVec ℕ)) (x : ℕ × ArrayVec ℕ) → length xs < INBOX_FRAMES → IsFrame x.1 → IsInbox xs → IsInbox (xs ++ x ∷ [])
+pub inbox-push : (xs : List (ℕ × ArrayVec ℕ)) (x : ℕ × ArrayVec ℕ) → length xs < INBOX_FRAMES → IsFrame x.1 → IsInbox xs →
+    IsInbox (xs ++ x ∷ [])
 inbox-push xs x room frame ok = (omega (arith, length_push xs x), All-push (λ y. IsFrame y.1) xs x ok.1 frame)
 
 pub box-drop : (xs : List (ArrayVec ℕ)) → IsBox xs → IsBox (drop 1 xs)
@@ -128,40 +150,52 @@ module _ (p : Inside) (c : ℕ) (s : PortsState) (seen : ports_state p ≡ s) (o
   client' : IsClient (ports_state p) c
   client' = subst (λ (t : PortsState). IsClient t c) (sym seen) client
 
-  pub inbox_seen : (r : Buffer (ℕ × ArrayVec ℕ)) → r ≡ slice_index_or p.inboxes.items (c - 1) r → (inbox_of s c ≡ r.items) × IsInbox r.items × (r.capacity ≡ INBOX_FRAMES)
+  pub inbox_seen : (r : Buffer (ℕ × ArrayVec ℕ)) → r ≡ slice_index_or p.inboxes.items (c - 1) r → (inbox_of s c ≡ r.items) × IsInbox r.items
+      × (r.capacity ≡ INBOX_FRAMES)
   inbox_seen r read =
       let at = inbox_at p c r ok client' read in
       (subst (λ (t : PortsState). inbox_of t c ≡ r.items) seen at.0, at.1, at.2)
 
-  pub box_seen : (r : Buffer (ArrayVec ℕ)) → r ≡ slice_index_or p.boxes.items (c - 1) r → (box_of s c ≡ r.items) × IsBox r.items × (r.capacity ≡ BOX_FRAMES)
+  pub box_seen : (r : Buffer (ArrayVec ℕ)) → r ≡ slice_index_or p.boxes.items (c - 1) r →
+      (box_of s c ≡ r.items) × IsBox r.items × (r.capacity ≡ BOX_FRAMES)
   box_seen r read =
       let at = box_at p c r ok client' read in
       (subst (λ (t : PortsState). box_of t c ≡ r.items) seen at.0, at.1, at.2)
 
-  pub box_changed : (f : List (ArrayVec ℕ) → List (ArrayVec ℕ)) (r r' : Buffer (ArrayVec ℕ)) → r ≡ slice_index_or p.boxes.items (c - 1) r → r' ≡ buffer (f r.items) r.capacity → (IsBox r.items → IsBox (f r.items)) → AreFields (box_put p c r') × (ports_state (box_put p c r') ≡ with_box s c (f (box_of s c)))
+  pub box_changed : (f : List (ArrayVec ℕ) → List (ArrayVec ℕ)) (r r' : Buffer (ArrayVec ℕ)) → r ≡ slice_index_or p.boxes.items (c - 1) r →
+      r' ≡ buffer (f r.items) r.capacity → (IsBox r.items → IsBox (f r.items)) →
+      AreFields (box_put p c r') × (ports_state (box_put p c r') ≡ with_box s c (f (box_of s c)))
   box_changed f r r' read change keep =
       let at = box_seen r read in
       let items : r'.items ≡ f r.items = ap (λ (b : Buffer (ArrayVec ℕ)). b.items) change in
       let capacity : r'.capacity ≡ r.capacity = ap (λ (b : Buffer (ArrayVec ℕ)). b.capacity) change in (
         fields-box_put p c r' ok (subst IsBox (sym items) (keep at.1)) (capacity ∙ at.2),
-        state-box_put p c r' ∙ ap (λ (xs : List (ArrayVec ℕ)). with_box (ports_state p) c xs) (items ∙ ap f (sym at.0)) ∙ ap (λ (t : PortsState). with_box t c (f (box_of s c))) seen,
+        state-box_put p c r' ∙ ap (λ (xs : List (ArrayVec ℕ)). with_box (ports_state p) c xs) (items ∙ ap f (sym at.0))
+            ∙ ap (λ (t : PortsState). with_box t c (f (box_of s c))) seen,
       )
 
-  pub inbox_changed : (n : ℕ) (f : List (ℕ × ArrayVec ℕ) → List (ℕ × ArrayVec ℕ)) (r r' : Buffer (ℕ × ArrayVec ℕ)) → (1 ≤ n) × (n ≤ NUMBER_LIMIT) → r ≡ slice_index_or p.inboxes.items (c - 1) r → r' ≡ buffer (f r.items) r.capacity → (IsInbox r.items → IsInbox (f r.items)) → AreFields (inbox_put p c n r') × (ports_state (inbox_put p c n r') ≡ record (with_inbox s c (f (inbox_of s c))) { next = n })
+  pub inbox_changed : (n : ℕ) (f : List (ℕ × ArrayVec ℕ) → List (ℕ × ArrayVec ℕ)) (r r' : Buffer (ℕ × ArrayVec ℕ)) →
+      (1 ≤ n) × (n ≤ NUMBER_LIMIT) → r ≡ slice_index_or p.inboxes.items (c - 1) r → r' ≡ buffer (f r.items) r.capacity →
+      (IsInbox r.items → IsInbox (f r.items)) → AreFields (inbox_put p c n r')
+      × (ports_state (inbox_put p c n r') ≡ record (with_inbox s c (f (inbox_of s c))) { next = n })
   inbox_changed n f r r' number read change keep =
       let at = inbox_seen r read in
       let items : r'.items ≡ f r.items = ap (λ (b : Buffer (ℕ × ArrayVec ℕ)). b.items) change in
       let capacity : r'.capacity ≡ r.capacity = ap (λ (b : Buffer (ℕ × ArrayVec ℕ)). b.capacity) change in
       let put : List (ℕ × ArrayVec ℕ) → PortsState → PortsState = λ xs t. record (with_inbox t c xs) { next = n } in (
         fields-inbox_put p c n r' ok number (subst IsInbox (sym items) (keep at.1)) (capacity ∙ at.2),
-        state-inbox_put p c n r' ∙ ap (λ (xs : List (ℕ × ArrayVec ℕ)). put xs (ports_state p)) (items ∙ ap f (sym at.0)) ∙ ap (λ (t : PortsState). put (f (inbox_of s c)) t) seen,
+        state-inbox_put p c n r' ∙ ap (λ (xs : List (ℕ × ArrayVec ℕ)). put xs (ports_state p)) (items ∙ ap f (sym at.0))
+            ∙ ap (λ (t : PortsState). put (f (inbox_of s c)) t) seen,
       )
 
   -- the same where the next number stays
-  pub inbox_changed_alone : (f : List (ℕ × ArrayVec ℕ) → List (ℕ × ArrayVec ℕ)) (r r' : Buffer (ℕ × ArrayVec ℕ)) → r ≡ slice_index_or p.inboxes.items (c - 1) r → r' ≡ buffer (f r.items) r.capacity → (IsInbox r.items → IsInbox (f r.items)) → AreFields (inbox_put p c p.next r') × (ports_state (inbox_put p c p.next r') ≡ with_inbox s c (f (inbox_of s c)))
+  pub inbox_changed_alone : (f : List (ℕ × ArrayVec ℕ) → List (ℕ × ArrayVec ℕ)) (r r' : Buffer (ℕ × ArrayVec ℕ)) →
+      r ≡ slice_index_or p.inboxes.items (c - 1) r → r' ≡ buffer (f r.items) r.capacity → (IsInbox r.items → IsInbox (f r.items)) →
+      AreFields (inbox_put p c p.next r') × (ports_state (inbox_put p c p.next r') ≡ with_inbox s c (f (inbox_of s c)))
   inbox_changed_alone f r r' read change keep =
       let put = inbox_changed p.next f r r' ok.state.next read change keep in
-      (put.0, put.1 ∙ ap (λ (n : ℕ). let t : PortsState = record (with_inbox s c (f (inbox_of s c))) { next = n } in t) (ap (λ (t : PortsState). t.next) seen))
+      (put.0, put.1 ∙ ap (λ (n : ℕ). let t : PortsState = record (with_inbox s c (f (inbox_of s c))) { next = n } in t)
+          (ap (λ (t : PortsState). t.next) seen))
 
 -- rings with no items
 module _ {X : Type 0} where
@@ -181,18 +215,24 @@ ports-empty n some few =
       boxes = All-replicate IsBox n [] (lit≤ tt, All-nil IsFrame);
     }
 
-module _ (p : Inside) (n : ℕ) (next : p.next ≡ 1) (inboxes : p.inboxes.items ≡ replicate n (buffer [] INBOX_FRAMES)) (boxes : p.boxes.items ≡ replicate n (buffer [] BOX_FRAMES)) where
+module _ (p : Inside) (n : ℕ) (next : p.next ≡ 1) (inboxes : p.inboxes.items ≡ replicate n (buffer [] INBOX_FRAMES))
+    (boxes : p.boxes.items ≡ replicate n (buffer [] BOX_FRAMES)) where
   pub state-empty : ports_state p ≡ empty_ports n
   state-empty =
-      ap (λ (k : ℕ). let s : PortsState = record { next = k; inboxes = rings_items p.inboxes.items; boxes = rings_items p.boxes.items } in s) next
-      ∙ ap (λ (l : List (List (ℕ × ArrayVec ℕ))). let s : PortsState = record { next = 1; inboxes = l; boxes = rings_items p.boxes.items } in s) (ap (λ (l : List (Buffer (ℕ × ArrayVec ℕ))). rings_items l) inboxes ∙ rings_items-empty n INBOX_FRAMES)
-      ∙ ap (λ (l : List (List (ArrayVec ℕ))). let s : PortsState = record { next = 1; inboxes = replicate n []; boxes = l } in s) (ap (λ (l : List (Buffer (ArrayVec ℕ))). rings_items l) boxes ∙ rings_items-empty n BOX_FRAMES)
+      ap (λ (k : ℕ). let s : PortsState = record { next = k; inboxes = rings_items p.inboxes.items; boxes = rings_items p.boxes.items } in
+          s) next
+      ∙ ap (λ (l : List (List (ℕ × ArrayVec ℕ))). let s : PortsState = record { next = 1; inboxes = l; boxes = rings_items p.boxes.items }
+          in s) (ap (λ (l : List (Buffer (ℕ × ArrayVec ℕ))). rings_items l) inboxes ∙ rings_items-empty n INBOX_FRAMES)
+      ∙ ap (λ (l : List (List (ArrayVec ℕ))). let s : PortsState = record { next = 1; inboxes = replicate n []; boxes = l } in s)
+          (ap (λ (l : List (Buffer (ArrayVec ℕ))). rings_items l) boxes ∙ rings_items-empty n BOX_FRAMES)
 
   pub fields-empty : 1 ≤ n → n ≤ MAX_CLIENTS → AreFields p
   fields-empty some few = record {
     state = subst IsPorts (sym state-empty) (ports-empty n some few);
-    inboxes = All-same (λ b. b.capacity ≡ INBOX_FRAMES) p.inboxes.items (replicate n (buffer [] INBOX_FRAMES)) inboxes (All-replicate (λ b. b.capacity ≡ INBOX_FRAMES) n (buffer [] INBOX_FRAMES) refl);
-    boxes = All-same (λ b. b.capacity ≡ BOX_FRAMES) p.boxes.items (replicate n (buffer [] BOX_FRAMES)) boxes (All-replicate (λ b. b.capacity ≡ BOX_FRAMES) n (buffer [] BOX_FRAMES) refl);
+    inboxes = All-same (λ b. b.capacity ≡ INBOX_FRAMES) p.inboxes.items (replicate n (buffer [] INBOX_FRAMES)) inboxes
+        (All-replicate (λ b. b.capacity ≡ INBOX_FRAMES) n (buffer [] INBOX_FRAMES) refl);
+    boxes = All-same (λ b. b.capacity ≡ BOX_FRAMES) p.boxes.items (replicate n (buffer [] BOX_FRAMES)) boxes
+        (All-replicate (λ b. b.capacity ≡ BOX_FRAMES) n (buffer [] BOX_FRAMES) refl);
   }
 
 -- a fact that needs no answer, at an answer

@@ -1,5 +1,6 @@
 -- A rotation one step on, and what is left after an item was taken out of the middle.
-use Rattle.std.proofs.Common.{◌≡◌, ℕ, ◌+◌, ◌-◌, ◌<◌, List, [], ◌∷◌, ◌++◌, length, take, drop, get_or, Some, None, sym, ◌∙◌, ap, arith, append_assoc, slice_get, remove, add-one}
+use Rattle.std.proofs.Common.{◌≡◌, ℕ, ◌+◌, ◌-◌, ◌<◌, List, [], ◌∷◌, ◌++◌, length, take, drop, get_or, Some, None, sym, ◌∙◌, ap, arith,
+    append_assoc, slice_get, remove, add-one}
 use Rattle.std.proofs.Math.ListN.{length-drop}
 use Rattle.std.proofs.lemmas.List.{drop_more, take_more, drop_at, take_at}
 use Rattle.std.proofs.lemmas.Option.{same_Some, none-some, slice_get-get_or}
@@ -13,7 +14,8 @@ module _ {X : Type 0} where
   drop-rotated xs k d inside = ap (λ (l : List X). drop 1 (l ++ take k xs)) (drop_more xs k d inside)
 
   -- the first item of the rotated list goes behind the others
-  pub rotate_more : (xs : List X) (k : ℕ) (x : X) → k < length xs → Some x ≡ slice_get (drop k xs ++ take k xs) 0 → drop 1 (drop k xs ++ take k xs) ++ x ∷ [] ≡ drop (k + 1) xs ++ take (k + 1) xs
+  pub rotate_more : (xs : List X) (k : ℕ) (x : X) → k < length xs → Some x ≡ slice_get (drop k xs ++ take k xs) 0 →
+      drop 1 (drop k xs ++ take k xs) ++ x ∷ [] ≡ drop (k + 1) xs ++ take (k + 1) xs
   rotate_more xs k x inside is =
       let same : x ≡ get_or xs k x = same_Some x (get_or xs k x) (is ∙ slice_get-rotated xs k x inside) in
       ap (λ (l : List X). l ++ x ∷ []) (drop-rotated xs k x inside)
@@ -26,7 +28,8 @@ module _ {X : Type 0} where
   rotated_some (x ∷ xs) k inside is = none-some (get_or (x ∷ xs) k x) (is ∙ slice_get-rotated (x ∷ xs) k x inside)
 
   -- a rotation to the place, a pop and a rotation of what was behind it
-  pub removed : (xs : List X) (k : ℕ) → k < length xs → drop (length xs - k - 1) (drop 1 (drop k xs ++ take k xs)) ++ take (length xs - k - 1) (drop 1 (drop k xs ++ take k xs)) ≡ remove xs k
+  pub removed : (xs : List X) (k : ℕ) → k < length xs →
+      drop (length xs - k - 1) (drop 1 (drop k xs ++ take k xs)) ++ take (length xs - k - 1) (drop 1 (drop k xs ++ take k xs)) ≡ remove xs k
   removed [] k inside = absurd (omega arith)
   removed (x ∷ xs) k inside =
       let ys : List X = x ∷ xs in

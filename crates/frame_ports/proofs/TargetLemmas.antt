@@ -1,5 +1,6 @@
 -- The bits of a set of clients, and when a frame's first bytes name a client.
-use Rattle.std.proofs.Common.{◌≡◌, ℕ, ◌-◌, ◌*◌, ◌%◌, ◌^◌, ◌<◌, ◌≤◌, Bool, true, false, ◌&&◌, ◌||◌, nat_le, nat_eq, ◌==◌, List, [], ◌∷◌, ◌++◌, length, get_or, refl, sym, ◌∙◌, ap, arith, ⊎_elim, ◌⊎◌, lit<, if◌then◌else◌}
+use Rattle.std.proofs.Common.{◌≡◌, ℕ, ◌-◌, ◌*◌, ◌%◌, ◌^◌, ◌<◌, ◌≤◌, Bool, true, false, ◌&&◌, ◌||◌, nat_le, nat_eq, ◌==◌, List, [], ◌∷◌,
+    ◌++◌, length, get_or, refl, sym, ◌∙◌, ap, arith, ⊎_elim, ◌⊎◌, lit<, if◌then◌else◌}
 use Rattle.std.proofs.Math.Bool.{and-true, and-false, and_assoc, or-true, or-false}
 use Rattle.std.proofs.lemmas.Bool.{cases_lt, cases_eq, le-leb, lt-leb, eq-eqb, ne_eqb}
 use Rattle.std.proofs.Math.Nat.{pow-le-pow_right, one-mul, mod-eq_of_lt}
@@ -16,12 +17,14 @@ prefix_short (q ∷ p) [] short = refl
 prefix_short (q ∷ p) (x ∷ xs) short = ap (λ b. nat_eq q x && b) (prefix_short p xs (omega arith)) ∙ and-false (nat_eq q x)
 
 -- one byte more
-pub prefix_then : (p : List ℕ) (c : ℕ) (xs : List ℕ) (d : ℕ) → length p < length xs → starts_with nat_eq xs (p ++ c ∷ []) ≡ (starts_with nat_eq xs p && nat_eq c (get_or xs (length p) d))
+pub prefix_then : (p : List ℕ) (c : ℕ) (xs : List ℕ) (d : ℕ) → length p < length xs →
+    starts_with nat_eq xs (p ++ c ∷ []) ≡ (starts_with nat_eq xs p && nat_eq c (get_or xs (length p) d))
 prefix_then [] c [] d long = absurd (omega arith)
 prefix_then [] c (x ∷ xs) d long = and-true (nat_eq c x)
 prefix_then (q ∷ p) c [] d long = absurd (omega arith)
 prefix_then (q ∷ p) c (x ∷ xs) d long =
-    ap (λ b. nat_eq q x && b) (prefix_then p c xs d (omega arith)) ∙ sym (and_assoc (nat_eq q x) (starts_with nat_eq xs p) (nat_eq c (get_or xs (length p) d)))
+    ap (λ b. nat_eq q x && b) (prefix_then p c xs d (omega arith))
+        ∙ sym (and_assoc (nat_eq q x) (starts_with nat_eq xs p) (nat_eq c (get_or xs (length p) d)))
 
 -- the first five bytes of each client's address
 abbrev pub group : List ℕ
@@ -37,9 +40,11 @@ group_first bytes c other =
 
 pub addressed-all : (bytes : List ℕ) (c : ℕ) → starts_with nat_eq bytes broadcast_address ≡ true → addressed bytes c ≡ true
 unfolding addressed
-addressed-all bytes c h = ap (λ b. starts_with nat_eq bytes (client_address c) || b) h ∙ or-true (starts_with nat_eq bytes (client_address c))
+addressed-all bytes c h = ap (λ b. starts_with nat_eq bytes (client_address c) || b) h
+    ∙ or-true (starts_with nat_eq bytes (client_address c))
 
-pub addressed-one : (bytes : List ℕ) (c d : ℕ) → starts_with nat_eq bytes broadcast_address ≡ false → 5 < length bytes → starts_with nat_eq bytes group ≡ true → addressed bytes c ≡ nat_eq c (get_or bytes 5 d)
+pub addressed-one : (bytes : List ℕ) (c d : ℕ) → starts_with nat_eq bytes broadcast_address ≡ false → 5 < length bytes →
+    starts_with nat_eq bytes group ≡ true → addressed bytes c ≡ nat_eq c (get_or bytes 5 d)
 unfolding addressed
 addressed-one bytes c d not_all long named =
     ap (λ b. starts_with nat_eq bytes (client_address c) || b) not_all
@@ -47,7 +52,8 @@ addressed-one bytes c d not_all long named =
     ∙ prefix_then group c bytes d long
     ∙ ap (λ b. b && nat_eq c (get_or bytes 5 d)) named
 
-pub addressed-none : (bytes : List ℕ) (c : ℕ) → starts_with nat_eq bytes broadcast_address ≡ false → starts_with nat_eq bytes group ≡ false → addressed bytes c ≡ false
+pub addressed-none : (bytes : List ℕ) (c : ℕ) → starts_with nat_eq bytes broadcast_address ≡ false →
+    starts_with nat_eq bytes group ≡ false → addressed bytes c ≡ false
 unfolding addressed
 addressed-none bytes c not_all other =
     ap (λ b. starts_with nat_eq bytes (client_address c) || b) not_all
@@ -91,7 +97,8 @@ small_pow : (n : ℕ) → n ≤ 16 → 2 ^ n ≤ 65536
 small_pow n few = pow-le-pow_right {n = 2} (lit< tt) few
 
 pub all_bits : (n : ℕ) → n ≤ 16 → 1 * 2 ^ n % 4294967296 - 1 ≡ 2 ^ n - 1
-all_bits n few = let small : 2 ^ n < 4294967296 = omega (arith, small_pow n few) in ap (λ k. k - 1) (ap (λ k. k % 4294967296) (one-mul (2 ^ n)) ∙ mod-eq_of_lt small)
+all_bits n few = let small : 2 ^ n < 4294967296 = omega (arith, small_pow n few) in
+    ap (λ k. k - 1) (ap (λ k. k % 4294967296) (one-mul (2 ^ n)) ∙ mod-eq_of_lt small)
 
 pub has_target-all : (n c : ℕ) → n ≤ 16 → 1 ≤ c → c ≤ 16 → has_target (1 * 2 ^ n % 4294967296 - 1) c ≡ nat_le c n
 has_target-all n c few pos most =
@@ -120,10 +127,12 @@ has_target-none c =
 pub routes_nowhere : (n c : ℕ) (bytes : List ℕ) → addressed bytes c ≡ false → has_target 0 c ≡ (nat_le c n && addressed bytes c)
 routes_nowhere n c bytes h = has_target-none c ∙ sym (ap (λ b. nat_le c n && b) h ∙ and-false (nat_le c n))
 
-pub routes_everywhere : (n c bits : ℕ) (bytes : List ℕ) → has_target bits c ≡ nat_le c n → addressed bytes c ≡ true → has_target bits c ≡ (nat_le c n && addressed bytes c)
+pub routes_everywhere : (n c bits : ℕ) (bytes : List ℕ) → has_target bits c ≡ nat_le c n → addressed bytes c ≡ true →
+    has_target bits c ≡ (nat_le c n && addressed bytes c)
 routes_everywhere n c bits bytes all h = all ∙ sym (ap (λ b. nat_le c n && b) h ∙ and-true (nat_le c n))
 
-pub routes_to_none_such : (n c d : ℕ) (bytes : List ℕ) → 1 ≤ c → addressed bytes c ≡ nat_eq c d → ((d ≡ 0) ⊎ (((d ≡ 0) → ⊥) × (n < d))) → has_target 0 c ≡ (nat_le c n && addressed bytes c)
+pub routes_to_none_such : (n c d : ℕ) (bytes : List ℕ) → 1 ≤ c → addressed bytes c ≡ nat_eq c d → ((d ≡ 0) ⊎ (((d ≡ 0) → ⊥) × (n < d))) →
+    has_target 0 c ≡ (nat_le c n && addressed bytes c)
 routes_to_none_such n c d bytes pos named outside =
     has_target-none c ∙ sym (ap (λ b. nat_le c n && b) named
     ∙ ⊎_elim
@@ -134,7 +143,8 @@ routes_to_none_such n c d bytes pos named outside =
     (λ other. ap (λ b. nat_le c n && b) (ne_eqb c d other) ∙ and-false (nat_le c n))
     (cases_eq c d))
 
-pub routes_to_one : (n c d : ℕ) (bytes : List ℕ) → n ≤ 16 → 1 ≤ d → d ≤ n → 1 ≤ c → c ≤ 16 → addressed bytes c ≡ nat_eq c d → has_target (1 * 2 ^ (d - 1) % 65536) c ≡ (nat_le c n && addressed bytes c)
+pub routes_to_one : (n c d : ℕ) (bytes : List ℕ) → n ≤ 16 → 1 ≤ d → d ≤ n → 1 ≤ c → c ≤ 16 → addressed bytes c ≡ nat_eq c d →
+    has_target (1 * 2 ^ (d - 1) % 65536) c ≡ (nat_le c n && addressed bytes c)
 routes_to_one n c d bytes few dpos dmost pos most named =
     has_target-one d c dpos (omega arith) pos most ∙ sym (ap (λ b. nat_le c n && b) named
     ∙ ⊎_elim

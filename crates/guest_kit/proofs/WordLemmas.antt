@@ -10,7 +10,8 @@ pub word_bytes_of_both : (ws vs : List ℕ) → word_bytes (ws ++ vs) ≡ word_b
 word_bytes_of_both ws vs = flat_map-append (to_le_bytes w32) ws vs
 
 -- three lists of words behind some bytes, one after another, are all of them behind these bytes
-pub word_bytes_of_three : (bytes ws vs us : List ℕ) → ((bytes ++ word_bytes ws) ++ word_bytes vs) ++ word_bytes us ≡ bytes ++ word_bytes (ws ++ (vs ++ us))
+pub word_bytes_of_three : (bytes ws vs us : List ℕ) → ((bytes ++ word_bytes ws) ++ word_bytes vs) ++ word_bytes us
+    ≡ bytes ++ word_bytes (ws ++ (vs ++ us))
 word_bytes_of_three bytes ws vs us =
     append_assoc (bytes ++ word_bytes ws) (word_bytes vs) (word_bytes us)
     ∙ append_assoc bytes (word_bytes ws) (word_bytes vs ++ word_bytes us)

@@ -13,7 +13,8 @@ unfolding csr_table csr
 rows_found = (refl, (refl, (refl, (refl, (refl, (refl, (refl, (refl, (refl, (refl, (refl, (refl, (refl, (refl, tt))))))))))))))
 
 -- so a read answers what any row of its number says
-pub row_read : (number : ℕ) (s : CsrValues) (result : Option ℕ) → result ≡ read_value number s → All (λ row. row.number ≡ number → result ≡ Some (row.value s)) csr_table
+pub row_read : (number : ℕ) (s : CsrValues) (result : Option ℕ) → result ≡ read_value number s →
+    All (λ row. row.number ≡ number → result ≡ Some (row.value s)) csr_table
 unfolding read_value
 row_read number s result e k d within same =
     e ∙ ap (λ n. option_map (λ row. row.value s) (csr n)) (sym same)

@@ -1,4 +1,5 @@
--- Which interrupt is taken, by the Privileged ISA ("Machine Interrupt Registers"): one that is enabled and pending while MIE is set, an external
+-- Which interrupt is taken, by the Privileged ISA ("Machine Interrupt Registers"): one that is enabled and pending while MIE is set, an
+-- external
 -- one before a software one before a timer one.
 use Rattle.std.specs.Prelude.{ℕ, ◌+◌, ◌^◌, ◌==◌, Bool, ◌&&◌, if◌then◌else◌, Option, None, List, [], ◌∷◌, find}
 use Rattle.std.specs.Option.{option_map}

@@ -1,5 +1,6 @@
 -- A notify sends few frames, each of a frame's length.
-use Rattle.std.proofs.Common.{◌≡◌, ℕ, ◌+◌, ◌≤◌, ◌&&◌, nat_le, Bool, true, false, if◌then◌else◌, List, [], ◌∷◌, ◌++◌, length, drop, All, arith, refl, subst}
+use Rattle.std.proofs.Common.{◌≡◌, ℕ, ◌+◌, ◌≤◌, ◌&&◌, nat_le, Bool, true, false, if◌then◌else◌, List, [], ◌∷◌, ◌++◌, length, drop, All,
+    arith, refl, subst}
 use Rattle.std.specs.Prelude.{Ok, Err}
 use Rattle.std.proofs.lemmas.Bool.{leb-true}
 use Rattle.std.proofs.lemmas.List.{length-append}
@@ -20,12 +21,14 @@ pub record IsFew (n : ℕ) (sent : List (ArrayVec ℕ)) : Type 0 where
   pub frames : All IsFrame sent
   pub room : length sent + n ≤ 64
 
-few_more : (n : ℕ) (frames : List (ArrayVec ℕ)) (bytes : List ℕ) (a b : Bool) → nat_le 14 (length bytes) ≡ a → nat_le (length bytes) 1514 ≡ b → IsFew (n + 1) frames →
+few_more : (n : ℕ) (frames : List (ArrayVec ℕ)) (bytes : List ℕ) (a b : Bool) → nat_le 14 (length bytes) ≡ a →
+    nat_le (length bytes) 1514 ≡ b → IsFew (n + 1) frames →
     IsFew n (frames ++ (if a && b then record { items = bytes } ∷ [] else []))
 few_more n frames bytes true true e f h =
     let one : List (ArrayVec ℕ) = record { items = bytes } ∷ [] in
     record {
-      frames = All-append IsFrame frames one h.frames (All-cons IsFrame (record { items = bytes }) [] (leb-true 14 (length bytes) e, leb-true (length bytes) 1514 f) (All-nil IsFrame));
+      frames = All-append IsFrame frames one h.frames
+          (All-cons IsFrame (record { items = bytes }) [] (leb-true 14 (length bytes) e, leb-true (length bytes) 1514 f) (All-nil IsFrame));
       room = omega (arith, length-append frames one, h.room);
     }
 few_more n frames bytes true false e f h =
@@ -49,4 +52,5 @@ pub few_served : (ram : List ℕ) (net : DeviceState) → IsFew 0 (served ram ne
 unfolding served
 few_served ram net =
     served_keeps Network 1 send (λ n s. IsFew n s.kept) (λ n m s l p. few_fewer n m s.kept l p) (λ n s p. p)
-    (λ n s c a e p. few_acted n s.ram s.kept c a (all_readable c.parts) e p) (standing ram net []) (record { frames = All-nil IsFrame; room = omega arith })
+    (λ n s c a e p. few_acted n s.ram s.kept c a (all_readable c.parts) e p) (standing ram net [])
+        (record { frames = All-nil IsFrame; room = omega arith })

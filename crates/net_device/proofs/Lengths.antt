@@ -1,5 +1,6 @@
 -- Which packets have a frame, by how many bytes they have; and the frame that is put into the last place.
-use Rattle.std.proofs.Common.{◌≡◌, ℕ, ◌-◌, ◌≤◌, Bool, true, false, ◌&&◌, nat_le, if◌then◌else◌, List, [], ◌∷◌, ◌++◌, length, take, drop, slice_set, refl, sym, ap, ◌∙◌, arith, length-drop}
+use Rattle.std.proofs.Common.{◌≡◌, ℕ, ◌-◌, ◌≤◌, Bool, true, false, ◌&&◌, nat_le, if◌then◌else◌, List, [], ◌∷◌, ◌++◌, length, take, drop,
+    slice_set, refl, sym, ap, ◌∙◌, arith, length-drop}
 use Rattle.std.specs.Prelude.{Ok, Err}
 use Rattle.std.proofs.lemmas.List.{take_all}
 use Rattle.std.proofs.lemmas.Bool.{leb-true, le-leb}
@@ -16,7 +17,8 @@ use Rattle.net_device.specs.Transmit.{frame_in, send}
 sent_when : (a b : Bool) (frame : List (ArrayVec ℕ)) → a ≡ true → b ≡ true → frame ≡ (if a && b then frame else [])
 sent_when a b frame e f = sym (ap (λ (x : Bool). if x && b then frame else []) e ∙ ap (λ (x : Bool). if x then frame else []) f)
 
-pub frame_sent : (packet : List ℕ) (n : ℕ) → n ≡ length packet → 26 ≤ n → n ≤ 1526 → record { items = take (n - 12) (drop 12 packet) } ∷ [] ≡ frame_in packet
+pub frame_sent : (packet : List ℕ) (n : ℕ) → n ≡ length packet → 26 ≤ n → n ≤ 1526 → record { items = take (n - 12) (drop 12 packet) } ∷ []
+    ≡ frame_in packet
 frame_sent packet n e from to =
     let size : length (drop 12 packet) ≡ n - 12 = omega (arith, length-drop 12 packet) in
     let whole : take (n - 12) (drop 12 packet) ≡ drop 12 packet = take_all (n - 12) (drop 12 packet) (omega (arith, size)) in
@@ -42,7 +44,8 @@ frame_lost packet n e out =
 pub kept_sent : (ram : List ℕ) (frames : List (ArrayVec ℕ)) (c : Spelled) → all_readable c.parts ≡ true →
     kept_after frames (send ram frames c) ≡ frames ++ frame_in (readable_bytes ram c.parts)
 kept_sent ram frames c e =
-    ap (λ (b : Bool). kept_after frames (if b then Ok (record { ram = ram; kept = frames ++ frame_in (readable_bytes ram c.parts); len = 0 }) else Err Direction)) e
+    ap (λ (b : Bool). kept_after frames (if b then Ok
+        (record { ram = ram; kept = frames ++ frame_in (readable_bytes ram c.parts); len = 0 }) else Err Direction)) e
 
 -- ---- the last place
 

@@ -2,7 +2,8 @@
 use Rattle.std.proofs.Common.{◌≡◌, ℕ, List, [], ◌∷◌, ◌++◌, length, drop, refl, slice_set, sym, ap, ◌∙◌}
 use Rattle.virtqueue.specs.Parts.{put_at}
 
-put_at-append : (bytes places front back : List ℕ) → put_at bytes places (front ++ back) ≡ put_at (put_at bytes places front) (drop (length front) places) back
+put_at-append : (bytes places front back : List ℕ) →
+    put_at bytes places (front ++ back) ≡ put_at (put_at bytes places front) (drop (length front) places) back
 put_at-append bytes [] [] back = refl
 put_at-append bytes [] (v ∷ front) back = refl
 put_at-append bytes (p ∷ ps) [] back = refl

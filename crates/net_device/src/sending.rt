@@ -1,5 +1,5 @@
 //! What the card does with a chain of its transmit queue.
-ghost use Rattle.std.specs.Prelude.{◌-◌, length};
+ghost use Rattle.std.specs.Prelude.{◌≡◌, ◌-◌, ◌≤◌, true, false, length};
 ghost use Rattle.net_device.specs.Transmit.{send};
 
 use crate::frames::Outbox;
@@ -14,6 +14,14 @@ const SHORTEST_FRAME: u64 = 14;
 
 const LONGEST_FRAME: u64 = 1514;
 
+/// Whether a packet of so many bytes has a frame.
+fn has_frame(len: u64) -> bool
+    ensures some { result ≡ true → (26 ≤ len) × (len ≤ 1526) }
+    ensures none { result ≡ false → 26 ≤ len → len ≤ 1526 → ⊥ }
+{
+    HEADER_BYTES + SHORTEST_FRAME <= len && len <= HEADER_BYTES + LONGEST_FRAME
+}
+
 impl ChainHandler for Outbox {
     ghost room = { λ frames. 256 - length frames };
 
@@ -25,7 +33,7 @@ impl ChainHandler for Outbox {
             return Err(Broken::Direction);
         }
         let len = chain.readable_len();
-        if HEADER_BYTES + SHORTEST_FRAME <= len && len <= HEADER_BYTES + LONGEST_FRAME {
+        if has_frame(len) {
             self.push_readable(ram, chain, HEADER_BYTES, (len - HEADER_BYTES) as usize);
         }
         Ok(0)

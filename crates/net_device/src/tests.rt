@@ -8,28 +8,7 @@ use crate::device::NetDevice;
 use crate::errors::OutboxError;
 use crate::frames::{Frame, Outbox};
 use std::test::Fail;
-use virtqueue::GuestRam;
-
-#[derive(Drop)]
-struct Ram {
-    bytes: [u8; 4096],
-}
-
-impl GuestRam for Ram {
-    ghost bytes = { λ ram. ram.bytes };
-
-    fn size(&self) -> usize {
-        self.bytes.len()
-    }
-
-    fn read(&self, place: usize, into: &mut [u8]) {
-        into.copy_from_slice(&self.bytes[place..place + into.len()]);
-    }
-
-    fn write(&mut self, place: usize, from: &[u8]) {
-        self.bytes[place..place + from.len()].copy_from_slice(from);
-    }
-}
+use virtqueue::{GuestRam, PlainRam};
 
 /// A card whose driver set queue `queue` up and is ready.
 fn running(queue: u64) -> NetDevice
@@ -56,8 +35,8 @@ fn running(queue: u64) -> NetDevice
 }
 
 /// RAM with these two descriptors, and so many chains of them available in turn.
-fn ram_with(first: &[u8; 16], second: &[u8; 16], available: u8) -> Ram {
-    let mut ram = Ram { bytes: [0; 4096] };
+fn ram_with(first: &[u8; 16], second: &[u8; 16], available: u8) -> PlainRam {
+    let mut ram = PlainRam::new();
     ram.write(0, first);
     ram.write(16, second);
     ram.write(0x40, &[0, 0, available, 0, 0, 0, 1, 0]);
@@ -75,21 +54,21 @@ const SHORT_PACKET: [u8; 16] = [0, 1, 0, 0x80, 0, 0, 0, 0, 25, 0, 0, 0, 0, 0, 0,
 const ROOM: [u8; 16] = [0, 1, 0, 0x80, 0, 0, 0, 0, 32, 0, 0, 0, 2, 0, 0, 0];
 
 /// The bytes of the used ring: its idx and its two entries.
-fn used_ring(ram: &Ram) -> [u8; 18] {
+fn used_ring(ram: &PlainRam) -> [u8; 18] {
     let mut bytes = [0; 18];
-    ram.read(0x82, &mut bytes);
+    bytes.copy_from_slice(&ram.bytes[0x82..0x94]);
     bytes
 }
 
 /// The 28 bytes at 0x80000100.
-fn buffer(ram: &Ram) -> [u8; 28] {
+fn buffer(ram: &PlainRam) -> [u8; 28] {
     let mut bytes = [0; 28];
-    ram.read(0x100, &mut bytes);
+    bytes.copy_from_slice(&ram.bytes[0x100..0x11c]);
     bytes
 }
 
 /// Notifies the transmit queue, if the outbox has room.
-fn transmit(net: &mut NetDevice, ram: &mut Ram, outbox: &mut Outbox)
+fn transmit(net: &mut NetDevice, ram: &mut PlainRam, outbox: &mut Outbox)
     requires { net.old.transport.kind ≡ Network }
 {
     if outbox.len() <= 192 {

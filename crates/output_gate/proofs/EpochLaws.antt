@@ -1,5 +1,6 @@
 -- Laws of held epochs, for the crates above.
-use Rattle.std.proofs.Common.{◌≡◌, ℕ, ◌<◌, ◌≤◌, Bool, true, false, if◌then◌else◌, nat_le, List, [], ◌∷◌, ◌++◌, refl, sym, ◌∙◌, ap, All, append_assoc}
+use Rattle.std.proofs.Common.{◌≡◌, ℕ, ◌<◌, ◌≤◌, Bool, true, false, if◌then◌else◌, nat_le, List, [], ◌∷◌, ◌++◌, refl, sym, ◌∙◌, ap, All,
+    append_assoc}
 use Rattle.std.proofs.lemmas.Bool.{le-leb, lt-leb}
 use Rattle.std.proofs.lemmas.List.Elements.{All-head, All-tail, All-append, All-nil}
 use Rattle.arrayvec.specs.ArrayVec.{ArrayVec}
@@ -9,13 +10,16 @@ use Rattle.output_gate.specs.Epochs.{Epoch, IsEpoch, frames_of, frames_to, after
 -- epochs in two parts
 pub frames_of-append : (es ds : List Epoch) → frames_of (es ++ ds) ≡ frames_of es ++ frames_of ds
 frames_of-append [] ds = refl
-frames_of-append (e ∷ es) ds = ap (λ (l : List (ArrayVec ℕ)). e.frames ++ l) (frames_of-append es ds) ∙ sym (append_assoc e.frames (frames_of es) (frames_of ds))
+frames_of-append (e ∷ es) ds = ap (λ (l : List (ArrayVec ℕ)). e.frames ++ l) (frames_of-append es ds)
+    ∙ sym (append_assoc e.frames (frames_of es) (frames_of ds))
 
 pub frames_to-append : (n : ℕ) (es ds : List Epoch) → frames_to n (es ++ ds) ≡ frames_to n es ++ frames_to n ds
 frames_to-append n [] ds = refl
 frames_to-append n (e ∷ es) ds = by_number (nat_le e.number n) (frames_to-append n es ds)
   where
-    by_number : (b : Bool) → frames_to n (es ++ ds) ≡ frames_to n es ++ frames_to n ds → (if b then e.frames ++ frames_to n (es ++ ds) else frames_to n (es ++ ds)) ≡ (if b then e.frames ++ frames_to n es else frames_to n es) ++ frames_to n ds
+    by_number : (b : Bool) → frames_to n (es ++ ds) ≡ frames_to n es ++ frames_to n ds →
+        (if b then e.frames ++ frames_to n (es ++ ds) else frames_to n (es ++ ds))
+        ≡ (if b then e.frames ++ frames_to n es else frames_to n es) ++ frames_to n ds
     by_number true rest = ap (λ (l : List (ArrayVec ℕ)). e.frames ++ l) rest ∙ sym (append_assoc e.frames (frames_to n es) (frames_to n ds))
     by_number false rest = rest
 
@@ -23,7 +27,9 @@ pub after_number-append : (n : ℕ) (es ds : List Epoch) → after_number n (es 
 after_number-append n [] ds = refl
 after_number-append n (e ∷ es) ds = by_number (nat_le e.number n) (after_number-append n es ds)
   where
-    by_number : (b : Bool) → after_number n (es ++ ds) ≡ after_number n es ++ after_number n ds → (if b then after_number n (es ++ ds) else e ∷ after_number n (es ++ ds)) ≡ (if b then after_number n es else e ∷ after_number n es) ++ after_number n ds
+    by_number : (b : Bool) → after_number n (es ++ ds) ≡ after_number n es ++ after_number n ds →
+        (if b then after_number n (es ++ ds) else e ∷ after_number n (es ++ ds)) ≡ (if b then after_number n es else e ∷ after_number n es)
+        ++ after_number n ds
     by_number true rest = rest
     by_number false rest = ap (λ (l : List Epoch). e ∷ l) rest
 
@@ -55,7 +61,8 @@ after_number-none n (e ∷ es) all =
 -- each held frame is a frame
 pub frames_of-frames : (es : List Epoch) → All IsEpoch es → All IsFrame (frames_of es)
 frames_of-frames [] all = All-nil IsFrame
-frames_of-frames (e ∷ es) all = All-append IsFrame e.frames (frames_of es) (All-head IsEpoch e es all).1 (frames_of-frames es (All-tail IsEpoch e es all))
+frames_of-frames (e ∷ es) all = All-append IsFrame e.frames (frames_of es) (All-head IsEpoch e es all).1
+    (frames_of-frames es (All-tail IsEpoch e es all))
 
 pub frames_to-frames : (n : ℕ) (es : List Epoch) → All IsEpoch es → All IsFrame (frames_to n es)
 frames_to-frames n [] all = All-nil IsFrame

@@ -1,5 +1,6 @@
 -- The fields of a gate, seen as the epochs that it holds.
-use Rattle.std.proofs.Common.{◌≡◌, ℕ, ◌+◌, ◌*◌, ◌<◌, ◌≤◌, List, [], ◌∷◌, ◌++◌, length, take, drop, sym, ◌∙◌, ap, subst, arith, All, vec_capacity, length-append}
+use Rattle.std.proofs.Common.{◌≡◌, ℕ, ◌+◌, ◌*◌, ◌<◌, ◌≤◌, List, [], ◌∷◌, ◌++◌, length, take, drop, sym, ◌∙◌, ap, subst, arith, All,
+    vec_capacity, length-append}
 use Rattle.std.proofs.Math.ListN.{length-drop}
 use Rattle.std.proofs.lemmas.List.Sums.{sum_by-take-drop, sum_by-append, sum_by-cons}
 use Rattle.arrayvec.specs.ArrayVec.{ArrayVec}
@@ -10,7 +11,8 @@ use Rattle.output_gate.specs.declared.gate.Gate.TheInside.{Inside}
 use Rattle.output_gate.specs.declared.marks.Mark.{Mark}
 use Rattle.output_gate.specs.declared.limits.TheConstants.{MAX_EPOCHS, MAX_FRAMES}
 use Rattle.output_gate.proofs.EpochLaws.{frames_of-frames}
-use Rattle.output_gate.proofs.EpochLemmas.{epochs_of-push, frames_of-epochs, length-epochs_of, drop-epochs_of, reach, frames_to-reach, after_number-reach, gate-push, gate-drop, length-frames_of}
+use Rattle.output_gate.proofs.EpochLemmas.{epochs_of-push, frames_of-epochs, length-epochs_of, drop-epochs_of, reach, frames_to-reach,
+    after_number-reach, gate-push, gate-drop, length-frames_of}
 
 module _ (g : Inside) (s : List Epoch) (seen : epochs_held g ≡ s) (ok : AreFields g) where
   -- the row is all frames of the epochs, and each of them is a frame
@@ -18,7 +20,8 @@ module _ (g : Inside) (s : List Epoch) (seen : epochs_held g ≡ s) (ok : AreFie
   row_is = sym (frames_of-epochs g.marks.items g.frames.items ok.whole) ∙ ap frames_of seen
 
   pub row_frames : All IsFrame g.frames.items
-  row_frames = subst (λ l. All IsFrame l) (frames_of-epochs g.marks.items g.frames.items ok.whole) (frames_of-frames (epochs_held g) ok.gate.epochs)
+  row_frames = subst (λ l. All IsFrame l) (frames_of-epochs g.marks.items g.frames.items ok.whole)
+      (frames_of-frames (epochs_held g) ok.gate.epochs)
 
   -- 256 frames at most for each of the epochs
   pub row_few : length g.frames.items ≤ length s * 256
@@ -31,7 +34,8 @@ module _ (g : Inside) (s : List Epoch) (seen : epochs_held g ≡ s) (ok : AreFie
   marks_few = sym (length-epochs_of g.marks.items g.frames.items) ∙ ap (λ (l : List Epoch). length l) seen
 
   -- the epochs up to a number, where the code has found how many they are and how many frames they have
-  module _ (n k count : ℕ) (ms ns : List Mark) (ms_is : ms ≡ g.marks.items) (ns_is : ns ≡ g.marks.items) (k_is : k ≡ reach n ms) (count_is : count ≡ total (take k ns)) where
+  module _ (n k count : ℕ) (ms ns : List Mark) (ms_is : ms ≡ g.marks.items) (ns_is : ns ≡ g.marks.items) (k_is : k ≡ reach n ms)
+      (count_is : count ≡ total (take k ns)) where
     k_here : k ≡ reach n g.marks.items
     k_here = k_is ∙ ap (reach n) ms_is
 
@@ -46,10 +50,12 @@ module _ (g : Inside) (s : List Epoch) (seen : epochs_held g ≡ s) (ok : AreFie
         ∙ ap (frames_to n) seen
 
     rest_seen : epochs_of (drop k g.marks.items) (drop count g.frames.items) ≡ drop k (epochs_held g)
-    rest_seen = ap (λ j. epochs_of (drop k g.marks.items) (drop j g.frames.items)) count_here ∙ sym (drop-epochs_of k g.marks.items g.frames.items)
+    rest_seen = ap (λ j. epochs_of (drop k g.marks.items) (drop j g.frames.items)) count_here
+        ∙ sym (drop-epochs_of k g.marks.items g.frames.items)
 
     -- what is left of the gate without them
-    pub rest_is : (h : Inside) → h.marks.items ≡ drop k g.marks.items → h.frames.items ≡ drop count g.frames.items → epochs_held h ≡ after_number n s
+    pub rest_is : (h : Inside) → h.marks.items ≡ drop k g.marks.items → h.frames.items ≡ drop count g.frames.items →
+        epochs_held h ≡ after_number n s
     rest_is h marks frames =
         ap (λ (l : List Mark). epochs_of l h.frames.items) marks
         ∙ ap (epochs_of (drop k g.marks.items)) frames
@@ -58,19 +64,24 @@ module _ (g : Inside) (s : List Epoch) (seen : epochs_held g ≡ s) (ok : AreFie
         ∙ sym (after_number-reach n g.marks.items g.frames.items ok.gate.rising)
         ∙ ap (after_number n) seen
 
-    pub rest_fields : (h : Inside) → h.marks.items ≡ drop k g.marks.items → h.frames.items ≡ drop count g.frames.items → vec_capacity h.marks ≡ vec_capacity g.marks → vec_capacity h.frames ≡ vec_capacity g.frames → AreFields h
+    pub rest_fields : (h : Inside) → h.marks.items ≡ drop k g.marks.items → h.frames.items ≡ drop count g.frames.items →
+        vec_capacity h.marks ≡ vec_capacity g.marks → vec_capacity h.frames ≡ vec_capacity g.frames → AreFields h
     rest_fields h marks frames marks_room frames_room =
-        let held : epochs_held h ≡ drop k (epochs_held g) = ap (λ (l : List Mark). epochs_of l h.frames.items) marks ∙ ap (epochs_of (drop k g.marks.items)) frames ∙ rest_seen in
-        let parts : total (take k g.marks.items) + total (drop k g.marks.items) ≡ total g.marks.items = sum_by-take-drop (λ (m : Mark). m.count) g.marks.items k in
+        let held : epochs_held h ≡ drop k (epochs_held g) = ap (λ (l : List Mark). epochs_of l h.frames.items) marks
+            ∙ ap (epochs_of (drop k g.marks.items)) frames ∙ rest_seen in
+        let parts : total (take k g.marks.items) + total (drop k g.marks.items) ≡ total g.marks.items =
+            sum_by-take-drop (λ (m : Mark). m.count) g.marks.items k in
         record {
           gate = subst IsGate (sym held) (gate-drop k (epochs_held g) ok.gate);
-          whole = ap total marks ∙ omega (arith, parts, count_here, ok.whole, ap (λ (l : List (ArrayVec ℕ)). length l) frames, length-drop count g.frames.items);
+          whole = ap total marks ∙ omega (arith, parts, count_here, ok.whole, ap (λ (l : List (ArrayVec ℕ)). length l) frames,
+              length-drop count g.frames.items);
           marks = omega (arith, ok.marks);
           frames = omega (arith, ok.frames);
         }
 
   -- one epoch more
-  module _ (h : Inside) (m : Mark) (fs : List (ArrayVec ℕ)) (frames : h.frames.items ≡ g.frames.items ++ fs) (marks : h.marks.items ≡ g.marks.items ++ m ∷ []) (count : m.count ≡ length fs) where
+  module _ (h : Inside) (m : Mark) (fs : List (ArrayVec ℕ)) (frames : h.frames.items ≡ g.frames.items ++ fs)
+      (marks : h.marks.items ≡ g.marks.items ++ m ∷ []) (count : m.count ≡ length fs) where
     pub more_is : epochs_held h ≡ s ++ epoch m.number fs ∷ []
     more_is =
         ap (λ (l : List Mark). epochs_of l h.frames.items) marks
@@ -78,14 +89,17 @@ module _ (g : Inside) (s : List Epoch) (seen : epochs_held g ≡ s) (ok : AreFie
         ∙ epochs_of-push g.marks.items m g.frames.items fs ok.whole count
         ∙ ap (λ (l : List Epoch). l ++ epoch m.number fs ∷ []) seen
 
-    pub more_fields : length s < MAX_EPOCHS → All (λ e. e.number < m.number) s → length fs ≤ MAX_FRAMES → All IsFrame fs → vec_capacity g.marks ≤ vec_capacity h.marks → vec_capacity g.frames ≤ vec_capacity h.frames → AreFields h
+    pub more_fields : length s < MAX_EPOCHS → All (λ e. e.number < m.number) s → length fs ≤ MAX_FRAMES → All IsFrame fs →
+        vec_capacity g.marks ≤ vec_capacity h.marks → vec_capacity g.frames ≤ vec_capacity h.frames → AreFields h
     more_fields room above few all marks_room frames_room =
         let gate : IsGate s = subst IsGate seen ok.gate in
-        let more : total (g.marks.items ++ m ∷ []) ≡ total g.marks.items + total (m ∷ []) = sum_by-append (λ (x : Mark). x.count) g.marks.items (m ∷ []) in
+        let more : total (g.marks.items ++ m ∷ []) ≡ total g.marks.items + total (m ∷ []) =
+            sum_by-append (λ (x : Mark). x.count) g.marks.items (m ∷ []) in
         let one : total (m ∷ []) ≡ m.count + 0 = sum_by-cons (λ (x : Mark). x.count) m [] in
         record {
           gate = subst IsGate (sym more_is) (gate-push s (epoch m.number fs) gate room above (few, all));
-          whole = ap total marks ∙ omega (arith, more, one, count, ok.whole, ap (λ (l : List (ArrayVec ℕ)). length l) frames, length-append g.frames.items fs);
+          whole = ap total marks ∙ omega (arith, more, one, count, ok.whole, ap (λ (l : List (ArrayVec ℕ)). length l) frames,
+              length-append g.frames.items fs);
           marks = omega (arith, ok.marks);
           frames = omega (arith, ok.frames);
         }

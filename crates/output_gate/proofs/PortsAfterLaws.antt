@@ -26,4 +26,5 @@ module _ (p : PortsState) (fs gs : List (ArrayVec ℕ)) where
   landed_count-append = ap (put_count p.boxes) landings-append ∙ put_count-append p.boxes (landings p fs) (landings (ports_after p fs) gs)
 
   pub dropped_count-append : dropped_count p (fs ++ gs) ≡ dropped_count p fs + dropped_count (ports_after p fs) gs
-  dropped_count-append = ap (drop_count p.boxes) landings-append ∙ drop_count-append p.boxes (landings p fs) (landings (ports_after p fs) gs)
+  dropped_count-append = ap (drop_count p.boxes) landings-append ∙ drop_count-append p.boxes (landings p fs)
+      (landings (ports_after p fs) gs)

@@ -73,9 +73,10 @@ impl Gate {
         // What is true of every gate.
         ensures gate { IsGate self.now }
     {
-        let epochs = epochs_to(&self.marks, number);
-        let count = frames_in(&self.marks[..epochs]);
-        &self.frames[..count]
+        let frames = self.frames.as_slice();
+        let marks = self.marks.as_slice();
+        let count = frames_in(&marks[..epochs_to(marks, number)]);
+        &frames[..count]
     }
 
     /// Lands the held frames of the checkpoints up to `number`, in order, each in the boxes of its clients in
@@ -86,9 +87,11 @@ impl Gate {
         ensures landed { result.landed ≡ landed_count ports.old (frames_to number self.old) }
         ensures dropped { result.dropped ≡ dropped_count ports.old (frames_to number self.old) }
     {
-        let epochs = epochs_to(&self.marks, number);
-        let count = frames_in(&self.marks[..epochs]);
-        let landed = land_all(ports, &self.frames[..count]);
+        let frames = self.frames.as_slice();
+        let marks = self.marks.as_slice();
+        let epochs = epochs_to(marks, number);
+        let count = frames_in(&marks[..epochs]);
+        let landed = land_all(ports, &frames[..count]);
         drop_first(&mut self.frames, count);
         drop_first(&mut self.marks, epochs);
         landed

@@ -4,7 +4,8 @@ use Rattle.std.proofs.lemmas.Nat.{and_mask, or_shifted}
 use Rattle.std.proofs.lemmas.Nat.Bits.{and_high}
 use Rattle.std.proofs.lemmas.Bool.{eqb-true, cases_Bool}
 use Rattle.rv64_core.specs.declared.instruction.Instr.{Instr}
-use Rattle.rv64_core.specs.Fields.{rd, rs1, rs2, csr_number, shift_amount, word_shift_amount, i_immediate, s_immediate, b_immediate, u_immediate, j_immediate}
+use Rattle.rv64_core.specs.Fields.{rd, rs1, rs2, csr_number, shift_amount, word_shift_amount, i_immediate, s_immediate, b_immediate,
+    u_immediate, j_immediate}
 use Rattle.rv64_core.specs.Rows.{Row, fits, first_fit}
 use Rattle.rv64_core.specs.Encoding.{encoded, u_word, j_word, i_word, s_word, b_word, r_word, shift_word, word_shift_word}
 use Rattle.rv64_core.proofs.Fitting.{and_or}
@@ -59,7 +60,8 @@ r_back fixed w h e = grind (arith, funct7_mask w)
 pub shift_back : (fixed w : ℕ) → w < 2 ^ 32 → bit_and w 0xfc00707f ≡ fixed → shift_word fixed (rd w) (rs1 w) (shift_amount w) ≡ w
 shift_back fixed w h e = grind (arith, funct6_mask w)
 
-pub word_shift_back : (fixed w : ℕ) → w < 2 ^ 32 → bit_and w 0xfe00707f ≡ fixed → word_shift_word fixed (rd w) (rs1 w) (word_shift_amount w) ≡ w
+pub word_shift_back : (fixed w : ℕ) → w < 2 ^ 32 → bit_and w 0xfe00707f ≡ fixed →
+    word_shift_word fixed (rd w) (rs1 w) (word_shift_amount w) ≡ w
 word_shift_back fixed w h e = grind (arith, funct7_mask w)
 
 pub alone_back : (fixed w : ℕ) → w < 2 ^ 32 → bit_and w 0xffffffff ≡ fixed → fixed ≡ w

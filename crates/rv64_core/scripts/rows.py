@@ -9,6 +9,8 @@ Run it in the crate's folder after a change of the table or of those functions: 
 import pathlib
 import re
 
+from laid_out import laid_out
+
 CRATE = pathlib.Path(__file__).resolve().parent.parent
 OPCODE, FUNCT3, FUNCT7, FUNCT6, WHOLE = 0x7F, 0x7000, 0xFE000000, 0xFC000000, 0xFFFFFFFF
 
@@ -295,22 +297,38 @@ BACK = {
 }
 
 
+# so many rows are proved at a time, since each stands two columns further in
+ROWS_AT_A_TIME = 30
+
+
+def back_from(first, rows, last):
+    """That each of these rows, the table's from the first on, gives its word back."""
+    name, of = ("all_back", "table") if first == 0 else (f"back_from_{first}", f"(drop {first} table)")
+    lines = []
+    for depth, row in enumerate(rows):
+        lines.append("  " * depth + "(")
+        lines.append("  " * (depth + 1) + f"record {{ back = {BACK[row.reads.split()[0]]} {row.bits:#010x} }},")
+    lines.append("  " * len(rows) + ("tt" if last else f"back_from_{first + len(rows)}"))
+    lines += ["  " * depth + ")" for depth in reversed(range(len(rows)))]
+    body = "\n".join(lines)
+    return f"""
+{name} : AllBack {of}
+unfolding AllBack table encoded
+{name} = {body}
+"""
+
+
 def returned(table):
-    lines = "\n".join(f"    (record {{ back = {BACK[r.reads.split()[0]]} {r.bits:#010x} }}," for r in table)
+    starts = range(0, len(table), ROWS_AT_A_TIME)
+    parts = [back_from(s, table[s : s + ROWS_AT_A_TIME], s == starts[-1]) for s in starts]
     names = ", ".join(dict.fromkeys(BACK.values()))
     return f"""-- Written by scripts/rows.py: each row's word is written as it was read.
-use Rattle.std.proofs.Common.{{◌≡◌, ℕ, ◌<◌, ◌^◌, Some}}
+use Rattle.std.proofs.Common.{{◌≡◌, ℕ, ◌<◌, ◌^◌, Some, drop}}
 use Rattle.rv64_core.specs.declared.instruction.Instr.{{Instr}}
 use Rattle.rv64_core.specs.Rows.{{table, decoded}}
 use Rattle.rv64_core.specs.Encoding.{{encoded}}
 use Rattle.rv64_core.proofs.Written.{{AllBack, back_of, {names}}}
-
-all_back : AllBack table
-unfolding AllBack table encoded
-all_back =
-{lines}
-    tt{")" * len(table)}
-
+{"".join(reversed(parts))}
 pub encoded_decoded : (w : ℕ) (i : Instr) → w < 2 ^ 32 → decoded w ≡ Some i → encoded i ≡ w
 unfolding decoded
 encoded_decoded w i h e = back_of table w i all_back h e
@@ -320,12 +338,12 @@ encoded_decoded w i h e = back_of table w i all_back h e
 def main():
     table = rows()
     all_functions = functions(table)
-    (CRATE / "proofs/Found.antt").write_text(found(table, all_functions))
-    (CRATE / "proofs/Returned.antt").write_text(returned(table))
+    (CRATE / "proofs/Found.antt").write_text(laid_out(found(table, all_functions)))
+    (CRATE / "proofs/Returned.antt").write_text(laid_out(returned(table)))
     for f in all_functions:
         folder = CRATE / "proofs/decoding" / f.name
         folder.mkdir(parents=True, exist_ok=True)
-        (folder / "Answers.antt").write_text(f.text())
+        (folder / "Answers.antt").write_text(laid_out(f.text()))
     print(f"{len(table)} rows")
 
 

@@ -1,4 +1,5 @@
--- The word of an instruction: its fixed bits, and its fields in their places (the Unprivileged ISA, "Base Instruction Formats" and "RV32/64G
+-- The word of an instruction: its fixed bits, and its fields in their places (the Unprivileged ISA, "Base Instruction Formats" and
+-- "RV32/64G
 -- Instruction Set Listings").
 use Rattle.std.specs.Prelude.{ℕ, ◌+◌, ◌*◌, ◌/◌, ◌%◌, ◌^◌, Bool, true, false}
 use Rattle.rv64_core.specs.declared.instruction.Instr.{Instr}
@@ -23,7 +24,9 @@ abbrev pub u_word : ℕ → ℕ → ℕ → ℕ
 u_word fixed rd imm = fixed + rd * 2 ^ 7 + imm / 2 ^ 12 % 2 ^ 20 * 2 ^ 12
 
 abbrev pub j_word : ℕ → ℕ → ℕ → ℕ
-j_word fixed rd imm = fixed + rd * 2 ^ 7 + imm / 2 ^ 12 % 2 ^ 8 * 2 ^ 12 + imm / 2 ^ 11 % 2 * 2 ^ 20 + imm / 2 % 2 ^ 10 * 2 ^ 21 + imm / 2 ^ 20 % 2 * 2 ^ 31
+j_word fixed rd imm =
+    fixed + rd * 2 ^ 7
+    + imm / 2 ^ 12 % 2 ^ 8 * 2 ^ 12 + imm / 2 ^ 11 % 2 * 2 ^ 20 + imm / 2 % 2 ^ 10 * 2 ^ 21 + imm / 2 ^ 20 % 2 * 2 ^ 31
 
 abbrev pub i_word : ℕ → ℕ → ℕ → ℕ → ℕ
 i_word fixed rd rs1 imm = fixed + rd * 2 ^ 7 + rs1 * 2 ^ 15 + imm % 2 ^ 12 * 2 ^ 20
@@ -38,117 +41,133 @@ abbrev pub s_word : ℕ → ℕ → ℕ → ℕ → ℕ
 s_word fixed rs1 rs2 imm = fixed + imm % 2 ^ 5 * 2 ^ 7 + rs1 * 2 ^ 15 + rs2 * 2 ^ 20 + imm / 2 ^ 5 % 2 ^ 7 * 2 ^ 25
 
 abbrev pub b_word : ℕ → ℕ → ℕ → ℕ → ℕ
-b_word fixed rs1 rs2 imm = fixed + imm / 2 ^ 11 % 2 * 2 ^ 7 + imm / 2 % 2 ^ 4 * 2 ^ 8 + rs1 * 2 ^ 15 + rs2 * 2 ^ 20 + imm / 2 ^ 5 % 2 ^ 6 * 2 ^ 25 + imm / 2 ^ 12 % 2 * 2 ^ 31
+b_word fixed rs1 rs2 imm =
+    fixed + imm / 2 ^ 11 % 2 * 2 ^ 7 + imm / 2 % 2 ^ 4 * 2 ^ 8
+    + rs1 * 2 ^ 15 + rs2 * 2 ^ 20
+    + imm / 2 ^ 5 % 2 ^ 6 * 2 ^ 25 + imm / 2 ^ 12 % 2 * 2 ^ 31
 
 abbrev pub r_word : ℕ → ℕ → ℕ → ℕ → ℕ
 r_word fixed rd rs1 rs2 = fixed + rd * 2 ^ 7 + rs1 * 2 ^ 15 + rs2 * 2 ^ 20
 
--- the fixed bits of each row
-abbrev pub branch_bits : Condition → ℕ
-branch_bits Eq = 0x00000063
-branch_bits Ne = 0x00001063
-branch_bits Lt = 0x00004063
-branch_bits Ge = 0x00005063
-branch_bits Ltu = 0x00006063
-branch_bits Geu = 0x00007063
+-- ---- the fixed bits, column by column as the listings have them: the opcode in bits 6:0, funct3 in bits 14:12 and funct7 in
+-- bits 31:25. That they are those of the table of rows is the clause `inverse` of `encode`
 
+abbrev pub fixed_bits : ℕ → ℕ → ℕ → ℕ
+fixed_bits opcode funct3 funct7 = opcode + funct3 * 2 ^ 12 + funct7 * 2 ^ 25
+
+-- the branches
+abbrev pub branch_bits : Condition → ℕ
+branch_bits Eq = fixed_bits 0x63 0 0
+branch_bits Ne = fixed_bits 0x63 1 0
+branch_bits Lt = fixed_bits 0x63 4 0
+branch_bits Ge = fixed_bits 0x63 5 0
+branch_bits Ltu = fixed_bits 0x63 6 0
+branch_bits Geu = fixed_bits 0x63 7 0
+
+-- the loads, of which all but the widest can be filled with zeros
 abbrev pub load_bits : Width → Bool → ℕ
-load_bits Byte true = 0x00000003
-load_bits Half true = 0x00001003
-load_bits Word true = 0x00002003
-load_bits Double true = 0x00003003
-load_bits Byte false = 0x00004003
-load_bits Half false = 0x00005003
-load_bits Word false = 0x00006003
-load_bits Double false = 0x00003003
+load_bits Byte true = fixed_bits 0x03 0 0
+load_bits Half true = fixed_bits 0x03 1 0
+load_bits Word true = fixed_bits 0x03 2 0
+load_bits Double true = fixed_bits 0x03 3 0
+load_bits Byte false = fixed_bits 0x03 4 0
+load_bits Half false = fixed_bits 0x03 5 0
+load_bits Word false = fixed_bits 0x03 6 0
+load_bits Double false = fixed_bits 0x03 3 0
 
 abbrev pub store_bits : Width → ℕ
-store_bits Byte = 0x00000023
-store_bits Half = 0x00001023
-store_bits Word = 0x00002023
-store_bits Double = 0x00003023
+store_bits Byte = fixed_bits 0x23 0 0
+store_bits Half = fixed_bits 0x23 1 0
+store_bits Word = fixed_bits 0x23 2 0
+store_bits Double = fixed_bits 0x23 3 0
 
+-- operations on two registers, then the products and quotients of "M"
 abbrev pub op_bits : Operation → ℕ
-op_bits Add = 0x00000033
-op_bits Sll = 0x00001033
-op_bits Slt = 0x00002033
-op_bits Sltu = 0x00003033
-op_bits Xor = 0x00004033
-op_bits Srl = 0x00005033
-op_bits Sra = 0x40005033
-op_bits Or = 0x00006033
-op_bits And = 0x00007033
+op_bits Add = fixed_bits 0x33 0 0
+op_bits Sll = fixed_bits 0x33 1 0
+op_bits Slt = fixed_bits 0x33 2 0
+op_bits Sltu = fixed_bits 0x33 3 0
+op_bits Xor = fixed_bits 0x33 4 0
+op_bits Srl = fixed_bits 0x33 5 0
+op_bits Sra = fixed_bits 0x33 5 0x20
+op_bits Or = fixed_bits 0x33 6 0
+op_bits And = fixed_bits 0x33 7 0
 
 abbrev pub mul_bits : Multiplication → ℕ
-mul_bits Mul = 0x02000033
-mul_bits Mulh = 0x02001033
-mul_bits Mulhsu = 0x02002033
-mul_bits Mulhu = 0x02003033
+mul_bits Mul = fixed_bits 0x33 0 0x01
+mul_bits Mulh = fixed_bits 0x33 1 0x01
+mul_bits Mulhsu = fixed_bits 0x33 2 0x01
+mul_bits Mulhu = fixed_bits 0x33 3 0x01
 
 abbrev pub div_bits : Division → ℕ
-div_bits Div = 0x02004033
-div_bits Divu = 0x02005033
-div_bits Rem = 0x02006033
-div_bits Remu = 0x02007033
+div_bits Div = fixed_bits 0x33 4 0x01
+div_bits Divu = fixed_bits 0x33 5 0x01
+div_bits Rem = fixed_bits 0x33 6 0x01
+div_bits Remu = fixed_bits 0x33 7 0x01
 
+-- the same on 32 bits
 abbrev pub op_word_bits : WordOperation → ℕ
-op_word_bits word.Add = 0x0000003b
-op_word_bits word.Sll = 0x0000103b
-op_word_bits word.Srl = 0x0000503b
-op_word_bits word.Sra = 0x4000503b
+op_word_bits word.Add = fixed_bits 0x3b 0 0
+op_word_bits word.Sll = fixed_bits 0x3b 1 0
+op_word_bits word.Srl = fixed_bits 0x3b 5 0
+op_word_bits word.Sra = fixed_bits 0x3b 5 0x20
 
 abbrev pub div_word_bits : Division → ℕ
-div_word_bits Div = 0x0200403b
-div_word_bits Divu = 0x0200503b
-div_word_bits Rem = 0x0200603b
-div_word_bits Remu = 0x0200703b
+div_word_bits Div = fixed_bits 0x3b 4 0x01
+div_word_bits Divu = fixed_bits 0x3b 5 0x01
+div_word_bits Rem = fixed_bits 0x3b 6 0x01
+div_word_bits Remu = fixed_bits 0x3b 7 0x01
 
+-- operations on a register and an immediate; in a shift, funct7 stands before the amount
 abbrev pub placed_op_imm : Operation → ℕ → ℕ → ℕ → ℕ
-placed_op_imm Add rd rs1 imm = i_word 0x00000013 rd rs1 imm
-placed_op_imm Sll rd rs1 imm = shift_word 0x00001013 rd rs1 imm
-placed_op_imm Slt rd rs1 imm = i_word 0x00002013 rd rs1 imm
-placed_op_imm Sltu rd rs1 imm = i_word 0x00003013 rd rs1 imm
-placed_op_imm Xor rd rs1 imm = i_word 0x00004013 rd rs1 imm
-placed_op_imm Srl rd rs1 imm = shift_word 0x00005013 rd rs1 imm
-placed_op_imm Sra rd rs1 imm = shift_word 0x40005013 rd rs1 imm
-placed_op_imm Or rd rs1 imm = i_word 0x00006013 rd rs1 imm
-placed_op_imm And rd rs1 imm = i_word 0x00007013 rd rs1 imm
+placed_op_imm Add rd rs1 imm = i_word (fixed_bits 0x13 0 0) rd rs1 imm
+placed_op_imm Sll rd rs1 imm = shift_word (fixed_bits 0x13 1 0) rd rs1 imm
+placed_op_imm Slt rd rs1 imm = i_word (fixed_bits 0x13 2 0) rd rs1 imm
+placed_op_imm Sltu rd rs1 imm = i_word (fixed_bits 0x13 3 0) rd rs1 imm
+placed_op_imm Xor rd rs1 imm = i_word (fixed_bits 0x13 4 0) rd rs1 imm
+placed_op_imm Srl rd rs1 imm = shift_word (fixed_bits 0x13 5 0) rd rs1 imm
+placed_op_imm Sra rd rs1 imm = shift_word (fixed_bits 0x13 5 0x20) rd rs1 imm
+placed_op_imm Or rd rs1 imm = i_word (fixed_bits 0x13 6 0) rd rs1 imm
+placed_op_imm And rd rs1 imm = i_word (fixed_bits 0x13 7 0) rd rs1 imm
 
 abbrev pub placed_op_imm_word : WordOperation → ℕ → ℕ → ℕ → ℕ
-placed_op_imm_word word.Add rd rs1 imm = i_word 0x0000001b rd rs1 imm
-placed_op_imm_word word.Sll rd rs1 imm = word_shift_word 0x0000101b rd rs1 imm
-placed_op_imm_word word.Srl rd rs1 imm = word_shift_word 0x0000501b rd rs1 imm
-placed_op_imm_word word.Sra rd rs1 imm = word_shift_word 0x4000501b rd rs1 imm
+placed_op_imm_word word.Add rd rs1 imm = i_word (fixed_bits 0x1b 0 0) rd rs1 imm
+placed_op_imm_word word.Sll rd rs1 imm = word_shift_word (fixed_bits 0x1b 1 0) rd rs1 imm
+placed_op_imm_word word.Srl rd rs1 imm = word_shift_word (fixed_bits 0x1b 5 0) rd rs1 imm
+placed_op_imm_word word.Sra rd rs1 imm = word_shift_word (fixed_bits 0x1b 5 0x20) rd rs1 imm
 
+-- accesses to a control and status register, named by a register and by a number
 abbrev pub csr_bits : CsrOp → ℕ
-csr_bits csr.Write = 0x00001073
-csr_bits csr.Set = 0x00002073
-csr_bits csr.Clear = 0x00003073
+csr_bits csr.Write = fixed_bits 0x73 1 0
+csr_bits csr.Set = fixed_bits 0x73 2 0
+csr_bits csr.Clear = fixed_bits 0x73 3 0
 
 abbrev pub csr_imm_bits : CsrOp → ℕ
-csr_imm_bits csr.Write = 0x00005073
-csr_imm_bits csr.Set = 0x00006073
-csr_imm_bits csr.Clear = 0x00007073
+csr_imm_bits csr.Write = fixed_bits 0x73 5 0
+csr_imm_bits csr.Set = fixed_bits 0x73 6 0
+csr_imm_bits csr.Clear = fixed_bits 0x73 7 0
+
+-- ---- the word
 
 unfoldable pub encoded : Instr → ℕ
-encoded (is.Lui rd imm) = u_word 0x00000037 rd imm
-encoded (is.Auipc rd imm) = u_word 0x00000017 rd imm
-encoded (is.Jal rd offset) = j_word 0x0000006f rd offset
-encoded (is.Jalr rd rs1 offset) = i_word 0x00000067 rd rs1 offset
+encoded (is.Lui rd imm) = u_word 0x37 rd imm
+encoded (is.Auipc rd imm) = u_word 0x17 rd imm
+encoded (is.Jal rd offset) = j_word 0x6f rd offset
+encoded (is.Jalr rd rs1 offset) = i_word (fixed_bits 0x67 0 0) rd rs1 offset
 encoded (is.Branch condition rs1 rs2 offset) = b_word (branch_bits condition) rs1 rs2 offset
 encoded (is.Load rd rs1 offset width signed) = i_word (load_bits width signed) rd rs1 offset
 encoded (is.Store rs1 rs2 offset width) = s_word (store_bits width) rs1 rs2 offset
 encoded (is.OpImm op rd rs1 imm) = placed_op_imm op rd rs1 imm
 encoded (is.Op op rd rs1 rs2) = r_word (op_bits op) rd rs1 rs2
-encoded (is.Sub rd rs1 rs2) = r_word 0x40000033 rd rs1 rs2
+encoded (is.Sub rd rs1 rs2) = r_word (fixed_bits 0x33 0 0x20) rd rs1 rs2
 encoded (is.Mul op rd rs1 rs2) = r_word (mul_bits op) rd rs1 rs2
 encoded (is.Div op rd rs1 rs2) = r_word (div_bits op) rd rs1 rs2
 encoded (is.OpImmWord op rd rs1 imm) = placed_op_imm_word op rd rs1 imm
 encoded (is.OpWord op rd rs1 rs2) = r_word (op_word_bits op) rd rs1 rs2
-encoded (is.SubWord rd rs1 rs2) = r_word 0x4000003b rd rs1 rs2
-encoded (is.MulWord rd rs1 rs2) = r_word 0x0200003b rd rs1 rs2
+encoded (is.SubWord rd rs1 rs2) = r_word (fixed_bits 0x3b 0 0x20) rd rs1 rs2
+encoded (is.MulWord rd rs1 rs2) = r_word (fixed_bits 0x3b 0 0x01) rd rs1 rs2
 encoded (is.DivWord op rd rs1 rs2) = r_word (div_word_bits op) rd rs1 rs2
-encoded (is.Fence rd rs1 ordering) = i_word 0x0000000f rd rs1 ordering
+encoded (is.Fence rd rs1 ordering) = i_word (fixed_bits 0x0f 0 0) rd rs1 ordering
 encoded (is.Csr op rd rs1 number) = i_word (csr_bits op) rd rs1 number
 encoded (is.CsrImm op rd imm number) = i_word (csr_imm_bits op) rd (imm % 2 ^ 5) number
 encoded is.Ecall = 0x00000073

@@ -1,5 +1,6 @@
 -- One chain after another.
-use Rattle.std.proofs.Common.{◌≡◌, ℕ, ◌+◌, ◌≤◌, zero, suc, Bool, true, false, if◌then◌else◌, nat_lt, List, length, refl, sym, ap, ◌∙◌, arith, add-one}
+use Rattle.std.proofs.Common.{◌≡◌, ℕ, ◌+◌, ◌≤◌, zero, suc, Bool, true, false, if◌then◌else◌, nat_lt, List, length, refl, sym, ap, ◌∙◌,
+    arith, add-one}
 use Rattle.std.specs.Prelude.{Result, Ok, Err}
 use Rattle.std.specs.Result.{is_err}
 use Rattle.std.proofs.lemmas.Bool.{ltb-false}
@@ -13,7 +14,8 @@ use Rattle.virtio_mmio.specs.declared.states.DeviceState.{DeviceState}
 use Rattle.virtio_mmio.specs.States.{queue_at, IsDeviceRecord}
 use Rattle.virtio_mmio.specs.Transport.{Device}
 use Rattle.virtio_mmio.specs.Serving.{can_serve, with_counters}
-use Rattle.virtio_mmio.specs.ServingLoop.{Act, Acted, Served, breaks, puts_used, state_after_use, one_served, then_go_on, chains_served, available_served, served, done_answer, left_after, standing}
+use Rattle.virtio_mmio.specs.ServingLoop.{Act, Acted, Served, breaks, puts_used, state_after_use, one_served, or_breaks, chains_served,
+    served, done_answer, left_after, standing}
 use Rattle.virtio_mmio.proofs.Rules.{counters_keep, needing_reset_keeps, signalled_keeps}
 
 -- no chain is left
@@ -22,17 +24,17 @@ unfolding chains_served
 none_left k i act n s e = ap (λ (m : ℕ). chains_served k i act m s) e
 
 one_more : {A : Type 0} (k : DeviceKind) (i : ℕ) (act : Act A) (n m : ℕ) (s : Served A) → n ≡ m + 1 →
-    chains_served k i act n s ≡ then_go_on (chains_served k i act m) s (one_served k i act s)
+    chains_served k i act n s ≡ or_breaks (chains_served k i act m) s (one_served k i act s)
 unfolding chains_served
 one_more k i act n m s e = ap (λ (j : ℕ). chains_served k i act j s) (e ∙ add-one m)
 
 goes_on : {A : Type 0} (rest : Served A → Served A) (s : Served A) (r : Result (Served A) Broken) (answer : Result (Unit {0}) Broken) →
-    answer ≡ done_answer r → is_err answer ≡ false → rest (left_after s r) ≡ then_go_on rest s r
+    answer ≡ done_answer r → is_err answer ≡ false → rest (left_after s r) ≡ or_breaks rest s r
 goes_on rest s (Ok t) answer e h = refl
 goes_on rest s (Err b) answer e h = let none : true ≡ false = sym (ap is_err e) ∙ h in cc
 
 ends : {A : Type 0} (rest : Served A → Served A) (s : Served A) (r : Result (Served A) Broken) (answer : Result (Unit {0}) Broken) →
-    answer ≡ done_answer r → is_err answer ≡ true → breaks (left_after s r) ≡ then_go_on rest s r
+    answer ≡ done_answer r → is_err answer ≡ true → breaks (left_after s r) ≡ or_breaks rest s r
 ends rest s (Ok t) answer e h = let none : false ≡ true = sym (ap is_err e) ∙ h in cc
 ends rest s (Err b) answer e h = refl
 
@@ -72,7 +74,8 @@ module _ {A : Type 0} (k k0 : DeviceKind) (i : ℕ) (act : Act A) (n m : ℕ) (s
   step_broken h = ap breaks here ∙ (chain_broken k i act n m s answer count told h ∙ along)
 
 -- all chains were served
-pub all_served : {A : Type 0} (k0 : DeviceKind) (i : ℕ) (act : Act A) (n : ℕ) (s whole : Served A) → n ≡ 0 → chains_served k0 i act n s ≡ whole → s ≡ whole
+pub all_served : {A : Type 0} (k0 : DeviceKind) (i : ℕ) (act : Act A) (n : ℕ) (s whole : Served A) → n ≡ 0 →
+    chains_served k0 i act n s ≡ whole → s ≡ whole
 all_served k0 i act n s whole e h = sym (none_left k0 i act n s e) ∙ h
 
 pub same_device : (d : Device) (k : DeviceKind) (s : DeviceState) → d.kind ≡ k → d.state ≡ s → d ≡ record { kind = k; state = s }
@@ -102,23 +105,28 @@ few_available q bytes n h = few_waiting q bytes (is_aligned q) (are_inside q (le
 module _ {A : Type 0} (k : DeviceKind) (i : ℕ) (act : Act A) (P : ℕ → Served A → Type 0)
     (fewer : (n m : ℕ) (s : Served A) → n ≤ m → P m s → P n s)
     (broken : (n : ℕ) (s : Served A) → P n s → P n (breaks s))
-    (used : (n : ℕ) (s : Served A) (c : Spelled) (a : Acted A) → act s.ram s.kept c ≡ Ok a → P (n + 1) s → P n (puts_used k i s c.head a)) where
-  keeps_by_act : (n : ℕ) (rest : Served A → Served A) → ((t : Served A) → P n t → P 0 (rest t)) → (s : Served A) (c : Spelled) (r : Result (Acted A) Broken) →
-      act s.ram s.kept c ≡ r → P (n + 1) s → P 0 (then_go_on rest s (r >>= (λ a. Ok (puts_used k i s c.head a))))
+    (used : (n : ℕ) (s : Served A) (c : Spelled) (a : Acted A) → act s.ram s.kept c ≡ Ok a → P (n + 1) s →
+        P n (puts_used k i s c.head a)) where
+  keeps_by_act : (n : ℕ) (rest : Served A → Served A) → ((t : Served A) → P n t → P 0 (rest t)) →
+      (s : Served A) (c : Spelled) (r : Result (Acted A) Broken) →
+      act s.ram s.kept c ≡ r → P (n + 1) s → P 0 (or_breaks rest s (r >>= (λ a. Ok (puts_used k i s c.head a))))
   keeps_by_act n rest h s c (Ok a) e p = h (puts_used k i s c.head a) (used n s c a e p)
   keeps_by_act n rest h s c (Err b) e p = fewer 0 (n + 1) (breaks s) (omega arith) (broken (n + 1) s p)
 
-  keeps_by_chain : (n : ℕ) (rest : Served A → Served A) → ((t : Served A) → P n t → P 0 (rest t)) → (s : Served A) (r : Result Spelled Broken) →
-      P (n + 1) s → P 0 (then_go_on rest s (r >>= (λ c. act s.ram s.kept c >>= (λ a. Ok (puts_used k i s c.head a)))))
+  keeps_by_chain : (n : ℕ) (rest : Served A → Served A) → ((t : Served A) → P n t → P 0 (rest t)) →
+      (s : Served A) (r : Result Spelled Broken) →
+      P (n + 1) s → P 0 (or_breaks rest s (r >>= (λ c. act s.ram s.kept c >>= (λ a. Ok (puts_used k i s c.head a)))))
   keeps_by_chain n rest h s (Ok c) p = keeps_by_act n rest h s c (act s.ram s.kept c) refl p
   keeps_by_chain n rest h s (Err b) p = fewer 0 (n + 1) (breaks s) (omega arith) (broken (n + 1) s p)
 
   pub chains_keep : (n : ℕ) (s : Served A) → P n s → P 0 (chains_served k i act n s)
   unfolding chains_served
   chains_keep zero s p = p
-  chains_keep (suc n) s p = keeps_by_chain n (chains_served k i act n) (chains_keep n) s (chain_of (queue_at s.state i) s.ram) (fewer (n + 1) (suc n) s (omega arith) p)
+  chains_keep (suc n) s p = keeps_by_chain n (chains_served k i act n) (chains_keep n) s (chain_of (queue_at s.state i) s.ram)
+      (fewer (n + 1) (suc n) s (omega arith) p)
 
-  keeps_by_count : (s : Served A) (r : Result ℕ Broken) → available_of (queue_at s.state i) s.ram ≡ r → P 64 s → P 0 (available_served k i act s r)
+  keeps_by_count : (s : Served A) (r : Result ℕ Broken) → available_of (queue_at s.state i) s.ram ≡ r → P 64 s →
+      P 0 (or_breaks (λ n. chains_served k i act n s) s r)
   keeps_by_count s (Ok n) e p = chains_keep n s (fewer n 64 s (few_available (queue_at s.state i) s.ram n e) p)
   keeps_by_count s (Err b) e p = fewer 0 64 (breaks s) (omega arith) (broken 64 s p)
 
@@ -129,14 +137,15 @@ module _ {A : Type 0} (k : DeviceKind) (i : ℕ) (act : Act A) (P : ℕ → Serv
   pub served_keeps : (s : Served A) → P 64 s → P 0 (served k i act s)
   unfolding served
   served_keeps s p =
-      keeps_when (can_serve k s.state i) s (available_served k i act s (available_of (queue_at s.state i) s.ram)) p
+      keeps_when (can_serve k s.state i) s (or_breaks (λ n. chains_served k i act n s) s (available_of (queue_at s.state i) s.ram)) p
       (keeps_by_count s (available_of (queue_at s.state i) s.ram) refl p)
 
 -- the rules of a device record
 pub use_keeps_rules : (k : DeviceKind) (i : ℕ) (d : DeviceState) → IsDeviceRecord k d → IsDeviceRecord k (state_after_use k i d)
 use_keeps_rules k i d h = signalled_keeps k (with_counters k d i _ _) (counters_keep k d i _ _ h)
 
-pub served_keeps_rules : {A : Type 0} (k : DeviceKind) (i : ℕ) (act : Act A) (s : Served A) → IsDeviceRecord k s.state → IsDeviceRecord k (served k i act s).state
+pub served_keeps_rules : {A : Type 0} (k : DeviceKind) (i : ℕ) (act : Act A) (s : Served A) → IsDeviceRecord k s.state →
+    IsDeviceRecord k (served k i act s).state
 served_keeps_rules k i act s h =
     served_keeps k i act (λ n t. IsDeviceRecord k t.state) (λ n m t l p. p) (λ n t p. needing_reset_keeps k t.state p)
     (λ n t c a e p. use_keeps_rules k i t.state p) s h

@@ -1,4 +1,5 @@
-use Rattle.std.proofs.Common.{◌≡◌, ◌≢◌, ℕ, ◌+◌, ◌<◌, ◌≤◌, suc, Bool, true, false, List, [], ◌∷◌, refl, sym, ap, ◌∙◌, lit≤, lit<, ◌/◌, ◌*◌, ◌^◌, ◌%◌, zero, subst, arith, slice_set, slice_index_or, bit_and, bit_or, ◌==◌, if◌then◌else◌, ◌||◌, IsTrue, nat_lt}
+use Rattle.std.proofs.Common.{◌≡◌, ◌≢◌, ℕ, ◌+◌, ◌<◌, ◌≤◌, suc, Bool, true, false, List, [], ◌∷◌, refl, sym, ap, ◌∙◌, lit≤, lit<, ◌/◌, ◌*◌,
+    ◌^◌, ◌%◌, zero, subst, arith, slice_set, slice_index_or, bit_and, bit_or, ◌==◌, if◌then◌else◌, ◌||◌, IsTrue, nat_lt}
 use Rattle.std.specs.Prelude.{Some, None}
 use borrow.Author.Tests.{ltb-true}
 use Rattle.std.specs.Int.{bit_not, w32}
@@ -19,16 +20,19 @@ use Rattle.virtio_mmio.specs.Serving.{with_counters, used_signalled, needing_res
 use Rattle.virtqueue.specs.Areas.{AreasFit, IsSized}
 use Rattle.virtio_mmio.specs.ServingLoop.{state_after_use}
 use Rattle.virtio_mmio.specs.Transport.{is_width, stored}
-use Rattle.virtio_mmio.specs.Registers.{Stored, leaves, is_set, Row, ignored, status_store, driver_features_after, registers, row_in, row_at, has_queue, selected_queue, on_queue, num_after, ready_after, address_after, with_low, with_high, status_after, kept_bits}
+use Rattle.virtio_mmio.specs.Registers.{Stored, leaves, is_set, Row, ignored, status_store, driver_features_after, registers, row_in,
+    row_at, has_queue, selected_queue, on_queue, num_after, ready_after, address_after, with_low, with_high, status_after, kept_bits}
 
 -- ---- bits
 
 and_or : (a b m : ℕ) → bit_and (bit_or a b) m ≡ bit_or (bit_and a m) (bit_and b m)
 and_or a b m = same_from_bits _ _ (λ i.
-    rw (bit_at_and (bit_or a b) m i, bit_at_or a b i, bit_at_or (bit_and a m) (bit_and b m) i, bit_at_and a m i, bit_at_and b m i) (omega arith))
+    rw (bit_at_and (bit_or a b) m i, bit_at_or a b i, bit_at_or (bit_and a m) (bit_and b m) i, bit_at_and a m i, bit_at_and b m i)
+        (omega arith))
 
 -- two masks inside a third give bits inside it
-joined_inside : (v s m n all : ℕ) → bit_and m all ≡ m → bit_and n all ≡ n → bit_and (bit_or (bit_and v m) (bit_and s n)) all ≡ bit_or (bit_and v m) (bit_and s n)
+joined_inside : (v s m n all : ℕ) → bit_and m all ≡ m → bit_and n all ≡ n → bit_and (bit_or (bit_and v m) (bit_and s n)) all
+    ≡ bit_or (bit_and v m) (bit_and s n)
 joined_inside v s m n all e f =
     and_or (bit_and v m) (bit_and s n) all ∙ (ap (λ x. bit_or x (bit_and (bit_and s n) all)) (and_assoc all v m ∙ ap (λ x. bit_and v x) e)
     ∙ ap (λ x. bit_or (bit_and v m) x) (and_assoc all s n ∙ ap (λ x. bit_and s x) f))
@@ -79,14 +83,15 @@ ready-keeps q v h = record {
 -- ---- the queues of a record
 
 -- what holds of the new element and of the old ones holds of each element after a write
-set-keeps : (P : Queue → Type 0) (xs : List Queue) (i j : ℕ) (q d : Queue) → P q → P (slice_index_or xs j d) → P (slice_index_or (slice_set xs i q) j d)
+set-keeps : (P : Queue → Type 0) (xs : List Queue) (i j : ℕ) (q d : Queue) → P q → P (slice_index_or xs j d) →
+    P (slice_index_or (slice_set xs i q) j d)
 set-keeps P [] i j q d new old = old
 set-keeps P (x ∷ xs) zero zero q d new old = new
 set-keeps P (x ∷ xs) zero (suc j) q d new old = old
 set-keeps P (x ∷ xs) (suc i) zero q d new old = old
 set-keeps P (x ∷ xs) (suc i) (suc j) q d new old = set-keeps P xs i j q d new old
 
-either : {A : Type 0} (P : A → Type 0) (b : Bool) (x y : A) → (b ≡ true → P x) → P y → P (if b then x else y)
+pub either : {A : Type 0} (P : A → Type 0) (b : Bool) (x y : A) → (b ≡ true → P x) → P y → P (if b then x else y)
 either P true x y f g = f refl
 either P false x y f g = g
 
@@ -114,7 +119,8 @@ absent-keeps : (k : DeviceKind) (d : DeviceState) (i : ℕ) (q : Queue) → Abse
     AbsentQueuesAtBoot k (record d { queues = if has_queue k i then slice_set d.queues i q else d.queues })
 absent-keeps Network d i q h = tt
 absent-keeps (Block capacity) d i q h =
-    either (λ (xs : List Queue). slice_index_or xs 1 boot_queue ≡ boot_queue) (has_queue (Block capacity) i) (slice_set d.queues i q) d.queues
+    either (λ (xs : List Queue). slice_index_or xs 1 boot_queue ≡ boot_queue) (has_queue (Block capacity) i)
+        (slice_set d.queues i q) d.queues
     (λ e. let below : i < 1 = has-below (Block capacity) i e in
     let other : 1 ≢ i = omega arith in get_or-set_other d.queues i 1 q boot_queue other ∙ h) h
 
@@ -150,15 +156,18 @@ EachRow [] = Unit {0}
 EachRow (r ∷ rs) = RowKeeps r × EachRow rs
 
 boot-keeps : (k : DeviceKind) → IsDeviceRecord k boot_state
-boot-keeps Network = record { status_bits = refl; interrupt_bits = lit≤ tt; queue_0 = boot_queue-keeps; queue_1 = boot_queue-keeps; absent = tt }
-boot-keeps (Block capacity) = record { status_bits = refl; interrupt_bits = lit≤ tt; queue_0 = boot_queue-keeps; queue_1 = boot_queue-keeps; absent = refl }
+boot-keeps Network = record { status_bits = refl; interrupt_bits = lit≤ tt; queue_0 = boot_queue-keeps; queue_1 = boot_queue-keeps;
+    absent = tt }
+boot-keeps (Block capacity) = record { status_bits = refl; interrupt_bits = lit≤ tt; queue_0 = boot_queue-keeps; queue_1 = boot_queue-keeps;
+    absent = refl }
 
 absent-same : (k : DeviceKind) (d e : DeviceState) → e.queues ≡ d.queues → AbsentQueuesAtBoot k d → AbsentQueuesAtBoot k e
 absent-same Network d e same h = tt
 absent-same (Block capacity) d e same h = subst (λ (xs : List Queue). slice_index_or xs 1 boot_queue ≡ boot_queue) (sym same) h
 
 -- a change of the record's other parts
-plain-keeps : (k : DeviceKind) (d e : DeviceState) → bit_and e.status 0xcf ≡ e.status → e.interrupt_status ≤ 3 → e.queues ≡ d.queues → IsDeviceRecord k d → IsDeviceRecord k e
+plain-keeps : (k : DeviceKind) (d e : DeviceState) → bit_and e.status 0xcf ≡ e.status → e.interrupt_status ≤ 3 → e.queues ≡ d.queues →
+    IsDeviceRecord k d → IsDeviceRecord k e
 plain-keeps k d e bits interrupt same h = record {
   status_bits = bits;
   interrupt_bits = interrupt;
@@ -216,17 +225,23 @@ each-row-keeps = (
                               (
                                 status-keeps,
                                 (
-                                  on_queue-keeps (λ q v. record q { desc = address_after with_low q q.desc v }) (λ q v h. record { size = h.size; ready_has_size = h.ready_has_size }),
+                                  on_queue-keeps (λ q v. record q { desc = address_after with_low q q.desc v })
+                                      (λ q v h. record { size = h.size; ready_has_size = h.ready_has_size }),
                                   (
-                                    on_queue-keeps (λ q v. record q { desc = address_after with_high q q.desc v }) (λ q v h. record { size = h.size; ready_has_size = h.ready_has_size }),
+                                    on_queue-keeps (λ q v. record q { desc = address_after with_high q q.desc v })
+                                        (λ q v h. record { size = h.size; ready_has_size = h.ready_has_size }),
                                     (
-                                      on_queue-keeps (λ q v. record q { driver = address_after with_low q q.driver v }) (λ q v h. record { size = h.size; ready_has_size = h.ready_has_size }),
+                                      on_queue-keeps (λ q v. record q { driver = address_after with_low q q.driver v })
+                                          (λ q v h. record { size = h.size; ready_has_size = h.ready_has_size }),
                                       (
-                                        on_queue-keeps (λ q v. record q { driver = address_after with_high q q.driver v }) (λ q v h. record { size = h.size; ready_has_size = h.ready_has_size }),
+                                        on_queue-keeps (λ q v. record q { driver = address_after with_high q q.driver v })
+                                            (λ q v h. record { size = h.size; ready_has_size = h.ready_has_size }),
                                         (
-                                          on_queue-keeps (λ q v. record q { device = address_after with_low q q.device v }) (λ q v h. record { size = h.size; ready_has_size = h.ready_has_size }),
+                                          on_queue-keeps (λ q v. record q { device = address_after with_low q q.device v })
+                                              (λ q v h. record { size = h.size; ready_has_size = h.ready_has_size }),
                                           (
-                                            on_queue-keeps (λ q v. record q { device = address_after with_high q q.device v }) (λ q v h. record { size = h.size; ready_has_size = h.ready_has_size }),
+                                            on_queue-keeps (λ q v. record q { device = address_after with_high q q.device v })
+                                                (λ q v h. record { size = h.size; ready_has_size = h.ready_has_size }),
                                             (ignored-keeps, tt),
                                           ),
                                         ),
@@ -262,10 +277,12 @@ unfolding row_at RowKeeps
 store_keeps k d o v h = row_in-keeps registers o each-row-keeps k d v h
 
 -- so does every access that is no fault
-pub stored-rules : (k : DeviceKind) (d : DeviceState) (offset n value : ℕ) (s : Stored) → stored k d offset n value ≡ Some s → IsDeviceRecord k d → IsDeviceRecord k s.state
+pub stored-rules : (k : DeviceKind) (d : DeviceState) (offset n value : ℕ) (s : Stored) → stored k d offset n value ≡ Some s →
+    IsDeviceRecord k d → IsDeviceRecord k s.state
 unfolding stored
 stored-rules k d offset n value s e h =
-    by_tests ((row_at offset).store k d (value % 2 ^ 32)) (leaves d) (nat_lt offset 0x100) (n == 4) (is_width n) (store_keeps k d offset (value % 2 ^ 32) h) h e
+    by_tests ((row_at offset).store k d (value % 2 ^ 32)) (leaves d) (nat_lt offset 0x100) (n == 4) (is_width n)
+        (store_keeps k d offset (value % 2 ^ 32) h) h e
   where
     by_tests : (x y : Stored) (a b c : Bool) → IsDeviceRecord k x.state → IsDeviceRecord k y.state →
         (if a then (if b then Some x else None) else (if c then Some y else None)) ≡ Some s → IsDeviceRecord k s.state
@@ -276,7 +293,8 @@ stored-rules k d offset n value s e h =
 
 -- ---- serving
 
-pub counters_keep : (k : DeviceKind) (d : DeviceState) (i available used : ℕ) → IsDeviceRecord k d → IsDeviceRecord k (with_counters k d i available used)
+pub counters_keep : (k : DeviceKind) (d : DeviceState) (i available used : ℕ) → IsDeviceRecord k d →
+    IsDeviceRecord k (with_counters k d i available used)
 counters_keep k d i available used h =
     put-keeps k d i (record (queue_at d i) { next_available = available; next_used = used }) (λ e.
     let old : IsQueueRecord (queue_at d i) = present-keeps k d i h e in
@@ -316,15 +334,20 @@ past_end c p h l =
 
 -- what holds of a queue whatever its counters are holds after they are replaced
 queue_with_counters : (P : Queue → Type 0) (k : DeviceKind) (d : DeviceState) (i available used : ℕ) →
-    P (record (queue_at d i) { next_available = available; next_used = used }) → P (queue_at d i) → P (queue_at (with_counters k d i available used) i)
+    P (record (queue_at d i) { next_available = available; next_used = used }) → P (queue_at d i) →
+        P (queue_at (with_counters k d i available used) i)
 queue_with_counters P k d i available used new old =
-    either (λ (xs : List Queue). P (slice_index_or xs i boot_queue)) (has_queue k i) (slice_set d.queues i (record (queue_at d i) { next_available = available; next_used = used })) d.queues
+    either (λ (xs : List Queue). P (slice_index_or xs i boot_queue)) (has_queue k i)
+        (slice_set d.queues i (record (queue_at d i) { next_available = available; next_used = used })) d.queues
     (λ e. set-keeps P d.queues i i (record (queue_at d i) { next_available = available; next_used = used }) boot_queue new old) old
 
 -- a queue's areas stay where they are
-pub areas_after_use : (k : DeviceKind) (d : DeviceState) (i size : ℕ) → AreasFit (queue_at d i) size → AreasFit (queue_at (state_after_use k i d) i) size
+pub areas_after_use : (k : DeviceKind) (d : DeviceState) (i size : ℕ) → AreasFit (queue_at d i) size →
+    AreasFit (queue_at (state_after_use k i d) i) size
 areas_after_use k d i size h =
-    queue_with_counters (λ q. AreasFit q size) k d i _ _ (record { desc_from = h.desc_from; desc_to = h.desc_to; driver_from = h.driver_from; driver_to = h.driver_to; device_from = h.device_from; device_to = h.device_to }) h
+    queue_with_counters (λ q. AreasFit q size) k d i _ _
+        (record { desc_from = h.desc_from; desc_to = h.desc_to; driver_from = h.driver_from; driver_to = h.driver_to; device_from =
+        h.device_from; device_to = h.device_to }) h
 
 pub sized_after_use : (k : DeviceKind) (d : DeviceState) (i : ℕ) → IsSized (queue_at d i) → IsSized (queue_at (state_after_use k i d) i)
 sized_after_use k d i h = queue_with_counters IsSized k d i _ _ (record { some = h.some; few = h.few }) h

@@ -55,31 +55,31 @@ puts_used k i s head a = record {
 -- the next chain: it is read whole, acted on, and then used; or the first malformation
 abbrev pub one_served : {A : Type 0} → DeviceKind → ℕ → Act A → Served A → Result (Served A) Broken
 one_served k i act s =
-    chain_of (queue_at s.state i) s.ram >>= (λ c. act s.ram s.kept c >>= (λ a. Ok (puts_used k i s c.head a)))
+    chain_of (queue_at s.state i) s.ram >>= (λ chain.
+        act s.ram s.kept chain >>= (λ done.
+            Ok (puts_used k i s chain.head done)))
 
--- what follows a chain that was served; a malformation ends it, and the chains before it stay served
-abbrev pub then_go_on : {A : Type 0} → (Served A → Served A) → Served A → Result (Served A) Broken → Served A
-then_go_on rest s (Ok t) = rest t
-then_go_on rest s (Err b) = breaks s
+-- what goes on from a good answer; a malformation breaks the device instead, and what was done before it stays
+abbrev pub or_breaks : {A B : Type 0} → (B → Served A) → Served A → Result B Broken → Served A
+or_breaks goes_on s (Ok answer) = goes_on answer
+or_breaks goes_on s (Err broken) = breaks s
 
 -- so many chains in turn
 unfoldable pub chains_served : {A : Type 0} → DeviceKind → ℕ → Act A → ℕ → Served A → Served A
 chains_served k i act zero s = s
-chains_served k i act (suc n) s = then_go_on (chains_served k i act n) s (one_served k i act s)
+chains_served k i act (suc n) s = or_breaks (chains_served k i act n) s (one_served k i act s)
 
--- the chains that are available, or what is wrong with the queue
-abbrev pub available_served : {A : Type 0} → DeviceKind → ℕ → Act A → Served A → Result ℕ Broken → Served A
-available_served k i act s (Ok n) = chains_served k i act n s
-available_served k i act s (Err b) = breaks s
-
--- a queue that isn't in service is left alone (virtio 1.1, 2.1.2 and 4.2.2). The available idx is read once, before the first chain
+-- a queue in service: all chains that are available. The available idx is read once, before the first of them. A queue out of
+-- service is left alone (virtio 1.1, 2.1.2 and 4.2.2)
 unfoldable pub served : {A : Type 0} → DeviceKind → ℕ → Act A → Served A → Served A
 served k i act s =
     if can_serve k s.state i
-    then available_served k i act s (available_of (queue_at s.state i) s.ram)
+    then or_breaks (λ count. chains_served k i act count s) s (available_of (queue_at s.state i) s.ram)
     else s
 
--- ---- what the call of a handler answers and leaves, by its act; a malformation changes nothing
+-- ---- what a call answers and leaves; a malformation is answered, and nothing has changed
+
+-- a handler's call, by its act: how many bytes it wrote, the bytes of RAM, and what the device keeps
 
 abbrev pub len_answer : {A : Type 0} → Result (Acted A) Broken → Result ℕ Broken
 len_answer (Ok a) = Ok a.len
@@ -93,7 +93,7 @@ abbrev pub kept_after : {A : Type 0} → A → Result (Acted A) Broken → A
 kept_after kept (Ok a) = a.kept
 kept_after kept (Err b) = kept
 
--- what a step that serves one chain answers and leaves: on a malformation nothing is changed
+-- the serving of one chain: that it was served, and all that it changes
 abbrev pub done_answer : {A : Type 0} → Result (Served A) Broken → Result (Unit {0}) Broken
 done_answer (Ok t) = Ok tt
 done_answer (Err b) = Err b

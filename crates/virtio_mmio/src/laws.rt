@@ -8,5 +8,6 @@ ghost use Rattle.virtio_mmio.specs.Transport.{stored};
 
 /// A record that meets the rules of its kind of device still meets them after a store.
 pub fn kept_records()
-    ensures { (k : DeviceKind) (d : DeviceState) (offset width value : ℕ) (s : Stored) → stored k d offset width value ≡ Some s → IsDeviceRecord k d → IsDeviceRecord k s.state }
+    ensures { (k : DeviceKind) (d : DeviceState) (offset width value : ℕ) (s : Stored) → stored k d offset width value ≡ Some s →
+        IsDeviceRecord k d → IsDeviceRecord k s.state }
 {}

@@ -6,7 +6,8 @@ ghost use Rattle.virtqueue.specs.Chains.{BuffersInside};
 ghost use Rattle.virtqueue.specs.Used.{used_written};
 ghost use Rattle.virtio_mmio.specs.States.{queue_at};
 ghost use Rattle.virtio_mmio.specs.Registers.{has_queue};
-ghost use Rattle.virtio_mmio.specs.ServingLoop.{Act, state_after_use, chains_served, served, len_answer, ram_after, kept_after, one_served, done_answer, left_after, standing};
+ghost use Rattle.virtio_mmio.specs.ServingLoop.{Act, state_after_use, chains_served, served, len_answer, ram_after, kept_after, one_served,
+    done_answer, left_after, standing};
 
 use crate::transport::Transport;
 use virtqueue::{Broken, Chain, GuestRam};
@@ -60,7 +61,8 @@ impl Transport {
     pub fn serve<R: GuestRam, H: ChainHandler>(&mut self, number: u32, ram: &mut R, handler: &mut H)
         requires room { 64 ≤ H.room handler.old }
         ensures memory { R.bytes ram.new ≡ (served self.old.kind number H.act (standing (R.bytes ram.old) self.old.state handler.old)).ram }
-        ensures state { self.new ≡ record self.old { state = (served self.old.kind number H.act (standing (R.bytes ram.old) self.old.state handler.old)).state } }
+        ensures state { self.new ≡ record self.old
+            { state = (served self.old.kind number H.act (standing (R.bytes ram.old) self.old.state handler.old)).state } }
         ensures kept { handler.new ≡ (served self.old.kind number H.act (standing (R.bytes ram.old) self.old.state handler.old)).kept }
         ensures size { length (R.bytes ram.new) ≡ length (R.bytes ram.old) }
         ensures room { H.room handler.old ≤ H.room handler.new + 64 }
@@ -86,9 +88,12 @@ impl Transport {
         requires areas { AreasFit (queue_at self.old.state number) (length (R.bytes ram.old)) }
         requires sized { IsSized (queue_at self.old.state number) }
         requires room { count ≤ H.room handler.old }
-        ensures memory { R.bytes ram.new ≡ (chains_served self.old.kind number H.act count (standing (R.bytes ram.old) self.old.state handler.old)).ram }
-        ensures state { self.new ≡ record self.old { state = (chains_served self.old.kind number H.act count (standing (R.bytes ram.old) self.old.state handler.old)).state } }
-        ensures kept { handler.new ≡ (chains_served self.old.kind number H.act count (standing (R.bytes ram.old) self.old.state handler.old)).kept }
+        ensures memory { R.bytes ram.new ≡ (chains_served self.old.kind number H.act count
+            (standing (R.bytes ram.old) self.old.state handler.old)).ram }
+        ensures state { self.new ≡ record self.old
+            { state = (chains_served self.old.kind number H.act count (standing (R.bytes ram.old) self.old.state handler.old)).state } }
+        ensures kept { handler.new ≡ (chains_served self.old.kind number H.act count
+            (standing (R.bytes ram.old) self.old.state handler.old)).kept }
         ensures size { length (R.bytes ram.new) ≡ length (R.bytes ram.old) }
         ensures room { H.room handler.old ≤ H.room handler.new + count }
     {
@@ -111,7 +116,8 @@ impl Transport {
         requires areas { AreasFit (queue_at self.old.state number) (length (R.bytes ram.old)) }
         requires sized { IsSized (queue_at self.old.state number) }
         requires room { 0 < H.room handler.old }
-        ensures answer { result ≡ done_answer (one_served self.old.kind number H.act (standing (R.bytes ram.old) self.old.state handler.old)) }
+        ensures answer { result ≡ done_answer (one_served self.old.kind number H.act
+            (standing (R.bytes ram.old) self.old.state handler.old)) }
         ensures memory { let s = standing (R.bytes ram.old) self.old.state handler.old in
             R.bytes ram.new ≡ (left_after s (one_served self.old.kind number H.act s)).ram }
         ensures state { let s = standing (R.bytes ram.old) self.old.state handler.old in

@@ -8,7 +8,7 @@ use crate::actions::Action;
 use crate::kinds::DeviceKind;
 use crate::serving::ChainHandler;
 use crate::transport::Transport;
-use virtqueue::{Broken, Chain, GuestRam};
+use virtqueue::{Broken, Chain, GuestRam, PlainRam};
 
 #[test]
 fn the_device_names_itself(rt: HostRuntime) {
@@ -127,27 +127,6 @@ fn other_widths_are_access_faults(rt: HostRuntime) {
     assert_eq!(rt; device.load(0x034, 4), Some(0));
 }
 
-#[derive(Drop)]
-struct Ram {
-    bytes: [u8; 4096],
-}
-
-impl GuestRam for Ram {
-    ghost bytes = { λ ram. ram.bytes };
-
-    fn size(&self) -> usize {
-        self.bytes.len()
-    }
-
-    fn read(&self, place: usize, into: &mut [u8]) {
-        into.copy_from_slice(&self.bytes[place..place + into.len()]);
-    }
-
-    fn write(&mut self, place: usize, from: &[u8]) {
-        self.bytes[place..place + from.len()].copy_from_slice(from);
-    }
-}
-
 /// A device that counts readable chains, and says that it wrote 5 bytes.
 #[derive(Drop)]
 struct Counter {
@@ -172,8 +151,8 @@ impl ChainHandler for Counter {
 
 /// A queue of 2 in RAM, of which so many chains are available: descriptor 0 has one readable byte and descriptor 1 one
 /// writable byte, and the ring's entries are 0 and 1 in turn. Its areas are at 0, 0x40 and 0x80.
-fn ram_with(available: u8) -> Ram {
-    let mut ram = Ram { bytes: [0; 4096] };
+fn ram_with(available: u8) -> PlainRam {
+    let mut ram = PlainRam::new();
     ram.write(0, &[0, 1, 0, 0x80, 0, 0, 0, 0, 1, 0, 0, 0, 0, 0, 0, 0]);
     ram.write(16, &[0, 1, 0, 0x80, 0, 0, 0, 0, 1, 0, 0, 0, 2, 0, 0, 0]);
     ram.write(0x40, &[0, 0, available, 0, 0, 0, 1, 0]);
@@ -200,7 +179,7 @@ fn served_device() -> Transport {
 }
 
 /// Puts a chain whose first descriptor is 1 into the used ring, with 3 bytes written.
-fn put_one(device: &mut Transport, ram: &mut Ram) {
+fn put_one(device: &mut Transport, ram: &mut PlainRam) {
     let Some(queue) = device.queue_in_service(0) else {
         return;
     };
@@ -210,9 +189,9 @@ fn put_one(device: &mut Transport, ram: &mut Ram) {
 }
 
 /// What a used ring of 0x80 has in its idx and its two entries.
-fn used_ring(ram: &Ram) -> [u8; 18] {
+fn used_ring(ram: &PlainRam) -> [u8; 18] {
     let mut bytes = [0; 18];
-    ram.read(0x82, &mut bytes);
+    bytes.copy_from_slice(&ram.bytes[0x82..0x94]);
     bytes
 }
 

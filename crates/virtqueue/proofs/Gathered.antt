@@ -1,4 +1,5 @@
-use Rattle.std.proofs.Common.{◌≡◌, ℕ, zero, suc, ◌+◌, ◌-◌, ◌<◌, ◌≤◌, min, true, false, List, [], ◌∷◌, ◌++◌, refl, sym, ap, ◌∙◌, if◌then◌else◌, length, take, drop, get_or, arith, append_assoc, append-nil, length-append, length-drop, IsTrue}
+use Rattle.std.proofs.Common.{◌≡◌, ℕ, zero, suc, ◌+◌, ◌-◌, ◌<◌, ◌≤◌, min, true, false, List, [], ◌∷◌, ◌++◌, refl, sym, ap, ◌∙◌,
+    if◌then◌else◌, length, take, drop, get_or, arith, append_assoc, append-nil, length-append, length-drop, IsTrue}
 use Rattle.std.proofs.Math.Seq.{drop-append-add}
 use Rattle.std.proofs.lemmas.List.{drop-append-le, take_all, length-take-le, drop_all, drop_more, take_at}
 use Rattle.virtqueue.specs.declared.chains.Descriptor.{Descriptor}
@@ -27,10 +28,12 @@ drop_past x y s r e = ap (λ n. drop n (x ++ y)) e ∙ drop-append-add x y r
 
 -- ---- one buffer
 
-pub skip_writable : (bytes : List ℕ) (d : Descriptor) (ds : List Descriptor) → d.writable ≡ true → readable_bytes bytes (d ∷ ds) ≡ readable_bytes bytes ds
+pub skip_writable : (bytes : List ℕ) (d : Descriptor) (ds : List Descriptor) → d.writable ≡ true →
+    readable_bytes bytes (d ∷ ds) ≡ readable_bytes bytes ds
 skip_writable bytes d ds w = ap (λ b. (if b then [] else bytes_of bytes d) ++ readable_bytes bytes ds) w
 
-pub first_readable : (bytes : List ℕ) (d : Descriptor) (ds : List Descriptor) → d.writable ≡ false → readable_bytes bytes (d ∷ ds) ≡ bytes_of bytes d ++ readable_bytes bytes ds
+pub first_readable : (bytes : List ℕ) (d : Descriptor) (ds : List Descriptor) → d.writable ≡ false →
+    readable_bytes bytes (d ∷ ds) ≡ bytes_of bytes d ++ readable_bytes bytes ds
 first_readable bytes d ds w = ap (λ b. (if b then [] else bytes_of bytes d) ++ readable_bytes bytes ds) w
 
 pub inside_at : (size : ℕ) (ds : List Descriptor) (k : ℕ) (d : Descriptor) → BuffersInside size ds → k < length ds →
@@ -46,7 +49,8 @@ module _ (bytes : List ℕ) (parts : List Descriptor) (k : ℕ) (d : Descriptor)
   here = get_or parts k d
 
   -- a readable buffer that lies wholly before what is wanted
-  pub step_before : (skip : ℕ) → (get_or parts k d).writable ≡ false → IsTrue (buffer_inside (length bytes) (get_or parts k d).address (get_or parts k d).len) →
+  pub step_before : (skip : ℕ) → (get_or parts k d).writable ≡ false →
+      IsTrue (buffer_inside (length bytes) (get_or parts k d).address (get_or parts k d).len) →
       (get_or parts k d).len ≤ skip →
       drop (skip - (get_or parts k d).len) (readable_bytes bytes (drop (k + 1) parts)) ≡ drop skip (readable_bytes bytes (drop k parts))
   step_before skip w h before =
@@ -57,7 +61,8 @@ module _ (bytes : List ℕ) (parts : List Descriptor) (k : ℕ) (d : Descriptor)
       ∙ drop_past (bytes_of bytes p) (readable_bytes bytes (drop (k + 1) parts)) skip (skip - p.len) far))
 
   -- a readable buffer of which a part is read
-  pub step_in : (skip left count : ℕ) → (get_or parts k d).writable ≡ false → IsTrue (buffer_inside (length bytes) (get_or parts k d).address (get_or parts k d).len) →
+  pub step_in : (skip left count : ℕ) → (get_or parts k d).writable ≡ false →
+      IsTrue (buffer_inside (length bytes) (get_or parts k d).address (get_or parts k d).len) →
       skip < (get_or parts k d).len → count ≡ min ((get_or parts k d).len - skip) left →
       take count (drop skip (bytes_of bytes (get_or parts k d))) ++ take (left - count) (readable_bytes bytes (drop (k + 1) parts))
       ≡ take left (drop skip (readable_bytes bytes (drop k parts)))
@@ -72,10 +77,12 @@ module _ (bytes : List ℕ) (parts : List Descriptor) (k : ℕ) (d : Descriptor)
       ∙ take_across (drop skip (bytes_of bytes p)) rest left count short)))
 
 -- what was read so far, after one more part of it
-pub read_more : (into chunk tail whole rest : List ℕ) (done count : ℕ) → length chunk ≡ count → done ≤ length into → whole ≡ take done into ++ (chunk ++ tail) →
+pub read_more : (into chunk tail whole rest : List ℕ) (done count : ℕ) → length chunk ≡ count → done ≤ length into →
+    whole ≡ take done into ++ (chunk ++ tail) →
     take (done + count) whole ++ rest ≡ take done into ++ (chunk ++ rest)
 read_more into chunk tail whole rest done count e within is =
-    let size : length (take done into ++ chunk) ≡ done + count = omega (arith, length-append (take done into) chunk, length-take-le done into within) in
+    let size : length (take done into ++ chunk) ≡ done + count =
+        omega (arith, length-append (take done into) chunk, length-take-le done into within) in
     ap (λ xs. take (done + count) xs ++ rest) (is ∙ sym (append_assoc (take done into) chunk tail))
     ∙ (ap (λ xs. xs ++ rest) (take_at (take done into ++ chunk) tail (done + count) size)
     ∙ append_assoc (take done into) chunk rest)
@@ -86,7 +93,8 @@ pub read_all : (into wanted : List ℕ) (done skip : ℕ) → done ≤ length in
 read_all into wanted done skip within size e =
     let none : List ℕ = [] in
     let empty : drop skip none ≡ none = drop_all skip none (omega arith) in
-    let nothing : take (length into - done) (drop skip none) ≡ none = ap (take (length into - done)) empty ∙ take_all (length into - done) none (omega arith) in
+    let nothing : take (length into - done) (drop skip none) ≡ none = ap (take (length into - done)) empty
+        ∙ take_all (length into - done) none (omega arith) in
     let front : take done into ≡ wanted = sym (append-nil (take done into)) ∙ (ap (λ r. take done into ++ r) (sym nothing) ∙ e) in
     let full : length into ≤ done = omega (arith, ap length front, length-take-le done into within) in
     sym (take_all done into full) ∙ front

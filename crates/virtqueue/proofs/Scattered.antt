@@ -1,4 +1,6 @@
-use Rattle.std.proofs.Common.{◌≡◌, ℕ, zero, suc, ◌+◌, ◌-◌, ◌<◌, ◌≤◌, min, Bool, true, false, List, [], ◌∷◌, ◌++◌, refl, sym, ap, ◌∙◌, if◌then◌else◌, ◌||◌, ◌&&◌, ◌==◌, length, take, drop, get_or, arith, append_assoc, append-nil, add-zero, length-set, IsTrue, nat_le, slice_set}
+use Rattle.std.proofs.Common.{◌≡◌, ℕ, zero, suc, ◌+◌, ◌-◌, ◌<◌, ◌≤◌, min, Bool, true, false, List, [], ◌∷◌, ◌++◌, refl, sym, ap, ◌∙◌,
+    if◌then◌else◌, ◌||◌, ◌&&◌, ◌==◌, length, take, drop, get_or, arith, append_assoc, append-nil, add-zero, length-set, IsTrue,
+    nat_le, slice_set}
 use Rattle.std.specs.List.{range_with_len}
 use Rattle.std.proofs.lemmas.List.{take-append-drop, drop-append-le, drop_all, drop_more, drop-set-lt, take_more_set, take_min}
 use Rattle.std.proofs.lemmas.List.FromFn.{length-range_with_len}
@@ -17,9 +19,11 @@ put_none bytes [] = refl
 put_none bytes (p ∷ ps) = refl
 
 written_none : (bytes : List ℕ) (p : ℕ) → written bytes p [] ≡ bytes
-written_none bytes p = ap (λ xs. xs ++ drop (p + 0) bytes) (append-nil (take p bytes)) ∙ (ap (λ n. take p bytes ++ drop n bytes) (add-zero p) ∙ take-append-drop p bytes)
+written_none bytes p = ap (λ xs. xs ++ drop (p + 0) bytes) (append-nil (take p bytes))
+    ∙ (ap (λ n. take p bytes ++ drop n bytes) (add-zero p) ∙ take-append-drop p bytes)
 
-written_cons : (bytes : List ℕ) (p u : ℕ) (vs : List ℕ) → p < length bytes → written (slice_set bytes p u) (p + 1) vs ≡ written bytes p (u ∷ vs)
+written_cons : (bytes : List ℕ) (p u : ℕ) (vs : List ℕ) → p < length bytes → written (slice_set bytes p u) (p + 1) vs
+    ≡ written bytes p (u ∷ vs)
 written_cons bytes p u vs l =
     let after : p < p + 1 + length vs = omega arith in
     let end : p + 1 + length vs ≡ p + length (u ∷ vs) = omega arith in
@@ -39,7 +43,8 @@ put_range (suc m) (u ∷ us) bytes p qs l =
     put_range m us (slice_set bytes p u) (p + 1) qs fits ∙ ap (λ bs. put_at bs qs (drop m us)) (written_cons bytes p u (take m us) at)
 
 drop_range : (s n p : ℕ) → s ≤ n → drop s (range_with_len p n) ≡ range_with_len (p + s) (n - s)
-drop_range zero n p l = let a : p ≡ p + 0 = omega arith in let b : n ≡ n - 0 = omega arith in ap (λ k. range_with_len k n) a ∙ ap (λ k. range_with_len (p + 0) k) b
+drop_range zero n p l = let a : p ≡ p + 0 = omega arith in let b : n ≡ n - 0 = omega arith in ap (λ k. range_with_len k n) a
+    ∙ ap (λ k. range_with_len (p + 0) k) b
 drop_range (suc s) zero p l = let none : ⊥ = omega arith in absurd none
 drop_range (suc s) (suc n) p l =
     let less : s ≤ n = omega arith in
@@ -58,7 +63,8 @@ drop_least (x ∷ xs) (suc n) (suc count) e = drop_least xs n count (omega arith
 place_fits : (size address len : ℕ) → 0 < len → IsTrue (buffer_inside size address len) → place_of address + len ≤ size
 place_fits size address len some h =
     let no : (len == 0) ≡ false = grind arith in
-    let both = split (nat_le RAM_START address) (nat_le (address + len) (RAM_START + size)) (later (len == 0) (is_inside size address len) no h) in
+    let both = split (nat_le RAM_START address) (nat_le (address + len) (RAM_START + size))
+        (later (len == 0) (is_inside size address len) no h) in
     let from : RAM_START ≤ address = leb-true RAM_START address both.0 in
     let to : address + len ≤ RAM_START + size = leb-true (address + len) (RAM_START + size) both.1 in
     omega arith
@@ -71,7 +77,8 @@ place_fits size address len some h =
     split true b h = (refl, h)
     split false b h = let none : ⊥ = cc in absurd none
 
-first_writable : (d : Descriptor) (ds : List Descriptor) → d.writable ≡ true → writable_places (d ∷ ds) ≡ range_with_len (place_of d.address) d.len ++ writable_places ds
+first_writable : (d : Descriptor) (ds : List Descriptor) → d.writable ≡ true →
+    writable_places (d ∷ ds) ≡ range_with_len (place_of d.address) d.len ++ writable_places ds
 first_writable d ds w = ap (λ b. (if b then range_with_len (place_of d.address) d.len else []) ++ writable_places ds) w
 
 module _ (parts : List Descriptor) (k : ℕ) (d : Descriptor) (within : k < length parts) where
@@ -90,7 +97,8 @@ module _ (parts : List Descriptor) (k : ℕ) (d : Descriptor) (within : k < leng
   pub pass_in : (bytes values : List ℕ) (skip count : ℕ) → (get_or parts k d).writable ≡ true →
       IsTrue (buffer_inside (length bytes) (get_or parts k d).address (get_or parts k d).len) →
       skip < (get_or parts k d).len → count ≡ min ((get_or parts k d).len - skip) (length values) →
-      put_at (written bytes (place_of (get_or parts k d).address + skip) (take count values)) (writable_places (drop (k + 1) parts)) (drop count values)
+      put_at (written bytes (place_of (get_or parts k d).address + skip) (take count values)) (writable_places (drop (k + 1) parts))
+          (drop count values)
       ≡ put_at bytes (drop skip (writable_places (drop k parts))) values
   pass_in bytes values skip count w h inside e =
       let p : Descriptor = get_or parts k d in

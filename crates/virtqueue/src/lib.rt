@@ -9,12 +9,14 @@ mod chains;
 mod laws;
 mod memory;
 mod parts;
+mod plain_ram;
 mod rings;
 
 pub use broken::Broken;
 pub use chains::{Chain, Descriptor};
 pub use laws::joined_lengths;
 pub use memory::{GuestRam, RAM_START};
+pub use plain_ram::PlainRam;
 pub use rings::Queue;
 
 #[cfg(test)]

@@ -6,29 +6,9 @@ ghost use Rattle.virtqueue.specs.Areas.{IsSized};
 
 use crate::broken::Broken;
 use crate::memory::GuestRam;
+use crate::plain_ram::PlainRam;
 use crate::rings::Queue;
 use std::test::Fail;
-
-#[derive(Drop)]
-struct Ram {
-    bytes: [u8; 4096],
-}
-
-impl GuestRam for Ram {
-    ghost bytes = { λ ram. ram.bytes };
-
-    fn size(&self) -> usize {
-        self.bytes.len()
-    }
-
-    fn read(&self, place: usize, into: &mut [u8]) {
-        into.copy_from_slice(&self.bytes[place..place + into.len()]);
-    }
-
-    fn write(&mut self, place: usize, from: &[u8]) {
-        self.bytes[place..place + from.len()].copy_from_slice(from);
-    }
-}
 
 /// A queue of four descriptors.
 fn four() -> Queue
@@ -46,8 +26,8 @@ fn four() -> Queue
 }
 
 /// RAM with these two descriptors, and one chain available whose head is the first.
-fn ram_with(first: &[u8; 16], second: &[u8; 16]) -> Ram {
-    let mut ram = Ram { bytes: [0; 4096] };
+fn ram_with(first: &[u8; 16], second: &[u8; 16]) -> PlainRam {
+    let mut ram = PlainRam::new();
     ram.write(0, first);
     ram.write(16, second);
     ram.write(0x40, &[0, 0, 1, 0, 0, 0]);
@@ -117,7 +97,7 @@ fn a_used_chain_stands_in_the_ring(rt: HostRuntime) -> Result<(), Fail> {
 }
 
 /// What is wrong with a queue or its next chain.
-fn found(queue: Queue, ram: &Ram) -> Option<Broken>
+fn found(queue: Queue, ram: &PlainRam) -> Option<Broken>
     requires { IsSized queue }
 {
     queue.next_chain(ram).err()

@@ -22,4 +22,6 @@ pub returns-in-28672 : goal.returns-in-28672
 returns-in-28672 c = grind (arith, reads_bgeu c.args.word (omega arith) (omega arith))
 
 pub returns-in_default : goal.returns-in_default
-returns-in_default c = sym (none_branch c.args.word (omega arith) (λ e. omega arith) (λ e. omega arith) (λ e. omega arith) (λ e. omega arith) (λ e. omega arith) (λ e. omega arith))
+returns-in_default c =
+    sym (none_branch c.args.word (omega arith) (λ e. omega arith) (λ e. omega arith) (λ e. omega arith) (λ e. omega arith)
+    (λ e. omega arith) (λ e. omega arith))

@@ -13,4 +13,7 @@ pub returns-in-111 : goal.returns-in-111
 returns-in-111 c = grind (arith, reads_jal c.args.word (omega arith))
 
 pub returns-in_default : goal.returns-in_default
-returns-in_default c = sym (none_by_opcode c.args.word (λ e. omega arith) (λ e. omega arith) (λ e. omega arith) (λ e. omega arith) (λ e. omega arith) (λ e. omega arith) (λ e. omega arith) (λ e. omega arith) (λ e. omega arith) (λ e. omega arith) (λ e. omega arith) (λ e. omega arith) (λ e. omega arith))
+returns-in_default c =
+    sym (none_by_opcode c.args.word (λ e. omega arith) (λ e. omega arith) (λ e. omega arith) (λ e. omega arith) (λ e. omega arith)
+    (λ e. omega arith) (λ e. omega arith) (λ e. omega arith) (λ e. omega arith) (λ e. omega arith) (λ e. omega arith) (λ e. omega arith)
+    (λ e. omega arith))

@@ -1,6 +1,7 @@
 -- Written by scripts/rows.py: the row that each arm finds.
 use Rattle.std.proofs.Common.{arith, sym}
-use Rattle.rv64_core.proofs.Found.{reads_addw, reads_sllw, reads_srlw, none_op_word, reads_mulw, reads_divw, reads_divuw, reads_remw, reads_remuw, none_op_word_1, reads_subw, reads_sraw, none_op_word_2, none_op_word_3}
+use Rattle.rv64_core.proofs.Found.{reads_addw, reads_sllw, reads_srlw, none_op_word, reads_mulw, reads_divw, reads_divuw, reads_remw,
+    reads_remuw, none_op_word_1, reads_subw, reads_sraw, none_op_word_2, none_op_word_3}
 use Rattle.rv64_core.proofs.decoding.op_word.Goals as goal
 
 pub returns-in-0-2 : goal.returns-in-0-2
@@ -31,7 +32,9 @@ pub returns-in-28672 : goal.returns-in-28672
 returns-in-28672 c = grind (arith, reads_remuw c.args.word (omega arith) (omega arith) (omega arith))
 
 pub returns-in_default-3 : goal.returns-in_default-3
-returns-in_default-3 c = sym (none_op_word_1 c.args.word (omega arith) (omega arith) (λ e. omega arith) (λ e. omega arith) (λ e. omega arith) (λ e. omega arith) (λ e. omega arith))
+returns-in_default-3 c =
+    sym (none_op_word_1 c.args.word (omega arith) (omega arith) (λ e. omega arith) (λ e. omega arith) (λ e. omega arith) (λ e. omega arith)
+    (λ e. omega arith))
 
 pub returns-in-0-4 : goal.returns-in-0-4
 returns-in-0-4 c = grind (arith, reads_subw c.args.word (omega arith) (omega arith) (omega arith))

@@ -16,4 +16,5 @@ pub returns-in-12288 : goal.returns-in-12288
 returns-in-12288 c = grind (arith, reads_sd c.args.word (omega arith) (omega arith))
 
 pub returns-in_default : goal.returns-in_default
-returns-in_default c = sym (none_store c.args.word (omega arith) (λ e. omega arith) (λ e. omega arith) (λ e. omega arith) (λ e. omega arith))
+returns-in_default c =
+    sym (none_store c.args.word (omega arith) (λ e. omega arith) (λ e. omega arith) (λ e. omega arith) (λ e. omega arith))

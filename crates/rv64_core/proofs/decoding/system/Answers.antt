@@ -1,6 +1,7 @@
 -- Written by scripts/rows.py: the row that each arm finds.
 use Rattle.std.proofs.Common.{arith, sym}
-use Rattle.rv64_core.proofs.Found.{reads_ecall, reads_ebreak, reads_mret, reads_wfi, none_system, reads_csrrw, reads_csrrs, reads_csrrc, reads_csrrwi, reads_csrrsi, reads_csrrci, none_system_1}
+use Rattle.rv64_core.proofs.Found.{reads_ecall, reads_ebreak, reads_mret, reads_wfi, none_system, reads_csrrw, reads_csrrs, reads_csrrc,
+    reads_csrrwi, reads_csrrsi, reads_csrrci, none_system_1}
 use Rattle.rv64_core.proofs.decoding.system.Goals as goal
 
 pub returns-in-115 : goal.returns-in-115
@@ -16,7 +17,9 @@ pub returns-in-273678451 : goal.returns-in-273678451
 returns-in-273678451 c = grind (arith, reads_wfi c.args.word (omega arith))
 
 pub returns-in_default-word : goal.returns-in_default-word
-returns-in_default-word c = sym (none_system c.args.word (omega arith) (omega arith) (omega arith) (λ e. omega arith) (λ e. omega arith) (λ e. omega arith) (λ e. omega arith))
+returns-in_default-word c =
+    sym (none_system c.args.word (omega arith) (omega arith) (omega arith) (λ e. omega arith) (λ e. omega arith) (λ e. omega arith)
+    (λ e. omega arith))
 
 pub returns-in-4096 : goal.returns-in-4096
 returns-in-4096 c = grind (arith, reads_csrrw c.args.word (omega arith) (omega arith))
@@ -37,4 +40,6 @@ pub returns-in-28672 : goal.returns-in-28672
 returns-in-28672 c = grind (arith, reads_csrrci c.args.word (omega arith) (omega arith))
 
 pub returns-in_default : goal.returns-in_default
-returns-in_default c = sym (none_system_1 c.args.word (omega arith) (λ e. omega arith) (λ e. omega arith) (λ e. omega arith) (λ e. omega arith) (λ e. omega arith) (λ e. omega arith) (λ e. omega arith))
+returns-in_default c =
+    sym (none_system_1 c.args.word (omega arith) (λ e. omega arith) (λ e. omega arith) (λ e. omega arith) (λ e. omega arith)
+    (λ e. omega arith) (λ e. omega arith) (λ e. omega arith))

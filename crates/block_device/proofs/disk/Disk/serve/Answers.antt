@@ -15,7 +15,8 @@ use Rattle.block_device.proofs.disk.Disk.serve.Goals as goal
 same_size : (g : _) (c : goal.After-sectors-sectors g) → capacity c.serve.new.handler ≡ capacity c.self.inside.storage
 same_size g c =
     ap capacity c.serve.ensures.kept
-    ∙ ap (λ n. n / 512) (disk_size (g.R.GuestRam.bytes c.args.ram.now) c.self.inside.transport.state c.self.inside.storage c.self.inside.transport.kind)
+    ∙ ap (λ n. n / 512) (disk_size (g.R.GuestRam.bytes c.args.ram.now) c.self.inside.transport.state c.self.inside.storage
+        c.self.inside.transport.kind)
 
 same_kind : (g : _) (c : goal.After-sectors-sectors g) → c.serve.new.self.kind ≡ Block (capacity c.serve.new.handler)
 same_kind g c = ap (λ (d : Device). d.kind) c.serve.ensures.state ∙ (c.self.invariant ∙ ap Block (sym (same_size g c)))
@@ -36,7 +37,9 @@ returns-clause-disk g c = c.sectors-sectors.ensures.disk
 abbrev left : (g : _) (c : goal.After-sectors-sectors g) → Served Contents
 left g c = disk_served (g.R.GuestRam.bytes c.args.ram.now) c.args.self.now.state c.args.self.now.contents
 
-is_left : (g : _) (c : goal.After-sectors-sectors g) → served c.self.inside.transport.kind 0 request_act (standing (g.R.GuestRam.bytes c.args.ram.now) c.self.inside.transport.state c.self.inside.storage) ≡ left g c
+is_left : (g : _) (c : goal.After-sectors-sectors g) →
+    served c.self.inside.transport.kind 0 request_act
+    (standing (g.R.GuestRam.bytes c.args.ram.now) c.self.inside.transport.state c.self.inside.storage) ≡ left g c
 unfolding disk_served
 is_left g c =
     let ram : List ℕ = g.R.GuestRam.bytes c.args.ram.now in
@@ -46,14 +49,17 @@ is_left g c =
 pub returns-clause-apart_memory : goal.returns-clause-apart_memory
 returns-clause-apart_memory g c =
     c.serve.ensures.memory ∙ (ap (λ (s : Served Contents). s.ram) (is_left g c)
-    ∙ memory_apart (g.R.GuestRam.bytes c.args.ram.now) c.args.self.now.state c.args.self.now.contents.bytes c.args.self.now.contents.dirty [])
+    ∙ memory_apart (g.R.GuestRam.bytes c.args.ram.now) c.args.self.now.state c.args.self.now.contents.bytes
+        c.args.self.now.contents.dirty [])
 
 pub returns-clause-apart_state : goal.returns-clause-apart_state
 returns-clause-apart_state g c =
     ap (λ (d : Device). d.state) c.serve.ensures.state ∙ (ap (λ (s : Served Contents). s.state) (is_left g c)
-    ∙ state_apart (g.R.GuestRam.bytes c.args.ram.now) c.args.self.now.state c.args.self.now.contents.bytes c.args.self.now.contents.dirty [])
+    ∙ state_apart (g.R.GuestRam.bytes c.args.ram.now) c.args.self.now.state c.args.self.now.contents.bytes
+        c.args.self.now.contents.dirty [])
 
 pub returns-clause-apart_bytes : goal.returns-clause-apart_bytes
 returns-clause-apart_bytes g c =
     ap (λ (d : Contents). d.bytes) c.serve.ensures.kept ∙ (ap (λ (s : Served Contents). s.kept.bytes) (is_left g c)
-    ∙ bytes_apart (g.R.GuestRam.bytes c.args.ram.now) c.args.self.now.state c.args.self.now.contents.bytes c.args.self.now.contents.dirty [])
+    ∙ bytes_apart (g.R.GuestRam.bytes c.args.ram.now) c.args.self.now.state c.args.self.now.contents.bytes
+        c.args.self.now.contents.dirty [])

@@ -7,11 +7,12 @@ use Rattle.output_gate.proofs.gate.Gate.held.Goals as goal
 
 pub returns-clause-held : goal.returns-clause-held
 returns-clause-held c =
-    part_is c.self.inside c.args.self.now c.self.view_is c.self.invariant c.args.number c.epochs_to-epochs.result c.frames_in-count.result
-    c.deref.result.now c.deref-2.result.now c.deref.ensures.value c.deref-2.ensures.value c.epochs_to-epochs.ensures c.frames_in-count.ensures
-    c.deref-3.result.now c.deref-3.ensures.value
+    part_is c.self.inside c.args.self.now c.self.view_is c.self.invariant c.args.number c.epochs_to.result c.frames_in-count.result
+    c.as_slice-marks.result.now c.as_slice-marks.result.now c.as_slice-marks.ensures.value c.as_slice-marks.ensures.value
+    c.epochs_to.ensures c.frames_in-count.ensures c.as_slice-frames.result.now c.as_slice-frames.ensures.value
 
 pub returns-clause-frames : goal.returns-clause-frames
 returns-clause-frames c =
-    All-take IsFrame c.frames_in-count.result c.deref-3.result.now
-    (subst (λ l. All IsFrame l) (sym c.deref-3.ensures.value) (row_frames c.self.inside c.args.self.now c.self.view_is c.self.invariant))
+    All-take IsFrame c.frames_in-count.result c.as_slice-frames.result.now
+    (subst (λ l. All IsFrame l) (sym c.as_slice-frames.ensures.value)
+        (row_frames c.self.inside c.args.self.now c.self.view_is c.self.invariant))
