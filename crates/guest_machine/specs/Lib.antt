@@ -5,6 +5,7 @@ pub mod DiskGuest
 pub mod Errors
 pub mod Examples
 pub mod Guest
+pub mod MachineStates
 pub mod Parts
 pub mod Pending
 pub mod Places

@@ -13,6 +13,7 @@ mod interrupts;
 mod laws;
 mod loads;
 mod machine;
+mod machine_state;
 mod places;
 mod ram;
 mod shapes;
@@ -28,9 +29,13 @@ pub use laws::{
     kept_memory, read_only_csrs_trap, sent_frames, timer_interrupts,
 };
 pub use machine::Machine;
+pub use machine_state::MachineState;
+pub use mtraps::CsrValues;
 pub use net_device::Frame;
 pub use ram::PAGE_BYTES;
 pub use shapes::Shape;
+pub use virtio_mmio::DeviceState;
+pub use virtqueue::Queue;
 
 #[cfg(test)]
 mod tests;
