@@ -1,3 +1,4 @@
+pub mod Listed
 pub mod Dirty
 pub mod Contents
 pub mod Request

@@ -174,13 +174,14 @@ impl Memory {
         } }
         ensures rules { IsPaged self.new }
     {
-        let start = PAGE_BYTES * page as usize;
+        let page = page as usize;
+        let start = PAGE_BYTES * page;
         put(
             &mut self.originals,
             start,
             &self.bytes[start..start + PAGE_BYTES],
         );
-        self.written[page as usize] = false;
+        self.written[page] = false;
     }
 }
 
