@@ -9,3 +9,4 @@ pub mod RunLemmas
 pub mod MemoryLemmas
 pub mod RegisterLemmas
 pub mod StateLemmas
+pub mod ListedLemmas

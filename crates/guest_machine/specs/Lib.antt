@@ -16,6 +16,7 @@ pub use Rattle.arrayvec.specs.ArrayVec
 pub use Rattle.block_device.specs.Contents
 pub use Rattle.block_device.specs.Dirty
 pub use Rattle.block_device.specs.Disk
+pub use Rattle.block_device.specs.Listed
 pub use Rattle.mtraps.specs.CsrTable
 pub use Rattle.net_device.specs.Frames
 pub use Rattle.net_device.specs.Receive

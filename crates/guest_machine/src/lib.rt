@@ -31,9 +31,10 @@ pub use block_device::SECTOR_BYTES;
 pub use bus_map::RAM_BASE;
 pub use errors::MachineError;
 pub use laws::{
-    aligned_pc, beacon_breaks, beacon_loses, beacon_sends, branches_trap, counted_steps,
-    devices_apart, disk_refuses, disk_writes, early_frames_are_lost, frames_arrive, kept_disk,
-    kept_memory, read_only_csrs_trap, sent_frames, timer_interrupts,
+    aligned_pc, beacon_breaks, beacon_loses, beacon_sends, branches_trap,
+    changed_sectors_are_listed, counted_steps, devices_apart, disk_refuses, disk_writes,
+    early_frames_are_lost, frames_arrive, kept_disk, kept_memory, read_only_csrs_trap, sent_frames,
+    timer_interrupts,
 };
 pub use machine::Machine;
 pub use machine_state::MachineState;
