@@ -7,3 +7,4 @@ pub mod Kept
 pub mod ReadBack
 pub mod Members
 pub mod ListApart
+pub mod Listed

@@ -152,7 +152,7 @@ module _ (P : Contents → Type 0) (keeps : (disk : Contents) (r : Request) (roo
     available_keep s (Ok n) p = chains_keep n s p
     available_keep s (Err b) p = p
 
-    served_keeps : (s : Served Contents) → P s.kept → P (served k i request_act s).kept
+    pub served_keeps : (s : Served Contents) → P s.kept → P (served k i request_act s).kept
     unfolding served
     served_keeps s p =
         elim (by_test {A = Served Contents} (can_serve k s.state i)

@@ -1,4 +1,5 @@
 pub mod Sectors
+pub mod Listed
 pub mod Dirty
 pub mod Contents
 pub mod Request

@@ -8,6 +8,7 @@ ghost use Rattle.block_device.specs.Contents.{Contents, IsDisk, capacity, sector
     contents_of};
 ghost use Rattle.block_device.specs.Dirty.{with_written, is_in};
 ghost use Rattle.block_device.specs.Disk.{disk_served};
+ghost use Rattle.block_device.specs.Listed.{IsListed};
 ghost use Rattle.block_device.specs.Request.{Request, outcome, written_len};
 
 /// A read of the sectors that a request has just written gives the bytes that it wrote.
@@ -53,6 +54,11 @@ pub fn the_list_plays_no_part()
 pub fn written_sectors()
     ensures { (dirty : List ℕ) (first count i : ℕ) → is_in i (with_written dirty first count)
         ≡ (is_in i dirty || (nat_le first i && nat_lt i (first + count))) }
+{}
+
+/// However many requests are served, no sector changes that isn't in the list afterwards, and none is taken off the list.
+pub fn changed_sectors_are_listed()
+    ensures { (ram : List ℕ) (state : DeviceState) (disk : Contents) → IsListed disk (disk_served ram state disk).kept }
 {}
 
 /// Worked requests to a disk of 8 sectors, all zero. A sector of bytes ab goes to sector 7, and not to sector 8, which is not

@@ -11,8 +11,8 @@ mod storage;
 pub use disk::Disk;
 pub use errors::DiskError;
 pub use laws::{
-    other_sectors, reading_back, serving_keeps_the_disk, the_list_plays_no_part, worked_lengths,
-    worked_requests, written_sectors,
+    changed_sectors_are_listed, other_sectors, reading_back, serving_keeps_the_disk,
+    the_list_plays_no_part, worked_lengths, worked_requests, written_sectors,
 };
 pub use storage::SECTOR_BYTES;
 

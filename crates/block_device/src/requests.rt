@@ -84,6 +84,7 @@ impl Storage {
         ensures memory { R.bytes ram.new ≡ put_at (R.bytes ram.old) (writable_places chain.now.parts)
             (read_outcome self.now sector room).payload }
         ensures size { length (R.bytes ram.new) ≡ length (R.bytes ram.old) }
+        ensures fixed { R.fixed ram.new ≡ R.fixed ram.old }
     {
         if !self.in_capacity(sector, room) {
             return Done {
@@ -134,6 +135,7 @@ impl Storage {
         ensures memory { R.bytes ram.new ≡ put_at (R.bytes ram.old) (writable_places chain.now.parts)
             (outcome self.old (request_of (readable_bytes (R.bytes ram.old) chain.now.parts)) room).payload }
         ensures size { length (R.bytes ram.new) ≡ length (R.bytes ram.old) }
+        ensures fixed { R.fixed ram.new ≡ R.fixed ram.old }
     {
         match header.kind {
             IN => self.read_request(ram, chain, header.sector, room),

@@ -7,3 +7,6 @@ pub mod AlignedLemmas
 pub mod ApartLemmas
 pub mod RunLemmas
 pub mod MemoryLemmas
+pub mod RegisterLemmas
+pub mod StateLemmas
+pub mod ListedLemmas

@@ -1,10 +1,11 @@
 pub mod Aligned
 pub mod Beacon
-pub mod Bytes
+pub mod Blocks
 pub mod DiskGuest
 pub mod Errors
 pub mod Examples
 pub mod Guest
+pub mod MachineStates
 pub mod Parts
 pub mod Pending
 pub mod Places
@@ -15,8 +16,11 @@ pub use Rattle.arrayvec.specs.ArrayVec
 pub use Rattle.block_device.specs.Contents
 pub use Rattle.block_device.specs.Dirty
 pub use Rattle.block_device.specs.Disk
+pub use Rattle.block_device.specs.Listed
 pub use Rattle.mtraps.specs.CsrTable
 pub use Rattle.net_device.specs.Frames
 pub use Rattle.net_device.specs.Receive
+pub use Rattle.paged_memory.specs.Bytes
+pub use Rattle.paged_memory.specs.Pages
 pub use Rattle.rv64_core.specs.Registers
 pub use Rattle.virtio_mmio.specs.States

@@ -4,16 +4,18 @@ ghost use Rattle.mtraps.specs.CsrTable.{boot_values};
 ghost use Rattle.arrayvec.specs.ArrayVec.{ArrayVec};
 ghost use Rattle.virtio_mmio.specs.declared.kinds.DeviceKind.TheVariants.{Network};
 ghost use Rattle.virtio_mmio.specs.States.{boot_state, IsDeviceRecord};
+ghost use Rattle.block_device.specs.Contents.{contents_of};
+ghost use Rattle.block_device.specs.Listed.{IsListed};
 ghost use Rattle.net_device.specs.Frames.{IsFrame};
 ghost use Rattle.guest_machine.specs.Aligned.{IsAligned};
 ghost use Rattle.guest_machine.specs.Beacon.{beacon, beacon_with, beacon_frame};
-ghost use Rattle.guest_machine.specs.Bytes.{number_at};
+ghost use Rattle.paged_memory.specs.Bytes.{number_at};
 ghost use Rattle.guest_machine.specs.DiskGuest.{disk_guest, IsAnswered};
 ghost use Rattle.guest_machine.specs.Examples.{two_branches, mhartid_written, timer_due, receiver, client_frame};
 ghost use Rattle.guest_machine.specs.Guest.{Guest, HasDeviceRecords, sector_count, boot_guest};
 ghost use Rattle.guest_machine.specs.Pending.{mip};
 ghost use Rattle.guest_machine.specs.Runs.{after_steps, sent_in, marked_in};
-ghost use Rattle.guest_machine.specs.Step.{next, sent, arrived};
+ghost use Rattle.guest_machine.specs.Step.{next, sent, marked, arrived};
 
 /// Whatever the guest, its next step sends at most 64 frames, each of 14 to 1514 bytes.
 pub fn sent_frames()
@@ -41,6 +43,13 @@ pub fn kept_memory()
 pub fn kept_disk()
     ensures boot { (pages sectors : ℕ) (image : List ℕ) → sector_count (boot_guest pages sectors image).sectors ≡ sectors }
     ensures step { (g : Guest) → sector_count (next g).sectors ≡ sector_count g.sectors }
+{}
+
+/// Steps change no sector that isn't in the list of written sectors afterwards, and take none off it. (An arrival changes no sector, and
+/// leaves the list.)
+pub fn changed_sectors_are_listed()
+    ensures step { (g : Guest) (dirty : List ℕ) → IsListed (contents_of g.sectors dirty) (contents_of (next g).sectors (marked g dirty)) }
+    ensures run { (n : ℕ) (g : Guest) (dirty : List ℕ) → IsListed (contents_of g.sectors dirty) (contents_of (after_steps n g).sectors (marked_in n g dirty)) }
 {}
 
 /// No step changes what the network card keeps and also what the disk keeps, and a frame that arrives changes nothing of the disk.

@@ -2,9 +2,14 @@
 //!
 //! [`Machine::boot`] makes the machine, [`Machine::step`] takes an interrupt or runs one instruction, [`Machine::outbox`] gives the frames
 //! that the guest sent since the last [`Machine::settle`], and [`Machine::arrive`] has one arrive at it. Contracts see a machine as a
-//! `State` of the specs: its `Guest`, a record of plain data, its outbox, and the list of the sectors that the guest wrote.
+//! `State` of the specs: its `Guest`, a record of plain data, its outbox, the list of the written sectors, the bytes of memory at the
+//! last settle, and a flag for each page that was written since.
+//!
+//! [`Machine::state`], [`Machine::page`] and [`Machine::sector`] give all that a checkpoint states; [`Machine::put_state`],
+//! [`Machine::xor_block`] and [`Machine::put_sector`] put it back.
 #![tactic(auto)]
 
+mod blocks;
 mod csr_access;
 mod devices;
 mod errors;
@@ -13,9 +18,12 @@ mod interrupts;
 mod laws;
 mod loads;
 mod machine;
+mod machine_state;
 mod places;
 mod ram;
+mod readers;
 mod shapes;
+mod snapshots;
 mod step;
 mod stores;
 
@@ -23,14 +31,19 @@ pub use block_device::SECTOR_BYTES;
 pub use bus_map::RAM_BASE;
 pub use errors::MachineError;
 pub use laws::{
-    aligned_pc, beacon_breaks, beacon_loses, beacon_sends, branches_trap, counted_steps,
-    devices_apart, disk_refuses, disk_writes, early_frames_are_lost, frames_arrive, kept_disk,
-    kept_memory, read_only_csrs_trap, sent_frames, timer_interrupts,
+    aligned_pc, beacon_breaks, beacon_loses, beacon_sends, branches_trap,
+    changed_sectors_are_listed, counted_steps, devices_apart, disk_refuses, disk_writes,
+    early_frames_are_lost, frames_arrive, kept_disk, kept_memory, read_only_csrs_trap, sent_frames,
+    timer_interrupts,
 };
 pub use machine::Machine;
+pub use machine_state::MachineState;
+pub use mtraps::CsrValues;
 pub use net_device::Frame;
-pub use ram::PAGE_BYTES;
+pub use paged_memory::PAGE_BYTES;
 pub use shapes::Shape;
+pub use virtio_mmio::DeviceState;
+pub use virtqueue::Queue;
 
 #[cfg(test)]
 mod tests;

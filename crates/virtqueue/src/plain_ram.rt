@@ -1,6 +1,6 @@
 //! The plainest guest memory.
 
-ghost use Rattle.std.specs.Prelude.{◌≡◌, replicate};
+ghost use Rattle.std.specs.Prelude.{◌≡◌, [], replicate};
 
 use crate::memory::GuestRam;
 
@@ -22,6 +22,8 @@ impl PlainRam {
 
 impl GuestRam for PlainRam {
     ghost bytes = { λ ram. ram.bytes };
+
+    ghost fixed = { λ _. [] };
 
     fn size(&self) -> usize {
         self.bytes.len()
