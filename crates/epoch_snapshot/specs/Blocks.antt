@@ -1,0 +1,36 @@
+-- Blocks of 64 bytes: 64 of them are a page of 4096 bytes.
+use Rattle.std.specs.Prelude.{ℕ, ◌+◌, ◌*◌, Bool, ◌==◌, List, [], ◌∷◌, ◌++◌, length, map, filter, take, drop, bit_xor, slice_range}
+use Rattle.std.specs.List.{range_with_len, list_all}
+use Rattle.std.specs.Int.{bit_at}
+use Rattle.epoch_snapshot.specs.declared.changes.PageChange.{PageChange}
+
+-- bytes with some of them, from a place on, replaced; all others stay
+abbrev pub replaced : List ℕ → ℕ → List ℕ → List ℕ
+replaced bytes at new = take at bytes ++ (new ++ drop (at + length new) bytes)
+
+-- every byte is 0
+abbrev pub is_zero : List ℕ → Bool
+is_zero bytes = list_all (λ b. b == 0) bytes
+
+-- the blocks that a mask names, from bit 0 up
+unfoldable pub set_blocks : ℕ → List ℕ
+set_blocks mask = filter (λ i. bit_at mask i == 1) (range_with_len 0 64)
+
+-- the blocks that pages change, in turn, each by its number from the start of memory
+unfoldable pub block_numbers : List PageChange → List ℕ
+block_numbers [] = []
+block_numbers (p ∷ ps) = map (λ i. 64 * p.page + i) (set_blocks p.mask) ++ block_numbers ps
+
+-- two lists of bytes XORed position by position, as long as the shorter
+abbrev pub xored : List ℕ → List ℕ → List ℕ
+xored [] ys = []
+xored (x ∷ xs) [] = []
+xored (x ∷ xs) (y ∷ ys) = bit_xor x y ∷ xored xs ys
+
+-- the bytes of a block of memory, by its number
+abbrev pub block_in : List ℕ → ℕ → List ℕ
+block_in ram n = slice_range ram (64 * n) (64 * n + 64)
+
+-- memory with a block XORed into one of its own
+abbrev pub with_xored : List ℕ → ℕ → List ℕ → List ℕ
+with_xored ram n block = replaced ram (64 * n) (xored (block_in ram n) block)
