@@ -1,0 +1,5 @@
+mod RangeLemmas
+mod PartLemmas
+mod BlockLemmas
+mod MaskLemmas
+mod CutLemmas

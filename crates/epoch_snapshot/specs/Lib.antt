@@ -1,3 +1,4 @@
 pub mod Blocks
 pub mod Checkpoints
+pub mod Cuts
 pub mod Images
