@@ -24,7 +24,7 @@ length-xored [] ys e = refl
 length-xored (x ∷ xs) [] e = sym e
 length-xored (x ∷ xs) (y ∷ ys) e = ap suc (length-xored xs ys (omega arith))
 
-or_parts : (a b : Bool) → (a || b) ≡ false → (a ≡ false) × (b ≡ false)
+pub or_parts : (a b : Bool) → (a || b) ≡ false → (a ≡ false) × (b ≡ false)
 or_parts true b e = absurd (true≢false e)
 or_parts false b e = (refl, e)
 

@@ -3,3 +3,5 @@ mod PartLemmas
 mod BlockLemmas
 mod MaskLemmas
 mod CutLemmas
+mod CanonicalLemmas
+mod SectorLemmas
