@@ -1,0 +1,5 @@
+pub mod BlockLemmas
+pub mod PageLemmas
+pub mod PartLemmas
+pub mod SideBySide
+pub mod ZeroLemmas
