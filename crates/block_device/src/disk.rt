@@ -2,7 +2,7 @@
 ghost use Rattle.std.specs.Prelude.{◌≡◌, ◌+◌, ◌*◌, ◌<◌, ◌≤◌, IfOk, OnErr, Err, [], length};
 ghost use Rattle.virtio_mmio.specs.States.{boot_state, IsDeviceRecord};
 ghost use Rattle.virtio_mmio.specs.Transport.{loaded, store_answer, state_after_store};
-ghost use Rattle.block_device.specs.Contents.{capacity, sector_at, boot_contents, unlisted, IsDisk};
+ghost use Rattle.block_device.specs.Contents.{capacity, sector_at, boot_contents, contents_with, unlisted, IsDisk};
 ghost use Rattle.block_device.specs.Dirty.{Rises};
 ghost use Rattle.block_device.specs.Disk.{disk_of, kind_of, disk_served};
 
@@ -76,6 +76,7 @@ impl Disk {
         ensures value { result ≡ capacity self.now.contents }
         ensures least { 1 ≤ result }
         ensures most { result ≤ 32768 }
+        ensures disk { IsDisk self.now.contents }
     {
         self.storage.sectors()
     }
@@ -128,6 +129,16 @@ impl Disk {
         self.transport.put_state(state);
     }
 
+    /// Puts other bytes in the place of a sector's, and the sector into the list of the written ones. The disk has it, as the
+    /// caller knows. It takes no memory.
+    pub fn put_sector(&mut self, sector: u32, bytes: &[u8; SECTOR_BYTES])
+        requires { sector < capacity self.old.contents }
+        ensures value { self.new ≡ disk_of self.old.state (contents_with self.old.contents sector bytes.now) }
+        ensures sectors { capacity self.new.contents ≡ capacity self.old.contents }
+    {
+        self.storage.put_sector(sector, bytes);
+    }
+
     /// What a load of `width` bytes at `offset` of the device's registers gives; `None` is an access fault: a width other than 4
     /// below 0x100, or one other than 1, 2, 4 and 8 from there on.
     pub fn load(&self, offset: u64, width: u8) -> Option<u64>
@@ -161,6 +172,7 @@ impl Disk {
         ensures apart_bytes { self.new.contents.bytes ≡ (disk_served (R.bytes ram.old) self.old.state (unlisted self.old.contents)).kept.bytes }
         ensures list { self.new.contents.dirty ≡ (disk_served (R.bytes ram.old) self.old.state self.old.contents).kept.dirty }
         ensures size { length (R.bytes ram.new) ≡ length (R.bytes ram.old) }
+        ensures fixed { R.fixed ram.new ≡ R.fixed ram.old }
         ensures sectors { capacity self.new.contents ≡ capacity self.old.contents }
         ensures rules { IsDeviceRecord (kind_of self.new) self.new.state }
         ensures disk { IsDisk self.new.contents }

@@ -83,6 +83,7 @@ impl Storage {
         ensures few { result.len ≤ 512 * 32768 }
         ensures memory { R.bytes ram.new ≡ put_at (R.bytes ram.old) (writable_places chain.now.parts) (read_outcome self.now sector room).payload }
         ensures size { length (R.bytes ram.new) ≡ length (R.bytes ram.old) }
+        ensures fixed { R.fixed ram.new ≡ R.fixed ram.old }
     {
         if !self.in_capacity(sector, room) {
             return Done {
@@ -132,6 +133,7 @@ impl Storage {
         ensures disk { self.new ≡ (outcome self.old (request_of (readable_bytes (R.bytes ram.old) chain.now.parts)) room).disk }
         ensures memory { R.bytes ram.new ≡ put_at (R.bytes ram.old) (writable_places chain.now.parts) (outcome self.old (request_of (readable_bytes (R.bytes ram.old) chain.now.parts)) room).payload }
         ensures size { length (R.bytes ram.new) ≡ length (R.bytes ram.old) }
+        ensures fixed { R.fixed ram.new ≡ R.fixed ram.old }
     {
         match header.kind {
             IN => self.read_request(ram, chain, header.sector, room),

@@ -92,6 +92,16 @@ impl Storage {
         self.dirty.clear();
     }
 
+    /// Puts other bytes in the place of a sector's, and puts it into the list of the written ones.
+    pub(crate) fn put_sector(&mut self, sector: u32, bytes: &[u8; SECTOR_BYTES])
+        requires { sector < capacity self.old }
+        ensures { self.new ≡ contents_with self.old sector bytes.now }
+    {
+        let start = SECTOR_BYTES * sector as usize;
+        put(&mut self.bytes, start, bytes);
+        mark_written(&mut self.dirty, sector, 1);
+    }
+
     /// Whether so many bytes from a sector on are whole sectors of the disk.
     pub(crate) fn in_capacity(&self, sector: u64, len: u64) -> bool
         ensures { result ≡ in_capacity self.now sector len }
@@ -120,6 +130,7 @@ impl Storage {
         requires fits { len ≤ writable_len chain.now.parts }
         ensures value { R.bytes ram.new ≡ put_at (R.bytes ram.old) (writable_places chain.now.parts) (bytes_at self.now sector len) }
         ensures size { length (R.bytes ram.new) ≡ length (R.bytes ram.old) }
+        ensures fixed { R.fixed ram.new ≡ R.fixed ram.old }
         ensures len { length (bytes_at self.now sector len) ≡ len }
         ensures few { len ≤ 512 * 32768 }
     {
@@ -147,6 +158,15 @@ impl Storage {
         gather_at(&mut self.bytes, start, len as usize, ram, chain, at);
         mark_written(&mut self.dirty, sector as u32, (len / 512) as u32);
     }
+}
+
+/// Puts a sector's bytes in the place of those from one on.
+fn put(bytes: &mut Vec<u8>, start: usize, new: &[u8; SECTOR_BYTES])
+    requires { start + 512 ≤ length bytes.old.items }
+    ensures items { bytes.new.items ≡ written bytes.old.items start new.now }
+    ensures size { length bytes.new.items ≡ length bytes.old.items }
+{
+    bytes[start..start + SECTOR_BYTES].copy_from_slice(new);
 }
 
 /// A sector's bytes as an array.

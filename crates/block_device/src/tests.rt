@@ -1,7 +1,7 @@
 //! A driver's requests to a disk of 8 sectors, in a RAM of 4096 bytes: a queue of 4 descriptors at its start, the available
 //! ring at 0x40, the used ring at 0x80, the header at 0x100, the status byte at 0x110 and the data from 0x200 on.
 
-ghost use Rattle.std.specs.Prelude.{◌≡◌, ◌+◌, ◌<◌, ◌≤◌, length, take, drop};
+ghost use Rattle.std.specs.Prelude.{◌≡◌, [], ◌+◌, ◌<◌, ◌≤◌, length, take, drop};
 
 use crate::disk::Disk;
 use crate::errors::DiskError;
@@ -17,6 +17,8 @@ struct Ram {
 
 impl GuestRam for Ram {
     ghost bytes = { λ ram. ram.bytes };
+
+    ghost fixed = { λ _. [] };
 
     fn size(&self) -> usize {
         self.bytes.len()

@@ -7,3 +7,5 @@ pub mod AlignedLemmas
 pub mod ApartLemmas
 pub mod RunLemmas
 pub mod MemoryLemmas
+pub mod RegisterLemmas
+pub mod StateLemmas

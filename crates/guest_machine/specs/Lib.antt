@@ -1,6 +1,6 @@
 pub mod Aligned
 pub mod Beacon
-pub mod Bytes
+pub mod Blocks
 pub mod DiskGuest
 pub mod Errors
 pub mod Examples
@@ -19,5 +19,7 @@ pub use Rattle.block_device.specs.Disk
 pub use Rattle.mtraps.specs.CsrTable
 pub use Rattle.net_device.specs.Frames
 pub use Rattle.net_device.specs.Receive
+pub use Rattle.paged_memory.specs.Bytes
+pub use Rattle.paged_memory.specs.Pages
 pub use Rattle.rv64_core.specs.Registers
 pub use Rattle.virtio_mmio.specs.States

@@ -5,7 +5,7 @@ ghost use Rattle.virtio_mmio.specs.declared.kinds.DeviceKind.TheVariants.{Networ
 ghost use Rattle.virtio_mmio.specs.States.{boot_state, IsDeviceRecord};
 ghost use Rattle.virtio_mmio.specs.Transport.{loaded, stored};
 ghost use Rattle.net_device.specs.Receive.{received};
-ghost use Rattle.block_device.specs.Contents.{capacity, boot_contents, unlisted};
+ghost use Rattle.block_device.specs.Contents.{capacity, boot_contents, contents_with, unlisted};
 ghost use Rattle.block_device.specs.Dirty.{Rises};
 ghost use Rattle.guest_machine.specs.Guest.{sector_count};
 ghost use Rattle.guest_machine.specs.Step.{acted, disk_acted};
@@ -115,9 +115,10 @@ impl Devices {
     /// What the network card does that a store asked to act.
     pub(crate) fn act_net(&mut self, ram: &mut Ram, outbox: &mut Outbox, action: Action)
         requires room { length outbox.old + 64 ≤ 256 }
-        ensures memory { ram.new ≡ (acted ram.old self.old.net action).ram }
-        ensures card { self.new ≡ record self.old { net = (acted ram.old self.old.net action).net } }
-        ensures frames { outbox.new ≡ outbox.old ++ (acted ram.old self.old.net action).frames }
+        ensures memory { ram.new.memory.bytes ≡ (acted ram.old.memory.bytes self.old.net action).ram }
+        ensures settled { ram.new.memory.settled ≡ ram.old.memory.settled }
+        ensures card { self.new ≡ record self.old { net = (acted ram.old.memory.bytes self.old.net action).net } }
+        ensures frames { outbox.new ≡ outbox.old ++ (acted ram.old.memory.bytes self.old.net action).frames }
     {
         match action {
             Action::Notify(queue) => {
@@ -131,10 +132,11 @@ impl Devices {
 
     /// What the disk does that a store asked to act.
     pub(crate) fn act_disk(&mut self, ram: &mut Ram, action: Action)
-        ensures memory { ram.new ≡ (disk_acted ram.old self.old.disk (unlisted self.old.contents) action).ram }
-        ensures disk { self.new.disk ≡ (disk_acted ram.old self.old.disk (unlisted self.old.contents) action).state }
-        ensures sectors { self.new.contents.bytes ≡ (disk_acted ram.old self.old.disk (unlisted self.old.contents) action).kept.bytes }
-        ensures list { self.new.contents.dirty ≡ (disk_acted ram.old self.old.disk self.old.contents action).kept.dirty }
+        ensures memory { ram.new.memory.bytes ≡ (disk_acted ram.old.memory.bytes self.old.disk (unlisted self.old.contents) action).ram }
+        ensures settled { ram.new.memory.settled ≡ ram.old.memory.settled }
+        ensures disk { self.new.disk ≡ (disk_acted ram.old.memory.bytes self.old.disk (unlisted self.old.contents) action).state }
+        ensures sectors { self.new.contents.bytes ≡ (disk_acted ram.old.memory.bytes self.old.disk (unlisted self.old.contents) action).kept.bytes }
+        ensures list { self.new.contents.dirty ≡ (disk_acted ram.old.memory.bytes self.old.disk self.old.contents action).kept.dirty }
         ensures net { self.new.net ≡ self.old.net }
     {
         match action {
@@ -149,9 +151,10 @@ impl Devices {
 
     /// A frame arrives at the network card, and is put into the next chain of its receive queue. Says whether it was.
     pub(crate) fn receive(&mut self, ram: &mut Ram, frame: &Frame) -> bool
-        ensures taken { result ≡ (received ram.old self.old.net frame.now).taken }
-        ensures memory { ram.new ≡ (received ram.old self.old.net frame.now).ram }
-        ensures card { self.new ≡ record self.old { net = (received ram.old self.old.net frame.now).net } }
+        ensures taken { result ≡ (received ram.old.memory.bytes self.old.net frame.now).taken }
+        ensures memory { ram.new.memory.bytes ≡ (received ram.old.memory.bytes self.old.net frame.now).ram }
+        ensures settled { ram.new.memory.settled ≡ ram.old.memory.settled }
+        ensures card { self.new ≡ record self.old { net = (received ram.old.memory.bytes self.old.net frame.now).net } }
     {
         self.net.receive(ram, frame)
     }
@@ -177,6 +180,7 @@ impl Devices {
         ensures value { result ≡ sector_count self.now.contents.bytes }
         ensures least { 1 ≤ result }
         ensures most { result ≤ 32768 }
+        ensures whole { length self.now.contents.bytes ≡ 512 * result }
     {
         self.disk.sectors()
     }
@@ -195,6 +199,24 @@ impl Devices {
         ensures rises { Rises 0 (sector_count self.now.contents.bytes) result.now }
     {
         self.disk.dirty_sectors()
+    }
+
+    /// Puts other records in the place of those that both devices keep.
+    pub(crate) fn put_records(&mut self, net: &DeviceState, disk: &DeviceState)
+        requires net { IsDeviceRecord Network net.now }
+        requires disk { IsDeviceRecord (Block (sector_count self.old.contents.bytes)) disk.now }
+        ensures { self.new ≡ record self.old { net = net.now; disk = disk.now } }
+    {
+        self.net.transport.put_state(net);
+        self.disk.put_state(disk);
+    }
+
+    /// Puts other bytes in the place of a sector's, and puts it into the list of the written ones.
+    pub(crate) fn put_sector(&mut self, sector: u32, bytes: &[u8; SECTOR_BYTES])
+        requires { sector < sector_count self.old.contents.bytes }
+        ensures { self.new ≡ record self.old { contents = contents_with self.old.contents sector bytes.now } }
+    {
+        self.disk.put_sector(sector, bytes);
     }
 
     /// Empties the list of the written sectors.

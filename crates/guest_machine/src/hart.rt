@@ -1,9 +1,10 @@
 //! What the hart itself keeps, and its timer.
-ghost use Rattle.std.specs.Prelude.{◌≡◌, ◌+◌, ◌%◌, ◌^◌};
+ghost use Rattle.std.specs.Prelude.{◌≡◌, ◌+◌, ◌%◌, ◌^◌, ◌∷◌, drop};
 ghost use Rattle.mtraps.specs.Traps.{after_entry, handler};
+ghost use Rattle.rv64_core.specs.Registers.{AreRegisters};
 
 use mtraps::Csrs;
-use rv64_core::Regs;
+use rv64_core::{Register, Regs};
 
 /// The registers of the hart, those of its timer, and its step count.
 #[derive(Clone, Copy)]
@@ -34,6 +35,20 @@ impl Hart {
         self.pc = self.csrs.enter(cause, value, self.pc);
     }
 
+    /// The values of x1 to x31.
+    pub(crate) fn registers(&self) -> [u64; 31]
+        ensures value { result ≡ drop 1 self.now.regs }
+        ensures registers { AreRegisters self.now.regs }
+    {
+        let x0 = self.regs.get(Register::zero());
+        let mut values = [x0; 31];
+        for i in 0..31 {
+            let value = self.regs.get(Register::from_low_bits(i as u32 + 1));
+            values[i] = value;
+        }
+        values
+    }
+
     /// Goes on at the word behind this one.
     #[inline]
     pub(crate) fn pass(&mut self)
@@ -41,4 +56,15 @@ impl Hart {
     {
         self.pc = self.pc.wrapping_add(4);
     }
+}
+
+/// The registers of which x1 to x31 have these values.
+pub(crate) fn registers_with(values: &[u64; 31]) -> Regs
+    ensures { result ≡ 0 ∷ values.now }
+{
+    let mut regs = Regs::new();
+    for i in 0..31 {
+        regs.set(Register::from_low_bits(i as u32 + 1), values[i]);
+    }
+    regs
 }

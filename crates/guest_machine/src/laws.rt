@@ -7,7 +7,7 @@ ghost use Rattle.virtio_mmio.specs.States.{boot_state, IsDeviceRecord};
 ghost use Rattle.net_device.specs.Frames.{IsFrame};
 ghost use Rattle.guest_machine.specs.Aligned.{IsAligned};
 ghost use Rattle.guest_machine.specs.Beacon.{beacon, beacon_with, beacon_frame};
-ghost use Rattle.guest_machine.specs.Bytes.{number_at};
+ghost use Rattle.paged_memory.specs.Bytes.{number_at};
 ghost use Rattle.guest_machine.specs.DiskGuest.{disk_guest, IsAnswered};
 ghost use Rattle.guest_machine.specs.Examples.{two_branches, mhartid_written, timer_due, receiver, client_frame};
 ghost use Rattle.guest_machine.specs.Guest.{Guest, HasDeviceRecords, sector_count, boot_guest};

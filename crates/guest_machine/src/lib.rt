@@ -2,9 +2,14 @@
 //!
 //! [`Machine::boot`] makes the machine, [`Machine::step`] takes an interrupt or runs one instruction, [`Machine::outbox`] gives the frames
 //! that the guest sent since the last [`Machine::settle`], and [`Machine::arrive`] has one arrive at it. Contracts see a machine as a
-//! `State` of the specs: its `Guest`, a record of plain data, its outbox, and the list of the sectors that the guest wrote.
+//! `State` of the specs: its `Guest`, a record of plain data, its outbox, the list of the written sectors, the bytes of memory at the
+//! last settle, and a flag for each page that was written since.
+//!
+//! [`Machine::state`], [`Machine::page`] and [`Machine::sector`] give all that a checkpoint states; [`Machine::put_state`],
+//! [`Machine::xor_block`] and [`Machine::put_sector`] put it back.
 #![tactic(auto)]
 
+mod blocks;
 mod csr_access;
 mod devices;
 mod errors;
@@ -16,7 +21,9 @@ mod machine;
 mod machine_state;
 mod places;
 mod ram;
+mod readers;
 mod shapes;
+mod snapshots;
 mod step;
 mod stores;
 
@@ -32,7 +39,7 @@ pub use machine::Machine;
 pub use machine_state::MachineState;
 pub use mtraps::CsrValues;
 pub use net_device::Frame;
-pub use ram::PAGE_BYTES;
+pub use paged_memory::PAGE_BYTES;
 pub use shapes::Shape;
 pub use virtio_mmio::DeviceState;
 pub use virtqueue::Queue;

@@ -26,8 +26,8 @@ pub(crate) fn load(
     width: Width,
     signed: bool,
 )
-    ensures { load_done (guest_of hart.old ram.now devices.now) rd address signed (width_bytes width)
-        ≡ quiet (guest_of hart.new ram.now devices.now) }
+    ensures { load_done (guest_of hart.old ram.now.memory.bytes devices.now) rd address signed (width_bytes width)
+        ≡ quiet (guest_of hart.new ram.now.memory.bytes devices.now) }
 {
     if !is_aligned(address, width) {
         hart.trap(LOAD_MISALIGNED, address);
@@ -59,7 +59,7 @@ pub(crate) fn is_aligned(address: u64, width: Width) -> bool
 /// What stands at a place, or `None` for an access fault.
 #[inline]
 fn read(hart: &Hart, ram: &Ram, devices: &Devices, place: Place, width: Width) -> Option<u64>
-    ensures { result ≡ loaded_from (guest_of hart.now ram.now devices.now) (width_bytes width) place }
+    ensures { result ≡ loaded_from (guest_of hart.now ram.now.memory.bytes devices.now) (width_bytes width) place }
 {
     match place {
         Place::Ram(offset) => ram.load(offset, width),

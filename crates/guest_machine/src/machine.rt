@@ -1,13 +1,7 @@
 //! A machine: the guest and the frames that it sent.
-ghost use Rattle.std.specs.Prelude.{◌≡◌, ◌+◌, ◌*◌, ◌<◌, ◌≤◌, ◌↔◌, [], ◌++◌, length, All, IsErr, IsOk, IfOk, OnOk, OnErr, Err, slice_range, slice_index};
-ghost use Rattle.rv64_core.specs.Registers.{register};
-ghost use Rattle.mtraps.specs.CsrTable.{IsLegal};
-ghost use Rattle.virtio_mmio.specs.declared.kinds.DeviceKind.TheVariants.{Network};
-ghost use Rattle.virtio_mmio.specs.States.{IsDeviceRecord};
-ghost use Rattle.block_device.specs.Dirty.{Rises};
-ghost use Rattle.net_device.specs.Frames.{IsFrame};
+ghost use Rattle.std.specs.Prelude.{◌≡◌, ◌*◌, ◌<◌, ◌≤◌, ◌↔◌, [], ◌++◌, false, length, replicate, IsErr, IfOk, OnOk, OnErr, Err};
 ghost use Rattle.net_device.specs.Receive.{received};
-ghost use Rattle.guest_machine.specs.Guest.{boot_guest, sector_count, disk_kind};
+ghost use Rattle.guest_machine.specs.Guest.{boot_guest};
 ghost use Rattle.guest_machine.specs.Runs.{after_steps, sent_in, marked_in, HaveRoom};
 ghost use Rattle.guest_machine.specs.Step.{next, sent, marked, arrived};
 
@@ -17,35 +11,38 @@ use crate::hart::Hart;
 use crate::ram::Ram;
 use crate::shapes::Shape;
 use crate::step::run_step;
-use block_device::SECTOR_BYTES;
 use bus_map::RAM_BASE;
-use mtraps::{CsrValues, Csrs};
+use mtraps::Csrs;
 use net_device::{Frame, Outbox};
-use rv64_core::{Register, Regs};
+use paged_memory::Memory;
+use rv64_core::Regs;
 use std::alloc::Global;
 use std::marker::Model;
-use virtio_mmio::DeviceState;
 
 /// How many frames the outbox may hold for a step: 64 of its 256 places are then free, as many as one step can take.
 const STEPPING_FRAMES: usize = 192;
 
-/// A guest, and since the last [`settle`](Machine::settle) the frames that it sent and the sectors that it wrote. All memory that
-/// its calls need is reserved at boot.
+/// A guest, and since the last [`settle`](Machine::settle) the frames that it sent, and which pages and sectors were written. All
+/// memory that its calls need is reserved at boot.
 #[derive(Drop)]
 pub struct Machine {
-    hart: Hart,
-    ram: Ram,
-    devices: Devices,
-    outbox: Outbox,
+    pub(crate) hart: Hart,
+    pub(crate) ram: Ram,
+    pub(crate) devices: Devices,
+    pub(crate) outbox: Outbox,
 }
 
 impl Model for Machine {
     ghost use Rattle.guest_machine.specs.Guest.{State};
-    ghost use Rattle.guest_machine.specs.Parts.{guest_of};
+    ghost use Rattle.guest_machine.specs.Parts.{guest_of, state_with};
 
     ghost Value = { State };
 
-    ghost view = { λ m. record { guest = guest_of m.hart m.ram m.devices; outbox = m.outbox; dirty = m.devices.contents.dirty } };
+    ghost use Rattle.guest_machine.specs.Aligned.{IsAligned};
+
+    ghost view = { λ m. state_with m.hart m.ram.memory m.devices m.outbox };
+
+    ghost invariant = { λ m. IsAligned (guest_of m.hart m.ram.memory.bytes m.devices) };
 }
 
 impl Machine {
@@ -60,9 +57,11 @@ impl Machine {
         ensures guest { IfOk result (λ machine. machine.guest ≡ boot_guest shape.pages shape.sectors image.now) }
         ensures outbox { IfOk result (λ machine. machine.outbox ≡ []) }
         ensures dirty { IfOk result (λ machine. machine.dirty ≡ []) }
+        ensures settled { IfOk result (λ machine. machine.settled ≡ machine.guest.ram) }
+        ensures written { IfOk result (λ machine. machine.written ≡ replicate shape.pages false) }
         ensures err { OnErr result (result ≡ Err MachineError.NoMemory) }
     {
-        let Ok(ram) = Ram::boot(alloc, shape.pages, image) else {
+        let Ok(memory) = Memory::boot(alloc, shape.pages, image) else {
             return Err(MachineError::NoMemory);
         };
         let Ok(devices) = Devices::boot(alloc, shape.sectors) else {
@@ -80,7 +79,7 @@ impl Machine {
                 mtimecmp: u64::MAX,
                 steps: 0,
             },
-            ram,
+            ram: Ram { memory },
             devices,
             outbox,
         })
@@ -95,6 +94,7 @@ impl Machine {
         ensures guest { OnOk result (self.new.guest ≡ next self.old.guest) }
         ensures outbox { OnOk result (self.new.outbox ≡ self.old.outbox ++ sent self.old.guest) }
         ensures dirty { OnOk result (self.new.dirty ≡ marked self.old.guest self.old.dirty) }
+        ensures settled { self.new.settled ≡ self.old.settled }
         ensures refused { IsErr result ↔ (192 < length self.old.outbox) }
         ensures err { OnErr result ((result ≡ Err MachineError.CutNeeded) × (self.new ≡ self.old)) }
     {
@@ -112,7 +112,9 @@ impl Machine {
         ensures guest { self.new.guest ≡ after_steps result self.old.guest }
         ensures outbox { self.new.outbox ≡ self.old.outbox ++ sent_in result self.old.guest }
         ensures dirty { self.new.dirty ≡ marked_in result self.old.guest self.old.dirty }
+        ensures settled { self.new.settled ≡ self.old.settled }
         ensures room { HaveRoom result self.old.guest self.old.outbox }
+        ensures unchanged { result ≡ 0 → self.new ≡ self.old }
         ensures cut_needed { result < count → 192 < length self.new.outbox }
     {
         let mut made = 0;
@@ -139,6 +141,7 @@ impl Machine {
         ensures guest { self.new.guest ≡ arrived self.old.guest frame.now }
         ensures outbox { self.new.outbox ≡ self.old.outbox }
         ensures dirty { self.new.dirty ≡ self.old.dirty }
+        ensures settled { self.new.settled ≡ self.old.settled }
         ensures taken { result ≡ (received self.old.guest.ram self.old.guest.net frame.now).taken }
     {
         self.devices.receive(&mut self.ram, frame)
@@ -152,7 +155,7 @@ impl Machine {
         ensures ok { IfOk result (λ machine. machine ≡ self.now) }
         ensures err { OnErr result (result ≡ Err MachineError.NoMemory) }
     {
-        let Ok(ram) = self.ram.copy(alloc) else {
+        let Ok(memory) = self.ram.memory.copy(alloc) else {
             return Err(MachineError::NoMemory);
         };
         let Ok(devices) = self.devices.copy(alloc) else {
@@ -163,136 +166,24 @@ impl Machine {
         };
         Ok(Machine {
             hart: self.hart,
-            ram,
+            ram: Ram { memory },
             devices,
             outbox,
         })
     }
 
-    /// The frames that the guest sent since the last settle, in order, at most 256 of them.
-    pub fn outbox(&self) -> &[Frame]
-        ensures value { result.now ≡ self.now.outbox }
-        ensures frames { All IsFrame self.now.outbox }
-        ensures most { length self.now.outbox ≤ 256 }
-    {
-        self.outbox.frames()
-    }
-
-    /// Empties the outbox and the list of written sectors.
+    /// Empties the outbox and the list of written sectors. From now on no page counts as written, and the bytes of the last settle
+    /// are those that memory has now.
     pub fn settle(&mut self)
-        ensures { self.new ≡ record self.old { outbox = []; dirty = [] } }
+        ensures { self.new ≡ record self.old {
+          outbox = [];
+          dirty = [];
+          settled = self.old.guest.ram;
+          written = replicate (length self.old.written) false;
+        } }
     {
         self.outbox.clear();
         self.devices.settle();
-    }
-
-    /// How many steps the guest has made since boot, modulo 2^64.
-    pub fn steps(&self) -> u64
-        ensures { result ≡ self.now.guest.steps }
-    {
-        self.hart.steps
-    }
-
-    /// The address of the instruction that comes next.
-    pub fn pc(&self) -> u64
-        ensures { result ≡ self.now.guest.pc }
-    {
-        self.hart.pc
-    }
-
-    /// The value of one of the registers x0 to x31.
-    pub fn register(&self, which: Register) -> u64
-        ensures { result ≡ register self.now.guest.regs which }
-    {
-        self.hart.regs.get(which)
-    }
-
-    /// The values of the control and status registers that hold one. A write leaves each as it is.
-    pub fn csrs(&self) -> CsrValues
-        ensures value { result ≡ self.now.guest.csrs }
-        ensures legal { IsLegal result }
-    {
-        self.hart.csrs.values()
-    }
-
-    /// The register msip: 1 where the software interrupt is pending, and else 0.
-    pub fn msip(&self) -> u32
-        ensures value { result ≡ self.now.guest.msip }
-        ensures bit { result ≤ 1 }
-    {
-        u32::from(self.hart.msip)
-    }
-
-    /// The register mtimecmp: the timer interrupt is pending from this step count on.
-    pub fn mtimecmp(&self) -> u64
-        ensures { result ≡ self.now.guest.mtimecmp }
-    {
-        self.hart.mtimecmp
-    }
-
-    /// What the network card keeps. It meets the rules of a network card's record.
-    pub fn net(&self) -> DeviceState
-        ensures value { result ≡ self.now.guest.net }
-        ensures rules { IsDeviceRecord Network result }
-    {
-        self.devices.net()
-    }
-
-    /// What the disk's registers keep. It meets the rules of a block device's record.
-    pub fn disk(&self) -> DeviceState
-        ensures value { result ≡ self.now.guest.disk }
-        ensures rules { IsDeviceRecord (disk_kind self.now.guest) result }
-    {
-        self.devices.disk()
-    }
-
-    /// How many sectors of 512 bytes the guest's disk has: 1 to 32768.
-    pub fn sectors(&self) -> u32
-        ensures value { result ≡ sector_count self.now.guest.sectors }
-        ensures least { 1 ≤ result }
-        ensures most { result ≤ 32768 }
-    {
-        self.devices.sectors()
-    }
-
-    /// The 512 bytes of a sector of the disk; the disk has it, as the caller knows.
-    pub fn sector(&self, sector: u32) -> &[u8; SECTOR_BYTES]
-        requires { sector < sector_count self.now.guest.sectors }
-        ensures { result.now ≡ slice_range self.now.guest.sectors (512 * sector) (512 * sector + 512) }
-    {
-        self.devices.sector(sector)
-    }
-
-    /// The sectors that the guest wrote since the last settle: they rise, and none stands there twice.
-    pub fn dirty_sectors(&self) -> &[u32]
-        ensures value { result.now ≡ self.now.dirty }
-        ensures rises { Rises 0 (sector_count self.now.guest.sectors) result.now }
-    {
-        self.devices.dirty_sectors()
-    }
-
-    /// How many bytes of memory the guest has: 1 to 4096 pages.
-    pub fn ram_size(&self) -> usize
-        ensures value { result ≡ length self.now.guest.ram }
-        ensures least { 4096 ≤ result }
-        ensures most { result ≤ 4096 * 4096 }
-    {
-        self.ram.size()
-    }
-
-    /// The 4096 bytes of a page of memory; the guest has it, as the caller knows.
-    pub fn page(&self, page: usize) -> &[u8]
-        requires { 4096 * page + 4096 ≤ length self.now.guest.ram }
-        ensures { result.now ≡ slice_range self.now.guest.ram (4096 * page) (4096 * page + 4096) }
-    {
-        self.ram.page(page)
-    }
-
-    /// The byte of memory at a place, from 0 for the byte at [`RAM_BASE`]; the guest has it, as the caller knows.
-    pub fn byte(&self, at: usize) -> u8
-        requires { at < length self.now.guest.ram }
-        ensures { result ≡ slice_index self.now.guest.ram at }
-    {
-        self.ram.byte(at)
+        self.ram.memory.settle();
     }
 }

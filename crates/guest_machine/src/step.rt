@@ -27,9 +27,10 @@ const INSTRUCTION_BYTES: u64 = 4;
 #[tactic(auto, unfolding(crate::specs::Step::step_done, crate::specs::Step::next, crate::specs::Step::sent, crate::specs::Step::marked))]
 pub(crate) fn run_step(hart: &mut Hart, ram: &mut Ram, devices: &mut Devices, outbox: &mut Outbox)
     requires room { length outbox.old + 64 ≤ 256 }
-    ensures guest { guest_of hart.new ram.new devices.new ≡ next (guest_of hart.old ram.old devices.old) }
-    ensures frames { outbox.new ≡ outbox.old ++ sent (guest_of hart.old ram.old devices.old) }
-    ensures list { devices.new.contents.dirty ≡ marked (guest_of hart.old ram.old devices.old) devices.old.contents.dirty }
+    ensures guest { guest_of hart.new ram.new.memory.bytes devices.new ≡ next (guest_of hart.old ram.old.memory.bytes devices.old) }
+    ensures frames { outbox.new ≡ outbox.old ++ sent (guest_of hart.old ram.old.memory.bytes devices.old) }
+    ensures list { devices.new.contents.dirty ≡ marked (guest_of hart.old ram.old.memory.bytes devices.old) devices.old.contents.dirty }
+    ensures settled { ram.new.memory.settled ≡ ram.old.memory.settled }
 {
     match due(hart, devices) {
         Some(cause) => hart.trap(cause, 0),
@@ -43,15 +44,16 @@ pub(crate) fn run_step(hart: &mut Hart, ram: &mut Ram, devices: &mut Devices, ou
 #[tactic(auto, unfolding(crate::specs::Step::instruction_done, crate::specs::Step::carried_out))]
 fn run_instruction(hart: &mut Hart, ram: &mut Ram, devices: &mut Devices, outbox: &mut Outbox)
     requires room { length outbox.old + 64 ≤ 256 }
-    ensures guest { guest_of hart.new ram.new devices.new ≡ (instruction_done (guest_of hart.old ram.old devices.old)).guest }
-    ensures frames { outbox.new ≡ outbox.old ++ (instruction_done (guest_of hart.old ram.old devices.old)).frames }
-    ensures list { devices.new.contents.dirty ≡ (instruction_done (guest_of hart.old ram.old devices.old)).marks devices.old.contents.dirty }
+    ensures guest { guest_of hart.new ram.new.memory.bytes devices.new ≡ (instruction_done (guest_of hart.old ram.old.memory.bytes devices.old)).guest }
+    ensures frames { outbox.new ≡ outbox.old ++ (instruction_done (guest_of hart.old ram.old.memory.bytes devices.old)).frames }
+    ensures list { devices.new.contents.dirty ≡ (instruction_done (guest_of hart.old ram.old.memory.bytes devices.old)).marks devices.old.contents.dirty }
+    ensures settled { ram.new.memory.settled ≡ ram.old.memory.settled }
 {
-    if !in_ram(ram.size(), hart.pc, INSTRUCTION_BYTES) {
+    if !in_ram(ram.memory.size(), hart.pc, INSTRUCTION_BYTES) {
         hart.trap(INSTRUCTION_ACCESS_FAULT, hart.pc);
         return;
     }
-    let word = ram.read_u32(ram_place(hart.pc));
+    let word = ram.memory.read_u32(ram_place(hart.pc));
     let plan = plan_word(&hart.regs, hart.pc, word);
     // The commonest plan is told from the others here, so that the compiler leads it past the choice among them.
     if let Plan::Next { pc, rd, value } = plan {
@@ -88,9 +90,10 @@ fn carry_out(
     plan: Plan,
 )
     requires room { length outbox.old + 64 ≤ 256 }
-    ensures guest { guest_of hart.new ram.new devices.new ≡ (carried_out (guest_of hart.old ram.old devices.old) word plan).guest }
-    ensures frames { outbox.new ≡ outbox.old ++ (carried_out (guest_of hart.old ram.old devices.old) word plan).frames }
-    ensures list { devices.new.contents.dirty ≡ (carried_out (guest_of hart.old ram.old devices.old) word plan).marks devices.old.contents.dirty }
+    ensures guest { guest_of hart.new ram.new.memory.bytes devices.new ≡ (carried_out (guest_of hart.old ram.old.memory.bytes devices.old) word plan).guest }
+    ensures frames { outbox.new ≡ outbox.old ++ (carried_out (guest_of hart.old ram.old.memory.bytes devices.old) word plan).frames }
+    ensures list { devices.new.contents.dirty ≡ (carried_out (guest_of hart.old ram.old.memory.bytes devices.old) word plan).marks devices.old.contents.dirty }
+    ensures settled { ram.new.memory.settled ≡ ram.old.memory.settled }
 {
     match plan {
         Plan::Next { pc, rd, value } => {

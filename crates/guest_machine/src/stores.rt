@@ -29,9 +29,10 @@ pub(crate) fn store(
     value: u64,
 )
     requires room { length outbox.old + 64 ≤ 256 }
-    ensures guest { guest_of hart.new ram.new devices.new ≡ (store_done (guest_of hart.old ram.old devices.old) address (width_bytes width) value).guest }
-    ensures frames { outbox.new ≡ outbox.old ++ (store_done (guest_of hart.old ram.old devices.old) address (width_bytes width) value).frames }
-    ensures list { devices.new.contents.dirty ≡ (store_done (guest_of hart.old ram.old devices.old) address (width_bytes width) value).marks devices.old.contents.dirty }
+    ensures guest { guest_of hart.new ram.new.memory.bytes devices.new ≡ (store_done (guest_of hart.old ram.old.memory.bytes devices.old) address (width_bytes width) value).guest }
+    ensures frames { outbox.new ≡ outbox.old ++ (store_done (guest_of hart.old ram.old.memory.bytes devices.old) address (width_bytes width) value).frames }
+    ensures list { devices.new.contents.dirty ≡ (store_done (guest_of hart.old ram.old.memory.bytes devices.old) address (width_bytes width) value).marks devices.old.contents.dirty }
+    ensures settled { ram.new.memory.settled ≡ ram.old.memory.settled }
 {
     if !is_aligned(address, width) {
         hart.trap(STORE_MISALIGNED, address);

@@ -49,6 +49,7 @@ impl NetDevice {
         ensures device { self.new ≡ record { transport = record self.old.transport { state = (served (R.bytes ram.old) self.old.transport.state).net } } }
         ensures frames { outbox.new ≡ outbox.old ++ (served (R.bytes ram.old) self.old.transport.state).frames }
         ensures size { length (R.bytes ram.new) ≡ length (R.bytes ram.old) }
+        ensures fixed { R.fixed ram.new ≡ R.fixed ram.old }
     {
         self.transport.serve(TRANSMIT_QUEUE, ram, outbox);
     }
@@ -64,6 +65,7 @@ impl NetDevice {
         ensures memory { R.bytes ram.new ≡ (received (R.bytes ram.old) self.old.transport.state frame.now).ram }
         ensures device { self.new ≡ record { transport = record self.old.transport { state = (received (R.bytes ram.old) self.old.transport.state frame.now).net } } }
         ensures size { length (R.bytes ram.new) ≡ length (R.bytes ram.old) }
+        ensures fixed { R.fixed ram.new ≡ R.fixed ram.old }
     {
         let Some(queue) = self.transport.queue_in_service(RECEIVE_QUEUE) else {
             return false;
@@ -88,6 +90,7 @@ impl NetDevice {
         ensures memory { R.bytes ram.new ≡ (put_into (R.bytes ram.old) self.old.transport.state frame.now chain.now).ram }
         ensures device { self.new ≡ record { transport = record self.old.transport { state = (put_into (R.bytes ram.old) self.old.transport.state frame.now chain.now).net } } }
         ensures size { length (R.bytes ram.new) ≡ length (R.bytes ram.old) }
+        ensures fixed { R.fixed ram.new ≡ R.fixed ram.old }
     {
         if !chain.is_all_writable() {
             self.transport.need_reset();
@@ -110,6 +113,7 @@ fn write_packet<R: GuestRam>(ram: &mut R, chain: &Chain, frame: &Frame)
     requires fits { length (packet frame.now) ≤ writable_len chain.now.parts }
     ensures value { R.bytes ram.new ≡ put_at (R.bytes ram.old) (writable_places chain.now.parts) (packet frame.now) }
     ensures size { length (R.bytes ram.new) ≡ length (R.bytes ram.old) }
+    ensures fixed { R.fixed ram.new ≡ R.fixed ram.old }
 {
     Queue::scatter(chain, ram, 0, &HEADER);
     Queue::scatter(chain, ram, HEADER_BYTES, frame.as_slice());

@@ -1,7 +1,7 @@
 //! A card over a RAM of 4096 bytes, as a driver sets it up: 2 descriptors at 0x80000000, the available ring at 0x80000040
 //! and the used ring at 0x80000080 of the queue that is tried; buffers from 0x80000100 on.
 
-ghost use Rattle.std.specs.Prelude.{◌≡◌, ◌≤◌, length, take, drop};
+ghost use Rattle.std.specs.Prelude.{◌≡◌, [], ◌≤◌, length, take, drop};
 ghost use Rattle.virtio_mmio.specs.declared.kinds.DeviceKind.TheVariants.{Network};
 
 use crate::device::NetDevice;
@@ -17,6 +17,8 @@ struct Ram {
 
 impl GuestRam for Ram {
     ghost bytes = { λ ram. ram.bytes };
+
+    ghost fixed = { λ _. [] };
 
     fn size(&self) -> usize {
         self.bytes.len()

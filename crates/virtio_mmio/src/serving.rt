@@ -29,6 +29,7 @@ pub trait ChainHandler {
         ensures memory { R.bytes ram.new ≡ ram_after (R.bytes ram.old) (act (R.bytes ram.old) self.old chain.now) }
         ensures kept { self.new ≡ kept_after self.old (act (R.bytes ram.old) self.old chain.now) }
         ensures size { length (R.bytes ram.new) ≡ length (R.bytes ram.old) }
+        ensures fixed { R.fixed ram.new ≡ R.fixed ram.old }
         ensures room { room self.old ≤ room self.new + 1 };
 }
 
@@ -41,6 +42,7 @@ impl Transport {
         requires sized { IsSized (queue_at self.old.state number) }
         ensures ring { R.bytes ram.new ≡ used_written (queue_at self.old.state number) (R.bytes ram.old) head len }
         ensures size { length (R.bytes ram.new) ≡ length (R.bytes ram.old) }
+        ensures fixed { R.fixed ram.new ≡ R.fixed ram.old }
         ensures state { self.new ≡ record self.old { state = state_after_use self.old.kind number self.old.state } }
         ensures areas { AreasFit (queue_at self.new.state number) (length (R.bytes ram.new)) }
         ensures sized { IsSized (queue_at self.new.state number) }
@@ -63,6 +65,7 @@ impl Transport {
         ensures state { self.new ≡ record self.old { state = (served self.old.kind number H.act (standing (R.bytes ram.old) self.old.state handler.old)).state } }
         ensures kept { handler.new ≡ (served self.old.kind number H.act (standing (R.bytes ram.old) self.old.state handler.old)).kept }
         ensures size { length (R.bytes ram.new) ≡ length (R.bytes ram.old) }
+        ensures fixed { R.fixed ram.new ≡ R.fixed ram.old }
         ensures room { H.room handler.old ≤ H.room handler.new + 64 }
     {
         let Some(queue) = self.queue_in_service(number) else {
@@ -90,6 +93,7 @@ impl Transport {
         ensures state { self.new ≡ record self.old { state = (chains_served self.old.kind number H.act count (standing (R.bytes ram.old) self.old.state handler.old)).state } }
         ensures kept { handler.new ≡ (chains_served self.old.kind number H.act count (standing (R.bytes ram.old) self.old.state handler.old)).kept }
         ensures size { length (R.bytes ram.new) ≡ length (R.bytes ram.old) }
+        ensures fixed { R.fixed ram.new ≡ R.fixed ram.old }
         ensures room { H.room handler.old ≤ H.room handler.new + count }
     {
         for _done in 0..count {
@@ -121,6 +125,7 @@ impl Transport {
         ensures areas { AreasFit (queue_at self.new.state number) (length (R.bytes ram.new)) }
         ensures sized { IsSized (queue_at self.new.state number) }
         ensures size { length (R.bytes ram.new) ≡ length (R.bytes ram.old) }
+        ensures fixed { R.fixed ram.new ≡ R.fixed ram.old }
         ensures room { H.room handler.old ≤ H.room handler.new + 1 }
     {
         let queue = self.queue(number);

@@ -1,6 +1,6 @@
 //! A driver's first steps with a device (virtio 1.1, 3.1.1 and 4.2.3), and the worked values of the table.
 
-ghost use Rattle.std.specs.Prelude.{◌≡◌, ℕ, ◌+◌, ◌-◌, ◌^◌, ◌≤◌, length, take, drop, Ok, Err, if◌then◌else◌};
+ghost use Rattle.std.specs.Prelude.{◌≡◌, [], ℕ, ◌+◌, ◌-◌, ◌^◌, ◌≤◌, length, take, drop, Ok, Err, if◌then◌else◌};
 ghost use Rattle.virtqueue.specs.Parts.{all_readable};
 ghost use Rattle.virtqueue.specs.declared.broken.Broken.TheVariants.{Direction};
 
@@ -134,6 +134,8 @@ struct Ram {
 
 impl GuestRam for Ram {
     ghost bytes = { λ ram. ram.bytes };
+
+    ghost fixed = { λ _. [] };
 
     fn size(&self) -> usize {
         self.bytes.len()

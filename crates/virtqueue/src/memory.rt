@@ -11,6 +11,9 @@ pub const RAM_START: u64 = 0x8000_0000;
 pub trait GuestRam {
     ghost bytes: { Self → List ℕ };
 
+    /// What its keeper has beside them that no write changes.
+    ghost fixed: { Self → List ℕ };
+
     /// How many bytes there are.
     fn size(&self) -> usize
         ensures { result ≡ length (bytes self.now) };
@@ -23,7 +26,8 @@ pub trait GuestRam {
     /// Puts `from` in the place of the bytes from a place on, and changes no other byte.
     fn write(&mut self, place: usize, from: &[u8])
         requires { place + length from.now ≤ length (bytes self.old) }
-        ensures { bytes self.new ≡ written (bytes self.old) place from.now };
+        ensures value { bytes self.new ≡ written (bytes self.old) place from.now }
+        ensures fixed { fixed self.new ≡ fixed self.old };
 }
 
 /// The little-endian number of 2 bytes at a place.
@@ -61,6 +65,7 @@ pub(crate) fn write_u16<R: GuestRam>(ram: &mut R, place: usize, number: u16)
     requires { place + 2 ≤ length (R.bytes ram.old) }
     ensures value { R.bytes ram.new ≡ written (R.bytes ram.old) place (to_le_bytes w16 number) }
     ensures size { length (R.bytes ram.new) ≡ length (R.bytes ram.old) }
+    ensures fixed { R.fixed ram.new ≡ R.fixed ram.old }
 {
     ram.write(place, &number.to_le_bytes());
 }
@@ -70,6 +75,7 @@ pub(crate) fn write_u32<R: GuestRam>(ram: &mut R, place: usize, number: u32)
     requires { place + 4 ≤ length (R.bytes ram.old) }
     ensures value { R.bytes ram.new ≡ written (R.bytes ram.old) place (to_le_bytes w32 number) }
     ensures size { length (R.bytes ram.new) ≡ length (R.bytes ram.old) }
+    ensures fixed { R.fixed ram.new ≡ R.fixed ram.old }
 {
     ram.write(place, &number.to_le_bytes());
 }

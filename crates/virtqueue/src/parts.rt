@@ -81,6 +81,7 @@ fn write_buffer<R: GuestRam>(ram: &mut R, buffer: &Descriptor, skip: usize, from
     requires fits { skip + length from.now ≤ buffer.now.len }
     ensures value { R.bytes ram.new ≡ written (R.bytes ram.old) (place_of buffer.now.address + skip) from.now }
     ensures size { length (R.bytes ram.new) ≡ length (R.bytes ram.old) }
+    ensures fixed { R.fixed ram.new ≡ R.fixed ram.old }
 {
     ram.write(place(ram, buffer) + skip, from);
 }
@@ -119,6 +120,7 @@ impl Queue {
         requires fits { at + length from.now ≤ writable_len chain.now.parts }
         ensures value { R.bytes ram.new ≡ put_at (R.bytes ram.old) (drop at (writable_places chain.now.parts)) from.now }
         ensures size { length (R.bytes ram.new) ≡ length (R.bytes ram.old) }
+        ensures fixed { R.fixed ram.new ≡ R.fixed ram.old }
     {
         let mut skip = at;
         let mut done = 0;

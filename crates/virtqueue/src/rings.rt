@@ -94,6 +94,7 @@ impl Queue {
         requires sized { IsSized self.old }
         ensures ring { R.bytes ram.new ≡ used_written self.old (R.bytes ram.old) head len }
         ensures size { length (R.bytes ram.new) ≡ length (R.bytes ram.old) }
+        ensures fixed { R.fixed ram.new ≡ R.fixed ram.old }
         ensures queue { self.new ≡ queue_after_use self.old }
     {
         let ring = (self.device - RAM_START) as usize;

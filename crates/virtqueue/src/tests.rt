@@ -1,7 +1,7 @@
 //! A queue of one to four descriptors in a RAM of 4096 bytes: the table at its start, the available ring at
 //! 0x40, the used ring at 0x80 and buffers from 0x100 on.
 
-ghost use Rattle.std.specs.Prelude.{◌≡◌, ◌≤◌, length, take, drop};
+ghost use Rattle.std.specs.Prelude.{◌≡◌, [], ◌≤◌, length, take, drop};
 ghost use Rattle.virtqueue.specs.Areas.{IsSized};
 
 use crate::broken::Broken;
@@ -16,6 +16,8 @@ struct Ram {
 
 impl GuestRam for Ram {
     ghost bytes = { λ ram. ram.bytes };
+
+    ghost fixed = { λ _. [] };
 
     fn size(&self) -> usize {
         self.bytes.len()

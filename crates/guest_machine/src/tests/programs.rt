@@ -50,7 +50,7 @@ fn digest_of_three_letters(rt: HostRuntime) -> Result<(), Fail> {
     let machine = after(&rt, rt.alloc(), &SHA256, 5909)?;
     assert_eq!(rt; register(&rt, &machine, A0), 0xba78_16bf_8f01_cfea);
     assert!(rt; machine.ram_size() >= 8192);
-    let answers = machine.page(ANSWER / 4096);
+    let answers = machine.page((ANSWER / 4096) as u32);
     assert!(rt; answers.len() >= 32);
     assert_eq!(rt;
         &answers[..32],

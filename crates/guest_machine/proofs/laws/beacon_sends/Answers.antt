@@ -14,7 +14,7 @@ use Rattle.virtio_mmio.specs.Transport.{loaded, stored}
 use Rattle.net_device.specs.Transmit.{served}
 use Rattle.guest_machine.specs.Beacon.{beacon_with}
 use Rattle.guest_machine.specs.Runs.{after_steps, sent_in}
-use Rattle.guest_machine.specs.Bytes.{number_at, with_number}
+use Rattle.paged_memory.specs.Bytes.{number_at, with_number}
 use Rattle.guest_machine.specs.Guest.{boot_guest}
 use Rattle.guest_machine.specs.Pending.{mip}
 use Rattle.guest_machine.specs.Step.{carried_out, instruction_done, step_done, next, sent}

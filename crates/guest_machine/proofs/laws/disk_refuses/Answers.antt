@@ -15,7 +15,7 @@ use Rattle.block_device.specs.Disk.{disk_served}
 use Rattle.block_device.specs.Request.{request_act}
 use Rattle.guest_machine.specs.DiskGuest.{disk_guest_with}
 use Rattle.guest_machine.specs.Runs.{after_steps, sent_in, marked_in}
-use Rattle.guest_machine.specs.Bytes.{number_at, with_number}
+use Rattle.paged_memory.specs.Bytes.{number_at, with_number}
 use Rattle.guest_machine.specs.Guest.{boot_guest}
 use Rattle.guest_machine.specs.Pending.{mip}
 use Rattle.guest_machine.specs.Step.{carried_out, instruction_done, step_done, next, sent, marked}

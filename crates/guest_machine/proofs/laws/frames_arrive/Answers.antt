@@ -13,7 +13,7 @@ use Rattle.virtio_mmio.specs.Transport.{loaded, stored}
 use Rattle.net_device.specs.Receive.{received}
 use Rattle.guest_machine.specs.Beacon.{beacon_with}
 use Rattle.guest_machine.specs.Runs.{after_steps}
-use Rattle.guest_machine.specs.Bytes.{number_at, with_number}
+use Rattle.paged_memory.specs.Bytes.{number_at, with_number}
 use Rattle.guest_machine.specs.Examples.{receiver}
 use Rattle.guest_machine.specs.Guest.{boot_guest}
 use Rattle.guest_machine.specs.Pending.{mip}

@@ -6,7 +6,7 @@ use Rattle.mtraps.specs.CsrTable.{csr_table, csr, read_value, is_writable, writt
 use Rattle.mtraps.specs.Interrupts.{due_interrupt}
 use Rattle.mtraps.specs.Traps.{after_entry, after_return, handler}
 use Rattle.guest_machine.specs.Runs.{after_steps}
-use Rattle.guest_machine.specs.Bytes.{number_at, with_number}
+use Rattle.paged_memory.specs.Bytes.{number_at, with_number}
 use Rattle.guest_machine.specs.Examples.{words_guest}
 use Rattle.guest_machine.specs.Guest.{boot_guest}
 use Rattle.guest_machine.specs.Pending.{mip}

@@ -1,22 +1,28 @@
-use Rattle.std.proofs.Common.{arith, subst}
+use Rattle.std.proofs.Common.{arith, subst, sym}
+use Rattle.guest_machine.specs.Aligned.{IsAligned}
 use Rattle.guest_machine.specs.Guest.{State}
-use Rattle.guest_machine.specs.Parts.{guest_of}
+use Rattle.guest_machine.specs.Parts.{state_with}
+use Rattle.guest_machine.proofs.AlignedLemmas.{aligned-next}
 use Rattle.guest_machine.proofs.RunLemmas.{IsRun, no_run, longer_run}
 use Rattle.guest_machine.proofs.machine.Machine.run.Goals as goal
 
 pub loop-made-init : goal.loop-made-init
 loop-made-init c =
     let parts = c.self.inside in
-    let now : State = record { guest = guest_of parts.hart parts.ram parts.devices; outbox = parts.outbox; dirty = parts.devices.contents.dirty } in
+    let now : State = state_with parts.hart parts.ram.memory parts.devices parts.outbox in
     let Run : State → Type 0 = λ s. IsRun 0 s now in
     record {
       most = omega arith;
       run = subst Run c.self.view_is (no_run now);
+      unchanged = λ none. c.self.view_is;
+      aligned = c.self.invariant;
     }
 
 pub loop-made-preserved : goal.loop-made-preserved
 loop-made-preserved c = record {
   most = omega arith;
   run =
-      longer_run _ _ _ _ c.loop-made.invariant.run (omega arith) c.run_step.ensures.guest c.run_step.ensures.frames c.run_step.ensures.list;
+      longer_run _ _ _ _ c.loop-made.invariant.run (omega arith) c.run_step.ensures.guest c.run_step.ensures.frames c.run_step.ensures.list c.run_step.ensures.settled;
+  unchanged = λ none. absurd (omega arith);
+  aligned = subst IsAligned (sym c.run_step.ensures.guest) (aligned-next _ c.loop-made.invariant.aligned);
 }

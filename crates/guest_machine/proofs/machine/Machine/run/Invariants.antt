@@ -1,5 +1,6 @@
-use Rattle.std.proofs.Common.{◌-◌, ◌≤◌}
-use Rattle.guest_machine.specs.Parts.{guest_of}
+use Rattle.std.proofs.Common.{◌≡◌, ◌-◌, ◌≤◌}
+use Rattle.guest_machine.specs.Aligned.{IsAligned}
+use Rattle.guest_machine.specs.Parts.{guest_of, state_with}
 use Rattle.guest_machine.proofs.RunLemmas.{IsRun}
 use Rattle.guest_machine.proofs.machine.Machine.run.Given as goal
 
@@ -8,7 +9,9 @@ invariant-loop-made l = record {
   most : l.made ≤ l.count;
   run :
       IsRun l.made l.fn.self
-      (record { guest = guest_of l.self-inside.hart l.self-inside.ram l.self-inside.devices; outbox = l.self-inside.outbox; dirty = l.self-inside.devices.contents.dirty });
+      (state_with l.self-inside.hart l.self-inside.ram.memory l.self-inside.devices l.self-inside.outbox);
+  unchanged : l.made ≡ 0 → state_with l.self-inside.hart l.self-inside.ram.memory l.self-inside.devices l.self-inside.outbox ≡ l.fn.self;
+  aligned : IsAligned (guest_of l.self-inside.hart l.self-inside.ram.memory.bytes l.self-inside.devices);
 }
 
 abbrev pub decreases-loop-made : goal.decreases-loop-made

@@ -1,27 +1,14 @@
 use Rattle.std.proofs.Common.{◌≡◌, ℕ, ◌<◌, ◌++◌, List, length, arith, ap, subst, ◌∙◌, refl}
 use Rattle.std.proofs.lemmas.List.{append-nil}
 use Rattle.arrayvec.specs.ArrayVec.{ArrayVec}
-use Rattle.guest_machine.specs.Guest.{Guest, State}
+use Rattle.guest_machine.specs.Guest.{Guest}
 use Rattle.guest_machine.specs.Runs.{after_steps, sent_in, marked_in, HaveRoom}
-use Rattle.guest_machine.proofs.RunLemmas.{no_steps, none_sent, none_marked, one_step, sent_in_one, marked_in_one, room_for_one}
+use Rattle.guest_machine.proofs.RunLemmas.{none_sent, one_step, sent_in_one, marked_in_one, room_for_one}
 use Rattle.guest_machine.proofs.machine.Machine.step.Goals as goal
-
-same_guest : (g : Guest) {n : ℕ} {g' : Guest} → n ≡ 0 → g' ≡ after_steps n g → g' ≡ g
-same_guest g none is = is ∙ ap (λ (n : ℕ). after_steps n g) none ∙ no_steps g
 
 same_outbox : (g : Guest) {n : ℕ} {o o' : List (ArrayVec ℕ)} → n ≡ 0 → o' ≡ o ++ sent_in n g → o' ≡ o
 same_outbox g {o = o} none is =
     is ∙ ap (λ (n : ℕ). o ++ sent_in n g) none ∙ ap (λ (x : List (ArrayVec ℕ)). o ++ x) (none_sent g) ∙ append-nil o
-
-same_dirty : (g : Guest) {n : ℕ} {d d' : List ℕ} → n ≡ 0 → d' ≡ marked_in n g d → d' ≡ d
-same_dirty g {d = d} none is = is ∙ ap (λ (n : ℕ). marked_in n g d) none ∙ none_marked g d
-
-same_state : (s t : State) → s.guest ≡ t.guest → s.outbox ≡ t.outbox → s.dirty ≡ t.dirty → s ≡ t
-same_state s t p q r =
-    let with_guest : Guest → State = λ g. record { guest = g; outbox = s.outbox; dirty = s.dirty } in
-    let with_outbox : List (ArrayVec ℕ) → State = λ o. record { guest = t.guest; outbox = o; dirty = s.dirty } in
-    let with_dirty : List ℕ → State = λ d. record { guest = t.guest; outbox = t.outbox; dirty = d } in
-    ap with_guest p ∙ ap with_outbox q ∙ ap with_dirty r
 
 pub returns-then-run-eq1-clause-guest : goal.returns-then-run-eq1-clause-guest
 returns-then-run-eq1-clause-guest c =
@@ -58,7 +45,4 @@ returns-else-run-eq1-clause-refused c =
     ((λ e. subst Many same (c.run.ensures.cut_needed (omega arith))), λ many. refl)
 
 pub returns-else-run-eq1-clause-err : goal.returns-else-run-eq1-clause-err
-returns-else-run-eq1-clause-err c =
-    let g = c.args.self.now.guest in
-    let none : c.run.result ≡ 0 = omega arith in
-    (refl, same_state c.run.new.self c.args.self.now (same_guest g none c.run.ensures.guest) (same_outbox g none c.run.ensures.outbox) (same_dirty g none c.run.ensures.dirty))
+returns-else-run-eq1-clause-err c = (refl, c.run.ensures.unchanged (omega arith))

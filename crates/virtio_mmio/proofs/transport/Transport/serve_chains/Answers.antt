@@ -42,6 +42,7 @@ loop-done-preserved g c = record {
   areas = c.serve_chain.ensures.areas;
   sized = c.serve_chain.ensures.sized;
   size = c.serve_chain.ensures.size ∙ c.loop-done.invariant.size;
+  fixed = c.serve_chain.ensures.fixed ∙ c.loop-done.invariant.fixed;
   room = omega (arith, c.serve_chain.ensures.room, c.loop-done.invariant.room);
   ahead = step_served c.loop-done.self.kind c.args.self.now.kind c.args.number g.H.ChainHandler.act (c.args.count - c.loop-done._done) (c.args.count - (c.loop-done._done + 1))
       (standing (g.R.GuestRam.bytes c.loop-done.ram) c.loop-done.self.state c.loop-done.handler) _ c.serve_chain.result

@@ -19,6 +19,7 @@ loop-part-preserved-then-skip-len g c =
     record {
       within = c.loop-part.invariant.within;
       size = c.loop-part.invariant.size;
+      fixed = c.loop-part.invariant.fixed;
       same = rw c.from-len.ensures (ap (λ ps. put_at bytes ps (drop c.loop-part.done c.args.from.now)) step ∙ c.loop-part.invariant.same);
     }
 
@@ -56,6 +57,7 @@ loop-part-preserved g c =
     record {
       within = omega (arith, least);
       size = c.write_buffer.ensures.size ∙ c.loop-part.invariant.size;
+      fixed = c.write_buffer.ensures.fixed ∙ c.loop-part.invariant.fixed;
       same =
           ap (λ bs. put_at bs rest (drop (done + count) from)) put
           ∙ (ap (λ vs. put_at (written bytes place (take count (drop done from))) rest vs) (sym (drop-drop count done from))

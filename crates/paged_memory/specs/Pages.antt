@@ -1,0 +1,53 @@
+-- A memory in pages of 4096 bytes, and which of them were written since it was last settled.
+use Rattle.std.specs.Prelude.{◌≡◌, ℕ, ◌+◌, ◌-◌, ◌*◌, ◌/◌, ◌≤◌, ◌==◌, Bool, true, false, if◌then◌else◌, List, ◌++◌, length, replicate, take, drop, slice_range, slice_index_or}
+use Rattle.paged_memory.specs.Bytes.{with_bytes}
+
+-- the bytes, those at the last settle, and a flag for each page: whether it was written since
+pub record Paged : Type 0 where
+  pub bytes : List ℕ
+  pub settled : List ℕ
+  pub written : List Bool
+
+-- the bytes of a page
+abbrev pub page_of : List ℕ → ℕ → List ℕ
+page_of bytes page = slice_range bytes (4096 * page) (4096 * page + 4096)
+
+-- a page that a memory has was written since the last settle
+abbrev pub is_written : List Bool → ℕ → Bool
+is_written flags page = slice_index_or flags page true
+
+-- a page without flag is as it was at the last settle
+pub record AreKept (bytes settled : List ℕ) (flags : List Bool) : Type 0 where
+  pub same : (page : ℕ) → is_written flags page ≡ false → page_of bytes page ≡ page_of settled page
+
+-- what is true of each memory: it has 1 to 4096 whole pages, and what wasn't written is kept
+pub record IsPaged (m : Paged) : Type 0 where
+  pub whole : length m.bytes ≡ 4096 * length m.written
+  pub least : 1 ≤ length m.written
+  pub most : length m.written ≤ 4096
+  pub settled : length m.settled ≡ length m.bytes
+  pub kept : AreKept m.bytes m.settled m.written
+
+-- the flags with those from one page up to another set
+abbrev pub flagged : List Bool → ℕ → ℕ → List Bool
+flagged flags from end = take from flags ++ (replicate (end - from) true ++ drop end flags)
+
+-- the page that follows those that n bytes from a place on lie in; no bytes lie in none
+abbrev pub end_page : ℕ → ℕ → ℕ
+end_page at n = if n == 0 then at / 4096 else (at + n - 1) / 4096 + 1
+
+-- the flags after n bytes from a place on were written
+abbrev pub marked : List Bool → ℕ → ℕ → List Bool
+marked flags at n = flagged flags (at / 4096) (end_page at n)
+
+-- a memory after n bytes from a place on were written, so that its bytes are these
+abbrev pub with_written : Paged → ℕ → ℕ → List ℕ → Paged
+with_written m at n bytes = record m { bytes = bytes; written = marked m.written at n }
+
+-- a memory at boot: the image's bytes from the first place on, all else 0, and no page written
+abbrev pub boot_bytes : ℕ → List ℕ → List ℕ
+boot_bytes pages image = image ++ replicate (4096 * pages - length image) 0
+
+-- a memory that was just settled
+abbrev pub settled_at : List ℕ → ℕ → Paged
+settled_at bytes pages = record { bytes = bytes; settled = bytes; written = replicate pages false }

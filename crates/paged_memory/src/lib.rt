@@ -1,0 +1,16 @@
+//! Memory in pages of 4096 bytes, which knows the pages that were written since it was last settled, and what they were then.
+//!
+//! [`Memory::boot`] makes it, [`Memory::read`] and [`Memory::write`] copy bytes, and the calls for numbers of 1, 2, 4 and 8 bytes are
+//! those of a hart's loads and stores. [`Memory::dirty`] says whether a page was written since the last [`Memory::settle`], and
+//! [`Memory::original`] gives its bytes at that settle. Contracts see a memory as a `Paged` of the specs: its bytes, those at the
+//! last settle, and a flag for each page.
+#![tactic(auto)]
+
+mod flags;
+mod memory;
+mod numbers;
+
+pub use memory::{Memory, PAGE_BYTES};
+
+#[cfg(test)]
+mod tests;

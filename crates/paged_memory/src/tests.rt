@@ -1,0 +1,53 @@
+//! Each call with ample memory, and where flags are set.
+
+use crate::{Memory, PAGE_BYTES};
+use std::process::Abort;
+use std::test::Fail;
+
+/// Which of the first three pages were written.
+fn flags(rt: &impl Abort, memory: &Memory) -> [bool; 3] {
+    assert_eq!(rt; memory.pages(), 3);
+    [memory.dirty(0), memory.dirty(1), memory.dirty(2)]
+}
+
+#[test]
+fn a_write_marks_the_pages_it_lies_in(rt: HostRuntime) -> Result<(), Fail> {
+    let mut memory = Memory::boot(rt.alloc(), 3, &[7, 8, 9])?;
+    assert_eq!(rt; memory.size(), 3 * PAGE_BYTES);
+    assert_eq!(rt; memory.byte(1), 8);
+    assert_eq!(rt; memory.read_u32(0), 0x0009_0807);
+    assert_eq!(rt; flags(&rt, &memory), [false, false, false]);
+    memory.write(5000, &[]);
+    assert_eq!(rt; flags(&rt, &memory), [false, false, false]);
+    memory.write(4095, &[0]);
+    assert_eq!(rt; flags(&rt, &memory), [true, false, false]);
+    memory.write_u64(8188, 0x0807_0605_0403_0201);
+    assert_eq!(rt; flags(&rt, &memory), [true, true, true]);
+    let mut bytes = [0; 4];
+    memory.read(8190, &mut bytes);
+    assert_eq!(rt; bytes, [3, 4, 5, 6]);
+    assert_eq!(rt; memory.read_u64(8188), 0x0807_0605_0403_0201);
+    assert_eq!(rt; memory.read_u16(8191), 0x0504);
+    assert_eq!(rt; memory.read_u8(8195), 8);
+    Ok(())
+}
+
+#[test]
+fn originals_are_those_of_the_last_settle(rt: HostRuntime) -> Result<(), Fail> {
+    let mut memory = Memory::boot(rt.alloc(), 3, &[7])?;
+    memory.write_u8(0, 1);
+    memory.write_u32(4096, 2);
+    assert_eq!(rt; memory.page(0)[0], 1);
+    assert_eq!(rt; memory.original(0)[0], 7);
+    let copy = memory.copy(rt.alloc())?;
+    memory.settle();
+    assert_eq!(rt; flags(&rt, &memory), [false, false, false]);
+    assert_eq!(rt; memory.original(0)[0], 1);
+    assert_eq!(rt; memory.original(1)[0], 2);
+    memory.write_u16(4096, 3);
+    assert_eq!(rt; flags(&rt, &memory), [false, true, false]);
+    assert_eq!(rt; memory.page(1)[0], 3);
+    assert_eq!(rt; memory.original(1)[0], 2);
+    assert_eq!(rt; flags(&rt, &copy), [true, true, false]);
+    Ok(())
+}
