@@ -5,7 +5,8 @@ use Rattle.std.proofs.lemmas.Bool.{eqb-true, cases_Bool, true≢false}
 use Rattle.std.proofs.Math.Seq.{take-add}
 use Rattle.std.proofs.lemmas.List.{take_at, drop_at, drop-drop, take-append-drop, length-take-le, length-drop, append_assoc, append-nil, take_all, nil_from_length}
 use Rattle.std.specs.List.{range_with_len, filter}
-use Rattle.epoch_snapshot.specs.Blocks.{replaced, xored, differ, is_zero, block_in, with_xored, block_differs}
+use Rattle.guest_machine.specs.Bytes.{with_bytes}
+use Rattle.epoch_snapshot.specs.Blocks.{xored, differ, is_zero, block_in, with_xored, block_differs}
 use Rattle.epoch_snapshot.specs.Cuts.{block_change}
 use Rattle.epoch_snapshot.specs.Images.{with_blocks}
 
@@ -78,8 +79,8 @@ module _ (old new : List ℕ) (long : length old ≡ length new) where
   changed n within =
       let both : length (block_in old n) ≡ length (block_in new n) = length-block old n (omega arith) ∙ sym (length-block new n within) in
       let block : xored (block_in (mixed old new n) n) (block_change old new n) ≡ block_in new n
-          = ap (λ b. xored b (block_change old new n)) (here n (omega arith)) ∙ xored_twice (block_in old n) (block_in new n) both in
-      ap (replaced (mixed old new n) (64 * n)) block
+      = ap (λ b. xored b (block_change old new n)) (here n (omega arith)) ∙ xored_twice (block_in old n) (block_in new n) both in
+      ap (with_bytes (mixed old new n) (64 * n)) block
       ∙ ap (λ k. take (64 * n) (mixed old new n) ++ (block_in new n ++ drop (64 * n + k) (mixed old new n))) (length-block new n within)
       ∙ (λ i. take_at (take (64 * n) new) (drop (64 * n) old) (64 * n) (fronts n (omega arith)) i ++ (block_in new n ++ rest n 64 (omega arith) i))
       ∙ next n within
@@ -89,7 +90,7 @@ module _ (old new : List ℕ) (long : length old ≡ length new) where
   kept n within same =
       let both : length (block_in old n) ≡ length (block_in new n) = length-block old n (omega arith) ∙ sym (length-block new n within) in
       let split : drop (64 * n) old ≡ block_in old n ++ drop (64 * n + 64) old
-          = sym (take-append-drop 64 (drop (64 * n) old)) ∙ ap (λ l. block_in old n ++ l) (drop-drop 64 (64 * n) old) in
+      = sym (take-append-drop 64 (drop (64 * n) old)) ∙ ap (λ l. block_in old n ++ l) (drop-drop 64 (64 * n) old) in
       ap (λ l. take (64 * n) new ++ l) (split ∙ ap (λ b. b ++ drop (64 * n + 64) old) (same-bytes (block_in old n) (block_in new n) both same))
       ∙ next n within
 

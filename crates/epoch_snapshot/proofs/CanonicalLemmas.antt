@@ -105,7 +105,7 @@ is_zero-xored (x ∷ xs) (y ∷ ys) h =
     nonzero_by (not (x == y)) (differ xs ys) (bit_xor x y == 0) (is_zero (xored xs ys)) h
     (λ e. xor_nonzero x y (x == y) refl e (bit_xor x y == 0) refl) (is_zero-xored xs ys)
 
-all_mapped : {X : Type 0} (f : ℕ → X) (q : X → Bool) (ns : List ℕ) → All (λ n. q (f n) ≡ true) ns → All (λ x. IsTrue (q x)) (map f ns)
+pub all_mapped : {X : Type 0} (f : ℕ → X) (q : X → Bool) (ns : List ℕ) → All (λ n. q (f n) ≡ true) ns → All (λ x. IsTrue (q x)) (map f ns)
 all_mapped f q [] h k d within = absurd (omega arith)
 all_mapped f q (n ∷ ns) h zero d within = h 0 0 (omega arith)
 all_mapped f q (n ∷ ns) h (suc k) d within = all_mapped f q ns (λ j e inside. h (suc j) e (omega arith)) k d (omega arith)
@@ -118,4 +118,9 @@ blocks-changed old new n =
     subst F (sym e)
     (all_mapped (block_change old new) (λ b. not (is_zero b)) (filter (block_differs old new) (range_with_len 0 (64 * n)))
     (λ k d within. ap not (is_zero-xored (block_in old (get_or (filter (block_differs old new) (range_with_len 0 (64 * n))) k d)) (block_in new (get_or (filter (block_differs old new) (range_with_len 0 (64 * n))) k d))
-        (filter_passes (block_differs old new) (range_with_len 0 (64 * n)) k d within))))
+    (filter_passes (block_differs old new) (range_with_len 0 (64 * n)) k d within))))
+
+-- the changed pages name as many blocks as their masks have ones
+pub numbers-count : (old new : List ℕ) (n : ℕ) → length (block_numbers (changed_pages old new n)) ≡ block_count (changed_pages old new n)
+unfolding changed_pages
+numbers-count old new n = length_from old new 0 n

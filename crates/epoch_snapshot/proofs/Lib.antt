@@ -4,4 +4,6 @@ mod BlockLemmas
 mod MaskLemmas
 mod CutLemmas
 mod CanonicalLemmas
+mod PageLemmas
 mod SectorLemmas
+mod ImageLemmas

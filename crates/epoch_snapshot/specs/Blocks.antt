@@ -1,13 +1,10 @@
 -- Blocks of 64 bytes: 64 of them are a page of 4096 bytes.
-use Rattle.std.specs.Prelude.{ℕ, ◌+◌, ◌*◌, Bool, not, ◌==◌, List, [], ◌∷◌, ◌++◌, length, map, filter, take, drop, bit_xor}
+use Rattle.std.specs.Prelude.{ℕ, ◌+◌, ◌*◌, Bool, not, ◌==◌, List, [], ◌∷◌, ◌++◌, map, filter, take, drop, bit_xor}
 use Rattle.std.specs.List.{range_with_len, list_all, list_any}
 use Rattle.std.specs.Simd.Lanes.{zip2, mask_l}
 use Rattle.std.specs.Int.{bit_at}
+use Rattle.guest_machine.specs.Bytes.{with_bytes}
 use Rattle.epoch_snapshot.specs.declared.changes.PageChange.{PageChange}
-
--- bytes with some of them, from a place on, replaced; all others stay
-abbrev pub replaced : List ℕ → ℕ → List ℕ → List ℕ
-replaced bytes at new = take at bytes ++ (new ++ drop (at + length new) bytes)
 
 -- every byte is 0
 abbrev pub is_zero : List ℕ → Bool
@@ -36,7 +33,7 @@ block_in ram n = take 64 (drop (64 * n) ram)
 
 -- memory with a block XORed into one of its own
 abbrev pub with_xored : List ℕ → ℕ → List ℕ → List ℕ
-with_xored ram n block = replaced ram (64 * n) (xored (block_in ram n) block)
+with_xored ram n block = with_bytes ram (64 * n) (xored (block_in ram n) block)
 
 -- a block differs in two memories
 abbrev pub block_differs : List ℕ → List ℕ → ℕ → Bool

@@ -3,7 +3,8 @@ use Rattle.std.specs.Prelude.{ℕ, ◌*◌, ◌==◌, if◌then◌else◌, List,
 use Rattle.guest_machine.specs.Guest.{Guest}
 use Rattle.guest_machine.specs.MachineStates.{with_state}
 use Rattle.epoch_snapshot.specs.declared.changes.SectorChange.{SectorChange}
-use Rattle.epoch_snapshot.specs.Blocks.{replaced, block_numbers, with_xored}
+use Rattle.guest_machine.specs.Bytes.{with_bytes}
+use Rattle.epoch_snapshot.specs.Blocks.{block_numbers, with_xored}
 use Rattle.epoch_snapshot.specs.Checkpoints.{Change}
 
 -- memory with blocks XORed into those of these numbers, one after another
@@ -15,7 +16,7 @@ with_blocks ram (n ∷ ns) (b ∷ bs) = with_blocks (with_xored ram n b) ns bs
 -- a disk with these sectors replaced, one after another
 unfoldable pub with_sectors : List ℕ → List SectorChange → List ℕ
 with_sectors bytes [] = bytes
-with_sectors bytes (s ∷ ss) = with_sectors (replaced bytes (512 * s.sector) s.bytes) ss
+with_sectors bytes (s ∷ ss) = with_sectors (with_bytes bytes (512 * s.sector) s.bytes) ss
 
 -- the memory and the disk that a checkpoint changes: the base's, or all zero where it is a full one
 abbrev pub base_ram : Change → List ℕ → List ℕ

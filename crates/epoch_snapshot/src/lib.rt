@@ -7,6 +7,12 @@
 
 mod changes;
 mod checkpoint;
+mod cut;
+mod errors;
+mod memory;
+mod sectors;
 
 pub use changes::{BLOCK_BYTES, Block, PageChange, SectorChange};
 pub use checkpoint::Checkpoint;
+pub use cut::{cut_delta, cut_full};
+pub use errors::SnapshotError;
