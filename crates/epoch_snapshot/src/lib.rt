@@ -16,3 +16,6 @@ pub use changes::{BLOCK_BYTES, Block, PageChange, SectorChange};
 pub use checkpoint::Checkpoint;
 pub use cut::{cut_delta, cut_full};
 pub use errors::SnapshotError;
+
+#[cfg(test)]
+mod tests;
