@@ -1,0 +1,9 @@
+mod RangeLemmas
+mod PartLemmas
+mod BlockLemmas
+mod MaskLemmas
+mod CutLemmas
+mod CanonicalLemmas
+mod PageLemmas
+mod SectorLemmas
+mod ImageLemmas

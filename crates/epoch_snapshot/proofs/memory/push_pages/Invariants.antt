@@ -1,0 +1,10 @@
+-- The list holds the changed ones among the pages so far.
+use Rattle.std.proofs.Common.{◌≡◌, length, vec_capacity}
+use Rattle.epoch_snapshot.specs.Bases.{old_ram}
+use Rattle.epoch_snapshot.specs.Cuts.{changed_pages}
+use Rattle.epoch_snapshot.proofs.memory.push_pages.Given as goal
+
+abbrev pub invariant-loop-page : goal.invariant-loop-page
+invariant-loop-page l =
+    (l.list.items ≡ changed_pages (old_ram l.over l.machine) l.machine.guest.ram l.page)
+    × (vec_capacity l.list ≡ vec_capacity l.fn.list)

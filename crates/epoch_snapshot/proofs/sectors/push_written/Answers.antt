@@ -1,0 +1,11 @@
+-- Each listed sector is one of the disk's.
+use Rattle.std.proofs.Common.{◌≡◌, ℕ, ◌*◌, ◌/◌, ◌<◌, length, get_or, ap, sym, ◌∙◌, arith}
+use Rattle.guest_machine.specs.Guest.{sector_count}
+use Rattle.epoch_snapshot.proofs.SectorLemmas.{Rises-at}
+use Rattle.epoch_snapshot.proofs.sectors.push_written.Goals as goal
+
+pub record-requires : goal.record-requires
+record-requires c =
+    let l = c.dirty_sectors-sector-items.result.now in
+    let below = Rises-at 0 (sector_count c.args.machine.now.guest.sectors) l c.loop-sector.sector-index c.dirty_sectors-sector-items.ensures.rises (omega arith) in
+    omega (arith, below)

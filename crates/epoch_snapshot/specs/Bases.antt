@@ -1,0 +1,34 @@
+-- What checkpoints are cut over, and what a cut records.
+use Rattle.std.specs.Prelude.{◌≡◌, ℕ, ◌*◌, ◌<◌, false, List, length, replicate}
+use Rattle.guest_machine.specs.Dirty.{is_in}
+use Rattle.guest_machine.specs.Guest.{Guest, sector_count}
+use Rattle.guest_machine.specs.MachineStates.{state_of}
+use Rattle.guest_machine.specs.Guest.{State}
+use Rattle.epoch_snapshot.specs.declared.memory.Over.{Over}
+use Rattle.epoch_snapshot.specs.declared.memory.Over.TheVariants.{Settled, Zero}
+use Rattle.epoch_snapshot.specs.Checkpoints.{Change}
+use Rattle.epoch_snapshot.specs.Cuts.{sector_of, changed_pages, changed_blocks, changed_sectors}
+
+-- the memory that a machine's checkpoint is cut over
+abbrev pub old_ram : Over → State → List ℕ
+old_ram Settled m = m.settled
+old_ram Zero m = replicate (length m.guest.ram) 0
+
+-- a checkpoint of a machine records exactly the pages and blocks that differ from an old memory, and exactly these sectors;
+-- g is its generation and n its number
+pub record IsCut (old : List ℕ) (listed : List ℕ) (m : State) (g n : ℕ) (c : Change) : Type 0 where
+  pub pages_size : length m.guest.ram ≡ 4096 * c.shape.pages
+  pub sectors_size : length m.guest.sectors ≡ 512 * c.shape.sectors
+  pub generation : c.generation ≡ g
+  pub number : c.number ≡ n
+  pub state : c.state ≡ state_of m.guest
+  pub pages : c.pages ≡ changed_pages old m.guest.ram c.shape.pages
+  pub blocks : c.blocks ≡ changed_blocks old m.guest.ram c.pages
+  pub sectors : c.sectors ≡ changed_sectors m.guest.sectors listed
+
+-- a guest that a machine's delta stands over: its memory is the machine's at the last settle, and its disk has as many bytes as
+-- the machine's, and the same ones at each sector that isn't listed as written
+pub record IsBase (m : State) (base : Guest) : Type 0 where
+  pub ram : base.ram ≡ m.settled
+  pub size : length base.sectors ≡ length m.guest.sectors
+  pub sectors : (i : ℕ) → i < sector_count m.guest.sectors → is_in i m.dirty ≡ false → sector_of base.sectors i ≡ sector_of m.guest.sectors i

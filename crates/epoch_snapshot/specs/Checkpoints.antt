@@ -1,0 +1,50 @@
+-- What a checkpoint states of a machine.
+use Rattle.std.specs.Prelude.{◌≡◌, ◌≢◌, ℕ, ◌^◌, ◌<◌, ◌≤◌, IsTrue, not, List, length, map, All, count_ones}
+use Rattle.std.specs.List.{sum_by}
+use Rattle.guest_machine.specs.Dirty.{Rises}
+use Rattle.guest_machine.specs.declared.shapes.Shape.{Shape}
+use Rattle.guest_machine.specs.declared.machine_state.MachineState.{MachineState}
+use Rattle.guest_machine.specs.MachineStates.{IsMachineState}
+use Rattle.epoch_snapshot.specs.declared.changes.PageChange.{PageChange}
+use Rattle.epoch_snapshot.specs.declared.changes.SectorChange.{SectorChange}
+use Rattle.epoch_snapshot.specs.Blocks.{is_zero}
+
+-- the machine's shape, the pair's generation and the checkpoint's number in it, where 0 is a full one; the machine's state; which
+-- blocks of which pages change, and these blocks, the old XOR the new, page by page and in each from the lowest on; and the new
+-- bytes of the sectors that change
+pub record Change : Type 0 where
+  pub shape : Shape
+  pub generation : ℕ
+  pub number : ℕ
+  pub state : MachineState
+  pub pages : List PageChange
+  pub blocks : List (List ℕ)
+  pub sectors : List SectorChange
+
+abbrev pub change_of : Shape → ℕ → ℕ → MachineState → List PageChange → List (List ℕ) → List SectorChange → Change
+change_of shape generation number state pages blocks sectors = record {
+  shape = shape;
+  generation = generation;
+  number = number;
+  state = state;
+  pages = pages;
+  blocks = blocks;
+  sectors = sectors;
+}
+
+-- how many blocks pages change
+abbrev pub block_count : List PageChange → ℕ
+block_count pages = sum_by (λ p. count_ones p.mask) pages
+
+-- what is true of each checkpoint, so that one change has one of them. Numbers stay below 2^62, as in all of the pair's protocol
+pub record IsCanonical (c : Change) : Type 0 where
+  pub first_generation : 1 ≤ c.generation
+  pub last_generation : c.generation < 2 ^ 62
+  pub last_number : c.number < 2 ^ 62
+  pub state : IsMachineState c.state
+  pub pages : Rises 0 c.shape.pages (map (λ p. p.page) c.pages)
+  pub masks : All (λ p. p.mask ≢ 0) c.pages
+  pub block_count : length c.blocks ≡ block_count c.pages
+  pub blocks : All (λ b. IsTrue (not (is_zero b))) c.blocks
+  pub sectors : Rises 0 c.shape.sectors (map (λ s. s.sector) c.sectors)
+  pub full_sectors : c.number ≡ 0 → All (λ s. IsTrue (not (is_zero s.bytes))) c.sectors

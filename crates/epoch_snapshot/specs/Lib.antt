@@ -1,0 +1,6 @@
+pub mod Bases
+pub mod Blocks
+pub mod Checkpoints
+pub mod Cuts
+pub mod Images
+pub mod Refusals

@@ -1,0 +1,92 @@
+//! Cuts: the checkpoint of what a machine changed, and the one of all that it holds.
+ghost use Rattle.std.specs.Prelude.{◌≡◌, ◌^◌, ◌<◌, ◌≤◌, IfOk, OnErr, Err, length, replicate};
+ghost use Rattle.guest_machine.specs.Guest.{Guest, sector_count};
+ghost use Rattle.epoch_snapshot.specs.Bases.{IsBase, IsCut};
+ghost use Rattle.epoch_snapshot.specs.Cuts.{used_sectors};
+ghost use Rattle.epoch_snapshot.specs.Images.{image_of};
+
+use crate::checkpoint::Checkpoint;
+use crate::errors::SnapshotError;
+use crate::memory::{Over, count_changes, push_blocks, push_pages};
+use crate::sectors::{count_used, push_used, push_written};
+use guest_machine::Machine;
+use std::alloc::Global;
+
+/// The checkpoint of what the machine changed since its last settle: the pages and blocks that differ, and the sectors written
+/// since. Over each guest with the memory of that settle and the machine's other sectors it makes the machine's guest.
+///
+/// The generation and the number are 1 to 2^62 - 1, as the caller knows. The machine stays as it is; the caller settles it once
+/// the checkpoint is stored.
+///
+/// # Errors
+/// `NoMemory` where memory is refused.
+pub fn cut_delta(
+    alloc: Global,
+    machine: &Machine,
+    generation: u64,
+    number: u64,
+) -> Result<Checkpoint, SnapshotError>
+    requires first_generation { 1 ≤ generation }
+    requires last_generation { generation < 2 ^ 62 }
+    requires first_number { 1 ≤ number }
+    requires last_number { number < 2 ^ 62 }
+    ensures image { IfOk result (λ c. (base : Guest) → IsBase machine.now base → image_of c base ≡ machine.now.guest) }
+    ensures parts { IfOk result (IsCut machine.now.settled machine.now.dirty machine.now generation number) }
+    ensures err { OnErr result (result ≡ Err SnapshotError.NoMemory) }
+{
+    let shape = machine.shape();
+    let counts = count_changes(machine, Over::Settled, shape.pages);
+    let mut pages = Vec::with_capacity(alloc, counts.pages)?;
+    let mut blocks = Vec::with_capacity(alloc, counts.blocks)?;
+    let mut sectors = Vec::with_capacity(alloc, machine.dirty_sectors().len())?;
+    push_pages(machine, Over::Settled, shape.pages, &mut pages);
+    push_blocks(machine, Over::Settled, pages.as_slice(), &mut blocks);
+    push_written(machine, &mut sectors);
+    Ok(Checkpoint::from_parts(
+        shape,
+        generation,
+        number,
+        machine.state(),
+        pages,
+        blocks,
+        sectors,
+    ))
+}
+
+/// The checkpoint of all that the machine holds, number 0 of its generation: the pages and blocks that aren't all zero, and the
+/// sectors that aren't. It stands for itself: over any guest it makes the machine's.
+///
+/// The generation is 1 to 2^62 - 1, as the caller knows. The machine stays as it is.
+///
+/// # Errors
+/// `NoMemory` where memory is refused.
+pub fn cut_full(
+    alloc: Global,
+    machine: &Machine,
+    generation: u64,
+) -> Result<Checkpoint, SnapshotError>
+    requires first_generation { 1 ≤ generation }
+    requires last_generation { generation < 2 ^ 62 }
+    ensures image { IfOk result (λ c. (base : Guest) → image_of c base ≡ machine.now.guest) }
+    ensures parts { IfOk result (IsCut (replicate (length machine.now.guest.ram) 0) (used_sectors machine.now.guest.sectors (sector_count machine.now.guest.sectors)) machine.now generation 0) }
+    ensures err { OnErr result (result ≡ Err SnapshotError.NoMemory) }
+{
+    let shape = machine.shape();
+    let counts = count_changes(machine, Over::Zero, shape.pages);
+    let used = count_used(machine, shape.sectors);
+    let mut pages = Vec::with_capacity(alloc, counts.pages)?;
+    let mut blocks = Vec::with_capacity(alloc, counts.blocks)?;
+    let mut sectors = Vec::with_capacity(alloc, used)?;
+    push_pages(machine, Over::Zero, shape.pages, &mut pages);
+    push_blocks(machine, Over::Zero, pages.as_slice(), &mut blocks);
+    push_used(machine, shape.sectors, &mut sectors);
+    Ok(Checkpoint::from_parts(
+        shape,
+        generation,
+        0,
+        machine.state(),
+        pages,
+        blocks,
+        sectors,
+    ))
+}

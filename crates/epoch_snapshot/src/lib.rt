@@ -1,0 +1,21 @@
+//! Checkpoints: what changed in a machine since the last cut, or all that it holds.
+//!
+//! A [`Checkpoint`] states the hart, its timer and both devices' records whole, and of memory and disk what changed: the blocks of
+//! 64 bytes that differ, each as the old block XOR the new one, and the sectors that were written. It is canonical by its type, so
+//! that one change has one checkpoint. What a checkpoint makes of a guest is its image (`image_of` of the specs).
+#![tactic(auto)]
+
+mod changes;
+mod checkpoint;
+mod cut;
+mod errors;
+mod memory;
+mod sectors;
+
+pub use changes::{BLOCK_BYTES, Block, PageChange, SectorChange};
+pub use checkpoint::Checkpoint;
+pub use cut::{cut_delta, cut_full};
+pub use errors::SnapshotError;
+
+#[cfg(test)]
+mod tests;

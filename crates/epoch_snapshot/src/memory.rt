@@ -1,0 +1,137 @@
+//! What a cut records of memory.
+ghost use Rattle.std.specs.Prelude.{◌≡◌, ℕ, ◌+◌, ◌*◌, ◌<◌, ◌≤◌, ◌^◌, length, [], ◌++◌, map, vec_capacity, All};
+ghost use Rattle.epoch_snapshot.specs.Blocks.{set_blocks, block_numbers, xored, block_in, changed_mask};
+ghost use Rattle.epoch_snapshot.specs.Checkpoints.{block_count};
+ghost use Rattle.epoch_snapshot.specs.Cuts.{changed_pages, changed_blocks};
+ghost use Rattle.epoch_snapshot.specs.Bases.{old_ram};
+
+use crate::changes::{BLOCK_BYTES, Block, PageChange};
+use guest_machine::Machine;
+use page_lanes::{Page, mask, xor_blocks};
+
+/// How many blocks a page has.
+const PAGE_BLOCKS: usize = 64;
+
+/// A page of zeros.
+static ZERO_PAGE: Page = [0; 4096];
+
+/// What a checkpoint is cut over.
+#[derive(Clone, Copy)]
+pub(crate) enum Over {
+    /// The machine at its last settle: the checkpoint is a delta.
+    Settled,
+    /// A machine that is all zero: the checkpoint is full.
+    Zero,
+}
+
+/// How much a cut records of memory.
+#[derive(Clone, Copy)]
+pub(crate) struct Counts {
+    /// Pages that change.
+    pub(crate) pages: usize,
+    /// Blocks that change.
+    pub(crate) blocks: usize,
+}
+
+/// A page of what the checkpoint is cut over.
+fn old_page(machine: &Machine, over: Over, page: u32) -> &Page
+    requires { 4096 * page + 4096 ≤ length machine.now.guest.ram }
+    ensures { (i : ℕ) → i < 64 → block_in result.now i ≡ block_in (old_ram over machine.now) (64 * page + i) }
+{
+    match over {
+        Over::Settled => machine.original(page),
+        Over::Zero => &ZERO_PAGE,
+    }
+}
+
+/// Which blocks of a page change.
+fn page_mask(machine: &Machine, over: Over, page: u32) -> u64
+    requires { 4096 * page + 4096 ≤ length machine.now.guest.ram }
+    ensures { result ≡ changed_mask (old_ram over machine.now) machine.now.guest.ram page }
+{
+    match over {
+        Over::Settled if !machine.dirty(page) => 0,
+        _ => mask(old_page(machine, over, page), machine.page(page)),
+    }
+}
+
+/// How many of the first `pages` pages change, and how many blocks.
+pub(crate) fn count_changes(machine: &Machine, over: Over, pages: u32) -> Counts
+    requires { 4096 * pages ≤ length machine.now.guest.ram }
+    ensures pages { result.pages ≡ length (changed_pages (old_ram over machine.now) machine.now.guest.ram pages) }
+    ensures blocks { result.blocks ≡ block_count (changed_pages (old_ram over machine.now) machine.now.guest.ram pages) }
+{
+    let mut counts = Counts {
+        pages: 0,
+        blocks: 0,
+    };
+    for page in 0..pages {
+        let mask = page_mask(machine, over, page);
+        if mask != 0 {
+            counts.pages += 1;
+            counts.blocks += mask.count_ones() as usize;
+        }
+    }
+    counts
+}
+
+/// Puts those of the first `pages` pages that change into an empty list that has room for them.
+pub(crate) fn push_pages(machine: &Machine, over: Over, pages: u32, list: &mut Vec<PageChange>)
+    requires size { 4096 * pages ≤ length machine.now.guest.ram }
+    requires empty { list.old.items ≡ [] }
+    requires room { length (changed_pages (old_ram over machine.now) machine.now.guest.ram pages) ≤ vec_capacity list.old }
+    ensures { list.new.items ≡ changed_pages (old_ram over machine.now) machine.now.guest.ram pages }
+{
+    for page in 0..pages {
+        let mask = page_mask(machine, over, page);
+        if mask != 0 {
+            list.push_reserved(PageChange { page, mask });
+        }
+    }
+}
+
+/// A block of a page.
+fn block(page: &Page, number: usize) -> &Block
+    requires { number < 64 }
+    ensures { result.now ≡ block_in page.now number }
+{
+    let start = BLOCK_BYTES * number;
+    let Ok(block) = <&Block>::try_from(&page[start..start + BLOCK_BYTES]) else {
+        unreachable!()
+    };
+    block
+}
+
+/// Puts the blocks that a mask names last into a list that has room for them, the old XOR the new.
+fn push_page_blocks(old: &Page, new: &Page, mask: u64, list: &mut Vec<Block>)
+    requires { length list.old.items + length (set_blocks mask) ≤ vec_capacity list.old }
+    ensures items { list.new.items ≡ list.old.items ++ map (λ i. xored (block_in old.now i) (block_in new.now i)) (set_blocks mask) }
+    ensures capacity { vec_capacity list.new ≡ vec_capacity list.old }
+{
+    for i in 0..PAGE_BLOCKS {
+        if (mask >> i) % 2 == 1 {
+            list.push_reserved(xor_blocks(block(old, i), block(new, i)));
+        }
+    }
+}
+
+/// Puts the blocks that pages of the machine change, in turn, last into a list that has room for them, the old XOR the new.
+pub(crate) fn push_blocks(
+    machine: &Machine,
+    over: Over,
+    changes: &[PageChange],
+    list: &mut Vec<Block>,
+)
+    requires inside { All (λ p. 4096 * p.page + 4096 ≤ length machine.now.guest.ram) changes.now }
+    requires room { length list.old.items + length (block_numbers changes.now) ≤ vec_capacity list.old }
+    ensures { list.new.items ≡ list.old.items ++ changed_blocks (old_ram over machine.now) machine.now.guest.ram changes.now }
+{
+    for change in changes {
+        push_page_blocks(
+            old_page(machine, over, change.page),
+            machine.page(change.page),
+            change.mask,
+            list,
+        );
+    }
+}
