@@ -1,0 +1,4 @@
+pub mod Begun
+pub mod Failing
+pub mod Feeding
+pub mod Extending

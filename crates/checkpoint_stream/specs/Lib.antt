@@ -1,0 +1,3 @@
+pub mod HeadTable
+pub mod Readings
+pub mod Taken

@@ -1,0 +1,7 @@
+//! Checkpoints as bytes.
+#![tactic(auto)]
+
+mod marks;
+mod parts;
+mod place;
+mod rules;
