@@ -147,3 +147,17 @@ Takes-more r m s at count bytes front back =
 pub count-inside : (at count : ℕ) (bytes : List ℕ) → at ≤ length bytes → count ≤ length (take (length bytes - at) (drop at bytes)) → at + count ≤ length bytes
 count-inside at count bytes inside h =
     omega (arith, inside, h, ap length (rest-is_drop at bytes), length-drop at bytes)
+
+pub taken_le : (r : Reading) (bytes : List ℕ) → taken r bytes ≤ length bytes
+unfolding taken
+taken_le r [] = omega arith
+taken_le r (b ∷ bs) =
+    elim (is_closed r.place) as (λ (closed : Bool). (if closed then 0 else 1 + taken (fed_byte r b) bs) ≤ suc (length bs)) [
+      true ↦ omega arith
+    | false ↦ omega (arith, taken_le (fed_byte r b) bs)
+    ]
+
+pub taken_some : (r : Reading) (bytes : List ℕ) → is_closed r.place ≡ false → 0 < length bytes → 0 < taken r bytes
+unfolding taken
+taken_some r [] going some = absurd (omega arith)
+taken_some r (b ∷ bs) going some = rw going (omega arith)

@@ -1,5 +1,5 @@
 -- Reading a checkpoint unit by unit: what was read, which unit comes next, and what each unit that was taken whole makes of it.
-use Rattle.std.specs.Prelude.{◌≡◌, ℕ, zero, suc, ◌+◌, ◌-◌, ◌%◌, ◌^◌, ◌==◌, Bool, true, false, ◌&&◌, not, if◌then◌else◌, nat_le, nat_lt, List, [], ◌∷◌, ◌++◌, length, slice_index, count_ones}
+use Rattle.std.specs.Prelude.{◌≡◌, ℕ, zero, suc, ◌+◌, ◌-◌, ◌%◌, ◌^◌, ◌==◌, Bool, true, false, ◌&&◌, not, if◌then◌else◌, nat_le, nat_lt, List, [], ◌∷◌, ◌++◌, length, slice_index, count_ones, Option, Some, None}
 use Rattle.guest_machine.specs.declared.shapes.Shape.{Shape}
 use Rattle.epoch_snapshot.specs.declared.changes.PageChange.{PageChange}
 use Rattle.epoch_snapshot.specs.declared.changes.SectorChange.{SectorChange}
@@ -36,6 +36,15 @@ abbrev pub is_closed : Place → Bool
 is_closed Whole = true
 is_closed (Failed at) = true
 is_closed _ = false
+
+abbrev pub is_whole : Place → Bool
+is_whole Whole = true
+is_whole _ = false
+
+-- the offset of the unit that broke its rule
+abbrev pub failure_at : Place → Option ℕ
+failure_at (Failed at) = Some at
+failure_at _ = None
 
 -- how many bytes the unit has that comes next. Where none comes, 1 stands, so that what has begun is always less than a unit
 abbrev pub width_at : Place → ℕ → ℕ

@@ -1,20 +1,24 @@
 //! What a reader has read of a checkpoint, and what one more unit makes of it.
 
 ghost use Rattle.std.specs.Prelude.{◌≡◌, ◌<◌, ◌≤◌, true, false, length, take, IfOk, OnOk, OnErr};
-ghost use Rattle.checkpoint_stream.specs.Readings.{Reading, fed, taken, begun, width_of, is_closed, is_full, failed, moved, moved_if, kept_number, kept_mask, kept_block, kept_sector, number_judged, mask_judged, block_judged, sector_judged, judged};
+ghost use Rattle.checkpoint_stream.specs.Readings.{Reading, fed, taken, failure_at, is_whole, begun, width_of, is_closed, is_full, failed, moved, moved_if, kept_number, kept_mask, kept_block, kept_sector, number_judged, mask_judged, block_judged, sector_judged, judged};
 ghost use Rattle.checkpoint_stream.specs.HeadTable.{row_at};
 ghost use Rattle.epoch_snapshot.specs.Blocks.{is_zero};
 ghost use Rattle.checkpoint_stream.specs.declared.place.Place.TheVariants.{Head};
 
 ghost use Rattle.checkpoint_stream.specs.Taken.{Takes, Extends, HasRoom, marked};
+ghost use Rattle.checkpoint_stream.specs.Sound.{change_in};
+ghost use Rattle.epoch_snapshot.specs.Checkpoints.{IsCanonical};
 
 use crate::marks::Mark;
 use crate::place::{Place, after_block, after_number, pages_due, sectors_due};
 use crate::rules::{HEAD_NUMBERS, Row, Width, head_row, number_of, passes, u32_of};
-use epoch_snapshot::{BLOCK_BYTES, Block, PageChange, SectorChange};
+use crate::states::state_from;
+use epoch_snapshot::{BLOCK_BYTES, Block, Checkpoint, PageChange, SectorChange};
 use guest_machine::{SECTOR_BYTES, Shape};
 use std::alloc::{AllocError, Global};
 use std::marker::Model;
+use std::mem;
 
 /// The parts of a checkpoint as far as they are read, and the bytes of the unit that has begun.
 #[derive(Drop)]
@@ -88,6 +92,44 @@ impl Parts {
             Place::Whole | Place::Failed { .. } => 1,
             Place::PageCount | Place::PageIndex { .. } | Place::SectorCount | Place::SectorIndex { .. } => 4,
         }
+    }
+
+    /// The offset of the unit that broke its rule.
+    pub(crate) fn failure(&self) -> Option<u64>
+        ensures { result ≡ failure_at self.now.place }
+    {
+        match self.place {
+            Place::Failed { at } => Some(at),
+            _ => None,
+        }
+    }
+
+    /// Whether a whole checkpoint stands.
+    pub(crate) fn is_whole(&self) -> bool
+        ensures { result ≡ is_whole self.now.place }
+    {
+        matches!(self.place, Place::Whole)
+    }
+
+    /// The checkpoint that was read, whole. The next one begins.
+    #[tactic(auto, unfolding(crate::specs::Sound::change_in))]
+    pub(crate) fn take_checkpoint(&mut self) -> Checkpoint
+        requires known { self.old.known ≡ 80 }
+        requires canonical { IsCanonical (change_in self.old) }
+        ensures checkpoint { result ≡ change_in self.old }
+        ensures begun { self.new ≡ begun self.old.shape self.old.offset }
+    {
+        let alloc = *self.pages.allocator();
+        let pages = mem::replace(&mut self.pages, Vec::new(alloc));
+        let blocks = mem::replace(&mut self.blocks, Vec::new(alloc));
+        let sectors = mem::replace(&mut self.sectors, Vec::new(alloc));
+        let state = state_from(&self.head);
+        let (generation, number) = (self.head[3], self.head[4]);
+        self.place = Place::Head;
+        self.known = 0;
+        self.before = 0;
+        self.filled = 0;
+        Checkpoint::from_parts(self.shape, generation, number, state, pages, blocks, sectors)
     }
 
     /// Takes bytes up to the end of the checkpoint. Answers how many.

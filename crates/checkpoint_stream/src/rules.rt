@@ -62,7 +62,7 @@ pub struct Row {
 }
 
 /// The bytes `RMC1` as a number, little end first.
-const MAGIC_NUMBER: u64 = 0x3143_4d52;
+pub(crate) const MAGIC_NUMBER: u64 = 0x3143_4d52;
 
 /// How many numbers the head has.
 pub(crate) const HEAD_NUMBERS: usize = 80;
