@@ -5,3 +5,4 @@ pub mod Text
 pub mod Refusals
 pub mod Sound
 pub mod Answers
+pub mod Units

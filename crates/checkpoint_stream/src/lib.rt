@@ -5,6 +5,7 @@
 
 mod encoding;
 mod errors;
+mod laws;
 mod marks;
 mod parts;
 mod place;
@@ -16,4 +17,5 @@ mod tests;
 
 pub use encoding::encode;
 pub use errors::StreamError;
+pub use laws::{any_pieces, closed_takes_nothing, read_is_canonical, units_are_read};
 pub use reader::Reader;
