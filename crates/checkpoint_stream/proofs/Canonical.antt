@@ -1,0 +1,131 @@
+-- A reading that is whole and sound is that of a canonical checkpoint.
+use Rattle.std.proofs.Common.{◌≡◌, ℕ, suc, zero, ◌+◌, ◌%◌, ◌^◌, ◌<◌, ◌≤◌, ◌==◌, ◌&&◌, ◌||◌, IsTrue, List, [], ◌∷◌, length, Bool, true, false, refl, sym, ◌∙◌, ap, subst, arith, nat_le, get_or, bit_and, lit<}
+use Rattle.std.proofs.lemmas.Bool.Decides.{nat_tests}
+use Rattle.std.proofs.lemmas.Nat.{and_le_r}
+use Rattle.guest_machine.specs.declared.shapes.Shape.{Shape}
+use Rattle.guest_machine.specs.MachineStates.{IsMachineState}
+use Rattle.virtio_mmio.specs.States.{is_queue_size, IsQueueRecord, IsDeviceRecord}
+use Rattle.virtio_mmio.specs.declared.kinds.DeviceKind.TheVariants.{Network}
+use Rattle.virtqueue.specs.declared.rings.Queue.{Queue}
+use Rattle.epoch_snapshot.specs.Checkpoints.{IsCanonical}
+use Rattle.mtraps.specs.CsrTable.{legal_value}
+use Rattle.checkpoint_stream.specs.declared.rules.Row.{Row}
+use Rattle.checkpoint_stream.specs.declared.place.Place.{Place}
+use Rattle.checkpoint_stream.specs.declared.place.Place.TheVariants.{Head, PageCount, PageIndex, PageMask, Block, SectorCount, SectorIndex, SectorBytes, Whole, Failed}
+use Rattle.checkpoint_stream.specs.HeadTable.{head_table, passes, number}
+use Rattle.checkpoint_stream.specs.declared.rules.Width.TheVariants.{Four}
+use Rattle.checkpoint_stream.specs.declared.rules.Rule.TheVariants.{Magic}
+use Rattle.checkpoint_stream.specs.Readings.{Reading, is_whole}
+use Rattle.checkpoint_stream.specs.Sound.{IsSound, IsHead, HasRecords, AllPass, StandsAt, change_in, state_from, queue_from}
+
+AllPass-at : (shape : Shape) (before : ℕ) (rows : List Row) (ns : List ℕ) (k : ℕ) (d : Row) → k < length ns → AllPass shape before rows ns →
+    IsTrue (passes shape (get_or rows k d).rule (get_or (before ∷ ns) k 0) (get_or ns k 0))
+AllPass-at shape before rows [] k d h all = absurd (omega (arith, h))
+AllPass-at shape before [] (n ∷ ns) k d h all = absurd all
+AllPass-at shape before (row ∷ rows) (n ∷ ns) zero d h all = all.0
+AllPass-at shape before (row ∷ rows) (n ∷ ns) (suc k) d h all = AllPass-at shape n rows ns k d (omega (arith, h)) all.1
+
+within : (least n most : ℕ) → IsTrue (nat_le least n && nat_le n most) → (least ≤ n) × (n ≤ most)
+within least n most h = grind (arith, nat_tests)
+
+equal : (m n : ℕ) → IsTrue (m == n) → m ≡ n
+equal m n h = grind (arith, nat_tests)
+
+low : (n : ℕ) → n < 2 ^ 32 → n % 2 ^ 32 ≡ n
+low n h = omega (arith, h)
+
+low-msip : (n : ℕ) → IsTrue (nat_le 0 n && nat_le n 1) → n % 2 ^ 32 ≤ 1
+low-msip n h = let le : (0 ≤ n) × (n ≤ 1) = within 0 n 1 h in omega (arith, le.1)
+
+low-interrupts : (n : ℕ) → IsTrue (nat_le 0 n && nat_le n 3) → n % 2 ^ 32 ≤ 3
+low-interrupts n h = let le : (0 ≤ n) × (n ≤ 3) = within 0 n 3 h in omega (arith, le.1)
+
+low-status : (n : ℕ) → IsTrue (bit_and n 0xcf == n) → bit_and (n % 2 ^ 32) 0xcf ≡ n % 2 ^ 32
+low-status n h =
+    let same : bit_and n 0xcf ≡ n = equal _ n h in
+    let small : n % 2 ^ 32 ≡ n = low n (omega (arith, same, and_le_r n 0xcf)) in
+    subst (λ (m : ℕ). bit_and m 0xcf ≡ m) (sym small) same
+
+size-small : (n : ℕ) → IsTrue (n == 0 || is_queue_size n) → n ≤ 64
+size-small n h = grind (arith, nat_tests)
+
+ready-sized : (size ready : ℕ) → IsTrue (ready == 0 || (ready == 1 && nat_le 1 size)) → (ready == 1) ≡ true → 1 ≤ size
+ready-sized size ready h is = grind (arith, nat_tests)
+
+queue-record : (size ready desc driver device available used : ℕ) → IsTrue (size == 0 || is_queue_size size) → IsTrue (ready == 0 || (ready == 1 && nat_le 1 size)) →
+    IsQueueRecord (record { num = size % 2 ^ 32; ready = ready == 1; desc = desc; driver = driver; device = device; next_available = available; next_used = used })
+queue-record size ready desc driver device available used sized made =
+    let small : size % 2 ^ 32 ≡ size = low size (omega (arith, size-small size sized)) in
+    record {
+      size = subst (λ (m : ℕ). IsTrue (m == 0 || is_queue_size m)) (sym small) sized;
+      ready_has_size = λ (is : (ready == 1) ≡ true). omega (arith, small, ready-sized size ready made is);
+    }
+
+-- the rule of a number of a whole head
+rule-at : (r : Reading) (k : ℕ) → IsHead r → r.known ≡ 80 → k < 80 →
+    IsTrue (passes r.shape (get_or head_table k (number Four Magic)).rule (get_or (0 ∷ r.head) k 0) (get_or r.head k 0))
+rule-at r k h known lt = AllPass-at r.shape 0 head_table r.head k (number Four Magic) (omega (arith, h.known, known, lt)) h.passes
+
+pub state-sound : (r : Reading) → IsHead r → r.known ≡ 80 → IsMachineState (state_from r.head)
+unfolding passes head_table
+state-sound r h known = record {
+  pc = equal _ _ (rule-at r 37 h known (lit< tt));
+  csrs = record {
+    mstatus = equal _ _ (rule-at r 38 h known (lit< tt));
+    mie = equal _ _ (rule-at r 39 h known (lit< tt));
+    mtvec = equal _ _ (rule-at r 40 h known (lit< tt));
+    mepc = equal _ _ (rule-at r 42 h known (lit< tt));
+  };
+  msip = low-msip _ (rule-at r 45 h known (lit< tt));
+  net = record {
+    status_bits = low-status _ (rule-at r 47 h known (lit< tt));
+    interrupt_bits = low-interrupts _ (rule-at r 52 h known (lit< tt));
+    queue_0 = queue-record _ _ _ _ _ _ _ (rule-at r 53 h known (lit< tt)) (rule-at r 54 h known (lit< tt));
+    queue_1 = queue-record _ _ _ _ _ _ _ (rule-at r 60 h known (lit< tt)) (rule-at r 61 h known (lit< tt));
+    absent = tt;
+  };
+  disk = record {
+    status_bits = low-status _ (rule-at r 67 h known (lit< tt));
+    interrupt_bits = low-interrupts _ (rule-at r 72 h known (lit< tt));
+    queue_0 = queue-record _ _ _ _ _ _ _ (rule-at r 73 h known (lit< tt)) (rule-at r 74 h known (lit< tt));
+    queue_1 = record { size = refl; ready_has_size = λ (e : false ≡ true). cc };
+    absent = refl;
+  };
+}
+
+generation-within : (r : Reading) → IsHead r → r.known ≡ 80 → (1 ≤ get_or r.head 3 0) × (get_or r.head 3 0 ≤ 0x3fffffffffffffff)
+unfolding passes head_table
+generation-within r h known = within 1 _ 0x3fffffffffffffff (rule-at r 3 h known (lit< tt))
+
+number-within : (r : Reading) → IsHead r → r.known ≡ 80 → (0 ≤ get_or r.head 4 0) × (get_or r.head 4 0 ≤ 0x3fffffffffffffff)
+unfolding passes head_table
+number-within r h known = within 0 _ 0x3fffffffffffffff (rule-at r 4 h known (lit< tt))
+
+pub canonical : (r : Reading) → IsSound r → r.place ≡ Whole → (r.known ≡ 80) × IsCanonical (change_in r)
+unfolding change_in
+canonical r h whole =
+    let records : HasRecords r r.shape.pages 0 r.shape.sectors = subst (λ (p : Place). StandsAt p r) whole h.place in
+    (records.known, record {
+      first_generation = (generation-within r h.head records.known).0;
+      last_generation = omega (arith, (generation-within r h.head records.known).1);
+      last_number = omega (arith, (number-within r h.head records.known).1);
+      state = state-sound r h.head records.known;
+      pages = records.pages;
+      masks = records.masks;
+      block_count = omega (arith, records.count);
+      blocks = records.blocks;
+      sectors = records.sectors;
+      full_sectors = records.full;
+    })
+
+pub whole-place : (p : Place) → is_whole p ≡ true → p ≡ Whole
+whole-place Head e = cc
+whole-place PageCount e = cc
+whole-place (PageIndex left from) e = cc
+whole-place (PageMask left page) e = cc
+whole-place (Block left page more) e = cc
+whole-place SectorCount e = cc
+whole-place (SectorIndex left from) e = cc
+whole-place (SectorBytes left sector) e = cc
+whole-place Whole e = refl
+whole-place (Failed at) e = cc

@@ -1,0 +1,154 @@
+//! A checkpoint as its text.
+
+ghost use Rattle.std.specs.Prelude.{◌≡◌, ◌≤◌, ◌++◌, length, IfOk, OnOk};
+ghost use Rattle.epoch_snapshot.specs.Checkpoints.{block_count};
+ghost use Rattle.checkpoint_stream.specs.HeadTable.{bytes_of, head_table};
+ghost use Rattle.checkpoint_stream.specs.Text.{head_numbers, number_units, page_units, sector_units, joined, text};
+
+ghost use Rattle.checkpoint_stream.specs.declared.rules.Width.TheVariants.{Four, Eight};
+
+use crate::errors::StreamError;
+use crate::rules::{HEAD_NUMBERS, MAGIC_NUMBER, Width, head_row};
+use epoch_snapshot::{BLOCK_BYTES, Block, Checkpoint, PageChange, SectorChange};
+use guest_machine::SECTOR_BYTES;
+use std::alloc::{AllocError, Global};
+
+/// The bytes of a checkpoint without records: the head and the two counts.
+const LEAST_BYTES: usize = 532;
+
+/// The text of a checkpoint: its one spelling as bytes, in memory reserved once to its exact size.
+///
+/// # Errors
+///
+/// [`StreamError::NoMemory`] where that growth was really refused.
+#[tactic(auto, unfolding(crate::specs::Text::text, crate::specs::Text::units))]
+pub fn encode(alloc: Global, checkpoint: &Checkpoint) -> Result<Vec<u8>, StreamError>
+    ensures { IfOk result (λ bytes. bytes.items ≡ text checkpoint.now) }
+{
+    let pages = checkpoint.pages();
+    let blocks = checkpoint.blocks();
+    let sectors = checkpoint.sectors();
+    let mut out = Vec::with_capacity(alloc, size_of_text(pages.len(), blocks.len(), sectors.len()))?;
+    put_head(&mut out, &numbers(checkpoint))?;
+    put(&mut out, Width::Four, pages.len() as u64)?;
+    put_pages(&mut out, pages, blocks)?;
+    put(&mut out, Width::Four, sectors.len() as u64)?;
+    put_sectors(&mut out, sectors)?;
+    Ok(out)
+}
+
+/// How many bytes a checkpoint has with so many pages, blocks and sectors.
+fn size_of_text(pages: usize, blocks: usize, sectors: usize) -> usize {
+    let of_pages = pages.saturating_mul(12).saturating_add(blocks.saturating_mul(BLOCK_BYTES));
+    let of_sectors = sectors.saturating_mul(4 + SECTOR_BYTES);
+    LEAST_BYTES.saturating_add(of_pages).saturating_add(of_sectors)
+}
+
+/// A number at the end, little end first.
+#[tactic(auto, unfolding(crate::specs::HeadTable::bytes_of))]
+fn put(out: &mut Vec<u8>, width: Width, n: u64) -> Result<(), AllocError>
+    ensures { OnOk result (out.new.items ≡ out.old.items ++ bytes_of width n) }
+{
+    let bytes = n.to_le_bytes();
+    match width {
+        Width::Two => out.extend_from_slice(&[bytes[0], bytes[1]]),
+        Width::Four => out.extend_from_slice(&[bytes[0], bytes[1], bytes[2], bytes[3]]),
+        Width::Eight => out.extend_from_slice(&bytes),
+    }
+}
+
+/// The head's numbers at the end.
+fn put_head(out: &mut Vec<u8>, head: &[u64; HEAD_NUMBERS]) -> Result<(), AllocError>
+    ensures { OnOk result (out.new.items ≡ out.old.items ++ joined (number_units head_table head.now)) }
+{
+    for (i, n) in head.iter().enumerate() {
+        put(out, head_row(i).width, *n)?;
+    }
+    Ok(())
+}
+
+/// The page records at the end, with their blocks.
+fn put_pages(out: &mut Vec<u8>, pages: &[PageChange], blocks: &[Block]) -> Result<(), AllocError>
+    requires { block_count pages.now ≤ length blocks.now }
+    ensures { OnOk result (out.new.items ≡ out.old.items ++ joined (page_units pages.now blocks.now)) }
+{
+    let mut rest = blocks;
+    for page in pages {
+        let (own, later) = rest.split_at(page.mask.count_ones() as usize);
+        put_page(out, page, own)?;
+        rest = later;
+    }
+    Ok(())
+}
+
+/// A page record at the end.
+#[tactic(auto, using(std::proofs::Common::append_assoc))]
+fn put_page(out: &mut Vec<u8>, page: &PageChange, blocks: &[Block]) -> Result<(), AllocError>
+    ensures { OnOk result (out.new.items ≡ out.old.items ++ (bytes_of Four page.now.page ++ bytes_of Eight page.now.mask ++ joined blocks.now)) }
+{
+    put(out, Width::Four, u64::from(page.page))?;
+    put(out, Width::Eight, page.mask)?;
+    put_blocks(out, blocks)?;
+    Ok(())
+}
+
+/// Blocks at the end.
+fn put_blocks(out: &mut Vec<u8>, blocks: &[Block]) -> Result<(), AllocError>
+    ensures { OnOk result (out.new.items ≡ out.old.items ++ joined blocks.now) }
+{
+    for block in blocks {
+        out.extend_from_slice(block)?;
+    }
+    Ok(())
+}
+
+/// The sector records at the end.
+fn put_sectors(out: &mut Vec<u8>, sectors: &[SectorChange]) -> Result<(), AllocError>
+    ensures { OnOk result (out.new.items ≡ out.old.items ++ joined (sector_units sectors.now)) }
+{
+    for sector in sectors {
+        put_sector(out, sector)?;
+    }
+    Ok(())
+}
+
+/// A sector record at the end.
+#[tactic(auto, using(std::proofs::Common::append_assoc))]
+fn put_sector(out: &mut Vec<u8>, sector: &SectorChange) -> Result<(), AllocError>
+    ensures { OnOk result (out.new.items ≡ out.old.items ++ (bytes_of Four sector.now.sector ++ sector.now.bytes)) }
+{
+    put(out, Width::Four, u64::from(sector.sector))?;
+    out.extend_from_slice(&sector.bytes)?;
+    Ok(())
+}
+
+/// The head's numbers.
+#[tactic(auto, unfolding(crate::specs::Text::head_numbers))]
+fn numbers(c: &Checkpoint) -> [u64; HEAD_NUMBERS]
+    ensures { result ≡ head_numbers c.now }
+{
+    let shape = c.shape();
+    let s = c.state();
+    let x = &s.registers;
+    let (net, disk) = (&s.net, &s.disk);
+    let (first, second, third) = (&net.queues[0], &net.queues[1], &disk.queues[0]);
+    #[rattlefmt::skip]
+    let numbers = [
+        MAGIC_NUMBER, u64::from(shape.pages), u64::from(shape.sectors), c.generation(), c.number(), s.steps,
+        x[0], x[1], x[2], x[3], x[4], x[5], x[6], x[7], x[8], x[9], x[10], x[11], x[12], x[13], x[14], x[15],
+        x[16], x[17], x[18], x[19], x[20], x[21], x[22], x[23], x[24], x[25], x[26], x[27], x[28], x[29], x[30],
+        s.pc, s.csrs.mstatus, s.csrs.mie, s.csrs.mtvec, s.csrs.mscratch, s.csrs.mepc, s.csrs.mcause, s.csrs.mtval,
+        u64::from(s.msip), s.mtimecmp,
+        u64::from(net.status), u64::from(net.device_features_sel), u64::from(net.driver_features_sel),
+        net.driver_features, u64::from(net.queue_sel), u64::from(net.interrupt_status),
+        u64::from(first.num), u64::from(first.ready), first.desc, first.driver, first.device,
+        u64::from(first.next_available), u64::from(first.next_used),
+        u64::from(second.num), u64::from(second.ready), second.desc, second.driver, second.device,
+        u64::from(second.next_available), u64::from(second.next_used),
+        u64::from(disk.status), u64::from(disk.device_features_sel), u64::from(disk.driver_features_sel),
+        disk.driver_features, u64::from(disk.queue_sel), u64::from(disk.interrupt_status),
+        u64::from(third.num), u64::from(third.ready), third.desc, third.driver, third.device,
+        u64::from(third.next_available), u64::from(third.next_used),
+    ];
+    numbers
+}

@@ -1,0 +1,21 @@
+//! Checkpoints as bytes: the one spelling of a checkpoint, and a reader that takes it in whatever pieces it comes.
+//!
+//! [`encode`] gives a checkpoint's text, and a [`Reader`] gives the checkpoints of a stream of texts. docs/CHECKPOINT.md describes the format.
+#![tactic(auto)]
+
+mod encoding;
+mod errors;
+mod laws;
+mod marks;
+mod parts;
+mod place;
+mod reader;
+mod rules;
+mod states;
+#[cfg(test)]
+mod tests;
+
+pub use encoding::encode;
+pub use errors::StreamError;
+pub use laws::{any_pieces, closed_takes_nothing, read_is_canonical, units_are_read};
+pub use reader::Reader;

@@ -1,0 +1,76 @@
+//! The reader of a stream of checkpoints.
+
+ghost use Rattle.std.specs.Prelude.{◌≡◌, ◌<◌, ◌≤◌, false, length, IfOk, IfSome, IfNone};
+ghost use Rattle.checkpoint_stream.specs.Readings.{begun, is_closed, is_whole};
+ghost use Rattle.checkpoint_stream.specs.Sound.{change_in};
+ghost use Rattle.checkpoint_stream.specs.Answers.{Answers};
+ghost use Rattle.checkpoint_stream.specs.declared.place.Place.TheVariants.{Whole};
+
+use crate::errors::StreamError;
+use crate::parts::Parts;
+use epoch_snapshot::Checkpoint;
+use guest_machine::Shape;
+use std::alloc::Global;
+use std::marker::Model;
+
+/// Reads a stream of checkpoints of machines of one shape, in whatever pieces its bytes come.
+///
+/// Contracts see it as a reading: what was read of the checkpoint that has begun, and which unit comes next.
+#[derive(Drop)]
+pub struct Reader {
+    parts: Parts,
+}
+
+impl Model for Reader {
+    ghost use Rattle.checkpoint_stream.specs.Readings.{Reading};
+    ghost use Rattle.checkpoint_stream.specs.Sound.{IsSound};
+
+    ghost Value = { Reading };
+
+    ghost view = { λ r. r.parts };
+
+    ghost invariant = { λ r. IsSound r.parts };
+}
+
+impl Reader {
+    /// A reader at the start of a stream. It takes no memory.
+    pub fn new(alloc: Global, shape: Shape) -> Reader
+        ensures { result ≡ begun shape 0 }
+    {
+        Reader {
+            parts: Parts::new(alloc, shape),
+        }
+    }
+
+    /// Takes bytes up to the end of the checkpoint that has begun: all of the piece, or those up to its last byte, and none while a whole
+    /// checkpoint stands. Answers how many. Memory is taken only for records whose bytes came.
+    ///
+    /// # Errors
+    ///
+    /// [`StreamError::Malformed`] with the offset of the unit that breaks its rule, from the call that takes the unit's last byte, and from
+    /// every later one. [`StreamError::NoMemory`] where a growth was really refused: the reader is as before the call.
+    #[tactic(auto, using(crate::proofs::Feeding::taken_le, crate::proofs::Feeding::taken_some))]
+    pub fn feed(&mut self, piece: &[u8]) -> Result<usize, StreamError>
+        ensures answers { Answers self.old piece.now result self.new }
+        ensures within { IfOk result (λ count. count ≤ length piece.now) }
+        ensures some { is_closed self.old.place ≡ false → 0 < length piece.now → IfOk result (λ count. 0 < count) }
+    {
+        let count = self.parts.feed(piece)?;
+        match self.parts.failure() {
+            Some(at) => Err(StreamError::Malformed(at)),
+            None => Ok(count),
+        }
+    }
+
+    /// The checkpoint that was read whole, and the next one begins; `None` where none stands whole.
+    pub fn next(&mut self) -> Option<Checkpoint>
+        ensures whole { IfSome result (λ c. (self.old.place ≡ Whole) × (c ≡ change_in self.old)
+            × (self.new ≡ begun self.old.shape self.old.offset)) }
+        ensures none { IfNone result ((is_whole self.old.place ≡ false) × (self.new ≡ self.old)) }
+    {
+        if !self.parts.is_whole() {
+            return None;
+        }
+        Some(self.parts.take_checkpoint())
+    }
+}
