@@ -7,6 +7,8 @@ use Rattle.guest_kit.specs.Image.{image_of}
 use Rattle.guest_kit.specs.Idle.{idle_program}
 use Rattle.guest_kit.specs.Beacon.{beacon_program}
 use Rattle.guest_kit.specs.Disk.{disk_program}
+use Rattle.pair_core.specs.HistoryState.{HistoryState}
+use Rattle.pair_core.specs.Start.{start_state}
 use Rattle.remus.specs.Fields.{behind, number_of, operand_of}
 use Rattle.remus.specs.declared.boot.Boot.{Boot}
 use Rattle.remus.specs.declared.boot.Head.{Head}
@@ -129,3 +131,7 @@ guest_image idle = image_of idle_program
 guest_image beacon = image_of beacon_program
 guest_image (disk sector byte) = image_of (disk_program sector byte)
 guest_image (words ws) = words_image ws
+
+-- where the pair of a boot line starts
+abbrev pub booted_state : BootLine → HistoryState
+booted_state line = start_state line.pages line.sectors (guest_image line.guest) line.clients
