@@ -3,11 +3,11 @@ use Rattle.std.proofs.Common.{◌≡◌, ◌≤◌, ℕ, Bool, true, false, cond
 use Rattle.std.specs.Option.{option_map_or, option_and_then}
 use Rattle.std.specs.Str.{bytes_eq}
 use Rattle.std.proofs.lemmas.Slice.Eq.{bytes_eq-Decides}
-use Rattle.remus.specs.Fields.{behind, number_of, numbered_by}
+use Rattle.remus.specs.Fields.{text_after, number_of, numbered_by}
 use Rattle.remus.specs.Command.{IsNumbered, IsCommand, command_of}
 use Rattle.remus.specs.declared.script.Command.{Command}
 use Rattle.remus.specs.declared.script.Command.TheVariants.{Step, Cut, Send, Backup, Ack, Admit, Take, Sector, Show}
-use Rattle.remus.proofs.FieldLemmas.{behind-some}
+use Rattle.remus.proofs.FieldLemmas.{text_after-some}
 
 -- what is spelled so is read so
 pub command_of-spelled : (text : List ℕ) (command : Command) → IsCommand text command → command_of text ≡ Some command
@@ -31,12 +31,12 @@ told : (P : Type 0) (make : ℕ → Option Command) (number : Option ℕ) (other
 told P make (Some n) others command this other h = this n refl h
 told P make None others command this other h = other h
 
-numbered_behind : (front text : List ℕ) (n : ℕ) (rest : Option (List ℕ)) → behind front text ≡ rest → option_and_then number_of rest ≡ Some n → IsNumbered front n text
-numbered_behind front text n (Some digits) e h = (digits, behind-some front text digits e, h)
-numbered_behind front text n None e h = cc
+numbered_after : (front text : List ℕ) (n : ℕ) (rest : Option (List ℕ)) → text_after front text ≡ rest → option_and_then number_of rest ≡ Some n → IsNumbered front n text
+numbered_after front text n (Some digits) e h = (digits, text_after-some front text digits e, h)
+numbered_after front text n None e h = cc
 
 is_numbered : (front text : List ℕ) (n : ℕ) → numbered_by front text ≡ Some n → IsNumbered front n text
-is_numbered front text n h = numbered_behind front text n (behind front text) refl h
+is_numbered front text n h = numbered_after front text n (text_after front text) refl h
 
 steps : (text : List ℕ) (n : ℕ) (command : Command) → IsNumbered (codes "step ") n text → (b : Bool) → nat_eq n 0 ≡ b → cond b None (Some (Step n)) ≡ Some command → IsCommand text command
 steps text n command spelled true e h = cc

@@ -8,9 +8,9 @@ use Rattle.hex.proofs.HexLemmas.{decode_of-encode_lower, decode_of-ok}
 use Rattle.std.specs.Char.{is_ascii_uppercase}
 use Rattle.std.specs.List.{list_any}
 use Rattle.remus.proofs.DigitLemmas.{lower-again, none_in_upper_case}
-use Rattle.remus.specs.Fields.{behind, operand_of}
+use Rattle.remus.specs.Fields.{text_after, operand_of}
 use Rattle.remus.specs.Delivery.{IsHex, IsDelivery, delivery_head}
-use Rattle.remus.proofs.FieldLemmas.{behind-some, operand_of-spelled, operand_of-read}
+use Rattle.remus.proofs.FieldLemmas.{text_after-some, operand_of-spelled, operand_of-read}
 
 and_then_some : {A B : Type 0} (f : A → Option B) (o : Option A) (y : B) → option_and_then f o ≡ Some y → (x : A) × (o ≡ Some x) × (f x ≡ Some y)
 and_then_some f (Some x) y h = (x, refl, h)
@@ -19,12 +19,12 @@ and_then_some f None y h = cc
 -- what is read is spelled so
 pub delivery-read : (text : List ℕ) (client : ℕ) (digits bytes : List ℕ) → delivery_head text ≡ Some (client, digits) → IsHex digits bytes → IsDelivery text client bytes
 delivery-read text client digits bytes h hex =
-    let front = and_then_some operand_of (behind (codes "deliver ") text) (client, digits) h in
+    let front = and_then_some operand_of (text_after (codes "deliver ") text) (client, digits) h in
     let p = operand_of-read front.0 client digits front.2 in
     record {
       number = p.0;
       digits = digits;
-      shape = behind-some (codes "deliver ") text front.0 front.1 ∙ ap (λ t. codes "deliver " ++ t) p.1;
+      shape = text_after-some (codes "deliver ") text front.0 front.1 ∙ ap (λ t. codes "deliver " ++ t) p.1;
       client_written = p.2;
       bytes_written = hex;
     }

@@ -1,4 +1,4 @@
--- What stands behind a front, and the number that digits write.
+-- What stands after a front, and the number that digits write.
 use Rattle.std.proofs.Common.{◌≡◌, ◌≢◌, ◌<◌, ◌^◌, ℕ, suc, Bool, true, false, cond, List, [], ◌∷◌, ◌++◌, length, Option, Some, None, MatchOption, MatchResult, Bor, take, drop, not, add-one, ◌+◌, ◌-◌, Result, Ok, Err, refl, sym, ap, arith, ◌==◌, ◌&&◌, nat_eq, nat_lt, get_or, ◌∙◌}
 use Rattle.std.specs.Result.{OkIff, result_ok}
 use Rattle.std.proofs.lemmas.List.{take_rest}
@@ -12,31 +12,31 @@ use Rattle.std.specs.Str.Parse.{digits_value, ParsesUnsigned}
 use Rattle.std.proofs.lemmas.Str.Parse.{IsNumeralModel, numerals_by_value, tells_all_ascii_digits, parse_plain}
 use Rattle.std.proofs.lemmas.Str.Ascii.{IsAscii-nil, IsAscii-cons}
 use Rattle.std.proofs.lemmas.Bool.{and_parts, and_from}
-use Rattle.remus.specs.Fields.{behind, number_of, number_in, operand_of, parted}
+use Rattle.remus.specs.Fields.{text_after, number_of, number_in, operand_of, parted}
 
 -- a front is found again
-pub behind-append : (front rest : List ℕ) → behind front (front ++ rest) ≡ Some rest
-behind-append [] rest = refl
-behind-append (f ∷ front) rest = let same : (f == f) ≡ true = grind arith in rw same (behind-append front rest)
+pub text_after-append : (front rest : List ℕ) → text_after front (front ++ rest) ≡ Some rest
+text_after-append [] rest = refl
+text_after-append (f ∷ front) rest = let same : (f == f) ≡ true = grind arith in rw same (text_after-append front rest)
 
-same_head : (f c : ℕ) (front text rest : List ℕ) (again : behind front text ≡ Some rest → text ≡ front ++ rest) (b : Bool) → (f == c) ≡ b → cond b (behind front text) None ≡ Some rest → (c ∷ text) ≡ (f ∷ front) ++ rest
+same_head : (f c : ℕ) (front text rest : List ℕ) (again : text_after front text ≡ Some rest → text ≡ front ++ rest) (b : Bool) → (f == c) ≡ b → cond b (text_after front text) None ≡ Some rest → (c ∷ text) ≡ (f ∷ front) ++ rest
 same_head f c front text rest again true e h = let same : f ≡ c = grind arith in let tail : text ≡ front ++ rest = again h in cc
 same_head f c front text rest again false e h = cc
 
--- what has something behind a front begins with it
-pub behind-some : (front text rest : List ℕ) → behind front text ≡ Some rest → text ≡ front ++ rest
-behind-some [] text rest h = cc
-behind-some (f ∷ front) [] rest h = cc
-behind-some (f ∷ front) (c ∷ text) rest h = same_head f c front text rest (behind-some front text rest) (f == c) refl h
+-- what has something after a front begins with it
+pub text_after-some : (front text rest : List ℕ) → text_after front text ≡ Some rest → text ≡ front ++ rest
+text_after-some [] text rest h = cc
+text_after-some (f ∷ front) [] rest h = cc
+text_after-some (f ∷ front) (c ∷ text) rest h = same_head f c front text rest (text_after-some front text rest) (f == c) refl h
 
-none_behind : (front text : List ℕ) → ((rest : List ℕ) → text ≢ front ++ rest) → (o : Option (List ℕ)) → behind front text ≡ o → o ≡ None
-none_behind front text apart None e = refl
-none_behind front text apart (Some rest) e = absurd (apart rest (behind-some front text rest e))
+none_after : (front text : List ℕ) → ((rest : List ℕ) → text ≢ front ++ rest) → (o : Option (List ℕ)) → text_after front text ≡ o → o ≡ None
+none_after front text apart None e = refl
+none_after front text apart (Some rest) e = absurd (apart rest (text_after-some front text rest e))
 
--- what `strip_prefix` answers, by what stands behind
-pub behind_cases : (front text : List ℕ) (found : Option (Bor (List ℕ))) → MatchOption found ((rest : List ℕ) → text ≢ front ++ rest) (λ rest. text ≡ front ++ rest.now) → MatchOption found (behind front text ≡ None) (λ rest. behind front text ≡ Some rest.now)
-behind_cases front text None h = none_behind front text h (behind front text) refl
-behind_cases front text (Some rest) h = ap (behind front) h ∙ behind-append front rest.now
+-- what `strip_prefix` answers, by what stands after
+pub after_cases : (front text : List ℕ) (found : Option (Bor (List ℕ))) → MatchOption found ((rest : List ℕ) → text ≢ front ++ rest) (λ rest. text ≡ front ++ rest.now) → MatchOption found (text_after front text ≡ None) (λ rest. text_after front text ≡ Some rest.now)
+after_cases front text None h = none_after front text h (text_after front text) refl
+after_cases front text (Some rest) h = ap (text_after front) h ∙ text_after-append front rest.now
 
 other_head : (b : Bool) → (b && true) ≡ false → b ≡ false
 other_head true h = h
@@ -169,7 +169,7 @@ pub parted-shape : (text front rest : List ℕ) → parted text ≡ Some (front,
 parted-shape [] front rest h = cc
 parted-shape (c ∷ text) front rest h = shape_test c text front rest (parted-shape text) (c == 32) refl h
 
--- digits are parted from what stands behind a space
+-- digits are parted from what stands after a space
 pub parted-digits : (digits rest : List ℕ) → all_ascii_digits digits ≡ true → parted (digits ++ 32 ∷ rest) ≡ Some (digits, rest)
 parted-digits [] rest h = refl
 parted-digits (d ∷ digits) rest h =
@@ -181,7 +181,7 @@ digits_written : (text : List ℕ) (n : ℕ) (b : Bool) → writes text ≡ b �
 digits_written text n true e h = (writes_to text e).0
 digits_written text n false e h = cc
 
--- a number at the front, behind it a space, is found again
+-- a number at the front, after it a space, is found again
 pub operand_of-spelled : (digits rest : List ℕ) (n : ℕ) → number_of digits ≡ Some n → operand_of (digits ++ 32 ∷ rest) ≡ Some (n, rest)
 operand_of-spelled digits rest n h =
     ap (option_and_then number_in) (parted-digits digits rest (digits_written digits n (writes digits) refl h)) ∙ ap (option_map {U = ℕ × List ℕ} (λ m. (m, rest))) h
@@ -192,6 +192,6 @@ operand_from text n rest (Some (front, back)) e h =
     (front, parted-shape text front back e ∙ ap (λ t. front ++ 32 ∷ t) both.1, both.0)
 operand_from text n rest None e h = cc
 
--- what is read at the front is a number, and a space stands behind it
+-- what is read at the front is a number, and a space stands after it
 pub operand_of-read : (text : List ℕ) (n : ℕ) (rest : List ℕ) → operand_of text ≡ Some (n, rest) → (digits : List ℕ) × (text ≡ digits ++ 32 ∷ rest) × (number_of digits ≡ Some n)
 operand_of-read text n rest h = operand_from text n rest (parted text) refl h

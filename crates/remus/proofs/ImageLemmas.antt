@@ -1,7 +1,7 @@
 -- How long the image of a guest's words is.
 use Rattle.std.proofs.Common.{◌≡◌, ◌≤◌, ◌*◌, ℕ, List, [], ◌∷◌, length, refl, ap, arith, ◌∙◌, length-append, Result, Ok, Err, IfOk}
 use Rattle.std.specs.Int.{to_le_bytes, w32}
-use Rattle.remus.specs.Boot.{words_image}
+use Rattle.remus.specs.Guests.{words_image}
 
 -- four bytes a word
 pub length-words_image : (ws : List ℕ) → length (words_image ws) ≡ 4 * length ws

@@ -6,7 +6,7 @@ use Rattle.std.specs.List.{flat_map, AllByRecursion}
 use Rattle.std.specs.Int.{to_be_bytes, w32}
 use Rattle.hex.specs.Hex.{encode_lower, lower_digits}
 use Rattle.hex.proofs.HexLemmas.{length-encode_with}
-use Rattle.remus.specs.Boot.{word_field, IsWords}
+use Rattle.remus.specs.Guests.{word_field, IsWords}
 
 -- a word of 32 bits
 abbrev pub IsWord : ℕ → Type 0
@@ -45,25 +45,25 @@ all_push [] w h small = (small, tt)
 all_push (v ∷ words) w h small = (h.0, all_push words w h.1 small)
 
 -- what one more word leaves, in each reading of the whole
-next_left : (words rest field behind : List ℕ) (w : ℕ) → 9 ≤ length rest → field ≡ take 9 rest → behind ≡ drop 9 rest → ((v : ℕ) → v < 2 ^ 32 → field ≡ word_field v → Some w ≡ Some v) → (ws tail : List ℕ) → ws ≡ words ++ tail → rest ≡ flat_map word_field tail → AllByRecursion IsWord tail
-    → (more : List ℕ) × (ws ≡ (words ++ w ∷ []) ++ more) × (behind ≡ flat_map word_field more) × AllByRecursion IsWord more
-next_left words rest field behind w long f b same ws tail e left small =
+next_left : (words rest field text_after : List ℕ) (w : ℕ) → 9 ≤ length rest → field ≡ take 9 rest → text_after ≡ drop 9 rest → ((v : ℕ) → v < 2 ^ 32 → field ≡ word_field v → Some w ≡ Some v) → (ws tail : List ℕ) → ws ≡ words ++ tail → rest ≡ flat_map word_field tail → AllByRecursion IsWord tail
+    → (more : List ℕ) × (ws ≡ (words ++ w ∷ []) ++ more) × (text_after ≡ flat_map word_field more) × AllByRecursion IsWord more
+next_left words rest field text_after w long f b same ws tail e left small =
     let next = next_word tail rest left small long in
     let word : w ≡ next.0 = some_same (same next.0 next.3 (f ∙ next.4)) in
     let parts : ws ≡ words ++ next.0 ∷ next.1 = e ∙ ap (λ t. words ++ t) next.2 in
     (next.1, parts ∙ ap (λ v. words ++ v ∷ next.1) (sym word) ∙ sym (append_assoc words (w ∷ []) next.1), b ∙ next.5, next.6)
 
 -- one more word is read
-pub reading_goes_on : (text words rest field behind : List ℕ) (w : ℕ) → Reading text words rest → 9 ≤ length rest → field ≡ take 9 rest → behind ≡ drop 9 rest → field ≡ word_field w → w < 2 ^ 32 → ((v : ℕ) → v < 2 ^ 32 → field ≡ word_field v → Some w ≡ Some v) → Reading text (words ++ w ∷ []) behind
-reading_goes_on text words rest field behind w r long f b spelled small same = record {
+pub reading_goes_on : (text words rest field text_after : List ℕ) (w : ℕ) → Reading text words rest → 9 ≤ length rest → field ≡ take 9 rest → text_after ≡ drop 9 rest → field ≡ word_field w → w < 2 ^ 32 → ((v : ℕ) → v < 2 ^ 32 → field ≡ word_field v → Some w ≡ Some v) → Reading text (words ++ w ∷ []) text_after
+reading_goes_on text words rest field text_after w r long f b spelled small same = record {
   shape =
-      let joined : word_field w ++ behind ≡ rest = ap (λ t. t ++ behind) (sym spelled ∙ f) ∙ ap (λ t. take 9 rest ++ t) b ∙ take-append-drop 9 rest in
+      let joined : word_field w ++ text_after ≡ rest = ap (λ t. t ++ text_after) (sym spelled ∙ f) ∙ ap (λ t. take 9 rest ++ t) b ∙ take-append-drop 9 rest in
       let one : flat_map word_field (w ∷ []) ≡ word_field w = append-nil (word_field w) in
-      r.shape ∙ ap (λ t. flat_map word_field words ++ t) (sym joined ∙ ap (λ t. t ++ behind) (sym one))
-      ∙ sym (append_assoc (flat_map word_field words) (flat_map word_field (w ∷ [])) behind)
-      ∙ ap (λ t. t ++ behind) (sym (flat_map-append word_field words (w ∷ [])));
+      r.shape ∙ ap (λ t. flat_map word_field words ++ t) (sym joined ∙ ap (λ t. t ++ text_after) (sym one))
+      ∙ sym (append_assoc (flat_map word_field words) (flat_map word_field (w ∷ [])) text_after)
+      ∙ ap (λ t. t ++ text_after) (sym (flat_map-append word_field words (w ∷ [])));
   below = all_push words w r.below small;
-  only = λ ws h. let tail = r.only ws h in next_left words rest field behind w long f b same ws tail.0 tail.1 tail.2 tail.3;
+  only = λ ws h. let tail = r.only ws h in next_left words rest field text_after w long f b same ws tail.0 tail.1 tail.2 tail.3;
 }
 
 -- a field that is no word: the whole has no reading

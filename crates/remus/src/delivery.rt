@@ -36,7 +36,7 @@ pub fn read_delivery(alloc: Global, text: &[u8]) -> Result<Option<Delivery>, All
     Ok(Some(Delivery { client, bytes }))
 }
 
-/// The client's number, and the text behind it.
+/// The client's number, and the text after it.
 fn read_head(text: &[u8]) -> Option<(u64, &[u8])>
     ensures { option_map (λ head. (head.0, head.1.now)) result ≡ delivery_head text.now }
 {

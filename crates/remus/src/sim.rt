@@ -5,7 +5,8 @@ ghost use Rattle.std.specs.Io.KnownBytes.{Appends, Keeps};
 ghost use Rattle.pair_core.specs.Runs.{steps_outcome};
 ghost use Rattle.pair_core.specs.Start.{start_record};
 ghost use Rattle.remus.specs.Printed.{named_sector, sector_line};
-ghost use Rattle.remus.specs.Boot.{IsInLimits, boot_line, booted_state, guest_image, named_guest};
+ghost use Rattle.remus.specs.Guests.{guest_image, named_guest};
+ghost use Rattle.remus.specs.Boot.{IsInLimits, boot_line, booted_state};
 
 use crate::boot::{Boot, Guest, image_of, read_boot};
 use crate::delivery::read_delivery;

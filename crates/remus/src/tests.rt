@@ -248,7 +248,7 @@ fn bad_lines_in_place_of_the_boot_line(rt: HostRuntime) {
 }
 
 #[test]
-fn bad_lines_behind_the_boot_line(rt: HostRuntime) -> Result<(), Fail> {
+fn bad_lines_after_the_boot_line(rt: HostRuntime) -> Result<(), Fail> {
     let lines: [&[u8]; 54] = [
         b"boot 2 1 1 idle",
         b"step",

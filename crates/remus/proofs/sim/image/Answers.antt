@@ -1,6 +1,6 @@
 use Rattle.std.proofs.Common.{◌≡◌, ◌≤◌, ◌*◌, ℕ, List, length, IfOk, subst, sym, Global}
 use Rattle.std.specs.declared.vec.Vec.{Vec}
-use Rattle.remus.specs.Boot.{GuestFits, named_guest, guest_image}
+use Rattle.remus.specs.Guests.{GuestFits, named_guest, guest_image}
 use Rattle.remus.specs.declared.boot.Guest.{Guest}
 use Rattle.remus.proofs.ImageLemmas.{made_fits}
 use Rattle.remus.proofs.sim.image.Goals as goal
