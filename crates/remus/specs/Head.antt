@@ -5,7 +5,8 @@ use Rattle.remus.specs.declared.boot.Head.{Head}
 
 -- whether all three are in their ranges
 abbrev pub in_limits : ℕ → ℕ → ℕ → Bool
-in_limits pages sectors clients = nat_le 1 pages && nat_le pages 4096 && (nat_le 1 sectors && nat_le sectors 32768) && (nat_le 1 clients && nat_le clients 16)
+in_limits pages sectors clients =
+    nat_le 1 pages && nat_le pages 4096 && (nat_le 1 sectors && nat_le sectors 32768) && (nat_le 1 clients && nat_le clients 16)
 
 -- the number of clients and the guest's text, after pages and sectors
 abbrev pub clients_of : ℕ → ℕ → ℕ × List ℕ → Option (ℕ × ℕ × ℕ × List ℕ)

@@ -211,7 +211,8 @@ fn obey<O: Write>(
 
 /// Prints the bytes of a sector. Beyond the disk the line is a bad one, and nothing is printed.
 fn show_sector<O: Write>(world: &World, sector: u64, number: u64, out: &mut O) -> Result<(), Stop>
-    ensures shown { IfSome (named_sector world.now sector) (λ bytes. OnOk result (Appends (O.contents out.old) (O.contents out.new) (sector_line sector bytes))) }
+    ensures shown { IfSome (named_sector world.now sector) (λ bytes.
+        OnOk result (Appends (O.contents out.old) (O.contents out.new) (sector_line sector bytes))) }
     ensures failed { IsSome (named_sector world.now sector) → IfErr result (λ stop. stop ≡ Stop.Failed) }
     ensures bad { IfNone (named_sector world.now sector) ((result ≡ Err (Stop.Bad number)) × (out.new ≡ out.old)) }
 {

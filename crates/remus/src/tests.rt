@@ -38,7 +38,8 @@ fn beacon_frame_reaches_client_1(rt: HostRuntime) -> Result<(), Fail> {
     let script =
         b"boot 2 1 1 beacon\nstep 22\ncut\ntake 1\nsend\nbackup 0\ntake 1\nack 0\ntake 1\ntake 1\nshow\n";
     let printed = format!(in rt.alloc();
-        "booted\nsteps 22\ncut 1 1\nnone\nsent 1\ncommitted 1 1\nnone\nacked 1 1 landed 1\nframe {FRAME}\nnone\nmode paired generation 1 pending 0 steps 22 entries 27\n"
+        "booted\nsteps 22\ncut 1 1\nnone\nsent 1\ncommitted 1 1\nnone\nacked 1 1 landed 1\n\
+         frame {FRAME}\nnone\nmode paired generation 1 pending 0 steps 22 entries 27\n"
     )?;
     plays(&rt, rt.alloc(), script, 0, printed.as_str(), "");
     Ok(())
@@ -93,7 +94,8 @@ fn deliveries_that_are_refused(rt: HostRuntime) {
     let script =
         b"boot 2 1 2 idle\ndeliver 0 00\ndeliver 3 00\ndeliver 1 00\nadmit 3\ntake 1\nshow\n";
     let printed =
-        "booted\nrefused 3 NoClient\nrefused 3 NoClient\nrefused 2 BadFrame\nrefused 3 NoClient\nnone\nmode paired generation 1 pending 0 steps 0 entries 1\n";
+        "booted\nrefused 3 NoClient\nrefused 3 NoClient\nrefused 2 BadFrame\nrefused 3 NoClient\nnone\n\
+         mode paired generation 1 pending 0 steps 0 entries 1\n";
     plays(&rt, rt.alloc(), script, 0, printed, "");
 }
 
