@@ -1,29 +1,7 @@
 -- What stands before the guest is read from the left, and has one reading.
-use Rattle.std.proofs.Common.{
-  ◌≡◌,
-  ◌≤◌,
-  ℕ,
-  Bool,
-  true,
-  false,
-  cond,
-  List,
-  [],
-  ◌∷◌,
-  ◌++◌,
-  Option,
-  Some,
-  None,
-  IfSome,
-  refl,
-  sym,
-  ap,
-  subst,
-  arith,
-  ◌∙◌,
-  codes,
-}
-use Rattle.std.specs.Option.{option_and_then, option_map}
+use Rattle.std.proofs.Common.{◌≡◌, ◌≤◌, ℕ, Bool, true, false, cond, List, [], ◌∷◌, ◌++◌, Option, Some, None, IfSome, refl, sym, ap}
+use Rattle.std.proofs.Common.{subst, arith, ◌∙◌, codes}
+use Rattle.std.specs.Option.{option_map}
 use Rattle.std.specs.List.{join_with_byte}
 use Rattle.remus.specs.Fields.{text_after, number_of, operand_of}
 use Rattle.remus.specs.Guests.{IsGuest, NamedGuest, named_guest}
@@ -31,6 +9,7 @@ use Rattle.remus.specs.Boot.{IsBoot, BootLine, boot_line}
 use Rattle.remus.specs.Head.{in_limits, head_of}
 use Rattle.remus.specs.declared.boot.Guest.{Guest}
 use Rattle.remus.proofs.FieldLemmas.{text_after-some, operand_of-spelled, operand_of-read}
+use Rattle.remus.proofs.OptionLemmas.{some_same, and_then_some}
 
 -- what stands before the guest: 1 to 4096 pages, 1 to 32768 sectors, 1 to 16 clients
 record IsHead (text : List ℕ) (pages sectors clients : ℕ) (guest : List ℕ) : Type 0 where
@@ -97,18 +76,10 @@ head_of-spelled text pages sectors clients guest h =
     let inside = within text pages sectors clients guest h in
     ap head_of h.shape ∙ rw (p1, p2, p3, inside) refl
 
-and_then_some : {A B : Type 0} (f : A → Option B) (o : Option A) (y : B) → option_and_then f o ≡ Some y
-    → (x : A) × (o ≡ Some x) × (f x ≡ Some y)
-and_then_some f (Some x) y h = (x, refl, h)
-and_then_some f None y h = cc
-
 limits : (pages sectors clients : ℕ) → in_limits pages sectors clients ≡ true
     → ((1 ≤ pages) × (pages ≤ 4096)) × ((1 ≤ sectors) × (sectors ≤ 32768)) × ((1 ≤ clients) × (clients ≤ 16))
 limits pages sectors clients h =
     ((grind (arith, h), grind (arith, h)), (grind (arith, h), grind (arith, h)), (grind (arith, h), grind (arith, h)))
-
-found_same : {x y : Found} → Some x ≡ Some y → x ≡ y
-found_same h = cc
 
 guarded : {A : Type 0} (b : Bool) (x y : A) → cond b (Some x) None ≡ Some y → (b ≡ true) × (x ≡ y)
 guarded true x y h = (refl, cc)
@@ -154,7 +125,7 @@ pub guest_again : (text : List ℕ) (found : Found) (line : BootLine) → Some f
     → (found.0 ≡ line.pages) × (found.1 ≡ line.sectors) × (found.2 ≡ line.clients) × IsGuest found.0 found.3 line.guest
 guest_again text found line e h =
     let wanted : Found = (line.pages, line.sectors, line.clients, h.guest) in
-    let same : found ≡ wanted = found_same (e ∙ head_of-spelled text line.pages line.sectors line.clients h.guest (head_in text line h)) in
+    let same : found ≡ wanted = some_same (e ∙ head_of-spelled text line.pages line.sectors line.clients h.guest (head_in text line h)) in
     let named : IsGuest line.pages h.guest line.guest = (h.guest_named, h.limits.guest) in (
       ap (λ (f : Found). f.0) same,
       ap (λ (f : Found). f.1) same,
@@ -167,15 +138,12 @@ pub no_guest : (read : Option Guest) (guest : NamedGuest) → read ≡ None → 
 no_guest None guest e h = cc
 no_guest (Some g) guest e h = cc
 
-guest_same : {x y : NamedGuest} → Some x ≡ Some y → x ≡ y
-guest_same h = cc
-
 -- the parts of a line are the line
 pub same_line : (pages sectors clients : ℕ) (read : Option Guest) (guest : Guest) (line : BootLine) → read ≡ Some guest
     → option_map named_guest read ≡ Some line.guest → pages ≡ line.pages → sectors ≡ line.sectors → clients ≡ line.clients
     → Some (boot_line (record { pages = pages; sectors = sectors; clients = clients; guest = guest })) ≡ Some line
 same_line pages sectors clients read guest line e h p s c =
-    let named : named_guest guest ≡ line.guest = guest_same (sym (ap (option_map named_guest) e) ∙ h) in
+    let named : named_guest guest ≡ line.guest = some_same (sym (ap (option_map named_guest) e) ∙ h) in
     ap Some (ap (λ n. record { pages = n; sectors = sectors; clients = clients; guest = named_guest guest }) p
     ∙ ap (λ n. record { pages = line.pages; sectors = n; clients = clients; guest = named_guest guest }) s
     ∙ ap (λ n. record { pages = line.pages; sectors = line.sectors; clients = n; guest = named_guest guest }) c

@@ -1,36 +1,7 @@
 -- A delivery is read from the left, and has one reading.
-use Rattle.std.proofs.Common.{
-  ◌≡◌,
-  ◌≢◌,
-  ◌<◌,
-  ℕ,
-  true,
-  false,
-  List,
-  [],
-  ◌++◌,
-  length,
-  Option,
-  Some,
-  None,
-  Result,
-  Ok,
-  Err,
-  refl,
-  sym,
-  ap,
-  subst,
-  arith,
-  ◌∙◌,
-  ◌⊎◌,
-  inl,
-  inr,
-  IfOk,
-  IfSome,
-  Bor,
-  codes,
-}
-use Rattle.std.specs.Option.{option_and_then, option_map}
+use Rattle.std.proofs.Common.{◌≡◌, ◌≢◌, ◌<◌, ℕ, true, false, List, [], ◌++◌, length, Option, Some, None, Result, Ok, Err, sym, ap}
+use Rattle.std.proofs.Common.{subst, arith, ◌∙◌, ◌⊎◌, inl, inr, IfOk, IfSome, Bor, codes}
+use Rattle.std.specs.Option.{option_map}
 use Rattle.hex.specs.Hex.{decode_of, IsBytes}
 use Rattle.hex.specs.declared.error.FromHexError.{FromHexError}
 use Rattle.hex.specs.declared.error.FromHexError.TheVariants.{OutOfMemory}
@@ -41,11 +12,7 @@ use Rattle.remus.proofs.DigitLemmas.{lower-again, none_in_upper_case}
 use Rattle.remus.specs.Fields.{text_after, operand_of}
 use Rattle.remus.specs.Delivery.{IsHex, IsDelivery, delivery_head}
 use Rattle.remus.proofs.FieldLemmas.{text_after-some, operand_of-spelled, operand_of-read}
-
-and_then_some : {A B : Type 0} (f : A → Option B) (o : Option A) (y : B) → option_and_then f o ≡ Some y
-    → (x : A) × (o ≡ Some x) × (f x ≡ Some y)
-and_then_some f (Some x) y h = (x, refl, h)
-and_then_some f None y h = cc
+use Rattle.remus.proofs.OptionLemmas.{and_then_some}
 
 -- what is read is spelled so
 pub delivery-read : (text : List ℕ) (client : ℕ) (digits bytes : List ℕ) → delivery_head text ≡ Some (client, digits) → IsHex digits bytes

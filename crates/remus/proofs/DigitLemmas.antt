@@ -1,59 +1,12 @@
 -- Hex digits with no letter in upper case: what they stand for is spelled so again.
-use Rattle.std.proofs.Common.{
-  ◌≡◌,
-  ◌<◌,
-  ◌+◌,
-  ◌*◌,
-  ◌/◌,
-  ◌%◌,
-  ◌==◌,
-  ◌||◌,
-  ◌&&◌,
-  ℕ,
-  zero,
-  suc,
-  Bool,
-  true,
-  false,
-  List,
-  [],
-  ◌∷◌,
-  length,
-  slice_index,
-  Option,
-  Some,
-  None,
-  IfSome,
-  Result,
-  Ok,
-  Err,
-  refl,
-  sym,
-  ap,
-  arith,
-  ◌∙◌,
-  inl,
-  inr,
-  not,
-}
+use Rattle.std.proofs.Common.{◌≡◌, ◌<◌, ◌+◌, ◌*◌, ◌/◌, ◌%◌, ◌==◌, ◌||◌, ◌&&◌, ℕ, zero, suc, Bool, true, false, List, [], ◌∷◌, length}
+use Rattle.std.proofs.Common.{slice_index, Option, Some, None, IfSome, Result, Ok, Err, refl, sym, ap, arith, ◌∙◌, inl, inr, not}
 use Rattle.std.specs.Char.{is_ascii_uppercase}
 use Rattle.std.specs.List.{list_any}
 use Rattle.std.specs.Result.{result_ok, result_unwrap_or}
 use Rattle.std.proofs.lemmas.Bool.{and_parts, cases_lt, eqb-true}
-use Rattle.hex.specs.Hex.{
-  encode_lower,
-  encode_with,
-  lower_digits,
-  hex_digit_value,
-  digit_or_error,
-  value_at,
-  pair_value,
-  decode_pairs,
-  decode_of,
-  decode_sized,
-  IsBytes,
-  ◌>>=◌,
-}
+use Rattle.hex.specs.Hex.{encode_lower, encode_with, lower_digits, hex_digit_value, digit_or_error, value_at, pair_value, decode_pairs}
+use Rattle.hex.specs.Hex.{decode_of, decode_sized, IsBytes, ◌>>=◌}
 use Rattle.hex.specs.declared.error.FromHexError.{FromHexError}
 use Rattle.hex.proofs.HexLemmas.{decode_of-ok, decode_of-even, decode_sized-ok, decode_sized-twice, decode_sized-encode_lower}
 

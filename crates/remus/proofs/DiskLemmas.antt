@@ -1,37 +1,11 @@
 -- The guest that fills a sector is read from the left, and has one reading.
-use Rattle.std.proofs.Common.{
-  ◌≡◌,
-  ◌<◌,
-  ◌^◌,
-  ℕ,
-  zero,
-  suc,
-  List,
-  [],
-  ◌∷◌,
-  ◌++◌,
-  length,
-  slice_index_or,
-  Option,
-  Some,
-  None,
-  refl,
-  sym,
-  ap,
-  arith,
-  ◌∙◌,
-  codes,
-}
+use Rattle.std.proofs.Common.{◌≡◌, ◌<◌, ◌^◌, ℕ, zero, suc, List, [], ◌∷◌, ◌++◌, length, slice_index_or, Option, Some, None, refl, sym}
+use Rattle.std.proofs.Common.{ap, arith, ◌∙◌, codes}
 use Rattle.hex.specs.Hex.{encode_lower, IsBytes}
 use Rattle.remus.specs.Fields.{text_after, operand_of}
 use Rattle.remus.specs.Guests.{IsDisk}
 use Rattle.remus.proofs.FieldLemmas.{text_after-some, operand_of-spelled, operand_of-read}
-
-some_same : {A : Type 0} {x y : A} → Some x ≡ Some y → x ≡ y
-some_same h = cc
-
-pair_parts : {A B : Type 0} {p q : A × B} → p ≡ q → (p.0 ≡ q.0) × (p.1 ≡ q.1)
-pair_parts e = (ap (λ r. r.0) e, ap (λ r. r.1) e)
+use Rattle.remus.proofs.OptionLemmas.{some_same, pair_parts}
 
 -- what stands after the name of a guest that is spelled so
 pub disk_operand : (text rest : List ℕ) (sector byte : ℕ) → text_after (codes "disk ") text ≡ Some rest → (h : IsDisk text sector byte)

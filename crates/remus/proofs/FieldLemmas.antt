@@ -1,46 +1,7 @@
 -- What stands after a front, and the number that digits write.
-use Rattle.std.proofs.Common.{
-  ◌≡◌,
-  ◌≢◌,
-  ◌<◌,
-  ◌^◌,
-  ℕ,
-  suc,
-  Bool,
-  true,
-  false,
-  cond,
-  List,
-  [],
-  ◌∷◌,
-  ◌++◌,
-  length,
-  Option,
-  Some,
-  None,
-  MatchOption,
-  MatchResult,
-  Bor,
-  take,
-  drop,
-  not,
-  add-one,
-  ◌+◌,
-  ◌-◌,
-  Result,
-  Ok,
-  Err,
-  refl,
-  sym,
-  ap,
-  arith,
-  ◌==◌,
-  ◌&&◌,
-  nat_eq,
-  nat_lt,
-  get_or,
-  ◌∙◌,
-}
+use Rattle.std.proofs.Common.{◌≡◌, ◌≢◌, ◌<◌, ◌^◌, ℕ, suc, Bool, true, false, cond, List, [], ◌∷◌, ◌++◌, length, Option, Some, None}
+use Rattle.std.proofs.Common.{MatchOption, MatchResult, Bor, take, drop, not, add-one, ◌+◌, ◌-◌, Result, Ok, Err, refl, sym, ap, arith}
+use Rattle.std.proofs.Common.{◌==◌, ◌&&◌, nat_eq, nat_lt, get_or, ◌∙◌}
 use Rattle.std.specs.Result.{OkIff, result_ok}
 use Rattle.std.proofs.lemmas.List.{take_rest}
 use Rattle.std.specs.Option.{option_map, option_and_then}
@@ -54,6 +15,7 @@ use Rattle.std.proofs.lemmas.Str.Parse.{IsNumeralModel, numerals_by_value, tells
 use Rattle.std.proofs.lemmas.Str.Ascii.{IsAscii-nil, IsAscii-cons}
 use Rattle.std.proofs.lemmas.Bool.{and_parts, and_from}
 use Rattle.remus.specs.Fields.{text_after, number_of, number_in, operand_of, parted}
+use Rattle.remus.proofs.OptionLemmas.{some_same, pair_parts}
 
 -- a front is found again
 pub text_after-append : (front rest : List ℕ) → text_after front (front ++ rest) ≡ Some rest
@@ -193,12 +155,6 @@ last_side text i j e = rw (e, take_rest text (suc i)) refl
 pub parted-some : (text : List ℕ) (i : ℕ) → position (λ c. c == 32) text ≡ Some i
     → parted text ≡ Some (take i text, take (length text - (i + 1)) (drop (i + 1) text))
 parted-some text i h = parted-at text ∙ the_place _ _ i text h ∙ last_side text i (i + 1) (add-one i)
-
-pair_parts : {A B : Type 0} {p q : A × B} → p ≡ q → (p.0 ≡ q.0) × (p.1 ≡ q.1)
-pair_parts e = (ap (λ r. r.0) e, ap (λ r. r.1) e)
-
-some_same : {A : Type 0} {x y : A} → Some x ≡ Some y → x ≡ y
-some_same h = cc
 
 map_parts : {n : ℕ} {back rest : List ℕ} (number : Option ℕ) → option_map {U = ℕ × List ℕ} (λ m. (m, back)) number ≡ Some (n, rest)
     → (number ≡ Some n) × (back ≡ rest)

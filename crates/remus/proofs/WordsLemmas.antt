@@ -1,32 +1,6 @@
 -- What is read of a guest's words, and what is left.
-use Rattle.std.proofs.Common.{
-  ◌≡◌,
-  ◌≢◌,
-  ◌+◌,
-  length-append,
-  ◌<◌,
-  ◌≤◌,
-  ◌^◌,
-  ℕ,
-  suc,
-  List,
-  [],
-  ◌∷◌,
-  ◌++◌,
-  length,
-  Some,
-  None,
-  refl,
-  sym,
-  ap,
-  arith,
-  ◌∙◌,
-  take,
-  drop,
-  append_assoc,
-  append-nil,
-  take-append-drop,
-}
+use Rattle.std.proofs.Common.{◌≡◌, ◌≢◌, ◌+◌, length-append, ◌<◌, ◌≤◌, ◌^◌, ℕ, suc, List, [], ◌∷◌, ◌++◌, length, Some, None, refl, sym}
+use Rattle.std.proofs.Common.{ap, arith, ◌∙◌, take, drop, append_assoc, append-nil, take-append-drop}
 use Rattle.std.proofs.Math.Seq.{take-append_seam, drop-append_seam}
 use Rattle.std.proofs.lemmas.Grind.{flat_map-append}
 use Rattle.std.specs.List.{flat_map, AllByRecursion}
@@ -34,6 +8,7 @@ use Rattle.std.specs.Int.{to_be_bytes, w32}
 use Rattle.hex.specs.Hex.{encode_lower, lower_digits}
 use Rattle.hex.proofs.HexLemmas.{length-encode_with}
 use Rattle.remus.specs.Guests.{word_field, IsWords}
+use Rattle.remus.proofs.OptionLemmas.{some_same}
 
 -- a word of 32 bits
 abbrev pub IsWord : ℕ → Type 0
@@ -73,9 +48,6 @@ next_word (w ∷ more) rest e small long = (
   ap (drop 9) e ∙ drop_front (word_field w) (flat_map word_field more) 9 (length-word_field w),
   small.1,
 )
-
-some_same : {A : Type 0} {x y : A} → Some x ≡ Some y → x ≡ y
-some_same h = cc
 
 all_push : (words : List ℕ) (w : ℕ) → AllByRecursion IsWord words → IsWord w → AllByRecursion IsWord (words ++ w ∷ [])
 all_push [] w h small = (small, tt)

@@ -1,21 +1,6 @@
 -- How the fields of a script's line are spelled.
-use Rattle.std.specs.Prelude.{
-  ℕ,
-  ◌^◌,
-  ◌&&◌,
-  ◌==◌,
-  nat_lt,
-  List,
-  [],
-  ◌∷◌,
-  Option,
-  Some,
-  None,
-  length,
-  if◌then◌else◌,
-  option_and_then,
-  option_map,
-}
+use Rattle.std.specs.Prelude.{ℕ, ◌^◌, ◌&&◌, ◌==◌, nat_lt, List, [], ◌∷◌, Option, Some, None, length, if◌then◌else◌, option_and_then}
+use Rattle.std.specs.Prelude.{option_map}
 use Rattle.std.specs.Str.{all_ascii_digits}
 use Rattle.std.specs.Str.Parse.{digits_value}
 
