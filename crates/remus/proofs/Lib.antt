@@ -1,3 +1,4 @@
+mod OptionLemmas
 pub mod FieldLemmas
 pub mod CommandLemmas
 pub mod WordsLemmas

@@ -1,10 +1,12 @@
 //! `remus sim FILE`: plays a script of events to a pair.
 
 ghost use Rattle.std.specs.Prelude.{◌≡◌, ◌≤◌, ◌*◌, Err, IfOk, IfErr, IfSome, IfNone, IsSome, OnOk, length, option_map};
-ghost use Rattle.std.specs.Io.KnownBytes.{Appends};
+ghost use Rattle.std.specs.Io.KnownBytes.{Appends, Keeps};
 ghost use Rattle.pair_core.specs.Runs.{steps_outcome};
+ghost use Rattle.pair_core.specs.Start.{start_record};
 ghost use Rattle.remus.specs.Printed.{named_sector, sector_line};
-ghost use Rattle.remus.specs.Boot.{IsInLimits, boot_line, guest_image, named_guest};
+ghost use Rattle.remus.specs.Guests.{guest_image, named_guest};
+ghost use Rattle.remus.specs.Boot.{IsInLimits, boot_line, booted_state};
 
 use crate::boot::{Boot, Guest, image_of, read_boot};
 use crate::delivery::read_delivery;
@@ -16,6 +18,9 @@ use std::alloc::{AllocError, Global};
 use std::io;
 use std::io::Write;
 
+/// The guest may make fewer steps than these, some thousandth of a second's, before what was printed is written out.
+const STEPS_UNSHOWN: u64 = 100_000;
+
 /// Why a script ends early.
 #[derive(Debug, Drop)]
 enum Stop {
@@ -25,6 +30,15 @@ enum Stop {
     Refused,
     /// A write failed.
     Failed,
+}
+
+/// A script that is being played.
+#[derive(Drop)]
+struct Player {
+    /// The pair that its boot line asked for.
+    world: Box<World>,
+    /// How many steps its lines asked for since what was printed was last written out.
+    unshown: u64,
 }
 
 impl From<io::Error> for Stop {
@@ -38,7 +52,8 @@ impl From<io::Error> for Stop {
 }
 
 /// Plays the script `source`, and prints the replies on `out` and a bad line on `err`. Answers the exit
-/// status: 0, or 1 after a bad line, a refused boot line or a write that failed.
+/// status: 0, or 1 after a bad line, a refused boot line or a write that failed. What was printed is written out
+/// (`out` is flushed) after the boot line, before a line that steps the guest for long, and at the end.
 pub fn sim<O: Write, E: Write>(alloc: Global, source: &[u8], out: &mut O, err: &mut E) -> u8
     ensures { result ≤ 1 }
 {
@@ -59,39 +74,57 @@ pub fn sim<O: Write, E: Write>(alloc: Global, source: &[u8], out: &mut O, err: &
 
 /// Plays the lines in turn. The first that counts is the boot line.
 fn play<O: Write>(alloc: Global, source: &[u8], out: &mut O) -> Result<(), Stop> {
-    let mut world = None;
+    let mut player = None;
     for (index, text) in source.split(|byte| *byte == b'\n').enumerate() {
         if is_silent(text) {
             continue;
         }
         let number = index as u64 + 1;
-        match &mut world {
-            None => world = Some(boot(alloc, text, number, out)?),
-            Some(world) => play_line(alloc, world, text, number, out)?,
+        match &mut player {
+            None => player = Some(boot(alloc, text, number, out)?),
+            Some(player) => play_line(alloc, player, text, number, out)?,
         }
     }
     Ok(())
 }
 
-/// Does what a line behind the boot line says, and prints the answer.
+/// Does what a line after the boot line says, and prints the answer.
 fn play_line<O: Write>(
     alloc: Global,
-    world: &mut World,
+    player: &mut Player,
     text: &[u8],
     number: u64,
     out: &mut O,
 ) -> Result<(), Stop> {
     if let Some(command) = read_command(text) {
-        return obey(world, command, number, out);
+        if let Command::Step(count) = command {
+            show_before(count, &mut player.unshown, out)?;
+        }
+        return obey(player.world.as_mut(), command, number, out);
     }
     let reply = match read_delivery(alloc, text) {
-        Ok(Some(delivery)) => {
-            world.apply(Event::Deliver(delivery.client, delivery.bytes.as_slice()))
-        }
+        Ok(Some(delivery)) => player
+            .world
+            .as_mut()
+            .apply(Event::Deliver(delivery.client, delivery.bytes.as_slice())),
         Ok(None) => return Err(Stop::Bad(number)),
         Err(AllocError) => Reply::Refused(Refusal::NoMemory),
     };
     write_reply(out, &reply)?;
+    Ok(())
+}
+
+/// Writes out what was printed, before the guest makes `count` steps, where it would else go unshown for too many.
+fn show_before<O: Write>(count: u64, unshown: &mut u64, out: &mut O) -> Result<(), Stop>
+    ensures { Keeps (O.contents out.old) (O.contents out.new) }
+{
+    let steps = unshown.saturating_add(count);
+    if steps < STEPS_UNSHOWN {
+        *unshown = steps;
+        return Ok(());
+    }
+    *unshown = 0;
+    out.flush()?;
     Ok(())
 }
 
@@ -100,32 +133,41 @@ fn is_silent(text: &[u8]) -> bool {
     matches!(text, [] | [b'#', ..])
 }
 
-/// Boots the pair that the boot line asks for, and prints `booted` or the refusal.
-fn boot<O: Write>(alloc: Global, text: &[u8], number: u64, out: &mut O) -> Result<World, Stop> {
+/// Boots the pair that the boot line asks for, and shows `booted` or prints the refusal.
+fn boot<O: Write>(alloc: Global, text: &[u8], number: u64, out: &mut O) -> Result<Player, Stop> {
     let started = match read_boot(alloc, text) {
-        Ok(Some(boot)) => {
-            let shape = Shape {
-                pages: boot.pages,
-                sectors: boot.sectors,
-            };
-            match image(alloc, &boot) {
-                Ok(image) => World::boot(alloc, shape, boot.clients, image.as_slice()),
-                Err(AllocError) => Err(Refusal::NoMemory),
-            }
-        }
+        Ok(Some(boot)) => start(alloc, &boot),
         Ok(None) => return Err(Stop::Bad(number)),
         Err(AllocError) => Err(Refusal::NoMemory),
     };
     match started {
         Ok(world) => {
             writeln!(out, "booted")?;
-            Ok(world)
+            out.flush()?;
+            Ok(Player { world, unshown: 0 })
         }
         Err(refusal) => {
             write_refusal(out, refusal)?;
             Err(Stop::Refused)
         }
     }
+}
+
+/// The pair that a boot line asks for, at its start. It stands in a box, so that no other function holds a large value.
+fn start(alloc: Global, boot: &Boot) -> Result<Box<World>, Refusal>
+    requires { IsInLimits (boot_line boot.now) }
+    ensures state { IfOk result (λ w. w.value.start ≡ booted_state (boot_line boot.now)) }
+    ensures protocol { IfOk result (λ w. w.value.protocol ≡ start_record) }
+    ensures refused { IfErr result (λ why. why ≡ Refusal.NoMemory) }
+{
+    let shape = Shape {
+        pages: boot.pages,
+        sectors: boot.sectors,
+    };
+    let image = image(alloc, boot)?;
+    let world = World::boot(alloc, shape, boot.clients, image.as_slice())?;
+    let world = Box::new(alloc, world).map_err(AllocError::from)?;
+    Ok(world)
 }
 
 /// The bytes of a guest's program.
@@ -169,7 +211,8 @@ fn obey<O: Write>(
 
 /// Prints the bytes of a sector. Beyond the disk the line is a bad one, and nothing is printed.
 fn show_sector<O: Write>(world: &World, sector: u64, number: u64, out: &mut O) -> Result<(), Stop>
-    ensures shown { IfSome (named_sector world.now sector) (λ bytes. OnOk result (Appends (O.contents out.old) (O.contents out.new) (sector_line sector bytes))) }
+    ensures shown { IfSome (named_sector world.now sector) (λ bytes.
+        OnOk result (Appends (O.contents out.old) (O.contents out.new) (sector_line sector bytes))) }
     ensures failed { IsSome (named_sector world.now sector) → IfErr result (λ stop. stop ≡ Stop.Failed) }
     ensures bad { IfNone (named_sector world.now sector) ((result ≡ Err (Stop.Bad number)) × (out.new ≡ out.old)) }
 {

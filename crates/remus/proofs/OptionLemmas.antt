@@ -1,0 +1,15 @@
+-- What two options that are the same tell, and the parts of a pair.
+use Rattle.std.proofs.Common.{◌≡◌, Option, Some, None, refl, ap}
+use Rattle.std.specs.Option.{option_and_then}
+
+pub some_same : {A : Type 0} {x y : A} → Some x ≡ Some y → x ≡ y
+some_same h = cc
+
+pub pair_parts : {A B : Type 0} {p q : A × B} → p ≡ q → (p.0 ≡ q.0) × (p.1 ≡ q.1)
+pair_parts e = (ap (λ r. r.0) e, ap (λ r. r.1) e)
+
+-- where a function of what an option holds gives something, the option holds something
+pub and_then_some : {A B : Type 0} (f : A → Option B) (o : Option A) (y : B) → option_and_then f o ≡ Some y
+    → (x : A) × (o ≡ Some x) × (f x ≡ Some y)
+and_then_some f (Some x) y h = (x, refl, h)
+and_then_some f None y h = cc
