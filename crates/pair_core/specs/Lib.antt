@@ -15,3 +15,6 @@ pub mod Runs
 pub mod WorldFields
 pub mod Lengths
 pub mod Refusals
+-- what public clauses cite of lower crates
+pub use Rattle.pair_history.specs.Entries
+pub use Rattle.pair_history.specs.HistoryState

@@ -1,8 +1,7 @@
 -- The boot line, `boot PAGES SECTORS CLIENTS GUEST`, in fields that are parted by one space.
 use Rattle.std.specs.Prelude.{◌≡◌, ℕ, ◌≤◌, ◌∷◌, [], List, Some, codes}
 use Rattle.std.specs.List.{join_with_byte}
-use Rattle.pair_core.specs.HistoryState.{HistoryState}
-use Rattle.pair_core.specs.Start.{start_state}
+use Rattle.pair_core.specs.HistoryState.{HistoryState, start_state}
 use Rattle.remus.specs.Fields.{number_of}
 use Rattle.remus.specs.Guests.{NamedGuest, NamesGuest, GuestFits, guest_image, named_guest}
 use Rattle.remus.specs.declared.boot.Boot.{Boot}
