@@ -9,7 +9,7 @@ pub disk_kept : (bytes new dirty marked : List ℕ) (first n : ℕ) → length n
 disk_kept bytes new dirty marked first n same is within disk =
     let count : length new / 512 ≡ length bytes / 512 = ap (λ k. k / 512) same in
     let rises : Rises 0 (length bytes / 512) marked =
-        subst (Rises 0 (length bytes / 512)) (sym is) (rises_written (length bytes / 512) first n dirty within disk.dirty) in
+    subst (Rises 0 (length bytes / 512)) (sym is) (rises_written (length bytes / 512) first n dirty within disk.dirty) in
     record {
       whole = same ∙ (disk.whole ∙ ap (λ k. 512 * k) (sym count));
       least = subst (λ (k : ℕ). 1 ≤ k) (sym count) disk.least;

@@ -50,8 +50,8 @@ act_apart ram bytes d e chain =
     let places : List ℕ = writable_places chain.parts in
     let answer : Outcome → Result (Acted Contents) Broken = λ o. Ok (chain_answered ram places o) in
     either bare (is_short readable places) (Err Short) (Err Short)
-        (answer (outcome (contents_of bytes d) (request_of readable) (length places - 1)))
-        (answer (outcome (contents_of bytes e) (request_of readable) (length places - 1)))
+    (answer (outcome (contents_of bytes d) (request_of readable) (length places - 1)))
+    (answer (outcome (contents_of bytes e) (request_of readable) (length places - 1)))
     refl (ap answer (outcome_apart bytes d e (request_of readable) (length places - 1)))
 
 -- ---- all of them
@@ -67,7 +67,7 @@ module _ (k : DeviceKind) (i : ℕ) where
       ((s t : Served Contents) → bare_served s ≡ bare_served t → bare_served (rest s) ≡ bare_served (rest t)) →
       (s : Served Contents) (d : List ℕ) (head : ℕ) (x y : Result (Acted Contents) Broken) → bare x ≡ bare y →
       bare_served (or_breaks rest (listed s d) (x >>= (λ a. Ok (puts_used k i (listed s d) head a))))
-          ≡ bare_served (or_breaks rest s (y >>= (λ a. Ok (puts_used k i s head a))))
+      ≡ bare_served (or_breaks rest s (y >>= (λ a. Ok (puts_used k i s head a))))
   acted_apart rest h s d head (Ok a) (Ok b) e =
       let same : bare_acted a ≡ bare_acted b = cc in
       h (puts_used k i s head a) (puts_used k i s head b) (ap (puts_used k i s head) same)
@@ -79,11 +79,11 @@ module _ (k : DeviceKind) (i : ℕ) where
       ((s t : Served Contents) → bare_served s ≡ bare_served t → bare_served (rest s) ≡ bare_served (rest t)) →
       (s : Served Contents) (d : List ℕ) (r : Result Spelled Broken) →
       bare_served (or_breaks rest (listed s d) (r >>=
-          (λ c. request_act s.ram (contents_of s.kept.bytes d) c >>= (λ a. Ok (puts_used k i (listed s d) c.head a)))))
+      (λ c. request_act s.ram (contents_of s.kept.bytes d) c >>= (λ a. Ok (puts_used k i (listed s d) c.head a)))))
       ≡ bare_served (or_breaks rest s (r >>= (λ c. request_act s.ram s.kept c >>= (λ a. Ok (puts_used k i s c.head a)))))
   chain_apart rest h s d (Ok c) =
       acted_apart rest h s d c.head (request_act s.ram (contents_of s.kept.bytes d) c) (request_act s.ram s.kept c)
-          (act_apart s.ram s.kept.bytes d s.kept.dirty c)
+      (act_apart s.ram s.kept.bytes d s.kept.dirty c)
   chain_apart rest h s d (Err b) = refl
 
   chains_apart : (n : ℕ) (s t : Served Contents) → bare_served s ≡ bare_served t → bare_served (chains_served k i request_act n s)

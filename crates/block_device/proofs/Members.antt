@@ -1,6 +1,33 @@
 -- Which numbers stand in a list of written sectors.
-use Rattle.std.proofs.Common.{◌≡◌, ℕ, zero, suc, ◌+◌, Bool, true, false, ◌&&◌, ◌||◌, ◌==◌, ◌⊎◌, inl, inr, List, [], ◌∷◌, ◌++◌, refl, sym,
-    ap, ◌∙◌, nat_le, nat_lt, filter, cond, arith}
+use Rattle.std.proofs.Common.{
+  ◌≡◌,
+  ℕ,
+  zero,
+  suc,
+  ◌+◌,
+  Bool,
+  true,
+  false,
+  ◌&&◌,
+  ◌||◌,
+  ◌==◌,
+  ◌⊎◌,
+  inl,
+  inr,
+  List,
+  [],
+  ◌∷◌,
+  ◌++◌,
+  refl,
+  sym,
+  ap,
+  ◌∙◌,
+  nat_le,
+  nat_lt,
+  filter,
+  cond,
+  arith,
+}
 use Rattle.std.specs.List.{range_with_len}
 use Rattle.std.proofs.lemmas.Bool.Decides.{nat_tests}
 use Rattle.block_device.specs.Dirty.{with_written, is_in}
@@ -70,5 +97,5 @@ in_written dirty first n i =
     ∙ (ap (λ b. (b || is_in i range) || is_in i above) (in_filter (λ k. nat_lt k first) i dirty)
     ∙ (ap (λ b. ((is_in i dirty && nat_lt i first) || b) || is_in i above) (in_range i first n)
     ∙ (ap (λ b. ((is_in i dirty && nat_lt i first) || (nat_le first i && nat_lt i (first + n))) || b)
-        (in_filter (λ k. nat_le (first + n) k) i dirty)
+    (in_filter (λ k. nat_le (first + n) k) i dirty)
     ∙ three_parts (is_in i dirty) i first n))))

@@ -1,6 +1,23 @@
 -- Bytes that were put into the middle of a list.
-use Rattle.std.proofs.Common.{◌≡◌, ℕ, ◌+◌, ◌-◌, ◌≤◌, List, ◌++◌, sym, ap, ◌∙◌, arith, length, length-take-le, length-drop, take, drop,
-    append_assoc}
+use Rattle.std.proofs.Common.{
+  ◌≡◌,
+  ℕ,
+  ◌+◌,
+  ◌-◌,
+  ◌≤◌,
+  List,
+  ◌++◌,
+  sym,
+  ap,
+  ◌∙◌,
+  arith,
+  length,
+  length-take-le,
+  length-drop,
+  take,
+  drop,
+  append_assoc,
+}
 use Rattle.std.proofs.lemmas.List.{take_all, drop-drop}
 use borrow.Rule.Slice.PartMut.{put_mid}
 use Rattle.virtqueue.specs.Memory.{written}
@@ -10,8 +27,11 @@ pub put_written : (places chunk new : List ℕ) (start len : ℕ) → chunk ≡ 
     length new ≡ len → start + len ≤ length places → put_mid start (start + len - start) places chunk ≡ written places start new
 put_written places chunk new start len is count within =
     let part : List ℕ = take (start + len - start) (drop start places) in
-    let part_len : length part ≡ len = omega (arith, length-take-le (start + len - start) (drop start places)
-        (omega (arith, length-drop start places))) in
+    let part_len : length part ≡ len = omega (
+      arith,
+      length-take-le (start + len - start) (drop start places)
+          (omega (arith, length-drop start places)),
+    ) in
     let whole : chunk ≡ new = is ∙ take_all (length part) new (omega (arith, part_len, count)) in
     let end : start + (start + len - start) ≡ start + length new = omega (arith, count) in
     ap (λ ys. take start places ++ (ys ++ drop (start + len - start) (drop start places))) whole

@@ -1,6 +1,41 @@
 -- What stands where bytes were written, and what stands elsewhere.
-use Rattle.std.proofs.Common.{◌≡◌, ℕ, ◌+◌, ◌-◌, ◌*◌, ◌/◌, ◌%◌, ◌≤◌, ◌<◌, Bool, true, false, ◌&&◌, ◌==◌, ◌++◌, ◌⊎◌, inl, inr, List, [], refl,
-    sym, ap, ◌∙◌, if◌then◌else◌, length, take, drop, nat_le, arith, append_assoc, length-append, length-take-le, length-drop, slice_range}
+use Rattle.std.proofs.Common.{
+  ◌≡◌,
+  ℕ,
+  ◌+◌,
+  ◌-◌,
+  ◌*◌,
+  ◌/◌,
+  ◌%◌,
+  ◌≤◌,
+  ◌<◌,
+  Bool,
+  true,
+  false,
+  ◌&&◌,
+  ◌==◌,
+  ◌++◌,
+  ◌⊎◌,
+  inl,
+  inr,
+  List,
+  [],
+  refl,
+  sym,
+  ap,
+  ◌∙◌,
+  if◌then◌else◌,
+  length,
+  take,
+  drop,
+  nat_le,
+  arith,
+  append_assoc,
+  length-append,
+  length-take-le,
+  length-drop,
+  slice_range,
+}
 use Rattle.std.proofs.lemmas.Bool.Decides.{nat_tests}
 use Rattle.std.proofs.lemmas.List.{take_at, drop_at, drop-append-le, take-append-le, drop-drop, take-take, drop-take}
 use Rattle.std.proofs.Math.Seq.{drop-append-add}
@@ -18,7 +53,7 @@ read_written bytes new place l =
     let front : length (take place bytes) ≡ place = length-take-le place bytes (omega arith) in
     let count : length new ≡ place + length new - place = omega arith in
     ap (take (place + length new - place)) (ap (drop place) (append_assoc (take place bytes) new rest)
-        ∙ drop_at (take place bytes) (new ++ rest) place front)
+    ∙ drop_at (take place bytes) (new ++ rest) place front)
     ∙ take_at new rest (place + length new - place) count
 
 -- bytes before them, and behind them, stay
@@ -73,15 +108,15 @@ of_read disk r room is =
 
 read_after : (disk : Contents) (sector : ℕ) (new : List ℕ) → in_capacity disk sector (length new) ≡ true →
     read_outcome (contents_with disk sector new) sector (length new)
-        ≡ record { status = 0; payload = new; disk = contents_with disk sector new }
+    ≡ record { status = 0; payload = new; disk = contents_with disk sector new }
 read_after disk sector new fits =
     let after : Contents = contents_with disk sector new in
     let within : 512 * sector + length new ≤ length disk.bytes = in_capacity_tells disk sector (length new) fits in
     let size : length after.bytes ≡ length disk.bytes = length_written disk.bytes new (512 * sector) within in
     let still : in_capacity after sector (length new) ≡ true =
-        ap (λ n. length new % 512 == 0 && nat_le (sector + length new / 512) (n / 512)) size ∙ fits in
+    ap (λ n. length new % 512 == 0 && nat_le (sector + length new / 512) (n / 512)) size ∙ fits in
     ap (λ b. if b then record { status = 0; payload = bytes_at after sector (length new); disk = after } else record
-        { status = 1; payload = []; disk = after }) still
+    { status = 1; payload = []; disk = after }) still
     ∙ ap (λ xs. record { status = 0; payload = xs; disk = after }) (read_written disk.bytes new (512 * sector) within)
 
 pub good_write : (disk : Contents) (sector : ℕ) (new : List ℕ) → (write_outcome disk sector new).status ≡ 0 →
@@ -133,7 +168,7 @@ refused_write disk sector new bad =
 pub refused_changes_nothing : (disk : Contents) (r : Request) (room : ℕ) → Refused disk (outcome disk r room)
 refused_changes_nothing disk r room =
     by_types (Refused disk) (r.kind == 0) (r.kind == 1) (r.kind == 4) (read_outcome disk r.sector room)
-        (write_outcome disk r.sector r.payload)
+    (write_outcome disk r.sector r.payload)
     (record { status = 0; payload = []; disk = disk }) (record { status = 2; payload = []; disk = disk })
     (λ bad. read_size disk r.sector room) (λ is. refused_write disk r.sector r.payload) (λ bad. refl) (λ bad. refl)
 
@@ -141,6 +176,6 @@ pub others_change_nothing : (disk : Contents) (r : Request) (room : ℕ) → (r.
 others_change_nothing disk r room other =
     let no : (r.kind == 1) ≡ false = grind (arith, nat_tests) in
     by_types (λ (o : Outcome). o.disk ≡ disk) (r.kind == 0) (r.kind == 1) (r.kind == 4) (read_outcome disk r.sector room)
-        (write_outcome disk r.sector r.payload)
+    (write_outcome disk r.sector r.payload)
     (record { status = 0; payload = []; disk = disk }) (record { status = 2; payload = []; disk = disk })
     (read_size disk r.sector room) (λ is. let never : true ≡ false = sym is ∙ no in let none : ⊥ = cc in absurd none) refl refl

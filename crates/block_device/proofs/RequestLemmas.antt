@@ -1,6 +1,29 @@
 -- What a request does, by the lengths of its chain.
-use Rattle.std.proofs.Common.{◌≡◌, ℕ, ◌+◌, ◌-◌, ◌<◌, ◌≤◌, true, false, ◌||◌, ◌==◌, List, [], ◌∷◌, refl, ap, ◌∙◌, if◌then◌else◌, length,
-    drop, nat_lt, arith, length-drop, ◌⊎◌}
+use Rattle.std.proofs.Common.{
+  ◌≡◌,
+  ℕ,
+  ◌+◌,
+  ◌-◌,
+  ◌<◌,
+  ◌≤◌,
+  true,
+  false,
+  ◌||◌,
+  ◌==◌,
+  List,
+  [],
+  ◌∷◌,
+  refl,
+  ap,
+  ◌∙◌,
+  if◌then◌else◌,
+  length,
+  drop,
+  nat_lt,
+  arith,
+  length-drop,
+  ◌⊎◌,
+}
 use Rattle.std.specs.Prelude.{Ok, Err}
 use Rattle.std.proofs.lemmas.Bool.Decides.{nat_tests}
 use Rattle.virtqueue.specs.declared.broken.Broken.TheVariants.{Short}
@@ -9,8 +32,17 @@ use Rattle.virtqueue.specs.Chains.{Spelled, BuffersInside}
 use Rattle.virtqueue.specs.Parts.{readable_len, writable_len, readable_bytes, writable_places, put_at}
 use Rattle.virtio_mmio.specs.ServingLoop.{Acted}
 use Rattle.block_device.specs.Contents.{Contents, in_capacity, contents_with}
-use Rattle.block_device.specs.Request.{Outcome, Request, request_of, outcome, write_outcome, chain_answered, written_len, is_short,
-    request_act}
+use Rattle.block_device.specs.Request.{
+  Outcome,
+  Request,
+  request_of,
+  outcome,
+  write_outcome,
+  chain_answered,
+  written_len,
+  is_short,
+  request_act,
+}
 use Rattle.virtqueue.proofs.Lengths.{length_readable, length_places}
 
 -- the data of a request is all behind its header
@@ -23,14 +55,14 @@ pub write_done : (disk : Contents) (sector : ℕ) (payload : List ℕ) (len : �
     write_outcome disk sector payload ≡ record { status = 0; payload = []; disk = contents_with disk sector payload }
 write_done disk sector payload len is fits =
     ap (λ b. if b then record { status = 0; payload = []; disk = contents_with disk sector payload } else record
-        { status = 1; payload = []; disk = disk })
+    { status = 1; payload = []; disk = disk })
     (ap (in_capacity disk sector) is ∙ fits)
 
 pub write_fails : (disk : Contents) (sector : ℕ) (payload : List ℕ) (len : ℕ) → length payload ≡ len → in_capacity disk sector len ≡ false →
     write_outcome disk sector payload ≡ record { status = 1; payload = []; disk = disk }
 write_fails disk sector payload len is fits =
     ap (λ b. if b then record { status = 0; payload = []; disk = contents_with disk sector payload } else record
-        { status = 1; payload = []; disk = disk })
+    { status = 1; payload = []; disk = disk })
     (ap (in_capacity disk sector) is ∙ fits)
 
 -- what a chain of enough bytes and places leaves
@@ -55,18 +87,18 @@ module _ (ram : List ℕ) (disk : Contents) (chain : Spelled) (inside : BuffersI
       let readable : List ℕ = readable_bytes ram chain.parts in
       let test : (nat_lt (readable_len chain.parts) 16 || writable_len chain.parts == 0) ≡ true = grind (arith, nat_tests) in
       ap (λ b. if b then Err Short else Ok (chain_answered ram places (outcome disk (request_of readable) (length places - 1))))
-          (short_test ∙ test)
+      (short_test ∙ test)
 
   pub act_done : 16 ≤ readable_len chain.parts → 0 < writable_len chain.parts →
       request_act ram disk chain ≡ Ok (left_by ram (writable_places chain.parts) (writable_len chain.parts - 1)
-          (outcome disk (request_of (readable_bytes ram chain.parts)) (writable_len chain.parts - 1)))
+      (outcome disk (request_of (readable_bytes ram chain.parts)) (writable_len chain.parts - 1)))
   unfolding request_act
   act_done long some =
       let places : List ℕ = writable_places chain.parts in
       let readable : List ℕ = readable_bytes ram chain.parts in
       let test : (nat_lt (readable_len chain.parts) 16 || writable_len chain.parts == 0) ≡ false = grind (arith, nat_tests) in
       ap (λ b. if b then Err Short else Ok (chain_answered ram places (outcome disk (request_of readable) (length places - 1))))
-          (short_test ∙ test)
+      (short_test ∙ test)
       ∙ ap (λ n. Ok (left_by ram places (n - 1) (outcome disk (request_of readable) (n - 1)))) (length_places chain.parts)
 
 -- a request of another type reads nothing

@@ -1,7 +1,47 @@
 -- Rising lists, and their parts below and above a number.
-use Rattle.std.proofs.Common.{◌≡◌, ℕ, zero, suc, ◌+◌, ◌<◌, ◌≤◌, Bool, true, false, List, [], ◌∷◌, ◌++◌, refl, sym, ap, ◌∙◌, length, take,
-    drop, get_or, arith, filter, nat_lt, nat_le, cond, subst, ◌⊎◌, inl, inr, take-append-drop, append-nil, length-take-le, length-drop,
-    get_or-take, get_or-drop, append_assoc, length-append, map-id, ◌-◌}
+use Rattle.std.proofs.Common.{
+  ◌≡◌,
+  ℕ,
+  zero,
+  suc,
+  ◌+◌,
+  ◌<◌,
+  ◌≤◌,
+  Bool,
+  true,
+  false,
+  List,
+  [],
+  ◌∷◌,
+  ◌++◌,
+  refl,
+  sym,
+  ap,
+  ◌∙◌,
+  length,
+  take,
+  drop,
+  get_or,
+  arith,
+  filter,
+  nat_lt,
+  nat_le,
+  cond,
+  subst,
+  ◌⊎◌,
+  inl,
+  inr,
+  take-append-drop,
+  append-nil,
+  length-take-le,
+  length-drop,
+  get_or-take,
+  get_or-drop,
+  append_assoc,
+  length-append,
+  map-id,
+  ◌-◌,
+}
 use Rattle.std.proofs.lemmas.List.{take_at, drop_at}
 use Rattle.std.proofs.lemmas.List.FromFn.{length-range_with_len, map-range_with_len_more}
 use Rattle.std.proofs.lemmas.List.Elements.{filter-append}
@@ -86,7 +126,7 @@ module _ (xs : List ℕ) (n s : ℕ) (within : n ≤ length xs)
   parted_above =
       let p : ℕ → Bool = λ i. nat_le s i in
       sym (along p ∙ (ap (λ ys. ys ++ filter p (drop n xs))
-          (none_kept p (take n xs) (λ k d l. lt_not_le (get_or (take n xs) k d) s (front k d l)))
+      (none_kept p (take n xs) (λ k d l. lt_not_le (get_or (take n xs) k d) s (front k d l)))
       ∙ all_kept p (drop n xs) (λ k d l. not_lt_le (get_or (drop n xs) k d) s (back k d l))))
 
 -- ---- the parts of a rising list rise
@@ -132,7 +172,7 @@ rises_kept p from end (i ∷ is) h =
       | inr e ↦
           (let least : from ≤ i = h.0 in
           subst (Rises from end) (sym (lost p i is e))
-              (rises_lower (i + 1) from end (filter p is) (omega arith) (rises_kept p (i + 1) end is h.1)))
+          (rises_lower (i + 1) from end (filter p is) (omega arith) (rises_kept p (i + 1) end is h.1)))
     ]
 
 pub rises_below : (from end s : ℕ) (is : List ℕ) → from ≤ s → Rises from end is → Rises from s (filter (λ i. nat_lt i s) is)
@@ -174,7 +214,7 @@ pub rises_written : (end first n : ℕ) (is : List ℕ) → first + n ≤ end �
 rises_written end first n is l h =
     rises_append 0 (first + n) end (filter (λ i. nat_lt i first) is ++ range_with_len first n) (filter (λ i. nat_le (first + n) i) is)
     (rises_append 0 first (first + n) (filter (λ i. nat_lt i first) is) (range_with_len first n)
-        (rises_below 0 end first is (omega arith) h) (rises_range first n))
+    (rises_below 0 end first is (omega arith) h) (rises_range first n))
     (rises_above 0 end (first + n) is l h)
 
 -- a rising list is no longer than its numbers allow
@@ -196,7 +236,7 @@ rises_full from (suc n) (i ∷ is) h e =
     let first : i ≡ from = omega arith in
     let end : from + suc n ≡ from + 1 + n = omega arith in
     let rises : Rises (from + 1) (from + 1 + n) is = subst (λ (k : ℕ). Rises (k + 1) (from + 1 + n) is) first
-        (subst (λ (k : ℕ). Rises (i + 1) k is) end h.1) in
+    (subst (λ (k : ℕ). Rises (i + 1) k is) end h.1) in
     let len : length is ≡ n = omega arith in
     ap (λ k. k ∷ is) first ∙ ap (λ ys. from ∷ ys) (rises_full (from + 1) n is rises len)
 
@@ -220,7 +260,7 @@ in_parts from end s (i ∷ is) h =
           let rises : Rises i end (i ∷ is) = (same, h.1) in
           ap (λ ys. ys ++ filter above (i ∷ is)) (none_below i end s (i ∷ is) great rises)
           ∙ all_kept above (i ∷ is) (λ k d l. above_tells s (get_or (i ∷ is) k d)
-              (let least = rises_least i end (i ∷ is) k d rises l in omega arith)))
+          (let least = rises_least i end (i ∷ is) k d rises l in omega arith)))
     ]
 
 -- of the numbers from one on, those from a later one on are the list's own
@@ -308,10 +348,19 @@ module _ (xs : List ℕ) (first n end from to : ℕ) (p : Parted xs first n end 
       let parts : middle ++ last ≡ upper =
       ap (λ ys. middle ++ ys) (sym (above_above first (first + n) xs (omega arith))) ∙ in_parts first end (first + n) upper upper_rises in
       let count : length middle ≡ n =
-      omega (arith, below_len, above_len, all, from_before_to, ap length halves, ap length parts, length-append lower upper,
-          length-append middle last) in
+      omega (
+        arith,
+        below_len,
+        above_len,
+        all,
+        from_before_to,
+        ap length halves,
+        ap length parts,
+        length-append lower upper,
+        length-append middle last,
+      ) in
       let full : middle ≡ range_with_len first n =
-          rises_full first n middle (rises_below first end (first + n) upper (omega arith) upper_rises) count in
+      rises_full first n middle (rises_below first end (first + n) upper (omega arith) upper_rises) count in
       sym (append_assoc lower (range_with_len first n) last
       ∙ (ap (λ ys. lower ++ (ys ++ last)) (sym full) ∙ (ap (λ ys. lower ++ ys) parts ∙ halves)))
 
@@ -324,14 +373,20 @@ module _ (xs : List ℕ) (first n end from to : ℕ) (p : Parted xs first n end 
       let last : List ℕ = drop to xs in
       let lower_len : length lower ≡ from = length-take-le from xs p.from_within in
       let len : length list ≡ from + length last + n =
-      omega (arith, ap length is, lower_len, length-append lower last, length-append (lower ++ last) range,
-          length-range_with_len first n) in
+      omega (
+        arith,
+        ap length is,
+        lower_len,
+        length-append lower last,
+        length-append (lower ++ last) range,
+        length-range_with_len first n,
+      ) in
       let joined : list ≡ lower ++ (last ++ range) = is ∙ append_assoc lower last range in
       let front : take from list ≡ lower = ap (take from) joined ∙ take_at lower (last ++ range) from lower_len in
       let behind : drop from list ≡ last ++ range = ap (drop from) joined ∙ drop_at lower (last ++ range) from lower_len in
       let mid_len : length (lower ++ last) ≡ length list - n = omega (arith, len, lower_len, length-append lower last) in
       let middle : drop (length list - n) list ≡ range = ap (drop (length list - n)) is
-          ∙ drop_at (lower ++ last) range (length list - n) mid_len in
+      ∙ drop_at (lower ++ last) range (length list - n) mid_len in
       let tail_len : length last ≡ length list - n - from = omega (arith, len) in
       let tail : take (length list - n - from) (drop from list) ≡ last =
       ap (take (length list - n - from)) behind ∙ take_at last range (length list - n - from) tail_len in

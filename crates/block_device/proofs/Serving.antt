@@ -1,6 +1,35 @@
 -- However many requests are served, a disk stays one, of the same size.
-use Rattle.std.proofs.Common.{◌≡◌, ℕ, zero, suc, ◌+◌, ◌-◌, ◌*◌, ◌/◌, ◌%◌, ◌≤◌, Bool, true, false, ◌&&◌, ◌==◌, List, [], refl, sym, ap,
-    subst, ◌∙◌, if◌then◌else◌, length, nat_le, arith, ◌⊎◌, inl, inr}
+use Rattle.std.proofs.Common.{
+  ◌≡◌,
+  ℕ,
+  zero,
+  suc,
+  ◌+◌,
+  ◌-◌,
+  ◌*◌,
+  ◌/◌,
+  ◌%◌,
+  ◌≤◌,
+  Bool,
+  true,
+  false,
+  ◌&&◌,
+  ◌==◌,
+  List,
+  [],
+  refl,
+  sym,
+  ap,
+  subst,
+  ◌∙◌,
+  if◌then◌else◌,
+  length,
+  nat_le,
+  arith,
+  ◌⊎◌,
+  inl,
+  inr,
+}
 use Rattle.std.specs.Prelude.{Result, Ok, Err}
 use Rattle.std.proofs.lemmas.Bool.Decides.{nat_tests}
 use Rattle.virtqueue.specs.declared.broken.Broken.{Broken}
@@ -15,12 +44,29 @@ use Rattle.virtio_mmio.specs.declared.states.DeviceState.{DeviceState}
 use Rattle.virtio_mmio.specs.States.{queue_at}
 use Rattle.virtio_mmio.specs.Serving.{can_serve}
 use Rattle.virtqueue.proofs.Inside.{bind_ok}
-use Rattle.virtio_mmio.specs.ServingLoop.{Acted, Served, standing, puts_used, one_served, or_breaks, chains_served,
-    served}
+use Rattle.virtio_mmio.specs.ServingLoop.{
+  Acted,
+  Served,
+  standing,
+  puts_used,
+  one_served,
+  or_breaks,
+  chains_served,
+  served,
+}
 use Rattle.block_device.specs.Dirty.{with_written}
 use Rattle.block_device.specs.Contents.{Contents, capacity, in_capacity, contents_with, bytes_at, IsDisk}
-use Rattle.block_device.specs.Request.{Outcome, Request, request_of, outcome, read_outcome, write_outcome, chain_answered, is_short,
-    request_act}
+use Rattle.block_device.specs.Request.{
+  Outcome,
+  Request,
+  request_of,
+  outcome,
+  read_outcome,
+  write_outcome,
+  chain_answered,
+  is_short,
+  request_act,
+}
 use Rattle.block_device.proofs.DiskLemmas.{disk_kept}
 
 -- ---- one request
@@ -31,14 +77,14 @@ tells a b c h = (grind (arith, nat_tests), grind (arith, nat_tests))
 pub whole_sectors : (disk : Contents) (sector n : ℕ) → in_capacity disk sector n ≡ true → 512 * (n / 512) ≡ n
 whole_sectors disk sector n h =
     let both : (n % 512 ≡ 0) × (sector + n / 512 ≤ length disk.bytes / 512) =
-        tells (n % 512) (sector + n / 512) (length disk.bytes / 512) h in
+    tells (n % 512) (sector + n / 512) (length disk.bytes / 512) h in
     let whole : n % 512 ≡ 0 = both.0 in
     omega arith
 
 pub in_capacity_tells : (disk : Contents) (sector n : ℕ) → in_capacity disk sector n ≡ true → 512 * sector + n ≤ length disk.bytes
 in_capacity_tells disk sector n h =
     let both : (n % 512 ≡ 0) × (sector + n / 512 ≤ length disk.bytes / 512) =
-        tells (n % 512) (sector + n / 512) (length disk.bytes / 512) h in
+    tells (n % 512) (sector + n / 512) (length disk.bytes / 512) h in
     let whole : n % 512 ≡ 0 = both.0 in
     let within : sector + n / 512 ≤ length disk.bytes / 512 = both.1 in
     omega arith
@@ -50,8 +96,7 @@ by_test false x y = inr (refl, refl)
 write_size : (disk : Contents) (sector : ℕ) (payload : List ℕ) → length (write_outcome disk sector payload).disk.bytes ≡ length disk.bytes
 write_size disk sector payload =
     elim (by_test {A = Outcome} (in_capacity disk sector (length payload))
-        (record { status = 0; payload = []; disk = contents_with disk sector payload }) (record { status = 1; payload = []; disk = disk }))
-        [
+    (record { status = 0; payload = []; disk = contents_with disk sector payload }) (record { status = 1; payload = []; disk = disk })) [
       | inl w ↦ ap (λ (o : Outcome). length o.disk.bytes) w.1 ∙ length_written disk.bytes payload (512 * sector)
           (in_capacity_tells disk sector (length payload) w.0)
       | inr w ↦ ap (λ (o : Outcome). length o.disk.bytes) w.1
@@ -60,7 +105,7 @@ write_size disk sector payload =
 pub read_size : (disk : Contents) (sector room : ℕ) → (read_outcome disk sector room).disk ≡ disk
 read_size disk sector room =
     elim (by_test {A = Outcome} (in_capacity disk sector room) (record { status = 0; payload = bytes_at disk sector room; disk = disk })
-        (record { status = 1; payload = []; disk = disk })) [
+    (record { status = 1; payload = []; disk = disk })) [
       | inl w ↦ ap (λ (o : Outcome). o.disk) w.1
       | inr w ↦ ap (λ (o : Outcome). o.disk) w.1
     ]
@@ -96,13 +141,13 @@ outcome_disk disk r room is =
     written_disk : (disk : Contents) (sector : ℕ) (payload : List ℕ) → IsDisk disk → IsDisk (write_outcome disk sector payload).disk
     written_disk disk sector payload is =
         elim (by_test {A = Outcome} (in_capacity disk sector (length payload))
-            (record { status = 0; payload = []; disk = contents_with disk sector payload })
-            (record { status = 1; payload = []; disk = disk })) [
+        (record { status = 0; payload = []; disk = contents_with disk sector payload })
+        (record { status = 1; payload = []; disk = disk })) [
           | inl w ↦
               (let size = length_written disk.bytes payload (512 * sector) (in_capacity_tells disk sector (length payload) w.0) in
               let both = tells (length payload % 512) (sector + length payload / 512) (capacity disk) w.0 in
               let kept = disk_kept disk.bytes (written disk.bytes (512 * sector) payload) disk.dirty
-                  (with_written disk.dirty sector (length payload / 512)) sector (length payload / 512) size refl both.1 is in
+              (with_written disk.dirty sector (length payload / 512)) sector (length payload / 512) size refl both.1 is in
               subst (λ (o : Outcome). IsDisk o.disk) (sym w.1) kept)
           | inr w ↦ subst (λ (o : Outcome). IsDisk o.disk) (sym w.1) is
         ]
@@ -129,7 +174,7 @@ module _ (P : Contents → Type 0) (keeps : (disk : Contents) (r : Request) (roo
     one_keeps : (s t : Served Contents) → one_served k i request_act s ≡ Ok t → P s.kept → P t.kept
     one_keeps s t h p =
         let first = bind_ok (chain_of (queue_at s.state i) s.ram)
-            (λ c. request_act s.ram s.kept c >>= (λ a. Ok (puts_used k i s c.head a))) t h in
+        (λ c. request_act s.ram s.kept c >>= (λ a. Ok (puts_used k i s c.head a))) t h in
         let chain : Spelled = first.0 in
         let second = bind_ok (request_act s.ram s.kept chain) (λ a. Ok (puts_used k i s chain.head a)) t first.2 in
         let a : Acted Contents = second.0 in
@@ -156,7 +201,7 @@ module _ (P : Contents → Type 0) (keeps : (disk : Contents) (r : Request) (roo
     unfolding served
     served_keeps s p =
         elim (by_test {A = Served Contents} (can_serve k s.state i)
-            (or_breaks (λ n. chains_served k i request_act n s) s (available_of (queue_at s.state i) s.ram)) s) [
+        (or_breaks (λ n. chains_served k i request_act n s) s (available_of (queue_at s.state i) s.ram)) s) [
           | inl w ↦ subst (λ (x : Served Contents). P x.kept) (sym w.1) (available_keep s (available_of (queue_at s.state i) s.ram) p)
           | inr w ↦ subst (λ (x : Served Contents). P x.kept) (sym w.1) p
         ]
@@ -165,7 +210,7 @@ pub disk_size : (ram : List ℕ) (state : DeviceState) (c : Contents) (k : Devic
     length (served k 0 request_act (standing ram state c)).kept.bytes ≡ length c.bytes
 disk_size ram state c k =
     served_keeps (λ (d : Contents). length d.bytes ≡ length c.bytes) (λ disk r room p. outcome_size disk r room ∙ p) k 0
-        (standing ram state c) refl
+    (standing ram state c) refl
 
 pub disk_stays : (ram : List ℕ) (state : DeviceState) (c : Contents) (k : DeviceKind) → IsDisk c →
     IsDisk (served k 0 request_act (standing ram state c)).kept

@@ -1,11 +1,39 @@
 //! Laws of the disk's definitions, each the contract of a function that does nothing.
-ghost use Rattle.std.specs.Prelude.{◌≡◌, ℕ, ◌+◌, ◌-◌, ◌/◌, ◌^◌, ◌≤◌, ◌<◌, ◌⊎◌, ◌++◌, ◌&&◌, ◌||◌, List, [], ◌∷◌, length, replicate, nat_le,
-    nat_lt, IsTrue};
+ghost use Rattle.std.specs.Prelude.{
+  ◌≡◌,
+  ℕ,
+  ◌+◌,
+  ◌-◌,
+  ◌/◌,
+  ◌^◌,
+  ◌≤◌,
+  ◌<◌,
+  ◌⊎◌,
+  ◌++◌,
+  ◌&&◌,
+  ◌||◌,
+  List,
+  [],
+  ◌∷◌,
+  length,
+  replicate,
+  nat_le,
+  nat_lt,
+  IsTrue,
+};
 ghost use Rattle.virtio_mmio.specs.declared.kinds.DeviceKind.TheVariants.{Block};
 ghost use Rattle.virtio_mmio.specs.declared.states.DeviceState.{DeviceState};
 ghost use Rattle.virtio_mmio.specs.States.{IsDeviceRecord};
-ghost use Rattle.block_device.specs.Contents.{Contents, IsDisk, capacity, sector_at, boot_contents, in_capacity, contents_with,
-    contents_of};
+ghost use Rattle.block_device.specs.Contents.{
+  Contents,
+  IsDisk,
+  capacity,
+  sector_at,
+  boot_contents,
+  in_capacity,
+  contents_with,
+  contents_of,
+};
 ghost use Rattle.block_device.specs.Dirty.{with_written, is_in};
 ghost use Rattle.block_device.specs.Disk.{disk_served};
 ghost use Rattle.block_device.specs.Listed.{IsListed};
@@ -16,7 +44,7 @@ pub fn reading_back()
     ensures { (disk : Contents) (w r : Request) (room : ℕ) → w.kind ≡ 1 → (outcome disk w room).status ≡ 0 → r.kind ≡ 0 →
         r.sector ≡ w.sector →
         outcome (outcome disk w room).disk r (length w.payload)
-            ≡ record { status = 0; payload = w.payload; disk = (outcome disk w room).disk } }
+        ≡ record { status = 0; payload = w.payload; disk = (outcome disk w room).disk } }
 {}
 
 /// A request changes a disk only if it is a write of whole sectors of it, and then no other sector.

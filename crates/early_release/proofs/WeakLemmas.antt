@@ -1,10 +1,42 @@
 -- What lands was held, whenever it lands.
-use Rattle.std.proofs.Common.{◌≡◌, ℕ, ◌-◌, ◌<◌, Bool, true, false, if◌then◌else◌, nat_le, ◌⊎◌,
-    ⊎_elim, inl, inr, List, [], ◌∷◌, ◌++◌, length, get_or, refl, sym, ◌∙◌, ap, subst, All}
+use Rattle.std.proofs.Common.{
+  ◌≡◌,
+  ℕ,
+  ◌-◌,
+  ◌<◌,
+  Bool,
+  true,
+  false,
+  if◌then◌else◌,
+  nat_le,
+  ◌⊎◌,
+  ⊎_elim,
+  inl,
+  inr,
+  List,
+  [],
+  ◌∷◌,
+  ◌++◌,
+  length,
+  get_or,
+  refl,
+  sym,
+  ◌∙◌,
+  ap,
+  subst,
+  All,
+}
 use Rattle.std.proofs.lemmas.Bool.{cases_eq, cases_lt}
 use Rattle.std.proofs.lemmas.List.{get_or-set_same, get_or-set_other, set_past, append-nil}
-use Rattle.std.proofs.lemmas.List.Elements.{Contains-push_cases, Contains-append_cases, Contains-append_left, Contains-append_right,
-    All-contains_itself, All-head, All-tail}
+use Rattle.std.proofs.lemmas.List.Elements.{
+  Contains-push_cases,
+  Contains-append_cases,
+  Contains-append_left,
+  Contains-append_right,
+  All-contains_itself,
+  All-head,
+  All-tail,
+}
 use Rattle.std.specs.List.{Contains}
 use Rattle.arrayvec.specs.ArrayVec.{ArrayVec}
 use Rattle.frame_ports.specs.Lands.{list_of, with_list, has_room, landed_at, lands}
@@ -24,8 +56,8 @@ module _ (held : List (ArrayVec ℕ)) where
           Contains (list_of boxes c) f ⊎ Contains held f
       same_box same inside h =
           let pushed : list_of (with_list boxes d (list_of boxes d ++ g ∷ [])) c ≡ list_of boxes d ++ g ∷ [] =
-              ap (λ k. get_or (with_list boxes d (list_of boxes d ++ g ∷ [])) k []) same
-              ∙ get_or-set_same boxes (d - 1) (list_of boxes d ++ g ∷ []) [] inside in
+          ap (λ k. get_or (with_list boxes d (list_of boxes d ++ g ∷ [])) k []) same
+          ∙ get_or-set_same boxes (d - 1) (list_of boxes d ++ g ∷ []) [] inside in
           ⊎_elim
           (λ before. inl (subst (λ k. Contains (get_or boxes k []) f) (sym same) before))
           (λ this. inr (subst (λ x. Contains held x) this was))

@@ -1,6 +1,33 @@
 -- Laws of the frames' clients, for the crates above.
-use Rattle.std.proofs.Common.{◌≡◌, ℕ, zero, suc, ◌+◌, ◌*◌, ◌<◌, ◌≤◌, Bool, true, false, if◌then◌else◌, ◌&&◌, nat_le, List, [], ◌∷◌, ◌++◌,
-    length, refl, sym, ◌∙◌, ap, arith, All, append_assoc, length-append}
+use Rattle.std.proofs.Common.{
+  ◌≡◌,
+  ℕ,
+  zero,
+  suc,
+  ◌+◌,
+  ◌*◌,
+  ◌<◌,
+  ◌≤◌,
+  Bool,
+  true,
+  false,
+  if◌then◌else◌,
+  ◌&&◌,
+  nat_le,
+  List,
+  [],
+  ◌∷◌,
+  ◌++◌,
+  length,
+  refl,
+  sym,
+  ◌∙◌,
+  ap,
+  arith,
+  All,
+  append_assoc,
+  length-append,
+}
 use Rattle.std.proofs.lemmas.Bool.{le-leb}
 use Rattle.std.proofs.lemmas.List.{length-map}
 use Rattle.std.proofs.lemmas.List.Elements.{All-append, All-nil, All-cons, All-map, All-head, All-tail}
@@ -26,7 +53,7 @@ clients_from-add (suc m) n first bytes =
     let along : first + 1 + m ≡ first + suc m = omega arith in
     ap (λ k. clients_from k first bytes) back
     ∙ by_test (addressed bytes first) (clients_from-add m n (first + 1) bytes
-        ∙ ap (λ k. clients_from m (first + 1) bytes ++ clients_from n k bytes) along)
+    ∙ ap (λ k. clients_from m (first + 1) bytes ++ clients_from n k bytes) along)
   where
     by_test : (b : Bool) → clients_from (m + n) (first + 1) bytes ≡ clients_from m (first + 1) bytes ++ clients_from n (first + suc m)
         bytes → (if b then first ∷ clients_from (m + n) (first + 1) bytes else clients_from (m + n) (first + 1) bytes)
@@ -76,9 +103,13 @@ length-clients_from (suc n) first bytes = by_test (addressed bytes first) (lengt
 pub length-targets_of : (count : ℕ) (fs : List (ArrayVec ℕ)) → length (targets_of count fs) ≤ length fs * count
 length-targets_of count [] = omega arith
 length-targets_of count (f ∷ fs) =
-    omega (arith, length-append (paired_with (clients_of count f.items) f) (targets_of count fs),
-        length-map (clients_of count f.items) (λ c. let p : ℕ × ArrayVec ℕ = (c, f) in p), length-clients_from count 1 f.items,
-        length-targets_of count fs)
+    omega (
+      arith,
+      length-append (paired_with (clients_of count f.items) f) (targets_of count fs),
+      length-map (clients_of count f.items) (λ c. let p : ℕ × ArrayVec ℕ = (c, f) in p),
+      length-clients_from count 1 f.items,
+      length-targets_of count fs,
+    )
 
 -- each pair has a client's number and one of the frames
 pub targets_of-clients : (count : ℕ) (fs : List (ArrayVec ℕ)) → All (λ p. (1 ≤ p.0) × (p.0 ≤ count)) (targets_of count fs)

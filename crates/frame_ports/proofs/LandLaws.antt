@@ -1,6 +1,30 @@
 -- Laws of landing, for the crates above.
-use Rattle.std.proofs.Common.{◌≡◌, ℕ, ◌+◌, ◌-◌, ◌<◌, ◌≤◌, Bool, true, false, if◌then◌else◌, List, [], ◌∷◌, ◌++◌, length, refl, sym, ◌∙◌, ap,
-    arith, length-set, All, ◌≢◌, subst}
+use Rattle.std.proofs.Common.{
+  ◌≡◌,
+  ℕ,
+  ◌+◌,
+  ◌-◌,
+  ◌<◌,
+  ◌≤◌,
+  Bool,
+  true,
+  false,
+  if◌then◌else◌,
+  List,
+  [],
+  ◌∷◌,
+  ◌++◌,
+  length,
+  refl,
+  sym,
+  ◌∙◌,
+  ap,
+  arith,
+  length-set,
+  All,
+  ◌≢◌,
+  subst,
+}
 use Rattle.std.proofs.lemmas.Bool.{ltb-true}
 use Rattle.std.proofs.lemmas.List.{get_or-set_same, get_or-set_other, length_push}
 use Rattle.std.proofs.lemmas.List.Elements.{All-set, All-push, All-head, All-tail}
@@ -85,7 +109,7 @@ boxes-landed_at boxes c f frame inside all = by_room (has_room boxes c) refl
     by_room true room =
         let lt : length (list_of boxes c) < BOX_FRAMES = ltb-true (length (list_of boxes c)) BOX_FRAMES room in
         All-set IsBox boxes (c - 1) (list_of boxes c ++ f ∷ [])
-            (omega (arith, length_push (list_of boxes c) f), All-push IsFrame (list_of boxes c) f box.1 frame) all
+        (omega (arith, length_push (list_of boxes c) f), All-push IsFrame (list_of boxes c) f box.1 frame) all
     by_room false room = all
 
 pub boxes-lands : (boxes : List (List (ArrayVec ℕ))) (ps : List (ℕ × ArrayVec ℕ)) → All (λ p. IsFrame p.1) ps →

@@ -1,21 +1,79 @@
 -- How a change of one ring changes what contracts see of the ports.
-use Rattle.std.proofs.Common.{◌≡◌, ℕ, ◌-◌, ◌<◌, ◌≤◌, true, List, [], ◌∷◌, ◌++◌, length, take, drop, slice_index_or, All, remove, refl, sym,
-    ◌∙◌, ap, subst, arith, length-append, length-set, IfSome, slice_get, zero, suc, replicate, lit≤, nat_lt, is_some, Result, Ok, Err, OnOk,
-    if◌then◌else◌}
+use Rattle.std.proofs.Common.{
+  ◌≡◌,
+  ℕ,
+  ◌-◌,
+  ◌<◌,
+  ◌≤◌,
+  true,
+  List,
+  [],
+  ◌∷◌,
+  ◌++◌,
+  length,
+  take,
+  drop,
+  slice_index_or,
+  All,
+  remove,
+  refl,
+  sym,
+  ◌∙◌,
+  ap,
+  subst,
+  arith,
+  length-append,
+  length-set,
+  IfSome,
+  slice_get,
+  zero,
+  suc,
+  replicate,
+  lit≤,
+  nat_lt,
+  is_some,
+  Result,
+  Ok,
+  Err,
+  OnOk,
+  if◌then◌else◌,
+}
 use Rattle.std.proofs.lemmas.Bool.{lt-ltb, le-ltb}
 use Rattle.std.proofs.lemmas.Bool.Decides.{nat_tests}
 use Rattle.frame_ports.specs.declared.errors.PortError.TheVariants.{NoClient}
 use Rattle.std.proofs.Math.ListN.{length-take, length-drop}
 use Rattle.std.proofs.lemmas.List.{length-map, length-replicate, map-set, get_or-map, length_push}
-use Rattle.std.proofs.lemmas.List.Elements.{All-set, All-take, All-drop, All-append, All-push, All-head, All-tail, All-replicate,
-    All-nil, All-same}
+use Rattle.std.proofs.lemmas.List.Elements.{
+  All-set,
+  All-take,
+  All-drop,
+  All-append,
+  All-push,
+  All-head,
+  All-tail,
+  All-replicate,
+  All-nil,
+  All-same,
+}
 use Rattle.std.specs.Vec.{with_item}
 use Rattle.arrayvec.specs.ArrayVec.{ArrayVec}
 use Rattle.circular_buffer.specs.Buffer.{Buffer, buffer}
 use Rattle.frame_ports.specs.Addresses.{IsFrame}
 use Rattle.frame_ports.specs.Lands.{list_of}
-use Rattle.frame_ports.specs.Ports.{PortsState, IsPorts, empty_ports, for_client, IsInbox, IsBox, IsClient, is_client, inbox_of, box_of,
-    with_inbox, with_box}
+use Rattle.frame_ports.specs.Ports.{
+  PortsState,
+  IsPorts,
+  empty_ports,
+  for_client,
+  IsInbox,
+  IsBox,
+  IsClient,
+  is_client,
+  inbox_of,
+  box_of,
+  with_inbox,
+  with_box,
+}
 use Rattle.frame_ports.specs.Fields.{rings_items, ports_state, AreFields}
 use Rattle.frame_ports.specs.declared.limits.TheConstants.{MAX_CLIENTS, INBOX_FRAMES, BOX_FRAMES, NUMBER_LIMIT}
 use Rattle.frame_ports.specs.declared.ports.Ports.TheInside.{Inside}
@@ -42,27 +100,33 @@ module _ (p : Inside) (c : ℕ) where
       (inbox_of (ports_state p) c ≡ r.items) × IsInbox r.items × (r.capacity ≡ INBOX_FRAMES)
   inbox_at r ok client read =
       let pairs : length p.inboxes.items ≡ length p.boxes.items =
-          sym (length-map p.inboxes.items (λ (b : Buffer (ℕ × ArrayVec ℕ)). b.items)) ∙ ok.state.pairs
-          ∙ length-map p.boxes.items (λ (b : Buffer (ArrayVec ℕ)). b.items) in
+      sym (length-map p.inboxes.items (λ (b : Buffer (ℕ × ArrayVec ℕ)). b.items)) ∙ ok.state.pairs
+      ∙ length-map p.boxes.items (λ (b : Buffer (ArrayVec ℕ)). b.items) in
       let count : length (rings_items p.boxes.items) ≡ length p.boxes.items =
-          length-map p.boxes.items (λ (b : Buffer (ArrayVec ℕ)). b.items) in
+      length-map p.boxes.items (λ (b : Buffer (ArrayVec ℕ)). b.items) in
       let inside : c - 1 < length p.inboxes.items = omega arith in
       let inside' : c - 1 < length (rings_items p.inboxes.items) =
-          omega (arith, length-map p.inboxes.items (λ (b : Buffer (ℕ × ArrayVec ℕ)). b.items)) in
-      let same : inbox_of (ports_state p) c ≡ r.items = list_of-ring p.inboxes.items c r inside read in
-      (same, subst IsInbox same (ok.state.inboxes (c - 1) [] inside'), at_ring (λ b. b.capacity ≡ INBOX_FRAMES) p.inboxes.items (c - 1) r
-          inside read ok.inboxes)
+      omega (arith, length-map p.inboxes.items (λ (b : Buffer (ℕ × ArrayVec ℕ)). b.items)) in
+      let same : inbox_of (ports_state p) c ≡ r.items = list_of-ring p.inboxes.items c r inside read in (
+        same,
+        subst IsInbox same (ok.state.inboxes (c - 1) [] inside'),
+        at_ring (λ b. b.capacity ≡ INBOX_FRAMES) p.inboxes.items (c - 1) r
+            inside read ok.inboxes,
+      )
 
   pub box_at : (r : Buffer (ArrayVec ℕ)) → AreFields p → IsClient (ports_state p) c → r ≡ slice_index_or p.boxes.items (c - 1) r →
       (box_of (ports_state p) c ≡ r.items) × IsBox r.items × (r.capacity ≡ BOX_FRAMES)
   box_at r ok client read =
       let count : length (rings_items p.boxes.items) ≡ length p.boxes.items =
-          length-map p.boxes.items (λ (b : Buffer (ArrayVec ℕ)). b.items) in
+      length-map p.boxes.items (λ (b : Buffer (ArrayVec ℕ)). b.items) in
       let inside : c - 1 < length p.boxes.items = omega arith in
       let inside' : c - 1 < length (rings_items p.boxes.items) = omega arith in
-      let same : box_of (ports_state p) c ≡ r.items = list_of-ring p.boxes.items c r inside read in
-      (same, subst IsBox same (ok.state.boxes (c - 1) [] inside'), at_ring (λ b. b.capacity ≡ BOX_FRAMES) p.boxes.items (c - 1) r inside
-          read ok.boxes)
+      let same : box_of (ports_state p) c ≡ r.items = list_of-ring p.boxes.items c r inside read in (
+        same,
+        subst IsBox same (ok.state.boxes (c - 1) [] inside'),
+        at_ring (λ b. b.capacity ≡ BOX_FRAMES) p.boxes.items (c - 1) r inside
+            read ok.boxes,
+      )
 
   -- the ports with one ring changed
   abbrev pub inbox_put : ℕ → Buffer (ℕ × ArrayVec ℕ) → Inside
@@ -193,9 +257,11 @@ module _ (p : Inside) (c : ℕ) (s : PortsState) (seen : ports_state p ≡ s) (o
       r ≡ slice_index_or p.inboxes.items (c - 1) r → r' ≡ buffer (f r.items) r.capacity → (IsInbox r.items → IsInbox (f r.items)) →
       AreFields (inbox_put p c p.next r') × (ports_state (inbox_put p c p.next r') ≡ with_inbox s c (f (inbox_of s c)))
   inbox_changed_alone f r r' read change keep =
-      let put = inbox_changed p.next f r r' ok.state.next read change keep in
-      (put.0, put.1 ∙ ap (λ (n : ℕ). let t : PortsState = record (with_inbox s c (f (inbox_of s c))) { next = n } in t)
-          (ap (λ (t : PortsState). t.next) seen))
+      let put = inbox_changed p.next f r r' ok.state.next read change keep in (
+        put.0,
+        put.1 ∙ ap (λ (n : ℕ). let t : PortsState = record (with_inbox s c (f (inbox_of s c))) { next = n } in t)
+            (ap (λ (t : PortsState). t.next) seen),
+      )
 
 -- rings with no items
 module _ {X : Type 0} where
@@ -220,11 +286,11 @@ module _ (p : Inside) (n : ℕ) (next : p.next ≡ 1) (inboxes : p.inboxes.items
   pub state-empty : ports_state p ≡ empty_ports n
   state-empty =
       ap (λ (k : ℕ). let s : PortsState = record { next = k; inboxes = rings_items p.inboxes.items; boxes = rings_items p.boxes.items } in
-          s) next
+      s) next
       ∙ ap (λ (l : List (List (ℕ × ArrayVec ℕ))). let s : PortsState = record { next = 1; inboxes = l; boxes = rings_items p.boxes.items }
-          in s) (ap (λ (l : List (Buffer (ℕ × ArrayVec ℕ))). rings_items l) inboxes ∙ rings_items-empty n INBOX_FRAMES)
+      in s) (ap (λ (l : List (Buffer (ℕ × ArrayVec ℕ))). rings_items l) inboxes ∙ rings_items-empty n INBOX_FRAMES)
       ∙ ap (λ (l : List (List (ArrayVec ℕ))). let s : PortsState = record { next = 1; inboxes = replicate n []; boxes = l } in s)
-          (ap (λ (l : List (Buffer (ArrayVec ℕ))). rings_items l) boxes ∙ rings_items-empty n BOX_FRAMES)
+      (ap (λ (l : List (Buffer (ArrayVec ℕ))). rings_items l) boxes ∙ rings_items-empty n BOX_FRAMES)
 
   pub fields-empty : 1 ≤ n → n ≤ MAX_CLIENTS → AreFields p
   fields-empty some few = record {

@@ -1,6 +1,29 @@
 -- A rotation one step on, and what is left after an item was taken out of the middle.
-use Rattle.std.proofs.Common.{◌≡◌, ℕ, ◌+◌, ◌-◌, ◌<◌, List, [], ◌∷◌, ◌++◌, length, take, drop, get_or, Some, None, sym, ◌∙◌, ap, arith,
-    append_assoc, slice_get, remove, add-one}
+use Rattle.std.proofs.Common.{
+  ◌≡◌,
+  ℕ,
+  ◌+◌,
+  ◌-◌,
+  ◌<◌,
+  List,
+  [],
+  ◌∷◌,
+  ◌++◌,
+  length,
+  take,
+  drop,
+  get_or,
+  Some,
+  None,
+  sym,
+  ◌∙◌,
+  ap,
+  arith,
+  append_assoc,
+  slice_get,
+  remove,
+  add-one,
+}
 use Rattle.std.proofs.Math.ListN.{length-drop}
 use Rattle.std.proofs.lemmas.List.{drop_more, take_more, drop_at, take_at}
 use Rattle.std.proofs.lemmas.Option.{same_Some, none-some, slice_get-get_or}

@@ -1,6 +1,37 @@
 -- The bits of a set of clients, and when a frame's first bytes name a client.
-use Rattle.std.proofs.Common.{◌≡◌, ℕ, ◌-◌, ◌*◌, ◌%◌, ◌^◌, ◌<◌, ◌≤◌, Bool, true, false, ◌&&◌, ◌||◌, nat_le, nat_eq, ◌==◌, List, [], ◌∷◌,
-    ◌++◌, length, get_or, refl, sym, ◌∙◌, ap, arith, ⊎_elim, ◌⊎◌, lit<, if◌then◌else◌}
+use Rattle.std.proofs.Common.{
+  ◌≡◌,
+  ℕ,
+  ◌-◌,
+  ◌*◌,
+  ◌%◌,
+  ◌^◌,
+  ◌<◌,
+  ◌≤◌,
+  Bool,
+  true,
+  false,
+  ◌&&◌,
+  ◌||◌,
+  nat_le,
+  nat_eq,
+  ◌==◌,
+  List,
+  [],
+  ◌∷◌,
+  ◌++◌,
+  length,
+  get_or,
+  refl,
+  sym,
+  ◌∙◌,
+  ap,
+  arith,
+  ⊎_elim,
+  ◌⊎◌,
+  lit<,
+  if◌then◌else◌,
+}
 use Rattle.std.proofs.Math.Bool.{and-true, and-false, and_assoc, or-true, or-false}
 use Rattle.std.proofs.lemmas.Bool.{cases_lt, cases_eq, le-leb, lt-leb, eq-eqb, ne_eqb}
 use Rattle.std.proofs.Math.Nat.{pow-le-pow_right, one-mul, mod-eq_of_lt}
@@ -24,7 +55,7 @@ prefix_then [] c (x ∷ xs) d long = and-true (nat_eq c x)
 prefix_then (q ∷ p) c [] d long = absurd (omega arith)
 prefix_then (q ∷ p) c (x ∷ xs) d long =
     ap (λ b. nat_eq q x && b) (prefix_then p c xs d (omega arith))
-        ∙ sym (and_assoc (nat_eq q x) (starts_with nat_eq xs p) (nat_eq c (get_or xs (length p) d)))
+    ∙ sym (and_assoc (nat_eq q x) (starts_with nat_eq xs p) (nat_eq c (get_or xs (length p) d)))
 
 -- the first five bytes of each client's address
 abbrev pub group : List ℕ

@@ -1,10 +1,40 @@
 //! The inboxes and boxes of all clients.
-ghost use Rattle.std.specs.Prelude.{◌≡◌, ℕ, ◌≤◌, ◌<◌, ◌+◌, length, drop, remove, map, All, Option, IfOk, IfErr, IfSome, OnOk, OnErr,
-    option_map, slice_get, nat_lt};
+ghost use Rattle.std.specs.Prelude.{
+  ◌≡◌,
+  ℕ,
+  ◌≤◌,
+  ◌<◌,
+  ◌+◌,
+  length,
+  drop,
+  remove,
+  map,
+  All,
+  Option,
+  IfOk,
+  IfErr,
+  IfSome,
+  OnOk,
+  OnErr,
+  option_map,
+  slice_get,
+  nat_lt,
+};
 ghost use Rattle.frame_ports.specs.Addresses.{IsFrame};
 ghost use Rattle.frame_ports.specs.Lands.{has_room, landed_at};
-ghost use Rattle.frame_ports.specs.Ports.{is_client, IsClient, IsPorts, empty_ports, delivery, after_delivery, for_client, inbox_of, box_of,
-    with_inbox, with_box};
+ghost use Rattle.frame_ports.specs.Ports.{
+  is_client,
+  IsClient,
+  IsPorts,
+  empty_ports,
+  delivery,
+  after_delivery,
+  for_client,
+  inbox_of,
+  box_of,
+  with_inbox,
+  with_box,
+};
 ghost use Rattle.frame_ports.specs.Targets.{AreTargets};
 ghost use Rattle.frame_ports.specs.declared.errors.PortError.TheVariants.{NoMemory};
 

@@ -1,6 +1,26 @@
 -- What masking a value for a CSR leaves, and what masking it again does.
-use Rattle.std.proofs.Common.{◌≡◌, ℕ, ◌^◌, ◌<◌, ◌%◌, ◌*◌, ◌/◌, ◌==◌, Bool, true, false, bit_and, bit_or, refl, ap, sym, ◌∙◌,
-    arith, zero, suc}
+use Rattle.std.proofs.Common.{
+  ◌≡◌,
+  ℕ,
+  ◌^◌,
+  ◌<◌,
+  ◌%◌,
+  ◌*◌,
+  ◌/◌,
+  ◌==◌,
+  Bool,
+  true,
+  false,
+  bit_and,
+  bit_or,
+  refl,
+  ap,
+  sym,
+  ◌∙◌,
+  arith,
+  zero,
+  suc,
+}
 use Rattle.std.specs.Prelude.{not}
 use Rattle.std.proofs.Math.Nat.{mod-eq_of_lt}
 use Rattle.mtraps.specs.Status.{mie_bit, mpie_bit, status}

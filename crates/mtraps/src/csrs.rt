@@ -43,8 +43,7 @@ impl Csrs {
     ghost use Rattle.mtraps.specs.CsrTable.{csr_table, boot_values, read_value, is_writable, legal_value, written, IsLegal};
 
     /// The CSRs at boot: interrupts are disabled, the mode before a trap is machine mode, and all else is 0.
-    #[tactic(auto, using(crate::proofs::Table::boot_rows),
-        unfolding(crate::specs::CsrTable::csr_table, crate::specs::CsrTable::csr, crate::specs::CsrTable::legal_value))]
+    #[tactic(auto, using(crate::proofs::Table::boot_rows), unfolding(crate::specs::CsrTable::csr_table, crate::specs::CsrTable::csr, crate::specs::CsrTable::legal_value))]
     pub fn boot() -> Csrs
         ensures values { result ≡ boot_values }
         ensures rows { All (λ row. row.value result ≡ row.boot) csr_table }
@@ -99,9 +98,7 @@ impl Csrs {
     /// ignored.
     ///
     /// `None` where there is no such CSR, or it is read-only. Then nothing changes.
-    #[tactic(auto, using(crate::proofs::Masks::masks),
-        unfolding(crate::specs::CsrTable::csr_table, crate::specs::CsrTable::csr, crate::specs::CsrTable::is_writable,
-        crate::specs::CsrTable::written))]
+    #[tactic(auto, using(crate::proofs::Masks::masks), unfolding(crate::specs::CsrTable::csr_table, crate::specs::CsrTable::csr, crate::specs::CsrTable::is_writable, crate::specs::CsrTable::written))]
     pub fn write(&mut self, number: u16, value: u64) -> Option<()>
         ensures legal { IsSome result ↔ IsTrue (is_writable number) }
         ensures values { self.new ≡ written number value self.old }

@@ -37,8 +37,7 @@ pub(crate) const MISA: u64 = 0x8000_0000_0000_1100;
 
 /// What the CSR of this number holds after a write of `value`, by which bits it keeps. Where the CSR can hold `value`, that
 /// is `value` itself; so it is where there is no such CSR.
-#[tactic(auto, using(crate::proofs::Masks::masks),
-    unfolding(crate::specs::CsrTable::csr_table, crate::specs::CsrTable::csr, crate::specs::CsrTable::legal_value))]
+#[tactic(auto, using(crate::proofs::Masks::masks), unfolding(crate::specs::CsrTable::csr_table, crate::specs::CsrTable::csr, crate::specs::CsrTable::legal_value))]
 pub fn legal_value(number: u16, value: u64) -> u64
     ensures { result ≡ legal_value number value }
 {

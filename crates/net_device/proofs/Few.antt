@@ -1,6 +1,26 @@
 -- A notify sends few frames, each of a frame's length.
-use Rattle.std.proofs.Common.{◌≡◌, ℕ, ◌+◌, ◌≤◌, ◌&&◌, nat_le, Bool, true, false, if◌then◌else◌, List, [], ◌∷◌, ◌++◌, length, drop, All,
-    arith, refl, subst}
+use Rattle.std.proofs.Common.{
+  ◌≡◌,
+  ℕ,
+  ◌+◌,
+  ◌≤◌,
+  ◌&&◌,
+  nat_le,
+  Bool,
+  true,
+  false,
+  if◌then◌else◌,
+  List,
+  [],
+  ◌∷◌,
+  ◌++◌,
+  length,
+  drop,
+  All,
+  arith,
+  refl,
+  subst,
+}
 use Rattle.std.specs.Prelude.{Ok, Err}
 use Rattle.std.proofs.lemmas.Bool.{leb-true}
 use Rattle.std.proofs.lemmas.List.{length-append}
@@ -53,4 +73,4 @@ unfolding served
 few_served ram net =
     served_keeps Network 1 send (λ n s. IsFew n s.kept) (λ n m s l p. few_fewer n m s.kept l p) (λ n s p. p)
     (λ n s c a e p. few_acted n s.ram s.kept c a (all_readable c.parts) e p) (standing ram net [])
-        (record { frames = All-nil IsFrame; room = omega arith })
+    (record { frames = All-nil IsFrame; room = omega arith })

@@ -1,6 +1,23 @@
 -- What was sent before a notify stands in front of what it sends.
-use Rattle.std.proofs.Common.{◌≡◌, ℕ, zero, suc, Bool, true, false, if◌then◌else◌, List, [], ◌++◌, refl, sym, ap, ◌∙◌, append_assoc,
-    append-nil}
+use Rattle.std.proofs.Common.{
+  ◌≡◌,
+  ℕ,
+  zero,
+  suc,
+  Bool,
+  true,
+  false,
+  if◌then◌else◌,
+  List,
+  [],
+  ◌++◌,
+  refl,
+  sym,
+  ap,
+  ◌∙◌,
+  append_assoc,
+  append-nil,
+}
 use Rattle.std.specs.Prelude.{Result, Ok, Err}
 use Rattle.arrayvec.specs.ArrayVec.{ArrayVec}
 use Rattle.virtqueue.specs.declared.broken.Broken.{Broken}
@@ -13,8 +30,16 @@ use Rattle.virtio_mmio.specs.declared.kinds.DeviceKind.TheVariants.{Network}
 use Rattle.virtio_mmio.specs.declared.states.DeviceState.{DeviceState}
 use Rattle.virtio_mmio.specs.States.{queue_at}
 use Rattle.virtio_mmio.specs.Serving.{can_serve}
-use Rattle.virtio_mmio.specs.ServingLoop.{Acted, Served as LoopServed, standing, puts_used, one_served, or_breaks, chains_served,
-    served as loop_served}
+use Rattle.virtio_mmio.specs.ServingLoop.{
+  Acted,
+  Served as LoopServed,
+  standing,
+  puts_used,
+  one_served,
+  or_breaks,
+  chains_served,
+  served as loop_served,
+}
 use Rattle.virtio_mmio.specs.Transport.{Device}
 use Rattle.net_device.specs.declared.device.NetDevice.{NetDevice}
 use Rattle.net_device.specs.Transmit.{frame_in, send, served}
@@ -33,14 +58,14 @@ both f (Err b) = Err b
 module _ (front : List (ArrayVec ℕ)) where
   packet_in_front : (s : Sending) (c : Spelled) (b : Bool) →
       ((if b then Ok (record { ram = s.ram; kept = (front ++ s.kept) ++ frame_in (readable_bytes s.ram c.parts); len = 0 })
-          else Err Direction)
+      else Err Direction)
       >>= (λ (a : Acted (List (ArrayVec ℕ))). Ok (puts_used Network 1 (in_front front s) c.head a)))
       ≡ both (in_front front) ((if b then Ok (record { ram = s.ram; kept = s.kept ++ frame_in (readable_bytes s.ram c.parts); len = 0 })
-          else Err Direction)
+      else Err Direction)
       >>= (λ (a : Acted (List (ArrayVec ℕ))). Ok (puts_used Network 1 s c.head a)))
   packet_in_front s c true =
       let after : List (ArrayVec ℕ) → Result Sending Broken =
-          λ frames. Ok (puts_used Network 1 s c.head (record { ram = s.ram; kept = frames; len = 0 })) in
+      λ frames. Ok (puts_used Network 1 s c.head (record { ram = s.ram; kept = frames; len = 0 })) in
       ap after (append_assoc front s.kept (frame_in (readable_bytes s.ram c.parts)))
   packet_in_front s c false = refl
 
@@ -82,7 +107,7 @@ module _ (front : List (ArrayVec ℕ)) where
   unfolding loop_served
   served_in_front s =
       when_in_front (can_serve Network s.state 1) s
-          (or_breaks (λ n. chains_served Network 1 send n s) s (available_of (queue_at s.state 1) s.ram))
+      (or_breaks (λ n. chains_served Network 1 send n s) s (available_of (queue_at s.state 1) s.ram))
       (or_breaks (λ n. chains_served Network 1 send n (in_front front s)) (in_front front s) (available_of (queue_at s.state 1) s.ram))
       (available_in_front s (available_of (queue_at s.state 1) s.ram))
 

@@ -28,7 +28,7 @@ served-rules ram net h = served_keeps_rules Network 1 send (standing ram net [])
 -- sending writes nothing
 sent-ram : (ram : List ℕ) (frames : List (ArrayVec ℕ)) (c : Spelled) (a : Acted (List (ArrayVec ℕ))) (b : Bool) →
     (if b then Ok (record { ram = ram; kept = frames ++ frame_in (readable_bytes ram c.parts); len = 0 }) else Err Direction) ≡ Ok a →
-        a.ram ≡ ram
+    a.ram ≡ ram
 sent-ram ram frames c a true e = cc
 sent-ram ram frames c a false e = cc
 
@@ -36,7 +36,7 @@ pub served-length : (ram : List ℕ) (net : DeviceState) → IsDeviceRecord Netw
 unfolding served
 served-length ram net h =
     loop-length Network 1 send (λ bytes frames c a e. ap length (sent-ram bytes frames c a (all_readable c.parts) e))
-        (standing ram net []) h
+    (standing ram net []) h
 
 -- ---- a frame that arrives
 
@@ -46,7 +46,7 @@ next-rules ram net frame (Ok (Some c)) h =
     let meets : Received → Type 0 = λ x. IsDeviceRecord Network x.net in
     either meets (all_writable c.parts) _ _
     (λ e. either meets (nat_le (length (packet frame)) (writable_len c.parts)) _ _ (λ f. use_keeps_rules Network 0 net h) h)
-        (needing_reset_keeps Network net h)
+    (needing_reset_keeps Network net h)
 next-rules ram net frame (Ok None) h = h
 next-rules ram net frame (Err b) h = needing_reset_keeps Network net h
 
@@ -55,7 +55,7 @@ pub received-rules : (ram : List ℕ) (net : DeviceState) (frame : ArrayVec ℕ)
 unfolding received
 received-rules ram net frame h =
     either (λ (x : Received). IsDeviceRecord Network x.net) (can_serve Network net 0) _ _
-        (λ e. next-rules ram net frame (next_chain_of (queue_at net 0) ram) h) h
+    (λ e. next-rules ram net frame (next_chain_of (queue_at net 0) ram) h) h
 
 next-length : (ram : List ℕ) (net : DeviceState) (frame : ArrayVec ℕ) (r : Result (Option Spelled) Broken) →
     AreasFit (queue_at net 0) (length ram) → IsSized (queue_at net 0) →
@@ -67,7 +67,7 @@ next-length ram net frame (Ok (Some c)) areas sized =
     let keeps : Received → Type 0 = λ x. length x.ram ≡ length ram in
     either keeps (all_writable c.parts) _ _
     (λ e. either keeps (nat_le (length (packet frame)) (writable_len c.parts)) _ _
-        (λ f. length_used_written (queue_at net 0) put c.head (length (packet frame)) fit sized ∙ same) refl) refl
+    (λ f. length_used_written (queue_at net 0) put c.head (length (packet frame)) fit sized ∙ same) refl) refl
 next-length ram net frame (Ok None) areas sized = refl
 next-length ram net frame (Err b) areas sized = refl
 
@@ -83,5 +83,5 @@ unfolding received next_chain_of
 received-length ram net frame h =
     either (λ (x : Received). length x.ram ≡ length ram) (can_serve Network net 0) _ _ (λ e.
     counted-length ram net frame (available_of (queue_at net 0) ram)
-        (λ n. if n == 0 then Ok None else chain_of (queue_at net 0) ram >>= (λ c. Ok (Some c))) refl
+    (λ n. if n == 0 then Ok None else chain_of (queue_at net 0) ram >>= (λ c. Ok (Some c))) refl
     (sized_in_service Network net 0 h e)) refl

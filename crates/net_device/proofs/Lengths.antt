@@ -1,6 +1,30 @@
 -- Which packets have a frame, by how many bytes they have; and the frame that is put into the last place.
-use Rattle.std.proofs.Common.{◌≡◌, ℕ, ◌-◌, ◌≤◌, Bool, true, false, ◌&&◌, nat_le, if◌then◌else◌, List, [], ◌∷◌, ◌++◌, length, take, drop,
-    slice_set, refl, sym, ap, ◌∙◌, arith, length-drop}
+use Rattle.std.proofs.Common.{
+  ◌≡◌,
+  ℕ,
+  ◌-◌,
+  ◌≤◌,
+  Bool,
+  true,
+  false,
+  ◌&&◌,
+  nat_le,
+  if◌then◌else◌,
+  List,
+  [],
+  ◌∷◌,
+  ◌++◌,
+  length,
+  take,
+  drop,
+  slice_set,
+  refl,
+  sym,
+  ap,
+  ◌∙◌,
+  arith,
+  length-drop,
+}
 use Rattle.std.specs.Prelude.{Ok, Err}
 use Rattle.std.proofs.lemmas.List.{take_all}
 use Rattle.std.proofs.lemmas.Bool.{leb-true, le-leb}
@@ -45,7 +69,7 @@ pub kept_sent : (ram : List ℕ) (frames : List (ArrayVec ℕ)) (c : Spelled) �
     kept_after frames (send ram frames c) ≡ frames ++ frame_in (readable_bytes ram c.parts)
 kept_sent ram frames c e =
     ap (λ (b : Bool). kept_after frames (if b then Ok
-        (record { ram = ram; kept = frames ++ frame_in (readable_bytes ram c.parts); len = 0 }) else Err Direction)) e
+    (record { ram = ram; kept = frames ++ frame_in (readable_bytes ram c.parts); len = 0 }) else Err Direction)) e
 
 -- ---- the last place
 

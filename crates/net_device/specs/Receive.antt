@@ -1,6 +1,22 @@
 -- How the network card receives: a frame that arrives is put into the next chain of its receive queue (virtio 1.1, 5.1.6.4).
-use Rattle.std.specs.Prelude.{ℕ, Bool, true, false, if◌then◌else◌, nat_le, List, ◌++◌, length, replicate, Option, Some, None,
-    Result, Ok, Err}
+use Rattle.std.specs.Prelude.{
+  ℕ,
+  Bool,
+  true,
+  false,
+  if◌then◌else◌,
+  nat_le,
+  List,
+  ◌++◌,
+  length,
+  replicate,
+  Option,
+  Some,
+  None,
+  Result,
+  Ok,
+  Err,
+}
 use Rattle.std.specs.Int.{to_le_bytes, w16}
 use Rattle.arrayvec.specs.ArrayVec.{ArrayVec}
 use Rattle.virtqueue.specs.declared.broken.Broken.{Broken}

@@ -68,7 +68,7 @@ used_ring ram = take 20 (drop 0x80 ram)
 abbrev pub used_bytes : ℕ → ℕ → ℕ → ℕ → ℕ → List ℕ
 used_bytes idx id len id' len' =
     to_le_bytes w16 0 ++ (to_le_bytes w16 idx ++ (to_le_bytes w32 id
-        ++ (to_le_bytes w32 len ++ (to_le_bytes w32 id' ++ to_le_bytes w32 len'))))
+    ++ (to_le_bytes w32 len ++ (to_le_bytes w32 id' ++ to_le_bytes w32 len'))))
 
 -- the lengths of the frames that one readable buffer of this length sends
 abbrev pub sent_lengths : ℕ → List ℕ

@@ -46,8 +46,11 @@ impl NetDevice {
         requires network { self.old.transport.kind ≡ Network }
         requires room { length outbox.old + 64 ≤ 256 }
         ensures memory { R.bytes ram.new ≡ (served (R.bytes ram.old) self.old.transport.state).ram }
-        ensures device { self.new
-            ≡ record { transport = record self.old.transport { state = (served (R.bytes ram.old) self.old.transport.state).net } } }
+        ensures device { self.new ≡ record {
+          transport = record self.old.transport {
+            state = (served (R.bytes ram.old) self.old.transport.state).net;
+          };
+        } }
         ensures frames { outbox.new ≡ outbox.old ++ (served (R.bytes ram.old) self.old.transport.state).frames }
         ensures size { length (R.bytes ram.new) ≡ length (R.bytes ram.old) }
         ensures fixed { R.fixed ram.new ≡ R.fixed ram.old }
@@ -64,8 +67,11 @@ impl NetDevice {
         requires network { self.old.transport.kind ≡ Network }
         ensures taken { result ≡ (received (R.bytes ram.old) self.old.transport.state frame.now).taken }
         ensures memory { R.bytes ram.new ≡ (received (R.bytes ram.old) self.old.transport.state frame.now).ram }
-        ensures device { self.new
-            ≡ record { transport = record self.old.transport { state = (received (R.bytes ram.old) self.old.transport.state frame.now).net } } }
+        ensures device { self.new ≡ record {
+          transport = record self.old.transport {
+            state = (received (R.bytes ram.old) self.old.transport.state frame.now).net;
+          };
+        } }
         ensures size { length (R.bytes ram.new) ≡ length (R.bytes ram.old) }
         ensures fixed { R.fixed ram.new ≡ R.fixed ram.old }
     {
@@ -90,8 +96,11 @@ impl NetDevice {
         requires inside { BuffersInside (length (R.bytes ram.old)) chain.now.parts }
         ensures taken { result ≡ (put_into (R.bytes ram.old) self.old.transport.state frame.now chain.now).taken }
         ensures memory { R.bytes ram.new ≡ (put_into (R.bytes ram.old) self.old.transport.state frame.now chain.now).ram }
-        ensures device { self.new
-            ≡ record { transport = record self.old.transport { state = (put_into (R.bytes ram.old) self.old.transport.state frame.now chain.now).net } } }
+        ensures device { self.new ≡ record {
+          transport = record self.old.transport {
+            state = (put_into (R.bytes ram.old) self.old.transport.state frame.now chain.now).net;
+          };
+        } }
         ensures size { length (R.bytes ram.new) ≡ length (R.bytes ram.old) }
         ensures fixed { R.fixed ram.new ≡ R.fixed ram.old }
     {

@@ -139,8 +139,10 @@ fn blank(len: usize) -> Frame
 fn gather_into<R: GuestRam>(ram: &R, chain: &Chain, at: u64, frame: &mut Frame)
     requires inside { BuffersInside (length (R.bytes ram.now)) chain.now.parts }
     requires fits { at + length frame.old.items ≤ readable_len chain.now.parts }
-    ensures value { frame.new ≡ record { items = take (length frame.old.items)
-        (drop at (readable_bytes (R.bytes ram.now) chain.now.parts)) } }
+    ensures value { frame.new ≡ record {
+      items = take (length frame.old.items)
+          (drop at (readable_bytes (R.bytes ram.now) chain.now.parts));
+    } }
     ensures size { length frame.new.items ≡ length frame.old.items }
 {
     Queue::gather(chain, ram, at, frame.as_mut_slice());

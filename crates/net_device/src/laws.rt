@@ -7,8 +7,28 @@ ghost use Rattle.virtio_mmio.specs.States.{IsDeviceRecord};
 ghost use Rattle.net_device.specs.Frames.{IsFrame};
 ghost use Rattle.net_device.specs.Transmit.{rests, served};
 ghost use Rattle.net_device.specs.Receive.{received};
-ghost use Rattle.net_device.specs.Worked.{running, with_table_at, not_ready, descriptor, readable, writable, ram_with, worked_frame,
-    used_ring, used_bytes, sent_lengths, spoiled, with_second, first_used, worked_queue, FirstStays, arriving, arrived, stays, broke};
+ghost use Rattle.net_device.specs.Worked.{
+  running,
+  with_table_at,
+  not_ready,
+  descriptor,
+  readable,
+  writable,
+  ram_with,
+  worked_frame,
+  used_ring,
+  used_bytes,
+  sent_lengths,
+  spoiled,
+  with_second,
+  first_used,
+  worked_queue,
+  FirstStays,
+  arriving,
+  arrived,
+  stays,
+  broke,
+};
 
 /// Whatever stands in RAM, a notify of the transmit queue sends at most 64 frames, each of 14 to 1514 bytes.
 pub fn sent_frames()

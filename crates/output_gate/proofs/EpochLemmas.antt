@@ -1,6 +1,34 @@
 -- The row of held frames, cut into epochs.
-use Rattle.std.proofs.Common.{◌≡◌, ℕ, zero, suc, ◌+◌, ◌*◌, ◌<◌, ◌≤◌, Bool, true, false, cond, if◌then◌else◌, nat_le, List, [], ◌∷◌, ◌++◌,
-    length, take, drop, refl, sym, ◌∙◌, ap, arith, All, length-append}
+use Rattle.std.proofs.Common.{
+  ◌≡◌,
+  ℕ,
+  zero,
+  suc,
+  ◌+◌,
+  ◌*◌,
+  ◌<◌,
+  ◌≤◌,
+  Bool,
+  true,
+  false,
+  cond,
+  if◌then◌else◌,
+  nat_le,
+  List,
+  [],
+  ◌∷◌,
+  ◌++◌,
+  length,
+  take,
+  drop,
+  refl,
+  sym,
+  ◌∙◌,
+  ap,
+  arith,
+  All,
+  length-append,
+}
 use Rattle.std.proofs.Math.ListN.{length-drop}
 use Rattle.std.proofs.Math.Seq.{take-add}
 use Rattle.std.proofs.lemmas.Bool.{leb-false}
@@ -34,13 +62,13 @@ pub epochs_of-push : (ms : List Mark) (m : Mark) (fs gs : List (ArrayVec ℕ)) �
     epochs_of (ms ++ m ∷ []) (fs ++ gs) ≡ epochs_of ms fs ++ epoch m.number gs ∷ []
 epochs_of-push [] m fs gs whole count =
     ap (λ (l : List (ArrayVec ℕ)). epoch m.number l ∷ [])
-        (ap (λ (l : List (ArrayVec ℕ)). take m.count (l ++ gs)) (nil_from_length fs (sym whole)) ∙ take_all m.count gs (omega arith))
+    (ap (λ (l : List (ArrayVec ℕ)). take m.count (l ++ gs)) (nil_from_length fs (sym whole)) ∙ take_all m.count gs (omega arith))
 epochs_of-push (x ∷ ms) m fs gs whole count =
     let more : total (x ∷ ms) ≡ x.count + total ms = sum_by-cons (λ (y : Mark). y.count) x ms in
     let within : x.count ≤ length fs = omega arith in
     let rest : total ms ≡ length (drop x.count fs) = omega (arith, length-drop x.count fs) in
     ap (λ (l : List (ArrayVec ℕ)). epoch x.number l ∷ epochs_of (ms ++ m ∷ []) (drop x.count (fs ++ gs)))
-        (take-append-le x.count fs gs within)
+    (take-append-le x.count fs gs within)
     ∙ ap (λ (l : List (ArrayVec ℕ)). epoch x.number (take x.count fs) ∷ epochs_of (ms ++ m ∷ []) l) (drop-append-le x.count fs gs within)
     ∙ ap (λ (l : List Epoch). epoch x.number (take x.count fs) ∷ l) (epochs_of-push ms m (drop x.count fs) gs rest count)
 
@@ -64,7 +92,7 @@ drop-epochs_of zero ms fs = refl
 drop-epochs_of (suc k) [] fs = refl
 drop-epochs_of (suc k) (m ∷ ms) fs =
     drop-epochs_of k ms (drop m.count fs) ∙ ap (λ (l : List (ArrayVec ℕ)). epochs_of (drop k ms) l)
-        (drop-drop (total (take k ms)) m.count fs ∙ ap (λ n. drop n fs) (sym (sum_by-cons (λ (y : Mark). y.count) m (take k ms))))
+    (drop-drop (total (take k ms)) m.count fs ∙ ap (λ n. drop n fs) (sym (sum_by-cons (λ (y : Mark). y.count) m (take k ms))))
 
 -- where a number is in the epochs: how many of them are up to it
 abbrev pub reach : ℕ → List Mark → ℕ
@@ -76,7 +104,7 @@ pub frames_to-reach : (n : ℕ) (ms : List Mark) (fs : List (ArrayVec ℕ)) → 
 frames_to-reach n [] fs rising = refl
 frames_to-reach n (m ∷ ms) fs rising =
     by_number (nat_le m.number n) refl (frames_to-reach n ms (drop m.count fs)
-        (rest_pairs (λ a b. a.number < b.number) (epoch m.number (take m.count fs)) (epochs_of ms (drop m.count fs)) rising))
+    (rest_pairs (λ a b. a.number < b.number) (epoch m.number (take m.count fs)) (epochs_of ms (drop m.count fs)) rising))
   where
     es : List Epoch
     es = epochs_of ms (drop m.count fs)
@@ -91,14 +119,14 @@ frames_to-reach n (m ∷ ms) fs rising =
         ∙ ap (λ k. take (total (take k (m ∷ ms))) fs) (sym one)
     by_number false here rest =
         frames_to-none n es (λ k d inside. let later = first_pairs (λ a b. a.number < b.number) (epoch m.number (take m.count fs)) es rising
-            k d inside in let above = leb-false m.number n here in omega arith)
+        k d inside in let above = leb-false m.number n here in omega arith)
 
 pub after_number-reach : (n : ℕ) (ms : List Mark) (fs : List (ArrayVec ℕ)) → AllPairs (λ a b. a.number < b.number) (epochs_of ms fs) →
     after_number n (epochs_of ms fs) ≡ drop (reach n ms) (epochs_of ms fs)
 after_number-reach n [] fs rising = refl
 after_number-reach n (m ∷ ms) fs rising =
     by_number (nat_le m.number n) refl (after_number-reach n ms (drop m.count fs)
-        (rest_pairs (λ a b. a.number < b.number) (epoch m.number (take m.count fs)) (epochs_of ms (drop m.count fs)) rising))
+    (rest_pairs (λ a b. a.number < b.number) (epoch m.number (take m.count fs)) (epochs_of ms (drop m.count fs)) rising))
   where
     es : List Epoch
     es = epochs_of ms (drop m.count fs)
@@ -112,7 +140,7 @@ after_number-reach n (m ∷ ms) fs rising =
     by_number false here rest =
         ap (λ (l : List Epoch). epoch m.number (take m.count fs) ∷ l)
         (after_number-none n es (λ k d inside. let later = first_pairs (λ a b. a.number < b.number) (epoch m.number (take m.count fs)) es
-            rising k d inside in let above = leb-false m.number n here in omega arith))
+        rising k d inside in let above = leb-false m.number n here in omega arith))
 
 -- a gate after one more epoch, and after the first ones have gone
 pub gate-push : (es : List Epoch) (e : Epoch) → IsGate es → length es < MAX_EPOCHS → All (λ d. d.number < e.number) es → IsEpoch e →
@@ -134,5 +162,9 @@ gate-drop k es ok = record {
 pub length-frames_of : (es : List Epoch) → All IsEpoch es → length (frames_of es) ≤ length es * MAX_FRAMES
 length-frames_of [] all = omega arith
 length-frames_of (e ∷ es) all =
-    omega (arith, length-append e.frames (frames_of es), (all 0 e (omega arith)).0,
-        length-frames_of es (λ k d inside. all (suc k) d (omega arith)))
+    omega (
+      arith,
+      length-append e.frames (frames_of es),
+      (all 0 e (omega arith)).0,
+      length-frames_of es (λ k d inside. all (suc k) d (omega arith)),
+    )

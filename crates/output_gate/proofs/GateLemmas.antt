@@ -1,6 +1,27 @@
 -- The fields of a gate, seen as the epochs that it holds.
-use Rattle.std.proofs.Common.{◌≡◌, ℕ, ◌+◌, ◌*◌, ◌<◌, ◌≤◌, List, [], ◌∷◌, ◌++◌, length, take, drop, sym, ◌∙◌, ap, subst, arith, All,
-    vec_capacity, length-append}
+use Rattle.std.proofs.Common.{
+  ◌≡◌,
+  ℕ,
+  ◌+◌,
+  ◌*◌,
+  ◌<◌,
+  ◌≤◌,
+  List,
+  [],
+  ◌∷◌,
+  ◌++◌,
+  length,
+  take,
+  drop,
+  sym,
+  ◌∙◌,
+  ap,
+  subst,
+  arith,
+  All,
+  vec_capacity,
+  length-append,
+}
 use Rattle.std.proofs.Math.ListN.{length-drop}
 use Rattle.std.proofs.lemmas.List.Sums.{sum_by-take-drop, sum_by-append, sum_by-cons}
 use Rattle.arrayvec.specs.ArrayVec.{ArrayVec}
@@ -11,8 +32,18 @@ use Rattle.output_gate.specs.declared.gate.Gate.TheInside.{Inside}
 use Rattle.output_gate.specs.declared.marks.Mark.{Mark}
 use Rattle.output_gate.specs.declared.limits.TheConstants.{MAX_EPOCHS, MAX_FRAMES}
 use Rattle.output_gate.proofs.EpochLaws.{frames_of-frames}
-use Rattle.output_gate.proofs.EpochLemmas.{epochs_of-push, frames_of-epochs, length-epochs_of, drop-epochs_of, reach, frames_to-reach,
-    after_number-reach, gate-push, gate-drop, length-frames_of}
+use Rattle.output_gate.proofs.EpochLemmas.{
+  epochs_of-push,
+  frames_of-epochs,
+  length-epochs_of,
+  drop-epochs_of,
+  reach,
+  frames_to-reach,
+  after_number-reach,
+  gate-push,
+  gate-drop,
+  length-frames_of,
+}
 
 module _ (g : Inside) (s : List Epoch) (seen : epochs_held g ≡ s) (ok : AreFields g) where
   -- the row is all frames of the epochs, and each of them is a frame
@@ -68,13 +99,19 @@ module _ (g : Inside) (s : List Epoch) (seen : epochs_held g ≡ s) (ok : AreFie
         vec_capacity h.marks ≡ vec_capacity g.marks → vec_capacity h.frames ≡ vec_capacity g.frames → AreFields h
     rest_fields h marks frames marks_room frames_room =
         let held : epochs_held h ≡ drop k (epochs_held g) = ap (λ (l : List Mark). epochs_of l h.frames.items) marks
-            ∙ ap (epochs_of (drop k g.marks.items)) frames ∙ rest_seen in
+        ∙ ap (epochs_of (drop k g.marks.items)) frames ∙ rest_seen in
         let parts : total (take k g.marks.items) + total (drop k g.marks.items) ≡ total g.marks.items =
-            sum_by-take-drop (λ (m : Mark). m.count) g.marks.items k in
+        sum_by-take-drop (λ (m : Mark). m.count) g.marks.items k in
         record {
           gate = subst IsGate (sym held) (gate-drop k (epochs_held g) ok.gate);
-          whole = ap total marks ∙ omega (arith, parts, count_here, ok.whole, ap (λ (l : List (ArrayVec ℕ)). length l) frames,
-              length-drop count g.frames.items);
+          whole = ap total marks ∙ omega (
+            arith,
+            parts,
+            count_here,
+            ok.whole,
+            ap (λ (l : List (ArrayVec ℕ)). length l) frames,
+            length-drop count g.frames.items,
+          );
           marks = omega (arith, ok.marks);
           frames = omega (arith, ok.frames);
         }
@@ -94,12 +131,19 @@ module _ (g : Inside) (s : List Epoch) (seen : epochs_held g ≡ s) (ok : AreFie
     more_fields room above few all marks_room frames_room =
         let gate : IsGate s = subst IsGate seen ok.gate in
         let more : total (g.marks.items ++ m ∷ []) ≡ total g.marks.items + total (m ∷ []) =
-            sum_by-append (λ (x : Mark). x.count) g.marks.items (m ∷ []) in
+        sum_by-append (λ (x : Mark). x.count) g.marks.items (m ∷ []) in
         let one : total (m ∷ []) ≡ m.count + 0 = sum_by-cons (λ (x : Mark). x.count) m [] in
         record {
           gate = subst IsGate (sym more_is) (gate-push s (epoch m.number fs) gate room above (few, all));
-          whole = ap total marks ∙ omega (arith, more, one, count, ok.whole, ap (λ (l : List (ArrayVec ℕ)). length l) frames,
-              length-append g.frames.items fs);
+          whole = ap total marks ∙ omega (
+            arith,
+            more,
+            one,
+            count,
+            ok.whole,
+            ap (λ (l : List (ArrayVec ℕ)). length l) frames,
+            length-append g.frames.items fs,
+          );
           marks = omega (arith, ok.marks);
           frames = omega (arith, ok.frames);
         }

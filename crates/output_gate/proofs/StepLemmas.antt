@@ -1,6 +1,25 @@
 -- One client on, and one frame on.
-use Rattle.std.proofs.Common.{◌≡◌, ℕ, ◌+◌, ◌-◌, ◌≤◌, Bool, true, false, if◌then◌else◌, List, [], ◌∷◌, ◌++◌, length, refl, sym,
-    ◌∙◌, ap, arith}
+use Rattle.std.proofs.Common.{
+  ◌≡◌,
+  ℕ,
+  ◌+◌,
+  ◌-◌,
+  ◌≤◌,
+  Bool,
+  true,
+  false,
+  if◌then◌else◌,
+  List,
+  [],
+  ◌∷◌,
+  ◌++◌,
+  length,
+  refl,
+  sym,
+  ◌∙◌,
+  ap,
+  arith,
+}
 use Rattle.std.proofs.lemmas.List.{append-nil, map-append}
 use Rattle.arrayvec.specs.ArrayVec.{ArrayVec}
 use Rattle.frame_ports.specs.Addresses.{addressed, clients_from, clients_of, paired_with, targets_of}
@@ -31,7 +50,7 @@ below_more f c pos =
     let at : 1 + (c - 1) ≡ c = omega arith in
     ap (λ n. paired_with (clients_from n 1 f.items) f) one
     ∙ ap (λ (l : List ℕ). paired_with l f) (clients_from-more (c - 1) 1 f.items
-        ∙ ap (λ n. clients_from (c - 1) 1 f.items ++ (if addressed f.items n then n ∷ [] else [])) at)
+    ∙ ap (λ n. clients_from (c - 1) 1 f.items ++ (if addressed f.items n then n ∷ [] else [])) at)
     ∙ map-append (λ n. let p : ℕ × ArrayVec ℕ = (n, f) in p) (clients_from (c - 1) 1 f.items) (if addressed f.items c then c ∷ [] else [])
 
 pub below_same : (f : ArrayVec ℕ) (c : ℕ) → 1 ≤ c → addressed f.items c ≡ false → below f (c + 1) ≡ below f c
@@ -66,16 +85,16 @@ module _ (old now : PortsState) (f : ArrayVec ℕ) (c landed dropped : ℕ) (pos
       put_count old.boxes (below f (c + 1)) ≡ put_count old.boxes (below f c) + (if b then 1 else 0)
   put_after b named room =
       let last : put_count (lands old.boxes (below f c)) ((c, f) ∷ []) ≡ (if b then 1 else 0) + 0 =
-          ap (λ (l : List (List (ArrayVec ℕ))). (if has_room l c then 1 else 0) + 0) (sym boxes)
-          ∙ ap (λ t. (if t then 1 else 0) + 0) room in
+      ap (λ (l : List (List (ArrayVec ℕ))). (if has_room l c then 1 else 0) + 0) (sym boxes)
+      ∙ ap (λ t. (if t then 1 else 0) + 0) room in
       ap (put_count old.boxes) (below_one f c pos named) ∙ put_count-append old.boxes (below f c) ((c, f) ∷ []) ∙ omega (arith, last)
 
   drop_after : (b : Bool) → addressed f.items c ≡ true → has_room now.boxes c ≡ b →
       drop_count old.boxes (below f (c + 1)) ≡ drop_count old.boxes (below f c) + (if b then 0 else 1)
   drop_after b named room =
       let last : drop_count (lands old.boxes (below f c)) ((c, f) ∷ []) ≡ (if b then 0 else 1) + 0 =
-          ap (λ (l : List (List (ArrayVec ℕ))). (if has_room l c then 0 else 1) + 0) (sym boxes)
-          ∙ ap (λ t. (if t then 0 else 1) + 0) room in
+      ap (λ (l : List (List (ArrayVec ℕ))). (if has_room l c then 0 else 1) + 0) (sym boxes)
+      ∙ ap (λ t. (if t then 0 else 1) + 0) room in
       ap (drop_count old.boxes) (below_one f c pos named) ∙ drop_count-append old.boxes (below f c) ((c, f) ∷ []) ∙ omega (arith, last)
 
   -- a frame put into the box of client c, or dropped there

@@ -3,8 +3,21 @@ use Rattle.std.proofs.Common.{◌≡◌, ℕ, ◌<◌, ◌^◌, Some, drop}
 use Rattle.rv64_core.specs.declared.instruction.Instr.{Instr}
 use Rattle.rv64_core.specs.Rows.{table, decoded}
 use Rattle.rv64_core.specs.Encoding.{encoded}
-use Rattle.rv64_core.proofs.Written.{AllBack, back_of, u_back, j_back, i_back, b_back, s_back, shift_back, word_shift_back, r_back,
-    field_back, number_back, alone_back}
+use Rattle.rv64_core.proofs.Written.{
+  AllBack,
+  back_of,
+  u_back,
+  j_back,
+  i_back,
+  b_back,
+  s_back,
+  shift_back,
+  word_shift_back,
+  r_back,
+  field_back,
+  number_back,
+  alone_back,
+}
 
 back_from_60 : AllBack (drop 60 table)
 unfolding AllBack table encoded
@@ -34,19 +47,19 @@ back_from_60 = (
                         record { back = alone_back 0x30200073 },
                         (
                           record { back = alone_back 0x10500073 },
-                          tt
-                        )
-                      )
-                    )
-                  )
-                )
-              )
-            )
-          )
-        )
-      )
-    )
-  )
+                          tt,
+                        ),
+                      ),
+                    ),
+                  ),
+                ),
+              ),
+            ),
+          ),
+        ),
+      ),
+    ),
+  ),
 )
 
 back_from_30 : AllBack (drop 30 table)
@@ -111,36 +124,36 @@ back_from_30 = (
                                                           record { back = r_back 0x0200403b },
                                                           (
                                                             record { back = r_back 0x0200503b },
-                                                            back_from_60
-                                                          )
-                                                        )
-                                                      )
-                                                    )
-                                                  )
-                                                )
-                                              )
-                                            )
-                                          )
-                                        )
-                                      )
-                                    )
-                                  )
-                                )
-                              )
-                            )
-                          )
-                        )
-                      )
-                    )
-                  )
-                )
-              )
-            )
-          )
-        )
-      )
-    )
-  )
+                                                            back_from_60,
+                                                          ),
+                                                        ),
+                                                      ),
+                                                    ),
+                                                  ),
+                                                ),
+                                              ),
+                                            ),
+                                          ),
+                                        ),
+                                      ),
+                                    ),
+                                  ),
+                                ),
+                              ),
+                            ),
+                          ),
+                        ),
+                      ),
+                    ),
+                  ),
+                ),
+              ),
+            ),
+          ),
+        ),
+      ),
+    ),
+  ),
 )
 
 all_back : AllBack table
@@ -205,36 +218,36 @@ all_back = (
                                                           record { back = shift_back 0x00005013 },
                                                           (
                                                             record { back = shift_back 0x40005013 },
-                                                            back_from_30
-                                                          )
-                                                        )
-                                                      )
-                                                    )
-                                                  )
-                                                )
-                                              )
-                                            )
-                                          )
-                                        )
-                                      )
-                                    )
-                                  )
-                                )
-                              )
-                            )
-                          )
-                        )
-                      )
-                    )
-                  )
-                )
-              )
-            )
-          )
-        )
-      )
-    )
-  )
+                                                            back_from_30,
+                                                          ),
+                                                        ),
+                                                      ),
+                                                    ),
+                                                  ),
+                                                ),
+                                              ),
+                                            ),
+                                          ),
+                                        ),
+                                      ),
+                                    ),
+                                  ),
+                                ),
+                              ),
+                            ),
+                          ),
+                        ),
+                      ),
+                    ),
+                  ),
+                ),
+              ),
+            ),
+          ),
+        ),
+      ),
+    ),
+  ),
 )
 
 pub encoded_decoded : (w : ℕ) (i : Instr) → w < 2 ^ 32 → decoded w ≡ Some i → encoded i ≡ w

@@ -4,8 +4,19 @@ use Rattle.std.proofs.lemmas.Nat.{and_mask, or_shifted}
 use Rattle.std.proofs.lemmas.Nat.Bits.{and_high}
 use Rattle.std.proofs.lemmas.Bool.{eqb-true, cases_Bool}
 use Rattle.rv64_core.specs.declared.instruction.Instr.{Instr}
-use Rattle.rv64_core.specs.Fields.{rd, rs1, rs2, csr_number, shift_amount, word_shift_amount, i_immediate, s_immediate, b_immediate,
-    u_immediate, j_immediate}
+use Rattle.rv64_core.specs.Fields.{
+  rd,
+  rs1,
+  rs2,
+  csr_number,
+  shift_amount,
+  word_shift_amount,
+  i_immediate,
+  s_immediate,
+  b_immediate,
+  u_immediate,
+  j_immediate,
+}
 use Rattle.rv64_core.specs.Rows.{Row, fits, first_fit}
 use Rattle.rv64_core.specs.Encoding.{encoded, u_word, j_word, i_word, s_word, b_word, r_word, shift_word, word_shift_word}
 use Rattle.rv64_core.proofs.Fitting.{and_or}

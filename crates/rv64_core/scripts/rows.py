@@ -3,7 +3,8 @@
 
 Reads the rows of specs/Rows.antt, and writes proofs/Found.antt (each row is found by what the code tests),
 proofs/Returned.antt (each row's word is written as it was read) and the answers of the functions of src/decoding.rt.
-Run it in the crate's folder after a change of the table or of those functions: python3 scripts/rows.py
+Run it in the crate's folder after a change of the table or of those functions, and rt fmt after it:
+python3 scripts/rows.py
 """
 
 import pathlib

@@ -3,8 +3,16 @@
 ghost use Rattle.std.specs.Prelude.{◌≡◌, ◌*◌, ◌%◌, ◌<◌, ◌^◌, unsigned_abs, FitsSigned};
 ghost use Rattle.std.specs.Int.{w64, w32, cast_signed, cast_unsigned, int_shr};
 ghost use Rattle.rv64_core.specs.Fields.{sign_extended};
-ghost use Rattle.rv64_core.specs.Operations.{operated, operated_word, subtracted_word, multiplied, multiplied_word, divided,
-    divided_word, holds};
+ghost use Rattle.rv64_core.specs.Operations.{
+  operated,
+  operated_word,
+  subtracted_word,
+  multiplied,
+  multiplied_word,
+  divided,
+  divided_word,
+  holds,
+};
 
 use crate::{Condition, Division, Multiplication, Operation, WordOperation};
 

@@ -2,9 +2,29 @@
 
 ghost use Rattle.std.specs.Prelude.{◌≡◌, ◌+◌, ◌*◌, ◌<◌, ◌≤◌, ◌%◌, ◌^◌, ℕ, Some};
 ghost use Rattle.rv64_core.specs.Rows.{decoded};
-ghost use Rattle.rv64_core.specs.Encoding.{encoded, u_word, j_word, i_word, s_word, b_word, r_word, shift_word, word_shift_word, load_bits,
-    store_bits, branch_bits, placed_op_imm, op_bits, mul_bits, div_bits, placed_op_imm_word, op_word_bits, div_word_bits, csr_bits,
-    csr_imm_bits};
+ghost use Rattle.rv64_core.specs.Encoding.{
+  encoded,
+  u_word,
+  j_word,
+  i_word,
+  s_word,
+  b_word,
+  r_word,
+  shift_word,
+  word_shift_word,
+  load_bits,
+  store_bits,
+  branch_bits,
+  placed_op_imm,
+  op_bits,
+  mul_bits,
+  div_bits,
+  placed_op_imm_word,
+  op_word_bits,
+  div_word_bits,
+  csr_bits,
+  csr_imm_bits,
+};
 
 use crate::{
     Condition, CsrOp, Division, Instr, Multiplication, Operation, Register, Width, WordOperation,

@@ -1,8 +1,19 @@
 //! The fields of a word, and its immediates.
 
 ghost use Rattle.std.specs.Prelude.{◌≡◌, ◌<◌, ◌%◌, ◌^◌};
-ghost use Rattle.rv64_core.specs.Fields.{rd, rs1, rs2, csr_number, shift_amount, word_shift_amount, i_immediate, s_immediate, b_immediate,
-    u_immediate, j_immediate};
+ghost use Rattle.rv64_core.specs.Fields.{
+  rd,
+  rs1,
+  rs2,
+  csr_number,
+  shift_amount,
+  word_shift_amount,
+  i_immediate,
+  s_immediate,
+  b_immediate,
+  u_immediate,
+  j_immediate,
+};
 
 use crate::Register;
 

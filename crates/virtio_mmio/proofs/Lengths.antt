@@ -1,6 +1,24 @@
 -- Serving a queue keeps the number of the memory's bytes, where what is done with each chain keeps it.
-use Rattle.std.proofs.Common.{◌≡◌, ℕ, ◌≤◌, ◌==◌, ◌||◌, ◌&&◌, Bool, true, false, if◌then◌else◌, List, length, IsTrue, arith, refl, sym,
-    ◌∙◌, subst}
+use Rattle.std.proofs.Common.{
+  ◌≡◌,
+  ℕ,
+  ◌≤◌,
+  ◌==◌,
+  ◌||◌,
+  ◌&&◌,
+  Bool,
+  true,
+  false,
+  if◌then◌else◌,
+  List,
+  length,
+  IsTrue,
+  arith,
+  refl,
+  sym,
+  ◌∙◌,
+  subst,
+}
 use Rattle.std.specs.Prelude.{Result, Ok, Err}
 use Rattle.virtqueue.specs.declared.broken.Broken.{Broken}
 use Rattle.virtqueue.specs.declared.rings.Queue.{Queue}
@@ -59,7 +77,7 @@ module _ {A : Type 0} (k : DeviceKind) (i : ℕ) (act : Act A)
       length (chains_served k i act n s).ram ≡ length s.ram
   chains-length n s areas sized =
       (chains_keep k i act (λ m t. IsSteady i (length s.ram) t) (λ m l t e p. p)
-          (λ m t p. record { bytes = p.bytes; areas = p.areas; sized = p.sized })
+      (λ m t p. record { bytes = p.bytes; areas = p.areas; sized = p.sized })
       (λ m t c a e p. used_steady (length s.ram) t c a e p) n s (record { bytes = refl; areas = areas; sized = sized })).bytes
 
   available-length : (s : Served A) (r : Result ℕ Broken) → available_of (queue_at s.state i) s.ram ≡ r → IsSized (queue_at s.state i) →
@@ -76,4 +94,4 @@ module _ {A : Type 0} (k : DeviceKind) (i : ℕ) (act : Act A)
   served-length s h =
       let count : Result ℕ Broken = available_of (queue_at s.state i) s.ram in
       when (can_serve k s.state i) s (or_breaks (λ n. chains_served k i act n s) s count)
-          (λ e. available-length s count refl (sized_in_service k s.state i h e))
+      (λ e. available-length s count refl (sized_in_service k s.state i h e))

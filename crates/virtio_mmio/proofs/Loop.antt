@@ -1,6 +1,25 @@
 -- One chain after another.
-use Rattle.std.proofs.Common.{◌≡◌, ℕ, ◌+◌, ◌≤◌, zero, suc, Bool, true, false, if◌then◌else◌, nat_lt, List, length, refl, sym, ap, ◌∙◌,
-    arith, add-one}
+use Rattle.std.proofs.Common.{
+  ◌≡◌,
+  ℕ,
+  ◌+◌,
+  ◌≤◌,
+  zero,
+  suc,
+  Bool,
+  true,
+  false,
+  if◌then◌else◌,
+  nat_lt,
+  List,
+  length,
+  refl,
+  sym,
+  ap,
+  ◌∙◌,
+  arith,
+  add-one,
+}
 use Rattle.std.specs.Prelude.{Result, Ok, Err}
 use Rattle.std.specs.Result.{is_err}
 use Rattle.std.proofs.lemmas.Bool.{ltb-false}
@@ -14,8 +33,21 @@ use Rattle.virtio_mmio.specs.declared.states.DeviceState.{DeviceState}
 use Rattle.virtio_mmio.specs.States.{queue_at, IsDeviceRecord}
 use Rattle.virtio_mmio.specs.Transport.{Device}
 use Rattle.virtio_mmio.specs.Serving.{can_serve, with_counters}
-use Rattle.virtio_mmio.specs.ServingLoop.{Act, Acted, Served, breaks, puts_used, state_after_use, one_served, or_breaks, chains_served,
-    served, done_answer, left_after, standing}
+use Rattle.virtio_mmio.specs.ServingLoop.{
+  Act,
+  Acted,
+  Served,
+  breaks,
+  puts_used,
+  state_after_use,
+  one_served,
+  or_breaks,
+  chains_served,
+  served,
+  done_answer,
+  left_after,
+  standing,
+}
 use Rattle.virtio_mmio.proofs.Rules.{counters_keep, needing_reset_keeps, signalled_keeps}
 
 -- no chain is left
@@ -106,7 +138,7 @@ module _ {A : Type 0} (k : DeviceKind) (i : ℕ) (act : Act A) (P : ℕ → Serv
     (fewer : (n m : ℕ) (s : Served A) → n ≤ m → P m s → P n s)
     (broken : (n : ℕ) (s : Served A) → P n s → P n (breaks s))
     (used : (n : ℕ) (s : Served A) (c : Spelled) (a : Acted A) → act s.ram s.kept c ≡ Ok a → P (n + 1) s →
-        P n (puts_used k i s c.head a)) where
+    P n (puts_used k i s c.head a)) where
   keeps_by_act : (n : ℕ) (rest : Served A → Served A) → ((t : Served A) → P n t → P 0 (rest t)) →
       (s : Served A) (c : Spelled) (r : Result (Acted A) Broken) →
       act s.ram s.kept c ≡ r → P (n + 1) s → P 0 (or_breaks rest s (r >>= (λ a. Ok (puts_used k i s c.head a))))

@@ -1,5 +1,40 @@
-use Rattle.std.proofs.Common.{◌≡◌, ◌≢◌, ℕ, ◌+◌, ◌<◌, ◌≤◌, suc, Bool, true, false, List, [], ◌∷◌, refl, sym, ap, ◌∙◌, lit≤, lit<, ◌/◌, ◌*◌,
-    ◌^◌, ◌%◌, zero, subst, arith, slice_set, slice_index_or, bit_and, bit_or, ◌==◌, if◌then◌else◌, ◌||◌, IsTrue, nat_lt}
+use Rattle.std.proofs.Common.{
+  ◌≡◌,
+  ◌≢◌,
+  ℕ,
+  ◌+◌,
+  ◌<◌,
+  ◌≤◌,
+  suc,
+  Bool,
+  true,
+  false,
+  List,
+  [],
+  ◌∷◌,
+  refl,
+  sym,
+  ap,
+  ◌∙◌,
+  lit≤,
+  lit<,
+  ◌/◌,
+  ◌*◌,
+  ◌^◌,
+  ◌%◌,
+  zero,
+  subst,
+  arith,
+  slice_set,
+  slice_index_or,
+  bit_and,
+  bit_or,
+  ◌==◌,
+  if◌then◌else◌,
+  ◌||◌,
+  IsTrue,
+  nat_lt,
+}
 use Rattle.std.specs.Prelude.{Some, None}
 use borrow.Author.Tests.{ltb-true}
 use Rattle.std.specs.Int.{bit_not, w32}
@@ -20,15 +55,35 @@ use Rattle.virtio_mmio.specs.Serving.{with_counters, used_signalled, needing_res
 use Rattle.virtqueue.specs.Areas.{AreasFit, IsSized}
 use Rattle.virtio_mmio.specs.ServingLoop.{state_after_use}
 use Rattle.virtio_mmio.specs.Transport.{is_width, stored}
-use Rattle.virtio_mmio.specs.Registers.{Stored, leaves, is_set, Row, ignored, status_store, driver_features_after, registers, row_in,
-    row_at, has_queue, selected_queue, on_queue, num_after, ready_after, address_after, with_low, with_high, status_after, kept_bits}
+use Rattle.virtio_mmio.specs.Registers.{
+  Stored,
+  leaves,
+  is_set,
+  Row,
+  ignored,
+  status_store,
+  driver_features_after,
+  registers,
+  row_in,
+  row_at,
+  has_queue,
+  selected_queue,
+  on_queue,
+  num_after,
+  ready_after,
+  address_after,
+  with_low,
+  with_high,
+  status_after,
+  kept_bits,
+}
 
 -- ---- bits
 
 and_or : (a b m : ℕ) → bit_and (bit_or a b) m ≡ bit_or (bit_and a m) (bit_and b m)
 and_or a b m = same_from_bits _ _ (λ i.
     rw (bit_at_and (bit_or a b) m i, bit_at_or a b i, bit_at_or (bit_and a m) (bit_and b m) i, bit_at_and a m i, bit_at_and b m i)
-        (omega arith))
+    (omega arith))
 
 -- two masks inside a third give bits inside it
 joined_inside : (v s m n all : ℕ) → bit_and m all ≡ m → bit_and n all ≡ n → bit_and (bit_or (bit_and v m) (bit_and s n)) all
@@ -120,7 +175,7 @@ absent-keeps : (k : DeviceKind) (d : DeviceState) (i : ℕ) (q : Queue) → Abse
 absent-keeps Network d i q h = tt
 absent-keeps (Block capacity) d i q h =
     either (λ (xs : List Queue). slice_index_or xs 1 boot_queue ≡ boot_queue) (has_queue (Block capacity) i)
-        (slice_set d.queues i q) d.queues
+    (slice_set d.queues i q) d.queues
     (λ e. let below : i < 1 = has-below (Block capacity) i e in
     let other : 1 ≢ i = omega arith in get_or-set_other d.queues i 1 q boot_queue other ∙ h) h
 
@@ -156,10 +211,20 @@ EachRow [] = Unit {0}
 EachRow (r ∷ rs) = RowKeeps r × EachRow rs
 
 boot-keeps : (k : DeviceKind) → IsDeviceRecord k boot_state
-boot-keeps Network = record { status_bits = refl; interrupt_bits = lit≤ tt; queue_0 = boot_queue-keeps; queue_1 = boot_queue-keeps;
-    absent = tt }
-boot-keeps (Block capacity) = record { status_bits = refl; interrupt_bits = lit≤ tt; queue_0 = boot_queue-keeps; queue_1 = boot_queue-keeps;
-    absent = refl }
+boot-keeps Network = record {
+  status_bits = refl;
+  interrupt_bits = lit≤ tt;
+  queue_0 = boot_queue-keeps;
+  queue_1 = boot_queue-keeps;
+  absent = tt;
+}
+boot-keeps (Block capacity) = record {
+  status_bits = refl;
+  interrupt_bits = lit≤ tt;
+  queue_0 = boot_queue-keeps;
+  queue_1 = boot_queue-keeps;
+  absent = refl;
+}
 
 absent-same : (k : DeviceKind) (d e : DeviceState) → e.queues ≡ d.queues → AbsentQueuesAtBoot k d → AbsentQueuesAtBoot k e
 absent-same Network d e same h = tt
@@ -282,7 +347,7 @@ pub stored-rules : (k : DeviceKind) (d : DeviceState) (offset n value : ℕ) (s 
 unfolding stored
 stored-rules k d offset n value s e h =
     by_tests ((row_at offset).store k d (value % 2 ^ 32)) (leaves d) (nat_lt offset 0x100) (n == 4) (is_width n)
-        (store_keeps k d offset (value % 2 ^ 32) h) h e
+    (store_keeps k d offset (value % 2 ^ 32) h) h e
   where
     by_tests : (x y : Stored) (a b c : Bool) → IsDeviceRecord k x.state → IsDeviceRecord k y.state →
         (if a then (if b then Some x else None) else (if c then Some y else None)) ≡ Some s → IsDeviceRecord k s.state
@@ -335,10 +400,10 @@ past_end c p h l =
 -- what holds of a queue whatever its counters are holds after they are replaced
 queue_with_counters : (P : Queue → Type 0) (k : DeviceKind) (d : DeviceState) (i available used : ℕ) →
     P (record (queue_at d i) { next_available = available; next_used = used }) → P (queue_at d i) →
-        P (queue_at (with_counters k d i available used) i)
+    P (queue_at (with_counters k d i available used) i)
 queue_with_counters P k d i available used new old =
     either (λ (xs : List Queue). P (slice_index_or xs i boot_queue)) (has_queue k i)
-        (slice_set d.queues i (record (queue_at d i) { next_available = available; next_used = used })) d.queues
+    (slice_set d.queues i (record (queue_at d i) { next_available = available; next_used = used })) d.queues
     (λ e. set-keeps P d.queues i i (record (queue_at d i) { next_available = available; next_used = used }) boot_queue new old) old
 
 -- a queue's areas stay where they are
@@ -346,8 +411,15 @@ pub areas_after_use : (k : DeviceKind) (d : DeviceState) (i size : ℕ) → Area
     AreasFit (queue_at (state_after_use k i d) i) size
 areas_after_use k d i size h =
     queue_with_counters (λ q. AreasFit q size) k d i _ _
-        (record { desc_from = h.desc_from; desc_to = h.desc_to; driver_from = h.driver_from; driver_to = h.driver_to; device_from =
-        h.device_from; device_to = h.device_to }) h
+    (record {
+      desc_from = h.desc_from;
+      desc_to = h.desc_to;
+      driver_from = h.driver_from;
+      driver_to = h.driver_to;
+      device_from =
+          h.device_from;
+      device_to = h.device_to;
+    }) h
 
 pub sized_after_use : (k : DeviceKind) (d : DeviceState) (i : ℕ) → IsSized (queue_at d i) → IsSized (queue_at (state_after_use k i d) i)
 sized_after_use k d i h = queue_with_counters IsSized k d i _ _ (record { some = h.some; few = h.few }) h

@@ -1,5 +1,28 @@
-use Rattle.std.specs.Prelude.{ℕ, ◌+◌, ◌*◌, ◌/◌, ◌%◌, ◌^◌, Bool, true, false, ◌==◌, ◌||◌, ◌&&◌, if◌then◌else◌, nat_lt, List, [], ◌∷◌,
-    slice_set, bit_and, bit_or, codes, IsTrue, refl}
+use Rattle.std.specs.Prelude.{
+  ℕ,
+  ◌+◌,
+  ◌*◌,
+  ◌/◌,
+  ◌%◌,
+  ◌^◌,
+  Bool,
+  true,
+  false,
+  ◌==◌,
+  ◌||◌,
+  ◌&&◌,
+  if◌then◌else◌,
+  nat_lt,
+  List,
+  [],
+  ◌∷◌,
+  slice_set,
+  bit_and,
+  bit_or,
+  codes,
+  IsTrue,
+  refl,
+}
 use Rattle.std.specs.Int.{bit_not, w32}
 use Rattle.virtqueue.specs.declared.rings.Queue.{Queue}
 use Rattle.virtqueue.specs.Queues.{boot_queue}

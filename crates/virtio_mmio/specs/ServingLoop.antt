@@ -56,8 +56,8 @@ puts_used k i s head a = record {
 abbrev pub one_served : {A : Type 0} → DeviceKind → ℕ → Act A → Served A → Result (Served A) Broken
 one_served k i act s =
     chain_of (queue_at s.state i) s.ram >>= (λ chain.
-        act s.ram s.kept chain >>= (λ done.
-            Ok (puts_used k i s chain.head done)))
+    act s.ram s.kept chain >>= (λ done.
+    Ok (puts_used k i s chain.head done)))
 
 -- what goes on from a good answer; a malformation breaks the device instead, and what was done before it stays
 abbrev pub or_breaks : {A B : Type 0} → (B → Served A) → Served A → Result B Broken → Served A

@@ -3,8 +3,23 @@
 ghost use Rattle.std.specs.Prelude.{◌≡◌, ◌<◌, ◌+◌, bit_and, if◌then◌else◌, slice_set};
 ghost use Rattle.virtio_mmio.specs.Kinds.{queue_count};
 ghost use Rattle.virtio_mmio.specs.States.{queue_at, is_queue_size};
-ghost use Rattle.virtio_mmio.specs.Registers.{word_of, with_low, with_high, driver_features_after, has_queue, selected_queue, on_queue,
-    num_after, ready_after, ready_number, address_after, are_acceptable, kept_bits, status_after, is_set};
+ghost use Rattle.virtio_mmio.specs.Registers.{
+  word_of,
+  with_low,
+  with_high,
+  driver_features_after,
+  has_queue,
+  selected_queue,
+  on_queue,
+  num_after,
+  ready_after,
+  ready_number,
+  address_after,
+  are_acceptable,
+  kept_bits,
+  status_after,
+  is_set,
+};
 ghost use Rattle.virtio_mmio.specs.Serving.{with_counters, needing_reset};
 
 use crate::kinds::DeviceKind;

@@ -6,8 +6,19 @@ ghost use Rattle.virtqueue.specs.Chains.{BuffersInside};
 ghost use Rattle.virtqueue.specs.Used.{used_written};
 ghost use Rattle.virtio_mmio.specs.States.{queue_at};
 ghost use Rattle.virtio_mmio.specs.Registers.{has_queue};
-ghost use Rattle.virtio_mmio.specs.ServingLoop.{Act, state_after_use, chains_served, served, len_answer, ram_after, kept_after, one_served,
-    done_answer, left_after, standing};
+ghost use Rattle.virtio_mmio.specs.ServingLoop.{
+  Act,
+  state_after_use,
+  chains_served,
+  served,
+  len_answer,
+  ram_after,
+  kept_after,
+  one_served,
+  done_answer,
+  left_after,
+  standing,
+};
 
 use crate::transport::Transport;
 use virtqueue::{Broken, Chain, GuestRam};

@@ -1,5 +1,35 @@
-use Rattle.std.proofs.Common.{◌≡◌, ℕ, zero, suc, ◌+◌, ◌-◌, ◌<◌, ◌≤◌, min, true, false, List, [], ◌∷◌, ◌++◌, refl, sym, ap, ◌∙◌,
-    if◌then◌else◌, length, take, drop, get_or, arith, append_assoc, append-nil, length-append, length-drop, IsTrue}
+use Rattle.std.proofs.Common.{
+  ◌≡◌,
+  ℕ,
+  zero,
+  suc,
+  ◌+◌,
+  ◌-◌,
+  ◌<◌,
+  ◌≤◌,
+  min,
+  true,
+  false,
+  List,
+  [],
+  ◌∷◌,
+  ◌++◌,
+  refl,
+  sym,
+  ap,
+  ◌∙◌,
+  if◌then◌else◌,
+  length,
+  take,
+  drop,
+  get_or,
+  arith,
+  append_assoc,
+  append-nil,
+  length-append,
+  length-drop,
+  IsTrue,
+}
 use Rattle.std.proofs.Math.Seq.{drop-append-add}
 use Rattle.std.proofs.lemmas.List.{drop-append-le, take_all, length-take-le, drop_all, drop_more, take_at}
 use Rattle.virtqueue.specs.declared.chains.Descriptor.{Descriptor}
@@ -82,7 +112,7 @@ pub read_more : (into chunk tail whole rest : List ℕ) (done count : ℕ) → l
     take (done + count) whole ++ rest ≡ take done into ++ (chunk ++ rest)
 read_more into chunk tail whole rest done count e within is =
     let size : length (take done into ++ chunk) ≡ done + count =
-        omega (arith, length-append (take done into) chunk, length-take-le done into within) in
+    omega (arith, length-append (take done into) chunk, length-take-le done into within) in
     ap (λ xs. take (done + count) xs ++ rest) (is ∙ sym (append_assoc (take done into) chunk tail))
     ∙ (ap (λ xs. xs ++ rest) (take_at (take done into ++ chunk) tail (done + count) size)
     ∙ append_assoc (take done into) chunk rest)
@@ -94,7 +124,7 @@ read_all into wanted done skip within size e =
     let none : List ℕ = [] in
     let empty : drop skip none ≡ none = drop_all skip none (omega arith) in
     let nothing : take (length into - done) (drop skip none) ≡ none = ap (take (length into - done)) empty
-        ∙ take_all (length into - done) none (omega arith) in
+    ∙ take_all (length into - done) none (omega arith) in
     let front : take done into ≡ wanted = sym (append-nil (take done into)) ∙ (ap (λ r. take done into ++ r) (sym nothing) ∙ e) in
     let full : length into ≤ done = omega (arith, ap length front, length-take-le done into within) in
     sym (take_all done into full) ∙ front

@@ -1,5 +1,27 @@
-use Rattle.std.proofs.Common.{◌≡◌, ℕ, zero, suc, Bool, true, false, List, [], ◌∷◌, refl, subst, ◌||◌, ◌&&◌, not, if◌then◌else◌, ◌⊎◌, inl,
-    inr, length, nat_lt, IsTrue}
+use Rattle.std.proofs.Common.{
+  ◌≡◌,
+  ℕ,
+  zero,
+  suc,
+  Bool,
+  true,
+  false,
+  List,
+  [],
+  ◌∷◌,
+  refl,
+  subst,
+  ◌||◌,
+  ◌&&◌,
+  not,
+  if◌then◌else◌,
+  ◌⊎◌,
+  inl,
+  inr,
+  length,
+  nat_lt,
+  IsTrue,
+}
 use Rattle.std.specs.Prelude.{Result, Ok, Err}
 use Rattle.virtqueue.specs.declared.rings.Queue.{Queue}
 use Rattle.virtqueue.specs.declared.chains.Entry.{Entry}
@@ -7,8 +29,18 @@ use Rattle.virtqueue.specs.declared.chains.Descriptor.{Descriptor}
 use Rattle.virtqueue.specs.declared.broken.Broken.{Broken}
 use Rattle.virtqueue.specs.declared.broken.Broken.TheVariants.{BadIndex, Indirect, Outside, Order, Loop}
 use Rattle.virtqueue.specs.Memory.{place_of}
-use Rattle.virtqueue.specs.Chains.{◌>>=◌, entry_at, sound_entry, spelled_from, goes_on, is_writable, is_indirect, buffer_inside,
-    descriptor_of, BuffersInside}
+use Rattle.virtqueue.specs.Chains.{
+  ◌>>=◌,
+  entry_at,
+  sound_entry,
+  spelled_from,
+  goes_on,
+  is_writable,
+  is_indirect,
+  buffer_inside,
+  descriptor_of,
+  BuffersInside,
+}
 
 -- a good answer of two steps comes from good answers of both
 pub bind_ok : {A B : Type 0} (r : Result A Broken) (f : A → Result B Broken) (y : B) → r >>= f ≡ Ok y → (x : A) × (r ≡ Ok x) × (f x ≡ Ok y)
@@ -22,7 +54,7 @@ chosen false x y z h = inr (refl, h)
 -- a sound descriptor is the table's, and its buffer is inside
 passed : (below indirect inside order : Bool) (e0 e : Entry) →
     (if below then (if indirect then Err Indirect else (if inside then (if order then Err Order else Ok e0) else Err Outside)) else Err
-        BadIndex) ≡ Ok e →
+    BadIndex) ≡ Ok e →
     (inside ≡ true) × (e0 ≡ e)
 passed true false true false e0 e h = (refl, cc)
 passed true false true true e0 e h = let none : ⊥ = cc in absurd none
@@ -47,12 +79,12 @@ spelled_inside q bytes zero after i ds h =
 spelled_inside q bytes (suc left) after i ds h =
     let next : Entry → Result (List Descriptor) Broken = λ e.
     if goes_on e then spelled_from q bytes left (after || is_writable e) e.next >>= (λ rest. Ok (descriptor_of e ∷ rest)) else Ok
-        (descriptor_of e ∷ []) in
+    (descriptor_of e ∷ []) in
     let p = bind_ok (sound_entry q bytes after i) next ds h in
     let e : Entry = p.0 in
     let first = sound_inside q bytes after i e p.1 in
     elim (chosen (goes_on e) (spelled_from q bytes left (after || is_writable e) e.next >>= (λ rest. Ok (descriptor_of e ∷ rest)))
-        (Ok (descriptor_of e ∷ [])) (Ok ds) p.2) [
+    (Ok (descriptor_of e ∷ [])) (Ok ds) p.2) [
       | inl w ↦
           (let r = bind_ok (spelled_from q bytes left (after || is_writable e) e.next) (λ rest. Ok (descriptor_of e ∷ rest)) ds w.1 in
           let whole : descriptor_of e ∷ r.0 ≡ ds = cc (r.2) in

@@ -1,7 +1,44 @@
 -- How many bytes there are: in a chain's buffers, and in memory after a write.
-use Rattle.std.proofs.Common.{◌≡◌, ℕ, zero, suc, ◌+◌, ◌*◌, ◌%◌, ◌<◌, ◌≤◌, Bool, true, false, List, [], ◌∷◌, ◌++◌, refl, sym, ap, ◌∙◌,
-    if◌then◌else◌, ◌||◌, ◌&&◌, ◌==◌, length, take, drop, slice_set, arith, length-append, length-drop, IsTrue, nat_le, nat_lt, not, sum,
-    map, filter}
+use Rattle.std.proofs.Common.{
+  ◌≡◌,
+  ℕ,
+  zero,
+  suc,
+  ◌+◌,
+  ◌*◌,
+  ◌%◌,
+  ◌<◌,
+  ◌≤◌,
+  Bool,
+  true,
+  false,
+  List,
+  [],
+  ◌∷◌,
+  ◌++◌,
+  refl,
+  sym,
+  ap,
+  ◌∙◌,
+  if◌then◌else◌,
+  ◌||◌,
+  ◌&&◌,
+  ◌==◌,
+  length,
+  take,
+  drop,
+  slice_set,
+  arith,
+  length-append,
+  length-drop,
+  IsTrue,
+  nat_le,
+  nat_lt,
+  not,
+  sum,
+  map,
+  filter,
+}
 use Rattle.std.specs.Prelude.{Result, Ok, Err}
 use Rattle.std.specs.Int.{to_le_bytes, w16, w32}
 use Rattle.std.specs.List.{range_with_len}
@@ -48,7 +85,7 @@ length_bytes_of bytes d h = length_inside bytes d.address d.len h
     length_inside bytes address (suc len) h =
         let some : (suc len == 0) ≡ false = grind arith in
         let ends = ends_inside (length bytes) address (suc len)
-            (later (suc len == 0) (is_inside (length bytes) address (suc len)) some h) in
+        (later (suc len == 0) (is_inside (length bytes) address (suc len)) some h) in
         length-take-le (suc len) (drop (place_of address) bytes) (omega (arith, ends.0, ends.1, length-drop (place_of address) bytes))
 
 joined : (d : Descriptor) (x rest : List ℕ) (ds : List Descriptor) → length x ≡ d.len → length rest ≡ sum (map (λ d. d.len) ds) →
@@ -74,20 +111,25 @@ pub length_readable : (bytes : List ℕ) (ds : List Descriptor) → BuffersInsid
 length_readable bytes [] h = refl
 length_readable bytes (d ∷ ds) h =
     readable_step d.writable d (bytes_of bytes d) (readable_bytes bytes ds) (filter (λ d. not d.writable) ds) (length_bytes_of bytes d h.0)
-        (length_readable bytes ds h.1)
+    (length_readable bytes ds h.1)
 
 pub length_places : (ds : List Descriptor) → length (writable_places ds) ≡ writable_len ds
 length_places [] = refl
 length_places (d ∷ ds) =
     writable_step d.writable d (range_with_len (place_of d.address) d.len) (writable_places ds) (filter (λ d. d.writable) ds)
-        (length-range_with_len (place_of d.address) d.len) (length_places ds)
+    (length-range_with_len (place_of d.address) d.len) (length_places ds)
 
 -- ---- memory after a write
 
 pub length_written : (bytes new : List ℕ) (place : ℕ) → place + length new ≤ length bytes → length (written bytes place new) ≡ length bytes
 length_written bytes new place l =
-    omega (arith, length-append (take place bytes ++ new) (drop (place + length new) bytes), length-append (take place bytes) new,
-        length-take-le place bytes (omega arith), length-drop (place + length new) bytes)
+    omega (
+      arith,
+      length-append (take place bytes ++ new) (drop (place + length new) bytes),
+      length-append (take place bytes) new,
+      length-take-le place bytes (omega arith),
+      length-drop (place + length new) bytes,
+    )
 
 pub length_put_at : (bytes places values : List ℕ) → length (put_at bytes places values) ≡ length bytes
 length_put_at bytes [] values = refl
@@ -106,7 +148,7 @@ length_used_written q bytes head len areas sized =
     let ring : ℕ = place_of q.device in
     let slot : ℕ = ring + 4 + 8 * (q.next_used % q.num) in
     let inside : slot + 8 ≤ length bytes = slot_inside q.device q.next_used q.num (length bytes) sized.some areas.device_from
-        areas.device_to in
+    areas.device_to in
     let with_id : List ℕ = written bytes slot (to_le_bytes w32 head) in
     let id : length with_id ≡ length bytes = length_written bytes (to_le_bytes w32 head) slot (omega arith) in
     let with_len : List ℕ = written with_id (slot + 4) (to_le_bytes w32 len) in
@@ -120,13 +162,19 @@ length_used_written q bytes head len areas sized =
 pub areas_inside : (q : Queue) (size : ℕ) → are_inside q size ≡ true → AreasFit q size
 areas_inside q size e =
     let last = both (is_inside size q.desc (16 * q.num) && is_inside size q.driver (6 + 2 * q.num))
-        (is_inside size q.device (6 + 8 * q.num)) e in
+    (is_inside size q.device (6 + 8 * q.num)) e in
     let others = both (is_inside size q.desc (16 * q.num)) (is_inside size q.driver (6 + 2 * q.num)) last.0 in
     let desc = ends_inside size q.desc (16 * q.num) others.0 in
     let driver = ends_inside size q.driver (6 + 2 * q.num) others.1 in
     let device = ends_inside size q.device (6 + 8 * q.num) last.1 in
-    record { desc_from = desc.0; desc_to = desc.1; driver_from = driver.0; driver_to = driver.1; device_from = device.0;
-        device_to = device.1 }
+    record {
+      desc_from = desc.0;
+      desc_to = desc.1;
+      driver_from = driver.0;
+      driver_to = driver.1;
+      device_from = device.0;
+      device_to = device.1;
+    }
 
 -- the areas of a queue whose chains can be served lie in RAM
 pub areas_available : (q : Queue) (bytes : List ℕ) (n : ℕ) → available_of q bytes ≡ Ok n → AreasFit q (length bytes)

@@ -1,6 +1,41 @@
-use Rattle.std.proofs.Common.{◌≡◌, ℕ, zero, suc, ◌+◌, ◌-◌, ◌<◌, ◌≤◌, min, Bool, true, false, List, [], ◌∷◌, ◌++◌, refl, sym, ap, ◌∙◌,
-    if◌then◌else◌, ◌||◌, ◌&&◌, ◌==◌, length, take, drop, get_or, arith, append_assoc, append-nil, add-zero, length-set, IsTrue,
-    nat_le, slice_set}
+use Rattle.std.proofs.Common.{
+  ◌≡◌,
+  ℕ,
+  zero,
+  suc,
+  ◌+◌,
+  ◌-◌,
+  ◌<◌,
+  ◌≤◌,
+  min,
+  Bool,
+  true,
+  false,
+  List,
+  [],
+  ◌∷◌,
+  ◌++◌,
+  refl,
+  sym,
+  ap,
+  ◌∙◌,
+  if◌then◌else◌,
+  ◌||◌,
+  ◌&&◌,
+  ◌==◌,
+  length,
+  take,
+  drop,
+  get_or,
+  arith,
+  append_assoc,
+  append-nil,
+  add-zero,
+  length-set,
+  IsTrue,
+  nat_le,
+  slice_set,
+}
 use Rattle.std.specs.List.{range_with_len}
 use Rattle.std.proofs.lemmas.List.{take-append-drop, drop-append-le, drop_all, drop_more, drop-set-lt, take_more_set, take_min}
 use Rattle.std.proofs.lemmas.List.FromFn.{length-range_with_len}
@@ -64,7 +99,7 @@ place_fits : (size address len : ℕ) → 0 < len → IsTrue (buffer_inside size
 place_fits size address len some h =
     let no : (len == 0) ≡ false = grind arith in
     let both = split (nat_le RAM_START address) (nat_le (address + len) (RAM_START + size))
-        (later (len == 0) (is_inside size address len) no h) in
+    (later (len == 0) (is_inside size address len) no h) in
     let from : RAM_START ≤ address = leb-true RAM_START address both.0 in
     let to : address + len ≤ RAM_START + size = leb-true (address + len) (RAM_START + size) both.1 in
     omega arith
@@ -98,7 +133,7 @@ module _ (parts : List Descriptor) (k : ℕ) (d : Descriptor) (within : k < leng
       IsTrue (buffer_inside (length bytes) (get_or parts k d).address (get_or parts k d).len) →
       skip < (get_or parts k d).len → count ≡ min ((get_or parts k d).len - skip) (length values) →
       put_at (written bytes (place_of (get_or parts k d).address + skip) (take count values)) (writable_places (drop (k + 1) parts))
-          (drop count values)
+      (drop count values)
       ≡ put_at bytes (drop skip (writable_places (drop k parts))) values
   pass_in bytes values skip count w h inside e =
       let p : Descriptor = get_or parts k d in

@@ -1,5 +1,25 @@
-use Rattle.std.proofs.Common.{◌≡◌, ℕ, zero, suc, Bool, true, false, List, arith, bit_and, [], ◌∷◌, ◌++◌, refl, sym, ap, ◌∙◌, ◌||◌,
-    append_assoc, if◌then◌else◌}
+use Rattle.std.proofs.Common.{
+  ◌≡◌,
+  ℕ,
+  zero,
+  suc,
+  Bool,
+  true,
+  false,
+  List,
+  arith,
+  bit_and,
+  [],
+  ◌∷◌,
+  ◌++◌,
+  refl,
+  sym,
+  ap,
+  ◌∙◌,
+  ◌||◌,
+  append_assoc,
+  if◌then◌else◌,
+}
 use Rattle.std.specs.Prelude.{Result, Ok, Err}
 use Rattle.virtqueue.specs.declared.rings.Queue.{Queue}
 use Rattle.virtqueue.specs.declared.chains.Entry.{Entry}
@@ -27,14 +47,14 @@ after_more : (q : Queue) (bytes : List ℕ) (left : ℕ) (after : Bool) (e : Ent
 unfolding after_entry
 after_more q bytes left after e more =
     ap (λ b. if b then spelled_from q bytes left (after || is_writable e) e.next >>= (λ rest. Ok (descriptor_of e ∷ rest)) else Ok
-        (descriptor_of e ∷ [])) more
+    (descriptor_of e ∷ [])) more
 
 after_last : (q : Queue) (bytes : List ℕ) (left : ℕ) (after : Bool) (e : Entry) → goes_on e ≡ false →
     after_entry q bytes left after e ≡ Ok (descriptor_of e ∷ [])
 unfolding after_entry
 after_last q bytes left after e last =
     ap (λ b. if b then spelled_from q bytes left (after || is_writable e) e.next >>= (λ rest. Ok (descriptor_of e ∷ rest)) else Ok
-        (descriptor_of e ∷ [])) last
+    (descriptor_of e ∷ [])) last
 
 behind_cons : (front : List Descriptor) (d : Descriptor) (rest : Result (List Descriptor) Broken) →
     behind front (rest >>= (λ ds. Ok (d ∷ ds))) ≡ behind (front ++ d ∷ []) rest
@@ -45,7 +65,7 @@ module _ (q : Queue) (bytes : List ℕ) (front : List Descriptor) (after : Bool)
   -- a sound descriptor that goes on is put behind the front
   pub walk_goes_on : (m left : ℕ) (e : Entry) → m ≡ suc left → Ok e ≡ sound_entry q bytes after i → goes_on e ≡ true →
       behind (front ++ descriptor_of e ∷ []) (spelled_from q bytes left (after || is_writable e) e.next)
-          ≡ behind front (spelled_from q bytes m after i)
+      ≡ behind front (spelled_from q bytes m after i)
   walk_goes_on m left e count h more =
       sym (ap (λ k. behind front (spelled_from q bytes k after i)) count
       ∙ (ap (behind front) (unrolled q bytes left after i e (sym h) ∙ after_more q bytes left after e more)

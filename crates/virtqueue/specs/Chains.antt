@@ -1,5 +1,31 @@
-use Rattle.std.specs.Prelude.{ℕ, zero, suc, ◌+◌, ◌*◌, ◌%◌, Bool, false, not, ◌==◌, ◌&&◌, ◌||◌, if◌then◌else◌, nat_lt, List, [], ◌∷◌, length,
-    bit_and, Option, None, Some, Result, Ok, Err, IsTrue}
+use Rattle.std.specs.Prelude.{
+  ℕ,
+  zero,
+  suc,
+  ◌+◌,
+  ◌*◌,
+  ◌%◌,
+  Bool,
+  false,
+  not,
+  ◌==◌,
+  ◌&&◌,
+  ◌||◌,
+  if◌then◌else◌,
+  nat_lt,
+  List,
+  [],
+  ◌∷◌,
+  length,
+  bit_and,
+  Option,
+  None,
+  Some,
+  Result,
+  Ok,
+  Err,
+  IsTrue,
+}
 use Rattle.arrayvec.specs.ArrayVec.{ArrayVec}
 use Rattle.virtqueue.specs.declared.rings.Queue.{Queue}
 use Rattle.virtqueue.specs.declared.chains.Descriptor.{Descriptor}

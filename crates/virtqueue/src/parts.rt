@@ -3,8 +3,16 @@
 ghost use Rattle.std.specs.Prelude.{◌≡◌, ◌+◌, ◌^◌, ◌<◌, ◌≤◌, IsTrue, length, take, drop};
 ghost use Rattle.virtqueue.specs.Memory.{place_of, written};
 ghost use Rattle.virtqueue.specs.Chains.{buffer_inside, BuffersInside};
-ghost use Rattle.virtqueue.specs.Parts.{readable_len, writable_len, all_readable, all_writable, bytes_of, readable_bytes,
-    writable_places, put_at};
+ghost use Rattle.virtqueue.specs.Parts.{
+  readable_len,
+  writable_len,
+  all_readable,
+  all_writable,
+  bytes_of,
+  readable_bytes,
+  writable_places,
+  put_at,
+};
 
 use crate::chains::{Chain, Descriptor};
 use crate::memory::{GuestRam, RAM_START};

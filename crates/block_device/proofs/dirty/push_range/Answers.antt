@@ -6,8 +6,13 @@ use Rattle.block_device.proofs.dirty.push_range.Goals as goal
 
 pub push_reserved-requires : goal.push_reserved-requires
 push_reserved-requires c =
-    omega (arith, ap length c.loop-done.invariant.items, length-append c.args.list.now.items (range_with_len c.args.first c.loop-done.done),
-        length-range_with_len c.args.first c.loop-done.done, c.loop-done.invariant.capacity)
+    omega (
+      arith,
+      ap length c.loop-done.invariant.items,
+      length-append c.args.list.now.items (range_with_len c.args.first c.loop-done.done),
+      length-range_with_len c.args.first c.loop-done.done,
+      c.loop-done.invariant.capacity,
+    )
 
 pub loop-done-preserved : goal.loop-done-preserved
 loop-done-preserved c = record {

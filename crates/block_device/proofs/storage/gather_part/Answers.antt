@@ -9,7 +9,7 @@ returns-clause-value g c =
     let len = length_readable (g.R.GuestRam.bytes c.args.ram.now) c.args.chain.now.parts c.requires.inside in
     let new = drop c.args.at (readable_bytes (g.R.GuestRam.bytes c.args.ram.now) c.args.chain.now.parts) in
     put_written c.args.places.now c.gather.new.into new c.args.start c.args.len c.gather.ensures
-        (omega (arith, len, c.requires.all, length-drop {A = ℕ})) c.requires.within
+    (omega (arith, len, c.requires.all, length-drop {A = ℕ})) c.requires.within
 
 pub returns-clause-count : goal.returns-clause-count
 returns-clause-count g c =

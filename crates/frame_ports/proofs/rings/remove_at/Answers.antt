@@ -12,7 +12,7 @@ returns-clause-rest g c =
     let n = c.len-len.result - k - 1 in
     c.rotate-2.ensures
     ∙ ap (λ (b : Buffer g.row.T.Denot). buffer (drop n b.items ++ take n b.items) b.capacity)
-        (c.pop_front-item.ensures.items ∙ ap (λ (b : Buffer g.row.T.Denot). buffer (drop 1 b.items) b.capacity) c.rotate.ensures)
+    (c.pop_front-item.ensures.items ∙ ap (λ (b : Buffer g.row.T.Denot). buffer (drop 1 b.items) b.capacity) c.rotate.ensures)
     ∙ ap (λ m. let ys = drop 1 (drop k xs ++ take k xs) in buffer (drop (m - k - 1) ys ++ take (m - k - 1) ys) c.args.ring.now.capacity)
-        c.len-len.ensures.len
+    c.len-len.ensures.len
     ∙ ap (λ l. buffer l c.args.ring.now.capacity) (removed xs k inside)

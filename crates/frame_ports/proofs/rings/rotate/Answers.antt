@@ -14,12 +14,12 @@ loop-preserved g c =
       | in-Some w ↦
           let x = w.in-Some.item in
           let first = sym w.in-Some.is ∙ c.pop_front.ensures.value ∙ ap (λ (b : Buffer g.row.T.Denot). slice_get b.items 0)
-              c.loop.invariant in
+          c.loop.invariant in
           w.ring-is ∙ w.put_last.ensures
           ∙ ap (λ (b : Buffer g.row.T.Denot). buffer (b.items ++ x ∷ []) b.capacity) c.pop_front.ensures.items
           ∙ ap (λ (b : Buffer g.row.T.Denot). buffer (drop 1 b.items ++ x ∷ []) b.capacity) c.loop.invariant
           ∙ ap (λ l. buffer l c.args.ring.now.capacity) (rotate_more xs k x inside first)
       | in_default w ↦
           absurd (rotated_some xs k inside (sym w.in_default.is ∙ c.pop_front.ensures.value
-              ∙ ap (λ (b : Buffer g.row.T.Denot). slice_get b.items 0) c.loop.invariant))
+          ∙ ap (λ (b : Buffer g.row.T.Denot). slice_get b.items 0) c.loop.invariant))
     ]

@@ -15,13 +15,25 @@ loop-frame-preserved c =
     let f = c.frame-item.result in
     let inside : i < length fs = omega arith in
     let more : take (i + 1) fs ≡ take i fs ++ f ∷ [] = take_more fs i f inside ∙ ap (λ (g : ArrayVec ℕ). take i fs ++ g ∷ [])
-        (sym c.frame-item.is) in
+    (sym c.frame-item.is) in
     let so_far = c.loop-frame.invariant.0 in (
       c.land_one-one.ensures.ports ∙ ap (λ (q : PortsState). ports_after q (f ∷ [])) so_far
           ∙ sym (ports_after-append p (take i fs) (f ∷ [])) ∙ ap (ports_after p) (sym more),
-      omega (arith, c.loop-frame.invariant.1, c.land_one-one.ensures.landed, ap (λ (q : PortsState). landed_count q (f ∷ [])) so_far,
-          landed_count-append p (take i fs) (f ∷ []), ap (landed_count p) more),
-      omega (arith, c.loop-frame.invariant.2, c.land_one-one.ensures.dropped, ap (λ (q : PortsState). dropped_count q (f ∷ [])) so_far,
-          dropped_count-append p (take i fs) (f ∷ []), ap (dropped_count p) more),
+      omega (
+        arith,
+        c.loop-frame.invariant.1,
+        c.land_one-one.ensures.landed,
+        ap (λ (q : PortsState). landed_count q (f ∷ [])) so_far,
+        landed_count-append p (take i fs) (f ∷ []),
+        ap (landed_count p) more,
+      ),
+      omega (
+        arith,
+        c.loop-frame.invariant.2,
+        c.land_one-one.ensures.dropped,
+        ap (λ (q : PortsState). dropped_count q (f ∷ [])) so_far,
+        dropped_count-append p (take i fs) (f ∷ []),
+        ap (dropped_count p) more,
+      ),
       omega arith,
     )

@@ -21,16 +21,16 @@ loop-client-preserved c =
     let within : l.client ≤ length old.boxes = omega arith in
     let most : l.client ≤ 16 = omega (arith, c.clients-client-end.ensures.ports.clients.1) in
     let goes_to : addressed f.items l.client ≡ c.contains.result = addressed-target (length old.boxes) l.client f.items c.contains.result
-        within (c.contains.ensures ∙ c.route-targets.ensures l.client l.auto.client most) in
+    within (c.contains.ensures ∙ c.route-targets.ensures l.client l.auto.client most) in
     elim c.if-contains.branch [
       | then-contains+then-land w ↦
           subst (λ (t : Landed). Done old c.if-contains.ports f (l.client + 1) t.landed t.dropped) (sym w.total-is)
           (done_put old l.ports f l.client l.total.landed l.total.dropped l.auto.client l.invariant c.if-contains.ports
-              (goes_to ∙ w.if-contains.true) (sym w.land.ensures.answer ∙ w.if-land.true) (w.ports-is ∙ w.land.ensures.boxes))
+          (goes_to ∙ w.if-contains.true) (sym w.land.ensures.answer ∙ w.if-land.true) (w.ports-is ∙ w.land.ensures.boxes))
       | then-contains+else-land w ↦
           subst (λ (t : Landed). Done old c.if-contains.ports f (l.client + 1) t.landed t.dropped) (sym w.total-is)
           (done_drop old l.ports f l.client l.total.landed l.total.dropped l.auto.client l.invariant c.if-contains.ports
-              (goes_to ∙ w.if-contains.true) (sym w.land.ensures.answer ∙ w.if-land.false) (w.ports-is ∙ w.land.ensures.boxes))
+          (goes_to ∙ w.if-contains.true) (sym w.land.ensures.answer ∙ w.if-land.false) (w.ports-is ∙ w.land.ensures.boxes))
       | else-contains w ↦
           subst (λ (t : Landed). Done old c.if-contains.ports f (l.client + 1) t.landed t.dropped) (sym w.total-is)
           (subst (λ s. Done old s f (l.client + 1) l.total.landed l.total.dropped) (sym w.ports-is)

@@ -1,8 +1,28 @@
 -- Written by scripts/rows.py: the row that each arm finds.
 use Rattle.std.proofs.Common.{arith, sym}
-use Rattle.rv64_core.proofs.Found.{reads_add, reads_sll, reads_slt, reads_sltu, reads_xor, reads_srl, reads_or, reads_and, last_funct3,
-    reads_mul, reads_mulh, reads_mulhsu, reads_mulhu, reads_div, reads_divu, reads_rem, reads_remu, reads_sub, reads_sra, none_op,
-    none_op_1}
+use Rattle.rv64_core.proofs.Found.{
+  reads_add,
+  reads_sll,
+  reads_slt,
+  reads_sltu,
+  reads_xor,
+  reads_srl,
+  reads_or,
+  reads_and,
+  last_funct3,
+  reads_mul,
+  reads_mulh,
+  reads_mulhsu,
+  reads_mulhu,
+  reads_div,
+  reads_divu,
+  reads_rem,
+  reads_remu,
+  reads_sub,
+  reads_sra,
+  none_op,
+  none_op_1,
+}
 use Rattle.rv64_core.proofs.decoding.op.Goals as goal
 
 pub returns-in-0-2 : goal.returns-in-0-2
@@ -28,11 +48,12 @@ returns-in-24576 c = grind (arith, reads_or c.args.word (omega arith) (omega ari
 
 pub returns-in_default-2 : goal.returns-in_default-2
 returns-in_default-2 c =
-    grind
-    (arith,
-    reads_and c.args.word (omega arith)
-    (last_funct3 c.args.word (λ e. omega arith) (λ e. omega arith) (λ e. omega arith) (λ e. omega arith) (λ e. omega arith)
-    (λ e. omega arith) (λ e. omega arith)) (omega arith))
+    grind (
+      arith,
+      reads_and c.args.word (omega arith)
+          (last_funct3 c.args.word (λ e. omega arith) (λ e. omega arith) (λ e. omega arith) (λ e. omega arith) (λ e. omega arith)
+          (λ e. omega arith) (λ e. omega arith)) (omega arith),
+    )
 
 pub returns-in-0-3 : goal.returns-in-0-3
 returns-in-0-3 c = grind (arith, reads_mul c.args.word (omega arith) (omega arith) (omega arith))
@@ -57,11 +78,12 @@ returns-in-24576-2 c = grind (arith, reads_rem c.args.word (omega arith) (omega 
 
 pub returns-in_default-3 : goal.returns-in_default-3
 returns-in_default-3 c =
-    grind
-    (arith,
-    reads_remu c.args.word (omega arith)
-    (last_funct3 c.args.word (λ e. omega arith) (λ e. omega arith) (λ e. omega arith) (λ e. omega arith) (λ e. omega arith)
-    (λ e. omega arith) (λ e. omega arith)) (omega arith))
+    grind (
+      arith,
+      reads_remu c.args.word (omega arith)
+          (last_funct3 c.args.word (λ e. omega arith) (λ e. omega arith) (λ e. omega arith) (λ e. omega arith) (λ e. omega arith)
+          (λ e. omega arith) (λ e. omega arith)) (omega arith),
+    )
 
 pub returns-in-0-4 : goal.returns-in-0-4
 returns-in-0-4 c = grind (arith, reads_sub c.args.word (omega arith) (omega arith) (omega arith))

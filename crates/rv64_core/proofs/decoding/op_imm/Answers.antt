@@ -1,7 +1,19 @@
 -- Written by scripts/rows.py: the row that each arm finds.
 use Rattle.std.proofs.Common.{arith, sym}
-use Rattle.rv64_core.proofs.Found.{reads_addi, reads_slli, none_op_imm, reads_slti, reads_sltiu, reads_xori, reads_srli, reads_srai,
-    none_op_imm_1, reads_ori, reads_andi, last_funct3}
+use Rattle.rv64_core.proofs.Found.{
+  reads_addi,
+  reads_slli,
+  none_op_imm,
+  reads_slti,
+  reads_sltiu,
+  reads_xori,
+  reads_srli,
+  reads_srai,
+  none_op_imm_1,
+  reads_ori,
+  reads_andi,
+  last_funct3,
+}
 use Rattle.rv64_core.proofs.decoding.op_imm.Goals as goal
 
 pub returns-in-0 : goal.returns-in-0
@@ -36,8 +48,9 @@ returns-in-24576 c = grind (arith, reads_ori c.args.word (omega arith) (omega ar
 
 pub returns-in_default : goal.returns-in_default
 returns-in_default c =
-    grind
-    (arith,
-    reads_andi c.args.word (omega arith)
-    (last_funct3 c.args.word (λ e. omega arith) (λ e. omega arith) (λ e. omega arith) (λ e. omega arith) (λ e. omega arith)
-    (λ e. omega arith) (λ e. omega arith)))
+    grind (
+      arith,
+      reads_andi c.args.word (omega arith)
+          (last_funct3 c.args.word (λ e. omega arith) (λ e. omega arith) (λ e. omega arith) (λ e. omega arith) (λ e. omega arith)
+          (λ e. omega arith) (λ e. omega arith)),
+    )

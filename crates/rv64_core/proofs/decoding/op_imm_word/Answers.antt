@@ -1,7 +1,14 @@
 -- Written by scripts/rows.py: the row that each arm finds.
 use Rattle.std.proofs.Common.{arith, sym}
-use Rattle.rv64_core.proofs.Found.{reads_addiw, reads_slliw, none_op_imm_word, reads_srliw, reads_sraiw, none_op_imm_word_1,
-    none_op_imm_word_2}
+use Rattle.rv64_core.proofs.Found.{
+  reads_addiw,
+  reads_slliw,
+  none_op_imm_word,
+  reads_srliw,
+  reads_sraiw,
+  none_op_imm_word_1,
+  none_op_imm_word_2,
+}
 use Rattle.rv64_core.proofs.decoding.op_imm_word.Goals as goal
 
 pub returns-in-0 : goal.returns-in-0

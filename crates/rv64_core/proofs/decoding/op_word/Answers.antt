@@ -1,7 +1,21 @@
 -- Written by scripts/rows.py: the row that each arm finds.
 use Rattle.std.proofs.Common.{arith, sym}
-use Rattle.rv64_core.proofs.Found.{reads_addw, reads_sllw, reads_srlw, none_op_word, reads_mulw, reads_divw, reads_divuw, reads_remw,
-    reads_remuw, none_op_word_1, reads_subw, reads_sraw, none_op_word_2, none_op_word_3}
+use Rattle.rv64_core.proofs.Found.{
+  reads_addw,
+  reads_sllw,
+  reads_srlw,
+  none_op_word,
+  reads_mulw,
+  reads_divw,
+  reads_divuw,
+  reads_remw,
+  reads_remuw,
+  none_op_word_1,
+  reads_subw,
+  reads_sraw,
+  none_op_word_2,
+  none_op_word_3,
+}
 use Rattle.rv64_core.proofs.decoding.op_word.Goals as goal
 
 pub returns-in-0-2 : goal.returns-in-0-2

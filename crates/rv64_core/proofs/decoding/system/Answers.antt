@@ -1,7 +1,19 @@
 -- Written by scripts/rows.py: the row that each arm finds.
 use Rattle.std.proofs.Common.{arith, sym}
-use Rattle.rv64_core.proofs.Found.{reads_ecall, reads_ebreak, reads_mret, reads_wfi, none_system, reads_csrrw, reads_csrrs, reads_csrrc,
-    reads_csrrwi, reads_csrrsi, reads_csrrci, none_system_1}
+use Rattle.rv64_core.proofs.Found.{
+  reads_ecall,
+  reads_ebreak,
+  reads_mret,
+  reads_wfi,
+  none_system,
+  reads_csrrw,
+  reads_csrrs,
+  reads_csrrc,
+  reads_csrrwi,
+  reads_csrrsi,
+  reads_csrrci,
+  none_system_1,
+}
 use Rattle.rv64_core.proofs.decoding.system.Goals as goal
 
 pub returns-in-115 : goal.returns-in-115

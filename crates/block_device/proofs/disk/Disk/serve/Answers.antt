@@ -16,7 +16,7 @@ same_size : (g : _) (c : goal.After-sectors-sectors g) → capacity c.serve.new.
 same_size g c =
     ap capacity c.serve.ensures.kept
     ∙ ap (λ n. n / 512) (disk_size (g.R.GuestRam.bytes c.args.ram.now) c.self.inside.transport.state c.self.inside.storage
-        c.self.inside.transport.kind)
+    c.self.inside.transport.kind)
 
 same_kind : (g : _) (c : goal.After-sectors-sectors g) → c.serve.new.self.kind ≡ Block (capacity c.serve.new.handler)
 same_kind g c = ap (λ (d : Device). d.kind) c.serve.ensures.state ∙ (c.self.invariant ∙ ap Block (sym (same_size g c)))
@@ -50,16 +50,16 @@ pub returns-clause-apart_memory : goal.returns-clause-apart_memory
 returns-clause-apart_memory g c =
     c.serve.ensures.memory ∙ (ap (λ (s : Served Contents). s.ram) (is_left g c)
     ∙ memory_apart (g.R.GuestRam.bytes c.args.ram.now) c.args.self.now.state c.args.self.now.contents.bytes
-        c.args.self.now.contents.dirty [])
+    c.args.self.now.contents.dirty [])
 
 pub returns-clause-apart_state : goal.returns-clause-apart_state
 returns-clause-apart_state g c =
     ap (λ (d : Device). d.state) c.serve.ensures.state ∙ (ap (λ (s : Served Contents). s.state) (is_left g c)
     ∙ state_apart (g.R.GuestRam.bytes c.args.ram.now) c.args.self.now.state c.args.self.now.contents.bytes
-        c.args.self.now.contents.dirty [])
+    c.args.self.now.contents.dirty [])
 
 pub returns-clause-apart_bytes : goal.returns-clause-apart_bytes
 returns-clause-apart_bytes g c =
     ap (λ (d : Contents). d.bytes) c.serve.ensures.kept ∙ (ap (λ (s : Served Contents). s.kept.bytes) (is_left g c)
     ∙ bytes_apart (g.R.GuestRam.bytes c.args.ram.now) c.args.self.now.state c.args.self.now.contents.bytes
-        c.args.self.now.contents.dirty [])
+    c.args.self.now.contents.dirty [])

@@ -1,5 +1,25 @@
-use Rattle.std.proofs.Common.{◌≡◌, ℕ, List, [], ◌∷◌, ◌+◌, ◌-◌, ◌≤◌, subst, ap, ◌∙◌, sym, arith, inl, inr, ◌<◌, ◌==◌, if◌then◌else◌,
-    length, drop}
+use Rattle.std.proofs.Common.{
+  ◌≡◌,
+  ℕ,
+  List,
+  [],
+  ◌∷◌,
+  ◌+◌,
+  ◌-◌,
+  ◌≤◌,
+  subst,
+  ap,
+  ◌∙◌,
+  sym,
+  arith,
+  inl,
+  inr,
+  ◌<◌,
+  ◌==◌,
+  if◌then◌else◌,
+  length,
+  drop,
+}
 use Rattle.std.specs.Prelude.{Ok, Err}
 use Rattle.virtqueue.specs.declared.broken.Broken.TheVariants.{Short}
 use Rattle.virtqueue.specs.Chains.{Spelled}
@@ -32,7 +52,7 @@ returns-then-readable-lt-HEADER_BYTES-clause-kept g c = sym (ap (kept_after c.ar
 -- a request that was carried out, by what each call gave
 done : (ram between after : List ℕ) (disk disk' : Contents) (chain : Spelled) (room status len used : ℕ) →
     request_act ram disk chain ≡ Ok (left_by ram (writable_places chain.parts) room
-        (outcome disk (request_of (readable_bytes ram chain.parts)) room)) →
+    (outcome disk (request_of (readable_bytes ram chain.parts)) room)) →
     status ≡ (outcome disk (request_of (readable_bytes ram chain.parts)) room).status →
     len ≡ length (outcome disk (request_of (readable_bytes ram chain.parts)) room).payload →
     disk' ≡ (outcome disk (request_of (readable_bytes ram chain.parts)) room).disk →
@@ -45,12 +65,12 @@ done ram between after disk disk' chain room status len used is is_status is_len
     let places : List ℕ = writable_places chain.parts in
     let memory : after ≡ put_at (put_at ram places o.payload) (drop room places) (o.status ∷ []) =
     is_after ∙ (ap (λ bs. put_at bs (drop room places) (status ∷ [])) is_between
-        ∙ ap (λ s. put_at (put_at ram places o.payload) (drop room places) (s ∷ [])) is_status) in
+    ∙ ap (λ s. put_at (put_at ram places o.payload) (drop room places) (s ∷ [])) is_status) in
     let count : used ≡ written_len room o.payload = is_used ∙ ap (λ n. if n == room then room + 1 else n) is_len in
     is ∙ sym (ap (λ bs. Ok (record { ram = bs; kept = disk'; len = used })) memory
     ∙ (ap (λ d. Ok (record { ram = put_at (put_at ram places o.payload) (drop room places) (o.status ∷ []); kept = d; len = used })) is_disk
     ∙ ap (λ n. Ok (record { ram = put_at (put_at ram places o.payload) (drop room places) (o.status ∷ []); kept = o.disk; len = n }))
-        count))
+    count))
 
 all_done : (g : _) (c : goal.After-used_len g) → request_act (g.R.GuestRam.bytes c.args.ram.now) c.args.self.now c.args.chain.now
     ≡ Ok (record { ram = g.R.GuestRam.bytes c.scatter.new.ram; kept = c.carry_out-done.new.self; len = c.used_len.result })
@@ -61,16 +81,16 @@ all_done g c =
     let long : 16 ≤ readable_len chain.parts = omega (arith, c.readable_len-readable.ensures) in
     let some : 0 < writable_len chain.parts = omega (arith, c.writable_len-writable.ensures) in
     let is : request_act ram c.args.self.now chain
-        ≡ Ok (left_by ram (writable_places chain.parts) (n - 1)
-        (outcome c.args.self.now (request_of (readable_bytes ram chain.parts)) (n - 1))) =
+    ≡ Ok (left_by ram (writable_places chain.parts) (n - 1)
+    (outcome c.args.self.now (request_of (readable_bytes ram chain.parts)) (n - 1))) =
     subst (λ (k : ℕ). request_act ram c.args.self.now chain
-        ≡ Ok (left_by ram (writable_places chain.parts) (k - 1)
-        (outcome c.args.self.now (request_of (readable_bytes ram chain.parts)) (k - 1))))
+    ≡ Ok (left_by ram (writable_places chain.parts) (k - 1)
+    (outcome c.args.self.now (request_of (readable_bytes ram chain.parts)) (k - 1))))
     (sym c.writable_len-writable.ensures) (act_done ram c.args.self.now chain c.requires.inside long some) in
     done ram (g.R.GuestRam.bytes c.carry_out-done.new.ram) (g.R.GuestRam.bytes c.scatter.new.ram) c.args.self.now c.carry_out-done.new.self
-        chain (n - 1)
+    chain (n - 1)
     c.carry_out-done.result.status c.carry_out-done.result.len c.used_len.result is c.carry_out-done.ensures.status
-        c.carry_out-done.ensures.len
+    c.carry_out-done.ensures.len
     c.carry_out-done.ensures.disk c.carry_out-done.ensures.memory c.scatter.ensures.value c.used_len.ensures
 
 pub returns-clause-answer : goal.returns-clause-answer

@@ -10,5 +10,5 @@ returns-in_default-clause-memory g c =
     let ram = g.R.GuestRam.bytes c.args.ram.now in
     let r = request_of (readable_bytes ram c.args.chain.now.parts) in
     let nothing = other_kind c.args.self.now r c.args.room (λ e. omega (arith, e, c.requires.kind)) (λ e. omega (arith, e, c.requires.kind))
-        (λ e. omega (arith, e, c.requires.kind)) in
+    (λ e. omega (arith, e, c.requires.kind)) in
     sym (ap (put_at ram (writable_places c.args.chain.now.parts)) nothing ∙ put_none ram (writable_places c.args.chain.now.parts))

@@ -10,14 +10,14 @@ use Rattle.block_device.proofs.storage.Storage.write.Goals as goal
 pub mark_written-requires-clause-rises : goal.mark_written-requires-clause-rises
 mark_written-requires-clause-rises g c =
     rises_higher 0 (capacity (contents_of c.self.inside.bytes.items c.self.inside.dirty.items)) (vec_capacity c.self.inside.dirty)
-        c.self.inside.dirty.items c.self.invariant.1 c.self.invariant.0.dirty
+    c.self.inside.dirty.items c.self.invariant.1 c.self.invariant.0.dirty
 
 pub invariant_of-self : goal.invariant_of-self
 invariant_of-self g c =
     let within : c.args.sector + c.args.len / 512 ≤ length c.self.inside.bytes.items / 512 =
     subst (λ (s : Contents). c.args.sector + c.args.len / 512 ≤ capacity s) (sym c.self.view_is) c.start_of-start.ensures.within in
     let same : length c.gather_at.new.bytes.items / 512 ≡ length c.self.inside.bytes.items / 512 =
-        ap (λ n. n / 512) c.gather_at.ensures.size in
+    ap (λ n. n / 512) c.gather_at.ensures.size in
     let room : length c.self.inside.bytes.items / 512 ≤ vec_capacity c.self.inside.dirty = c.self.invariant.1 in (
       disk_kept c.self.inside.bytes.items c.gather_at.new.bytes.items c.self.inside.dirty.items c.mark_written.new.dirty.items c.args.sector
           (c.args.len / 512)
@@ -32,7 +32,7 @@ returns g c =
     c.gather_at.ensures.items ∙ ap (λ n. written c.self.inside.bytes.items n new) c.start_of-start.ensures.start in
     let dirty : c.mark_written.new.dirty.items ≡ with_written c.self.inside.dirty.items c.args.sector (length new / 512) =
     c.mark_written.ensures.items ∙ ap (λ n. with_written c.self.inside.dirty.items c.args.sector (n / 512))
-        (sym c.gather_at.ensures.count) in
+    (sym c.gather_at.ensures.count) in
     ap (λ bs. contents_of bs c.mark_written.new.dirty.items) bytes
     ∙ (ap (λ ds. contents_of (written c.self.inside.bytes.items (512 * c.args.sector) new) ds) dirty
     ∙ ap (λ s. contents_with s c.args.sector new) c.self.view_is)

@@ -8,7 +8,7 @@ pub returns-then-not-in_capacity-clause-status : goal.returns-then-not-in_capaci
 returns-then-not-in_capacity-clause-status g c =
     let new : List ℕ = drop 16 (readable_bytes (g.R.GuestRam.bytes c.args.ram.now) c.args.chain.now.parts) in
     let count : length new ≡ c.args.len = length_payload (g.R.GuestRam.bytes c.args.ram.now) c.args.chain.now.parts c.args.len
-        c.requires.inside c.requires.all in
+    c.requires.inside c.requires.all in
     let no : in_capacity c.args.self.now c.args.sector c.args.len ≡ false = grind (arith, c.in_capacity.ensures) in
     sym (ap (λ o. o.status) (write_fails c.args.self.now c.args.sector new c.args.len count no))
 
@@ -16,7 +16,7 @@ pub returns-then-not-in_capacity-clause-disk : goal.returns-then-not-in_capacity
 returns-then-not-in_capacity-clause-disk g c =
     let new : List ℕ = drop 16 (readable_bytes (g.R.GuestRam.bytes c.args.ram.now) c.args.chain.now.parts) in
     let count : length new ≡ c.args.len = length_payload (g.R.GuestRam.bytes c.args.ram.now) c.args.chain.now.parts c.args.len
-        c.requires.inside c.requires.all in
+    c.requires.inside c.requires.all in
     let no : in_capacity c.args.self.now c.args.sector c.args.len ≡ false = grind (arith, c.in_capacity.ensures) in
     sym (ap (λ o. o.disk) (write_fails c.args.self.now c.args.sector new c.args.len count no))
 
@@ -24,7 +24,7 @@ pub returns-clause-status : goal.returns-clause-status
 returns-clause-status g c =
     let new : List ℕ = drop 16 (readable_bytes (g.R.GuestRam.bytes c.args.ram.now) c.args.chain.now.parts) in
     let count : length new ≡ c.args.len = length_payload (g.R.GuestRam.bytes c.args.ram.now) c.args.chain.now.parts c.args.len
-        c.requires.inside c.requires.all in
+    c.requires.inside c.requires.all in
     let yes : in_capacity c.args.self.now c.args.sector c.args.len ≡ true = grind (arith, c.in_capacity.ensures) in
     sym (ap (λ o. o.status) (write_done c.args.self.now c.args.sector new c.args.len count yes))
 
@@ -32,6 +32,6 @@ pub returns-clause-disk : goal.returns-clause-disk
 returns-clause-disk g c =
     let new : List ℕ = drop 16 (readable_bytes (g.R.GuestRam.bytes c.args.ram.now) c.args.chain.now.parts) in
     let count : length new ≡ c.args.len = length_payload (g.R.GuestRam.bytes c.args.ram.now) c.args.chain.now.parts c.args.len
-        c.requires.inside c.requires.all in
+    c.requires.inside c.requires.all in
     let yes : in_capacity c.args.self.now c.args.sector c.args.len ≡ true = grind (arith, c.in_capacity.ensures) in
     c.write.ensures ∙ sym (ap (λ o. o.disk) (write_done c.args.self.now c.args.sector new c.args.len count yes))

@@ -12,4 +12,4 @@ returns c =
     let p = c.args.ports.now in
     subst (λ q. OnlyLands (frames_of es) p q) (sym c.ack.ensures.ports)
     (only_lands_some (frames_of es) (frames_to n es) p (ports_after p (frames_to n es)) (up_to_among_all n es)
-        (only_lands p (frames_to n es)))
+    (only_lands p (frames_to n es)))

@@ -11,10 +11,12 @@ invariant_of-self c =
     let client = client_from_test c.args.self.now c.args.client (sym c.is_client.ensures ∙ c.if-not-is_client.false) in
     let xs = c.index_mut-inbox.result.now.items in
     let at = inbox_seen c.self.inside c.args.client c.args.self.now c.self.view_is c.self.invariant client c.index_mut-inbox.result.now
-        c.index_mut-inbox.ensures.value in
+    c.index_mut-inbox.ensures.value in
     let room : length xs < INBOX_FRAMES = omega (arith, c.inbox_len.ensures.len, ap (λ l. length l) at.0) in
-    let frame : IsFrame c.frame_of.result = (omega (arith, ap (λ l. length l) c.frame_of.ensures),
-        omega (arith, ap (λ l. length l) c.frame_of.ensures)) in
+    let frame : IsFrame c.frame_of.result = (
+      omega (arith, ap (λ l. length l) c.frame_of.ensures),
+      omega (arith, ap (λ l. length l) c.frame_of.ensures),
+    ) in
     (inbox_changed c.self.inside c.args.client c.args.self.now c.self.view_is c.self.invariant client (c.self.inside.next + 1)
     (λ l. l ++ (c.self.inside.next, c.frame_of.result) ∷ []) c.index_mut-inbox.result.now c.put_last.new.ring
     (omega arith, omega arith)
@@ -25,13 +27,15 @@ returns-clause-delivered c =
     let client = client_from_test c.args.self.now c.args.client (sym c.is_client.ensures ∙ c.if-not-is_client.false) in
     let xs = c.index_mut-inbox.result.now.items in
     let at = inbox_seen c.self.inside c.args.client c.args.self.now c.self.view_is c.self.invariant client c.index_mut-inbox.result.now
-        c.index_mut-inbox.ensures.value in
+    c.index_mut-inbox.ensures.value in
     let room : length xs < INBOX_FRAMES = omega (arith, c.inbox_len.ensures.len, ap (λ l. length l) at.0) in
-    let frame : IsFrame c.frame_of.result = (omega (arith, ap (λ l. length l) c.frame_of.ensures),
-        omega (arith, ap (λ l. length l) c.frame_of.ensures)) in
+    let frame : IsFrame c.frame_of.result = (
+      omega (arith, ap (λ l. length l) c.frame_of.ensures),
+      omega (arith, ap (λ l. length l) c.frame_of.ensures),
+    ) in
     let after : ℕ → List ℕ → PortsState = λ n bytes. let s : PortsState =
-        record (with_inbox c.args.self.now c.args.client (inbox_of c.args.self.now c.args.client ++ (n, record { items = bytes }) ∷ []))
-        { next = n + 1 } in s in
+    record (with_inbox c.args.self.now c.args.client (inbox_of c.args.self.now c.args.client ++ (n, record { items = bytes }) ∷ []))
+    { next = n + 1 } in s in
     (inbox_changed c.self.inside c.args.client c.args.self.now c.self.view_is c.self.invariant client (c.self.inside.next + 1)
     (λ l. l ++ (c.self.inside.next, c.frame_of.result) ∷ []) c.index_mut-inbox.result.now c.put_last.new.ring
     (omega arith, omega arith)

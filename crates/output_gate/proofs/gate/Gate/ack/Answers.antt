@@ -19,17 +19,23 @@ pub land_all-landed-requires-clause-frames : goal.land_all-landed-requires-claus
 land_all-landed-requires-clause-frames c =
     All-take IsFrame c.frames_in-count.result c.as_slice-frames.result.now
     (subst (λ l. All IsFrame l) (sym c.as_slice-frames.ensures.value)
-        (row_frames c.self.inside c.args.self.now c.self.view_is c.self.invariant))
+    (row_frames c.self.inside c.args.self.now c.self.view_is c.self.invariant))
 
 pub land_all-landed-requires-clause-few : goal.land_all-landed-requires-clause-few
 land_all-landed-requires-clause-few c =
     let gate : IsGate c.args.self.now = subst IsGate c.self.view_is c.self.invariant.gate in
-    omega (arith, gate.few, row_few c.self.inside c.args.self.now c.self.view_is c.self.invariant,
-        ap (λ l. length l) c.as_slice-frames.ensures.value, length-take c.frames_in-count.result c.as_slice-frames.result.now)
+    omega (
+      arith,
+      gate.few,
+      row_few c.self.inside c.args.self.now c.self.view_is c.self.invariant,
+      ap (λ l. length l) c.as_slice-frames.ensures.value,
+      length-take c.frames_in-count.result c.as_slice-frames.result.now,
+    )
 
 pub invariant_of-self : goal.invariant_of-self
 invariant_of-self c =
-    rest_fields c.self.inside c.args.self.now c.self.view_is c.self.invariant c.args.number c.epochs_to-epochs.result c.frames_in-count.result
+    rest_fields c.self.inside c.args.self.now c.self.view_is c.self.invariant c.args.number
+    c.epochs_to-epochs.result c.frames_in-count.result
     c.as_slice-marks.result.now c.as_slice-marks.result.now c.as_slice-marks.ensures.value c.as_slice-marks.ensures.value
     c.epochs_to-epochs.ensures c.frames_in-count.ensures (record { frames = c.drop_first.new.items; marks = c.drop_first-2.new.items })
     c.drop_first-2.ensures.items c.drop_first.ensures.items c.drop_first-2.ensures.room c.drop_first.ensures.room

@@ -15,4 +15,4 @@ pub returns-clause-frames : goal.returns-clause-frames
 returns-clause-frames c =
     All-take IsFrame c.frames_in-count.result c.as_slice-frames.result.now
     (subst (λ l. All IsFrame l) (sym c.as_slice-frames.ensures.value)
-        (row_frames c.self.inside c.args.self.now c.self.view_is c.self.invariant))
+    (row_frames c.self.inside c.args.self.now c.self.view_is c.self.invariant))

@@ -17,14 +17,14 @@ land_all-landed-requires-clause-few c =
 pub returns-clause-ports : goal.returns-clause-ports
 returns-clause-ports c =
     c.land_all-landed.ensures.ports ∙ ap (ports_after c.args.ports.now)
-        (c.deref.ensures.value ∙ row_is c.self.inside c.args.self.now c.self.view_is c.self.invariant)
+    (c.deref.ensures.value ∙ row_is c.self.inside c.args.self.now c.self.view_is c.self.invariant)
 
 pub returns-clause-landed : goal.returns-clause-landed
 returns-clause-landed c =
     c.land_all-landed.ensures.landed ∙ ap (landed_count c.args.ports.now)
-        (c.deref.ensures.value ∙ row_is c.self.inside c.args.self.now c.self.view_is c.self.invariant)
+    (c.deref.ensures.value ∙ row_is c.self.inside c.args.self.now c.self.view_is c.self.invariant)
 
 pub returns-clause-dropped : goal.returns-clause-dropped
 returns-clause-dropped c =
     c.land_all-landed.ensures.dropped ∙ ap (dropped_count c.args.ports.now)
-        (c.deref.ensures.value ∙ row_is c.self.inside c.args.self.now c.self.view_is c.self.invariant)
+    (c.deref.ensures.value ∙ row_is c.self.inside c.args.self.now c.self.view_is c.self.invariant)

@@ -1,5 +1,25 @@
-use Rattle.std.proofs.Common.{◌≡◌, ℕ, ◌+◌, ◌-◌, ◌≤◌, ◌<◌, List, min, sym, ◌∙◌, ap, subst, arith, false, length, length-drop, take, drop,
-    IsTrue, get_or}
+use Rattle.std.proofs.Common.{
+  ◌≡◌,
+  ℕ,
+  ◌+◌,
+  ◌-◌,
+  ◌≤◌,
+  ◌<◌,
+  List,
+  min,
+  sym,
+  ◌∙◌,
+  ap,
+  subst,
+  arith,
+  false,
+  length,
+  length-drop,
+  take,
+  drop,
+  IsTrue,
+  get_or,
+}
 use Rattle.std.proofs.lemmas.List.{drop-drop}
 use Rattle.virtqueue.specs.declared.chains.Descriptor.{Descriptor}
 use Rattle.virtqueue.specs.Memory.{place_of, written}
@@ -30,7 +50,7 @@ write_buffer-requires-clause-inside g c =
     let parts : List Descriptor = c.parts-parts.result.now in
     let all : BuffersInside size parts = subst (BuffersInside size) (sym c.parts-parts.ensures.value) c.requires.inside in
     rw c.loop-part.invariant.size (inside_at size parts c.loop-part.part-index (record { address = 0; len = 0; writable = false }) all
-        c.loop-part-test.true)
+    c.loop-part-test.true)
 
 pub loop-part-preserved : goal.loop-part-preserved
 loop-part-preserved g c =
@@ -51,7 +71,7 @@ loop-part-preserved g c =
     let least : count ≡ min (part.len - c.loop-part.skip) (length from - done) = rw (← c.from-len.ensures) c.min-count.ensures in
     let least_left : count ≡ min (part.len - c.loop-part.skip) (length (drop done from)) = rw (length-drop done from) least in
     let step = pass_in parts k past c.loop-part-test.true bytes (drop done from) c.loop-part.skip count c.if-not-part.false inside in_buffer
-        least_left in
+    least_left in
     let place : ℕ = place_of part.address + c.loop-part.skip in
     let rest : List ℕ = writable_places (drop (k + 1) parts) in
     let piece : done + count - done ≡ count = omega arith in
