@@ -1,12 +1,12 @@
 -- Blocks: what XOR gives back, and what differs.
-use Rattle.std.proofs.Common.{◌≡◌, ℕ, zero, suc, ◌+◌, ◌*◌, ◌<◌, ◌≤◌, Bool, true, false, ◌||◌, ◌==◌, not, List, [], ◌∷◌, ◌++◌, length, take, drop, map, cond, refl, sym, ap, ◌∙◌, arith}
+use Rattle.std.proofs.Common.{◌≡◌, ℕ, zero, suc, ◌+◌, ◌*◌, ◌≤◌, Bool, true, false, ◌||◌, ◌==◌, not, List, [], ◌∷◌, ◌++◌, length, take, drop, map, cond, refl, sym, ap, ◌∙◌, arith}
 use Rattle.std.specs.Int.Bits.{bit_xor, xor_assoc, xor_self, xor_zero_l}
-use Rattle.std.proofs.lemmas.Bool.{eqb-true, cases_Bool, true≢false}
+use Rattle.std.proofs.lemmas.Bool.{eqb-true, true≢false}
 use Rattle.std.proofs.Math.Seq.{take-add}
 use Rattle.std.proofs.lemmas.List.{take_at, drop_at, drop-drop, take-append-drop, length-take-le, length-drop, append_assoc, append-nil, take_all, nil_from_length}
 use Rattle.std.specs.List.{range_with_len, filter}
 use Rattle.guest_machine.specs.Bytes.{with_bytes}
-use Rattle.epoch_snapshot.specs.Blocks.{xored, differ, is_zero, block_in, with_xored, block_differs}
+use Rattle.epoch_snapshot.specs.Blocks.{xored, differ, block_in, with_xored, block_differs}
 use Rattle.epoch_snapshot.specs.Cuts.{block_change}
 use Rattle.epoch_snapshot.specs.Images.{with_blocks}
 

@@ -1,21 +1,15 @@
 -- What a cut records of memory: a canonical checkpoint's pages and blocks, and its image.
-use Rattle.std.proofs.Common.{◌≡◌, ◌≢◌, ℕ, zero, suc, ◌+◌, ◌*◌, ◌^◌, ◌<◌, ◌≤◌, ◌==◌, ◌&&◌, ◌||◌, not, Bool, true, false, cond, List, [], ◌∷◌, ◌++◌, length, map, refl, sym, ap, ◌∙◌, arith, subst, length-append}
-use Rattle.std.specs.Prelude.{All, IsTrue, count_ones}
-use Rattle.std.specs.List.{range_with_len, filter, sum_by}
-use Rattle.std.specs.Int.Bits.{bit_xor, xor_zero_r}
+use Rattle.std.proofs.Common.{◌≡◌, ℕ, zero, suc, ◌+◌, ◌*◌, ◌==◌, not, Bool, true, false, cond, List, [], ◌∷◌, ◌++◌, length, map, refl, sym, ap, ◌∙◌, arith}
+use Rattle.std.specs.List.{range_with_len, filter}
 use Rattle.std.proofs.lemmas.Bool.{eqb-true, true≢false}
-use Rattle.std.proofs.lemmas.List.{length-map}
-use Rattle.std.proofs.lemmas.List.Elements.{filter-append, filter_passes}
-use Rattle.std.proofs.lemmas.List.Sums.{sum_by-cons}
-use Rattle.guest_machine.specs.Dirty.{Rises}
+use Rattle.std.proofs.lemmas.List.Elements.{filter-append}
 use Rattle.epoch_snapshot.specs.declared.changes.PageChange.{PageChange}
-use Rattle.epoch_snapshot.specs.Blocks.{is_zero, set_blocks, block_numbers, xored, differ, block_in, block_differs, changed_mask}
-use Rattle.epoch_snapshot.specs.Checkpoints.{block_count}
+use Rattle.epoch_snapshot.specs.Blocks.{set_blocks, block_numbers, block_differs, changed_mask}
 use Rattle.epoch_snapshot.specs.Cuts.{page_change, is_changed, changed_pages, block_change, changed_blocks}
 use Rattle.epoch_snapshot.specs.Images.{with_blocks}
 use Rattle.epoch_snapshot.proofs.RangeLemmas.{range-append, filter-shift}
-use Rattle.epoch_snapshot.proofs.MaskLemmas.{length-set_blocks, set_blocks-changed, set_blocks-zero, changed_mask-lt}
-use Rattle.epoch_snapshot.proofs.BlockLemmas.{with_blocks-all, xor_twice}
+use Rattle.epoch_snapshot.proofs.MaskLemmas.{set_blocks-changed, set_blocks-zero}
+use Rattle.epoch_snapshot.proofs.BlockLemmas.{with_blocks-all}
 
 module _ (old new : List ℕ) where
   -- the blocks that one page's mask names

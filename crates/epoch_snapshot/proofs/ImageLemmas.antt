@@ -1,5 +1,5 @@
 -- A cut is canonical, and its image is the machine's guest.
-use Rattle.std.proofs.Common.{◌≡◌, ℕ, zero, suc, ◌+◌, ◌*◌, ◌/◌, ◌^◌, ◌<◌, ◌≤◌, ◌==◌, cond, not, Bool, true, false, List, [], ◌∷◌, length, replicate, map, refl, sym, ap, ◌∙◌, arith, subst}
+use Rattle.std.proofs.Common.{◌≡◌, ℕ, ◌*◌, ◌^◌, ◌<◌, ◌≤◌, ◌==◌, cond, not, false, List, length, replicate, map, sym, ap, ◌∙◌, arith, subst}
 use Rattle.std.specs.Prelude.{All, IsTrue}
 use Rattle.std.proofs.lemmas.List.{length-replicate}
 use Rattle.std.proofs.lemmas.Bool.{eq-eqb, ne_eqb}
@@ -12,11 +12,11 @@ use Rattle.epoch_snapshot.specs.declared.changes.SectorChange.{SectorChange}
 use Rattle.epoch_snapshot.specs.Bases.{IsBase, IsCut}
 use Rattle.epoch_snapshot.specs.Blocks.{is_zero, block_numbers}
 use Rattle.epoch_snapshot.specs.Checkpoints.{Change, IsCanonical, block_count}
-use Rattle.epoch_snapshot.specs.Cuts.{sector_of, changed_pages, changed_blocks, changed_sectors, used_sectors}
+use Rattle.epoch_snapshot.specs.Cuts.{sector_of, changed_blocks, changed_sectors, used_sectors}
 use Rattle.epoch_snapshot.specs.Images.{with_blocks, with_sectors, base_ram, base_sectors, image_of}
 use Rattle.epoch_snapshot.proofs.CutLemmas.{with_blocks-cut}
 use Rattle.epoch_snapshot.proofs.CanonicalLemmas.{Rises-changed, masks-changed, length-changed_blocks, blocks-changed}
-use Rattle.epoch_snapshot.proofs.SectorLemmas.{AgreesOff, AgreesOff-zero, with_sectors-changed, numbers-changed, Rises-used, used-nonzero}
+use Rattle.epoch_snapshot.proofs.SectorLemmas.{AgreesOff, AgreesOff-zero, with_sectors-changed, numbers-changed, Rises-used}
 
 -- what a cut keeps of a machine is canonical
 pub IsCanonical-cut : (old listed : List ℕ) (m : State) (generation number : ℕ) (c : Change) → IsCut old listed m generation number c →

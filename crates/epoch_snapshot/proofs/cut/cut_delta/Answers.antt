@@ -1,12 +1,12 @@
 -- The parts are a canonical cut's, and its image over a base is the machine's guest.
-use Rattle.std.proofs.Common.{◌≡◌, ℕ, ◌+◌, ◌*◌, ◌++◌, List, length, refl, sym, ap, ◌∙◌, arith, subst, ◌≤◌}
+use Rattle.std.proofs.Common.{◌+◌, ◌*◌, ◌++◌, List, length, refl, sym, ap, ◌∙◌, arith, subst, ◌≤◌}
 use Rattle.std.specs.Prelude.{All}
 use Rattle.epoch_snapshot.specs.declared.changes.PageChange.{PageChange}
 use Rattle.epoch_snapshot.specs.Blocks.{block_numbers}
 use Rattle.epoch_snapshot.specs.Checkpoints.{change_of}
 use Rattle.epoch_snapshot.specs.Images.{image_of}
 use Rattle.guest_machine.specs.MachineStates.{with_state}
-use Rattle.epoch_snapshot.specs.Cuts.{changed_pages, changed_blocks}
+use Rattle.epoch_snapshot.specs.Cuts.{changed_blocks}
 use Rattle.epoch_snapshot.proofs.CanonicalLemmas.{numbers-count}
 use Rattle.epoch_snapshot.proofs.ImageLemmas.{IsCanonical-cut, image-delta}
 use Rattle.epoch_snapshot.proofs.PageLemmas.{pages_within}

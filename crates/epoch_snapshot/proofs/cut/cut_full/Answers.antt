@@ -1,5 +1,5 @@
 -- The parts are a canonical cut's, and its image over any guest is the machine's.
-use Rattle.std.proofs.Common.{◌≡◌, ℕ, ◌+◌, ◌*◌, ◌≤◌, ◌++◌, List, length, replicate, refl, sym, ap, ◌∙◌, arith, subst, lit<}
+use Rattle.std.proofs.Common.{ℕ, ◌+◌, ◌*◌, ◌≤◌, ◌++◌, List, length, replicate, refl, sym, ap, ◌∙◌, arith, subst, lit<}
 use Rattle.std.specs.Prelude.{All}
 use Rattle.guest_machine.specs.MachineStates.{with_state}
 use Rattle.epoch_snapshot.specs.declared.changes.PageChange.{PageChange}

@@ -1,5 +1,5 @@
 -- A page whose mask isn't 0 counts, and so do the mask's ones.
-use Rattle.std.proofs.Common.{◌≡◌, ℕ, ◌+◌, ◌*◌, length, ap, sym, ◌∙◌, arith, refl}
+use Rattle.std.proofs.Common.{length, ap, ◌∙◌, arith}
 use Rattle.std.proofs.lemmas.List.{length_push}
 use Rattle.epoch_snapshot.specs.Bases.{old_ram}
 use Rattle.epoch_snapshot.specs.Checkpoints.{block_count}

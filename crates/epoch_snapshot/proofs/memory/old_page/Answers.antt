@@ -1,5 +1,5 @@
 -- Each block of the page is the same block of what the checkpoint is cut over.
-use Rattle.std.proofs.Common.{◌≡◌, ℕ, ◌+◌, ◌*◌, length, ap, sym, ◌∙◌, arith}
+use Rattle.std.proofs.Common.{◌+◌, ◌*◌, length, ap, sym, ◌∙◌, arith}
 use Rattle.epoch_snapshot.specs.Bases.{old_ram}
 use Rattle.epoch_snapshot.specs.Blocks.{block_in}
 use Rattle.epoch_snapshot.proofs.PageLemmas.{block_in-page, zero_block}

@@ -1,5 +1,5 @@
 -- A page that wasn't written is the same, and so its mask is 0.
-use Rattle.std.proofs.Common.{◌≡◌, ℕ, ◌+◌, ◌*◌, length, ap, sym, ◌∙◌, arith}
+use Rattle.std.proofs.Common.{ap, sym, ◌∙◌, arith}
 use Rattle.epoch_snapshot.specs.Bases.{old_ram}
 use Rattle.epoch_snapshot.specs.Blocks.{block_in, changed_mask}
 use Rattle.epoch_snapshot.proofs.PageLemmas.{block_in-page, mask-same, mask-pages}

@@ -1,8 +1,8 @@
 -- The blocks of one page more.
-use Rattle.std.proofs.Common.{◌≡◌, ℕ, List, ◌+◌, ◌*◌, ◌++◌, ◌∷◌, [], length, take, map, get_or, ap, sym, ◌∙◌, arith, refl, vec_capacity, length-append}
+use Rattle.std.proofs.Common.{◌+◌, ◌*◌, ◌++◌, length, take, map, get_or, ap, sym, ◌∙◌, arith, refl, length-append}
 use Rattle.std.proofs.lemmas.List.{length-map, append-nil, append_assoc, map-append}
 use Rattle.epoch_snapshot.specs.Bases.{old_ram}
-use Rattle.epoch_snapshot.specs.Blocks.{block_in, xored, set_blocks, block_numbers}
+use Rattle.epoch_snapshot.specs.Blocks.{block_in, set_blocks, block_numbers}
 use Rattle.epoch_snapshot.specs.Cuts.{block_change, changed_blocks}
 use Rattle.epoch_snapshot.specs.declared.changes.PageChange.{PageChange}
 use Rattle.epoch_snapshot.proofs.PageLemmas.{block_in-page, page_blocks, numbers-more, numbers-room}

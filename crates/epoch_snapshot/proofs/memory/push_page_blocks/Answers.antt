@@ -1,8 +1,8 @@
 -- A block that the mask names is added.
-use Rattle.std.proofs.Common.{◌≡◌, ℕ, List, ◌+◌, ◌*◌, ◌==◌, ◌++◌, ◌∷◌, [], length, map, ap, sym, ◌∙◌, arith, refl, vec_capacity, length-append}
+use Rattle.std.proofs.Common.{◌≡◌, ℕ, List, ◌==◌, ◌++◌, length, map, ap, ◌∙◌, arith, length-append}
 use Rattle.std.specs.Int.{bit_at}
 use Rattle.std.specs.List.{range_with_len, filter}
-use Rattle.std.proofs.lemmas.List.{length-map, append-nil}
+use Rattle.std.proofs.lemmas.List.{length-map}
 use Rattle.epoch_snapshot.specs.Blocks.{block_in, xored, set_blocks}
 use Rattle.epoch_snapshot.proofs.PageLemmas.{blocks-push, blocks-skip, fewer_blocks}
 use Rattle.epoch_snapshot.proofs.memory.push_page_blocks.Goals as goal

@@ -1,5 +1,5 @@
 -- The list holds the changed ones among the pages so far.
-use Rattle.std.proofs.Common.{◌≡◌, length, vec_capacity}
+use Rattle.std.proofs.Common.{◌≡◌, vec_capacity}
 use Rattle.epoch_snapshot.specs.Bases.{old_ram}
 use Rattle.epoch_snapshot.specs.Cuts.{changed_pages}
 use Rattle.epoch_snapshot.proofs.memory.push_pages.Given as goal

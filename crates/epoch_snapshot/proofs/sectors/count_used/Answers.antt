@@ -1,5 +1,5 @@
 -- A sector counts where it isn't all zero.
-use Rattle.std.proofs.Common.{◌≡◌, ℕ, ◌+◌, ◌*◌, length, ap, sym, ◌∙◌, arith}
+use Rattle.std.proofs.Common.{length, ap, ◌∙◌, arith}
 use Rattle.std.proofs.lemmas.List.{length_push}
 use Rattle.epoch_snapshot.specs.Cuts.{used_sectors}
 use Rattle.epoch_snapshot.proofs.SectorLemmas.{zero-flag, used-push, used-skip, no_sectors}

@@ -1,6 +1,6 @@
 -- A sector is added where it isn't all zero.
-use Rattle.std.proofs.Common.{◌≡◌, ℕ, ◌+◌, ◌*◌, ◌++◌, ◌∷◌, [], length, map, ap, sym, ◌∙◌, arith, refl, vec_capacity}
-use Rattle.std.proofs.lemmas.List.{length_push, length-map, map-append, append-nil}
+use Rattle.std.proofs.Common.{◌+◌, ◌++◌, ◌∷◌, [], length, ap, sym, ◌∙◌, arith, refl}
+use Rattle.std.proofs.lemmas.List.{length_push, length-map, map-append}
 use Rattle.epoch_snapshot.specs.Cuts.{sector_change, changed_sectors, used_sectors}
 use Rattle.epoch_snapshot.proofs.SectorLemmas.{zero-flag, used-push, used-skip, no_sectors, length-fewer_used}
 use Rattle.epoch_snapshot.proofs.sectors.push_used.Goals as goal

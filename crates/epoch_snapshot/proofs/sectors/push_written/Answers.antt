@@ -1,5 +1,5 @@
 -- Each listed sector is one of the disk's.
-use Rattle.std.proofs.Common.{◌≡◌, ℕ, ◌*◌, ◌/◌, ◌<◌, length, get_or, ap, sym, ◌∙◌, arith}
+use Rattle.std.proofs.Common.{arith}
 use Rattle.guest_machine.specs.Guest.{sector_count}
 use Rattle.epoch_snapshot.proofs.SectorLemmas.{Rises-at}
 use Rattle.epoch_snapshot.proofs.sectors.push_written.Goals as goal
