@@ -1,12 +1,11 @@
 -- What a unit makes of a reading doesn't depend on what was taken of the unit before.
-use Rattle.std.proofs.Common.{◌≡◌, ℕ, ◌+◌, ◌++◌, ◌==◌, ◌&&◌, List, Bool, true, false, refl, nat_le, nat_lt}
-use Rattle.epoch_snapshot.specs.Blocks.{is_zero}
+use Rattle.std.proofs.Common.{◌≡◌, ℕ, ◌++◌, List, Bool, true, false, refl}
 use Rattle.checkpoint_stream.specs.declared.rules.Row.{Row}
-use Rattle.checkpoint_stream.specs.declared.rules.Width.TheVariants.{Four, Eight}
 use Rattle.checkpoint_stream.specs.declared.place.Place.{Place}
-use Rattle.checkpoint_stream.specs.declared.place.Place.TheVariants.{Head, PageCount, PageIndex, PageMask, Block, SectorCount, SectorIndex, SectorBytes, Whole, Failed}
-use Rattle.checkpoint_stream.specs.HeadTable.{passes, number_of, row_at}
-use Rattle.checkpoint_stream.specs.Readings.{Reading, is_closed, is_full, pages_due, sectors_due, moved_if, kept_number, kept_mask, kept_block, kept_sector, judged, judged_at}
+use Rattle.checkpoint_stream.specs.declared.place.Place.TheVariants.{Head, PageCount, PageIndex, PageMask, Block, SectorCount}
+use Rattle.checkpoint_stream.specs.declared.place.Place.TheVariants.{SectorIndex, SectorBytes, Whole, Failed}
+use Rattle.checkpoint_stream.specs.Readings.{Reading, is_closed, moved_if, kept_number, kept_mask}
+use Rattle.checkpoint_stream.specs.Readings.{kept_block, kept_sector, judged, judged_at}
 
 -- the reading with more of the unit that has begun
 abbrev pub with_more : Reading → List ℕ → Reading
@@ -22,7 +21,8 @@ unfolding moved_if
 moved_if-more false r xs p = refl
 moved_if-more true r xs p = refl
 
-kept_mask-more : (b : Bool) (r : Reading) (xs : List ℕ) (left page mask : ℕ) → kept_mask b (with_more r xs) left page mask ≡ kept_mask b r left page mask
+kept_mask-more : (b : Bool) (r : Reading) (xs : List ℕ) (left page mask : ℕ) →
+    kept_mask b (with_more r xs) left page mask ≡ kept_mask b r left page mask
 unfolding kept_mask
 kept_mask-more false r xs left page mask = refl
 kept_mask-more true r xs left page mask = refl

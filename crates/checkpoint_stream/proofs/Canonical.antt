@@ -1,22 +1,21 @@
 -- A reading that is whole and sound is that of a canonical checkpoint.
-use Rattle.std.proofs.Common.{◌≡◌, ℕ, suc, zero, ◌+◌, ◌%◌, ◌^◌, ◌<◌, ◌≤◌, ◌==◌, ◌&&◌, ◌||◌, IsTrue, List, [], ◌∷◌, length, Bool, true, false, refl, sym, ◌∙◌, ap, subst, arith, nat_le, get_or, bit_and, lit<}
+use Rattle.std.proofs.Common.{◌≡◌, ℕ, suc, zero, ◌%◌, ◌^◌, ◌<◌, ◌≤◌, ◌==◌, ◌&&◌, ◌||◌, IsTrue, List, [], ◌∷◌, length, true}
+use Rattle.std.proofs.Common.{false, refl, sym, subst, arith, nat_le, get_or, bit_and, lit<}
 use Rattle.std.proofs.lemmas.Bool.Decides.{nat_tests}
 use Rattle.std.proofs.lemmas.Nat.{and_le_r}
 use Rattle.guest_machine.specs.declared.shapes.Shape.{Shape}
 use Rattle.guest_machine.specs.MachineStates.{IsMachineState}
-use Rattle.virtio_mmio.specs.States.{is_queue_size, IsQueueRecord, IsDeviceRecord}
-use Rattle.virtio_mmio.specs.declared.kinds.DeviceKind.TheVariants.{Network}
-use Rattle.virtqueue.specs.declared.rings.Queue.{Queue}
+use Rattle.virtio_mmio.specs.States.{is_queue_size, IsQueueRecord}
 use Rattle.epoch_snapshot.specs.Checkpoints.{IsCanonical}
-use Rattle.mtraps.specs.CsrTable.{legal_value}
 use Rattle.checkpoint_stream.specs.declared.rules.Row.{Row}
 use Rattle.checkpoint_stream.specs.declared.place.Place.{Place}
-use Rattle.checkpoint_stream.specs.declared.place.Place.TheVariants.{Head, PageCount, PageIndex, PageMask, Block, SectorCount, SectorIndex, SectorBytes, Whole, Failed}
+use Rattle.checkpoint_stream.specs.declared.place.Place.TheVariants.{Head, PageCount, PageIndex, PageMask, Block, SectorCount}
+use Rattle.checkpoint_stream.specs.declared.place.Place.TheVariants.{SectorIndex, SectorBytes, Whole, Failed}
 use Rattle.checkpoint_stream.specs.HeadTable.{head_table, passes, number}
 use Rattle.checkpoint_stream.specs.declared.rules.Width.TheVariants.{Four}
 use Rattle.checkpoint_stream.specs.declared.rules.Rule.TheVariants.{Magic}
 use Rattle.checkpoint_stream.specs.Readings.{Reading, is_whole}
-use Rattle.checkpoint_stream.specs.Sound.{IsSound, IsHead, HasRecords, AllPass, StandsAt, change_in, state_from, queue_from}
+use Rattle.checkpoint_stream.specs.Sound.{IsSound, IsHead, HasRecords, AllPass, StandsAt, change_in, state_from}
 
 AllPass-at : (shape : Shape) (before : ℕ) (rows : List Row) (ns : List ℕ) (k : ℕ) (d : Row) → k < length ns → AllPass shape before rows ns →
     IsTrue (passes shape (get_or rows k d).rule (get_or (before ∷ ns) k 0) (get_or ns k 0))
@@ -52,8 +51,18 @@ size-small n h = grind (arith, nat_tests)
 ready-sized : (size ready : ℕ) → IsTrue (ready == 0 || (ready == 1 && nat_le 1 size)) → (ready == 1) ≡ true → 1 ≤ size
 ready-sized size ready h is = grind (arith, nat_tests)
 
-queue-record : (size ready desc driver device available used : ℕ) → IsTrue (size == 0 || is_queue_size size) → IsTrue (ready == 0 || (ready == 1 && nat_le 1 size)) →
-    IsQueueRecord (record { num = size % 2 ^ 32; ready = ready == 1; desc = desc; driver = driver; device = device; next_available = available; next_used = used })
+queue-record : (size ready desc driver device available used : ℕ) → IsTrue (size == 0 || is_queue_size size) →
+    IsTrue (ready == 0 || (ready == 1 && nat_le 1 size)) →
+    IsQueueRecord (record {
+      num = size % 2 ^ 32;
+      ready = ready == 1;
+      desc = desc;
+      driver = driver;
+      device = device;
+      next_available =
+          available;
+      next_used = used;
+    })
 queue-record size ready desc driver device available used sized made =
     let small : size % 2 ^ 32 ≡ size = low size (omega (arith, size-small size sized)) in
     record {
@@ -104,19 +113,21 @@ number-within r h known = within 0 _ 0x3fffffffffffffff (rule-at r 4 h known (li
 pub canonical : (r : Reading) → IsSound r → r.place ≡ Whole → (r.known ≡ 80) × IsCanonical (change_in r)
 unfolding change_in
 canonical r h whole =
-    let records : HasRecords r r.shape.pages 0 r.shape.sectors = subst (λ (p : Place). StandsAt p r) whole h.place in
-    (records.known, record {
-      first_generation = (generation-within r h.head records.known).0;
-      last_generation = omega (arith, (generation-within r h.head records.known).1);
-      last_number = omega (arith, (number-within r h.head records.known).1);
-      state = state-sound r h.head records.known;
-      pages = records.pages;
-      masks = records.masks;
-      block_count = omega (arith, records.count);
-      blocks = records.blocks;
-      sectors = records.sectors;
-      full_sectors = records.full;
-    })
+    let records : HasRecords r r.shape.pages 0 r.shape.sectors = subst (λ (p : Place). StandsAt p r) whole h.place in (
+      records.known,
+      record {
+        first_generation = (generation-within r h.head records.known).0;
+        last_generation = omega (arith, (generation-within r h.head records.known).1);
+        last_number = omega (arith, (number-within r h.head records.known).1);
+        state = state-sound r h.head records.known;
+        pages = records.pages;
+        masks = records.masks;
+        block_count = omega (arith, records.count);
+        blocks = records.blocks;
+        sectors = records.sectors;
+        full_sectors = records.full;
+      },
+    )
 
 pub whole-place : (p : Place) → is_whole p ≡ true → p ≡ Whole
 whole-place Head e = cc

@@ -1,11 +1,14 @@
 -- What was read stays where more is read.
-use Rattle.std.proofs.Common.{◌≡◌, ℕ, List, [], ◌∷◌, ◌++◌, ◌+◌, ◌==◌, length, if◌then◌else◌, Bool, true, false, refl, sym, ◌∙◌, ap, append_assoc}
+use Rattle.std.proofs.Common.{◌≡◌, ℕ, List, [], ◌∷◌, ◌++◌, ◌+◌, ◌==◌, length, if◌then◌else◌, Bool, true, false, refl, sym, ◌∙◌, ap}
+use Rattle.std.proofs.Common.{append_assoc}
 use Rattle.std.proofs.lemmas.List.{append-nil}
 use Rattle.checkpoint_stream.specs.declared.rules.Row.{Row}
 use Rattle.checkpoint_stream.specs.declared.place.Place.{Place}
-use Rattle.checkpoint_stream.specs.declared.place.Place.TheVariants.{Head, PageCount, PageIndex, PageMask, Block, SectorCount, SectorIndex, SectorBytes, Whole, Failed}
+use Rattle.checkpoint_stream.specs.declared.place.Place.TheVariants.{Head, PageCount, PageIndex, PageMask, Block, SectorCount}
+use Rattle.checkpoint_stream.specs.declared.place.Place.TheVariants.{SectorIndex, SectorBytes, Whole, Failed}
 use Rattle.checkpoint_stream.specs.Taken.{Extends}
-use Rattle.checkpoint_stream.specs.Readings.{Reading, is_closed, moved_if, kept_number, kept_mask, kept_block, kept_sector, judged, judged_at, fed_byte, fed, width_of}
+use Rattle.checkpoint_stream.specs.Readings.{Reading, is_closed, moved_if, kept_number, kept_mask, kept_block, kept_sector, judged}
+use Rattle.checkpoint_stream.specs.Readings.{judged_at, fed_byte, fed, width_of}
 
 pub Extends-itself : (r : Reading) → Extends r r
 Extends-itself r = record {
@@ -35,13 +38,15 @@ kept_mask-extends true a r left page mask e = record { shape = e.shape; pages = 
 kept_mask-extends false a r left page mask e =
     record { shape = e.shape; pages = (_, pushed a.pages e.pages.0 r.pages _ e.pages.1); blocks = e.blocks; sectors = e.sectors }
 
-kept_block-extends : (b : Bool) (a r : Reading) (left page more : ℕ) (unit : List ℕ) → Extends a r → Extends a (kept_block b r left page more unit)
+kept_block-extends : (b : Bool) (a r : Reading) (left page more : ℕ) (unit : List ℕ) → Extends a r →
+    Extends a (kept_block b r left page more unit)
 unfolding kept_block
 kept_block-extends true a r left page more unit e = record { shape = e.shape; pages = e.pages; blocks = e.blocks; sectors = e.sectors }
 kept_block-extends false a r left page more unit e =
     record { shape = e.shape; pages = e.pages; blocks = (_, pushed a.blocks e.blocks.0 r.blocks unit e.blocks.1); sectors = e.sectors }
 
-kept_sector-extends : (b : Bool) (a r : Reading) (left sector : ℕ) (unit : List ℕ) → Extends a r → Extends a (kept_sector b r left sector unit)
+kept_sector-extends : (b : Bool) (a r : Reading) (left sector : ℕ) (unit : List ℕ) → Extends a r →
+    Extends a (kept_sector b r left sector unit)
 unfolding kept_sector
 kept_sector-extends true a r left sector unit e = record { shape = e.shape; pages = e.pages; blocks = e.blocks; sectors = e.sectors }
 kept_sector-extends false a r left sector unit e =
@@ -67,13 +72,13 @@ pub fed_byte-extends : (a r : Reading) (b : ℕ) → Extends a r → Extends a (
 unfolding fed_byte
 fed_byte-extends a r b e =
     elim (is_closed r.place) as (λ (closed : Bool). Extends a (if closed then r else (if length r.partial + 1 == width_of r
-      then judged r (r.partial ++ b ∷ []) else record r { partial = r.partial ++ b ∷ [] }))) [
-      true ↦ e
-    | false ↦ elim (length r.partial + 1 == width_of r) as (λ (whole : Bool). Extends a (if whole
-        then judged r (r.partial ++ b ∷ []) else record r { partial = r.partial ++ b ∷ [] })) [
-        true ↦ judged-extends a r _ e
-      | false ↦ record { shape = e.shape; pages = e.pages; blocks = e.blocks; sectors = e.sectors }
-      ]
+    then judged r (r.partial ++ b ∷ []) else record r { partial = r.partial ++ b ∷ [] }))) [
+      | true ↦ e
+      | false ↦ elim (length r.partial + 1 == width_of r) as (λ (whole : Bool). Extends a (if whole
+          then judged r (r.partial ++ b ∷ []) else record r { partial = r.partial ++ b ∷ [] })) [
+            | true ↦ judged-extends a r _ e
+            | false ↦ record { shape = e.shape; pages = e.pages; blocks = e.blocks; sectors = e.sectors }
+          ]
     ]
 
 pub fed-extends : (a r : Reading) (bytes : List ℕ) → Extends a r → Extends a (fed r bytes)

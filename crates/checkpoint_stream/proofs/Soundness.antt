@@ -1,5 +1,7 @@
 -- Each unit leaves a sound reading sound.
-use Rattle.std.proofs.Common.{◌≡◌, ◌≢◌, ℕ, suc, zero, ◌+◌, ◌-◌, ◌<◌, ◌≤◌, ◌==◌, ◌&&◌, not, IsTrue, List, [], ◌∷◌, ◌++◌, length, map, Bool, true, false, refl, sym, ◌∙◌, ap, subst, arith, nat_le, nat_lt, get_or, count_ones, if◌then◌else◌, length-append, add-one, All}
+use Rattle.std.proofs.Common.{◌≡◌, ◌≢◌, ℕ, suc, zero, ◌+◌, ◌-◌, ◌<◌, ◌≤◌, ◌==◌, ◌&&◌, not, IsTrue, List, [], ◌∷◌, ◌++◌, length, Bool}
+use Rattle.std.proofs.Common.{true, false, refl, sym, ◌∙◌, ap, subst, arith, nat_le, nat_lt, get_or, count_ones, if◌then◌else◌}
+use Rattle.std.proofs.Common.{length-append, add-one, All}
 use Rattle.std.proofs.lemmas.Bool.Decides.{nat_tests}
 use Rattle.std.proofs.lemmas.Nat.{zero_from_ones}
 use Rattle.std.proofs.lemmas.List.{map-append}
@@ -10,14 +12,16 @@ use Rattle.guest_machine.specs.declared.shapes.Shape.{Shape}
 use Rattle.epoch_snapshot.specs.declared.changes.PageChange.{PageChange}
 use Rattle.epoch_snapshot.specs.declared.changes.SectorChange.{SectorChange}
 use Rattle.epoch_snapshot.specs.Blocks.{is_zero}
-use Rattle.epoch_snapshot.specs.Checkpoints.{block_count}
 use Rattle.checkpoint_stream.specs.declared.rules.Row.{Row}
 use Rattle.checkpoint_stream.specs.declared.place.Place.{Place}
-use Rattle.checkpoint_stream.specs.declared.place.Place.TheVariants.{Head, PageCount, PageIndex, PageMask, Block, SectorCount, SectorIndex, SectorBytes, Whole, Failed}
-use Rattle.checkpoint_stream.specs.declared.rules.Width.TheVariants.{Four, Eight}
+use Rattle.checkpoint_stream.specs.declared.place.Place.TheVariants.{Head, PageCount, PageIndex, PageMask, Block, SectorCount}
+use Rattle.checkpoint_stream.specs.declared.place.Place.TheVariants.{SectorIndex, SectorBytes, Whole, Failed}
+use Rattle.checkpoint_stream.specs.declared.rules.Width.TheVariants.{Four}
 use Rattle.checkpoint_stream.specs.HeadTable.{head_table, row_at, passes, number_of, number}
 use Rattle.checkpoint_stream.specs.declared.rules.Rule.TheVariants.{Magic}
-use Rattle.checkpoint_stream.specs.Readings.{Reading, is_full, failed, moved, pages_due, sectors_due, after_block, after_number, moved_if, kept_number, kept_mask, kept_block, kept_sector, judged, judged_at, is_closed, fed_byte, fed, begun, width_of}
+use Rattle.checkpoint_stream.specs.Readings.{Reading, is_full, failed, moved, pages_due, sectors_due, after_block, after_number, moved_if}
+use Rattle.checkpoint_stream.specs.Readings.{kept_number, kept_mask, kept_block, kept_sector, judged, judged_at, is_closed, fed_byte, fed}
+use Rattle.checkpoint_stream.specs.Readings.{begun, width_of}
 use Rattle.checkpoint_stream.specs.Sound.{IsSound, IsHead, HasNoRecords, HasRecords, StandsAt, AllPass, last_after}
 
 -- rising lists
@@ -30,7 +34,8 @@ Rises-push from end n [] h r = (omega (arith, h, r), omega arith)
 Rises-push from end n (i ∷ is) h r = (r.0, Rises-push (i + 1) end n is h r.1)
 
 -- the head's numbers
-AllPass-push : (shape : Shape) (before : ℕ) (rows : List Row) (ns : List ℕ) (n : ℕ) (d : Row) → length ns < length rows → AllPass shape before rows ns →
+AllPass-push : (shape : Shape) (before : ℕ) (rows : List Row) (ns : List ℕ) (n : ℕ) (d : Row) → length ns < length rows →
+    AllPass shape before rows ns →
     IsTrue (passes shape (get_or rows (length ns) d).rule (last_after before ns) n) → AllPass shape before rows (ns ++ n ∷ [])
 AllPass-push shape before [] [] n d h all p = absurd (omega (arith, h))
 AllPass-push shape before (row ∷ rows) [] n d h all p = (p, tt)
@@ -42,15 +47,23 @@ last_after-push before [] n = refl
 last_after-push before (m ∷ ns) n = last_after-push m ns n
 
 -- what a place, an offset and records change of a reading leaves its head as it was
-keep-head : (r : Reading) (offset : ℕ) (place : Place) (pages : List PageChange) (blocks : List (List ℕ)) (sectors : List SectorChange) (partial : List ℕ) → IsHead r →
+keep-head : (r : Reading) (offset : ℕ) (place : Place) (pages : List PageChange) (blocks : List (List ℕ))
+    (sectors : List SectorChange) (partial : List ℕ) → IsHead r →
     IsHead (record r { offset = offset; place = place; pages = pages; blocks = blocks; sectors = sectors; partial = partial })
 keep-head r offset place pages blocks sectors partial h = record { known = h.known; rows = h.rows; passes = h.passes; last = h.last }
 
 keep-records : (r : Reading) (offset : ℕ) (place : Place) (partial : List ℕ) (end due sector_end : ℕ) → HasRecords r end due sector_end →
     HasRecords (record r { offset = offset; place = place; partial = partial }) end due sector_end
 keep-records r offset place partial end due sector_end h = record {
-  known = h.known; pages = h.pages; page_end = h.page_end; masks = h.masks; count = h.count; blocks = h.blocks;
-  sectors = h.sectors; sector_end = h.sector_end; full = h.full;
+  known = h.known;
+  pages = h.pages;
+  page_end = h.page_end;
+  masks = h.masks;
+  count = h.count;
+  blocks = h.blocks;
+  sectors = h.sectors;
+  sector_end = h.sector_end;
+  full = h.full;
 }
 
 failed-sound : (r : Reading) → IsHead r → IsSound (failed r)
@@ -76,35 +89,39 @@ eq-false m n e = grind (arith, nat_tests)
 stands-after_number : (r : Reading) (k : ℕ) → r.known ≡ k → k ≤ 80 → HasNoRecords r → StandsAt (after_number k) r
 stands-after_number r k e within none =
     elim (k == 80) as (λ (b : Bool). (k == 80) ≡ b → StandsAt (if b then PageCount else Head) r) [
-      true ↦ λ (is : (k == 80) ≡ true). (e ∙ eq-true k 80 is, none)
-    | false ↦ λ (is : (k == 80) ≡ false). (omega (arith, e, within, eq-false k 80 is), none)
+      | true ↦ λ (is : (k == 80) ≡ true). (e ∙ eq-true k 80 is, none)
+      | false ↦ λ (is : (k == 80) ≡ false). (omega (arith, e, within, eq-false k 80 is), none)
     ] refl
 
 length-head_table : length head_table ≡ 80
 unfolding head_table
 length-head_table = refl
 
-number-kept : (r : Reading) (n offset : ℕ) (place : Place) → IsHead r → r.known < 80 → passes r.shape (row_at r.known).rule r.before n ≡ true →
+number-kept : (r : Reading) (n offset : ℕ) (place : Place) → IsHead r → r.known < 80 →
+    passes r.shape (row_at r.known).rule r.before n ≡ true →
     IsHead (record r { offset = offset; place = place; known = r.known + 1; head = r.head ++ n ∷ []; before = n; partial = [] })
 unfolding row_at
 number-kept r n offset place h k p = record {
   known = length-append r.head (n ∷ []) ∙ ap (λ (l : ℕ). l + 1) h.known;
   rows = omega arith;
   passes = AllPass-push r.shape 0 head_table r.head n (number Four Magic) (omega (arith, h.known, length-head_table)) h.passes
-    (rw (h.known, ← h.last) p);
+      (rw (h.known, ← h.last) p);
   last = sym (last_after-push 0 r.head n);
 }
 
-number-sound : (b : Bool) (r : Reading) (n : ℕ) → IsHead r → HasNoRecords r → r.known < 80 → passes r.shape (row_at r.known).rule r.before n ≡ b →
+number-sound : (b : Bool) (r : Reading) (n : ℕ) → IsHead r → HasNoRecords r → r.known < 80 →
+    passes r.shape (row_at r.known).rule r.before n ≡ b →
     IsSound (kept_number b r (row_at r.known) n)
 unfolding kept_number
 number-sound false r n h none k p = failed-sound r h
 number-sound true r n h none k p = record {
   head = number-kept r n _ _ h k p;
-  place = stands-after_number _ (r.known + 1) refl (omega arith) (record { pages = none.pages; blocks = none.blocks; sectors = none.sectors });
+  place = stands-after_number _ (r.known + 1) refl (omega arith)
+      (record { pages = none.pages; blocks = none.blocks; sectors = none.sectors });
 }
 
-moved_if-sound : (b : Bool) (r : Reading) (place : Place) → IsHead r → (b ≡ true → StandsAt place (moved r 4 place)) → IsSound (moved_if b r place)
+moved_if-sound : (b : Bool) (r : Reading) (place : Place) → IsHead r → (b ≡ true → StandsAt place (moved r 4 place)) →
+    IsSound (moved_if b r place)
 unfolding moved_if
 moved_if-sound false r place h f = failed-sound r h
 moved_if-sound true r place h f = record { head = keep-head r _ _ _ _ _ _ h; place = f refl }
@@ -126,16 +143,32 @@ no-records r known none = record {
   full = λ _. All-nothing (λ (s : SectorChange). IsTrue (not (is_zero s.bytes))) r.sectors none.sectors;
 }
 
-higher-pages : (r : Reading) (end higher due sector_end : ℕ) → end ≤ higher → higher ≤ r.shape.pages → HasRecords r end due sector_end → HasRecords r higher due sector_end
+higher-pages : (r : Reading) (end higher due sector_end : ℕ) → end ≤ higher → higher ≤ r.shape.pages →
+    HasRecords r end due sector_end → HasRecords r higher due sector_end
 higher-pages r end higher due sector_end le top h = record {
-  known = h.known; pages = Rises-higher 0 end higher _ le h.pages; page_end = top; masks = h.masks; count = h.count; blocks = h.blocks;
-  sectors = h.sectors; sector_end = h.sector_end; full = h.full;
+  known = h.known;
+  pages = Rises-higher 0 end higher _ le h.pages;
+  page_end = top;
+  masks = h.masks;
+  count = h.count;
+  blocks = h.blocks;
+  sectors = h.sectors;
+  sector_end = h.sector_end;
+  full = h.full;
 }
 
-higher-sectors : (r : Reading) (page_end due end higher : ℕ) → end ≤ higher → higher ≤ r.shape.sectors → HasRecords r page_end due end → HasRecords r page_end due higher
+higher-sectors : (r : Reading) (page_end due end higher : ℕ) → end ≤ higher → higher ≤ r.shape.sectors →
+    HasRecords r page_end due end → HasRecords r page_end due higher
 higher-sectors r page_end due end higher le top h = record {
-  known = h.known; pages = h.pages; page_end = h.page_end; masks = h.masks; count = h.count; blocks = h.blocks;
-  sectors = Rises-higher 0 end higher _ le h.sectors; sector_end = top; full = h.full;
+  known = h.known;
+  pages = h.pages;
+  page_end = h.page_end;
+  masks = h.masks;
+  count = h.count;
+  blocks = h.blocks;
+  sectors = Rises-higher 0 end higher _ le h.sectors;
+  sector_end = top;
+  full = h.full;
 }
 
 stands-pages_due : (r : Reading) (left from : ℕ) → HasRecords r from 0 0 → StandsAt (pages_due left from) r
@@ -147,7 +180,10 @@ stands-sectors_due r zero from h = higher-sectors r r.shape.pages 0 from r.shape
 stands-sectors_due r (suc left) from h = h
 
 mask-records : (r : Reading) (left page mask : ℕ) → page < r.shape.pages → HasRecords r page 0 0 → (mask == 0) ≡ false →
-    HasRecords (moved (record r { pages = r.pages ++ (record { page = page; mask = mask }) ∷ [] }) 8 (Block left page (count_ones mask - 1))) (page + 1) (count_ones mask - 1 + 1) 0
+    HasRecords (moved (record r {
+      pages = r.pages
+          ++ (record { page = page; mask = mask }) ∷ [];
+    }) 8 (Block left page (count_ones mask - 1))) (page + 1) (count_ones mask - 1 + 1) 0
 mask-records r left page mask top h is =
     let some : mask ≢ 0 = eq-false mask 0 is in
     let ones : count_ones mask ≢ 0 = λ (e : count_ones mask ≡ 0). some (zero_from_ones mask e) in
@@ -156,15 +192,29 @@ mask-records r left page mask top h is =
       pages = rw (map-append (λ (p : PageChange). p.page) r.pages _) (Rises-push 0 page page _ (omega arith) h.pages);
       page_end = omega arith;
       masks = All-push (λ (p : PageChange). p.mask ≢ 0) r.pages _ h.masks some;
-      count = omega (arith, h.count, ones, sum_by_push (λ (p : PageChange). count_ones p.mask) r.pages (record { page = page; mask = mask }));
-      blocks = h.blocks; sectors = h.sectors; sector_end = h.sector_end; full = h.full;
+      count = omega (
+        arith,
+        h.count,
+        ones,
+        sum_by_push (λ (p : PageChange). count_ones p.mask) r.pages
+            (record { page = page; mask = mask }),
+      );
+      blocks = h.blocks;
+      sectors = h.sectors;
+      sector_end = h.sector_end;
+      full = h.full;
     }
 
 -- a mask
-mask-sound : (b : Bool) (r : Reading) (left page mask : ℕ) → IsHead r → page < r.shape.pages → HasRecords r page 0 0 → (mask == 0) ≡ b → IsSound (kept_mask b r left page mask)
+mask-sound : (b : Bool) (r : Reading) (left page mask : ℕ) → IsHead r → page < r.shape.pages → HasRecords r page 0 0 →
+    (mask == 0) ≡ b → IsSound (kept_mask b r left page mask)
 unfolding kept_mask
 mask-sound true r left page mask h top records is = failed-sound r h
-mask-sound false r left page mask h top records is = record { head = keep-head r _ _ _ _ _ _ h; place = (top, mask-records r left page mask top records is) }
+mask-sound false r left page mask h top records is = record {
+  head = keep-head r _ _ _ _ _ _ h;
+  place =
+      (top, mask-records r left page mask top records is);
+}
 
 not-zero : {b : Bool} → b ≡ false → IsTrue (not b)
 not-zero e = rw e
@@ -173,17 +223,24 @@ not-zero e = rw e
 block-records : (r : Reading) (end due sector_end : ℕ) (block : List ℕ) → is_zero block ≡ false → HasRecords r end (due + 1) sector_end →
     HasRecords (record r { blocks = r.blocks ++ block ∷ [] }) end due sector_end
 block-records r end due sector_end block is h = record {
-  known = h.known; pages = h.pages; page_end = h.page_end; masks = h.masks;
+  known = h.known;
+  pages = h.pages;
+  page_end = h.page_end;
+  masks = h.masks;
   count = omega (arith, h.count, length-append r.blocks (block ∷ []));
   blocks = All-push (λ (b : List ℕ). IsTrue (not (is_zero b))) r.blocks block h.blocks (not-zero is);
-  sectors = h.sectors; sector_end = h.sector_end; full = h.full;
+  sectors = h.sectors;
+  sector_end = h.sector_end;
+  full = h.full;
 }
 
-stands-after_block : (r : Reading) (left page more : ℕ) → page < r.shape.pages → HasRecords r (page + 1) more 0 → StandsAt (after_block left page more) r
+stands-after_block : (r : Reading) (left page more : ℕ) → page < r.shape.pages → HasRecords r (page + 1) more 0 →
+    StandsAt (after_block left page more) r
 stands-after_block r left page zero top h = stands-pages_due r left (page + 1) h
 stands-after_block r left page (suc more) top h = (top, subst (λ (due : ℕ). HasRecords r (page + 1) due 0) (sym (add-one more)) h)
 
-block-sound : (b : Bool) (r : Reading) (left page more : ℕ) (block : List ℕ) → IsHead r → page < r.shape.pages → HasRecords r (page + 1) (more + 1) 0 →
+block-sound : (b : Bool) (r : Reading) (left page more : ℕ) (block : List ℕ) → IsHead r → page < r.shape.pages →
+    HasRecords r (page + 1) (more + 1) 0 →
     is_zero block ≡ b → IsSound (kept_block b r left page more block)
 unfolding kept_block
 block-sound true r left page more block h top records is = failed-sound r h
@@ -192,20 +249,29 @@ block-sound false r left page more block h top records is = record {
   place = stands-after_block _ left page more top (keep-records _ _ _ _ _ _ _ (block-records r (page + 1) more 0 block is records));
 }
 
-zero-when-full : (r : Reading) (bytes : List ℕ) → r.known ≡ 80 → get_or r.head 4 0 ≡ 0 → (is_full r && is_zero bytes) ≡ false → is_zero bytes ≡ false
+zero-when-full : (r : Reading) (bytes : List ℕ) → r.known ≡ 80 → get_or r.head 4 0 ≡ 0 → (is_full r && is_zero bytes) ≡ false →
+    is_zero bytes ≡ false
 zero-when-full r bytes known first is = rw (known, first) at is
 
 -- a sector
-sector-records : (r : Reading) (sector : ℕ) (bytes : List ℕ) → sector < r.shape.sectors → (is_full r && is_zero bytes) ≡ false → HasRecords r r.shape.pages 0 sector →
+sector-records : (r : Reading) (sector : ℕ) (bytes : List ℕ) → sector < r.shape.sectors → (is_full r && is_zero bytes) ≡ false →
+    HasRecords r r.shape.pages 0 sector →
     HasRecords (record r { sectors = r.sectors ++ (record { sector = sector; bytes = bytes }) ∷ [] }) r.shape.pages 0 (sector + 1)
 sector-records r sector bytes top is h = record {
-  known = h.known; pages = h.pages; page_end = h.page_end; masks = h.masks; count = h.count; blocks = h.blocks;
+  known = h.known;
+  pages = h.pages;
+  page_end = h.page_end;
+  masks = h.masks;
+  count = h.count;
+  blocks = h.blocks;
   sectors = rw (map-append (λ (s : SectorChange). s.sector) r.sectors _) (Rises-push 0 sector sector _ (omega arith) h.sectors);
   sector_end = omega arith;
-  full = λ (e : get_or r.head 4 0 ≡ 0). All-push (λ (s : SectorChange). IsTrue (not (is_zero s.bytes))) r.sectors _ (h.full e) (not-zero (zero-when-full r bytes h.known e is));
+  full = λ (e : get_or r.head 4 0 ≡ 0). All-push (λ (s : SectorChange). IsTrue (not (is_zero s.bytes))) r.sectors _ (h.full e)
+      (not-zero (zero-when-full r bytes h.known e is));
 }
 
-sector-sound : (b : Bool) (r : Reading) (left sector : ℕ) (bytes : List ℕ) → IsHead r → sector < r.shape.sectors → HasRecords r r.shape.pages 0 sector →
+sector-sound : (b : Bool) (r : Reading) (left sector : ℕ) (bytes : List ℕ) → IsHead r → sector < r.shape.sectors →
+    HasRecords r r.shape.pages 0 sector →
     (is_full r && is_zero bytes) ≡ b → IsSound (kept_sector b r left sector bytes)
 unfolding kept_sector
 sector-sound true r left sector bytes h top records is = failed-sound r h
@@ -217,7 +283,8 @@ sector-sound false r left sector bytes h top records is = record {
 judged_at-sound : (p : Place) (r : Reading) (unit : List ℕ) → r.place ≡ p → IsHead r → StandsAt p r → IsSound (judged_at p r unit)
 judged_at-sound Head r unit at h s = number-sound _ r _ h s.1 s.0 refl
 judged_at-sound PageCount r unit at h s =
-    moved_if-sound _ r _ h (λ (e : nat_le (number_of Four unit) r.shape.pages ≡ true). stands-pages_due _ _ 0 (keep-records r _ _ _ 0 0 0 (no-records r s.0 s.1)))
+    moved_if-sound _ r _ h (λ (e : nat_le (number_of Four unit) r.shape.pages ≡ true). stands-pages_due _ _ 0
+    (keep-records r _ _ _ 0 0 0 (no-records r s.0 s.1)))
 judged_at-sound (PageIndex left from) r unit at h s = moved_if-sound _ r _ h (λ e.
     let tests : (nat_le from (number_of Four unit) ≡ true) × (nat_lt (number_of Four unit) r.shape.pages ≡ true) = both-true _ _ e in
     let below : number_of Four unit < r.shape.pages = lt-true _ _ tests.1 in
@@ -257,13 +324,13 @@ fed_byte-sound : (r : Reading) (b : ℕ) → IsSound r → IsSound (fed_byte r b
 unfolding fed_byte
 fed_byte-sound r b h =
     elim (is_closed r.place) as (λ (closed : Bool). IsSound (if closed then r else (if length r.partial + 1 == width_of r
-      then judged r (r.partial ++ b ∷ []) else record r { partial = r.partial ++ b ∷ [] }))) [
-      true ↦ h
-    | false ↦ elim (length r.partial + 1 == width_of r) as (λ (whole : Bool). IsSound (if whole
-        then judged r (r.partial ++ b ∷ []) else record r { partial = r.partial ++ b ∷ [] })) [
-        true ↦ judged-sound r _ h
-      | false ↦ record { head = keep-head r _ _ _ _ _ _ h.head; place = began-stands r _ h.place }
-      ]
+    then judged r (r.partial ++ b ∷ []) else record r { partial = r.partial ++ b ∷ [] }))) [
+      | true ↦ h
+      | false ↦ elim (length r.partial + 1 == width_of r) as (λ (whole : Bool). IsSound (if whole
+          then judged r (r.partial ++ b ∷ []) else record r { partial = r.partial ++ b ∷ [] })) [
+            | true ↦ judged-sound r _ h
+            | false ↦ record { head = keep-head r _ _ _ _ _ _ h.head; place = began-stands r _ h.place }
+          ]
     ]
 
 pub fed-sound : (r : Reading) (bytes : List ℕ) → IsSound r → IsSound (fed r bytes)

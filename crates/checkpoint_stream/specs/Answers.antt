@@ -1,5 +1,5 @@
 -- What a call of the reader answers.
-use Rattle.std.specs.Prelude.{◌≡◌, ℕ, List, Result, Ok, Err, Option, Some, None}
+use Rattle.std.specs.Prelude.{◌≡◌, ℕ, List, Result, Ok, Err, Some, None}
 use Rattle.checkpoint_stream.specs.declared.errors.StreamError.{StreamError}
 use Rattle.checkpoint_stream.specs.declared.errors.StreamError.TheVariants.{Malformed, NoMemory}
 use Rattle.checkpoint_stream.specs.Readings.{Reading, fed, taken, failure_at}

@@ -1,7 +1,7 @@
 -- The head of a checkpoint, version 1: its numbers in turn, each little end first, with the bytes that it takes and what it may be. The
 -- format is this project's own. What a CSR can hold, a device's status and a queue's size are rules of the machine (the Privileged ISA,
 -- "Control and Status Registers"; virtio 1.1, 2.1 and 2.6), and stand in its specs.
-use Rattle.std.specs.Prelude.{◌≡◌, ℕ, ◌+◌, ◌%◌, ◌==◌, Bool, true, false, ◌&&◌, ◌||◌, nat_le, List, [], ◌∷◌, bit_and, slice_index_or}
+use Rattle.std.specs.Prelude.{ℕ, ◌%◌, ◌==◌, Bool, true, ◌&&◌, ◌||◌, nat_le, List, [], ◌∷◌, bit_and, slice_index_or}
 use Rattle.std.specs.Int.{w16, w32, w64, from_le_bytes, to_le_bytes}
 use Rattle.mtraps.specs.CsrTable.{legal_value}
 use Rattle.virtio_mmio.specs.States.{is_queue_size}
@@ -9,7 +9,8 @@ use Rattle.guest_machine.specs.declared.shapes.Shape.{Shape}
 use Rattle.checkpoint_stream.specs.declared.rules.Width.{Width}
 use Rattle.checkpoint_stream.specs.declared.rules.Width.TheVariants.{Two, Four, Eight}
 use Rattle.checkpoint_stream.specs.declared.rules.Rule.{Rule}
-use Rattle.checkpoint_stream.specs.declared.rules.Rule.TheVariants.{Any, Magic, Pages, Sectors, Within, Aligned, Csr, Status, QueueSize, Ready}
+use Rattle.checkpoint_stream.specs.declared.rules.Rule.TheVariants.{Any, Magic, Pages, Sectors, Within, Aligned, Csr, Status, QueueSize}
+use Rattle.checkpoint_stream.specs.declared.rules.Rule.TheVariants.{Ready}
 use Rattle.checkpoint_stream.specs.declared.rules.Row.{Row}
 
 abbrev pub number : Width → Rule → Row
@@ -18,7 +19,8 @@ number width rule = record { width = width; rule = rule }
 -- what one queue of a device takes, 36 bytes: its size, whether it is ready, its three areas, and its two counters
 abbrev pub queue_rows : List Row → List Row
 queue_rows rest =
-    number Four QueueSize ∷ number Four Ready ∷ number Eight Any ∷ number Eight Any ∷ number Eight Any ∷ number Two Any ∷ number Two Any ∷ rest
+    number Four QueueSize ∷ number Four Ready ∷ number Eight Any ∷ number Eight Any ∷ number Eight Any ∷ number Two Any
+    ∷ number Two Any ∷ rest
 
 -- what a device takes before its queues, 28 bytes: Status, DeviceFeaturesSel, DriverFeaturesSel, DriverFeatures, QueueSel, InterruptStatus
 abbrev pub device_rows : List Row → List Row

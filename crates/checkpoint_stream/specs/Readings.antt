@@ -1,5 +1,6 @@
 -- Reading a checkpoint unit by unit: what was read, which unit comes next, and what each unit that was taken whole makes of it.
-use Rattle.std.specs.Prelude.{◌≡◌, ℕ, zero, suc, ◌+◌, ◌-◌, ◌%◌, ◌^◌, ◌==◌, Bool, true, false, ◌&&◌, not, if◌then◌else◌, nat_le, nat_lt, List, [], ◌∷◌, ◌++◌, length, slice_index, count_ones, Option, Some, None}
+use Rattle.std.specs.Prelude.{ℕ, zero, suc, ◌+◌, ◌-◌, ◌%◌, ◌^◌, ◌==◌, Bool, true, false, ◌&&◌, if◌then◌else◌, nat_le, nat_lt}
+use Rattle.std.specs.Prelude.{List, [], ◌∷◌, ◌++◌, length, slice_index, count_ones, Option, Some, None}
 use Rattle.guest_machine.specs.declared.shapes.Shape.{Shape}
 use Rattle.epoch_snapshot.specs.declared.changes.PageChange.{PageChange}
 use Rattle.epoch_snapshot.specs.declared.changes.SectorChange.{SectorChange}
@@ -7,11 +8,13 @@ use Rattle.epoch_snapshot.specs.Blocks.{is_zero}
 use Rattle.checkpoint_stream.specs.declared.rules.Row.{Row}
 use Rattle.checkpoint_stream.specs.declared.rules.Width.TheVariants.{Four, Eight}
 use Rattle.checkpoint_stream.specs.declared.place.Place.{Place}
-use Rattle.checkpoint_stream.specs.declared.place.Place.TheVariants.{Head, PageCount, PageIndex, PageMask, Block, SectorCount, SectorIndex, SectorBytes, Whole, Failed}
+use Rattle.checkpoint_stream.specs.declared.place.Place.TheVariants.{Head, PageCount, PageIndex, PageMask, Block, SectorCount}
+use Rattle.checkpoint_stream.specs.declared.place.Place.TheVariants.{SectorIndex, SectorBytes, Whole, Failed}
 use Rattle.checkpoint_stream.specs.HeadTable.{passes, number_of, bytes_in, row_at}
 
 -- the reader's shape; how many bytes its whole units had since it was made, modulo 2^64; the unit that comes next; and of the
--- checkpoint that is being read how many numbers of the head are known, these numbers with the last of them, the pages, blocks and sectors, and the bytes of the unit
+-- checkpoint that is being read how many numbers of the head are known, these numbers with the last of them, the pages, blocks and
+-- sectors, and the bytes of the unit
 -- that has begun
 pub record Reading : Type 0 where
   pub shape : Shape
@@ -28,7 +31,16 @@ pub record Reading : Type 0 where
 -- at the first byte of a checkpoint
 abbrev pub begun : Shape → ℕ → Reading
 begun shape offset = record {
-  shape = shape; offset = offset; place = Head; known = 0; head = []; before = 0; pages = []; blocks = []; sectors = []; partial = [];
+  shape = shape;
+  offset = offset;
+  place = Head;
+  known = 0;
+  head = [];
+  before = 0;
+  pages = [];
+  blocks = [];
+  sectors = [];
+  partial = [];
 }
 
 -- nothing more is taken: a whole checkpoint stands, or a unit broke its rule
@@ -92,7 +104,7 @@ is_full r = nat_lt 4 r.known && slice_index r.head 4 == 0
 unfoldable pub kept_number : Bool → Reading → Row → ℕ → Reading
 kept_number false r row n = failed r
 kept_number true r row n =
-  moved (record r { known = r.known + 1; head = r.head ++ n ∷ []; before = n }) (bytes_in row.width) (after_number (r.known + 1))
+    moved (record r { known = r.known + 1; head = r.head ++ n ∷ []; before = n }) (bytes_in row.width) (after_number (r.known + 1))
 
 abbrev pub number_judged : Reading → Row → ℕ → Reading
 number_judged r row n = kept_number (passes r.shape row.rule r.before n) r row n
@@ -110,7 +122,7 @@ page_index_judged r left from n = moved_if (nat_le from n && nat_lt n r.shape.pa
 unfoldable pub kept_mask : Bool → Reading → ℕ → ℕ → ℕ → Reading
 kept_mask true r left page mask = failed r
 kept_mask false r left page mask =
-  moved (record r { pages = r.pages ++ (record { page = page; mask = mask }) ∷ [] }) 8 (Block left page (count_ones mask - 1))
+    moved (record r { pages = r.pages ++ (record { page = page; mask = mask }) ∷ [] }) 8 (Block left page (count_ones mask - 1))
 
 abbrev pub mask_judged : Reading → ℕ → ℕ → ℕ → Reading
 mask_judged r left page mask = kept_mask (mask == 0) r left page mask
@@ -131,14 +143,14 @@ sector_index_judged r left from n = moved_if (nat_le from n && nat_lt n r.shape.
 unfoldable pub kept_sector : Bool → Reading → ℕ → ℕ → List ℕ → Reading
 kept_sector true r left sector bytes = failed r
 kept_sector false r left sector bytes =
-  moved (record r { sectors = r.sectors ++ (record { sector = sector; bytes = bytes }) ∷ [] }) 512 (sectors_due left (sector + 1))
+    moved (record r { sectors = r.sectors ++ (record { sector = sector; bytes = bytes }) ∷ [] }) 512 (sectors_due left (sector + 1))
 
 abbrev pub sector_judged : Reading → ℕ → ℕ → List ℕ → Reading
 sector_judged r left sector bytes = kept_sector (is_full r && is_zero bytes) r left sector bytes
 
 abbrev pub judged_at : Place → Reading → List ℕ → Reading
 judged_at Head r unit =
-  number_judged r (row_at r.known) (number_of (row_at r.known).width unit)
+    number_judged r (row_at r.known) (number_of (row_at r.known).width unit)
 judged_at PageCount r unit = page_count_judged r (number_of Four unit)
 judged_at (PageIndex left from) r unit = page_index_judged r left from (number_of Four unit)
 judged_at (PageMask left page) r unit = mask_judged r left page (number_of Eight unit)
@@ -156,11 +168,11 @@ judged r unit = judged_at r.place r unit
 -- the reading after one more byte: where that completes the unit, the unit is judged
 unfoldable pub fed_byte : Reading → ℕ → Reading
 fed_byte r b =
-  if is_closed r.place
-  then r
-  else (if length r.partial + 1 == width_of r
-  then judged r (r.partial ++ b ∷ [])
-  else record r { partial = r.partial ++ b ∷ [] })
+    if is_closed r.place
+    then r
+    else (if length r.partial + 1 == width_of r
+    then judged r (r.partial ++ b ∷ [])
+    else record r { partial = r.partial ++ b ∷ [] })
 
 -- the reading after these bytes
 unfoldable pub fed : Reading → List ℕ → Reading

@@ -10,7 +10,8 @@ use Rattle.epoch_snapshot.specs.Blocks.{is_zero}
 use Rattle.epoch_snapshot.specs.Checkpoints.{Change, change_of, block_count}
 use Rattle.checkpoint_stream.specs.declared.rules.Row.{Row}
 use Rattle.checkpoint_stream.specs.declared.place.Place.{Place}
-use Rattle.checkpoint_stream.specs.declared.place.Place.TheVariants.{Head, PageCount, PageIndex, PageMask, Block, SectorCount, SectorIndex, SectorBytes, Whole, Failed}
+use Rattle.checkpoint_stream.specs.declared.place.Place.TheVariants.{Head, PageCount, PageIndex, PageMask, Block, SectorCount}
+use Rattle.checkpoint_stream.specs.declared.place.Place.TheVariants.{SectorIndex, SectorBytes, Whole, Failed}
 use Rattle.checkpoint_stream.specs.HeadTable.{head_table, passes}
 use Rattle.checkpoint_stream.specs.Text.{numbers_from}
 use Rattle.checkpoint_stream.specs.Readings.{Reading}
@@ -45,8 +46,13 @@ state_from xs = record {
   registers = numbers_from xs 6 31 [];
   pc = slice_index xs 37;
   csrs = record {
-    mstatus = slice_index xs 38; mie = slice_index xs 39; mtvec = slice_index xs 40; mscratch = slice_index xs 41;
-    mepc = slice_index xs 42; mcause = slice_index xs 43; mtval = slice_index xs 44;
+    mstatus = slice_index xs 38;
+    mie = slice_index xs 39;
+    mtvec = slice_index xs 40;
+    mscratch = slice_index xs 41;
+    mepc = slice_index xs 42;
+    mcause = slice_index xs 43;
+    mtval = slice_index xs 44;
   };
   msip = slice_index xs 45 % 2 ^ 32;
   mtimecmp = slice_index xs 46;

@@ -1,6 +1,5 @@
 -- What bytes make of a reading, and how it goes back to where it was.
 use Rattle.std.specs.Prelude.{◌≡◌, ◌<◌, ◌≤◌, ℕ, List, ◌++◌, length, take}
-use Rattle.guest_machine.specs.declared.shapes.Shape.{Shape}
 use Rattle.epoch_snapshot.specs.declared.changes.PageChange.{PageChange}
 use Rattle.epoch_snapshot.specs.declared.changes.SectorChange.{SectorChange}
 use Rattle.checkpoint_stream.specs.declared.place.Place.TheVariants.{Head}

@@ -1,6 +1,6 @@
 -- The text of a checkpoint, version 1: its units in turn. The head's numbers by the table of the head; the count of the page records, and
 -- each with its index, its mask and its blocks; the count of the sector records, and each with its index and its bytes.
-use Rattle.std.specs.Prelude.{◌≡◌, ℕ, suc, zero, ◌+◌, List, [], ◌∷◌, ◌++◌, length, take, drop, if◌then◌else◌, slice_index, count_ones}
+use Rattle.std.specs.Prelude.{ℕ, suc, zero, ◌+◌, List, [], ◌∷◌, ◌++◌, length, take, drop, if◌then◌else◌, slice_index, count_ones}
 use Rattle.virtqueue.specs.declared.rings.Queue.{Queue}
 use Rattle.virtio_mmio.specs.declared.states.DeviceState.{DeviceState}
 use Rattle.virtio_mmio.specs.States.{queue_at}
@@ -14,11 +14,11 @@ use Rattle.checkpoint_stream.specs.HeadTable.{head_table, bytes_of}
 -- a queue's numbers, and a device's, before those that follow
 abbrev pub queue_numbers : Queue → List ℕ → List ℕ
 queue_numbers q rest =
-  q.num ∷ (if q.ready then 1 else 0) ∷ q.desc ∷ q.driver ∷ q.device ∷ q.next_available ∷ q.next_used ∷ rest
+    q.num ∷ (if q.ready then 1 else 0) ∷ q.desc ∷ q.driver ∷ q.device ∷ q.next_available ∷ q.next_used ∷ rest
 
 abbrev pub device_numbers : DeviceState → List ℕ → List ℕ
 device_numbers d rest =
-  d.status ∷ d.device_features_sel ∷ d.driver_features_sel ∷ d.driver_features ∷ d.queue_sel ∷ d.interrupt_status ∷ rest
+    d.status ∷ d.device_features_sel ∷ d.driver_features_sel ∷ d.driver_features ∷ d.queue_sel ∷ d.interrupt_status ∷ rest
 
 -- so many numbers of a list, from an index on, before those that follow
 abbrev pub numbers_from : List ℕ → ℕ → ℕ → List ℕ → List ℕ
@@ -28,13 +28,13 @@ numbers_from xs i (suc n) rest = slice_index xs i ∷ numbers_from xs (i + 1) n 
 -- the numbers of the head, in the order of its table
 unfoldable pub head_numbers : Change → List ℕ
 head_numbers c =
-  0x31434d52 ∷ c.shape.pages ∷ c.shape.sectors ∷ c.generation ∷ c.number ∷ c.state.steps
-  ∷ numbers_from c.state.registers 0 31 (c.state.pc
-  ∷ c.state.csrs.mstatus ∷ c.state.csrs.mie ∷ c.state.csrs.mtvec ∷ c.state.csrs.mscratch
-  ∷ c.state.csrs.mepc ∷ c.state.csrs.mcause ∷ c.state.csrs.mtval
-  ∷ c.state.msip ∷ c.state.mtimecmp
-  ∷ device_numbers c.state.net (queue_numbers (queue_at c.state.net 0) (queue_numbers (queue_at c.state.net 1)
-  (device_numbers c.state.disk (queue_numbers (queue_at c.state.disk 0) [])))))
+    0x31434d52 ∷ c.shape.pages ∷ c.shape.sectors ∷ c.generation ∷ c.number ∷ c.state.steps
+    ∷ numbers_from c.state.registers 0 31 (c.state.pc
+    ∷ c.state.csrs.mstatus ∷ c.state.csrs.mie ∷ c.state.csrs.mtvec ∷ c.state.csrs.mscratch
+    ∷ c.state.csrs.mepc ∷ c.state.csrs.mcause ∷ c.state.csrs.mtval
+    ∷ c.state.msip ∷ c.state.mtimecmp
+    ∷ device_numbers c.state.net (queue_numbers (queue_at c.state.net 0) (queue_numbers (queue_at c.state.net 1)
+    (device_numbers c.state.disk (queue_numbers (queue_at c.state.disk 0) [])))))
 
 -- numbers, each as wide as its row says
 unfoldable pub number_units : List Row → List ℕ → List (List ℕ)
@@ -58,8 +58,8 @@ sector_units (s ∷ ss) = bytes_of Four s.sector ∷ s.bytes ∷ sector_units ss
 -- all units of a checkpoint
 unfoldable pub units : Change → List (List ℕ)
 units c =
-  number_units head_table (head_numbers c)
-  ++ ((bytes_of Four (length c.pages) ∷ page_units c.pages c.blocks) ++ (bytes_of Four (length c.sectors) ∷ sector_units c.sectors))
+    number_units head_table (head_numbers c)
+    ++ ((bytes_of Four (length c.pages) ∷ page_units c.pages c.blocks) ++ (bytes_of Four (length c.sectors) ∷ sector_units c.sectors))
 
 -- lists one after another
 unfoldable pub joined : List (List ℕ) → List ℕ

@@ -11,4 +11,4 @@ judged_all r (unit ∷ units) = judged_all (judged r unit) units
 abbrev pub AreUnits : Reading → List (List ℕ) → Type 0
 AreUnits r [] = Unit {0}
 AreUnits r (unit ∷ units) =
-  (is_closed r.place ≡ false) × (r.partial ≡ []) × (0 < length unit) × (length unit ≡ width_of r) × AreUnits (judged r unit) units
+    (is_closed r.place ≡ false) × (r.partial ≡ []) × (0 < length unit) × (length unit ≡ width_of r) × AreUnits (judged r unit) units

@@ -4,7 +4,6 @@ ghost use Rattle.std.specs.Prelude.{◌≡◌, ◌≤◌, ◌++◌, length, IfOk
 ghost use Rattle.epoch_snapshot.specs.Checkpoints.{block_count};
 ghost use Rattle.checkpoint_stream.specs.HeadTable.{bytes_of, head_table};
 ghost use Rattle.checkpoint_stream.specs.Text.{head_numbers, number_units, page_units, sector_units, joined, text};
-
 ghost use Rattle.checkpoint_stream.specs.declared.rules.Width.TheVariants.{Four, Eight};
 
 use crate::errors::StreamError;
@@ -28,7 +27,10 @@ pub fn encode(alloc: Global, checkpoint: &Checkpoint) -> Result<Vec<u8>, StreamE
     let pages = checkpoint.pages();
     let blocks = checkpoint.blocks();
     let sectors = checkpoint.sectors();
-    let mut out = Vec::with_capacity(alloc, size_of_text(pages.len(), blocks.len(), sectors.len()))?;
+    let mut out = Vec::with_capacity(
+        alloc,
+        size_of_text(pages.len(), blocks.len(), sectors.len()),
+    )?;
     put_head(&mut out, &numbers(checkpoint))?;
     put(&mut out, Width::Four, pages.len() as u64)?;
     put_pages(&mut out, pages, blocks)?;
@@ -39,9 +41,13 @@ pub fn encode(alloc: Global, checkpoint: &Checkpoint) -> Result<Vec<u8>, StreamE
 
 /// How many bytes a checkpoint has with so many pages, blocks and sectors.
 fn size_of_text(pages: usize, blocks: usize, sectors: usize) -> usize {
-    let of_pages = pages.saturating_mul(12).saturating_add(blocks.saturating_mul(BLOCK_BYTES));
+    let of_pages = pages
+        .saturating_mul(12)
+        .saturating_add(blocks.saturating_mul(BLOCK_BYTES));
     let of_sectors = sectors.saturating_mul(4 + SECTOR_BYTES);
-    LEAST_BYTES.saturating_add(of_pages).saturating_add(of_sectors)
+    LEAST_BYTES
+        .saturating_add(of_pages)
+        .saturating_add(of_sectors)
 }
 
 /// A number at the end, little end first.
@@ -84,7 +90,8 @@ fn put_pages(out: &mut Vec<u8>, pages: &[PageChange], blocks: &[Block]) -> Resul
 /// A page record at the end.
 #[tactic(auto, using(std::proofs::Common::append_assoc))]
 fn put_page(out: &mut Vec<u8>, page: &PageChange, blocks: &[Block]) -> Result<(), AllocError>
-    ensures { OnOk result (out.new.items ≡ out.old.items ++ (bytes_of Four page.now.page ++ bytes_of Eight page.now.mask ++ joined blocks.now)) }
+    ensures { OnOk result (out.new.items
+        ≡ out.old.items ++ (bytes_of Four page.now.page ++ bytes_of Eight page.now.mask ++ joined blocks.now)) }
 {
     put(out, Width::Four, u64::from(page.page))?;
     put(out, Width::Eight, page.mask)?;

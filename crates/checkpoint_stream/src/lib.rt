@@ -1,6 +1,7 @@
 //! Checkpoints as bytes: the one spelling of a checkpoint, and a reader that takes it in whatever pieces it comes.
 //!
-//! [`encode`] gives a checkpoint's text, and a [`Reader`] gives the checkpoints of a stream of texts. docs/CHECKPOINT.md describes the format.
+//! [`encode`] gives a checkpoint's text, and a [`Reader`] gives the checkpoints of a stream of texts. docs/CHECKPOINT.md describes the
+//! format.
 #![tactic(auto)]
 
 mod encoding;

@@ -1,11 +1,12 @@
 //! What a reader has read of a checkpoint, and what one more unit makes of it.
 
 ghost use Rattle.std.specs.Prelude.{◌≡◌, ◌<◌, ◌≤◌, true, false, length, take, IfOk, OnOk, OnErr};
-ghost use Rattle.checkpoint_stream.specs.Readings.{Reading, fed, taken, failure_at, is_whole, begun, width_of, is_closed, is_full, failed, moved, moved_if, kept_number, kept_mask, kept_block, kept_sector, number_judged, mask_judged, block_judged, sector_judged, judged};
+ghost use Rattle.checkpoint_stream.specs.Readings.{Reading, fed, taken, failure_at, is_whole, begun, width_of, is_closed, is_full, failed};
+ghost use Rattle.checkpoint_stream.specs.Readings.{moved, moved_if, kept_number, kept_mask, kept_block, kept_sector, number_judged};
+ghost use Rattle.checkpoint_stream.specs.Readings.{mask_judged, block_judged, sector_judged, judged};
 ghost use Rattle.checkpoint_stream.specs.HeadTable.{row_at};
 ghost use Rattle.epoch_snapshot.specs.Blocks.{is_zero};
 ghost use Rattle.checkpoint_stream.specs.declared.place.Place.TheVariants.{Head};
-
 ghost use Rattle.checkpoint_stream.specs.Taken.{Takes, Extends, HasRoom, marked};
 ghost use Rattle.checkpoint_stream.specs.Sound.{change_in};
 ghost use Rattle.epoch_snapshot.specs.Checkpoints.{IsCanonical};
@@ -44,16 +45,16 @@ impl Model for Parts {
     ghost Value = { Reading };
 
     ghost view = { λ p. record {
-        shape = p.shape;
-        offset = p.offset;
-        place = p.place;
-        known = p.known;
-        head = take p.known p.head;
-        before = p.before;
-        pages = p.pages.items;
-        blocks = p.blocks.items;
-        sectors = p.sectors.items;
-        partial = take p.filled p.buffer;
+      shape = p.shape;
+      offset = p.offset;
+      place = p.place;
+      known = p.known;
+      head = take p.known p.head;
+      before = p.before;
+      pages = p.pages.items;
+      blocks = p.blocks.items;
+      sectors = p.sectors.items;
+      partial = take p.filled p.buffer;
     } };
 
     ghost invariant = { λ p. (p.known ≤ 80) × (p.place ≡ Head → p.known < 80) × (p.filled ≤ 512) × (p.filled < width_at p.place p.known) };
@@ -90,7 +91,10 @@ impl Parts {
             Place::Block { .. } => 64,
             Place::SectorBytes { .. } => 512,
             Place::Whole | Place::Failed { .. } => 1,
-            Place::PageCount | Place::PageIndex { .. } | Place::SectorCount | Place::SectorIndex { .. } => 4,
+            Place::PageCount
+            | Place::PageIndex { .. }
+            | Place::SectorCount
+            | Place::SectorIndex { .. } => 4,
         }
     }
 
@@ -129,7 +133,9 @@ impl Parts {
         self.known = 0;
         self.before = 0;
         self.filled = 0;
-        Checkpoint::from_parts(self.shape, generation, number, state, pages, blocks, sectors)
+        Checkpoint::from_parts(
+            self.shape, generation, number, state, pages, blocks, sectors,
+        )
     }
 
     /// Takes bytes up to the end of the checkpoint. Answers how many.

@@ -2,7 +2,6 @@
 
 ghost use Rattle.std.specs.Prelude.{◌≡◌, ◌<◌, length};
 ghost use Rattle.checkpoint_stream.specs.HeadTable.{row_at, passes, number_of, bytes_in};
-
 ghost use Rattle.checkpoint_stream.specs.declared.rules.Width.TheVariants.{Four};
 
 use guest_machine::Shape;
@@ -67,24 +66,101 @@ pub(crate) const MAGIC_NUMBER: u64 = 0x3143_4d52;
 /// How many numbers the head has.
 pub(crate) const HEAD_NUMBERS: usize = 80;
 
-const ANY_2: Row = Row { width: Width::Two, rule: Rule::Any };
-const ANY_4: Row = Row { width: Width::Four, rule: Rule::Any };
-const ANY_8: Row = Row { width: Width::Eight, rule: Rule::Any };
-const MAGIC: Row = Row { width: Width::Four, rule: Rule::Magic };
-const PAGES: Row = Row { width: Width::Four, rule: Rule::Pages };
-const SECTORS: Row = Row { width: Width::Four, rule: Rule::Sectors };
-const GENERATION: Row = Row { width: Width::Eight, rule: Rule::Within { least: 1, most: 0x3fff_ffff_ffff_ffff } };
-const NUMBER: Row = Row { width: Width::Eight, rule: Rule::Within { least: 0, most: 0x3fff_ffff_ffff_ffff } };
-const PC: Row = Row { width: Width::Eight, rule: Rule::Aligned };
-const MSTATUS: Row = Row { width: Width::Eight, rule: Rule::Csr { number: 0x300 } };
-const MIE: Row = Row { width: Width::Eight, rule: Rule::Csr { number: 0x304 } };
-const MTVEC: Row = Row { width: Width::Eight, rule: Rule::Csr { number: 0x305 } };
-const MEPC: Row = Row { width: Width::Eight, rule: Rule::Csr { number: 0x341 } };
-const MSIP: Row = Row { width: Width::Four, rule: Rule::Within { least: 0, most: 1 } };
-const STATUS: Row = Row { width: Width::Four, rule: Rule::Status };
-const INTERRUPT_STATUS: Row = Row { width: Width::Four, rule: Rule::Within { least: 0, most: 3 } };
-const QUEUE_SIZE: Row = Row { width: Width::Four, rule: Rule::QueueSize };
-const READY: Row = Row { width: Width::Four, rule: Rule::Ready };
+const ANY_2: Row = Row {
+    width: Width::Two,
+    rule: Rule::Any,
+};
+
+const ANY_4: Row = Row {
+    width: Width::Four,
+    rule: Rule::Any,
+};
+
+const ANY_8: Row = Row {
+    width: Width::Eight,
+    rule: Rule::Any,
+};
+
+const MAGIC: Row = Row {
+    width: Width::Four,
+    rule: Rule::Magic,
+};
+
+const PAGES: Row = Row {
+    width: Width::Four,
+    rule: Rule::Pages,
+};
+
+const SECTORS: Row = Row {
+    width: Width::Four,
+    rule: Rule::Sectors,
+};
+
+const GENERATION: Row = Row {
+    width: Width::Eight,
+    rule: Rule::Within {
+        least: 1,
+        most: 0x3fff_ffff_ffff_ffff,
+    },
+};
+
+const NUMBER: Row = Row {
+    width: Width::Eight,
+    rule: Rule::Within {
+        least: 0,
+        most: 0x3fff_ffff_ffff_ffff,
+    },
+};
+
+const PC: Row = Row {
+    width: Width::Eight,
+    rule: Rule::Aligned,
+};
+
+const MSTATUS: Row = Row {
+    width: Width::Eight,
+    rule: Rule::Csr { number: 0x300 },
+};
+
+const MIE: Row = Row {
+    width: Width::Eight,
+    rule: Rule::Csr { number: 0x304 },
+};
+
+const MTVEC: Row = Row {
+    width: Width::Eight,
+    rule: Rule::Csr { number: 0x305 },
+};
+
+const MEPC: Row = Row {
+    width: Width::Eight,
+    rule: Rule::Csr { number: 0x341 },
+};
+
+const MSIP: Row = Row {
+    width: Width::Four,
+    rule: Rule::Within { least: 0, most: 1 },
+};
+
+const STATUS: Row = Row {
+    width: Width::Four,
+    rule: Rule::Status,
+};
+
+const INTERRUPT_STATUS: Row = Row {
+    width: Width::Four,
+    rule: Rule::Within { least: 0, most: 3 },
+};
+
+const QUEUE_SIZE: Row = Row {
+    width: Width::Four,
+    rule: Rule::QueueSize,
+};
+
+const READY: Row = Row {
+    width: Width::Four,
+    rule: Rule::Ready,
+};
 
 #[rattlefmt::skip]
 static HEAD: [Row; HEAD_NUMBERS] = [
@@ -139,7 +215,9 @@ pub(crate) fn number_of(width: Width, bytes: &[u8]) -> u64
     match width {
         Width::Two => u64::from(u16::from_le_bytes([bytes[0], bytes[1]])),
         Width::Four => u64::from(u32::from_le_bytes([bytes[0], bytes[1], bytes[2], bytes[3]])),
-        Width::Eight => u64::from_le_bytes([bytes[0], bytes[1], bytes[2], bytes[3], bytes[4], bytes[5], bytes[6], bytes[7]]),
+        Width::Eight => u64::from_le_bytes([
+            bytes[0], bytes[1], bytes[2], bytes[3], bytes[4], bytes[5], bytes[6], bytes[7],
+        ]),
     }
 }
 

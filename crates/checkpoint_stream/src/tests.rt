@@ -62,8 +62,13 @@ fn read(alloc: Global, bytes: &[u8], size: usize) -> Result<(u64, Option<u64>), 
             match reader.feed(rest) {
                 Ok(count) => rest = rest.get(count..).ok_or("no more than the piece is taken")?,
                 Err(StreamError::Malformed(at)) => {
-                    let again = matches!(reader.feed(&[]), Err(StreamError::Malformed(same)) if same == at);
-                    return if again { Ok((found, Some(at))) } else { Err("the refusal stays".into()) };
+                    let again =
+                        matches!(reader.feed(&[]), Err(StreamError::Malformed(same)) if same == at);
+                    return if again {
+                        Ok((found, Some(at)))
+                    } else {
+                        Err("the refusal stays".into())
+                    };
                 }
                 Err(StreamError::NoMemory) => return Err("there is memory".into()),
             }
@@ -81,9 +86,15 @@ fn the_beacon_is_read_and_written(rt: HostRuntime) -> Result<(), Fail> {
     let front = reader.feed(&BEACON[..607]).ok().ok_or("the front is read")?;
     assert_eq!(rt; front, 607);
     assert!(rt; reader.next().is_none());
-    let last = reader.feed(&BEACON[607..]).ok().ok_or("the last byte is read")?;
+    let last = reader
+        .feed(&BEACON[607..])
+        .ok()
+        .ok_or("the last byte is read")?;
     assert_eq!(rt; last, 1);
-    let more = reader.feed(&[1, 2, 3]).ok().ok_or("nothing is taken while one stands")?;
+    let more = reader
+        .feed(&[1, 2, 3])
+        .ok()
+        .ok_or("nothing is taken while one stands")?;
     assert_eq!(rt; more, 0);
     let checkpoint = reader.next().ok_or("a checkpoint stands")?;
     assert!(rt; reader.next().is_none());
@@ -95,7 +106,9 @@ fn the_beacon_is_read_and_written(rt: HostRuntime) -> Result<(), Fail> {
     assert_eq!(rt; checkpoint.pages().len(), 1);
     assert_eq!(rt; checkpoint.blocks().len(), 1);
     assert_eq!(rt; checkpoint.sectors().len(), 0);
-    let text = encode(rt.alloc(), &checkpoint).ok().ok_or("there is memory")?;
+    let text = encode(rt.alloc(), &checkpoint)
+        .ok()
+        .ok_or("there is memory")?;
     assert_eq!(rt; text.as_slice(), BEACON.as_slice());
     Ok(())
 }

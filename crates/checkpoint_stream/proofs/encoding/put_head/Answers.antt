@@ -1,4 +1,4 @@
-use Rattle.std.proofs.Common.{◌≡◌, ◌≤◌, ◌∙◌, ◌++◌, ap, get_or, length, refl, arith}
+use Rattle.std.proofs.Common.{◌≡◌, ◌∙◌, ◌++◌, ap, get_or, length, refl, arith}
 use Rattle.checkpoint_stream.specs.HeadTable.{head_table, row_at, bytes_of}
 use Rattle.checkpoint_stream.specs.declared.rules.Row.{Row}
 use Rattle.checkpoint_stream.proofs.Spelling.{advance, finish, number_units-drop, number_units-done}
@@ -12,8 +12,9 @@ pub loop-i-preserved : goal.loop-i-preserved
 unfolding row_at
 loop-i-preserved c =
     advance c.loop-i.out.items _ c.put.new.out.items _ _ _ c.loop-i.invariant
-      (number_units-drop head_table c.args.head.now c.loop-i.i _ 0 (omega (arith, length-head_table)) (omega arith))
-      (c.in_ok-put.ensures ∙ ap (λ (row : Row). c.loop-i.out.items ++ bytes_of row.width (get_or c.args.head.now c.loop-i.i 0)) c.head_row.ensures)
+    (number_units-drop head_table c.args.head.now c.loop-i.i _ 0 (omega (arith, length-head_table)) (omega arith))
+    (c.in_ok-put.ensures ∙ ap (λ (row : Row). c.loop-i.out.items
+    ++ bytes_of row.width (get_or c.args.head.now c.loop-i.i 0)) c.head_row.ensures)
 
 pub returns : goal.returns
 returns c = finish c.loop-i.out.items _ _ c.loop-i.invariant (number_units-done head_table _ c.loop-i.i (omega (arith, length-head_table)))

@@ -5,4 +5,5 @@ use Rattle.checkpoint_stream.proofs.encoding.put_head.Given as goal
 
 abbrev pub invariant-loop-i : goal.invariant-loop-i
 invariant-loop-i l =
-    l.out.items ++ joined (number_units (drop l.i head_table) (drop l.i l.head)) ≡ l.initial.out.items ++ joined (number_units head_table l.head)
+    l.out.items ++ joined (number_units (drop l.i head_table) (drop l.i l.head)) ≡ l.initial.out.items
+    ++ joined (number_units head_table l.head)

@@ -1,4 +1,4 @@
-use Rattle.std.proofs.Common.{◌≡◌, ◌++◌, List, ℕ, arith}
+use Rattle.std.proofs.Common.{arith}
 use Rattle.epoch_snapshot.specs.declared.changes.PageChange.{PageChange}
 use Rattle.checkpoint_stream.proofs.Spelling.{advance, finish, page_units-split, page_units-done, block_count-drop}
 use Rattle.checkpoint_stream.proofs.encoding.put_pages.Goals as goal
@@ -10,11 +10,16 @@ pub loop-page-preserved : goal.loop-page-preserved
 unfolding none
 loop-page-preserved c = record {
   put = advance c.loop-page.out.items _ c.put_page.new.out.items _ _ _ c.loop-page.invariant.put
-    (page_units-split c.args.pages.now c.loop-page.rest.now c.split_at.result.0.now c.split_at.result.1.now c.loop-page.page-index none c.loop-page-test.true
+      (page_units-split c.args.pages.now c.loop-page.rest.now c.split_at.result.0.now c.split_at.result.1.now c.loop-page.page-index
+      none c.loop-page-test.true
       c.split_at.ensures.front c.split_at.ensures.back)
-    c.in_ok-put_page.ensures;
-  enough = omega (arith, c.loop-page.invariant.enough, c.split_at.ensures.back_len,
-    block_count-drop c.args.pages.now c.loop-page.page-index none c.loop-page-test.true);
+      c.in_ok-put_page.ensures;
+  enough = omega (
+    arith,
+    c.loop-page.invariant.enough,
+    c.split_at.ensures.back_len,
+    block_count-drop c.args.pages.now c.loop-page.page-index none c.loop-page-test.true,
+  );
 }
 
 pub split_at-requires : goal.split_at-requires
@@ -23,4 +28,5 @@ split_at-requires c =
     omega (arith, c.loop-page.invariant.enough, block_count-drop c.args.pages.now c.loop-page.page-index none c.loop-page-test.true)
 
 pub returns : goal.returns
-returns c = finish c.loop-page.out.items _ _ c.loop-page.invariant.put (page_units-done c.args.pages.now _ c.loop-page.page-index (omega arith))
+returns c = finish c.loop-page.out.items _ _ c.loop-page.invariant.put (page_units-done c.args.pages.now _ c.loop-page.page-index
+    (omega arith))

@@ -1,4 +1,3 @@
-use Rattle.std.proofs.Common.{◌≡◌}
 use Rattle.std.proofs.lemmas.List.{get_or_default}
 use Rattle.checkpoint_stream.specs.HeadTable.{row_at, head_table}
 use Rattle.checkpoint_stream.proofs.rules.head_row.Goals as goal

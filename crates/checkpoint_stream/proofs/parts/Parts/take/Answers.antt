@@ -1,4 +1,4 @@
-use Rattle.std.proofs.Common.{◌≡◌, ◌<◌, [], length, take, refl, sym, ◌∙◌, ap, arith}
+use Rattle.std.proofs.Common.{◌≡◌, ◌<◌, [], length, take, refl, ◌∙◌, ap, arith}
 use Rattle.std.proofs.lemmas.List.{length-take-le}
 use Rattle.checkpoint_stream.specs.Readings.{width_of, width_at}
 use Rattle.checkpoint_stream.proofs.Feeding.{Takes-unit}
@@ -8,7 +8,8 @@ pub returns-then-width-rest-clause-read : goal.returns-then-width-rest-clause-re
 returns-then-width-rest-clause-read c =
     let begun : c.args.self.now.partial ≡ [] = rw (← c.self.view_is, c.if-self-eq0.true) refl in
     let whole : length (take c.width-width.result c.args.rest.now) ≡ c.width-width.result
-        = length-take-le c.width-width.result c.args.rest.now (omega arith) in
+    = length-take-le c.width-width.result c.args.rest.now (omega arith) in
     let width : width_at c.self.inside.place c.self.inside.known ≡ width_of c.args.self.now = ap width_of c.self.view_is in
     let some : 0 < c.width-width.result = omega (arith, c.width-width.ensures.value, width, c.self.invariant.3) in
-    Takes-unit c.args.self.now c.judge.new.self _ c.requires.going begun (omega (arith, whole, some)) (whole ∙ c.width-width.ensures.value) c.in_ok-judge.ensures.ok
+    Takes-unit c.args.self.now c.judge.new.self _ c.requires.going begun (omega (arith, whole, some)) (whole
+    ∙ c.width-width.ensures.value) c.in_ok-judge.ensures.ok

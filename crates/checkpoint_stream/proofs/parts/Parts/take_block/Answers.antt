@@ -1,4 +1,4 @@
-use Rattle.std.proofs.Common.{◌≡◌, ◌∙◌, sym}
+use Rattle.std.proofs.Common.{◌∙◌, sym}
 use Rattle.checkpoint_stream.proofs.Failing.{kept_block-true}
 use Rattle.checkpoint_stream.proofs.parts.Parts.take_block.Goals as goal
 

@@ -11,10 +11,10 @@ from_parts-requires c =
     let known : c.self.inside.known ≡ 80 = ap (λ (r : Reading). r.known) c.self.view_is ∙ c.requires.known in
     let whole : take c.self.inside.known c.self.inside.head ≡ c.self.inside.head = take_all _ _ (omega arith) in
     let same : change_in c.args.self.now
-        ≡ change_of c.self.inside.shape (get_or c.self.inside.head 3 0) (get_or c.self.inside.head 4 0) (state_from c.self.inside.head)
-          c.self.inside.pages.items c.self.inside.blocks.items c.self.inside.sectors.items
-        = sym (ap change_in c.self.view_is)
-          ∙ ap (λ (h : List ℕ). change_of c.self.inside.shape (get_or h 3 0) (get_or h 4 0) (state_from h)
-            c.self.inside.pages.items c.self.inside.blocks.items c.self.inside.sectors.items) whole in
+    ≡ change_of c.self.inside.shape (get_or c.self.inside.head 3 0) (get_or c.self.inside.head 4 0) (state_from c.self.inside.head)
+    c.self.inside.pages.items c.self.inside.blocks.items c.self.inside.sectors.items
+    = sym (ap change_in c.self.view_is)
+    ∙ ap (λ (h : List ℕ). change_of c.self.inside.shape (get_or h 3 0) (get_or h 4 0) (state_from h)
+    c.self.inside.pages.items c.self.inside.blocks.items c.self.inside.sectors.items) whole in
     rw (c.state_from-state.ensures, c.replace-pages.ensures.value, c.replace-blocks.ensures.value, c.replace-sectors.ensures.value)
-      (subst IsCanonical same c.requires.canonical)
+    (subst IsCanonical same c.requires.canonical)

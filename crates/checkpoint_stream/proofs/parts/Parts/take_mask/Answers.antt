@@ -1,4 +1,4 @@
-use Rattle.std.proofs.Common.{◌≡◌, ◌∙◌, sym, ap, ◌==◌}
+use Rattle.std.proofs.Common.{◌∙◌, sym, ap, ◌==◌}
 use Rattle.checkpoint_stream.proofs.Failing.{kept_mask-true}
 use Rattle.checkpoint_stream.proofs.parts.Parts.take_mask.Goals as goal
 

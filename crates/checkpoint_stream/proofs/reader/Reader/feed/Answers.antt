@@ -1,4 +1,4 @@
-use Rattle.std.proofs.Common.{◌≡◌, sym, subst}
+use Rattle.std.proofs.Common.{sym, subst}
 use Rattle.checkpoint_stream.specs.Sound.{IsSound}
 use Rattle.checkpoint_stream.proofs.Soundness.{fed-sound}
 use Rattle.checkpoint_stream.proofs.reader.Reader.feed.Goals as goal

@@ -1,4 +1,4 @@
-use Rattle.std.proofs.Common.{◌≡◌, sym, ◌∙◌}
+use Rattle.std.proofs.Common.{sym, ◌∙◌}
 use Rattle.checkpoint_stream.proofs.Canonical.{canonical, whole-place}
 use Rattle.checkpoint_stream.proofs.reader.Reader.next.Goals as goal
 
