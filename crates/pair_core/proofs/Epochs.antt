@@ -1,15 +1,16 @@
 -- Laws of kept epochs and of numbered checkpoints.
-use Rattle.std.proofs.Common.{◌≡◌, ℕ, suc, ◌+◌, ◌-◌, ◌<◌, ◌≤◌, List, [], ◌∷◌, ◌++◌, length, refl, sym, ap, ◌∙◌, subst, arith, append_assoc, Bool, true, false, cond}
+use Rattle.std.proofs.Common.{◌≡◌, ℕ, suc, ◌+◌, ◌<◌, ◌≤◌, List, [], ◌∷◌, ◌++◌, length, refl, sym, ap, ◌∙◌, subst, arith, append_assoc, Bool, true, false, cond}
 use Rattle.std.specs.Prelude.{map, nat_le}
 use Rattle.std.proofs.lemmas.Bool.Decides.{nat_tests}
 use Rattle.guest_machine.specs.Guest.{Guest}
 use Rattle.output_gate.specs.Epochs.{Epoch, frames_to, after_number, frames_of}
 use Rattle.pair_core.specs.declared.event.Packet.{Packet}
-use Rattle.pair_core.specs.Entries.{Entry}
+use Rattle.pair_history.specs.Entries.{Entry}
 use Rattle.pair_core.specs.Protocol.{packet_of, joined}
-use Rattle.pair_core.specs.Kept.{Move, entries_of, guest_along, frames_along, all_moves, epoch_guests, epoch_frames, NumberedFrom, AllBelow}
-use Rattle.pair_core.proofs.States.{append-nil}
-use Rattle.pair_core.proofs.Moves.{guest_along-append}
+use Rattle.pair_history.specs.Moves.{Move, entries_of, guest_along, frames_along}
+use Rattle.pair_core.specs.Kept.{all_moves, epoch_guests, epoch_frames, NumberedFrom, AllBelow}
+use Rattle.pair_history.proofs.States.{append-nil}
+use Rattle.pair_history.proofs.Moves.{guest_along-append}
 
 pub length-append' : {A : Type 0} (xs ys : List A) → length (xs ++ ys) ≡ length xs + length ys
 length-append' [] ys = omega arith

@@ -9,15 +9,19 @@ use Rattle.frame_ports.specs.Addresses.{IsFrame, targets_of}
 use Rattle.frame_ports.specs.Lands.{list_of, with_list, landed_at, lands}
 use Rattle.frame_ports.specs.declared.limits.TheConstants.{INBOX_FRAMES, BOX_FRAMES}
 use Rattle.output_gate.specs.Epochs.{Epoch, frames_to, after_number, frames_of}
-use Rattle.pair_core.specs.Entries.{Frame, Entry, Delivered, Refused, Took}
-use Rattle.pair_core.specs.HistoryState.{HistoryState, Waiting, inbox_of, without_number, at, Legal, Allows}
-use Rattle.pair_core.specs.Protocol.{Record, packet, packet_of, joined, kept_entries, all_entries, landings, first_kept, later_kept, number_end, most_pending}
-use Rattle.pair_core.specs.Pair.{Pair, shown_state, DropsAtFull}
-use Rattle.pair_core.specs.Kept.{Move, Steps, Arrives, entry_of, entries_of, guest_moved, frames_by, guest_along, frames_along, left_by, left, CanMove, AllCan, all_moves, epoch_guests, epoch_frames, AreRising, NumberedFrom, BoxesFit, AreInboxes, IsKept}
-use Rattle.pair_core.proofs.States.{append-nil, at-append, Legal-append, DropsAtFull-append, targets_of-append}
-use Rattle.pair_core.proofs.Waiting.{inbox_of-append, AreRising-push, AreRising-without, StartsWith, Leaves, first-leaves}
-use Rattle.pair_core.proofs.Moves.{guest_along-append, frames_along-append, left-append, AllCan-append, AllCan-front, AllCan-back, moved, at-moves, Legal-moves, DropsAtFull-moves, AllCan-more, left-more, left-shorter}
-use Rattle.pair_core.proofs.LandingLaws.{length-set', length-lands, BoxesFit-set, BoxesFit-at, BoxesFit-lands, AllClients-targets, landings-land, AllLand, AllClients}
+use Rattle.pair_history.specs.Entries.{Frame, Entry, Delivered, Refused, Took}
+use Rattle.pair_history.specs.HistoryState.{HistoryState, Waiting, inbox_of, without_number, at, Legal, Allows}
+use Rattle.pair_history.specs.Landings.{landings}
+use Rattle.pair_core.specs.Protocol.{Record, packet, packet_of, joined, kept_entries, all_entries, first_kept, later_kept, number_end, most_pending}
+use Rattle.pair_history.specs.Landings.{DropsAtFull}
+use Rattle.pair_core.specs.Pair.{Pair, shown_state}
+use Rattle.pair_history.specs.Moves.{Move, Steps, Arrives, entry_of, entries_of, guest_moved, frames_by, guest_along, frames_along, left_by, left, CanMove, AllCan, AreRising}
+use Rattle.pair_history.specs.Landings.{BoxesFit}
+use Rattle.pair_core.specs.Kept.{all_moves, epoch_guests, epoch_frames, NumberedFrom, AreInboxes, IsKept}
+use Rattle.pair_history.proofs.States.{append-nil, at-append, Legal-append, DropsAtFull-append, targets_of-append}
+use Rattle.pair_history.proofs.Waiting.{inbox_of-append, AreRising-push, AreRising-without, StartsWith, Leaves, first-leaves}
+use Rattle.pair_history.proofs.Moves.{guest_along-append, frames_along-append, left-append, AllCan-append, AllCan-front, AllCan-back, moved, at-moves, Legal-moves, DropsAtFull-moves, AllCan-more, left-more, left-shorter}
+use Rattle.pair_history.proofs.LandingLaws.{length-set', length-lands, BoxesFit-set, BoxesFit-at, BoxesFit-lands, AllClients-targets, landings-land, AllLand, AllClients}
 use Rattle.pair_core.proofs.Epochs.{length-append', length-map', joined-push, all_moves-push, entries_of-append, epoch_guests-push, epoch_frames-push, map-append', frames_of-append, NumberedFrom-push, AllBelow-append, AllBelow-more, AllBelow-numbered, taken, Taken}
 use Rattle.pair_core.proofs.Kept.{moves}
 

@@ -4,13 +4,15 @@ use Rattle.std.specs.Prelude.{map}
 use Rattle.guest_machine.specs.Guest.{Guest}
 use Rattle.frame_ports.specs.Addresses.{targets_of}
 use Rattle.output_gate.specs.Epochs.{Epoch, frames_of}
-use Rattle.pair_core.specs.Entries.{Frame}
-use Rattle.pair_core.specs.HistoryState.{at, Legal}
-use Rattle.pair_core.specs.Protocol.{joined, kept_entries, sent_along, outbox_of}
+use Rattle.pair_history.specs.Entries.{Frame}
+use Rattle.pair_history.specs.HistoryState.{at, Legal}
+use Rattle.pair_history.specs.HistoryState.{sent_along}
+use Rattle.pair_core.specs.Protocol.{joined, kept_entries, outbox_of}
 use Rattle.pair_core.specs.Pair.{Pair, shown_state, live_state, IsConsistent}
-use Rattle.pair_core.specs.Kept.{Move, entries_of, guest_along, frames_along, left, all_moves, epoch_frames, AreInboxes, IsKept}
-use Rattle.pair_core.proofs.States.{at-append, targets_of-append}
-use Rattle.pair_core.proofs.Moves.{moved, at-moves, Legal-moves, sent_along-moves, frames_along-append, AllCan-front, AllCan-back}
+use Rattle.pair_history.specs.Moves.{Move, entries_of, guest_along, frames_along, left}
+use Rattle.pair_core.specs.Kept.{all_moves, epoch_frames, AreInboxes, IsKept}
+use Rattle.pair_history.proofs.States.{at-append, targets_of-append}
+use Rattle.pair_history.proofs.Moves.{moved, at-moves, Legal-moves, sent_along-moves, frames_along-append, AllCan-front, AllCan-back}
 use Rattle.pair_core.proofs.Epochs.{frames_of-append, joined-entries, entries_of-append}
 
 -- what the kept entries do to the shown state

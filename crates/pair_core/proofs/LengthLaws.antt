@@ -6,10 +6,10 @@ use Rattle.std.proofs.lemmas.Bool.Decides.{eqb_tells}
 use Rattle.frame_ports.specs.Addresses.{targets_of, paired_with, clients_of}
 use Rattle.frame_ports.specs.Lands.{list_of, with_list, has_room, landed_at}
 use Rattle.frame_ports.specs.declared.limits.TheConstants.{BOX_FRAMES}
-use Rattle.pair_core.specs.Entries.{Frame, Land, DropOut}
-use Rattle.pair_core.specs.Protocol.{landings}
+use Rattle.pair_history.specs.Entries.{Frame, Land, DropOut}
+use Rattle.pair_history.specs.Landings.{landings}
 use Rattle.pair_core.specs.Lengths.{receivers, has_space, lengths_at, lengths_after, landing_by, landings_by, AreLengths}
-use Rattle.pair_core.proofs.LandingLaws.{AllClients, AllClients-targets, length-landed_at, length-set'}
+use Rattle.pair_history.proofs.LandingLaws.{AllClients, AllClients-targets, length-landed_at, length-set'}
 
 -- the clients of frames are those of their targets
 firsts-paired : (cs : List ℕ) (f : Frame) (ps : List (ℕ × Frame)) → map (λ p. p.0) (paired_with cs f ++ ps) ≡ cs ++ map (λ p. p.0) ps

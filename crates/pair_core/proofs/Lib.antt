@@ -1,7 +1,3 @@
-pub mod States
-pub mod Waiting
-pub mod Moves
-pub mod LandingLaws
 pub mod Epochs
 pub mod Kept
 pub mod Events
@@ -9,12 +5,6 @@ pub mod Outcomes
 pub mod StepRuns
 pub mod WorldLaws
 pub mod PublicLaws
-pub mod ReleasedLaws
-pub mod Parts
-pub mod ClientLists
-pub mod OrderLaws
-pub mod CountLaws
-pub mod LogLaws
 pub mod LengthLaws
 pub mod Receivers
 pub mod LineLaws

@@ -1,5 +1,5 @@
 -- What the protocol answers, by the tests that the code makes.
-use Rattle.std.proofs.Common.{◌≡◌, ◌≢◌, ℕ, ◌+◌, ◌-◌, ◌<◌, ◌≤◌, List, [], ◌∷◌, ◌++◌, length, sym, ap, ◌∙◌, arith, Bool, true, false, cond, Option, None, Some}
+use Rattle.std.proofs.Common.{◌≡◌, ◌≢◌, ℕ, ◌+◌, ◌<◌, ◌≤◌, List, [], ◌∷◌, ◌++◌, length, sym, ap, ◌∙◌, arith, Bool, true, false, cond, Option, None, Some}
 use Rattle.std.specs.Prelude.{nat_lt, nat_le, slice_get, ◌==◌, ◌&&◌, not}
 use Rattle.std.proofs.lemmas.Bool.Decides.{nat_tests}
 use Rattle.std.proofs.lemmas.Bool.{eq-eqb}
@@ -12,10 +12,11 @@ use Rattle.output_gate.specs.Epochs.{frames_to, after_number}
 use Rattle.pair_core.specs.declared.event.Packet.{Packet}
 use Rattle.pair_core.specs.declared.event.Refusal.TheVariants.{Full, BadFrame, NoClient, Behind, Stale, Gap, CutNeeded, Exhausted}
 use Rattle.pair_core.specs.declared.event.Reply.TheVariants as replies
-use Rattle.pair_core.specs.Entries.{Frame, Took}
-use Rattle.pair_core.specs.Entries as entries
-use Rattle.pair_core.specs.HistoryState.{inbox_of}
-use Rattle.pair_core.specs.Protocol.{Record, landings, refused, step_outcome, cut_outcome, backup_outcome, again_outcome, commit_outcome, ack_outcome, admit_outcome, admit_first, deliver_outcome, take_outcome, is_among, is_bad_length, inbox_now, all_entries, outbox_of, number_end}
+use Rattle.pair_history.specs.Entries.{Frame, Took}
+use Rattle.pair_history.specs.Entries as entries
+use Rattle.pair_history.specs.HistoryState.{inbox_of}
+use Rattle.pair_history.specs.Landings.{landings}
+use Rattle.pair_core.specs.Protocol.{Record, refused, step_outcome, cut_outcome, backup_outcome, again_outcome, commit_outcome, ack_outcome, admit_outcome, admit_first, deliver_outcome, take_outcome, is_among, is_bad_length, inbox_now, all_entries, outbox_of, number_end}
 use Rattle.pair_core.specs.Pair.{Pair, shown_state}
 use Rattle.pair_core.specs.Kept.{IsKept}
 use Rattle.pair_core.proofs.Kept.{live_is, live_waiting, outbox_is}

@@ -1,5 +1,5 @@
 -- What the public calls say, from what each event does.
-use Rattle.std.proofs.Common.{◌≡◌, ℕ, ◌+◌, ◌-◌, List, [], ◌∷◌, ◌++◌, length, refl, sym, ap, ◌∙◌, subst, append_assoc, Bool, true, false, cond, Option, None, Some, inl, inr, Result, Ok, Err}
+use Rattle.std.proofs.Common.{◌≡◌, ℕ, List, [], ◌∷◌, ◌++◌, length, refl, sym, ap, ◌∙◌, subst, append_assoc, Bool, true, false, cond, Option, None, Some, inl, inr, Result, Ok, Err}
 use Rattle.std.specs.Prelude.{nat_lt, nat_le, ◌==◌, not, slice_get, IfOk, IfErr}
 use Rattle.frame_ports.specs.Addresses.{targets_of}
 use Rattle.frame_ports.specs.Lands.{list_of}
@@ -12,10 +12,11 @@ use Rattle.pair_core.specs.declared.event.Refusal.{Refusal}
 use Rattle.pair_core.specs.declared.event.Refusal.TheVariants.{BadFrame, NoClient, Behind, Stale, Gap, NoMemory, CutNeeded, Exhausted}
 use Rattle.pair_core.specs.declared.event.Reply.{Reply}
 use Rattle.pair_core.specs.declared.event.Reply.TheVariants as replies
-use Rattle.pair_core.specs.Entries.{Frame, Entry, Delivered, Took, Begins}
-use Rattle.pair_core.specs.Entries as entries
-use Rattle.pair_core.specs.HistoryState.{HistoryState, at}
-use Rattle.pair_core.specs.Protocol.{Record, Outcome, Answers, outcome, backup_outcome, again_outcome, commit_outcome, ack_outcome, admit_first, admitted_outcome, deliver_outcome, delivered_outcome, full_outcome, is_among, is_bad_length, inbox_now, client_count, stepped_outcome, sealed_outcome, acked, taken_outcome, refused, first_kept, landings, exhausts, outbox_of, step_room, most_pending, number_end}
+use Rattle.pair_history.specs.Entries.{Frame, Entry, Delivered, Took, Begins}
+use Rattle.pair_history.specs.Entries as entries
+use Rattle.pair_history.specs.HistoryState.{HistoryState, at}
+use Rattle.pair_history.specs.Landings.{landings}
+use Rattle.pair_core.specs.Protocol.{Record, Outcome, Answers, outcome, backup_outcome, again_outcome, commit_outcome, ack_outcome, admit_first, admitted_outcome, deliver_outcome, delivered_outcome, full_outcome, is_among, is_bad_length, inbox_now, client_count, stepped_outcome, sealed_outcome, acked, taken_outcome, refused, first_kept, exhausts, outbox_of, step_room, most_pending, number_end}
 use Rattle.pair_core.specs.Pair.{Pair, OnRefused}
 use Rattle.pair_core.specs.Runs.{Run}
 

@@ -4,7 +4,7 @@ use Rattle.std.specs.Prelude.{nat_le, ◌&&◌}
 use Rattle.std.proofs.lemmas.Bool.Decides.{nat_tests}
 use Rattle.frame_ports.specs.Addresses.{addressed, clients_from, clients_of}
 use Rattle.frame_ports.specs.Targets.{has_target, AreTargets}
-use Rattle.pair_core.specs.Entries.{Frame, Entry}
+use Rattle.pair_history.specs.Entries.{Frame, Entry}
 use Rattle.pair_core.specs.Lengths.{receivers, landing_by, landings_by, lengths_at, lengths_after}
 use Rattle.pair_core.proofs.LengthLaws.{landings_by-append}
 

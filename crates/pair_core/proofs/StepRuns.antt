@@ -8,13 +8,13 @@ use Rattle.guest_machine.specs.Runs.{after_steps, sent_in, HaveRoom}
 use Rattle.pair_core.specs.declared.event.Refusal.{Refusal}
 use Rattle.pair_core.specs.declared.event.Refusal.TheVariants.{CutNeeded, Exhausted}
 use Rattle.pair_core.specs.declared.event.Reply.TheVariants as replies
-use Rattle.pair_core.specs.Entries.{Frame, Ran}
-use Rattle.pair_core.specs.HistoryState.{HistoryState, at}
+use Rattle.pair_history.specs.Entries.{Frame, Ran}
+use Rattle.pair_history.specs.HistoryState.{HistoryState, at}
 use Rattle.pair_core.specs.Protocol.{Record, Outcome, joined, all_entries, outbox_of, step_room, exhausts, refused, stepped_outcome, step_outcome, step_reply, number_end}
 use Rattle.pair_core.specs.Pair.{Pair}
 use Rattle.pair_core.specs.Kept.{IsKept}
 use Rattle.pair_core.specs.Runs.{goes_on, steps_outcome, with_steps}
-use Rattle.pair_core.proofs.States.{append-nil}
+use Rattle.pair_history.proofs.States.{append-nil}
 use Rattle.pair_core.proofs.Epochs.{length-append'}
 use Rattle.pair_core.proofs.Kept.{live_is}
 use Rattle.pair_core.proofs.Events.{step_done, step_kept}

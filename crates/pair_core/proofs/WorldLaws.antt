@@ -18,16 +18,19 @@ use Rattle.pair_core.specs.declared.event.Reply.TheVariants as replies
 use Rattle.pair_core.specs.declared.sealed.Arrival.{Arrival}
 use Rattle.pair_core.specs.declared.sealed.Sealed.{Sealed}
 use Rattle.pair_core.specs.declared.world.World.TheInside.{Inside}
-use Rattle.pair_core.specs.Entries.{Frame, Entry, Arrive, Delivered, Refused, Took}
+use Rattle.pair_history.specs.Entries.{Frame, Entry, Arrive, Delivered, Refused, Took}
 use Rattle.pair_core.specs.Arrivals.{steps_of, arrival_of, arrivals_of, epoch_entries}
-use Rattle.pair_core.specs.Log.{Log}
-use Rattle.pair_core.specs.Protocol.{Record, packet, packet_of, refused, cut_outcome, send_outcome, again_outcome, commit_outcome, ack_outcome, admit_outcome, deliver_outcome, take_outcome, is_bad_length, kept_entries, all_entries, exhausts, number_end, joined, landings, first_kept, later_kept}
+use Rattle.pair_history.specs.Log.{Log}
+use Rattle.pair_history.specs.Landings.{landings}
+use Rattle.pair_core.specs.Protocol.{Record, packet, packet_of, refused, cut_outcome, send_outcome, again_outcome, commit_outcome, ack_outcome, admit_outcome, deliver_outcome, take_outcome, is_bad_length, kept_entries, all_entries, exhausts, number_end, joined, first_kept, later_kept}
 use Rattle.pair_core.specs.Pair.{Pair}
-use Rattle.pair_core.specs.Kept.{IsKept, NumberedFrom, AllBelow, BoxesFit}
-use Rattle.pair_core.specs.Start.{start_state, start_record}
+use Rattle.pair_history.specs.Landings.{BoxesFit}
+use Rattle.pair_core.specs.Kept.{IsKept, NumberedFrom, AllBelow}
+use Rattle.pair_history.specs.HistoryState.{start_state}
+use Rattle.pair_core.specs.Start.{start_record}
 use Rattle.pair_core.specs.Lines.{packets_from}
 use Rattle.pair_core.specs.WorldFields.{pair_of, record_of, AreFields, epoch_of, guest_of}
-use Rattle.pair_core.proofs.States.{append-nil}
+use Rattle.pair_history.proofs.States.{append-nil}
 use Rattle.pair_core.proofs.Epochs.{length-append', map-append', joined-push}
 use Rattle.pair_core.specs.Lengths.{receivers}
 use Rattle.pair_core.proofs.LengthLaws.{length-receivers}

@@ -1,7 +1,7 @@
 -- How an epoch is stored: its arrivals, each with the steps since the one before, and the steps behind the last.
 use Rattle.std.specs.Prelude.{ℕ, List, [], ◌∷◌, ◌++◌, replicate}
 use Rattle.pair_core.specs.declared.sealed.Arrival.{Arrival}
-use Rattle.pair_core.specs.Entries.{Entry, Ran, Arrive}
+use Rattle.pair_history.specs.Entries.{Entry, Ran, Arrive}
 
 abbrev pub steps_of : ℕ → List Entry
 steps_of count = replicate count Ran

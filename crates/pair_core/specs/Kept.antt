@@ -1,63 +1,16 @@
 -- What is kept true from event to event, so that what contracts say of a pair follows.
-use Rattle.std.specs.Prelude.{◌≡◌, ℕ, ◌+◌, ◌<◌, ◌≤◌, List, [], ◌∷◌, ◌++◌, length, map, Some}
+use Rattle.std.specs.Prelude.{◌≡◌, ℕ, ◌+◌, ◌<◌, ◌≤◌, List, [], ◌∷◌, ◌++◌, length, map}
 use Rattle.guest_machine.specs.Guest.{Guest}
-use Rattle.guest_machine.specs.Step.{next, sent, arrived}
 use Rattle.frame_ports.specs.Addresses.{targets_of}
 use Rattle.frame_ports.specs.Lands.{list_of}
-use Rattle.frame_ports.specs.declared.limits.TheConstants.{BOX_FRAMES}
 use Rattle.output_gate.specs.Epochs.{Epoch, frames_of}
 use Rattle.pair_core.specs.declared.event.Packet.{Packet}
-use Rattle.pair_core.specs.Entries.{Frame, Entry, Ran, Arrive}
-use Rattle.pair_core.specs.HistoryState.{Waiting, inbox_of, frame_numbered, without_number, IsFirst, Legal}
+use Rattle.pair_history.specs.Entries.{Frame}
+use Rattle.pair_history.specs.HistoryState.{Waiting, inbox_of, Legal}
 use Rattle.pair_core.specs.Protocol.{all_entries, number_end, most_pending}
-use Rattle.pair_core.specs.Pair.{Pair, shown_state, DropsAtFull}
-
--- What an epoch keeps: the guest's steps, and the frames that arrived at it.
-pub data Move : Type 0 where
-  Steps : Move
-  Arrives : ℕ → Frame → Move
-
-abbrev pub entry_of : Move → Entry
-entry_of Steps = Ran
-entry_of (Arrives n f) = Arrive n
-
-abbrev pub entries_of : List Move → List Entry
-entries_of ms = map entry_of ms
-
--- the guest behind these moves, and the frames that it sends along them
-abbrev pub guest_moved : Guest → Move → Guest
-guest_moved g Steps = next g
-guest_moved g (Arrives n f) = arrived g f
-
-abbrev pub frames_by : Guest → Move → List Frame
-frames_by g Steps = sent g
-frames_by g (Arrives n f) = []
-
-abbrev pub guest_along : Guest → List Move → Guest
-guest_along g [] = g
-guest_along g (m ∷ ms) = guest_along (guest_moved g m) ms
-
-abbrev pub frames_along : Guest → List Move → List Frame
-frames_along g [] = []
-frames_along g (m ∷ ms) = frames_by g m ++ frames_along (guest_moved g m) ms
-
--- what still waits behind these moves
-abbrev pub left_by : List Waiting → Move → List Waiting
-left_by ws Steps = ws
-left_by ws (Arrives n f) = without_number n ws
-
-abbrev pub left : List Waiting → List Move → List Waiting
-left ws [] = ws
-left ws (m ∷ ms) = left (left_by ws m) ms
-
--- the frame that arrives waits under its number, as the first of its client
-abbrev pub CanMove : List Waiting → Move → Type 0
-CanMove ws Steps = Unit {0}
-CanMove ws (Arrives n f) = IsFirst n ws × (frame_numbered n ws ≡ Some f)
-
-abbrev pub AllCan : List Waiting → List Move → Type 0
-AllCan ws [] = Unit {0}
-AllCan ws (m ∷ ms) = CanMove ws m × AllCan (left_by ws m) ms
+use Rattle.pair_history.specs.Landings.{DropsAtFull, BoxesFit}
+use Rattle.pair_history.specs.Moves.{Move, entries_of, guest_along, frames_along, left, AllCan, AreRising}
+use Rattle.pair_core.specs.Pair.{Pair, shown_state}
 
 -- moves, epoch by epoch
 abbrev pub all_moves : List (List Move) → List Move
@@ -73,11 +26,6 @@ abbrev pub epoch_frames : Guest → List (List Move) → List (List Frame)
 epoch_frames g [] = []
 epoch_frames g (ms ∷ mss) = frames_along g ms ∷ epoch_frames (guest_along g ms) mss
 
--- the numbers of what waits rise, from the first number to below the end
-abbrev pub AreRising : ℕ → ℕ → List Waiting → Type 0
-AreRising first end [] = first ≤ end
-AreRising first end (x ∷ xs) = (first ≤ x.number) × AreRising (x.number + 1) end xs
-
 -- the epochs have consecutive numbers from n on
 abbrev pub NumberedFrom : ℕ → List Epoch → Type 0
 NumberedFrom n [] = Unit {0}
@@ -86,11 +34,6 @@ NumberedFrom n (e ∷ es) = (e.number ≡ n) × NumberedFrom (n + 1) es
 abbrev pub AllBelow : ℕ → List Packet → Type 0
 AllBelow n [] = Unit {0}
 AllBelow n (p ∷ ps) = (p.number < n) × AllBelow n ps
-
--- no box holds more than it has room for
-abbrev pub BoxesFit : List (List Frame) → Type 0
-BoxesFit [] = Unit {0}
-BoxesFit (b ∷ bs) = (length b ≤ BOX_FRAMES) × BoxesFit bs
 
 -- the inboxes are what waits, client by client
 abbrev pub AreInboxes : ℕ → List (List (ℕ × Frame)) → List Waiting → Type 0

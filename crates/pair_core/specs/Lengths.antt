@@ -2,7 +2,7 @@
 use Rattle.std.specs.Prelude.{◌≡◌, ℕ, ◌+◌, ◌-◌, ◌<◌, ◌≤◌, nat_lt, Bool, if◌then◌else◌, List, [], ◌∷◌, ◌++◌, length, slice_index, slice_index_or, slice_set}
 use Rattle.frame_ports.specs.Addresses.{clients_of}
 use Rattle.frame_ports.specs.declared.limits.TheConstants.{BOX_FRAMES}
-use Rattle.pair_core.specs.Entries.{Frame, Entry, Land, DropOut}
+use Rattle.pair_history.specs.Entries.{Frame, Entry, Land, DropOut}
 
 -- the clients to whom the frames go, each frame's rising
 abbrev pub receivers : ℕ → List Frame → List ℕ

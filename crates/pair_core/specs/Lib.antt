@@ -1,14 +1,9 @@
-pub mod Entries
-pub mod HistoryState
 pub mod Protocol
 pub mod Pair
 pub mod Kept
 pub mod Arrivals
-pub mod Log
-pub mod LogFields
 pub mod Lines
 pub mod Lengths
-pub mod Released
 pub mod Refusals
 pub mod Start
 pub mod WorldFields

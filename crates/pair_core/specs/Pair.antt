@@ -1,16 +1,16 @@
 -- What contracts see of the whole pair, and how its parts stand to the history.
-use Rattle.std.specs.Prelude.{◌≡◌, ℕ, ◌≤◌, List, [], ◌∷◌, ◌++◌, length}
+use Rattle.std.specs.Prelude.{◌≡◌, ℕ, ◌≤◌, List, ◌++◌, length}
 use Rattle.guest_machine.specs.Guest.{Guest}
 use Rattle.frame_ports.specs.Addresses.{targets_of}
 use Rattle.frame_ports.specs.Lands.{list_of}
-use Rattle.frame_ports.specs.declared.limits.TheConstants.{BOX_FRAMES}
 use Rattle.output_gate.specs.Epochs.{Epoch, frames_of}
 use Rattle.pair_core.specs.declared.event.Refusal.{Refusal}
 use Rattle.pair_core.specs.declared.event.Refusal.TheVariants.{Full, BadFrame, NoClient, Behind, Stale, Gap, NoMemory, CutNeeded, Exhausted}
 use Rattle.pair_core.specs.declared.event.Reply.{Reply}
 use Rattle.pair_core.specs.declared.event.Reply.TheVariants as replies
-use Rattle.pair_core.specs.Entries.{Frame, Entry, Ran, Arrive, Delivered, Refused, Land, DropOut, Took}
-use Rattle.pair_core.specs.HistoryState.{HistoryState, inbox_of, at, after, Legal}
+use Rattle.pair_history.specs.Entries.{Frame}
+use Rattle.pair_history.specs.HistoryState.{HistoryState, inbox_of, at, Legal}
+use Rattle.pair_history.specs.Landings.{DropsAtFull}
 use Rattle.pair_core.specs.Protocol.{Record, kept_entries, all_entries, outbox_of}
 
 pub record Pair : Type 0 where
@@ -38,17 +38,6 @@ shown_state w = at w.start w.protocol.history
 
 abbrev pub live_state : Pair → HistoryState
 live_state w = at w.start (all_entries w.protocol)
-
--- frames were dropped at full boxes alone
-abbrev pub DropsAtFull : HistoryState → List Entry → Type 0
-DropsAtFull s [] = Unit {0}
-DropsAtFull s (Ran ∷ es) = DropsAtFull (after s Ran) es
-DropsAtFull s (Arrive n ∷ es) = DropsAtFull (after s (Arrive n)) es
-DropsAtFull s (Delivered c f n ∷ es) = DropsAtFull (after s (Delivered c f n)) es
-DropsAtFull s (Refused c f ∷ es) = DropsAtFull s es
-DropsAtFull s (Land c ∷ es) = DropsAtFull (after s (Land c)) es
-DropsAtFull s (DropOut c place ∷ es) = (place ≡ BOX_FRAMES) × (length (list_of s.boxes c) ≡ BOX_FRAMES) × DropsAtFull (after s (DropOut c place)) es
-DropsAtFull s (Took c answer ∷ es) = DropsAtFull (after s (Took c answer)) es
 
 -- What holds between events.
 pub record IsConsistent (w : Pair) : Type 0 where

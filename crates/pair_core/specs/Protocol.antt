@@ -1,13 +1,14 @@
 -- The pair protocol: what each event is answered and what it leaves, over a record that holds no machine, page or byte.
 use Rattle.std.specs.Prelude.{◌≡◌, ℕ, ◌+◌, ◌-◌, ◌^◌, ◌==◌, ◌&&◌, ◌||◌, not, nat_lt, nat_le, Bool, if◌then◌else◌, List, [], ◌∷◌, ◌++◌, length, map, slice_get, Option, None, Some, Result, Ok, Err, ◌⊎◌}
-use Rattle.guest_machine.specs.Step.{next, sent}
+use Rattle.guest_machine.specs.Step.{next}
 use Rattle.frame_ports.specs.Addresses.{targets_of}
-use Rattle.frame_ports.specs.Lands.{list_of, has_room, landed_at, put_count}
-use Rattle.frame_ports.specs.declared.limits.TheConstants.{MIN_FRAME, MAX_FRAME, INBOX_FRAMES, BOX_FRAMES}
+use Rattle.frame_ports.specs.Lands.{list_of, put_count}
+use Rattle.frame_ports.specs.declared.limits.TheConstants.{MIN_FRAME, MAX_FRAME, INBOX_FRAMES}
 use Rattle.output_gate.specs.Epochs.{Epoch, frames_to, after_number}
-use Rattle.pair_core.specs.Entries.{Frame, Entry, Ran, Arrive, Delivered, Land, DropOut, Took}
-use Rattle.pair_core.specs.Entries as entries
-use Rattle.pair_core.specs.HistoryState.{HistoryState, at, after, inbox_of}
+use Rattle.pair_history.specs.Entries.{Frame, Entry, Ran, Arrive, Delivered, Land, DropOut, Took}
+use Rattle.pair_history.specs.Entries as entries
+use Rattle.pair_history.specs.HistoryState.{HistoryState, at, inbox_of, sent_along}
+use Rattle.pair_history.specs.Landings.{landings}
 use Rattle.pair_core.specs.declared.event.Event.{Event}
 use Rattle.pair_core.specs.declared.event.Event.TheVariants.{Step, Cut, Send, BackupGet, AckGet, Admit, Deliver, Take}
 use Rattle.pair_core.specs.declared.event.Packet.{Packet}
@@ -52,20 +53,6 @@ kept_entries r = joined r.kept ++ r.running
 -- the history followed by what is kept
 abbrev pub all_entries : Record → List Entry
 all_entries r = r.history ++ kept_entries r
-
--- the frames that the guest sends along these entries
-abbrev pub sent_by : HistoryState → Entry → List Frame
-sent_by s Ran = sent s.guest
-sent_by s (Arrive n) = []
-sent_by s (Delivered c f n) = []
-sent_by s (entries.Refused c f) = []
-sent_by s (Land c) = []
-sent_by s (DropOut c place) = []
-sent_by s (Took c answer) = []
-
-abbrev pub sent_along : HistoryState → List Entry → List Frame
-sent_along s [] = []
-sent_along s (e ∷ es) = sent_by s e ++ sent_along (after s e) es
 
 -- the frames that the guest sent along the epoch that runs
 abbrev pub outbox_of : HistoryState → Record → List Frame
@@ -163,12 +150,6 @@ backup_outcome r (Some p) =
     else if nat_lt r.to_commit p.number then refused r Gap
     else if nat_lt p.number r.to_commit then again_outcome r
     else commit_outcome r
-
--- what each frame that leaves the gate for a client adds: it lands, or is dropped at a full box
-abbrev pub landings : List (List Frame) → List (ℕ × Frame) → List Entry
-landings boxes [] = []
-landings boxes (p ∷ ps) =
-    (if has_room boxes p.0 then Land p.0 else DropOut p.0 BOX_FRAMES) ∷ landings (landed_at boxes p.0 p.1) ps
 
 -- the frames that an acknowledgement of checkpoint n lets go, each with its clients
 abbrev pub let_go : HistoryState → Record → ℕ → List (ℕ × Frame)

@@ -4,8 +4,8 @@ use Rattle.guest_machine.specs.Runs.{after_steps, sent_in}
 use Rattle.pair_core.specs.declared.event.Event.{Event}
 use Rattle.pair_core.specs.declared.event.Reply.{Reply}
 use Rattle.pair_core.specs.declared.event.Reply.TheVariants as replies
-use Rattle.pair_core.specs.Entries.{Ran}
-use Rattle.pair_core.specs.HistoryState.{HistoryState, at}
+use Rattle.pair_history.specs.Entries.{Ran}
+use Rattle.pair_history.specs.HistoryState.{HistoryState, at}
 use Rattle.pair_core.specs.Protocol.{Record, Outcome, Answers, all_entries, refused, step_outcome}
 use Rattle.pair_core.specs.Pair.{Pair}
 

@@ -1,21 +1,10 @@
 -- Where a pair starts.
-use Rattle.std.specs.Prelude.{ℕ, List, [], length, replicate, Option}
-use Rattle.guest_machine.specs.Guest.{boot_guest, sector_in}
+use Rattle.std.specs.Prelude.{ℕ, List, [], length, Option}
+use Rattle.guest_machine.specs.Guest.{sector_in}
 use Rattle.pair_core.specs.declared.event.Mode.TheVariants.{Paired}
 use Rattle.pair_core.specs.declared.event.Show.{Show}
-use Rattle.pair_core.specs.HistoryState.{HistoryState}
 use Rattle.pair_core.specs.Protocol.{Record}
 use Rattle.pair_core.specs.Pair.{Pair}
-
--- the boot guest, nothing delivered, nothing on its way, and an empty box for each client
-abbrev pub start_state : ℕ → ℕ → List ℕ → ℕ → HistoryState
-start_state pages sectors image clients = record {
-  guest = boot_guest pages sectors image;
-  number = 1;
-  waiting = [];
-  out = [];
-  boxes = replicate clients [];
-}
 
 -- Nothing happened yet. Both nodes were given the boot image, which counts as checkpoint 0, committed and acknowledged.
 abbrev pub start_record : Record

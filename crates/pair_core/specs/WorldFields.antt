@@ -3,12 +3,12 @@ use Rattle.std.specs.Prelude.{◌≡◌, List, length, map}
 use Rattle.guest_machine.specs.Guest.{Guest}
 use Rattle.pair_core.specs.declared.sealed.Sealed.{Sealed}
 use Rattle.pair_core.specs.declared.world.World.TheInside.{Inside}
-use Rattle.pair_core.specs.Entries.{Entry}
+use Rattle.pair_history.specs.Entries.{Entry}
 use Rattle.pair_core.specs.Arrivals.{epoch_entries}
 use Rattle.pair_core.specs.Protocol.{Record, kept_entries}
 use Rattle.pair_core.specs.Pair.{Pair}
 use Rattle.pair_core.specs.Kept.{IsKept}
-use Rattle.pair_core.specs.Start.{start_state}
+use Rattle.pair_history.specs.HistoryState.{start_state}
 
 -- the entries of a sealed epoch, and the guest at its end
 abbrev pub epoch_of : Sealed → List Entry

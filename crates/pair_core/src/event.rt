@@ -1,13 +1,10 @@
 ghost use Rattle.std.specs.Prelude.{◌≡◌, Some, codes};
 ghost use Rattle.pair_core.specs.declared.event.Refusal.TheVariants.{NoMemory};
 
-use arrayvec::ArrayVec;
+use pair_history::Frame;
 use std::alloc::AllocError;
 use std::fmt;
 use thiserror::Error;
-
-/// A frame of the network: 14 to 1514 bytes.
-pub type Frame = ArrayVec<u8, 1514>;
 
 /// What may happen next to the pair.
 #[derive(Clone, Copy, Debug, PartialEq, Eq)]

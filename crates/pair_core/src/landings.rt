@@ -2,12 +2,11 @@
 //! lands, or is dropped at a full box.
 ghost use Rattle.std.specs.Prelude.{◌≡◌, ℕ, ◌+◌, ◌-◌, ◌*◌, ◌^◌, ◌≤◌, ◌<◌, ◌++◌, [], ◌∷◌, length, IsTrue, ◌↔◌};
 ghost use Rattle.frame_ports.specs.Addresses.{clients_of, targets_of};
-ghost use Rattle.pair_core.specs.Protocol.{landings};
+ghost use Rattle.pair_history.specs.Landings.{landings};
 ghost use Rattle.pair_core.specs.Lengths.{receivers, landing_by, landings_by, lengths_at, lengths_after, AreLengths};
 
-use crate::event::Frame;
-use crate::history::{Entry, History};
 use frame_ports::{BOX_FRAMES, MAX_CLIENTS, Ports};
+use pair_history::{Entry, Frame, History};
 
 /// A place for the length of each client's box.
 type Lengths = [usize; 16];

@@ -6,17 +6,14 @@
 #![tactic(auto)]
 
 mod event;
-mod history;
 mod landings;
-mod laws;
 mod packets;
 mod sealed;
 #[cfg(test)]
 mod tests;
 mod world;
 
-pub use event::{Event, Frame, Mode, Packet, Refusal, Reply, Show};
+pub use event::{Event, Mode, Packet, Refusal, Reply, Show};
 pub use guest_machine::{SECTOR_BYTES, Shape};
-pub use history::{Entry, History};
-pub use laws::released_frames_were_sent;
+pub use pair_history::{Entry, Frame, History, released_frames_were_sent};
 pub use world::World;

@@ -3,8 +3,8 @@ ghost use Rattle.std.specs.Prelude.{◌≡◌, ◌+◌, ◌*◌, ◌^◌, ◌≤
 ghost use Rattle.pair_core.specs.Arrivals.{arrival_of, epoch_entries};
 
 use crate::event::Refusal;
-use crate::history::{Entry, History};
 use guest_machine::Machine;
+use pair_history::{Entry, History};
 use std::alloc::Global;
 
 /// A frame that arrived in an epoch.

@@ -1,14 +1,14 @@
 //! The pair as one value, and what each event does to it.
 ghost use Rattle.std.specs.Prelude.{◌≡◌, ℕ, ◌+◌, ◌-◌, ◌*◌, ◌^◌, ◌≤◌, ◌<◌, ◌++◌, ◌∷◌, [], length, IfOk, IfErr, OnOk, OnErr, IsOkUnless, IsTrue, slice_get, nat_le, if◌then◌else◌};
 
-use crate::event::{Event, Frame, Mode, Packet, Refusal, Reply, Show};
-use crate::history::{Entry, History};
+use crate::event::{Event, Mode, Packet, Refusal, Reply, Show};
 use crate::landings::{add_landings, count_landings};
 use crate::packets::{packet_at, send_all, send_one};
 use crate::sealed::{Arrival, Sealed, add_epoch, seal};
 use frame_ports::{INBOX_FRAMES, MAX_FRAME, MIN_FRAME, Ports};
 use guest_machine::{Machine, SECTOR_BYTES, Shape};
 use output_gate::Gate;
+use pair_history::{Entry, Frame, History};
 use std::alloc::Global;
 use std::marker::Model;
 
@@ -64,11 +64,12 @@ impl World {
     ghost use Rattle.std.specs.Prelude.{option_map};
     ghost use Rattle.guest_machine.specs.Guest.{sector_in};
     ghost use Rattle.frame_ports.specs.declared.limits.TheConstants.{MAX_CLIENTS};
-    ghost use Rattle.pair_core.specs.Entries.{Begins};
+    ghost use Rattle.pair_history.specs.Entries.{Begins};
     ghost use Rattle.pair_core.specs.Protocol.{Answers, outcome, step_outcome};
     ghost use Rattle.pair_core.specs.Pair.{Pair, live_state, OnRefused, IsConsistent};
     ghost use Rattle.pair_core.specs.Runs.{Run};
-    ghost use Rattle.pair_core.specs.Start.{start_state, start_record, shown, shown_sector};
+    ghost use Rattle.pair_history.specs.HistoryState.{start_state};
+    ghost use Rattle.pair_core.specs.Start.{start_record, shown, shown_sector};
 
     /// A pair at its start: both nodes were given this boot image, which counts as checkpoint 0, committed and
     /// acknowledged.

@@ -1,7 +1,7 @@
 use Rattle.std.proofs.Common.{◌≡◌, ◌+◌, ◌≤◌, ◌++◌, length, ap, ◌∙◌, sym, subst, arith, true, [], ◌∷◌}
 use Rattle.frame_ports.specs.Targets.{AreTargets, has_target}
 use Rattle.frame_ports.specs.Addresses.{clients_of}
-use Rattle.pair_core.specs.Log.{Log}
+use Rattle.pair_history.specs.Log.{Log}
 use Rattle.pair_core.specs.Lengths.{landing_by, landings_by, lengths_after}
 use Rattle.pair_core.proofs.Epochs.{length-append'}
 use Rattle.pair_core.proofs.Receivers.{from_on, next_yes, next_no, entries_more}

@@ -1,6 +1,6 @@
 use Rattle.std.proofs.Common.{◌+◌, ◌++◌, length, drop, ap, ◌∙◌, sym, arith, refl}
 use Rattle.frame_ports.specs.Addresses.{clients_of}
-use Rattle.pair_core.specs.Entries.{Frame}
+use Rattle.pair_history.specs.Entries.{Frame}
 use Rattle.pair_core.specs.Lengths.{receivers, landings_by}
 use Rattle.pair_core.proofs.Epochs.{length-append'}
 use Rattle.pair_core.proofs.LengthLaws.{landings_by-targets}

@@ -1,8 +1,9 @@
-use Rattle.std.proofs.Common.{◌≡◌, ◌<◌, ◌≤◌, ◌+◌, ◌++◌, ◌∙◌, ap, sym, subst, refl, arith, length, ℕ, true, false, Some}
+use Rattle.std.proofs.Common.{◌≡◌, ◌<◌, ◌≤◌, ◌+◌, ◌++◌, ◌∙◌, ap, sym, subst, refl, arith, length, ℕ, Some}
 use Rattle.std.specs.Prelude.{slice_get}
 use Rattle.pair_core.specs.declared.event.Refusal.TheVariants.{Exhausted}
 use Rattle.pair_core.specs.declared.event.Reply.TheVariants as replies
-use Rattle.pair_core.specs.Protocol.{refused, ack_outcome, exhausts, all_entries, landings, number_end}
+use Rattle.pair_history.specs.Landings.{landings}
+use Rattle.pair_core.specs.Protocol.{refused, ack_outcome, exhausts, all_entries, number_end}
 use Rattle.pair_core.specs.Pair.{Pair}
 use Rattle.pair_core.specs.WorldFields.{record_of, pair_of}
 use Rattle.frame_ports.specs.Addresses.{targets_of}

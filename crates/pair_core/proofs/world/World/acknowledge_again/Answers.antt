@@ -1,5 +1,3 @@
-use Rattle.std.proofs.Common.{◌-◌}
-use Rattle.pair_core.specs.declared.event.Reply.TheVariants as replies
 use Rattle.pair_core.proofs.WorldLaws.{again_fields}
 use Rattle.pair_core.proofs.world.World.acknowledge_again.Goals as goal
 

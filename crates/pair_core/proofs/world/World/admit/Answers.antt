@@ -1,4 +1,4 @@
-use Rattle.std.proofs.Common.{◌≡◌, ◌<◌, ◌≤◌, ◌+◌, ◌++◌, ◌∷◌, [], ◌∙◌, ap, sym, subst, length, true, Some}
+use Rattle.std.proofs.Common.{◌≡◌, ◌<◌, ◌≤◌, ◌+◌, ◌++◌, ◌∷◌, [], ◌∙◌, ap, sym, subst, length, Some}
 use Rattle.std.specs.Prelude.{slice_get}
 use Rattle.frame_ports.specs.Ports.{inbox_of}
 use Rattle.pair_core.specs.declared.event.Refusal.TheVariants.{Exhausted}

@@ -1,4 +1,4 @@
-use Rattle.std.proofs.Common.{ap, ◌∙◌, sym, refl, []}
+use Rattle.std.proofs.Common.{ap, ◌∙◌, sym, refl}
 use Rattle.guest_machine.specs.Guest.{boot_guest}
 use Rattle.pair_core.proofs.WorldLaws.{boot_fields}
 use Rattle.pair_core.proofs.world.World.boot.Goals as goal

@@ -1,6 +1,6 @@
-use Rattle.std.proofs.Common.{◌≡◌, ◌+◌, ◌++◌, ◌∷◌, [], length, subst, ap, ◌∙◌, arith, ℕ, List}
+use Rattle.std.proofs.Common.{◌≡◌, ◌++◌, ◌∷◌, [], length, subst, ap, ◌∙◌, arith, ℕ, List}
 use Rattle.output_gate.specs.Epochs.{Epoch}
-use Rattle.pair_core.specs.Entries.{Frame}
+use Rattle.pair_history.specs.Entries.{Frame}
 use Rattle.pair_core.specs.declared.event.Reply.TheVariants as replies
 use Rattle.pair_core.specs.Protocol.{cut_outcome}
 use Rattle.pair_core.specs.Pair.{Pair}

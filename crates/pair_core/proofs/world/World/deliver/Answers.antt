@@ -4,7 +4,7 @@ use Rattle.frame_ports.specs.Ports.{inbox_of}
 use Rattle.frame_ports.specs.declared.limits.TheConstants.{INBOX_FRAMES}
 use Rattle.pair_core.specs.declared.event.Refusal.TheVariants.{Full, Exhausted}
 use Rattle.pair_core.specs.declared.event.Reply.TheVariants as replies
-use Rattle.pair_core.specs.Entries.{Frame, Entry, Delivered, Refused}
+use Rattle.pair_history.specs.Entries.{Frame, Entry, Delivered, Refused}
 use Rattle.pair_core.specs.Protocol.{refused, is_among, is_bad_length, exhausts, number_end, all_entries, deliver_outcome}
 use Rattle.pair_core.specs.Pair.{Pair}
 use Rattle.pair_core.specs.WorldFields.{record_of, pair_of}

@@ -3,7 +3,7 @@ use Rattle.std.proofs.lemmas.List.{take_more}
 use Rattle.pair_core.specs.declared.event.Event.{Event}
 use Rattle.pair_core.specs.declared.event.Event.TheVariants.{Step}
 use Rattle.pair_core.specs.declared.event.Reply.{Reply}
-use Rattle.pair_core.specs.HistoryState.{HistoryState}
+use Rattle.pair_history.specs.HistoryState.{HistoryState}
 use Rattle.pair_core.specs.Protocol.{Answers}
 use Rattle.pair_core.specs.Runs.{Run}
 use Rattle.pair_core.proofs.PublicLaws.{Run-more, Begins-trans}

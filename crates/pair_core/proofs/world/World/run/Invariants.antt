@@ -1,6 +1,6 @@
 use Rattle.std.proofs.Common.{◌≡◌, ◌≤◌, length, take, vec_len}
 use Rattle.std.specs.Prelude.{vec_capacity}
-use Rattle.pair_core.specs.Entries.{Begins}
+use Rattle.pair_history.specs.Entries.{Begins}
 use Rattle.pair_core.specs.Pair.{IsConsistent}
 use Rattle.pair_core.specs.Runs.{Run}
 use Rattle.pair_core.proofs.world.World.run.Given as goal

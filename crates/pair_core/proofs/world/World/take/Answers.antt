@@ -1,8 +1,8 @@
-use Rattle.std.proofs.Common.{◌<◌, ◌≤◌, ◌+◌, ◌++◌, ◌∷◌, [], ◌∙◌, ap, sym, length, ℕ, List, false, Some, None}
+use Rattle.std.proofs.Common.{◌<◌, ◌≤◌, ◌+◌, ◌++◌, ◌∷◌, [], ◌∙◌, ap, sym, length, ℕ, List, Some, None}
 use Rattle.std.specs.Prelude.{slice_get}
 use Rattle.frame_ports.specs.Ports.{box_of}
 use Rattle.pair_core.proofs.Clients.{among-range, answered}
-use Rattle.pair_core.specs.Entries.{Took}
+use Rattle.pair_history.specs.Entries.{Took}
 use Rattle.pair_core.specs.Protocol.{is_among, exhausts, number_end, all_entries}
 use Rattle.pair_core.specs.Pair.{Pair}
 use Rattle.pair_core.specs.WorldFields.{record_of}

@@ -1,16 +1,16 @@
 -- Laws of what epochs keep. What a client does changes places with it: it is the state behind the moves alone that the moves
 -- say (`at-moves`), and what is delivered in between only waits behind (`AllCan-more`, `left-more`).
-use Rattle.std.proofs.Common.{◌≡◌, ℕ, ◌+◌, ◌≤◌, List, [], ◌∷◌, ◌++◌, length, refl, sym, ap, ◌∙◌, subst, arith, append_assoc}
+use Rattle.std.proofs.Common.{◌≡◌, ℕ, ◌≤◌, List, [], ◌∷◌, ◌++◌, length, refl, sym, ap, ◌∙◌, subst, arith, append_assoc}
 use Rattle.guest_machine.specs.Guest.{Guest}
 use Rattle.guest_machine.specs.Step.{next, sent}
 use Rattle.frame_ports.specs.Addresses.{targets_of}
-use Rattle.pair_core.specs.Entries.{Ran, Arrive}
-use Rattle.pair_core.specs.HistoryState.{HistoryState, Waiting, inbox_of, with_arrived, without_number, at, after, Legal}
-use Rattle.pair_core.specs.Protocol.{sent_along}
-use Rattle.pair_core.specs.Pair.{DropsAtFull}
-use Rattle.pair_core.specs.Kept.{Move, Steps, Arrives, entry_of, entries_of, guest_moved, frames_by, guest_along, frames_along, left_by, left, CanMove, AllCan}
-use Rattle.pair_core.proofs.States.{append-nil, targets_of-append}
-use Rattle.pair_core.proofs.Waiting.{IsFirst-more, frame_numbered-more, without_number-more, shorter}
+use Rattle.pair_history.specs.Entries.{Ran, Arrive}
+use Rattle.pair_history.specs.HistoryState.{HistoryState, Waiting, inbox_of, with_arrived, without_number, at, after, Legal}
+use Rattle.pair_history.specs.HistoryState.{sent_along}
+use Rattle.pair_history.specs.Landings.{DropsAtFull}
+use Rattle.pair_history.specs.Moves.{Move, Steps, Arrives, entry_of, entries_of, guest_moved, frames_by, guest_along, frames_along, left_by, left, CanMove, AllCan}
+use Rattle.pair_history.proofs.States.{append-nil, targets_of-append}
+use Rattle.pair_history.proofs.Waiting.{IsFirst-more, frame_numbered-more, without_number-more, shorter}
 
 pub guest_along-append : (g : Guest) (ms ns : List Move) → guest_along g (ms ++ ns) ≡ guest_along (guest_along g ms) ns
 guest_along-append g [] ns = refl

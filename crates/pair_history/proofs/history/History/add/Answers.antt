@@ -1,10 +1,9 @@
-use Rattle.std.proofs.Common.{◌≡◌, ◌+◌, ◌++◌, [], length, ap, ◌∙◌, arith}
-use Rattle.pair_core.specs.Entries as whole
-use Rattle.pair_core.specs.Log.{Log, expanded, all_expanded}
-use Rattle.pair_core.proofs.LogLaws.{all_expanded-push}
-use Rattle.pair_core.proofs.Epochs.{length-append'}
-use Rattle.pair_core.proofs.history.History.add.Goals as goal
-use Rattle.pair_core.proofs.history.History.add.Goals.{After-unwrap}
+use Rattle.std.proofs.Common.{◌≡◌, ◌++◌, length, ap, ◌∙◌, arith}
+use Rattle.pair_history.specs.Log.{Log, expanded, all_expanded}
+use Rattle.pair_history.proofs.LogLaws.{all_expanded-push}
+use Rattle.std.proofs.lemmas.List.{length-append}
+use Rattle.pair_history.proofs.history.History.add.Goals as goal
+use Rattle.pair_history.proofs.history.History.add.Goals.{After-unwrap}
 
 pushed : (c : After-unwrap) → all_expanded c.push.new.self.items ≡ all_expanded c.self.inside.entries.items ++ expanded c.args.entry
 pushed c = let items = rw c.unwrap.ensures at c.push.ensures.items in ap all_expanded items ∙ all_expanded-push c.self.inside.entries.items c.args.entry
@@ -12,7 +11,7 @@ pushed c = let items = rw c.unwrap.ensures at c.push.ensures.items in ap all_exp
 pub invariant_of-self : goal.invariant_of-self
 invariant_of-self c =
     let e = ap length (pushed c) in
-    let f = length-append' (all_expanded c.self.inside.entries.items) (expanded c.args.entry) in
+    let f = length-append (all_expanded c.self.inside.entries.items) (expanded c.args.entry) in
     let i = c.self.invariant in
     omega (arith, c.count.ensures)
 

@@ -2,15 +2,15 @@
 use Rattle.std.proofs.Common.{◌≡◌, ℕ, ◌+◌, ◌-◌, ◌<◌, ◌≤◌, List, [], ◌∷◌, ◌++◌, length, take, drop, remove, refl, ap, ◌∙◌, arith, Bool, true, false, cond}
 use Rattle.std.specs.Prelude.{nat_lt, ◌==◌, slice_get, Option, Some, None}
 use Rattle.std.proofs.lemmas.Bool.{eqb-true, ltb-true, ltb-false}
+use Rattle.std.proofs.lemmas.List.{length-append}
 use Rattle.std.proofs.lemmas.List.Edits.{length-remove}
 use Rattle.guest_machine.specs.Step.{sent}
 use Rattle.frame_ports.specs.Addresses.{targets_of}
 use Rattle.frame_ports.specs.Lands.{list_of, with_list}
-use Rattle.pair_core.specs.Entries.{Frame, Entry, Ran, Arrive, Delivered, Refused, Land, DropOut, Took}
-use Rattle.pair_core.specs.HistoryState.{HistoryState, at, after, Legal, out_of, out_without}
-use Rattle.pair_core.specs.Released.{taken, dropped_count, sent_to, IsFresh}
-use Rattle.pair_core.proofs.Epochs.{length-append'}
-use Rattle.pair_core.proofs.ClientLists.{out_of-append, out_of-without, list_of-with}
+use Rattle.pair_history.specs.Entries.{Frame, Entry, Ran, Arrive, Delivered, Refused, Land, DropOut, Took}
+use Rattle.pair_history.specs.HistoryState.{HistoryState, at, after, Legal, out_of, out_without}
+use Rattle.pair_history.specs.Released.{taken, dropped_count, sent_to, IsFresh}
+use Rattle.pair_history.proofs.ClientLists.{out_of-append, out_of-without, list_of-with}
 
 -- the frames in a client's box and on their way to it
 abbrev held_count : HistoryState → ℕ → ℕ
@@ -22,8 +22,8 @@ IsCounted s es c = length (taken es c) + length (list_of (at s es).boxes c) + le
 count_ran : (s : HistoryState) (es : List Entry) (c : ℕ) → IsCounted (after s Ran) es c → IsCounted s (Ran ∷ es) c
 count_ran s es c h =
     let targets = targets_of (length s.boxes) (sent s.guest) in
-    let on_way : length (out_of c (s.out ++ targets)) ≡ length (out_of c s.out) + length (out_of c targets) = ap length (out_of-append c s.out targets) ∙ length-append' (out_of c s.out) (out_of c targets) in
-    let all : length (out_of c targets ++ sent_to (after s Ran) es c) ≡ length (out_of c targets) + length (sent_to (after s Ran) es c) = length-append' (out_of c targets) (sent_to (after s Ran) es c) in
+    let on_way : length (out_of c (s.out ++ targets)) ≡ length (out_of c s.out) + length (out_of c targets) = ap length (out_of-append c s.out targets) ∙ length-append (out_of c s.out) (out_of c targets) in
+    let all : length (out_of c targets ++ sent_to (after s Ran) es c) ≡ length (out_of c targets) + length (sent_to (after s Ran) es c) = length-append (out_of c targets) (sent_to (after s Ran) es c) in
     omega arith
 
 take_first : (fs : List Frame) → 0 < length fs → length (take 1 fs) ≡ 1
@@ -48,7 +48,7 @@ module _ (s : HistoryState) (es : List Entry) (c d : ℕ) (low_c : 1 ≤ c) (low
           → out_of c (after s (Land d)).out ≡ cond t (remove (out_of c s.out) 0) (out_of c s.out) → held_count (after s (Land d)) c ≡ held_count s c
       by_test true e b o =
           let same : d ≡ c = eqb-true d c e in
-          let more = ap length b ∙ length-append' (list_of s.boxes d) (take 1 (out_of d s.out)) in
+          let more = ap length b ∙ length-append (list_of s.boxes d) (take 1 (out_of d s.out)) in
           let one = take_first (out_of d s.out) some in
           let its_box = ap (λ k. length (list_of s.boxes k)) same in
           let its_out = ap (λ k. length (out_of k s.out)) same in

@@ -1,11 +1,11 @@
 -- Laws of the frames that wait for the guest.
-use Rattle.std.proofs.Common.{◌≡◌, ◌≢◌, ℕ, ◌+◌, ◌-◌, ◌≤◌, List, [], ◌∷◌, ◌++◌, length, drop, refl, sym, ap, ◌∙◌, arith, Bool, true, false, cond, true≢false, Some}
+use Rattle.std.proofs.Common.{◌≡◌, ◌≢◌, ℕ, ◌+◌, ◌≤◌, List, [], ◌∷◌, ◌++◌, length, drop, refl, sym, ap, ◌∙◌, arith, Bool, true, false, cond, true≢false, Some}
 use Rattle.std.specs.Prelude.{slice_get, ◌==◌}
 use Rattle.std.proofs.lemmas.Bool.{eqb-true, eq-eqb}
 use Rattle.std.proofs.lemmas.Bool.Decides.{nat_tests}
-use Rattle.pair_core.specs.Entries.{Frame}
-use Rattle.pair_core.specs.HistoryState.{Waiting, inbox_of, frame_numbered, without_number, IsFirst}
-use Rattle.pair_core.specs.Kept.{AreRising}
+use Rattle.pair_history.specs.Entries.{Frame}
+use Rattle.pair_history.specs.HistoryState.{Waiting, inbox_of, frame_numbered, without_number, IsFirst}
+use Rattle.pair_history.specs.Moves.{AreRising}
 
 -- an equation with true against one with false
 clash : {A : Type 0} (t : Bool) → t ≡ true → t ≡ false → A

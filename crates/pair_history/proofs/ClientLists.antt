@@ -4,8 +4,8 @@ use Rattle.std.specs.Prelude.{◌==◌}
 use Rattle.std.proofs.lemmas.Bool.{eqb-true, eq-eqb}
 use Rattle.std.proofs.lemmas.List.{get_or-set_same, get_or-set_other}
 use Rattle.frame_ports.specs.Lands.{list_of, with_list}
-use Rattle.pair_core.specs.Entries.{Frame}
-use Rattle.pair_core.specs.HistoryState.{out_of, out_without}
+use Rattle.pair_history.specs.Entries.{Frame}
+use Rattle.pair_history.specs.HistoryState.{out_of, out_without}
 
 -- What is on its way to a client.
 

@@ -1,6 +1,6 @@
 -- Laws of lists that are a part of another, in order.
 use Rattle.std.proofs.Common.{ℕ, zero, suc, List, [], ◌∷◌, ◌++◌, take, drop, remove, refl, inl, inr}
-use Rattle.pair_core.specs.Released.{IsPartOf}
+use Rattle.pair_history.specs.Released.{IsPartOf}
 
 module _ {X : Type 0} where
   later : (xs ys : List X) (y : X) → IsPartOf xs ys → IsPartOf xs (y ∷ ys)

@@ -6,11 +6,11 @@ use Rattle.std.proofs.lemmas.Bool.{eqb-true}
 use Rattle.guest_machine.specs.Step.{sent}
 use Rattle.frame_ports.specs.Addresses.{targets_of}
 use Rattle.frame_ports.specs.Lands.{list_of, with_list}
-use Rattle.pair_core.specs.Entries.{Frame, Entry, Ran, Arrive, Delivered, Refused, Land, DropOut, Took}
-use Rattle.pair_core.specs.HistoryState.{HistoryState, at, after, Legal, out_of, out_without}
-use Rattle.pair_core.specs.Released.{IsPartOf, released, taken, sent_to, IsFresh}
-use Rattle.pair_core.proofs.ClientLists.{out_of-append, out_of-without, list_of-with}
-use Rattle.pair_core.proofs.Parts.{part-front, part-removed, part-dropped, part-taken}
+use Rattle.pair_history.specs.Entries.{Frame, Entry, Ran, Arrive, Delivered, Refused, Land, DropOut, Took}
+use Rattle.pair_history.specs.HistoryState.{HistoryState, at, after, Legal, out_of, out_without}
+use Rattle.pair_history.specs.Released.{IsPartOf, released, taken, sent_to, IsFresh}
+use Rattle.pair_history.proofs.ClientLists.{out_of-append, out_of-without, list_of-with}
+use Rattle.pair_history.proofs.Parts.{part-front, part-removed, part-dropped, part-taken}
 
 -- What was released, and what is on its way.
 

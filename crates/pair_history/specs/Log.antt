@@ -1,8 +1,8 @@
 -- What contracts see of a stored history: its entries, one by one, and how many more may be stored without taking memory.
 use Rattle.std.specs.Prelude.{ℕ, List, [], ◌∷◌, ◌++◌, replicate, None, Some}
-use Rattle.pair_core.specs.Entries as whole
-use Rattle.pair_core.specs.declared.history.Entry.{Entry}
-use Rattle.pair_core.specs.declared.history.Entry.TheVariants.{Ran, Arrive, Delivered, Refused, Land, DropOut, Took}
+use Rattle.pair_history.specs.Entries as whole
+use Rattle.pair_history.specs.declared.history.Entry.{Entry}
+use Rattle.pair_history.specs.declared.history.Entry.TheVariants.{Ran, Arrive, Delivered, Refused, Land, DropOut, Took}
 
 pub record Log : Type 0 where
   pub entries : List whole.Entry

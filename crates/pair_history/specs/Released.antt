@@ -3,9 +3,9 @@ use Rattle.std.specs.Prelude.{◌≡◌, ℕ, ◌+◌, ◌==◌, ◌⊎◌, if�
 use Rattle.guest_machine.specs.Step.{sent}
 use Rattle.frame_ports.specs.Addresses.{targets_of}
 use Rattle.frame_ports.specs.Lands.{list_of}
-use Rattle.pair_core.specs.Entries.{Frame, Entry, Ran, Arrive, Delivered, Refused, Land, DropOut, Took}
-use Rattle.pair_core.specs.HistoryState.{HistoryState, after, out_of}
-use Rattle.pair_core.specs.Protocol.{sent_by}
+use Rattle.pair_history.specs.Entries.{Frame, Entry, Ran, Arrive, Delivered, Refused, Land, DropOut, Took}
+use Rattle.pair_history.specs.HistoryState.{HistoryState, after, out_of}
+use Rattle.pair_history.specs.HistoryState.{sent_by}
 
 abbrev pub IsAmong : {X : Type 0} → X → List X → Type 0
 IsAmong x [] = ⊥

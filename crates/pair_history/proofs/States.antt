@@ -1,10 +1,10 @@
 -- Laws of histories: what a list of entries does, in two parts.
-use Rattle.std.proofs.Common.{◌≡◌, ℕ, ◌+◌, ◌-◌, List, [], ◌∷◌, ◌++◌, refl, sym, ap, ◌∙◌, append_assoc}
+use Rattle.std.proofs.Common.{◌≡◌, ℕ, List, [], ◌∷◌, ◌++◌, refl, sym, ap, ◌∙◌, append_assoc}
 use Rattle.frame_ports.specs.Addresses.{targets_of, paired_with, clients_of}
-use Rattle.pair_core.specs.Entries.{Frame, Entry, Ran, Arrive, Delivered, Refused, Land, DropOut, Took}
-use Rattle.pair_core.specs.HistoryState.{HistoryState, at, after, Legal}
-use Rattle.pair_core.specs.Protocol.{sent_by, sent_along}
-use Rattle.pair_core.specs.Pair.{DropsAtFull}
+use Rattle.pair_history.specs.Entries.{Frame, Entry, Ran, Arrive, Delivered, Refused, Land, DropOut, Took}
+use Rattle.pair_history.specs.HistoryState.{HistoryState, at, after, Legal}
+use Rattle.pair_history.specs.HistoryState.{sent_by, sent_along}
+use Rattle.pair_history.specs.Landings.{DropsAtFull}
 
 pub append-nil : {A : Type 0} (xs : List A) → xs ++ [] ≡ xs
 append-nil [] = refl

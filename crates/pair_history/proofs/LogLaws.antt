@@ -1,9 +1,8 @@
 -- Laws of stored histories.
-use Rattle.std.proofs.Common.{◌≡◌, ◌+◌, List, [], ◌∷◌, ◌++◌, sym, ap, ◌∙◌, append_assoc}
-use Rattle.pair_core.specs.Entries as whole
-use Rattle.pair_core.specs.declared.history.Entry.{Entry}
-use Rattle.pair_core.specs.Log.{expanded, all_expanded}
-use Rattle.pair_core.proofs.States.{append-nil}
+use Rattle.std.proofs.Common.{◌≡◌, List, [], ◌∷◌, ◌++◌, sym, ap, ◌∙◌, append_assoc}
+use Rattle.pair_history.specs.declared.history.Entry.{Entry}
+use Rattle.pair_history.specs.Log.{expanded, all_expanded}
+use Rattle.pair_history.proofs.States.{append-nil}
 
 pub all_expanded-push : (es : List Entry) (e : Entry) → all_expanded (es ++ e ∷ []) ≡ all_expanded es ++ expanded e
 all_expanded-push [] e = append-nil (expanded e)

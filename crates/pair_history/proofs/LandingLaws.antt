@@ -6,11 +6,11 @@ use Rattle.std.proofs.lemmas.Bool.Decides.{nat_tests}
 use Rattle.frame_ports.specs.Addresses.{addressed, targets_of, paired_with, clients_of, clients_from}
 use Rattle.frame_ports.specs.Lands.{list_of, with_list, has_room, landed_at, lands}
 use Rattle.frame_ports.specs.declared.limits.TheConstants.{BOX_FRAMES}
-use Rattle.pair_core.specs.Entries.{Frame, Entry, Land, DropOut}
-use Rattle.pair_core.specs.HistoryState.{HistoryState, at, after, Legal, Allows, out_of, out_without}
-use Rattle.pair_core.specs.Protocol.{landings}
-use Rattle.pair_core.specs.Pair.{DropsAtFull}
-use Rattle.pair_core.specs.Kept.{BoxesFit}
+use Rattle.pair_history.specs.Entries.{Frame, Entry, Land, DropOut}
+use Rattle.pair_history.specs.HistoryState.{HistoryState, at, after, Legal, Allows, out_of, out_without}
+use Rattle.pair_history.specs.Landings.{landings}
+use Rattle.pair_history.specs.Landings.{DropsAtFull}
+use Rattle.pair_history.specs.Landings.{BoxesFit}
 
 -- boxes keep their number and their limit
 

@@ -1,9 +1,8 @@
 //! What every legal history gives its clients.
 ghost use Rattle.std.specs.Prelude.{◌≡◌, ℕ, ◌+◌, ◌≤◌, ◌++◌, [], List, length};
-ghost use Rattle.pair_core.specs.Entries.{Frame, Entry};
-ghost use Rattle.pair_core.specs.HistoryState.{HistoryState, at, Legal, out_of};
-ghost use Rattle.pair_core.specs.Released.{IsAmong, IsPartOf, released, taken, dropped_count, sent_to, WasSent, IsFresh};
-ghost use Rattle.pair_core.specs.Start.{start_state};
+ghost use Rattle.pair_history.specs.Entries.{Frame, Entry};
+ghost use Rattle.pair_history.specs.HistoryState.{HistoryState, at, Legal, out_of, start_state};
+ghost use Rattle.pair_history.specs.Released.{IsAmong, IsPartOf, released, taken, dropped_count, sent_to, WasSent, IsFresh};
 ghost use Rattle.frame_ports.specs.Lands.{list_of};
 
 /// Each frame that a legal history released to a client was sent to it by the guest in a step of that history, and each

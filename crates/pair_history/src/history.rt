@@ -1,7 +1,7 @@
-ghost use Rattle.std.specs.Prelude.{◌≡◌, ◌+◌, ◌^◌, ◌<◌, ◌≤◌, ◌++◌, [], length, OnOk, IsTrue, ◌↔◌, IsOkUnless};
+ghost use Rattle.std.specs.Prelude.{◌≡◌, ◌+◌, ◌^◌, ◌<◌, ◌≤◌, ◌++◌, [], length, OnOk, IsTrue, ◌↔◌};
 
-use crate::event::{Frame, Refusal};
-use std::alloc::Global;
+use frame_ports::Frame;
+use std::alloc::{AllocError, Global};
 use std::marker::Model;
 
 /// One entry of the history, or a number of steps that came one after another.
@@ -32,11 +32,11 @@ pub struct History {
 
 impl Model for History {
     ghost use Rattle.std.specs.Prelude.{◌≡◌, length};
-    ghost use Rattle.pair_core.specs.Log.{Log};
+    ghost use Rattle.pair_history.specs.Log.{Log};
 
     ghost Value = { Log };
 
-    ghost use Rattle.pair_core.specs.LogFields.{log_of};
+    ghost use Rattle.pair_history.specs.LogFields.{log_of};
 
     ghost view = { log_of };
 
@@ -44,7 +44,7 @@ impl Model for History {
 }
 
 impl History {
-    ghost use Rattle.pair_core.specs.Log.{expanded, all_expanded};
+    ghost use Rattle.pair_history.specs.Log.{expanded, all_expanded};
 
     /// An empty history.
     pub fn new(alloc: Global) -> History
@@ -57,15 +57,11 @@ impl History {
     }
 
     /// Makes room for so many more stored entries, or is refused for want of memory.
-    pub fn reserve(&mut self, additional: usize) -> Result<(), Refusal>
+    pub fn reserve(&mut self, additional: usize) -> Result<(), AllocError>
         ensures entries { self.new.entries ≡ self.old.entries }
         ensures room { OnOk result (additional ≤ self.new.room) }
-        ensures no_memory { IsOkUnless result Refusal.NoMemory }
     {
-        match self.entries.reserve(additional) {
-            Ok(()) => Ok(()),
-            Err(_) => Err(Refusal::NoMemory),
-        }
+        self.entries.reserve(additional)
     }
 
     /// Adds an entry at the end, in the room that was reserved.
@@ -102,7 +98,7 @@ impl History {
 }
 
 impl Entry {
-    ghost use Rattle.pair_core.specs.Log.{expanded};
+    ghost use Rattle.pair_history.specs.Log.{expanded};
 
     /// How many entries it stands for.
     pub fn count(&self) -> u64

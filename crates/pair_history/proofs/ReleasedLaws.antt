@@ -7,9 +7,9 @@ use Rattle.std.proofs.lemmas.List.{get_or-set_same, get_or-set_other}
 use Rattle.guest_machine.specs.Step.{sent}
 use Rattle.frame_ports.specs.Addresses.{targets_of}
 use Rattle.frame_ports.specs.Lands.{list_of, with_list}
-use Rattle.pair_core.specs.Entries.{Frame, Entry, Ran, Arrive, Delivered, Refused, Land, DropOut, Took}
-use Rattle.pair_core.specs.HistoryState.{HistoryState, at, after, Legal, out_of, out_without}
-use Rattle.pair_core.specs.Released.{IsAmong, released, WasSent, IsFresh}
+use Rattle.pair_history.specs.Entries.{Frame, Entry, Ran, Arrive, Delivered, Refused, Land, DropOut, Took}
+use Rattle.pair_history.specs.HistoryState.{HistoryState, at, after, Legal, out_of, out_without}
+use Rattle.pair_history.specs.Released.{IsAmong, released, WasSent, IsFresh}
 
 module _ {X : Type 0} where
   pub among-append : (x : X) (xs ys : List X) → IsAmong x (xs ++ ys) → IsAmong x xs ⊎ IsAmong x ys

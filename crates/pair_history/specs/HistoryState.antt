@@ -1,11 +1,11 @@
 -- What a history says of the guest and its clients: one guest that never fails behind a line that may drop frames.
-use Rattle.std.specs.Prelude.{◌≡◌, ℕ, zero, suc, ◌+◌, ◌-◌, ◌<◌, ◌≤◌, ◌==◌, nat_lt, if◌then◌else◌, List, [], ◌∷◌, ◌++◌, length, slice_get, take, drop, remove, Option, None, Some}
-use Rattle.guest_machine.specs.Guest.{Guest}
+use Rattle.std.specs.Prelude.{◌≡◌, ℕ, zero, suc, ◌+◌, ◌-◌, ◌<◌, ◌≤◌, ◌==◌, nat_lt, if◌then◌else◌, List, [], ◌∷◌, ◌++◌, length, slice_get, take, drop, remove, replicate, Option, None, Some}
+use Rattle.guest_machine.specs.Guest.{Guest, boot_guest}
 use Rattle.guest_machine.specs.Step.{next, sent, arrived}
 use Rattle.frame_ports.specs.Addresses.{IsFrame, targets_of}
 use Rattle.frame_ports.specs.Lands.{list_of, with_list}
 use Rattle.frame_ports.specs.declared.limits.TheConstants.{INBOX_FRAMES, BOX_FRAMES}
-use Rattle.pair_core.specs.Entries.{Frame, Entry, Ran, Arrive, Delivered, Refused, Land, DropOut, Took}
+use Rattle.pair_history.specs.Entries.{Frame, Entry, Ran, Arrive, Delivered, Refused, Land, DropOut, Took}
 
 -- a frame that a client delivered and that hasn't arrived at the guest
 pub record Waiting : Type 0 where
@@ -99,3 +99,27 @@ at s (e ∷ es) = at (after s e) es
 abbrev pub Legal : HistoryState → List Entry → Type 0
 Legal s [] = Unit {0}
 Legal s (e ∷ es) = Allows s e × Legal (after s e) es
+
+-- the frames that the guest sends along these entries
+abbrev pub sent_by : HistoryState → Entry → List Frame
+sent_by s Ran = sent s.guest
+sent_by s (Arrive n) = []
+sent_by s (Delivered c f n) = []
+sent_by s (Refused c f) = []
+sent_by s (Land c) = []
+sent_by s (DropOut c place) = []
+sent_by s (Took c answer) = []
+
+abbrev pub sent_along : HistoryState → List Entry → List Frame
+sent_along s [] = []
+sent_along s (e ∷ es) = sent_by s e ++ sent_along (after s e) es
+
+-- the boot guest, nothing delivered, nothing on its way, and an empty box for each client
+abbrev pub start_state : ℕ → ℕ → List ℕ → ℕ → HistoryState
+start_state pages sectors image clients = record {
+  guest = boot_guest pages sectors image;
+  number = 1;
+  waiting = [];
+  out = [];
+  boxes = replicate clients [];
+}

@@ -1,9 +1,9 @@
 use Rattle.std.proofs.Common.{refl}
-use Rattle.pair_core.specs.Start.{start_state}
-use Rattle.pair_core.proofs.ReleasedLaws.{fresh_sent, fresh_boxed, WasSent-append, start_fresh}
-use Rattle.pair_core.proofs.OrderLaws.{fresh_in_order, fresh_taken_in_order, released-append}
-use Rattle.pair_core.proofs.CountLaws.{fresh_none_missing}
-use Rattle.pair_core.proofs.laws.released_frames_were_sent.Goals as goal
+use Rattle.pair_history.specs.HistoryState.{start_state}
+use Rattle.pair_history.proofs.ReleasedLaws.{fresh_sent, fresh_boxed, WasSent-append, start_fresh}
+use Rattle.pair_history.proofs.OrderLaws.{fresh_in_order, fresh_taken_in_order, released-append}
+use Rattle.pair_history.proofs.CountLaws.{fresh_none_missing}
+use Rattle.pair_history.proofs.laws.released_frames_were_sent.Goals as goal
 
 pub returns-clause-sent : goal.returns-clause-sent
 returns-clause-sent c = fresh_sent

@@ -1,0 +1,10 @@
+pub mod States
+pub mod Waiting
+pub mod Moves
+pub mod LandingLaws
+pub mod ReleasedLaws
+pub mod Parts
+pub mod ClientLists
+pub mod OrderLaws
+pub mod CountLaws
+pub mod LogLaws
