@@ -6,3 +6,4 @@ pub mod ImageLemmas
 pub mod DeliveryLemmas
 pub mod DigitLemmas
 pub mod DiskLemmas
+mod MeaningLemmas

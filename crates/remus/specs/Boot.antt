@@ -1,5 +1,5 @@
 -- The boot line: `boot PAGES SECTORS CLIENTS GUEST`, in fields that are parted by one space.
-use Rattle.std.specs.Prelude.{◌≡◌, ℕ, ◌*◌, ◌^◌, ◌<◌, ◌≤◌, ◌++◌, ◌∷◌, [], List, Option, Some, None, codes, length, Bool, nat_le, ◌&&◌, if◌then◌else◌, option_and_then}
+use Rattle.std.specs.Prelude.{◌≡◌, ℕ, ◌*◌, ◌^◌, ◌<◌, ◌≤◌, ◌++◌, ◌∷◌, [], List, Option, Some, None, IsSome, codes, length, Bool, nat_le, ◌&&◌, if◌then◌else◌, option_and_then}
 use Rattle.std.specs.List.{join_with_byte, flat_map, AllByRecursion}
 use Rattle.std.specs.Int.{to_be_bytes, to_le_bytes, w32}
 use Rattle.hex.specs.Hex.{encode_lower}
@@ -7,8 +7,7 @@ use Rattle.guest_kit.specs.Image.{image_of}
 use Rattle.guest_kit.specs.Idle.{idle_program}
 use Rattle.guest_kit.specs.Beacon.{beacon_program}
 use Rattle.guest_kit.specs.Disk.{disk_program}
-use Rattle.pair_core.specs.HistoryState.{HistoryState}
-use Rattle.pair_core.specs.Start.{start_state}
+use Rattle.pair_core.specs.HistoryState.{HistoryState, start_state}
 use Rattle.remus.specs.Fields.{behind, number_of, operand_of}
 use Rattle.remus.specs.declared.boot.Boot.{Boot}
 use Rattle.remus.specs.declared.boot.Head.{Head}
@@ -64,6 +63,10 @@ GuestFits pages (words ws) = 4 * length ws ≤ 4096 * pages
 
 abbrev pub IsGuest : ℕ → List ℕ → NamedGuest → Type 0
 IsGuest pages text guest = NamesGuest text guest × GuestFits pages guest
+
+-- the line begins as a boot line does
+abbrev pub BeginsBoot : List ℕ → Type 0
+BeginsBoot text = IsSome (behind (codes "boot ") text)
 
 -- what stands before the guest: 1 to 4096 pages, 1 to 32768 sectors, 1 to 16 clients
 pub record IsHead (text : List ℕ) (pages sectors clients : ℕ) (guest : List ℕ) : Type 0 where
