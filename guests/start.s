@@ -1,4 +1,4 @@
-# Where the machine boots: every register is 0, and so is all memory behind the image. Sets the stack, runs `main`, and
+# Where the machine boots: every register is 0, and so is all memory after the image. Sets the stack, runs `main`, and
 # stays at `stop` with the answer in a0.
         .section .start, "ax"
         .globl  start

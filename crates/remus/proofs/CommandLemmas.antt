@@ -3,11 +3,11 @@ use Rattle.std.proofs.Common.{◌≡◌, ◌≤◌, ℕ, Bool, true, false, cond
 use Rattle.std.specs.Option.{option_map_or, option_and_then}
 use Rattle.std.specs.Str.{bytes_eq}
 use Rattle.std.proofs.lemmas.Slice.Eq.{bytes_eq-Decides}
-use Rattle.remus.specs.Fields.{behind, number_of, numbered_by}
+use Rattle.remus.specs.Fields.{text_after, number_of, numbered_by}
 use Rattle.remus.specs.Command.{IsNumbered, IsCommand, command_of}
 use Rattle.remus.specs.declared.script.Command.{Command}
 use Rattle.remus.specs.declared.script.Command.TheVariants.{Step, Cut, Send, Backup, Ack, Admit, Take, Sector, Show}
-use Rattle.remus.proofs.FieldLemmas.{behind-some}
+use Rattle.remus.proofs.FieldLemmas.{text_after-some}
 
 -- what is spelled so is read so
 pub command_of-spelled : (text : List ℕ) (command : Command) → IsCommand text command → command_of text ≡ Some command
@@ -16,31 +16,41 @@ command_of-spelled text (Step n) ((digits, shape, value), low) =
     ap command_of shape ∙ ap (λ o. option_map_or (λ n. cond (nat_eq n 0) None (Some (Step n))) o None) value ∙ rw positive refl
 command_of-spelled text Cut shape = ap command_of shape
 command_of-spelled text Send shape = ap command_of shape
-command_of-spelled text (Backup k) (digits, shape, value) = ap command_of shape ∙ ap (λ o. option_map_or (λ k. Some (Backup k)) o None) value
+command_of-spelled text (Backup k) (digits, shape, value) =
+    ap command_of shape ∙ ap (λ o. option_map_or (λ k. Some (Backup k)) o None) value
 command_of-spelled text (Ack k) (digits, shape, value) = ap command_of shape ∙ ap (λ o. option_map_or (λ k. Some (Ack k)) o None) value
-command_of-spelled text (Admit client) (digits, shape, value) = ap command_of shape ∙ ap (λ o. option_map_or (λ k. Some (Admit k)) o None) value
-command_of-spelled text (Take client) (digits, shape, value) = ap command_of shape ∙ ap (λ o. option_map_or (λ k. Some (Take k)) o None) value
-command_of-spelled text (Sector sector) (digits, shape, value) = ap command_of shape ∙ ap (λ o. option_map_or (λ k. Some (Sector k)) o None) value
+command_of-spelled text (Admit client) (digits, shape, value) =
+    ap command_of shape ∙ ap (λ o. option_map_or (λ k. Some (Admit k)) o None) value
+command_of-spelled text (Take client) (digits, shape, value) =
+    ap command_of shape ∙ ap (λ o. option_map_or (λ k. Some (Take k)) o None) value
+command_of-spelled text (Sector sector) (digits, shape, value) =
+    ap command_of shape ∙ ap (λ o. option_map_or (λ k. Some (Sector k)) o None) value
 command_of-spelled text Show shape = ap command_of shape
 
-named : (P : Type 0) (test : Bool) (first : Command) (others : Option Command) (command : Command) → (test ≡ true → first ≡ command → P) → (others ≡ Some command → P) → cond test (Some first) others ≡ Some command → P
+named : (P : Type 0) (test : Bool) (first : Command) (others : Option Command) (command : Command) → (test ≡ true → first ≡ command → P)
+    → (others ≡ Some command → P) → cond test (Some first) others ≡ Some command → P
 named P true first others command this other h = this refl cc
 named P false first others command this other h = other h
 
-told : (P : Type 0) (make : ℕ → Option Command) (number : Option ℕ) (others : Option Command) (command : Command) → ((n : ℕ) → number ≡ Some n → make n ≡ Some command → P) → (others ≡ Some command → P) → option_map_or make number others ≡ Some command → P
+told : (P : Type 0) (make : ℕ → Option Command) (number : Option ℕ) (others : Option Command) (command : Command)
+    → ((n : ℕ) → number ≡ Some n → make n ≡ Some command → P) → (others ≡ Some command → P)
+    → option_map_or make number others ≡ Some command → P
 told P make (Some n) others command this other h = this n refl h
 told P make None others command this other h = other h
 
-numbered_behind : (front text : List ℕ) (n : ℕ) (rest : Option (List ℕ)) → behind front text ≡ rest → option_and_then number_of rest ≡ Some n → IsNumbered front n text
-numbered_behind front text n (Some digits) e h = (digits, behind-some front text digits e, h)
-numbered_behind front text n None e h = cc
+numbered_after : (front text : List ℕ) (n : ℕ) (rest : Option (List ℕ)) → text_after front text ≡ rest
+    → option_and_then number_of rest ≡ Some n → IsNumbered front n text
+numbered_after front text n (Some digits) e h = (digits, text_after-some front text digits e, h)
+numbered_after front text n None e h = cc
 
 is_numbered : (front text : List ℕ) (n : ℕ) → numbered_by front text ≡ Some n → IsNumbered front n text
-is_numbered front text n h = numbered_behind front text n (behind front text) refl h
+is_numbered front text n h = numbered_after front text n (text_after front text) refl h
 
-steps : (text : List ℕ) (n : ℕ) (command : Command) → IsNumbered (codes "step ") n text → (b : Bool) → nat_eq n 0 ≡ b → cond b None (Some (Step n)) ≡ Some command → IsCommand text command
+steps : (text : List ℕ) (n : ℕ) (command : Command) → IsNumbered (codes "step ") n text → (b : Bool) → nat_eq n 0 ≡ b
+    → cond b None (Some (Step n)) ≡ Some command → IsCommand text command
 steps text n command spelled true e h = cc
-steps text n command spelled false e h = let low : 1 ≤ n = grind arith in let same : Step n ≡ command = cc in subst (IsCommand text) same (spelled, low)
+steps text n command spelled false e h = let low : 1 ≤ n = grind arith in let same : Step n ≡ command = cc in
+    subst (IsCommand text) same (spelled, low)
 
 -- the forms, from the last one up
 abbrev sector_form : List ℕ → Option Command
@@ -87,25 +97,31 @@ from_backup text command = told (IsCommand text command) (λ n. Some (Backup n))
     (from_ack text command)
 
 from_step : (text : List ℕ) (command : Command) → step_form text ≡ Some command → IsCommand text command
-from_step text command = told (IsCommand text command) (λ n. cond (nat_eq n 0) None (Some (Step n))) (numbered_by (codes "step ") text) (backup_form text) command
+from_step text command = told (IsCommand text command) (λ n. cond (nat_eq n 0) None (Some (Step n))) (numbered_by (codes "step ") text)
+    (backup_form text) command
     (λ n spelled e. steps text n command (is_numbered (codes "step ") text n spelled) (nat_eq n 0) refl e)
     (from_backup text command)
 
 same_text : (text name : List ℕ) → bytes_eq text name ≡ true → text ≡ name
 same_text text name h = (bytes_eq-Decides text name).0 h
 
-from_show : (text : List ℕ) (command : Command) → cond (bytes_eq text (codes "show")) (Some Show) (step_form text) ≡ Some command → IsCommand text command
+from_show : (text : List ℕ) (command : Command) → cond (bytes_eq text (codes "show")) (Some Show) (step_form text) ≡ Some command
+    → IsCommand text command
 from_show text command = named (IsCommand text command) (bytes_eq text (codes "show")) Show (step_form text) command
     (λ e same. subst (IsCommand text) same (same_text text (codes "show") e))
     (from_step text command)
 
-from_send : (text : List ℕ) (command : Command) → cond (bytes_eq text (codes "send")) (Some Send) (cond (bytes_eq text (codes "show")) (Some Show) (step_form text)) ≡ Some command → IsCommand text command
-from_send text command = named (IsCommand text command) (bytes_eq text (codes "send")) Send (cond (bytes_eq text (codes "show")) (Some Show) (step_form text)) command
+from_send : (text : List ℕ) (command : Command)
+    → cond (bytes_eq text (codes "send")) (Some Send) (cond (bytes_eq text (codes "show")) (Some Show) (step_form text)) ≡ Some command
+    → IsCommand text command
+from_send text command = named (IsCommand text command) (bytes_eq text (codes "send")) Send
+    (cond (bytes_eq text (codes "show")) (Some Show) (step_form text)) command
     (λ e same. subst (IsCommand text) same (same_text text (codes "send") e))
     (from_show text command)
 
 -- what is read is spelled so
 pub command_of-read : (text : List ℕ) (command : Command) → command_of text ≡ Some command → IsCommand text command
-command_of-read text command = named (IsCommand text command) (bytes_eq text (codes "cut")) Cut (cond (bytes_eq text (codes "send")) (Some Send) (cond (bytes_eq text (codes "show")) (Some Show) (step_form text))) command
+command_of-read text command = named (IsCommand text command) (bytes_eq text (codes "cut")) Cut
+    (cond (bytes_eq text (codes "send")) (Some Send) (cond (bytes_eq text (codes "show")) (Some Show) (step_form text))) command
     (λ e same. subst (IsCommand text) same (same_text text (codes "cut") e))
     (from_send text command)

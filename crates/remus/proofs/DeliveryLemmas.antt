@@ -1,5 +1,35 @@
 -- A delivery is read from the left, and has one reading.
-use Rattle.std.proofs.Common.{◌≡◌, ◌≢◌, ◌<◌, ℕ, true, false, List, [], ◌++◌, length, Option, Some, None, Result, Ok, Err, refl, sym, ap, subst, arith, ◌∙◌, ◌⊎◌, inl, inr, IfOk, IfSome, Bor, codes}
+use Rattle.std.proofs.Common.{
+  ◌≡◌,
+  ◌≢◌,
+  ◌<◌,
+  ℕ,
+  true,
+  false,
+  List,
+  [],
+  ◌++◌,
+  length,
+  Option,
+  Some,
+  None,
+  Result,
+  Ok,
+  Err,
+  refl,
+  sym,
+  ap,
+  subst,
+  arith,
+  ◌∙◌,
+  ◌⊎◌,
+  inl,
+  inr,
+  IfOk,
+  IfSome,
+  Bor,
+  codes,
+}
 use Rattle.std.specs.Option.{option_and_then, option_map}
 use Rattle.hex.specs.Hex.{decode_of, IsBytes}
 use Rattle.hex.specs.declared.error.FromHexError.{FromHexError}
@@ -8,29 +38,32 @@ use Rattle.hex.proofs.HexLemmas.{decode_of-encode_lower, decode_of-ok}
 use Rattle.std.specs.Char.{is_ascii_uppercase}
 use Rattle.std.specs.List.{list_any}
 use Rattle.remus.proofs.DigitLemmas.{lower-again, none_in_upper_case}
-use Rattle.remus.specs.Fields.{behind, operand_of}
+use Rattle.remus.specs.Fields.{text_after, operand_of}
 use Rattle.remus.specs.Delivery.{IsHex, IsDelivery, delivery_head}
-use Rattle.remus.proofs.FieldLemmas.{behind-some, operand_of-spelled, operand_of-read}
+use Rattle.remus.proofs.FieldLemmas.{text_after-some, operand_of-spelled, operand_of-read}
 
-and_then_some : {A B : Type 0} (f : A → Option B) (o : Option A) (y : B) → option_and_then f o ≡ Some y → (x : A) × (o ≡ Some x) × (f x ≡ Some y)
+and_then_some : {A B : Type 0} (f : A → Option B) (o : Option A) (y : B) → option_and_then f o ≡ Some y
+    → (x : A) × (o ≡ Some x) × (f x ≡ Some y)
 and_then_some f (Some x) y h = (x, refl, h)
 and_then_some f None y h = cc
 
 -- what is read is spelled so
-pub delivery-read : (text : List ℕ) (client : ℕ) (digits bytes : List ℕ) → delivery_head text ≡ Some (client, digits) → IsHex digits bytes → IsDelivery text client bytes
+pub delivery-read : (text : List ℕ) (client : ℕ) (digits bytes : List ℕ) → delivery_head text ≡ Some (client, digits) → IsHex digits bytes
+    → IsDelivery text client bytes
 delivery-read text client digits bytes h hex =
-    let front = and_then_some operand_of (behind (codes "deliver ") text) (client, digits) h in
+    let front = and_then_some operand_of (text_after (codes "deliver ") text) (client, digits) h in
     let p = operand_of-read front.0 client digits front.2 in
     record {
       number = p.0;
       digits = digits;
-      shape = behind-some (codes "deliver ") text front.0 front.1 ∙ ap (λ t. codes "deliver " ++ t) p.1;
+      shape = text_after-some (codes "deliver ") text front.0 front.1 ∙ ap (λ t. codes "deliver " ++ t) p.1;
       client_written = p.2;
       bytes_written = hex;
     }
 
 -- what is spelled so is read so
-pub delivery-spelled : (text : List ℕ) (client : ℕ) (bytes : List ℕ) (h : IsDelivery text client bytes) → delivery_head text ≡ Some (client, h.digits)
+pub delivery-spelled : (text : List ℕ) (client : ℕ) (bytes : List ℕ) (h : IsDelivery text client bytes)
+    → delivery_head text ≡ Some (client, h.digits)
 delivery-spelled text client bytes h = ap delivery_head h.shape ∙ operand_of-spelled h.number h.digits client h.client_written
 
 -- digits that write bytes decode to them
@@ -58,7 +91,8 @@ none-are-none digits found bytes decoded none h =
     absurd (omega (arith, is, h.some))
 
 -- what was found is spelled as it stood there
-pub found-written : (digits found : List ℕ) → decode_of digits ≡ Ok found → list_any is_ascii_uppercase digits ≡ false → 0 < length found → IsHex digits found
+pub found-written : (digits found : List ℕ) → decode_of digits ≡ Ok found → list_any is_ascii_uppercase digits ≡ false → 0 < length found
+    → IsHex digits found
 found-written digits found decoded low some = record {
   shape = lower-again digits found decoded low;
   some = some;
@@ -66,7 +100,8 @@ found-written digits found decoded low some = record {
 }
 
 -- digits that can't be decoded write no bytes
-pub undecoded-write-none : (digits bytes : List ℕ) (e : FromHexError) → (e ≡ OutOfMemory) ⊎ (decode_of digits ≡ Err e) → e ≢ OutOfMemory → IsHex digits bytes → ⊥
+pub undecoded-write-none : (digits bytes : List ℕ) (e : FromHexError) → (e ≡ OutOfMemory) ⊎ (decode_of digits ≡ Err e) → e ≢ OutOfMemory
+    → IsHex digits bytes → ⊥
 undecoded-write-none digits bytes e (inl memory) apart h = apart memory
 undecoded-write-none digits bytes e (inr err) apart h =
     let both : ◌≡◌ {A = Result (List ℕ) FromHexError} (Err e) (Ok bytes) = sym err ∙ hex-decodes digits bytes h in
@@ -101,7 +136,8 @@ pub nothing-is-some : {A : Type 0} (x : A) → ◌≡◌ {A = Option A} None (So
 nothing-is-some x h = cc
 
 -- a line without such a front is no delivery
-pub headless : (text : List ℕ) (client : ℕ) (bytes : List ℕ) (r : Option (ℕ × Bor (List ℕ))) → r ≡ None → option_map head_view r ≡ delivery_head text
+pub headless : (text : List ℕ) (client : ℕ) (bytes : List ℕ) (r : Option (ℕ × Bor (List ℕ))) → r ≡ None
+    → option_map head_view r ≡ delivery_head text
     → IsDelivery text client bytes → ⊥
 headless text client bytes r none is h =
     nothing-is-some (client, h.digits) (sym (ap (option_map head_view) none) ∙ is ∙ delivery-spelled text client bytes h)

@@ -1,10 +1,59 @@
 -- Hex digits with no letter in upper case: what they stand for is spelled so again.
-use Rattle.std.proofs.Common.{◌≡◌, ◌<◌, ◌+◌, ◌*◌, ◌/◌, ◌%◌, ◌==◌, ◌||◌, ◌&&◌, ℕ, zero, suc, Bool, true, false, List, [], ◌∷◌, length, slice_index, Option, Some, None, IfSome, Result, Ok, Err, refl, sym, ap, arith, ◌∙◌, inl, inr, not}
+use Rattle.std.proofs.Common.{
+  ◌≡◌,
+  ◌<◌,
+  ◌+◌,
+  ◌*◌,
+  ◌/◌,
+  ◌%◌,
+  ◌==◌,
+  ◌||◌,
+  ◌&&◌,
+  ℕ,
+  zero,
+  suc,
+  Bool,
+  true,
+  false,
+  List,
+  [],
+  ◌∷◌,
+  length,
+  slice_index,
+  Option,
+  Some,
+  None,
+  IfSome,
+  Result,
+  Ok,
+  Err,
+  refl,
+  sym,
+  ap,
+  arith,
+  ◌∙◌,
+  inl,
+  inr,
+  not,
+}
 use Rattle.std.specs.Char.{is_ascii_uppercase}
 use Rattle.std.specs.List.{list_any}
 use Rattle.std.specs.Result.{result_ok, result_unwrap_or}
 use Rattle.std.proofs.lemmas.Bool.{and_parts, cases_lt, eqb-true}
-use Rattle.hex.specs.Hex.{encode_lower, encode_with, lower_digits, hex_digit_value, digit_or_error, value_at, pair_value, decode_pairs, decode_of, decode_sized, IsBytes, ◌>>=◌}
+use Rattle.hex.specs.Hex.{
+  encode_lower,
+  encode_with,
+  lower_digits,
+  hex_digit_value,
+  digit_or_error,
+  value_at,
+  pair_value,
+  decode_pairs,
+  decode_of,
+  decode_sized,
+  IsBytes,
+  ◌>>=◌,
+}
 use Rattle.hex.specs.declared.error.FromHexError.{FromHexError}
 use Rattle.hex.proofs.HexLemmas.{decode_of-ok, decode_of-even, decode_sized-ok, decode_sized-twice, decode_sized-encode_lower}
 
@@ -50,7 +99,8 @@ digit_again c v h low =
 
 -- ---- all digits
 
-bind_ok : {A B : Type 0} (r : Result A FromHexError) (f : A → Result B FromHexError) (y : B) → (r >>= f) ≡ Ok y → (x : A) × (r ≡ Ok x) × (f x ≡ Ok y)
+bind_ok : {A B : Type 0} (r : Result A FromHexError) (f : A → Result B FromHexError) (y : B) → (r >>= f) ≡ Ok y
+    → (x : A) × (r ≡ Ok x) × (f x ≡ Ok y)
 bind_ok (Ok x) f y h = (x, refl, h)
 bind_ok (Err e) f y h = cc h
 
@@ -62,7 +112,8 @@ none_of : (x : Bool) (xs : Bool) → (x || xs) ≡ false → (x ≡ false) × (x
 none_of true xs h = cc
 none_of false xs h = (refl, h)
 
-pair_again : (high low v w byte : ℕ) → hex_digit_value high ≡ Some v → hex_digit_value low ≡ Some w → is_ascii_uppercase high ≡ false → is_ascii_uppercase low ≡ false
+pair_again : (high low v w byte : ℕ) → hex_digit_value high ≡ Some v → hex_digit_value low ≡ Some w → is_ascii_uppercase high ≡ false
+    → is_ascii_uppercase low ≡ false
     → v * 16 + w ≡ byte → (slice_index lower_digits (byte / 16) ≡ high) × (slice_index lower_digits (byte % 16) ≡ low)
 pair_again high low v w byte hv hw ha hb e =
     let small = digit_small low w hw in
@@ -86,8 +137,10 @@ pairs_again i (a ∷ b ∷ rest) bytes h low =
     let all : pair.0 ∷ more.0 ≡ bytes = ap (λ (r : Result (List ℕ) FromHexError). result_unwrap_or r []) more.2 in
     let first = none_of (is_ascii_uppercase a) (list_any is_ascii_uppercase (b ∷ rest)) low in
     let next = none_of (is_ascii_uppercase b) (list_any is_ascii_uppercase rest) first.1 in
-    let two = pair_again a b front.0 back.0 pair.0 (digit_read a i (hex_digit_value a) front.0 front.1) (digit_read b (i + 1) (hex_digit_value b) back.0 back.1) first.0 next.0 byte in
-    cons_two a b (slice_index lower_digits (pair.0 / 16)) (slice_index lower_digits (pair.0 % 16)) rest (encode_lower more.0) two.0 two.1 (pairs_again (i + 2) rest more.0 more.1 next.1)
+    let two = pair_again a b front.0 back.0 pair.0 (digit_read a i (hex_digit_value a) front.0 front.1)
+    (digit_read b (i + 1) (hex_digit_value b) back.0 back.1) first.0 next.0 byte in
+    cons_two a b (slice_index lower_digits (pair.0 / 16)) (slice_index lower_digits (pair.0 % 16)) rest (encode_lower more.0) two.0 two.1
+    (pairs_again (i + 2) rest more.0 more.1 next.1)
     ∙ ap encode_lower all
 
 -- what digits without upper case decode to, is spelled so
@@ -126,8 +179,10 @@ none_in_upper_case (b ∷ rest) h =
     let fits : b < 256 = h 0 in
     let high : b / 16 < 16 = omega arith in
     let low : b % 16 < 16 = omega arith in
-    neither (is_ascii_uppercase (slice_index lower_digits (b / 16))) (list_any is_ascii_uppercase (slice_index lower_digits (b % 16) ∷ encode_lower rest)) (all_lower-at 16 (b / 16) refl high)
-    (neither (is_ascii_uppercase (slice_index lower_digits (b % 16))) (list_any is_ascii_uppercase (encode_lower rest)) (all_lower-at 16 (b % 16) refl low)
+    neither (is_ascii_uppercase (slice_index lower_digits (b / 16)))
+    (list_any is_ascii_uppercase (slice_index lower_digits (b % 16) ∷ encode_lower rest)) (all_lower-at 16 (b / 16) refl high)
+    (neither (is_ascii_uppercase (slice_index lower_digits (b % 16))) (list_any is_ascii_uppercase (encode_lower rest))
+    (all_lower-at 16 (b % 16) refl low)
     (none_in_upper_case rest (λ i. h (suc i))))
 
 -- ---- into room for n bytes
@@ -143,7 +198,8 @@ pub record Again (s bytes : List ℕ) (n : ℕ) : Type 0 where
   pub below : IsBytes bytes
 
 -- what is read is spelled so
-pub sized-again : (s bytes : List ℕ) (n : ℕ) (r : Result (List ℕ) FromHexError) → r ≡ decode_sized s n → result_ok r ≡ Some bytes → list_any is_ascii_uppercase s ≡ false → Again s bytes n
+pub sized-again : (s bytes : List ℕ) (n : ℕ) (r : Result (List ℕ) FromHexError) → r ≡ decode_sized s n → result_ok r ≡ Some bytes
+    → list_any is_ascii_uppercase s ≡ false → Again s bytes n
 sized-again s bytes n r e ok low =
     let decoded : decode_sized s n ≡ Ok bytes = sym e ∙ ok_is r bytes ok in
     let twice = decode_sized-ok s n bytes decoded in
@@ -152,18 +208,23 @@ sized-again s bytes n r e ok low =
     record { spelled = lower-again s bytes whole low; long = omega (arith, twice, facts.2); below = facts.3 }
 
 -- the same of what may be there
-pub each-again : (s : List ℕ) (n : ℕ) (r : Result (List ℕ) FromHexError) (found : Option (List ℕ)) → r ≡ decode_sized s n → found ≡ result_ok r → list_any is_ascii_uppercase s ≡ false → IfSome found (λ bytes. Again s bytes n)
+pub each-again : (s : List ℕ) (n : ℕ) (r : Result (List ℕ) FromHexError) (found : Option (List ℕ)) → r ≡ decode_sized s n
+    → found ≡ result_ok r → list_any is_ascii_uppercase s ≡ false → IfSome found (λ bytes. Again s bytes n)
 each-again s n r None e ok low = tt
 each-again s n r (Some bytes) e ok low = sized-again s bytes n r e (sym ok) low
 
-pub spelled-so : (s : List ℕ) (n : ℕ) (found : Option (List ℕ)) → IfSome found (λ bytes. Again s bytes n) → IfSome found (λ bytes. s ≡ encode_lower bytes)
+pub spelled-so : (s : List ℕ) (n : ℕ) (found : Option (List ℕ)) → IfSome found (λ bytes. Again s bytes n)
+    → IfSome found (λ bytes. s ≡ encode_lower bytes)
 spelled-so s n None h = tt
 spelled-so s n (Some bytes) h = h.spelled
 
-pub sized-so : (s : List ℕ) (n : ℕ) (found : Option (List ℕ)) → IfSome found (λ bytes. Again s bytes n) → IfSome found (λ bytes. (length bytes ≡ n) × IsBytes bytes)
+pub sized-so : (s : List ℕ) (n : ℕ) (found : Option (List ℕ)) → IfSome found (λ bytes. Again s bytes n)
+    → IfSome found (λ bytes. (length bytes ≡ n) × IsBytes bytes)
 sized-so s n None h = tt
 sized-so s n (Some bytes) h = (h.long, h.below)
 
 -- what is spelled so is read so
-pub sized-spelled : (s bytes : List ℕ) (n : ℕ) (r : Result (List ℕ) FromHexError) → r ≡ decode_sized s n → length bytes ≡ n → IsBytes bytes → s ≡ encode_lower bytes → result_ok r ≡ Some bytes
-sized-spelled s bytes n r e long small spelled = ap result_ok (e ∙ ap (λ t. decode_sized t n) spelled ∙ decode_sized-encode_lower bytes n long small)
+pub sized-spelled : (s bytes : List ℕ) (n : ℕ) (r : Result (List ℕ) FromHexError) → r ≡ decode_sized s n → length bytes ≡ n
+    → IsBytes bytes → s ≡ encode_lower bytes → result_ok r ≡ Some bytes
+sized-spelled s bytes n r e long small spelled =
+    ap result_ok (e ∙ ap (λ t. decode_sized t n) spelled ∙ decode_sized-encode_lower bytes n long small)

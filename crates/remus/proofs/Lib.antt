@@ -7,3 +7,5 @@ pub mod DeliveryLemmas
 pub mod DigitLemmas
 pub mod DiskLemmas
 mod MeaningLemmas
+mod LineLemmas
+mod ScriptLemmas

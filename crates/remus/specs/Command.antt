@@ -1,4 +1,4 @@
--- The lines behind the boot line: a name, and what it is told.
+-- The lines after the boot line: a name, and what it is told.
 use Rattle.std.specs.Prelude.{◌≡◌, ℕ, ◌≤◌, nat_eq, List, ◌++◌, Option, Some, None, codes, if◌then◌else◌}
 use Rattle.std.specs.Option.{option_map_or}
 use Rattle.std.specs.Str.{bytes_eq}

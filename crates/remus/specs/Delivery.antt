@@ -2,7 +2,7 @@
 use Rattle.std.specs.Prelude.{◌≡◌, ℕ, ◌<◌, ◌∷◌, [], List, Option, Some, IsSome, codes, length, option_and_then}
 use Rattle.std.specs.List.{join_with_byte}
 use Rattle.hex.specs.Hex.{encode_lower, IsBytes}
-use Rattle.remus.specs.Fields.{behind, number_of, operand_of}
+use Rattle.remus.specs.Fields.{text_after, number_of, operand_of}
 use Rattle.remus.specs.declared.delivery.Delivery.{Delivery}
 
 -- the digits write these bytes, at least one, each as two hex digits in lower case
@@ -21,11 +21,11 @@ pub record IsDelivery (text : List ℕ) (client : ℕ) (bytes : List ℕ) : Type
 
 -- the line begins as a delivery does
 abbrev pub BeginsDelivery : List ℕ → Type 0
-BeginsDelivery text = IsSome (behind (codes "deliver ") text)
+BeginsDelivery text = IsSome (text_after (codes "deliver ") text)
 
--- the client's number and what stands behind it, read from the left
+-- the client's number and what stands after it, read from the left
 abbrev pub delivery_head : List ℕ → Option (ℕ × List ℕ)
-delivery_head text = option_and_then operand_of (behind (codes "deliver ") text)
+delivery_head text = option_and_then operand_of (text_after (codes "deliver ") text)
 
 abbrev pub delivery_view : Delivery → ℕ × List ℕ
 delivery_view d = (d.client, d.bytes.items)

@@ -1,33 +1,49 @@
 -- How the fields of a script's line are spelled.
-use Rattle.std.specs.Prelude.{ℕ, ◌^◌, ◌&&◌, ◌==◌, nat_lt, List, [], ◌∷◌, Option, Some, None, length, if◌then◌else◌, option_and_then, option_map}
+use Rattle.std.specs.Prelude.{
+  ℕ,
+  ◌^◌,
+  ◌&&◌,
+  ◌==◌,
+  nat_lt,
+  List,
+  [],
+  ◌∷◌,
+  Option,
+  Some,
+  None,
+  length,
+  if◌then◌else◌,
+  option_and_then,
+  option_map,
+}
 use Rattle.std.specs.Str.{all_ascii_digits}
 use Rattle.std.specs.Str.Parse.{digits_value}
 
--- what stands behind front, in a text that begins with it
-abbrev pub behind : List ℕ → List ℕ → Option (List ℕ)
-behind [] text = Some text
-behind (f ∷ front) [] = None
-behind (f ∷ front) (c ∷ text) = if f == c then behind front text else None
+-- what stands after front, in a text that begins with it
+abbrev pub text_after : List ℕ → List ℕ → Option (List ℕ)
+text_after [] text = Some text
+text_after (f ∷ front) [] = None
+text_after (f ∷ front) (c ∷ text) = if f == c then text_after front text else None
 
--- the number that a text writes: decimal digits alone, at least one, that stand for less than 2^64
+-- the number that a text writes: only decimal digits, at least one, that stand for less than 2^64
 abbrev pub number_of : List ℕ → Option ℕ
 number_of text =
     if nat_lt 0 (length text) && all_ascii_digits text && nat_lt (digits_value 10 text) (2 ^ 64)
     then Some (digits_value 10 text) else None
 
--- the number behind front
+-- the number after front
 abbrev pub numbered_by : List ℕ → List ℕ → Option ℕ
-numbered_by front text = option_and_then number_of (behind front text)
+numbered_by front text = option_and_then number_of (text_after front text)
 
--- the front of a text up to its first space, and what stands behind that
+-- the front of a text up to its first space, and what stands after that
 abbrev pub parted : List ℕ → Option (List ℕ × List ℕ)
 parted [] = None
 parted (c ∷ text) = if c == 32 then Some ([], text) else option_map (λ parts. (c ∷ parts.0, parts.1)) (parted text)
 
--- the number that parts gives, with the text behind it
+-- the number that parts gives, with the text after it
 abbrev pub number_in : List ℕ × List ℕ → Option (ℕ × List ℕ)
 number_in parts = option_map (λ n. (n, parts.1)) (number_of parts.0)
 
--- a number at the front, and the text behind the space that ends it
+-- a number at the front, and the text after the space that ends it
 abbrev pub operand_of : List ℕ → Option (ℕ × List ℕ)
 operand_of text = option_and_then number_in (parted text)

@@ -1,8 +1,11 @@
 pub mod Fields
 pub mod Command
+pub mod Guests
 pub mod Boot
+pub mod Head
 pub mod Printed
 pub mod Delivery
 pub mod Output
+pub mod Playing
 pub mod Lines
 pub mod Meaning

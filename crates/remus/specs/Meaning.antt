@@ -82,12 +82,11 @@ IsDone old line (Ok true) printed new = IsAnswered old line printed new
 IsDone old line (Ok false) printed new = IsBeyond old line × (new ≡ old)
 IsDone old line (Err e) printed new = (all : List ℕ) × IsAnswered old line all new
 
--- The pair of a boot line, at its start, and what is printed.
-pub record IsBooted (line : BootLine) (printed : List ℕ) (w : Pair) : Type 0 where
+-- The pair of a boot line, at its start.
+pub record IsReady (line : BootLine) (w : Pair) : Type 0 where
   pub start : w.start ≡ booted_state line
   pub protocol : w.protocol ≡ start_record
   pub consistent : IsConsistent w
-  pub is_printed : printed ≡ codes "booted\n"
 
 -- ---- a script
 
@@ -108,16 +107,16 @@ pub data Ending : Type 0 where
 -- nothing.
 abbrev pub GoesOn : Stage → List ℕ → List ℕ → Stage → Type 0
 GoesOn unbooted text printed unbooted = ⊥
-GoesOn unbooted text printed (playing new) = (line : BootLine) × IsBoot text line × IsBooted line printed new
+GoesOn unbooted text printed (playing new) = (line : BootLine) × IsBoot text line × IsReady line new × (printed ≡ codes "booted\n")
 GoesOn (playing old) text printed unbooted = ⊥
 GoesOn (playing old) text printed (playing new) =
     ((line : Line) × IsLine text line × IsAnswered old line printed new)
     ⊎ (BeginsDelivery text × (printed ≡ refusal_line NoMemory) × (new ≡ old))
 
--- The line has no known form.
+-- The line has no known form, or asks for a sector beyond the disk.
 abbrev pub IsBad : Stage → List ℕ → Type 0
 IsBad unbooted text = (line : BootLine) → IsBoot text line → ⊥
-IsBad (playing w) text = (line : Line) → IsLine text line → IsBeyond w line
+IsBad (playing w) text = ((line : Line) → IsLine text line → ⊥) ⊎ ((line : Line) × IsLine text line × IsBeyond w line)
 
 -- The line of this number, which isn't silent, prints this and ends the script.
 abbrev pub Ends : Stage → ℕ → List ℕ → List ℕ → Ending → Type 0
@@ -129,15 +128,19 @@ Ends stage number text printed ending = ⊥
 abbrev pub IsCutShort : List ℕ → List ℕ → Ending → Type 0
 IsCutShort printed out ending = (rest : List ℕ) × (printed ≡ out ++ rest) × (ending ≡ cut_short)
 
+-- A write failed before this line.
+abbrev pub IsCutBefore : List ℕ → Ending → Type 0
+IsCutBefore out ending = (out ≡ []) × (ending ≡ cut_short)
+
 -- From this stage on the lines, of which the first has this number, print out and end so.
 abbrev pub Means : Stage → ℕ → List (List ℕ) → List ℕ → Ending → Type 0
-Means stage number [] out ending = (out ≡ []) × ((ending ≡ finished) ⊎ (ending ≡ cut_short))
+Means stage number [] out ending = ((out ≡ []) × (ending ≡ finished)) ⊎ IsCutBefore out ending
 Means stage number (text ∷ texts) out ending =
-    ((is_silent text ≡ true) × Means stage (number + 1) texts out ending)
-    ⊎ ((is_silent text ≡ false)
-    × (((first : List ℕ) × (next : Stage) × GoesOn stage text first next
+    IsCutBefore out ending
+    ⊎ (((is_silent text ≡ true) × Means stage (number + 1) texts out ending)
+    ⊎ (((is_silent text ≡ false) × (first : List ℕ) × (next : Stage) × GoesOn stage text first next
         × (((rest : List ℕ) × (out ≡ first ++ rest) × Means next (number + 1) texts rest ending) ⊎ IsCutShort first out ending))
-      ⊎ ((last : List ℕ) × (how : Ending) × Ends stage number text last how
+    ⊎ ((is_silent text ≡ false) × (last : List ℕ) × (how : Ending) × Ends stage number text last how
         × (((out ≡ last) × (ending ≡ how)) ⊎ IsCutShort last out ending))))
 
 -- ---- the program

@@ -8,7 +8,20 @@ use Rattle.pair_core.specs.declared.event.Refusal.{Refusal}
 use Rattle.pair_core.specs.Refusals.{number_of, name_of}
 use Rattle.pair_core.specs.declared.event.Show.{Show}
 use Rattle.pair_core.specs.declared.event.Reply.{Reply}
-use Rattle.pair_core.specs.declared.event.Reply.TheVariants.{Steps, Cut, Sent, Committed, Again, Lost, Acked, Admitted, Empty, Delivered, Took, Refused}
+use Rattle.pair_core.specs.declared.event.Reply.TheVariants.{
+  Steps,
+  Cut,
+  Sent,
+  Committed,
+  Again,
+  Lost,
+  Acked,
+  Admitted,
+  Empty,
+  Delivered,
+  Took,
+  Refused,
+}
 
 -- fields parted by one space, and the end of the line
 abbrev pub line : List (List ℕ) → List ℕ

@@ -1,7 +1,9 @@
 //! The boot line of a script: the size of the machine, the number of clients, and the guest.
 
 ghost use Rattle.std.specs.Prelude.{◌≡◌, ◌⊎◌, ℕ, ◌*◌, ◌^◌, ◌<◌, ◌≤◌, List, Some, None, Ok, IfOk, IfSome, IsTrue, option_map, length};
-ghost use Rattle.remus.specs.Boot.{word_field, IsWords, IsDisk, IsGuest, IsBoot, BeginsBoot, in_limits, head_of, head_view, NamedGuest, BootLine, named_guest, boot_line, IsInLimits, words_image};
+ghost use Rattle.remus.specs.Guests.{word_field, IsWords, IsDisk, IsGuest, NamedGuest, named_guest, words_image};
+ghost use Rattle.remus.specs.Boot.{IsBoot, BeginsBoot, BootLine, boot_line, IsInLimits};
+ghost use Rattle.remus.specs.Head.{in_limits, head_of, head_view};
 
 use crate::fields::{after, hex_bytes, operand};
 use std::alloc::{AllocError, Global};
@@ -166,12 +168,12 @@ fn read_words(alloc: Global, text: &[u8]) -> Result<Option<Vec<u32>>, AllocError
 {
     let mut words = Vec::with_capacity(alloc, text.len() / FIELD_BYTES)?;
     let mut rest = text;
-    while let Some((field, behind)) = rest.split_first_chunk::<FIELD_BYTES>() {
+    while let Some((field, others)) = rest.split_first_chunk::<FIELD_BYTES>() {
         let Some(word) = read_word(field.as_slice()) else {
             return Ok(None);
         };
         words.push(word)?;
-        rest = behind;
+        rest = others;
     }
     if !rest.is_empty() {
         return Ok(None);

@@ -25,7 +25,8 @@ pub fn read_delivery(alloc: Global, text: &[u8]) -> Result<Option<Delivery>, All
     // What is read is spelled so.
     ensures found { IfOk result (λ found. IfSome found (λ delivery. IsDelivery text.now delivery.client delivery.bytes.items)) }
     // What is spelled so is read so, unless memory runs out.
-    ensures only { (client : ℕ) (bytes : List ℕ) → IsDelivery text.now client bytes → IfOk result (λ found. option_map delivery_view found ≡ Some (client, bytes)) }
+    ensures only { (client : ℕ) (bytes : List ℕ) → IsDelivery text.now client bytes
+        → IfOk result (λ found. option_map delivery_view found ≡ Some (client, bytes)) }
     // Memory is asked for only where the line begins as a delivery.
     ensures err { OnErr result (BeginsDelivery text.now) }
 {
@@ -38,7 +39,7 @@ pub fn read_delivery(alloc: Global, text: &[u8]) -> Result<Option<Delivery>, All
     Ok(Some(Delivery { client, bytes }))
 }
 
-/// The client's number, and the text behind it.
+/// The client's number, and the text after it.
 fn read_head(text: &[u8]) -> Option<(u64, &[u8])>
     ensures { option_map (λ head. (head.0, head.1.now)) result ≡ delivery_head text.now }
 {

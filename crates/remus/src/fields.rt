@@ -4,18 +4,18 @@ ghost use Rattle.std.specs.Prelude.{◌≡◌, ◌==◌, ℕ, List, length, None
 ghost use Rattle.std.specs.Char.{is_ascii_uppercase};
 ghost use Rattle.std.specs.List.{list_any};
 ghost use Rattle.hex.specs.Hex.{encode_lower, IsBytes};
-ghost use Rattle.remus.specs.Fields.{behind, number_of, numbered_by, operand_of, parted};
+ghost use Rattle.remus.specs.Fields.{text_after, number_of, numbered_by, operand_of, parted};
 
 use hex::FromHex;
 
-/// The bytes behind `front`, where the text begins with it.
+/// The bytes after `front`, where the text begins with it.
 pub fn after<'a>(text: &'a [u8], front: &[u8]) -> Option<&'a [u8]>
-    ensures { MatchOption result (behind front.now text.now ≡ None) (λ rest. behind front.now text.now ≡ Some rest.now) }
+    ensures { MatchOption result (text_after front.now text.now ≡ None) (λ rest. text_after front.now text.now ≡ Some rest.now) }
 {
     text.strip_prefix(front)
 }
 
-/// The number that the text writes: decimal digits alone, at least one, below 2^64. Zeros may lead.
+/// The number that the text writes: only decimal digits, at least one, below 2^64. Zeros may lead.
 pub fn number(text: &[u8]) -> Option<u64>
     ensures { result ≡ number_of text.now }
 {
@@ -25,14 +25,14 @@ pub fn number(text: &[u8]) -> Option<u64>
     str::from_utf8(text).ok()?.parse().ok()
 }
 
-/// The number behind `front`, where the text is `front` and a number.
+/// The number after `front`, where the text is `front` and a number.
 pub fn numbered(text: &[u8], front: &[u8]) -> Option<u64>
     ensures { result ≡ numbered_by front.now text.now }
 {
     number(after(text, front)?)
 }
 
-/// A number at the front, and the text behind the space that ends it.
+/// A number at the front, and the text after the space that ends it.
 pub fn operand(text: &[u8]) -> Option<(u64, &[u8])>
     ensures { option_map (λ found. (found.0, found.1.now)) result ≡ operand_of text.now }
 {
@@ -40,7 +40,7 @@ pub fn operand(text: &[u8]) -> Option<(u64, &[u8])>
     Some((number(digits)?, rest))
 }
 
-/// The text up to the first space, and what stands behind that.
+/// The text up to the first space, and what stands after that.
 fn part(text: &[u8]) -> Option<(&[u8], &[u8])>
     ensures { option_map (λ parts. (parts.0.now, parts.1.now)) result ≡ parted text.now }
 {

@@ -8,6 +8,7 @@ mod delivery;
 mod fields;
 mod lines;
 mod output;
+mod player;
 mod replies;
 mod script;
 mod sim;

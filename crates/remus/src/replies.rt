@@ -93,7 +93,8 @@ pub fn write_sector<W: Write>(out: &mut W, sector: u64, bytes: &[u8; SECTOR_BYTE
 
 /// Prints what happened to a checkpoint, and which one it is.
 fn write_checkpoint<W: Write>(out: &mut W, event: &str, generation: u64, number: u64) -> Result<()>
-    ensures { OnOk result (Appends (W.contents out.old) (W.contents out.new) (line (event.now ∷ decimal generation ∷ decimal number ∷ []))) }
+    ensures { OnOk result (Appends (W.contents out.old) (W.contents out.new)
+        (line (event.now ∷ decimal generation ∷ decimal number ∷ []))) }
 {
     writeln!(out, "{event} {generation} {number}")
 }

@@ -6,7 +6,7 @@ ghost use Rattle.remus.specs.declared.script.Command.{Command};
 
 use crate::fields::numbered;
 
-/// A line behind the boot line.
+/// A line after the boot line.
 #[derive(Clone, Copy, Debug, PartialEq, Eq)]
 pub enum Command {
     /// `step N`: so many guest steps, at least 1.
@@ -30,7 +30,7 @@ pub enum Command {
 }
 
 /// The command that a line spells, if it has one of their forms: fields parted by one space, nothing before
-/// or behind them. A line has one reading at most.
+/// or after them. A line has one reading at most.
 pub fn read_command(text: &[u8]) -> Option<Command>
     // What is read is spelled so.
     ensures found { IfSome result (λ command. IsCommand text.now command) }

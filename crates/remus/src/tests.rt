@@ -38,7 +38,8 @@ fn beacon_frame_reaches_client_1(rt: HostRuntime) -> Result<(), Fail> {
     let script =
         b"boot 2 1 1 beacon\nstep 22\ncut\ntake 1\nsend\nbackup 0\ntake 1\nack 0\ntake 1\ntake 1\nshow\n";
     let printed = format!(in rt.alloc();
-        "booted\nsteps 22\ncut 1 1\nnone\nsent 1\ncommitted 1 1\nnone\nacked 1 1 landed 1\nframe {FRAME}\nnone\nmode paired generation 1 pending 0 steps 22 entries 27\n"
+        "booted\nsteps 22\ncut 1 1\nnone\nsent 1\ncommitted 1 1\nnone\nacked 1 1 landed 1\n\
+         frame {FRAME}\nnone\nmode paired generation 1 pending 0 steps 22 entries 27\n"
     )?;
     plays(&rt, rt.alloc(), script, 0, printed.as_str(), "");
     Ok(())
@@ -93,7 +94,8 @@ fn deliveries_that_are_refused(rt: HostRuntime) {
     let script =
         b"boot 2 1 2 idle\ndeliver 0 00\ndeliver 3 00\ndeliver 1 00\nadmit 3\ntake 1\nshow\n";
     let printed =
-        "booted\nrefused 3 NoClient\nrefused 3 NoClient\nrefused 2 BadFrame\nrefused 3 NoClient\nnone\nmode paired generation 1 pending 0 steps 0 entries 1\n";
+        "booted\nrefused 3 NoClient\nrefused 3 NoClient\nrefused 2 BadFrame\nrefused 3 NoClient\nnone\n\
+         mode paired generation 1 pending 0 steps 0 entries 1\n";
     plays(&rt, rt.alloc(), script, 0, printed, "");
 }
 
@@ -248,7 +250,7 @@ fn bad_lines_in_place_of_the_boot_line(rt: HostRuntime) {
 }
 
 #[test]
-fn bad_lines_behind_the_boot_line(rt: HostRuntime) -> Result<(), Fail> {
+fn bad_lines_after_the_boot_line(rt: HostRuntime) -> Result<(), Fail> {
     let lines: [&[u8]; 54] = [
         b"boot 2 1 1 idle",
         b"step",
@@ -405,6 +407,61 @@ fn a_write_that_fails_gives_status_1(rt: HostRuntime) {
     }
     let mut out = Vec::new(rt.alloc());
     assert_eq!(rt; sim(rt.alloc(), b"cut", &mut out, &mut Short(0)), 1);
+}
+
+/// A writer that counts bytes, and notes the count at each flush. The flush of the number `fails`, from 0, fails.
+#[derive(Drop)]
+struct Flushed {
+    bytes: usize,
+    at: Vec<usize>,
+    fails: usize,
+}
+
+impl Write for Flushed {
+    fn write(&mut self, buf: &[u8]) -> IoResult<usize> {
+        self.bytes = self.bytes.saturating_add(buf.len());
+        Ok(buf.len())
+    }
+
+    fn flush(&mut self) -> IoResult<()> {
+        if self.at.len() == self.fails {
+            return Err(std::io::Error::from(ErrorKind::WriteZero));
+        }
+        self.at
+            .push(self.bytes)
+            .map_err(|_| std::io::Error::from(ErrorKind::OutOfMemory))
+    }
+}
+
+/// Plays a script whose answers are written out at these counts of bytes, and says the status where one fails.
+fn flushes(rt: &impl Abort, alloc: Global, script: &[u8], at: &[usize]) {
+    for fails in 0..at.len() + 1 {
+        let mut out = Flushed {
+            bytes: 0,
+            at: Vec::new(alloc),
+            fails,
+        };
+        let mut err = Vec::new(alloc);
+        let status = sim(alloc, script, &mut out, &mut err);
+        assert_eq!(rt; out.at.as_slice(), &at[..fails]);
+        assert_eq!(rt; status, if fails < at.len() { 1 } else { 0 });
+    }
+}
+
+#[test]
+fn answers_are_written_out_before_long_steps(rt: HostRuntime) {
+    // `booted` and its newline are 7 bytes, `cut 1 1` and its newline 8 more.
+    flushes(
+        &rt,
+        rt.alloc(),
+        b"boot 2 1 1 idle\ncut\nstep 100000\n",
+        &[7, 15, 28],
+    );
+    // Steps add up: of these lines the second and the fourth reach 100000.
+    let script = b"boot 2 1 1 idle\nstep 60000\nstep 60000\nstep 60000\nstep 60000\n";
+    flushes(&rt, rt.alloc(), script, &[7, 19, 45, 58]);
+    // A script without steps is written out at the end.
+    flushes(&rt, rt.alloc(), b"boot 2 1 1 idle\ncut\ncut\n", &[7, 23]);
 }
 
 /// Whether the words name this file.

@@ -1,5 +1,5 @@
 use Rattle.std.proofs.Common.{◌≡◌, take}
-use Rattle.remus.specs.Boot.{words_image}
+use Rattle.remus.specs.Guests.{words_image}
 use Rattle.remus.proofs.boot.image_of.Given as goal
 
 abbrev pub invariant-loop-word : goal.invariant-loop-word

@@ -1,6 +1,6 @@
 use Rattle.std.proofs.Common.{sym}
-use Rattle.remus.specs.Boot.{named_guest, head_view}
-use Rattle.remus.proofs.BootLemmas.{no_boot, guest_again, head_of-read, same_line, no_guest, guest_found, in_limits_read}
+use Rattle.remus.specs.Head.{head_view}
+use Rattle.remus.proofs.BootLemmas.{no_boot, guest_again, boot_read, same_line, no_guest}
 use Rattle.remus.proofs.boot.read_boot.Goals as goal
 
 pub returns-in_default-clause-only : goal.returns-in_default-clause-only
@@ -12,15 +12,17 @@ returns-in_default-2-clause-only c line h =
     absurd (no_guest c.in_ok-guest.field-0 line.guest c.in_default-2.is (c.in_ok-guest.ensures.only line.guest again.3))
 
 pub returns-clause-found : goal.returns-clause-found
-returns-clause-found c = (c.in-Some.head.guest.now, head_of-read c.args.text.now (head_view c.in-Some.head) (sym c.in-Some.ensures), guest_found c.in-Some.head.pages c.in-Some.head.guest.now c.in_ok-guest.field-0 c.in-Some-2.guest c.in_ok-guest.ensures.found c.in-Some-2.is)
+returns-clause-found c = boot_read c.args.text.now (head_view c.in-Some.head) c.in_ok-guest.field-0 c.in-Some-2.guest
+    (sym c.in-Some.ensures) c.in_ok-guest.ensures.found c.in-Some-2.is
 
 pub returns-clause-limits : goal.returns-clause-limits
 returns-clause-limits c =
-    in_limits_read c.args.text.now c.in-Some.head.pages c.in-Some.head.sectors c.in-Some.head.clients c.in-Some.head.guest.now (named_guest c.in-Some-2.guest)
-    (head_of-read c.args.text.now (head_view c.in-Some.head) (sym c.in-Some.ensures))
-    (guest_found c.in-Some.head.pages c.in-Some.head.guest.now c.in_ok-guest.field-0 c.in-Some-2.guest c.in_ok-guest.ensures.found c.in-Some-2.is)
+    let spelled = boot_read c.args.text.now (head_view c.in-Some.head) c.in_ok-guest.field-0 c.in-Some-2.guest (sym c.in-Some.ensures)
+    c.in_ok-guest.ensures.found c.in-Some-2.is in
+    spelled.limits
 
 pub returns-clause-only : goal.returns-clause-only
 returns-clause-only c line h =
     let again = guest_again c.args.text.now (head_view c.in-Some.head) line c.in-Some.ensures h in
-    same_line c.in-Some.head.pages c.in-Some.head.sectors c.in-Some.head.clients c.in_ok-guest.field-0 c.in-Some-2.guest line c.in-Some-2.is (c.in_ok-guest.ensures.only line.guest again.3) again.0 again.1 again.2
+    same_line c.in-Some.head.pages c.in-Some.head.sectors c.in-Some.head.clients c.in_ok-guest.field-0 c.in-Some-2.guest line
+    c.in-Some-2.is (c.in_ok-guest.ensures.only line.guest again.3) again.0 again.1 again.2

@@ -11,9 +11,11 @@ returns-in_default-read_word-clause-only c ws h =
 pub loop-field-preserved : goal.loop-field-preserved
 loop-field-preserved c =
     let long : 9 ≤ length c.loop-field.rest.now = omega (arith, c.in-Some.ensures.cases.2) in
-    subst (λ words. Reading c.args.text.now words c.in-Some.behind.now) (sym c.in_ok-push.ensures.items)
-    (reading_goes_on c.args.text.now c.loop-field.words.items c.loop-field.rest.now c.as_slice.result.now c.in-Some.behind.now c.in-Some-read_word.word c.loop-field.invariant long
-    (c.as_slice.ensures ∙ c.in-Some.ensures.cases.0) c.in-Some.ensures.cases.1 c.in-Some-read_word.ensures.found (omega arith) c.in-Some-read_word.ensures.only)
+    subst (λ words. Reading c.args.text.now words c.in-Some.others.now) (sym c.in_ok-push.ensures.items)
+    (reading_goes_on c.args.text.now c.loop-field.words.items c.loop-field.rest.now c.as_slice.result.now c.in-Some.others.now
+    c.in-Some-read_word.word c.loop-field.invariant long
+    (c.as_slice.ensures ∙ c.in-Some.ensures.cases.0) c.in-Some.ensures.cases.1 c.in-Some-read_word.ensures.found (omega arith)
+    c.in-Some-read_word.ensures.only)
 
 pub returns-then-not-is_empty-clause-only : goal.returns-then-not-is_empty-clause-only
 returns-then-not-is_empty-clause-only c ws h =

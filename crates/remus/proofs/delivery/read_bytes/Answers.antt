@@ -6,7 +6,8 @@ use Rattle.remus.proofs.delivery.read_bytes.Goals as goal
 pub returns-in-Err : goal.returns-in-Err
 returns-in-Err c = record {
   found = unread-finds (λ (v : Vec ℕ Global). v.items) c.args.digits.now c.in-Err.error c.undecoded.result c.undecoded.ensures;
-  only = λ bytes h. unread-only (λ (v : Vec ℕ Global). v.items) c.args.digits.now bytes c.in-Err.error c.undecoded.result c.in-Err.ensures.err c.undecoded.ensures h;
+  only = λ bytes h. unread-only (λ (v : Vec ℕ Global). v.items) c.args.digits.now bytes c.in-Err.error c.undecoded.result
+      c.in-Err.ensures.err c.undecoded.ensures h;
 }
 
 pub returns-then-is_empty-clause-only : goal.returns-then-is_empty-clause-only
@@ -19,7 +20,8 @@ returns-then-has_upper_case-clause-only c = λ bytes h.
 
 pub returns-clause-found : goal.returns-clause-found
 returns-clause-found c =
-    found-written c.args.digits.now c.in-Ok.bytes.items c.in-Ok.ensures.ok (sym c.has_upper_case.ensures ∙ c.if-has_upper_case.false) (grind (arith, c.if-is_empty.ensures))
+    found-written c.args.digits.now c.in-Ok.bytes.items c.in-Ok.ensures.ok (sym c.has_upper_case.ensures ∙ c.if-has_upper_case.false)
+    (grind (arith, c.if-is_empty.ensures))
 
 pub returns-clause-only : goal.returns-clause-only
 returns-clause-only c = λ bytes h. ap Some (decoded-same c.args.digits.now c.in-Ok.bytes.items bytes c.in-Ok.ensures.ok h)

@@ -14,12 +14,14 @@ returns-then-has_upper_case-clause-only g c bytes long small spelled =
 pub returns-clause-found : goal.returns-clause-found
 returns-clause-found g c =
     let low = sym c.has_upper_case.ensures ∙ c.if-has_upper_case.false in
-    spelled-so c.args.text.now g.row.N c.ok.result (each-again c.args.text.now g.row.N c.from_hex.result c.ok.result c.from_hex.ensures c.ok.ensures.value low)
+    spelled-so c.args.text.now g.row.N c.ok.result
+    (each-again c.args.text.now g.row.N c.from_hex.result c.ok.result c.from_hex.ensures c.ok.ensures.value low)
 
 pub returns-clause-bytes : goal.returns-clause-bytes
 returns-clause-bytes g c =
     let low = sym c.has_upper_case.ensures ∙ c.if-has_upper_case.false in
-    sized-so c.args.text.now g.row.N c.ok.result (each-again c.args.text.now g.row.N c.from_hex.result c.ok.result c.from_hex.ensures c.ok.ensures.value low)
+    sized-so c.args.text.now g.row.N c.ok.result
+    (each-again c.args.text.now g.row.N c.from_hex.result c.ok.result c.from_hex.ensures c.ok.ensures.value low)
 
 pub returns-clause-only : goal.returns-clause-only
 returns-clause-only g c bytes long small spelled =

@@ -5,7 +5,8 @@ use Rattle.remus.proofs.fields.part.Goals as goal
 
 pub returns-in_err-space : goal.returns-in_err-space
 returns-in_err-space c =
-    ap (λ (found : Option (Bor (List ℕ) × Bor (List ℕ))). option_map (λ (parts : Bor (List ℕ) × Bor (List ℕ)). (parts.0.now, parts.1.now)) found) c.from_residual.ensures
+    ap (λ (found : Option (Bor (List ℕ) × Bor (List ℕ))). option_map (λ (parts : Bor (List ℕ) × Bor (List ℕ)). (parts.0.now, parts.1.now))
+    found) c.from_residual.ensures
     ∙ sym (parted-none c.args.text.now (sym c.first_space.ensures ∙ c.in_err-space.was))
 
 pub returns : goal.returns
