@@ -7,3 +7,6 @@ pub mod ImageLemmas
 pub mod DeliveryLemmas
 pub mod DigitLemmas
 pub mod DiskLemmas
+mod MeaningLemmas
+mod LineLemmas
+mod ScriptLemmas

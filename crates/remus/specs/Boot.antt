@@ -1,8 +1,8 @@
 -- The boot line, `boot PAGES SECTORS CLIENTS GUEST`, in fields that are parted by one space.
-use Rattle.std.specs.Prelude.{◌≡◌, ℕ, ◌≤◌, ◌∷◌, [], List, Some, codes}
+use Rattle.std.specs.Prelude.{◌≡◌, ℕ, ◌≤◌, ◌∷◌, [], List, Some, IsSome, codes}
 use Rattle.std.specs.List.{join_with_byte}
 use Rattle.pair_core.specs.HistoryState.{HistoryState, start_state}
-use Rattle.remus.specs.Fields.{number_of}
+use Rattle.remus.specs.Fields.{text_after, number_of}
 use Rattle.remus.specs.Guests.{NamedGuest, NamesGuest, GuestFits, guest_image, named_guest}
 use Rattle.remus.specs.declared.boot.Boot.{Boot}
 
@@ -32,6 +32,10 @@ pub record IsBoot (text : List ℕ) (line : BootLine) : Type 0 where
   pub clients_written : number_of clients ≡ Some line.clients
   pub guest_named : NamesGuest guest line.guest
   pub limits : IsInLimits line
+
+-- the line begins as a boot line does
+abbrev pub BeginsBoot : List ℕ → Type 0
+BeginsBoot text = IsSome (text_after (codes "boot ") text)
 
 -- the program's boot line, whose words lie in a `Vec`
 abbrev pub boot_line : Boot → BootLine

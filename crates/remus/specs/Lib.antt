@@ -5,3 +5,7 @@ pub mod Boot
 pub mod Head
 pub mod Printed
 pub mod Delivery
+pub mod Output
+pub mod Playing
+pub mod Lines
+pub mod Meaning

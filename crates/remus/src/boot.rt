@@ -1,8 +1,8 @@
 //! The boot line of a script: the size of the machine, the number of clients, and the guest.
 
-ghost use Rattle.std.specs.Prelude.{◌≡◌, ℕ, ◌*◌, ◌^◌, ◌<◌, ◌≤◌, List, Some, IfOk, IfSome, IsTrue, option_map, length};
+ghost use Rattle.std.specs.Prelude.{◌≡◌, ◌⊎◌, ℕ, ◌*◌, ◌^◌, ◌<◌, ◌≤◌, List, Some, None, Ok, IfOk, IfSome, IsTrue, option_map, length};
 ghost use Rattle.remus.specs.Guests.{word_field, IsWords, IsDisk, IsGuest, NamedGuest, named_guest, words_image};
-ghost use Rattle.remus.specs.Boot.{IsBoot, BootLine, boot_line, IsInLimits};
+ghost use Rattle.remus.specs.Boot.{IsBoot, BeginsBoot, BootLine, boot_line, IsInLimits};
 ghost use Rattle.remus.specs.Head.{in_limits, head_of, head_view};
 
 use crate::fields::{after, hex_bytes, operand};
@@ -78,6 +78,8 @@ pub fn read_boot(alloc: Global, text: &[u8]) -> Result<Option<Boot>, AllocError>
     ensures limits { IfOk result (λ found. IfSome found (λ boot. IsInLimits (boot_line boot))) }
     // What is spelled so is read so, unless memory runs out.
     ensures only { (line : BootLine) → IsBoot text.now line → IfOk result (λ found. option_map boot_line found ≡ Some line) }
+    // Only a line that begins as a boot line is read, and memory is asked for only there.
+    ensures begins { (result ≡ Ok None) ⊎ BeginsBoot text.now }
 {
     let Some(head) = read_head(text) else {
         return Ok(None);

@@ -1,7 +1,7 @@
 //! The line of a client's frame: `deliver CLIENT HEX`.
 
-ghost use Rattle.std.specs.Prelude.{◌≡◌, ◌≢◌, ℕ, List, Some, None, IfOk, IfSome, option_map};
-ghost use Rattle.remus.specs.Delivery.{IsHex, IsDelivery, delivery_head, delivery_view};
+ghost use Rattle.std.specs.Prelude.{◌≡◌, ◌≢◌, ℕ, List, Some, None, IfOk, IfSome, OnErr, option_map};
+ghost use Rattle.remus.specs.Delivery.{IsHex, IsDelivery, BeginsDelivery, delivery_head, delivery_view};
 
 use crate::fields::{after, has_upper_case, operand};
 use hex::FromHexError;
@@ -27,6 +27,8 @@ pub fn read_delivery(alloc: Global, text: &[u8]) -> Result<Option<Delivery>, All
     // What is spelled so is read so, unless memory runs out.
     ensures only { (client : ℕ) (bytes : List ℕ) → IsDelivery text.now client bytes
         → IfOk result (λ found. option_map delivery_view found ≡ Some (client, bytes)) }
+    // Memory is asked for only where the line begins as a delivery.
+    ensures err { OnErr result (BeginsDelivery text.now) }
 {
     let Some((client, digits)) = read_head(text) else {
         return Ok(None);

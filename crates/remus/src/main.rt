@@ -1,10 +1,14 @@
 //! The programs of the pair.
 #![tactic(auto)]
 
+mod answers;
 mod boot;
 mod command_line;
 mod delivery;
 mod fields;
+mod lines;
+mod output;
+mod player;
 mod replies;
 mod script;
 mod sim;

@@ -1,61 +1,25 @@
 //! `remus sim FILE`: plays a script of events to a pair.
 
-ghost use Rattle.std.specs.Prelude.{◌≡◌, ◌≤◌, ◌*◌, Err, IfOk, IfErr, IfSome, IfNone, IsSome, OnOk, length, option_map};
-ghost use Rattle.std.specs.Io.KnownBytes.{Appends, Keeps};
-ghost use Rattle.pair_core.specs.Runs.{steps_outcome};
-ghost use Rattle.pair_core.specs.Start.{start_record};
-ghost use Rattle.remus.specs.Printed.{named_sector, sector_line};
-ghost use Rattle.remus.specs.Guests.{guest_image, named_guest};
-ghost use Rattle.remus.specs.Boot.{IsInLimits, boot_line, booted_state};
+ghost use Rattle.std.specs.Prelude.{◌≡◌, ◌∷◌, [], OnOk, OnErr, IfOk, IfSome, MatchOption, ◌<◌, ◌==◌, length, position};
+ghost use Rattle.std.specs.Io.KnownBytes.{Appends};
+ghost use Rattle.remus.specs.Meaning.{lines_of, is_silent, bad_line, IsPlayed};
+ghost use Rattle.remus.specs.Output.{AppendsFront};
+ghost use Rattle.remus.specs.Playing.{IsPlayedTo, IsLineDone, stage_of};
 
-use crate::boot::{Boot, Guest, image_of, read_boot};
-use crate::delivery::read_delivery;
-use crate::replies::{write_refusal, write_reply, write_sector, write_show};
-use crate::script::{Command, read_command};
-use guest_kit::{beacon, disk_once, idle};
-use pair_core::{Event, Refusal, Reply, SECTOR_BYTES, Shape, World};
-use std::alloc::{AllocError, Global};
+use crate::output::put;
+use crate::player::{Player, Stop};
+use std::alloc::Global;
 use std::io;
 use std::io::Write;
 
-/// The guest may make fewer steps than these, some thousandth of a second's, before what was printed is written out.
-const STEPS_UNSHOWN: u64 = 100_000;
-
-/// Why a script ends early.
-#[derive(Debug, Drop)]
-enum Stop {
-    /// The line of this number has no known form.
-    Bad(u64),
-    /// The boot line was refused.
-    Refused,
-    /// A write failed.
-    Failed,
-}
-
-/// A script that is being played.
-#[derive(Drop)]
-struct Player {
-    /// The pair that its boot line asked for.
-    world: Box<World>,
-    /// How many steps its lines asked for since what was printed was last written out.
-    unshown: u64,
-}
-
-impl From<io::Error> for Stop {
-    ghost use Rattle.remus.specs.declared.sim.Stop.TheVariants.{Failed};
-
-    ghost from_gives = { λ _ stop. stop ≡ Failed };
-
-    fn from(_: io::Error) -> Stop {
-        Stop::Failed
-    }
-}
+/// Bytes that the message about a bad line takes, and more.
+const MESSAGE_BYTES: usize = 64;
 
 /// Plays the script `source`, and prints the replies on `out` and a bad line on `err`. Answers the exit
 /// status: 0, or 1 after a bad line, a refused boot line or a write that failed. What was printed is written out
 /// (`out` is flushed) after the boot line, before a line that steps the guest for long, and at the end.
 pub fn sim<O: Write, E: Write>(alloc: Global, source: &[u8], out: &mut O, err: &mut E) -> u8
-    ensures { result ≤ 1 }
+    ensures { IsPlayed source.now (O.contents out.old) (O.contents out.new) (E.contents err.old) (E.contents err.new) result }
 {
     let played = play(alloc, source, out);
     if out.flush().is_err() {
@@ -64,178 +28,90 @@ pub fn sim<O: Write, E: Write>(alloc: Global, source: &[u8], out: &mut O, err: &
     match played {
         Ok(()) => 0,
         Err(Stop::Bad(number)) => {
-            let _ = writeln!(err, "remus: line {number}: bad");
-            let _ = err.flush();
+            let _ = tell_bad_line(alloc, number, err);
             1
         }
         Err(Stop::Refused | Stop::Failed) => 1,
     }
 }
 
+/// Says on standard error that the line of this number is bad.
+fn tell_bad_line<E: Write>(alloc: Global, number: u64, err: &mut E) -> io::Result<()>
+    ensures ok { OnOk result (Appends (E.contents err.old) (E.contents err.new) (bad_line number)) }
+    ensures err { OnErr result (AppendsFront (E.contents err.old) (E.contents err.new) (bad_line number)) }
+{
+    let message = bad_line_message(alloc, number)?;
+    put(err, message.as_slice())?;
+    err.flush()
+}
+
+/// The message about a bad line.
+fn bad_line_message(alloc: Global, number: u64) -> io::Result<Vec<u8>>
+    ensures { IfOk result (λ message. message.items ≡ bad_line number) }
+{
+    let mut message = Vec::with_capacity(alloc, MESSAGE_BYTES)?;
+    writeln!(message, "remus: line {number}: bad")?;
+    Ok(message)
+}
+
 /// Plays the lines in turn. The first that counts is the boot line.
-fn play<O: Write>(alloc: Global, source: &[u8], out: &mut O) -> Result<(), Stop> {
+fn play<O: Write>(alloc: Global, source: &[u8], out: &mut O) -> Result<(), Stop>
+    ensures { IsPlayedTo source.now result (O.contents out.old) (O.contents out.new) }
+{
     let mut player = None;
-    for (index, text) in source.split(|byte| *byte == b'\n').enumerate() {
-        if is_silent(text) {
-            continue;
-        }
-        let number = index as u64 + 1;
-        match &mut player {
-            None => player = Some(boot(alloc, text, number, out)?),
-            Some(player) => play_line(alloc, player, text, number, out)?,
+    let mut number = 0;
+    let mut left = Some(source);
+    while let Some(text) = left {
+        let (line, rest) = first_line(text);
+        left = rest;
+        number += 1;
+        if !is_silent(line) {
+            play_line(alloc, &mut player, line, number, out)?;
         }
     }
     Ok(())
 }
 
-/// Does what a line after the boot line says, and prints the answer.
+/// Plays one line that isn't silent: the boot line, or one after it.
 fn play_line<O: Write>(
     alloc: Global,
-    player: &mut Player,
-    text: &[u8],
+    player: &mut Option<Player>,
+    line: &[u8],
     number: u64,
     out: &mut O,
-) -> Result<(), Stop> {
-    if let Some(command) = read_command(text) {
-        if let Command::Step(count) = command {
-            show_before(count, &mut player.unshown, out)?;
+) -> Result<(), Stop>
+    ensures { IsLineDone (stage_of player.old) number line.now result (λ _. stage_of player.new) (O.contents out.old) (O.contents out.new) }
+{
+    match player {
+        Some(player) => player.play_line(alloc, line, number, out),
+        None => {
+            *player = Some(Player::boot(alloc, line, number, out)?);
+            Ok(())
         }
-        return obey(player.world.as_mut(), command, number, out);
     }
-    let reply = match read_delivery(alloc, text) {
-        Ok(Some(delivery)) => player
-            .world
-            .as_mut()
-            .apply(Event::Deliver(delivery.client, delivery.bytes.as_slice())),
-        Ok(None) => return Err(Stop::Bad(number)),
-        Err(AllocError) => Reply::Refused(Refusal::NoMemory),
-    };
-    write_reply(out, &reply)?;
-    Ok(())
 }
 
-/// Writes out what was printed, before the guest makes `count` steps, where it would else go unshown for too many.
-fn show_before<O: Write>(count: u64, unshown: &mut u64, out: &mut O) -> Result<(), Stop>
-    ensures { Keeps (O.contents out.old) (O.contents out.new) }
+/// The first line of a text, and what stands after its newline, if it has one.
+fn first_line(text: &[u8]) -> (&[u8], Option<&[u8]>)
+    ensures lines { MatchOption result.1 (lines_of text.now ≡ result.0.now ∷ []) (λ rest. lines_of text.now ≡ result.0.now ∷ lines_of rest.now) }
+    ensures shorter { IfSome result.1 (λ rest. length rest.now < length text.now) }
 {
-    let steps = unshown.saturating_add(count);
-    if steps < STEPS_UNSHOWN {
-        *unshown = steps;
-        return Ok(());
+    match first_newline(text) {
+        Some(end) => (&text[..end], Some(&text[end + 1..])),
+        None => (text, None),
     }
-    *unshown = 0;
-    out.flush()?;
-    Ok(())
+}
+
+/// Where the first newline stands.
+fn first_newline(text: &[u8]) -> Option<usize>
+    ensures { result ≡ position (λ byte. byte == 10) text.now }
+{
+    text.iter().position(|byte| *byte == b'\n')
 }
 
 /// Whether a line prints nothing: it is empty, or a comment.
-fn is_silent(text: &[u8]) -> bool {
+fn is_silent(text: &[u8]) -> bool
+    ensures { result ≡ is_silent text.now }
+{
     matches!(text, [] | [b'#', ..])
-}
-
-/// Boots the pair that the boot line asks for, and shows `booted` or prints the refusal.
-fn boot<O: Write>(alloc: Global, text: &[u8], number: u64, out: &mut O) -> Result<Player, Stop> {
-    let started = match read_boot(alloc, text) {
-        Ok(Some(boot)) => start(alloc, &boot),
-        Ok(None) => return Err(Stop::Bad(number)),
-        Err(AllocError) => Err(Refusal::NoMemory),
-    };
-    match started {
-        Ok(world) => {
-            writeln!(out, "booted")?;
-            out.flush()?;
-            Ok(Player { world, unshown: 0 })
-        }
-        Err(refusal) => {
-            write_refusal(out, refusal)?;
-            Err(Stop::Refused)
-        }
-    }
-}
-
-/// The pair that a boot line asks for, at its start. It stands in a box, so that no other function holds a large value.
-fn start(alloc: Global, boot: &Boot) -> Result<Box<World>, Refusal>
-    requires { IsInLimits (boot_line boot.now) }
-    ensures state { IfOk result (λ w. w.value.start ≡ booted_state (boot_line boot.now)) }
-    ensures protocol { IfOk result (λ w. w.value.protocol ≡ start_record) }
-    ensures refused { IfErr result (λ why. why ≡ Refusal.NoMemory) }
-{
-    let shape = Shape {
-        pages: boot.pages,
-        sectors: boot.sectors,
-    };
-    let image = image(alloc, boot)?;
-    let world = World::boot(alloc, shape, boot.clients, image.as_slice())?;
-    let world = Box::new(alloc, world).map_err(AllocError::from)?;
-    Ok(world)
-}
-
-/// The bytes of a guest's program.
-fn image(alloc: Global, boot: &Boot) -> Result<Vec<u8>, AllocError>
-    requires { IsInLimits (boot_line boot.now) }
-    ensures fits { IfOk result (λ image. length image.items ≤ 4096 * boot.now.pages) }
-    ensures bytes { IfOk result (λ image. image.items ≡ guest_image (named_guest boot.now.guest)) }
-{
-    match &boot.guest {
-        Guest::Idle => idle(alloc),
-        Guest::Beacon => beacon(alloc),
-        Guest::Disk { sector, byte } => disk_once(alloc, *sector, *byte),
-        Guest::Words(words) => image_of(alloc, words),
-    }
-}
-
-/// Does what a command says, and prints the answer. The line's number is for one that turns out to be bad.
-fn obey<O: Write>(
-    world: &mut World,
-    command: Command,
-    number: u64,
-    out: &mut O,
-) -> Result<(), Stop> {
-    let reply = match command {
-        Command::Step(count) => run_steps(world, count),
-        Command::Cut => world.apply(Event::Cut),
-        Command::Send => world.apply(Event::Send),
-        Command::Backup(packet) => world.apply(Event::BackupGet(packet)),
-        Command::Ack(packet) => world.apply(Event::AckGet(packet)),
-        Command::Admit(client) => world.apply(Event::Admit(client)),
-        Command::Take(client) => world.apply(Event::Take(client)),
-        Command::Sector(sector) => return show_sector(world, sector, number, out),
-        Command::Show => {
-            write_show(out, &world.show())?;
-            return Ok(());
-        }
-    };
-    write_reply(out, &reply)?;
-    Ok(())
-}
-
-/// Prints the bytes of a sector. Beyond the disk the line is a bad one, and nothing is printed.
-fn show_sector<O: Write>(world: &World, sector: u64, number: u64, out: &mut O) -> Result<(), Stop>
-    ensures shown { IfSome (named_sector world.now sector) (λ bytes.
-        OnOk result (Appends (O.contents out.old) (O.contents out.new) (sector_line sector bytes))) }
-    ensures failed { IsSome (named_sector world.now sector) → IfErr result (λ stop. stop ≡ Stop.Failed) }
-    ensures bad { IfNone (named_sector world.now sector) ((result ≡ Err (Stop.Bad number)) × (out.new ≡ out.old)) }
-{
-    let Some(bytes) = sector_of(world, sector) else {
-        return Err(Stop::Bad(number));
-    };
-    write_sector(out, sector, bytes)?;
-    Ok(())
-}
-
-/// The bytes of the sector that a number names.
-fn sector_of(world: &World, sector: u64) -> Option<&[u8; SECTOR_BYTES]>
-    ensures value { option_map (λ bytes. bytes.now) result ≡ named_sector world.now sector }
-{
-    world.sector(u32::try_from(sector).ok()?)
-}
-
-/// The last of `count` steps' replies, or the first refusal.
-fn run_steps(world: &mut World, count: u64) -> Reply
-    ensures { (result, world.new.protocol) ≡ steps_outcome world.old.start world.old.protocol count }
-{
-    match world.run_steps(count) {
-        Ok(steps) => Reply::Steps(steps),
-        Err(refusal) => Reply::Refused(refusal),
-    }
 }

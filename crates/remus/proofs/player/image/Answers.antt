@@ -3,7 +3,7 @@ use Rattle.std.specs.declared.vec.Vec.{Vec}
 use Rattle.remus.specs.Guests.{GuestFits, named_guest, guest_image}
 use Rattle.remus.specs.declared.boot.Guest.{Guest}
 use Rattle.remus.proofs.ImageLemmas.{made_fits}
-use Rattle.remus.proofs.sim.image.Goals as goal
+use Rattle.remus.proofs.player.image.Goals as goal
 
 pub returns-in-Words-clause-fits : goal.returns-in-Words-clause-fits
 returns-in-Words-clause-fits c =

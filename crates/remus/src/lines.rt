@@ -1,0 +1,40 @@
+//! The lines after the boot line.
+
+ghost use Rattle.std.specs.Prelude.{◌≡◌, IfOk, IfSome, IfNone, OnErr};
+ghost use Rattle.remus.specs.Delivery.{BeginsDelivery};
+ghost use Rattle.remus.specs.Lines.{line_of, Line as SpelledLine};
+ghost use Rattle.remus.specs.Meaning.{IsLine};
+
+use crate::delivery::{Delivery, read_delivery};
+use crate::script::{Command, read_command};
+use std::alloc::{AllocError, Global};
+
+/// A line after the boot line.
+#[derive(Debug, Drop)]
+pub enum Line {
+    /// A command.
+    Order(Command),
+    /// A client's frame.
+    Delivery(Delivery),
+}
+
+/// The line that a text spells, if it spells one. A text has one reading at most.
+///
+/// # Errors
+///
+/// [`AllocError`] where there is no memory for a frame's bytes.
+pub fn read_line(alloc: Global, text: &[u8]) -> Result<Option<Line>, AllocError>
+    // What is read is spelled so.
+    ensures found { IfOk result (λ found. IfSome found (λ line. IsLine text.now (line_of line))) }
+    // Where nothing is read, nothing is spelled.
+    ensures none { IfOk result (λ found. IfNone found ((line : SpelledLine) → IsLine text.now line → ⊥)) }
+    ensures err { OnErr result (BeginsDelivery text.now) }
+{
+    if let Some(command) = read_command(text) {
+        return Ok(Some(Line::Order(command)));
+    }
+    match read_delivery(alloc, text)? {
+        Some(delivery) => Ok(Some(Line::Delivery(delivery))),
+        None => Ok(None),
+    }
+}
