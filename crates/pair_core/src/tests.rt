@@ -265,6 +265,38 @@ fn many_steps_are_made_in_one_call(rt: HostRuntime) -> Result<(), Fail> {
     Ok(())
 }
 
+/// A pair of as many clients as there can be, whose guest runs on the spot.
+fn crowded_pair(alloc: Global) -> Result<Box<World>, Fail> {
+    let (pages, sectors) = SHAPE;
+    let world = World::boot(alloc, Shape { pages, sectors }, 16, &[0x6f, 0, 0, 0])?;
+    Ok(Box::new(alloc, world)?)
+}
+
+#[test]
+fn the_last_of_16_clients_delivers_and_takes(rt: HostRuntime) -> Result<(), Fail> {
+    let mut world = crowded_pair(rt.alloc())?;
+    let bytes = repeated(rt.alloc(), 2, 600)?;
+    let events = [
+        Event::Deliver(16, &bytes),
+        Event::Admit(16),
+        Event::Take(16),
+        Event::Take(17),
+    ];
+    let wanted = "Delivered(1)\nAdmitted(1)\nTook(None)\nRefused(NoClient)\n";
+    assert!(rt; answers(rt.alloc(), &mut world, &events, wanted)?);
+    Ok(())
+}
+
+#[test]
+fn a_list_of_10001_events_is_answered_to_its_end(rt: HostRuntime) -> Result<(), Fail> {
+    let mut world = idle_pair(rt.alloc())?;
+    let events = after_steps(rt.alloc(), 10_000, &[Event::Cut])?;
+    let replies = world.run(events.as_slice())?;
+    assert_eq!(rt; replies.len(), 10_001);
+    assert_eq!(rt; world.show(), paired(1, 10_000, 0));
+    Ok(())
+}
+
 /// The words of the guest that writes ab into each byte of sector 7, and then runs on the spot.
 const WRITER: [u32; 24] = [
     0x100022b7, 0x00100313, 0x0662a823, 0x00300393, 0x0672a823, 0x0262a223, 0x0262a023, 0x00b00393,
