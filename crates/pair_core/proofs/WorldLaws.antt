@@ -143,7 +143,7 @@ module _ (a : Inside) (h : AreFields a) where
   sealed_now = record { machine = a.live; arrivals = a.arrivals; steps = a.running }
 
   module _ (m : State) (gate : List Epoch) (sealed : Vec Sealed Global) (arrivals : Vec Arrival Global)
-      (m_is : m ≡ record a.live { outbox = []; dirty = [] })
+      (m_is : m ≡ record a.live { outbox = []; dirty = []; settled = a.live.guest.ram; written = replicate (length a.live.written) false })
       (gate_is : gate ≡ a.gate ++ record { number = a.to_cut; frames = a.live.outbox } ∷ [])
       (sealed_is : sealed.items ≡ a.sealed.items ++ sealed_now ∷ [])
       (none_are : arrivals.items ≡ []) where
