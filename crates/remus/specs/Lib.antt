@@ -3,3 +3,4 @@ pub mod Command
 pub mod Boot
 pub mod Printed
 pub mod Delivery
+pub mod StreamLines
