@@ -9,3 +9,4 @@ pub mod Output
 pub mod Playing
 pub mod Lines
 pub mod Meaning
+pub mod StreamLines

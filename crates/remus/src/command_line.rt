@@ -1,26 +1,78 @@
-//! The command line: `remus sim FILE`.
+//! The command line: `remus sim FILE`, and `remus check-stream FILE --pages P --sectors S`.
 
-ghost use Rattle.std.specs.Prelude.{◌<◌, IfOk, IfSome, length};
+ghost use Rattle.std.specs.Prelude.{◌<◌, ◌≤◌, IfSome, length};
 
-use clap::{Arg, Command, Error};
+use clap::{Arg, ArgMatches, Command, Error};
+use pair_core::Shape;
 use std::alloc::Global;
 
-/// The FILE of `remus sim FILE`, from the words of the command line. `None`: it is empty.
+/// What the command line asks for.
+#[derive(Clone, Copy)]
+pub enum Invocation<'a> {
+    /// To play the script of this file.
+    Sim(&'a str),
+    /// To list the checkpoints of this file, of a machine of this shape.
+    CheckStream(&'a str, Shape),
+}
+
+/// What the words of the command line ask for. `None`: a FILE is empty, or a number isn't one whole number in its range.
 ///
 /// # Errors
 ///
 /// Where the words are no command line of `remus`, or ask for help.
-pub fn file_of<'a>(alloc: Global, words: &'a [String]) -> Result<Option<&'a str>, Error>
-    ensures { IfOk result (λ found. IfSome found (λ file. 0 < length file.now)) }
-{
-    let file = Arg::new(alloc, "FILE").required(true);
-    let sim = Command::new(alloc, "sim").arg(file)?;
+pub fn read<'a>(alloc: Global, words: &'a [String]) -> Result<Option<Invocation<'a>>, Error> {
+    let sim = Command::new(alloc, "sim").arg(file_argument(alloc))?;
+    let check_stream = Command::new(alloc, "check-stream")
+        .arg(file_argument(alloc))?
+        .arg(Arg::new(alloc, "pages").long("pages").required(true))?
+        .arg(Arg::new(alloc, "sectors").long("sectors").required(true))?;
     let command = Command::new(alloc, "remus")
         .subcommand_required(true)
-        .subcommand(sim)?;
+        .subcommand(sim)?
+        .subcommand(check_stream)?;
     let matches = command.try_get_matches_from(words)?;
-    let Some(sim) = matches.subcommand_matches("sim") else {
+    if let Some(sim) = matches.subcommand_matches("sim") {
+        return Ok(file_of(sim).map(Invocation::Sim));
+    }
+    let Some(check) = matches.subcommand_matches("check-stream") else {
         return Ok(None);
     };
-    Ok(sim.get_str("FILE").filter(|file| !file.is_empty()))
+    Ok(check_stream_of(check))
+}
+
+/// The argument FILE of a subcommand.
+fn file_argument<'a>(alloc: Global) -> Arg<'a> {
+    Arg::new(alloc, "FILE").required(true)
+}
+
+/// The FILE, where it isn't empty.
+fn file_of<'a>(matches: &ArgMatches<'a>) -> Option<&'a str>
+    ensures { IfSome result (λ file. 0 < length file.now) }
+{
+    matches.get_str("FILE").filter(|file| !file.is_empty())
+}
+
+/// What `check-stream` was asked, where its numbers are in range.
+fn check_stream_of<'a>(matches: &ArgMatches<'a>) -> Option<Invocation<'a>> {
+    let file = file_of(matches)?;
+    let pages = number_of(matches, "pages", MOST_PAGES)?;
+    let sectors = number_of(matches, "sectors", MOST_SECTORS)?;
+    Some(Invocation::CheckStream(file, Shape { pages, sectors }))
+}
+
+/// The most pages that a machine has.
+const MOST_PAGES: u32 = 4096;
+
+/// The most sectors that a disk has.
+const MOST_SECTORS: u32 = 32768;
+
+/// The value of an option: one whole number from 1 to `most`.
+fn number_of(matches: &ArgMatches<'_>, option: &str, most: u32) -> Option<u32>
+    ensures { IfSome result (λ n. (1 ≤ n) × (n ≤ most)) }
+{
+    let number = matches.get_str(option)?.parse::<u32>().ok()?;
+    if number == 0 || number > most {
+        return None;
+    }
+    Some(number)
 }

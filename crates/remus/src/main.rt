@@ -3,6 +3,7 @@
 
 mod answers;
 mod boot;
+mod check_stream;
 mod command_line;
 mod delivery;
 mod fields;
@@ -15,6 +16,8 @@ mod sim;
 #[cfg(test)]
 mod tests;
 
+use command_line::Invocation;
+use pair_core::Shape;
 use std::io::BufWriter;
 use std::process::ExitCode;
 use std::{env, fs, io};
@@ -34,20 +37,42 @@ fn main(rt: HostRuntime) -> ExitCode {
 
 /// Answers the exit status.
 fn run(rt: &HostRuntime) -> io::Result<u8> {
-    let alloc = rt.alloc();
     let Ok(words) = arguments(rt) else {
         return refuse_command_line(rt);
     };
-    let Ok(Some(file)) = command_line::file_of(alloc, words.as_slice()) else {
-        return refuse_command_line(rt);
-    };
+    match command_line::read(rt.alloc(), words.as_slice()) {
+        Ok(Some(Invocation::Sim(file))) => play_script(rt, file),
+        Ok(Some(Invocation::CheckStream(file, shape))) => list_stream(rt, file, shape),
+        _ => refuse_command_line(rt),
+    }
+}
+
+/// Plays the script of this file. Answers the exit status.
+fn play_script(rt: &HostRuntime, file: &str) -> io::Result<u8> {
+    let alloc = rt.alloc();
     let Ok(source) = fs::read(rt, file) else {
-        eprintln!(rt; "remus: cannot read {file}")?;
-        return Ok(REFUSED);
+        return refuse_file(rt, file);
     };
     let mut out = BufWriter::new(alloc, rt.stdout())?;
     let mut err = rt.stderr();
     Ok(sim::sim(alloc, source.as_slice(), &mut out, &mut err))
+}
+
+/// Lists the checkpoints of this file. Answers the exit status.
+fn list_stream(rt: &HostRuntime, file: &str, shape: Shape) -> io::Result<u8> {
+    let alloc = rt.alloc();
+    let Ok(source) = fs::read(rt, file) else {
+        return refuse_file(rt, file);
+    };
+    let mut out = BufWriter::new(alloc, rt.stdout())?;
+    let mut err = rt.stderr();
+    Ok(check_stream::check_stream(alloc, source.as_slice(), shape, &mut out, &mut err))
+}
+
+/// Answers the status of a file that can't be read, and says that it can't.
+fn refuse_file(rt: &HostRuntime, file: &str) -> io::Result<u8> {
+    eprintln!(rt; "remus: cannot read {file}")?;
+    Ok(REFUSED)
 }
 
 /// The words of the command line. One that is no text is an error.

@@ -1,6 +1,6 @@
 //! What scripts print, and the statuses.
 
-use super::command_line::file_of;
+use super::command_line::{Invocation, read};
 use super::sim::sim;
 use std::alloc::Global;
 use std::io::{ErrorKind, Result as IoResult, Write};
@@ -464,14 +464,17 @@ fn answers_are_written_out_before_long_steps(rt: HostRuntime) {
     flushes(&rt, rt.alloc(), b"boot 2 1 1 idle\ncut\ncut\n", &[7, 23]);
 }
 
-/// Whether the words name this file.
+/// Whether the words name this file, and where they ask for its checkpoints, 4096 pages and 7 sectors.
 fn names(rt: &HostRuntime, words: &[&str], file: &str) -> Result<bool, Fail> {
     let mut owned = Vec::new(rt.alloc());
     for word in words {
         owned.push(String::from_str(rt.alloc(), word)?)?;
     }
-    let found = match file_of(rt.alloc(), owned.as_slice()) {
-        Ok(Some(found)) => found == file,
+    let found = match read(rt.alloc(), owned.as_slice()) {
+        Ok(Some(Invocation::Sim(found))) => found == file,
+        Ok(Some(Invocation::CheckStream(found, shape))) => {
+            found == file && shape.pages == 4096 && shape.sectors == 7
+        }
         Ok(None) => false,
         Err(_) => false,
     };
@@ -482,7 +485,45 @@ fn names(rt: &HostRuntime, words: &[&str], file: &str) -> Result<bool, Fail> {
 fn command_lines(rt: HostRuntime) -> Result<(), Fail> {
     assert!(rt; names(&rt, &["remus", "sim", "a.sim"], "a.sim")?);
     assert!(rt; names(&rt, &["remus", "sim", "--", "-a"], "-a")?);
-    let bad: [&[&str]; 10] = [
+    let asked = [
+        "remus",
+        "check-stream",
+        "a",
+        "--pages",
+        "4096",
+        "--sectors",
+        "7",
+    ];
+    assert!(rt; names(&rt, &asked, "a")?);
+    let bad: [&[&str]; 14] = [
+        &["remus", "check-stream", "a"],
+        &[
+            "remus",
+            "check-stream",
+            "a",
+            "--pages",
+            "0",
+            "--sectors",
+            "1",
+        ],
+        &[
+            "remus",
+            "check-stream",
+            "a",
+            "--pages",
+            "4097",
+            "--sectors",
+            "1",
+        ],
+        &[
+            "remus",
+            "check-stream",
+            "a",
+            "--pages",
+            "1",
+            "--sectors",
+            "32769",
+        ],
         &["remus"],
         &["remus", "sim"],
         &["remus", "sim", ""],
@@ -499,7 +540,7 @@ fn command_lines(rt: HostRuntime) -> Result<(), Fail> {
         for word in words {
             owned.push(String::from_str(rt.alloc(), word)?)?;
         }
-        let taken = match file_of(rt.alloc(), owned.as_slice()) {
+        let taken = match read(rt.alloc(), owned.as_slice()) {
             Ok(Some(_)) => true,
             Ok(None) => false,
             Err(_) => false,
