@@ -139,9 +139,9 @@ Means stage number (text ∷ texts) out ending =
     IsCutBefore out ending
     ⊎ (((is_silent text ≡ true) × Means stage (number + 1) texts out ending)
     ⊎ (((is_silent text ≡ false) × (first : List ℕ) × (next : Stage) × GoesOn stage text first next
-        × (((rest : List ℕ) × (out ≡ first ++ rest) × Means next (number + 1) texts rest ending) ⊎ IsCutShort first out ending))
+    × (((rest : List ℕ) × (out ≡ first ++ rest) × Means next (number + 1) texts rest ending) ⊎ IsCutShort first out ending))
     ⊎ ((is_silent text ≡ false) × (last : List ℕ) × (how : Ending) × Ends stage number text last how
-        × (((out ≡ last) × (ending ≡ how)) ⊎ IsCutShort last out ending))))
+    × (((out ≡ last) × (ending ≡ how)) ⊎ IsCutShort last out ending))))
 
 -- ---- the program
 

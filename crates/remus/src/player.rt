@@ -65,7 +65,12 @@ impl Player {
     /// # Errors
     ///
     /// A bad line, or one that is refused for want of memory; that of the writer.
-    pub fn boot<O: Write>(alloc: Global, text: &[u8], number: u64, out: &mut O) -> Result<Player, Stop>
+    pub fn boot<O: Write>(
+        alloc: Global,
+        text: &[u8],
+        number: u64,
+        out: &mut O,
+    ) -> Result<Player, Stop>
         ensures { IsLineDone unbooted number text.now result (λ player. playing player.world.value) (O.contents out.old) (O.contents out.new) }
     {
         match booted(alloc, text) {
@@ -87,7 +92,13 @@ impl Player {
     /// # Errors
     ///
     /// A bad line; that of the writer.
-    pub fn play_line<O: Write>(&mut self, alloc: Global, text: &[u8], number: u64, out: &mut O) -> Result<(), Stop>
+    pub fn play_line<O: Write>(
+        &mut self,
+        alloc: Global,
+        text: &[u8],
+        number: u64,
+        out: &mut O,
+    ) -> Result<(), Stop>
         ensures { IsLineDone (playing self.old.world.value) number text.now result (λ _. playing self.new.world.value) (O.contents out.old) (O.contents out.new) }
     {
         match read_line(alloc, text) {
