@@ -9,7 +9,8 @@ use Rattle.pair_core.specs.declared.event.Reply.{Reply}
 use Rattle.pair_core.specs.Pair.{Pair, IsConsistent}
 use Rattle.pair_core.specs.Protocol.{Answers}
 use Rattle.pair_core.specs.Runs.{steps_outcome}
-use Rattle.pair_core.specs.Start.{start_record, shown}
+use Rattle.pair_core.specs.Record.{start_record}
+use Rattle.pair_core.specs.Start.{shown}
 use Rattle.remus.specs.declared.script.Command.TheVariants.{Step, Cut, Send, Backup, Ack, Admit, Take, Sector, Show}
 use Rattle.remus.specs.Boot.{BootLine, IsBoot, BeginsBoot, booted_state}
 use Rattle.remus.specs.Command.{IsCommand}
