@@ -10,6 +10,7 @@ WHAT = {
     "sha256": 'The SHA-256 of "abc".',
     "division": "Compares the division instructions with long division.",
     "disk": "Writes 200 sectors of the disk, reads them back, and sends their hash.",
+    "ping": "Answers ARP requests for 10.0.0.1, and ICMP echo requests to it.",
 }
 
 lines = [

@@ -5,6 +5,7 @@ mod disk;
 mod interrupts;
 mod loads;
 mod network;
+mod ping;
 mod program_words;
 mod programs;
 mod refusals;

@@ -1,0 +1,163 @@
+//! The guest of `guests/ping.c`, which its card's interrupts drive. The frames are those of `examples/ping.sim`, and the answers those
+//! of `examples/ping.expected`: Python's (`guests/examples.py`).
+
+use super::program_words::PING;
+use super::{assert_bytes, boot_shape, run, words};
+use crate::{Frame, Machine, Shape};
+use std::alloc::Global;
+use std::process::Abort;
+use std::test::Fail;
+
+/// Who has 10.0.0.1? The broadcast of 10.0.0.2, which is client 1.
+const ARP_REQUEST: [u8; 42] = [
+    0xff, 0xff, 0xff, 0xff, 0xff, 0xff, 0x02, 0x00, 0x00, 0x00, 0x01, 0x01, 0x08, 0x06, 0x00, 0x01,
+    0x08, 0x00, 0x06, 0x04, 0x00, 0x01, 0x02, 0x00, 0x00, 0x00, 0x01, 0x01, 0x0a, 0x00, 0x00, 0x02,
+    0x00, 0x00, 0x00, 0x00, 0x00, 0x00, 0x0a, 0x00, 0x00, 0x01,
+];
+
+/// The guest's answer: 10.0.0.1 is at 02:00:00:00:00:01.
+const ARP_REPLY: [u8; 42] = [
+    0x02, 0x00, 0x00, 0x00, 0x01, 0x01, 0x02, 0x00, 0x00, 0x00, 0x00, 0x01, 0x08, 0x06, 0x00, 0x01,
+    0x08, 0x00, 0x06, 0x04, 0x00, 0x02, 0x02, 0x00, 0x00, 0x00, 0x00, 0x01, 0x0a, 0x00, 0x00, 0x01,
+    0x02, 0x00, 0x00, 0x00, 0x01, 0x01, 0x0a, 0x00, 0x00, 0x02,
+];
+
+/// Client 1 pings the guest, with the text "is anyone there?".
+const ECHO_REQUEST: [u8; 58] = [
+    0x02, 0x00, 0x00, 0x00, 0x00, 0x01, 0x02, 0x00, 0x00, 0x00, 0x01, 0x01, 0x08, 0x00, 0x45, 0x00,
+    0x00, 0x2c, 0x00, 0x07, 0x40, 0x00, 0x3d, 0x01, 0x29, 0xc8, 0x0a, 0x00, 0x00, 0x02, 0x0a, 0x00,
+    0x00, 0x01, 0x08, 0x00, 0x7b, 0x9e, 0x70, 0x69, 0x00, 0x01, 0x69, 0x73, 0x20, 0x61, 0x6e, 0x79,
+    0x6f, 0x6e, 0x65, 0x20, 0x74, 0x68, 0x65, 0x72, 0x65, 0x3f,
+];
+
+/// The guest's answer, with the same text.
+const ECHO_REPLY: [u8; 58] = [
+    0x02, 0x00, 0x00, 0x00, 0x01, 0x01, 0x02, 0x00, 0x00, 0x00, 0x00, 0x01, 0x08, 0x00, 0x45, 0x00,
+    0x00, 0x2c, 0x00, 0x07, 0x40, 0x00, 0x40, 0x01, 0x26, 0xc8, 0x0a, 0x00, 0x00, 0x01, 0x0a, 0x00,
+    0x00, 0x02, 0x00, 0x00, 0x83, 0x9e, 0x70, 0x69, 0x00, 0x01, 0x69, 0x73, 0x20, 0x61, 0x6e, 0x79,
+    0x6f, 0x6e, 0x65, 0x20, 0x74, 0x68, 0x65, 0x72, 0x65, 0x3f,
+];
+
+/// A ping whose last byte is another than its checksum says.
+const DAMAGED_REQUEST: [u8; 58] = [
+    0x02, 0x00, 0x00, 0x00, 0x00, 0x01, 0x02, 0x00, 0x00, 0x00, 0x01, 0x01, 0x08, 0x00, 0x45, 0x00,
+    0x00, 0x2c, 0x00, 0x07, 0x40, 0x00, 0x3d, 0x01, 0x29, 0xc8, 0x0a, 0x00, 0x00, 0x02, 0x0a, 0x00,
+    0x00, 0x01, 0x08, 0x00, 0x7b, 0x9d, 0x70, 0x69, 0x00, 0x02, 0x69, 0x73, 0x20, 0x61, 0x6e, 0x79,
+    0x6f, 0x6e, 0x65, 0x20, 0x74, 0x68, 0x65, 0x72, 0x65, 0x21,
+];
+
+/// A ping to 10.0.0.9.
+const OTHERS_REQUEST: [u8; 58] = [
+    0x02, 0x00, 0x00, 0x00, 0x00, 0x01, 0x02, 0x00, 0x00, 0x00, 0x01, 0x01, 0x08, 0x00, 0x45, 0x00,
+    0x00, 0x2c, 0x00, 0x07, 0x40, 0x00, 0x3d, 0x01, 0x29, 0xc0, 0x0a, 0x00, 0x00, 0x02, 0x0a, 0x00,
+    0x00, 0x09, 0x08, 0x00, 0x7b, 0x9c, 0x70, 0x69, 0x00, 0x03, 0x69, 0x73, 0x20, 0x61, 0x6e, 0x79,
+    0x6f, 0x6e, 0x65, 0x20, 0x74, 0x68, 0x65, 0x72, 0x65, 0x3f,
+];
+
+/// The guest at boot, with a disk of two sectors.
+fn booted(rt: &impl Abort, alloc: Global) -> Result<Box<Machine>, Fail> {
+    let image = words(alloc, &PING)?;
+    let shape = Shape {
+        pages: 32,
+        sectors: 2,
+    };
+    boot_shape(rt, alloc, shape, &image)
+}
+
+/// The guest takes a frame of these bytes.
+fn takes(rt: &impl Abort, machine: &mut Machine, bytes: &[u8]) {
+    let mut frame = Frame::new();
+    assert!(rt; frame.try_extend_from_slice(bytes).is_ok());
+    assert!(rt; frame.len() >= 14);
+    assert!(rt; machine.arrive(&frame));
+}
+
+/// The outbox holds one frame, of these bytes; a cut takes it out.
+fn sent(rt: &impl Abort, machine: &mut Machine, bytes: &[u8]) {
+    let outbox = machine.outbox();
+    assert_eq!(rt; outbox.len(), 1);
+    assert_eq!(rt; outbox[0].as_slice(), bytes);
+    machine.settle();
+}
+
+#[test]
+fn answers_arp_and_pings(rt: HostRuntime) -> Result<(), Fail> {
+    let mut machine = booted(&rt, rt.alloc())?;
+    run(&rt, &mut machine, 5000);
+    assert!(rt; machine.outbox().is_empty());
+    takes(&rt, &mut machine, &ARP_REQUEST);
+    run(&rt, &mut machine, 2000);
+    sent(&rt, &mut machine, &ARP_REPLY);
+    takes(&rt, &mut machine, &ECHO_REQUEST);
+    run(&rt, &mut machine, 3000);
+    sent(&rt, &mut machine, &ECHO_REPLY);
+    takes(&rt, &mut machine, &DAMAGED_REQUEST);
+    takes(&rt, &mut machine, &OTHERS_REQUEST);
+    run(&rt, &mut machine, 5000);
+    assert!(rt; machine.outbox().is_empty());
+    // the driver acknowledged the last interrupt, and the card isn't broken
+    assert_eq!(rt; machine.net().interrupt_status, 0);
+    assert_eq!(rt; machine.net().status, 0x0f);
+    Ok(())
+}
+
+#[test]
+fn a_state_is_put_back(rt: HostRuntime) -> Result<(), Fail> {
+    let mut machine = booted(&rt, rt.alloc())?;
+    run(&rt, &mut machine, 5000);
+    let state = machine.state();
+    machine.put_state(&state);
+    assert_eq!(rt; machine.state(), state);
+    // the guest only waits, so its memory stays as it is
+    run(&rt, &mut machine, 10);
+    assert_eq!(rt; machine.steps(), 5010);
+    machine.put_state(&state);
+    assert_eq!(rt; machine.steps(), 5000);
+    assert_eq!(rt; machine.state(), state);
+    takes(&rt, &mut machine, &ARP_REQUEST);
+    run(&rt, &mut machine, 2000);
+    sent(&rt, &mut machine, &ARP_REPLY);
+    Ok(())
+}
+
+/// Turns each bit of the second block of the first page.
+fn turn_block(rt: &impl Abort, machine: &mut Machine) {
+    assert!(rt; machine.ram_size() >= 8192);
+    machine.xor_block(0, 1, &[0xff; 64]);
+}
+
+/// The first page counts as written, and the second doesn't.
+fn assert_first_written(rt: &impl Abort, machine: &Machine) {
+    assert!(rt; machine.ram_size() >= 8192);
+    assert!(rt; machine.dirty(0));
+    assert!(rt; !machine.dirty(1));
+}
+
+#[test]
+fn a_block_is_turned_and_turned_back(rt: HostRuntime) -> Result<(), Fail> {
+    let mut machine = booted(&rt, rt.alloc())?;
+    turn_block(&rt, &mut machine);
+    for (i, word) in PING.iter().enumerate() {
+        let want = if i / 16 == 1 { !*word } else { *word };
+        assert_bytes(&rt, &machine, 4 * i, &want.to_le_bytes());
+    }
+    assert_first_written(&rt, &machine);
+    turn_block(&rt, &mut machine);
+    for (i, word) in PING.iter().enumerate() {
+        assert_bytes(&rt, &machine, 4 * i, &word.to_le_bytes());
+    }
+    assert_first_written(&rt, &machine);
+    Ok(())
+}
+
+#[test]
+fn a_sector_is_put(rt: HostRuntime) -> Result<(), Fail> {
+    let mut machine = booted(&rt, rt.alloc())?;
+    assert_eq!(rt; machine.sectors(), 2);
+    machine.put_sector(1, &[0xab; 512]);
+    assert_eq!(rt; machine.dirty_sectors(), [1].as_slice());
+    assert_eq!(rt; machine.sectors(), 2);
+    assert_eq!(rt; machine.sector(0).as_slice(), [0; 512].as_slice());
+    assert_eq!(rt; machine.sector(1).as_slice(), [0xab; 512].as_slice());
+    Ok(())
+}
