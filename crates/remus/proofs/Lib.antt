@@ -10,3 +10,4 @@ pub mod DiskLemmas
 mod MeaningLemmas
 mod LineLemmas
 mod ScriptLemmas
+mod ReplyLemmas

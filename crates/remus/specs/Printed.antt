@@ -1,7 +1,7 @@
 -- The lines that are printed.
-use Rattle.std.specs.Prelude.{ℕ, ◌^◌, nat_lt, if◌then◌else◌, ◌++◌, ◌∷◌, [], List, Option, Some, None, codes, decimal}
+use Rattle.std.specs.Prelude.{ℕ, ◌<◌, ◌^◌, nat_lt, if◌then◌else◌, ◌++◌, ◌∷◌, [], List, Option, Some, None, codes, decimal}
 use Rattle.std.specs.List.{join_with_byte}
-use Rattle.hex.specs.Hex.{encode_lower}
+use Rattle.hex.specs.Hex.{encode_lower, IsBytes}
 use Rattle.pair_core.specs.Pair.{Pair}
 use Rattle.pair_core.specs.Start.{shown_sector}
 use Rattle.pair_core.specs.declared.event.Refusal.{Refusal}
@@ -34,6 +34,19 @@ reply_line (Delivered n) = line (codes "delivered" ∷ decimal n ∷ [])
 reply_line (Took None) = line (codes "none" ∷ [])
 reply_line (Took (Some frame)) = line (codes "frame" ∷ encode_lower frame.items ∷ [])
 reply_line (Refused refusal) = refusal_line refusal
+
+-- The numbers are what 64 bits hold, and a frame's items are bytes.
+abbrev pub IsPlain : Reply → Type 0
+IsPlain (Steps n) = n < 2 ^ 64
+IsPlain (Cut g n) = (g < 2 ^ 64) × (n < 2 ^ 64)
+IsPlain (Sent k) = k < 2 ^ 64
+IsPlain (Committed g n) = (g < 2 ^ 64) × (n < 2 ^ 64)
+IsPlain (Again g n) = (g < 2 ^ 64) × (n < 2 ^ 64)
+IsPlain (Acked g n m) = (g < 2 ^ 64) × (n < 2 ^ 64) × (m < 2 ^ 64)
+IsPlain (Admitted n) = n < 2 ^ 64
+IsPlain (Delivered n) = n < 2 ^ 64
+IsPlain (Took (Some frame)) = IsBytes frame.items
+IsPlain reply = Unit {0}
 
 -- the state in one line
 abbrev pub show_line : Show → List ℕ

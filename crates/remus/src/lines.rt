@@ -26,6 +26,9 @@ pub enum Line {
 pub fn read_line(alloc: Global, text: &[u8]) -> Result<Option<Line>, AllocError>
     // What is read is spelled so.
     ensures found { IfOk result (λ found. IfSome found (λ line. IsLine text.now (line_of line))) }
+    // Whatever the text spells is what was read.
+    ensures exact { IfOk result (λ found. IfSome found (λ line.
+        (other : SpelledLine) → IsLine text.now other → other ≡ line_of line)) }
     // Where nothing is read, nothing is spelled.
     ensures none { IfOk result (λ found. IfNone found ((line : SpelledLine) → IsLine text.now line → ⊥)) }
     ensures err { OnErr result (BeginsDelivery text.now) }

@@ -2,8 +2,9 @@
 
 ghost use Rattle.std.specs.Prelude.{◌≡◌, ◌∷◌, [], OnOk, codes, decimal};
 ghost use Rattle.std.specs.Io.KnownBytes.{Appends};
-ghost use Rattle.hex.specs.Hex.{encode_lower};
-ghost use Rattle.remus.specs.Printed.{line, refusal_line, reply_line, sector_line, show_line};
+ghost use Rattle.hex.specs.Hex.{encode_lower, IsBytes};
+ghost use Rattle.pair_core.specs.declared.event.Reply.{Reply};
+ghost use Rattle.remus.specs.Printed.{IsPlain, line, refusal_line, reply_line, sector_line, show_line};
 
 use pair_core::{Frame, Refusal, Reply, SECTOR_BYTES, Show};
 use std::io::{Result, Write};
@@ -17,12 +18,14 @@ const MOST_BYTES: usize = 1514;
 ///
 /// That of the writer.
 pub fn write_reply<W: Write>(out: &mut W, reply: &Reply) -> Result<()>
-    ensures { OnOk result (Appends (W.contents out.old) (W.contents out.new) (reply_line reply.now)) }
+    ensures printed { OnOk result (Appends (W.contents out.old) (W.contents out.new) (reply_line reply.now)) }
+    // Whoever reads the line knows which reply it was.
+    ensures readable { (other : Reply) → IsPlain other → reply_line other ≡ reply_line reply.now → other ≡ reply.now }
 {
     match reply {
-        Reply::Steps(steps) => writeln!(out, "steps {steps}"),
+        Reply::Steps(steps) => write_number(out, "steps", *steps),
         Reply::Cut { generation, number } => write_checkpoint(out, "cut", *generation, *number),
-        Reply::Sent(packets) => writeln!(out, "sent {packets}"),
+        Reply::Sent(packets) => write_number(out, "sent", *packets),
         Reply::Committed { generation, number } => {
             write_checkpoint(out, "committed", *generation, *number)
         }
@@ -32,10 +35,10 @@ pub fn write_reply<W: Write>(out: &mut W, reply: &Reply) -> Result<()>
             generation,
             number,
             landed,
-        } => writeln!(out, "acked {generation} {number} landed {landed}"),
-        Reply::Admitted(number) => writeln!(out, "admitted {number}"),
+        } => write_acked(out, *generation, *number, *landed),
+        Reply::Admitted(number) => write_number(out, "admitted", *number),
         Reply::Empty => writeln!(out, "empty"),
-        Reply::Delivered(number) => writeln!(out, "delivered {number}"),
+        Reply::Delivered(number) => write_number(out, "delivered", *number),
         Reply::Took(Some(frame)) => write_frame(out, frame),
         Reply::Took(None) => writeln!(out, "none"),
         Reply::Refused(refusal) => write_refusal(out, *refusal),
@@ -91,6 +94,21 @@ pub fn write_sector<W: Write>(out: &mut W, sector: u64, bytes: &[u8; SECTOR_BYTE
     out.write_all(b"\n")
 }
 
+/// Prints what happened, and one number.
+fn write_number<W: Write>(out: &mut W, event: &str, number: u64) -> Result<()>
+    ensures { OnOk result (Appends (W.contents out.old) (W.contents out.new) (line (event.now ∷ decimal number ∷ []))) }
+{
+    writeln!(out, "{event} {number}")
+}
+
+/// Prints up to which checkpoint all are acknowledged, and how many frames landed.
+fn write_acked<W: Write>(out: &mut W, generation: u64, number: u64, landed: u64) -> Result<()>
+    ensures { OnOk result (Appends (W.contents out.old) (W.contents out.new)
+        (line (codes "acked" ∷ decimal generation ∷ decimal number ∷ codes "landed" ∷ decimal landed ∷ []))) }
+{
+    writeln!(out, "acked {generation} {number} landed {landed}")
+}
+
 /// Prints what happened to a checkpoint, and which one it is.
 fn write_checkpoint<W: Write>(out: &mut W, event: &str, generation: u64, number: u64) -> Result<()>
     ensures { OnOk result (Appends (W.contents out.old) (W.contents out.new)
@@ -101,7 +119,8 @@ fn write_checkpoint<W: Write>(out: &mut W, event: &str, generation: u64, number:
 
 /// Prints `frame` and the bytes in lower case hex.
 fn write_frame<W: Write>(out: &mut W, frame: &Frame) -> Result<()>
-    ensures { OnOk result (Appends (W.contents out.old) (W.contents out.new) (line (codes "frame" ∷ encode_lower frame.now.items ∷ []))) }
+    ensures bytes { IsBytes frame.now.items }
+    ensures printed { OnOk result (Appends (W.contents out.old) (W.contents out.new) (line (codes "frame" ∷ encode_lower frame.now.items ∷ []))) }
 {
     let bytes = frame.as_slice();
     let mut digits = [0; 2 * MOST_BYTES];
