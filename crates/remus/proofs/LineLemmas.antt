@@ -1,9 +1,12 @@
 -- The lines of a text, one by one.
 use Rattle.std.proofs.Common.{◌≡◌, ◌≤◌, ◌<◌, ◌+◌, ◌-◌, ℕ, suc, List, [], ◌∷◌, length, take, drop, Bool, true, false, cond, Option, None, Some, Bor, subst, refl, sym, ap, ◌∙◌, arith, length-drop}
-use Rattle.std.specs.Prelude.{not, nat_lt, position, ◌==◌}
+use Rattle.std.specs.Prelude.{not, nat_lt, position, slice_index, ◌==◌}
 use Rattle.std.specs.Option.{option_map}
 use Rattle.std.specs.List.{slice_split, onto_first, position_or_len}
+use Rattle.memchr.specs.Find.{IsFirstByte, is_byte}
+use Rattle.std.proofs.lemmas.Bool.{false_from_ne_true}
 use Rattle.std.proofs.lemmas.Bool.Decides.{nat_tests}
+use Rattle.std.proofs.lemmas.List.Sums.{position_or_len_is}
 use Rattle.std.proofs.lemmas.List.Splits.{slice_split_first, slice_split_none, slice_split-cons_no}
 use Rattle.std.proofs.Math.Seq.{take-length}
 use Rattle.remus.specs.Meaning.{lines_of}
@@ -55,3 +58,21 @@ module _ (xs : List ℕ) where
 
   pub last-line : position is_newline xs ≡ None → lines_of xs ≡ xs ∷ []
   last-line e = past-newline (nat_lt end_of (length xs)) refl e
+
+-- the first place of a newline, as memchr finds it
+pub first-place : (xs : List ℕ) (r : Option ℕ) → IsFirstByte (is_byte 10) xs r → r ≡ position is_newline xs
+first-place xs None h =
+    let apart : (k : ℕ) → k < length xs → is_newline (slice_index xs k) ≡ false =
+    λ k l. false_from_ne_true (is_newline (slice_index xs k)) (λ e. h k (omega arith) l e) in
+    let all : position_or_len is_newline xs ≡ length xs =
+    position_or_len_is is_newline xs (length xs) 0 (omega arith) apart (λ l. absurd (omega arith)) in
+    let past : nat_lt (length xs) (length xs) ≡ false = grind (arith, nat_tests) in
+    sym (ap (λ n. cond (nat_lt n (length xs)) (Some n) None) all ∙ ap (λ b. cond b (Some (length xs)) None) past)
+first-place xs (Some k) h =
+    let apart : (i : ℕ) → i < k → is_newline (slice_index xs i) ≡ false =
+    λ i l. false_from_ne_true (is_newline (slice_index xs i)) (λ e. h.0.before i (omega arith) l e) in
+    let within : k < length xs = h.0.high in
+    let first : position_or_len is_newline xs ≡ k =
+    position_or_len_is is_newline xs k 0 (omega arith) apart (λ l. h.1) in
+    let before : nat_lt k (length xs) ≡ true = grind (arith, nat_tests) in
+    sym (ap (λ n. cond (nat_lt n (length xs)) (Some n) None) first ∙ ap (λ b. cond b (Some k) None) before)

@@ -8,6 +8,7 @@ ghost use Rattle.remus.specs.Playing.{IsPlayedTo, IsLineDone, stage_of};
 
 use crate::output::put;
 use crate::player::{Player, Stop};
+use memchr::memchr;
 use std::alloc::Global;
 use std::io;
 use std::io::Write;
@@ -106,7 +107,7 @@ fn first_line(text: &[u8]) -> (&[u8], Option<&[u8]>)
 fn first_newline(text: &[u8]) -> Option<usize>
     ensures { result ≡ position (λ byte. byte == 10) text.now }
 {
-    text.iter().position(|byte| *byte == b'\n')
+    memchr(b'\n', text)
 }
 
 /// Whether a line prints nothing: it is empty, or a comment.
