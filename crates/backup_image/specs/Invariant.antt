@@ -1,5 +1,5 @@
 -- What is true of each image, by the parts that it keeps.
-use Rattle.std.specs.Prelude.{◌≡◌, ℕ, ◌+◌, ◌*◌, ◌^◌, ◌<◌, [], length, Option, Some, None, Ok}
+use Rattle.std.specs.Prelude.{◌≡◌, ◌*◌, ◌^◌, ◌<◌, [], length, Option, Some, None, Ok}
 use Rattle.guest_machine.specs.declared.shapes.Shape.{Shape}
 use Rattle.guest_machine.specs.Guest.{State, boot_guest}
 use Rattle.epoch_snapshot.specs.Checkpoints.{Change}
