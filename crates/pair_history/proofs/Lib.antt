@@ -2,6 +2,10 @@ pub mod States
 pub mod Waiting
 pub mod Moves
 pub mod LandingLaws
+pub mod ReachedLaws
+pub mod OwedLaws
+pub mod TakenInLaws
+pub mod FailureLaws
 pub mod Parts
 pub mod ClientLists
 pub mod AccountLaws
