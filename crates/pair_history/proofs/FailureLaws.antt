@@ -9,11 +9,11 @@ use Rattle.guest_machine.specs.Step.{next, sent}
 use Rattle.frame_ports.specs.Addresses.{targets_of}
 use Rattle.frame_ports.proofs.AddressLaws.{length-targets_of}
 use Rattle.frame_ports.specs.Lands.{list_of, landed_at, lands}
-use Rattle.pair_history.specs.Entries.{Frame, Entry, Ran, DropIn, DropOut}
+use Rattle.pair_history.specs.Entries.{Frame, Entry, Ran, Arrive, DropIn, DropOut}
 use Rattle.pair_history.specs.HistoryState.{HistoryState, at, after, Legal, IsClient, out_of, out_without}
 use Rattle.pair_history.specs.Landings.{landings}
 use Rattle.pair_history.specs.Order.{AreGuests}
-use Rattle.pair_history.specs.Reached.{IsReached}
+use Rattle.pair_history.specs.Reached.{AllClients, IsReached}
 use Rattle.pair_history.specs.Released.{DropsBoxed, DropsOnWay, Nothing, effect_on, Account, booked, goes_on}
 use Rattle.pair_history.specs.Failures.{arrived_numbers, rising, drops_of_taken_in, drops_of_owed_to, drops_of_owed_from, drops_of_owed}
 use Rattle.pair_history.specs.Failures.{go_live_entries, all_land, fail_backup_entries, alone_step_entries, dropped_numbers}
@@ -29,29 +29,34 @@ use Rattle.pair_history.proofs.TakenInLaws.{without_numbers, taken_in_dropped, a
 abbrev pub live_state : HistoryState → List Entry → HistoryState
 live_state s kept = record s { waiting = (at s kept).waiting; out = [] }
 
-pub goes_live : (s : HistoryState) (kept : List Entry) → IsReached s → AreGuests kept → Legal s kept
+pub goes_live : (s : HistoryState) (kept : List Entry) → AllClients (length s.boxes) s.out → AreGuests kept → Legal s kept
     → Legal s (go_live_entries s kept) × (at s (go_live_entries s kept) ≡ live_state s kept)
-goes_live s kept h k legal =
+goes_live s kept clients k legal =
     let ins = taken_in_dropped s kept k legal in
     let t : HistoryState = record s { waiting = (at s kept).waiting } in
-    let outs = owed_dropped t h.clients in
+    let outs = owed_dropped t clients in
     let es = drops_of_taken_in kept in
     let fs = drops_of_owed s in (
       Legal-append s es fs ins.0 (subst (λ (u : HistoryState). Legal u fs) (sym ins.1) outs.0.0),
       at-append s es fs ∙ ap (λ u. at u fs) ins.1 ∙ outs.0.1,
     )
 
-pub go_live_count : (s : HistoryState) (kept : List Entry) → IsReached s
+pub go_live_count : (s : HistoryState) (kept : List Entry) → AllClients (length s.boxes) s.out
     → length (go_live_entries s kept) ≡ length (arrived_numbers kept) + length s.out
-go_live_count s kept h =
+go_live_count s kept clients =
     let ns = arrived_numbers kept in
     omega (
       arith,
       length-append (drops_of_taken_in kept) (drops_of_owed s),
       length-map (rising ns) DropIn,
       length_permutation ns (rising ns) (IsPermutation-rising ns),
-      (owed_dropped s h.clients).1,
+      (owed_dropped s clients).1,
     )
+
+-- two clients, of whom the first has a frame in its box, and a frame on its way to the first between two to the second
+pub two_clients : (s : HistoryState) (b f g h : Frame) → s.boxes ≡ (b ∷ []) ∷ [] ∷ [] → s.out ≡ (2, f) ∷ (1, g) ∷ (2, h) ∷ []
+    → go_live_entries s (Ran ∷ Arrive 5 ∷ Ran ∷ Arrive 3 ∷ []) ≡ DropIn 3 ∷ DropIn 5 ∷ DropOut 1 1 ∷ DropOut 2 0 ∷ DropOut 2 0 ∷ []
+two_clients s b f g h boxes out = λ i. DropIn 3 ∷ DropIn 5 ∷ drops_of_owed_from (length (boxes i)) 1 (boxes i) (out i)
 
 -- which frames are dropped before they arrive
 

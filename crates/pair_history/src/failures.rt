@@ -4,7 +4,7 @@ ghost use Rattle.std.specs.List.Sorted.{IsPermutation, IsStrictlyIncreasing};
 ghost use Rattle.guest_machine.specs.Step.{next, sent};
 ghost use Rattle.frame_ports.specs.Addresses.{targets_of};
 ghost use Rattle.frame_ports.specs.Lands.{lands};
-ghost use Rattle.pair_history.specs.Entries.{Entry, Ran};
+ghost use Rattle.pair_history.specs.Entries.{Frame, Entry, Ran, Arrive, DropIn, DropOut};
 ghost use Rattle.pair_history.specs.HistoryState.{HistoryState, IsClient, at, Legal, start_state};
 ghost use Rattle.pair_history.specs.Landings.{landings};
 ghost use Rattle.pair_history.specs.Order.{AreGuests};
@@ -42,6 +42,10 @@ pub fn going_live_drops_frames()
         ≡ record (account s es c) { on_way = []; dropped = (account s es c).dropped ++ (account s es c).on_way } }
     ensures count { (s : HistoryState) (kept : List Entry) → IsReached s
         → length (go_live_entries s kept) ≡ length (arrived_numbers kept) + length s.out }
+    // Two clients, of whom the first has a frame in its box, and a frame on its way to the first between two to the second.
+    ensures example { (s : HistoryState) (b f g h : Frame) → s.boxes ≡ (b ∷ []) ∷ [] ∷ [] → s.out ≡ (2, f) ∷ (1, g) ∷ (2, h) ∷ []
+        → go_live_entries s (Ran ∷ Arrive 5 ∷ Ran ∷ Arrive 3 ∷ [])
+        ≡ DropIn 3 ∷ DropIn 5 ∷ DropOut 1 1 ∷ DropOut 2 0 ∷ DropOut 2 0 ∷ [] }
 {}
 
 /// Where the backup fails, all that was kept stays in the history, and then all that is on its way lands, in the order sent: it goes

@@ -6,14 +6,14 @@ use Rattle.pair_history.specs.Released.{Sent, account, empty_account, frames}
 use Rattle.pair_history.specs.Failures.{arrived_numbers, go_live_entries}
 use Rattle.pair_history.proofs.AccountLaws.{account-append, on_way-is}
 use Rattle.pair_history.proofs.TakenInLaws.{IsPermutation-rising, taken_in_rises}
-use Rattle.pair_history.proofs.FailureLaws.{goes_live, go_live_numbers, go_live_account, go_live_count}
+use Rattle.pair_history.proofs.FailureLaws.{goes_live, go_live_numbers, go_live_account, go_live_count, two_clients}
 use Rattle.pair_history.proofs.failures.going_live_drops_frames.Goals as goal
 
 pub returns-clause-legal : goal.returns-clause-legal
-returns-clause-legal c s kept h k legal = (goes_live s kept h k legal).0
+returns-clause-legal c s kept h k legal = (goes_live s kept h.clients k legal).0
 
 pub returns-clause-state : goal.returns-clause-state
-returns-clause-state c s kept h k legal = (goes_live s kept h k legal).1
+returns-clause-state c s kept h k legal = (goes_live s kept h.clients k legal).1
 
 pub returns-clause-taken_in : goal.returns-clause-taken_in
 returns-clause-taken_in c s kept =
@@ -36,4 +36,7 @@ returns-clause-owed c s es kept client fresh is_client =
     ∙ go_live_account client (at s es) kept (length es + 0) a is_client as_many
 
 pub returns-clause-count : goal.returns-clause-count
-returns-clause-count c = go_live_count
+returns-clause-count c s kept h = go_live_count s kept h.clients
+
+pub returns-clause-example : goal.returns-clause-example
+returns-clause-example c = two_clients
