@@ -5,6 +5,8 @@ pub mod LandingLaws
 pub mod ReachedLaws
 pub mod OwedLaws
 pub mod TakenInLaws
+pub mod FateLaws
+pub mod AddressedLaws
 pub mod FailureLaws
 pub mod Parts
 pub mod ClientLists

@@ -5,6 +5,7 @@ pub mod Landings
 pub mod Moves
 pub mod Reached
 pub mod Failures
+pub mod Fates
 pub mod Log
 pub mod LogFields
 pub mod Released
