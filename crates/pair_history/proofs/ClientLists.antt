@@ -19,7 +19,7 @@ out_of-append c (p ∷ ps) qs =
     ap (λ fs. cond (p.0 == c) (p.1 ∷ fs) fs) (out_of-append c ps qs) ∙ cond_more (p.0 == c) p.1 (out_of c ps) (out_of c qs)
 
 -- without one that is for this client
-out_of-own : (c place : ℕ) (ps : List (ℕ × Frame)) → out_of c (out_without c place ps) ≡ remove (out_of c ps) place
+pub out_of-own : (c place : ℕ) (ps : List (ℕ × Frame)) → out_of c (out_without c place ps) ≡ remove (out_of c ps) place
 out_of-own c zero [] = refl
 out_of-own c (suc place) [] = refl
 out_of-own c zero (p ∷ ps) = by_test (p.0 == c) refl (out_of-own c zero ps)

@@ -17,6 +17,7 @@ use Rattle.pair_history.specs.HistoryState.{HistoryState, at, after, Legal, Allo
 use Rattle.pair_history.specs.Landings.{landings}
 use Rattle.pair_history.specs.Landings.{DropsAtFull}
 use Rattle.pair_history.specs.Landings.{BoxesFit}
+pub use Rattle.pair_history.specs.Reached.{AllClients}
 
 -- boxes keep their number and their limit
 
@@ -44,10 +45,6 @@ BoxesFit-lands bs [] h = h
 BoxesFit-lands bs (p ∷ ps) h = BoxesFit-lands (landed_at bs p.0 p.1) ps (BoxesFit-landed_at bs p.0 p.1 h)
 
 -- each pair's client is one of n
-abbrev pub AllClients : ℕ → List (ℕ × Frame) → Type 0
-AllClients n [] = Unit {0}
-AllClients n (p ∷ ps) = (1 ≤ p.0) × (p.0 ≤ n) × AllClients n ps
-
 AllClients-from : (n : ℕ) (ps : List (ℕ × Frame)) → All (λ p. (1 ≤ p.0) × (p.0 ≤ n)) ps → AllClients n ps
 AllClients-from n [] h = tt
 AllClients-from n (p ∷ ps) h =

@@ -2,6 +2,12 @@ pub mod States
 pub mod Waiting
 pub mod Moves
 pub mod LandingLaws
+pub mod ReachedLaws
+pub mod OwedLaws
+pub mod TakenInLaws
+pub mod FateLaws
+pub mod AddressedLaws
+pub mod FailureLaws
 pub mod Parts
 pub mod ClientLists
 pub mod AccountLaws

@@ -3,6 +3,9 @@ pub mod HistoryState
 pub mod Order
 pub mod Landings
 pub mod Moves
+pub mod Reached
+pub mod Failures
+pub mod Fates
 pub mod Log
 pub mod LogFields
 pub mod Released

@@ -4,11 +4,17 @@
 //! histories are legal, the state that a history leads to, and what it gave to each client.
 #![tactic(auto)]
 
+mod failures;
+mod fates;
 mod history;
 mod laws;
 #[cfg(test)]
 mod tests;
 
+pub use failures::{
+    failing_backup_lets_all_land, going_live_drops_frames, reached_states, steps_alone_land_at_once,
+};
+pub use fates::{delivered_frames_have_one_fate, sent_frames_go_by_address};
 pub use frame_ports::Frame;
 pub use history::{Entry, History};
 pub use laws::{client_entries_go_first, released_frames_were_sent};

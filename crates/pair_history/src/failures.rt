@@ -1,0 +1,74 @@
+//! What a failure does to the history: it stays that of one guest that never fails, behind a line that may drop frames.
+ghost use Rattle.std.specs.Prelude.{◌≡◌, ℕ, ◌+◌, ◌*◌, ◌≤◌, ◌++◌, List, [], ◌∷◌, length};
+ghost use Rattle.std.specs.List.Sorted.{IsPermutation, IsStrictlyIncreasing};
+ghost use Rattle.guest_machine.specs.Step.{next, sent};
+ghost use Rattle.frame_ports.specs.Addresses.{targets_of};
+ghost use Rattle.frame_ports.specs.Lands.{lands};
+ghost use Rattle.pair_history.specs.Entries.{Frame, Entry, Ran, Arrive, DropIn, DropOut};
+ghost use Rattle.pair_history.specs.HistoryState.{HistoryState, IsClient, at, Legal, start_state};
+ghost use Rattle.pair_history.specs.Landings.{landings};
+ghost use Rattle.pair_history.specs.Order.{AreGuests};
+ghost use Rattle.pair_history.specs.Released.{account, IsFresh};
+ghost use Rattle.pair_history.specs.Reached.{IsReached};
+ghost use Rattle.pair_history.specs.Failures.{arrived_numbers, dropped_numbers, go_live_entries, fail_backup_entries, alone_step_entries};
+
+use guest_machine::sent_frames;
+
+/// From where a pair starts, a legal history leads only to states in which the frames that wait have rising numbers below the next
+/// one, each frame on its way is for a client that there is, and no box holds more than it has room for.
+pub fn reached_states()
+    ensures start { (pages sectors : ℕ) (image : List ℕ) (clients : ℕ) → IsReached (start_state pages sectors image clients) }
+    ensures goes_on { (s : HistoryState) (es : List Entry) → IsReached s → Legal s es → IsReached (at s es) }
+{}
+
+/// Where the primary fails and the backup goes live, the entries that were kept are discarded, and what is added to the history in
+/// their place drops frames and does nothing else.
+///
+/// The guest is that of the history, as if nothing had been kept. What waits for it is what waited after the kept entries, so that
+/// no inbox changes: the frames that they had taken in are dropped, each once, by rising number, and no others. Nothing is on its way
+/// to a client any more: of each client's account, all that was on its way is dropped, from the front, and what was released to it, what
+/// lies in its box and what it took stay. There are as many entries as frames that were taken in, or on their way.
+pub fn going_live_drops_frames()
+    ensures legal { (s : HistoryState) (kept : List Entry) → IsReached s → AreGuests kept → Legal s kept
+        → Legal s (go_live_entries s kept) }
+    ensures state { (s : HistoryState) (kept : List Entry) → IsReached s → AreGuests kept → Legal s kept
+        → at s (go_live_entries s kept) ≡ record s { waiting = (at s kept).waiting; out = [] } }
+    ensures taken_in { (s : HistoryState) (kept : List Entry)
+        → IsPermutation (arrived_numbers kept) (dropped_numbers (go_live_entries s kept)) }
+    ensures rising { (s : HistoryState) (kept : List Entry) → IsReached s → AreGuests kept → Legal s kept
+        → IsStrictlyIncreasing (dropped_numbers (go_live_entries s kept)) }
+    ensures owed { (s : HistoryState) (es kept : List Entry) (c : ℕ) → IsFresh s → IsClient (at s es) c
+        → account s (es ++ go_live_entries (at s es) kept) c
+        ≡ record (account s es c) { on_way = []; dropped = (account s es c).dropped ++ (account s es c).on_way } }
+    ensures count { (s : HistoryState) (kept : List Entry) → IsReached s
+        → length (go_live_entries s kept) ≡ length (arrived_numbers kept) + length s.out }
+    // Two clients, of whom the first has a frame in its box, and a frame on its way to the first between two to the second.
+    ensures example { (s : HistoryState) (b f g h : Frame) → s.boxes ≡ (b ∷ []) ∷ [] ∷ [] → s.out ≡ (2, f) ∷ (1, g) ∷ (2, h) ∷ []
+        → go_live_entries s (Ran ∷ Arrive 5 ∷ Ran ∷ Arrive 3 ∷ [])
+        ≡ DropIn 3 ∷ DropIn 5 ∷ DropOut 1 1 ∷ DropOut 2 0 ∷ DropOut 2 0 ∷ [] }
+{}
+
+/// Where the backup fails, all that was kept stays in the history, and then all that is on its way lands, in the order sent: it goes
+/// last in its client's box, or is dropped where that is full. The guest is that after the kept entries.
+pub fn failing_backup_lets_all_land()
+    ensures legal { (s : HistoryState) (kept : List Entry) → IsReached s → Legal s kept → Legal s (fail_backup_entries s kept) }
+    ensures state { (s : HistoryState) (kept : List Entry) → IsReached s → Legal s kept
+        → at s (fail_backup_entries s kept) ≡ record (at s kept) { out = []; boxes = lands (at s kept).boxes (at s kept).out } }
+    ensures boxes { (s : HistoryState) (kept : List Entry) → AreGuests kept → (at s kept).boxes ≡ s.boxes }
+    ensures count { (s : HistoryState) (kept : List Entry)
+        → length (fail_backup_entries s kept) ≡ length kept + length (at s kept).out }
+{}
+
+/// At a node that is alone nothing is on its way between its steps: the frames that a step sends, at most 64 for
+/// each client, land at once.
+pub fn steps_alone_land_at_once()
+    ensures entries { (s : HistoryState) → s.out ≡ []
+        → alone_step_entries s ≡ Ran ∷ landings s.boxes (targets_of (length s.boxes) (sent s.guest)) }
+    ensures legal { (s : HistoryState) → IsReached s → s.out ≡ [] → Legal s (alone_step_entries s) }
+    ensures state { (s : HistoryState) → IsReached s → s.out ≡ []
+        → at s (alone_step_entries s)
+        ≡ record s { guest = next s.guest; boxes = lands s.boxes (targets_of (length s.boxes) (sent s.guest)) } }
+    ensures most { (s : HistoryState) → s.out ≡ [] → length (alone_step_entries s) ≤ 1 + 64 * length s.boxes }
+{
+    sent_frames();
+}
