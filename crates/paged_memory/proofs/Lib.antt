@@ -1,3 +1,6 @@
 pub mod BytesLemmas
 pub mod FlagLemmas
+pub mod ListedLemmas
 pub mod PageLemmas
+pub mod SeenLemmas
+pub mod StoredLemmas

@@ -1,12 +1,15 @@
 -- A memory in pages of 4096 bytes, and which of them were written since it was last settled.
-use Rattle.std.specs.Prelude.{◌≡◌, ℕ, ◌+◌, ◌-◌, ◌*◌, ◌/◌, ◌≤◌, ◌==◌, Bool, true, false, if◌then◌else◌, List, ◌++◌, length, replicate, take, drop, slice_range, slice_index_or}
+use Rattle.std.specs.Prelude.{◌≡◌, ℕ, ◌+◌, ◌-◌, ◌*◌, ◌/◌, ◌%◌, ◌^◌, ◌≤◌, ◌==◌, Bool, true, false, if◌then◌else◌, List, ◌++◌}
+use Rattle.std.specs.Prelude.{length, replicate, take, drop, slice_range, slice_index_or, count_by}
 use Rattle.paged_memory.specs.Bytes.{with_bytes}
 
--- the bytes, those at the last settle, and a flag for each page: whether it was written since
+-- the bytes, those at the last settle, a flag for each page, whether it was written since, and how many page copies were made
+-- since boot, modulo 2^64
 pub record Paged : Type 0 where
   pub bytes : List ℕ
   pub settled : List ℕ
   pub written : List Bool
+  pub copies : ℕ
 
 -- the bytes of a page
 abbrev pub page_of : List ℕ → ℕ → List ℕ
@@ -40,14 +43,22 @@ end_page at n = if n == 0 then at / 4096 else (at + n - 1) / 4096 + 1
 abbrev pub marked : List Bool → ℕ → ℕ → List Bool
 marked flags at n = flagged flags (at / 4096) (end_page at n)
 
+-- how many pages were written
+abbrev pub written_pages : List Bool → ℕ
+written_pages flags = count_by (λ flag. flag) flags
+
+-- a memory after more pages were written: each page that wasn't before is copied once
+abbrev pub with_flags : Paged → List Bool → Paged
+with_flags m flags = record m { written = flags; copies = (m.copies + (written_pages flags - written_pages m.written)) % 2 ^ 64 }
+
 -- a memory after n bytes from a place on were written, so that its bytes are these
 abbrev pub with_written : Paged → ℕ → ℕ → List ℕ → Paged
-with_written m at n bytes = record m { bytes = bytes; written = marked m.written at n }
+with_written m at n bytes = record (with_flags m (marked m.written at n)) { bytes = bytes }
 
 -- a memory at boot: the image's bytes from the first place on, all else 0, and no page written
 abbrev pub boot_bytes : ℕ → List ℕ → List ℕ
 boot_bytes pages image = image ++ replicate (4096 * pages - length image) 0
 
--- a memory that was just settled
-abbrev pub settled_at : List ℕ → ℕ → Paged
-settled_at bytes pages = record { bytes = bytes; settled = bytes; written = replicate pages false }
+-- a memory that was just settled, after so many page copies
+abbrev pub settled_at : List ℕ → ℕ → ℕ → Paged
+settled_at bytes pages copies = record { bytes = bytes; settled = bytes; written = replicate pages false; copies = copies }

@@ -2,15 +2,17 @@
 //!
 //! [`Memory::boot`] makes it, [`Memory::read`] and [`Memory::write`] copy bytes, and the calls for numbers of 1, 2, 4 and 8 bytes are
 //! those of a hart's loads and stores. [`Memory::dirty`] says whether a page was written since the last [`Memory::settle`], and
-//! [`Memory::original`] gives its bytes at that settle. Contracts see a memory as a `Paged` of the specs: its bytes, those at the
-//! last settle, and a flag for each page.
+//! [`Memory::original`] gives its bytes at that settle. A page is copied when it is first written after a settle, and only then:
+//! [`Memory::copies`] counts that. Contracts see a memory as a `Paged` of the specs: its bytes, those at the last settle, a flag
+//! for each page, and the count of page copies.
 #![tactic(auto)]
 
-mod flags;
+mod keeping;
 mod memory;
 mod numbers;
 
 pub use memory::{Memory, PAGE_BYTES};
+pub use page_lanes::BLOCK_SIZE as BLOCK_BYTES;
 
 #[cfg(test)]
 mod tests;

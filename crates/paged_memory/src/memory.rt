@@ -1,9 +1,10 @@
 //! Memory in pages.
-ghost use Rattle.std.specs.Prelude.{◌≡◌, ◌+◌, ◌*◌, ◌<◌, ◌≤◌, IfOk, false, length, take, drop, slice_index, slice_set};
-ghost use Rattle.paged_memory.specs.Bytes.{with_bytes};
-ghost use Rattle.paged_memory.specs.Pages.{IsPaged, page_of, is_written, with_written, boot_bytes, settled_at};
+ghost use Rattle.std.specs.Prelude.{◌≡◌, ◌+◌, ◌-◌, ◌*◌, ◌%◌, ◌^◌, ◌<◌, ◌≤◌, IfOk, false, length, take, drop, slice_index};
+ghost use Rattle.paged_memory.specs.Bytes.{with_bytes, with_xored};
+ghost use Rattle.paged_memory.specs.Pages.{IsPaged, page_of, is_written, written_pages, with_written, boot_bytes, settled_at};
 
-use crate::flags::mark;
+use crate::keeping::clear_flags;
+use page_lanes::{BLOCK_SIZE, Block, xor_blocks};
 use std::alloc::{AllocError, Global};
 use std::marker::Model;
 
@@ -14,20 +15,26 @@ pub const PAGE_BYTES: usize = 4096;
 #[derive(Drop)]
 pub struct Memory {
     pub(crate) bytes: Vec<u8>,
-    /// The bytes at the last settle.
-    originals: Vec<u8>,
+    /// For each page that was written since the last settle, its bytes then, at its own place; for another page, any bytes.
+    pub(crate) originals: Vec<u8>,
     /// Which pages were written since.
     pub(crate) written: Vec<bool>,
+    /// The numbers of those pages, in the order of their first writes.
+    pub(crate) dirty: Vec<u32>,
+    /// How many page copies were made since boot, modulo 2^64.
+    pub(crate) copies: u64,
 }
 
 impl Model for Memory {
-    ghost use Rattle.paged_memory.specs.Pages.{Paged, IsPaged};
+    ghost use Rattle.paged_memory.specs.Pages.{Paged};
+    ghost use Rattle.paged_memory.specs.Stored.{IsStored, seen};
+    ghost use Rattle.std.specs.Prelude.{vec_capacity};
 
     ghost Value = { Paged };
 
-    ghost view = { λ m. record { bytes = m.bytes.items; settled = m.originals.items; written = m.written.items } };
+    ghost view = { λ m. seen m.bytes.items m.originals.items m.written.items m.copies };
 
-    ghost invariant = { λ m. IsPaged (record { bytes = m.bytes.items; settled = m.originals.items; written = m.written.items }) };
+    ghost invariant = { λ m. IsStored m.bytes.items m.originals.items m.written.items m.dirty.items (vec_capacity m.dirty) m.copies };
 }
 
 impl Memory {
@@ -40,23 +47,27 @@ impl Memory {
         requires some { 1 ≤ pages }
         requires most { pages ≤ 4096 }
         requires fits { length image.now ≤ 4096 * pages }
-        ensures { IfOk result (λ memory. memory ≡ settled_at (boot_bytes pages image.now) pages) }
+        ensures { IfOk result (λ memory. memory ≡ settled_at (boot_bytes pages image.now) pages 0) }
     {
         let size = PAGE_BYTES * pages as usize;
         let mut bytes = Vec::with_capacity(alloc, size)?;
         bytes.extend_from_slice(image)?;
         bytes.resize(size, 0)?;
-        let originals = Vec::from_slice(alloc, bytes.as_slice())?;
+        let mut originals = Vec::with_capacity(alloc, size)?;
+        originals.resize(size, 0)?;
         let mut written = Vec::with_capacity(alloc, pages as usize)?;
         written.resize(pages as usize, false)?;
+        let dirty = Vec::with_capacity(alloc, pages as usize)?;
         Ok(Memory {
             bytes,
             originals,
             written,
+            dirty,
+            copies: 0,
         })
     }
 
-    /// The same memory once more, with its flags and the bytes of the last settle.
+    /// The same memory once more, with its flags, the bytes of the last settle, and its count of copies.
     ///
     /// # Errors
     /// Where memory is refused.
@@ -66,10 +77,14 @@ impl Memory {
         let bytes = Vec::from_slice(alloc, self.bytes.as_slice())?;
         let originals = Vec::from_slice(alloc, self.originals.as_slice())?;
         let written = Vec::from_slice(alloc, self.written.as_slice())?;
+        let mut dirty = Vec::with_capacity(alloc, self.written.len())?;
+        dirty.extend_from_slice(self.dirty.as_slice())?;
         Ok(Memory {
             bytes,
             originals,
             written,
+            dirty,
+            copies: self.copies,
         })
     }
 
@@ -105,15 +120,30 @@ impl Memory {
     }
 
     /// Puts the whole of `from` in the place of the bytes from a place on. They lie in memory, as the caller knows. Each page in
-    /// which one of them lies counts as written, whatever stood there; an empty `from` marks none.
+    /// which one of them lies counts as written, whatever stood there; an empty `from` marks none. It makes a page copy for each
+    /// page that it is the first to write since the last settle, or since boot.
     pub fn write(&mut self, at: usize, from: &[u8])
         requires { at + length from.now ≤ length self.old.bytes }
         ensures value { self.new ≡ with_written self.old at (length from.now) (with_bytes self.old.bytes at from.now) }
         ensures size { length self.new.bytes ≡ length self.old.bytes }
         ensures pages { length self.new.written ≡ length self.old.written }
+        ensures copies { self.new.copies ≡ (self.old.copies + (written_pages self.new.written - written_pages self.old.written)) % 2 ^ 64 }
     {
-        mark(&mut self.written, at, from.len());
+        self.keep(at, from.len());
         put(&mut self.bytes, at, from);
+    }
+
+    /// XORs a block of 64 bytes into those from a place on. They lie in memory, as the caller knows. Each page in which one of them
+    /// lies counts as written.
+    pub fn xor_block(&mut self, at: usize, block: &Block)
+        requires { at + 64 ≤ length self.old.bytes }
+        ensures value { self.new ≡ with_written self.old at 64 (with_xored self.old.bytes at block.now) }
+        ensures size { length self.new.bytes ≡ length self.old.bytes }
+        ensures pages { length self.new.written ≡ length self.old.written }
+    {
+        let mut bytes = [0; BLOCK_SIZE];
+        self.read(at, &mut bytes);
+        self.write(at, &xor_blocks(&bytes, block));
     }
 
     /// The byte at a place of memory, as the caller knows.
@@ -129,8 +159,7 @@ impl Memory {
         requires { 4096 * page + 4096 ≤ length self.now.bytes }
         ensures { result.now ≡ page_of self.now.bytes page }
     {
-        let start = PAGE_BYTES * page as usize;
-        as_page(&self.bytes[start..start + PAGE_BYTES])
+        page_at(self.bytes.as_slice(), page)
     }
 
     /// Whether a page was written since the last settle, or since boot, also where its bytes are the same as then. The memory has
@@ -149,44 +178,34 @@ impl Memory {
         ensures value { result.now ≡ page_of self.now.settled page }
         ensures size { length self.now.settled ≡ length self.now.bytes }
     {
-        let start = PAGE_BYTES * page as usize;
-        as_page(&self.originals[start..start + PAGE_BYTES])
-    }
-
-    /// From now on no page counts as written, and the original of each is what it is now.
-    pub fn settle(&mut self)
-        ensures { self.new ≡ settled_at self.old.bytes (length self.old.written) }
-    {
-        let pages = self.pages();
-        for page in 0..pages {
-            if self.dirty(page) {
-                self.settle_page(page);
-            }
+        if self.written[page as usize] {
+            page_at(self.originals.as_slice(), page)
+        } else {
+            page_at(self.bytes.as_slice(), page)
         }
     }
 
-    /// Copies a page to the originals, and clears its flag.
-    fn settle_page(&mut self, page: u32)
-        requires { page < length self.old.written }
-        ensures value { self.new ≡ record self.old {
-          settled = with_bytes self.old.settled (4096 * page) (page_of self.old.bytes page);
-          written = slice_set self.old.written page false;
-        } }
-        ensures rules { IsPaged self.new }
+    /// How many page copies were made since boot, modulo 2^64: each write makes one for each page that it is the first to write
+    /// since the last settle, and nothing else makes any.
+    pub fn copies(&self) -> u64
+        ensures { result ≡ self.now.copies }
     {
-        let page = page as usize;
-        let start = PAGE_BYTES * page;
-        put(
-            &mut self.originals,
-            start,
-            &self.bytes[start..start + PAGE_BYTES],
-        );
-        self.written[page] = false;
+        self.copies
+    }
+
+    /// From now on no page counts as written, and the original of each is what it is now. It copies no page, and goes over those
+    /// that were written only.
+    pub fn settle(&mut self)
+        ensures value { self.new ≡ settled_at self.old.bytes (length self.old.written) self.old.copies }
+        ensures copies { self.new.copies ≡ self.old.copies }
+    {
+        clear_flags(&mut self.written, self.dirty.as_slice());
+        self.dirty.clear();
     }
 }
 
 /// Puts the whole of `from` in the place of the bytes from a place on.
-fn put(bytes: &mut Vec<u8>, at: usize, from: &[u8])
+pub(crate) fn put(bytes: &mut Vec<u8>, at: usize, from: &[u8])
     requires { at + length from.now ≤ length bytes.old.items }
     ensures value { bytes.new.items ≡ with_bytes bytes.old.items at from.now }
     ensures size { length bytes.new.items ≡ length bytes.old.items }
@@ -194,12 +213,13 @@ fn put(bytes: &mut Vec<u8>, at: usize, from: &[u8])
     bytes[at..at + from.len()].copy_from_slice(from);
 }
 
-/// A page's bytes as an array.
-fn as_page(bytes: &[u8]) -> &[u8; PAGE_BYTES]
-    requires { length bytes.now ≡ 4096 }
-    ensures { result.now ≡ bytes.now }
+/// The bytes of a page as an array.
+fn page_at(bytes: &[u8], page: u32) -> &[u8; PAGE_BYTES]
+    requires { 4096 * page + 4096 ≤ length bytes.now }
+    ensures { result.now ≡ page_of bytes.now page }
 {
-    let Ok(page) = <&[u8; PAGE_BYTES]>::try_from(bytes) else {
+    let start = PAGE_BYTES * page as usize;
+    let Ok(page) = <&[u8; PAGE_BYTES]>::try_from(&bytes[start..start + PAGE_BYTES]) else {
         unreachable!()
     };
     page

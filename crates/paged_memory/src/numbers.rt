@@ -3,7 +3,6 @@ ghost use Rattle.std.specs.Prelude.{◌≡◌, ◌+◌, ◌≤◌, length};
 ghost use Rattle.paged_memory.specs.Bytes.{number_at, with_number};
 ghost use Rattle.paged_memory.specs.Pages.{with_written};
 
-use crate::flags::mark_few;
 use crate::memory::Memory;
 use byteorder::{ByteOrder, LittleEndian};
 
@@ -52,7 +51,7 @@ impl Memory {
         ensures size { length self.new.bytes ≡ length self.old.bytes }
         ensures pages { length self.new.written ≡ length self.old.written }
     {
-        mark_few(&mut self.written, at, 1);
+        self.keep_few(at, 1);
         put_u8(&mut self.bytes, at, value);
     }
 
@@ -64,7 +63,7 @@ impl Memory {
         ensures size { length self.new.bytes ≡ length self.old.bytes }
         ensures pages { length self.new.written ≡ length self.old.written }
     {
-        mark_few(&mut self.written, at, 2);
+        self.keep_few(at, 2);
         put_u16(&mut self.bytes, at, value);
     }
 
@@ -76,7 +75,7 @@ impl Memory {
         ensures size { length self.new.bytes ≡ length self.old.bytes }
         ensures pages { length self.new.written ≡ length self.old.written }
     {
-        mark_few(&mut self.written, at, 4);
+        self.keep_few(at, 4);
         put_u32(&mut self.bytes, at, value);
     }
 
@@ -88,7 +87,7 @@ impl Memory {
         ensures size { length self.new.bytes ≡ length self.old.bytes }
         ensures pages { length self.new.written ≡ length self.old.written }
     {
-        mark_few(&mut self.written, at, 8);
+        self.keep_few(at, 8);
         put_u64(&mut self.bytes, at, value);
     }
 }

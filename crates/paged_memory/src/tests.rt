@@ -39,15 +39,36 @@ fn originals_are_those_of_the_last_settle(rt: HostRuntime) -> Result<(), Fail> {
     memory.write_u32(4096, 2);
     assert_eq!(rt; memory.page(0)[0], 1);
     assert_eq!(rt; memory.original(0)[0], 7);
+    assert_eq!(rt; memory.original(2)[0], 0);
     let copy = memory.copy(rt.alloc())?;
     memory.settle();
     assert_eq!(rt; flags(&rt, &memory), [false, false, false]);
     assert_eq!(rt; memory.original(0)[0], 1);
     assert_eq!(rt; memory.original(1)[0], 2);
     memory.write_u16(4096, 3);
+    memory.write_u16(4096, 4);
     assert_eq!(rt; flags(&rt, &memory), [false, true, false]);
-    assert_eq!(rt; memory.page(1)[0], 3);
+    assert_eq!(rt; memory.page(1)[0], 4);
     assert_eq!(rt; memory.original(1)[0], 2);
     assert_eq!(rt; flags(&rt, &copy), [true, true, false]);
+    assert_eq!(rt; copy.original(0)[0], 7);
+    Ok(())
+}
+
+#[test]
+fn a_page_is_copied_at_its_first_write_after_a_settle(rt: HostRuntime) -> Result<(), Fail> {
+    let mut memory = Memory::boot(rt.alloc(), 3, &[])?;
+    assert_eq!(rt; memory.copies(), 0);
+    memory.write_u64(4092, 1);
+    assert_eq!(rt; memory.copies(), 2);
+    memory.write(0, &[5]);
+    memory.write_u8(4095, 6);
+    assert_eq!(rt; memory.copies(), 2);
+    memory.settle();
+    assert_eq!(rt; memory.copies(), 2);
+    memory.xor_block(4032, &[1; 64]);
+    assert_eq!(rt; memory.copies(), 3);
+    assert_eq!(rt; memory.byte(4095), 7);
+    assert_eq!(rt; memory.original(0)[4095], 6);
     Ok(())
 }

@@ -1,12 +1,13 @@
-use Rattle.std.proofs.Common.{◌<◌, ℕ, List, length, ap, ◌∙◌, arith}
-use Rattle.paged_memory.specs.Pages.{settled_at}
-use Rattle.paged_memory.proofs.PageLemmas.{is_settled}
+use Rattle.paged_memory.proofs.StoredLemmas.{stored_by_settle}
+use Rattle.paged_memory.proofs.SeenLemmas.{seen_by_settle}
 use Rattle.paged_memory.proofs.memory.Memory.settle.Goals as goal
 
-pub returns : goal.returns
-returns c =
-    let m = c.loop-page.self in
-    let h = c.loop-page.invariant in
-    is_settled m h.rules (λ page here. h.cleared page (omega (arith, here, h.count, c.pages-pages.ensures.value)))
-    ∙ ap (λ (n : ℕ). settled_at m.bytes n) h.count
-    ∙ ap (λ (x : List ℕ). settled_at x (length c.args.self.now.written)) h.bytes
+pub invariant_of-self : goal.invariant_of-self
+invariant_of-self c =
+    let s = c.self.inside in
+    stored_by_settle s.bytes.items s.originals.items s.written.items c.clear_flags.new.flags.items s.dirty.items c.clear.new.self.items _ _ s.copies c.clear_flags.ensures c.clear.ensures.items c.clear.ensures.capacity c.self.invariant
+
+pub returns-clause-value : goal.returns-clause-value
+returns-clause-value c =
+    let s = c.self.inside in
+    seen_by_settle c.args.self.now s.bytes.items s.originals.items s.written.items c.clear_flags.new.flags.items s.dirty.items _ s.copies c.self.invariant c.self.view_is c.clear_flags.ensures

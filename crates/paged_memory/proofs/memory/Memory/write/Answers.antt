@@ -1,11 +1,22 @@
-use Rattle.std.proofs.Common.{◌≡◌, ◌+◌, ◌≤◌, length, refl, ap, arith}
-use Rattle.paged_memory.specs.Pages.{Paged}
-use Rattle.paged_memory.proofs.PageLemmas.{paged_bytes}
+use Rattle.std.proofs.Common.{◌≡◌, ◌∙◌, ◌-◌, ◌+◌, ◌%◌, ◌^◌, List, Bool, length, refl, sym, ap}
+use Rattle.paged_memory.specs.Pages.{Paged, written_pages}
+use Rattle.paged_memory.proofs.SeenLemmas.{after_write}
 use Rattle.paged_memory.proofs.memory.Memory.write.Goals as goal
 
 pub invariant_of-self : goal.invariant_of-self
 invariant_of-self c =
-    let m : Paged = record { bytes = c.self.inside.bytes.items; settled = c.self.inside.originals.items; written = c.self.inside.written.items } in
-    let same : length m.bytes ≡ length c.args.self.now.bytes = ap (λ (p : Paged). length p.bytes) c.self.view_is in
-    let fits : c.args.at + length c.args.from.now ≤ length m.bytes = omega (arith, same, c.requires) in
-    paged_bytes m c.args.from.now c.put.new.bytes.items c.mark.new.flags.items c.args.at (length c.args.from.now) refl fits c.put.ensures.value c.mark.ensures.value c.self.invariant
+    let s = c.self.inside in
+    let after = after_write c.args.self.now s.bytes.items c.put.new.bytes.items s.originals.items c.args.from.now s.written.items s.dirty.items _ s.copies c.args.at (length c.args.from.now) refl c.requires c.keep.ensures.rules c.self.invariant (c.self.view_is ∙ c.keep.ensures.value) c.put.ensures.value in
+    after.stored
+
+pub returns : goal.returns
+returns c =
+    let s = c.self.inside in
+    let m = c.args.self.now in
+    let after = after_write m s.bytes.items c.put.new.bytes.items s.originals.items c.args.from.now s.written.items s.dirty.items _ s.copies c.args.at (length c.args.from.now) refl c.requires c.keep.ensures.rules c.self.invariant (c.self.view_is ∙ c.keep.ensures.value) c.put.ensures.value in
+    record {
+      value = after.value;
+      size = ap (λ (p : Paged). length p.bytes) after.value ∙ after.size;
+      pages = ap (λ (p : Paged). length p.written) after.value ∙ after.pages;
+      copies = ap (λ (p : Paged). p.copies) after.value ∙ sym (ap (λ (p : Paged). (m.copies + (written_pages p.written - written_pages m.written)) % 2 ^ 64) after.value);
+    }

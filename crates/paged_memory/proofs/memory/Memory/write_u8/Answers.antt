@@ -1,11 +1,20 @@
-use Rattle.std.proofs.Common.{◌≡◌, ◌+◌, ◌≤◌, length, refl, ap, arith}
+use Rattle.std.proofs.Common.{◌∙◌, length, refl, ap}
 use Rattle.paged_memory.specs.Pages.{Paged}
-use Rattle.paged_memory.proofs.PageLemmas.{paged_number}
+use Rattle.paged_memory.proofs.SeenLemmas.{after_number}
 use Rattle.paged_memory.proofs.memory.Memory.write_u8.Goals as goal
 
 pub invariant_of-self : goal.invariant_of-self
 invariant_of-self c =
-    let m : Paged = record { bytes = c.self.inside.bytes.items; settled = c.self.inside.originals.items; written = c.self.inside.written.items } in
-    let same : length m.bytes ≡ length c.args.self.now.bytes = ap (λ (p : Paged). length p.bytes) c.self.view_is in
-    let fits : c.args.at + 1 ≤ length m.bytes = omega (arith, same, c.requires) in
-    paged_number m c.put_u8.new.bytes.items c.mark_few.new.flags.items c.args.at 1 c.args.value refl fits c.put_u8.ensures.value c.mark_few.ensures.value c.self.invariant
+    let s = c.self.inside in
+    let after = after_number c.args.self.now s.bytes.items c.put_u8.new.bytes.items s.originals.items s.written.items s.dirty.items _ s.copies c.args.at 1 c.args.value refl c.requires c.keep_few.ensures.rules c.self.invariant (c.self.view_is ∙ c.keep_few.ensures.value) c.put_u8.ensures.value in
+    after.stored
+
+pub returns : goal.returns
+returns c =
+    let s = c.self.inside in
+    let after = after_number c.args.self.now s.bytes.items c.put_u8.new.bytes.items s.originals.items s.written.items s.dirty.items _ s.copies c.args.at 1 c.args.value refl c.requires c.keep_few.ensures.rules c.self.invariant (c.self.view_is ∙ c.keep_few.ensures.value) c.put_u8.ensures.value in
+    record {
+      value = after.value;
+      size = ap (λ (p : Paged). length p.bytes) after.value ∙ after.size;
+      pages = ap (λ (p : Paged). length p.written) after.value ∙ after.pages;
+    }
