@@ -6,5 +6,6 @@ pub mod Serving
 pub mod Kept
 pub mod ReadBack
 pub mod Members
+pub mod SetLemmas
 pub mod ListApart
 pub mod Listed

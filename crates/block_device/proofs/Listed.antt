@@ -1,10 +1,10 @@
 -- However many requests are served, only sectors of the list are changed, and none is taken off it.
-use Rattle.std.proofs.Common.{◌≡◌, ℕ, ◌+◌, ◌/◌, ◌<◌, ◌≤◌, Bool, true, false, ◌&&◌, ◌||◌, ◌==◌, ◌⊎◌, inl, inr, List, [], length, refl, sym, ap, ◌∙◌, subst, if◌then◌else◌, nat_le, nat_lt, arith}
+use Rattle.std.proofs.Common.{◌≡◌, ℕ, ◌+◌, ◌/◌, ◌<◌, ◌≤◌, Bool, true, false, ◌&&◌, ◌||◌, ◌==◌, ◌⊎◌, inl, inr, List, [], length, refl, sym, ap, ◌∙◌, subst, if◌then◌else◌, nat_le, nat_lt}
 use Rattle.std.proofs.lemmas.Bool.{cases_lt, le-leb, lt-ltb}
 use Rattle.virtio_mmio.specs.declared.kinds.DeviceKind.TheVariants.{Block}
 use Rattle.virtio_mmio.specs.declared.states.DeviceState.{DeviceState}
 use Rattle.virtio_mmio.specs.ServingLoop.{standing}
-use Rattle.block_device.specs.Dirty.{is_in, with_written}
+use Rattle.block_device.specs.Dirty.{is_in}
 use Rattle.block_device.specs.Contents.{Contents, capacity, in_capacity, contents_with}
 use Rattle.block_device.specs.Disk.{disk_served}
 use Rattle.block_device.specs.Listed.{IsListed}

@@ -69,6 +69,22 @@ rises_least from end (i ∷ is) (suc k) d h l =
     let least : from ≤ i = h.0 in
     omega arith
 
+-- a rising list is no longer than its numbers allow
+pub rises_length : (from end : ℕ) (is : List ℕ) → Rises from end is → from + length is ≤ end
+rises_length from end [] h = let ordered : from ≤ end = h in omega arith
+rises_length from end (i ∷ is) h =
+    let least : from ≤ i = h.0 in
+    let rest = rises_length (i + 1) end is h.1 in
+    omega arith
+
+-- and below `end`
+pub rises_at_most : (from end : ℕ) (is : List ℕ) (k d : ℕ) → Rises from end is → k < length is → get_or is k d < end
+rises_at_most from end [] k d h l = absurd (omega arith)
+rises_at_most from end (i ∷ is) zero d h l =
+    let room = rises_length (i + 1) end is h.1 in
+    omega arith
+rises_at_most from end (i ∷ is) (suc k) d h l = rises_at_most (i + 1) end is k d h.1 (omega arith)
+
 pub rises_nondecreasing : (from end : ℕ) (is : List ℕ) → Rises from end is → IsNonDecreasingBy (λ x. x) is
 rises_nondecreasing from end [] h j k d l w = absurd (omega arith)
 rises_nondecreasing from end (i ∷ is) h zero zero d l w = omega arith
@@ -217,64 +233,7 @@ rises_written end first n is l h =
     (rises_below 0 end first is (omega arith) h) (rises_range first n))
     (rises_above 0 end (first + n) is l h)
 
--- a rising list is no longer than its numbers allow
-pub rises_length : (from end : ℕ) (is : List ℕ) → Rises from end is → from + length is ≤ end
-rises_length from end [] h = let ordered : from ≤ end = h in omega arith
-rises_length from end (i ∷ is) h =
-    let least : from ≤ i = h.0 in
-    let rest = rises_length (i + 1) end is h.1 in
-    omega arith
-
--- one that is as long as they allow has all of them
-rises_full : (from n : ℕ) (is : List ℕ) → Rises from (from + n) is → length is ≡ n → is ≡ range_with_len from n
-rises_full from zero [] h e = refl
-rises_full from zero (i ∷ is) h e = absurd (omega arith)
-rises_full from (suc n) [] h e = absurd (omega arith)
-rises_full from (suc n) (i ∷ is) h e =
-    let least : from ≤ i = h.0 in
-    let rest = rises_length (i + 1) (from + suc n) is h.1 in
-    let first : i ≡ from = omega arith in
-    let end : from + suc n ≡ from + 1 + n = omega arith in
-    let rises : Rises (from + 1) (from + 1 + n) is = subst (λ (k : ℕ). Rises (k + 1) (from + 1 + n) is) first
-    (subst (λ (k : ℕ). Rises (i + 1) k is) end h.1) in
-    let len : length is ≡ n = omega arith in
-    ap (λ k. k ∷ is) first ∙ ap (λ ys. from ∷ ys) (rises_full (from + 1) n is rises len)
-
--- ---- sectors that stand in the list already
-
--- a rising list is its numbers below one, and then those from it on
-in_parts : (from end s : ℕ) (is : List ℕ) → Rises from end is → filter (λ i. nat_lt i s) is ++ filter (λ i. nat_le s i) is ≡ is
-in_parts from end s [] h = refl
-in_parts from end s (i ∷ is) h =
-    let below : ℕ → Bool = λ k. nat_lt k s in
-    let above : ℕ → Bool = λ k. nat_le s k in
-    elim (lt_tells i s) [
-      | inl w ↦
-          (let small : i < s = w.1 in
-          let rest : filter above (i ∷ is) ≡ filter above is = lost above i is (lt_not_le i s w.0) in
-          ap (λ ys. ys ++ filter above (i ∷ is)) (kept below i is w.0)
-          ∙ (ap (λ ys. (i ∷ filter below is) ++ ys) rest ∙ ap (λ ys. i ∷ ys) (in_parts (i + 1) end s is h.1)))
-      | inr w ↦
-          (let great : s ≤ i = w.1 in
-          let same : i ≤ i = omega arith in
-          let rises : Rises i end (i ∷ is) = (same, h.1) in
-          ap (λ ys. ys ++ filter above (i ∷ is)) (none_below i end s (i ∷ is) great rises)
-          ∙ all_kept above (i ∷ is) (λ k d l. above_tells s (get_or (i ∷ is) k d)
-          (let least = rises_least i end (i ∷ is) k d rises l in omega arith)))
-    ]
-
--- of the numbers from one on, those from a later one on are the list's own
-above_above : (a b : ℕ) (is : List ℕ) → a ≤ b → filter (λ i. nat_le b i) (filter (λ i. nat_le a i) is) ≡ filter (λ i. nat_le b i) is
-above_above a b [] l = refl
-above_above a b (i ∷ is) l =
-    let from_a : ℕ → Bool = λ k. nat_le a k in
-    let from_b : ℕ → Bool = λ k. nat_le b k in
-    elim (le_tells a i) [
-      | inl w ↦ ap (filter from_b) (kept from_a i is w.0) ∙ ap (λ ys. cond (nat_le b i) (i ∷ ys) ys) (above_above a b is l)
-      | inr w ↦
-          (let small : i < b = let before : i < a = w.1 in omega arith in
-          ap (filter from_b) (lost from_a i is w.0) ∙ (above_above a b is l ∙ sym (lost from_b i is (not_above b i small))))
-    ]
+-- ---- how the list is written in place
 
 fewer_below : (a b : ℕ) (is : List ℕ) → a ≤ b → length (filter (λ i. nat_lt i a) is) ≤ length (filter (λ i. nat_lt i b) is)
 fewer_below a b [] l = omega arith
@@ -295,8 +254,6 @@ fewer_below a b (i ∷ is) l =
             | inr e ↦ (let two = ap length (lost below_b i is e) in omega arith)
           ])
     ]
-
--- ---- how the list is written in place
 
 -- a rising list, with the places of the first of its numbers that aren't below a range, and of the first that are above it
 pub record Parted (xs : List ℕ) (first n end from to : ℕ) : Type 0 where
@@ -336,33 +293,6 @@ module _ (xs : List ℕ) (first n end from to : ℕ) (p : Parted xs first n end 
   room_for_range =
       let most = rises_length 0 end (with_written xs first n) (rises_written end first n xs p.room p.rises) in
       omega (arith, written_len, length-append (take from xs) (drop to xs), length-take-le from xs p.from_within, length-drop to xs)
-
-  pub written_already : to - from ≡ n → xs ≡ with_written xs first n
-  written_already all =
-      let upper : List ℕ = filter (λ i. nat_le first i) xs in
-      let middle : List ℕ = filter (λ i. nat_lt i (first + n)) upper in
-      let last : List ℕ = filter (λ i. nat_le (first + n) i) xs in
-      let lower : List ℕ = filter (λ i. nat_lt i first) xs in
-      let halves : lower ++ upper ≡ xs = in_parts 0 end first xs p.rises in
-      let upper_rises : Rises first end upper = rises_above 0 end first xs (let room : first + n ≤ end = p.room in omega arith) p.rises in
-      let parts : middle ++ last ≡ upper =
-      ap (λ ys. middle ++ ys) (sym (above_above first (first + n) xs (omega arith))) ∙ in_parts first end (first + n) upper upper_rises in
-      let count : length middle ≡ n =
-      omega (
-        arith,
-        below_len,
-        above_len,
-        all,
-        from_before_to,
-        ap length halves,
-        ap length parts,
-        length-append lower upper,
-        length-append middle last,
-      ) in
-      let full : middle ≡ range_with_len first n =
-      rises_full first n middle (rises_below first end (first + n) upper (omega arith) upper_rises) count in
-      sym (append_assoc lower (range_with_len first n) last
-      ∙ (ap (λ ys. lower ++ (ys ++ last)) (sym full) ∙ (ap (λ ys. lower ++ ys) parts ∙ halves)))
 
   -- the range was put last, and then moved to its place
   pub moved_in : (list : List ℕ) → list ≡ take from xs ++ drop to xs ++ range_with_len first n →

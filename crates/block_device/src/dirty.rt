@@ -1,17 +1,187 @@
-//! The sectors that were written since the list was last emptied.
-ghost use Rattle.std.specs.Prelude.{◌≡◌, ◌+◌, ◌-◌, ◌≤◌, ◌<◌, ◌^◌, ◌++◌, filter, length, nat_lt, nat_le, take, drop, vec_capacity};
+//! The sectors that were written since their set was last emptied.
+ghost use Rattle.std.specs.Prelude.{
+  ◌≡◌,
+  ℕ,
+  ◌+◌,
+  ◌-◌,
+  ◌*◌,
+  ◌≤◌,
+  ◌<◌,
+  ◌^◌,
+  ◌++◌,
+  ◌==◌,
+  ◌&&◌,
+  ◌↔◌,
+  [],
+  false,
+  All,
+  IfOk,
+  IsTrue,
+  filter,
+  if◌then◌else◌,
+  length,
+  nat_lt,
+  nat_le,
+  take,
+  drop,
+  vec_capacity,
+};
 ghost use Rattle.std.specs.List.{range_with_len};
 ghost use Rattle.std.specs.List.Sorted.{IsNonDecreasing};
-ghost use Rattle.block_device.specs.Dirty.{Rises, with_written};
+ghost use Rattle.block_device.specs.Dirty.{Rises, with_written, is_in, bit_of, no_sectors};
+
+use std::alloc::{AllocError, Global};
+use std::marker::Model;
+
+/// How many sectors have their bits in one word.
+const WORD_BITS: u32 = 64;
+
+/// A set of sectors, and its list in rising order. A bit for each sector says whether it is in, so that one that is in already
+/// costs one test. All memory is reserved at boot.
+#[derive(Drop)]
+pub(crate) struct SectorSet {
+    /// How many sectors the disk has; the list has room for each.
+    sectors: u32,
+    bits: Vec<u64>,
+    list: Vec<u32>,
+}
+
+impl Model for SectorSet {
+    ghost use Rattle.std.specs.Prelude.{◌≤◌, vec_capacity};
+    ghost use Rattle.block_device.specs.Dirty.{Sectors, sectors_of, IsSectorSet};
+
+    ghost Value = { Sectors };
+
+    ghost view = { λ s. sectors_of s.sectors s.list.items };
+
+    ghost invariant = { λ s. IsSectorSet s.bits.items s.list.items s.sectors × (s.sectors ≤ vec_capacity s.list) };
+}
+
+impl SectorSet {
+    /// The empty set of a disk with so many sectors.
+    pub(crate) fn boot(alloc: Global, sectors: u32) -> Result<SectorSet, AllocError>
+        ensures { IfOk result (λ set. set ≡ no_sectors sectors) }
+    {
+        let words = sectors.div_ceil(WORD_BITS) as usize;
+        let mut bits = Vec::with_capacity(alloc, words)?;
+        bits.resize(words, 0)?;
+        let list = Vec::with_capacity(alloc, sectors as usize)?;
+        Ok(SectorSet {
+            sectors,
+            bits,
+            list,
+        })
+    }
+
+    /// The same set once more.
+    pub(crate) fn copy(&self, alloc: Global) -> Result<SectorSet, AllocError>
+        ensures { IfOk result (λ set. set ≡ self.now) }
+    {
+        let mut bits = Vec::with_capacity(alloc, self.bits.len())?;
+        bits.extend_from_slice(self.bits.as_slice())?;
+        let mut list = Vec::with_capacity(alloc, self.sectors as usize)?;
+        list.extend_from_slice(self.list.as_slice())?;
+        Ok(SectorSet {
+            sectors: self.sectors,
+            bits,
+            list,
+        })
+    }
+
+    /// Its sectors in rising order.
+    pub(crate) fn list(&self) -> &[u32]
+        ensures value { result.now ≡ self.now.list }
+        ensures rises { Rises 0 self.now.room result.now }
+    {
+        self.list.as_slice()
+    }
+
+    /// Puts `count` sectors from `first` on into it. The disk has them, as the caller knows. It takes no memory.
+    pub(crate) fn mark(&mut self, first: u32, count: u32)
+        requires room { first + count ≤ self.old.room }
+        requires fits { first + count < 2 ^ 32 }
+        ensures { self.new ≡ record self.old { list = with_written self.old.list first count } }
+    {
+        if has_all(&self.bits, first, count) {
+            return;
+        }
+        set_bits(&mut self.bits, first, count);
+        put_in_place(&mut self.list, first, count);
+    }
+
+    /// Empties it, at the cost of the sectors that were in.
+    pub(crate) fn clear(&mut self)
+        ensures { self.new ≡ no_sectors self.old.room }
+    {
+        clear_bits(&mut self.bits, self.list.as_slice());
+        self.list.clear();
+    }
+}
+
+/// Whether a sector's bit is 1.
+fn has_bit(bits: &Vec<u64>, sector: u32) -> bool
+    requires { sector < 64 * length bits.now.items }
+    ensures { result ≡ (bit_of bits.now.items sector == 1) }
+{
+    bits[(sector / WORD_BITS) as usize] >> (sector % WORD_BITS) & 1 == 1
+}
+
+/// Whether the bits of `count` sectors from `first` on are all 1.
+fn has_all(bits: &Vec<u64>, first: u32, count: u32) -> bool
+    requires within { first + count ≤ 64 * length bits.now.items }
+    requires fits { first + count < 2 ^ 32 }
+    ensures { IsTrue result ↔ ((i : ℕ) → first ≤ i → i < first + count → bit_of bits.now.items i ≡ 1) }
+{
+    for sector in first..first + count {
+        if !has_bit(bits, sector) {
+            return false;
+        }
+    }
+    true
+}
+
+/// Sets a sector's bit.
+fn set_bit(bits: &mut Vec<u64>, sector: u32)
+    requires { sector < 64 * length bits.old.items }
+    ensures bits { (i : ℕ) → bit_of bits.new.items i ≡ (if i == sector then 1 else bit_of bits.old.items i) }
+    ensures words { length bits.new.items ≡ length bits.old.items }
+{
+    bits[(sector / WORD_BITS) as usize] |= 1 << (sector % WORD_BITS);
+}
+
+/// Sets the bits of `count` sectors from `first` on.
+fn set_bits(bits: &mut Vec<u64>, first: u32, count: u32)
+    requires within { first + count ≤ 64 * length bits.old.items }
+    requires fits { first + count < 2 ^ 32 }
+    ensures bits { (i : ℕ) →
+        bit_of bits.new.items i ≡ (if nat_le first i && nat_lt i (first + count) then 1 else bit_of bits.old.items i) }
+    ensures words { length bits.new.items ≡ length bits.old.items }
+{
+    for sector in first..first + count {
+        set_bit(bits, sector);
+    }
+}
+
+/// Clears the words that the bits of these sectors stand in.
+fn clear_bits(bits: &mut Vec<u64>, sectors: &[u32])
+    requires within { All (λ i. i < 64 * length bits.old.items) sectors.now }
+    requires only { (i : ℕ) → is_in i sectors.now ≡ false → bit_of bits.old.items i ≡ 0 }
+    ensures none { (i : ℕ) → bit_of bits.new.items i ≡ 0 }
+    ensures words { length bits.new.items ≡ length bits.old.items }
+{
+    for sector in sectors {
+        bits[(*sector / WORD_BITS) as usize] = 0;
+    }
+}
 
 /// How many sectors of a sorted list are below `sector`, found by halving.
-fn count_below(dirty: &[u32], sector: u32) -> usize
-    requires { IsNonDecreasing dirty.now }
-    ensures below { take result dirty.now ≡ filter (λ i. nat_lt i sector) dirty.now }
-    ensures above { drop result dirty.now ≡ filter (λ i. nat_le sector i) dirty.now }
-    ensures within { result ≤ length dirty.now }
+fn count_below(sectors: &[u32], sector: u32) -> usize
+    requires { IsNonDecreasing sectors.now }
+    ensures below { take result sectors.now ≡ filter (λ i. nat_lt i sector) sectors.now }
+    ensures above { drop result sectors.now ≡ filter (λ i. nat_le sector i) sectors.now }
+    ensures within { result ≤ length sectors.now }
 {
-    dirty.partition_point(|written| *written < sector)
+    sectors.partition_point(|other| *other < sector)
 }
 
 /// Takes the numbers from the place `from` up to the place `to` out.
@@ -50,20 +220,16 @@ fn move_last(list: &mut Vec<u32>, at: usize, count: usize)
 }
 
 /// Puts `count` sectors from `first` on into a rising list that has room for each sector of the disk. It takes no memory.
-pub(crate) fn mark_written(dirty: &mut Vec<u32>, first: u32, count: u32)
-    requires rises { Rises 0 (vec_capacity dirty.old) dirty.old.items }
-    requires room { first + count ≤ vec_capacity dirty.old }
+fn put_in_place(list: &mut Vec<u32>, first: u32, count: u32)
+    requires rises { Rises 0 (vec_capacity list.old) list.old.items }
+    requires room { first + count ≤ vec_capacity list.old }
     requires fits { first + count < 2 ^ 32 }
-    ensures items { dirty.new.items ≡ with_written dirty.old.items first count }
-    ensures capacity { vec_capacity dirty.new ≡ vec_capacity dirty.old }
+    ensures items { list.new.items ≡ with_written list.old.items first count }
+    ensures capacity { vec_capacity list.new ≡ vec_capacity list.old }
 {
-    let from = count_below(dirty.as_slice(), first);
-    let to = count_below(dirty.as_slice(), first + count);
-    if to - from == count as usize {
-        // All of them stand there already.
-        return;
-    }
-    remove_places(dirty, from, to);
-    push_range(dirty, first, count);
-    move_last(dirty, from, count as usize);
+    let from = count_below(list.as_slice(), first);
+    let to = count_below(list.as_slice(), first + count);
+    remove_places(list, from, to);
+    push_range(list, first, count);
+    move_last(list, from, count as usize);
 }

@@ -1,5 +1,5 @@
 //! The disk: a block device's registers over its sectors.
-ghost use Rattle.std.specs.Prelude.{◌≡◌, ◌+◌, ◌*◌, ◌<◌, ◌≤◌, IfOk, OnErr, Err, [], length};
+ghost use Rattle.std.specs.Prelude.{◌≡◌, ◌+◌, ◌*◌, ◌<◌, ◌≤◌, ◌↔◌, All, IfOk, IsTrue, OnErr, Err, [], length};
 ghost use Rattle.virtio_mmio.specs.States.{boot_state, IsDeviceRecord};
 ghost use Rattle.virtio_mmio.specs.Transport.{loaded, store_answer, state_after_store};
 ghost use Rattle.block_device.specs.Contents.{capacity, sector_at, boot_contents, contents_with, unlisted, IsDisk};
@@ -87,6 +87,14 @@ impl Disk {
         ensures { result.now ≡ sector_at self.now.contents sector }
     {
         self.storage.sector(sector)
+    }
+
+    /// Whether each byte of a sector is 0; the disk has the sector, as the caller knows.
+    pub fn blank(&self, sector: u32) -> bool
+        requires { sector < capacity self.now.contents }
+        ensures { IsTrue result ↔ All (λ b. b ≡ 0) (sector_at self.now.contents sector) }
+    {
+        self.storage.blank(sector)
     }
 
     /// The sectors that were written since the last [`settle`](Disk::settle), or since boot: they rise, and none stands there twice.

@@ -1,12 +1,13 @@
 //! The sectors of a disk in memory.
-ghost use Rattle.std.specs.Prelude.{◌≡◌, ◌+◌, ◌-◌, ◌*◌, ◌/◌, ◌<◌, ◌≤◌, IfOk, IsTrue, [], drop, length};
+ghost use Rattle.std.specs.Prelude.{◌≡◌, ◌+◌, ◌-◌, ◌*◌, ◌/◌, ◌<◌, ◌≤◌, ◌↔◌, All, IfOk, IsTrue, [], drop, length};
 ghost use Rattle.virtqueue.specs.Chains.{BuffersInside};
 ghost use Rattle.virtqueue.specs.Memory.{written};
 ghost use Rattle.virtqueue.specs.Parts.{readable_len, writable_len, readable_bytes, writable_places, put_at};
 ghost use Rattle.block_device.specs.Contents.{capacity, sector_at, boot_contents, in_capacity, bytes_at, contents_with, IsDisk};
 ghost use Rattle.block_device.specs.Dirty.{Rises};
 
-use crate::dirty::mark_written;
+use crate::dirty::SectorSet;
+use page_lanes::is_zero;
 use std::alloc::{AllocError, Global};
 use std::marker::Model;
 use virtqueue::{Chain, GuestRam, Queue};
@@ -14,24 +15,23 @@ use virtqueue::{Chain, GuestRam, Queue};
 /// Bytes in a sector (virtio 1.1, 5.2.4).
 pub const SECTOR_BYTES: usize = 512;
 
-/// The sectors of a disk, and which of them were written since the list of these was last emptied. The list has room for
-/// each sector from the start.
+/// The sectors of a disk, and which of them were written since the list of these was last emptied.
 #[derive(Drop)]
 pub(crate) struct Storage {
     bytes: Vec<u8>,
-    dirty: Vec<u32>,
+    dirty: SectorSet,
 }
 
 impl Model for Storage {
-    ghost use Rattle.std.specs.Prelude.{◌≤◌, vec_capacity};
+    ghost use Rattle.std.specs.Prelude.{◌≡◌};
     ghost use Rattle.block_device.specs.Contents.{Contents, IsDisk, capacity, contents_of};
 
     ghost Value = { Contents };
 
-    ghost view = { λ s. contents_of s.bytes.items s.dirty.items };
+    ghost view = { λ s. contents_of s.bytes.items s.dirty.list };
 
-    ghost invariant = { λ s. IsDisk (contents_of s.bytes.items s.dirty.items)
-        × (capacity (contents_of s.bytes.items s.dirty.items) ≤ vec_capacity s.dirty) };
+    ghost invariant = { λ s. IsDisk (contents_of s.bytes.items s.dirty.list)
+        × (s.dirty.room ≡ capacity (contents_of s.bytes.items s.dirty.list)) };
 }
 
 impl Storage {
@@ -44,7 +44,7 @@ impl Storage {
         let size = SECTOR_BYTES * sectors as usize;
         let mut bytes = Vec::with_capacity(alloc, size)?;
         bytes.resize(size, 0)?;
-        let dirty = Vec::with_capacity(alloc, sectors as usize)?;
+        let dirty = SectorSet::boot(alloc, sectors)?;
         Ok(Storage { bytes, dirty })
     }
 
@@ -54,8 +54,7 @@ impl Storage {
     {
         let mut bytes = Vec::with_capacity(alloc, self.bytes.len())?;
         bytes.extend_from_slice(self.bytes.as_slice())?;
-        let mut dirty = Vec::with_capacity(alloc, self.bytes.len() / SECTOR_BYTES)?;
-        dirty.extend_from_slice(self.dirty.as_slice())?;
+        let dirty = self.dirty.copy(alloc)?;
         Ok(Storage { bytes, dirty })
     }
 
@@ -78,12 +77,20 @@ impl Storage {
         as_sector(&self.bytes[start..start + SECTOR_BYTES])
     }
 
+    /// Whether each byte of a sector is 0.
+    pub(crate) fn blank(&self, sector: u32) -> bool
+        requires { sector < capacity self.now }
+        ensures { IsTrue result ↔ All (λ b. b ≡ 0) (sector_at self.now sector) }
+    {
+        is_zero(self.sector(sector))
+    }
+
     /// The sectors that were written since the list was last emptied, in rising order.
     pub(crate) fn dirty(&self) -> &[u32]
         ensures value { result.now ≡ self.now.dirty }
         ensures rises { Rises 0 (capacity self.now) result.now }
     {
-        self.dirty.as_slice()
+        self.dirty.list()
     }
 
     /// Empties the list of the written sectors.
@@ -100,7 +107,7 @@ impl Storage {
     {
         let start = SECTOR_BYTES * sector as usize;
         put(&mut self.bytes, start, bytes);
-        mark_written(&mut self.dirty, sector, 1);
+        self.dirty.mark(sector, 1);
     }
 
     /// Whether so many bytes from a sector on are whole sectors of the disk.
@@ -157,7 +164,7 @@ impl Storage {
     {
         let start = self.start_of(sector, len);
         gather_at(&mut self.bytes, start, len as usize, ram, chain, at);
-        mark_written(&mut self.dirty, sector as u32, (len / 512) as u32);
+        self.dirty.mark(sector as u32, (len / 512) as u32);
     }
 }
 

@@ -1,37 +1,14 @@
 //! A driver's requests to a disk of 8 sectors, in a RAM of 4096 bytes: a queue of 4 descriptors at its start, the available
 //! ring at 0x40, the used ring at 0x80, the header at 0x100, the status byte at 0x110 and the data from 0x200 on.
 
-ghost use Rattle.std.specs.Prelude.{◌≡◌, [], ◌+◌, ◌<◌, ◌≤◌, length, take, drop};
+ghost use Rattle.std.specs.Prelude.{◌<◌};
 
 use crate::disk::Disk;
 use crate::errors::DiskError;
 use std::alloc::Global;
 use std::test::Fail;
 use virtio_mmio::{Action, DeviceState};
-use virtqueue::GuestRam;
-
-#[derive(Drop)]
-struct Ram {
-    bytes: [u8; 4096],
-}
-
-impl GuestRam for Ram {
-    ghost bytes = { λ ram. ram.bytes };
-
-    ghost fixed = { λ _. [] };
-
-    fn size(&self) -> usize {
-        self.bytes.len()
-    }
-
-    fn read(&self, place: usize, into: &mut [u8]) {
-        into.copy_from_slice(&self.bytes[place..place + into.len()]);
-    }
-
-    fn write(&mut self, place: usize, from: &[u8]) {
-        self.bytes[place..place + from.len()].copy_from_slice(from);
-    }
-}
+use virtqueue::{GuestRam, PlainRam};
 
 /// What a driver stores to start the device: features, the queue, DRIVER_OK.
 const START: [(u64, u64); 10] = [
@@ -61,21 +38,20 @@ const NEXT: u8 = 1;
 const WRITE: u8 = 2;
 
 /// Puts a descriptor of a buffer at a place of RAM into the table.
-fn put_descriptor(ram: &mut Ram, index: usize, place: u16, len: u16, flags: u8, next: u8)
+fn put_descriptor(ram: &mut PlainRam, index: usize, place: u16, len: u16, flags: u8, next: u8)
     requires { index < 4 }
 {
     let at = place.to_le_bytes();
     let count = len.to_le_bytes();
-    ram.write(16 * index, &[at[0], at[1], 0, 0x80, 0, 0, 0, 0]);
-    ram.write(
-        16 * index + 8,
-        &[count[0], count[1], 0, 0, flags, 0, next, 0],
-    );
+    let descriptor = &mut ram.bytes[16 * index..16 * index + 16];
+    descriptor.copy_from_slice(&[
+        at[0], at[1], 0, 0x80, 0, 0, 0, 0, count[0], count[1], 0, 0, flags, 0, next, 0,
+    ]);
 }
 
 /// RAM with the descriptors of a request: its header, `len` data bytes in a buffer of these flags, and its status byte.
-fn request(len: u16, flags: u8, byte: u8) -> Ram {
-    let mut ram = Ram {
+fn request(len: u16, flags: u8, byte: u8) -> PlainRam {
+    let mut ram = PlainRam {
         bytes: [byte; 4096],
     };
     ram.write(0, &[0; 0x110]);
@@ -86,7 +62,7 @@ fn request(len: u16, flags: u8, byte: u8) -> Ram {
 }
 
 /// Has the disk serve its `count`th request, of this type and sector; answers the status byte.
-fn ask(disk: &mut Disk, ram: &mut Ram, count: u8, kind: u8, sector: u64) -> u8 {
+fn ask(disk: &mut Disk, ram: &mut PlainRam, count: u8, kind: u8, sector: u64) -> u8 {
     ram.bytes[0x100] = kind;
     ram.bytes[0x104] = 9;
     ram.bytes[0x108..0x110].copy_from_slice(&sector.to_le_bytes());
@@ -112,6 +88,7 @@ fn a_sector_is_written_and_read(rt: HostRuntime) -> Result<(), Fail> {
     assert_eq!(rt; disk.sector(7).as_slice(), [0xab; 512].as_slice());
     assert_eq!(rt; disk.sector(6).as_slice(), [0; 512].as_slice());
     assert_eq!(rt; disk.dirty_sectors(), [7].as_slice());
+    assert_eq!(rt; (disk.blank(6), disk.blank(7)), (true, false));
     assert_eq!(rt; disk.load(0x060, 4), Some(1));
     assert_eq!(rt; disk.interrupt_status(), 1);
     let copy = disk.copy(rt.alloc())?;
@@ -187,6 +164,9 @@ fn written_sectors_rise(rt: HostRuntime) -> Result<(), Fail> {
     assert_eq!(rt; ask(&mut disk, &mut two, 3, 1, 4), 0);
     assert_eq!(rt; ask(&mut disk, &mut two, 4, 1, 1), 0);
     assert_eq!(rt; disk.dirty_sectors(), [1, 2, 4, 5, 6].as_slice());
+    disk.settle();
+    assert_eq!(rt; ask(&mut disk, &mut two, 5, 1, 1), 0);
+    assert_eq!(rt; disk.dirty_sectors(), [1, 2].as_slice());
     Ok(())
 }
 

@@ -6,7 +6,7 @@ use Rattle.std.proofs.lemmas.Bool.{eqb-true, eqb-false, eq-eqb, true≢false, ca
 use Rattle.std.proofs.lemmas.List.{length-take-le, length-drop, length-replicate, append-nil}
 use Rattle.std.proofs.lemmas.List.Elements.{filter_passes}
 use Rattle.guest_machine.specs.Dirty.{Rises, is_in}
-use Rattle.guest_machine.specs.Guest.{sector_count}
+use Rattle.guest_machine.specs.Guest.{sector_count, sector_of as sector_in_place}
 use Rattle.epoch_snapshot.specs.declared.changes.SectorChange.{SectorChange}
 use Rattle.guest_machine.specs.Bytes.{with_bytes}
 use Rattle.epoch_snapshot.specs.Blocks.{is_zero}
@@ -153,9 +153,11 @@ flag_by false true f g = g refl
 flag_by false false f g = refl
 
 -- what the test for zeros answers of a sector
-pub zero-flag : (r : Bool) (bytes xs : List ℕ) (i : ℕ) → IsTrue r ↔ All (λ (b : ℕ). b ≡ 0) xs → xs ≡ slice_range bytes (512 * i) (512 * i + 512) → r ≡ is_zero (sector_of bytes i)
-zero-flag r bytes xs i says e =
-    flag_by r (is_zero xs) (λ h. all_zeros xs (says.0 h)) (λ h. says.1 (zeros_all xs h)) ∙ ap is_zero (e ∙ sector-slice bytes i)
+pub zero-flag : (r : Bool) (bytes : List ℕ) (i : ℕ) → IsTrue r ↔ All (λ (b : ℕ). b ≡ 0) (sector_in_place bytes i) →
+    r ≡ is_zero (sector_of bytes i)
+zero-flag r bytes i says =
+    let xs : List ℕ = sector_in_place bytes i in
+    flag_by r (is_zero xs) (λ h. all_zeros xs (says.0 h)) (λ h. says.1 (zeros_all xs h)) ∙ ap is_zero (sector-slice bytes i)
 
 -- one sector more is used, or isn't
 pub used-push : (bytes : List ℕ) (n : ℕ) (r : Bool) → r ≡ is_zero (sector_of bytes n) → r ≡ false → used_sectors bytes (n + 1) ≡ used_sectors bytes n ++ n ∷ []

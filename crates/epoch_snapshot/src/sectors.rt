@@ -4,7 +4,6 @@ ghost use Rattle.epoch_snapshot.specs.Cuts.{sector_change, changed_sectors, used
 
 use crate::changes::SectorChange;
 use guest_machine::Machine;
-use page_lanes::is_zero;
 
 /// A sector with its bytes.
 fn record(machine: &Machine, sector: u32) -> SectorChange
@@ -35,7 +34,7 @@ pub(crate) fn count_used(machine: &Machine, sectors: u32) -> usize
 {
     let mut count = 0;
     for sector in 0..sectors {
-        if !is_zero(machine.sector(sector)) {
+        if !machine.blank(sector) {
             count += 1;
         }
     }
@@ -50,7 +49,7 @@ pub(crate) fn push_used(machine: &Machine, sectors: u32, list: &mut Vec<SectorCh
     ensures { list.new.items ≡ changed_sectors machine.now.guest.sectors (used_sectors machine.now.guest.sectors sectors) }
 {
     for sector in 0..sectors {
-        if !is_zero(machine.sector(sector)) {
+        if !machine.blank(sector) {
             list.push_reserved(record(machine, sector));
         }
     }

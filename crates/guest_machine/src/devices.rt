@@ -1,5 +1,5 @@
 //! The devices of a machine: its network card and its disk.
-ghost use Rattle.std.specs.Prelude.{◌≡◌, ◌+◌, ◌*◌, ◌/◌, ◌<◌, ◌≤◌, ◌++◌, ◌==◌, ◌&&◌, not, IfOk, IfSome, IfNone, Some, None, [], length, slice_range};
+ghost use Rattle.std.specs.Prelude.{◌≡◌, ◌+◌, ◌*◌, ◌/◌, ◌<◌, ◌≤◌, ◌++◌, ◌==◌, ◌&&◌, ◌↔◌, not, All, IfOk, IfSome, IfNone, IsTrue, Some, None, [], length};
 ghost use Rattle.rv64_core.specs.Widths.{width_bytes};
 ghost use Rattle.virtio_mmio.specs.declared.kinds.DeviceKind.TheVariants.{Network, Block};
 ghost use Rattle.virtio_mmio.specs.States.{boot_state, IsDeviceRecord};
@@ -7,7 +7,7 @@ ghost use Rattle.virtio_mmio.specs.Transport.{loaded, stored};
 ghost use Rattle.net_device.specs.Receive.{received};
 ghost use Rattle.block_device.specs.Contents.{capacity, boot_contents, contents_with, unlisted};
 ghost use Rattle.block_device.specs.Dirty.{Rises};
-ghost use Rattle.guest_machine.specs.Guest.{sector_count};
+ghost use Rattle.guest_machine.specs.Guest.{sector_count, sector_of};
 ghost use Rattle.guest_machine.specs.Step.{acted, disk_acted};
 
 use crate::ram::Ram;
@@ -188,9 +188,17 @@ impl Devices {
     /// The bytes of a sector.
     pub(crate) fn sector(&self, sector: u32) -> &[u8; SECTOR_BYTES]
         requires { sector < sector_count self.now.contents.bytes }
-        ensures { result.now ≡ slice_range self.now.contents.bytes (512 * sector) (512 * sector + 512) }
+        ensures { result.now ≡ sector_of self.now.contents.bytes sector }
     {
         self.disk.sector(sector)
+    }
+
+    /// Whether each byte of a sector is 0.
+    pub(crate) fn blank(&self, sector: u32) -> bool
+        requires { sector < sector_count self.now.contents.bytes }
+        ensures { IsTrue result ↔ All (λ b. b ≡ 0) (sector_of self.now.contents.bytes sector) }
+    {
+        self.disk.blank(sector)
     }
 
     /// The sectors that were written since the last settle, in rising order.

@@ -1,9 +1,9 @@
 //! What a checkpoint states of a machine, and how one is put back.
-ghost use Rattle.std.specs.Prelude.{◌≡◌, ◌+◌, ◌*◌, ◌<◌, ◌≤◌, false, length, slice_range};
+ghost use Rattle.std.specs.Prelude.{◌≡◌, ◌+◌, ◌*◌, ◌<◌, ◌≤◌, ◌↔◌, false, length, All, IsTrue};
 ghost use Rattle.block_device.specs.Dirty.{Rises, with_written};
 ghost use Rattle.paged_memory.specs.Pages.{page_of, is_written, marked};
 ghost use Rattle.guest_machine.specs.Blocks.{block_place, with_block, with_sector};
-ghost use Rattle.guest_machine.specs.Guest.{sector_count};
+ghost use Rattle.guest_machine.specs.Guest.{sector_count, sector_of};
 ghost use Rattle.guest_machine.specs.MachineStates.{IsMachineState, state_of, with_state};
 
 use crate::blocks::BLOCK_BYTES;
@@ -77,9 +77,17 @@ impl Machine {
     /// The 512 bytes of a sector of the disk; the disk has it, as the caller knows.
     pub fn sector(&self, sector: u32) -> &[u8; SECTOR_BYTES]
         requires { sector < sector_count self.now.guest.sectors }
-        ensures { result.now ≡ slice_range self.now.guest.sectors (512 * sector) (512 * sector + 512) }
+        ensures { result.now ≡ sector_of self.now.guest.sectors sector }
     {
         self.devices.sector(sector)
+    }
+
+    /// Whether each byte of a sector of the disk is 0; the disk has the sector, as the caller knows.
+    pub fn blank(&self, sector: u32) -> bool
+        requires { sector < sector_count self.now.guest.sectors }
+        ensures { IsTrue result ↔ All (λ b. b ≡ 0) (sector_of self.now.guest.sectors sector) }
+    {
+        self.devices.blank(sector)
     }
 
     /// The sectors that the guest wrote since the last settle: they rise, and none stands there twice.

@@ -4,7 +4,7 @@ use Rattle.std.proofs.lemmas.List.{length_push, length-map, map-append}
 use Rattle.epoch_snapshot.specs.Cuts.{sector_change, changed_sectors, used_sectors}
 use Rattle.epoch_snapshot.proofs.SectorLemmas.{zero-flag, used-push, used-skip, no_sectors, length-fewer_used}
 use Rattle.epoch_snapshot.proofs.sectors.push_used.Goals as goal
-use Rattle.epoch_snapshot.proofs.sectors.push_used.Goals.{then-not-is_zero, else-not-is_zero}
+use Rattle.epoch_snapshot.proofs.sectors.push_used.Goals.{then-not-blank, else-not-blank}
 
 pub loop-sector-init : goal.loop-sector-init
 loop-sector-init c = (c.requires.empty ∙ ap (changed_sectors c.args.machine.now.guest.sectors) (no_sectors c.args.machine.now.guest.sectors), refl)
@@ -13,8 +13,8 @@ pub push_reserved-requires : goal.push_reserved-requires
 push_reserved-requires c =
     let bytes = c.args.machine.now.guest.sectors in
     let n = c.loop-sector.sector in
-    let flag = zero-flag c.is_zero.result bytes c.sector.result.now n c.is_zero.ensures c.sector.ensures in
-    let more = ap length (used-push bytes n c.is_zero.result flag c.if-not-is_zero.true) ∙ length_push (used_sectors bytes n) n in
+    let flag = zero-flag c.blank.result bytes n c.blank.ensures in
+    let more = ap length (used-push bytes n c.blank.result flag c.if-not-blank.true) ∙ length_push (used_sectors bytes n) n in
     let all = length-fewer_used bytes (n + 1) c.args.sectors (omega arith) in
     omega (arith, more, all, ap length c.loop-sector.invariant.0, c.loop-sector.invariant.1, length-map (used_sectors bytes n) (sector_change bytes))
 
@@ -22,17 +22,17 @@ pub loop-sector-preserved : goal.loop-sector-preserved
 loop-sector-preserved c =
     let bytes = c.args.machine.now.guest.sectors in
     let n = c.loop-sector.sector in
-    let flag = zero-flag c.is_zero.result bytes c.sector.result.now n c.is_zero.ensures c.sector.ensures in
-    elim c.if-not-is_zero.branch [
-      | then-not-is_zero w ↦
+    let flag = zero-flag c.blank.result bytes n c.blank.ensures in
+    elim c.if-not-blank.branch [
+      | then-not-blank w ↦
           rw w.list-is (
             w.push_reserved.ensures.items
                 ∙ (λ j. c.loop-sector.invariant.0 j ++ w.record.ensures j ∷ [])
                 ∙ sym (map-append (sector_change bytes) (used_sectors bytes n) (n ∷ []))
-                ∙ ap (changed_sectors bytes) (sym (used-push bytes n c.is_zero.result flag w.if-not-is_zero.true)),
+                ∙ ap (changed_sectors bytes) (sym (used-push bytes n c.blank.result flag w.if-not-blank.true)),
             w.push_reserved.ensures.capacity ∙ c.loop-sector.invariant.1,
           )
-      | else-not-is_zero w ↦
+      | else-not-blank w ↦
           rw w.list-is
-          (c.loop-sector.invariant.0 ∙ ap (changed_sectors bytes) (sym (used-skip bytes n c.is_zero.result flag w.if-not-is_zero.false)), c.loop-sector.invariant.1)
+          (c.loop-sector.invariant.0 ∙ ap (changed_sectors bytes) (sym (used-skip bytes n c.blank.result flag w.if-not-blank.false)), c.loop-sector.invariant.1)
     ]

@@ -24,8 +24,8 @@ use Rattle.std.specs.List.{range_with_len}
 use Rattle.std.specs.List.Sorted.{IsNonDecreasing}
 use Rattle.std.proofs.lemmas.List.FromFn.{length-range_with_len}
 use Rattle.block_device.specs.Dirty.{Rises}
-use Rattle.block_device.proofs.Rising.{Parted, rises_nondecreasing, from_before_to, room_for_range, written_already, moved_in}
-use Rattle.block_device.proofs.dirty.mark_written.Goals as goal
+use Rattle.block_device.proofs.Rising.{Parted, rises_nondecreasing, from_before_to, room_for_range, moved_in}
+use Rattle.block_device.proofs.dirty.put_in_place.Goals as goal
 
 -- what both searches found, of the list itself
 parted : (xs once twice : List ℕ) (first n end from to : ℕ) → once ≡ xs → twice ≡ xs → Rises 0 end xs → first + n ≤ end →
@@ -44,53 +44,35 @@ parted xs once twice first n end from to e f rises room below_first below_last a
 pub count_below-from-requires : goal.count_below-from-requires
 count_below-from-requires c =
     subst IsNonDecreasing (sym c.as_slice.ensures.value)
-    (rises_nondecreasing 0 (vec_capacity c.args.dirty.now) c.args.dirty.now.items c.requires.rises)
+    (rises_nondecreasing 0 (vec_capacity c.args.list.now) c.args.list.now.items c.requires.rises)
 
 pub count_below-to-requires : goal.count_below-to-requires
 count_below-to-requires c =
     subst IsNonDecreasing (sym c.as_slice-2.ensures.value)
-    (rises_nondecreasing 0 (vec_capacity c.args.dirty.now) c.args.dirty.now.items c.requires.rises)
-
-pub overflow_sub-to : goal.overflow_sub-to
-overflow_sub-to c =
-    let p = parted c.args.dirty.now.items c.as_slice.result.now c.as_slice-2.result.now c.args.first c.args.count
-    (vec_capacity c.args.dirty.now) c.count_below-from.result c.count_below-to.result c.as_slice.ensures.value
-    c.as_slice-2.ensures.value c.requires.rises c.requires.room c.count_below-from.ensures.below c.count_below-to.ensures.below
-    c.count_below-to.ensures.above c.count_below-from.ensures.within c.count_below-to.ensures.within in
-    from_before_to c.args.dirty.now.items c.args.first c.args.count (vec_capacity c.args.dirty.now) c.count_below-from.result
-    c.count_below-to.result p
-
-pub returns-then-to-from-clause-items : goal.returns-then-to-from-clause-items
-returns-then-to-from-clause-items c =
-    let p = parted c.args.dirty.now.items c.as_slice.result.now c.as_slice-2.result.now c.args.first c.args.count
-    (vec_capacity c.args.dirty.now) c.count_below-from.result c.count_below-to.result c.as_slice.ensures.value
-    c.as_slice-2.ensures.value c.requires.rises c.requires.room c.count_below-from.ensures.below c.count_below-to.ensures.below
-    c.count_below-to.ensures.above c.count_below-from.ensures.within c.count_below-to.ensures.within in
-    written_already c.args.dirty.now.items c.args.first c.args.count (vec_capacity c.args.dirty.now) c.count_below-from.result
-    c.count_below-to.result p c.if-to-from.true
+    (rises_nondecreasing 0 (vec_capacity c.args.list.now) c.args.list.now.items c.requires.rises)
 
 pub remove_places-requires-clause-ordered : goal.remove_places-requires-clause-ordered
 remove_places-requires-clause-ordered c =
-    let p = parted c.args.dirty.now.items c.as_slice.result.now c.as_slice-2.result.now c.args.first c.args.count
-    (vec_capacity c.args.dirty.now) c.count_below-from.result c.count_below-to.result c.as_slice.ensures.value
+    let p = parted c.args.list.now.items c.as_slice.result.now c.as_slice-2.result.now c.args.first c.args.count
+    (vec_capacity c.args.list.now) c.count_below-from.result c.count_below-to.result c.as_slice.ensures.value
     c.as_slice-2.ensures.value c.requires.rises c.requires.room c.count_below-from.ensures.below c.count_below-to.ensures.below
     c.count_below-to.ensures.above c.count_below-from.ensures.within c.count_below-to.ensures.within in
-    from_before_to c.args.dirty.now.items c.args.first c.args.count (vec_capacity c.args.dirty.now) c.count_below-from.result
+    from_before_to c.args.list.now.items c.args.first c.args.count (vec_capacity c.args.list.now) c.count_below-from.result
     c.count_below-to.result p
 
 pub push_range-requires-clause-room : goal.push_range-requires-clause-room
 push_range-requires-clause-room c =
-    let p = parted c.args.dirty.now.items c.as_slice.result.now c.as_slice-2.result.now c.args.first c.args.count
-    (vec_capacity c.args.dirty.now) c.count_below-from.result c.count_below-to.result c.as_slice.ensures.value
+    let p = parted c.args.list.now.items c.as_slice.result.now c.as_slice-2.result.now c.args.first c.args.count
+    (vec_capacity c.args.list.now) c.count_below-from.result c.count_below-to.result c.as_slice.ensures.value
     c.as_slice-2.ensures.value c.requires.rises c.requires.room c.count_below-from.ensures.below c.count_below-to.ensures.below
     c.count_below-to.ensures.above c.count_below-from.ensures.within c.count_below-to.ensures.within in
-    let room = room_for_range c.args.dirty.now.items c.args.first c.args.count (vec_capacity c.args.dirty.now) c.count_below-from.result
+    let room = room_for_range c.args.list.now.items c.args.first c.args.count (vec_capacity c.args.list.now) c.count_below-from.result
     c.count_below-to.result p in omega (arith, ap length c.remove_places.ensures.items, c.remove_places.ensures.capacity)
 
 pub move_last-requires : goal.move_last-requires
 move_last-requires c =
-    let p = parted c.args.dirty.now.items c.as_slice.result.now c.as_slice-2.result.now c.args.first c.args.count
-    (vec_capacity c.args.dirty.now) c.count_below-from.result c.count_below-to.result c.as_slice.ensures.value
+    let p = parted c.args.list.now.items c.as_slice.result.now c.as_slice-2.result.now c.args.first c.args.count
+    (vec_capacity c.args.list.now) c.count_below-from.result c.count_below-to.result c.as_slice.ensures.value
     c.as_slice-2.ensures.value c.requires.rises c.requires.room c.count_below-from.ensures.below c.count_below-to.ensures.below
     c.count_below-to.ensures.above c.count_below-from.ensures.within c.count_below-to.ensures.within in
     omega (
@@ -100,18 +82,18 @@ move_last-requires c =
       p.from_within,
       length-append c.remove_places.new.list.items (range_with_len c.args.first c.args.count),
       length-range_with_len c.args.first c.args.count,
-      length-append (take c.count_below-from.result c.args.dirty.now.items)
-          (drop c.count_below-to.result c.args.dirty.now.items),
-      length-take-le c.count_below-from.result c.args.dirty.now.items
+      length-append (take c.count_below-from.result c.args.list.now.items)
+          (drop c.count_below-to.result c.args.list.now.items),
+      length-take-le c.count_below-from.result c.args.list.now.items
           p.from_within,
     )
 
 pub returns-clause-items : goal.returns-clause-items
 returns-clause-items c =
-    let p = parted c.args.dirty.now.items c.as_slice.result.now c.as_slice-2.result.now c.args.first c.args.count
-    (vec_capacity c.args.dirty.now) c.count_below-from.result c.count_below-to.result c.as_slice.ensures.value
+    let p = parted c.args.list.now.items c.as_slice.result.now c.as_slice-2.result.now c.args.first c.args.count
+    (vec_capacity c.args.list.now) c.count_below-from.result c.count_below-to.result c.as_slice.ensures.value
     c.as_slice-2.ensures.value c.requires.rises c.requires.room c.count_below-from.ensures.below c.count_below-to.ensures.below
     c.count_below-to.ensures.above c.count_below-from.ensures.within c.count_below-to.ensures.within in
     let list = c.push_range.ensures.items ∙ ap (λ ys. ys ++ range_with_len c.args.first c.args.count) c.remove_places.ensures.items in
-    c.move_last.ensures.items ∙ moved_in c.args.dirty.now.items c.args.first c.args.count (vec_capacity c.args.dirty.now)
+    c.move_last.ensures.items ∙ moved_in c.args.list.now.items c.args.first c.args.count (vec_capacity c.args.list.now)
     c.count_below-from.result c.count_below-to.result p c.push_range.new.list.items list
