@@ -13,3 +13,4 @@ pub mod SectorsRead
 pub mod HeadFits
 pub mod StateRead
 pub mod TextRead
+pub mod TextLaws

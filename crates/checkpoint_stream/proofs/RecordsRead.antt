@@ -1,5 +1,6 @@
 -- The units of the page records and of the sector records are read as these.
-use Rattle.std.proofs.Common.{◌≡◌, ◌≢◌, ℕ, suc, zero, ◌+◌, ◌-◌, ◌<◌, ◌≤◌, ◌%◌, ◌^◌, ◌==◌, ◌&&◌, List, [], ◌∷◌, ◌++◌, length, map, take, drop}
+use Rattle.std.proofs.Common.{◌≡◌, ◌≢◌, ℕ, suc, zero, ◌+◌, ◌-◌, ◌<◌, ◌≤◌, ◌%◌, ◌^◌, ◌==◌, ◌&&◌, List, [], ◌∷◌, ◌++◌}
+use Rattle.std.proofs.Common.{length, map, take, drop}
 use Rattle.std.proofs.Common.{IsTrue, not, Bool, true, false, refl, ◌∙◌, ap, arith, append_assoc, All, count_ones}
 use Rattle.std.proofs.Common.{nat_le, nat_lt, length-drop, length-append}
 use Rattle.std.proofs.lemmas.List.{append-nil, take-append-drop}
@@ -68,7 +69,11 @@ pub page_count-step : (shape : Shape) (head : List ℕ) (before n : ℕ) → n �
 unfolding judged
 page_count-step shape head before n fits small =
     Leads-unit _ _ _ (λ o. refl) (λ o. refl) (some-bytes Four n) (λ o. length-bytes_of Four n)
-    (λ o. ((o + 4) % 2 ^ 64, counted shape PageCount head before _ n [] [] (λ (k : ℕ). pages_due k 0) shape.pages o (number-back Four n small) fits))
+    (λ o. (
+      (o + 4) % 2 ^ 64,
+      counted shape PageCount head before _ n [] [] (λ (k : ℕ). pages_due k 0) shape.pages o
+          (number-back Four n small) fits,
+    ))
 
 pub sector_count-step : (shape : Shape) (head : List ℕ) (before n : ℕ) (pages : List PageChange) (blocks : List (List ℕ)) →
     n ≤ shape.sectors → n < 2 ^ 32 →
@@ -165,7 +170,8 @@ blocks-lead shape head before left page zero pages blocks (b ∷ c ∷ own) coun
 blocks-lead shape head before left page (suc more) pages blocks (b ∷ c ∷ own) count some wide =
     let step : Leads (standing shape (Block left page (suc more)) 80 head before pages blocks []) (b ∷ [])
     (standing shape (Block left page more) 80 head before pages (blocks ++ b ∷ []) [])
-    = block-step shape head before left page (suc more) pages blocks b (All-head HasByte b (c ∷ own) some) (All-head IsBlockWide b (c ∷ own) wide) in
+    = block-step shape head before left page (suc more) pages blocks b (All-head HasByte b (c ∷ own) some)
+    (All-head IsBlockWide b (c ∷ own) wide) in
     let rest : Leads (standing shape (Block left page more) 80 head before pages (blocks ++ b ∷ []) []) (c ∷ own)
     (standing shape (pages_due left (page + 1)) 80 head before pages ((blocks ++ b ∷ []) ++ c ∷ own) [])
     = blocks-lead shape head before left page more pages (blocks ++ b ∷ []) (c ∷ own) (omega (arith, count))

@@ -3,7 +3,6 @@ use Rattle.std.proofs.Common.{◌≡◌, ℕ, ◌<◌, ◌≤◌, ◌^◌, List,
 use Rattle.std.proofs.lemmas.List.{length-map}
 use Rattle.std.proofs.Common.{All, drop}
 use Rattle.std.proofs.lemmas.List.Elements.{All-take, All-drop}
-use Rattle.guest_machine.specs.declared.shapes.Shape.{Shape}
 use Rattle.guest_machine.specs.declared.machine_state.MachineState.{MachineState}
 use Rattle.epoch_snapshot.specs.declared.changes.PageChange.{PageChange}
 use Rattle.epoch_snapshot.specs.declared.changes.SectorChange.{SectorChange}
@@ -23,7 +22,8 @@ use Rattle.checkpoint_stream.proofs.Leading.{standing, Leads, Leads-append}
 use Rattle.checkpoint_stream.proofs.HeadRead.{numbers-lead}
 use Rattle.checkpoint_stream.proofs.HeadFits.{IsWord, head-passes, head-fits}
 use Rattle.checkpoint_stream.proofs.StateRead.{state-back, numbers-back}
-use Rattle.checkpoint_stream.proofs.RecordsRead.{FitsMask, IsBlockWide, IsSectorWide, Rises-end, PagesLeft, page_count-step, sector_count-step, pages-lead}
+use Rattle.checkpoint_stream.proofs.RecordsRead.{FitsMask, IsBlockWide, IsSectorWide, Rises-end, PagesLeft}
+use Rattle.checkpoint_stream.proofs.RecordsRead.{page_count-step, sector_count-step, pages-lead}
 use Rattle.checkpoint_stream.proofs.SectorsRead.{SectorsLeft, sectors-lead}
 
 -- units are taken whole, and read as these units
@@ -39,7 +39,7 @@ unfolding head_table
 some-rows = lit< tt
 
 -- the reading that a whole checkpoint is
-abbrev whole : Change → ℕ → Reading
+abbrev pub whole : Change → ℕ → Reading
 whole c = standing c.shape Whole 80 (head_numbers c) (last_after 0 (head_numbers c)) c.pages c.blocks c.sectors
 
 page-count : (c : Change) → IsCanonical c → length c.pages ≤ c.shape.pages
@@ -51,7 +51,7 @@ sector-count c h = omega (arith, Rises-end 0 c.shape.sectors _ h.sectors, length
 pages-left : (c : Change) → IsCanonical c → HasWidths c → PagesLeft c.shape 0 c.pages c.blocks
 pages-left c h w = record {
   rises = h.pages;
-  small = w.page_count;
+  small = omega (arith, c.shape.most_pages);
   some = h.masks;
   masks = w.masks;
   count = h.block_count;
@@ -61,15 +61,15 @@ pages-left c h w = record {
 
 sectors-left : (c : Change) → IsCanonical c → HasWidths c → SectorsLeft c.shape (head_numbers c) 0 c.sectors
 unfolding head_numbers
-sectors-left c h w = record { rises = h.sectors; small = w.sector_count; full = h.full_sectors; wide = w.sectors }
+sectors-left c h w = record { rises = h.sectors; small = omega (arith, c.shape.most_sectors); full = h.full_sectors; wide = w.sectors }
 
 units-lead : (c : Change) → IsCanonical c → HasWidths c → Leads (standing c.shape Head 0 [] 0 [] [] []) (units c) (whole c)
 unfolding units
 units-lead c h w =
     let head : List ℕ = head_numbers c in
     let before : ℕ = last_after 0 head in
-    let pages_small : length c.pages < 2 ^ 32 = omega (arith, page-count c h, w.page_count) in
-    let sectors_small : length c.sectors < 2 ^ 32 = omega (arith, sector-count c h, w.sector_count) in
+    let pages_small : length c.pages < 2 ^ 32 = omega (arith, page-count c h, c.shape.most_pages) in
+    let sectors_small : length c.sectors < 2 ^ 32 = omega (arith, sector-count c h, c.shape.most_sectors) in
     let heads : Leads (standing c.shape Head 0 [] 0 [] [] []) (number_units head_table head)
     (standing c.shape PageCount 80 head before [] [] [])
     = numbers-lead c.shape head_table head 0 [] 0 some-rows refl (head-passes c h) (head-fits c h w) in
@@ -88,7 +88,7 @@ units-lead c h w =
     Leads-append _ _ _ _ _ heads (Leads-append _ _ _ _ _ (Leads-append _ _ _ _ _ page_counted pages)
     (Leads-append _ _ _ _ _ sector_counted sectors))
 
-whole-change : (c : Change) (o : ℕ) → IsCanonical c → HasWidths c → change_in (whole c o) ≡ c
+pub whole-change : (c : Change) (o : ℕ) → IsCanonical c → HasWidths c → change_in (whole c o) ≡ c
 unfolding change_in head_numbers
 whole-change c o h w =
     ap (λ (s : MachineState). change_of c.shape c.generation c.number s c.pages c.blocks c.sectors) (state-back c h w.state)
@@ -119,16 +119,14 @@ registers-fit c count words =
     subst (All IsWord) (numbers-back c.state.registers 0 31 (sym count)) among
 
 -- what a writer knows of a checkpoint, whose numbers and lists come from their types
-pub has-widths : (c : Change) (shape : Shape) (state : MachineState) (numbers : List ℕ) (pages : List PageChange)
-    (blocks : List (List ℕ)) (sectors : List SectorChange) → shape ≡ c.shape → state ≡ c.state → numbers ≡ head_numbers c →
-    pages ≡ c.pages → blocks ≡ c.blocks → sectors ≡ c.sectors → shape.pages < 2 ^ 32 → shape.sectors < 2 ^ 32 → StateFits state →
+pub has-widths : (c : Change) (state : MachineState) (numbers : List ℕ) (pages : List PageChange)
+    (blocks : List (List ℕ)) (sectors : List SectorChange) → state ≡ c.state → numbers ≡ head_numbers c →
+    pages ≡ c.pages → blocks ≡ c.blocks → sectors ≡ c.sectors → StateFits state →
     All IsWord numbers → All FitsMask pages → All IsBlockWide blocks → All IsSectorWide sectors → HasWidths c
-has-widths c shape state numbers pages blocks sectors is_shape is_state is_numbers is_pages is_blocks is_sectors
-    page_count sector_count fits words masks wide whole =
+has-widths c state numbers pages blocks sectors is_state is_numbers is_pages is_blocks is_sectors
+    fits words masks wide whole =
     let all : StateFits c.state = subst StateFits is_state fits in
     record {
-      page_count = subst (λ (s : Shape). s.pages < 2 ^ 32) is_shape page_count;
-      sector_count = subst (λ (s : Shape). s.sectors < 2 ^ 32) is_shape sector_count;
       state = all;
       registers = registers-fit c all.count (subst (All IsWord) is_numbers words);
       masks = subst (All FitsMask) is_pages masks;

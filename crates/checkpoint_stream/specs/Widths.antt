@@ -44,10 +44,8 @@ pub record StateFits (s : MachineState) : Type 0 where
   pub net : DeviceFits s.net
   pub disk : DeviceFits s.disk
 
--- a checkpoint: pages and sectors have 32-bit indices, a page has 64 blocks of 64 bytes, and a sector 512 bytes
+-- a checkpoint: a page has 64 blocks of 64 bytes, and a sector 512 bytes
 pub record HasWidths (c : Change) : Type 0 where
-  pub page_count : c.shape.pages < 2 ^ 32
-  pub sector_count : c.shape.sectors < 2 ^ 32
   pub state : StateFits c.state
   pub registers : All (λ n. n < 2 ^ 64) c.state.registers
   pub masks : All (λ p. p.mask < 2 ^ 64) c.pages

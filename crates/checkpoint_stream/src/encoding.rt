@@ -10,7 +10,7 @@ ghost use Rattle.checkpoint_stream.specs.declared.rules.Width.TheVariants.{Four,
 
 use crate::errors::StreamError;
 use crate::rules::{HEAD_NUMBERS, MAGIC_NUMBER, Width, head_row};
-use crate::widths::{block_widths, shape_widths, state_widths};
+use crate::widths::{block_widths, state_widths};
 use epoch_snapshot::{BLOCK_BYTES, Block, Checkpoint, PageChange, SectorChange};
 use guest_machine::SECTOR_BYTES;
 use std::alloc::{AllocError, Global};
@@ -41,7 +41,6 @@ pub fn encode(alloc: Global, checkpoint: &Checkpoint) -> Result<Vec<u8>, StreamE
     put_pages(&mut out, pages, blocks)?;
     put(&mut out, Width::Four, sectors.len() as u64)?;
     put_sectors(&mut out, sectors)?;
-    shape_widths(checkpoint.shape());
     state_widths(*checkpoint.state());
     block_widths(blocks);
     Ok(out)

@@ -1,13 +1,15 @@
 //! Laws of reading.
 
-ghost use Rattle.std.specs.Prelude.{◌≡◌, ℕ, true, List, ◌++◌};
+ghost use Rattle.std.specs.Prelude.{◌≡◌, ◌≢◌, ℕ, true, List, [], ◌++◌};
 ghost use Rattle.guest_machine.specs.declared.shapes.Shape.{Shape};
-ghost use Rattle.epoch_snapshot.specs.Checkpoints.{IsCanonical};
-ghost use Rattle.checkpoint_stream.specs.declared.place.Place.TheVariants.{Whole};
+ghost use Rattle.epoch_snapshot.specs.Checkpoints.{Change, IsCanonical};
+ghost use Rattle.checkpoint_stream.specs.declared.place.Place.TheVariants.{Whole, Failed};
 ghost use Rattle.checkpoint_stream.specs.Readings.{Reading, begun, fed, taken, is_closed};
 ghost use Rattle.checkpoint_stream.specs.Sound.{change_in};
-ghost use Rattle.checkpoint_stream.specs.Text.{joined};
+ghost use Rattle.checkpoint_stream.specs.Text.{joined, text};
 ghost use Rattle.checkpoint_stream.specs.Units.{judged_all, AreUnits};
+ghost use Rattle.checkpoint_stream.specs.Widths.{HasWidths};
+ghost use Rattle.checkpoint_stream.specs.ReadBack.{ReadsBack};
 
 /// Bytes in two pieces are read as in one.
 pub fn any_pieces()
@@ -28,4 +30,27 @@ pub fn read_is_canonical()
 /// Bytes that are whole units, one after another, are read as these units.
 pub fn units_are_read()
     ensures { (r : Reading) (units : List (List ℕ)) → AreUnits r units → fed r (joined units) ≡ judged_all r units }
+{}
+
+/// A checkpoint's text is taken whole, and read as this checkpoint.
+pub fn text_is_read_back()
+    ensures { (c : Change) → IsCanonical c → HasWidths c → ReadsBack c (text c) }
+{}
+
+/// Each byte of a text was needed: at no earlier one does a checkpoint stand whole, or a unit break its rule.
+pub fn each_byte_is_needed()
+    ensures { (c : Change) (offset : ℕ) (front rest : List ℕ) → IsCanonical c → HasWidths c → text c ≡ front ++ rest
+        → is_closed (fed (begun c.shape offset) front).place ≡ true → rest ≡ [] }
+{}
+
+/// Where a unit broke its rule, no bytes that come after make a text.
+pub fn malformed_begins_no_text()
+    ensures { (c : Change) (offset at : ℕ) (bytes more : List ℕ) → IsCanonical c → HasWidths c
+        → (fed (begun c.shape offset) bytes).place ≡ Failed at → text c ≢ bytes ++ more }
+{}
+
+/// No text begins another: each has one checkpoint, and ends where that ends.
+pub fn no_text_begins_another()
+    ensures { (c d : Change) (more : List ℕ) → IsCanonical c → HasWidths c → IsCanonical d → HasWidths d → c.shape ≡ d.shape
+        → text c ++ more ≡ text d → (c ≡ d) × (more ≡ []) }
 {}

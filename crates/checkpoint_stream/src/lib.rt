@@ -19,5 +19,8 @@ mod widths;
 
 pub use encoding::encode;
 pub use errors::StreamError;
-pub use laws::{any_pieces, closed_takes_nothing, read_is_canonical, units_are_read};
+pub use laws::{
+    any_pieces, closed_takes_nothing, each_byte_is_needed, malformed_begins_no_text,
+    no_text_begins_another, read_is_canonical, text_is_read_back, units_are_read,
+};
 pub use reader::Reader;

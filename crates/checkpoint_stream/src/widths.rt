@@ -1,18 +1,12 @@
 //! What the types of a checkpoint's parts say of its numbers and of its lists.
 
-ghost use Rattle.std.specs.Prelude.{◌≡◌, ◌<◌, ◌^◌, length, All};
+ghost use Rattle.std.specs.Prelude.{◌≡◌, length, All};
 ghost use Rattle.checkpoint_stream.specs.Widths.{QueueFits, DeviceFits, StateFits};
 
 use epoch_snapshot::Block;
-use guest_machine::{MachineState, Shape};
+use guest_machine::MachineState;
 use virtio_mmio::DeviceState;
 use virtqueue::Queue;
-
-/// Both numbers of a shape are ones of their type.
-pub(crate) fn shape_widths(shape: Shape)
-    ensures pages { shape.pages < 2 ^ 32 }
-    ensures sectors { shape.sectors < 2 ^ 32 }
-{}
 
 /// Each number of a queue is one of its type.
 fn queue_widths(queue: Queue)

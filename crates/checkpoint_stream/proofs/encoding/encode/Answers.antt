@@ -18,12 +18,12 @@ returns c =
     (assembled _ _ _ _ _ _ _ _ _ _ c.put_sectors.new.out.items c.in_ok-out.ensures.items c.in_ok-put_head.ensures.put c.in_ok-put.ensures
     c.in_ok-put_pages.ensures.put c.in_ok-put-2.ensures c.in_ok-put_sectors.ensures.put) in
     let widths : HasWidths c.args.checkpoint.now
-    = has-widths c.args.checkpoint.now _ _ _ _ _ _ c.shape.ensures c.state.ensures.value c.numbers.ensures
-    c.pages-pages.ensures.value c.blocks-blocks.ensures.value c.sectors-sectors.ensures.value c.shape_widths.ensures.pages
-    c.shape_widths.ensures.sectors c.state_widths.ensures c.in_ok-put_head.ensures.width c.in_ok-put_pages.ensures.width
-    c.block_widths.ensures c.in_ok-put_sectors.ensures.width in
+    = has-widths c.args.checkpoint.now _ _ _ _ _ c.state.ensures.value c.numbers.ensures c.pages-pages.ensures.value
+    c.blocks-blocks.ensures.value c.sectors-sectors.ensures.value c.state_widths.ensures c.in_ok-put_head.ensures.width
+    c.in_ok-put_pages.ensures.width c.block_widths.ensures c.in_ok-put_sectors.ensures.width in
     record {
       text = spelled;
-      read = subst (ReadsBack c.args.checkpoint.now) (sym spelled) (reads-back c.args.checkpoint.now c.pages-pages.ensures.canonical widths);
+      read = subst (ReadsBack c.args.checkpoint.now) (sym spelled)
+          (reads-back c.args.checkpoint.now c.pages-pages.ensures.canonical widths);
       widths = widths;
     }
