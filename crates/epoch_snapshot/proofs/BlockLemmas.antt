@@ -5,8 +5,8 @@ use Rattle.std.proofs.lemmas.Bool.{eqb-true, true≢false}
 use Rattle.std.proofs.Math.Seq.{take-add}
 use Rattle.std.proofs.lemmas.List.{take_at, drop_at, drop-drop, take-append-drop, length-take-le, length-drop, append_assoc, append-nil, take_all, nil_from_length}
 use Rattle.std.specs.List.{range_with_len, filter}
-use Rattle.guest_machine.specs.Bytes.{with_bytes}
-use Rattle.epoch_snapshot.specs.Blocks.{xored, differ, block_in, with_xored, block_differs}
+use Rattle.guest_machine.specs.Bytes.{with_bytes, with_xored}
+use Rattle.epoch_snapshot.specs.Blocks.{xored, differ, block_in, block_differs}
 use Rattle.epoch_snapshot.specs.Cuts.{block_change}
 use Rattle.epoch_snapshot.specs.Images.{with_blocks}
 
@@ -75,7 +75,7 @@ module _ (old new : List ℕ) (long : length old ≡ length new) where
       ∙ sym (ap (λ k. take k new ++ drop k old) e)
 
   -- a block that changes
-  changed : (n : ℕ) → 64 * n + 64 ≤ length new → with_xored (mixed old new n) n (block_change old new n) ≡ mixed old new (n + 1)
+  changed : (n : ℕ) → 64 * n + 64 ≤ length new → with_xored (mixed old new n) (64 * n) (block_change old new n) ≡ mixed old new (n + 1)
   changed n within =
       let both : length (block_in old n) ≡ length (block_in new n) = length-block old n (omega arith) ∙ sym (length-block new n within) in
       let block : xored (block_in (mixed old new n) n) (block_change old new n) ≡ block_in new n

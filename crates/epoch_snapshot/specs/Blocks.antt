@@ -3,7 +3,6 @@ use Rattle.std.specs.Prelude.{ℕ, ◌+◌, ◌*◌, Bool, not, ◌==◌, List, 
 use Rattle.std.specs.List.{range_with_len, list_all, list_any}
 use Rattle.std.specs.Simd.Lanes.{zip2, mask_l}
 use Rattle.std.specs.Int.{bit_at}
-use Rattle.guest_machine.specs.Bytes.{with_bytes}
 use Rattle.epoch_snapshot.specs.declared.changes.PageChange.{PageChange}
 
 -- every byte is 0
@@ -30,10 +29,6 @@ differ xs ys = list_any (λ d. d) (zip2 (λ x y. not (x == y)) xs ys)
 -- a block of memory, by its number
 abbrev pub block_in : List ℕ → ℕ → List ℕ
 block_in ram n = take 64 (drop (64 * n) ram)
-
--- memory with a block XORed into one of its own
-abbrev pub with_xored : List ℕ → ℕ → List ℕ → List ℕ
-with_xored ram n block = with_bytes ram (64 * n) (xored (block_in ram n) block)
 
 -- a block differs in two memories
 abbrev pub block_differs : List ℕ → List ℕ → ℕ → Bool

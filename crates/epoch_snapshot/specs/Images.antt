@@ -3,15 +3,15 @@ use Rattle.std.specs.Prelude.{ℕ, ◌*◌, ◌==◌, if◌then◌else◌, List,
 use Rattle.guest_machine.specs.Guest.{Guest}
 use Rattle.guest_machine.specs.MachineStates.{with_state}
 use Rattle.epoch_snapshot.specs.declared.changes.SectorChange.{SectorChange}
-use Rattle.guest_machine.specs.Bytes.{with_bytes}
-use Rattle.epoch_snapshot.specs.Blocks.{block_numbers, with_xored}
+use Rattle.guest_machine.specs.Bytes.{with_bytes, with_xored}
+use Rattle.epoch_snapshot.specs.Blocks.{block_numbers}
 use Rattle.epoch_snapshot.specs.Checkpoints.{Change}
 
 -- memory with blocks XORed into those of these numbers, one after another
 unfoldable pub with_blocks : List ℕ → List ℕ → List (List ℕ) → List ℕ
 with_blocks ram [] blocks = ram
 with_blocks ram (n ∷ ns) [] = ram
-with_blocks ram (n ∷ ns) (b ∷ bs) = with_blocks (with_xored ram n b) ns bs
+with_blocks ram (n ∷ ns) (b ∷ bs) = with_blocks (with_xored ram (64 * n) b) ns bs
 
 -- a disk with these sectors replaced, one after another
 unfoldable pub with_sectors : List ℕ → List SectorChange → List ℕ
