@@ -3,16 +3,20 @@
 that breaks its rule. It shares nothing with the crate checkpoint_stream.
 
     checkpoints.py beacon                          the checkpoint of the beacon after 22 steps, on standard output
+    checkpoints.py disk                            the checkpoint of the guest 'disk 3 ab' after 23 steps, on 2 pages and 8 sectors
     checkpoints.py random SEED                     a stream of random checkpoints (its shape: 'shape SEED')
     checkpoints.py shape SEED                      'PAGES SECTORS', the shape of that stream
     checkpoints.py lines FILE PAGES SECTORS        what 'remus check-stream' has to print of FILE
     checkpoints.py play REMUS COUNT [FIRST_SEED]   plays random streams, whole, cut short and damaged, through REMUS
+    checkpoints.py damage REMUS                    plays the beacon's and the disk guest's checkpoint through REMUS, cut to each length,
+                                                   and with each byte set to each of a dozen others; and each twice in one stream
 """
 import random
 import struct
 import subprocess
 import sys
 import tempfile
+from concurrent.futures import ThreadPoolExecutor
 from dataclasses import dataclass, field
 from pathlib import Path
 
@@ -198,6 +202,21 @@ def beacon():
     return c
 
 
+def disk_guest():
+    """The guest 'disk 3 ab' on 2 pages and 8 sectors, cut as number 1 of generation 1 after 23 steps: its one request, of three
+    descriptors, is done. The used ring at 0x80001080 has one entry, of the chain that begins at descriptor 0, with 1 byte written; the
+    status byte at 0x80001110 went from ff to 0; and sector 3 is all ab."""
+    c = Checkpoint(2, 8, generation=1, number=1, steps=23, pc=0x8000005C, mtimecmp=MTIMECMP_AT_BOOT)
+    c.registers[4:8] = [0x10002000, 1, 15, 11]
+    c.disk = Device([Queue(4, 1, 0x80001000, 0x80001040, 0x80001080, 1, 1)], 15, 0, 1, 1 << 32, 0, 1)
+    used, status = bytearray(BLOCK), bytearray(BLOCK)
+    used[2], used[8] = 1, 1
+    status[16] = 0xFF
+    c.page_records = {1: {2: bytes(used), 4: bytes(status)}}
+    c.sector_records = {3: bytes([0xAB]) * SECTOR}
+    return c
+
+
 MTIMECMP_AT_BOOT = 2**64 - 1
 
 
@@ -262,28 +281,65 @@ def variants(seed, data):
             yield bytes(damaged)
 
 
-def play(remus, count, first):
+def compare(remus, file, data, pages, sectors):
+    """Ends the program where check-stream doesn't print what is printed here."""
+    file.write_bytes(data)
+    command = [remus, "check-stream", str(file), "--pages", str(pages), "--sectors", str(sectors)]
+    ran = subprocess.run(command, capture_output=True, text=True)
+    wanted, status = lines(data, pages, sectors)
+    if (ran.stdout, ran.returncode, ran.stderr) != (wanted, status, ""):
+        Path("failed.stream").write_bytes(data)
+        raise AssertionError(f"shape {pages} {sectors}: {ran.returncode} {ran.stdout!r}, not {status} {wanted!r}; see failed.stream")
+
+
+def compare_all(remus, streams):
+    """Plays streams with their shapes, several at once."""
     played = 0
-    with tempfile.TemporaryDirectory() as folder:
-        file = Path(folder) / "stream"
-        for seed in range(first, first + count):
-            pages, sectors = random_shape(seed)
-            for data in variants(seed, random_stream(seed)):
-                file.write_bytes(data)
-                command = [remus, "check-stream", str(file), "--pages", str(pages), "--sectors", str(sectors)]
-                ran = subprocess.run(command, capture_output=True, text=True)
-                wanted, status = lines(data, pages, sectors)
-                if (ran.stdout, ran.returncode) != (wanted, status):
-                    Path("failed.stream").write_bytes(data)
-                    sys.exit(f"seed {seed} at {pages} {sectors}: {ran.returncode} {ran.stdout!r}, not {status} {wanted!r}; see failed.stream")
-                played += 1
+    with tempfile.TemporaryDirectory() as folder, ThreadPoolExecutor() as pool:
+
+        def one(numbered):
+            number, (data, pages, sectors) = numbered
+            file = Path(folder) / str(number)
+            compare(remus, file, data, pages, sectors)
+            file.unlink()
+
+        for _ in pool.map(one, enumerate(streams)):
+            played += 1
     print(f"{played} streams are answered as they are here")
+
+
+def random_variants(count, first):
+    for seed in range(first, first + count):
+        pages, sectors = random_shape(seed)
+        for data in variants(seed, random_stream(seed)):
+            yield data, pages, sectors
+
+
+OTHER_BYTES = (0x00, 0x01, 0x02, 0x03, 0x04, 0x08, 0x10, 0x18, 0x40, 0x7F, 0x80, 0x88, 0xFE, 0xFF)
+
+
+def damaged():
+    """The beacon's and the disk guest's checkpoint, cut to each length, and with each byte set to each of a dozen others; after a whole
+    one too, where the offsets count from the file's start."""
+    for c in (beacon(), disk_guest()):
+        whole = text(c)
+        for data in (whole, whole + whole, text(disk_guest()) + whole, bytes()):
+            yield data, c.pages, c.sectors
+        for place, byte in enumerate(whole):
+            yield whole[:place], c.pages, c.sectors
+            yield whole + whole[:place], c.pages, c.sectors
+            others = [other for other in OTHER_BYTES if other != byte][:12]
+            for other in others:
+                yield whole[:place] + bytes([other]) + whole[place + 1 :], c.pages, c.sectors
+            yield whole + whole[:place] + bytes([byte ^ 0xFF]) + whole[place + 1 :], c.pages, c.sectors
 
 
 def main(words):
     match words:
         case ["beacon"]:
             sys.stdout.buffer.write(text(beacon()))
+        case ["disk"]:
+            sys.stdout.buffer.write(text(disk_guest()))
         case ["random", seed]:
             sys.stdout.buffer.write(random_stream(int(seed)))
         case ["shape", seed]:
@@ -293,9 +349,11 @@ def main(words):
             sys.stdout.write(printed)
             sys.exit(status)
         case ["play", remus, count]:
-            play(remus, int(count), 0)
+            compare_all(remus, random_variants(int(count), 0))
         case ["play", remus, count, first]:
-            play(remus, int(count), int(first))
+            compare_all(remus, random_variants(int(count), int(first)))
+        case ["damage", remus]:
+            compare_all(remus, damaged())
         case _:
             sys.exit(__doc__)
 

@@ -11,3 +11,4 @@ mod MeaningLemmas
 mod LineLemmas
 mod ScriptLemmas
 mod ReplyLemmas
+mod ListingLemmas

@@ -18,7 +18,7 @@ use Rattle.remus.specs.Output.{AppendsFront}
 use Rattle.remus.specs.Playing.{IsLineDone, IsLineAnswered}
 use Rattle.remus.specs.Meaning.{AsksFor, Happens, IsAnswered, IsDone, IsBeyond, IsLine, Stage, unbooted, playing, Ending, GoesOn, Ends}
 
-false-not-true : false ≡ true → ⊥
+pub false-not-true : false ≡ true → ⊥
 false-not-true e = subst (λ b. cond b ⊥ Unit) e tt
 
 abbrev ok_value : {E : Type 0} → Result Bool E → Bool

@@ -10,3 +10,5 @@ pub mod Playing
 pub mod Lines
 pub mod Meaning
 pub mod StreamLines
+pub mod StreamMeaning
+pub mod Listing
