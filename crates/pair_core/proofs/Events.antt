@@ -1,33 +1,31 @@
 -- Each event keeps the invariant: one lemma for each part that it touches, and the others pass on by name.
-use Rattle.std.proofs.Common.{◌≡◌, ◌≢◌, ℕ, zero, suc, ◌+◌, ◌-◌, ◌<◌, ◌≤◌, List, [], ◌∷◌, ◌++◌, length, take, drop, get_or, replicate, refl, sym, ap, ◌∙◌, subst, arith, append_assoc, Bool, true, false, cond, Some, ⊎_elim}
-use Rattle.std.specs.Prelude.{map, nat_le, slice_get, ◌==◌}
+use Rattle.std.proofs.Common.{◌≡◌, ◌≢◌, ℕ, zero, suc, ◌+◌, ◌-◌, ◌<◌, ◌≤◌, List, [], ◌∷◌, ◌++◌, length, take, drop, remove, get_or, replicate, refl, sym, ap, ◌∙◌, subst, arith, append_assoc, true, false, cond, Some, ⊎_elim}
+use Rattle.std.specs.Prelude.{map, slice_get, ◌==◌}
 use Rattle.std.proofs.lemmas.Bool.{eq-eqb}
 use Rattle.std.proofs.lemmas.Bool.Decides.{nat_tests, eqb_tells}
-use Rattle.std.proofs.lemmas.List.{append-nil, length-append, length-map, length-replicate, length-set, map-append, get_or-set_same, get_or-set_other, drop-append-le, take-append-le}
+use Rattle.std.proofs.lemmas.List.{append-nil, length-map, length-replicate, length-set, map-append, get_or-set_same, get_or-set_other, drop-append-le, take-append-le}
 use Rattle.guest_machine.specs.Guest.{Guest, boot_guest}
-use Rattle.frame_ports.specs.Addresses.{IsFrame, targets_of}
-use Rattle.frame_ports.specs.Lands.{list_of, with_list, landed_at, lands}
-use Rattle.frame_ports.specs.Ports.{PortsState, empty_ports, after_delivery}
-use Rattle.frame_ports.specs.declared.limits.TheConstants.{INBOX_FRAMES, BOX_FRAMES}
-use Rattle.output_gate.specs.Epochs.{Epoch, frames_to, after_number, frames_of}
-use Rattle.pair_history.specs.Entries.{Frame, Entry, Delivered, Refused, Took}
-use Rattle.pair_history.specs.HistoryState.{HistoryState, Waiting, inbox_of, without_number, at, Legal, Allows, start_state}
-use Rattle.pair_history.specs.Landings.{landings, DropsAtFull, BoxesFit}
-use Rattle.pair_history.specs.Moves.{Move, Steps, Arrives, entry_of, entries_of, guest_along, frames_along, left_by, left, AllCan, AreRising}
-use Rattle.pair_history.proofs.States.{at-append, Legal-append, DropsAtFull-append, targets_of-append}
-use Rattle.pair_history.proofs.Waiting.{inbox_of-append, AreRising-push, AreRising-without, StartsWith, Leaves, first-leaves}
-use Rattle.pair_history.proofs.Moves.{guest_along-append, frames_along-append, left-append, AllCan-append, AllCan-front, AllCan-back, moved, at-moves, Legal-moves, DropsAtFull-moves, AllCan-more, left-more, left-shorter}
-use Rattle.pair_history.proofs.LandingLaws.{length-lands, BoxesFit-set, BoxesFit-at, BoxesFit-lands, AllClients-targets, landings-land, AllLand, AllClients}
-use Rattle.pair_core.specs.declared.window.Window.{Window}
-use Rattle.pair_core.specs.Invariant.{all_moves, epoch_nodes, epoch_frames, frames_by_epoch, AreInboxes, IsJournal, AreNodes, AreClients, Holds}
-use Rattle.pair_core.specs.Journal.{Journal, with_history, with_running, sealed_off, committed, first_of, rest_of}
+use Rattle.frame_ports.specs.Addresses.{targets_of}
+use Rattle.frame_ports.specs.Lands.{list_of, with_list}
+use Rattle.frame_ports.specs.Ports.{empty_ports}
+use Rattle.output_gate.specs.Epochs.{Epoch, frames_of}
+use Rattle.pair_history.specs.Entries.{Frame, Entry}
+use Rattle.pair_history.specs.HistoryState.{HistoryState, Waiting, inbox_of, without_number, at, Legal, start_state}
+use Rattle.pair_history.specs.Landings.{DropsAreKnown, BoxesFit}
+use Rattle.pair_history.specs.Moves.{Move, Arrives, entry_of, entries_of, guest_along, frames_along, left, AllCan, AreRising}
+use Rattle.pair_history.proofs.States.{at-append, Legal-append, DropsAreKnown-append, targets_of-append}
+use Rattle.pair_history.proofs.Waiting.{StandsAt, Leaves, leaves-at}
+use Rattle.pair_history.proofs.Losses.{AreRising-left}
+use Rattle.pair_history.proofs.Moves.{guest_along-append, frames_along-append, left-append, AllCan-append, AllCan-front, AllCan-back, moved, at-moves, Legal-moves, DropsAreKnown-moves}
+use Rattle.pair_core.specs.Invariant.{all_moves, epoch_nodes, epoch_frames, frames_by_epoch, AreInboxes, AreNodes, AreClients, Holds}
+use Rattle.pair_core.specs.Journal.{with_running, first_of, rest_of}
 use Rattle.pair_core.specs.Lines.{Lines}
-use Rattle.pair_core.specs.Nodes.{Node, Nodes, settled, start_nodes, with_arrival, with_sealed, with_commit, first_node, later_nodes}
+use Rattle.pair_core.specs.Nodes.{Node, settled, start_nodes, with_arrival, with_sealed, with_commit, first_node, later_nodes}
 use Rattle.pair_core.specs.Pair.{Pair, shown_state}
-use Rattle.pair_core.specs.Protocol.{Record, cut_done, commit_done, ack_done, deliver_done, delivery_refused, take_done, let_go}
-use Rattle.pair_core.specs.Record.{IsRecord, start_record, ports_after_ack, ports_after_admit, ports_after_take}
+use Rattle.pair_core.specs.Protocol.{cut_done, commit_done}
+use Rattle.pair_core.specs.Record.{IsRecord, start_record, ports_after_admit}
 use Rattle.pair_core.specs.Window.{committed_of, uncommitted_of, committed_count}
-use Rattle.pair_core.proofs.WindowLaws.{within, leaves, gone, committed_left, uncommitted_left}
+use Rattle.pair_core.proofs.WindowLaws.{within}
 
 -- Lists of epochs
 
@@ -113,7 +111,7 @@ module _ (w : Pair) (h : Holds w) (ms : List Move) (es : List Entry) (live : Nod
 module _ (count c : ℕ) (inboxes : List (List (ℕ × Frame))) (new : List (ℕ × Frame)) (ws vs : List Waiting)
     (low : 1 ≤ c) (high : c ≤ count) (long : length inboxes ≡ count) where
   -- the inboxes once client c's is another
-  AreInboxes-with : AreInboxes count inboxes ws
+  pub AreInboxes-with : AreInboxes count inboxes ws
       → new ≡ inbox_of c vs
       → ((d : ℕ) → d ≢ c → inbox_of d ws ≡ inbox_of d vs)
       → AreInboxes count (with_list inboxes c new) vs
@@ -126,7 +124,7 @@ module _ (count c : ℕ) (inboxes : List (List (ℕ × Frame))) (new : List (ℕ
       get_or-set_other inboxes (c - 1) (d - 1) new [] apart.1 ∙ are d l k ∙ others d (λ (e : d ≡ c). apart.1 (ap (λ j. j - 1) e)))
       (eqb_tells (d - 1) (c - 1))
 
-apart : (a b : ℕ) → a ≢ b → (a == b) ≡ false
+pub apart : (a b : ℕ) → a ≢ b → (a == b) ≡ false
 apart a b h = grind (arith, nat_tests)
 
 pub admit_holds : (w : Pair) (h : Holds w) (c n : ℕ) (f : Frame) → 1 ≤ c → c ≤ length w.ports.boxes → slice_get (list_of w.ports.inboxes c) 0 ≡ Some (n, f)
@@ -136,20 +134,21 @@ admit_holds w h c n f low high first =
     let k = h.clients in
     let inboxes = w.ports.inboxes in
     let mine : list_of inboxes c ≡ inbox_of c ws = k.inboxes c low high in
-    let starts : StartsWith c n f ws = ap (λ t. slice_get t 0) (sym mine) ∙ first in
-    let leaves : Leaves c n f ws = first-leaves c n f 1 w.ports.next ws k.rising starts in
+    let starts : StandsAt c 0 n f ws = ap (λ t. slice_get t 0) (sym mine) ∙ first in
+    let rising = AreRising-left 1 w.ports.next (shown_state w).waiting (kept_moves w h) k.rising in
+    let leaves : Leaves c 0 n f ws = leaves-at c 0 n f 1 w.ports.next ws rising starts in
     let same : (c == c) ≡ true = eq-eqb c c refl in
     moves_hold w h (Arrives n f ∷ []) (entries_of (Arrives n f ∷ [])) (with_arrival w.nodes f).live (with_list inboxes c (drop 1 (list_of inboxes c))) refl refl
     (sym (append-nil w.nodes.live.outbox))
     (((c, f, starts), leaves.0), tt)
     (record {
       number = k.number;
-      rising = AreRising-without n 1 w.ports.next ws k.rising;
+      rising = k.rising;
       count = length-set inboxes (c - 1) (drop 1 (list_of inboxes c)) ∙ k.count;
       inboxes =
           AreInboxes-with (length w.ports.boxes) c inboxes (drop 1 (list_of inboxes c)) ws (without_number n ws) low high k.count k.inboxes
-          (ap (drop 1) mine ∙ sym (leaves.1 c ∙ ap (λ t. cond t (drop 1 (inbox_of c ws)) (inbox_of c ws)) same))
-          (λ d other. sym (leaves.1 d ∙ ap (λ t. cond t (drop 1 (inbox_of c ws)) (inbox_of d ws)) (apart d c other)));
+          (ap (drop 1) mine ∙ sym (leaves.1 c ∙ ap (λ t. cond t (remove (inbox_of c ws) 0) (inbox_of c ws)) same))
+          (λ d other. sym (leaves.1 d ∙ ap (λ t. cond t (remove (inbox_of c ws) 0) (inbox_of d ws)) (apart d c other)));
       boxes = k.boxes;
       fit = k.fit;
     })
@@ -253,7 +252,7 @@ module _ (w : Pair) (h : Holds w) (k : IsRecord w.protocol) where
       record {
         journal = record {
           legal = Legal-append w.start j.history (first_of j.sealed) h.journal.legal (subst (Legal s) (sym first) (Legal-moves s ms front));
-          drops = DropsAtFull-append w.start j.history (first_of j.sealed) h.journal.drops (subst (DropsAtFull s) (sym first) (DropsAtFull-moves s ms front));
+          drops = DropsAreKnown-append w.start j.history (first_of j.sealed) h.journal.drops (subst (DropsAreKnown s) (sym first) (DropsAreKnown-moves s ms front));
           sealed_moves = mss;
           running_moves = h.journal.running_moves;
           sealed_are = ap rest_of sealed_is;
@@ -271,7 +270,8 @@ module _ (w : Pair) (h : Holds w) (k : IsRecord w.protocol) where
         });
         clients = record {
           number = h.clients.number ∙ sym (ap (λ t. t.number) shown);
-          rising = subst (AreRising 1 w.ports.next) left_is h.clients.rising;
+          rising =
+              subst (λ (t : HistoryState). AreRising 1 w.ports.next t.waiting) (sym shown) (AreRising-left 1 w.ports.next s.waiting ms h.clients.rising);
           count = h.clients.count;
           inboxes = subst (AreInboxes n w.ports.inboxes) left_is h.clients.inboxes;
           boxes = h.clients.boxes ∙ sym (ap (λ t. t.boxes) shown);
@@ -315,158 +315,6 @@ module _ (w : Pair) (h : Holds w) (k : IsRecord w.protocol) where
       by_lists [] us p q l m = absurd (omega arith)
       by_lists (ms ∷ mss) [] p q l m = absurd (omega arith)
       by_lists (ms ∷ mss) (e ∷ us) p q l m = commit_with ms mss e us p q
-
--- A CLIENT'S EVENT goes into the history, before what is kept: the guest stays as it is
-
-module _ (w : Pair) (h : Holds w) (es : List Entry) (now : HistoryState)
-    (leads : at (shown_state w) es ≡ now)
-    (guest : now.guest ≡ (shown_state w).guest)
-    (legal : Legal (shown_state w) es)
-    (drops : DropsAtFull (shown_state w) es)
-    (can : AllCan now.waiting (kept_moves w h))
-    (ports : PortsState)
-    (clients : AreClients now (left now.waiting (kept_moves w h)) ports)
-    (window : Window) (pending : List Epoch)
-    (same : uncommitted_of window pending ≡ uncommitted_of w.protocol.window w.protocol.pending)
-    (owed : now.out ≡ targets_of (length ports.boxes) (frames_of (committed_of window pending))) where
-  pub history_holds : Holds (record w { protocol = record w.protocol { journal = with_history w.protocol.journal es; window = window; pending = pending }; ports = ports })
-  history_holds =
-      let history = w.protocol.journal.history in
-      let shown : now ≡ at w.start (history ++ es) = sym (at-append w.start history es ∙ leads) in
-      let ms = kept_moves w h in
-      record {
-        journal = record {
-          legal = Legal-append w.start history es h.journal.legal legal;
-          drops = DropsAtFull-append w.start history es h.journal.drops drops;
-          sealed_moves = h.journal.sealed_moves;
-          running_moves = h.journal.running_moves;
-          sealed_are = h.journal.sealed_are;
-          running_are = h.journal.running_are;
-          can = subst (λ (t : HistoryState). AllCan t.waiting ms) shown can;
-        };
-        nodes =
-            subst (λ (us : List Epoch). AreNodes (at w.start (history ++ es)).guest h.journal.sealed_moves h.journal.running_moves (frames_by_epoch us) w.nodes) (sym same)
-            (subst (λ (g : Guest). AreNodes g h.journal.sealed_moves h.journal.running_moves (frames_by_epoch (uncommitted_of w.protocol.window w.protocol.pending)) w.nodes) (sym guest ∙ ap (λ t. t.guest) shown) h.nodes);
-        clients = subst (λ (t : HistoryState). AreClients t (left t.waiting ms) ports) shown clients;
-        owed = ap (λ t. t.out) (sym shown) ∙ owed;
-      }
-
-module _ (w : Pair) (h : Holds w) where
-  abbrev shown_now : HistoryState
-  shown_now = shown_state w
-
-  -- a client of the ports is one of the history's
-  high_there : (c : ℕ) → c ≤ length w.ports.boxes → c ≤ length (shown_state w).boxes
-  high_there c l = subst (λ (b : List (List Frame)). c ≤ length b) h.clients.boxes l
-
-  -- AckGet: what the gate held up to that checkpoint lands
-  pub ack_holds : IsRecord w.protocol → (n : ℕ) → n < w.protocol.window.to_commit
-      → Holds (record w { protocol = (ack_done w.ports.boxes w.protocol n).1; ports = ports_after_ack w.ports w.protocol n })
-  ack_holds k n below =
-      let r = w.protocol in
-      let s = shown_state w in
-      let b = w.ports.boxes in
-      let m = length b in
-      let t = leaves r.window r.pending k.window n below in
-      let ps = let_go b r n in
-      let qs = targets_of m (frames_of t.stay) in
-      let out : s.out ≡ ps ++ qs =
-      h.owed ∙ ap (λ x. targets_of m (frames_of x)) t.split ∙ ap (targets_of m) (frames_of-append t.gone t.stay)
-      ∙ targets_of-append m (frames_of t.gone) (frames_of t.stay) ∙ ap (λ x. targets_of m x ++ qs) (sym (gone r.window r.pending k.window n below)) in
-      let same : s.boxes ≡ b = sym h.clients.boxes in
-      let land : AllLand s ps qs (landings s.boxes ps) =
-      landings-land s ps qs out (subst (λ (x : List (List Frame)). AllClients (length x) ps) h.clients.boxes (AllClients-targets m (frames_to n r.pending))) (subst BoxesFit h.clients.boxes h.clients.fit) in
-      let es_are : landings s.boxes ps ≡ landings b ps = ap (λ x. landings x ps) same in
-      let long : length (lands b ps) ≡ m = length-lands b ps in
-      let now : HistoryState = record s { out = qs; boxes = lands b ps } in
-      history_holds w h (landings b ps) now (ap (at s) (sym es_are) ∙ land.1 ∙ (λ i. record s { out = qs; boxes = lands (same i) ps })) refl
-      (subst (Legal s) es_are land.0) (subst (DropsAtFull s) es_are land.2) h.journal.can (ports_after_ack w.ports r n)
-      (record {
-        number = h.clients.number;
-        rising = h.clients.rising;
-        count = h.clients.count ∙ sym long;
-        inboxes = subst (λ (x : ℕ). AreInboxes x w.ports.inboxes (left_now w h)) (sym long) h.clients.inboxes;
-        boxes = refl;
-        fit = BoxesFit-lands b ps h.clients.fit;
-      })
-      (ack_done b r n).1.window (ack_done b r n).1.pending (uncommitted_left r.window r.pending k.window n below)
-      (ap (λ (x : ℕ). targets_of x (frames_of t.stay)) (sym long) ∙ ap (λ x. targets_of (length (lands b ps)) (frames_of x)) (sym (committed_left r.window r.pending k.window n below)))
-
-  module _ (c : ℕ) (low : 1 ≤ c) (high : c ≤ length w.ports.boxes) where
-    -- Take
-    pub take_holds : Holds (record w { protocol = (take_done w.ports.boxes w.protocol c).1; ports = ports_after_take w.ports c })
-    take_holds =
-        let s = shown_state w in
-        let b = w.ports.boxes in
-        let box = list_of b c in
-        let entry = Took c (slice_get box 0) in
-        let allowed : Allows s entry = subst (λ (x : List (List Frame)). Allows s (Took c (slice_get (list_of x c) 0))) (sym h.clients.boxes) (answer s c (list_of s.boxes c) refl low (high_there c high)) in
-        let long : length (with_list b c (drop 1 box)) ≡ length b = length-set b (c - 1) (drop 1 box) in
-        let now : HistoryState = record s { boxes = with_list b c (drop 1 box) } in
-        history_holds w h (entry ∷ []) now (λ i. record s { boxes = with_list (sym h.clients.boxes i) c (drop 1 (list_of (sym h.clients.boxes i) c)) }) refl
-        (allowed, tt) tt h.journal.can (ports_after_take w.ports c)
-        (record {
-          number = h.clients.number;
-          rising = h.clients.rising;
-          count = h.clients.count ∙ sym long;
-          inboxes = subst (λ (x : ℕ). AreInboxes x w.ports.inboxes (left_now w h)) (sym long) h.clients.inboxes;
-          boxes = refl;
-          fit = BoxesFit-set b (c - 1) (drop 1 box) h.clients.fit (shorter box (BoxesFit-at b (c - 1) h.clients.fit));
-        })
-        w.protocol.window w.protocol.pending refl
-        (h.owed ∙ ap (λ (x : ℕ). targets_of x (frames_of (committed_of w.protocol.window w.protocol.pending))) (sym long))
-      where
-        answer : (s : HistoryState) (c : ℕ) (box : List Frame) → list_of s.boxes c ≡ box → 1 ≤ c → c ≤ length s.boxes → Allows s (Took c (slice_get box 0))
-        answer s c [] e l k = ((l, k), e)
-        answer s c (f ∷ fs) e l k = ((l, k), ap (λ b. slice_get b 0) e)
-
-        shorter : (xs : List Frame) → length xs ≤ BOX_FRAMES → length (drop 1 xs) ≤ BOX_FRAMES
-        shorter [] l = l
-        shorter (x ∷ xs) l = omega arith
-
-    module _ (bytes : List ℕ) (frame : IsFrame (record { items = bytes })) where
-      abbrev the_frame : Frame
-      the_frame = record { items = bytes }
-
-      -- Deliver: the frame waits after the others, also after what is kept
-      pub deliver_holds : Holds (record w { protocol = (deliver_done w.protocol c the_frame w.ports.next).1; ports = after_delivery w.ports c bytes })
-      deliver_holds =
-          let s = shown_state w in
-          let p = w.ports in
-          let f = the_frame in
-          let x : Waiting = record { number = p.next; client = c; frame = f } in
-          let ms = kept_moves w h in
-          let ws = left_now w h in
-          let now : HistoryState = record s { number = s.number + 1; waiting = s.waiting ++ x ∷ [] } in
-          let left_is : ws ++ x ∷ [] ≡ left (s.waiting ++ x ∷ []) ms = sym (left-more s.waiting (x ∷ []) ms h.journal.can) in
-          let mine : list_of p.inboxes c ≡ inbox_of c ws = h.clients.inboxes c low high in
-          let longer = list_of p.inboxes c ++ (p.next, f) ∷ [] in
-          history_holds w h (Delivered c f p.next ∷ []) now refl refl
-          (((low, high_there c high), frame, h.clients.number), tt) tt (AllCan-more s.waiting (x ∷ []) ms h.journal.can) (after_delivery p c bytes)
-          (record {
-            number = ap (λ k. k + 1) h.clients.number;
-            rising = subst (AreRising 1 (p.next + 1)) left_is (AreRising-push 1 p.next ws x h.clients.rising refl);
-            count = length-set p.inboxes (c - 1) longer ∙ h.clients.count;
-            inboxes =
-                subst (AreInboxes (length p.boxes) (with_list p.inboxes c longer)) left_is
-                (AreInboxes-with (length p.boxes) c p.inboxes longer ws (ws ++ x ∷ []) low high h.clients.count h.clients.inboxes
-                (ap (λ t. t ++ (p.next, f) ∷ []) mine ∙ ap (λ (t : Bool). inbox_of c ws ++ cond t ((p.next, f) ∷ []) []) (sym (eq-eqb c c refl)) ∙ sym (inbox_of-append c ws (x ∷ [])))
-                (λ d other.
-                sym (append-nil (inbox_of d ws)) ∙ ap (λ (t : Bool). inbox_of d ws ++ cond t ((p.next, f) ∷ []) []) (sym (apart c d (λ (e : c ≡ d). other (sym e)))) ∙ sym (inbox_of-append d ws (x ∷ []))));
-            boxes = h.clients.boxes;
-            fit = h.clients.fit;
-          })
-          w.protocol.window w.protocol.pending refl h.owed
-
-      -- Deliver at a full inbox: that is recorded, and that is all
-      pub full_holds : INBOX_FRAMES ≤ length (list_of w.ports.inboxes c) → Holds (record w { protocol = record w.protocol { journal = with_history w.protocol.journal (Refused c the_frame ∷ []) } })
-      full_holds full =
-          let s = shown_state w in
-          let mine = ap length (h.clients.inboxes c low high) in
-          let fewer = left-shorter c s.waiting (kept_moves w h) in
-          let many : INBOX_FRAMES ≤ length (inbox_of c s.waiting) = omega arith in
-          history_holds w h (Refused c the_frame ∷ []) s refl refl (((low, high_there c high), frame, many), tt) tt h.journal.can w.ports h.clients
-          w.protocol.window w.protocol.pending refl h.owed
 
 -- WHERE A PAIR STARTS
 

@@ -5,8 +5,10 @@ pub mod JournalLaws
 pub mod WindowLaws
 pub mod RecordLaws
 pub mod Events
+pub mod ClientEvents
 pub mod Consistent
 pub mod Outcomes
+pub mod LossOutcomes
 pub mod StepRuns
 pub mod PublicLaws
 pub mod Calls

@@ -1,6 +1,6 @@
 -- What the protocol answers: what an event looks at is what the world has, and its table of refusals decides.
-use Rattle.std.proofs.Common.{◌≡◌, ℕ, ◌+◌, ◌<◌, ◌≤◌, List, [], ◌∷◌, ◌++◌, length, refl, sym, ap, ◌∙◌, subst, arith, Bool, true, false, cond, Option, None, Some}
-use Rattle.std.specs.Prelude.{slice_get, IfSome, nat_lt, nat_le, ◌&&◌, not}
+use Rattle.std.proofs.Common.{◌≡◌, ℕ, ◌≤◌, List, [], ◌∷◌, length, refl, sym, ap, ◌∙◌, subst, arith, Bool, true, false, Option, None, Some}
+use Rattle.std.specs.Prelude.{slice_get, IfSome, nat_le, not}
 use Rattle.std.proofs.lemmas.Bool.Decides.{nat_tests}
 use Rattle.guest_machine.specs.Guest.{Guest}
 use Rattle.guest_machine.specs.Step.{next}
@@ -8,7 +8,7 @@ use Rattle.frame_ports.specs.Lands.{list_of}
 use Rattle.frame_ports.specs.Addresses.{IsFrame}
 use Rattle.frame_ports.specs.declared.limits.TheConstants.{INBOX_FRAMES, NUMBER_LIMIT}
 use Rattle.pair_history.specs.Entries.{Frame}
-use Rattle.pair_history.specs.HistoryState.{Waiting, inbox_of}
+use Rattle.pair_history.specs.HistoryState.{inbox_of}
 use Rattle.pair_core.specs.declared.event.Event.TheVariants.{Admit}
 use Rattle.pair_core.specs.declared.event.Packet.{Packet}
 use Rattle.pair_core.specs.declared.event.Refusal.{Refusal}
@@ -16,9 +16,8 @@ use Rattle.pair_core.specs.declared.event.Refusal.TheVariants.{Full, BadFrame, N
 use Rattle.pair_core.specs.declared.event.Reply.TheVariants as replies
 use Rattle.pair_core.specs.Invariant.{Holds}
 use Rattle.pair_core.specs.Pair.{Pair, shown_state, live_state, AfterRefusal}
-use Rattle.pair_core.specs.Protocol.{Record, Outcome, Row, MayWantMemory, outcome, first_refusal, or_else, unless, refused, exhausts, is_among, is_bad_length, step_outcome, step_outcome_at, step_refusals, step_done, cut_refusals, cut_done, outbox_of, ack_outcome_at, admit_outcome_at, admit_first, admit_refusals, admit_done, client_refusals, deliver_outcome_at, deliver_refusals, take_outcome_at, take_refusals, delivery_refused, deliver_done, backup_done, again_done, commit_done}
+use Rattle.pair_core.specs.Protocol.{Record, Outcome, Row, MayWantMemory, outcome, first_refusal, or_else, unless, refused, exhausts, is_among, is_bad_length, step_outcome, step_outcome_at, cut_refusals, cut_done, outbox_of, ack_outcome_at, admit_outcome_at, admit_first, admit_refusals, admit_done, client_refusals, deliver_outcome_at, deliver_refusals, take_outcome_at, delivery_refused, deliver_done}
 use Rattle.pair_core.proofs.Consistent.{live_is, live_waiting, outbox_is}
-use Rattle.pair_core.proofs.RecordLaws.{passed, is_below}
 
 -- a table decides
 pub stops : (r : Record) (rows : List Row) (done : Outcome) (o : Option Refusal) (why : Refusal) → o ≡ first_refusal rows → o ≡ Some why → refused r why ≡ unless r rows done
@@ -77,7 +76,7 @@ module _ (w : Pair) (h : Holds w) where
   pub take_sight : (c : ℕ) → take_outcome_at w.ports.boxes w.protocol c ≡ take_outcome_at (shown_state w).boxes w.protocol c
   take_sight c = ap (λ (b : List (List Frame)). take_outcome_at b w.protocol c) h.clients.boxes
 
-  inbox_is : (c : ℕ) → 1 ≤ c → c ≤ length w.ports.boxes → list_of w.ports.inboxes c ≡ inbox_of c (live_state w).waiting
+  pub inbox_is : (c : ℕ) → 1 ≤ c → c ≤ length w.ports.boxes → list_of w.ports.inboxes c ≡ inbox_of c (live_state w).waiting
   inbox_is c low high = h.clients.inboxes c low high ∙ ap (inbox_of c) (sym (live_waiting w h))
 
   -- where no client has the number, what would wait of it doesn't count

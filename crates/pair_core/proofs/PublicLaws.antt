@@ -1,104 +1,231 @@
 -- What the public calls say, from what each event does.
 use Rattle.std.proofs.Common.{◌≡◌, ℕ, List, [], ◌∷◌, ◌++◌, length, refl, sym, ap, ◌∙◌, subst, append_assoc, Bool, true, false, cond, Option, None, Some, inl, inr, Result, Ok, Err, OnErr}
-use Rattle.std.specs.Prelude.{nat_lt, slice_get, IfOk}
+use Rattle.std.specs.Prelude.{map, option_map, not, nat_lt, ◌==◌, slice_get, IfOk}
+use Rattle.std.proofs.lemmas.Bool.{eqb-true}
 use Rattle.std.proofs.lemmas.List.{append-nil}
 use Rattle.std.specs.declared.alloc.AllocError.{AllocError}
 use Rattle.guest_machine.specs.Step.{next}
 use Rattle.frame_ports.specs.Lands.{list_of}
-use Rattle.pair_history.specs.Entries.{Frame, Entry, Delivered, Took, Begins}
+use Rattle.pair_history.specs.Entries.{Frame, Entry, Delivered, DropIn, DropOut, Took, Begins}
 use Rattle.pair_history.specs.Entries as entries
 use Rattle.pair_history.specs.HistoryState.{HistoryState, inbox_of}
-use Rattle.pair_history.specs.Landings.{landings}
+use Rattle.pair_history.specs.Landings.{landings, DropsAtFull, DropsNone}
+use Rattle.pair_history.specs.Moves.{Move, entries_of}
+use Rattle.pair_history.proofs.Moves.{DropsNone-moves}
 use Rattle.pair_core.specs.declared.event.Event.{Event}
-use Rattle.pair_core.specs.declared.event.Event.TheVariants.{Step, Cut, Send, BackupGet, AckGet, Admit, Deliver, Take}
+use Rattle.pair_core.specs.declared.event.Event.TheVariants.{Step, Cut, Send, BackupGet, AckGet, Admit, Deliver, Take, LoseIn, LoseOut}
 use Rattle.pair_core.specs.declared.event.Packet.{Packet}
 use Rattle.pair_core.specs.declared.event.Refusal.{Refusal}
 use Rattle.pair_core.specs.declared.event.Refusal.TheVariants.{Full, BadFrame, NoClient, Behind, Stale, Gap, NoMemory, CutNeeded, Exhausted}
 use Rattle.pair_core.specs.declared.event.Reply.{Reply}
 use Rattle.pair_core.specs.declared.event.Reply.TheVariants as replies
-use Rattle.pair_core.specs.Journal.{first_of}
-use Rattle.pair_core.specs.Pair.{Pair, OnRefused}
-use Rattle.pair_core.specs.Protocol.{Record, Outcome, Row, Answers, MayWantMemory, outcome, first_refusal, or_else, unless, refused, let_go, again_done, commit_done, backup_refusals, backup_done, backup_outcome, ack_outcome_at, ack_refusals, ack_done, admit_first, admit_refusals, admit_done, client_refusals, delivery_refused, deliver_refusals, deliver_done, take_refusals, take_done, step_refusals, step_done, cut_refusals, cut_done, outbox_of, shown_at, live_at}
-use Rattle.pair_core.specs.Runs.{Run}
+use Rattle.pair_core.specs.Drops.{DropsOnly, Drops}
+use Rattle.pair_core.specs.Invariant.{Holds}
+use Rattle.pair_core.specs.Journal.{first_of, with_history}
+use Rattle.pair_core.specs.Pair.{Pair, OnRefused, shown_state, live_state}
+use Rattle.pair_core.specs.Protocol.{Record, Outcome, Row, Answers, MayWantMemory, outcome, exhausts, first_refusal, or_else, unless, refused, let_go, again_done, commit_done, backup_refusals, backup_done, backup_outcome, ack_outcome_at, ack_refusals, ack_done, admit_first, admit_refusals, admit_done, client_refusals, delivery_refused, deliver_refusals, deliver_done, take_refusals, take_done, loss_refusals, loss_done, loss_of, lost_in, lost_out, step_refusals, step_done, cut_refusals, cut_done, outbox_of, shown_at, live_at}
+use Rattle.pair_core.specs.Record.{IsRecord}
+use Rattle.pair_core.specs.Runs.{Change, Along}
+use Rattle.pair_core.proofs.ClientEvents.{ack_lands}
+use Rattle.pair_core.proofs.LossOutcomes.{within}
+use Rattle.pair_core.proofs.RecordLaws.{below_at}
 
--- every event lets the history grow
+-- Each event lets the history grow by entries that drop what it may drop.
 
-abbrev BeginsWith : Record → Outcome → Type 0
-BeginsWith r o = Begins r.journal.history o.1.journal.history
+module _ (Fits : Reply → List Entry → Type 0) (r : Record) where
+  -- the history grows by entries that fit the reply
+  abbrev Grows : Outcome → Type 0
+  Grows o = (es : List Entry) × (o.1.journal.history ≡ r.journal.history ++ es) × Fits o.0 es
 
-same_history : (r : Record) → Begins r.journal.history r.journal.history
-same_history r = ([], sym (append-nil r.journal.history))
+  same : (reply : Reply) → Fits reply [] → Grows (reply, r)
+  same reply p = ([], sym (append-nil r.journal.history), p)
 
-table_begins : (r : Record) (o : Option Refusal) (refuse : Refusal → Outcome) (done : Outcome) → ((why : Refusal) → BeginsWith r (refuse why)) → BeginsWith r done → BeginsWith r (or_else o refuse done)
-table_begins r None refuse done p q = q
-table_begins r (Some why) refuse done p q = p why
+  table_grows : (o : Option Refusal) (refuse : Refusal → Outcome) (done : Outcome) → ((why : Refusal) → Grows (refuse why)) → Grows done
+      → Grows (or_else o refuse done)
+  table_grows None refuse done p q = q
+  table_grows (Some why) refuse done p q = p why
 
-unless_begins : (r : Record) (rows : List Row) (done : Outcome) → BeginsWith r done → BeginsWith r (unless r rows done)
-unless_begins r rows done q = table_begins r (first_refusal rows) (refused r) done (λ why. same_history r) q
+  unless_grows : (rows : List Row) (done : Outcome) → ((why : Refusal) → Fits (replies.Refused why) []) → Grows done
+      → Grows (unless r rows done)
+  unless_grows rows done p q = table_grows (first_refusal rows) (refused r) done (λ why. same (replies.Refused why) (p why)) q
 
-backup_begins : (r : Record) (p : Packet) → BeginsWith r (backup_done r p)
-backup_begins r p = by_test (nat_lt p.number r.window.to_commit)
-  where
-    by_test : (t : Bool) → BeginsWith r (cond t (again_done r) (commit_done r))
-    by_test true = same_history r
-    by_test false = (first_of r.journal.sealed, refl)
+-- what drops nothing
+abbrev Plain : Record → Outcome → Type 0
+Plain r o = Grows (λ reply es. DropsNone es) r o
 
-delivery_begins : (r : Record) (c : ℕ) (f : Frame) (why : Refusal) → BeginsWith r (delivery_refused r c f why)
-delivery_begins r c f Full = (entries.Refused c f ∷ [], refl)
-delivery_begins r c f BadFrame = same_history r
-delivery_begins r c f NoClient = same_history r
-delivery_begins r c f Behind = same_history r
-delivery_begins r c f Stale = same_history r
-delivery_begins r c f Gap = same_history r
-delivery_begins r c f NoMemory = same_history r
-delivery_begins r c f CutNeeded = same_history r
-delivery_begins r c f Exhausted = same_history r
+plain_same : (r : Record) (reply : Reply) → Plain r (reply, r)
+plain_same r reply = same (λ reply es. DropsNone es) r reply tt
 
-outcome_begins : (start : HistoryState) (r : Record) (event : Event) → BeginsWith r (outcome start r event)
-outcome_begins start r Step = unless_begins r (step_refusals (outbox_of start r) r) (step_done (next (live_at start r).guest).steps r) (same_history r)
-outcome_begins start r Cut = unless_begins r (cut_refusals r) (cut_done (outbox_of start r) r) (same_history r)
-outcome_begins start r Send = same_history r
-outcome_begins start r (BackupGet k) = by_packet (slice_get r.lines.forward k)
-  where
-    by_packet : (o : Option Packet) → BeginsWith r (backup_outcome r o)
-    by_packet None = same_history r
-    by_packet (Some p) = unless_begins r (backup_refusals r p) (backup_done r p) (backup_begins r p)
-outcome_begins start r (AckGet k) = by_packet (slice_get r.lines.back k)
-  where
-    by_packet : (o : Option Packet) → BeginsWith r (ack_outcome_at (shown_at start r).boxes r o)
-    by_packet None = same_history r
-    by_packet (Some p) =
-        let boxes = (shown_at start r).boxes in
-        unless_begins r (ack_refusals boxes r p) (ack_done boxes r p.number) (landings boxes (let_go boxes r p.number), refl)
-outcome_begins start r (Admit c) =
-    let first = slice_get (inbox_of c (live_at start r).waiting) 0 in
-    unless_begins r (client_refusals (length (shown_at start r).boxes) c) (admit_first r first) (by_first first)
-  where
-    by_first : (o : Option (ℕ × Frame)) → BeginsWith r (admit_first r o)
-    by_first None = same_history r
-    by_first (Some first) = unless_begins r (admit_refusals r) (admit_done r first.0) (same_history r)
-outcome_begins start r (Deliver c bytes) =
-    let f : Frame = record { items = bytes.now } in
-    let number = (shown_at start r).number in
-    let rows = deliver_refusals (length (shown_at start r).boxes) (inbox_of c (live_at start r).waiting) number r c bytes.now in
-    table_begins r (first_refusal rows) (delivery_refused r c f) (deliver_done r c f number) (delivery_begins r c f) (Delivered c f number ∷ [], refl)
-outcome_begins start r (Take c) =
-    let boxes = (shown_at start r).boxes in
-    unless_begins r (take_refusals (length boxes) r c) (take_done boxes r c) (Took c (slice_get (list_of boxes c) 0) ∷ [], refl)
+plain_unless : (r : Record) (rows : List Row) (done : Outcome) → Plain r done → Plain r (unless r rows done)
+plain_unless r rows done q = unless_grows (λ reply es. DropsNone es) r rows done (λ why. tt) q
 
-pub answers_begin : (start : HistoryState) (old : Record) (event : Event) (reply : Reply) (new : Record) → Answers start old event reply new → Begins old.journal.history new.journal.history
-answers_begin start old event reply new (inl e) = subst (λ (o : Outcome). BeginsWith old o) (sym e) (outcome_begins start old event)
-answers_begin start old event reply new (inr e) = subst (λ (r : Record). Begins old.journal.history r.journal.history) (sym e.2) (same_history old)
+delivery_plain : (r : Record) (c : ℕ) (f : Frame) (why : Refusal) → Plain r (delivery_refused r c f why)
+delivery_plain r c f Full = (entries.Refused c f ∷ [], refl, tt)
+delivery_plain r c f BadFrame = plain_same r (replies.Refused BadFrame)
+delivery_plain r c f NoClient = plain_same r (replies.Refused NoClient)
+delivery_plain r c f Behind = plain_same r (replies.Refused Behind)
+delivery_plain r c f Stale = plain_same r (replies.Refused Stale)
+delivery_plain r c f Gap = plain_same r (replies.Refused Gap)
+delivery_plain r c f NoMemory = plain_same r (replies.Refused NoMemory)
+delivery_plain r c f CutNeeded = plain_same r (replies.Refused CutNeeded)
+delivery_plain r c f Exhausted = plain_same r (replies.Refused Exhausted)
+
+-- an epoch is made of the guest's moves, which drop nothing
+epoch_plain : (mss : List (List Move)) (ess : List (List Entry)) → ess ≡ map entries_of mss → DropsNone (first_of ess)
+epoch_plain [] ess e = subst (λ (xs : List (List Entry)). DropsNone (first_of xs)) (sym e) tt
+epoch_plain (ms ∷ mss) ess e = subst (λ (xs : List (List Entry)). DropsNone (first_of xs)) (sym e) (DropsNone-moves ms)
+
+module _ (w : Pair) (h : Holds w) (k : IsRecord w.protocol) where
+  abbrev GrowsBy : Event → Outcome → Type 0
+  GrowsBy event o = Grows (DropsOnly w.start w.protocol event) w.protocol o
+
+  commit_plain : (p : Packet) → Plain w.protocol (backup_done w.protocol p)
+  commit_plain p = by_test (nat_lt p.number w.protocol.window.to_commit)
+    where
+      by_test : (t : Bool) → Plain w.protocol (cond t (again_done w.protocol) (commit_done w.protocol))
+      by_test true = plain_same w.protocol (again_done w.protocol).0
+      by_test false =
+          (first_of w.protocol.journal.sealed, refl, epoch_plain h.journal.sealed_moves w.protocol.journal.sealed h.journal.sealed_are)
+
+  abbrev boxes : List (List Frame)
+  boxes = (shown_state w).boxes
+
+  -- the table of an acknowledgement, by its first test
+  abbrev rows : Packet → Bool → List Row
+  rows p t = (not t, Stale) ∷ (exhausts w.protocol (length (let_go boxes w.protocol p.number)), Exhausted) ∷ []
+
+  -- what an acknowledgement lets go is dropped only at full boxes
+  ack_grows : (n : ℕ) (p : Packet) → slice_get w.protocol.lines.back n ≡ Some p
+      → GrowsBy (AckGet n) (unless w.protocol (ack_refusals (shown_state w).boxes w.protocol p) (ack_done (shown_state w).boxes w.protocol p.number))
+  ack_grows n p e = by_test (p.generation == w.protocol.generation) refl
+    where
+      by_test : (t : Bool) → (p.generation == w.protocol.generation) ≡ t
+          → GrowsBy (AckGet n) (unless w.protocol (rows p t) (ack_done boxes w.protocol p.number))
+      by_test false is = same (DropsOnly w.start w.protocol (AckGet n)) w.protocol (replies.Refused Stale) tt
+      by_test true is =
+          let below = below_at w.protocol.generation w.protocol.window.to_commit w.protocol.lines.back n (Some p) k.back (sym e)
+          (eqb-true p.generation w.protocol.generation is) in
+          let land = ack_lands w h k p.number below in
+          unless_grows (DropsOnly w.start w.protocol (AckGet n)) w.protocol (rows p true) (ack_done boxes w.protocol p.number) (λ why. tt) (
+            landings boxes (let_go boxes w.protocol p.number),
+            refl,
+            subst (λ (x : List (List Frame)). DropsAtFull (shown_state w) (landings x (let_go x w.protocol p.number))) h.clients.boxes land.2,
+          )
+
+  lose_in_grows : (c place : ℕ) (o : Option (ℕ × Frame)) → slice_get (inbox_of c (live_state w).waiting) place ≡ o
+      → GrowsBy (LoseIn c place) (loss_of w.protocol (option_map (λ (x : ℕ × Frame). DropIn x.0) o))
+  lose_in_grows c place None e = same (DropsOnly w.start w.protocol (LoseIn c place)) w.protocol replies.Empty tt
+  lose_in_grows c place (Some x) e =
+      unless_grows (DropsOnly w.start w.protocol (LoseIn c place)) w.protocol (loss_refusals w.protocol) (loss_done w.protocol (DropIn x.0))
+      (λ why. tt) (DropIn x.0 ∷ [], refl, (x.0, x.1, e, refl))
+
+  lose_out_grows : (c place : ℕ) (o : Option Frame) → slice_get (list_of (shown_state w).boxes c) place ≡ o
+      → GrowsBy (LoseOut c place) (loss_of w.protocol (option_map (λ (f : Frame). DropOut c place) o))
+  lose_out_grows c place None e = same (DropsOnly w.start w.protocol (LoseOut c place)) w.protocol replies.Empty tt
+  lose_out_grows c place (Some f) e =
+      unless_grows (DropsOnly w.start w.protocol (LoseOut c place)) w.protocol (loss_refusals w.protocol)
+      (loss_done w.protocol (DropOut c place)) (λ why. tt)
+      (DropOut c place ∷ [], refl, (within (list_of (shown_state w).boxes c) place f e, refl))
+
+  outcome_grows : (event : Event) → GrowsBy event (outcome w.start w.protocol event)
+  outcome_grows Step =
+      let r = w.protocol in
+      plain_unless r (step_refusals (outbox_of w.start r) r) (step_done (next (live_at w.start r).guest).steps r)
+      ([], sym (append-nil r.journal.history), tt)
+  outcome_grows Cut =
+      let r = w.protocol in
+      plain_unless r (cut_refusals r) (cut_done (outbox_of w.start r) r) ([], sym (append-nil r.journal.history), tt)
+  outcome_grows Send = ([], sym (append-nil w.protocol.journal.history), tt)
+  outcome_grows (BackupGet n) = by_packet (slice_get w.protocol.lines.forward n)
+    where
+      by_packet : (o : Option Packet) → Plain w.protocol (backup_outcome w.protocol o)
+      by_packet None = plain_same w.protocol replies.Lost
+      by_packet (Some p) = plain_unless w.protocol (backup_refusals w.protocol p) (backup_done w.protocol p) (commit_plain p)
+  outcome_grows (AckGet n) = by_packet (slice_get w.protocol.lines.back n) refl
+    where
+      by_packet : (o : Option Packet) → slice_get w.protocol.lines.back n ≡ o
+          → GrowsBy (AckGet n) (ack_outcome_at (shown_state w).boxes w.protocol o)
+      by_packet None e = same (DropsOnly w.start w.protocol (AckGet n)) w.protocol replies.Lost tt
+      by_packet (Some p) e = ack_grows n p e
+  outcome_grows (Admit c) =
+      let r = w.protocol in
+      let first = slice_get (inbox_of c (live_at w.start r).waiting) 0 in
+      plain_unless r (client_refusals (length (shown_at w.start r).boxes) c) (admit_first r first) (by_first first)
+    where
+      by_first : (o : Option (ℕ × Frame)) → Plain w.protocol (admit_first w.protocol o)
+      by_first None = plain_same w.protocol replies.Empty
+      by_first (Some first) =
+          plain_unless w.protocol (admit_refusals w.protocol) (admit_done w.protocol first.0)
+          ([], sym (append-nil w.protocol.journal.history), tt)
+  outcome_grows (Deliver c bytes) =
+      let r = w.protocol in
+      let f : Frame = record { items = bytes.now } in
+      let number = (shown_at w.start r).number in
+      let rows = deliver_refusals (length (shown_at w.start r).boxes) (inbox_of c (live_at w.start r).waiting) number r c bytes.now in
+      table_grows (λ reply es. DropsNone es) r (first_refusal rows) (delivery_refused r c f) (deliver_done r c f number) (delivery_plain r c f)
+      (Delivered c f number ∷ [], refl, tt)
+  outcome_grows (Take c) =
+      let r = w.protocol in
+      let boxes = (shown_at w.start r).boxes in
+      plain_unless r (take_refusals (length boxes) r c) (take_done boxes r c) (took c (slice_get (list_of boxes c) 0))
+    where
+      took : (c : ℕ) (o : Option Frame)
+          → Plain w.protocol (replies.Took o, record w.protocol { journal = with_history w.protocol.journal (Took c o ∷ []) })
+      took c None = (Took c None ∷ [], refl, tt)
+      took c (Some f) = (Took c (Some f) ∷ [], refl, tt)
+  outcome_grows (LoseIn c place) =
+      let r = w.protocol in
+      let there = slice_get (inbox_of c (live_state w).waiting) place in
+      unless_grows (DropsOnly w.start r (LoseIn c place)) r (client_refusals (length (shown_state w).boxes) c)
+      (loss_of r (lost_in (inbox_of c (live_state w).waiting) place)) (λ why. tt) (lose_in_grows c place there refl)
+  outcome_grows (LoseOut c place) =
+      let r = w.protocol in
+      let box = list_of (shown_state w).boxes c in
+      unless_grows (DropsOnly w.start r (LoseOut c place)) r (client_refusals (length (shown_state w).boxes) c)
+      (loss_of r (lost_out c box place)) (λ why. tt) (lose_out_grows c place (slice_get box place) refl)
+
+  refused_only : (event : Event) (why : Refusal) → DropsOnly w.start w.protocol event (replies.Refused why) []
+  refused_only (AckGet n) why = tt
+  refused_only (LoseIn c place) why = tt
+  refused_only (LoseOut c place) why = tt
+  refused_only Step why = tt
+  refused_only Cut why = tt
+  refused_only Send why = tt
+  refused_only (BackupGet n) why = tt
+  refused_only (Admit c) why = tt
+  refused_only (Deliver c bytes) why = tt
+  refused_only (Take c) why = tt
+
+  pub answers_drop : (event : Event) (reply : Reply) (new : Record) → Answers w.start w.protocol event reply new
+      → Drops w.start w.protocol event reply new
+  answers_drop event reply new (inl e) =
+      let grown = outcome_grows event in
+      record {
+        answers = inl e;
+        entries = grown.0;
+        grows = ap (λ (o : Outcome). o.1.journal.history) e ∙ grown.1;
+        only = subst (λ (o : Outcome). DropsOnly w.start w.protocol event o.0 grown.0) (sym e) grown.2;
+      }
+  answers_drop event reply new (inr e) = record {
+    answers = inr e;
+    entries = [];
+    grows = ap (λ (r : Record). r.journal.history) e.2 ∙ sym (append-nil w.protocol.journal.history);
+    only = subst (λ (x : Reply). DropsOnly w.start w.protocol event x []) (sym e.1) (refused_only event NoMemory);
+  }
 
 pub Begins-trans : (a b c : List Entry) → Begins a b → Begins b c → Begins a c
 Begins-trans a b c p q = (p.0 ++ q.0, q.1 ∙ ap (λ t. t ++ q.0) p.1 ∙ append_assoc a p.0 q.0)
 
 -- a run goes on by one event
-pub Run-more : (start : HistoryState) (events : List Event) (replies : List Reply) (old mid new : Record) (event : Event) (reply : Reply) → Run start old events replies mid → Answers start mid event reply new → Run start old (events ++ event ∷ []) (replies ++ reply ∷ []) new
-Run-more start [] [] old mid new event reply run step = (new, subst (λ (r : Record). Answers start r event reply new) run step, refl)
-Run-more start [] (r ∷ replies) old mid new event reply run step = absurd run
-Run-more start (e ∷ events) [] old mid new event reply run step = absurd run
-Run-more start (e ∷ events) (r ∷ replies) old mid new event reply run step = (run.0, run.1, Run-more start events replies run.0 mid new event reply run.2 step)
+pub Along-more : (Does : Change) (start : HistoryState) (events : List Event) (replies : List Reply) (old mid new : Record)
+    (event : Event) (reply : Reply) → Along Does start old events replies mid → Does start mid event reply new
+    → Along Does start old (events ++ event ∷ []) (replies ++ reply ∷ []) new
+Along-more Does start [] [] old mid new event reply run step =
+    (new, subst (λ (r : Record). Does start r event reply new) run step, refl)
+Along-more Does start [] (r ∷ replies) old mid new event reply run step = absurd run
+Along-more Does start (e ∷ events) [] old mid new event reply run step = absurd run
+Along-more Does start (e ∷ events) (r ∷ replies) old mid new event reply run step =
+    (run.0, run.1, Along-more Does start events replies run.0 mid new event reply run.2 step)
 
 -- what an event did, as a reply
 

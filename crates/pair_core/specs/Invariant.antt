@@ -8,7 +8,7 @@ use Rattle.frame_ports.specs.Ports.{PortsState}
 use Rattle.output_gate.specs.Epochs.{Epoch, frames_of}
 use Rattle.pair_history.specs.Entries.{Frame}
 use Rattle.pair_history.specs.HistoryState.{HistoryState, Waiting, inbox_of, at, Legal}
-use Rattle.pair_history.specs.Landings.{DropsAtFull, BoxesFit}
+use Rattle.pair_history.specs.Landings.{DropsAreKnown, BoxesFit}
 use Rattle.pair_history.specs.Moves.{Move, entries_of, guest_along, frames_along, left, AllCan, AreRising}
 use Rattle.pair_core.specs.Journal.{Journal}
 use Rattle.pair_core.specs.Nodes.{Node, Nodes, settled}
@@ -40,7 +40,7 @@ AreInboxes count inboxes ws = (c : ℕ) → 1 ≤ c → c ≤ count → list_of 
 -- The history is legal, and what is kept are moves of the guest that go on from it.
 pub record IsJournal (start : HistoryState) (j : Journal) : Type 0 where
   pub legal : Legal start j.history
-  pub drops : DropsAtFull start j.history
+  pub drops : DropsAreKnown start j.history
   pub sealed_moves : List (List Move)
   pub running_moves : List Move
   pub sealed_are : j.sealed ≡ map entries_of sealed_moves
@@ -58,7 +58,7 @@ pub record AreNodes (g : Guest) (sealed_moves : List (List Move)) (running_moves
 -- The ports, where the history's state is s and these frames still wait after what is kept.
 pub record AreClients (s : HistoryState) (waiting : List Waiting) (p : PortsState) : Type 0 where
   pub number : p.next ≡ s.number
-  pub rising : AreRising 1 p.next waiting
+  pub rising : AreRising 1 p.next s.waiting
   pub count : length p.inboxes ≡ length p.boxes
   pub inboxes : AreInboxes (length p.boxes) p.inboxes waiting
   pub boxes : p.boxes ≡ s.boxes

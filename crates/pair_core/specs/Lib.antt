@@ -12,6 +12,7 @@ pub mod Pair
 pub mod Invariant
 pub mod Start
 pub mod Runs
+pub mod Drops
 pub mod WorldFields
 pub mod Lengths
 pub mod Refusals

@@ -5,7 +5,7 @@ use Rattle.frame_ports.specs.Lands.{list_of}
 use Rattle.frame_ports.specs.Ports.{PortsState}
 use Rattle.output_gate.specs.Epochs.{frames_of}
 use Rattle.pair_history.specs.HistoryState.{HistoryState, inbox_of, Legal}
-use Rattle.pair_history.specs.Landings.{DropsAtFull}
+use Rattle.pair_history.specs.Landings.{DropsAreKnown}
 use Rattle.pair_core.specs.declared.event.Refusal.{Refusal}
 use Rattle.pair_core.specs.declared.event.Refusal.TheVariants.{Full}
 use Rattle.pair_core.specs.declared.event.Reply.{Reply}
@@ -37,9 +37,10 @@ AllSettled (m ∷ ms) = (m ≡ settled m.guest) × AllSettled ms
 
 -- What holds between events.
 pub record IsConsistent (w : Pair) : Type 0 where
-  -- the history is one of a guest that never fails, and dropped no frame but at a full box; what is kept goes on from it
+  -- the history is one of a guest that never fails, and dropped no frame for a client but at its full box or out of its box; what is
+  -- kept goes on from it
   pub legal : Legal w.start w.protocol.journal.history
-  pub drops : DropsAtFull w.start w.protocol.journal.history
+  pub drops : DropsAreKnown w.start w.protocol.journal.history
   pub goes_on : Legal (shown_state w) (kept_entries w.protocol.journal)
   -- the live machine is the guest of the history followed by what is kept, the image the guest of the history; the image and what
   -- is sealed are settled

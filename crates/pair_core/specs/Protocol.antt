@@ -3,18 +3,18 @@
 -- the record after it, and the only place that spells them. What it looks at beside the record (the frames that the guest sent
 -- along the running epoch, its step count, the clients' boxes and inboxes) is an argument, and `outcome` gives what the history
 -- says of it.
-use Rattle.std.specs.Prelude.{◌≡◌, ℕ, ◌+◌, ◌-◌, ◌<◌, ◌==◌, ◌&&◌, ◌||◌, not, nat_lt, nat_le, Bool, if◌then◌else◌, List, [], ◌∷◌, ◌++◌, length, map, slice_get, Option, None, Some, Result, Ok, Err, ◌⊎◌}
+use Rattle.std.specs.Prelude.{◌≡◌, ℕ, ◌+◌, ◌-◌, ◌<◌, ◌==◌, ◌&&◌, ◌||◌, not, nat_lt, nat_le, Bool, if◌then◌else◌, List, [], ◌∷◌, ◌++◌, length, map, option_map, slice_get, Option, None, Some, Result, Ok, Err, ◌⊎◌}
 use Rattle.guest_machine.specs.Step.{next}
 use Rattle.frame_ports.specs.Addresses.{targets_of}
 use Rattle.frame_ports.specs.Lands.{list_of, put_count}
 use Rattle.frame_ports.specs.declared.limits.TheConstants.{MIN_FRAME, MAX_FRAME, INBOX_FRAMES, NUMBER_LIMIT}
 use Rattle.output_gate.specs.Epochs.{Epoch, frames_to, after_number}
-use Rattle.pair_history.specs.Entries.{Frame, Entry, Ran, Arrive, Delivered, Took}
+use Rattle.pair_history.specs.Entries.{Frame, Entry, Ran, Arrive, Delivered, DropIn, DropOut, Took}
 use Rattle.pair_history.specs.Entries as entries
 use Rattle.pair_history.specs.HistoryState.{HistoryState, at, inbox_of, sent_along}
 use Rattle.pair_history.specs.Landings.{landings}
 use Rattle.pair_core.specs.declared.event.Event.{Event}
-use Rattle.pair_core.specs.declared.event.Event.TheVariants.{Step, Cut, Send, BackupGet, AckGet, Admit, Deliver, Take}
+use Rattle.pair_core.specs.declared.event.Event.TheVariants.{Step, Cut, Send, BackupGet, AckGet, Admit, Deliver, Take, LoseIn, LoseOut}
 use Rattle.pair_core.specs.declared.event.Mode.{Mode}
 use Rattle.pair_core.specs.declared.event.Packet.{Packet}
 use Rattle.pair_core.specs.declared.event.Refusal.{Refusal}
@@ -229,6 +229,33 @@ take_done boxes r c =
 abbrev pub take_outcome_at : List (List Frame) → Record → ℕ → Outcome
 take_outcome_at boxes r c = unless r (take_refusals (length boxes) r c) (take_done boxes r c)
 
+-- LOSEIN, LOSEOUT: the line drops a frame that a client delivered, or one that lies in its box
+
+abbrev pub loss_refusals : Record → List Row
+loss_refusals r = (exhausts r 1, Exhausted) ∷ []
+
+-- a frame is dropped, as this entry says
+abbrev pub loss_done : Record → Entry → Outcome
+loss_done r e = (replies.Dropped, record r { journal = with_history r.journal (e ∷ []) })
+
+-- if there is one
+abbrev pub loss_of : Record → Option Entry → Outcome
+loss_of r None = (replies.Empty, r)
+loss_of r (Some e) = unless r (loss_refusals r) (loss_done r e)
+
+-- the entry of the frame at that place of these inbox's frames, and of these in client c's box
+abbrev pub lost_in : List (ℕ × Frame) → ℕ → Option Entry
+lost_in inbox place = option_map (λ (x : ℕ × Frame). DropIn x.0) (slice_get inbox place)
+
+abbrev pub lost_out : ℕ → List Frame → ℕ → Option Entry
+lost_out c box place = option_map (λ (f : Frame). DropOut c place) (slice_get box place)
+
+abbrev pub lose_in_outcome_at : ℕ → List (ℕ × Frame) → Record → ℕ → ℕ → Outcome
+lose_in_outcome_at count inbox r c place = unless r (client_refusals count c) (loss_of r (lost_in inbox place))
+
+abbrev pub lose_out_outcome_at : List (List Frame) → Record → ℕ → ℕ → Outcome
+lose_out_outcome_at boxes r c place = unless r (client_refusals (length boxes) c) (loss_of r (lost_out c (list_of boxes c) place))
+
 -- WHAT THE HISTORY SAYS of what an event looks at
 
 -- the state that clients see, and the one after all that is kept
@@ -255,6 +282,9 @@ outcome start r (Admit c) = admit_outcome_at (length (shown_at start r).boxes) (
 outcome start r (Deliver c bytes) =
     deliver_outcome_at (length (shown_at start r).boxes) (inbox_of c (live_at start r).waiting) (shown_at start r).number r c bytes.now
 outcome start r (Take c) = take_outcome_at (shown_at start r).boxes r c
+outcome start r (LoseIn c place) =
+    lose_in_outcome_at (length (shown_at start r).boxes) (inbox_of c (live_at start r).waiting) r c place
+outcome start r (LoseOut c place) = lose_out_outcome_at (shown_at start r).boxes r c place
 
 -- WANT OF MEMORY
 
@@ -270,6 +300,7 @@ MayWantMemory replies.Lost = ⊥
 MayWantMemory (replies.Acked generation number landed) = Unit {0}
 MayWantMemory (replies.Admitted number) = Unit {0}
 MayWantMemory replies.Empty = ⊥
+MayWantMemory replies.Dropped = Unit {0}
 MayWantMemory (replies.Delivered number) = Unit {0}
 MayWantMemory (replies.Took frame) = Unit {0}
 MayWantMemory (replies.Refused why) = why ≡ Full

@@ -1,5 +1,5 @@
 -- What contracts see of the pair's record: the protocol's record, and the clients' ports; and what is true of every record.
-use Rattle.std.specs.Prelude.{◌≡◌, ℕ, ◌+◌, ◌-◌, List, [], length, drop}
+use Rattle.std.specs.Prelude.{◌≡◌, ℕ, ◌+◌, [], length, drop, remove}
 use Rattle.frame_ports.specs.Lands.{list_of, with_list, lands}
 use Rattle.frame_ports.specs.Ports.{PortsState}
 use Rattle.pair_core.specs.Journal.{empty_journal}
@@ -26,6 +26,13 @@ ports_after_admit p c = record p { inboxes = with_list p.inboxes c (drop 1 (list
 
 abbrev pub ports_after_take : PortsState → ℕ → PortsState
 ports_after_take p c = record p { boxes = with_list p.boxes c (drop 1 (list_of p.boxes c)) }
+
+-- once a frame of a client's inbox is lost, and once one of its box is
+abbrev pub ports_after_lose_in : PortsState → ℕ → ℕ → PortsState
+ports_after_lose_in p c place = record p { inboxes = with_list p.inboxes c (remove (list_of p.inboxes c) place) }
+
+abbrev pub ports_after_lose_out : PortsState → ℕ → ℕ → PortsState
+ports_after_lose_out p c place = record p { boxes = with_list p.boxes c (remove (list_of p.boxes c) place) }
 
 -- The window is that of what is pending; every packet of this generation names a checkpoint that was cut, every acknowledgement of
 -- it one that was committed; and each checkpoint that was cut and not committed has its epoch.

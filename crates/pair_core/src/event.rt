@@ -25,6 +25,10 @@ pub enum Event<'a> {
     Deliver(u64, &'a [u8]),
     /// The client of this number, counted from 1, takes the first frame of its box.
     Take(u64),
+    /// The line drops the frame at this place, from 0, of this client's inbox: `LoseIn(client, place)`.
+    LoseIn(u64, u64),
+    /// The line drops the frame at this place, from 0, of this client's box: `LoseOut(client, place)`.
+    LoseOut(u64, u64),
 }
 
 /// Why an event was refused. Nothing changed, but that the history tells of a refusal [`Refusal::Full`].
@@ -147,8 +151,10 @@ pub enum Reply {
     },
     /// The frame of this number arrived at the guest.
     Admitted(u64),
-    /// No frame waits: nothing happened.
+    /// No frame is there: nothing happened.
     Empty,
+    /// The frame that was there is dropped.
+    Dropped,
     /// The frame waits for the guest under this number, counted from 1.
     Delivered(u64),
     /// The frame, or none where the box is empty.

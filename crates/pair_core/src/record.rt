@@ -91,6 +91,13 @@ impl PairRecord {
         self.generation
     }
 
+    /// What is true of every record is true of this one.
+    pub(crate) fn keep(&self)
+        ensures { IsRecord self.now.protocol }
+    {
+        let _generation = self.generation;
+    }
+
     /// The history.
     pub(crate) fn history(&self) -> &History
         ensures { result.now.entries ≡ self.now.protocol.journal.history }

@@ -185,6 +185,25 @@ fn a_delivered_frame_arrives_at_the_guest(rt: HostRuntime) -> Result<(), Fail> {
     Ok(())
 }
 
+#[test]
+fn the_second_of_two_deliveries_is_lost(rt: HostRuntime) -> Result<(), Fail> {
+    let mut world = idle_pair(rt.alloc())?;
+    let events = [
+        Event::Deliver(1, &FRAME),
+        Event::Deliver(1, &FRAME),
+        Event::LoseIn(1, 1),
+        Event::LoseIn(1, 1),
+        Event::Admit(1),
+        Event::LoseOut(1, 0),
+        Event::LoseOut(3, 0),
+    ];
+    let wanted =
+        "Delivered(1)\nDelivered(2)\nDropped\nEmpty\nAdmitted(1)\nEmpty\nRefused(NoClient)\n";
+    assert!(rt; answers(rt.alloc(), &mut world, &events, wanted)?);
+    assert_eq!(rt; world.show(), paired(0, 0, 3));
+    Ok(())
+}
+
 /// Delivers the frame that often, and says whether the replies are the numbers from 1.
 fn are_numbered(world: &mut World, count: u32) -> bool {
     for number in 1..u64::from(count) + 1 {

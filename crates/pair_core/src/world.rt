@@ -1,6 +1,8 @@
 //! The pair as one value, and what each event does to it.
 ghost use Rattle.std.specs.Prelude.{◌≡◌, ℕ, ◌+◌, ◌*◌, ◌≤◌, ◌<◌, length, IfOk, IfErr, IfSome, IfNone, OnErr};
 
+mod losses;
+
 use crate::event::{Event, Refusal, Reply, Show};
 use crate::nodes::Nodes;
 use crate::record::PairRecord;
@@ -38,10 +40,13 @@ impl World {
     ghost use Rattle.frame_ports.specs.declared.limits.TheConstants.{MAX_CLIENTS};
     ghost use Rattle.pair_history.specs.Entries.{Begins};
     ghost use Rattle.pair_history.specs.HistoryState.{start_state};
-    ghost use Rattle.pair_core.specs.Protocol.{Answers, MayWantMemory, outcome, step_reply, step_outcome};
+    ghost use Rattle.pair_core.specs.Protocol.{Record, Answers, MayWantMemory, outcome, step_reply, step_outcome};
     ghost use Rattle.pair_core.specs.Pair.{Pair, live_state, OnRefused, IsConsistent};
     ghost use Rattle.pair_core.specs.Record.{start_record};
-    ghost use Rattle.pair_core.specs.Runs.{Run, steps_outcome, with_steps};
+    ghost use Rattle.pair_core.specs.Runs.{Along, Run, steps_outcome, with_steps};
+    ghost use Rattle.pair_core.specs.Drops.{Drops};
+    ghost use Rattle.pair_core.specs.declared.event.Event.{Event};
+    ghost use Rattle.pair_core.specs.declared.event.Reply.{Reply};
     ghost use Rattle.pair_core.specs.Start.{shown, shown_sector};
 
     /// A pair at its start: both nodes were given this boot image, which counts as checkpoint 0, committed and
@@ -84,7 +89,11 @@ impl World {
         // The history is that of a guest that never fails, and begins with the history before.
         ensures grows { Begins self.old.protocol.journal.history self.new.protocol.journal.history }
         ensures consistent { IsConsistent self.new }
+
+        // Why a frame was dropped: a loss that was asked for drops that frame, an acknowledgement what finds a box full.
+        ensures drops { Drops self.old.start self.old.protocol event.entry result self.new.protocol }
     {
+        self.keep_drops();
         let outcome = self.act(event);
         self.keep_consistent();
         answered(outcome)
@@ -107,6 +116,8 @@ impl World {
             Event::Admit(client) => self.admit(client),
             Event::Deliver(client, bytes) => self.deliver(client, bytes),
             Event::Take(client) => self.take(client),
+            Event::LoseIn(client, place) => self.lose_in(client, place),
+            Event::LoseOut(client, place) => self.lose_out(client, place),
         }
     }
 
@@ -129,6 +140,14 @@ impl World {
         let _clients = self.clients;
     }
 
+    /// What each event may drop is known before it happens.
+    fn keep_drops(&self)
+        ensures { (event : Event) (reply : Reply) (new : Record) → Answers self.now.start self.now.protocol event reply new
+            → Drops self.now.start self.now.protocol event reply new }
+    {
+        self.record.keep();
+    }
+
     /// Does these events in order, and gives their replies.
     ///
     /// # Errors
@@ -139,6 +158,8 @@ impl World {
         ensures start { self.new.start ≡ self.old.start }
         ensures grows { Begins self.old.protocol.journal.history self.new.protocol.journal.history }
         ensures consistent { IsConsistent self.new }
+        // Why a frame was dropped, event by event.
+        ensures drops { IfOk result (λ replies. Along Drops self.old.start self.old.protocol events.now replies.items self.new.protocol) }
         ensures err { IfErr result (λ e. (e ≡ Refusal.NoMemory) × (self.new ≡ self.old)) }
     {
         self.keep_consistent();

@@ -1,17 +1,17 @@
 -- Laws of the accounts of clients: they are sound, and they are what the history's state says.
-use Rattle.std.proofs.Common.{◌≡◌, ℕ, zero, suc, ◌+◌, ◌-◌, ◌<◌, ◌≤◌, List, [], ◌∷◌, ◌++◌, length, map, take, drop, remove, get_or, replicate, refl, sym, ap, ◌∙◌, subst, arith, append_assoc, Bool, true, false, cond}
+use Rattle.std.proofs.Common.{◌≡◌, ℕ, zero, suc, ◌+◌, ◌-◌, ◌<◌, ◌≤◌, List, [], ◌∷◌, ◌++◌, length, take, drop, remove, get_or, replicate, refl, sym, ap, ◌∙◌, subst, arith, append_assoc, Bool, true, false, cond}
 use Rattle.std.specs.Prelude.{nat_lt, ◌==◌, slice_get, Option, Some, None}
 use Rattle.std.specs.List.{All, Contains, flat_map, count_by}
 use Rattle.std.proofs.lemmas.Bool.{eqb-true, ltb-true, ltb-false}
 use Rattle.std.proofs.lemmas.List.{append-nil, length-append, take-append-drop, map-append, take-map, drop-map, length-map, get_or_default}
 use Rattle.std.proofs.lemmas.List.Sums.{sum_by-cons}
-use Rattle.std.proofs.lemmas.List.Elements.{All-append, All-map, All-nil}
+use Rattle.std.proofs.lemmas.List.Elements.{All-append, All-map}
 use Rattle.frame_ports.specs.Addresses.{targets_of}
 use Rattle.guest_machine.specs.Step.{sent}
 use Rattle.frame_ports.specs.Lands.{list_of, with_list}
-use Rattle.pair_history.specs.Entries.{Frame, Entry, Ran, Arrive, Delivered, Refused, Land, DropOut, Took}
+use Rattle.pair_history.specs.Entries.{Frame, Entry, Ran, Land, DropOut, Took}
 use Rattle.pair_history.specs.HistoryState.{HistoryState, at, after, along, Allows, Legal, out_of, out_without}
-use Rattle.pair_history.specs.Released.{frames_for, Sent, sent_at, frames, Effect, Sends, Lands, DropsBoxed, DropsOnWay, Takes, Nothing, effect_on, Account, empty_account, booked, goes_on, account, WasSent, IsPartOf, IsSound, sent_for, landed_by, released, taken_by, taken, is_drop, dropped_count, IsFresh}
+use Rattle.pair_history.specs.Released.{frames_for, Sent, sent_at, frames, Effect, Sends, Lands, DropsBoxed, DropsOnWay, Takes, Nothing, effect_on, Account, booked, goes_on, WasSent, IsPartOf, IsSound, sent_for, landed_by, taken_by, is_drop, IsFresh}
 use Rattle.pair_history.proofs.ClientLists.{out_of-append, out_of-without, list_of-with}
 use Rattle.pair_history.proofs.Parts.{part-trans, part-append, part-remove}
 

@@ -1,5 +1,5 @@
 -- Laws of landings: what the entries that an acknowledgement adds do to a history's state.
-use Rattle.std.proofs.Common.{◌≡◌, ℕ, zero, suc, ◌+◌, ◌-◌, ◌<◌, ◌≤◌, List, [], ◌∷◌, ◌++◌, length, take, set, remove, get_or, refl, sym, ap, ◌∙◌, subst, arith, Bool, true, false, cond}
+use Rattle.std.proofs.Common.{◌≡◌, ℕ, zero, suc, ◌-◌, ◌<◌, ◌≤◌, List, [], ◌∷◌, ◌++◌, length, take, set, remove, get_or, refl, sym, ap, ◌∙◌, subst, arith, Bool, true, false, cond}
 use Rattle.std.specs.Prelude.{nat_lt}
 use Rattle.std.specs.List.{All}
 use Rattle.std.proofs.lemmas.Bool.{eq-eqb, ltb-true}
@@ -103,7 +103,7 @@ module _ (s : HistoryState) (c : ℕ) (f : Frame) (qs : List (ℕ × Frame)) (fi
           out = (ap (λ t. cond t s.out (out_without c (BOX_FRAMES - length the_box) s.out)) test ∙ ap (λ k. out_without c k s.out) here ∙ rest) i;
           boxes = (ap (λ t. cond t (with_list s.boxes c (remove the_box BOX_FRAMES)) s.boxes) test ∙ sym (ap (λ t. cond t (with_list s.boxes c (the_box ++ f ∷ [])) s.boxes) e)) i;
         }),
-        (λ es d. (refl, is, d)),
+        (λ es d. ((refl, is), d)),
       )
 
   pub one_lands : Lands (the_entry (has_room s.boxes c))

@@ -1,5 +1,6 @@
 pub mod States
 pub mod Waiting
+pub mod Losses
 pub mod Moves
 pub mod LandingLaws
 pub mod ReachedLaws

@@ -7,7 +7,7 @@ use Rattle.frame_ports.specs.Addresses.{targets_of}
 use Rattle.pair_history.specs.Entries.{Ran, Arrive}
 use Rattle.pair_history.specs.HistoryState.{HistoryState, Waiting, inbox_of, with_arrived, without_number, at, after, Legal}
 use Rattle.pair_history.specs.HistoryState.{sent_along}
-use Rattle.pair_history.specs.Landings.{DropsAtFull}
+use Rattle.pair_history.specs.Landings.{DropsAreKnown, DropsNone}
 use Rattle.pair_history.specs.Moves.{Move, Steps, Arrives, entry_of, entries_of, guest_moved, frames_by, guest_along, frames_along, left_by, left, CanMove, AllCan}
 use Rattle.pair_history.proofs.States.{append-nil, targets_of-append}
 use Rattle.pair_history.proofs.Waiting.{IsFirst-more, frame_numbered-more, shorter}
@@ -88,10 +88,15 @@ Legal-moves s [] p = tt
 Legal-moves s (Steps ∷ ms) p = (tt, Legal-moves (after s Ran) ms p.1)
 Legal-moves s (Arrives n f ∷ ms) p = (p.0.0, Legal-moves (after s (Arrive n)) ms p.1)
 
-pub DropsAtFull-moves : (s : HistoryState) (ms : List Move) → AllCan s.waiting ms → DropsAtFull s (entries_of ms)
-DropsAtFull-moves s [] p = tt
-DropsAtFull-moves s (Steps ∷ ms) p = DropsAtFull-moves (after s Ran) ms p.1
-DropsAtFull-moves s (Arrives n f ∷ ms) p = DropsAtFull-moves (after s (Arrive n)) ms p.1
+pub DropsAreKnown-moves : (s : HistoryState) (ms : List Move) → AllCan s.waiting ms → DropsAreKnown s (entries_of ms)
+DropsAreKnown-moves s [] p = tt
+DropsAreKnown-moves s (Steps ∷ ms) p = DropsAreKnown-moves (after s Ran) ms p.1
+DropsAreKnown-moves s (Arrives n f ∷ ms) p = DropsAreKnown-moves (after s (Arrive n)) ms p.1
+
+pub DropsNone-moves : (ms : List Move) → DropsNone (entries_of ms)
+DropsNone-moves [] = tt
+DropsNone-moves (Steps ∷ ms) = DropsNone-moves ms
+DropsNone-moves (Arrives n f ∷ ms) = DropsNone-moves ms
 
 pub sent_along-moves : (s : HistoryState) (ms : List Move) → AllCan s.waiting ms → sent_along s (entries_of ms) ≡ frames_along s.guest ms
 sent_along-moves s [] p = refl

@@ -1,15 +1,16 @@
 -- What clients and their lines do can come before what the guest does.
 use Rattle.std.proofs.Common.{◌≡◌, ℕ, zero, suc, ◌+◌, ◌-◌, ◌<◌, ◌≤◌, List, [], ◌∷◌, ◌++◌, length, take, drop, remove, refl, sym, ap, ◌∙◌, subst, arith, Bool, true, false, cond}
-use Rattle.std.specs.Prelude.{nat_lt, ◌==◌, slice_get, Some}
-use Rattle.std.proofs.lemmas.Bool.{eqb-true, ltb-true, ltb-false}
+use Rattle.std.specs.Prelude.{nat_lt, ◌==◌}
+use Rattle.std.proofs.lemmas.Bool.{ltb-false}
 use Rattle.std.proofs.lemmas.List.{length-append, length-set, take-append-le}
-use Rattle.guest_machine.specs.Step.{next, sent, arrived}
+use Rattle.guest_machine.specs.Step.{next, sent}
 use Rattle.frame_ports.specs.Addresses.{targets_of}
 use Rattle.frame_ports.specs.Lands.{list_of, with_list}
-use Rattle.pair_history.specs.Entries.{Frame, Entry, Ran, Arrive, Delivered, Refused, Land, DropOut, Took}
-use Rattle.pair_history.specs.HistoryState.{HistoryState, Waiting, inbox_of, frame_numbered, without_number, with_arrived, IsFirst, out_of, out_without, at, after, Allows, Legal}
+use Rattle.pair_history.specs.Entries.{Frame, Entry, Ran, Arrive, Delivered, Refused, DropIn, Land, DropOut, Took}
+use Rattle.pair_history.specs.HistoryState.{HistoryState, Waiting, with_arrived, IsFirst, out_of, out_without, at, after, Allows, Legal}
 use Rattle.pair_history.specs.Order.{IsGuests, AreGuests, IsReady}
 use Rattle.pair_history.proofs.ClientLists.{out_of-append}
+use Rattle.pair_history.proofs.Losses.{found-without, without-swaps, IsFirst-without}
 use Rattle.pair_history.proofs.Waiting.{IsFirst-more, frame_numbered-more, first-waits}
 
 -- what is sent later goes behind what is on its way
@@ -34,8 +35,8 @@ out_without-more c (suc place) (p ∷ ps) qs l =
     by_test false l nearer more = more l
 
 -- two entries change places: the guest's is still allowed, and the state after both is the same
-abbrev Swaps : HistoryState → Entry → Entry → Type 0
-Swaps s g e = Allows (after s e) g × (after (after s e) g ≡ after (after s g) e) × IsReady (after s g) e
+abbrev Swaps : HistoryState → Entry → List Entry → Entry → Type 0
+Swaps s g es e = Allows (after s e) g × (after (after s e) g ≡ after (after s g) e) × IsReady (after s g) es e
 
 module _ (s : HistoryState) where
   -- a step, where the boxes are as many and so the frames go to the same clients
@@ -81,16 +82,26 @@ module _ (s : HistoryState) where
             boxes = s.boxes;
           }
 
-  step-swaps : (e : Entry) → IsReady s e → Swaps s Ran e
-  step-swaps (Delivered c f n) r = (tt, refl, tt)
-  step-swaps (Refused c f) r = (tt, refl, tt)
-  step-swaps (Took c answer) r = let box = with_list s.boxes c (drop 1 (list_of s.boxes c)) in (tt, ap (stepped s.out box) (length-set s.boxes (c - 1) (drop 1 (list_of s.boxes c))), tt)
-  step-swaps (Land c) r = (tt, landing-swaps c r, let n = more_out c in omega arith)
-  step-swaps (DropOut c place) r = (tt, drop-swaps c place r, let n = more_out c in omega arith)
-  step-swaps other r = absurd r
+  step-swaps : (es : List Entry) (e : Entry) → IsReady s (Ran ∷ es) e → Swaps s Ran es e
+  step-swaps es (Delivered c f n) r = (tt, refl, tt)
+  step-swaps es (Refused c f) r = (tt, refl, tt)
+  step-swaps es (DropIn n) r = (tt, refl, r)
+  step-swaps es (Took c answer) r = let box = with_list s.boxes c (drop 1 (list_of s.boxes c)) in (tt, ap (stepped s.out box) (length-set s.boxes (c - 1) (drop 1 (list_of s.boxes c))), tt)
+  step-swaps es (Land c) r = (tt, landing-swaps c r, let n = more_out c in omega arith)
+  step-swaps es (DropOut c place) r = (tt, drop-swaps c place r, let n = more_out c in omega arith)
+  step-swaps es other r = absurd r
 
-  arrival-swaps : (n : ℕ) (e : Entry) → IsFirst n s.waiting → IsReady s e → Swaps s (Arrive n) e
-  arrival-swaps n (Delivered c f m) h r =
+  arrival-swaps : (n : ℕ) (es : List Entry) (e : Entry) → IsFirst n s.waiting → IsReady s (Arrive n ∷ es) e → Swaps s (Arrive n) es e
+  arrival-swaps n es (DropIn m) h r =
+      let found = found-without n m r.2.0 s.waiting in (
+        IsFirst-without n m r.2.0 s.waiting h,
+        (λ i. record s {
+          guest = with_arrived s.guest (found i);
+          waiting = without-swaps n m r.2.0 s.waiting i;
+        }),
+        (r.0, found-without m n (λ (k : m ≡ n). r.2.0 (sym k)) s.waiting ∙ r.1, r.2.1),
+      )
+  arrival-swaps n es (Delivered c f m) h r =
       let new : List Waiting = record { number = m; client = c; frame = f } ∷ [] in
       let waits = first-waits n h.0 h.1 s.waiting h.2 in
       let still = frame_numbered-more n waits.0 s.waiting new waits.1 in (
@@ -102,21 +113,21 @@ module _ (s : HistoryState) where
         }),
         tt,
       )
-  arrival-swaps n (Refused c f) h r = (h, refl, tt)
-  arrival-swaps n (Land c) h r = (h, refl, r)
-  arrival-swaps n (DropOut c place) h r = (h, refl, r)
-  arrival-swaps n (Took c answer) h r = (h, refl, tt)
-  arrival-swaps n other h r = absurd r
+  arrival-swaps n es (Refused c f) h r = (h, refl, tt)
+  arrival-swaps n es (Land c) h r = (h, refl, r)
+  arrival-swaps n es (DropOut c place) h r = (h, refl, r)
+  arrival-swaps n es (Took c answer) h r = (h, refl, tt)
+  arrival-swaps n es other h r = absurd r
 
-swaps : (s : HistoryState) (g e : Entry) → IsGuests g → Allows s g → IsReady s e → Swaps s g e
-swaps s Ran e k a r = step-swaps s e r
-swaps s (Arrive n) e k a r = arrival-swaps s n e a r
-swaps s other e k a r = absurd k
+swaps : (s : HistoryState) (g : Entry) (es : List Entry) (e : Entry) → IsGuests g → Allows s g → IsReady s (g ∷ es) e → Swaps s g es e
+swaps s Ran es e k a r = step-swaps s es e r
+swaps s (Arrive n) es e k a r = arrival-swaps s n es e a r
+swaps s other es e k a r = absurd k
 
-pub goes_first : (s : HistoryState) (es : List Entry) (e : Entry) → AreGuests es → Legal s es → IsReady s e
+pub goes_first : (s : HistoryState) (es : List Entry) (e : Entry) → AreGuests es → Legal s es → IsReady s es e
     → Legal (after s e) es × (at (after s e) es ≡ after (at s es) e)
 goes_first s [] e k legal r = (tt, refl)
 goes_first s (g ∷ es) e k legal r =
-    let one = swaps s g e k.0 legal.0 r in
+    let one = swaps s g es e k.0 legal.0 r in
     let more = goes_first (after s g) es e k.1 legal.1 one.2 in
     ((one.0, subst (λ (t : HistoryState). Legal t es) (sym one.1) more.0), ap (λ t. at t es) one.1 ∙ more.1)

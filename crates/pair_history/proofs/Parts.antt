@@ -1,5 +1,5 @@
 -- Laws of lists that are a part of another, in order.
-use Rattle.std.proofs.Common.{◌≡◌, ◌∙◌, ℕ, zero, suc, List, [], ◌∷◌, ◌++◌, remove, refl, inl, inr}
+use Rattle.std.proofs.Common.{◌∙◌, ℕ, zero, suc, List, [], ◌∷◌, ◌++◌, remove, refl, inl, inr}
 use Rattle.pair_history.specs.Released.{IsPartOf}
 
 module _ {X : Type 0} where

@@ -1,10 +1,10 @@
 -- Laws of histories: what a list of entries does, in two parts.
-use Rattle.std.proofs.Common.{◌≡◌, ℕ, List, [], ◌∷◌, ◌++◌, refl, sym, ap, ◌∙◌, append_assoc}
+use Rattle.std.proofs.Common.{◌≡◌, List, [], ◌∷◌, ◌++◌, refl, sym, ap, ◌∙◌, append_assoc, inl}
 pub use Rattle.frame_ports.proofs.AddressLaws.{targets_of-append}
 pub use Rattle.std.proofs.lemmas.List.{append-nil}
-use Rattle.pair_history.specs.Entries.{Frame, Entry, DropOut}
+use Rattle.pair_history.specs.Entries.{Entry, DropIn, DropOut}
 use Rattle.pair_history.specs.HistoryState.{HistoryState, at, after, Legal, along}
-use Rattle.pair_history.specs.Landings.{DropsAtFull}
+use Rattle.pair_history.specs.Landings.{DropsAreKnown, DropsAtFull}
 
 pub at-append : (s : HistoryState) (es fs : List Entry) → at s (es ++ fs) ≡ at (at s es) fs
 at-append s [] fs = refl
@@ -14,10 +14,17 @@ pub Legal-append : (s : HistoryState) (es fs : List Entry) → Legal s es → Le
 Legal-append s [] fs p q = q
 Legal-append s (e ∷ es) fs p q = (p.0, Legal-append (after s e) es fs p.1 q)
 
-pub DropsAtFull-append : (s : HistoryState) (es fs : List Entry) → DropsAtFull s es → DropsAtFull (at s es) fs → DropsAtFull s (es ++ fs)
-DropsAtFull-append s [] fs p q = q
-DropsAtFull-append s (DropOut c place ∷ es) fs p q = (p.0, p.1, DropsAtFull-append (after s (DropOut c place)) es fs p.2 q)
-DropsAtFull-append s (other ∷ es) fs p q = DropsAtFull-append (after s other) es fs p q
+pub DropsAreKnown-append : (s : HistoryState) (es fs : List Entry) → DropsAreKnown s es → DropsAreKnown (at s es) fs
+    → DropsAreKnown s (es ++ fs)
+DropsAreKnown-append s [] fs p q = q
+DropsAreKnown-append s (DropOut c place ∷ es) fs p q = (p.0, DropsAreKnown-append (after s (DropOut c place)) es fs p.1 q)
+DropsAreKnown-append s (other ∷ es) fs p q = DropsAreKnown-append (after s other) es fs p q
+
+pub at_full-known : (s : HistoryState) (es : List Entry) → DropsAtFull s es → DropsAreKnown s es
+at_full-known s [] p = tt
+at_full-known s (DropIn n ∷ es) p = absurd p
+at_full-known s (DropOut c place ∷ es) p = (inl p.0, at_full-known (after s (DropOut c place)) es p.1)
+at_full-known s (other ∷ es) p = at_full-known (after s other) es p
 
 pub along-append : {X : Type 0} (gives : HistoryState → Entry → List X) (s : HistoryState) (es fs : List Entry)
     → along gives s (es ++ fs) ≡ along gives s es ++ along gives (at s es) fs

@@ -1,5 +1,5 @@
 -- Laws of the frames that wait for the guest.
-use Rattle.std.proofs.Common.{◌≡◌, ◌≢◌, ℕ, ◌+◌, ◌≤◌, List, [], ◌∷◌, ◌++◌, length, drop, refl, sym, ap, ◌∙◌, arith, Bool, true, false, cond, true≢false, Some}
+use Rattle.std.proofs.Common.{◌≡◌, ◌≢◌, ℕ, zero, suc, ◌+◌, ◌≤◌, List, [], ◌∷◌, ◌++◌, length, remove, refl, sym, ap, ◌∙◌, arith, Bool, true, false, cond, true≢false, Option, Some}
 use Rattle.std.specs.Prelude.{slice_get, ◌==◌}
 use Rattle.std.proofs.lemmas.Bool.{eqb-true, eq-eqb}
 use Rattle.std.proofs.lemmas.Bool.Decides.{nat_tests}
@@ -9,10 +9,10 @@ use Rattle.pair_history.specs.Moves.{AreRising}
 use Rattle.pair_history.proofs.ClientLists.{cond_more}
 
 -- an equation with true against one with false
-clash : {A : Type 0} (t : Bool) → t ≡ true → t ≡ false → A
+pub clash : {A : Type 0} (t : Bool) → t ≡ true → t ≡ false → A
 clash t e f = absurd (true≢false (sym e ∙ f))
 
-apart : (a b : ℕ) → a ≢ b → (a == b) ≡ false
+pub apart : (a b : ℕ) → a ≢ b → (a == b) ≡ false
 apart a b h = grind (arith, nat_tests)
 
 -- Frames that are delivered later stand behind.
@@ -74,24 +74,32 @@ AreRising-without n first end (x ∷ xs) h = by_test (x.number == n) (AreRising-
     by_test true later = let k = h.0 in AreRising-later first (x.number + 1) end xs (omega arith) h.1
     by_test false later = (h.0, later)
 
--- The first of a client is found by its number, and leaves the front of its inbox alone.
+-- A frame of a client is found by its number, and when it leaves, only its own client's inbox loses it, at its place.
 
-abbrev pub StartsWith : ℕ → ℕ → Frame → List Waiting → Type 0
-StartsWith c n f ws = slice_get (inbox_of c ws) 0 ≡ Some (n, f)
+-- the frame stands at that place of client c's inbox
+abbrev pub StandsAt : ℕ → ℕ → ℕ → Frame → List Waiting → Type 0
+StandsAt c place n f ws = slice_get (inbox_of c ws) place ≡ Some (n, f)
 
-first-from : (c n : ℕ) (f : Frame) (first end : ℕ) (ws : List Waiting) → AreRising first end ws → StartsWith c n f ws → first ≤ n
-first-from c n f first end [] h s = absurd (cc)
-first-from c n f first end (x ∷ xs) h s = by_test (x.client == c) (first-from c n f (x.number + 1) end xs h.1) s
+number-is : (x : Waiting) (n : ℕ) (f : Frame) → ◌≡◌ {A = Option (ℕ × Frame)} (Some (x.number, x.frame)) (Some (n, f)) → (x.number ≡ n) × (x.frame ≡ f)
+number-is x n f e =
+    let p : ◌≡◌ {A = ℕ × Frame} (x.number, x.frame) (n, f) = cc in
+    (ap (λ (q : ℕ × Frame). q.0) p, ap (λ (q : ℕ × Frame). q.1) p)
+
+from : (c place n : ℕ) (f : Frame) (first end : ℕ) (ws : List Waiting) → AreRising first end ws → StandsAt c place n f ws → first ≤ n
+from c place n f first end [] h s = absurd (cc)
+from c place n f first end (x ∷ xs) h s =
+    by_test place (x.client == c) (λ (k : ℕ). from c k n f (x.number + 1) end xs h.1) s
   where
-    by_test : (t : Bool) → (StartsWith c n f xs → x.number + 1 ≤ n)
-        → slice_get (cond t ((x.number, x.frame) ∷ inbox_of c xs) (inbox_of c xs)) 0 ≡ Some (n, f) → first ≤ n
-    by_test true more e = let p : ◌≡◌ {A = ℕ × Frame} (x.number, x.frame) (n, f) = cc in let is : x.number ≡ n = ap (λ (q : ℕ × Frame). q.0) p in let k = h.0 in omega arith
-    by_test false more e = let k = h.0 in let l = more e in omega arith
+    by_test : (place : ℕ) (t : Bool) → ((k : ℕ) → StandsAt c k n f xs → x.number + 1 ≤ n)
+        → slice_get (cond t ((x.number, x.frame) ∷ inbox_of c xs) (inbox_of c xs)) place ≡ Some (n, f) → first ≤ n
+    by_test zero true more e = let is = (number-is x n f e).0 in let k = h.0 in omega arith
+    by_test (suc place) true more e = let k = h.0 in let l = more place e in omega arith
+    by_test place false more e = let k = h.0 in let l = more place e in omega arith
 
--- what is so of the first of client c where it has number n
-abbrev pub Leaves : ℕ → ℕ → Frame → List Waiting → Type 0
-Leaves c n f ws =
-    (frame_numbered n ws ≡ Some f) × ((d : ℕ) → inbox_of d (without_number n ws) ≡ cond (d == c) (drop 1 (inbox_of c ws)) (inbox_of d ws))
+-- what is so of the frame at that place of client c's inbox where it has number n
+abbrev pub Leaves : ℕ → ℕ → ℕ → Frame → List Waiting → Type 0
+Leaves c place n f ws =
+    (frame_numbered n ws ≡ Some f) × ((d : ℕ) → inbox_of d (without_number n ws) ≡ cond (d == c) (remove (inbox_of c ws) place) (inbox_of d ws))
 
 module _ (c n : ℕ) (f : Frame) (x : Waiting) (xs : List Waiting) where
   abbrev with_first : Bool → List (ℕ × Frame) → List (ℕ × Frame)
@@ -107,43 +115,65 @@ module _ (c n : ℕ) (f : Frame) (x : Waiting) (xs : List Waiting) where
   others_here mine d false e = sym (ap (λ t. with_first t (inbox_of d xs)) (same_client d mine e (x.client == d) refl))
 
   -- it has this number, and belongs to client c
-  leaves_here : (x.client == c) ≡ true → x.number ≡ n → x.frame ≡ f → Leaves c n f (x ∷ xs)
+  leaves_here : (x.client == c) ≡ true → x.number ≡ n → x.frame ≡ f → Leaves c 0 n f (x ∷ xs)
   leaves_here mine is same =
       let found : (x.number == n) ≡ true = eq-eqb x.number n is in (
         ap (λ t. cond t (Some x.frame) (frame_numbered n xs)) found ∙ ap (λ (g : Frame). Some g) same,
         λ d.
             ap (λ (t : Bool). inbox_of d (cond t xs (x ∷ without_number n xs))) found
             ∙ others_here mine d (d == c) refl
-            ∙ ap (λ (t : Bool). cond (d == c) (drop 1 (with_first t (inbox_of c xs))) (with_first (x.client == d) (inbox_of d xs))) (sym mine),
+            ∙ ap (λ (t : Bool). cond (d == c) (remove (with_first t (inbox_of c xs)) 0) (with_first (x.client == d) (inbox_of d xs))) (sym mine),
       )
 
-  others_there : (x.client == c) ≡ false → (d : ℕ) (t : Bool) → (d == c) ≡ t
-      → with_first (x.client == d) (cond t (drop 1 (inbox_of c xs)) (inbox_of d xs)) ≡ cond t (drop 1 (inbox_of c xs)) (with_first (x.client == d) (inbox_of d xs))
-  others_there other d false e = refl
-  others_there other d true e = ap (λ t. with_first t (drop 1 (inbox_of c xs))) (ap (λ k. x.client == k) (eqb-true d c e) ∙ other)
+  others_there : (place : ℕ) → (x.client == c) ≡ false → (d : ℕ) (t : Bool) → (d == c) ≡ t
+      → with_first (x.client == d) (cond t (remove (inbox_of c xs) place) (inbox_of d xs)) ≡ cond t (remove (inbox_of c xs) place) (with_first (x.client == d) (inbox_of d xs))
+  others_there place other d false e = refl
+  others_there place other d true e =
+      ap (λ t. with_first t (remove (inbox_of c xs) place)) (ap (λ k. x.client == k) (eqb-true d c e) ∙ other)
 
-  -- it stands further behind
-  leaves_there : (x.client == c) ≡ false → x.number + 1 ≤ n → Leaves c n f xs → Leaves c n f (x ∷ xs)
-  leaves_there other l more =
+  -- it stands after the first, which is another client's
+  leaves_there : (place : ℕ) → (x.client == c) ≡ false → x.number + 1 ≤ n → Leaves c place n f xs → Leaves c place n f (x ∷ xs)
+  leaves_there place other l more =
       let off : (x.number == n) ≡ false = apart x.number n (λ (k : x.number ≡ n). omega arith) in (
         ap (λ t. cond t (Some x.frame) (frame_numbered n xs)) off ∙ more.0,
         λ d.
             ap (λ (t : Bool). inbox_of d (cond t xs (x ∷ without_number n xs))) off
             ∙ ap (with_first (x.client == d)) (more.1 d)
-            ∙ others_there other d (d == c) refl
-            ∙ ap (λ (t : Bool). cond (d == c) (drop 1 (with_first t (inbox_of c xs))) (with_first (x.client == d) (inbox_of d xs))) (sym other),
+            ∙ others_there place other d (d == c) refl
+            ∙ ap (λ (t : Bool). cond (d == c) (remove (with_first t (inbox_of c xs)) place) (with_first (x.client == d) (inbox_of d xs))) (sym other),
       )
 
-  leaves_by : (t : Bool) → (x.client == c) ≡ t → slice_get (with_first t (inbox_of c xs)) 0 ≡ Some (n, f)
-      → (StartsWith c n f xs → x.number + 1 ≤ n) → (StartsWith c n f xs → Leaves c n f xs) → Leaves c n f (x ∷ xs)
-  leaves_by true mine e below more = let p : ◌≡◌ {A = ℕ × Frame} (x.number, x.frame) (n, f) = cc in leaves_here mine (ap (λ (q : ℕ × Frame). q.0) p) (ap (λ (q : ℕ × Frame). q.1) p)
-  leaves_by false other e below more = leaves_there other (below e) (more e)
+  own_later : (place : ℕ) → (x.client == c) ≡ true → (d : ℕ) (t : Bool) → (d == c) ≡ t
+      → with_first (x.client == d) (cond t (remove (inbox_of c xs) place) (inbox_of d xs))
+      ≡ cond t ((x.number, x.frame) ∷ remove (inbox_of c xs) place) (with_first (x.client == d) (inbox_of d xs))
+  own_later place mine d false e = refl
+  own_later place mine d true e =
+      ap (λ t. with_first t (remove (inbox_of c xs) place)) (ap (λ k. x.client == k) (eqb-true d c e) ∙ mine)
 
-pub first-leaves : (c n : ℕ) (f : Frame) (first end : ℕ) (ws : List Waiting) → AreRising first end ws → StartsWith c n f ws
-    → Leaves c n f ws
-first-leaves c n f first end [] h s = absurd (cc)
-first-leaves c n f first end (x ∷ xs) h s =
-    leaves_by c n f x xs (x.client == c) refl s (first-from c n f (x.number + 1) end xs h.1) (first-leaves c n f (x.number + 1) end xs h.1)
+  -- it stands after the first, which is the same client's
+  leaves_later : (place : ℕ) → (x.client == c) ≡ true → x.number + 1 ≤ n → Leaves c place n f xs → Leaves c (suc place) n f (x ∷ xs)
+  leaves_later place mine l more =
+      let off : (x.number == n) ≡ false = apart x.number n (λ (k : x.number ≡ n). omega arith) in (
+        ap (λ t. cond t (Some x.frame) (frame_numbered n xs)) off ∙ more.0,
+        λ d.
+            ap (λ (t : Bool). inbox_of d (cond t xs (x ∷ without_number n xs))) off
+            ∙ ap (with_first (x.client == d)) (more.1 d)
+            ∙ own_later place mine d (d == c) refl
+            ∙ ap (λ (t : Bool). cond (d == c) (remove (with_first t (inbox_of c xs)) (suc place)) (with_first (x.client == d) (inbox_of d xs))) (sym mine),
+      )
+
+  leaves_by : (place : ℕ) (t : Bool) → (x.client == c) ≡ t → slice_get (with_first t (inbox_of c xs)) place ≡ Some (n, f)
+      → ((k : ℕ) → StandsAt c k n f xs → x.number + 1 ≤ n) → ((k : ℕ) → StandsAt c k n f xs → Leaves c k n f xs)
+      → Leaves c place n f (x ∷ xs)
+  leaves_by zero true mine e below more = let is = number-is x n f e in leaves_here mine is.0 is.1
+  leaves_by (suc place) true mine e below more = leaves_later place mine (below place e) (more place e)
+  leaves_by place false other e below more = leaves_there place other (below place e) (more place e)
+
+pub leaves-at : (c place n : ℕ) (f : Frame) (first end : ℕ) (ws : List Waiting) → AreRising first end ws → StandsAt c place n f ws
+    → Leaves c place n f ws
+leaves-at c place n f first end [] h s = absurd (cc)
+leaves-at c place n f first end (x ∷ xs) h s =
+    leaves_by c n f x xs place (x.client == c) refl s (λ k. from c k n f (x.number + 1) end xs h.1) (λ k. leaves-at c k n f (x.number + 1) end xs h.1)
 
 -- a client's inbox gets no longer where a frame leaves
 pub shorter : (c n : ℕ) (ws : List Waiting) → length (inbox_of c (without_number n ws)) ≤ length (inbox_of c ws)

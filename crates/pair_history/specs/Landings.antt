@@ -1,8 +1,8 @@
 -- What becomes of frames that are let go: each lands in its client's box, or is dropped at a full one.
-use Rattle.std.specs.Prelude.{◌≡◌, ℕ, ◌≤◌, if◌then◌else◌, List, [], ◌∷◌, length}
+use Rattle.std.specs.Prelude.{◌≡◌, ℕ, ◌<◌, ◌≤◌, ◌⊎◌, if◌then◌else◌, List, [], ◌∷◌, length}
 use Rattle.frame_ports.specs.Lands.{list_of, has_room, landed_at}
 use Rattle.frame_ports.specs.declared.limits.TheConstants.{BOX_FRAMES}
-use Rattle.pair_history.specs.Entries.{Frame, Entry, Land, DropOut}
+use Rattle.pair_history.specs.Entries.{Frame, Entry, DropIn, Land, DropOut}
 use Rattle.pair_history.specs.HistoryState.{HistoryState, after}
 
 -- what each frame that leaves the gate for a client adds: it lands, or is dropped at a full box
@@ -11,12 +11,33 @@ landings boxes [] = []
 landings boxes (p ∷ ps) =
     (if has_room boxes p.0 then Land p.0 else DropOut p.0 BOX_FRAMES) ∷ landings (landed_at boxes p.0 p.1) ps
 
--- frames were dropped at full boxes alone
+-- the frame at that place is dropped since the client's box is full
+abbrev pub IsAtFull : HistoryState → ℕ → ℕ → Type 0
+IsAtFull s c place = (place ≡ BOX_FRAMES) × (length (list_of s.boxes c) ≡ BOX_FRAMES)
+
+-- it lies in the box: so a loss was asked for
+abbrev pub IsInBox : HistoryState → ℕ → ℕ → Type 0
+IsInBox s c place = place < length (list_of s.boxes c)
+
+-- each frame for a client was dropped at its full box, or out of its box
+abbrev pub DropsAreKnown : HistoryState → List Entry → Type 0
+DropsAreKnown s [] = Unit {0}
+DropsAreKnown s (DropOut c place ∷ es) = (IsAtFull s c place ⊎ IsInBox s c place) × DropsAreKnown (after s (DropOut c place)) es
+DropsAreKnown s (other ∷ es) = DropsAreKnown (after s other) es
+
+-- these entries drop no frame but at full boxes
 abbrev pub DropsAtFull : HistoryState → List Entry → Type 0
 DropsAtFull s [] = Unit {0}
-DropsAtFull s (DropOut c place ∷ es) =
-    (place ≡ BOX_FRAMES) × (length (list_of s.boxes c) ≡ BOX_FRAMES) × DropsAtFull (after s (DropOut c place)) es
+DropsAtFull s (DropIn n ∷ es) = ⊥
+DropsAtFull s (DropOut c place ∷ es) = IsAtFull s c place × DropsAtFull (after s (DropOut c place)) es
 DropsAtFull s (other ∷ es) = DropsAtFull (after s other) es
+
+-- they drop none
+abbrev pub DropsNone : List Entry → Type 0
+DropsNone [] = Unit {0}
+DropsNone (DropIn n ∷ es) = ⊥
+DropsNone (DropOut c place ∷ es) = ⊥
+DropsNone (other ∷ es) = DropsNone es
 
 -- no box holds more than it has room for
 abbrev pub BoxesFit : List (List Frame) → Type 0

@@ -1,11 +1,13 @@
 //! What clients do, at the pair's record.
-ghost use Rattle.std.specs.Prelude.{◌≡◌, ◌<◌, ◌∷◌, [], length, IfOk, OnOk, OnErr, None, Some, slice_get};
+ghost use Rattle.std.specs.Prelude.{◌≡◌, ◌<◌, ◌∷◌, [], length, IfOk, OnOk, OnErr, None, Some, slice_get, option_map};
 ghost use Rattle.frame_ports.specs.Addresses.{IsFrame};
-ghost use Rattle.frame_ports.specs.Ports.{IsClient, inbox_of, after_delivery};
-ghost use Rattle.pair_history.specs.Entries.{Took};
+ghost use Rattle.frame_ports.specs.Ports.{IsClient, inbox_of, box_of, after_delivery};
+ghost use Rattle.pair_history.specs.Entries.{DropIn, DropOut, Took};
 ghost use Rattle.pair_history.specs.Log.{expanded};
-ghost use Rattle.pair_core.specs.Protocol.{first_refusal, client_refusals, admit_refusals, admit_done, deliver_refusals, delivery_refused, deliver_done, take_refusals, take_done};
-ghost use Rattle.pair_core.specs.Record.{ports_after_admit, ports_after_take};
+ghost use Rattle.pair_core.specs.Protocol.{first_refusal, client_refusals, admit_refusals, admit_done};
+ghost use Rattle.pair_core.specs.Protocol.{deliver_refusals, delivery_refused, deliver_done, take_refusals, take_done};
+ghost use Rattle.pair_core.specs.Protocol.{loss_refusals, loss_done};
+ghost use Rattle.pair_core.specs.Record.{ports_after_admit, ports_after_take, ports_after_lose_in, ports_after_lose_out};
 
 use super::PairRecord;
 use crate::event::{Refusal, Reply};
@@ -144,6 +146,60 @@ impl PairRecord {
         };
         self.journal.add(took(client, &taken, place));
         Ok(Reply::Took(taken))
+    }
+
+    /// How many frames lie in this client's box.
+    pub(crate) fn box_len(&self, client: u64) -> usize
+        requires { IsClient self.now.ports client }
+        ensures { result ≡ length (box_of self.now.ports client) }
+    {
+        self.ports.box_len(client)
+    }
+
+    /// Why a frame that is there isn't lost.
+    pub(crate) fn loss_refusal(&self) -> Option<Refusal>
+        ensures { result ≡ first_refusal (loss_refusals self.now.protocol) }
+    {
+        if self.is_exhausted_by(1) {
+            Some(Refusal::Exhausted)
+        } else {
+            None
+        }
+    }
+
+    /// The frame at this place of the client's inbox is dropped. Answers its number.
+    pub(crate) fn lose_in(&mut self, client: u64, place: u64) -> Result<u64, AllocError>
+        requires free { first_refusal (loss_refusals self.old.protocol) ≡ None }
+        requires client { IsClient self.old.ports client }
+        requires there { place < length (inbox_of self.old.ports client) }
+        ensures number { IfOk result (λ n. option_map (λ x. x.0) (slice_get (inbox_of self.old.ports client) place) ≡ Some n) }
+        ensures protocol { IfOk result (λ n. self.new.protocol ≡ (loss_done self.old.protocol (DropIn n)).1) }
+        ensures ports { OnOk result (self.new.ports ≡ ports_after_lose_in self.old.ports client place) }
+        ensures err { OnErr result (self.new ≡ self.old) }
+    {
+        self.journal.reserve(1)?;
+        let Ok(Some(number)) = self.ports.lose_in(client, place) else {
+            unreachable!();
+        };
+        self.journal.add(Entry::DropIn(number));
+        Ok(number)
+    }
+
+    /// The frame at this place of the client's box is dropped.
+    pub(crate) fn lose_out(&mut self, client: u64, place: u64) -> Result<(), AllocError>
+        requires free { first_refusal (loss_refusals self.old.protocol) ≡ None }
+        requires client { IsClient self.old.ports client }
+        requires there { place < length (box_of self.old.ports client) }
+        ensures protocol { OnOk result (self.new.protocol ≡ (loss_done self.old.protocol (DropOut client place)).1) }
+        ensures ports { OnOk result (self.new.ports ≡ ports_after_lose_out self.old.ports client place) }
+        ensures err { OnErr result (self.new ≡ self.old) }
+    {
+        self.journal.reserve(1)?;
+        let Ok(true) = self.ports.lose_landed(client, place) else {
+            unreachable!();
+        };
+        self.journal.add(Entry::DropOut { client, place });
+        Ok(())
     }
 }
 

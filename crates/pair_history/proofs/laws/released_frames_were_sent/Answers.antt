@@ -1,8 +1,7 @@
-use Rattle.std.proofs.Common.{◌≡◌, ℕ, ◌+◌, List, [], length, refl, sym, ap, ◌∙◌, subst, arith, replicate}
+use Rattle.std.proofs.Common.{◌≡◌, ℕ, ◌+◌, length, refl, sym, ap, ◌∙◌, subst, arith}
 use Rattle.std.proofs.lemmas.List.Elements.{All-nil}
-use Rattle.pair_history.specs.Entries.{Entry}
-use Rattle.pair_history.specs.HistoryState.{HistoryState, at, out_of, start_state}
-use Rattle.pair_history.specs.Released.{empty_account, account, goes_on, WasSent, IsFresh}
+use Rattle.pair_history.specs.HistoryState.{at, out_of, start_state}
+use Rattle.pair_history.specs.Released.{empty_account, account, goes_on, WasSent}
 use Rattle.pair_history.proofs.AccountLaws.{sound, account-append, released_later, sent_by_steps, sent-is, on_way-is, boxed-is, start_fresh}
 use Rattle.pair_history.proofs.laws.released_frames_were_sent.Goals as goal
 

@@ -1,4 +1,4 @@
-use Rattle.pair_core.proofs.PublicLaws.{answers_by_outcome, refused_by_outcome, answers_begin}
+use Rattle.pair_core.proofs.PublicLaws.{answers_by_outcome, refused_by_outcome}
 use Rattle.pair_core.specs.Protocol.{Answers}
 use Rattle.pair_core.proofs.world.World.apply.Goals as goal
 use Rattle.pair_core.proofs.world.World.apply.Goals.{After-answered}
@@ -18,5 +18,11 @@ returns-clause-refused c =
 
 pub returns-clause-grows : goal.returns-clause-grows
 returns-clause-grows c =
-    answers_begin c.args.self.now.start c.args.self.now.protocol c.args.event c.answered.result c.act-outcome.new.self.protocol
-    (answers (goal.at.returns-clause-grows c).After-answered)
+    let drops =
+    c.keep_drops.ensures c.args.event c.answered.result c.act-outcome.new.self.protocol (answers (goal.at.returns-clause-grows c).After-answered) in
+    (drops.entries, drops.grows)
+
+pub returns-clause-drops : goal.returns-clause-drops
+returns-clause-drops c =
+    c.keep_drops.ensures c.args.event c.answered.result c.act-outcome.new.self.protocol
+    (answers (goal.at.returns-clause-drops c).After-answered)

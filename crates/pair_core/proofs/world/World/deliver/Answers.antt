@@ -1,5 +1,4 @@
-use Rattle.std.proofs.Common.{◌≡◌, ◌≤◌, ◌∙◌, refl, sym, ap, subst, length, Some}
-use Rattle.frame_ports.specs.Addresses.{IsFrame}
+use Rattle.std.proofs.Common.{◌≡◌, ◌∙◌, refl, sym, ap, subst, length, Some}
 use Rattle.frame_ports.specs.Ports.{after_delivery}
 use Rattle.pair_core.specs.declared.event.Event.TheVariants.{Deliver}
 use Rattle.pair_core.specs.declared.event.Refusal.TheVariants.{Full}
@@ -7,7 +6,7 @@ use Rattle.pair_core.specs.Pair.{Pair, AfterRefusal}
 use Rattle.pair_core.specs.Protocol.{Outcome, MayWantMemory, outcome, refused, deliver_done, delivery_refused}
 use Rattle.pair_core.specs.WorldFields.{pair_of}
 use Rattle.pair_core.proofs.Calls.{on_ok, on_err, answered_so, after_call}
-use Rattle.pair_core.proofs.Events.{deliver_holds, full_holds}
+use Rattle.pair_core.proofs.ClientEvents.{deliver_holds, full_holds}
 use Rattle.pair_core.proofs.Outcomes.{client_range, frame_range, inbox_full, full_rows, deliver_goes, deliver_full, deliver_stops, after_none}
 use Rattle.pair_core.proofs.RecordLaws.{passed}
 use Rattle.pair_core.proofs.world.World.deliver.Goals as goal

@@ -5,8 +5,9 @@ use Rattle.pair_core.specs.declared.event.Event.TheVariants.{Step}
 use Rattle.pair_core.specs.declared.event.Reply.{Reply}
 use Rattle.pair_history.specs.HistoryState.{HistoryState}
 use Rattle.pair_core.specs.Protocol.{Answers}
-use Rattle.pair_core.specs.Runs.{Run}
-use Rattle.pair_core.proofs.PublicLaws.{Run-more, Begins-trans}
+use Rattle.pair_core.specs.Runs.{Along, Run}
+use Rattle.pair_core.specs.Drops.{Drops}
+use Rattle.pair_core.proofs.PublicLaws.{Along-more, Begins-trans}
 use Rattle.pair_core.proofs.world.World.run.Goals as goal
 
 pub loop-event-preserved : goal.loop-event-preserved
@@ -26,8 +27,13 @@ loop-event-preserved c =
     let step : Answers start c.loop-event.self.protocol (get_or events i Step) c.apply-reply.result new =
     subst (λ (s : HistoryState). Answers s c.loop-event.self.protocol (get_or events i Step) c.apply-reply.result new) v.start a in
     let run : Run start old (take i events ++ get_or events i Step ∷ []) (c.loop-event.replies.items ++ c.apply-reply.result ∷ []) new =
-    Run-more start (take i events) c.loop-event.replies.items old c.loop-event.self.protocol new (get_or events i Step) c.apply-reply.result v.replies step in
+    Along-more Answers start (take i events) c.loop-event.replies.items old c.loop-event.self.protocol new (get_or events i Step) c.apply-reply.result v.replies step in
+    let known : Drops start c.loop-event.self.protocol (get_or events i Step) c.apply-reply.result new =
+    subst (λ (s : HistoryState). Drops s c.loop-event.self.protocol (get_or events i Step) c.apply-reply.result new) v.start c.apply-reply.ensures.drops in
+    let dropped : Along Drops start old (take i events ++ get_or events i Step ∷ []) (c.loop-event.replies.items ++ c.apply-reply.result ∷ []) new =
+    Along-more Drops start (take i events) c.loop-event.replies.items old c.loop-event.self.protocol new (get_or events i Step) c.apply-reply.result v.drops known in
     record {
+      drops = subst (λ (es : List Event). Along Drops start old es c.push.new.self.items new) (sym more) (subst (λ (rs : List Reply). Along Drops start old (take i events ++ get_or events i Step ∷ []) rs new) (sym items) dropped);
       replies = subst (λ (es : List Event). Run start old es c.push.new.self.items new) (sym more) (subst (λ (rs : List Reply). Run start old (take i events ++ get_or events i Step ∷ []) rs new) (sym items) run);
       start = c.apply-reply.ensures.start ∙ v.start;
       grows = Begins-trans c.args.self.now.protocol.journal.history c.loop-event.self.protocol.journal.history c.apply-reply.new.self.protocol.journal.history v.grows c.apply-reply.ensures.grows;

@@ -1,0 +1,81 @@
+-- What the protocol answers to a loss that is asked for.
+use Rattle.std.proofs.Common.{◌≡◌, ℕ, zero, suc, ◌<◌, ◌≤◌, List, [], ◌∷◌, length, refl, sym, ap, ◌∙◌, subst, arith, Bool, true, false, Option, None, Some}
+use Rattle.std.specs.Prelude.{slice_get, option_map, not}
+use Rattle.frame_ports.specs.Lands.{list_of}
+use Rattle.pair_history.specs.Entries.{Frame, Entry}
+use Rattle.pair_history.specs.HistoryState.{inbox_of}
+use Rattle.pair_core.specs.declared.event.Event.{Event}
+use Rattle.pair_core.specs.declared.event.Event.TheVariants.{LoseIn, LoseOut}
+use Rattle.pair_core.specs.declared.event.Refusal.{Refusal}
+use Rattle.pair_core.specs.declared.event.Refusal.TheVariants.{NoClient}
+use Rattle.pair_core.specs.declared.event.Reply.TheVariants as replies
+use Rattle.pair_core.specs.Invariant.{Holds}
+use Rattle.pair_core.specs.Pair.{Pair, live_state}
+use Rattle.pair_core.specs.Protocol.{Outcome, MayWantMemory, outcome, unless, refused, first_refusal, is_among, client_refusals}
+use Rattle.pair_core.specs.Protocol.{loss_refusals, loss_done, loss_of, lost_in, lose_in_outcome_at, lose_out_outcome_at}
+use Rattle.pair_core.proofs.Outcomes.{stops, goes, client_range, inbox_is}
+
+-- a place within a list, and one beyond it
+pub some_at : {A : Type 0} (xs : List A) (i : ℕ) → i < length xs → (x : A) × (slice_get xs i ≡ Some x)
+some_at [] i l = absurd (omega arith)
+some_at (x ∷ xs) zero l = (x, refl)
+some_at (x ∷ xs) (suc i) l = some_at xs i (omega arith)
+
+pub none_at : {A : Type 0} (xs : List A) (i : ℕ) → length xs ≤ i → slice_get xs i ≡ None
+none_at [] i l = refl
+none_at (x ∷ xs) zero l = absurd (omega arith)
+none_at (x ∷ xs) (suc i) l = none_at xs i (omega arith)
+
+pub within : {A : Type 0} (xs : List A) (i : ℕ) (x : A) → slice_get xs i ≡ Some x → i < length xs
+within [] i x e = absurd (cc)
+within (y ∷ xs) zero x e = omega arith
+within (y ∷ xs) (suc i) x e = let l = within xs i x e in omega arith
+
+-- a frame whose number is known
+pub numbered : (o : Option (ℕ × Frame)) (n : ℕ) → option_map (λ (x : ℕ × Frame). x.0) o ≡ Some n → (f : Frame) × (o ≡ Some (n, f))
+numbered None n e = absurd (cc)
+numbered (Some x) n e = let is : x.0 ≡ n = cc in (x.1, λ i. Some (is i, x.1))
+
+-- what it looks at
+
+module _ (w : Pair) (h : Holds w) where
+  pub lose_in_sight : (c place : ℕ)
+      → lose_in_outcome_at (length w.ports.boxes) (list_of w.ports.inboxes c) w.protocol c place ≡ outcome w.start w.protocol (LoseIn c place)
+  lose_in_sight c place =
+      by_test (not (is_among c (length w.ports.boxes))) refl
+      ∙ ap (λ (b : List (List Frame)). lose_in_outcome_at (length b) (inbox_of c (live_state w).waiting) w.protocol c place) h.clients.boxes
+    where
+      by_test : (t : Bool) → not (is_among c (length w.ports.boxes)) ≡ t
+          → unless w.protocol ((t, NoClient) ∷ []) (loss_of w.protocol (lost_in (list_of w.ports.inboxes c) place))
+          ≡ unless w.protocol ((t, NoClient) ∷ []) (loss_of w.protocol (lost_in (inbox_of c (live_state w).waiting) place))
+      by_test true e = refl
+      by_test false e =
+          let range = client_range c (length w.ports.boxes) e in
+          ap (λ xs. loss_of w.protocol (lost_in xs place)) (inbox_is w h c range.0 range.1)
+
+  pub lose_out_sight : (c place : ℕ)
+      → lose_out_outcome_at w.ports.boxes w.protocol c place ≡ outcome w.start w.protocol (LoseOut c place)
+  lose_out_sight c place = ap (λ (b : List (List Frame)). lose_out_outcome_at b w.protocol c place) h.clients.boxes
+
+-- step by step: the client, the place, the table
+module _ (w : Pair) (event : Event) (c : ℕ) (lost : Option Entry)
+    (sight : unless w.protocol (client_refusals (length w.ports.boxes) c) (loss_of w.protocol lost) ≡ outcome w.start w.protocol event)
+    (client : Option Refusal) (is : client ≡ first_refusal (client_refusals (length w.ports.boxes) c)) (none : client ≡ None) where
+  loses : (o : Option Entry) → lost ≡ o → loss_of w.protocol o ≡ outcome w.start w.protocol event
+  loses o e =
+      ap (loss_of w.protocol) (sym e)
+      ∙ goes w.protocol (client_refusals (length w.ports.boxes) c) (loss_of w.protocol lost) client is none
+      ∙ sight
+
+  pub loss_empty : lost ≡ None → (replies.Empty, w.protocol) ≡ outcome w.start w.protocol event
+  loss_empty = loses None
+
+  module _ (e : Entry) (some : lost ≡ Some e) (o : Option Refusal) (row : o ≡ first_refusal (loss_refusals w.protocol)) where
+    pub loss_stops : (why : Refusal) → o ≡ Some why → refused w.protocol why ≡ outcome w.start w.protocol event
+    loss_stops why k = stops w.protocol (loss_refusals w.protocol) (loss_done w.protocol e) o why row k ∙ loses (Some e) some
+
+    pub loss_goes : o ≡ None → loss_done w.protocol e ≡ outcome w.start w.protocol event
+    loss_goes k = goes w.protocol (loss_refusals w.protocol) (loss_done w.protocol e) o row k ∙ loses (Some e) some
+
+    pub loss_wants : o ≡ None → MayWantMemory (outcome w.start w.protocol event).0
+    loss_wants k = subst (λ (x : Outcome). MayWantMemory x.0) (loss_goes k) tt

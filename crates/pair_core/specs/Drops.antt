@@ -1,0 +1,26 @@
+-- Why a frame was dropped.
+use Rattle.std.specs.Prelude.{◌≡◌, ℕ, List, [], ◌∷◌, ◌++◌, Some, slice_get}
+use Rattle.pair_history.specs.Entries.{Frame, Entry, DropIn, DropOut}
+use Rattle.pair_history.specs.HistoryState.{HistoryState, inbox_of}
+use Rattle.pair_history.specs.Landings.{IsInBox, DropsAtFull, DropsNone}
+use Rattle.pair_core.specs.declared.event.Event.{Event}
+use Rattle.pair_core.specs.declared.event.Event.TheVariants.{AckGet, LoseIn, LoseOut}
+use Rattle.pair_core.specs.declared.event.Reply.{Reply}
+use Rattle.pair_core.specs.declared.event.Reply.TheVariants.{Dropped}
+use Rattle.pair_core.specs.Protocol.{Record, Answers, shown_at, live_at}
+
+-- What an event may drop, where the history grows by these entries: a loss that was asked for drops that frame and no other, an
+-- acknowledgement what finds its client's box full, and nothing else drops a frame.
+abbrev pub DropsOnly : HistoryState → Record → Event → Reply → List Entry → Type 0
+DropsOnly start old (LoseIn c place) Dropped es =
+    (n : ℕ) × (f : Frame) × (slice_get (inbox_of c (live_at start old).waiting) place ≡ Some (n, f)) × (es ≡ DropIn n ∷ [])
+DropsOnly start old (LoseOut c place) Dropped es = IsInBox (shown_at start old) c place × (es ≡ DropOut c place ∷ [])
+DropsOnly start old (AckGet k) reply es = DropsAtFull (shown_at start old) es
+DropsOnly start old event reply es = DropsNone es
+
+-- An event, answered so, makes the history grow by entries that drop what it may drop.
+pub record Drops (start : HistoryState) (old : Record) (event : Event) (reply : Reply) (new : Record) : Type 0 where
+  pub answers : Answers start old event reply new
+  pub entries : List Entry
+  pub grows : new.journal.history ≡ old.journal.history ++ entries
+  pub only : DropsOnly start old event reply entries

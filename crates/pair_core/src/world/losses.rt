@@ -1,0 +1,55 @@
+//! The losses that are asked for, at the world.
+ghost use Rattle.std.specs.Prelude.{◌≡◌, IfOk, OnErr};
+ghost use Rattle.pair_core.specs.declared.event.Event.TheVariants as events;
+ghost use Rattle.pair_core.specs.Protocol.{MayWantMemory, outcome};
+ghost use Rattle.pair_core.specs.Pair.{OnRefused};
+
+use super::World;
+use crate::event::Reply;
+use std::alloc::AllocError;
+
+impl World {
+    /// The line drops a frame of a client's inbox.
+    pub(super) fn lose_in(&mut self, client: u64, place: u64) -> Result<Reply, AllocError>
+        ensures outcome { IfOk result (λ reply. (reply, self.new.protocol)
+            ≡ outcome self.old.start self.old.protocol (events.LoseIn client place)) }
+        ensures start { self.new.start ≡ self.old.start }
+        ensures refused { IfOk result (λ reply. OnRefused reply self.old self.new) }
+        ensures memory { OnErr result (MayWantMemory (outcome self.old.start self.old.protocol (events.LoseIn client place)).0) }
+        ensures err { OnErr result (self.new ≡ self.old) }
+    {
+        if let Some(why) = self.record.client_refusal(client) {
+            return Ok(Reply::Refused(why));
+        }
+        if place >= self.record.inbox_len(client) as u64 {
+            return Ok(Reply::Empty);
+        }
+        if let Some(why) = self.record.loss_refusal() {
+            return Ok(Reply::Refused(why));
+        }
+        let _number = self.record.lose_in(client, place)?;
+        Ok(Reply::Dropped)
+    }
+
+    /// The line drops a frame of a client's box.
+    pub(super) fn lose_out(&mut self, client: u64, place: u64) -> Result<Reply, AllocError>
+        ensures outcome { IfOk result (λ reply. (reply, self.new.protocol)
+            ≡ outcome self.old.start self.old.protocol (events.LoseOut client place)) }
+        ensures start { self.new.start ≡ self.old.start }
+        ensures refused { IfOk result (λ reply. OnRefused reply self.old self.new) }
+        ensures memory { OnErr result (MayWantMemory (outcome self.old.start self.old.protocol (events.LoseOut client place)).0) }
+        ensures err { OnErr result (self.new ≡ self.old) }
+    {
+        if let Some(why) = self.record.client_refusal(client) {
+            return Ok(Reply::Refused(why));
+        }
+        if place >= self.record.box_len(client) as u64 {
+            return Ok(Reply::Empty);
+        }
+        if let Some(why) = self.record.loss_refusal() {
+            return Ok(Reply::Refused(why));
+        }
+        self.record.lose_out(client, place)?;
+        Ok(Reply::Dropped)
+    }
+}
