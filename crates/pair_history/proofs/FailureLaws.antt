@@ -12,6 +12,7 @@ use Rattle.frame_ports.specs.Lands.{list_of, landed_at, lands}
 use Rattle.pair_history.specs.Entries.{Frame, Entry, Ran, Arrive, DropIn, DropOut}
 use Rattle.pair_history.specs.HistoryState.{HistoryState, at, after, Legal, IsClient, out_of, out_without}
 use Rattle.pair_history.specs.Landings.{landings}
+use Rattle.pair_history.specs.Moves.{Move, Steps, Arrives, entries_of}
 use Rattle.pair_history.specs.Order.{AreGuests}
 use Rattle.pair_history.specs.Reached.{AllClients, IsReached}
 use Rattle.pair_history.specs.Released.{DropsBoxed, DropsOnWay, Nothing, effect_on, Account, booked, goes_on}
@@ -52,6 +53,12 @@ go_live_count s kept clients =
       length_permutation ns (rising ns) (IsPermutation-rising ns),
       (owed_dropped s clients).1,
     )
+
+-- what epochs keep are the guest's own entries
+pub AreGuests-moves : (ms : List Move) → AreGuests (entries_of ms)
+AreGuests-moves [] = tt
+AreGuests-moves (Steps ∷ ms) = (tt, AreGuests-moves ms)
+AreGuests-moves (Arrives n f ∷ ms) = (tt, AreGuests-moves ms)
 
 -- two clients, of whom the first has a frame in its box, and a frame on its way to the first between two to the second
 pub two_clients : (s : HistoryState) (b f g h : Frame) → s.boxes ≡ (b ∷ []) ∷ [] ∷ [] → s.out ≡ (2, f) ∷ (1, g) ∷ (2, h) ∷ []

@@ -6,6 +6,7 @@ pub mod LandingLaws
 pub mod ReachedLaws
 pub mod OwedLaws
 pub mod TakenInLaws
+pub mod SortedLaws
 pub mod FateLaws
 pub mod AddressedLaws
 pub mod FailureLaws

@@ -1,6 +1,6 @@
 //! What a failure does to the history: it stays that of one guest that never fails, behind a line that may drop frames.
-ghost use Rattle.std.specs.Prelude.{◌≡◌, ℕ, ◌+◌, ◌*◌, ◌≤◌, ◌++◌, List, [], ◌∷◌, length};
-ghost use Rattle.std.specs.List.Sorted.{IsPermutation, IsStrictlyIncreasing};
+ghost use Rattle.std.specs.Prelude.{◌≡◌, ℕ, ◌+◌, ◌*◌, ◌≤◌, ◌++◌, List, [], ◌∷◌, length, map};
+ghost use Rattle.std.specs.List.Sorted.{IsNonDecreasing, IsPermutation, IsStrictlyIncreasing};
 ghost use Rattle.guest_machine.specs.Step.{next, sent};
 ghost use Rattle.frame_ports.specs.Addresses.{targets_of};
 ghost use Rattle.frame_ports.specs.Lands.{lands};
@@ -10,7 +10,8 @@ ghost use Rattle.pair_history.specs.Landings.{landings};
 ghost use Rattle.pair_history.specs.Order.{AreGuests};
 ghost use Rattle.pair_history.specs.Released.{account, IsFresh};
 ghost use Rattle.pair_history.specs.Reached.{IsReached};
-ghost use Rattle.pair_history.specs.Failures.{arrived_numbers, dropped_numbers, go_live_entries, fail_backup_entries, alone_step_entries};
+ghost use Rattle.pair_history.specs.Failures.{arrived_numbers, dropped_numbers, drops_of_owed};
+ghost use Rattle.pair_history.specs.Failures.{go_live_entries, fail_backup_entries, alone_step_entries};
 
 use guest_machine::sent_frames;
 
@@ -42,6 +43,9 @@ pub fn going_live_drops_frames()
         ≡ record (account s es c) { on_way = []; dropped = (account s es c).dropped ++ (account s es c).on_way } }
     ensures count { (s : HistoryState) (kept : List Entry) → IsReached s
         → length (go_live_entries s kept) ≡ length (arrived_numbers kept) + length s.out }
+    // However the numbers are sorted, these are the entries.
+    ensures any_sort { (s : HistoryState) (kept : List Entry) (ns : List ℕ) → IsPermutation (arrived_numbers kept) ns → IsNonDecreasing ns
+        → go_live_entries s kept ≡ map DropIn ns ++ drops_of_owed s }
     // Two clients, of whom the first has a frame in its box, and a frame on its way to the first between two to the second.
     ensures example { (s : HistoryState) (b f g h : Frame) → s.boxes ≡ (b ∷ []) ∷ [] ∷ [] → s.out ≡ (2, f) ∷ (1, g) ∷ (2, h) ∷ []
         → go_live_entries s (Ran ∷ Arrive 5 ∷ Ran ∷ Arrive 3 ∷ [])

@@ -1,10 +1,12 @@
-use Rattle.std.proofs.Common.{◌≡◌, List, ℕ, ◌+◌, length, sym, ap, ◌∙◌, subst}
+use Rattle.std.proofs.Common.{◌≡◌, List, ℕ, ◌+◌, ◌++◌, length, sym, ap, ◌∙◌, subst, map}
 use Rattle.std.specs.List.Sorted.{IsPermutation, IsStrictlyIncreasing}
 use Rattle.std.proofs.lemmas.List.{length-map}
+use Rattle.pair_history.specs.Entries.{DropIn}
 use Rattle.pair_history.specs.HistoryState.{at, out_of}
 use Rattle.pair_history.specs.Released.{Sent, account, empty_account, frames}
-use Rattle.pair_history.specs.Failures.{arrived_numbers, go_live_entries}
+use Rattle.pair_history.specs.Failures.{arrived_numbers, drops_of_owed, go_live_entries}
 use Rattle.pair_history.proofs.AccountLaws.{account-append, on_way-is}
+use Rattle.pair_history.proofs.SortedLaws.{rising-sorted}
 use Rattle.pair_history.proofs.TakenInLaws.{IsPermutation-rising, taken_in_rises}
 use Rattle.pair_history.proofs.FailureLaws.{goes_live, go_live_numbers, go_live_account, go_live_count, two_clients}
 use Rattle.pair_history.proofs.failures.going_live_drops_frames.Goals as goal
@@ -37,6 +39,10 @@ returns-clause-owed c s es kept client fresh is_client =
 
 pub returns-clause-count : goal.returns-clause-count
 returns-clause-count c s kept h = go_live_count s kept h.clients
+
+pub returns-clause-any_sort : goal.returns-clause-any_sort
+returns-clause-any_sort c s kept ns moved sorted =
+    ap (λ ms. map DropIn ms ++ drops_of_owed s) (sym (rising-sorted (arrived_numbers kept) ns moved sorted))
 
 pub returns-clause-example : goal.returns-clause-example
 returns-clause-example c = two_clients
