@@ -1,5 +1,6 @@
 -- What is true of each image.
-use Rattle.std.proofs.Common.{◌≡◌, ℕ, ◌+◌, ◌-◌, ◌*◌, ◌^◌, ◌<◌, ◌≤◌, ◌==◌, not, Bool, true, false, cond, List, [], length, take, drop, replicate, refl, sym, ap, ◌∙◌, arith, length-append, subst}
+use Rattle.std.proofs.Common.{◌≡◌, ℕ, ◌+◌, ◌-◌, ◌*◌, ◌^◌, ◌<◌, ◌≤◌, ◌==◌, not, Bool, true, false, cond, List, [], length, take, drop}
+use Rattle.std.proofs.Common.{replicate, refl, sym, ap, ◌∙◌, arith, length-append, subst}
 use Rattle.std.specs.Prelude.{nat_lt, slice_range, Option, Some, None, is_some, Result, Ok, Err}
 use Rattle.std.proofs.lemmas.Bool.{eqb-true, true≢false}
 use Rattle.std.proofs.lemmas.List.{length-replicate, take-replicate, drop-replicate}
@@ -25,18 +26,26 @@ number_in (Some at) = at.number
 
 -- ---- at boot
 
-length-boot : (shape : Shape) (image : List ℕ) → length image ≤ 4096 * shape.pages → length (boot_guest shape.pages shape.sectors image).ram ≡ 4096 * shape.pages
+length-boot : (shape : Shape) (image : List ℕ) → length image ≤ 4096 * shape.pages →
+    length (boot_guest shape.pages shape.sectors image).ram ≡ 4096 * shape.pages
 unfolding boot_guest
 length-boot shape image fits =
-    omega (arith, length-append image (replicate (4096 * shape.pages - length image) 0), length-replicate {A = ℕ} (4096 * shape.pages - length image) 0)
+    omega (
+      arith,
+      length-append image (replicate (4096 * shape.pages - length image) 0),
+      length-replicate {A = ℕ}
+          (4096 * shape.pages - length image) 0,
+    )
 
 length-boot_disk : (shape : Shape) (image : List ℕ) → length (boot_guest shape.pages shape.sectors image).sectors ≡ 512 * shape.sectors
 unfolding boot_guest
 length-boot_disk shape image = length-replicate {A = ℕ} (512 * shape.sectors) 0
 
 pub boot-image : (shape : Shape) (m : State) (image : List ℕ) (standing : Option Standing) → length image ≤ 4096 * shape.pages →
-    m.guest ≡ boot_guest shape.pages shape.sectors image → m.outbox ≡ [] → m.dirty ≡ [] → m.settled ≡ m.guest.ram → m.written ≡ replicate shape.pages false →
-    (standing ≡ None → m.guest ≡ boot_guest shape.pages shape.sectors []) → ((at : Standing) → standing ≡ Some at → at.number < 2 ^ 62) → IsImage shape m standing None
+    m.guest ≡ boot_guest shape.pages shape.sectors image → m.outbox ≡ [] → m.dirty ≡ [] → m.settled ≡ m.guest.ram →
+    m.written ≡ replicate shape.pages false →
+    (standing ≡ None → m.guest ≡ boot_guest shape.pages shape.sectors []) → ((at : Standing) → standing ≡ Some at → at.number < 2 ^ 62) →
+    IsImage shape m standing None
 boot-image shape m image standing fits guest outbox dirty settled written empty numbers = record {
   settled = λ k. record { guest = m.guest; outbox = outbox k; dirty = dirty k; settled = settled k; written = written k };
   pages = ap (λ (g : Guest). length g.ram) guest ∙ length-boot shape image fits;
@@ -77,7 +86,8 @@ is_new (Ok New) = true
 is_new (Ok Again) = false
 is_new (Err e) = false
 
-next-by : (stale gap same : Bool) → is_new (cond stale (Err Stale) (cond gap (Err Gap) (cond same (Ok New) (Ok Again)))) ≡ true → same ≡ true
+next-by : (stale gap same : Bool) → is_new (cond stale (Err Stale) (cond gap (Err Gap) (cond same (Ok New) (Ok Again)))) ≡ true →
+    same ≡ true
 unfolding is_new
 next-by true gap same e = absurd (true≢false (sym e))
 next-by false true same e = absurd (true≢false (sym e))
@@ -85,7 +95,8 @@ next-by false false true e = refl
 next-by false false false e = absurd (true≢false (sym e))
 
 -- a full checkpoint is new to an empty image only
-full-first : (standing : Option Standing) (generation number : ℕ) → answer_at standing generation number ≡ Ok New → number ≡ 0 → standing ≡ None
+full-first : (standing : Option Standing) (generation number : ℕ) → answer_at standing generation number ≡ Ok New → number ≡ 0 →
+    standing ≡ None
 unfolding is_new
 full-first None generation number e z = refl
 full-first (Some at) generation number e z =
@@ -97,7 +108,8 @@ based_by : (b : Bool) (base now : List ℕ) → (b ≡ true → base ≡ now) �
 based_by true base now e = e refl
 based_by false base now e = refl
 
-module _ (shape : Shape) (m : State) (standing : Option Standing) (staged : Option Change) (c : Change) (is : IsImage shape m standing staged) (has : staged ≡ Some c) where
+module _ (shape : Shape) (m : State) (standing : Option Standing) (staged : Option Change) (c : Change)
+    (is : IsImage shape m standing staged) (has : staged ≡ Some c) where
   zero_guest : c.number ≡ 0 → m.guest ≡ boot_guest c.shape.pages c.shape.sectors []
   zero_guest z =
       is.empty (full-first standing c.generation c.number (is.next c has) z)
@@ -118,8 +130,10 @@ module _ (shape : Shape) (m : State) (standing : Option Standing) (staged : Opti
       (λ e. sym (ap (λ (g : Guest). g.sectors) (zero_guest (eqb-true c.number 0 e))))
 
   -- the image after it is applied
-  pub committed-image : (end : State) (g n : ℕ) (left : Option Change) → end ≡ settled_machine c.shape end.guest → length end.guest.ram ≡ length m.guest.ram →
-      length end.guest.sectors ≡ length m.guest.sectors → n < 2 ^ 62 → left ≡ None → IsImage shape end (Some (record { generation = g; number = n })) left
+  pub committed-image : (end : State) (g n : ℕ) (left : Option Change) → end ≡ settled_machine c.shape end.guest →
+      length end.guest.ram ≡ length m.guest.ram →
+      length end.guest.sectors ≡ length m.guest.sectors → n < 2 ^ 62 → left ≡ None →
+      IsImage shape end (Some (record { generation = g; number = n })) left
   committed-image end g n left settled ram sectors small none = record {
     settled = settled ∙ ap (λ s. settled_machine s end.guest) (is.shapes c has);
     pages = ram ∙ is.pages;

@@ -3,3 +3,4 @@ pub mod ImageLemmas
 pub mod MaskLemmas
 pub mod PutLemmas
 pub mod RisingLemmas
+pub mod StageLemmas

@@ -1,6 +1,7 @@
 -- Loops that put blocks and sectors into a machine: what is to come, put into what stands there so far, makes what all of it makes of the
 -- first.
-use Rattle.std.proofs.Common.{◌≡◌, ℕ, ◌+◌, ◌*◌, ◌<◌, ◌≤◌, false, List, [], ◌∷◌, ◌++◌, length, replicate, drop, map, get_or, refl, sym, ap, ◌∙◌, arith, count_ones, length-append}
+use Rattle.std.proofs.Common.{◌≡◌, ℕ, ◌+◌, ◌*◌, ◌<◌, ◌≤◌, false, List, [], ◌∷◌, ◌++◌, length, replicate, drop, map, get_or, refl, sym}
+use Rattle.std.proofs.Common.{ap, ◌∙◌, arith, count_ones, length-append}
 use Rattle.std.specs.Int.{bit_at}
 use Rattle.std.proofs.lemmas.List.{drop_all, length-map}
 use Rattle.guest_machine.specs.Guest.{Guest, State}
@@ -15,7 +16,8 @@ use Rattle.epoch_snapshot.specs.Blocks.{set_blocks, block_numbers}
 use Rattle.epoch_snapshot.specs.Checkpoints.{Change, block_count}
 use Rattle.epoch_snapshot.specs.Images.{base_ram, base_sectors, image_of, with_blocks, with_sectors}
 use Rattle.backup_image.specs.Images.{settled_machine}
-use Rattle.backup_image.proofs.BlockLemmas.{next, from_block, from_block-set, from_block-clear, from_block-end, same_place, length-put_xored, length-marked}
+use Rattle.backup_image.proofs.BlockLemmas.{next, from_block, from_block-set, from_block-clear, from_block-end, same_place}
+use Rattle.backup_image.proofs.BlockLemmas.{length-put_xored, length-marked}
 use Rattle.backup_image.proofs.MaskLemmas.{blocks-append, block_count-drop}
 
 -- a machine whose memory only is another than at first
@@ -25,7 +27,8 @@ pub record SameButMemory (first m : State) : Type 0 where
   pub flags : length m.written ≡ length first.written
 
 -- a machine's guest with other memory, of another of the kind
-with_ram-again : (first g new : Guest) (ram : List ℕ) → g ≡ record first { ram = g.ram } → new ≡ record g { ram = ram } → new ≡ record first { ram = new.ram }
+with_ram-again : (first g new : Guest) (ram : List ℕ) → g ≡ record first { ram = g.ram } → new ≡ record g { ram = ram } →
+    new ≡ record first { ram = new.ram }
 with_ram-again first g new ram so_far is =
     is ∙ ap (λ (h : Guest). record h { ram = ram }) so_far ∙ ap (λ l. record first { ram = l }) (sym (ap (λ (h : Guest). h.ram) is))
 
@@ -42,7 +45,8 @@ pub record PutsPage (first : State) (page mask : ℕ) (blocks : List (List ℕ))
       ≡ with_blocks first.guest.ram (from_page page (set_blocks mask)) blocks
   pub enough : at + length (from_block mask block) ≤ length blocks
 
-pub page-begins : (m : State) (page mask : ℕ) (blocks : List (List ℕ)) → length (set_blocks mask) ≤ length blocks → PutsPage m page mask blocks 0 m 0
+pub page-begins : (m : State) (page mask : ℕ) (blocks : List (List ℕ)) → length (set_blocks mask) ≤ length blocks →
+    PutsPage m page mask blocks 0 m 0
 unfolding set_blocks
 page-begins m page mask blocks enough = record {
   same = record { guest = refl; size = refl; flags = refl };
@@ -51,13 +55,17 @@ page-begins m page mask blocks enough = record {
 }
 
 -- where one is named a block is left
-pub enough-at : (mask i at : ℕ) (blocks : List (List ℕ)) → i < 64 → bit_at mask i ≡ 1 → at + length (from_block mask i) ≤ length blocks → at < length blocks
+pub enough-at : (mask i at : ℕ) (blocks : List (List ℕ)) → i < 64 → bit_at mask i ≡ 1 → at + length (from_block mask i) ≤ length blocks →
+    at < length blocks
 enough-at mask i at blocks below set enough = omega (arith, ap length (from_block-set mask i below set), enough)
 
 -- one is put
-pub page-put : (first m put : State) (page mask i at then : ℕ) (blocks : List (List ℕ)) (d : List ℕ) → PutsPage first page mask blocks i m at →
-    i < 64 → bit_at mask i ≡ 1 → length (get_or blocks at d) ≡ 64 → page + 1 ≤ length first.written → length first.guest.ram ≡ 4096 * length first.written →
-    put ≡ record m { guest = with_block m.guest page i (get_or blocks at d); written = marked m.written (block_place page i) 64 } → then ≡ at + 1 →
+pub page-put : (first m put : State) (page mask i at then : ℕ) (blocks : List (List ℕ)) (d : List ℕ) →
+    PutsPage first page mask blocks i m at →
+    i < 64 → bit_at mask i ≡ 1 → length (get_or blocks at d) ≡ 64 → page + 1 ≤ length first.written →
+    length first.guest.ram ≡ 4096 * length first.written →
+    put ≡ record m { guest = with_block m.guest page i (get_or blocks at d); written = marked m.written (block_place page i) 64 } →
+    then ≡ at + 1 →
     PutsPage first page mask blocks (i + 1) put then
 unfolding with_blocks
 page-put first m put page mask i at then blocks d so_far below set long inside whole is after =
@@ -77,7 +85,8 @@ page-put first m put page mask i at then blocks d so_far below set long inside w
         size = size ∙ so_far.same.size;
         flags = written ∙ so_far.same.flags;
       };
-      put = (λ k. with_blocks ((ram ∙ same_place m.guest.ram b page i long) k) (from_page page (from_block mask (i + 1))) (drop (after k) blocks))
+      put = (λ k. with_blocks ((ram ∙ same_place m.guest.ram b page i long) k) (from_page page (from_block mask (i + 1)))
+          (drop (after k) blocks))
           ∙ sym (λ k. with_blocks m.guest.ram (from_page page (named k)) (next blocks at d within k))
           ∙ so_far.put;
       enough = omega (arith, more, so_far.enough, after);
@@ -110,12 +119,14 @@ page-done first m page mask i at blocks all past =
 -- ---- the pages
 
 -- of the pages those from one on are to come, with these blocks
-pub record PutsPages (first : State) (pages : List PageChange) (blocks : List (List ℕ)) (k : ℕ) (m : State) (rest : List (List ℕ)) : Type 0 where
+pub record PutsPages (first : State) (pages : List PageChange) (blocks : List (List ℕ)) (k : ℕ) (m : State) (rest : List (List ℕ)) :
+    Type 0 where
   pub same : SameButMemory first m
   pub put : with_blocks m.guest.ram (block_numbers (drop k pages)) rest ≡ with_blocks first.guest.ram (block_numbers pages) blocks
   pub enough : block_count (drop k pages) ≤ length rest
 
-pub pages-begin : (m : State) (pages : List PageChange) (blocks : List (List ℕ)) → block_count pages ≤ length blocks → PutsPages m pages blocks 0 m blocks
+pub pages-begin : (m : State) (pages : List PageChange) (blocks : List (List ℕ)) → block_count pages ≤ length blocks →
+    PutsPages m pages blocks 0 m blocks
 pages-begin m pages blocks enough = record {
   same = record { guest = refl; size = refl; flags = refl };
   put = refl;
@@ -127,9 +138,12 @@ unfolding block_numbers
 numbers-at p ps = refl
 
 -- one is put
-pub pages-put : (first m put : State) (pages : List PageChange) (k : ℕ) (d : PageChange) (blocks rest own later : List (List ℕ)) → PutsPages first pages blocks k m rest →
-    k < length pages → length (set_blocks (get_or pages k d).mask) ≡ count_ones (get_or pages k d).mask → rest ≡ own ++ later → length own ≡ count_ones (get_or pages k d).mask →
-    put.guest ≡ record m.guest { ram = with_blocks m.guest.ram (from_page (get_or pages k d).page (set_blocks (get_or pages k d).mask)) own } →
+pub pages-put : (first m put : State) (pages : List PageChange) (k : ℕ) (d : PageChange) (blocks rest own later : List (List ℕ)) →
+    PutsPages first pages blocks k m rest →
+    k < length pages → length (set_blocks (get_or pages k d).mask) ≡ count_ones (get_or pages k d).mask → rest ≡ own ++ later →
+    length own ≡ count_ones (get_or pages k d).mask →
+    put.guest ≡ record m.guest
+    { ram = with_blocks m.guest.ram (from_page (get_or pages k d).page (set_blocks (get_or pages k d).mask)) own } →
     length put.guest.ram ≡ length m.guest.ram → length put.written ≡ length m.written → PutsPages first pages blocks (k + 1) put later
 pages-put first m put pages k d blocks rest own later so_far within count split long is size flags =
     let p = get_or pages k d in
@@ -149,7 +163,8 @@ pages-put first m put pages k d blocks rest own later so_far within count split 
     }
 
 -- all are put
-pub pages-done : (first m : State) (pages : List PageChange) (k : ℕ) (blocks rest : List (List ℕ)) → PutsPages first pages blocks k m rest → length pages ≤ k →
+pub pages-done : (first m : State) (pages : List PageChange) (k : ℕ) (blocks rest : List (List ℕ)) →
+    PutsPages first pages blocks k m rest → length pages ≤ k →
     m.guest ≡ record first.guest { ram = with_blocks first.guest.ram (block_numbers pages) blocks }
 unfolding with_blocks block_numbers
 pages-done first m pages k blocks rest all past =
@@ -169,13 +184,16 @@ pub record PutsSectors (first : State) (sectors : List SectorChange) (k : ℕ) (
 pub sectors-begin : (m : State) (sectors : List SectorChange) → PutsSectors m sectors 0 m
 sectors-begin m sectors = record { guest = refl; put = refl; size = refl; flags = refl }
 
-sectors-at : (bytes : List ℕ) (s : SectorChange) (ss : List SectorChange) → with_sectors bytes (s ∷ ss) ≡ with_sectors (with_bytes bytes (512 * s.sector) s.bytes) ss
+sectors-at : (bytes : List ℕ) (s : SectorChange) (ss : List SectorChange) →
+    with_sectors bytes (s ∷ ss) ≡ with_sectors (with_bytes bytes (512 * s.sector) s.bytes) ss
 unfolding with_sectors
 sectors-at bytes s ss = refl
 
 -- one is put
-pub sectors-put : (first m put : State) (sectors : List SectorChange) (k : ℕ) (d : SectorChange) → PutsSectors first sectors k m → k < length sectors →
-    put.guest ≡ with_sector m.guest (get_or sectors k d).sector (get_or sectors k d).bytes → length put.guest.sectors ≡ length m.guest.sectors →
+pub sectors-put : (first m put : State) (sectors : List SectorChange) (k : ℕ) (d : SectorChange) → PutsSectors first sectors k m →
+    k < length sectors →
+    put.guest ≡ with_sector m.guest (get_or sectors k d).sector (get_or sectors k d).bytes →
+    length put.guest.sectors ≡ length m.guest.sectors →
     length put.written ≡ length m.written → PutsSectors first sectors (k + 1) put
 sectors-put first m put sectors k d so_far within is size flags =
     let s = get_or sectors k d in
@@ -195,19 +213,22 @@ pub sectors-done : (first m : State) (sectors : List SectorChange) (k : ℕ) →
     m.guest ≡ record first.guest { sectors = with_sectors first.guest.sectors sectors }
 unfolding with_sectors
 sectors-done first m sectors k all past =
-    let made : m.guest.sectors ≡ with_sectors first.guest.sectors sectors = sym (ap (with_sectors m.guest.sectors) (drop_all k sectors past)) ∙ all.put in
+    let made : m.guest.sectors ≡ with_sectors first.guest.sectors sectors =
+    sym (ap (with_sectors m.guest.sectors) (drop_all k sectors past)) ∙ all.put in
     all.guest ∙ ap (λ l. record first.guest { sectors = l }) made
 
 -- ---- all of it
 
 -- the settled machine with the blocks, the sectors and the state put in is that of the image
-pub image-made : (m with_ram with_disk with_rest end : State) (c : Change) (pages : List PageChange) (blocks : List (List ℕ)) (sectors : List SectorChange) (state : MachineState) →
+pub image-made : (m with_ram with_disk with_rest end : State) (c : Change) (pages : List PageChange) (blocks : List (List ℕ))
+    (sectors : List SectorChange) (state : MachineState) →
     pages ≡ c.pages → blocks ≡ c.blocks → sectors ≡ c.sectors → state ≡ c.state →
     base_ram c m.guest.ram ≡ m.guest.ram → base_sectors c m.guest.sectors ≡ m.guest.sectors →
     with_ram.guest ≡ record m.guest { ram = with_blocks m.guest.ram (block_numbers pages) blocks } →
     with_disk.guest ≡ record with_ram.guest { sectors = with_sectors with_ram.guest.sectors sectors } →
     with_rest ≡ record with_disk { guest = with_state with_disk.guest state } →
-    end ≡ record with_rest { outbox = []; dirty = []; settled = with_rest.guest.ram; written = replicate (length with_rest.written) false } →
+    end ≡ record with_rest
+    { outbox = []; dirty = []; settled = with_rest.guest.ram; written = replicate (length with_rest.written) false } →
     length with_disk.written ≡ c.shape.pages → end ≡ settled_machine c.shape (image_of c m.guest)
 unfolding image_of
 image-made m with_ram with_disk with_rest end c pages blocks sectors state ps bs ss st memory disk rams disks rests ends flags =

@@ -1,5 +1,6 @@
 //! The backup's image.
-ghost use Rattle.std.specs.Prelude.{◌≡◌, ◌↔◌, ◌+◌, ◌*◌, ◌<◌, ◌≤◌, length, replicate, slice_range, IfOk, IfErr, OnErr, IsErr, Some, None, Err};
+ghost use Rattle.std.specs.Prelude.{◌≡◌, ◌↔◌, ◌+◌, ◌*◌, ◌<◌, ◌≤◌, length, replicate, slice_range, IfOk, IfErr, OnErr, IsErr, Some};
+ghost use Rattle.std.specs.Prelude.{None, Err};
 ghost use Rattle.backup_image.specs.Images.{booted, empty_image, stage_answer, after_stage, committed, settled_machine};
 
 use crate::apply::apply;

@@ -8,8 +8,13 @@
 mod apply;
 mod errors;
 mod image;
+mod laws;
 mod standing;
 
 pub use errors::ImageError;
 pub use image::Image;
+pub use laws::{cuts_are_committed, staging_changes_no_guest};
 pub use standing::{Staged, Standing};
+
+#[cfg(test)]
+mod tests;

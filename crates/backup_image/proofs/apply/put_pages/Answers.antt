@@ -25,7 +25,8 @@ split_at-requires c =
 pub put_page-requires-clause-inside : goal.put_page-requires-clause-inside
 unfolding none
 put_page-requires-clause-inside c =
-    let below = rising-below (λ (p : PageChange). p.page) 0 (length c.args.machine.now.written) c.args.pages.now c.loop-change.change-index none c.requires.inside (omega arith) in
+    let below = rising-below (λ (p : PageChange). p.page) 0 (length c.args.machine.now.written) c.args.pages.now
+    c.loop-change.change-index none c.requires.inside (omega arith) in
     omega (arith, below, c.loop-change.invariant.same.flags)
 
 pub put_page-requires-clause-whole : goal.put_page-requires-clause-whole
@@ -37,10 +38,13 @@ put_page-requires-clause-enough c = omega (arith, c.split_at.ensures.front_len)
 pub loop-change-preserved : goal.loop-change-preserved
 unfolding none
 loop-change-preserved c =
-    pages-put c.args.machine.now c.loop-change.machine c.put_page.new.machine c.args.pages.now c.loop-change.change-index none c.args.blocks.now c.loop-change.rest.now
+    pages-put c.args.machine.now c.loop-change.machine c.put_page.new.machine c.args.pages.now c.loop-change.change-index none
+    c.args.blocks.now c.loop-change.rest.now
     c.split_at.result.0.now c.split_at.result.1.now c.loop-change.invariant (omega arith) c.put_page.ensures.count
-    (parts c.loop-change.rest.now c.split_at.result.0.now c.split_at.result.1.now _ c.split_at.ensures.front c.split_at.ensures.back) c.split_at.ensures.front_len c.put_page.ensures.guest c.put_page.ensures.size c.put_page.ensures.flags
+    (parts c.loop-change.rest.now c.split_at.result.0.now c.split_at.result.1.now _ c.split_at.ensures.front c.split_at.ensures.back)
+    c.split_at.ensures.front_len c.put_page.ensures.guest c.put_page.ensures.size c.put_page.ensures.flags
 
 pub returns-clause-guest : goal.returns-clause-guest
 returns-clause-guest c =
-    pages-done c.args.machine.now c.loop-change.machine c.args.pages.now c.loop-change.change-index c.args.blocks.now c.loop-change.rest.now c.loop-change.invariant (omega arith)
+    pages-done c.args.machine.now c.loop-change.machine c.args.pages.now c.loop-change.change-index c.args.blocks.now
+    c.loop-change.rest.now c.loop-change.invariant (omega arith)

@@ -1,0 +1,20 @@
+-- What is staged, and what a commit makes of it.
+use Rattle.std.proofs.Common.{◌≡◌, refl, ap}
+use Rattle.std.specs.Prelude.{Option, Some, Result, Ok, Err}
+use Rattle.epoch_snapshot.specs.Checkpoints.{Change}
+use Rattle.backup_image.specs.declared.errors.ImageError.{ImageError}
+use Rattle.backup_image.specs.declared.standing.Staged.{Staged}
+use Rattle.backup_image.specs.declared.standing.Staged.TheVariants.{New, Again}
+use Rattle.backup_image.specs.Images.{ImageState, staged_after, stage_answer, after_stage, applied, committed}
+
+-- what isn't new leaves what was staged
+pub staged_after-kept : (answer : Result Staged ImageError) (c : Change) (before : Option Change) → (answer ≡ Ok New → ⊥) →
+    staged_after answer c before ≡ before
+staged_after-kept (Ok New) c before other = absurd (other refl)
+staged_after-kept (Ok Again) c before other = refl
+staged_after-kept (Err e) c before other = refl
+
+-- what is new is applied at the commit
+pub new-committed : (i : ImageState) (c : Change) → stage_answer i c ≡ Ok New →
+    committed (after_stage i c) ≡ applied (record i { staged = Some c }) (Some c)
+new-committed i c is = ap (λ (a : Result Staged ImageError). committed (record i { staged = staged_after a c i.staged })) is
