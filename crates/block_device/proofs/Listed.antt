@@ -1,5 +1,32 @@
 -- However many requests are served, only sectors of the list are changed, and none is taken off it.
-use Rattle.std.proofs.Common.{◌≡◌, ℕ, ◌+◌, ◌/◌, ◌<◌, ◌≤◌, Bool, true, false, ◌&&◌, ◌||◌, ◌==◌, ◌⊎◌, inl, inr, List, [], length, refl, sym, ap, ◌∙◌, subst, if◌then◌else◌, nat_le, nat_lt}
+use Rattle.std.proofs.Common.{
+  ◌≡◌,
+  ℕ,
+  ◌+◌,
+  ◌/◌,
+  ◌<◌,
+  ◌≤◌,
+  Bool,
+  true,
+  false,
+  ◌&&◌,
+  ◌||◌,
+  ◌==◌,
+  ◌⊎◌,
+  inl,
+  inr,
+  List,
+  [],
+  length,
+  refl,
+  sym,
+  ap,
+  ◌∙◌,
+  subst,
+  if◌then◌else◌,
+  nat_le,
+  nat_lt,
+}
 use Rattle.std.proofs.lemmas.Bool.{cases_lt, le-leb, lt-ltb}
 use Rattle.virtio_mmio.specs.declared.kinds.DeviceKind.TheVariants.{Block}
 use Rattle.virtio_mmio.specs.declared.states.DeviceState.{DeviceState}
@@ -40,10 +67,12 @@ true_or false b h = let no : ⊥ = cc in absurd no
 
 module _ (old : Contents) where
   -- whole sectors are written
-  written_listed : (disk : Contents) (sector : ℕ) (new : List ℕ) → in_capacity disk sector (length new) ≡ true → IsListed old disk → IsListed old (contents_with disk sector new)
+  written_listed : (disk : Contents) (sector : ℕ) (new : List ℕ) → in_capacity disk sector (length new) ≡ true → IsListed old disk →
+      IsListed old (contents_with disk sector new)
   written_listed disk sector new fits p = record {
     others = λ i none.
-        let parts = neither (is_in i disk.dirty) (nat_le sector i && nat_lt i (sector + length new / 512)) (sym (in_written disk.dirty sector (length new / 512) i) ∙ none) in
+        let parts = neither (is_in i disk.dirty) (nat_le sector i && nat_lt i (sector + length new / 512))
+        (sym (in_written disk.dirty sector (length new / 512) i) ∙ none) in
         other_sector disk sector i new fits (outside sector (length new / 512) i parts.1) ∙ p.others i parts.0;
     stays = λ i here.
         in_written disk.dirty sector (length new / 512) i
@@ -52,12 +81,14 @@ module _ (old : Contents) where
 
   write_listed : (disk : Contents) (sector : ℕ) (new : List ℕ) → IsListed old disk → IsListed old (write_outcome disk sector new).disk
   write_listed disk sector new p =
-      elim (by_test {A = Outcome} (in_capacity disk sector (length new)) (record { status = 0; payload = []; disk = contents_with disk sector new }) (record { status = 1; payload = []; disk = disk })) [
+      elim (by_test {A = Outcome} (in_capacity disk sector (length new))
+      (record { status = 0; payload = []; disk = contents_with disk sector new }) (record { status = 1; payload = []; disk = disk })) [
         | inl w ↦ subst (λ (o : Outcome). IsListed old o.disk) (sym w.1) (written_listed disk sector new w.0 p)
         | inr w ↦ subst (λ (o : Outcome). IsListed old o.disk) (sym w.1) p
       ]
 
-  chosen_listed : (a b d : Bool) (w x y z : Outcome) → IsListed old w.disk → IsListed old x.disk → IsListed old y.disk → IsListed old z.disk →
+  chosen_listed : (a b d : Bool) (w x y z : Outcome) → IsListed old w.disk → IsListed old x.disk → IsListed old y.disk →
+      IsListed old z.disk →
       IsListed old (if a then w else (if b then x else (if d then y else z))).disk
   chosen_listed true b d w x y z pw px py pz = pw
   chosen_listed false true d w x y z pw px py pz = px

@@ -1,9 +1,48 @@
 -- Blocks: what XOR gives back, and what differs.
-use Rattle.std.proofs.Common.{◌≡◌, ℕ, zero, suc, ◌+◌, ◌*◌, ◌≤◌, Bool, true, false, ◌||◌, ◌==◌, not, List, [], ◌∷◌, ◌++◌, length, take, drop, map, cond, refl, sym, ap, ◌∙◌, arith}
+use Rattle.std.proofs.Common.{
+  ◌≡◌,
+  ℕ,
+  zero,
+  suc,
+  ◌+◌,
+  ◌*◌,
+  ◌≤◌,
+  Bool,
+  true,
+  false,
+  ◌||◌,
+  ◌==◌,
+  not,
+  List,
+  [],
+  ◌∷◌,
+  ◌++◌,
+  length,
+  take,
+  drop,
+  map,
+  cond,
+  refl,
+  sym,
+  ap,
+  ◌∙◌,
+  arith,
+}
 use Rattle.std.specs.Int.Bits.{bit_xor, xor_assoc, xor_self, xor_zero_l}
 use Rattle.std.proofs.lemmas.Bool.{eqb-true, true≢false}
 use Rattle.std.proofs.Math.Seq.{take-add}
-use Rattle.std.proofs.lemmas.List.{take_at, drop_at, drop-drop, take-append-drop, length-take-le, length-drop, append_assoc, append-nil, take_all, nil_from_length}
+use Rattle.std.proofs.lemmas.List.{
+  take_at,
+  drop_at,
+  drop-drop,
+  take-append-drop,
+  length-take-le,
+  length-drop,
+  append_assoc,
+  append-nil,
+  take_all,
+  nil_from_length,
+}
 use Rattle.std.specs.List.{range_with_len, filter}
 use Rattle.guest_machine.specs.Bytes.{with_bytes, with_xored}
 use Rattle.epoch_snapshot.specs.Blocks.{xored, differ, block_in, block_differs}
@@ -82,7 +121,8 @@ module _ (old new : List ℕ) (long : length old ≡ length new) where
       = ap (λ b. xored b (block_change old new n)) (here n (omega arith)) ∙ xored_twice (block_in old n) (block_in new n) both in
       ap (with_bytes (mixed old new n) (64 * n)) block
       ∙ ap (λ k. take (64 * n) (mixed old new n) ++ (block_in new n ++ drop (64 * n + k) (mixed old new n))) (length-block new n within)
-      ∙ (λ i. take_at (take (64 * n) new) (drop (64 * n) old) (64 * n) (fronts n (omega arith)) i ++ (block_in new n ++ rest n 64 (omega arith) i))
+      ∙ (λ i. take_at (take (64 * n) new) (drop (64 * n) old) (64 * n) (fronts n (omega arith))
+      i ++ (block_in new n ++ rest n 64 (omega arith) i))
       ∙ next n within
 
   -- a block that doesn't
@@ -91,7 +131,8 @@ module _ (old new : List ℕ) (long : length old ≡ length new) where
       let both : length (block_in old n) ≡ length (block_in new n) = length-block old n (omega arith) ∙ sym (length-block new n within) in
       let split : drop (64 * n) old ≡ block_in old n ++ drop (64 * n + 64) old
       = sym (take-append-drop 64 (drop (64 * n) old)) ∙ ap (λ l. block_in old n ++ l) (drop-drop 64 (64 * n) old) in
-      ap (λ l. take (64 * n) new ++ l) (split ∙ ap (λ b. b ++ drop (64 * n + 64) old) (same-bytes (block_in old n) (block_in new n) both same))
+      ap (λ l. take (64 * n) new ++ l) (split ∙ ap (λ b. b ++ drop (64 * n + 64) old)
+      (same-bytes (block_in old n) (block_in new n) both same))
       ∙ next n within
 
   step : (b : Bool) (n : ℕ) (ns : List ℕ) (out : List ℕ) → 64 * n + 64 ≤ length new → block_differs old new n ≡ b →
@@ -102,7 +143,8 @@ module _ (old new : List ℕ) (long : length old ≡ length new) where
   step false n ns out within e then = ap (λ m. with_blocks m ns (map (block_change old new) ns)) (kept n within e) ∙ then
 
   pub with_blocks-changed : (n k : ℕ) → 64 * (n + k) ≤ length new →
-      with_blocks (mixed old new n) (filter (block_differs old new) (range_with_len n k)) (map (block_change old new) (filter (block_differs old new) (range_with_len n k)))
+      with_blocks (mixed old new n) (filter (block_differs old new) (range_with_len n k))
+      (map (block_change old new) (filter (block_differs old new) (range_with_len n k)))
       ≡ mixed old new (n + k)
   unfolding with_blocks
   with_blocks-changed n zero within =
@@ -110,12 +152,14 @@ module _ (old new : List ℕ) (long : length old ≡ length new) where
       ap (mixed old new) e
   with_blocks-changed n (suc k) within =
       let e : (n + 1) + k ≡ n + suc k = omega arith in
-      step (block_differs old new n) n (filter (block_differs old new) (range_with_len (n + 1) k)) (mixed old new (n + suc k)) (omega arith) refl
+      step (block_differs old new n) n (filter (block_differs old new) (range_with_len (n + 1) k)) (mixed old new (n + suc k)) (omega arith)
+      refl
       (with_blocks-changed (n + 1) k (omega arith) ∙ ap (mixed old new) e)
 
   -- all blocks that differ, XORed into the old memory, make the new one
   pub with_blocks-all : (k : ℕ) → length new ≡ 64 * k →
-      with_blocks old (filter (block_differs old new) (range_with_len 0 k)) (map (block_change old new) (filter (block_differs old new) (range_with_len 0 k))) ≡ new
+      with_blocks old (filter (block_differs old new) (range_with_len 0 k))
+      (map (block_change old new) (filter (block_differs old new) (range_with_len 0 k))) ≡ new
   with_blocks-all k whole =
       let e : 64 * (0 + k) ≡ length new = omega arith in
       let none : drop (64 * (0 + k)) old ≡ [] = drop_past (64 * (0 + k)) old (omega arith) in

@@ -1,5 +1,37 @@
 -- What a cut records of memory is a canonical checkpoint's.
-use Rattle.std.proofs.Common.{◌≡◌, ◌≢◌, ℕ, zero, suc, ◌+◌, ◌*◌, ◌^◌, ◌<◌, ◌≤◌, ◌==◌, ◌&&◌, ◌||◌, not, Bool, true, false, cond, List, [], ◌∷◌, length, map, get_or, refl, sym, ap, ◌∙◌, arith, subst, length-append}
+use Rattle.std.proofs.Common.{
+  ◌≡◌,
+  ◌≢◌,
+  ℕ,
+  zero,
+  suc,
+  ◌+◌,
+  ◌*◌,
+  ◌^◌,
+  ◌<◌,
+  ◌≤◌,
+  ◌==◌,
+  ◌&&◌,
+  ◌||◌,
+  not,
+  Bool,
+  true,
+  false,
+  cond,
+  List,
+  [],
+  ◌∷◌,
+  length,
+  map,
+  get_or,
+  refl,
+  sym,
+  ap,
+  ◌∙◌,
+  arith,
+  subst,
+  length-append,
+}
 use Rattle.std.specs.Prelude.{All, IsTrue, count_ones}
 use Rattle.std.specs.List.{range_with_len, filter}
 use Rattle.std.specs.Int.Bits.{bit_xor, xor_zero_r}
@@ -18,7 +50,8 @@ use Rattle.epoch_snapshot.proofs.CutLemmas.{block_numbers-changed}
 
 -- ---- rising numbers
 
-rises_by : (b : Bool) (from end i : ℕ) (is : List ℕ) → from ≤ i → Rises (i + 1) end is → Rises from end is → Rises from end (cond b (i ∷ is) is)
+rises_by : (b : Bool) (from end i : ℕ) (is : List ℕ) → from ≤ i → Rises (i + 1) end is → Rises from end is →
+    Rises from end (cond b (i ∷ is) is)
 rises_by true from end i is low some none = (low, some)
 rises_by false from end i is low some none = none
 
@@ -31,9 +64,11 @@ pub Rises-filter : (p : ℕ → Bool) (s n end : ℕ) → s + n ≤ end → Rise
 Rises-filter p s zero end within = omega arith
 Rises-filter p s (suc n) end within =
     let later : Rises (s + 1) end (filter p (range_with_len (s + 1) n)) = Rises-filter p (s + 1) n end (omega arith) in
-    rises_by (p s) s end s (filter p (range_with_len (s + 1) n)) (omega arith) later (Rises-from_less (s + 1) s end (filter p (range_with_len (s + 1) n)) (omega arith) later)
+    rises_by (p s) s end s (filter p (range_with_len (s + 1) n)) (omega arith) later
+    (Rises-from_less (s + 1) s end (filter p (range_with_len (s + 1) n)) (omega arith) later)
 
-kept_by : {X : Type 0} (f : ℕ → X) (g : X → ℕ) (b : Bool) (i : ℕ) (xs : List X) (is : List ℕ) → g (f i) ≡ i → map g xs ≡ is → map g (cond b (f i ∷ xs) xs) ≡ cond b (i ∷ is) is
+kept_by : {X : Type 0} (f : ℕ → X) (g : X → ℕ) (b : Bool) (i : ℕ) (xs : List X) (is : List ℕ) → g (f i) ≡ i → map g xs ≡ is →
+    map g (cond b (f i ∷ xs) xs) ≡ cond b (i ∷ is) is
 kept_by f g true i xs is e rest = λ k. e k ∷ rest k
 kept_by f g false i xs is e rest = rest
 
@@ -42,7 +77,8 @@ pub numbers-filter : {X : Type 0} (f : ℕ → X) (g : X → ℕ) (p : X → Boo
     map g (filter p (map f (range_with_len s n))) ≡ filter (λ i. p (f i)) (range_with_len s n)
 numbers-filter f g p e s zero = refl
 numbers-filter f g p e s (suc n) =
-    kept_by f g (p (f s)) s (filter p (map f (range_with_len (s + 1) n))) (filter (λ i. p (f i)) (range_with_len (s + 1) n)) (e s) (numbers-filter f g p e (s + 1) n)
+    kept_by f g (p (f s)) s (filter p (map f (range_with_len (s + 1) n))) (filter (λ i. p (f i)) (range_with_len (s + 1) n)) (e s)
+    (numbers-filter f g p e (s + 1) n)
 
 -- ---- pages
 
@@ -57,7 +93,8 @@ not_zero m e z = true≢false (sym e ∙ ap not (eq-eqb m 0 z))
 
 pub masks-changed : (old new : List ℕ) (n : ℕ) → All (λ (p : PageChange). p.mask ≢ 0) (changed_pages old new n)
 unfolding changed_pages
-masks-changed old new n = λ k d within. not_zero (get_or (changed_pages old new n) k d).mask (filter_passes is_changed (map (page_change old new) (range_with_len 0 n)) k d within)
+masks-changed old new n = λ k d within. not_zero (get_or (changed_pages old new n) k d).mask
+    (filter_passes is_changed (map (page_change old new) (range_with_len 0 n)) k d within)
 
 -- ---- blocks
 
@@ -70,14 +107,17 @@ length_by true p ps fits rest =
     ∙ sym (sum_by-cons (λ (q : PageChange). count_ones q.mask) p ps)
 length_by false p ps fits rest = rest
 
-length_from : (old new : List ℕ) (s n : ℕ) → length (block_numbers (filter is_changed (map (page_change old new) (range_with_len s n)))) ≡ block_count (filter is_changed (map (page_change old new) (range_with_len s n)))
+length_from : (old new : List ℕ) (s n : ℕ) → length (block_numbers (filter is_changed (map (page_change old new) (range_with_len s n)))) ≡
+    block_count (filter is_changed (map (page_change old new) (range_with_len s n)))
 unfolding block_numbers
 length_from old new s zero = refl
 length_from old new s (suc n) =
-    length_by (is_changed (page_change old new s)) (page_change old new s) (filter is_changed (map (page_change old new) (range_with_len (s + 1) n))) (changed_mask-lt old new s) (length_from old new (s + 1) n)
+    length_by (is_changed (page_change old new s)) (page_change old new s)
+    (filter is_changed (map (page_change old new) (range_with_len (s + 1) n))) (changed_mask-lt old new s) (length_from old new (s + 1) n)
 
 -- a cut has as many blocks as its pages' masks have ones
-pub length-changed_blocks : (old new : List ℕ) (n : ℕ) → length (changed_blocks old new (changed_pages old new n)) ≡ block_count (changed_pages old new n)
+pub length-changed_blocks : (old new : List ℕ) (n : ℕ) → length (changed_blocks old new (changed_pages old new n)) ≡
+    block_count (changed_pages old new n)
 unfolding changed_pages
 length-changed_blocks old new n =
     length-map (block_numbers (changed_pages old new n)) (block_change old new) ∙ length_from old new 0 n
@@ -117,7 +157,8 @@ blocks-changed old new n =
     let F : List ℕ → Type 0 = λ ns. All (λ b. IsTrue (not (is_zero b))) (map (block_change old new) ns) in
     subst F (sym e)
     (all_mapped (block_change old new) (λ b. not (is_zero b)) (filter (block_differs old new) (range_with_len 0 (64 * n)))
-    (λ k d within. ap not (is_zero-xored (block_in old (get_or (filter (block_differs old new) (range_with_len 0 (64 * n))) k d)) (block_in new (get_or (filter (block_differs old new) (range_with_len 0 (64 * n))) k d))
+    (λ k d within. ap not (is_zero-xored (block_in old (get_or (filter (block_differs old new) (range_with_len 0 (64 * n))) k d))
+    (block_in new (get_or (filter (block_differs old new) (range_with_len 0 (64 * n))) k d))
     (filter_passes (block_differs old new) (range_with_len 0 (64 * n)) k d within))))
 
 -- the changed pages name as many blocks as their masks have ones

@@ -1,5 +1,29 @@
 -- What a cut records of memory: a canonical checkpoint's pages and blocks, and its image.
-use Rattle.std.proofs.Common.{◌≡◌, ℕ, zero, suc, ◌+◌, ◌*◌, ◌==◌, not, Bool, true, false, cond, List, [], ◌∷◌, ◌++◌, length, map, refl, sym, ap, ◌∙◌, arith}
+use Rattle.std.proofs.Common.{
+  ◌≡◌,
+  ℕ,
+  zero,
+  suc,
+  ◌+◌,
+  ◌*◌,
+  ◌==◌,
+  not,
+  Bool,
+  true,
+  false,
+  cond,
+  List,
+  [],
+  ◌∷◌,
+  ◌++◌,
+  length,
+  map,
+  refl,
+  sym,
+  ap,
+  ◌∙◌,
+  arith,
+}
 use Rattle.std.specs.List.{range_with_len, filter}
 use Rattle.std.proofs.lemmas.Bool.{eqb-true, true≢false}
 use Rattle.std.proofs.lemmas.List.Elements.{filter-append}
@@ -13,7 +37,8 @@ use Rattle.epoch_snapshot.proofs.BlockLemmas.{with_blocks-all}
 
 module _ (old new : List ℕ) where
   -- the blocks that one page's mask names
-  of_page : (page : ℕ) → map (λ i. 64 * page + i) (set_blocks (changed_mask old new page)) ≡ filter (block_differs old new) (range_with_len (64 * page) 64)
+  of_page : (page : ℕ) → map (λ i. 64 * page + i) (set_blocks (changed_mask old new page)) ≡
+      filter (block_differs old new) (range_with_len (64 * page) 64)
   of_page page =
       let e : 64 * page + 0 ≡ 64 * page = omega arith in
       ap (map (λ i. 64 * page + i)) (set_blocks-changed old new page)
@@ -21,7 +46,8 @@ module _ (old new : List ℕ) where
       ∙ ap (λ k. filter (block_differs old new) (range_with_len k 64)) e
 
   none_changed : (m : ℕ) (b : Bool) (page : ℕ) → (m == 0) ≡ b → not b ≡ false → map (λ i. 64 * page + i) (set_blocks m) ≡ []
-  none_changed m true page e f = ap (λ k. map (λ i. 64 * page + i) (set_blocks k)) (eqb-true m 0 e) ∙ ap (map (λ i. 64 * page + i)) set_blocks-zero
+  none_changed m true page e f = ap (λ k. map (λ i. 64 * page + i) (set_blocks k)) (eqb-true m 0 e)
+      ∙ ap (map (λ i. 64 * page + i)) set_blocks-zero
   none_changed m false page e f = absurd (true≢false f)
 
   page_step : (b : Bool) (page : ℕ) (ps : List PageChange) (out : List ℕ) → is_changed (page_change old new page) ≡ b →
@@ -30,9 +56,11 @@ module _ (old new : List ℕ) where
   unfolding block_numbers
   page_step true page ps out e then = ap (λ l. l ++ block_numbers ps) (of_page page) ∙ then
   page_step false page ps out e then =
-      ap (λ l. l ++ block_numbers ps) (sym (none_changed (changed_mask old new page) (changed_mask old new page == 0) page refl e) ∙ of_page page) ∙ then
+      ap (λ l. l ++ block_numbers ps) (sym (none_changed (changed_mask old new page) (changed_mask old new page == 0) page refl e)
+      ∙ of_page page) ∙ then
 
-  from_page : (s n : ℕ) → block_numbers (filter is_changed (map (page_change old new) (range_with_len s n))) ≡ filter (block_differs old new) (range_with_len (64 * s) (64 * n))
+  from_page : (s n : ℕ) → block_numbers (filter is_changed (map (page_change old new) (range_with_len s n))) ≡
+      filter (block_differs old new) (range_with_len (64 * s) (64 * n))
   unfolding block_numbers
   from_page s zero = refl
   from_page s (suc n) =
@@ -40,7 +68,8 @@ module _ (old new : List ℕ) where
       let f : 64 + 64 * n ≡ 64 * suc n = omega arith in
       page_step (is_changed (page_change old new s)) s (filter is_changed (map (page_change old new) (range_with_len (s + 1) n)))
       (filter (block_differs old new) (range_with_len (64 * s) (64 * suc n))) refl
-      (ap (λ l. filter (block_differs old new) (range_with_len (64 * s) 64) ++ l) (from_page (s + 1) n ∙ ap (λ k. filter (block_differs old new) (range_with_len k (64 * n))) e)
+      (ap (λ l. filter (block_differs old new) (range_with_len (64 * s) 64) ++ l) (from_page (s + 1) n
+      ∙ ap (λ k. filter (block_differs old new) (range_with_len k (64 * n))) e)
       ∙ sym (filter-append (block_differs old new) (range_with_len (64 * s) 64) (range_with_len (64 * s + 64) (64 * n)))
       ∙ ap (filter (block_differs old new)) (sym (range-append (64 * s) 64 (64 * n)))
       ∙ ap (λ k. filter (block_differs old new) (range_with_len (64 * s) k)) f)

@@ -35,12 +35,15 @@ IsCanonical-cut old listed m generation number c cut least most below state rise
       masks = subst (λ (ps : List PageChange). All (λ (p : PageChange). p.mask ≡ 0 → ⊥) ps) (sym cut.pages) (masks-changed old new n);
       block_count = ap length blocks ∙ length-changed_blocks old new n ∙ sym (ap block_count cut.pages);
       blocks = subst (λ (bs : List (List ℕ)). All (λ b. IsTrue (not (is_zero b))) bs) (sym blocks) (blocks-changed old new n);
-      sectors = subst (Rises 0 c.shape.sectors) (sym (ap (map (λ (s : SectorChange). s.sector)) cut.sectors ∙ numbers-changed m.guest.sectors listed)) rises;
-      full_sectors = λ z. subst (λ (ss : List SectorChange). All (λ (s : SectorChange). IsTrue (not (is_zero s.bytes))) ss) (sym cut.sectors) (full z);
+      sectors = subst (Rises 0 c.shape.sectors) (sym (ap (map (λ (s : SectorChange). s.sector)) cut.sectors
+          ∙ numbers-changed m.guest.sectors listed)) rises;
+      full_sectors = λ z. subst (λ (ss : List SectorChange). All (λ (s : SectorChange). IsTrue (not (is_zero s.bytes))) ss)
+          (sym cut.sectors) (full z);
     }
 
 -- the image of a cut over a base that it stands over
-image_over : (old listed : List ℕ) (m : State) (generation number : ℕ) (c : Change) (base : Guest) → IsCut old listed m generation number c →
+image_over : (old listed : List ℕ) (m : State) (generation number : ℕ) (c : Change) (base : Guest) →
+    IsCut old listed m generation number c →
     length old ≡ length m.guest.ram → base_ram c base.ram ≡ old → length (base_sectors c base.sectors) ≡ length m.guest.sectors →
     Rises 0 c.shape.sectors listed → AgreesOff c.shape.sectors listed (base_sectors c base.sectors) m.guest.sectors →
     with_state m.guest (state_of m.guest) ≡ m.guest → image_of c base ≡ m.guest
@@ -53,7 +56,8 @@ image_over old listed m generation number c base cut same ram size rises agree w
     ∙ with_blocks-cut old new c.shape.pages same cut.pages_size in
     let disk : with_sectors (base_sectors c base.sectors) c.sectors ≡ m.guest.sectors
     = ap (with_sectors (base_sectors c base.sectors)) cut.sectors
-    ∙ with_sectors-changed c.shape.sectors m.guest.sectors cut.sectors_size (base_sectors c base.sectors) 0 listed (size ∙ cut.sectors_size) rises agree in
+    ∙ with_sectors-changed c.shape.sectors m.guest.sectors cut.sectors_size (base_sectors c base.sectors) 0 listed (size ∙ cut.sectors_size)
+    rises agree in
     (λ k. with_state (record base { ram = memory k; sectors = disk k }) (cut.state k)) ∙ whole
 
 not_full : (c : Change) (number : ℕ) → c.number ≡ number → 1 ≤ number → (c.number == 0) ≡ false
@@ -63,13 +67,16 @@ count_is : (bytes : List ℕ) (n : ℕ) → length bytes ≡ 512 * n → sector_
 count_is bytes n e = omega (arith, e)
 
 -- a delta over its base
-pub image-delta : (m : State) (generation number : ℕ) (c : Change) (base : Guest) → IsCut m.settled m.dirty m generation number c → 1 ≤ number →
-    length m.settled ≡ length m.guest.ram → Rises 0 c.shape.sectors m.dirty → with_state m.guest (state_of m.guest) ≡ m.guest → IsBase m base → image_of c base ≡ m.guest
+pub image-delta : (m : State) (generation number : ℕ) (c : Change) (base : Guest) → IsCut m.settled m.dirty m generation number c →
+    1 ≤ number →
+    length m.settled ≡ length m.guest.ram → Rises 0 c.shape.sectors m.dirty → with_state m.guest (state_of m.guest) ≡ m.guest →
+    IsBase m base → image_of c base ≡ m.guest
 unfolding AgreesOff
 image-delta m generation number c base cut some same rises whole on =
     let delta = not_full c number cut.number some in
     let ram : base_ram c base.ram ≡ base.ram = ap (λ b. cond b (replicate {A = ℕ} (4096 * c.shape.pages) 0) base.ram) delta in
-    let disk : base_sectors c base.sectors ≡ base.sectors = ap (λ b. cond b (replicate {A = ℕ} (512 * c.shape.sectors) 0) base.sectors) delta in
+    let disk : base_sectors c base.sectors ≡ base.sectors = ap (λ b. cond b (replicate {A = ℕ} (512 * c.shape.sectors) 0) base.sectors)
+    delta in
     let count = count_is m.guest.sectors c.shape.sectors cut.sectors_size in
     image_over m.settled m.dirty m generation number c base cut same (ram ∙ on.ram) (ap length disk ∙ on.size) rises
     (λ i within off. ap (λ b. sector_of b i) disk ∙ on.sectors i (omega (arith, count)) off) whole
@@ -82,9 +89,11 @@ image-full m generation c base cut whole =
     let full = eq-eqb c.number 0 cut.number in
     let ram : base_ram c base.ram ≡ replicate (length m.guest.ram) 0
     = ap (λ b. cond b (replicate {A = ℕ} (4096 * c.shape.pages) 0) base.ram) full ∙ ap (λ n. replicate {A = ℕ} n 0) (sym cut.pages_size) in
-    let disk : base_sectors c base.sectors ≡ replicate (512 * c.shape.sectors) 0 = ap (λ b. cond b (replicate {A = ℕ} (512 * c.shape.sectors) 0) base.sectors) full in
+    let disk : base_sectors c base.sectors ≡ replicate (512 * c.shape.sectors) 0 =
+    ap (λ b. cond b (replicate {A = ℕ} (512 * c.shape.sectors) 0) base.sectors) full in
     image_over (replicate (length m.guest.ram) 0) (used_sectors m.guest.sectors c.shape.sectors) m generation 0 c base cut
     (length-replicate (length m.guest.ram) 0) ram (ap length disk ∙ length-replicate (512 * c.shape.sectors) 0 ∙ sym cut.sectors_size)
     (Rises-used m.guest.sectors c.shape.sectors)
-    (subst (λ (b : List ℕ). AgreesOff c.shape.sectors (used_sectors m.guest.sectors c.shape.sectors) b m.guest.sectors) (sym disk) (AgreesOff-zero c.shape.sectors m.guest.sectors cut.sectors_size))
+    (subst (λ (b : List ℕ). AgreesOff c.shape.sectors (used_sectors m.guest.sectors c.shape.sectors) b m.guest.sectors) (sym disk)
+    (AgreesOff-zero c.shape.sectors m.guest.sectors cut.sectors_size))
     whole

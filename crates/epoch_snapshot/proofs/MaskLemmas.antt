@@ -1,5 +1,30 @@
 -- Masks: which blocks they name, and how many.
-use Rattle.std.proofs.Common.{◌≡◌, ℕ, zero, suc, ◌+◌, ◌*◌, ◌^◌, ◌<◌, ◌==◌, Bool, true, false, cond, List, [], ◌∷◌, length, map, refl, sym, ap, ◌∙◌, arith, subst}
+use Rattle.std.proofs.Common.{
+  ◌≡◌,
+  ℕ,
+  zero,
+  suc,
+  ◌+◌,
+  ◌*◌,
+  ◌^◌,
+  ◌<◌,
+  ◌==◌,
+  Bool,
+  true,
+  false,
+  cond,
+  List,
+  [],
+  ◌∷◌,
+  length,
+  map,
+  refl,
+  sym,
+  ap,
+  ◌∙◌,
+  arith,
+  subst,
+}
 use Rattle.std.specs.Prelude.{count_ones}
 use Rattle.std.specs.List.{range_with_len, filter}
 use Rattle.std.specs.Int.{bit_at}
@@ -29,7 +54,8 @@ flag_lt f n =
     subst P (length-map-range_with_len f 0 n) h
 
 -- which of n places a number of n flags names
-named : (f : ℕ → Bool) (n : ℕ) → filter (λ i. bit_at (mask_l (map f (range_with_len 0 n))) i == 1) (range_with_len 0 n) ≡ filter f (range_with_len 0 n)
+named : (f : ℕ → Bool) (n : ℕ) → filter (λ i. bit_at (mask_l (map f (range_with_len 0 n))) i == 1) (range_with_len 0 n) ≡
+    filter f (range_with_len 0 n)
 named f n =
     filter_agree_in (λ i. bit_at (mask_l (map f (range_with_len 0 n))) i == 1) f 0 n
     (λ i low high. ap (λ k. k == 1) (flag_bit f n i (omega arith)) ∙ one_of (f i))
@@ -56,7 +82,8 @@ pub length-set_blocks : (m : ℕ) → m < 2 ^ 64 → length (set_blocks m) ≡ c
 unfolding set_blocks
 length-set_blocks m fits = count_of 64 m fits
 
-pub set_blocks-changed : (old new : List ℕ) (page : ℕ) → set_blocks (changed_mask old new page) ≡ filter (λ i. block_differs old new (64 * page + i)) (range_with_len 0 64)
+pub set_blocks-changed : (old new : List ℕ) (page : ℕ) → set_blocks (changed_mask old new page) ≡
+    filter (λ i. block_differs old new (64 * page + i)) (range_with_len 0 64)
 unfolding set_blocks changed_mask
 set_blocks-changed old new page = named (λ i. block_differs old new (64 * page + i)) 64
 
@@ -67,7 +94,8 @@ changed_mask-lt old new page = flag_lt (λ i. block_differs old new (64 * page +
 none_named : (n : ℕ) (k : ℕ) → filter (λ i. bit_at 0 i == 1) (range_with_len k n) ≡ []
 none_named zero k = refl
 none_named (suc n) k =
-    ap (λ b. cond (b == 1) (k ∷ filter (λ i. bit_at 0 i == 1) (range_with_len (k + 1) n)) (filter (λ i. bit_at 0 i == 1) (range_with_len (k + 1) n))) (bit_at-zero k)
+    ap (λ b. cond (b == 1) (k ∷ filter (λ i. bit_at 0 i == 1) (range_with_len (k + 1) n))
+    (filter (λ i. bit_at 0 i == 1) (range_with_len (k + 1) n))) (bit_at-zero k)
     ∙ none_named n (k + 1)
 
 pub set_blocks-zero : set_blocks 0 ≡ []
@@ -75,7 +103,8 @@ unfolding set_blocks
 set_blocks-zero = none_named 64 0
 
 -- a number of 64 bits with these bits is the mask
-pub mask_from_bits : (old new : List ℕ) (page m : ℕ) → m < 2 ^ 64 → ((i : ℕ) → i < 64 → bit_at m i ≡ cond (block_differs old new (64 * page + i)) 1 0) → m ≡ changed_mask old new page
+pub mask_from_bits : (old new : List ℕ) (page m : ℕ) → m < 2 ^ 64 →
+    ((i : ℕ) → i < 64 → bit_at m i ≡ cond (block_differs old new (64 * page + i)) 1 0) → m ≡ changed_mask old new page
 unfolding changed_mask
 mask_from_bits old new page m fits bits =
     same_from_bits_below 64 m (mask_l (map (λ i. block_differs old new (64 * page + i)) (range_with_len 0 64))) fits

@@ -1,9 +1,57 @@
 -- Pages of a memory, as the list of its bytes.
-use Rattle.std.proofs.Common.{◌≡◌, ℕ, zero, suc, ◌+◌, ◌-◌, ◌*◌, ◌^◌, ◌<◌, ◌≤◌, ◌==◌, ◌||◌, not, lit<, Bool, true, false, cond, List, [], ◌∷◌, ◌++◌, length, take, drop, replicate, map, get_or, refl, sym, ap, ◌∙◌, arith, subst, length-append}
+use Rattle.std.proofs.Common.{
+  ◌≡◌,
+  ℕ,
+  zero,
+  suc,
+  ◌+◌,
+  ◌-◌,
+  ◌*◌,
+  ◌^◌,
+  ◌<◌,
+  ◌≤◌,
+  ◌==◌,
+  ◌||◌,
+  not,
+  lit<,
+  Bool,
+  true,
+  false,
+  cond,
+  List,
+  [],
+  ◌∷◌,
+  ◌++◌,
+  length,
+  take,
+  drop,
+  replicate,
+  map,
+  get_or,
+  refl,
+  sym,
+  ap,
+  ◌∙◌,
+  arith,
+  subst,
+  length-append,
+}
 use Rattle.std.specs.Prelude.{slice_range, ◌↔◌, IsTrue, All, count_ones}
 use Rattle.std.specs.List.{range_with_len, filter}
 use Rattle.std.specs.Int.{bit_at}
-use Rattle.std.proofs.lemmas.List.{take-take, drop-drop, drop-take, map-append, map-id, append-nil, append_assoc, length_push, length-map, take_more, take-append-drop}
+use Rattle.std.proofs.lemmas.List.{
+  take-take,
+  drop-drop,
+  drop-take,
+  map-append,
+  map-id,
+  append-nil,
+  append_assoc,
+  length_push,
+  length-map,
+  take_more,
+  take-append-drop,
+}
 use Rattle.std.proofs.lemmas.List.Sums.{sum_by_push}
 use Rattle.std.proofs.lemmas.Nat.{ones-le}
 use Rattle.std.proofs.lemmas.Bool.{eq-eqb, ne_eqb, true≢false}
@@ -18,7 +66,8 @@ use Rattle.epoch_snapshot.proofs.MaskLemmas.{mask_from_bits}
 use Rattle.epoch_snapshot.proofs.RangeLemmas.{range-append}
 
 -- a block of a page is a block of memory
-pub block_in-page : (ram : List ℕ) (page i : ℕ) → i < 64 → block_in (slice_range ram (4096 * page) (4096 * page + 4096)) i ≡ block_in ram (64 * page + i)
+pub block_in-page : (ram : List ℕ) (page i : ℕ) → i < 64 → block_in (slice_range ram (4096 * page) (4096 * page + 4096)) i ≡
+    block_in ram (64 * page + i)
 block_in-page ram page i below =
     let width : (4096 * page + 4096) - 4096 * page ≡ 64 * i + (4096 - 64 * i) = omega arith in
     let at : 4096 * page + 64 * i ≡ 64 * (64 * page + i) = omega arith in
@@ -46,13 +95,15 @@ differ-self [] = refl
 differ-self (x ∷ xs) = ap (λ b. not b || differ xs xs) (eq-eqb x x refl) ∙ differ-self xs
 
 -- a page that is the same has no blocks that differ
-pub mask-same : (old new : List ℕ) (page : ℕ) → slice_range new (4096 * page) (4096 * page + 4096) ≡ slice_range old (4096 * page) (4096 * page + 4096) → 0 ≡ changed_mask old new page
+pub mask-same : (old new : List ℕ) (page : ℕ) → slice_range new (4096 * page) (4096 * page + 4096) ≡
+    slice_range old (4096 * page) (4096 * page + 4096) → 0 ≡ changed_mask old new page
 mask-same old new page same =
     mask_from_bits old new page 0 (lit< tt)
     (λ i below.
     let e : block_in old (64 * page + i) ≡ block_in new (64 * page + i)
     = sym (block_in-page old page i below) ∙ ap (λ p. block_in p i) (sym same) ∙ block_in-page new page i below in
-    bit_at-zero i ∙ sym (ap (λ b. cond b 1 0) (ap (differ (block_in old (64 * page + i))) (sym e) ∙ differ-self (block_in old (64 * page + i)))))
+    bit_at-zero i ∙ sym (ap (λ b. cond b 1 0) (ap (differ (block_in old (64 * page + i))) (sym e)
+    ∙ differ-self (block_in old (64 * page + i)))))
 
 bit_from : (b : Bool) (n : ℕ) → n < 2 → (n ≡ 1) ↔ IsTrue b → n ≡ cond b 1 0
 bit_from true n small h = h.1 refl
@@ -72,18 +123,21 @@ mask-pages old new page m p q fits olds news bits =
 
 -- ---- one page more
 
-pub changed_pages-more : (old new : List ℕ) (n : ℕ) → changed_pages old new (n + 1) ≡ changed_pages old new n ++ cond (is_changed (page_change old new n)) (page_change old new n ∷ []) []
+pub changed_pages-more : (old new : List ℕ) (n : ℕ) → changed_pages old new (n + 1) ≡
+    changed_pages old new n ++ cond (is_changed (page_change old new n)) (page_change old new n ∷ []) []
 unfolding changed_pages
 changed_pages-more old new n = let e : 0 + n ≡ n = omega arith in filter_of_map_range_with_len_more is_changed (page_change old new) 0 n n e
 
 -- one that changes is added, and one that doesn't isn't
-pub changed_pages-push : (old new : List ℕ) (n m : ℕ) → m ≡ changed_mask old new n → (m ≡ 0 → ⊥) → changed_pages old new (n + 1) ≡ changed_pages old new n ++ record { page = n; mask = m } ∷ []
+pub changed_pages-push : (old new : List ℕ) (n m : ℕ) → m ≡ changed_mask old new n → (m ≡ 0 → ⊥) →
+    changed_pages old new (n + 1) ≡ changed_pages old new n ++ record { page = n; mask = m } ∷ []
 changed_pages-push old new n m e some =
     changed_pages-more old new n
     ∙ ap (λ k. changed_pages old new n ++ cond (not (k == 0)) (record { page = n; mask = k } ∷ []) []) (sym e)
     ∙ ap (λ b. changed_pages old new n ++ cond (not b) (record { page = n; mask = m } ∷ []) []) (ne_eqb m 0 some)
 
-pub changed_pages-skip : (old new : List ℕ) (n m : ℕ) → m ≡ changed_mask old new n → m ≡ 0 → changed_pages old new (n + 1) ≡ changed_pages old new n
+pub changed_pages-skip : (old new : List ℕ) (n m : ℕ) → m ≡ changed_mask old new n → m ≡ 0 →
+    changed_pages old new (n + 1) ≡ changed_pages old new n
 changed_pages-skip old new n m e none =
     changed_pages-more old new n
     ∙ ap (λ k. changed_pages old new n ++ cond (not (k == 0)) (record { page = n; mask = k } ∷ []) []) (sym e ∙ none)
@@ -100,10 +154,12 @@ unfolding changed_pages
 no_pages old new = refl
 
 -- what a test keeps of fewer numbers is no more
-pub length-fewer : {X : Type 0} (p : X → Bool) (f : ℕ → X) (n m : ℕ) → n ≤ m → length (filter p (map f (range_with_len 0 n))) ≤ length (filter p (map f (range_with_len 0 m)))
+pub length-fewer : {X : Type 0} (p : X → Bool) (f : ℕ → X) (n m : ℕ) → n ≤ m →
+    length (filter p (map f (range_with_len 0 n))) ≤ length (filter p (map f (range_with_len 0 m)))
 length-fewer p f n m less =
     let e : n + (m - n) ≡ m = omega arith in
-    let all : filter p (map f (range_with_len 0 m)) ≡ filter p (map f (range_with_len 0 n)) ++ filter p (map f (range_with_len (0 + n) (m - n)))
+    let all : filter p (map f (range_with_len 0 m)) ≡ filter p (map f (range_with_len 0 n)) ++ filter p
+    (map f (range_with_len (0 + n) (m - n)))
     = ap (λ k. filter p (map f (range_with_len 0 k))) (sym e)
     ∙ ap (λ l. filter p (map f l)) (range-append 0 n (m - n))
     ∙ ap (filter p) (map-append f (range_with_len 0 n) (range_with_len (0 + n) (m - n)))
@@ -157,21 +213,25 @@ blocks-skip f m n xs ys clear so_far =
 pub fewer_blocks : (m n : ℕ) → n < 64 → bit_at m n ≡ 1 → length (filter (λ i. bit_at m i == 1) (range_with_len 0 n)) < length (set_blocks m)
 unfolding set_blocks
 fewer_blocks m n below set =
-    let last = filter_last (λ i. bit_at m i == 1) n ∙ ap (λ c. filter (λ i. bit_at m i == 1) (range_with_len 0 n) ++ cond c (n ∷ []) []) (eq-eqb (bit_at m n) 1 set) in
+    let last = filter_last (λ i. bit_at m i == 1) n ∙ ap (λ c. filter (λ i. bit_at m i == 1) (range_with_len 0 n) ++ cond c (n ∷ []) [])
+    (eq-eqb (bit_at m n) 1 set) in
     let more = ap length last ∙ length_push (filter (λ i. bit_at m i == 1) (range_with_len 0 n)) n in
     let all = fewer_range (λ i. bit_at m i == 1) (n + 1) 64 (omega arith) in
     omega (arith, more, all)
 
 -- ---- the blocks of several pages
 
-agree_by : (f g : ℕ → List ℕ) (b : Bool) (i : ℕ) (is : List ℕ) → f i ≡ g i → map f is ≡ map g is → map f (cond b (i ∷ is) is) ≡ map g (cond b (i ∷ is) is)
+agree_by : (f g : ℕ → List ℕ) (b : Bool) (i : ℕ) (is : List ℕ) → f i ≡ g i → map f is ≡ map g is →
+    map f (cond b (i ∷ is) is) ≡ map g (cond b (i ∷ is) is)
 agree_by f g true i is e rest = λ k. e k ∷ rest k
 agree_by f g false i is e rest = rest
 
-map_agree_in : (f g : ℕ → List ℕ) (p : ℕ → Bool) (s n : ℕ) → ((i : ℕ) → s ≤ i → i < s + n → f i ≡ g i) → map f (filter p (range_with_len s n)) ≡ map g (filter p (range_with_len s n))
+map_agree_in : (f g : ℕ → List ℕ) (p : ℕ → Bool) (s n : ℕ) → ((i : ℕ) → s ≤ i → i < s + n → f i ≡ g i) →
+    map f (filter p (range_with_len s n)) ≡ map g (filter p (range_with_len s n))
 map_agree_in f g p s zero agree = refl
 map_agree_in f g p s (suc n) agree =
-    agree_by f g (p s) s (filter p (range_with_len (s + 1) n)) (agree s (omega arith) (omega arith)) (map_agree_in f g p (s + 1) n (λ i low high. agree i (omega arith) (omega arith)))
+    agree_by f g (p s) s (filter p (range_with_len (s + 1) n)) (agree s (omega arith) (omega arith))
+    (map_agree_in f g p (s + 1) n (λ i low high. agree i (omega arith) (omega arith)))
 
 map-map : (f : ℕ → List ℕ) (g : ℕ → ℕ) (is : List ℕ) → map (λ i. f (g i)) is ≡ map f (map g is)
 map-map f g [] = refl
@@ -180,7 +240,8 @@ map-map f g (i ∷ is) = ap (λ l. f (g i) ∷ l) (map-map f g is)
 -- the blocks of a page that its mask names, as blocks of the two memories
 pub page_blocks : (old new p q : List ℕ) (page mask : ℕ) →
     ((i : ℕ) → i < 64 → block_in p i ≡ block_in old (64 * page + i)) → ((i : ℕ) → i < 64 → block_in q i ≡ block_in new (64 * page + i)) →
-    map (λ i. xored (block_in p i) (block_in q i)) (set_blocks mask) ≡ map (block_change old new) (map (λ i. 64 * page + i) (set_blocks mask))
+    map (λ i. xored (block_in p i) (block_in q i)) (set_blocks mask) ≡
+    map (block_change old new) (map (λ i. 64 * page + i) (set_blocks mask))
 unfolding set_blocks
 page_blocks old new p q page mask olds news =
     map_agree_in (λ i. xored (block_in p i) (block_in q i)) (λ i. block_change old new (64 * page + i)) (λ i. bit_at mask i == 1) 0 64
@@ -200,7 +261,8 @@ one_page p = append-nil (map (λ i. 64 * p.page + i) (set_blocks p.mask))
 
 -- the blocks of one page more
 pub numbers-more : (ps : List PageChange) (k : ℕ) (d : PageChange) → k < length ps →
-    block_numbers (take (k + 1) ps) ≡ block_numbers (take k ps) ++ map (λ i. 64 * (get_or ps k d).page + i) (set_blocks (get_or ps k d).mask)
+    block_numbers (take (k + 1) ps) ≡ block_numbers (take k ps) ++ map (λ i. 64 * (get_or ps k d).page + i)
+    (set_blocks (get_or ps k d).mask)
 numbers-more ps k d within =
     ap block_numbers (take_more ps k d within)
     ∙ numbers-append (take k ps) (get_or ps k d ∷ [])
@@ -210,16 +272,20 @@ pub numbers-room : (ps : List PageChange) (k : ℕ) (d : PageChange) → k < len
     length (block_numbers (take k ps)) + length (set_blocks (get_or ps k d).mask) ≤ length (block_numbers ps)
 numbers-room ps k d within =
     let p = get_or ps k d in
-    let more = ap length (numbers-more ps k d within) ∙ length-append (block_numbers (take k ps)) (map (λ i. 64 * p.page + i) (set_blocks p.mask)) in
+    let more = ap length (numbers-more ps k d within) ∙ length-append (block_numbers (take k ps))
+    (map (λ i. 64 * p.page + i) (set_blocks p.mask)) in
     let here = length-map (set_blocks p.mask) (λ i. 64 * p.page + i) in
-    let all = ap length (ap block_numbers (sym (take-append-drop (k + 1) ps)) ∙ numbers-append (take (k + 1) ps) (drop (k + 1) ps)) ∙ length-append (block_numbers (take (k + 1) ps)) (block_numbers (drop (k + 1) ps)) in
+    let all = ap length (ap block_numbers (sym (take-append-drop (k + 1) ps)) ∙ numbers-append (take (k + 1) ps) (drop (k + 1) ps))
+    ∙ length-append (block_numbers (take (k + 1) ps)) (block_numbers (drop (k + 1) ps)) in
     omega (arith, more, here, all)
 
 -- each changed page is one of the memory's
-pub pages_within : (old new : List ℕ) (n size : ℕ) → size ≡ 4096 * n → All (λ (p : PageChange). 4096 * p.page + 4096 ≤ size) (changed_pages old new n)
+pub pages_within : (old new : List ℕ) (n size : ℕ) → size ≡ 4096 * n →
+    All (λ (p : PageChange). 4096 * p.page + 4096 ≤ size) (changed_pages old new n)
 unfolding changed_pages
 pages_within old new n size e =
-    All-filter is_changed (λ (p : PageChange). 4096 * p.page + 4096 ≤ size) (map (page_change old new) (range_with_len 0 n)) (each 0 n (omega arith))
+    All-filter is_changed (λ (p : PageChange). 4096 * p.page + 4096 ≤ size) (map (page_change old new) (range_with_len 0 n))
+    (each 0 n (omega arith))
   where
     each : (s m : ℕ) → s + m ≤ n → All (λ (p : PageChange). 4096 * p.page + 4096 ≤ size) (map (page_change old new) (range_with_len s m))
     each s zero h k d within = absurd (omega arith)

@@ -1,14 +1,50 @@
 -- Parts of bytes, before and after some of them are replaced.
-use Rattle.std.proofs.Common.{◌≡◌, ℕ, zero, suc, ◌+◌, ◌-◌, ◌*◌, ◌<◌, ◌≤◌, List, ◌++◌, length, take, drop, sym, ap, ◌∙◌, arith, length-append}
+use Rattle.std.proofs.Common.{
+  ◌≡◌,
+  ℕ,
+  zero,
+  suc,
+  ◌+◌,
+  ◌-◌,
+  ◌*◌,
+  ◌<◌,
+  ◌≤◌,
+  List,
+  ◌++◌,
+  length,
+  take,
+  drop,
+  sym,
+  ap,
+  ◌∙◌,
+  arith,
+  length-append,
+}
 use Rattle.std.proofs.Math.Seq.{take-add}
-use Rattle.std.proofs.lemmas.List.{take_at, drop_at, drop-drop, take-append-drop, take-append-le, length-take-le, length-drop, drop-append-le, take_all, append_assoc}
+use Rattle.std.proofs.lemmas.List.{
+  take_at,
+  drop_at,
+  drop-drop,
+  take-append-drop,
+  take-append-le,
+  length-take-le,
+  length-drop,
+  drop-append-le,
+  take_all,
+  append_assoc,
+}
 use Rattle.guest_machine.specs.Bytes.{with_bytes}
 
 -- replaced bytes are as many as before
 pub length-with_bytes : (xs new : List ℕ) (at : ℕ) → at + length new ≤ length xs → length (with_bytes xs at new) ≡ length xs
 length-with_bytes xs new at fits =
     let front : length (take at xs) ≡ at = length-take-le at xs (omega arith) in
-    omega (arith, length-append (take at xs) (new ++ drop (at + length new) xs), length-append new (drop (at + length new) xs), length-drop (at + length new) xs)
+    omega (
+      arith,
+      length-append (take at xs) (new ++ drop (at + length new) xs),
+      length-append new (drop (at + length new) xs),
+      length-drop (at + length new) xs,
+    )
 
 -- the part that was replaced
 pub part-same : (xs new : List ℕ) (at n : ℕ) → length new ≡ n → at + n ≤ length xs → take n (drop at (with_bytes xs at new)) ≡ new
@@ -17,7 +53,8 @@ part-same xs new at n e fits =
     ∙ take_at new (drop (at + length new) xs) n e
 
 -- a part before it
-pub part-below : (xs new : List ℕ) (at b n : ℕ) → b + n ≤ at → at + length new ≤ length xs → take n (drop b (with_bytes xs at new)) ≡ take n (drop b xs)
+pub part-below : (xs new : List ℕ) (at b n : ℕ) → b + n ≤ at → at + length new ≤ length xs →
+    take n (drop b (with_bytes xs at new)) ≡ take n (drop b xs)
 part-below xs new at b n below fits =
     let front : length (take at xs) ≡ at = length-take-le at xs (omega arith) in
     let rest : length (drop b (take at xs)) ≡ at - b = omega (arith, length-drop b (take at xs)) in
@@ -29,7 +66,8 @@ part-below xs new at b n below fits =
     ∙ ap (λ l. take n (drop b l)) whole
 
 -- a part after it
-pub part-above : (xs new : List ℕ) (at b n : ℕ) → at + length new ≤ b → at + length new ≤ length xs → take n (drop b (with_bytes xs at new)) ≡ take n (drop b xs)
+pub part-above : (xs new : List ℕ) (at b n : ℕ) → at + length new ≤ b → at + length new ≤ length xs →
+    take n (drop b (with_bytes xs at new)) ≡ take n (drop b xs)
 part-above xs new at b n above fits =
     let front : length (take at xs) ≡ at = length-take-le at xs (omega arith) in
     let long : length (take at xs ++ new) ≡ at + length new = omega (arith, length-append (take at xs) new) in
@@ -42,7 +80,8 @@ part-above xs new at b n above fits =
     ∙ ap (λ k. take n (drop k xs)) gap
 
 -- bytes that have the same parts of n bytes are the same
-same_fronts : (k n : ℕ) (xs ys : List ℕ) → ((i : ℕ) → i < k → take n (drop (n * i) xs) ≡ take n (drop (n * i) ys)) → take (n * k) xs ≡ take (n * k) ys
+same_fronts : (k n : ℕ) (xs ys : List ℕ) → ((i : ℕ) → i < k → take n (drop (n * i) xs) ≡ take n (drop (n * i) ys)) →
+    take (n * k) xs ≡ take (n * k) ys
 same_fronts zero n xs ys same =
     let e : n * zero ≡ 0 = omega arith in
     ap (λ m. take m xs) e ∙ sym (ap (λ m. take m ys) e)

@@ -18,18 +18,22 @@ filter_step : (b c : Bool) (a : ℕ) (xs ys : List ℕ) → b ≡ c → xs ≡ y
 filter_step b c a xs ys e f = λ i. cond (e i) (a ∷ f i) (f i)
 
 -- two tests that agree on a range keep the same of it
-pub filter_agree_in : (p q : ℕ → Bool) (a n : ℕ) → ((i : ℕ) → a ≤ i → i < a + n → p i ≡ q i) → filter p (range_with_len a n) ≡ filter q (range_with_len a n)
+pub filter_agree_in : (p q : ℕ → Bool) (a n : ℕ) → ((i : ℕ) → a ≤ i → i < a + n → p i ≡ q i) →
+    filter p (range_with_len a n) ≡ filter q (range_with_len a n)
 filter_agree_in p q a zero agree = refl
 filter_agree_in p q a (suc n) agree =
-    filter_step (p a) (q a) a (filter p (range_with_len (a + 1) n)) (filter q (range_with_len (a + 1) n)) (agree a (omega arith) (omega arith))
+    filter_step (p a) (q a) a (filter p (range_with_len (a + 1) n)) (filter q (range_with_len (a + 1) n))
+    (agree a (omega arith) (omega arith))
     (filter_agree_in p q (a + 1) n (λ i low high. agree i (omega arith) (omega arith)))
 
-shift_step : (b : Bool) (a i : ℕ) (xs ys : List ℕ) → map (λ j. a + j) xs ≡ ys → map (λ j. a + j) (cond b (i ∷ xs) xs) ≡ cond b ((a + i) ∷ ys) ys
+shift_step : (b : Bool) (a i : ℕ) (xs ys : List ℕ) → map (λ j. a + j) xs ≡ ys →
+    map (λ j. a + j) (cond b (i ∷ xs) xs) ≡ cond b ((a + i) ∷ ys) ys
 shift_step true a i xs ys e = ap (λ l. (a + i) ∷ l) e
 shift_step false a i xs ys e = e
 
 -- what a test keeps of a range, counted from elsewhere
-pub filter-shift : (p : ℕ → Bool) (a b n : ℕ) → map (λ i. a + i) (filter (λ i. p (a + i)) (range_with_len b n)) ≡ filter p (range_with_len (a + b) n)
+pub filter-shift : (p : ℕ → Bool) (a b n : ℕ) → map (λ i. a + i) (filter (λ i. p (a + i)) (range_with_len b n)) ≡
+    filter p (range_with_len (a + b) n)
 filter-shift p a b zero = refl
 filter-shift p a b (suc n) =
     let e : a + (b + 1) ≡ (a + b) + 1 = omega arith in

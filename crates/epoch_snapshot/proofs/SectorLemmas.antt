@@ -1,5 +1,41 @@
 -- What a cut records of a disk, and its image.
-use Rattle.std.proofs.Common.{◌≡◌, ℕ, zero, suc, ◌+◌, ◌-◌, ◌*◌, ◌<◌, ◌≤◌, ◌==◌, ◌&&◌, ◌||◌, not, Bool, true, false, cond, List, [], ◌∷◌, ◌++◌, length, take, drop, replicate, map, get_or, refl, sym, ap, ◌∙◌, arith, subst, inl, inr}
+use Rattle.std.proofs.Common.{
+  ◌≡◌,
+  ℕ,
+  zero,
+  suc,
+  ◌+◌,
+  ◌-◌,
+  ◌*◌,
+  ◌<◌,
+  ◌≤◌,
+  ◌==◌,
+  ◌&&◌,
+  ◌||◌,
+  not,
+  Bool,
+  true,
+  false,
+  cond,
+  List,
+  [],
+  ◌∷◌,
+  ◌++◌,
+  length,
+  take,
+  drop,
+  replicate,
+  map,
+  get_or,
+  refl,
+  sym,
+  ap,
+  ◌∙◌,
+  arith,
+  subst,
+  inl,
+  inr,
+}
 use Rattle.std.specs.Prelude.{All, IsTrue, ◌↔◌, slice_range}
 use Rattle.std.specs.List.{range_with_len, filter}
 use Rattle.std.proofs.lemmas.Bool.{eqb-true, eqb-false, eq-eqb, true≢false, cases_order, cases_eq, and_parts}
@@ -34,7 +70,8 @@ module _ (count : ℕ) (now : List ℕ) (long : length now ≡ 512 * count) wher
       let n : length (sector_of now i) ≡ 512 = length-sector_of now i count within long in
       length-with_bytes base (sector_of now i) (512 * i) (omega arith) ∙ same
 
-  put_other : (base : List ℕ) (i j : ℕ) → length base ≡ 512 * count → i < count → (j == i) ≡ false → sector_of (put base i) j ≡ sector_of base j
+  put_other : (base : List ℕ) (i j : ℕ) → length base ≡ 512 * count → i < count → (j == i) ≡ false →
+      sector_of (put base i) j ≡ sector_of base j
   unfolding put
   put_other base i j same within apart =
       let n : length (sector_of now i) ≡ 512 = length-sector_of now i count within long in
@@ -44,26 +81,30 @@ module _ (count : ℕ) (now : List ℕ) (long : length now ≡ 512 * count) wher
         | inr (inr above) ↦ part-above base (sector_of now i) (512 * i) (512 * j) 512 (omega arith) (omega arith)
       ]
 
-  put_same : (base : List ℕ) (i j : ℕ) → length base ≡ 512 * count → i < count → (j == i) ≡ true → sector_of (put base i) j ≡ sector_of now j
+  put_same : (base : List ℕ) (i j : ℕ) → length base ≡ 512 * count → i < count → (j == i) ≡ true →
+      sector_of (put base i) j ≡ sector_of now j
   unfolding put
   put_same base i j same within e =
       let here : j ≡ i = eqb-true j i e in
       let n : length (sector_of now i) ≡ 512 = length-sector_of now i count within long in
       ap (sector_of (put base i)) here ∙ part-same base (sector_of now i) (512 * i) 512 n (omega arith) ∙ sym (ap (sector_of now) here)
 
-  agrees_by : (b : Bool) (base : List ℕ) (i j : ℕ) (is : List ℕ) → AgreesOff count (i ∷ is) base now → length base ≡ 512 * count → i < count → j < count →
+  agrees_by : (b : Bool) (base : List ℕ) (i j : ℕ) (is : List ℕ) → AgreesOff count (i ∷ is) base now → length base ≡ 512 * count →
+      i < count → j < count →
       (j == i) ≡ b → is_in j is ≡ false → sector_of (put base i) j ≡ sector_of now j
   unfolding AgreesOff
   agrees_by true base i j is agree same within inside e off = put_same base i j same within e
   agrees_by false base i j is agree same within inside e off =
       put_other base i j same within e ∙ agree j inside (ap (λ b. b || is_in j is) e ∙ off)
 
-  agrees_after : (base : List ℕ) (i : ℕ) (is : List ℕ) → AgreesOff count (i ∷ is) base now → length base ≡ 512 * count → i < count → AgreesOff count is (put base i) now
+  agrees_after : (base : List ℕ) (i : ℕ) (is : List ℕ) → AgreesOff count (i ∷ is) base now → length base ≡ 512 * count → i < count →
+      AgreesOff count is (put base i) now
   unfolding AgreesOff
   agrees_after base i is agree same within = λ j inside off. agrees_by (j == i) base i j is agree same within inside refl off
 
   -- the listed sectors put into a disk that agrees on the others make the disk
-  pub with_sectors-changed : (base : List ℕ) (from : ℕ) (is : List ℕ) → length base ≡ 512 * count → Rises from count is → AgreesOff count is base now →
+  pub with_sectors-changed : (base : List ℕ) (from : ℕ) (is : List ℕ) → length base ≡ 512 * count → Rises from count is →
+      AgreesOff count is base now →
       with_sectors base (changed_sectors now is) ≡ now
   unfolding with_sectors AgreesOff put
   with_sectors-changed base from [] same rises agree = same_from_parts count 512 base now same long (λ i below. agree i below refl)
@@ -124,14 +165,18 @@ left_out p s (suc n) i low high off =
     ]
 
 -- the disk that is all zero agrees on each sector that isn't used
-pub AgreesOff-zero : (count : ℕ) (now : List ℕ) → length now ≡ 512 * count → AgreesOff count (used_sectors now count) (replicate (512 * count) 0) now
+pub AgreesOff-zero : (count : ℕ) (now : List ℕ) → length now ≡ 512 * count →
+    AgreesOff count (used_sectors now count) (replicate (512 * count) 0) now
 unfolding AgreesOff used_sectors
 AgreesOff-zero count now long i within off =
     let zeros : is_zero (sector_of (replicate (512 * count) 0) i) ≡ true
-    = is_zero-take 512 (drop (512 * i) (replicate (512 * count) 0)) (is_zero-drop (512 * i) (replicate (512 * count) 0) (is_zero-replicate (512 * count))) in
+    = is_zero-take 512 (drop (512 * i) (replicate (512 * count) 0))
+    (is_zero-drop (512 * i) (replicate (512 * count) 0) (is_zero-replicate (512 * count))) in
     zero_bytes (sector_of (replicate (512 * count) 0) i) (sector_of now i)
-    (length-sector_of (replicate (512 * count) 0) i count within (length-replicate (512 * count) 0) ∙ sym (length-sector_of now i count within long))
-    zeros (not_false (is_zero (sector_of now i)) (left_out (λ j. not (is_zero (sector_of now j))) 0 count i (omega arith) (omega arith) off))
+    (length-sector_of (replicate (512 * count) 0) i count within (length-replicate (512 * count) 0)
+    ∙ sym (length-sector_of now i count within long))
+    zeros (not_false (is_zero (sector_of now i)) (left_out (λ j. not (is_zero (sector_of now j))) 0 count i (omega arith) (omega arith)
+    off))
 
 -- ---- as the code reads them
 
@@ -160,13 +205,15 @@ zero-flag r bytes i says =
     flag_by r (is_zero xs) (λ h. all_zeros xs (says.0 h)) (λ h. says.1 (zeros_all xs h)) ∙ ap is_zero (sector-slice bytes i)
 
 -- one sector more is used, or isn't
-pub used-push : (bytes : List ℕ) (n : ℕ) (r : Bool) → r ≡ is_zero (sector_of bytes n) → r ≡ false → used_sectors bytes (n + 1) ≡ used_sectors bytes n ++ n ∷ []
+pub used-push : (bytes : List ℕ) (n : ℕ) (r : Bool) → r ≡ is_zero (sector_of bytes n) → r ≡ false →
+    used_sectors bytes (n + 1) ≡ used_sectors bytes n ++ n ∷ []
 unfolding used_sectors
 used-push bytes n r e some =
     filter_last (λ i. not (is_zero (sector_of bytes i))) n
     ∙ ap (λ b. used_sectors bytes n ++ cond b (n ∷ []) []) (ap not (sym e ∙ some))
 
-pub used-skip : (bytes : List ℕ) (n : ℕ) (r : Bool) → r ≡ is_zero (sector_of bytes n) → r ≡ true → used_sectors bytes (n + 1) ≡ used_sectors bytes n
+pub used-skip : (bytes : List ℕ) (n : ℕ) (r : Bool) → r ≡ is_zero (sector_of bytes n) → r ≡ true →
+    used_sectors bytes (n + 1) ≡ used_sectors bytes n
 unfolding used_sectors
 used-skip bytes n r e none =
     filter_last (λ i. not (is_zero (sector_of bytes i))) n
@@ -198,7 +245,8 @@ numbers-changed bytes [] = refl
 numbers-changed bytes (i ∷ is) = ap (λ l. i ∷ l) (numbers-changed bytes is)
 
 -- no used sector is all zero
-pub used-nonzero : (bytes : List ℕ) (n : ℕ) → All (λ (s : SectorChange). IsTrue (not (is_zero s.bytes))) (changed_sectors bytes (used_sectors bytes n))
+pub used-nonzero : (bytes : List ℕ) (n : ℕ) → All (λ (s : SectorChange). IsTrue (not (is_zero s.bytes)))
+    (changed_sectors bytes (used_sectors bytes n))
 unfolding used_sectors
 used-nonzero bytes n =
     all_mapped (sector_change bytes) (λ (s : SectorChange). not (is_zero s.bytes)) (used_sectors bytes n)

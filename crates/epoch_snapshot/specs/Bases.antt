@@ -31,4 +31,5 @@ pub record IsCut (old : List ℕ) (listed : List ℕ) (m : State) (g n : ℕ) (c
 pub record IsBase (m : State) (base : Guest) : Type 0 where
   pub ram : base.ram ≡ m.settled
   pub size : length base.sectors ≡ length m.guest.sectors
-  pub sectors : (i : ℕ) → i < sector_count m.guest.sectors → is_in i m.dirty ≡ false → sector_of base.sectors i ≡ sector_of m.guest.sectors i
+  pub sectors : (i : ℕ) → i < sector_count m.guest.sectors → is_in i m.dirty ≡ false →
+      sector_of base.sectors i ≡ sector_of m.guest.sectors i

@@ -68,7 +68,8 @@ pub fn cut_full(
     requires first_generation { 1 ≤ generation }
     requires last_generation { generation < 2 ^ 62 }
     ensures image { IfOk result (λ c. (base : Guest) → image_of c base ≡ machine.now.guest) }
-    ensures parts { IfOk result (IsCut (replicate (length machine.now.guest.ram) 0) (used_sectors machine.now.guest.sectors (sector_count machine.now.guest.sectors)) machine.now generation 0) }
+    ensures parts { IfOk result (IsCut (replicate (length machine.now.guest.ram) 0)
+        (used_sectors machine.now.guest.sectors (sector_count machine.now.guest.sectors)) machine.now generation 0) }
     ensures err { OnErr result (result ≡ Err SnapshotError.NoMemory) }
 {
     let shape = machine.shape();

@@ -34,20 +34,24 @@ then_listed a b c first second = record {
 
 -- what the disk serves
 served_left : (ram : List ℕ) (disk : DeviceState) (bytes dirty : List ℕ) →
-    IsListed (contents_of bytes dirty) (contents_of (disk_served ram disk (contents_of bytes [])).kept.bytes (disk_served ram disk (contents_of bytes dirty)).kept.dirty)
+    IsListed (contents_of bytes dirty) (contents_of (disk_served ram disk (contents_of bytes [])).kept.bytes
+    (disk_served ram disk (contents_of bytes dirty)).kept.dirty)
 served_left ram disk bytes dirty =
     let c : Contents = contents_of bytes dirty in
     let P : List ℕ → Type 0 = λ bs. IsListed c (contents_of bs (disk_served ram disk c).kept.dirty) in
     subst P (bytes_apart ram disk bytes dirty []) (served_listed ram disk c)
 
 acted_left : (ram : List ℕ) (disk : DeviceState) (a : Action) (bytes dirty : List ℕ) →
-    IsListed (contents_of bytes dirty) (contents_of (disk_acted ram disk (contents_of bytes []) a).kept.bytes (disk_acted ram disk (contents_of bytes dirty) a).kept.dirty)
+    IsListed (contents_of bytes dirty) (contents_of (disk_acted ram disk (contents_of bytes []) a).kept.bytes
+    (disk_acted ram disk (contents_of bytes dirty) a).kept.dirty)
 acted_left ram disk asks.None bytes dirty = same_listed (contents_of bytes dirty)
 acted_left ram disk (asks.Notify queue) bytes dirty = either (queue == 0)
   where
     either : (b : Bool) → IsListed (contents_of bytes dirty) (contents_of
-        (if b then disk_served ram disk (contents_of bytes []) else record { ram = ram; state = disk; kept = contents_of bytes [] }).kept.bytes
-        (if b then disk_served ram disk (contents_of bytes dirty) else record { ram = ram; state = disk; kept = contents_of bytes dirty }).kept.dirty)
+        (if b then disk_served ram disk (contents_of bytes []) else
+        record { ram = ram; state = disk; kept = contents_of bytes [] }).kept.bytes
+        (if b then disk_served ram disk (contents_of bytes dirty) else
+        record { ram = ram; state = disk; kept = contents_of bytes dirty }).kept.dirty)
     either true = served_left ram disk bytes dirty
     either false = same_listed (contents_of bytes dirty)
 acted_left ram disk asks.Reset bytes dirty = same_listed (contents_of bytes dirty)
@@ -56,7 +60,8 @@ acted_left ram disk asks.Reset bytes dirty = same_listed (contents_of bytes dirt
 abbrev Keeps : Guest → List ℕ → Effect → Type 0
 Keeps g dirty e = IsListed (contents_of g.sectors dirty) (contents_of e.guest.sectors (e.marks dirty))
 
-timer_keeps : (g : Guest) (dirty : List ℕ) (value : ℕ) (r : TimerRegister) → IsListed (contents_of g.sectors dirty) (contents_of (timer_stored g value r).sectors dirty)
+timer_keeps : (g : Guest) (dirty : List ℕ) (value : ℕ) (r : TimerRegister) →
+    IsListed (contents_of g.sectors dirty) (contents_of (timer_stored g value r).sectors dirty)
 timer_keeps g dirty value Msip = same_listed (contents_of g.sectors dirty)
 timer_keeps g dirty value Mtimecmp = same_listed (contents_of g.sectors dirty)
 timer_keeps g dirty value Mtime = same_listed (contents_of g.sectors dirty)
@@ -77,8 +82,10 @@ next-listed g dirty =
       returns = same;
     })
 
-pub run-listed : (n : ℕ) (g : Guest) (dirty : List ℕ) → IsListed (contents_of g.sectors dirty) (contents_of (after_steps n g).sectors (marked_in n g dirty))
+pub run-listed : (n : ℕ) (g : Guest) (dirty : List ℕ) → IsListed (contents_of g.sectors dirty)
+    (contents_of (after_steps n g).sectors (marked_in n g dirty))
 unfolding after_steps marked_in
 run-listed zero g dirty = same_listed (contents_of g.sectors dirty)
 run-listed (suc n) g dirty =
-    then_listed (contents_of g.sectors dirty) (contents_of (next g).sectors (marked g dirty)) _ (next-listed g dirty) (run-listed n (next g) (marked g dirty))
+    then_listed (contents_of g.sectors dirty) (contents_of (next g).sectors (marked g dirty)) _ (next-listed g dirty)
+    (run-listed n (next g) (marked g dirty))

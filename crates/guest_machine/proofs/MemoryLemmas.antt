@@ -35,11 +35,13 @@ record NetKept (size : ℕ) (ram : List ℕ) (net : DeviceState) : Type 0 where
   bytes : length ram ≡ size
   rules : IsDeviceRecord Network net
 
-net_kept_by : (b : Bool) (x y : Served) (size : ℕ) → NetKept size x.ram x.net → NetKept size y.ram y.net → NetKept size (if b then x else y).ram (if b then x else y).net
+net_kept_by : (b : Bool) (x y : Served) (size : ℕ) → NetKept size x.ram x.net → NetKept size y.ram y.net →
+    NetKept size (if b then x else y).ram (if b then x else y).net
 net_kept_by true x y size f h = f
 net_kept_by false x y size f h = h
 
-acted_kept : (ram : List ℕ) (net : DeviceState) (a : Action) → IsDeviceRecord Network net → NetKept (length ram) (acted ram net a).ram (acted ram net a).net
+acted_kept : (ram : List ℕ) (net : DeviceState) (a : Action) → IsDeviceRecord Network net →
+    NetKept (length ram) (acted ram net a).ram (acted ram net a).net
 acted_kept ram net asks.None h = record { bytes = refl; rules = h }
 acted_kept ram net (asks.Notify queue) h =
     net_kept_by (queue == 1) (served ram net) (rests ram net) (length ram)
@@ -53,7 +55,8 @@ record DiskKept (size count : ℕ) (s : DiskServed Contents) : Type 0 where
   sectors : sector_count s.kept.bytes ≡ count
   rules : IsDeviceRecord (Block count) s.state
 
-disk_kept_by : (b : Bool) (x y : DiskServed Contents) (size count : ℕ) → DiskKept size count x → DiskKept size count y → DiskKept size count (if b then x else y)
+disk_kept_by : (b : Bool) (x y : DiskServed Contents) (size count : ℕ) → DiskKept size count x → DiskKept size count y →
+    DiskKept size count (if b then x else y)
 disk_kept_by true x y size count f h = f
 disk_kept_by false x y size count f h = h
 
@@ -94,7 +97,8 @@ step_done-kept g h =
           let kept = acted_kept g.ram after.state after.action (stored-rules Network g.net offset n value after is h.net) in
           record { bytes = kept.bytes; sectors = refl; rules = record { net = kept.rules; disk = h.disk } };
       serves_disk = λ offset n value after is.
-          let kept = disk_acted_kept g.ram after.state (contents_of g.sectors []) after.action (stored-rules (disk_kind g) g.disk offset n value after is h.disk) in
+          let kept = disk_acted_kept g.ram after.state (contents_of g.sectors []) after.action
+          (stored-rules (disk_kind g) g.disk offset n value after is h.disk) in
           record {
             bytes = kept.bytes;
             sectors = kept.sectors;
@@ -133,11 +137,14 @@ boot-kept pages sectors image =
 
 -- ---- the number of sectors, whatever the records
 
-disk_acted_sectors : (ram : List ℕ) (disk : DeviceState) (c : Contents) (a : Action) → sector_count (disk_acted ram disk c a).kept.bytes ≡ sector_count c.bytes
+disk_acted_sectors : (ram : List ℕ) (disk : DeviceState) (c : Contents) (a : Action) →
+    sector_count (disk_acted ram disk c a).kept.bytes ≡ sector_count c.bytes
 disk_acted_sectors ram disk c asks.None = refl
-disk_acted_sectors ram disk c (asks.Notify queue) = either (queue == 0) (disk_served ram disk c) (standing ram disk c) (sector_count c.bytes) (disk_served-capacity ram disk c) refl
+disk_acted_sectors ram disk c (asks.Notify queue) = either (queue == 0) (disk_served ram disk c) (standing ram disk c)
+    (sector_count c.bytes) (disk_served-capacity ram disk c) refl
   where
-    either : (b : Bool) (x y : DiskServed Contents) (n : ℕ) → sector_count x.kept.bytes ≡ n → sector_count y.kept.bytes ≡ n → sector_count (if b then x else y).kept.bytes ≡ n
+    either : (b : Bool) (x y : DiskServed Contents) (n : ℕ) → sector_count x.kept.bytes ≡ n → sector_count y.kept.bytes ≡ n →
+        sector_count (if b then x else y).kept.bytes ≡ n
     either true x y n f h = f
     either false x y n f h = h
 disk_acted_sectors ram disk c asks.Reset = refl

@@ -46,7 +46,8 @@ pub(crate) fn access_csr(
     operand: u64,
     writes: bool,
 )
-    ensures { (ram : List ℕ) → csr_accessed (guest_of hart.old ram devices.now) word rd number op operand writes (csr_value (guest_of hart.old ram devices.now) number)
+    ensures { (ram : List ℕ) → csr_accessed (guest_of hart.old ram devices.now) word rd number op operand writes
+        (csr_value (guest_of hart.old ram devices.now) number)
         ≡ quiet (guest_of hart.new ram devices.now) }
 {
     let Some(old) = read_csr(hart, devices, number) else {

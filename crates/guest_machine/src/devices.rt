@@ -1,5 +1,26 @@
 //! The devices of a machine: its network card and its disk.
-ghost use Rattle.std.specs.Prelude.{◌≡◌, ◌+◌, ◌*◌, ◌/◌, ◌<◌, ◌≤◌, ◌++◌, ◌==◌, ◌&&◌, ◌↔◌, not, All, IfOk, IfSome, IfNone, IsTrue, Some, None, [], length};
+ghost use Rattle.std.specs.Prelude.{
+  ◌≡◌,
+  ◌+◌,
+  ◌*◌,
+  ◌/◌,
+  ◌<◌,
+  ◌≤◌,
+  ◌++◌,
+  ◌==◌,
+  ◌&&◌,
+  ◌↔◌,
+  not,
+  All,
+  IfOk,
+  IfSome,
+  IfNone,
+  IsTrue,
+  Some,
+  None,
+  [],
+  length,
+};
 ghost use Rattle.rv64_core.specs.Widths.{width_bytes};
 ghost use Rattle.virtio_mmio.specs.declared.kinds.DeviceKind.TheVariants.{Network, Block};
 ghost use Rattle.virtio_mmio.specs.States.{boot_state, IsDeviceRecord};
@@ -103,9 +124,11 @@ impl Devices {
 
     /// A store to a register of the disk, and what it asks of the disk; `None` is an access fault.
     pub(crate) fn store_disk(&mut self, offset: u64, width: Width, value: u64) -> Option<Action>
-        ensures none { IfNone result (stored (Block (sector_count self.old.contents.bytes)) self.old.disk offset (width_bytes width) value ≡ None) }
+        ensures none { IfNone result
+            (stored (Block (sector_count self.old.contents.bytes)) self.old.disk offset (width_bytes width) value ≡ None) }
         ensures unchanged { IfNone result (self.new ≡ self.old) }
-        ensures some { IfSome result (λ action. stored (Block (sector_count self.old.contents.bytes)) self.old.disk offset (width_bytes width) value
+        ensures some { IfSome result (λ action.
+            stored (Block (sector_count self.old.contents.bytes)) self.old.disk offset (width_bytes width) value
             ≡ Some (record { action = action; state = self.new.disk })) }
         ensures other { self.new ≡ record self.old { disk = self.new.disk } }
     {
@@ -135,7 +158,8 @@ impl Devices {
         ensures memory { ram.new.memory.bytes ≡ (disk_acted ram.old.memory.bytes self.old.disk (unlisted self.old.contents) action).ram }
         ensures settled { ram.new.memory.settled ≡ ram.old.memory.settled }
         ensures disk { self.new.disk ≡ (disk_acted ram.old.memory.bytes self.old.disk (unlisted self.old.contents) action).state }
-        ensures sectors { self.new.contents.bytes ≡ (disk_acted ram.old.memory.bytes self.old.disk (unlisted self.old.contents) action).kept.bytes }
+        ensures sectors { self.new.contents.bytes
+            ≡ (disk_acted ram.old.memory.bytes self.old.disk (unlisted self.old.contents) action).kept.bytes }
         ensures list { self.new.contents.dirty ≡ (disk_acted ram.old.memory.bytes self.old.disk self.old.contents action).kept.dirty }
         ensures net { self.new.net ≡ self.old.net }
     {

@@ -35,7 +35,8 @@ pub fn kept_memory()
     ensures boot { (pages sectors : ℕ) (image : List ℕ) → HasDeviceRecords (boot_guest pages sectors image) }
     ensures bytes { (g : Guest) → HasDeviceRecords g → length (next g).ram ≡ length g.ram }
     ensures rules { (g : Guest) → HasDeviceRecords g → HasDeviceRecords (next g) }
-    ensures bytes_at_arrival { (g : Guest) (frame : ArrayVec ℕ) → IsDeviceRecord Network g.net → length (arrived g frame).ram ≡ length g.ram }
+    ensures bytes_at_arrival { (g : Guest) (frame : ArrayVec ℕ) → IsDeviceRecord Network g.net →
+        length (arrived g frame).ram ≡ length g.ram }
     ensures rules_at_arrival { (g : Guest) (frame : ArrayVec ℕ) → HasDeviceRecords g → HasDeviceRecords (arrived g frame) }
 {}
 
@@ -49,7 +50,8 @@ pub fn kept_disk()
 /// leaves the list.)
 pub fn changed_sectors_are_listed()
     ensures step { (g : Guest) (dirty : List ℕ) → IsListed (contents_of g.sectors dirty) (contents_of (next g).sectors (marked g dirty)) }
-    ensures run { (n : ℕ) (g : Guest) (dirty : List ℕ) → IsListed (contents_of g.sectors dirty) (contents_of (after_steps n g).sectors (marked_in n g dirty)) }
+    ensures run { (n : ℕ) (g : Guest) (dirty : List ℕ) →
+        IsListed (contents_of g.sectors dirty) (contents_of (after_steps n g).sectors (marked_in n g dirty)) }
 {}
 
 /// No step changes what the network card keeps and also what the disk keeps, and a frame that arrives changes nothing of the disk.
@@ -60,7 +62,8 @@ pub fn devices_apart()
 
 /// A frame that arrives at a guest that has set up no queue is lost.
 pub fn early_frames_are_lost()
-    ensures { (pages sectors : ℕ) (image : List ℕ) (frame : ArrayVec ℕ) → arrived (boot_guest pages sectors image) frame ≡ boot_guest pages sectors image }
+    ensures { (pages sectors : ℕ) (image : List ℕ) (frame : ArrayVec ℕ) →
+        arrived (boot_guest pages sectors image) frame ≡ boot_guest pages sectors image }
 {}
 
 /// A worked arrival, at a guest whose receive queue has one buffer of 26 bytes: there stand ten zero bytes, le16 1 and the

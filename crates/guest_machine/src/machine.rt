@@ -85,8 +85,8 @@ impl Machine {
         })
     }
 
-    /// One step of the guest: an interrupt that is due, or else one instruction or its exception. The frames that it sends, at most 64 of them, go last
-    /// into the outbox, and the sectors that it writes go into their list. It takes no memory.
+    /// One step of the guest: an interrupt that is due, or else one instruction or its exception. The frames that it sends, at
+    /// most 64 of them, go last into the outbox, and the sectors that it writes go into their list. It takes no memory.
     ///
     /// # Errors
     /// `CutNeeded`, exactly where the outbox holds more than 192 frames; nothing is changed then.

@@ -44,9 +44,11 @@ pub(crate) fn run_step(hart: &mut Hart, ram: &mut Ram, devices: &mut Devices, ou
 #[tactic(auto, unfolding(crate::specs::Step::instruction_done, crate::specs::Step::carried_out))]
 fn run_instruction(hart: &mut Hart, ram: &mut Ram, devices: &mut Devices, outbox: &mut Outbox)
     requires room { length outbox.old + 64 ≤ 256 }
-    ensures guest { guest_of hart.new ram.new.memory.bytes devices.new ≡ (instruction_done (guest_of hart.old ram.old.memory.bytes devices.old)).guest }
+    ensures guest { guest_of hart.new ram.new.memory.bytes devices.new ≡
+        (instruction_done (guest_of hart.old ram.old.memory.bytes devices.old)).guest }
     ensures frames { outbox.new ≡ outbox.old ++ (instruction_done (guest_of hart.old ram.old.memory.bytes devices.old)).frames }
-    ensures list { devices.new.contents.dirty ≡ (instruction_done (guest_of hart.old ram.old.memory.bytes devices.old)).marks devices.old.contents.dirty }
+    ensures list { devices.new.contents.dirty ≡ (instruction_done (guest_of hart.old ram.old.memory.bytes devices.old)).marks
+        devices.old.contents.dirty }
     ensures settled { ram.new.memory.settled ≡ ram.old.memory.settled }
 {
     if !in_ram(ram.memory.size(), hart.pc, INSTRUCTION_BYTES) {
@@ -90,9 +92,11 @@ fn carry_out(
     plan: Plan,
 )
     requires room { length outbox.old + 64 ≤ 256 }
-    ensures guest { guest_of hart.new ram.new.memory.bytes devices.new ≡ (carried_out (guest_of hart.old ram.old.memory.bytes devices.old) word plan).guest }
+    ensures guest { guest_of hart.new ram.new.memory.bytes devices.new ≡
+        (carried_out (guest_of hart.old ram.old.memory.bytes devices.old) word plan).guest }
     ensures frames { outbox.new ≡ outbox.old ++ (carried_out (guest_of hart.old ram.old.memory.bytes devices.old) word plan).frames }
-    ensures list { devices.new.contents.dirty ≡ (carried_out (guest_of hart.old ram.old.memory.bytes devices.old) word plan).marks devices.old.contents.dirty }
+    ensures list { devices.new.contents.dirty ≡ (carried_out (guest_of hart.old ram.old.memory.bytes devices.old) word plan).marks
+        devices.old.contents.dirty }
     ensures settled { ram.new.memory.settled ≡ ram.old.memory.settled }
 {
     match plan {

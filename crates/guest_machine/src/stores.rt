@@ -29,9 +29,13 @@ pub(crate) fn store(
     value: u64,
 )
     requires room { length outbox.old + 64 ≤ 256 }
-    ensures guest { guest_of hart.new ram.new.memory.bytes devices.new ≡ (store_done (guest_of hart.old ram.old.memory.bytes devices.old) address (width_bytes width) value).guest }
-    ensures frames { outbox.new ≡ outbox.old ++ (store_done (guest_of hart.old ram.old.memory.bytes devices.old) address (width_bytes width) value).frames }
-    ensures list { devices.new.contents.dirty ≡ (store_done (guest_of hart.old ram.old.memory.bytes devices.old) address (width_bytes width) value).marks devices.old.contents.dirty }
+    ensures guest { guest_of hart.new ram.new.memory.bytes devices.new ≡
+        (store_done (guest_of hart.old ram.old.memory.bytes devices.old) address (width_bytes width) value).guest }
+    ensures frames { outbox.new ≡ outbox.old
+        ++ (store_done (guest_of hart.old ram.old.memory.bytes devices.old) address (width_bytes width) value).frames }
+    ensures list { devices.new.contents.dirty
+        ≡ (store_done (guest_of hart.old ram.old.memory.bytes devices.old) address (width_bytes width) value).marks
+        devices.old.contents.dirty }
     ensures settled { ram.new.memory.settled ≡ ram.old.memory.settled }
 {
     if !is_aligned(address, width) {
@@ -68,7 +72,8 @@ pub(crate) fn store(
 /// A store to a register of the timer. The time itself can't be written.
 #[tactic(auto, using(crate::proofs::TimerLemmas::low_bit))]
 fn timer_store(hart: &mut Hart, register: TimerRegister, value: u64)
-    ensures { (ram : List ℕ) (devices : Attached) → guest_of hart.new ram devices ≡ passed (timer_stored (guest_of hart.old ram devices) value register) }
+    ensures { (ram : List ℕ) (devices : Attached) → guest_of hart.new ram devices ≡
+        passed (timer_stored (guest_of hart.old ram devices) value register) }
 {
     match register {
         TimerRegister::Msip => hart.msip = value % 2 == 1,

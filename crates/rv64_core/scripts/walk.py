@@ -3,7 +3,8 @@
 
 The walk goes over each opcode of a 32 bit word, each funct3 and a choice of funct7 (each of them where the table looks
 at it), with registers and immediates that change from word to word, and over the neighbours of the whole words of
-machine mode. What objdump prints is kept in src/tests/words.rt: the word, the mnemonic, and the operands as numbers.
+machine mode. What objdump prints is kept in the files of src/tests/words, by kinds of instructions: the word, the
+mnemonic, and the operands as numbers.
 
 What is compared, and how:
 - a word with a mnemonic that is no row of the table (FENCE.I and the extensions A, D, F and others), or with none, is
@@ -106,9 +107,22 @@ def verdict(rows, address, mnemonic, operands):
     return " ".join([mnemonic] + [str(v) for v in values])
 
 
-def constant(name, about, lines):
+# The files, and the opcodes of the instructions in each.
+KINDS = {
+    "upper": ("upper immediates", {0x37, 0x17}),
+    "jumps": ("jumps and branches", {0x6F, 0x67, 0x63}),
+    "memory": ("loads, stores and fences", {0x03, 0x23, 0x0F}),
+    "computations": ("computations on registers and immediates", {0x13, 0x1B, 0x33, 0x3B}),
+    "system": ("CSRs and the system", {0x73}),
+}
+
+
+def write_words(name, title, about, lines):
     text = "\\n\\\n".join(lines)
-    return f'/// {about}\npub static {name}: &str = "\\\n{text}";\n'
+    (CRATE / f"src/tests/words/{name}.rt").write_text(
+        f"//! {title}\n// Written by scripts/walk.py. Do not edit.\n\n"
+        f'/// {about}\npub static {name.upper()}: &str = "\\\n{text}";\n'
+    )
 
 
 def main():
@@ -124,13 +138,20 @@ def main():
             said.append(f"{word:08x} {answer}")
     missing = set(rows) - {line.split()[1] for line in said}
     assert not missing, missing
+    for name, (kind, opcodes) in KINDS.items():
+        lines = [line for line in said if int(line[:8], 16) & 0x7F in opcodes]
+        write_words(
+            name,
+            f"Words of {kind}, and what binutils' objdump says of each.",
+            "Words with what they say: the mnemonic, and the operands as numbers.",
+            lines,
+        )
     rows_of_ten = [" ".join(illegal[i : i + 10]) for i in range(0, len(illegal), 10)]
-    (CRATE / "src/tests/words.rt").write_text(
-        "//! The words of a walk over the opcode space, and what binutils' objdump says of each.\n"
-        "// Written by scripts/walk.py. Do not edit.\n\n"
-        + constant("SAID", "Words with what they say: the mnemonic, and the operands as numbers.", said)
-        + "\n"
-        + constant("ILLEGAL", "Words that say no instruction of the table.", rows_of_ten)
+    write_words(
+        "illegal",
+        "Words in which binutils' objdump reads no instruction of the table.",
+        "Words that say no instruction of the table, ten to a line.",
+        rows_of_ten,
     )
     print(f"{len(said)} words with an instruction, {len(illegal)} without")
 

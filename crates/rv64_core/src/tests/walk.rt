@@ -1,7 +1,7 @@
 //! A walk over the opcode space: what each word says, compared with what binutils' objdump says of it.
 
 use super::disassembly::text;
-use super::words::{ILLEGAL, SAID};
+use super::words::{COMPUTATIONS, ILLEGAL, JUMPS, MEMORY, SYSTEM, UPPER};
 use crate::{decode, encode};
 use std::test::Fail;
 
@@ -14,14 +14,16 @@ fn word_of(digits: &str) -> Result<u32, Fail> {
 #[test]
 fn each_word_says_what_objdump_reads(rt: HostRuntime) -> Result<(), Fail> {
     let mut count = 0u64;
-    for line in SAID.lines() {
-        let (digits, said) = line.split_once(' ').ok_or("no instruction")?;
-        let word = word_of(digits)?;
-        let instr = decode(word).ok_or(line)?;
-        let again = instr;
-        assert_eq!(rt; text(rt.alloc(), instr)?.as_str(), said, "{digits}");
-        assert_eq!(rt; encode(again), word);
-        count = count.saturating_add(1);
+    for part in [UPPER, JUMPS, MEMORY, COMPUTATIONS, SYSTEM] {
+        for line in part.lines() {
+            let (digits, said) = line.split_once(' ').ok_or("no instruction")?;
+            let word = word_of(digits)?;
+            let instr = decode(word).ok_or(line)?;
+            let again = instr;
+            assert_eq!(rt; text(rt.alloc(), instr)?.as_str(), said, "{digits}");
+            assert_eq!(rt; encode(again), word);
+            count = count.saturating_add(1);
+        }
     }
     assert!(rt; count > 800, "the walk has {count} words");
     Ok(())

@@ -16,7 +16,8 @@ use Rattle.epoch_snapshot.proofs.cut.cut_delta.Goals as goal
 pub push_blocks-requires-clause-inside : goal.push_blocks-requires-clause-inside
 push_blocks-requires-clause-inside c =
     let m = c.args.machine.now in
-    subst (λ (ps : List PageChange). All (λ (p : PageChange). 4096 * p.page + 4096 ≤ length m.guest.ram) ps) (sym (c.as_slice.ensures.value ∙ c.push_pages.ensures))
+    subst (λ (ps : List PageChange). All (λ (p : PageChange). 4096 * p.page + 4096 ≤ length m.guest.ram) ps)
+    (sym (c.as_slice.ensures.value ∙ c.push_pages.ensures))
     (pages_within m.settled m.guest.ram c.shape-shape.result.pages (length m.guest.ram) c.shape-shape.ensures.pages)
 
 pub push_blocks-requires-clause-room : goal.push_blocks-requires-clause-room
@@ -30,7 +31,8 @@ pub from_parts-requires : goal.from_parts-requires
 from_parts-requires c =
     let m = c.args.machine.now in
     IsCanonical-cut m.settled m.dirty m c.args.generation c.args.number
-    (change_of c.shape-shape.result c.args.generation c.args.number c.state.result c.push_pages.new.list.items c.push_blocks.new.list.items c.push_written.new.list.items)
+    (change_of c.shape-shape.result c.args.generation c.args.number c.state.result c.push_pages.new.list.items c.push_blocks.new.list.items
+    c.push_written.new.list.items)
     (record {
       pages_size = c.shape-shape.ensures.pages;
       sectors_size = c.shape-shape.ensures.sectors;
@@ -38,17 +40,20 @@ from_parts-requires c =
       number = refl;
       state = c.state.ensures.value;
       pages = c.push_pages.ensures;
-      blocks = c.push_blocks.ensures ∙ (λ k. c.in_ok-blocks.ensures.items k ++ changed_blocks m.settled m.guest.ram (c.as_slice.ensures.value k));
+      blocks = c.push_blocks.ensures ∙ (λ k. c.in_ok-blocks.ensures.items k ++ changed_blocks m.settled m.guest.ram
+          (c.as_slice.ensures.value k));
       sectors = c.push_written.ensures;
     })
     c.requires.first_generation c.requires.last_generation c.requires.last_number c.state.ensures.rules
-    (Rises-count c.shape-shape.result.sectors m.guest.sectors c.dirty_sectors.result.now m.dirty c.shape-shape.ensures.sectors c.dirty_sectors.ensures.value c.dirty_sectors.ensures.rises)
+    (Rises-count c.shape-shape.result.sectors m.guest.sectors c.dirty_sectors.result.now m.dirty c.shape-shape.ensures.sectors
+    c.dirty_sectors.ensures.value c.dirty_sectors.ensures.rises)
     (λ z. absurd (omega (arith, z, c.requires.first_number)))
 
 pub returns-clause-image : goal.returns-clause-image
 returns-clause-image c =
     let m = c.args.machine.now in
-    let made = change_of c.shape-shape.result c.args.generation c.args.number c.state.result c.push_pages.new.list.items c.push_blocks.new.list.items c.push_written.new.list.items in
+    let made = change_of c.shape-shape.result c.args.generation c.args.number c.state.result c.push_pages.new.list.items
+    c.push_blocks.new.list.items c.push_written.new.list.items in
     λ base on. ap (λ k. image_of k base) c.from_parts.ensures ∙
     image-delta m c.args.generation c.args.number made base
     (record {
@@ -58,9 +63,11 @@ returns-clause-image c =
       number = refl;
       state = c.state.ensures.value;
       pages = c.push_pages.ensures;
-      blocks = c.push_blocks.ensures ∙ (λ k. c.in_ok-blocks.ensures.items k ++ changed_blocks m.settled m.guest.ram (c.as_slice.ensures.value k));
+      blocks = c.push_blocks.ensures ∙ (λ k. c.in_ok-blocks.ensures.items k ++ changed_blocks m.settled m.guest.ram
+          (c.as_slice.ensures.value k));
       sectors = c.push_written.ensures;
     })
     c.requires.first_number (c.shape-shape.ensures.settled ∙ sym c.shape-shape.ensures.pages)
-    (Rises-count c.shape-shape.result.sectors m.guest.sectors c.dirty_sectors.result.now m.dirty c.shape-shape.ensures.sectors c.dirty_sectors.ensures.value c.dirty_sectors.ensures.rises)
+    (Rises-count c.shape-shape.result.sectors m.guest.sectors c.dirty_sectors.result.now m.dirty c.shape-shape.ensures.sectors
+    c.dirty_sectors.ensures.value c.dirty_sectors.ensures.rises)
     (ap (λ s. with_state m.guest s) (sym c.state.ensures.value) ∙ c.state.ensures.whole) on

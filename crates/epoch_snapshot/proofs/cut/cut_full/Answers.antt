@@ -16,8 +16,10 @@ use Rattle.epoch_snapshot.proofs.cut.cut_full.Goals as goal
 pub push_blocks-requires-clause-inside : goal.push_blocks-requires-clause-inside
 push_blocks-requires-clause-inside c =
     let m = c.args.machine.now in
-    subst (λ (ps : List PageChange). All (λ (p : PageChange). 4096 * p.page + 4096 ≤ length m.guest.ram) ps) (sym (c.as_slice.ensures.value ∙ c.push_pages.ensures))
-    (pages_within (replicate (length m.guest.ram) 0) m.guest.ram c.shape-shape.result.pages (length m.guest.ram) c.shape-shape.ensures.pages)
+    subst (λ (ps : List PageChange). All (λ (p : PageChange). 4096 * p.page + 4096 ≤ length m.guest.ram) ps)
+    (sym (c.as_slice.ensures.value ∙ c.push_pages.ensures))
+    (pages_within (replicate (length m.guest.ram) 0) m.guest.ram c.shape-shape.result.pages (length m.guest.ram)
+    c.shape-shape.ensures.pages)
 
 pub push_blocks-requires-clause-room : goal.push_blocks-requires-clause-room
 push_blocks-requires-clause-room c =
@@ -31,7 +33,8 @@ from_parts-requires c =
     let m = c.args.machine.now in
     let old = replicate {A = ℕ} (length m.guest.ram) 0 in
     IsCanonical-cut old (used_sectors m.guest.sectors c.shape-shape.result.sectors) m c.args.generation 0
-    (change_of c.shape-shape.result c.args.generation 0 c.state.result c.push_pages.new.list.items c.push_blocks.new.list.items c.push_used.new.list.items)
+    (change_of c.shape-shape.result c.args.generation 0 c.state.result c.push_pages.new.list.items c.push_blocks.new.list.items
+    c.push_used.new.list.items)
     (record {
       pages_size = c.shape-shape.ensures.pages;
       sectors_size = c.shape-shape.ensures.sectors;
@@ -50,7 +53,8 @@ pub returns-clause-image : goal.returns-clause-image
 returns-clause-image c =
     let m = c.args.machine.now in
     let old = replicate {A = ℕ} (length m.guest.ram) 0 in
-    let made = change_of c.shape-shape.result c.args.generation 0 c.state.result c.push_pages.new.list.items c.push_blocks.new.list.items c.push_used.new.list.items in
+    let made = change_of c.shape-shape.result c.args.generation 0 c.state.result c.push_pages.new.list.items c.push_blocks.new.list.items
+    c.push_used.new.list.items in
     λ base. ap (λ k. image_of k base) c.from_parts.ensures ∙
     image-full m c.args.generation made base
     (record {

@@ -21,7 +21,12 @@ pub overflow_add-counts : goal.overflow_add-counts
 overflow_add-counts c = record { fits = omega arith }
 
 pub overflow_add-counts-then-mask-ne0 : goal.overflow_add-counts-then-mask-ne0
-overflow_add-counts-then-mask-ne0 c = record { fits = omega (arith, ones_few c.page_mask-mask.result (omega (arith, c.page_mask-mask.type_inv))) }
+overflow_add-counts-then-mask-ne0 c = record {
+  fits = omega (
+    arith,
+    ones_few c.page_mask-mask.result (omega (arith, c.page_mask-mask.type_inv)),
+  );
+}
 
 pub loop-page-preserved : goal.loop-page-preserved
 loop-page-preserved c =
@@ -30,15 +35,27 @@ loop-page-preserved c =
     elim c.if-mask-ne0.branch [
       | then-mask-ne0 w ↦
           let more = changed_pages-push old new c.loop-page.page c.page_mask-mask.result c.page_mask-mask.ensures w.if-mask-ne0.true in
-          let one = ap length more ∙ length_push (changed_pages old new c.loop-page.page) (record { page = c.loop-page.page; mask = c.page_mask-mask.result }) in
-          let ones = ap block_count more ∙ count-push (changed_pages old new c.loop-page.page) (record { page = c.loop-page.page; mask = c.page_mask-mask.result }) in
+          let one = ap length more ∙ length_push (changed_pages old new c.loop-page.page)
+          (record { page = c.loop-page.page; mask = c.page_mask-mask.result }) in
+          let ones = ap block_count more ∙ count-push (changed_pages old new c.loop-page.page)
+          (record { page = c.loop-page.page; mask = c.page_mask-mask.result }) in
           let few = ones_few c.page_mask-mask.result (omega (arith, c.page_mask-mask.type_inv)) in
           let p = ap (λ (k : Counts). k.pages) w.counts-is in
           let b = ap (λ (k : Counts). k.blocks) w.counts-is in
-          record { pages = omega (arith, p, one); blocks = omega (arith, b, ones); few_pages = omega (arith, p); few_blocks = omega (arith, b, few) }
+          record {
+            pages = omega (arith, p, one);
+            blocks = omega (arith, b, ones);
+            few_pages = omega (arith, p);
+            few_blocks = omega (arith, b, few);
+          }
       | else-mask-ne0 w ↦
           let same = changed_pages-skip old new c.loop-page.page c.page_mask-mask.result c.page_mask-mask.ensures w.if-mask-ne0.false in
           let p = ap (λ (k : Counts). k.pages) w.counts-is in
           let b = ap (λ (k : Counts). k.blocks) w.counts-is in
-          record { pages = omega (arith, p, ap length same); blocks = omega (arith, b, ap block_count same); few_pages = omega (arith, p); few_blocks = omega (arith, b) }
+          record {
+            pages = omega (arith, p, ap length same);
+            blocks = omega (arith, b, ap block_count same);
+            few_pages = omega (arith, p);
+            few_blocks = omega (arith, b);
+          }
     ]

@@ -12,7 +12,8 @@ returns-in-Settled c =
 
 pub returns-in_default : goal.returns-in_default
 returns-in_default c =
-    mask-pages (old_ram c.args.over c.args.machine.now) c.args.machine.now.guest.ram c.args.page c.mask.result c.old_page.result.now c.page.result.now
+    mask-pages (old_ram c.args.over c.args.machine.now) c.args.machine.now.guest.ram c.args.page c.mask.result c.old_page.result.now
+    c.page.result.now
     (omega (arith, c.mask.type_inv)) c.old_page.ensures
     (λ i below. ap (λ p. block_in p i) c.page.ensures ∙ block_in-page c.args.machine.now.guest.ram c.args.page i below)
     c.mask.ensures.bytes

@@ -41,9 +41,11 @@ loop-change-preserved c =
     let k = c.loop-change.change-index in
     let p = get_or ps k none in (
       c.push_page_blocks.ensures.items
-          ∙ (λ j. c.loop-change.invariant.0 j ++ page_blocks old new c.old_page.result.now c.page.result.now p.page p.mask c.old_page.ensures
+          ∙ (λ j. c.loop-change.invariant.0 j ++ page_blocks old new c.old_page.result.now c.page.result.now p.page p.mask
+          c.old_page.ensures
           (λ i below. ap (λ q. block_in q i) c.page.ensures ∙ block_in-page new p.page i below) j)
-          ∙ append_assoc c.args.list.now.items (changed_blocks old new (take k ps)) (map (block_change old new) (map (λ i. 64 * p.page + i) (set_blocks p.mask)))
+          ∙ append_assoc c.args.list.now.items (changed_blocks old new (take k ps))
+          (map (block_change old new) (map (λ i. 64 * p.page + i) (set_blocks p.mask)))
           ∙ ap (λ l. c.args.list.now.items ++ l)
           (sym (map-append (block_change old new) (block_numbers (take k ps)) (map (λ i. 64 * p.page + i) (set_blocks p.mask)))
           ∙ ap (map (block_change old new)) (sym (numbers-more ps k none (omega arith)))),

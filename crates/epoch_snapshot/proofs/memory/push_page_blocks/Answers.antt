@@ -13,7 +13,14 @@ push_reserved-requires c =
     let f : ℕ → List ℕ = λ i. xored (block_in c.args.old.now i) (block_in c.args.new.now i) in
     let ns = filter (λ i. bit_at c.args.mask i == 1) (range_with_len 0 c.loop-i.i) in
     let fewer = fewer_blocks c.args.mask c.loop-i.i (omega arith) c.if-mask-i-eq1.true in
-    omega (arith, fewer, ap length c.loop-i.invariant.0, c.loop-i.invariant.1, length-append c.args.list.now.items (map f ns), length-map ns f)
+    omega (
+      arith,
+      fewer,
+      ap length c.loop-i.invariant.0,
+      c.loop-i.invariant.1,
+      length-append c.args.list.now.items (map f ns),
+      length-map ns f,
+    )
 
 pub loop-i-preserved : goal.loop-i-preserved
 loop-i-preserved c =
@@ -27,8 +34,10 @@ loop-i-preserved c =
             w.push_reserved.ensures.capacity ∙ c.loop-i.invariant.1,
           )
       | else-mask-i-eq1 w ↦
-          rw w.list-is
-          (blocks-skip f c.args.mask c.loop-i.i c.args.list.now.items c.loop-i.list.items w.if-mask-i-eq1.false c.loop-i.invariant.0, c.loop-i.invariant.1)
+          rw w.list-is (
+            blocks-skip f c.args.mask c.loop-i.i c.args.list.now.items c.loop-i.list.items w.if-mask-i-eq1.false c.loop-i.invariant.0,
+            c.loop-i.invariant.1,
+          )
     ]
 
 pub returns-clause-items : goal.returns-clause-items

@@ -15,7 +15,8 @@ push_reserved-requires c =
     let old = old_ram c.args.over c.args.machine.now in
     let new = c.args.machine.now.guest.ram in
     let more = changed_pages-push old new c.loop-page.page c.page_mask-mask.result c.page_mask-mask.ensures c.if-mask-ne0.true in
-    let one = ap length more ∙ length_push (changed_pages old new c.loop-page.page) (record { page = c.loop-page.page; mask = c.page_mask-mask.result }) in
+    let one = ap length more ∙ length_push (changed_pages old new c.loop-page.page)
+    (record { page = c.loop-page.page; mask = c.page_mask-mask.result }) in
     let all = length-fewer_pages old new (c.loop-page.page + 1) c.args.pages (omega arith) in
     omega (arith, one, all, ap length c.loop-page.invariant.0, c.loop-page.invariant.1)
 
@@ -33,7 +34,8 @@ loop-page-preserved c =
           )
       | else-mask-ne0 w ↦
           rw w.list-is (
-            c.loop-page.invariant.0 ∙ sym (changed_pages-skip old new c.loop-page.page c.page_mask-mask.result c.page_mask-mask.ensures w.if-mask-ne0.false),
+            c.loop-page.invariant.0 ∙ sym (changed_pages-skip old new c.loop-page.page c.page_mask-mask.result c.page_mask-mask.ensures
+                w.if-mask-ne0.false),
             c.loop-page.invariant.1,
           )
     ]

@@ -7,7 +7,11 @@ use Rattle.epoch_snapshot.proofs.sectors.push_used.Goals as goal
 use Rattle.epoch_snapshot.proofs.sectors.push_used.Goals.{then-not-blank, else-not-blank}
 
 pub loop-sector-init : goal.loop-sector-init
-loop-sector-init c = (c.requires.empty ∙ ap (changed_sectors c.args.machine.now.guest.sectors) (no_sectors c.args.machine.now.guest.sectors), refl)
+loop-sector-init c = (
+  c.requires.empty ∙ ap (changed_sectors c.args.machine.now.guest.sectors)
+      (no_sectors c.args.machine.now.guest.sectors),
+  refl,
+)
 
 pub push_reserved-requires : goal.push_reserved-requires
 push_reserved-requires c =
@@ -16,7 +20,14 @@ push_reserved-requires c =
     let flag = zero-flag c.blank.result bytes n c.blank.ensures in
     let more = ap length (used-push bytes n c.blank.result flag c.if-not-blank.true) ∙ length_push (used_sectors bytes n) n in
     let all = length-fewer_used bytes (n + 1) c.args.sectors (omega arith) in
-    omega (arith, more, all, ap length c.loop-sector.invariant.0, c.loop-sector.invariant.1, length-map (used_sectors bytes n) (sector_change bytes))
+    omega (
+      arith,
+      more,
+      all,
+      ap length c.loop-sector.invariant.0,
+      c.loop-sector.invariant.1,
+      length-map (used_sectors bytes n) (sector_change bytes),
+    )
 
 pub loop-sector-preserved : goal.loop-sector-preserved
 loop-sector-preserved c =
@@ -33,6 +44,8 @@ loop-sector-preserved c =
             w.push_reserved.ensures.capacity ∙ c.loop-sector.invariant.1,
           )
       | else-not-blank w ↦
-          rw w.list-is
-          (c.loop-sector.invariant.0 ∙ ap (changed_sectors bytes) (sym (used-skip bytes n c.blank.result flag w.if-not-blank.false)), c.loop-sector.invariant.1)
+          rw w.list-is (
+            c.loop-sector.invariant.0 ∙ ap (changed_sectors bytes) (sym (used-skip bytes n c.blank.result flag w.if-not-blank.false)),
+            c.loop-sector.invariant.1,
+          )
     ]

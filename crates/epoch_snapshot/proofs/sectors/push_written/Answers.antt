@@ -7,5 +7,6 @@ use Rattle.epoch_snapshot.proofs.sectors.push_written.Goals as goal
 pub record-requires : goal.record-requires
 record-requires c =
     let l = c.dirty_sectors-sector-items.result.now in
-    let below = Rises-at 0 (sector_count c.args.machine.now.guest.sectors) l c.loop-sector.sector-index c.dirty_sectors-sector-items.ensures.rises (omega arith) in
+    let below = Rises-at 0 (sector_count c.args.machine.now.guest.sectors) l c.loop-sector.sector-index
+    c.dirty_sectors-sector-items.ensures.rises (omega arith) in
     omega (arith, below)

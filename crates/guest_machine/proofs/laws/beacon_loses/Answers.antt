@@ -21,7 +21,9 @@ use Rattle.guest_machine.specs.Step.{carried_out, instruction_done, step_done, n
 use Rattle.guest_machine.proofs.laws.beacon_loses.Goals as goal
 
 pub returns : goal.returns
-unfolding table decoded plan_of due_interrupt after_entry handler address_map place_of row_at loaded stored number_at with_number available_of chain_of used_written chains_served loop_served served boot_guest mip carried_out instruction_done step_done next sent beacon_with after_steps sent_in
+unfolding table decoded plan_of due_interrupt after_entry handler address_map place_of row_at loaded stored number_at with_number
+    available_of chain_of used_written chains_served loop_served served boot_guest mip carried_out instruction_done step_done next sent
+    beacon_with after_steps sent_in
 returns c = record {
   short = refl;
   used = refl;

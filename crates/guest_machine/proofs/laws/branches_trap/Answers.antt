@@ -14,7 +14,8 @@ use Rattle.guest_machine.specs.Step.{carried_out, instruction_done, step_done, n
 use Rattle.guest_machine.proofs.laws.branches_trap.Goals as goal
 
 pub returns : goal.returns
-unfolding table decoded plan_of csr_table csr read_value is_writable written legal_value due_interrupt after_entry after_return handler after_steps number_at with_number words_guest boot_guest mip carried_out instruction_done step_done next
+unfolding table decoded plan_of csr_table csr read_value is_writable written legal_value due_interrupt after_entry after_return handler
+    after_steps number_at with_number words_guest boot_guest mip carried_out instruction_done step_done next
 returns c = record {
   first = refl;
   second = refl;

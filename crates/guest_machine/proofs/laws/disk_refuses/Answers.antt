@@ -22,7 +22,9 @@ use Rattle.guest_machine.specs.Step.{carried_out, instruction_done, step_done, n
 use Rattle.guest_machine.proofs.laws.disk_refuses.Goals as goal
 
 pub returns : goal.returns
-unfolding table decoded plan_of due_interrupt after_entry handler address_map place_of row_at loaded stored number_at with_number available_of chain_of used_written chains_served loop_served request_act disk_served boot_guest mip carried_out instruction_done step_done next sent marked disk_guest_with after_steps sent_in marked_in
+unfolding table decoded plan_of due_interrupt after_entry handler address_map place_of row_at loaded stored number_at with_number
+    available_of chain_of used_written chains_served loop_served request_act disk_served boot_guest mip carried_out instruction_done
+    step_done next sent marked disk_guest_with after_steps sent_in marked_in
 returns c = record {
   past_the_end = record { byte = refl; used_len = refl; sectors = refl; list = refl };
   flush = record { byte = refl; used_len = refl; sectors = refl; list = refl };

@@ -21,7 +21,9 @@ use Rattle.guest_machine.specs.Step.{carried_out, instruction_done, step_done, n
 use Rattle.guest_machine.proofs.laws.frames_arrive.Goals as goal
 
 pub returns : goal.returns
-unfolding table decoded plan_of due_interrupt after_entry handler address_map place_of row_at loaded stored number_at with_number available_of chain_of next_chain_of used_written received boot_guest mip carried_out instruction_done step_done next arrived beacon_with after_steps receiver
+unfolding table decoded plan_of due_interrupt after_entry handler address_map place_of row_at loaded stored number_at with_number
+    available_of chain_of next_chain_of used_written received boot_guest mip carried_out instruction_done step_done next arrived beacon_with
+    after_steps receiver
 returns c = record {
   quiet = refl;
   header = refl;

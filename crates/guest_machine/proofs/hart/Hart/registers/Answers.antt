@@ -11,11 +11,13 @@ loop-i-preserved c =
     let h = c.loop-i.invariant in
     record {
       long = length-set values c.loop-i.i c.get-value.result ∙ h.long;
-      agree = one_taken regs values c.loop-i.i c.get-value.result (omega arith) h.long (c.get-value.ensures.value ∙ ap (λ (r : ℕ). register regs r) c.from_low_bits.ensures) h.agree;
+      agree = one_taken regs values c.loop-i.i c.get-value.result (omega arith) h.long (c.get-value.ensures.value
+          ∙ ap (λ (r : ℕ). register regs r) c.from_low_bits.ensures) h.agree;
     }
 
 pub returns-clause-value : goal.returns-clause-value
 returns-clause-value c =
     let AreTaken : ℕ → Type 0 = λ n. Agree c.args.self.now.regs c.loop-i.values n in
     let all : c.loop-i.i ≡ 31 = omega arith in
-    all_taken c.args.self.now.regs c.loop-i.values c.get-x0.ensures.registers.count c.loop-i.invariant.long (subst AreTaken all c.loop-i.invariant.agree)
+    all_taken c.args.self.now.regs c.loop-i.values c.get-x0.ensures.registers.count c.loop-i.invariant.long
+    (subst AreTaken all c.loop-i.invariant.agree)

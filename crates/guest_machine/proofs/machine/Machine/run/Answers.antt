@@ -22,7 +22,8 @@ pub loop-made-preserved : goal.loop-made-preserved
 loop-made-preserved c = record {
   most = omega arith;
   run =
-      longer_run _ _ _ _ c.loop-made.invariant.run (omega arith) c.run_step.ensures.guest c.run_step.ensures.frames c.run_step.ensures.list c.run_step.ensures.settled;
+      longer_run _ _ _ _ c.loop-made.invariant.run (omega arith) c.run_step.ensures.guest c.run_step.ensures.frames c.run_step.ensures.list
+      c.run_step.ensures.settled;
   unchanged = λ none. absurd (omega arith);
   aligned = subst IsAligned (sym c.run_step.ensures.guest) (aligned-next _ c.loop-made.invariant.aligned);
 }
