@@ -1,0 +1,84 @@
+-- Blocks put into memory, one after another.
+use Rattle.std.proofs.Common.{◌≡◌, ℕ, suc, ◌+◌, ◌-◌, ◌*◌, ◌/◌, ◌<◌, ◌≤◌, ◌==◌, Bool, true, cond, List, [], ◌∷◌, ◌++◌, length, take, drop, replicate, get_or, refl, sym, ap, ◌∙◌, arith, add-one, length-append}
+use Rattle.std.specs.Int.{bit_at}
+use Rattle.std.specs.List.{range_with_len, filter}
+use Rattle.std.proofs.Math.Seq.{drop-cons}
+use Rattle.std.proofs.lemmas.Bool.{eq-eqb, ne_eqb}
+use Rattle.std.proofs.lemmas.List.{length-take-le, length-drop, length-replicate}
+use Rattle.guest_machine.specs.Bytes.{with_bytes}
+use Rattle.guest_machine.specs.Blocks.{block_place, with_xored as put_xored}
+use Rattle.guest_machine.specs.Pages.{flagged, marked}
+use Rattle.epoch_snapshot.specs.Blocks.{xored, with_xored}
+
+pub next : {X : Type 0} (xs : List X) (i : ℕ) (d : X) → i < length xs → drop i xs ≡ get_or xs i d ∷ drop (i + 1) xs
+next xs i d h = rw (add-one) (drop-cons xs i d h)
+
+-- ---- the blocks that a mask names
+
+-- from one block on
+abbrev pub from_block : ℕ → ℕ → List ℕ
+from_block mask i = filter (λ j. bit_at mask j == 1) (range_with_len i (64 - i))
+
+from_block-next : (mask i : ℕ) → i < 64 → from_block mask i ≡ cond (bit_at mask i == 1) (i ∷ from_block mask (i + 1)) (from_block mask (i + 1))
+from_block-next mask i below =
+    let e : 64 - i ≡ suc (64 - (i + 1)) = omega arith in
+    ap (λ n. filter (λ j. bit_at mask j == 1) (range_with_len i n)) e
+
+pub from_block-set : (mask i : ℕ) → i < 64 → bit_at mask i ≡ 1 → from_block mask i ≡ i ∷ from_block mask (i + 1)
+from_block-set mask i below set =
+    from_block-next mask i below ∙ ap (λ b. cond b (i ∷ from_block mask (i + 1)) (from_block mask (i + 1))) (eq-eqb (bit_at mask i) 1 set)
+
+pub from_block-clear : (mask i : ℕ) → i < 64 → (bit_at mask i ≡ 1 → ⊥) → from_block mask i ≡ from_block mask (i + 1)
+from_block-clear mask i below clear =
+    from_block-next mask i below ∙ ap (λ b. cond b (i ∷ from_block mask (i + 1)) (from_block mask (i + 1))) (ne_eqb (bit_at mask i) 1 clear)
+
+pub from_block-end : (mask i : ℕ) → 64 ≤ i → from_block mask i ≡ []
+from_block-end mask i past =
+    let e : 64 - i ≡ 0 = omega arith in
+    ap (λ n. filter (λ j. bit_at mask j == 1) (range_with_len i n)) e
+
+-- ---- one block
+
+length-xored : (xs ys : List ℕ) → length xs ≡ length ys → length (xored xs ys) ≡ length xs
+length-xored [] ys e = refl
+length-xored (x ∷ xs) [] e = sym e
+length-xored (x ∷ xs) (y ∷ ys) e = ap suc (length-xored xs ys (omega arith))
+
+pub length-with_bytes : (xs new : List ℕ) (at : ℕ) → at + length new ≤ length xs → length (with_bytes xs at new) ≡ length xs
+length-with_bytes xs new at fits =
+    let front : length (take at xs) ≡ at = length-take-le at xs (omega arith) in
+    omega (arith, length-append (take at xs) (new ++ drop (at + length new) xs), length-append new (drop (at + length new) xs), length-drop (at + length new) xs)
+
+-- a block of a page is a block of memory
+pub same_place : (ram block : List ℕ) (page i : ℕ) → length block ≡ 64 → put_xored ram (block_place page i) block ≡ with_xored ram (64 * page + i) block
+same_place ram block page i whole =
+    let at : block_place page i ≡ 64 * (64 * page + i) = omega arith in
+    ap (λ k. put_xored ram k block) at
+    ∙ ap (λ n. with_bytes ram (64 * (64 * page + i)) (xored (take n (drop (64 * (64 * page + i)) ram)) block)) whole
+
+pub length-put_xored : (ram block : List ℕ) (page i : ℕ) → length block ≡ 64 → i < 64 → 4096 * page + 4096 ≤ length ram → length (put_xored ram (block_place page i) block) ≡ length ram
+length-put_xored ram block page i whole below within =
+    let at = block_place page i in
+    let part : length (take (length block) (drop at ram)) ≡ length block = length-take-le (length block) (drop at ram) (omega (arith, length-drop at ram)) in
+    let new : length (xored (take (length block) (drop at ram)) block) ≡ length (take (length block) (drop at ram))
+    = length-xored (take (length block) (drop at ram)) block part in
+    length-with_bytes ram (xored (take (length block) (drop at ram)) block) at (omega arith)
+
+-- a flag is set in place
+length-flag : (flags : List Bool) (page : ℕ) → page < length flags → length (flagged flags page (page + 1)) ≡ length flags
+length-flag flags page within =
+    let front : length (take page flags) ≡ page = length-take-le page flags (omega arith) in
+    omega (
+      arith,
+      front,
+      length-append (take page flags) (replicate ((page + 1) - page) true ++ drop (page + 1) flags),
+      length-append (replicate ((page + 1) - page) true) (drop (page + 1) flags),
+      length-replicate ((page + 1) - page) true,
+      length-drop (page + 1) flags,
+    )
+
+pub length-marked : (flags : List Bool) (page i : ℕ) → i < 64 → page < length flags → length (marked flags (block_place page i) 64) ≡ length flags
+length-marked flags page i below within =
+    let from : block_place page i / 4096 ≡ page = omega arith in
+    let end : (block_place page i + 64 - 1) / 4096 + 1 ≡ page + 1 = omega arith in
+    (λ k. length (flagged flags (from k) (end k))) ∙ length-flag flags page within

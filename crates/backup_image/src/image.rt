@@ -1,0 +1,180 @@
+//! The backup's image.
+ghost use Rattle.std.specs.Prelude.{◌≡◌, ◌↔◌, ◌+◌, ◌*◌, ◌<◌, ◌≤◌, length, replicate, slice_range, IfOk, IfErr, OnErr, IsErr, Some, None, Err};
+ghost use Rattle.backup_image.specs.Images.{booted, empty_image, stage_answer, after_stage, committed, settled_machine};
+
+use crate::apply::apply;
+use crate::errors::ImageError;
+use crate::standing::{Staged, Standing};
+use epoch_snapshot::Checkpoint;
+use guest_machine::{Machine, SECTOR_BYTES, Shape};
+use std::alloc::Global;
+use std::marker::Model;
+
+/// The guest as of the last checkpoint that was committed, and the checkpoint that is staged. An empty image has none yet, and holds
+/// zeros. All memory that its calls need is reserved when it is made.
+#[derive(Drop)]
+pub struct Image {
+    shape: Shape,
+    machine: Machine,
+    standing: Option<Standing>,
+    staged: Option<Checkpoint>,
+}
+
+impl Model for Image {
+    ghost use Rattle.backup_image.specs.Images.{ImageState};
+    ghost use Rattle.backup_image.specs.Invariant.{IsImage, state_of};
+
+    ghost Value = { ImageState };
+
+    ghost view = { λ i. state_of i.shape i.machine i.standing i.staged };
+
+    ghost invariant = { λ i. IsImage i.shape i.machine i.standing i.staged };
+}
+
+impl Image {
+    /// The image of the guest at boot, which counts as checkpoint 0 of generation 1. The bytes fit in memory, as the caller knows.
+    ///
+    /// # Errors
+    /// `NoMemory` where memory is refused.
+    pub fn boot(alloc: Global, shape: Shape, image: &[u8]) -> Result<Image, ImageError>
+        requires { length image.now ≤ 4096 * shape.pages }
+        ensures ok { IfOk result (λ i. i ≡ booted shape image.now) }
+        ensures err { OnErr result (result ≡ Err ImageError.NoMemory) }
+    {
+        let Ok(machine) = Machine::boot(alloc, shape, image) else {
+            return Err(ImageError::NoMemory);
+        };
+        Ok(Image {
+            shape,
+            machine,
+            standing: Some(Standing {
+                generation: 1,
+                number: 0,
+            }),
+            staged: None,
+        })
+    }
+
+    /// An image that no checkpoint was committed to yet: it takes a full one only.
+    ///
+    /// # Errors
+    /// `NoMemory` where memory is refused.
+    pub fn empty(alloc: Global, shape: Shape) -> Result<Image, ImageError>
+        ensures ok { IfOk result (λ i. i ≡ empty_image shape) }
+        ensures err { OnErr result (result ≡ Err ImageError.NoMemory) }
+    {
+        let Ok(machine) = Machine::boot(alloc, shape, &[]) else {
+            return Err(ImageError::NoMemory);
+        };
+        Ok(Image {
+            shape,
+            machine,
+            standing: None,
+            staged: None,
+        })
+    }
+
+    /// What a checkpoint is for this image, by its generation and number.
+    fn answer(&self, checkpoint: &Checkpoint) -> Result<Staged, ImageError>
+        ensures { result ≡ stage_answer self.now checkpoint.now }
+    {
+        let number = checkpoint.number();
+        let Some(at) = self.standing else {
+            return if number == 0 {
+                Ok(Staged::New)
+            } else {
+                Err(ImageError::NoImage)
+            };
+        };
+        if checkpoint.generation() != at.generation {
+            Err(ImageError::Stale)
+        } else if number > at.number + 1 {
+            Err(ImageError::Gap)
+        } else if number == at.number + 1 {
+            Ok(Staged::New)
+        } else {
+            Ok(Staged::Again)
+        }
+    }
+
+    /// Takes a checkpoint of the image's shape, as the caller knows. A new one stands apart until the commit, in the place of what
+    /// was staged; one that the image has in it already changes nothing. It takes no memory.
+    ///
+    /// # Errors
+    /// `NoImage` for a delta at an empty image; `Stale` for one of another generation; `Gap` for one beyond the next number.
+    /// Nothing changes then.
+    pub fn stage(&mut self, checkpoint: Checkpoint) -> Result<Staged, ImageError>
+        requires { checkpoint.shape ≡ self.old.shape }
+        ensures answer { result ≡ stage_answer self.old checkpoint }
+        ensures image { self.new ≡ after_stage self.old checkpoint }
+    {
+        let answer = self.answer(&checkpoint);
+        if let Ok(Staged::New) = answer {
+            self.staged = Some(checkpoint);
+        }
+        answer
+    }
+
+    /// Applies what is staged, if anything is, in place: from then on the image stands at it, and nothing is staged. It takes no
+    /// memory.
+    pub fn commit(&mut self)
+        ensures { self.new ≡ committed self.old }
+    {
+        let Some(checkpoint) = self.staged.take() else {
+            return;
+        };
+        apply(&mut self.machine, &checkpoint);
+        self.standing = Some(Standing {
+            generation: checkpoint.generation(),
+            number: checkpoint.number(),
+        });
+    }
+
+    /// Where the image stands, or `None` while it is empty.
+    pub fn standing(&self) -> Option<Standing>
+        ensures { result ≡ self.now.stands_at }
+    {
+        self.standing
+    }
+
+    /// How large its guest is.
+    pub fn shape(&self) -> Shape
+        ensures value { result ≡ self.now.shape }
+        ensures pages { length self.now.guest.ram ≡ 4096 * result.pages }
+        ensures sectors { length self.now.guest.sectors ≡ 512 * result.sectors }
+    {
+        self.shape
+    }
+
+    /// How many steps its guest has made since boot, modulo 2^64; 0 while the image is empty.
+    pub fn steps(&self) -> u64
+        ensures value { result ≡ self.now.guest.steps }
+        ensures empty { self.now.stands_at ≡ None → result ≡ 0 }
+    {
+        self.machine.steps()
+    }
+
+    /// The 512 bytes of a sector of its guest's disk, which has it, as the caller knows; zeros while the image is empty.
+    pub fn sector(&self, sector: u32) -> &[u8; SECTOR_BYTES]
+        requires { sector < self.now.shape.sectors }
+        ensures value { result.now ≡ slice_range self.now.guest.sectors (512 * sector) (512 * sector + 512) }
+        ensures empty { self.now.stands_at ≡ None → result.now ≡ replicate 512 0 }
+    {
+        self.machine.sector(sector)
+    }
+
+    /// The machine of the image's guest, just settled. What is staged is let go. It copies no page.
+    ///
+    /// # Errors
+    /// `NoImage`, exactly where the image is empty; it is handed back.
+    pub fn resume(self) -> Result<Machine, (Image, ImageError)>
+        ensures ok { IfOk result (λ machine. machine ≡ settled_machine self.shape self.guest) }
+        ensures refused { IsErr result ↔ (self.stands_at ≡ None) }
+        ensures err { IfErr result (λ refusal. (refusal.0 ≡ self) × (refusal.1 ≡ ImageError.NoImage)) }
+    {
+        if self.standing.is_none() {
+            return Err((self, ImageError::NoImage));
+        }
+        Ok(self.machine)
+    }
+}
