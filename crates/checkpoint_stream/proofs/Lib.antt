@@ -5,3 +5,11 @@ pub mod Extending
 pub mod Spelling
 pub mod Soundness
 pub mod Canonical
+pub mod Numbers
+pub mod Leading
+pub mod HeadRead
+pub mod RecordsRead
+pub mod SectorsRead
+pub mod HeadFits
+pub mod StateRead
+pub mod TextRead

@@ -1,6 +1,6 @@
 -- A loop that puts the units of a list at the end of some bytes, one element after another.
 use Rattle.std.proofs.Common.{◌≡◌, ℕ, ◌+◌, ◌<◌, ◌≤◌, List, [], ◌∷◌, ◌++◌, length, take, drop, get_or, refl, sym, ◌∙◌, ap}
-use Rattle.std.proofs.Common.{append_assoc, add-one, count_ones}
+use Rattle.std.proofs.Common.{append_assoc, add-one, count_ones, All, take_all, subst}
 use Rattle.std.proofs.lemmas.List.{append-nil, drop_all}
 use Rattle.std.proofs.Math.Seq.{drop-cons}
 use Rattle.std.proofs.lemmas.List.Sums.{sum_by-cons}
@@ -118,6 +118,10 @@ pub assembled : (start head count pages sectors_count sectors one two three four
 assembled start head count pages sectors_count sectors one two three four five e0 e1 e2 e3 e4 e5 =
     e5 ∙ ap (λ (l : List ℕ). l ++ sectors) (e4 ∙ ap (λ (l : List ℕ). l ++ sectors_count) (e3 ∙ ap (λ (l : List ℕ). l ++ pages)
     (e2 ∙ ap (λ (l : List ℕ). l ++ count) (e1 ∙ ap (λ (l : List ℕ). l ++ head) e0)))) ∙ simp append_assoc
+
+-- what is true of each element of a list, element after element
+pub all-seen : {X : Type 0} (P : X → Type 0) (xs : List X) (i : ℕ) → length xs ≤ i → All P (take i xs) → All P xs
+all-seen P xs i h all = subst (All P) (take_all i xs h) all
 
 joined-cons : (u : List ℕ) (us : List (List ℕ)) → joined (u ∷ us) ≡ u ++ joined us
 unfolding joined

@@ -6,3 +6,5 @@ pub mod Refusals
 pub mod Sound
 pub mod Answers
 pub mod Units
+pub mod Widths
+pub mod ReadBack

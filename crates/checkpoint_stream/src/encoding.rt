@@ -1,13 +1,16 @@
 //! A checkpoint as its text.
 
-ghost use Rattle.std.specs.Prelude.{◌≡◌, ◌≤◌, ◌++◌, length, IfOk, OnOk};
+ghost use Rattle.std.specs.Prelude.{◌≡◌, ◌<◌, ◌≤◌, ◌^◌, ◌++◌, length, All, IfOk, OnOk};
 ghost use Rattle.epoch_snapshot.specs.Checkpoints.{block_count};
+ghost use Rattle.checkpoint_stream.specs.ReadBack.{ReadsBack};
+ghost use Rattle.checkpoint_stream.specs.Widths.{HasWidths};
 ghost use Rattle.checkpoint_stream.specs.HeadTable.{bytes_of, head_table};
 ghost use Rattle.checkpoint_stream.specs.Text.{head_numbers, number_units, page_units, sector_units, joined, text};
 ghost use Rattle.checkpoint_stream.specs.declared.rules.Width.TheVariants.{Four, Eight};
 
 use crate::errors::StreamError;
 use crate::rules::{HEAD_NUMBERS, MAGIC_NUMBER, Width, head_row};
+use crate::widths::{block_widths, shape_widths, state_widths};
 use epoch_snapshot::{BLOCK_BYTES, Block, Checkpoint, PageChange, SectorChange};
 use guest_machine::SECTOR_BYTES;
 use std::alloc::{AllocError, Global};
@@ -22,7 +25,9 @@ const LEAST_BYTES: usize = 532;
 /// [`StreamError::NoMemory`] where that growth was really refused.
 #[tactic(auto, unfolding(crate::specs::Text::text, crate::specs::Text::units))]
 pub fn encode(alloc: Global, checkpoint: &Checkpoint) -> Result<Vec<u8>, StreamError>
-    ensures { IfOk result (λ bytes. bytes.items ≡ text checkpoint.now) }
+    ensures text { IfOk result (λ bytes. bytes.items ≡ text checkpoint.now) }
+    ensures read { IfOk result (λ bytes. ReadsBack checkpoint.now bytes.items) }
+    ensures widths { OnOk result (HasWidths checkpoint.now) }
 {
     let pages = checkpoint.pages();
     let blocks = checkpoint.blocks();
@@ -36,6 +41,9 @@ pub fn encode(alloc: Global, checkpoint: &Checkpoint) -> Result<Vec<u8>, StreamE
     put_pages(&mut out, pages, blocks)?;
     put(&mut out, Width::Four, sectors.len() as u64)?;
     put_sectors(&mut out, sectors)?;
+    shape_widths(checkpoint.shape());
+    state_widths(*checkpoint.state());
+    block_widths(blocks);
     Ok(out)
 }
 
@@ -65,7 +73,8 @@ fn put(out: &mut Vec<u8>, width: Width, n: u64) -> Result<(), AllocError>
 
 /// The head's numbers at the end.
 fn put_head(out: &mut Vec<u8>, head: &[u64; HEAD_NUMBERS]) -> Result<(), AllocError>
-    ensures { OnOk result (out.new.items ≡ out.old.items ++ joined (number_units head_table head.now)) }
+    ensures put { OnOk result (out.new.items ≡ out.old.items ++ joined (number_units head_table head.now)) }
+    ensures width { OnOk result (All (λ n. n < 2 ^ 64) head.now) }
 {
     for (i, n) in head.iter().enumerate() {
         put(out, head_row(i).width, *n)?;
@@ -76,7 +85,8 @@ fn put_head(out: &mut Vec<u8>, head: &[u64; HEAD_NUMBERS]) -> Result<(), AllocEr
 /// The page records at the end, with their blocks.
 fn put_pages(out: &mut Vec<u8>, pages: &[PageChange], blocks: &[Block]) -> Result<(), AllocError>
     requires { block_count pages.now ≤ length blocks.now }
-    ensures { OnOk result (out.new.items ≡ out.old.items ++ joined (page_units pages.now blocks.now)) }
+    ensures put { OnOk result (out.new.items ≡ out.old.items ++ joined (page_units pages.now blocks.now)) }
+    ensures width { OnOk result (All (λ p. p.mask < 2 ^ 64) pages.now) }
 {
     let mut rest = blocks;
     for page in pages {
@@ -90,8 +100,9 @@ fn put_pages(out: &mut Vec<u8>, pages: &[PageChange], blocks: &[Block]) -> Resul
 /// A page record at the end.
 #[tactic(auto, using(std::proofs::Common::append_assoc))]
 fn put_page(out: &mut Vec<u8>, page: &PageChange, blocks: &[Block]) -> Result<(), AllocError>
-    ensures { OnOk result (out.new.items
+    ensures put { OnOk result (out.new.items
         ≡ out.old.items ++ (bytes_of Four page.now.page ++ bytes_of Eight page.now.mask ++ joined blocks.now)) }
+    ensures width { OnOk result (page.now.mask < 2 ^ 64) }
 {
     put(out, Width::Four, u64::from(page.page))?;
     put(out, Width::Eight, page.mask)?;
@@ -111,7 +122,8 @@ fn put_blocks(out: &mut Vec<u8>, blocks: &[Block]) -> Result<(), AllocError>
 
 /// The sector records at the end.
 fn put_sectors(out: &mut Vec<u8>, sectors: &[SectorChange]) -> Result<(), AllocError>
-    ensures { OnOk result (out.new.items ≡ out.old.items ++ joined (sector_units sectors.now)) }
+    ensures put { OnOk result (out.new.items ≡ out.old.items ++ joined (sector_units sectors.now)) }
+    ensures width { OnOk result (All (λ s. length s.bytes ≡ 512) sectors.now) }
 {
     for sector in sectors {
         put_sector(out, sector)?;
@@ -122,7 +134,8 @@ fn put_sectors(out: &mut Vec<u8>, sectors: &[SectorChange]) -> Result<(), AllocE
 /// A sector record at the end.
 #[tactic(auto, using(std::proofs::Common::append_assoc))]
 fn put_sector(out: &mut Vec<u8>, sector: &SectorChange) -> Result<(), AllocError>
-    ensures { OnOk result (out.new.items ≡ out.old.items ++ (bytes_of Four sector.now.sector ++ sector.now.bytes)) }
+    ensures put { OnOk result (out.new.items ≡ out.old.items ++ (bytes_of Four sector.now.sector ++ sector.now.bytes)) }
+    ensures width { OnOk result (length sector.now.bytes ≡ 512) }
 {
     put(out, Width::Four, u64::from(sector.sector))?;
     out.extend_from_slice(&sector.bytes)?;

@@ -15,6 +15,7 @@ mod rules;
 mod states;
 #[cfg(test)]
 mod tests;
+mod widths;
 
 pub use encoding::encode;
 pub use errors::StreamError;

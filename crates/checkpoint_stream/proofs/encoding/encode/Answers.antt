@@ -1,15 +1,29 @@
+use Rattle.std.proofs.Common.{sym, ◌≡◌, subst}
+use Rattle.checkpoint_stream.specs.Text.{text}
+use Rattle.checkpoint_stream.specs.Widths.{HasWidths}
+use Rattle.checkpoint_stream.specs.ReadBack.{ReadsBack}
 use Rattle.checkpoint_stream.proofs.Spelling.{assembled, text-spelled}
+use Rattle.checkpoint_stream.proofs.TextRead.{has-widths, reads-back}
 use Rattle.checkpoint_stream.proofs.encoding.encode.Goals as goal
 
 pub returns : goal.returns
 returns c =
-    rw (
+    let spelled : c.put_sectors.new.out.items ≡ text c.args.checkpoint.now = rw (
       text-spelled c.args.checkpoint.now,
       ← c.numbers.ensures,
       ← c.pages-pages.ensures.value,
       ← c.blocks-blocks.ensures.value,
-      ←
-          c.sectors-sectors.ensures.value,
+      ← c.sectors-sectors.ensures.value,
     )
-    (assembled _ _ _ _ _ _ _ _ _ _ c.put_sectors.new.out.items c.in_ok-out.ensures.items c.in_ok-put_head.ensures c.in_ok-put.ensures
-    c.in_ok-put_pages.ensures c.in_ok-put-2.ensures c.in_ok-put_sectors.ensures)
+    (assembled _ _ _ _ _ _ _ _ _ _ c.put_sectors.new.out.items c.in_ok-out.ensures.items c.in_ok-put_head.ensures.put c.in_ok-put.ensures
+    c.in_ok-put_pages.ensures.put c.in_ok-put-2.ensures c.in_ok-put_sectors.ensures.put) in
+    let widths : HasWidths c.args.checkpoint.now
+    = has-widths c.args.checkpoint.now _ _ _ _ _ _ c.shape.ensures c.state.ensures.value c.numbers.ensures
+    c.pages-pages.ensures.value c.blocks-blocks.ensures.value c.sectors-sectors.ensures.value c.shape_widths.ensures.pages
+    c.shape_widths.ensures.sectors c.state_widths.ensures c.in_ok-put_head.ensures.width c.in_ok-put_pages.ensures.width
+    c.block_widths.ensures c.in_ok-put_sectors.ensures.width in
+    record {
+      text = spelled;
+      read = subst (ReadsBack c.args.checkpoint.now) (sym spelled) (reads-back c.args.checkpoint.now c.pages-pages.ensures.canonical widths);
+      widths = widths;
+    }

@@ -1,0 +1,37 @@
+-- A number and its bytes give each other.
+use Rattle.std.proofs.Common.{◌≡◌, ℕ, ◌<◌, ◌^◌, List, [], ◌∷◌, length, refl, arith}
+use Rattle.std.proofs.lemmas.Nat.{from_le_bytes-to_le_bytes_2, from_le_bytes-to_le_bytes_4, from_le_bytes-to_le_bytes_8}
+use Rattle.checkpoint_stream.specs.declared.rules.Width.{Width}
+use Rattle.checkpoint_stream.specs.declared.rules.Width.TheVariants.{Two, Four, Eight}
+use Rattle.checkpoint_stream.specs.declared.rules.Row.{Row}
+use Rattle.checkpoint_stream.specs.HeadTable.{bytes_in, bytes_of, number_of}
+
+-- the least number that a width can't hold
+abbrev pub limit_of : Width → ℕ
+limit_of Two = 2 ^ 16
+limit_of Four = 2 ^ 32
+limit_of Eight = 2 ^ 64
+
+pub number-back : (w : Width) (n : ℕ) → n < limit_of w → number_of w (bytes_of w n) ≡ n
+unfolding number_of bytes_of
+number-back Two n h = from_le_bytes-to_le_bytes_2 n h
+number-back Four n h = from_le_bytes-to_le_bytes_4 n h
+number-back Eight n h = from_le_bytes-to_le_bytes_8 n h
+
+pub length-bytes_of : (w : Width) (n : ℕ) → length (bytes_of w n) ≡ bytes_in w
+unfolding bytes_of
+length-bytes_of Two n = refl
+length-bytes_of Four n = refl
+length-bytes_of Eight n = refl
+
+pub some-bytes : (w : Width) (n : ℕ) → 0 < length (bytes_of w n)
+some-bytes Two n = omega (arith, length-bytes_of Two n)
+some-bytes Four n = omega (arith, length-bytes_of Four n)
+some-bytes Eight n = omega (arith, length-bytes_of Eight n)
+
+-- there is a number for each row, and each is as wide as its row
+abbrev pub AllFit : List Row → List ℕ → Type 0
+AllFit [] [] = Unit {0}
+AllFit [] (n ∷ ns) = ⊥
+AllFit (row ∷ rows) [] = ⊥
+AllFit (row ∷ rows) (n ∷ ns) = (n < limit_of row.width) × AllFit rows ns

@@ -1,0 +1,137 @@
+-- A checkpoint's text is read as this checkpoint.
+use Rattle.std.proofs.Common.{◌≡◌, ℕ, ◌<◌, ◌≤◌, ◌^◌, List, [], ◌∷◌, length, refl, sym, ◌∙◌, ap, subst, arith, lit<}
+use Rattle.std.proofs.lemmas.List.{length-map}
+use Rattle.std.proofs.Common.{All, drop}
+use Rattle.std.proofs.lemmas.List.Elements.{All-take, All-drop}
+use Rattle.guest_machine.specs.declared.shapes.Shape.{Shape}
+use Rattle.guest_machine.specs.declared.machine_state.MachineState.{MachineState}
+use Rattle.epoch_snapshot.specs.declared.changes.PageChange.{PageChange}
+use Rattle.epoch_snapshot.specs.declared.changes.SectorChange.{SectorChange}
+use Rattle.epoch_snapshot.specs.Checkpoints.{Change, IsCanonical, change_of}
+use Rattle.checkpoint_stream.specs.declared.rules.Width.TheVariants.{Four}
+use Rattle.checkpoint_stream.specs.declared.place.Place.TheVariants.{Head, PageCount, SectorCount, Whole}
+use Rattle.checkpoint_stream.specs.HeadTable.{head_table, bytes_of}
+use Rattle.checkpoint_stream.specs.Readings.{Reading, begun, judged, pages_due, sectors_due}
+use Rattle.checkpoint_stream.specs.Sound.{change_in, last_after}
+use Rattle.checkpoint_stream.specs.Taken.{Takes}
+use Rattle.checkpoint_stream.specs.Text.{head_numbers, numbers_from, number_units, page_units, sector_units, units, joined, text}
+use Rattle.checkpoint_stream.specs.Units.{judged_all, AreUnits}
+use Rattle.checkpoint_stream.specs.Widths.{HasWidths, StateFits}
+use Rattle.checkpoint_stream.specs.ReadBack.{ReadsBack}
+use Rattle.checkpoint_stream.proofs.Feeding.{Takes-nothing, Takes-append, Takes-unit}
+use Rattle.checkpoint_stream.proofs.Leading.{standing, Leads, Leads-append}
+use Rattle.checkpoint_stream.proofs.HeadRead.{numbers-lead}
+use Rattle.checkpoint_stream.proofs.HeadFits.{IsWord, head-passes, head-fits}
+use Rattle.checkpoint_stream.proofs.StateRead.{state-back, numbers-back}
+use Rattle.checkpoint_stream.proofs.RecordsRead.{FitsMask, IsBlockWide, IsSectorWide, Rises-end, PagesLeft, page_count-step, sector_count-step, pages-lead}
+use Rattle.checkpoint_stream.proofs.SectorsRead.{SectorsLeft, sectors-lead}
+
+-- units are taken whole, and read as these units
+pub units-taken : (r : Reading) (us : List (List ℕ)) → AreUnits r us → Takes r (joined us) (judged_all r us)
+unfolding joined
+units-taken r [] h = Takes-nothing r
+units-taken r (u ∷ us) h =
+    Takes-append r (judged r u) (judged_all (judged r u) us) u (joined us) (Takes-unit r (judged r u) u h.0 h.1 h.2 h.3 refl)
+    (units-taken (judged r u) us h.4)
+
+some-rows : 0 < length head_table
+unfolding head_table
+some-rows = lit< tt
+
+-- the reading that a whole checkpoint is
+abbrev whole : Change → ℕ → Reading
+whole c = standing c.shape Whole 80 (head_numbers c) (last_after 0 (head_numbers c)) c.pages c.blocks c.sectors
+
+page-count : (c : Change) → IsCanonical c → length c.pages ≤ c.shape.pages
+page-count c h = omega (arith, Rises-end 0 c.shape.pages _ h.pages, length-map c.pages (λ (p : PageChange). p.page))
+
+sector-count : (c : Change) → IsCanonical c → length c.sectors ≤ c.shape.sectors
+sector-count c h = omega (arith, Rises-end 0 c.shape.sectors _ h.sectors, length-map c.sectors (λ (s : SectorChange). s.sector))
+
+pages-left : (c : Change) → IsCanonical c → HasWidths c → PagesLeft c.shape 0 c.pages c.blocks
+pages-left c h w = record {
+  rises = h.pages;
+  small = w.page_count;
+  some = h.masks;
+  masks = w.masks;
+  count = h.block_count;
+  not_zero = h.blocks;
+  wide = w.blocks;
+}
+
+sectors-left : (c : Change) → IsCanonical c → HasWidths c → SectorsLeft c.shape (head_numbers c) 0 c.sectors
+unfolding head_numbers
+sectors-left c h w = record { rises = h.sectors; small = w.sector_count; full = h.full_sectors; wide = w.sectors }
+
+units-lead : (c : Change) → IsCanonical c → HasWidths c → Leads (standing c.shape Head 0 [] 0 [] [] []) (units c) (whole c)
+unfolding units
+units-lead c h w =
+    let head : List ℕ = head_numbers c in
+    let before : ℕ = last_after 0 head in
+    let pages_small : length c.pages < 2 ^ 32 = omega (arith, page-count c h, w.page_count) in
+    let sectors_small : length c.sectors < 2 ^ 32 = omega (arith, sector-count c h, w.sector_count) in
+    let heads : Leads (standing c.shape Head 0 [] 0 [] [] []) (number_units head_table head)
+    (standing c.shape PageCount 80 head before [] [] [])
+    = numbers-lead c.shape head_table head 0 [] 0 some-rows refl (head-passes c h) (head-fits c h w) in
+    let page_counted : Leads (standing c.shape PageCount 80 head before [] [] []) (bytes_of Four (length c.pages) ∷ [])
+    (standing c.shape (pages_due (length c.pages) 0) 80 head before [] [] [])
+    = page_count-step c.shape head before (length c.pages) (page-count c h) pages_small in
+    let pages : Leads (standing c.shape (pages_due (length c.pages) 0) 80 head before [] [] []) (page_units c.pages c.blocks)
+    (standing c.shape SectorCount 80 head before c.pages c.blocks [])
+    = pages-lead c.shape head before 0 [] c.pages [] c.blocks (pages-left c h w) in
+    let sector_counted : Leads (standing c.shape SectorCount 80 head before c.pages c.blocks [])
+    (bytes_of Four (length c.sectors) ∷ []) (standing c.shape (sectors_due (length c.sectors) 0) 80 head before c.pages c.blocks [])
+    = sector_count-step c.shape head before (length c.sectors) c.pages c.blocks (sector-count c h) sectors_small in
+    let sectors : Leads (standing c.shape (sectors_due (length c.sectors) 0) 80 head before c.pages c.blocks [])
+    (sector_units c.sectors) (whole c)
+    = sectors-lead c.shape head before 0 c.pages c.blocks [] c.sectors (sectors-left c h w) in
+    Leads-append _ _ _ _ _ heads (Leads-append _ _ _ _ _ (Leads-append _ _ _ _ _ page_counted pages)
+    (Leads-append _ _ _ _ _ sector_counted sectors))
+
+whole-change : (c : Change) (o : ℕ) → IsCanonical c → HasWidths c → change_in (whole c o) ≡ c
+unfolding change_in head_numbers
+whole-change c o h w =
+    ap (λ (s : MachineState). change_of c.shape c.generation c.number s c.pages c.blocks c.sectors) (state-back c h w.state)
+
+-- the text is taken whole, and with it the reading is the checkpoint's
+pub text-taken : (c : Change) (o : ℕ) → IsCanonical c → HasWidths c →
+    (p : ℕ) × (Takes (begun c.shape o) (text c) (whole c p))
+unfolding text
+text-taken c o h w =
+    let l : Leads (standing c.shape Head 0 [] 0 [] [] []) (units c) (whole c) = units-lead c h w in (
+      (l.lead o).0,
+      subst (λ (r : Reading). Takes (begun c.shape o) (joined (units c)) r) (l.lead o).1
+          (units-taken (begun c.shape o) (units c) (l.are o)),
+    )
+
+pub reads-back : (c : Change) → IsCanonical c → HasWidths c → ReadsBack c (text c)
+unfolding ReadsBack
+reads-back c h w = λ o.
+    let t : (p : ℕ) × (Takes (begun c.shape o) (text c) (whole c p)) = text-taken c o h w in
+    (ap (λ (r : Reading). r.place) (t.1.reading), ap change_in (t.1.reading) ∙ whole-change c t.0 h w, t.1.count)
+
+-- the registers are among the head's numbers
+registers-fit : (c : Change) → length c.state.registers ≡ 31 → All IsWord (head_numbers c) → All IsWord c.state.registers
+unfolding head_numbers
+registers-fit c count words =
+    let among : All IsWord (numbers_from c.state.registers 0 31 [])
+    = All-take IsWord 31 (drop 6 (head_numbers c)) (All-drop IsWord 6 (head_numbers c) words) in
+    subst (All IsWord) (numbers-back c.state.registers 0 31 (sym count)) among
+
+-- what a writer knows of a checkpoint, whose numbers and lists come from their types
+pub has-widths : (c : Change) (shape : Shape) (state : MachineState) (numbers : List ℕ) (pages : List PageChange)
+    (blocks : List (List ℕ)) (sectors : List SectorChange) → shape ≡ c.shape → state ≡ c.state → numbers ≡ head_numbers c →
+    pages ≡ c.pages → blocks ≡ c.blocks → sectors ≡ c.sectors → shape.pages < 2 ^ 32 → shape.sectors < 2 ^ 32 → StateFits state →
+    All IsWord numbers → All FitsMask pages → All IsBlockWide blocks → All IsSectorWide sectors → HasWidths c
+has-widths c shape state numbers pages blocks sectors is_shape is_state is_numbers is_pages is_blocks is_sectors
+    page_count sector_count fits words masks wide whole =
+    let all : StateFits c.state = subst StateFits is_state fits in
+    record {
+      page_count = subst (λ (s : Shape). s.pages < 2 ^ 32) is_shape page_count;
+      sector_count = subst (λ (s : Shape). s.sectors < 2 ^ 32) is_shape sector_count;
+      state = all;
+      registers = registers-fit c all.count (subst (All IsWord) is_numbers words);
+      masks = subst (All FitsMask) is_pages masks;
+      blocks = subst (All IsBlockWide) is_blocks wide;
+      sectors = subst (All IsSectorWide) is_sectors whole;
+    }
