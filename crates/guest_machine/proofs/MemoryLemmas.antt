@@ -15,8 +15,9 @@ use Rattle.virtio_mmio.specs.ServingLoop.{Served as DiskServed, standing}
 use Rattle.virtio_mmio.proofs.Rules.{stored-rules}
 use Rattle.net_device.specs.Transmit.{Served, rests, served}
 use Rattle.net_device.proofs.Kept.{served-length, served-rules, received-length, received-rules}
-use Rattle.block_device.specs.Contents.{Contents, contents_of}
+use Rattle.block_device.specs.Contents.{Contents, contents_of, capacity}
 use Rattle.block_device.specs.Disk.{disk_served}
+use Rattle.block_device.proofs.Serving.{disk_size}
 use Rattle.block_device.proofs.Kept.{disk_served-length, disk_served-rules, disk_served-capacity}
 use Rattle.guest_machine.specs.Guest.{Guest, sector_count, disk_kind, HasDeviceRecords, boot_guest}
 use Rattle.guest_machine.specs.Step.{acted, disk_acted, timer_stored, step_done, next, arrived}
@@ -165,6 +166,41 @@ next-sectors g =
       sets_timer = λ register value. timer_sectors g value register;
       serves = λ offset n value after is. refl;
       serves_disk = λ offset n value after is. disk_acted_sectors g.ram after.state (contents_of g.sectors []) after.action;
+      writes_csr = λ regs number value. refl;
+      returns = refl;
+    })
+
+-- ---- the number of the disk's bytes, whatever the records
+
+disk_served_bytes : (ram : List ℕ) (disk : DeviceState) (c : Contents) → length (disk_served ram disk c).kept.bytes ≡ length c.bytes
+unfolding disk_served
+disk_served_bytes ram disk c = disk_size ram disk c (Block (capacity c))
+
+disk_acted_bytes : (ram : List ℕ) (disk : DeviceState) (c : Contents) (a : Action) → length (disk_acted ram disk c a).kept.bytes ≡ length c.bytes
+disk_acted_bytes ram disk c asks.None = refl
+disk_acted_bytes ram disk c (asks.Notify queue) = either (queue == 0) (disk_served ram disk c) (standing ram disk c) (length c.bytes) (disk_served_bytes ram disk c) refl
+  where
+    either : (b : Bool) (x y : DiskServed Contents) (n : ℕ) → length x.kept.bytes ≡ n → length y.kept.bytes ≡ n → length (if b then x else y).kept.bytes ≡ n
+    either true x y n f h = f
+    either false x y n f h = h
+disk_acted_bytes ram disk c asks.Reset = refl
+
+timer_bytes : (g : Guest) (value : ℕ) (r : TimerRegister) → length (timer_stored g value r).sectors ≡ length g.sectors
+timer_bytes g value Msip = refl
+timer_bytes g value Mtimecmp = refl
+timer_bytes g value Mtime = refl
+
+pub next-disk_bytes : (g : Guest) → length (next g).sectors ≡ length g.sectors
+unfolding next
+next-disk_bytes g =
+    step_case (λ e. length e.guest.sectors ≡ length g.sectors) g (record {
+      trap = λ cause value. refl;
+      goes_on = λ regs pc aligned. refl;
+      loads = λ regs. refl;
+      stores = λ offset n value inside. refl;
+      sets_timer = λ register value. timer_bytes g value register;
+      serves = λ offset n value after is. refl;
+      serves_disk = λ offset n value after is. disk_acted_bytes g.ram after.state (contents_of g.sectors []) after.action;
       writes_csr = λ regs number value. refl;
       returns = refl;
     })

@@ -40,10 +40,11 @@ pub fn kept_memory()
     ensures rules_at_arrival { (g : Guest) (frame : ArrayVec ℕ) → HasDeviceRecords g → HasDeviceRecords (arrived g frame) }
 {}
 
-/// The disk has as many sectors as at boot after each step.
+/// The disk has as many sectors as at boot after each step, and as many bytes.
 pub fn kept_disk()
     ensures boot { (pages sectors : ℕ) (image : List ℕ) → sector_count (boot_guest pages sectors image).sectors ≡ sectors }
     ensures step { (g : Guest) → sector_count (next g).sectors ≡ sector_count g.sectors }
+    ensures bytes { (g : Guest) → length (next g).sectors ≡ length g.sectors }
 {}
 
 /// Steps change no sector that isn't in the list of written sectors afterwards, and take none off it. (An arrival changes no sector, and

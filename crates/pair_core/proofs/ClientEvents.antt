@@ -40,6 +40,7 @@ module _ (w : Pair) (h : Holds w) (es : List Entry) (now : HistoryState)
     (ports : PortsState)
     (clients : AreClients now (left now.waiting (kept_moves w h)) ports)
     (window : Window) (pending : List Epoch)
+    (stays : window.to_commit ≡ w.protocol.window.to_commit)
     (same : uncommitted_of window pending ≡ uncommitted_of w.protocol.window w.protocol.pending)
     (owed : now.out ≡ targets_of (length ports.boxes) (frames_of (committed_of window pending))) where
   pub history_holds : Holds (record w { protocol = record w.protocol { journal = with_history w.protocol.journal es; window = window; pending = pending }; ports = ports })
@@ -58,8 +59,9 @@ module _ (w : Pair) (h : Holds w) (es : List Entry) (now : HistoryState)
           can = subst (λ (t : HistoryState). AllCan t.waiting ms) shown can;
         };
         nodes =
-            subst (λ (us : List Epoch). AreNodes (at w.start (history ++ es)).guest h.journal.sealed_moves h.journal.running_moves (frames_by_epoch us) w.nodes) (sym same)
-            (subst (λ (g : Guest). AreNodes g h.journal.sealed_moves h.journal.running_moves (frames_by_epoch (uncommitted_of w.protocol.window w.protocol.pending)) w.nodes) (sym guest ∙ ap (λ t. t.guest) shown) h.nodes);
+            subst (λ (n : ℕ). AreNodes w.protocol.generation n (at w.start (history ++ es)).guest h.journal.sealed_moves h.journal.running_moves (frames_by_epoch (uncommitted_of window pending)) w.nodes) (sym stays)
+            (subst (λ (us : List Epoch). AreNodes w.protocol.generation w.protocol.window.to_commit (at w.start (history ++ es)).guest h.journal.sealed_moves h.journal.running_moves (frames_by_epoch us) w.nodes) (sym same)
+            (subst (λ (g : Guest). AreNodes w.protocol.generation w.protocol.window.to_commit g h.journal.sealed_moves h.journal.running_moves (frames_by_epoch (uncommitted_of w.protocol.window w.protocol.pending)) w.nodes) (sym guest ∙ ap (λ t. t.guest) shown) h.nodes));
         clients = subst (λ (t : HistoryState). AreClients t (left t.waiting ms) ports) shown clients;
         owed = ap (λ t. t.out) (sym shown) ∙ owed;
       }
@@ -116,7 +118,7 @@ module _ (w : Pair) (h : Holds w) where
         boxes = refl;
         fit = BoxesFit-lands b ps h.clients.fit;
       })
-      (ack_done b r n).1.window (ack_done b r n).1.pending (uncommitted_left r.window r.pending k.window n below)
+      (ack_done b r n).1.window (ack_done b r n).1.pending refl (uncommitted_left r.window r.pending k.window n below)
       (ap (λ (x : ℕ). targets_of x (frames_of t.stay)) (sym long)
       ∙ ap (λ x. targets_of (length (lands b ps)) (frames_of x)) (sym (committed_left r.window r.pending k.window n below)))
 
@@ -141,7 +143,7 @@ module _ (w : Pair) (h : Holds w) where
           boxes = refl;
           fit = BoxesFit-set b (c - 1) (drop 1 box) h.clients.fit (shorter box (BoxesFit-at b (c - 1) h.clients.fit));
         })
-        w.protocol.window w.protocol.pending refl
+        w.protocol.window w.protocol.pending refl refl
         (h.owed ∙ ap (λ (x : ℕ). targets_of x (frames_of (committed_of w.protocol.window w.protocol.pending))) (sym long))
       where
         answer : (s : HistoryState) (c : ℕ) (box : List Frame) → list_of s.boxes c ≡ box → 1 ≤ c → c ≤ length s.boxes → Allows s (Took c (slice_get box 0))
@@ -181,7 +183,7 @@ module _ (w : Pair) (h : Holds w) where
           boxes = h.clients.boxes;
           fit = h.clients.fit;
         })
-        w.protocol.window w.protocol.pending refl h.owed
+        w.protocol.window w.protocol.pending refl refl h.owed
 
     -- LoseOut: a frame leaves the box
     pub lose_out_holds : (place : ℕ) → place < length (list_of w.ports.boxes c)
@@ -213,7 +215,7 @@ module _ (w : Pair) (h : Holds w) where
               BoxesFit-set b (c - 1) fewer h.clients.fit
               (let k = length-remove box place there in let l = BoxesFit-at b (c - 1) h.clients.fit in omega arith);
         })
-        w.protocol.window w.protocol.pending refl
+        w.protocol.window w.protocol.pending refl refl
         (h.owed ∙ ap (λ (x : ℕ). targets_of x (frames_of (committed_of w.protocol.window w.protocol.pending))) (sym long))
 
     module _ (bytes : List ℕ) (frame : IsFrame (record { items = bytes })) where
@@ -248,7 +250,7 @@ module _ (w : Pair) (h : Holds w) where
             boxes = h.clients.boxes;
             fit = h.clients.fit;
           })
-          w.protocol.window w.protocol.pending refl h.owed
+          w.protocol.window w.protocol.pending refl refl h.owed
 
       -- Deliver at a full inbox: that is recorded, and that is all
       pub full_holds : INBOX_FRAMES ≤ length (list_of w.ports.inboxes c) → Holds (record w { protocol = record w.protocol { journal = with_history w.protocol.journal (Refused c the_frame ∷ []) } })
@@ -258,4 +260,4 @@ module _ (w : Pair) (h : Holds w) where
           let fewer = left-shorter c s.waiting (kept_moves w h) in
           let many : INBOX_FRAMES ≤ length (inbox_of c s.waiting) = omega arith in
           history_holds w h (Refused c the_frame ∷ []) s refl refl (((low, high_there c high), frame, many), tt) tt h.journal.can w.ports h.clients
-          w.protocol.window w.protocol.pending refl h.owed
+          w.protocol.window w.protocol.pending refl refl h.owed

@@ -1,20 +1,23 @@
 -- What is kept true from event to event gives what contracts say.
-use Rattle.std.proofs.Common.{◌≡◌, List, [], ◌∷◌, ◌++◌, length, take, drop, refl, sym, ap, ◌∙◌, subst, append_assoc}
+use Rattle.std.proofs.Common.{◌≡◌, ℕ, ◌+◌, List, [], ◌∷◌, ◌++◌, length, refl, sym, ap, ◌∙◌, subst, append_assoc}
 use Rattle.std.specs.Prelude.{map}
 use Rattle.std.proofs.lemmas.List.{map-append, take-append-drop}
+use Rattle.guest_machine.specs.declared.shapes.Shape.{Shape}
 use Rattle.guest_machine.specs.Guest.{Guest}
+use Rattle.epoch_snapshot.specs.Bases.{IsBase}
 use Rattle.frame_ports.specs.Addresses.{targets_of}
 use Rattle.output_gate.specs.Epochs.{Epoch, frames_of}
-use Rattle.pair_history.specs.Entries.{Frame}
-use Rattle.pair_history.specs.HistoryState.{at, sent_along, Legal}
-use Rattle.pair_history.specs.Moves.{Move, entry_of, entries_of, guest_along, frames_along, left}
+use Rattle.pair_history.specs.Entries.{Frame, Entry}
+use Rattle.pair_history.specs.HistoryState.{HistoryState, at, sent_along, Legal}
+use Rattle.pair_history.specs.Moves.{Move, entry_of, entries_of, guest_along, frames_along, AllCan}
 use Rattle.pair_history.proofs.States.{at-append, targets_of-append}
 use Rattle.pair_history.proofs.Moves.{moved, at-moves, Legal-moves, sent_along-moves, frames_along-append, AllCan-front, AllCan-back}
-use Rattle.pair_core.specs.Invariant.{all_moves, epoch_nodes, epoch_frames, frames_by_epoch, AreInboxes, Holds}
+use Rattle.pair_core.specs.Invariant.{all_moves, epoch_frames, frames_by_epoch, AreInboxes, AreSealed, Holds}
 use Rattle.pair_core.specs.Journal.{joined, kept_entries}
-use Rattle.pair_core.specs.Nodes.{Node}
-use Rattle.pair_core.specs.Pair.{Pair, shown_state, live_state, AllSettled, IsConsistent}
+use Rattle.pair_core.specs.Nodes.{machine_of}
+use Rattle.pair_core.specs.Pair.{Pair, shown_state, live_state, IsConsistent}
 use Rattle.pair_core.specs.Protocol.{outbox_of}
+use Rattle.pair_core.specs.Texts.{IsText, AreTexts}
 use Rattle.pair_core.specs.Window.{committed_count, committed_of, uncommitted_of}
 use Rattle.pair_core.proofs.Events.{frames_of-append, kept_moves, left_now}
 
@@ -22,9 +25,19 @@ joined-entries : (mss : List (List Move)) → joined (map entries_of mss) ≡ en
 joined-entries [] = refl
 joined-entries (ms ∷ mss) = ap (λ t. entries_of ms ++ t) (joined-entries mss) ∙ sym (map-append entry_of ms (all_moves mss))
 
-all_settled : (g : Guest) (mss : List (List Move)) → AllSettled (epoch_nodes g mss)
-all_settled g [] = tt
-all_settled g (ms ∷ mss) = (refl, all_settled (guest_along g ms) mss)
+-- the texts of epochs of moves are those of their entries
+texts_are : (shape : Shape) (generation n : ℕ) (s : HistoryState) (mss : List (List Move)) (rest : List Move) (texts : List (List ℕ))
+    → AllCan s.waiting (all_moves mss ++ rest) → AreSealed shape generation n s.guest mss texts → AreTexts shape generation n s (map entries_of mss) texts
+texts_are shape generation n s [] rest [] can h = tt
+texts_are shape generation n s [] rest (t ∷ texts) can h = absurd h
+texts_are shape generation n s (ms ∷ mss) rest [] can h = absurd h
+texts_are shape generation n s (ms ∷ mss) rest (t ∷ texts) can h =
+    let apart : AllCan s.waiting (ms ++ (all_moves mss ++ rest)) = subst (AllCan s.waiting) (append_assoc ms (all_moves mss) rest) can in
+    let is : moved s ms ≡ at s (entries_of ms) = sym (at-moves s ms (AllCan-front s.waiting ms (all_moves mss ++ rest) apart)) in (
+      subst (λ (a : HistoryState). IsText shape generation n s.guest a.guest t) is h.0,
+      subst (λ (a : HistoryState). AreTexts shape generation (n + 1) a (map entries_of mss) texts) is
+          (texts_are shape generation (n + 1) (moved s ms) mss rest texts (AllCan-back s.waiting ms (all_moves mss ++ rest) apart) h.1),
+    )
 
 -- what the kept entries do to the shown state
 module _ (w : Pair) (h : Holds w) where
@@ -96,8 +109,13 @@ module _ (w : Pair) (h : Holds w) where
     drops = h.journal.drops;
     goes_on = subst (Legal (shown_state w)) (sym kept_is) (Legal-moves (shown_state w) (kept_moves w h) h.journal.can);
     live = sym live_is;
+    base = subst (λ (s : HistoryState). IsBase (machine_of w.nodes.live) s.guest) (sym sealed_state) h.nodes.base;
     image = h.nodes.image;
-    sealed = subst AllSettled (sym h.nodes.sealed) (all_settled (shown_state w).guest h.journal.sealed_moves);
+    stands_at = h.nodes.stands_at;
+    staged = h.nodes.staged;
+    sealed =
+        subst (λ (ess : List (List Entry)). AreTexts w.nodes.image.shape w.protocol.generation w.protocol.window.to_commit (shown_state w) ess w.nodes.sealed) (sym h.journal.sealed_are)
+        (texts_are w.nodes.image.shape w.protocol.generation w.protocol.window.to_commit (shown_state w) h.journal.sealed_moves h.journal.running_moves w.nodes.sealed h.journal.can h.nodes.sealed);
     outbox = sym outbox_is;
     number = h.clients.number;
     clients = h.clients.count;

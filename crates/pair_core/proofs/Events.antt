@@ -1,49 +1,40 @@
 -- Each event keeps the invariant: one lemma for each part that it touches, and the others pass on by name.
-use Rattle.std.proofs.Common.{◌≡◌, ◌≢◌, ℕ, zero, suc, ◌+◌, ◌-◌, ◌<◌, ◌≤◌, List, [], ◌∷◌, ◌++◌, length, take, drop, remove, get_or, replicate, refl, sym, ap, ◌∙◌, subst, arith, append_assoc, true, false, cond, Some, ⊎_elim}
+use Rattle.std.proofs.Common.{◌≡◌, ◌≢◌, ℕ, zero, suc, ◌+◌, ◌-◌, ◌*◌, ◌<◌, ◌≤◌, List, [], ◌∷◌, ◌++◌, length, take, drop, remove, get_or, replicate, refl, sym, ap, ◌∙◌, subst, arith, append_assoc, Bool, true, false, cond, Some, ⊎_elim}
 use Rattle.std.specs.Prelude.{map, slice_get, ◌==◌}
 use Rattle.std.proofs.lemmas.Bool.{eq-eqb}
 use Rattle.std.proofs.lemmas.Bool.Decides.{nat_tests, eqb_tells}
 use Rattle.std.proofs.lemmas.List.{append-nil, length-map, length-replicate, length-set, map-append, get_or-set_same, get_or-set_other, drop-append-le, take-append-le}
+use Rattle.guest_machine.specs.declared.shapes.Shape.{Shape}
 use Rattle.guest_machine.specs.Guest.{Guest, boot_guest}
-use Rattle.frame_ports.specs.Addresses.{targets_of}
-use Rattle.frame_ports.specs.Lands.{list_of, with_list}
-use Rattle.frame_ports.specs.Ports.{empty_ports}
-use Rattle.output_gate.specs.Epochs.{Epoch, frames_of}
-use Rattle.pair_history.specs.Entries.{Frame, Entry}
-use Rattle.pair_history.specs.HistoryState.{HistoryState, Waiting, inbox_of, without_number, at, Legal, start_state}
-use Rattle.pair_history.specs.Landings.{DropsAreKnown, BoxesFit}
+use Rattle.epoch_snapshot.specs.Bases.{IsBase}
+use Rattle.frame_ports.specs.Addresses.{IsFrame, targets_of}
+use Rattle.frame_ports.specs.Lands.{list_of, with_list, lands}
+use Rattle.frame_ports.specs.Ports.{PortsState, empty_ports, after_delivery}
+use Rattle.frame_ports.specs.declared.limits.TheConstants.{INBOX_FRAMES, BOX_FRAMES}
+use Rattle.output_gate.specs.Epochs.{Epoch, frames_to, frames_of}
+use Rattle.pair_history.specs.Entries.{Frame, Entry, Delivered, Refused, Took}
+use Rattle.pair_history.specs.HistoryState.{HistoryState, Waiting, inbox_of, without_number, at, Legal, Allows, start_state}
+use Rattle.pair_history.specs.Landings.{BoxesFit, DropsAreKnown}
 use Rattle.pair_history.specs.Moves.{Move, Arrives, entry_of, entries_of, guest_along, frames_along, left, AllCan, AreRising}
-use Rattle.pair_history.proofs.States.{at-append, Legal-append, DropsAreKnown-append, targets_of-append}
-use Rattle.pair_history.proofs.Waiting.{StandsAt, Leaves, leaves-at}
-use Rattle.pair_history.proofs.Losses.{AreRising-left}
-use Rattle.pair_history.proofs.Moves.{guest_along-append, frames_along-append, left-append, AllCan-append, AllCan-front, AllCan-back, moved, at-moves, Legal-moves, DropsAreKnown-moves}
-use Rattle.pair_core.specs.Invariant.{all_moves, epoch_nodes, epoch_frames, frames_by_epoch, AreInboxes, AreNodes, AreClients, Holds}
-use Rattle.pair_core.specs.Journal.{with_running, first_of, rest_of}
+use Rattle.pair_history.proofs.States.{at-append, Legal-append, targets_of-append, DropsAreKnown-append}
+use Rattle.pair_history.proofs.Waiting.{inbox_of-append, AreRising-push, AreRising-without, Leaves, StandsAt, leaves-at}
+use Rattle.pair_history.proofs.Moves.{guest_along-append, frames_along-append, left-append, AllCan-append, AllCan-front, AllCan-back, moved, at-moves, Legal-moves, AllCan-more, left-more, left-shorter, DropsAreKnown-moves}
+use Rattle.pair_history.proofs.LandingLaws.{length-lands, BoxesFit-set, BoxesFit-at, BoxesFit-lands, AllClients-targets, landings-land, AllLand, AllClients}
+use Rattle.pair_core.specs.declared.window.Window.{Window}
+use Rattle.pair_core.specs.Invariant.{all_moves, epoch_frames, frames_by_epoch, AreInboxes, AreSealed, AreNodes, AreClients, Holds}
+use Rattle.pair_core.specs.Journal.{with_history, with_running, first_of, rest_of}
 use Rattle.pair_core.specs.Lines.{Lines}
-use Rattle.pair_core.specs.Nodes.{Node, settled, start_nodes, with_arrival, with_sealed, with_commit, first_node, later_nodes}
+use Rattle.pair_core.specs.Nodes.{Node, HasShape, machine_of, start_nodes, with_arrival, with_sealed, with_commit, first_text}
+use Rattle.pair_core.specs.Texts.{IsText}
 use Rattle.pair_core.specs.Pair.{Pair, shown_state}
-use Rattle.pair_core.specs.Protocol.{cut_done, commit_done}
-use Rattle.pair_core.specs.Record.{IsRecord, start_record, ports_after_admit}
+use Rattle.pair_core.specs.Protocol.{cut_done, commit_done, ack_done, deliver_done, take_done, let_go}
+use Rattle.pair_core.specs.Record.{IsRecord, start_record, ports_after_ack, ports_after_admit, ports_after_take}
 use Rattle.pair_core.specs.Window.{committed_of, uncommitted_of, committed_count}
-use Rattle.pair_core.proofs.WindowLaws.{within}
+use Rattle.pair_core.proofs.NodesLaws.{all_moves-push, shape-arrived, base-with_arrival, first-sealed, length-sealed, nodes-cut, nodes-commit, nodes-start}
+use Rattle.pair_core.proofs.WindowLaws.{within, leaves, gone, committed_left, uncommitted_left}
+use Rattle.pair_history.proofs.Losses.{AreRising-left}
 
 -- Lists of epochs
-
-all_moves-push : (mss : List (List Move)) (ms : List Move) → all_moves (mss ++ ms ∷ []) ≡ all_moves mss ++ ms
-all_moves-push [] ms = append-nil ms
-all_moves-push (x ∷ mss) ms = ap (λ t. x ++ t) (all_moves-push mss ms) ∙ sym (append_assoc x (all_moves mss) ms)
-
-epoch_nodes-push : (g : Guest) (mss : List (List Move)) (ms : List Move) → epoch_nodes g (mss ++ ms ∷ []) ≡ epoch_nodes g mss ++ settled (guest_along (guest_along g (all_moves mss)) ms) ∷ []
-epoch_nodes-push g [] ms = refl
-epoch_nodes-push g (x ∷ mss) ms =
-    ap (λ t. settled (guest_along g x) ∷ t) (epoch_nodes-push (guest_along g x) mss ms)
-    ∙ ap (λ h. settled (guest_along g x) ∷ (epoch_nodes (guest_along g x) mss ++ settled (guest_along h ms) ∷ [])) (sym (guest_along-append g x (all_moves mss)))
-
-epoch_frames-push : (g : Guest) (mss : List (List Move)) (ms : List Move) → epoch_frames g (mss ++ ms ∷ []) ≡ epoch_frames g mss ++ frames_along (guest_along g (all_moves mss)) ms ∷ []
-epoch_frames-push g [] ms = refl
-epoch_frames-push g (x ∷ mss) ms =
-    ap (λ t. frames_along g x ∷ t) (epoch_frames-push (guest_along g x) mss ms)
-    ∙ ap (λ h. frames_along g x ∷ (epoch_frames (guest_along g x) mss ++ frames_along h ms ∷ [])) (sym (guest_along-append g x (all_moves mss)))
 
 pub frames_of-append : (xs ys : List Epoch) → frames_of (xs ++ ys) ≡ frames_of xs ++ frames_of ys
 frames_of-append [] ys = refl
@@ -70,6 +61,8 @@ module _ (w : Pair) (h : Holds w) (ms : List Move) (es : List Entry) (live : Nod
     (es_are : es ≡ entries_of ms)
     (guest : live.guest ≡ guest_along w.nodes.live.guest ms)
     (outbox : live.outbox ≡ w.nodes.live.outbox ++ frames_along w.nodes.live.guest ms)
+    (shape : (t : Shape) → HasShape t w.nodes.live.guest → HasShape t live.guest)
+    (base : (b : Guest) → IsBase (machine_of w.nodes.live) b → IsBase (machine_of live) b)
     (can : AllCan (left_now w h) ms)
     (clients : AreClients (shown_state w) (left (left_now w h) ms) (record w.ports { inboxes = inboxes })) where
   pub moves_hold : Holds (record w { protocol = record w.protocol { journal = with_running w.protocol.journal es }; ports = record w.ports { inboxes = inboxes }; nodes = record w.nodes { live = live } })
@@ -94,13 +87,20 @@ module _ (w : Pair) (h : Holds w) (ms : List Move) (es : List Entry) (live : Nod
           can = subst (AllCan s.waiting) regroup (AllCan-append s.waiting now ms h.journal.can can);
         };
         nodes = record {
+          first_generation = h.nodes.first_generation;
+          last_generation = h.nodes.last_generation;
+          some_committed = h.nodes.some_committed;
           image = h.nodes.image;
+          stands_at = h.nodes.stands_at;
+          staged = h.nodes.staged;
           sealed = h.nodes.sealed;
           frames = h.nodes.frames;
           live = guest ∙ ap (λ x. guest_along x ms) h.nodes.live ∙ sym (guest_along-append s.guest now ms) ∙ ap (guest_along s.guest) regroup;
           outbox =
               outbox ∙ ap (λ t. t ++ frames_along w.nodes.live.guest ms) h.nodes.outbox
               ∙ ap (λ x. frames_along g ran ++ frames_along x ms) live_is ∙ sym (frames_along-append g ran ms);
+          shape = shape w.nodes.image.shape h.nodes.shape;
+          base = base g h.nodes.base;
         };
         clients = subst (λ (v : List Waiting). AreClients s v (record w.ports { inboxes = inboxes })) left_is clients;
         owed = h.owed;
@@ -139,7 +139,7 @@ admit_holds w h c n f low high first =
     let leaves : Leaves c 0 n f ws = leaves-at c 0 n f 1 w.ports.next ws rising starts in
     let same : (c == c) ≡ true = eq-eqb c c refl in
     moves_hold w h (Arrives n f ∷ []) (entries_of (Arrives n f ∷ [])) (with_arrival w.nodes f).live (with_list inboxes c (drop 1 (list_of inboxes c))) refl refl
-    (sym (append-nil w.nodes.live.outbox))
+    (sym (append-nil w.nodes.live.outbox)) (λ t k. shape-arrived f t w.nodes.live.guest k) (λ b k. base-with_arrival f w.nodes b k)
     (((c, f, starts), leaves.0), tt)
     (record {
       number = k.number;
@@ -155,68 +155,73 @@ admit_holds w h c n f low high first =
 
 -- CUT: the running epoch is sealed
 
-pub cut_holds : (w : Pair) → Holds w → IsRecord w.protocol → Holds (record w { protocol = (cut_done w.nodes.live.outbox w.protocol).1; nodes = with_sealed w.nodes (settled w.nodes.live.guest) })
-cut_holds w h k =
-    let s = shown_state w in
-    let j = w.protocol.journal in
-    let e : Epoch = record { number = w.protocol.window.to_cut; frames = w.nodes.live.outbox } in
-    let n = committed_count w.protocol.window in
-    let pending = w.protocol.pending in
-    let enough = within w.protocol.window pending k.window in
-    let mss = h.journal.sealed_moves in
-    let ran = h.journal.running_moves in
-    let same : kept_moves w h ≡ all_moves (mss ++ ran ∷ []) ++ [] = sym (append-nil (all_moves (mss ++ ran ∷ [])) ∙ all_moves-push mss ran) in
-    let live_is : w.nodes.live.guest ≡ guest_along (guest_along s.guest (all_moves mss)) ran = h.nodes.live ∙ guest_along-append s.guest (all_moves mss) ran in
-    record {
-      journal = record {
-        legal = h.journal.legal;
-        drops = h.journal.drops;
-        sealed_moves = mss ++ ran ∷ [];
-        running_moves = [];
-        sealed_are =
-            ap (λ t. t ++ j.running ∷ []) h.journal.sealed_are ∙ ap (λ t. map entries_of mss ++ t ∷ []) h.journal.running_are
-            ∙ sym (map-append entries_of mss (ran ∷ []));
-        running_are = refl;
-        can = subst (AllCan s.waiting) same h.journal.can;
-      };
-      nodes = record {
-        image = h.nodes.image;
-        sealed =
-            ap (λ t. t ++ settled w.nodes.live.guest ∷ []) h.nodes.sealed ∙ ap (λ g. epoch_nodes s.guest mss ++ settled g ∷ []) live_is
-            ∙ sym (epoch_nodes-push s.guest mss ran);
-        frames =
-            ap frames_by_epoch (drop-append-le n pending (e ∷ []) enough)
-            ∙ map-append (λ (x : Epoch). x.frames) (drop n pending) (e ∷ [])
-            ∙ ap (λ t. t ++ w.nodes.live.outbox ∷ []) h.nodes.frames
-            ∙ ap (λ t. epoch_frames s.guest mss ++ t ∷ []) h.nodes.outbox
-            ∙ sym (epoch_frames-push s.guest mss ran);
-        live = h.nodes.live ∙ ap (guest_along s.guest) same;
-        outbox = refl;
-      };
-      clients = subst (λ (ms : List Move). AreClients s (left s.waiting ms) w.ports) same h.clients;
-      owed = h.owed ∙ ap (λ t. targets_of (length w.ports.boxes) (frames_of t)) (sym (take-append-le n pending (e ∷ []) enough));
-    }
+module _ (w : Pair) (h : Holds w) (k : IsRecord w.protocol) (text : List ℕ)
+    (is_text : (base : Guest) → IsBase (machine_of w.nodes.live) base → HasShape w.nodes.image.shape w.nodes.live.guest
+    → IsText w.nodes.image.shape w.protocol.generation w.protocol.window.to_cut base w.nodes.live.guest text) where
+  pub cut_holds : Holds (record w { protocol = (cut_done w.nodes.live.outbox w.protocol).1; nodes = with_sealed w.nodes text })
+  cut_holds =
+      let s = shown_state w in
+      let j = w.protocol.journal in
+      let e : Epoch = record { number = w.protocol.window.to_cut; frames = w.nodes.live.outbox } in
+      let n = committed_count w.protocol.window in
+      let pending = w.protocol.pending in
+      let enough = within w.protocol.window pending k.window in
+      let mss = h.journal.sealed_moves in
+      let ran = h.journal.running_moves in
+      let same : kept_moves w h ≡ all_moves (mss ++ ran ∷ []) ++ [] = sym (append-nil (all_moves (mss ++ ran ∷ [])) ∙ all_moves-push mss ran) in
+      let counted : w.protocol.window.to_commit + length mss ≡ w.protocol.window.to_cut =
+      ap (λ (m : ℕ). w.protocol.window.to_commit + m) (sym (ap length h.journal.sealed_are ∙ length-map mss entries_of)) ∙ k.sealed in
+      let frames : frames_by_epoch (drop n pending) ++ w.nodes.live.outbox ∷ [] ≡ frames_by_epoch (drop n (pending ++ e ∷ [])) =
+      sym (ap frames_by_epoch (drop-append-le n pending (e ∷ []) enough) ∙ map-append (λ (x : Epoch). x.frames) (drop n pending) (e ∷ [])) in
+      record {
+        journal = record {
+          legal = h.journal.legal;
+          drops = h.journal.drops;
+          sealed_moves = mss ++ ran ∷ [];
+          running_moves = [];
+          sealed_are =
+              ap (λ t. t ++ j.running ∷ []) h.journal.sealed_are ∙ ap (λ t. map entries_of mss ++ t ∷ []) h.journal.running_are
+              ∙ sym (map-append entries_of mss (ran ∷ []));
+          running_are = refl;
+          can = subst (AllCan s.waiting) same h.journal.can;
+        };
+        nodes =
+            subst (λ (held : List (List Frame)). AreNodes w.protocol.generation w.protocol.window.to_commit s.guest (mss ++ ran ∷ []) [] held (with_sealed w.nodes text)) frames
+            (nodes-cut w.protocol.generation w.protocol.window.to_commit s.guest mss ran (frames_by_epoch (drop n pending)) w.nodes w.protocol.window.to_cut text h.nodes counted
+            (is_text (guest_along s.guest (all_moves mss)) h.nodes.base h.nodes.shape));
+        clients = subst (λ (ms : List Move). AreClients s (left s.waiting ms) w.ports) same h.clients;
+        owed = h.owed ∙ ap (λ t. targets_of (length w.ports.boxes) (frames_of t)) (sym (take-append-le n pending (e ∷ []) enough));
+      }
 
 -- SEND, and an acknowledgement sent again: only the lines
 
 pub lines_hold : (w : Pair) → Holds w → (l : Lines) → Holds (record w { protocol = record w.protocol { lines = l } })
 lines_hold w h l = record { journal = h.journal; nodes = h.nodes; clients = h.clients; owed = h.owed }
 
--- each checkpoint that was cut and not committed has its machine
-pub some_nodes : (w : Pair) → Holds w → IsRecord w.protocol → w.protocol.window.to_commit < w.protocol.window.to_cut → 0 < length w.nodes.sealed
-some_nodes w h k more =
-    let a = ap length h.nodes.sealed in
-    let b = length-nodes (shown_state w).guest h.journal.sealed_moves in
-    let c = ap length h.journal.sealed_are in
-    let d = length-map h.journal.sealed_moves entries_of in
-    let e = k.sealed in
-    omega arith
-  where
-    length-nodes : (g : Guest) (mss : List (List Move)) → length (epoch_nodes g mss) ≡ length mss
-    length-nodes g [] = refl
-    length-nodes g (ms ∷ mss) = ap suc (length-nodes (guest_along g ms) mss)
+-- each checkpoint that was cut and not committed has its text
+module _ (w : Pair) (h : Holds w) (k : IsRecord w.protocol) (more : w.protocol.window.to_commit < w.protocol.window.to_cut) where
+  abbrev IsOldest : Guest → List (List ℕ) → Type 0
+  IsOldest after texts =
+      (0 < length texts)
+      × IsText w.nodes.image.shape w.protocol.generation w.protocol.window.to_commit (shown_state w).guest after (first_text texts)
 
--- COMMIT: the oldest sealed epoch moves to the history, and its machine is the image
+  pub oldest_text : (after : Guest) × IsOldest after w.nodes.sealed
+  oldest_text =
+      let c = ap length h.journal.sealed_are in
+      let d = length-map h.journal.sealed_moves entries_of in
+      let e = k.sealed in
+      by_moves h.journal.sealed_moves h.nodes.sealed (omega arith)
+    where
+      by_moves : (mss : List (List Move)) → AreSealed w.nodes.image.shape w.protocol.generation w.protocol.window.to_commit (shown_state w).guest mss w.nodes.sealed
+          → 0 < length mss → (after : Guest) × IsOldest after w.nodes.sealed
+      by_moves [] s l = absurd (omega arith)
+      by_moves (ms ∷ mss) s l =
+          let n = w.protocol.window.to_commit in
+          let g = (shown_state w).guest in
+          let same = length-sealed w.nodes.image.shape w.protocol.generation n g (ms ∷ mss) w.nodes.sealed s in
+          (guest_along g ms, (omega arith, first-sealed w.nodes.image.shape w.protocol.generation n g ms mss w.nodes.sealed s))
+
+-- COMMIT: the oldest sealed epoch moves to the history, and the image takes its checkpoint in
 
 module _ (w : Pair) (h : Holds w) (k : IsRecord w.protocol) where
   abbrev after_commit : Pair
@@ -240,7 +245,6 @@ module _ (w : Pair) (h : Holds w) (k : IsRecord w.protocol) where
       let shown : at w.start (j.history ++ first_of j.sealed) ≡ moved s ms =
       at-append w.start j.history (first_of j.sealed) ∙ ap (at s) first ∙ at-moves s ms front in
       let guest : g ≡ (at w.start (j.history ++ first_of j.sealed)).guest = sym (ap (λ t. t.guest) shown) in
-      let nodes_are : w.nodes.sealed ≡ settled g ∷ epoch_nodes g mss = h.nodes.sealed ∙ ap (epoch_nodes s.guest) moves_are in
       let sents : e.frames ∷ frames_by_epoch us ≡ frames_along s.guest ms ∷ epoch_frames g mss =
       ap frames_by_epoch (sym us_is) ∙ h.nodes.frames ∙ ap (epoch_frames s.guest) moves_are in
       let e_sent : e.frames ≡ frames_along s.guest ms = cc in
@@ -259,15 +263,17 @@ module _ (w : Pair) (h : Holds w) (k : IsRecord w.protocol) where
           running_are = h.journal.running_are;
           can = subst (λ (t : HistoryState). AllCan t.waiting rest) (sym shown) (AllCan-back s.waiting ms rest can);
         };
-        nodes = subst (λ (x : Guest). AreNodes x mss h.journal.running_moves (frames_by_epoch (drop ((r.window.to_commit + 1) - r.window.to_acknowledge) r.pending)) (with_commit w.nodes)) guest (record {
-          image = image_of w.nodes.image (settled g) (epoch_nodes g mss) w.nodes.sealed nodes_are;
-          sealed = sealed_of (settled g) (epoch_nodes g mss) w.nodes.sealed nodes_are;
-          frames = ap (λ m. frames_by_epoch (drop m r.pending)) one_more ∙ ap frames_by_epoch next.1 ∙ us_sent;
-          live = h.nodes.live ∙ ap (guest_along s.guest) split_moves ∙ guest_along-append s.guest ms rest;
-          outbox =
-              h.nodes.outbox ∙ ap (λ t. frames_along (guest_along s.guest t) h.journal.running_moves) all_is
-              ∙ ap (λ x. frames_along x h.journal.running_moves) (guest_along-append s.guest ms (all_moves mss));
-        });
+        nodes =
+            let n = r.window.to_commit in
+            let rest_held = frames_by_epoch us in
+            let held : frames_by_epoch us ≡ frames_by_epoch (drop ((n + 1) - r.window.to_acknowledge) r.pending) =
+            ap frames_by_epoch (sym (ap (λ m. drop m r.pending) one_more ∙ next.1)) in
+            let now : AreNodes r.generation n s.guest (ms ∷ mss) h.journal.running_moves (e.frames ∷ rest_held) w.nodes =
+            subst (λ (t : List (List Move)). AreNodes r.generation n s.guest t h.journal.running_moves (e.frames ∷ rest_held) w.nodes) moves_are
+            (subst (λ (us : List Epoch). AreNodes r.generation n s.guest h.journal.sealed_moves h.journal.running_moves (frames_by_epoch us) w.nodes) us_is h.nodes) in
+            subst (λ (x : Guest). AreNodes r.generation (n + 1) x mss h.journal.running_moves (frames_by_epoch (drop ((n + 1) - r.window.to_acknowledge) r.pending)) (with_commit w.nodes)) guest
+            (subst (λ (fs : List (List Frame)). AreNodes r.generation (n + 1) g mss h.journal.running_moves fs (with_commit w.nodes)) held
+            (nodes-commit r.generation n s.guest ms mss h.journal.running_moves e.frames rest_held w.nodes now));
         clients = record {
           number = h.clients.number ∙ sym (ap (λ t. t.number) shown);
           rising =
@@ -288,14 +294,6 @@ module _ (w : Pair) (h : Holds w) (k : IsRecord w.protocol) where
             ∙ ap (λ t. targets_of n (frames_of t)) (sym next.0)
             ∙ ap (λ m. targets_of n (frames_of (take m r.pending))) (sym one_more);
       }
-    where
-      image_of : (image m : Node) (ms xs : List Node) → xs ≡ m ∷ ms → first_node image xs ≡ m
-      image_of image m ms [] e = absurd (cc)
-      image_of image m ms (x ∷ xs) e = cc
-
-      sealed_of : (m : Node) (ms xs : List Node) → xs ≡ m ∷ ms → later_nodes xs ≡ ms
-      sealed_of m ms [] e = absurd (cc)
-      sealed_of m ms (x ∷ xs) e = cc
 
   pub commit_holds : w.protocol.window.to_commit < w.protocol.window.to_cut → Holds after_commit
   commit_holds more =
@@ -327,18 +325,18 @@ nothing zero i = refl
 nothing (suc n) zero = refl
 nothing (suc n) (suc i) = nothing n i
 
-abbrev pub start_pair : ℕ → ℕ → List ℕ → ℕ → Pair
-start_pair pages sectors image clients = record {
-  start = start_state pages sectors image clients;
+abbrev pub start_pair : Shape → List ℕ → ℕ → Pair
+start_pair shape image clients = record {
+  start = start_state shape.pages shape.sectors image clients;
   protocol = start_record;
   ports = empty_ports clients;
-  nodes = start_nodes (boot_guest pages sectors image);
+  nodes = start_nodes shape image;
 }
 
-pub start_holds : (pages sectors : ℕ) (image : List ℕ) (clients : ℕ) → Holds (start_pair pages sectors image clients)
-start_holds pages sectors image clients = record {
+pub start_holds : (shape : Shape) (image : List ℕ) (clients : ℕ) → length image ≤ 4096 * shape.pages → Holds (start_pair shape image clients)
+start_holds shape image clients fits = record {
   journal = record { legal = tt; drops = tt; sealed_moves = []; running_moves = []; sealed_are = refl; running_are = refl; can = tt };
-  nodes = record { image = refl; sealed = refl; frames = refl; live = refl; outbox = refl };
+  nodes = nodes-start shape image fits;
   clients = record {
     number = refl;
     rising = omega arith;

@@ -4,6 +4,7 @@ pub mod LineLaws
 pub mod JournalLaws
 pub mod WindowLaws
 pub mod RecordLaws
+pub mod NodesLaws
 pub mod Events
 pub mod ClientEvents
 pub mod Consistent

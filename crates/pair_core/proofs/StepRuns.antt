@@ -9,18 +9,19 @@ use Rattle.guest_machine.specs.Runs.{after_steps, sent_in, marked_in, HaveRoom}
 use Rattle.frame_ports.specs.declared.limits.TheConstants.{NUMBER_LIMIT}
 use Rattle.pair_history.specs.Entries.{Frame, Ran}
 use Rattle.pair_history.specs.HistoryState.{HistoryState, Waiting}
-use Rattle.pair_history.specs.Moves.{Move, Steps, entries_of, guest_along, frames_along, left, AllCan}
+use Rattle.pair_history.specs.Moves.{Steps, entries_of, guest_along, frames_along, left, AllCan}
 use Rattle.pair_core.specs.declared.event.Refusal.{Refusal}
 use Rattle.pair_core.specs.declared.event.Refusal.TheVariants.{CutNeeded, Exhausted}
 use Rattle.pair_core.specs.declared.event.Reply.TheVariants as replies
 use Rattle.pair_core.specs.Invariant.{AreClients, Holds}
-use Rattle.pair_core.specs.Journal.{Journal, joined, all_entries, with_running}
+use Rattle.pair_core.specs.Journal.{all_entries, with_running}
 use Rattle.pair_core.specs.Nodes.{after_run}
 use Rattle.pair_core.specs.Pair.{Pair, shown_state}
-use Rattle.pair_core.specs.Protocol.{Record, Outcome, first_refusal, or_else, unless, refused, live_at, exhausts, step_refusals, step_done, step_outcome, step_reply, outbox_of}
+use Rattle.pair_core.specs.Protocol.{Record, Outcome, first_refusal, or_else, refused, live_at, step_refusals, step_done, step_outcome, step_reply, outbox_of}
 use Rattle.pair_core.specs.Runs.{goes_on, steps_outcome, with_steps}
 use Rattle.pair_core.proofs.Consistent.{live_is}
 use Rattle.pair_core.proofs.Events.{left_now, moves_hold}
+use Rattle.pair_core.proofs.NodesLaws.{shape-after_steps, base-after_run}
 use Rattle.pair_core.proofs.JournalLaws.{length-all}
 use Rattle.pair_core.proofs.Outcomes.{goes, step_sight}
 
@@ -87,6 +88,8 @@ steps_hold n w h =
     moves_hold w h (replicate n Steps) (replicate n Ran) (after_run n w.nodes).live w.ports.inboxes (entries-steps n)
     (guest-steps n w.nodes.live.guest)
     (ap (λ t. w.nodes.live.outbox ++ t) (frames-steps n w.nodes.live.guest))
+    (λ s k. shape-after_steps n s w.nodes.live.guest k)
+    (λ b k. base-after_run n w.nodes b k)
     (can-steps n (left_now w h))
     (subst (λ (ws : List Waiting). AreClients (shown_state w) ws w.ports) (sym (left-steps n (left_now w h))) h.clients)
 
@@ -98,7 +101,7 @@ pub with_no_steps : (w : Pair) → with_steps 0 w ≡ w
 with_no_steps w = λ i. record w {
   protocol = record w.protocol { journal = record w.protocol.journal { running = append-nil w.protocol.journal.running i } };
   nodes = record w.nodes {
-    live = record {
+    live = record w.nodes.live {
       guest = no-steps w.nodes.live.guest i;
       outbox = (ap (λ (t : List Frame). w.nodes.live.outbox ++ t) (none-sent w.nodes.live.guest) ∙ append-nil w.nodes.live.outbox) i;
       dirty = none-marked w.nodes.live.guest w.nodes.live.dirty i;

@@ -1,18 +1,22 @@
 -- What is kept true from event to event, so that what contracts say of a pair follows: a record of parts, each over the values that
 -- it speaks of. A part that an event doesn't touch passes on by name.
-use Rattle.std.specs.Prelude.{◌≡◌, ℕ, ◌≤◌, List, [], ◌∷◌, ◌++◌, length, map}
+use Rattle.std.specs.Prelude.{◌≡◌, ℕ, ◌+◌, ◌-◌, ◌<◌, ◌≤◌, List, [], ◌∷◌, ◌++◌, length, map, Some, None}
+use Rattle.guest_machine.specs.declared.shapes.Shape.{Shape}
 use Rattle.guest_machine.specs.Guest.{Guest}
+use Rattle.epoch_snapshot.specs.Bases.{IsBase}
 use Rattle.frame_ports.specs.Addresses.{targets_of}
 use Rattle.frame_ports.specs.Lands.{list_of}
 use Rattle.frame_ports.specs.Ports.{PortsState}
+use Rattle.frame_ports.specs.declared.limits.TheConstants.{NUMBER_LIMIT}
 use Rattle.output_gate.specs.Epochs.{Epoch, frames_of}
 use Rattle.pair_history.specs.Entries.{Frame}
 use Rattle.pair_history.specs.HistoryState.{HistoryState, Waiting, inbox_of, at, Legal}
 use Rattle.pair_history.specs.Landings.{DropsAreKnown, BoxesFit}
 use Rattle.pair_history.specs.Moves.{Move, entries_of, guest_along, frames_along, left, AllCan, AreRising}
 use Rattle.pair_core.specs.Journal.{Journal}
-use Rattle.pair_core.specs.Nodes.{Node, Nodes, settled}
+use Rattle.pair_core.specs.Nodes.{Nodes, HasShape, machine_of}
 use Rattle.pair_core.specs.Pair.{Pair, shown_state}
+use Rattle.pair_core.specs.Texts.{IsText}
 use Rattle.pair_core.specs.Window.{committed_of, uncommitted_of}
 
 -- moves, epoch by epoch
@@ -20,11 +24,7 @@ abbrev pub all_moves : List (List Move) → List Move
 all_moves [] = []
 all_moves (ms ∷ mss) = ms ++ all_moves mss
 
--- each epoch's machine at its end, and the frames that its guest sent
-abbrev pub epoch_nodes : Guest → List (List Move) → List Node
-epoch_nodes g [] = []
-epoch_nodes g (ms ∷ mss) = settled (guest_along g ms) ∷ epoch_nodes (guest_along g ms) mss
-
+-- the frames that the guest sent, epoch by epoch
 abbrev pub epoch_frames : Guest → List (List Move) → List (List Frame)
 epoch_frames g [] = []
 epoch_frames g (ms ∷ mss) = frames_along g ms ∷ epoch_frames (guest_along g ms) mss
@@ -47,13 +47,30 @@ pub record IsJournal (start : HistoryState) (j : Journal) : Type 0 where
   pub running_are : j.running ≡ entries_of running_moves
   pub can : AllCan (at start j.history).waiting (all_moves sealed_moves ++ running_moves)
 
--- The nodes, where the history's guest is g, these moves are kept, and the gate holds these frames of uncommitted checkpoints.
-pub record AreNodes (g : Guest) (sealed_moves : List (List Move)) (running_moves : List Move) (held : List (List Frame)) (x : Nodes) : Type 0 where
-  pub image : x.image ≡ settled g
-  pub sealed : x.sealed ≡ epoch_nodes g sealed_moves
+-- the texts of epochs of these moves, numbered from n on, where the guest before them is g
+abbrev pub AreSealed : Shape → ℕ → ℕ → Guest → List (List Move) → List (List ℕ) → Type 0
+AreSealed shape generation n g [] [] = Unit {0}
+AreSealed shape generation n g (ms ∷ mss) (text ∷ texts) =
+    IsText shape generation n g (guest_along g ms) text × AreSealed shape generation (n + 1) (guest_along g ms) mss texts
+AreSealed shape generation n g [] (text ∷ texts) = ⊥
+AreSealed shape generation n g (ms ∷ mss) [] = ⊥
+
+-- The nodes in this generation, where n is the number of the next checkpoint to be committed, the history's guest is g, these moves are kept, and
+-- the gate holds these frames of uncommitted checkpoints.
+pub record AreNodes (generation n : ℕ) (g : Guest) (sealed_moves : List (List Move)) (running_moves : List Move) (held : List (List Frame)) (x : Nodes) : Type 0 where
+  pub first_generation : 1 ≤ generation
+  pub last_generation : generation < NUMBER_LIMIT
+  pub some_committed : 1 ≤ n
+  pub image : x.image.guest ≡ g
+  pub stands_at : x.image.stands_at ≡ Some (record { generation = generation; number = n - 1 })
+  pub staged : x.image.staged ≡ None
+  pub sealed : AreSealed x.image.shape generation n g sealed_moves x.sealed
   pub frames : held ≡ epoch_frames g sealed_moves
   pub live : x.live.guest ≡ guest_along g (all_moves sealed_moves ++ running_moves)
   pub outbox : x.live.outbox ≡ frames_along (guest_along g (all_moves sealed_moves)) running_moves
+  pub shape : HasShape x.image.shape x.live.guest
+  -- it was last settled at the guest of the last cut
+  pub base : IsBase (machine_of x.live) (guest_along g (all_moves sealed_moves))
 
 -- The ports, where the history's state is s and these frames still wait after what is kept.
 pub record AreClients (s : HistoryState) (waiting : List Waiting) (p : PortsState) : Type 0 where
@@ -66,7 +83,8 @@ pub record AreClients (s : HistoryState) (waiting : List Waiting) (p : PortsStat
 
 pub record Holds (w : Pair) : Type 0 where
   pub journal : IsJournal w.start w.protocol.journal
-  pub nodes : AreNodes (shown_state w).guest journal.sealed_moves journal.running_moves (frames_by_epoch (uncommitted_of w.protocol.window w.protocol.pending)) w.nodes
+  pub nodes : AreNodes w.protocol.generation w.protocol.window.to_commit (shown_state w).guest journal.sealed_moves journal.running_moves
+      (frames_by_epoch (uncommitted_of w.protocol.window w.protocol.pending)) w.nodes
   pub clients : AreClients (shown_state w) (left (shown_state w).waiting (all_moves journal.sealed_moves ++ journal.running_moves)) w.ports
   -- what the history's state owes is what the gate holds of committed checkpoints
   pub owed : (shown_state w).out ≡ targets_of (length w.ports.boxes) (frames_of (committed_of w.protocol.window w.protocol.pending))

@@ -4,6 +4,7 @@ pub mod Arrivals
 pub mod Window
 pub mod Lines
 pub mod Nodes
+pub mod Texts
 pub mod NodesFields
 pub mod Protocol
 pub mod Record

@@ -1,44 +1,64 @@
--- The two nodes: the primary's live machine, and at the backup the image and the machines of the checkpoints that it may still
--- commit.
-use Rattle.std.specs.Prelude.{◌≡◌, ℕ, List, [], ◌∷◌, ◌++◌}
-use Rattle.guest_machine.specs.Guest.{Guest, State}
+-- The two nodes: the primary's live machine, and at the backup the image and the texts of the checkpoints that it may still commit.
+use Rattle.std.specs.Prelude.{◌≡◌, ℕ, ◌*◌, List, [], ◌∷◌, ◌++◌, length}
+use Rattle.guest_machine.specs.declared.shapes.Shape.{Shape}
+use Rattle.guest_machine.specs.Guest.{Guest, State, HasDeviceRecords, boot_guest}
 use Rattle.guest_machine.specs.Step.{arrived}
 use Rattle.guest_machine.specs.Runs.{after_steps, sent_in, marked_in}
+use Rattle.epoch_snapshot.specs.Checkpoints.{Change}
+use Rattle.checkpoint_stream.specs.Readings.{begun, fed}
+use Rattle.checkpoint_stream.specs.Sound.{change_in}
+use Rattle.backup_image.specs.Images.{ImageState, booted, after_stage, committed}
 use Rattle.pair_history.specs.Entries.{Frame}
 
--- a machine: its guest, and since it was last settled the frames that the guest sent and the sectors that it wrote
+-- a machine: its guest; since it was last settled the frames that the guest sent and the sectors that it wrote; and the bytes of memory
+-- at that settle
 pub record Node : Type 0 where
   pub guest : Guest
   pub outbox : List Frame
   pub dirty : List ℕ
+  pub settled : List ℕ
 
 abbrev pub node_of : State → Node
-node_of m = record { guest = m.guest; outbox = m.outbox; dirty = m.dirty }
+node_of m = record { guest = m.guest; outbox = m.outbox; dirty = m.dirty; settled = m.settled }
+
+-- one as checkpoints are cut of it: which pages count as written says nothing of them
+abbrev pub machine_of : Node → State
+machine_of x = record { guest = x.guest; outbox = x.outbox; dirty = x.dirty; settled = x.settled; written = [] }
 
 -- one of which nothing is left to do
-abbrev pub settled : Guest → Node
-settled g = record { guest = g; outbox = []; dirty = [] }
+abbrev pub just_settled : Guest → Node
+just_settled g = record { guest = g; outbox = []; dirty = []; settled = g.ram }
+
+-- a guest has the size of a machine of this shape, and what its devices keep meets the rules of their records
+pub record HasShape (shape : Shape) (g : Guest) : Type 0 where
+  pub records : HasDeviceRecords g
+  pub ram : length g.ram ≡ 4096 * shape.pages
+  pub sectors : length g.sectors ≡ 512 * shape.sectors
 
 pub record Nodes : Type 0 where
   pub live : Node
   -- what the backup would resume
-  pub image : Node
-  -- the oldest first
-  pub sealed : List Node
+  pub image : ImageState
+  -- the texts of the checkpoints that no commit has covered yet, the oldest first
+  pub sealed : List (List ℕ)
 
--- the nodes, and how many more machines may be sealed without taking memory for their list
+-- the nodes, and how many more texts may be sealed without taking memory for their list
 pub record Housed : Type 0 where
   pub nodes : Nodes
   pub room : ℕ
 
 -- both nodes boot
-abbrev pub start_nodes : Guest → Nodes
-start_nodes g = record { live = settled g; image = settled g; sealed = [] }
+abbrev pub start_nodes : Shape → List ℕ → Nodes
+start_nodes shape image = record {
+  live = just_settled (boot_guest shape.pages shape.sectors image);
+  image = booted shape image;
+  sealed = [];
+}
 
 -- the live guest made n steps
 abbrev pub after_run : ℕ → Nodes → Nodes
 after_run n x = record x {
-  live = record {
+  live = record x.live {
     guest = after_steps n x.live.guest;
     outbox = x.live.outbox ++ sent_in n x.live.guest;
     dirty = marked_in n x.live.guest x.live.dirty;
@@ -49,18 +69,25 @@ after_run n x = record x {
 abbrev pub with_arrival : Nodes → Frame → Nodes
 with_arrival x f = record x { live = record x.live { guest = arrived x.live.guest f } }
 
--- a checkpoint was sealed, and the live machine settled
-abbrev pub with_sealed : Nodes → Node → Nodes
-with_sealed x m = record x { live = settled x.live.guest; sealed = x.sealed ++ m ∷ [] }
+-- a checkpoint's text was sealed, and the live machine settled
+abbrev pub with_sealed : Nodes → List ℕ → Nodes
+with_sealed x text = record x { live = just_settled x.live.guest; sealed = x.sealed ++ text ∷ [] }
 
-abbrev pub first_node : Node → List Node → Node
-first_node image [] = image
-first_node image (m ∷ ms) = m
+abbrev pub first_text : List (List ℕ) → List ℕ
+first_text [] = []
+first_text (t ∷ ts) = t
 
-abbrev pub later_nodes : List Node → List Node
-later_nodes [] = []
-later_nodes (m ∷ ms) = ms
+abbrev pub later_texts : List (List ℕ) → List (List ℕ)
+later_texts [] = []
+later_texts (t ∷ ts) = ts
 
--- the image becomes the oldest sealed machine
+-- the checkpoint that a text reads as, where it stands at the start of a stream
+abbrev pub read_as : Shape → List ℕ → Change
+read_as shape text = change_in (fed (begun shape 0) text)
+
+-- the image takes in the oldest sealed checkpoint, as its text reads, and that text is let go
 abbrev pub with_commit : Nodes → Nodes
-with_commit x = record x { image = first_node x.image x.sealed; sealed = later_nodes x.sealed }
+with_commit x = record x {
+  image = committed (after_stage x.image (read_as x.image.shape (first_text x.sealed)));
+  sealed = later_texts x.sealed;
+}

@@ -5,6 +5,6 @@ use Rattle.pair_core.specs.Nodes.{Housed, node_of}
 
 abbrev pub housed : Inside → Housed
 housed a = record {
-  nodes = record { live = node_of a.live; image = node_of a.image; sealed = map node_of a.sealed.items };
+  nodes = record { live = node_of a.live; image = a.image; sealed = map (λ text. text.items) a.sealed.items };
   room = vec_capacity a.sealed - vec_len a.sealed;
 }

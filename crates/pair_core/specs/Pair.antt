@@ -1,18 +1,20 @@
 -- What contracts see of the whole pair, and how its parts stand to the history.
-use Rattle.std.specs.Prelude.{◌≡◌, ℕ, ◌≤◌, List, [], ◌∷◌, ◌++◌, length}
+use Rattle.std.specs.Prelude.{◌≡◌, ℕ, ◌-◌, ◌≤◌, ◌++◌, length, Some, None}
+use Rattle.epoch_snapshot.specs.Bases.{IsBase}
 use Rattle.frame_ports.specs.Addresses.{targets_of}
 use Rattle.frame_ports.specs.Lands.{list_of}
 use Rattle.frame_ports.specs.Ports.{PortsState}
 use Rattle.output_gate.specs.Epochs.{frames_of}
-use Rattle.pair_history.specs.HistoryState.{HistoryState, inbox_of, Legal}
+use Rattle.pair_history.specs.HistoryState.{HistoryState, inbox_of, at, Legal}
 use Rattle.pair_history.specs.Landings.{DropsAreKnown}
 use Rattle.pair_core.specs.declared.event.Refusal.{Refusal}
 use Rattle.pair_core.specs.declared.event.Refusal.TheVariants.{Full}
 use Rattle.pair_core.specs.declared.event.Reply.{Reply}
 use Rattle.pair_core.specs.declared.event.Reply.TheVariants as replies
-use Rattle.pair_core.specs.Journal.{kept_entries}
-use Rattle.pair_core.specs.Nodes.{Node, Nodes, settled}
+use Rattle.pair_core.specs.Journal.{joined, kept_entries}
+use Rattle.pair_core.specs.Nodes.{Nodes, machine_of}
 use Rattle.pair_core.specs.Protocol.{Record, outbox_of, shown_at, live_at}
+use Rattle.pair_core.specs.Texts.{AreTexts}
 
 pub record Pair : Type 0 where
   -- the state that the history starts from
@@ -30,10 +32,9 @@ shown_state w = shown_at w.start w.protocol
 abbrev pub live_state : Pair → HistoryState
 live_state w = live_at w.start w.protocol
 
--- of each of these nothing is left to do
-abbrev pub AllSettled : List Node → Type 0
-AllSettled [] = Unit {0}
-AllSettled (m ∷ ms) = (m ≡ settled m.guest) × AllSettled ms
+-- the state at the last cut, or at the start
+abbrev pub cut_state : Pair → HistoryState
+cut_state w = at w.start (w.protocol.journal.history ++ joined w.protocol.journal.sealed)
 
 -- What holds between events.
 pub record IsConsistent (w : Pair) : Type 0 where
@@ -42,11 +43,15 @@ pub record IsConsistent (w : Pair) : Type 0 where
   pub legal : Legal w.start w.protocol.journal.history
   pub drops : DropsAreKnown w.start w.protocol.journal.history
   pub goes_on : Legal (shown_state w) (kept_entries w.protocol.journal)
-  -- the live machine is the guest of the history followed by what is kept, the image the guest of the history; the image and what
-  -- is sealed are settled
+  -- the live machine is the guest of the history followed by what is kept, and was last settled at the guest of the last cut
   pub live : w.nodes.live.guest ≡ (live_state w).guest
-  pub image : w.nodes.image ≡ settled (shown_state w).guest
-  pub sealed : AllSettled w.nodes.sealed
+  pub base : IsBase (machine_of w.nodes.live) (cut_state w).guest
+  -- the image is the guest of the history, memory, disk and devices; it stands at the last checkpoint that was committed, and nothing is staged
+  pub image : w.nodes.image.guest ≡ (shown_state w).guest
+  pub stands_at : w.nodes.image.stands_at ≡ Some (record { generation = w.protocol.generation; number = w.protocol.window.to_commit - 1 })
+  pub staged : w.nodes.image.staged ≡ None
+  -- each sealed text reads back as the checkpoint of its number, which makes the guest of its epoch's end of the one of the epoch before
+  pub sealed : AreTexts w.nodes.image.shape w.protocol.generation w.protocol.window.to_commit (shown_state w) w.protocol.journal.sealed w.nodes.sealed
   -- the outbox is all that the guest sent along the epoch that runs, also what goes nowhere
   pub outbox : w.nodes.live.outbox ≡ outbox_of w.start w.protocol
   -- each client's inbox is what waits of it after all that is kept, and numbers go on from the history's

@@ -1,24 +1,32 @@
-//! The two nodes: the primary's live machine, and at the backup the image and what may still be committed.
-ghost use Rattle.std.specs.Prelude.{◌≡◌, ◌+◌, ◌≤◌, ◌<◌, ◌++◌, ◌∷◌, [], length, All, OnOk, OnErr, IfOk};
+//! The two nodes: the primary's live machine, and at the backup the image and the checkpoints that may still be committed, each as the
+//! text that a link carries.
+ghost use Rattle.std.specs.Prelude.{◌≡◌, ◌+◌, ◌^◌, ◌≤◌, ◌<◌, ◌++◌, ◌∷◌, [], length, All, OnOk, OnErr, IfOk};
 ghost use Rattle.std.specs.Prelude.{slice_range, ◌*◌};
 ghost use Rattle.frame_ports.specs.Addresses.{IsFrame};
-ghost use Rattle.guest_machine.specs.Guest.{boot_guest, sector_count};
+ghost use Rattle.guest_machine.specs.Guest.{Guest, boot_guest, sector_count};
 ghost use Rattle.guest_machine.specs.Step.{arrived};
 ghost use Rattle.guest_machine.specs.Runs.{HaveRoom};
-ghost use Rattle.pair_core.specs.Nodes.{Node, node_of, settled, start_nodes, after_run, with_arrival, with_sealed, with_commit};
+ghost use Rattle.epoch_snapshot.specs.Bases.{IsBase};
+ghost use Rattle.checkpoint_stream.specs.Readings.{begun, fed};
+ghost use Rattle.checkpoint_stream.specs.declared.place.Place.TheVariants.{Whole};
+ghost use Rattle.pair_core.specs.Nodes.{HasShape, machine_of, start_nodes, after_run, with_arrival, with_sealed, first_text, read_as, with_commit};
+ghost use Rattle.pair_core.specs.Texts.{IsText};
 
+use backup_image::Image;
+use checkpoint_stream::{Reader, StreamError, encode};
+use epoch_snapshot::{Checkpoint, cut_delta};
 use guest_machine::{Machine, SECTOR_BYTES, Shape};
 use pair_history::Frame;
 use std::alloc::{AllocError, Global};
 use std::marker::Model;
 
-/// The machines of both nodes. Contracts see them as `Housed` nodes of the specs.
+/// What both nodes hold. Contracts see it as `Housed` nodes of the specs.
 #[derive(Drop)]
 pub struct Nodes {
     alloc: Global,
     live: Machine,
-    image: Machine,
-    sealed: Vec<Machine>,
+    image: Image,
+    sealed: Vec<Vec<u8>>,
 }
 
 impl Model for Nodes {
@@ -35,12 +43,12 @@ impl Nodes {
     /// Both nodes boot from this image.
     pub(crate) fn boot(alloc: Global, shape: Shape, image: &[u8]) -> Result<Nodes, AllocError>
         requires { length image.now ≤ 4096 * shape.pages }
-        ensures { IfOk result (λ n. n.nodes ≡ start_nodes (boot_guest shape.pages shape.sectors image.now)) }
+        ensures { IfOk result (λ n. n.nodes ≡ start_nodes shape image.now) }
     {
         let Ok(live) = Machine::boot(alloc, shape, image) else {
             return Err(AllocError);
         };
-        let Ok(image) = live.copy(alloc) else {
+        let Ok(image) = Image::boot(alloc, shape, image) else {
             return Err(AllocError);
         };
         Ok(Nodes {
@@ -100,34 +108,66 @@ impl Nodes {
         let _taken = self.live.arrive(frame);
     }
 
-    /// A settled copy of the live machine, and room for it among the sealed ones.
-    pub(crate) fn checkpoint(&mut self) -> Result<Machine, AllocError>
+    /// The text of the live machine's checkpoint, of this generation and number, and room for it among the sealed ones.
+    pub(crate) fn checkpoint(&mut self, generation: u64, number: u64) -> Result<Vec<u8>, AllocError>
+        requires first_generation { 1 ≤ generation }
+        requires last_generation { generation < 2 ^ 62 }
+        requires first_number { 1 ≤ number }
+        requires last_number { number < 2 ^ 62 }
         ensures nodes { self.new.nodes ≡ self.old.nodes }
         ensures room { OnOk result (0 < self.new.room) }
-        ensures copy { IfOk result (λ machine. node_of machine ≡ settled self.old.nodes.live.guest) }
+        // It reads back as the checkpoint that makes the live guest of the one that the live machine was last settled at.
+        ensures text { IfOk result (λ text. (base : Guest)
+            → IsBase (machine_of self.old.nodes.live) base
+            → HasShape self.old.nodes.image.shape self.old.nodes.live.guest
+            → IsText self.old.nodes.image.shape generation number base self.old.nodes.live.guest text.items) }
     {
         self.sealed.reserve(1)?;
-        let Ok(mut machine) = self.live.copy(self.alloc) else {
+        let Ok(checkpoint) = cut_delta(self.alloc, &self.live, generation, number) else {
             return Err(AllocError);
         };
-        machine.settle();
-        Ok(machine)
+        let Ok(text) = encode(self.alloc, &checkpoint) else {
+            return Err(AllocError);
+        };
+        Ok(text)
     }
 
-    /// The checkpoint is sealed, and the live machine is settled.
-    pub(crate) fn seal(&mut self, checkpoint: Machine)
+    /// The checkpoint's text is sealed, and the live machine is settled.
+    pub(crate) fn seal(&mut self, text: Vec<u8>)
         requires { 0 < self.old.room }
-        ensures { self.new.nodes ≡ with_sealed self.old.nodes (node_of checkpoint) }
+        ensures { self.new.nodes ≡ with_sealed self.old.nodes text.items }
     {
-        self.sealed.push(checkpoint).unwrap();
+        self.sealed.push(text).unwrap();
         self.live.settle();
     }
 
-    /// The image becomes the oldest sealed machine.
-    pub(crate) fn commit(&mut self)
-        requires { 0 < length self.old.nodes.sealed }
+    /// The oldest sealed checkpoint, read from its text as a link carries it. That the text is a whole one the caller knows.
+    pub(crate) fn oldest(&self) -> Result<Checkpoint, AllocError>
+        requires some { 0 < length self.now.nodes.sealed }
+        requires whole { (fed (begun self.now.nodes.image.shape 0) (first_text self.now.nodes.sealed)).place ≡ Whole }
+        ensures { IfOk result (λ checkpoint. checkpoint ≡ read_as self.now.nodes.image.shape (first_text self.now.nodes.sealed)) }
+    {
+        let mut reader = Reader::new(self.alloc, self.image.shape());
+        match reader.feed(self.sealed[0].as_slice()) {
+            Ok(_) => {}
+            Err(StreamError::NoMemory) => return Err(AllocError),
+            Err(StreamError::Malformed(_)) => unreachable!(),
+        }
+        match reader.next() {
+            Some(checkpoint) => Ok(checkpoint),
+            None => unreachable!(),
+        }
+    }
+
+    /// The backup's image takes this checkpoint in, which was read from the oldest sealed text, and that text goes.
+    pub(crate) fn commit(&mut self, checkpoint: Checkpoint)
+        requires some { 0 < length self.old.nodes.sealed }
+        requires shape { checkpoint.shape ≡ self.old.nodes.image.shape }
+        requires oldest { checkpoint ≡ read_as self.old.nodes.image.shape (first_text self.old.nodes.sealed) }
         ensures { self.new.nodes ≡ with_commit self.old.nodes }
     {
-        self.image = self.sealed.remove(0);
+        let _staged = self.image.stage(checkpoint);
+        self.image.commit();
+        drop(self.sealed.remove(0));
     }
 }

@@ -112,6 +112,13 @@ impl PairRecord {
         self.window.to_cut - self.window.to_acknowledge
     }
 
+    /// The number of the next checkpoint to be cut.
+    pub(crate) fn to_cut(&self) -> u64
+        ensures { result ≡ self.now.protocol.window.to_cut }
+    {
+        self.window.to_cut
+    }
+
     /// The number of the next checkpoint to be committed.
     pub(crate) fn to_commit(&self) -> u64
         ensures { result ≡ self.now.protocol.window.to_commit }

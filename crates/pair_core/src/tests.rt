@@ -1,5 +1,7 @@
 //! Whole runs with the expected replies of the beacon's worked example, and what no clause says: that calls succeed
 //! where there is memory.
+mod texts;
+
 use crate::{Event, Mode, Refusal, Reply, Shape, Show, World};
 use std::alloc::Global;
 use std::fmt::Write;

@@ -289,7 +289,7 @@ impl World {
         self.record.step_refusal(self.nodes.outbox())
     }
 
-    /// The running epoch ends: its checkpoint is sealed, and its frames go to the gate.
+    /// The running epoch ends: its checkpoint is sealed as a text, and its frames go to the gate.
     fn cut(&mut self) -> Result<Reply, AllocError>
         ensures outcome { IfOk result (λ reply. (reply, self.new.protocol) ≡ outcome self.old.start self.old.protocol events.Cut) }
         ensures start { self.new.start ≡ self.old.start }
@@ -300,9 +300,11 @@ impl World {
         if let Some(why) = self.record.cut_refusal() {
             return Ok(Reply::Refused(why));
         }
-        let checkpoint = self.nodes.checkpoint()?;
+        let text = self
+            .nodes
+            .checkpoint(self.record.generation(), self.record.to_cut())?;
         let reply = self.record.cut(self.nodes.outbox())?;
-        self.nodes.seal(checkpoint);
+        self.nodes.seal(text);
         Ok(reply)
     }
 
@@ -335,8 +337,9 @@ impl World {
         if packet.number < self.record.to_commit() {
             return self.record.acknowledge_again();
         }
+        let checkpoint = self.nodes.oldest()?;
         let reply = self.record.commit()?;
-        self.nodes.commit();
+        self.nodes.commit(checkpoint);
         Ok(reply)
     }
 

@@ -1,15 +1,17 @@
-use Rattle.std.proofs.Common.{◌<◌, ◌-◌, ◌∙◌, sym, ap, subst, arith, length}
-use Rattle.std.proofs.lemmas.List.{length-map}
-use Rattle.pair_core.specs.Nodes.{with_commit}
-use Rattle.pair_core.specs.Pair.{Pair}
-use Rattle.pair_core.specs.Protocol.{Outcome, again_done, commit_done}
+use Rattle.std.proofs.Common.{◌≡◌, ℕ, ◌<◌, ◌≤◌, ◌∙◌, sym, ap, subst, arith, Option, None}
+use Rattle.epoch_snapshot.specs.Checkpoints.{Change}
+use Rattle.pair_core.specs.declared.event.Packet.{Packet}
+use Rattle.pair_core.specs.declared.event.Refusal.{Refusal}
 use Rattle.pair_core.specs.Invariant.{Holds}
+use Rattle.pair_core.specs.Nodes.{first_text}
+use Rattle.pair_core.specs.Pair.{shown_state}
+use Rattle.pair_core.specs.Protocol.{Record, Outcome, first_refusal, backup_refusals, again_done}
 use Rattle.pair_core.specs.WorldFields.{pair_of}
 use Rattle.pair_core.proofs.Calls.{on_ok, after_call}
-use Rattle.pair_core.proofs.Events.{lines_hold, commit_holds, some_nodes}
+use Rattle.pair_core.proofs.Events.{lines_hold, commit_holds, oldest_text}
+use Rattle.pair_core.proofs.NodesLaws.{reads-whole, reads-shape}
 use Rattle.pair_core.proofs.RecordLaws.{passed, generation_is}
 use Rattle.pair_core.proofs.world.World.backup_get.Goals as goal
-use Rattle.pair_core.proofs.world.World.backup_get.Goals.{After-commit}
 
 pub invariant_of-self : goal.invariant_of-self
 invariant_of-self c =
@@ -18,25 +20,54 @@ invariant_of-self c =
     (on_ok c.acknowledge_again.result _ c.acknowledge_again.ensures.ports) c.acknowledge_again.ensures.err
     (lines_hold w c.self.invariant (again_done w.protocol).1.lines)
 
--- the packet names the next checkpoint, which was cut
-more : (c : After-commit) → (pair_of c.self.inside).protocol.window.to_commit < (pair_of c.self.inside).protocol.window.to_cut
-more c =
-    let r = (pair_of c.self.inside).protocol in
-    let p = c.in-Some.packet in
-    let same = generation_is p.generation r.generation (passed _ _ _ (sym c.backup_refusal.ensures.refusal ∙ c.in_default-backup_refusal.is)).0 in
-    let cut = c.in-Some.ensures.cut same in
-    let is = c.to_commit.ensures in
-    let t = c.if-packet-to_commit.false in
+-- a packet that isn't refused, of no number that was committed, names the next checkpoint, which was cut
+names_next : (r : Record) (p : Packet) (n : ℕ) (o : Option Refusal) → o ≡ first_refusal (backup_refusals r p) → o ≡ None
+    → (p.generation ≡ r.generation → p.number < r.window.to_cut) → n ≡ r.window.to_commit → n ≤ p.number → r.window.to_commit < r.window.to_cut
+names_next r p n o is none cut e least =
+    let below = cut (generation_is p.generation r.generation (passed _ _ _ (sym is ∙ none)).0) in
     omega arith
 
-pub commit-requires-2 : goal.commit-requires-2
-commit-requires-2 c =
+pub oldest-requires-clause-some : goal.oldest-requires-clause-some
+oldest-requires-clause-some c =
     let w = pair_of c.self.inside in
-    some_nodes w c.self.invariant c.backup_refusal.ensures.record (more (goal.at.commit-requires-2 c).After-commit)
+    let more =
+    names_next w.protocol c.in-Some.packet c.to_commit.result c.backup_refusal.result c.backup_refusal.ensures.refusal c.in_default-backup_refusal.is c.in-Some.ensures.cut
+    c.to_commit.ensures c.if-packet-to_commit.false in
+    (oldest_text w c.self.invariant c.backup_refusal.ensures.record more).1.0
+
+pub oldest-requires-clause-whole : goal.oldest-requires-clause-whole
+oldest-requires-clause-whole c =
+    let w = pair_of c.self.inside in
+    let more =
+    names_next w.protocol c.in-Some.packet c.to_commit.result c.backup_refusal.result c.backup_refusal.ensures.refusal c.in_default-backup_refusal.is c.in-Some.ensures.cut
+    c.to_commit.ensures c.if-packet-to_commit.false in
+    let oldest = oldest_text w c.self.invariant c.backup_refusal.ensures.record more in
+    reads-whole w.nodes.image.shape w.protocol.generation w.protocol.window.to_commit (shown_state w).guest oldest.0 (first_text w.nodes.sealed) oldest.1.1
+
+pub commit-requires-2-clause-some : goal.commit-requires-2-clause-some
+commit-requires-2-clause-some c =
+    let w = pair_of c.self.inside in
+    let more =
+    names_next w.protocol c.in-Some.packet c.to_commit.result c.backup_refusal.result c.backup_refusal.ensures.refusal c.in_default-backup_refusal.is c.in-Some.ensures.cut
+    c.to_commit.ensures c.if-packet-to_commit.false in
+    (oldest_text w c.self.invariant c.backup_refusal.ensures.record more).1.0
+
+pub commit-requires-2-clause-shape : goal.commit-requires-2-clause-shape
+commit-requires-2-clause-shape c =
+    let w = pair_of c.self.inside in
+    let more =
+    names_next w.protocol c.in-Some.packet c.to_commit.result c.backup_refusal.result c.backup_refusal.ensures.refusal c.in_default-backup_refusal.is c.in-Some.ensures.cut
+    c.to_commit.ensures c.if-packet-to_commit.false in
+    let oldest = oldest_text w c.self.invariant c.backup_refusal.ensures.record more in
+    ap (λ (checkpoint : Change). checkpoint.shape) c.in_ok-checkpoint.ensures
+    ∙ reads-shape w.nodes.image.shape w.protocol.generation w.protocol.window.to_commit (shown_state w).guest oldest.0 (first_text w.nodes.sealed) oldest.1.1
 
 pub invariant_of-self-2 : goal.invariant_of-self-2
 invariant_of-self-2 c =
     let w = pair_of c.self.inside in
     let protocol = ap (λ (o : Outcome). o.1) c.in_ok-reply.ensures.ok in
+    let more =
+    names_next w.protocol c.in-Some.packet c.to_commit.result c.backup_refusal.result c.backup_refusal.ensures.refusal c.in_default-backup_refusal.is c.in-Some.ensures.cut
+    c.to_commit.ensures c.if-packet-to_commit.false in
     subst Holds (λ i. record w { protocol = sym protocol i; ports = sym c.commit.ensures.ports i; nodes = sym c.commit-2.ensures i })
-    (commit_holds w c.self.invariant c.backup_refusal.ensures.record (more (goal.at.invariant_of-self-2 c).After-commit))
+    (commit_holds w c.self.invariant c.backup_refusal.ensures.record more)

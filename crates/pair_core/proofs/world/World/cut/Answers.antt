@@ -1,15 +1,45 @@
-use Rattle.std.proofs.Common.{◌≡◌, ◌∙◌, List, ap, sym, subst}
+use Rattle.std.proofs.Common.{◌≡◌, ◌∙◌, ℕ, List, ap, sym, subst, arith}
+use Rattle.frame_ports.specs.declared.limits.TheConstants.{NUMBER_LIMIT}
 use Rattle.pair_core.specs.declared.event.Event.TheVariants.{Cut}
 use Rattle.pair_core.specs.Invariant.{Holds}
-use Rattle.pair_core.specs.Nodes.{Nodes, node_of, with_sealed}
+use Rattle.pair_core.specs.Nodes.{Nodes, with_sealed}
+use Rattle.pair_core.specs.Texts.{IsText}
 use Rattle.pair_history.specs.Entries.{Frame}
 use Rattle.pair_core.specs.Pair.{Pair}
 use Rattle.pair_core.specs.Protocol.{Outcome, outcome, cut_refusals, cut_done}
 use Rattle.pair_core.specs.WorldFields.{pair_of}
 use Rattle.pair_core.proofs.Events.{cut_holds}
 use Rattle.pair_core.proofs.Outcomes.{goes, cut_sight}
+use Rattle.pair_core.proofs.RecordLaws.{passed, is_below}
 use Rattle.pair_core.proofs.world.World.cut.Goals as goal
 use Rattle.pair_core.proofs.world.World.cut.Goals.{In_ok-reply}
+
+-- the generation and the number are a checkpoint's
+pub checkpoint-requires-clause-first_generation : goal.checkpoint-requires-clause-first_generation
+checkpoint-requires-clause-first_generation c =
+    let is = c.generation.ensures in
+    let first = c.self.invariant.nodes.first_generation in
+    omega arith
+
+pub checkpoint-requires-clause-last_generation : goal.checkpoint-requires-clause-last_generation
+checkpoint-requires-clause-last_generation c =
+    let is = c.generation.ensures in
+    let last = c.self.invariant.nodes.last_generation in
+    omega arith
+
+pub checkpoint-requires-clause-first_number : goal.checkpoint-requires-clause-first_number
+checkpoint-requires-clause-first_number c =
+    let is = c.to_cut.ensures in
+    let some = c.self.invariant.nodes.some_committed in
+    let cut = c.cut_refusal.ensures.record.window.cut in
+    omega arith
+
+pub checkpoint-requires-clause-last_number : goal.checkpoint-requires-clause-last_number
+checkpoint-requires-clause-last_number c =
+    let is = c.to_cut.ensures in
+    let rows = passed _ _ _ (sym c.cut_refusal.ensures.refusal ∙ c.in_default.is) in
+    let last = is_below NUMBER_LIMIT (pair_of c.self.inside).protocol.window.to_cut (passed _ _ _ rows.1).0 in
+    omega arith
 
 -- what the record answered and left, by the live machine's outbox
 done : (c : In_ok-reply) → (c.in_ok-reply.reply, c.cut.new.self.protocol) ≡ cut_done (pair_of c.self.inside).nodes.live.outbox (pair_of c.self.inside).protocol
@@ -21,11 +51,13 @@ pub invariant_of-self-2 : goal.invariant_of-self-2
 invariant_of-self-2 c =
     let w = pair_of c.self.inside in
     let protocol = ap (λ (o : Outcome). o.1) (done (goal.at.invariant_of-self-2 c).In_ok-reply) in
-    let nodes =
-    c.seal.ensures ∙ ap (λ (x : Nodes). with_sealed x (node_of c.in_ok-checkpoint.checkpoint)) c.checkpoint.ensures.nodes
-    ∙ ap (with_sealed w.nodes) c.in_ok-checkpoint.ensures.copy in
+    let text = c.in_ok-text.text.items in
+    let nodes = c.seal.ensures ∙ ap (λ (x : Nodes). with_sealed x text) c.checkpoint.ensures.nodes in
     subst Holds (λ i. record w { protocol = sym protocol i; ports = sym c.cut.ensures.ports i; nodes = sym nodes i })
-    (cut_holds w c.self.invariant c.cut_refusal.ensures.record)
+    (cut_holds w c.self.invariant c.cut_refusal.ensures.record text
+    (λ base is sized.
+    subst (λ (n : ℕ). IsText w.nodes.image.shape w.protocol.generation n base w.nodes.live.guest text) c.to_cut.ensures
+    (subst (λ (g : ℕ). IsText w.nodes.image.shape g c.to_cut.result base w.nodes.live.guest text) c.generation.ensures (c.in_ok-text.ensures.text base is sized))))
 
 pub returns-clause-outcome : goal.returns-clause-outcome
 returns-clause-outcome c =

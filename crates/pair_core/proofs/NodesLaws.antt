@@ -1,0 +1,313 @@
+-- What the two nodes keep along steps, arrivals, cuts and commits.
+use Rattle.std.proofs.Common.{◌≡◌, ℕ, zero, suc, ◌+◌, ◌-◌, ◌*◌, ◌/◌, ◌<◌, ◌≤◌, List, [], ◌∷◌, ◌++◌, length, replicate, refl, sym, ap, ◌∙◌, subst, arith, append_assoc, Bool, true, false, cond, Some, None, Result, Ok, Err}
+use Rattle.std.specs.Prelude.{nat_lt, not, ◌==◌, slice_range, take, drop}
+use Rattle.std.proofs.Math.Bridge.{le_prop}
+use Rattle.std.proofs.lemmas.Bool.{eq-eqb}
+use Rattle.std.proofs.lemmas.Bool.Decides.{nat_tests}
+use Rattle.std.proofs.lemmas.List.{append-nil, length-append, length-replicate}
+use Rattle.guest_machine.specs.Dirty.{is_in}
+use Rattle.guest_machine.specs.declared.shapes.Shape.{Shape}
+use Rattle.guest_machine.specs.Guest.{Guest, State, sector_count, boot_guest}
+use Rattle.guest_machine.specs.Step.{next, arrived}
+use Rattle.guest_machine.specs.Runs.{after_steps, marked_in}
+use Rattle.guest_machine.proofs.ApartLemmas.{arrived-apart}
+use Rattle.guest_machine.proofs.ListedLemmas.{run-listed}
+use Rattle.guest_machine.proofs.MemoryLemmas.{boot-kept, next-kept, arrived-kept, next-disk_bytes}
+use Rattle.epoch_snapshot.specs.Bases.{IsBase, IsCut}
+use Rattle.epoch_snapshot.specs.Checkpoints.{Change}
+use Rattle.epoch_snapshot.specs.Cuts.{sector_of}
+use Rattle.epoch_snapshot.specs.Images.{image_of}
+use Rattle.checkpoint_stream.specs.declared.place.Place.TheVariants.{Whole}
+use Rattle.checkpoint_stream.specs.ReadBack.{ReadsBack}
+use Rattle.checkpoint_stream.specs.Readings.{begun, fed}
+use Rattle.checkpoint_stream.specs.Sound.{change_in}
+use Rattle.backup_image.specs.declared.errors.ImageError.{ImageError}
+use Rattle.backup_image.specs.declared.errors.ImageError.TheVariants.{Stale, Gap}
+use Rattle.backup_image.specs.declared.standing.Staged.{Staged}
+use Rattle.backup_image.specs.declared.standing.Staged.TheVariants.{New, Again}
+use Rattle.backup_image.specs.Images.{ImageState, answer_at, stage_answer, staged_after, after_stage, committed}
+use Rattle.pair_history.specs.Entries.{Frame}
+use Rattle.pair_history.specs.Moves.{Move, guest_along, frames_along}
+use Rattle.pair_history.proofs.Moves.{guest_along-append}
+use Rattle.pair_core.specs.Invariant.{all_moves, epoch_frames, AreSealed, AreNodes}
+use Rattle.pair_core.specs.Nodes.{Nodes, HasShape, node_of, machine_of, just_settled, start_nodes, after_run, with_arrival, with_sealed, with_commit, first_text, later_texts, read_as}
+use Rattle.pair_core.specs.Texts.{IsText}
+
+-- Sizes
+
+after_steps-bytes : (n : ℕ) (g : Guest) → length (after_steps n g).sectors ≡ length g.sectors
+unfolding after_steps
+after_steps-bytes zero g = refl
+after_steps-bytes (suc n) g = after_steps-bytes n (next g) ∙ next-disk_bytes g
+
+pub shape-after_steps : (n : ℕ) (s : Shape) (g : Guest) → HasShape s g → HasShape s (after_steps n g)
+unfolding after_steps
+shape-after_steps zero s g h = h
+shape-after_steps (suc n) s g h =
+    let kept = next-kept g h.records in
+    shape-after_steps n s (next g) (record { records = kept.rules; ram = kept.bytes ∙ h.ram; sectors = next-disk_bytes g ∙ h.sectors })
+
+pub shape-arrived : (f : Frame) (s : Shape) (g : Guest) → HasShape s g → HasShape s (arrived g f)
+shape-arrived f s g h =
+    let kept = arrived-kept g f h.records in
+    record { records = kept.rules; ram = kept.bytes ∙ h.ram; sectors = ap length (arrived-apart g f).1 ∙ h.sectors }
+
+pub shape-boot : (s : Shape) (image : List ℕ) → length image ≤ 4096 * s.pages → HasShape s (boot_guest s.pages s.sectors image)
+unfolding boot_guest
+shape-boot s image fits = record {
+  records = boot-kept s.pages s.sectors image;
+  ram =
+      let free = 4096 * s.pages - length image in
+      let whole : length image + free ≡ 4096 * s.pages = omega arith in
+      length-append image (replicate free 0) ∙ ap (λ n. length image + n) (length-replicate free 0) ∙ whole;
+  sectors = length-replicate (512 * s.sectors) 0;
+}
+
+-- What the live machine was last settled at
+
+sector-slice : (bytes : List ℕ) (i : ℕ) → slice_range bytes (512 * i) (512 * i + 512) ≡ sector_of bytes i
+sector-slice bytes i =
+    let size : (512 * i + 512) - 512 * i ≡ 512 = omega arith in
+    ap (λ n. take n (drop (512 * i) bytes)) size
+
+unlisted : (a b : Bool) → (a ≡ true → b ≡ true) → b ≡ false → a ≡ false
+unlisted true b f e =
+    let t : b ≡ true = f refl in
+    absurd (cc)
+unlisted false b f e = refl
+
+pub base-after_run : (n : ℕ) (x : Nodes) (b : Guest) → IsBase (machine_of x.live) b → IsBase (machine_of (after_run n x).live) b
+base-after_run n x b h =
+    let g = x.live.guest in
+    let size = after_steps-bytes n g in
+    let listed = run-listed n g x.live.dirty in
+    record {
+      ram = h.ram;
+      size = h.size ∙ sym size;
+      sectors = λ i low none.
+          h.sectors i (subst (λ (k : ℕ). i < k / 512) size low) (unlisted (is_in i x.live.dirty) (is_in i (marked_in n g x.live.dirty)) (listed.stays i) none)
+          ∙ sym (sector-slice g.sectors i) ∙ sym (listed.others i none) ∙ sector-slice (after_steps n g).sectors i;
+    }
+
+pub base-with_arrival : (f : Frame) (x : Nodes) (b : Guest) → IsBase (machine_of x.live) b → IsBase (machine_of (with_arrival x f).live) b
+base-with_arrival f x b h =
+    let same = (arrived-apart x.live.guest f).1 in
+    record {
+      ram = h.ram;
+      size = h.size ∙ ap length (sym same);
+      sectors = λ i low none. h.sectors i (subst (λ (bytes : List ℕ). i < sector_count bytes) same low) none ∙ ap (λ bytes. sector_of bytes i) (sym same);
+    }
+
+pub base-settled : (g : Guest) → IsBase (machine_of (just_settled g)) g
+base-settled g = record { ram = refl; size = refl; sectors = λ i low none. refl }
+
+-- Epochs
+
+pub all_moves-push : (mss : List (List Move)) (ms : List Move) → all_moves (mss ++ ms ∷ []) ≡ all_moves mss ++ ms
+all_moves-push [] ms = append-nil ms
+all_moves-push (x ∷ mss) ms = ap (λ t. x ++ t) (all_moves-push mss ms) ∙ sym (append_assoc x (all_moves mss) ms)
+
+epoch_frames-push : (g : Guest) (mss : List (List Move)) (ms : List Move) → epoch_frames g (mss ++ ms ∷ []) ≡ epoch_frames g mss ++ frames_along (guest_along g (all_moves mss)) ms ∷ []
+epoch_frames-push g [] ms = refl
+epoch_frames-push g (x ∷ mss) ms =
+    ap (λ t. frames_along g x ∷ t) (epoch_frames-push (guest_along g x) mss ms)
+    ∙ ap (λ h. frames_along g x ∷ (epoch_frames (guest_along g x) mss ++ frames_along h ms ∷ [])) (sym (guest_along-append g x (all_moves mss)))
+
+-- Texts
+
+module _ (shape : Shape) (generation n : ℕ) (before after : Guest) (text : List ℕ) (h : IsText shape generation n before after text) where
+  pub reads-whole : (fed (begun shape 0) text).place ≡ Whole
+  unfolding ReadsBack
+  reads-whole = ap (λ s. (fed (begun s 0) text).place) (sym h.of_shape) ∙ (h.reads_back 0).0
+
+  pub reads-as : read_as shape text ≡ h.change
+  unfolding ReadsBack
+  reads-as = ap (λ s. change_in (fed (begun s 0) text)) (sym h.of_shape) ∙ (h.reads_back 0).1
+
+  pub reads-shape : (read_as shape text).shape ≡ shape
+  reads-shape = ap (λ (c : Change). c.shape) reads-as ∙ h.of_shape
+
+-- a shape is its two numbers
+abbrev made : (pages sectors : ℕ) → 1 ≤ pages → pages ≤ 4096 → 1 ≤ sectors → sectors ≤ 32768 → Shape
+made pages sectors a b c d = record { pages = pages; sectors = sectors; some_pages = a; most_pages = b; some_sectors = c; most_sectors = d }
+
+same-pages : (m n k : ℕ) (a : 1 ≤ m) (b : m ≤ 4096) (c : 1 ≤ k) (d : k ≤ 32768) → m ≡ n → (a' : 1 ≤ n) (b' : n ≤ 4096) → made m k a b c d ≡ made n k a' b' c d
+same-pages m n k a b c d e =
+    subst (λ (x : ℕ). (a' : 1 ≤ x) (b' : x ≤ 4096) → made m k a b c d ≡ made x k a' b' c d) e
+    (λ a' b'. λ i. made m k (le_prop {n = 1} {m = m} a a' i) (le_prop {n = m} {m = 4096} b b' i) c d)
+
+same-sectors : (m n k : ℕ) (a : 1 ≤ k) (b : k ≤ 4096) (c : 1 ≤ m) (d : m ≤ 32768) → m ≡ n → (c' : 1 ≤ n) (d' : n ≤ 32768) → made k m a b c d ≡ made k n a b c' d'
+same-sectors m n k a b c d e =
+    subst (λ (x : ℕ). (c' : 1 ≤ x) (d' : x ≤ 32768) → made k m a b c d ≡ made k x a b c' d') e
+    (λ c' d'. λ i. made k m a b (le_prop {n = 1} {m = m} c c' i) (le_prop {n = m} {m = 32768} d d' i))
+
+same-shape : (s t : Shape) → s.pages ≡ t.pages → s.sectors ≡ t.sectors → s ≡ t
+same-shape s t p q =
+    same-pages s.pages t.pages s.sectors s.some_pages s.most_pages s.some_sectors s.most_sectors p t.some_pages t.most_pages
+    ∙ same-sectors s.sectors t.sectors t.pages t.some_pages t.most_pages s.some_sectors s.most_sectors q t.some_sectors t.most_sectors
+
+-- a machine's delta is of its shape
+cut-shape : (old listed : List ℕ) (m : State) (generation number : ℕ) (c : Change) (shape : Shape) → IsCut old listed m generation number c
+    → HasShape shape m.guest → c.shape ≡ shape
+cut-shape old listed m generation number c shape cut sized =
+    let pages : c.shape.pages ≡ shape.pages = let p = cut.pages_size in let q = sized.ram in omega arith in
+    let sectors : c.shape.sectors ≡ shape.sectors = let p = cut.sectors_size in let q = sized.sectors in omega arith in
+    same-shape c.shape shape pages sectors
+
+-- the text of a machine's delta makes the machine's guest of the one that the machine was last settled at
+pub delta-text : (old listed : List ℕ) (m : State) (generation number : ℕ) (c : Change) (shape : Shape) (text : List ℕ) (base : Guest)
+    → IsCut old listed m generation number c → ReadsBack c text → image_of c base ≡ m.guest → HasShape shape m.guest
+    → IsText shape generation number base m.guest text
+delta-text old listed m generation number c shape text base cut reads image sized = record {
+  change = c;
+  reads_back = reads;
+  of_shape = cut-shape old listed m generation number c shape cut sized;
+  of_generation = cut.generation;
+  of_number = cut.number;
+  image = image;
+}
+
+-- whichever pages count as written, it is the same base
+pub base-of : (m : State) (base : Guest) → IsBase (machine_of (node_of m)) base → IsBase m base
+base-of m base h = record { ram = h.ram; size = h.size; sectors = h.sectors }
+
+module _ (shape : Shape) (generation : ℕ) where
+  pub length-sealed : (n : ℕ) (g : Guest) (mss : List (List Move)) (texts : List (List ℕ)) → AreSealed shape generation n g mss texts → length texts ≡ length mss
+  length-sealed n g [] [] h = refl
+  length-sealed n g [] (t ∷ texts) h = absurd h
+  length-sealed n g (ms ∷ mss) [] h = absurd h
+  length-sealed n g (ms ∷ mss) (t ∷ texts) h = ap suc (length-sealed (n + 1) (guest_along g ms) mss texts h.1)
+
+  pub first-sealed : (n : ℕ) (g : Guest) (ms : List Move) (mss : List (List Move)) (texts : List (List ℕ)) → AreSealed shape generation n g (ms ∷ mss) texts → IsText shape generation n g (guest_along g ms) (first_text texts)
+  first-sealed n g ms mss [] h = absurd h
+  first-sealed n g ms mss (t ∷ texts) h = h.0
+
+  later-sealed : (n : ℕ) (g : Guest) (ms : List Move) (mss : List (List Move)) (texts : List (List ℕ)) → AreSealed shape generation n g (ms ∷ mss) texts → AreSealed shape generation (n + 1) (guest_along g ms) mss (later_texts texts)
+  later-sealed n g ms mss [] h = absurd h
+  later-sealed n g ms mss (t ∷ texts) h = h.1
+
+  sealed-push : (n : ℕ) (g : Guest) (mss : List (List Move)) (texts : List (List ℕ)) (ms : List Move) (m : ℕ) (text : List ℕ) → AreSealed shape generation n g mss texts
+      → n + length mss ≡ m → IsText shape generation m (guest_along g (all_moves mss)) (guest_along (guest_along g (all_moves mss)) ms) text
+      → AreSealed shape generation n g (mss ++ ms ∷ []) (texts ++ text ∷ [])
+  sealed-push n g [] [] ms m text h e t =
+      let same : m ≡ n = omega arith in
+      (subst (λ (k : ℕ). IsText shape generation k g (guest_along g ms) text) same t, tt)
+  sealed-push n g [] (x ∷ texts) ms m text h e t = absurd h
+  sealed-push n g (xs ∷ mss) [] ms m text h e t = absurd h
+  sealed-push n g (xs ∷ mss) (x ∷ texts) ms m text h e t =
+      let along = guest_along-append g xs (all_moves mss) in
+      (h.0, sealed-push (n + 1) (guest_along g xs) mss texts ms m text h.1 (omega arith) (subst (λ (b : Guest). IsText shape generation m b (guest_along b ms) text) along t))
+
+-- Cut
+
+pub nodes-cut : (generation n : ℕ) (g : Guest) (mss : List (List Move)) (ran : List Move) (held : List (List Frame)) (x : Nodes) (m : ℕ) (text : List ℕ)
+    → AreNodes generation n g mss ran held x → n + length mss ≡ m
+    → IsText x.image.shape generation m (guest_along g (all_moves mss)) x.live.guest text
+    → AreNodes generation n g (mss ++ ran ∷ []) [] (held ++ x.live.outbox ∷ []) (with_sealed x text)
+nodes-cut generation n g mss ran held x m text h e t =
+    let all : all_moves mss ++ ran ≡ all_moves (mss ++ ran ∷ []) = sym (all_moves-push mss ran) in
+    let now : x.live.guest ≡ guest_along g (all_moves (mss ++ ran ∷ [])) = h.live ∙ ap (guest_along g) all in
+    let parted : x.live.guest ≡ guest_along (guest_along g (all_moves mss)) ran = h.live ∙ guest_along-append g (all_moves mss) ran in
+    record {
+      first_generation = h.first_generation;
+      last_generation = h.last_generation;
+      some_committed = h.some_committed;
+      image = h.image;
+      stands_at = h.stands_at;
+      staged = h.staged;
+      sealed =
+          sealed-push x.image.shape generation n g mss x.sealed ran m text h.sealed e
+          (subst (λ (a : Guest). IsText x.image.shape generation m (guest_along g (all_moves mss)) a text) parted t);
+      frames =
+          ap (λ t. t ++ x.live.outbox ∷ []) h.frames ∙ ap (λ t. epoch_frames g mss ++ t ∷ []) h.outbox ∙ sym (epoch_frames-push g mss ran);
+      live = now ∙ ap (guest_along g) (sym (append-nil (all_moves (mss ++ ran ∷ []))));
+      outbox = refl;
+      shape = h.shape;
+      base = subst (IsBase (machine_of (just_settled x.live.guest))) now (base-settled x.live.guest);
+    }
+
+-- Commit
+
+-- the image that a new checkpoint makes
+abbrev taken_in : ImageState → Change → ImageState
+taken_in i c = record { shape = i.shape; guest = image_of c i.guest; stands_at = Some (record { generation = c.generation; number = c.number }); staged = None }
+
+takes-in : (i : ImageState) (c : Change) → stage_answer i c ≡ Ok New → committed (after_stage i c) ≡ taken_in i c
+takes-in i c e = ap (λ (o : Result Staged ImageError). committed (record i { staged = staged_after o c i.staged })) e
+
+next-is-new : (generation n : ℕ) → 1 ≤ n → answer_at (Some (record { generation = generation; number = n - 1 })) generation n ≡ Ok New
+next-is-new generation n some = λ i. cond (same i) (Err Stale) (cond (near i) (Err Gap) (cond (next_one i) (Ok New) (Ok Again)))
+  where
+    same : not (generation == generation) ≡ false
+    same = ap not (eq-eqb generation generation refl)
+
+    near : nat_lt (n - 1 + 1) n ≡ false
+    near = grind (arith, nat_tests)
+
+    next_one : (n == n - 1 + 1) ≡ true
+    next_one = eq-eqb n (n - 1 + 1) (omega arith)
+
+module _ (generation n : ℕ) (g : Guest) (ms : List Move) (mss : List (List Move)) (ran : List Move) (f : List Frame) (held : List (List Frame)) (x : Nodes)
+    (h : AreNodes generation n g (ms ∷ mss) ran (f ∷ held) x) where
+  text : IsText x.image.shape generation n g (guest_along g ms) (first_text x.sealed)
+  text = first-sealed x.image.shape generation n g ms mss x.sealed h.sealed
+
+  abbrev change : Change
+  change = read_as x.image.shape (first_text x.sealed)
+
+  change-is : change ≡ text.change
+  change-is = reads-as x.image.shape generation n g (guest_along g ms) (first_text x.sealed) text
+
+  generation-is : change.generation ≡ generation
+  generation-is = ap (λ (c : Change). c.generation) change-is ∙ text.of_generation
+
+  number-is : change.number ≡ n
+  number-is = ap (λ (c : Change). c.number) change-is ∙ text.of_number
+
+  is-new : stage_answer x.image change ≡ Ok New
+  is-new = (λ i. answer_at (h.stands_at i) (generation-is i) (number-is i)) ∙ next-is-new generation n h.some_committed
+
+  abbrev after : Nodes
+  after = record x { image = taken_in x.image change; sealed = later_texts x.sealed }
+
+  taken : AreNodes generation (n + 1) (guest_along g ms) mss ran held after
+  taken =
+      let number : n ≡ n + 1 - 1 = omega arith in
+      let frames : f ∷ held ≡ frames_along g ms ∷ epoch_frames (guest_along g ms) mss = h.frames in
+      record {
+        first_generation = h.first_generation;
+        last_generation = h.last_generation;
+        some_committed = omega arith;
+        image = ap (image_of change) h.image ∙ ap (λ c. image_of c g) change-is ∙ text.image;
+        stands_at = λ i. Some (record { generation = generation-is i; number = (number-is ∙ number) i });
+        staged = refl;
+        sealed = later-sealed x.image.shape generation n g ms mss x.sealed h.sealed;
+        frames = cc;
+        live = h.live ∙ ap (guest_along g) (append_assoc ms (all_moves mss) ran) ∙ guest_along-append g ms (all_moves mss ++ ran);
+        outbox = h.outbox ∙ ap (λ b. frames_along b ran) (guest_along-append g ms (all_moves mss));
+        shape = h.shape;
+        base = subst (IsBase (machine_of x.live)) (guest_along-append g ms (all_moves mss)) h.base;
+      }
+
+  pub nodes-commit : AreNodes generation (n + 1) (guest_along g ms) mss ran held (with_commit x)
+  nodes-commit =
+      subst (λ (i : ImageState). AreNodes generation (n + 1) (guest_along g ms) mss ran held (record x { image = i; sealed = later_texts x.sealed }))
+      (sym (takes-in x.image change is-new)) taken
+
+-- Where both nodes boot
+
+pub nodes-start : (s : Shape) (image : List ℕ) → length image ≤ 4096 * s.pages → AreNodes 1 1 (boot_guest s.pages s.sectors image) [] [] [] (start_nodes s image)
+nodes-start s image fits = record {
+  first_generation = omega arith;
+  last_generation = omega arith;
+  some_committed = omega arith;
+  image = refl;
+  stands_at = refl;
+  staged = refl;
+  sealed = tt;
+  frames = refl;
+  live = refl;
+  outbox = refl;
+  shape = shape-boot s image fits;
+  base = base-settled (boot_guest s.pages s.sectors image);
+}

@@ -1,0 +1,27 @@
+-- What the sealed texts say: each is the text of a checkpoint, and over the guest of the checkpoint before it makes the guest of its own.
+use Rattle.std.specs.Prelude.{◌≡◌, ℕ, ◌+◌, List, [], ◌∷◌}
+use Rattle.guest_machine.specs.declared.shapes.Shape.{Shape}
+use Rattle.guest_machine.specs.Guest.{Guest}
+use Rattle.epoch_snapshot.specs.Checkpoints.{Change}
+use Rattle.epoch_snapshot.specs.Images.{image_of}
+use Rattle.checkpoint_stream.specs.ReadBack.{ReadsBack}
+use Rattle.pair_history.specs.Entries.{Entry}
+use Rattle.pair_history.specs.HistoryState.{HistoryState, at}
+
+-- these bytes read back as a checkpoint of this shape, generation and number, which makes the guest after of the guest before (Remus,
+-- 2008: a checkpoint carries what the epoch changed)
+pub record IsText (shape : Shape) (generation number : ℕ) (before after : Guest) (text : List ℕ) : Type 0 where
+  pub change : Change
+  pub reads_back : ReadsBack change text
+  pub of_shape : change.shape ≡ shape
+  pub of_generation : change.generation ≡ generation
+  pub of_number : change.number ≡ number
+  pub image : image_of change before ≡ after
+
+-- The texts of sealed epochs, numbered from n on, where these are the epochs and the history's state before them is s.
+abbrev pub AreTexts : Shape → ℕ → ℕ → HistoryState → List (List Entry) → List (List ℕ) → Type 0
+AreTexts shape generation n s [] [] = Unit {0}
+AreTexts shape generation n s (es ∷ ess) (text ∷ texts) =
+    IsText shape generation n s.guest (at s es).guest text × AreTexts shape generation (n + 1) (at s es) ess texts
+AreTexts shape generation n s [] (text ∷ texts) = ⊥
+AreTexts shape generation n s (es ∷ ess) [] = ⊥

@@ -1,0 +1,52 @@
+//! Checkpoints on their way, as bytes.
+use super::{SHAPE, answers, beacon, idle_pair, paired};
+use crate::nodes::Nodes;
+use crate::{Event, Refusal, Shape};
+use std::alloc::Global;
+use std::test::Fail;
+
+/// Both nodes of a pair whose guest is the beacon. They stand in a box, so that a test holds no large value.
+fn beacon_nodes(alloc: Global) -> Result<Box<Nodes>, Fail> {
+    let image = beacon(alloc)?;
+    let (pages, sectors) = SHAPE;
+    if image.len() > 4096 * 2 {
+        return Err(Refusal::NoMemory.into());
+    }
+    let nodes = Nodes::boot(alloc, Shape { pages, sectors }, image.as_slice())?;
+    Ok(Box::new(alloc, nodes)?)
+}
+
+#[test]
+fn the_beacons_checkpoint_on_its_way_has_608_bytes(rt: HostRuntime) -> Result<(), Fail> {
+    let mut nodes = beacon_nodes(rt.alloc())?;
+    let made = nodes.run(22);
+    let text = nodes.checkpoint(1, 1)?;
+    assert_eq!(rt; (made, text.len()), (22, 608));
+    Ok(())
+}
+
+#[test]
+fn an_idle_pair_goes_on_for_three_hundred_acknowledged_epochs(rt: HostRuntime) -> Result<(), Fail> {
+    let mut world = idle_pair(rt.alloc())?;
+    let mut events = Vec::new(rt.alloc());
+    for k in 0..300u64 {
+        events.extend_from_slice(&[
+            Event::Step,
+            Event::Cut,
+            Event::Send,
+            Event::BackupGet(k),
+            Event::AckGet(k),
+        ])?;
+    }
+    drop(world.run(events.as_slice())?);
+    assert!(rt; world.show() == paired(0, 300, 300));
+    assert!(rt;
+        answers(
+            rt.alloc(),
+            &mut world,
+            &[Event::AckGet(299), Event::BackupGet(299)],
+            "Acked { generation: 1, number: 300, landed: 0 }\nAgain { generation: 1, number: 300 }\n",
+        )?
+    );
+    Ok(())
+}
