@@ -6,10 +6,10 @@ use Rattle.std.specs.List.{range_with_len, filter}
 use Rattle.std.proofs.Math.Seq.{drop-cons}
 use Rattle.std.proofs.lemmas.Bool.{eq-eqb, ne_eqb}
 use Rattle.std.proofs.lemmas.List.{length-take-le, length-drop, length-replicate}
-use Rattle.guest_machine.specs.Bytes.{with_bytes}
-use Rattle.guest_machine.specs.Blocks.{block_place, with_xored as put_xored}
+use Rattle.guest_machine.specs.Bytes.{with_bytes, with_xored}
+use Rattle.guest_machine.specs.Blocks.{block_place}
 use Rattle.guest_machine.specs.Pages.{flagged, marked}
-use Rattle.epoch_snapshot.specs.Blocks.{xored, with_xored}
+use Rattle.epoch_snapshot.specs.Blocks.{xored}
 
 pub next : {X : Type 0} (xs : List X) (i : ℕ) (d : X) → i < length xs → drop i xs ≡ get_or xs i d ∷ drop (i + 1) xs
 next xs i d h = rw (add-one) (drop-cons xs i d h)
@@ -57,22 +57,20 @@ length-with_bytes xs new at fits =
     )
 
 -- a block of a page is a block of memory
-pub same_place : (ram block : List ℕ) (page i : ℕ) → length block ≡ 64 →
-    put_xored ram (block_place page i) block ≡ with_xored ram (64 * page + i) block
-same_place ram block page i whole =
+pub same_place : (ram block : List ℕ) (page i : ℕ) → with_xored ram (block_place page i) block ≡ with_xored ram (64 * (64 * page + i)) block
+same_place ram block page i =
     let at : block_place page i ≡ 64 * (64 * page + i) = omega arith in
-    ap (λ k. put_xored ram k block) at
-    ∙ ap (λ n. with_bytes ram (64 * (64 * page + i)) (xored (take n (drop (64 * (64 * page + i)) ram)) block)) whole
+    ap (λ k. with_xored ram k block) at
 
-pub length-put_xored : (ram block : List ℕ) (page i : ℕ) → length block ≡ 64 → i < 64 → 4096 * page + 4096 ≤ length ram →
-    length (put_xored ram (block_place page i) block) ≡ length ram
-length-put_xored ram block page i whole below within =
+pub length-with_xored : (ram block : List ℕ) (page i : ℕ) → length block ≡ 64 → i < 64 → 4096 * page + 4096 ≤ length ram →
+    length (with_xored ram (block_place page i) block) ≡ length ram
+length-with_xored ram block page i whole below within =
     let at = block_place page i in
-    let part : length (take (length block) (drop at ram)) ≡ length block =
-    length-take-le (length block) (drop at ram) (omega (arith, length-drop at ram)) in
-    let new : length (xored (take (length block) (drop at ram)) block) ≡ length (take (length block) (drop at ram))
-    = length-xored (take (length block) (drop at ram)) block part in
-    length-with_bytes ram (xored (take (length block) (drop at ram)) block) at (omega arith)
+    let part : length (take 64 (drop at ram)) ≡ length block =
+    length-take-le 64 (drop at ram) (omega (arith, length-drop at ram)) ∙ sym whole in
+    let new : length (xored (take 64 (drop at ram)) block) ≡ length (take 64 (drop at ram))
+    = length-xored (take 64 (drop at ram)) block part in
+    length-with_bytes ram (xored (take 64 (drop at ram)) block) at (omega arith)
 
 -- a flag is set in place
 length-flag : (flags : List Bool) (page : ℕ) → page < length flags → length (flagged flags page (page + 1)) ≡ length flags

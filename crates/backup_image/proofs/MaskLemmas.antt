@@ -10,7 +10,8 @@ use Rattle.std.proofs.lemmas.List.FromFn.{get_or-map-range_with_len, length-map-
 use Rattle.std.proofs.lemmas.List.Sums.{length-filter, sum_by-cons}
 use Rattle.std.proofs.lemmas.Nat.Bits.{same_from_bits_below}
 use Rattle.epoch_snapshot.specs.declared.changes.PageChange.{PageChange}
-use Rattle.epoch_snapshot.specs.Blocks.{set_blocks, with_xored}
+use Rattle.guest_machine.specs.Bytes.{with_xored}
+use Rattle.epoch_snapshot.specs.Blocks.{set_blocks}
 use Rattle.epoch_snapshot.specs.Checkpoints.{block_count}
 use Rattle.epoch_snapshot.specs.Images.{with_blocks}
 use Rattle.backup_image.proofs.BlockLemmas.{next}
@@ -53,7 +54,7 @@ unfolding with_blocks
 blocks-append ram [] ms [] cs e = refl
 blocks-append ram [] ms (b ∷ bs) cs e = absurd (omega arith)
 blocks-append ram (n ∷ ns) ms [] cs e = absurd (omega arith)
-blocks-append ram (n ∷ ns) ms (b ∷ bs) cs e = blocks-append (with_xored ram n b) ns ms bs cs (omega arith)
+blocks-append ram (n ∷ ns) ms (b ∷ bs) cs e = blocks-append (with_xored ram (64 * n) b) ns ms bs cs (omega arith)
 
 pub block_count-drop : (pages : List PageChange) (k : ℕ) (d : PageChange) → k < length pages →
     block_count (drop k pages) ≡ count_ones (get_or pages k d).mask + block_count (drop (k + 1) pages)

@@ -5,8 +5,8 @@ use Rattle.std.proofs.Common.{ap, ◌∙◌, arith, count_ones, length-append}
 use Rattle.std.specs.Int.{bit_at}
 use Rattle.std.proofs.lemmas.List.{drop_all, length-map}
 use Rattle.guest_machine.specs.Guest.{Guest, State}
-use Rattle.guest_machine.specs.Bytes.{with_bytes}
-use Rattle.guest_machine.specs.Blocks.{block_place, with_block, with_sector, with_xored as put_xored}
+use Rattle.guest_machine.specs.Bytes.{with_bytes, with_xored}
+use Rattle.guest_machine.specs.Blocks.{block_place, with_block, with_sector}
 use Rattle.guest_machine.specs.Pages.{marked}
 use Rattle.guest_machine.specs.MachineStates.{with_state}
 use Rattle.guest_machine.specs.declared.machine_state.MachineState.{MachineState}
@@ -17,7 +17,7 @@ use Rattle.epoch_snapshot.specs.Checkpoints.{Change, block_count}
 use Rattle.epoch_snapshot.specs.Images.{base_ram, base_sectors, image_of, with_blocks, with_sectors}
 use Rattle.backup_image.specs.Images.{settled_machine}
 use Rattle.backup_image.proofs.BlockLemmas.{next, from_block, from_block-set, from_block-clear, from_block-end, same_place}
-use Rattle.backup_image.proofs.BlockLemmas.{length-put_xored, length-marked}
+use Rattle.backup_image.proofs.BlockLemmas.{length-with_xored, length-marked}
 use Rattle.backup_image.proofs.MaskLemmas.{blocks-append, block_count-drop}
 
 -- a machine whose memory only is another than at first
@@ -74,18 +74,18 @@ page-put first m put page mask i at then blocks d so_far below set long inside w
     let within : at < length blocks = enough-at mask i at blocks below set so_far.enough in
     let b = get_or blocks at d in
     let guest : put.guest ≡ with_block m.guest page i b = ap (λ (s : State). s.guest) is in
-    let ram : put.guest.ram ≡ put_xored m.guest.ram (block_place page i) b = ap (λ (g : Guest). g.ram) guest in
+    let ram : put.guest.ram ≡ with_xored m.guest.ram (block_place page i) b = ap (λ (g : Guest). g.ram) guest in
     let written : length put.written ≡ length m.written
     = ap (λ (s : State). length s.written) is ∙ length-marked m.written page i below (omega (arith, so_far.same.flags)) in
     let size : length put.guest.ram ≡ length m.guest.ram
-    = ap length ram ∙ length-put_xored m.guest.ram b page i long below (omega (arith, so_far.same.size)) in
+    = ap length ram ∙ length-with_xored m.guest.ram b page i long below (omega (arith, so_far.same.size)) in
     record {
       same = record {
-        guest = with_ram-again first.guest m.guest put.guest (put_xored m.guest.ram (block_place page i) b) so_far.same.guest guest;
+        guest = with_ram-again first.guest m.guest put.guest (with_xored m.guest.ram (block_place page i) b) so_far.same.guest guest;
         size = size ∙ so_far.same.size;
         flags = written ∙ so_far.same.flags;
       };
-      put = (λ k. with_blocks ((ram ∙ same_place m.guest.ram b page i long) k) (from_page page (from_block mask (i + 1)))
+      put = (λ k. with_blocks ((ram ∙ same_place m.guest.ram b page i) k) (from_page page (from_block mask (i + 1)))
           (drop (after k) blocks))
           ∙ sym (λ k. with_blocks m.guest.ram (from_page page (named k)) (next blocks at d within k))
           ∙ so_far.put;
