@@ -2,9 +2,11 @@
 use Rattle.std.proofs.Common.{◌+◌, ◌*◌, ◌++◌, List, length, refl, sym, ap, ◌∙◌, arith, subst, ◌≤◌}
 use Rattle.std.specs.Prelude.{All}
 use Rattle.epoch_snapshot.specs.declared.changes.PageChange.{PageChange}
+use Rattle.epoch_snapshot.specs.Bases.{IsCut}
 use Rattle.epoch_snapshot.specs.Blocks.{block_numbers}
-use Rattle.epoch_snapshot.specs.Checkpoints.{change_of}
+use Rattle.epoch_snapshot.specs.Checkpoints.{Change, change_of}
 use Rattle.epoch_snapshot.specs.Images.{image_of}
+use Rattle.guest_machine.specs.Dirty.{Rises}
 use Rattle.guest_machine.specs.MachineStates.{with_state}
 use Rattle.epoch_snapshot.specs.Cuts.{changed_blocks}
 use Rattle.epoch_snapshot.proofs.CanonicalLemmas.{numbers-count}
@@ -27,47 +29,43 @@ push_blocks-requires-clause-room c =
     let count = numbers-count m.settled m.guest.ram c.shape-shape.result.pages in
     omega (arith, is, count, c.count_changes-counts.ensures.blocks, ap length c.in_ok-blocks.ensures.items, c.in_ok-blocks.ensures.exact)
 
+-- what the checkpoint is made of
+abbrev made : goal.After-state → Change
+made c = change_of c.shape-shape.result c.args.generation c.args.number c.state.result c.push_pages.new.list.items
+    c.push_blocks.new.list.items c.push_written.new.list.items
+
+is_cut : (c : goal.After-state) →
+    IsCut c.args.machine.now.settled c.args.machine.now.dirty c.args.machine.now c.args.generation c.args.number (made c)
+is_cut c = record {
+  pages_size = c.shape-shape.ensures.pages;
+  sectors_size = c.shape-shape.ensures.sectors;
+  generation = refl;
+  number = refl;
+  state = c.state.ensures.value;
+  pages = c.push_pages.ensures;
+  blocks =
+      c.push_blocks.ensures
+      ∙ (λ k. c.in_ok-blocks.ensures.items k
+      ++ changed_blocks c.args.machine.now.settled c.args.machine.now.guest.ram (c.as_slice.ensures.value k));
+  sectors = c.push_written.ensures;
+}
+
+listed_rise : (c : goal.After-state) → Rises 0 c.shape-shape.result.sectors c.args.machine.now.dirty
+listed_rise c =
+    Rises-count c.shape-shape.result.sectors c.args.machine.now.guest.sectors c.dirty_sectors.result.now c.args.machine.now.dirty
+    c.shape-shape.ensures.sectors c.dirty_sectors.ensures.value c.dirty_sectors.ensures.rises
+
 pub from_parts-requires : goal.from_parts-requires
 from_parts-requires c =
     let m = c.args.machine.now in
-    IsCanonical-cut m.settled m.dirty m c.args.generation c.args.number
-    (change_of c.shape-shape.result c.args.generation c.args.number c.state.result c.push_pages.new.list.items c.push_blocks.new.list.items
-    c.push_written.new.list.items)
-    (record {
-      pages_size = c.shape-shape.ensures.pages;
-      sectors_size = c.shape-shape.ensures.sectors;
-      generation = refl;
-      number = refl;
-      state = c.state.ensures.value;
-      pages = c.push_pages.ensures;
-      blocks = c.push_blocks.ensures ∙ (λ k. c.in_ok-blocks.ensures.items k ++ changed_blocks m.settled m.guest.ram
-          (c.as_slice.ensures.value k));
-      sectors = c.push_written.ensures;
-    })
-    c.requires.first_generation c.requires.last_generation c.requires.last_number c.state.ensures.rules
-    (Rises-count c.shape-shape.result.sectors m.guest.sectors c.dirty_sectors.result.now m.dirty c.shape-shape.ensures.sectors
-    c.dirty_sectors.ensures.value c.dirty_sectors.ensures.rises)
+    IsCanonical-cut m.settled m.dirty m c.args.generation c.args.number (made c) (is_cut c) c.requires.first_generation
+    c.requires.last_generation c.requires.last_number c.state.ensures.rules (listed_rise c)
     (λ z. absurd (omega (arith, z, c.requires.first_number)))
 
 pub returns-clause-image : goal.returns-clause-image
 returns-clause-image c =
     let m = c.args.machine.now in
-    let made = change_of c.shape-shape.result c.args.generation c.args.number c.state.result c.push_pages.new.list.items
-    c.push_blocks.new.list.items c.push_written.new.list.items in
     λ base on. ap (λ k. image_of k base) c.from_parts.ensures ∙
-    image-delta m c.args.generation c.args.number made base
-    (record {
-      pages_size = c.shape-shape.ensures.pages;
-      sectors_size = c.shape-shape.ensures.sectors;
-      generation = refl;
-      number = refl;
-      state = c.state.ensures.value;
-      pages = c.push_pages.ensures;
-      blocks = c.push_blocks.ensures ∙ (λ k. c.in_ok-blocks.ensures.items k ++ changed_blocks m.settled m.guest.ram
-          (c.as_slice.ensures.value k));
-      sectors = c.push_written.ensures;
-    })
-    c.requires.first_number (c.shape-shape.ensures.settled ∙ sym c.shape-shape.ensures.pages)
-    (Rises-count c.shape-shape.result.sectors m.guest.sectors c.dirty_sectors.result.now m.dirty c.shape-shape.ensures.sectors
-    c.dirty_sectors.ensures.value c.dirty_sectors.ensures.rises)
+    image-delta m c.args.generation c.args.number (made c.before) base (is_cut c.before) c.requires.first_number
+    (c.shape-shape.ensures.settled ∙ sym c.shape-shape.ensures.pages) (listed_rise c.before)
     (ap (λ s. with_state m.guest s) (sym c.state.ensures.value) ∙ c.state.ensures.whole) on

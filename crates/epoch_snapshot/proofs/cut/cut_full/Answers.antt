@@ -3,8 +3,9 @@ use Rattle.std.proofs.Common.{ℕ, ◌+◌, ◌*◌, ◌≤◌, ◌++◌, List, 
 use Rattle.std.specs.Prelude.{All}
 use Rattle.guest_machine.specs.MachineStates.{with_state}
 use Rattle.epoch_snapshot.specs.declared.changes.PageChange.{PageChange}
+use Rattle.epoch_snapshot.specs.Bases.{IsCut}
 use Rattle.epoch_snapshot.specs.Blocks.{block_numbers}
-use Rattle.epoch_snapshot.specs.Checkpoints.{change_of}
+use Rattle.epoch_snapshot.specs.Checkpoints.{Change, change_of}
 use Rattle.epoch_snapshot.specs.Cuts.{changed_blocks, used_sectors}
 use Rattle.epoch_snapshot.specs.Images.{image_of}
 use Rattle.epoch_snapshot.proofs.CanonicalLemmas.{numbers-count}
@@ -28,43 +29,40 @@ push_blocks-requires-clause-room c =
     let count = numbers-count (replicate (length m.guest.ram) 0) m.guest.ram c.shape-shape.result.pages in
     omega (arith, is, count, c.count_changes-counts.ensures.blocks, ap length c.in_ok-blocks.ensures.items, c.in_ok-blocks.ensures.exact)
 
-pub from_parts-requires : goal.from_parts-requires
-from_parts-requires c =
-    let m = c.args.machine.now in
-    let old = replicate {A = ℕ} (length m.guest.ram) 0 in
-    IsCanonical-cut old (used_sectors m.guest.sectors c.shape-shape.result.sectors) m c.args.generation 0
-    (change_of c.shape-shape.result c.args.generation 0 c.state.result c.push_pages.new.list.items c.push_blocks.new.list.items
-    c.push_used.new.list.items)
-    (record {
+-- what the checkpoint is made of
+abbrev made : goal.After-state → Change
+made c = change_of c.shape-shape.result c.args.generation 0 c.state.result c.push_pages.new.list.items c.push_blocks.new.list.items
+    c.push_used.new.list.items
+
+is_cut : (c : goal.After-state) →
+    IsCut (replicate (length c.args.machine.now.guest.ram) 0) (used_sectors c.args.machine.now.guest.sectors c.shape-shape.result.sectors)
+    c.args.machine.now c.args.generation 0 (made c)
+is_cut c =
+    let old = replicate {A = ℕ} (length c.args.machine.now.guest.ram) 0 in
+    record {
       pages_size = c.shape-shape.ensures.pages;
       sectors_size = c.shape-shape.ensures.sectors;
       generation = refl;
       number = refl;
       state = c.state.ensures.value;
       pages = c.push_pages.ensures;
-      blocks = c.push_blocks.ensures ∙ (λ k. c.in_ok-blocks.ensures.items k ++ changed_blocks old m.guest.ram (c.as_slice.ensures.value k));
+      blocks =
+          c.push_blocks.ensures
+          ∙ (λ k. c.in_ok-blocks.ensures.items k
+          ++ changed_blocks old c.args.machine.now.guest.ram (c.as_slice.ensures.value k));
       sectors = c.push_used.ensures;
-    })
-    c.requires.first_generation c.requires.last_generation (lit< tt) c.state.ensures.rules
-    (Rises-used m.guest.sectors c.shape-shape.result.sectors)
-    (λ z. used-nonzero m.guest.sectors c.shape-shape.result.sectors)
+    }
+
+pub from_parts-requires : goal.from_parts-requires
+from_parts-requires c =
+    let m = c.args.machine.now in
+    IsCanonical-cut (replicate {A = ℕ} (length m.guest.ram) 0) (used_sectors m.guest.sectors c.shape-shape.result.sectors) m
+    c.args.generation 0 (made c) (is_cut c) c.requires.first_generation c.requires.last_generation (lit< tt) c.state.ensures.rules
+    (Rises-used m.guest.sectors c.shape-shape.result.sectors) (λ z. used-nonzero m.guest.sectors c.shape-shape.result.sectors)
 
 pub returns-clause-image : goal.returns-clause-image
 returns-clause-image c =
     let m = c.args.machine.now in
-    let old = replicate {A = ℕ} (length m.guest.ram) 0 in
-    let made = change_of c.shape-shape.result c.args.generation 0 c.state.result c.push_pages.new.list.items c.push_blocks.new.list.items
-    c.push_used.new.list.items in
     λ base. ap (λ k. image_of k base) c.from_parts.ensures ∙
-    image-full m c.args.generation made base
-    (record {
-      pages_size = c.shape-shape.ensures.pages;
-      sectors_size = c.shape-shape.ensures.sectors;
-      generation = refl;
-      number = refl;
-      state = c.state.ensures.value;
-      pages = c.push_pages.ensures;
-      blocks = c.push_blocks.ensures ∙ (λ k. c.in_ok-blocks.ensures.items k ++ changed_blocks old m.guest.ram (c.as_slice.ensures.value k));
-      sectors = c.push_used.ensures;
-    })
+    image-full m c.args.generation (made c.before) base (is_cut c.before)
     (ap (λ s. with_state m.guest s) (sym c.state.ensures.value) ∙ c.state.ensures.whole)
