@@ -164,6 +164,19 @@ class Pair:
         self.entries += 1
         return f"frame {box.popleft().hex()}" if box else "none"
 
+    def losein(self, c, place):
+        return self.lose(self.inboxes[self.client(c)], place)
+
+    def loseout(self, c, place):
+        return self.lose(self.boxes[self.client(c)], place)
+
+    def lose(self, frames, place):
+        if place >= len(frames):
+            return "empty"
+        self.entries += 1
+        del frames[place]
+        return "dropped"
+
     def show(self):
         return f"mode paired generation 1 pending {len(self.pending)} steps {self.steps} entries {self.entries}"
 
@@ -183,6 +196,8 @@ class Pair:
             return self.step(in_range(number(rest[0]), 1, NUMBERS_END))
         if word in (b"backup", b"ack", b"admit", b"take", b"sector") and len(rest) == 1:
             return getattr(self, word.decode())(number(rest[0]))
+        if word in (b"losein", b"loseout") and len(rest) == 2:
+            return getattr(self, word.decode())(number(rest[0]), number(rest[1]))
         if word == b"deliver" and len(rest) == 2:
             return self.deliver(number(rest[0]), hex_bytes(rest[1]))
         raise Bad

@@ -12,7 +12,7 @@ came. The last line is `N played, M differ`; the status is 1 where any differ, o
 --counts says how often each answer was expected. --say plays no program: it prints what is expected of one script, whose
 guest must be one that evaluator.py knows.
 
-1000 scripts try each boot line, each bad line and each spelling of a number and of a frame that stands in the lists below."""
+1000 scripts try each boot line, each bad line and each spelling of a number and of a frame that stands in spellings.py."""
 import argparse
 import collections
 import random
@@ -23,45 +23,10 @@ import tempfile
 from pathlib import Path
 
 from evaluator import NUMBERS_END, Player, evaluate
+from spellings import BAD_LINES, BOOTS, COMMENTS, GREATEST, NO_HEX, NO_NUMBERS, TOO_BIG, WORDS
 
 HERE = Path(__file__).parent
 TIMEOUT = 120
-
-WORDS = [b"0000006f", b"00000013", b"00128293", b"00530313", b"00000000", b"ffffffff", b"00000073", b"10500073"]
-COMMENTS = [b"", b"#", b"# a comment", b"#boot 2 1 1 idle", b"# step 0", b"## \t x", b"# caf\xc3\xa9 \xff\x00", b"#\r", b"# "]
-TOO_BIG = b"18446744073709551616 18446744073709551617 36893488147419103232 99999999999999999999".split() + [b"1" + b"0" * 40, b"9" * 5000]
-GREATEST = b"18446744073709551615"
-NO_NUMBERS = b"|+1|-1|-0|0x1|1a|a|1.0|1_0|1,000|\xd9\xa1|\xb2|1e3|'1'|1\x00".split(b"|")
-NO_HEX = [b"0", b"020", b"0" * 29, b"0" * 27, b"AB" * 14, b"0A" * 14, b"0g" * 14, b"0x" + b"00" * 14, b"00" * 13 + b"0", b"00 " * 14,
-          b"00:" * 13 + b"00", b"\xff" * 14, b"+0" * 14, b"", b"00" * 1514 + b"0", b"A0" * 1515]
-
-GOOD_BOOTS = (
-    b"1 1 1 idle|4096 32768 16 idle|4096 1 1 beacon|2 32768 16 beacon|2 1 1 beacon|02 0001 016 beacon|2 4 1 disk 0 ab|2 4 1 disk 3 00|"
-    b"2 4 1 disk 4 ff|2 32768 1 disk 32767 5a|2 32768 1 disk 32768 5a|2 1 2 disk 0 01|2 1 1 disk 4294967296 ab|"
-    b"2 1 1 disk 18446744073709551615 ab|1 1 1 words 0000006f|1 1 1 words 00000000").split(b"|")
-BAD_BOOTS = (
-    b"0 1 1 idle|4097 1 1 idle|1 0 1 idle|1 32769 1 idle|1 1 0 idle|1 1 17 idle|1 1 1 beacon|0 1 1 beacon|4097 1 1 beacon|1 1 1 disk 0 ab|"
-    b"18446744073709551615 1 1 idle|1 18446744073709551615 1 idle|1 1 18446744073709551615 idle|18446744073709551616 1 1 idle|"
-    b"1 18446744073709551617 1 idle|1 1 18446744073709551617 idle|4294967297 1 1 idle|1 65537 1 idle|1 1 257 idle||2|2 1|2 1 1|2 1 1 |"
-    b"2 1 1 idle | 2 1 1 idle|2  1 1 idle|2 1 1  idle|2 1 1 idle 0|2 1 1 beacon 1|2 1 1 Idle|2 1 1 echo|2 1 1 counter|2 1 1 idl|"
-    b"2 1 1 idles|+2 1 1 idle|-2 1 1 idle|0x2 1 1 idle|2 a 1 idle|2 1 1 idle\r|2 1 1 idle\xc3\xa9|2 1 1\tidle|2 1 idle|2 1 1 1 idle|"
-    b"2 1 1 words|2 1 1 words |2 1 1 words 000006f|2 1 1 words 0000006F|2 1 1 words 00000006f|2 1 1 words 0x00006f|2 1 1 words 0000006f |"
-    b"2 1 1 words 0000006f  00000013|2 1 1 words 0000006f 0000001|2 1 1 words 0000006f0000006f|2 1 1 words 0000006g|2 1 1 words0000006f|"
-    b"2 1 1 words -000006f|2 1 1 disk|2 1 1 disk 0|2 1 1 disk 0 a|2 1 1 disk 0 AB|2 1 1 disk 0 abc|2 1 1 disk 0 abcd|2 1 1 disk 0 ab |"
-    b"2 1 1 disk -1 ab|2 1 1 disk 0  ab|2 1 1 disk 0 0x|2 1 1 disk ab 00|2 1 1 disk 0 ab 0|2 1 1 disk 18446744073709551616 ab").split(b"|")
-NO_BOOTS = b"Boot 2 1 1 idle| boot 2 1 1 idle|boots 2 1 1 idle|\tboot 2 1 1 idle|\xef\xbb\xbfboot 2 1 1 idle|bootx|boot|step 1|show|x| |\r"
-BOOTS = [b"boot " + text for text in GOOD_BOOTS + BAD_BOOTS] + NO_BOOTS.split(b"|")
-# As many words as the memory holds, or one more.
-BOOTS += [b"boot %d 1 1 words" % pages + b" 00000013" * count for pages in (1, 2) for count in (1024, 1025, 2048, 2049)]
-
-BAD_LINES = (
-    b" |  |\t|\r|\x00|\xff|\xc3\xa9|-|0|1|help|quit|committed 1 1|refused 5 Behind|cut send|boot|boot 2 1 1 idle|boot 2 1 1 beacon|"
-    b"boot 0 1 1 idle|steps 1|ste 1|STEP 1|Step 1|step|step |step 0|step 00|step 1 1|step  1| step 1|step 1 |step\t1|step1|step 1\r|"
-    b"step 1 #|step 1; cut|step 1 cut|cut 1|cut | cut|Cut|cut\r|cut\x00|cuts|cu|send 1|send |sends|send\r|show 1|show | show|show\r|shows|"
-    b"show\xff|backup|backup |backups 0|backup 0 0|backup 0\r|ack|ack |ack 0 0|acks 0|ack 0 |ack  0|admit|admit |admit 1 1|admit 1 |"
-    b"admits 1|take|take |take 1 1|take 1\r|takes 1|sector|sector |sector 0 0|sectors 0|sector 0 |sector 18446744073709551615| # x|\t# x|"
-    b"deliver|deliver |deliver 1|deliver 1 |deliver FRAME|deliver  1 FRAME|deliver 1  FRAME|deliver 1 FRAME |deliver 1 FRAME\r|"
-    b"deliver 1 FRAME 00|deliver FRAME 1|delivers 1 FRAME").replace(b"FRAME", b"5a" * 14).split(b"|")
 
 
 class Writer:
@@ -133,6 +98,8 @@ class Writer:
             return b"deliver " + self.text(self.client()) + b" " + self.frame().hex().encode()
         if word in (b"admit", b"take"):
             return word + b" " + self.text(self.client())
+        if word in (b"losein", b"loseout"):
+            return word + b" " + self.text(self.client()) + b" " + self.text(self.rng.choice([0, 0, 0, 1, 2, 5, 63, 64, NUMBERS_END - 1]))
         if word == b"sector":
             return b"sector " + self.text(self.rng.choice([0, pair.sectors - 1, self.rng.randrange(pair.sectors)]))
         if word == b"#":
@@ -141,8 +108,8 @@ class Writer:
 
     def some(self, count, **weights):
         """So many lines; each word's weight is 1, or what is given."""
-        words = ["step", "cut", "send", "backup", "ack", "deliver", "admit", "take", "show", "sector", "#"]
-        weight = {"sector": 0.3, "#": 0.4, "show": 0.7} | weights
+        words = ["step", "cut", "send", "backup", "ack", "deliver", "admit", "take", "losein", "loseout", "show", "sector", "#"]
+        weight = {"losein": 0.5, "loseout": 0.5, "sector": 0.3, "#": 0.4, "show": 0.7} | weights
         for word in self.rng.choices(words, [weight.get(word, 1) for word in words], k=count):
             self.add(self.line(word.encode()))
 
@@ -219,6 +186,20 @@ def beacons(w, _):
         w.add(b"show", b"take 1", b"take 2", b"take 1", b"show")
 
 
+def losses(w, _):
+    """Frames lost in an inbox and in a box, first, in the middle and last, with what the client and the guest get of the others."""
+    rng = w.rng
+    w.add(b"boot 2 1 %d beacon" % rng.choice([1, 2, 16]), b"step 22", b"cut", b"send", b"backup 0")
+    w.some(rng.randint(0, 3), step=0, losein=3, deliver=3)
+    w.add(b"ack 0", *[b"take 1"] * rng.choice([0, 0, 1]), b"loseout 1 %d" % rng.choice([0, 0, 0, 1]), b"take 1", b"show")
+    count = rng.choice([1, 3, 5, 64, 65])
+    w.add(*[b"deliver 1 " + rng.randbytes(14).hex().encode() for _ in range(count)])
+    for _ in range(rng.randint(1, 6)):
+        w.add(b"losein 1 %d" % rng.choice([0, 0, 1, count // 2, count - 1, count, count - 2 if count > 2 else 0]))
+        w.some(rng.randint(0, 3), deliver=3, admit=3, losein=3)
+    w.add(b"show", *[b"admit 1"] * rng.choice([1, 3, count]), b"show", b"cut", b"send", b"losein 1 0", b"backup 1", b"show")
+
+
 def disks(w, _):
     """A sector before, in and after the step that writes it; then one beyond the disk."""
     rng = w.rng
@@ -236,7 +217,8 @@ def disks(w, _):
 def mutated(w):
     """A good line with something wrong in it."""
     rng = w.rng
-    line = w.line(rng.choice([b"step", b"cut", b"send", b"backup", b"ack", b"deliver", b"admit", b"take", b"show", b"sector"]))
+    words = b"step cut send backup ack deliver admit take losein loseout show sector".split()
+    line = w.line(rng.choice(words))
     fields = line.split(b" ")
     place = rng.randrange(len(line) + 1)
     odd = bytes([rng.choice([0, 9, 11, 13, 32, 43, 45, 48, 64, 127, 128, 255])])
@@ -252,10 +234,11 @@ def bad(w, turn):
     w.boot()
     w.some(w.rng.randint(0, 12))
     wrong = BAD_LINES + [b"deliver 1 " + text for text in NO_HEX]
-    names = [b"step", b"backup", b"ack", b"admit", b"take", b"sector", b"deliver"]
+    names = [b"step", b"backup", b"ack", b"admit", b"take", b"sector", b"deliver", b"losein", b"loseout 1"]
+    tails = {b"deliver": b" " + b"00" * 14, b"losein": b" 0"}
     for place, text in enumerate(2 * (NO_NUMBERS + TOO_BIG)):
         name = names[place % len(names)]
-        wrong.append(name + b" " + text + (b" " + b"00" * 14 if name == b"deliver" else b""))
+        wrong.append(name + b" " + text + tails.get(name, b""))
     w.add(wrong[turn % len(wrong)])
     w.add(*w.rng.choices([b"show", b"step 5", b"bad too", b"", b"# x"], k=w.rng.randint(0, 3)))
 
@@ -273,13 +256,14 @@ def edges(w, _):
     """The greatest numbers, which are good, with 2^64 after them, which isn't."""
     w.boot()
     w.some(w.rng.randint(0, 20))
-    names = [b"backup", b"ack", b"admit", b"take", b"deliver"]
+    names = [b"backup", b"ack", b"admit", b"take", b"deliver", b"losein", b"loseout 1", b"losein 1"]
     for name in w.rng.sample(names, k=3):
-        tail = b" " + w.frame().hex().encode() if name == b"deliver" else b""
+        tail = b" " + w.frame().hex().encode() if name == b"deliver" else b" 0" if name == b"losein" else b""
         w.add(name + b" " + b"0" * w.rng.choice([0, 1, 30]) + GREATEST + tail)
     w.add(b"show")
     name = w.rng.choice(names + [b"step", b"sector"])
-    w.add(name + b" " + b"0" * w.rng.choice([0, 1, 30]) + w.rng.choice(TOO_BIG) + (b" " + b"00" * 60 if name == b"deliver" else b""))
+    w.add(name + b" " + b"0" * w.rng.choice([0, 1, 30]) + w.rng.choice(TOO_BIG) + 
+          {b"deliver": b" " + b"00" * 60, b"losein": b" 0"}.get(name, b""))
     w.add(b"show")
 
 
@@ -313,7 +297,7 @@ def bare(w, turn):
 
 
 KINDS = [wild, bad, packets, boots, orderly, bad, beacons, mutants, wild, boots, crowded, bad, packets, behind, edges, disks,
-         beacons, bare]
+         beacons, losses, bad, boots, bare]
 
 
 def generate(seed, index):

@@ -1,13 +1,20 @@
 -- The first form that fits is the one form that fits.
-use Rattle.std.proofs.Common.{◌≡◌, ◌≤◌, ℕ, Bool, true, false, cond, List, Option, Some, None, refl, ap, subst, arith, ◌∙◌, nat_eq, codes}
-use Rattle.std.specs.Option.{option_map_or, option_and_then}
+use Rattle.std.proofs.Common.{◌≡◌, ◌≤◌, ℕ, Bool, true, false, cond, List, ◌∷◌, ◌++◌, Option, Some, None, refl, ap, subst, arith, ◌∙◌, nat_eq, codes}
+use Rattle.std.specs.Option.{option_map, option_map_or, option_and_then}
 use Rattle.std.specs.Str.{bytes_eq}
 use Rattle.std.proofs.lemmas.Slice.Eq.{bytes_eq-Decides}
-use Rattle.remus.specs.Fields.{text_after, number_of, numbered_by}
-use Rattle.remus.specs.Command.{IsNumbered, IsCommand, command_of}
+use Rattle.remus.specs.Fields.{text_after, number_of, numbered_by, operand_of, with_second, numbers_by}
+use Rattle.remus.specs.Command.{IsNumbered, HasNumbers, IsCommand, command_of}
 use Rattle.remus.specs.declared.script.Command.{Command}
-use Rattle.remus.specs.declared.script.Command.TheVariants.{Step, Cut, Send, Backup, Ack, Admit, Take, Sector, Show}
-use Rattle.remus.proofs.FieldLemmas.{text_after-some}
+use Rattle.remus.specs.declared.script.Command.TheVariants.{Step, Cut, Send, Backup, Ack, Admit, Take, LoseIn, LoseOut, Sector, Show}
+use Rattle.remus.proofs.FieldLemmas.{text_after-some, operand_of-spelled, operand_of-read}
+use Rattle.remus.proofs.OptionLemmas.{and_then_some}
+
+-- two numbers are found again
+numbers-spelled : (first second : List ℕ) (m n : ℕ) → number_of first ≡ Some m → number_of second ≡ Some n
+    → option_and_then with_second (operand_of (first ++ 32 ∷ second)) ≡ Some (m, n)
+numbers-spelled first second m n h k =
+    ap (option_and_then with_second) (operand_of-spelled first second m h) ∙ ap (option_map {U = ℕ × ℕ} (λ x. (m, x))) k
 
 -- what is spelled so is read so
 pub command_of-spelled : (text : List ℕ) (command : Command) → IsCommand text command → command_of text ≡ Some command
@@ -23,6 +30,10 @@ command_of-spelled text (Admit client) (digits, shape, value) =
     ap command_of shape ∙ ap (λ o. option_map_or (λ k. Some (Admit k)) o None) value
 command_of-spelled text (Take client) (digits, shape, value) =
     ap command_of shape ∙ ap (λ o. option_map_or (λ k. Some (Take k)) o None) value
+command_of-spelled text (LoseIn client place) (first, second, shape, m, n) =
+    ap command_of shape ∙ ap (λ o. option_map_or (λ found. Some (LoseIn found.0 found.1)) o None) (numbers-spelled first second client place m n)
+command_of-spelled text (LoseOut client place) (first, second, shape, m, n) =
+    ap command_of shape ∙ ap (λ o. option_map_or (λ found. Some (LoseOut found.0 found.1)) o None) (numbers-spelled first second client place m n)
 command_of-spelled text (Sector sector) (digits, shape, value) =
     ap command_of shape ∙ ap (λ o. option_map_or (λ k. Some (Sector k)) o None) value
 command_of-spelled text Show shape = ap command_of shape
@@ -32,8 +43,8 @@ named : (P : Type 0) (test : Bool) (first : Command) (others : Option Command) (
 named P true first others command this other h = this refl cc
 named P false first others command this other h = other h
 
-told : (P : Type 0) (make : ℕ → Option Command) (number : Option ℕ) (others : Option Command) (command : Command)
-    → ((n : ℕ) → number ≡ Some n → make n ≡ Some command → P) → (others ≡ Some command → P)
+told : {A : Type 0} (P : Type 0) (make : A → Option Command) (number : Option A) (others : Option Command) (command : Command)
+    → ((n : A) → number ≡ Some n → make n ≡ Some command → P) → (others ≡ Some command → P)
     → option_map_or make number others ≡ Some command → P
 told P make (Some n) others command this other h = this n refl h
 told P make None others command this other h = other h
@@ -46,6 +57,19 @@ numbered_after front text n None e h = cc
 is_numbered : (front text : List ℕ) (n : ℕ) → numbered_by front text ≡ Some n → IsNumbered front n text
 is_numbered front text n h = numbered_after front text n (text_after front text) refl h
 
+mapped : (o : Option ℕ) (m : ℕ) (found : ℕ × ℕ) → option_map (λ n. (m, n)) o ≡ Some found → (m ≡ found.0) × (o ≡ Some found.1)
+mapped (Some n) m found e =
+    let same : ◌≡◌ {A = ℕ × ℕ} (m, n) found = cc in (ap (λ (p : ℕ × ℕ). p.0) same, ap (λ (p : ℕ × ℕ). Some p.1) same)
+mapped None m found e = cc
+
+has_numbers : (front text : List ℕ) (found : ℕ × ℕ) → numbers_by front text ≡ Some found → HasNumbers front found.0 found.1 text
+has_numbers front text found h =
+    let head = and_then_some with_second (option_and_then operand_of (text_after front text)) found h in
+    let rest = and_then_some operand_of (text_after front text) head.0 head.1 in
+    let read = operand_of-read rest.0 head.0.0 head.0.1 rest.2 in
+    let both = mapped (number_of head.0.1) head.0.0 found head.2 in
+    (read.0, head.0.1, text_after-some front text rest.0 rest.1 ∙ ap (λ t. front ++ t) read.1, read.2 ∙ ap (λ m. Some m) both.0, both.1)
+
 steps : (text : List ℕ) (n : ℕ) (command : Command) → IsNumbered (codes "step ") n text → (b : Bool) → nat_eq n 0 ≡ b
     → cond b None (Some (Step n)) ≡ Some command → IsCommand text command
 steps text n command spelled true e h = cc
@@ -53,8 +77,14 @@ steps text n command spelled false e h = let low : 1 ≤ n = grind arith in let 
     subst (IsCommand text) same (spelled, low)
 
 -- the forms, from the last one up
+abbrev lose_out_form : List ℕ → Option Command
+lose_out_form text = option_map_or (λ found. Some (LoseOut found.0 found.1)) (numbers_by (codes "loseout ") text) None
+
+abbrev lose_in_form : List ℕ → Option Command
+lose_in_form text = option_map_or (λ found. Some (LoseIn found.0 found.1)) (numbers_by (codes "losein ") text) (lose_out_form text)
+
 abbrev sector_form : List ℕ → Option Command
-sector_form text = option_map_or (λ sector. Some (Sector sector)) (numbered_by (codes "sector ") text) None
+sector_form text = option_map_or (λ sector. Some (Sector sector)) (numbered_by (codes "sector ") text) (lose_in_form text)
 
 abbrev take_form : List ℕ → Option Command
 take_form text = option_map_or (λ client. Some (Take client)) (numbered_by (codes "take ") text) (sector_form text)
@@ -71,10 +101,22 @@ backup_form text = option_map_or (λ k. Some (Backup k)) (numbered_by (codes "ba
 abbrev step_form : List ℕ → Option Command
 step_form text = option_map_or (λ n. cond (nat_eq n 0) None (Some (Step n))) (numbered_by (codes "step ") text) (backup_form text)
 
-from_sector : (text : List ℕ) (command : Command) → sector_form text ≡ Some command → IsCommand text command
-from_sector text command = told (IsCommand text command) (λ n. Some (Sector n)) (numbered_by (codes "sector ") text) None command
-    (λ n spelled e. let same : Sector n ≡ command = cc in subst (IsCommand text) same (is_numbered (codes "sector ") text n spelled))
+from_lose_out : (text : List ℕ) (command : Command) → lose_out_form text ≡ Some command → IsCommand text command
+from_lose_out text command = told (IsCommand text command) (λ (f : ℕ × ℕ). Some (LoseOut f.0 f.1)) (numbers_by (codes "loseout ") text) None
+    command
+    (λ f spelled e. let same : LoseOut f.0 f.1 ≡ command = cc in subst (IsCommand text) same (has_numbers (codes "loseout ") text f spelled))
     (λ e. cc)
+
+from_lose_in : (text : List ℕ) (command : Command) → lose_in_form text ≡ Some command → IsCommand text command
+from_lose_in text command = told (IsCommand text command) (λ (f : ℕ × ℕ). Some (LoseIn f.0 f.1)) (numbers_by (codes "losein ") text)
+    (lose_out_form text) command
+    (λ f spelled e. let same : LoseIn f.0 f.1 ≡ command = cc in subst (IsCommand text) same (has_numbers (codes "losein ") text f spelled))
+    (from_lose_out text command)
+
+from_sector : (text : List ℕ) (command : Command) → sector_form text ≡ Some command → IsCommand text command
+from_sector text command = told (IsCommand text command) (λ n. Some (Sector n)) (numbered_by (codes "sector ") text) (lose_in_form text) command
+    (λ n spelled e. let same : Sector n ≡ command = cc in subst (IsCommand text) same (is_numbered (codes "sector ") text n spelled))
+    (from_lose_in text command)
 
 from_take : (text : List ℕ) (command : Command) → take_form text ≡ Some command → IsCommand text command
 from_take text command = told (IsCommand text command) (λ n. Some (Take n)) (numbered_by (codes "take ") text) (sector_form text) command

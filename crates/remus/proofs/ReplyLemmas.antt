@@ -17,7 +17,7 @@ use Rattle.pair_core.specs.declared.event.Refusal.{Refusal}
 use Rattle.pair_core.specs.declared.event.Refusal.TheVariants.{Full, BadFrame, NoClient, Behind, Stale, Gap, NoMemory, CutNeeded, Exhausted}
 use Rattle.pair_core.specs.declared.event.Reply.{Reply}
 use Rattle.pair_core.specs.declared.event.Reply.TheVariants.{Steps, Cut, Sent, Committed, Again, Lost, Acked, Admitted, Empty}
-use Rattle.pair_core.specs.declared.event.Reply.TheVariants.{Delivered, Took, Refused}
+use Rattle.pair_core.specs.declared.event.Reply.TheVariants.{Delivered, Took, Dropped, Refused}
 use Rattle.remus.specs.Fields.{text_after}
 use Rattle.remus.specs.Printed.{reply_line, IsPlain}
 use Rattle.remus.proofs.OptionLemmas.{some_same}
@@ -150,8 +150,9 @@ reply_of =
     (after (codes "delivered ") (one (λ n. Delivered n))
     (after (codes "none\n") (λ _. Some (Took None))
     (after (codes "frame ") frame
+    (after (codes "dropped\n") (λ _. Some Dropped)
     (after (codes "refused ") refused
-    (λ _. None)))))))))))))
+    (λ _. None))))))))))))))
 
 -- the line of a reply is read as that reply
 read-back : (reply : Reply) → IsPlain reply → reply_of (reply_line reply) ≡ Some reply
@@ -167,6 +168,7 @@ read-back Empty h = refl
 read-back (Delivered n) h = one-back (λ n. Delivered n) n h
 read-back (Took None) h = refl
 read-back (Took (Some bytes)) h = frame-back bytes.items h
+read-back Dropped h = refl
 read-back (Refused refusal) h = refused-back refusal (name_of refusal)
 
 -- no two replies print alike

@@ -1,14 +1,20 @@
 -- The lines after the boot line: a name, and what it is told.
-use Rattle.std.specs.Prelude.{◌≡◌, ℕ, ◌≤◌, nat_eq, List, ◌++◌, Option, Some, None, codes, if◌then◌else◌}
+use Rattle.std.specs.Prelude.{◌≡◌, ℕ, ◌≤◌, nat_eq, List, ◌∷◌, ◌++◌, Option, Some, None, codes, if◌then◌else◌}
 use Rattle.std.specs.Option.{option_map_or}
 use Rattle.std.specs.Str.{bytes_eq}
-use Rattle.remus.specs.Fields.{number_of, numbered_by}
+use Rattle.remus.specs.Fields.{number_of, numbered_by, numbers_by}
 use Rattle.remus.specs.declared.script.Command.{Command}
-use Rattle.remus.specs.declared.script.Command.TheVariants.{Step, Cut, Send, Backup, Ack, Admit, Take, Sector, Show}
+use Rattle.remus.specs.declared.script.Command.TheVariants.{Step, Cut, Send, Backup, Ack, Admit, Take, LoseIn, LoseOut, Sector, Show}
 
 -- the front, and digits that write n
 abbrev pub IsNumbered : List ℕ → ℕ → List ℕ → Type 0
 IsNumbered front n text = (digits : List ℕ) × (text ≡ front ++ digits) × (number_of digits ≡ Some n)
+
+-- the front, digits that write m, one space, and digits that write n
+abbrev pub HasNumbers : List ℕ → ℕ → ℕ → List ℕ → Type 0
+HasNumbers front m n text =
+    (first : List ℕ) × (second : List ℕ)
+    × (text ≡ front ++ (first ++ 32 ∷ second)) × (number_of first ≡ Some m) × (number_of second ≡ Some n)
 
 -- how each command is spelled; a count of steps is at least 1
 abbrev pub IsCommand : List ℕ → Command → Type 0
@@ -19,6 +25,8 @@ IsCommand text (Backup k) = IsNumbered (codes "backup ") k text
 IsCommand text (Ack k) = IsNumbered (codes "ack ") k text
 IsCommand text (Admit client) = IsNumbered (codes "admit ") client text
 IsCommand text (Take client) = IsNumbered (codes "take ") client text
+IsCommand text (LoseIn client place) = HasNumbers (codes "losein ") client place text
+IsCommand text (LoseOut client place) = HasNumbers (codes "loseout ") client place text
 IsCommand text (Sector sector) = IsNumbered (codes "sector ") sector text
 IsCommand text Show = text ≡ codes "show"
 
@@ -34,4 +42,6 @@ command_of text =
     (option_map_or (λ client. Some (Admit client)) (numbered_by (codes "admit ") text)
     (option_map_or (λ client. Some (Take client)) (numbered_by (codes "take ") text)
     (option_map_or (λ sector. Some (Sector sector)) (numbered_by (codes "sector ") text)
-    None)))))
+    (option_map_or (λ found. Some (LoseIn found.0 found.1)) (numbers_by (codes "losein ") text)
+    (option_map_or (λ found. Some (LoseOut found.0 found.1)) (numbers_by (codes "loseout ") text)
+    None)))))))

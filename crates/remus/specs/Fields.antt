@@ -32,3 +32,11 @@ number_in parts = option_map (λ n. (n, parts.1)) (number_of parts.0)
 -- a number at the front, and the text after the space that ends it
 abbrev pub operand_of : List ℕ → Option (ℕ × List ℕ)
 operand_of text = option_and_then number_in (parted text)
+
+-- a number, and the one that the text after it writes
+abbrev pub with_second : ℕ × List ℕ → Option (ℕ × ℕ)
+with_second found = option_map (λ n. (found.0, n)) (number_of found.1)
+
+-- two numbers after front, parted by one space
+abbrev pub numbers_by : List ℕ → List ℕ → Option (ℕ × ℕ)
+numbers_by front text = option_and_then with_second (option_and_then operand_of (text_after front text))

@@ -11,7 +11,7 @@ use Rattle.pair_core.specs.Protocol.{Answers}
 use Rattle.pair_core.specs.Runs.{steps_outcome}
 use Rattle.pair_core.specs.Record.{start_record}
 use Rattle.pair_core.specs.Start.{shown}
-use Rattle.remus.specs.declared.script.Command.TheVariants.{Step, Cut, Send, Backup, Ack, Admit, Take, Sector, Show}
+use Rattle.remus.specs.declared.script.Command.TheVariants.{Step, Cut, Send, Backup, Ack, Admit, Take, LoseIn, LoseOut, Sector, Show}
 use Rattle.remus.specs.Boot.{BootLine, IsBoot, BeginsBoot, booted_state}
 use Rattle.remus.specs.Command.{IsCommand}
 use Rattle.remus.specs.Delivery.{IsDelivery, BeginsDelivery}
@@ -45,6 +45,8 @@ AsksFor (order (Backup packet)) event = event ≡ events.BackupGet packet
 AsksFor (order (Ack packet)) event = event ≡ events.AckGet packet
 AsksFor (order (Admit client)) event = event ≡ events.Admit client
 AsksFor (order (Take client)) event = event ≡ events.Take client
+AsksFor (order (LoseIn client place)) event = event ≡ events.LoseIn client place
+AsksFor (order (LoseOut client place)) event = event ≡ events.LoseOut client place
 AsksFor (delivery client bytes) (events.Deliver to lent) = (to ≡ client) × (lent.now ≡ bytes)
 AsksFor line event = ⊥
 

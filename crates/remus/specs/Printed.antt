@@ -9,7 +9,7 @@ use Rattle.pair_core.specs.Refusals.{number_of, name_of}
 use Rattle.pair_core.specs.declared.event.Show.{Show}
 use Rattle.pair_core.specs.declared.event.Reply.{Reply}
 use Rattle.pair_core.specs.declared.event.Reply.TheVariants.{Steps, Cut, Sent, Committed, Again, Lost, Acked, Admitted, Empty}
-use Rattle.pair_core.specs.declared.event.Reply.TheVariants.{Delivered, Took, Refused}
+use Rattle.pair_core.specs.declared.event.Reply.TheVariants.{Delivered, Took, Dropped, Refused}
 
 -- fields parted by one space, and the end of the line
 abbrev pub line : List (List ℕ) → List ℕ
@@ -33,6 +33,7 @@ reply_line Empty = line (codes "empty" ∷ [])
 reply_line (Delivered n) = line (codes "delivered" ∷ decimal n ∷ [])
 reply_line (Took None) = line (codes "none" ∷ [])
 reply_line (Took (Some frame)) = line (codes "frame" ∷ encode_lower frame.items ∷ [])
+reply_line Dropped = line (codes "dropped" ∷ [])
 reply_line (Refused refusal) = refusal_line refusal
 
 -- The numbers are what 64 bits hold, and a frame's items are bytes.

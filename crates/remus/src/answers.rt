@@ -45,6 +45,8 @@ fn obey(world: &mut World, command: Command, text: &mut Vec<u8>) -> io::Result<b
         Command::Ack(packet) => happen(world, Event::AckGet(packet), text),
         Command::Admit(client) => happen(world, Event::Admit(client), text),
         Command::Take(client) => happen(world, Event::Take(client), text),
+        Command::LoseIn(client, place) => happen(world, Event::LoseIn(client, place), text),
+        Command::LoseOut(client, place) => happen(world, Event::LoseOut(client, place), text),
         Command::Sector(sector) => print_sector(world, sector, text),
         Command::Show => print_show(world, text),
     }

@@ -1,10 +1,10 @@
 //! The fields of a script's line: names and numbers, each with the one way that it may be spelled.
 
-ghost use Rattle.std.specs.Prelude.{◌≡◌, ◌==◌, ℕ, List, length, None, Some, IfSome, MatchOption, option_map, position};
+ghost use Rattle.std.specs.Prelude.{◌≡◌, ◌==◌, ℕ, List, length, None, Some, IfSome, MatchOption, option_and_then, option_map, position};
 ghost use Rattle.std.specs.Char.{is_ascii_uppercase};
 ghost use Rattle.std.specs.List.{list_any};
 ghost use Rattle.hex.specs.Hex.{encode_lower, IsBytes};
-ghost use Rattle.remus.specs.Fields.{text_after, number_of, numbered_by, operand_of, parted};
+ghost use Rattle.remus.specs.Fields.{text_after, number_of, numbered_by, numbers_by, operand_of, parted};
 
 use hex::FromHex;
 
@@ -38,6 +38,21 @@ pub fn operand(text: &[u8]) -> Option<(u64, &[u8])>
 {
     let (digits, rest) = part(text)?;
     Some((number(digits)?, rest))
+}
+
+/// The two numbers after `front`, where the text is `front` and two numbers with one space between them.
+pub fn numbers(text: &[u8], front: &[u8]) -> Option<(u64, u64)>
+    ensures { result ≡ numbers_by front.now text.now }
+{
+    let (first, rest) = operand_after(text, front)?;
+    Some((first, number(rest)?))
+}
+
+/// A number after `front`, and the text after the space that ends it.
+fn operand_after<'a>(text: &'a [u8], front: &[u8]) -> Option<(u64, &'a [u8])>
+    ensures { option_map (λ found. (found.0, found.1.now)) result ≡ option_and_then operand_of (text_after front.now text.now) }
+{
+    operand(after(text, front)?)
 }
 
 /// The text up to the first space, and what stands after that.

@@ -41,6 +41,7 @@ pub fn write_reply<W: Write>(out: &mut W, reply: &Reply) -> Result<()>
         Reply::Delivered(number) => write_number(out, "delivered", *number),
         Reply::Took(Some(frame)) => write_frame(out, frame),
         Reply::Took(None) => writeln!(out, "none"),
+        Reply::Dropped => writeln!(out, "dropped"),
         Reply::Refused(refusal) => write_refusal(out, *refusal),
     }
 }

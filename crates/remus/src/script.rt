@@ -4,7 +4,7 @@ ghost use Rattle.std.specs.Prelude.{◌≡◌, Some, IfSome};
 ghost use Rattle.remus.specs.Command.{command_of, IsCommand};
 ghost use Rattle.remus.specs.declared.script.Command.{Command};
 
-use crate::fields::numbered;
+use crate::fields::{numbered, numbers};
 
 /// A line after the boot line.
 #[derive(Clone, Copy, Debug, PartialEq, Eq)]
@@ -23,6 +23,10 @@ pub enum Command {
     Admit(u64),
     /// `take C`: client `C` takes the first frame of its box.
     Take(u64),
+    /// `losein C P`: the line drops the frame at place `P`, from 0, of client `C`'s inbox.
+    LoseIn(u64, u64),
+    /// `loseout C P`: the line drops the frame at place `P`, from 0, of client `C`'s box.
+    LoseOut(u64, u64),
     /// `sector S`: the bytes of sector `S` of the live guest's disk, from 0. Beyond the disk it is a bad line.
     Sector(u64),
     /// `show`: the state in one line.
@@ -74,6 +78,12 @@ fn first_form(text: &[u8]) -> Option<Command>
     }
     if let Some(sector) = numbered(text, b"sector ") {
         return Some(Command::Sector(sector));
+    }
+    if let Some((client, place)) = numbers(text, b"losein ") {
+        return Some(Command::LoseIn(client, place));
+    }
+    if let Some((client, place)) = numbers(text, b"loseout ") {
+        return Some(Command::LoseOut(client, place));
     }
     None
 }

@@ -4,7 +4,7 @@ use Rattle.pair_core.specs.declared.event.Event.TheVariants as events
 use Rattle.remus.specs.Lines.{order}
 use Rattle.remus.specs.Meaning.{IsDone}
 use Rattle.remus.specs.declared.script.Command.{Command}
-use Rattle.remus.specs.declared.script.Command.TheVariants.{Cut, Send, Backup, Ack, Admit, Take}
+use Rattle.remus.specs.declared.script.Command.TheVariants.{Cut, Send, Backup, Ack, Admit, Take, LoseIn, LoseOut}
 use Rattle.remus.proofs.MeaningLemmas.{happened}
 use Rattle.remus.proofs.answers.obey.Goals as goal
 
@@ -37,3 +37,21 @@ pub returns-in-Take : goal.returns-in-Take
 returns-in-Take c =
     subst (λ (command : Command). IsDone c.args.world.now (order command) c.happen-in-Take.result c.happen-in-Take.new.text.items c.happen-in-Take.new.world) (sym c.in-Take.is)
     (happened c.args.world.now (order (Take c.in-Take.client)) c.happen-in-Take.new.text.items c.happen-in-Take.new.world c.happen-in-Take.result (events.Take c.in-Take.client) refl c.happen-in-Take.ensures.ok c.happen-in-Take.ensures.err)
+
+pub returns-in-LoseIn : goal.returns-in-LoseIn
+returns-in-LoseIn c =
+    let done = c.happen-in-LoseIn in
+    let client = c.in-LoseIn.client in
+    let place = c.in-LoseIn.place in
+    subst (λ (command : Command). IsDone c.args.world.now (order command) done.result done.new.text.items done.new.world) (sym c.in-LoseIn.is)
+    (happened c.args.world.now (order (LoseIn client place)) done.new.text.items done.new.world done.result (events.LoseIn client place) refl
+    done.ensures.ok done.ensures.err)
+
+pub returns-in-LoseOut : goal.returns-in-LoseOut
+returns-in-LoseOut c =
+    let done = c.happen-in-LoseOut in
+    let client = c.in-LoseOut.client in
+    let place = c.in-LoseOut.place in
+    subst (λ (command : Command). IsDone c.args.world.now (order command) done.result done.new.text.items done.new.world) (sym c.in-LoseOut.is)
+    (happened c.args.world.now (order (LoseOut client place)) done.new.text.items done.new.world done.result (events.LoseOut client place) refl
+    done.ensures.ok done.ensures.err)
