@@ -66,15 +66,19 @@ impl World {
     {
         let boot_image = Vec::from_slice(alloc, image)?;
         let nodes = Nodes::boot(alloc, shape, image)?;
-        let record = PairRecord::new(alloc, clients)?;
-        Ok(World {
+        let Ok(record) = PairRecord::new(alloc, clients) else {
+            return Err(Refusal::NoMemory);
+        };
+        let world = World {
             alloc,
             boot_image,
             shape,
             clients,
             record,
             nodes,
-        })
+        };
+        world.keep_consistent();
+        Ok(world)
     }
 
     /// Does one event and answers it, as the pair protocol says. A refusal leaves everything as it was, but that the
