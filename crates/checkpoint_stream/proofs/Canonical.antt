@@ -71,7 +71,7 @@ queue-record size ready desc driver device available used sized made =
     }
 
 -- the rule of a number of a whole head
-rule-at : (r : Reading) (k : ℕ) → IsHead r → r.known ≡ 80 → k < 80 →
+pub rule-at : (r : Reading) (k : ℕ) → IsHead r → r.known ≡ 80 → k < 80 →
     IsTrue (passes r.shape (get_or head_table k (number Four Magic)).rule (get_or (0 ∷ r.head) k 0) (get_or r.head k 0))
 rule-at r k h known lt = AllPass-at r.shape 0 head_table r.head k (number Four Magic) (omega (arith, h.known, known, lt)) h.passes
 

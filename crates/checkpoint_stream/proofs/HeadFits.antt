@@ -64,7 +64,8 @@ unfolding head_table head_numbers
 head-fits c h w =
     let word : (i : ℕ) → i < 31 → get_or c.state.registers i 0 < 2 ^ 64
     = λ (i : ℕ) (lt : i < 31). w.registers i 0 (omega (arith, lt, w.state.count)) in
-    lit< tt ⨾ omega (arith, c.shape.most_pages) ⨾ omega (arith, c.shape.most_sectors) ⨾ omega (arith, h.last_generation) ⨾ omega (arith, h.last_number) ⨾ w.state.steps ⨾
+    lit< tt ⨾ omega (arith, c.shape.most_pages) ⨾ omega (arith, c.shape.most_sectors) ⨾ omega (arith, h.last_generation)
+    ⨾ omega (arith, h.last_number) ⨾ w.state.steps ⨾
     word 0 (lit< tt) ⨾ word 1 (lit< tt) ⨾ word 2 (lit< tt) ⨾ word 3 (lit< tt) ⨾ word 4 (lit< tt) ⨾ word 5 (lit< tt) ⨾
     word 6 (lit< tt) ⨾ word 7 (lit< tt) ⨾ word 8 (lit< tt) ⨾ word 9 (lit< tt) ⨾ word 10 (lit< tt) ⨾ word 11 (lit< tt) ⨾
     word 12 (lit< tt) ⨾ word 13 (lit< tt) ⨾ word 14 (lit< tt) ⨾ word 15 (lit< tt) ⨾ word 16 (lit< tt) ⨾ word 17 (lit< tt) ⨾

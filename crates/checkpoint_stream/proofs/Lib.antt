@@ -14,3 +14,7 @@ pub mod HeadFits
 pub mod StateRead
 pub mod TextRead
 pub mod TextLaws
+pub mod Fronts
+pub mod Spelled
+pub mod HeadBack
+pub mod ReadSpelled

@@ -1,6 +1,9 @@
 -- A number and its bytes give each other.
 use Rattle.std.proofs.Common.{◌≡◌, ℕ, ◌<◌, ◌^◌, List, [], ◌∷◌, length, refl, arith}
+use Rattle.std.proofs.Common.{suc, zero, All, get_or, lit<}
+use Rattle.std.proofs.lemmas.List.Elements.{All-head, All-tail}
 use Rattle.std.proofs.lemmas.Nat.{from_le_bytes-to_le_bytes_2, from_le_bytes-to_le_bytes_4, from_le_bytes-to_le_bytes_8}
+use Rattle.std.proofs.lemmas.Nat.{le_bytes_2, le_bytes_4, le_bytes_8}
 use Rattle.checkpoint_stream.specs.declared.rules.Width.{Width}
 use Rattle.checkpoint_stream.specs.declared.rules.Width.TheVariants.{Two, Four, Eight}
 use Rattle.checkpoint_stream.specs.declared.rules.Row.{Row}
@@ -35,3 +38,25 @@ AllFit [] [] = Unit {0}
 AllFit [] (n ∷ ns) = ⊥
 AllFit (row ∷ rows) [] = ⊥
 AllFit (row ∷ rows) (n ∷ ns) = (n < limit_of row.width) × AllFit rows ns
+
+abbrev pub IsByte : ℕ → Type 0
+IsByte b = b < 256
+
+byte-at : (bs : List ℕ) → All IsByte bs → (i : ℕ) → get_or bs i 0 < 256
+byte-at [] all i = lit< tt
+byte-at (b ∷ bs) all zero = All-head IsByte b bs all
+byte-at (b ∷ bs) all (suc i) = byte-at bs (All-tail IsByte b bs all) i
+
+pub bytes-back : (w : Width) (bs : List ℕ) → length bs ≡ bytes_in w → All IsByte bs → bytes_of w (number_of w bs) ≡ bs
+unfolding number_of bytes_of
+bytes-back Two bs e all = le_bytes_2 bs _ e (byte-at bs all) refl
+bytes-back Four bs e all = le_bytes_4 bs _ e (byte-at bs all) refl
+bytes-back Eight bs e all = le_bytes_8 bs _ e (byte-at bs all) refl
+
+pub number-small : (w : Width) (bs : List ℕ) → All IsByte bs → number_of w bs < limit_of w
+unfolding number_of
+number-small Two bs all = let at : (i : ℕ) → get_or bs i 0 < 256 = byte-at bs all in omega (arith, at 0, at 1)
+number-small Four bs all =
+    let at : (i : ℕ) → get_or bs i 0 < 256 = byte-at bs all in omega (arith, at 0, at 1, at 2, at 3)
+number-small Eight bs all =
+    let at : (i : ℕ) → get_or bs i 0 < 256 = byte-at bs all in omega (arith, at 0, at 1, at 2, at 3, at 4, at 5, at 6, at 7)

@@ -320,7 +320,7 @@ began-stands r partial h = began r.place r partial h
     began Whole r partial h = keep-records r _ _ _ _ _ _ h
     began (Failed x) r partial h = tt
 
-fed_byte-sound : (r : Reading) (b : ℕ) → IsSound r → IsSound (fed_byte r b)
+pub fed_byte-sound : (r : Reading) (b : ℕ) → IsSound r → IsSound (fed_byte r b)
 unfolding fed_byte
 fed_byte-sound r b h =
     elim (is_closed r.place) as (λ (closed : Bool). IsSound (if closed then r else (if length r.partial + 1 == width_of r

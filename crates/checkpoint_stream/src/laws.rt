@@ -1,6 +1,6 @@
 //! Laws of reading.
 
-ghost use Rattle.std.specs.Prelude.{◌≡◌, ◌≢◌, ℕ, true, List, [], ◌++◌};
+ghost use Rattle.std.specs.Prelude.{◌≡◌, ◌≢◌, ◌<◌, ℕ, true, List, [], ◌++◌, All, take};
 ghost use Rattle.guest_machine.specs.declared.shapes.Shape.{Shape};
 ghost use Rattle.epoch_snapshot.specs.Checkpoints.{Change, IsCanonical};
 ghost use Rattle.checkpoint_stream.specs.declared.place.Place.TheVariants.{Whole, Failed};
@@ -53,4 +53,10 @@ pub fn malformed_begins_no_text()
 pub fn no_text_begins_another()
     ensures { (c d : Change) (more : List ℕ) → IsCanonical c → HasWidths c → IsCanonical d → HasWidths d → c.shape ≡ d.shape
         → text c ++ more ≡ text d → (c ≡ d) × (more ≡ []) }
+{}
+
+/// What is read whole is the text of what it gives: the bytes that were taken are this checkpoint's one spelling.
+pub fn read_is_its_text()
+    ensures { (shape : Shape) (offset : ℕ) (bytes : List ℕ) → All (λ b. b < 256) bytes → (fed (begun shape offset) bytes).place ≡ Whole
+        → take (taken (begun shape offset) bytes) bytes ≡ text (change_in (fed (begun shape offset) bytes)) }
 {}

@@ -6,6 +6,7 @@
 
 mod encoding;
 mod errors;
+mod judging;
 mod laws;
 mod marks;
 mod parts;
@@ -21,6 +22,6 @@ pub use encoding::encode;
 pub use errors::StreamError;
 pub use laws::{
     any_pieces, closed_takes_nothing, each_byte_is_needed, malformed_begins_no_text,
-    no_text_begins_another, read_is_canonical, text_is_read_back, units_are_read,
+    no_text_begins_another, read_is_canonical, read_is_its_text, text_is_read_back, units_are_read,
 };
 pub use reader::Reader;

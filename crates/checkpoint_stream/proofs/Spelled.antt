@@ -1,0 +1,311 @@
+-- What was taken so far is the text of what was read so far.
+use Rattle.std.proofs.Common.{◌≡◌, ◌≢◌, ℕ, suc, zero, ◌+◌, ◌-◌, ◌<◌, ◌≤◌, ◌==◌, ◌&&◌, List, [], ◌∷◌, ◌++◌, length, take, Bool, true, false}
+use Rattle.std.proofs.Common.{refl, sym, ◌∙◌, ap, subst, arith, append_assoc, count_ones, if◌then◌else◌, length-append, nat_le, nat_lt}
+use Rattle.std.proofs.Common.{All, get_or}
+use Rattle.std.proofs.lemmas.List.{append-nil, length-map}
+use Rattle.std.proofs.lemmas.Bool.Decides.{nat_tests}
+use Rattle.std.proofs.lemmas.Nat.{zero_from_ones}
+use Rattle.epoch_snapshot.specs.declared.changes.PageChange.{PageChange}
+use Rattle.epoch_snapshot.specs.declared.changes.SectorChange.{SectorChange}
+use Rattle.epoch_snapshot.specs.Checkpoints.{block_count}
+use Rattle.epoch_snapshot.specs.Blocks.{is_zero}
+use Rattle.checkpoint_stream.specs.declared.rules.Row.{Row}
+use Rattle.checkpoint_stream.specs.declared.rules.Width.TheVariants.{Four, Eight}
+use Rattle.checkpoint_stream.specs.declared.rules.Rule.TheVariants.{Magic}
+use Rattle.checkpoint_stream.specs.declared.place.Place.{Place}
+use Rattle.checkpoint_stream.specs.declared.place.Place.TheVariants.{Head, PageCount, PageIndex, PageMask, Block, SectorCount}
+use Rattle.checkpoint_stream.specs.declared.place.Place.TheVariants.{SectorIndex, SectorBytes, Whole, Failed}
+use Rattle.checkpoint_stream.specs.HeadTable.{head_table, row_at, bytes_of, bytes_in, number_of, number, passes}
+use Rattle.checkpoint_stream.specs.Readings.{Reading, failed, moved, moved_if, kept_number, kept_mask, kept_block, kept_sector}
+use Rattle.checkpoint_stream.specs.Readings.{pages_due, sectors_due, after_block, after_number, is_full, is_closed, judged_at, width_at}
+use Rattle.checkpoint_stream.specs.Sound.{IsHead, HasRecords, StandsAt}
+use Rattle.checkpoint_stream.specs.Text.{joined, number_units, page_units, sector_units}
+use Rattle.checkpoint_stream.proofs.Numbers.{IsByte, bytes-back}
+use Rattle.checkpoint_stream.proofs.RecordsRead.{Rises-end}
+use Rattle.checkpoint_stream.proofs.Fronts.{number_units-push, last-spelled, block-spelled, sector_units-push, no-pages, no-sectors}
+
+abbrev pub heads : Reading → List ℕ
+heads r = joined (number_units head_table r.head)
+
+-- the page records that were read, with the count of all, and the sector records likewise
+abbrev pub pages_of : ℕ → Reading → List ℕ
+pages_of n r = bytes_of Four n ++ joined (page_units r.pages r.blocks)
+
+abbrev pub sectors_of : ℕ → Reading → List ℕ
+sectors_of n r = bytes_of Four n ++ joined (sector_units r.sectors)
+
+-- the text of what was read, up to the unit that comes next
+abbrev pub front : Place → Reading → List ℕ
+front Head r = heads r
+front PageCount r = heads r
+front (PageIndex left from) r = heads r ++ pages_of (length r.pages + (left + 1)) r
+front (PageMask left page) r = (heads r ++ pages_of (length r.pages + (left + 1)) r) ++ bytes_of Four page
+front (Block left page more) r = heads r ++ pages_of (length r.pages + left) r
+front SectorCount r = heads r ++ pages_of (length r.pages) r
+front (SectorIndex left from) r = (heads r ++ pages_of (length r.pages) r) ++ sectors_of (length r.sectors + (left + 1)) r
+front (SectorBytes left sector) r =
+    ((heads r ++ pages_of (length r.pages) r) ++ sectors_of (length r.sectors + (left + 1)) r) ++ bytes_of Four sector
+front Whole r = (heads r ++ pages_of (length r.pages) r) ++ sectors_of (length r.sectors) r
+front (Failed at) r = []
+
+-- the page whose blocks come, of which so many are still due after the next
+pub record IsOpen (r : Reading) (more : ℕ) : Type 0 where
+  pub earlier : List PageChange
+  pub last : PageChange
+  pub before : List (List ℕ)
+  pub own : List (List ℕ)
+  pub pages : r.pages ≡ earlier ++ last ∷ []
+  pub blocks : r.blocks ≡ before ++ own
+  pub count : length before ≡ block_count earlier
+  pub due : length own + (more + 1) ≡ count_ones last.mask
+
+abbrev pub OpenAt : Place → Reading → Type 0
+OpenAt (Block left page more) r = IsOpen r more
+OpenAt _ r = Unit {0}
+
+abbrev pub SpellsAt : Place → Reading → List ℕ → Type 0
+SpellsAt (Failed at) r whole = Unit {0}
+SpellsAt p r whole = whole ≡ front p r
+
+pub record IsWritten (p : Place) (r : Reading) (whole : List ℕ) : Type 0 where
+  pub opens : OpenAt p r
+  pub spells : SpellsAt p r whole
+
+failed-written : (r : Reading) (whole : List ℕ) → IsWritten (failed r).place (failed r) whole
+failed-written r whole = record { opens = tt; spells = tt }
+
+put-after : (a b c d : List ℕ) → a ≡ b → c ≡ d → a ++ c ≡ b ++ d
+put-after a b c d e f = ap (λ (l : List ℕ). l ++ c) e ∙ ap (λ (l : List ℕ). b ++ l) f
+
+-- a number of the head
+after_number-written : (known : ℕ) (r : Reading) (whole : List ℕ) → whole ≡ heads r → IsWritten (after_number known) r whole
+after_number-written known r whole e =
+    elim (known == 80) as (λ (b : Bool). IsWritten (if b then PageCount else Head) r whole) [
+      | true ↦ record { opens = tt; spells = e }
+      | false ↦ record { opens = tt; spells = e }
+    ]
+
+length-head_table : length head_table ≡ 80
+unfolding head_table
+length-head_table = refl
+
+number-pushed : (r : Reading) (n : ℕ) → IsHead r → r.known < 80 →
+    joined (number_units head_table (r.head ++ n ∷ [])) ≡ heads r ++ bytes_of (row_at r.known).width n
+unfolding row_at
+number-pushed r n h k =
+    number_units-push head_table r.head n (number Four Magic) (omega (arith, h.known, k, length-head_table))
+    ∙ ap (λ (i : ℕ). heads r ++ bytes_of (get_or head_table i (number Four Magic)).width n) h.known
+
+number-written : (b : Bool) (r : Reading) (n : ℕ) (whole unit : List ℕ) → IsHead r → r.known < 80 → whole ≡ heads r →
+    bytes_of (row_at r.known).width n ≡ unit →
+    IsWritten (kept_number b r (row_at r.known) n).place (kept_number b r (row_at r.known) n) (whole ++ unit)
+unfolding kept_number
+number-written false r n whole unit h k e f = failed-written r _
+number-written true r n whole unit h k e f =
+    after_number-written (r.known + 1) _ (whole ++ unit) (put-after _ _ _ _ e (sym f) ∙ sym (number-pushed r n h k))
+
+moved_if-written : (b : Bool) (r : Reading) (place : Place) (whole : List ℕ) → IsWritten place (moved r 4 place) whole →
+    IsWritten (moved_if b r place).place (moved_if b r place) whole
+unfolding moved_if
+moved_if-written false r place whole h = failed-written r whole
+moved_if-written true r place whole h = h
+
+-- what comes where so many page records, or sector records, are still due
+pages_due-written : (r : Reading) (left from : ℕ) (whole : List ℕ) → whole ≡ heads r ++ pages_of (length r.pages + left) r →
+    IsWritten (pages_due left from) r whole
+pages_due-written r zero from whole e =
+    let same : length r.pages + zero ≡ length r.pages = omega arith in
+    record { opens = tt; spells = e ∙ ap (λ (n : ℕ). heads r ++ pages_of n r) same }
+pages_due-written r (suc left) from whole e =
+    let same : length r.pages + suc left ≡ length r.pages + (left + 1) = omega arith in
+    record { opens = tt; spells = e ∙ ap (λ (n : ℕ). heads r ++ pages_of n r) same }
+
+sectors_due-written : (r : Reading) (left from : ℕ) (whole : List ℕ) →
+    whole ≡ (heads r ++ pages_of (length r.pages) r) ++ sectors_of (length r.sectors + left) r →
+    IsWritten (sectors_due left from) r whole
+sectors_due-written r zero from whole e =
+    let same : length r.sectors + zero ≡ length r.sectors = omega arith in
+    record { opens = tt; spells = e ∙ ap (λ (n : ℕ). (heads r ++ pages_of (length r.pages) r) ++ sectors_of n r) same }
+sectors_due-written r (suc left) from whole e =
+    let same : length r.sectors + suc left ≡ length r.sectors + (left + 1) = omega arith in
+    record { opens = tt; spells = e ∙ ap (λ (n : ℕ). (heads r ++ pages_of (length r.pages) r) ++ sectors_of n r) same }
+
+-- counts
+page_count-spelled : (r : Reading) (n : ℕ) → r.pages ≡ [] → bytes_of Four n ≡ pages_of (length r.pages + n) r
+page_count-spelled r n none =
+    let same : n ≡ length r.pages + n = omega (arith, ap length none) in
+    sym (append-nil (bytes_of Four n)) ∙ put-after _ _ _ _ (ap (bytes_of Four) same) (sym (no-pages r.pages r.blocks none))
+
+sector_count-spelled : (r : Reading) (n : ℕ) → r.sectors ≡ [] → bytes_of Four n ≡ sectors_of (length r.sectors + n) r
+sector_count-spelled r n none =
+    let same : n ≡ length r.sectors + n = omega (arith, ap length none) in
+    sym (append-nil (bytes_of Four n)) ∙ put-after _ _ _ _ (ap (bytes_of Four) same) (sym (no-sectors r.sectors none))
+
+no-sectors-yet : (r : Reading) (page_limit due : ℕ) → HasRecords r page_limit due 0 → r.sectors ≡ []
+no-sectors-yet r page_limit due h =
+    nothing r.sectors (omega (arith, Rises-end 0 0 _ h.sectors, length-map r.sectors (λ (s : SectorChange). s.sector)))
+  where
+    nothing : (ss : List SectorChange) → length ss ≤ 0 → ss ≡ []
+    nothing [] e = refl
+    nothing (s ∷ ss) e = absurd (omega (arith, e))
+
+-- a mask
+bytes-nothing : (p : PageChange) → bytes_of Eight p.mask ++ joined [] ≡ bytes_of Eight p.mask
+unfolding joined
+bytes-nothing p = append-nil (bytes_of Eight p.mask)
+
+mask-spelled : (r : Reading) (left : ℕ) (p : PageChange) → length r.blocks ≡ block_count r.pages →
+    bytes_of Four (length (r.pages ++ p ∷ []) + left) ++ joined (page_units (r.pages ++ p ∷ []) r.blocks)
+    ≡ (pages_of (length r.pages + (left + 1)) r ++ bytes_of Four p.page) ++ bytes_of Eight p.mask
+mask-spelled r left p count =
+    let counted : length (r.pages ++ p ∷ []) + left ≡ length r.pages + (left + 1) = omega (arith, length-append r.pages (p ∷ [])) in
+    let last : joined (page_units (r.pages ++ p ∷ []) (r.blocks ++ []))
+    ≡ joined (page_units r.pages r.blocks) ++ (bytes_of Four p.page ++ (bytes_of Eight p.mask ++ joined []))
+    = last-spelled r.pages p r.blocks [] count (omega arith) in
+    let spelled : joined (page_units (r.pages ++ p ∷ []) r.blocks)
+    ≡ joined (page_units r.pages r.blocks) ++ (bytes_of Four p.page ++ bytes_of Eight p.mask)
+    = ap (λ (l : List (List ℕ)). joined (page_units (r.pages ++ p ∷ []) l)) (sym (append-nil r.blocks)) ∙ last
+    ∙ ap (λ (l : List ℕ). joined (page_units r.pages r.blocks) ++ (bytes_of Four p.page ++ l)) (bytes-nothing p) in
+    put-after _ _ _ _ (ap (bytes_of Four) counted) spelled
+    ∙ grouped (bytes_of Four (length r.pages + (left + 1))) (joined (page_units r.pages r.blocks)) (bytes_of Four p.page)
+    (bytes_of Eight p.mask)
+  where
+    grouped : (a b c d : List ℕ) → a ++ (b ++ (c ++ d)) ≡ ((a ++ b) ++ c) ++ d
+    grouped a b c d = simp append_assoc
+
+three : (a b c d : List ℕ) → (a ++ (b ++ c)) ++ d ≡ a ++ ((b ++ c) ++ d)
+three a b c d = append_assoc a (b ++ c) d
+
+mask-written : (b : Bool) (r : Reading) (left page mask : ℕ) (whole unit : List ℕ) → HasRecords r page 0 0 → (mask == 0) ≡ b →
+    whole ≡ (heads r ++ pages_of (length r.pages + (left + 1)) r) ++ bytes_of Four page → bytes_of Eight mask ≡ unit →
+    IsWritten (kept_mask b r left page mask).place (kept_mask b r left page mask) (whole ++ unit)
+unfolding kept_mask
+mask-written true r left page mask whole unit h is e f = failed-written r _
+mask-written false r left page mask whole unit h is e f =
+    let some : mask ≢ 0 = not-zero mask is in
+    let ones : count_ones mask ≢ 0 = λ (z : count_ones mask ≡ 0). some (zero_from_ones mask z) in
+    let p : PageChange = record { page = page; mask = mask } in
+    let count : length r.blocks ≡ block_count r.pages = omega (arith, h.count) in
+    record {
+      opens = record {
+        earlier = r.pages;
+        last = p;
+        before = r.blocks;
+        own = [];
+        pages = refl;
+        blocks = sym (append-nil r.blocks);
+        count = count;
+        due = omega (arith, ones);
+      };
+      spells = put-after _ _ _ _ e (sym f)
+          ∙ grouped (heads r) (pages_of (length r.pages + (left + 1)) r) (bytes_of Four page) (bytes_of Eight mask)
+          ∙ ap (λ (l : List ℕ). heads r ++ l) (sym (mask-spelled r left p count));
+    }
+  where
+    not-zero : (n : ℕ) → (n == 0) ≡ false → n ≢ 0
+    not-zero n e = grind (arith, nat_tests)
+
+    grouped : (a b c d : List ℕ) → ((a ++ b) ++ c) ++ d ≡ a ++ ((b ++ c) ++ d)
+    grouped a b c d = simp append_assoc
+
+-- a block
+block-pushed : (r : Reading) (more : ℕ) (b : List ℕ) → IsOpen r more →
+    joined (page_units r.pages (r.blocks ++ b ∷ [])) ≡ joined (page_units r.pages r.blocks) ++ b
+block-pushed r more b h =
+    let longer : length (h.own ++ b ∷ []) ≡ length h.own + 1 = length-append h.own (b ∷ []) in
+    rw (h.pages, h.blocks, append_assoc h.before h.own (b ∷ []))
+    (block-spelled h.earlier h.last h.before h.own b h.count (omega (arith, longer, h.due)) (omega (arith, h.due)))
+
+next-open : (r : Reading) (more : ℕ) (b : List ℕ) (offset : ℕ) (place : Place) → IsOpen r (suc more) →
+    IsOpen (moved (record r { blocks = r.blocks ++ b ∷ [] }) offset place) more
+next-open r more b offset place h = record {
+  earlier = h.earlier;
+  last = h.last;
+  before = h.before;
+  own = h.own ++ b ∷ [];
+  pages = h.pages;
+  blocks = ap (λ (l : List (List ℕ)). l ++ b ∷ []) h.blocks ∙ append_assoc h.before h.own (b ∷ []);
+  count = h.count;
+  due = omega (arith, h.due, length-append h.own (b ∷ []));
+}
+
+block-written : (b : Bool) (r : Reading) (left page more : ℕ) (whole unit : List ℕ) → IsOpen r more →
+    whole ≡ heads r ++ pages_of (length r.pages + left) r →
+    IsWritten (kept_block b r left page more unit).place (kept_block b r left page more unit) (whole ++ unit)
+unfolding kept_block
+block-written true r left page more whole unit h e = failed-written r _
+block-written false r left page zero whole unit h e =
+    pages_due-written _ left (page + 1) (whole ++ unit) (block-put r left zero whole unit h e)
+  where
+    block-put : (r : Reading) (left more : ℕ) (whole unit : List ℕ) → IsOpen r more →
+        whole ≡ heads r ++ pages_of (length r.pages + left) r →
+        whole ++ unit ≡ heads r ++ (bytes_of Four (length r.pages + left) ++ joined (page_units r.pages (r.blocks ++ unit ∷ [])))
+    block-put r left more whole unit h e =
+        ap (λ (l : List ℕ). l ++ unit) e
+        ∙ grouped (heads r) (bytes_of Four (length r.pages + left)) (joined (page_units r.pages r.blocks)) unit
+        ∙ ap (λ (l : List ℕ). heads r ++ (bytes_of Four (length r.pages + left) ++ l)) (sym (block-pushed r more unit h))
+      where
+        grouped : (a b c d : List ℕ) → (a ++ (b ++ c)) ++ d ≡ a ++ (b ++ (c ++ d))
+        grouped a b c d = simp append_assoc
+block-written false r left page (suc more) whole unit h e = record {
+  opens = next-open r more unit _ _ h;
+  spells = ap (λ (l : List ℕ). l ++ unit) e
+      ∙ grouped (heads r) (bytes_of Four (length r.pages + left)) (joined (page_units r.pages r.blocks)) unit
+      ∙ ap (λ (l : List ℕ). heads r ++ (bytes_of Four (length r.pages + left) ++ l)) (sym (block-pushed r (suc more) unit h));
+}
+  where
+    grouped : (a b c d : List ℕ) → (a ++ (b ++ c)) ++ d ≡ a ++ (b ++ (c ++ d))
+    grouped a b c d = simp append_assoc
+
+-- a sector
+sector-spelled : (r : Reading) (left : ℕ) (s : SectorChange) →
+    bytes_of Four (length (r.sectors ++ s ∷ []) + left) ++ joined (sector_units (r.sectors ++ s ∷ []))
+    ≡ (sectors_of (length r.sectors + (left + 1)) r ++ bytes_of Four s.sector) ++ s.bytes
+sector-spelled r left s =
+    let counted : length (r.sectors ++ s ∷ []) + left ≡ length r.sectors + (left + 1) = omega (arith, length-append r.sectors (s ∷ [])) in
+    put-after _ _ _ _ (ap (bytes_of Four) counted) (sector_units-push r.sectors s)
+    ∙ grouped (bytes_of Four (length r.sectors + (left + 1))) (joined (sector_units r.sectors)) (bytes_of Four s.sector) s.bytes
+  where
+    grouped : (a b c d : List ℕ) → a ++ (b ++ (c ++ d)) ≡ ((a ++ b) ++ c) ++ d
+    grouped a b c d = simp append_assoc
+
+sector-written : (b : Bool) (r : Reading) (left sector : ℕ) (whole unit : List ℕ) →
+    whole ≡ ((heads r ++ pages_of (length r.pages) r) ++ sectors_of (length r.sectors + (left + 1)) r) ++ bytes_of Four sector →
+    IsWritten (kept_sector b r left sector unit).place (kept_sector b r left sector unit) (whole ++ unit)
+unfolding kept_sector
+sector-written true r left sector whole unit e = failed-written r _
+sector-written false r left sector whole unit e =
+    sectors_due-written _ left (sector + 1) (whole ++ unit)
+    (ap (λ (l : List ℕ). l ++ unit) e
+    ∙ grouped (heads r ++ pages_of (length r.pages) r) (sectors_of (length r.sectors + (left + 1)) r) (bytes_of Four sector) unit
+    ∙ ap (λ (l : List ℕ). (heads r ++ pages_of (length r.pages) r) ++ l)
+    (sym (sector-spelled r left (record { sector = sector; bytes = unit }))))
+  where
+    grouped : (a b c d : List ℕ) → ((a ++ b) ++ c) ++ d ≡ a ++ ((b ++ c) ++ d)
+    grouped a b c d = simp append_assoc
+
+pub judged_at-written : (p : Place) (r : Reading) (unit whole : List ℕ) → is_closed p ≡ false → IsHead r → StandsAt p r → OpenAt p r →
+    whole ≡ front p r → All IsByte unit → length unit ≡ width_at p r.known →
+    IsWritten (judged_at p r unit).place (judged_at p r unit) (whole ++ unit)
+judged_at-written Head r unit whole going h s o e bytes wide =
+    number-written _ r _ whole unit h s.0 e (bytes-back (row_at r.known).width unit wide bytes)
+judged_at-written PageCount r unit whole going h s o e bytes wide =
+    moved_if-written _ r _ (whole ++ unit) (pages_due-written _ (number_of Four unit) 0 (whole ++ unit)
+    (put-after _ _ _ _ e (sym (bytes-back Four unit wide bytes) ∙ page_count-spelled r (number_of Four unit) s.1.pages)))
+judged_at-written (PageIndex left from) r unit whole going h s o e bytes wide =
+    moved_if-written _ r _ (whole ++ unit)
+    (record { opens = tt; spells = put-after _ _ _ _ e (sym (bytes-back Four unit wide bytes)) })
+judged_at-written (PageMask left page) r unit whole going h s o e bytes wide =
+    mask-written _ r left page _ whole unit s.1 refl e (bytes-back Eight unit wide bytes)
+judged_at-written (Block left page more) r unit whole going h s o e bytes wide = block-written _ r left page more whole unit o e
+judged_at-written SectorCount r unit whole going h s o e bytes wide =
+    moved_if-written _ r _ (whole ++ unit) (sectors_due-written _ (number_of Four unit) 0 (whole ++ unit)
+    (put-after _ _ _ _ e (sym (bytes-back Four unit wide bytes)
+    ∙ sector_count-spelled r (number_of Four unit) (no-sectors-yet r r.shape.pages 0 s))))
+judged_at-written (SectorIndex left from) r unit whole going h s o e bytes wide =
+    moved_if-written _ r _ (whole ++ unit)
+    (record { opens = tt; spells = put-after _ _ _ _ e (sym (bytes-back Four unit wide bytes)) })
+judged_at-written (SectorBytes left sector) r unit whole going h s o e bytes wide =
+    sector-written _ r left sector whole unit e
+judged_at-written Whole r unit whole going h s o e bytes wide = cc
+judged_at-written (Failed at) r unit whole going h s o e bytes wide = cc
