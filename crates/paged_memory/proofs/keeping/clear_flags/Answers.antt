@@ -11,4 +11,5 @@ loop-page-preserved c =
 
 pub returns : goal.returns
 returns c =
-    all_cleared c.loop-page.flags.items c.args.pages.now c.loop-page.page-index (length c.args.flags.now.items) c.loop-page-test.false c.loop-page.invariant
+    all_cleared c.loop-page.flags.items c.args.pages.now c.loop-page.page-index (length c.args.flags.now.items) c.loop-page-test.false
+    c.loop-page.invariant

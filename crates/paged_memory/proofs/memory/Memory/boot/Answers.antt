@@ -11,4 +11,5 @@ returns c =
     let bytes : c.resize.new.self.items ≡ boot_bytes n c.args.image.now = grind (arith, common_steps) in
     let flags : c.resize-3.new.self.items ≡ replicate n false = search rules in
     let long : length c.resize.new.self.items ≡ 4096 * n = search rules in
-    seen_at_boot c.resize.new.self.items c.resize-2.new.self.items (boot_bytes n c.args.image.now) c.resize-3.new.self.items n long bytes flags
+    seen_at_boot c.resize.new.self.items c.resize-2.new.self.items (boot_bytes n c.args.image.now) c.resize-3.new.self.items n long bytes
+    flags

@@ -10,7 +10,8 @@ returns-then-count-gt0 c =
     let s = c.self.inside in
     let P : Paged → Type 0 = λ m. IsPaged m in
     record {
-      value = c.keep_pages.ensures ∙ ap (with_flags c.args.self.now) (sym (marked_some c.args.self.now.written c.args.at c.args.count c.if-count-gt0.true));
+      value = c.keep_pages.ensures
+          ∙ ap (with_flags c.args.self.now) (sym (marked_some c.args.self.now.written c.args.at c.args.count c.if-count-gt0.true));
       rules = subst P c.self.view_is (paged s.bytes.items s.originals.items s.written.items s.dirty.items _ s.copies c.self.invariant);
     }
 
