@@ -1,16 +1,16 @@
 -- What each change of the parts is to the memory that contracts see.
-use Rattle.std.proofs.Common.{◌≡◌, ℕ, ◌+◌, ◌-◌, ◌*◌, ◌/◌, ◌%◌, ◌^◌, ◌<◌, ◌≤◌, ◌++◌, inl, inr, Bool, true, false, List, [], ◌∷◌, length}
-use Rattle.std.proofs.Common.{replicate, take, drop, get_or, refl, sym, ap, ◌∙◌, subst, arith}
+use Rattle.std.proofs.Common.{◌≡◌, ℕ, ◌+◌, ◌-◌, ◌*◌, ◌/◌, ◌%◌, ◌^◌, ◌<◌, ◌≤◌, ◌++◌, Bool, true, false, List, length}
+use Rattle.std.proofs.Common.{replicate, take, drop, sym, ap, ◌∙◌, arith}
 use Rattle.std.proofs.Math.ListN.{set}
 use Rattle.std.proofs.Math.Nat.{mod-eq_of_lt, mod-add-div', add-mul-mod_self_right}
-use Rattle.std.proofs.lemmas.List.{set-get_or, length-set}
+use Rattle.std.proofs.lemmas.List.{set-get_or}
 use Rattle.byteorder.specs.Endian.{little_bytes}
 use Rattle.paged_memory.specs.Bytes.{with_bytes, with_number}
 use Rattle.paged_memory.specs.Pages.{Paged, IsPaged, page_of, is_written, written_pages, flagged, marked, with_flags, with_written}
 use Rattle.paged_memory.specs.Pages.{settled_at}
 use Rattle.paged_memory.specs.Stored.{settled_bytes, seen, IsStored}
 use Rattle.paged_memory.proofs.BytesLemmas.{length_overwritten}
-use Rattle.paged_memory.proofs.FlagLemmas.{one_more, no_pages, few_marked, marked_none, marked_some, flag_after}
+use Rattle.paged_memory.proofs.FlagLemmas.{one_more, no_pages, few_marked, marked_none}
 use Rattle.paged_memory.proofs.PageLemmas.{length_marked}
 use Rattle.paged_memory.proofs.StoredLemmas.{settled_by_keep, settled_by_write, settled_afresh, stored_by_write, one_page_more}
 

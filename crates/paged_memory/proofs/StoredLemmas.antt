@@ -4,7 +4,7 @@ use Rattle.std.proofs.Common.{List, [], ◌∷◌, length, replicate, take, drop
 use Rattle.std.proofs.Common.{add-zero, arith}
 use Rattle.std.proofs.Math.ListN.{set}
 use Rattle.std.proofs.lemmas.Bool.{cases_eq, cases_lt}
-use Rattle.std.proofs.lemmas.List.{ext_get_or, get_or_append_left, get_or-append_right, length-take-le, length-drop, length-set}
+use Rattle.std.proofs.lemmas.List.{ext_get_or, get_or_append_left, get_or-append_right, length-take-le, length-set}
 use Rattle.std.proofs.lemmas.List.{length-replicate, length_push, get_or-drop, get_or-take, get_or-replicate, get_or-set_other}
 use Rattle.std.proofs.lemmas.Grind.{get_or-set_at}
 use Rattle.std.proofs.lemmas.List.Elements.{Contains-append_left, Contains-push, All-push, All-nil}
@@ -12,7 +12,7 @@ use Rattle.std.proofs.lemmas.List.Sums.{count_by-le-length, sum_by-set}
 use Rattle.std.proofs.lemmas.List.Folds.{sum_by-replicate}
 use Rattle.std.proofs.lemmas.List.FromFn.{get_or-map-range_with_len, length-map-range_with_len}
 use Rattle.paged_memory.specs.Bytes.{with_bytes}
-use Rattle.paged_memory.specs.Pages.{Paged, IsPaged, page_of, is_written, written_pages, flagged, marked}
+use Rattle.paged_memory.specs.Pages.{IsPaged, page_of, is_written, written_pages, flagged, marked}
 use Rattle.paged_memory.specs.Stored.{settled_bytes, seen, IsStored}
 use Rattle.paged_memory.proofs.BytesLemmas.{length_overwritten}
 use Rattle.paged_memory.proofs.FlagLemmas.{no_new_flag, marked_some}

@@ -1,6 +1,5 @@
-use Rattle.std.proofs.Common.{◌≡◌, ◌*◌, ◌-◌, false, length, replicate, ◌++◌, ap, length-append, arith, rules}
+use Rattle.std.proofs.Common.{◌≡◌, ◌*◌, false, length, replicate, arith, rules}
 use Rattle.std.proofs.lemmas.Grind.{common_steps}
-use Rattle.std.proofs.lemmas.List.{length-replicate}
 use Rattle.paged_memory.specs.Pages.{boot_bytes}
 use Rattle.paged_memory.proofs.SeenLemmas.{seen_at_boot}
 use Rattle.paged_memory.proofs.memory.Memory.boot.Goals as goal

@@ -1,5 +1,5 @@
-use Rattle.std.proofs.Common.{◌≡◌, ◌≤◌, ◌<◌, ◌+◌, ◌-◌, ◌*◌, ◌/◌, ◌^◌, List, Bool, length, sym, ap, ◌∙◌, subst, arith}
-use Rattle.paged_memory.specs.Pages.{Paged, IsPaged, marked, with_flags}
+use Rattle.std.proofs.Common.{◌≡◌, ◌≤◌, ◌<◌, ◌*◌, ◌^◌, length, sym, ap, ◌∙◌, subst, arith}
+use Rattle.paged_memory.specs.Pages.{Paged, IsPaged, with_flags}
 use Rattle.paged_memory.proofs.FlagLemmas.{marked_some}
 use Rattle.paged_memory.proofs.StoredLemmas.{paged}
 use Rattle.paged_memory.proofs.SeenLemmas.{nothing_kept}

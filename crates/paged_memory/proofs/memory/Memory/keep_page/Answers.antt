@@ -1,10 +1,8 @@
-use Rattle.std.proofs.Common.{◌≡◌, ◌<◌, ◌≤◌, ◌*◌, ◌+◌, ◌%◌, ◌^◌, ◌++◌, ◌∷◌, [], ℕ, List, Bool, false, length, get_or, refl, sym, ap, ◌∙◌}
-use Rattle.std.proofs.Common.{subst, arith}
-use Rattle.std.proofs.Math.ListN.{set}
+use Rattle.std.proofs.Common.{◌≡◌, ◌<◌, ◌*◌, ◌+◌, ◌%◌, ◌^◌, ℕ, List, Bool, false, length, ap, ◌∙◌}
+use Rattle.std.proofs.Common.{arith}
 use Rattle.std.proofs.Math.Nat.{mod-lt}
 use Rattle.paged_memory.specs.Bytes.{with_bytes}
 use Rattle.paged_memory.specs.Pages.{Paged, page_of, is_written}
-use Rattle.paged_memory.specs.Stored.{IsStored}
 use Rattle.paged_memory.proofs.StoredLemmas.{room_for_one, stored_by_keep}
 use Rattle.paged_memory.proofs.SeenLemmas.{seen_by_keep}
 use Rattle.paged_memory.proofs.memory.Memory.keep_page.Goals as goal

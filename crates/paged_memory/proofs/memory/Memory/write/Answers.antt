@@ -1,4 +1,4 @@
-use Rattle.std.proofs.Common.{◌≡◌, ◌∙◌, ◌-◌, ◌+◌, ◌%◌, ◌^◌, List, Bool, length, refl, sym, ap}
+use Rattle.std.proofs.Common.{◌∙◌, ◌-◌, ◌+◌, ◌%◌, ◌^◌, length, refl, sym, ap}
 use Rattle.paged_memory.specs.Pages.{Paged, written_pages}
 use Rattle.paged_memory.proofs.SeenLemmas.{after_write}
 use Rattle.paged_memory.proofs.memory.Memory.write.Goals as goal
