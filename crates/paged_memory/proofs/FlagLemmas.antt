@@ -1,38 +1,54 @@
 -- The flags of a range of pages.
-use Rattle.std.proofs.Common.{◌≡◌, ℕ, ◌+◌, ◌-◌, ◌*◌, ◌/◌, ◌<◌, ◌≤◌, ◌⊎◌, ◌++◌, inl, inr, Bool, true, false, if◌then◌else◌, List, length, replicate, take, drop, get_or, refl, sym, ap, ◌∙◌, arith}
+use Rattle.std.proofs.Common.{◌≡◌, ℕ, ◌+◌, ◌-◌, ◌*◌, ◌/◌, ◌<◌, ◌≤◌, ◌⊎◌, ◌++◌, inl, inr, Bool, true, false, if◌then◌else◌, List, length}
+use Rattle.std.proofs.Common.{replicate, take, drop, get_or, sym, ap, ◌∙◌, arith}
 use Rattle.std.proofs.Math.ListN.{set}
 use Rattle.std.proofs.lemmas.Bool.{cases_lt, cases_order, cases_eq, ne_eqb}
-use Rattle.std.proofs.lemmas.List.{ext_get_or, get_or_append_left, get_or-append_right, length-take-le, length-append, length-drop, length-replicate, get_or-drop, get_or-take, get_or-replicate, get_or-set_same, get_or-set_other, length-set, set-set}
+use Rattle.std.proofs.lemmas.List.{ext_get_or, get_or_append_left, get_or-append_right, length-take-le, length-append, length-drop}
+use Rattle.std.proofs.lemmas.List.{length-replicate, get_or-drop, get_or-take, get_or-replicate, get_or-set_same, get_or-set_other}
+use Rattle.std.proofs.lemmas.List.{length-set, set-set}
 use Rattle.paged_memory.specs.Pages.{flagged, end_page, marked}
 
 pub length-flagged : (xs : List Bool) (from end : ℕ) → from ≤ end → end ≤ length xs → length (flagged xs from end) ≡ length xs
 length-flagged xs from end ordered within =
-    omega (arith, length-append (take from xs) (replicate (end - from) true ++ drop end xs), length-append (replicate (end - from) true) (drop end xs), length-take-le from xs (omega arith), length-drop end xs, length-replicate (end - from) true)
+    omega (
+      arith,
+      length-append (take from xs) (replicate (end - from) true ++ drop end xs),
+      length-append (replicate (end - from) true) (drop end xs),
+      length-take-le from xs (omega arith),
+      length-drop end xs,
+      length-replicate (end - from) true,
+    )
 
 -- the flag of a page before the range
-pub flag_before : (xs : List Bool) (from end i : ℕ) (d : Bool) → from ≤ length xs → i < from → get_or (flagged xs from end) i d ≡ get_or xs i d
+pub flag_before : (xs : List Bool) (from end i : ℕ) (d : Bool) → from ≤ length xs → i < from →
+    get_or (flagged xs from end) i d ≡ get_or xs i d
 flag_before xs from end i d within below =
     get_or_append_left (take from xs) (replicate (end - from) true ++ drop end xs) d i (omega (arith, length-take-le from xs within))
     ∙ get_or-take from xs i d below
 
 -- that of a page in it
-pub flag_inside : (xs : List Bool) (from end i : ℕ) (d : Bool) → from ≤ length xs → from ≤ i → i < end → get_or (flagged xs from end) i d ≡ true
+pub flag_inside : (xs : List Bool) (from end i : ℕ) (d : Bool) → from ≤ length xs → from ≤ i → i < end →
+    get_or (flagged xs from end) i d ≡ true
 flag_inside xs from end i d within above below =
     get_or-append_right (take from xs) (replicate (end - from) true ++ drop end xs) from i d (length-take-le from xs within) above
     ∙ get_or_append_left (replicate (end - from) true) (drop end xs) d (i - from) (omega (arith, length-replicate (end - from) true))
     ∙ get_or-replicate (end - from) (i - from) true d (omega arith)
 
 -- that of a page after it
-pub flag_after : (xs : List Bool) (from end i : ℕ) (d : Bool) → from ≤ end → end ≤ length xs → end ≤ i → get_or (flagged xs from end) i d ≡ get_or xs i d
+pub flag_after : (xs : List Bool) (from end i : ℕ) (d : Bool) → from ≤ end → end ≤ length xs → end ≤ i →
+    get_or (flagged xs from end) i d ≡ get_or xs i d
 flag_after xs from end i d ordered within above =
     let place : end + (i - from - (end - from)) ≡ i = omega arith in
-    get_or-append_right (take from xs) (replicate (end - from) true ++ drop end xs) from i d (length-take-le from xs (omega arith)) (omega arith)
-    ∙ get_or-append_right (replicate (end - from) true) (drop end xs) (end - from) (i - from) d (length-replicate (end - from) true) (omega arith)
+    get_or-append_right (take from xs) (replicate (end - from) true ++ drop end xs) from i d (length-take-le from xs (omega arith))
+    (omega arith)
+    ∙ get_or-append_right (replicate (end - from) true) (drop end xs) (end - from) (i - from) d (length-replicate (end - from) true)
+    (omega arith)
     ∙ get_or-drop end xs (i - from - (end - from)) d
     ∙ ap (λ (k : ℕ). get_or xs k d) place
 
 -- a page out of the range that has no flag after has none before
-pub no_new_flag : (xs : List Bool) (from end i : ℕ) → from ≤ end → end ≤ length xs → get_or (flagged xs from end) i true ≡ false → ((i < from) ⊎ (end ≤ i)) × (get_or xs i true ≡ false)
+pub no_new_flag : (xs : List Bool) (from end i : ℕ) → from ≤ end → end ≤ length xs → get_or (flagged xs from end) i true ≡ false →
+    ((i < from) ⊎ (end ≤ i)) × (get_or xs i true ≡ false)
 no_new_flag xs from end i ordered within none =
     elim (cases_lt i from) [
       | inl below ↦ (inl below, sym (flag_before xs from end i true (omega arith) below) ∙ none)
@@ -46,7 +62,8 @@ no_new_flag xs from end i ordered within none =
     differ e = cc
 
 -- two ranges that agree on each page
-flag_below_more : (xs : List Bool) (from end i : ℕ) → from ≤ end → end < length xs → i < length xs → get_or (set (flagged xs from end) end true) i true ≡ get_or (flagged xs from (end + 1)) i true
+flag_below_more : (xs : List Bool) (from end i : ℕ) → from ≤ end → end < length xs → i < length xs →
+    get_or (set (flagged xs from end) end true) i true ≡ get_or (flagged xs from (end + 1)) i true
 flag_below_more xs from end i ordered within here =
     elim (cases_order i end) [
       | inl same ↦ at_end same
@@ -65,14 +82,19 @@ flag_below_more xs from end i ordered within here =
     before : i < end → get_or (set (flagged xs from end) end true) i true ≡ get_or (flagged xs from (end + 1)) i true
     before below = others (λ e. omega arith) ∙ elim (cases_lt i from) [
       | inl first ↦ flag_before xs from end i true (omega arith) first ∙ sym (flag_before xs from (end + 1) i true (omega arith) first)
-      | inr in_it ↦ flag_inside xs from end i true (omega arith) in_it below ∙ sym (flag_inside xs from (end + 1) i true (omega arith) in_it (omega arith))
+      | inr in_it ↦
+          flag_inside xs from end i true (omega arith) in_it below
+          ∙ sym (flag_inside xs from (end + 1) i true (omega arith) in_it (omega arith))
     ]
 
     after : end < i → get_or (set (flagged xs from end) end true) i true ≡ get_or (flagged xs from (end + 1)) i true
-    after above = others (λ e. omega arith) ∙ flag_after xs from end i true ordered (omega arith) (omega arith) ∙ sym (flag_after xs from (end + 1) i true (omega arith) (omega arith) (omega arith))
+    after above =
+        others (λ e. omega arith) ∙ flag_after xs from end i true ordered (omega arith) (omega arith)
+        ∙ sym (flag_after xs from (end + 1) i true (omega arith) (omega arith) (omega arith))
 
 -- one page more
-pub one_more : (xs : List Bool) (from end : ℕ) → from ≤ end → end < length xs → set (flagged xs from end) end true ≡ flagged xs from (end + 1)
+pub one_more : (xs : List Bool) (from end : ℕ) → from ≤ end → end < length xs →
+    set (flagged xs from end) end true ≡ flagged xs from (end + 1)
 one_more xs from end ordered within =
     let before : length (flagged xs from end) ≡ length xs = length-flagged xs from end ordered (omega arith) in
     let after : length (flagged xs from (end + 1)) ≡ length xs = length-flagged xs from (end + 1) (omega arith) (omega arith) in
@@ -83,7 +105,11 @@ one_more xs from end ordered within =
 pub no_pages : (xs : List Bool) (from : ℕ) → from ≤ length xs → flagged xs from from ≡ xs
 no_pages xs from within =
     ext_get_or true _ _ (length-flagged xs from from (omega arith) within)
-    (λ i here. elim (cases_lt i from) [ inl below ↦ flag_before xs from from i true within below | inr above ↦ flag_after xs from from i true (omega arith) within above ])
+    (λ i here. elim (cases_lt i from) [
+      | inl below ↦ flag_before xs from from i true within below
+      | inr above ↦
+          flag_after xs from from i true (omega arith) within above
+    ])
 
 -- the pages that some bytes lie in
 pub end_page_some : (at n : ℕ) → 1 ≤ n → end_page at n ≡ (at + n - 1) / 4096 + 1
@@ -97,7 +123,8 @@ marked_none xs at n none within =
     ap (λ (k : ℕ). marked xs at k) none ∙ no_pages xs (at / 4096) (omega arith)
 
 -- the bytes of at most a page lie in one page, or in two that follow each other
-few_marked_one : (xs : List Bool) (from end : ℕ) → from < length xs → end ≡ from → set (set xs from true) end true ≡ flagged xs from (end + 1)
+few_marked_one : (xs : List Bool) (from end : ℕ) → from < length xs → end ≡ from →
+    set (set xs from true) end true ≡ flagged xs from (end + 1)
 few_marked_one xs from end within same =
     ap (λ (k : ℕ). set (set xs from true) k true) same
     ∙ set-set xs from true true
@@ -105,13 +132,16 @@ few_marked_one xs from end within same =
     ∙ one_more xs from from (omega arith) within
     ∙ ap (λ (k : ℕ). flagged xs from (k + 1)) (sym same)
 
-few_marked_two : (xs : List Bool) (from end : ℕ) → end < length xs → end ≡ from + 1 → set (set xs from true) end true ≡ flagged xs from (end + 1)
+few_marked_two : (xs : List Bool) (from end : ℕ) → end < length xs → end ≡ from + 1 →
+    set (set xs from true) end true ≡ flagged xs from (end + 1)
 few_marked_two xs from end within next =
     let first : set xs from true ≡ flagged xs from (from + 1) =
     sym (ap (λ (x : List Bool). set x from true) (no_pages xs from (omega arith))) ∙ one_more xs from from (omega arith) (omega arith) in
-    ap (λ (x : List Bool). set x end true) (first ∙ ap (λ (k : ℕ). flagged xs from k) (sym next)) ∙ one_more xs from end (omega arith) within
+    ap (λ (x : List Bool). set x end true) (first ∙ ap (λ (k : ℕ). flagged xs from k) (sym next))
+    ∙ one_more xs from end (omega arith) within
 
-pub few_marked : (xs : List Bool) (at n : ℕ) → 1 ≤ n → n ≤ 4096 → at + n ≤ 4096 * length xs → set (set xs (at / 4096) true) ((at + n - 1) / 4096) true ≡ marked xs at n
+pub few_marked : (xs : List Bool) (at n : ℕ) → 1 ≤ n → n ≤ 4096 → at + n ≤ 4096 * length xs →
+    set (set xs (at / 4096) true) ((at + n - 1) / 4096) true ≡ marked xs at n
 few_marked xs at n some few within =
     elim (cases_eq ((at + n - 1) / 4096) (at / 4096)) [
       | inl same ↦ few_marked_one xs (at / 4096) ((at + n - 1) / 4096) (omega arith) same ∙ sym (marked_some xs at n some)

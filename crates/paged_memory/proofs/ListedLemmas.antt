@@ -1,5 +1,6 @@
 -- The pages of a list lose their flags one after another.
-use Rattle.std.proofs.Common.{◌≡◌, ℕ, zero, suc, ◌+◌, ◌<◌, ◌≤◌, inl, inr, Bool, true, false, List, [], ◌∷◌, length, replicate, drop, get_or, Contains, refl, sym, ap, ◌∙◌, subst, add-one, arith}
+use Rattle.std.proofs.Common.{◌≡◌, ℕ, zero, suc, ◌+◌, ◌<◌, ◌≤◌, inl, inr, Bool, true, false, List, [], ◌∷◌, length, replicate, drop}
+use Rattle.std.proofs.Common.{get_or, Contains, refl, sym, ◌∙◌, subst, add-one, arith}
 use Rattle.std.proofs.Math.ListN.{set}
 use Rattle.std.proofs.Math.Seq.{drop-cons}
 use Rattle.std.proofs.lemmas.Bool.{cases_eq}
@@ -20,7 +21,8 @@ none_has : (page k : ℕ) → k < length {A = ℕ} [] → ⊥
 none_has page k here = absurd (omega arith)
 
 -- the page at the index loses its flag
-pub one_cleared : (flags : List Bool) (pages : List ℕ) (index number : ℕ) → index < length pages → get_or pages index 0 < number → AreAhead flags pages index number → AreAhead (set flags (get_or pages index 0) false) pages (index + 1) number
+pub one_cleared : (flags : List Bool) (pages : List ℕ) (index number : ℕ) → index < length pages → get_or pages index 0 < number →
+    AreAhead flags pages index number → AreAhead (set flags (get_or pages index 0) false) pages (index + 1) number
 one_cleared flags pages index number here inside is = record {
   count = length-set flags (get_or pages index 0) false ∙ is.count;
   ahead = λ page below flag. elim (cases_eq page (get_or pages index 0)) [
@@ -32,19 +34,24 @@ one_cleared flags pages index number here inside is = record {
     differ : false ≡ true → ⊥
     differ e = cc
 
-    later : (page : ℕ) → page < number → (page ≡ get_or pages index 0 → ⊥) → is_written flags page ≡ true → Contains (drop (index + 1) pages) page
+    later : (page : ℕ) → page < number → (page ≡ get_or pages index 0 → ⊥) → is_written flags page ≡ true →
+        Contains (drop (index + 1) pages) page
     later page below apart flag =
         let Has : List ℕ → Type 0 = λ xs. Contains xs page in
-        let found : Contains (get_or pages index 0 ∷ drop (suc index) pages) page = subst Has (drop-cons pages index 0 here) (is.ahead page below flag) in
-        let rest : Contains (drop (suc index) pages) page = rest_has (get_or pages index 0) (drop (suc index) pages) page found.0 found.1 found.2 (λ e. apart (sym e)) in
+        let found : Contains (get_or pages index 0 ∷ drop (suc index) pages) page =
+        subst Has (drop-cons pages index 0 here) (is.ahead page below flag) in
+        let rest : Contains (drop (suc index) pages) page =
+        rest_has (get_or pages index 0) (drop (suc index) pages) page found.0 found.1 found.2 (λ e. apart (sym e)) in
         let At : ℕ → Type 0 = λ k. Contains (drop k pages) page in
         subst At (sym (add-one index)) rest
 
 -- after the whole list no page has a flag
-pub all_cleared : (flags : List Bool) (pages : List ℕ) (index number : ℕ) → length pages ≤ index → AreAhead flags pages index number → flags ≡ replicate number false
+pub all_cleared : (flags : List Bool) (pages : List ℕ) (index number : ℕ) → length pages ≤ index → AreAhead flags pages index number →
+    flags ≡ replicate number false
 all_cleared flags pages index number end is =
     ext_get_or true flags (replicate number false) (is.count ∙ sym (length-replicate number false))
-    (λ page here. none page (omega (arith, is.count)) (get_or flags page true) refl ∙ sym (get_or-replicate number page false true (omega (arith, is.count))))
+    (λ page here. none page (omega (arith, is.count)) (get_or flags page true) refl
+    ∙ sym (get_or-replicate number page false true (omega (arith, is.count))))
   where
     none : (page : ℕ) → page < number → (f : Bool) → is_written flags page ≡ f → is_written flags page ≡ false
     none page below false is_f = is_f

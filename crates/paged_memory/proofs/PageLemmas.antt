@@ -1,5 +1,6 @@
 -- A page's bytes, and the flags after a write.
-use Rattle.std.proofs.Common.{◌≡◌, ℕ, ◌+◌, ◌-◌, ◌*◌, ◌/◌, ◌<◌, ◌≤◌, ◌++◌, inl, inr, Bool, List, [], length, take, drop, get_or, refl, ap, ◌∙◌, arith}
+use Rattle.std.proofs.Common.{◌≡◌, ℕ, ◌+◌, ◌-◌, ◌*◌, ◌/◌, ◌≤◌, ◌++◌, inl, inr, Bool, List, [], length, take, drop, ap}
+use Rattle.std.proofs.Common.{◌∙◌, arith}
 use Rattle.std.proofs.lemmas.Bool.{cases_eq}
 use Rattle.std.proofs.lemmas.List.{take-append-drop, length-take-le, length-drop, ext_get_or}
 use Rattle.paged_memory.specs.Pages.{page_of, marked}
@@ -20,7 +21,9 @@ pub length_marked : (flags : List Bool) (at n : ℕ) → at + n ≤ 4096 * lengt
 length_marked flags at n within =
     elim (cases_eq n 0) [
       | inl none ↦ ap length (marked_none flags at n none (omega arith))
-      | inr some ↦ ap length (marked_some flags at n (omega arith)) ∙ length-flagged flags (at / 4096) ((at + n - 1) / 4096 + 1) (omega arith) (omega arith)
+      | inr some ↦
+          ap length (marked_some flags at n (omega arith))
+          ∙ length-flagged flags (at / 4096) ((at + n - 1) / 4096 + 1) (omega arith) (omega arith)
     ]
 
 pub length-page : (xs : List ℕ) (page : ℕ) → 4096 * page + 4096 ≤ length xs → length (page_of xs page) ≡ 4096

@@ -1,21 +1,28 @@
 -- What each change of the parts is to the memory that contracts see.
-use Rattle.std.proofs.Common.{◌≡◌, ℕ, ◌+◌, ◌-◌, ◌*◌, ◌/◌, ◌%◌, ◌^◌, ◌<◌, ◌≤◌, ◌++◌, inl, inr, Bool, true, false, List, [], ◌∷◌, length, replicate, take, drop, get_or, refl, sym, ap, ◌∙◌, subst, arith}
+use Rattle.std.proofs.Common.{◌≡◌, ℕ, ◌+◌, ◌-◌, ◌*◌, ◌/◌, ◌%◌, ◌^◌, ◌<◌, ◌≤◌, ◌++◌, Bool, true, false, List, length}
+use Rattle.std.proofs.Common.{replicate, take, drop, sym, ap, ◌∙◌, arith}
 use Rattle.std.proofs.Math.ListN.{set}
 use Rattle.std.proofs.Math.Nat.{mod-eq_of_lt, mod-add-div', add-mul-mod_self_right}
-use Rattle.std.proofs.lemmas.List.{set-get_or, length-set}
+use Rattle.std.proofs.lemmas.List.{set-get_or}
 use Rattle.byteorder.specs.Endian.{little_bytes}
 use Rattle.paged_memory.specs.Bytes.{with_bytes, with_number}
-use Rattle.paged_memory.specs.Pages.{Paged, IsPaged, page_of, is_written, written_pages, flagged, marked, with_flags, with_written, settled_at}
+use Rattle.paged_memory.specs.Pages.{Paged, IsPaged, page_of, is_written, written_pages, flagged, marked, with_flags, with_written}
+use Rattle.paged_memory.specs.Pages.{settled_at}
 use Rattle.paged_memory.specs.Stored.{settled_bytes, seen, IsStored}
 use Rattle.paged_memory.proofs.BytesLemmas.{length_overwritten}
-use Rattle.paged_memory.proofs.FlagLemmas.{one_more, no_pages, few_marked, marked_none, marked_some, flag_after}
+use Rattle.paged_memory.proofs.FlagLemmas.{one_more, no_pages, few_marked, marked_none}
 use Rattle.paged_memory.proofs.PageLemmas.{length_marked}
 use Rattle.paged_memory.proofs.StoredLemmas.{settled_by_keep, settled_by_write, settled_afresh, stored_by_write, one_page_more}
 
 -- a page is kept
-pub seen_by_keep : (m : Paged) (b o p : List ℕ) (w : List Bool) (d : List ℕ) (capacity copies page : ℕ) → IsStored b o w d capacity copies → seen b o w copies ≡ m → page < length w → is_written w page ≡ false → p ≡ with_bytes o (4096 * page) (page_of b page) → seen b p (set w page true) ((copies + 1) % 2 ^ 64) ≡ record m { written = set m.written page true; copies = (m.copies + 1) % 2 ^ 64 }
+pub seen_by_keep : (m : Paged) (b o p : List ℕ) (w : List Bool) (d : List ℕ) (capacity copies page : ℕ) →
+    IsStored b o w d capacity copies → seen b o w copies ≡ m → page < length w → is_written w page ≡ false →
+    p ≡ with_bytes o (4096 * page) (page_of b page) →
+    seen b p (set w page true) ((copies + 1) % 2 ^ 64)
+    ≡ record m { written = set m.written page true; copies = (m.copies + 1) % 2 ^ 64 }
 seen_by_keep m b o p w d capacity copies page is view here none kept =
-    let with_settled : List ℕ → Paged = λ xs. record { bytes = b; settled = xs; written = set w page true; copies = (copies + 1) % 2 ^ 64 } in
+    let with_settled : List ℕ → Paged =
+    λ xs. record { bytes = b; settled = xs; written = set w page true; copies = (copies + 1) % 2 ^ 64 } in
     let next : Paged → Paged = λ q. record q { written = set q.written page true; copies = (q.copies + 1) % 2 ^ 64 } in
     ap with_settled (settled_by_keep b o p w page is.whole is.region here none kept) ∙ ap next view
 
@@ -26,7 +33,10 @@ pub record AfterWrite (m : Paged) (c o : List ℕ) (w : List Bool) (d : List ℕ
   pub size : length after ≡ length m.bytes
   pub pages : length (marked m.written at n) ≡ length m.written
 
-pub after_write : (m : Paged) (b c o new : List ℕ) (w : List Bool) (d : List ℕ) (capacity copies at n : ℕ) → length new ≡ n → at + n ≤ length m.bytes → IsPaged m → IsStored b o w d capacity copies → seen b o w copies ≡ with_written m at n m.bytes → c ≡ take at b ++ (new ++ drop (at + n) b) → AfterWrite m c o w d capacity copies at n (take at m.bytes ++ (new ++ drop (at + n) m.bytes))
+pub after_write : (m : Paged) (b c o new : List ℕ) (w : List Bool) (d : List ℕ) (capacity copies at n : ℕ) → length new ≡ n →
+    at + n ≤ length m.bytes → IsPaged m → IsStored b o w d capacity copies → seen b o w copies ≡ with_written m at n m.bytes →
+    c ≡ take at b ++ (new ++ drop (at + n) b) →
+    AfterWrite m c o w d capacity copies at n (take at m.bytes ++ (new ++ drop (at + n) m.bytes))
 after_write m b c o new w d capacity copies at n long fits rules is view put =
     let same : b ≡ m.bytes = ap (λ (q : Paged). q.bytes) view in
     let flags : w ≡ marked m.written at n = ap (λ (q : Paged). q.written) view in
@@ -37,19 +47,24 @@ after_write m b c o new w d capacity copies at n long fits rules is view put =
     let next : Paged → Paged = λ q. record q { bytes = take at q.bytes ++ (new ++ drop (at + n) q.bytes) } in
     record {
       stored = stored_by_write b c o w d capacity copies (ap length put ∙ length_overwritten b new at n inside long) is;
-      value = ap with_settled (settled_by_write b c o new m.written w at n long inside (ap length same ∙ whole) put flags) ∙ ap with_now put ∙ ap next view;
+      value = ap with_settled (settled_by_write b c o new m.written w at n long inside (ap length same ∙ whole) put flags)
+          ∙ ap with_now put ∙ ap next view;
       size = length_overwritten m.bytes new at n fits long;
       pages = length_marked m.written at n (omega arith);
     }
 
 -- the same of a number
-pub after_number : (m : Paged) (b c o : List ℕ) (w : List Bool) (d : List ℕ) (capacity copies at n value : ℕ) → length (little_bytes n value) ≡ n → at + n ≤ length m.bytes → IsPaged m → IsStored b o w d capacity copies → seen b o w copies ≡ with_written m at n m.bytes → c ≡ with_number b at n value → AfterWrite m c o w d capacity copies at n (with_number m.bytes at n value)
+pub after_number : (m : Paged) (b c o : List ℕ) (w : List Bool) (d : List ℕ) (capacity copies at n value : ℕ) →
+    length (little_bytes n value) ≡ n → at + n ≤ length m.bytes → IsPaged m → IsStored b o w d capacity copies →
+    seen b o w copies ≡ with_written m at n m.bytes → c ≡ with_number b at n value →
+    AfterWrite m c o w d capacity copies at n (with_number m.bytes at n value)
 unfolding with_number
 after_number m b c o w d capacity copies at n value long fits rules is view put =
     after_write m b c o (little_bytes n value) w d capacity copies at n long fits rules is view put
 
 -- the memory is settled
-pub seen_by_settle : (m : Paged) (b o : List ℕ) (w v : List Bool) (d : List ℕ) (capacity copies : ℕ) → IsStored b o w d capacity copies → seen b o w copies ≡ m → v ≡ replicate (length w) false → seen b o v copies ≡ settled_at m.bytes (length m.written) m.copies
+pub seen_by_settle : (m : Paged) (b o : List ℕ) (w v : List Bool) (d : List ℕ) (capacity copies : ℕ) → IsStored b o w d capacity copies →
+    seen b o w copies ≡ m → v ≡ replicate (length w) false → seen b o v copies ≡ settled_at m.bytes (length m.written) m.copies
 seen_by_settle m b o w v d capacity copies is view none =
     let with_settled : List ℕ → Paged = λ xs. record { bytes = b; settled = xs; written = v; copies = copies } in
     let with_none : List Bool → Paged = λ fs. record { bytes = b; settled = b; written = fs; copies = copies } in
@@ -57,7 +72,8 @@ seen_by_settle m b o w v d capacity copies is view none =
     ap with_settled (settled_afresh b o v (length w) is.whole none) ∙ ap with_none none ∙ ap next view
 
 -- the memory at boot
-pub seen_at_boot : (b o bytes : List ℕ) (w : List Bool) (n : ℕ) → length b ≡ 4096 * n → b ≡ bytes → w ≡ replicate n false → seen b o w 0 ≡ settled_at bytes n 0
+pub seen_at_boot : (b o bytes : List ℕ) (w : List Bool) (n : ℕ) → length b ≡ 4096 * n → b ≡ bytes → w ≡ replicate n false →
+    seen b o w 0 ≡ settled_at bytes n 0
 seen_at_boot b o bytes w n whole is none =
     let with_settled : List ℕ → Paged = λ xs. record { bytes = b; settled = xs; written = w; copies = 0 } in
     let with_none : List Bool → Paged = λ fs. record { bytes = b; settled = b; written = fs; copies = 0 } in
@@ -80,10 +96,12 @@ same_flags m flags small same =
 pub no_page_kept : (m : Paged) (from : ℕ) → from ≤ length m.written → m.copies < 2 ^ 64 → m ≡ with_flags m (flagged m.written from from)
 no_page_kept m from within small = same_flags m (flagged m.written from from) small (no_pages m.written from within)
 
-pub nothing_kept : (m : Paged) (at n : ℕ) → n ≡ 0 → at ≤ 4096 * length m.written → m.copies < 2 ^ 64 → m ≡ with_flags m (marked m.written at n)
+pub nothing_kept : (m : Paged) (at n : ℕ) → n ≡ 0 → at ≤ 4096 * length m.written → m.copies < 2 ^ 64 →
+    m ≡ with_flags m (marked m.written at n)
 nothing_kept m at n none within small = same_flags m (marked m.written at n) small (marked_none m.written at n none within)
 
-pub all_kept : (m : Paged) (at n : ℕ) → 1 ≤ n → n ≤ 4096 → at + n ≤ 4096 * length m.written → m.copies < 2 ^ 64 → is_written m.written (at / 4096) ≡ true → is_written m.written ((at + n - 1) / 4096) ≡ true → m ≡ with_flags m (marked m.written at n)
+pub all_kept : (m : Paged) (at n : ℕ) → 1 ≤ n → n ≤ 4096 → at + n ≤ 4096 * length m.written → m.copies < 2 ^ 64 →
+    is_written m.written (at / 4096) ≡ true → is_written m.written ((at + n - 1) / 4096) ≡ true → m ≡ with_flags m (marked m.written at n)
 all_kept m at n some few within small first last =
     same_flags m (marked m.written at n) small
     (sym (few_marked m.written at n some few within)
@@ -102,7 +120,8 @@ pub none_below : (m : Paged) (from : ℕ) → from ≤ length m.written → m.co
 none_below m from within small = record { value = no_page_kept m from within small; more = omega arith }
 
 -- the page was written before
-pub one_below : (m s : Paged) (from page : ℕ) → from ≤ page → page < length m.written → is_written s.written page ≡ true → KeptBelow m s from page → KeptBelow m s from (page + 1)
+pub one_below : (m s : Paged) (from page : ℕ) → from ≤ page → page < length m.written → is_written s.written page ≡ true →
+    KeptBelow m s from page → KeptBelow m s from (page + 1)
 one_below m s from page ordered within flag below =
     let flags : s.written ≡ flagged m.written from page = ap (λ (q : Paged). q.written) below.value in
     let same : flagged m.written from (page + 1) ≡ flagged m.written from page =
@@ -114,22 +133,29 @@ one_below m s from page ordered within flag below =
     record { value = below.value ∙ ap (with_flags m) (sym same); more = below.more }
 
 -- the page is kept
-pub one_kept_below : (m s t : Paged) (from page : ℕ) → from ≤ page → page < length m.written → is_written s.written page ≡ false → t ≡ record s { written = set s.written page true; copies = (s.copies + 1) % 2 ^ 64 } → KeptBelow m s from page → KeptBelow m t from (page + 1)
+pub one_kept_below : (m s t : Paged) (from page : ℕ) → from ≤ page → page < length m.written → is_written s.written page ≡ false →
+    t ≡ record s { written = set s.written page true; copies = (s.copies + 1) % 2 ^ 64 } → KeptBelow m s from page →
+    KeptBelow m t from (page + 1)
 one_kept_below m s t from page ordered within flag step below =
     let flags : s.written ≡ flagged m.written from page = ap (λ (q : Paged). q.written) below.value in
     let next : Paged → Paged = λ q. record q { written = set q.written page true; copies = (q.copies + 1) % 2 ^ 64 } in
-    let with_list : List Bool → Paged = λ fs. record m { written = fs; copies = (m.copies + (written_pages s.written - written_pages m.written) + 1) % 2 ^ 64 } in
+    let with_list : List Bool → Paged =
+    λ fs. record m { written = fs; copies = (m.copies + (written_pages s.written - written_pages m.written) + 1) % 2 ^ 64 } in
     let more : written_pages (set s.written page true) ≡ written_pages s.written + 1 = one_page_more s.written page flag in
-    let list : set s.written page true ≡ flagged m.written from (page + 1) = ap (λ (x : List Bool). set x page true) flags ∙ one_more m.written from page ordered within in
+    let list : set s.written page true ≡ flagged m.written from (page + 1) =
+    ap (λ (x : List Bool). set x page true) flags ∙ one_more m.written from page ordered within in
     let grown : written_pages m.written ≤ written_pages s.written = below.more in
     let total : written_pages (flagged m.written from (page + 1)) ≡ written_pages s.written + 1 = sym (ap written_pages list) ∙ more in
-    let count : m.copies + (written_pages s.written - written_pages m.written) + 1 ≡ m.copies + (written_pages (flagged m.written from (page + 1)) - written_pages m.written) =
+    let count : m.copies + (written_pages s.written - written_pages m.written) + 1
+    ≡ m.copies + (written_pages (flagged m.written from (page + 1)) - written_pages m.written) =
     omega arith in
     let before : s ≡ record m { written = s.written; copies = (m.copies + (written_pages s.written - written_pages m.written)) % 2 ^ 64 } =
     below.value ∙ ap (with_flags m) (sym flags) in
     let with_sum : ℕ → Paged = λ k. record m { written = set s.written page true; copies = k } in
     let with_total : ℕ → Paged = λ k. record m { written = flagged m.written from (page + 1); copies = k % 2 ^ 64 } in
     record {
-      value = step ∙ ap next before ∙ ap with_sum (add_one_after (m.copies + (written_pages s.written - written_pages m.written)) (2 ^ 64)) ∙ ap with_list list ∙ ap with_total count;
+      value = step ∙ ap next before
+          ∙ ap with_sum (add_one_after (m.copies + (written_pages s.written - written_pages m.written)) (2 ^ 64)) ∙ ap with_list list
+          ∙ ap with_total count;
       more = omega (arith, ap (λ (q : Paged). written_pages q.written) step);
     }

@@ -1,7 +1,6 @@
 -- A memory in pages of 4096 bytes, and which of them were written since it was last settled.
 use Rattle.std.specs.Prelude.{◌≡◌, ℕ, ◌+◌, ◌-◌, ◌*◌, ◌/◌, ◌%◌, ◌^◌, ◌≤◌, ◌==◌, Bool, true, false, if◌then◌else◌, List, ◌++◌}
 use Rattle.std.specs.Prelude.{length, replicate, take, drop, slice_range, slice_index_or, count_by}
-use Rattle.paged_memory.specs.Bytes.{with_bytes}
 
 -- the bytes, those at the last settle, a flag for each page, whether it was written since, and how many page copies were made
 -- since boot, modulo 2^64

@@ -1,4 +1,4 @@
-use Rattle.std.proofs.Common.{◌<◌, ◌+◌, length, arith}
+use Rattle.std.proofs.Common.{◌<◌, length}
 use Rattle.std.proofs.lemmas.List.Elements.{All-get_or}
 use Rattle.paged_memory.proofs.ListedLemmas.{one_cleared, all_cleared}
 use Rattle.paged_memory.proofs.keeping.clear_flags.Goals as goal
@@ -11,4 +11,5 @@ loop-page-preserved c =
 
 pub returns : goal.returns
 returns c =
-    all_cleared c.loop-page.flags.items c.args.pages.now c.loop-page.page-index (length c.args.flags.now.items) c.loop-page-test.false c.loop-page.invariant
+    all_cleared c.loop-page.flags.items c.args.pages.now c.loop-page.page-index (length c.args.flags.now.items) c.loop-page-test.false
+    c.loop-page.invariant

@@ -5,4 +5,5 @@ use Rattle.paged_memory.proofs.numbers.put_u32.Goals as goal
 pub returns-clause-value : goal.returns-clause-value
 returns-clause-value c =
     let v = c.args.bytes.now in
-    written v.items v.items c.as_mut_slice-all.result.now c.write_u32.new.buf v.len c.args.at 4 c.args.value refl c.as_mut_slice-all.ensures.value v.ok.0 c.requires refl c.write_u32.ensures
+    written v.items v.items c.as_mut_slice-all.result.now c.write_u32.new.buf v.len c.args.at 4 c.args.value refl
+    c.as_mut_slice-all.ensures.value v.ok.0 c.requires refl c.write_u32.ensures

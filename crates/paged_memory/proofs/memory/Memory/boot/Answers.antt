@@ -1,6 +1,5 @@
-use Rattle.std.proofs.Common.{◌≡◌, ◌*◌, ◌-◌, false, length, replicate, ◌++◌, ap, length-append, arith, rules}
+use Rattle.std.proofs.Common.{◌≡◌, ◌*◌, false, length, replicate, arith, rules}
 use Rattle.std.proofs.lemmas.Grind.{common_steps}
-use Rattle.std.proofs.lemmas.List.{length-replicate}
 use Rattle.paged_memory.specs.Pages.{boot_bytes}
 use Rattle.paged_memory.proofs.SeenLemmas.{seen_at_boot}
 use Rattle.paged_memory.proofs.memory.Memory.boot.Goals as goal
@@ -11,4 +10,5 @@ returns c =
     let bytes : c.resize.new.self.items ≡ boot_bytes n c.args.image.now = grind (arith, common_steps) in
     let flags : c.resize-3.new.self.items ≡ replicate n false = search rules in
     let long : length c.resize.new.self.items ≡ 4096 * n = search rules in
-    seen_at_boot c.resize.new.self.items c.resize-2.new.self.items (boot_bytes n c.args.image.now) c.resize-3.new.self.items n long bytes flags
+    seen_at_boot c.resize.new.self.items c.resize-2.new.self.items (boot_bytes n c.args.image.now) c.resize-3.new.self.items n long bytes
+    flags

@@ -1,4 +1,4 @@
-use Rattle.std.proofs.Common.{◌≡◌, ◌<◌, Bool, true, length, sym, ap, ◌∙◌, subst, arith}
+use Rattle.std.proofs.Common.{◌<◌, true, length, sym, ap, ◌∙◌, subst, arith}
 use Rattle.std.proofs.lemmas.List.{get_or_read}
 use Rattle.paged_memory.specs.Pages.{Paged, IsPaged, is_written}
 use Rattle.paged_memory.proofs.StoredLemmas.{paged}
@@ -9,5 +9,8 @@ returns-clause-same c =
     let s = c.self.inside in
     let P : Paged → Type 0 = λ m. IsPaged m in
     let is = subst P c.self.view_is (paged s.bytes.items s.originals.items s.written.items s.dirty.items _ s.copies c.self.invariant) in
-    let here : c.args.page < length s.written.items = omega (arith, ap (λ (p : Paged). length p.bytes) c.self.view_is, c.requires, c.self.invariant.whole) in
-    λ none. is.kept.same c.args.page (sym (get_or_read s.written.items c.args.page c.index.result.now here c.index.ensures true ∙ ap (λ (p : Paged). is_written p.written c.args.page) c.self.view_is) ∙ none)
+    let here : c.args.page < length s.written.items =
+    omega (arith, ap (λ (p : Paged). length p.bytes) c.self.view_is, c.requires, c.self.invariant.whole) in
+    λ none. is.kept.same c.args.page
+    (sym (get_or_read s.written.items c.args.page c.index.result.now here c.index.ensures true
+    ∙ ap (λ (p : Paged). is_written p.written c.args.page) c.self.view_is) ∙ none)

@@ -1,5 +1,5 @@
-use Rattle.std.proofs.Common.{◌≡◌, ◌≤◌, ◌<◌, ◌+◌, ◌-◌, ◌*◌, ◌/◌, ◌^◌, List, Bool, length, sym, ap, ◌∙◌, subst, arith}
-use Rattle.paged_memory.specs.Pages.{Paged, IsPaged, marked, with_flags}
+use Rattle.std.proofs.Common.{◌≡◌, ◌≤◌, ◌<◌, ◌*◌, ◌^◌, length, sym, ap, ◌∙◌, subst, arith}
+use Rattle.paged_memory.specs.Pages.{Paged, IsPaged, with_flags}
 use Rattle.paged_memory.proofs.FlagLemmas.{marked_some}
 use Rattle.paged_memory.proofs.StoredLemmas.{paged}
 use Rattle.paged_memory.proofs.SeenLemmas.{nothing_kept}
@@ -10,7 +10,8 @@ returns-then-count-gt0 c =
     let s = c.self.inside in
     let P : Paged → Type 0 = λ m. IsPaged m in
     record {
-      value = c.keep_pages.ensures ∙ ap (with_flags c.args.self.now) (sym (marked_some c.args.self.now.written c.args.at c.args.count c.if-count-gt0.true));
+      value = c.keep_pages.ensures
+          ∙ ap (with_flags c.args.self.now) (sym (marked_some c.args.self.now.written c.args.at c.args.count c.if-count-gt0.true));
       rules = subst P c.self.view_is (paged s.bytes.items s.originals.items s.written.items s.dirty.items _ s.copies c.self.invariant);
     }
 

@@ -1,6 +1,7 @@
-use Rattle.std.proofs.Common.{◌≡◌, ◌≤◌, ◌<◌, ◌+◌, ◌-◌, ◌*◌, ◌/◌, ◌^◌, ℕ, ◌&&◌, List, Bool, true, false, length, refl, sym, ap, ◌∙◌, subst, arith}
+use Rattle.std.proofs.Common.{◌≡◌, ◌≤◌, ◌<◌, ◌+◌, ◌-◌, ◌*◌, ◌/◌, ◌^◌, ℕ, ◌&&◌, List, Bool, true, false, length, refl, sym, ap, ◌∙◌, subst}
+use Rattle.std.proofs.Common.{arith}
 use Rattle.std.proofs.lemmas.List.{get_or_read}
-use Rattle.paged_memory.specs.Pages.{Paged, IsPaged, is_written, marked, with_flags}
+use Rattle.paged_memory.specs.Pages.{Paged, IsPaged, is_written, with_flags}
 use Rattle.paged_memory.proofs.FlagLemmas.{marked_some}
 use Rattle.paged_memory.proofs.StoredLemmas.{paged}
 use Rattle.paged_memory.proofs.SeenLemmas.{all_kept}
@@ -11,7 +12,8 @@ returns-then-not-first_written-index c =
     let s = c.self.inside in
     let P : Paged → Type 0 = λ m. IsPaged m in
     record {
-      value = c.keep_pages.ensures ∙ ap (with_flags c.args.self.now) (sym (marked_some c.args.self.now.written c.args.at c.args.count c.requires.some));
+      value = c.keep_pages.ensures
+          ∙ ap (with_flags c.args.self.now) (sym (marked_some c.args.self.now.written c.args.at c.args.count c.requires.some));
       rules = subst P c.self.view_is (paged s.bytes.items s.originals.items s.written.items s.dirty.items _ s.copies c.self.invariant);
     }
 
@@ -40,9 +42,11 @@ returns-else-not-first_written-index c =
     let both = c.if-not-first_written-index.false in
     let last : ℕ = (c.args.at + c.args.count - 1) / 4096 in
     let first_flag : is_written m.written (c.args.at / 4096) ≡ true =
-    sym (get_or_read w (c.args.at / 4096) c.index-first_written.result.now (omega (arith, ap length flags)) c.index-first_written.ensures true ∙ ap (λ (x : List Bool). is_written x (c.args.at / 4096)) flags)
+    sym (get_or_read w (c.args.at / 4096) c.index-first_written.result.now (omega (arith, ap length flags)) c.index-first_written.ensures
+    true ∙ ap (λ (x : List Bool). is_written x (c.args.at / 4096)) flags)
     ∙ and_first c.index-first_written.result.now c.index.result.now both in
     let last_flag : is_written m.written last ≡ true =
-    sym (get_or_read w last c.index.result.now (omega (arith, ap length flags)) c.index.ensures true ∙ ap (λ (x : List Bool). is_written x last) flags)
+    sym (get_or_read w last c.index.result.now (omega (arith, ap length flags)) c.index.ensures true
+    ∙ ap (λ (x : List Bool). is_written x last) flags)
     ∙ and_last c.index-first_written.result.now c.index.result.now both in
     record { value = all_kept m c.args.at c.args.count c.requires.some c.requires.few within small first_flag last_flag; rules = rules }

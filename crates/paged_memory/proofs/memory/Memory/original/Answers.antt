@@ -1,6 +1,6 @@
 use Rattle.std.proofs.Common.{◌≡◌, ◌<◌, ◌≤◌, ◌+◌, ◌*◌, if◌then◌else◌, Bool, true, length, List, ℕ, sym, ap, ◌∙◌, arith}
 use Rattle.std.proofs.lemmas.List.{get_or_read}
-use Rattle.paged_memory.specs.Pages.{Paged, page_of, is_written}
+use Rattle.paged_memory.specs.Pages.{Paged, page_of}
 use Rattle.paged_memory.proofs.StoredLemmas.{length-settled, page_settled}
 use Rattle.paged_memory.proofs.memory.Memory.original.Goals as goal
 

@@ -5,9 +5,11 @@ use Rattle.paged_memory.proofs.memory.Memory.settle.Goals as goal
 pub invariant_of-self : goal.invariant_of-self
 invariant_of-self c =
     let s = c.self.inside in
-    stored_by_settle s.bytes.items s.originals.items s.written.items c.clear_flags.new.flags.items s.dirty.items c.clear.new.self.items _ _ s.copies c.clear_flags.ensures c.clear.ensures.items c.clear.ensures.capacity c.self.invariant
+    stored_by_settle s.bytes.items s.originals.items s.written.items c.clear_flags.new.flags.items s.dirty.items c.clear.new.self.items _
+    _ s.copies c.clear_flags.ensures c.clear.ensures.items c.clear.ensures.capacity c.self.invariant
 
 pub returns-clause-value : goal.returns-clause-value
 returns-clause-value c =
     let s = c.self.inside in
-    seen_by_settle c.args.self.now s.bytes.items s.originals.items s.written.items c.clear_flags.new.flags.items s.dirty.items _ s.copies c.self.invariant c.self.view_is c.clear_flags.ensures
+    seen_by_settle c.args.self.now s.bytes.items s.originals.items s.written.items c.clear_flags.new.flags.items s.dirty.items _ s.copies
+    c.self.invariant c.self.view_is c.clear_flags.ensures
