@@ -2,6 +2,7 @@
 
 mod copies;
 mod disk;
+mod disk_interrupts;
 mod interrupts;
 mod loads;
 mod network;

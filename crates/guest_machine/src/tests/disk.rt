@@ -1,8 +1,7 @@
-//! The disk in the machine: requests of guests, what breaks the disk, its interrupt, and its reset.
+//! The disk in the machine: requests of guests, what breaks the disk, its reset, and its registers.
 
 use super::{
-    AVAILABLE, BEACON, DESCRIPTOR, USED, assert_bytes, boot_shape, number, put, put_words,
-    register, run,
+    AVAILABLE, DESCRIPTOR, USED, assert_bytes, boot_shape, number, put, put_words, register, run,
 };
 use crate::{Machine, PAGE_BYTES, Shape};
 use std::alloc::{AllocError, Global};
@@ -18,7 +17,7 @@ const ONE_REQUEST: [u32; 24] = [
 ];
 
 /// The place of the word that jumps to itself behind the notify.
-const BEHIND: usize = 23;
+pub(super) const BEHIND: usize = 23;
 
 /// Where the request has its head, its status byte and its data.
 const HEAD: usize = 0x1100;
@@ -55,12 +54,17 @@ const TO_USED: usize = 4 * 17;
 /// Types of requests (virtio 1.1, 5.2.6).
 const READ: u32 = 0;
 
-const WRITE: u32 = 1;
+pub(super) const WRITE: u32 = 1;
 
 const FLUSH: u32 = 4;
 
 /// The image of a guest of one request of this type at this sector, with 512 bytes of data that are all the same.
-fn request(alloc: Global, kind: u32, sector: u32, byte: u8) -> Result<Vec<u8>, AllocError> {
+pub(super) fn request(
+    alloc: Global,
+    kind: u32,
+    sector: u32,
+    byte: u8,
+) -> Result<Vec<u8>, AllocError> {
     let mut image = vec![in alloc; 0u8; DATA]?;
     image.resize(DATA + 512, byte)?;
     put_words(&mut image, 0, &ONE_REQUEST);
@@ -71,7 +75,12 @@ fn request(alloc: Global, kind: u32, sector: u32, byte: u8) -> Result<Vec<u8>, A
 }
 
 /// The machine with a disk of 8 sectors after so many steps of an image.
-fn after(rt: &impl Abort, alloc: Global, image: &[u8], steps: u32) -> Result<Box<Machine>, Fail> {
+pub(super) fn after(
+    rt: &impl Abort,
+    alloc: Global,
+    image: &[u8],
+    steps: u32,
+) -> Result<Box<Machine>, Fail> {
     let shape = Shape {
         pages: 2,
         sectors: 8,
@@ -82,12 +91,14 @@ fn after(rt: &impl Abort, alloc: Global, image: &[u8], steps: u32) -> Result<Box
 }
 
 /// The disk has 8 sectors, and each but the last is 0; the last is 512 times a byte.
-fn assert_last_sector(rt: &impl Abort, machine: &Machine, byte: u8) {
+pub(super) fn assert_last_sector(rt: &impl Abort, machine: &Machine, byte: u8) {
     assert_eq!(rt; machine.sectors(), 8);
     for sector in 0..7 {
         assert_eq!(rt; machine.sector(sector).as_slice(), [0; 512].as_slice());
     }
     assert_eq!(rt; machine.sector(7).as_slice(), [byte; 512].as_slice());
+    assert!(rt; machine.blank(6));
+    assert_eq!(rt; machine.blank(7), byte == 0);
 }
 
 /// The used ring has one entry, of the chain at descriptor 0, into which so many bytes were written.
@@ -295,78 +306,6 @@ fn a_reset_leaves_the_sectors(rt: HostRuntime) -> Result<(), Fail> {
     assert_eq!(rt; machine.disk(), DeviceState::boot());
     assert_last_sector(&rt, &machine, 0xab);
     assert_eq!(rt; machine.dirty_sectors(), [7].as_slice());
-    Ok(())
-}
-
-/// What stands behind the notify to read mip and InterruptStatus, acknowledge the interrupt, and read them again.
-const ACKNOWLEDGE: [u32; 5] = [
-    0x34402573, // CSRRS x10, mip, x0
-    0x0602a583, // LW x11, 0x60(x5): InterruptStatus
-    0x0662a223, // SW x6, 0x64(x5): InterruptACK
-    0x34402673, // CSRRS x12, mip, x0
-    0x0602a683, // LW x13, 0x60(x5): InterruptStatus
-];
-
-#[test]
-fn an_answer_is_told_by_an_interrupt(rt: HostRuntime) -> Result<(), Fail> {
-    let mut image = request(rt.alloc(), WRITE, 7, 0xab)?;
-    put_words(&mut image, BEHIND, &ACKNOWLEDGE);
-    let machine = after(&rt, rt.alloc(), &image, 28)?;
-    assert_eq!(rt; register(&rt, &machine, 10), 0x800);
-    assert_eq!(rt; register(&rt, &machine, 11), 1);
-    assert_eq!(rt; register(&rt, &machine, 12), 0);
-    assert_eq!(rt; register(&rt, &machine, 13), 0);
-    assert_eq!(rt; machine.disk().interrupt_status, 0);
-    Ok(())
-}
-
-/// What stands behind both notifies to read mip, acknowledge the card's interrupt, and then the disk's.
-const ACKNOWLEDGE_BOTH: [u32; 7] = [
-    0x34402573, // CSRRS x10, mip, x0
-    0x00200413, // ADDI x8, x0, 2
-    0x0682a223, // SW x8, 0x64(x5): InterruptACK of the card
-    0x344025f3, // CSRRS x11, mip, x0
-    0x100022b7, // LUI x5, 0x10002
-    0x0662a223, // SW x6, 0x64(x5): InterruptACK of the disk
-    0x34402673, // CSRRS x12, mip, x0
-];
-
-#[test]
-fn either_device_makes_the_interrupt_pending(rt: HostRuntime) -> Result<(), Fail> {
-    // behind the request the beacon, whose queue of 1 the disk's chain breaks, since its first next is 1
-    let mut image = request(rt.alloc(), WRITE, 7, 0xab)?;
-    put_words(&mut image, BEHIND, &BEACON);
-    put_words(&mut image, BEHIND + 22, &ACKNOWLEDGE_BOTH);
-    let mut machine = after(&rt, rt.alloc(), &image, 45)?;
-    assert_eq!(rt; machine.net().status, 0x4f);
-    assert_eq!(rt; machine.net().interrupt_status, 2);
-    // the broken card leaves the disk as it was
-    assert_eq!(rt; machine.disk().status, 0x0f);
-    assert_eq!(rt; machine.disk().interrupt_status, 1);
-    assert_last_sector(&rt, &machine, 0xab);
-    run(&rt, &mut machine, 7);
-    assert_eq!(rt; register(&rt, &machine, 10), 0x800);
-    assert_eq!(rt; register(&rt, &machine, 11), 0x800);
-    assert_eq!(rt; register(&rt, &machine, 12), 0);
-    Ok(())
-}
-
-/// What stands behind the notify to enable external interrupts.
-const ENABLE_EXTERNAL: [u32; 4] = [
-    0x00001537, // LUI x10, 1
-    0x80050513, // ADDI x10, x10, -2048
-    0x30452073, // CSRRS x0, mie, x10
-    0x30046073, // CSRRSI x0, mstatus, 8
-];
-
-#[test]
-fn the_interrupt_of_the_disk_is_taken(rt: HostRuntime) -> Result<(), Fail> {
-    let mut image = request(rt.alloc(), WRITE, 7, 0xab)?;
-    put_words(&mut image, BEHIND, &ENABLE_EXTERNAL);
-    let machine = after(&rt, rt.alloc(), &image, 28)?;
-    assert_eq!(rt; machine.csrs().mcause, 0x8000_0000_0000_000b);
-    assert_eq!(rt; machine.csrs().mepc, 0x8000_006c);
-    assert_eq!(rt; machine.pc(), 0);
     Ok(())
 }
 
