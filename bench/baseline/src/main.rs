@@ -5,7 +5,9 @@
 //! `baseline until WORDS MOST` runs until the guest jumps to itself, and says after how many steps that is.
 //! `baseline sim SCRIPT` plays a script of `remus sim` in which nothing fails.
 //! `baseline copy BYTES TIMES` copies so many bytes in memory so often.
+//! `baseline checkpoints PAGES BLOCKS ROUNDS` runs epochs in which so many blocks of so many pages change, and prints their bytes.
 
+mod checkpoints;
 mod csrs;
 mod hart;
 mod pair;
@@ -31,8 +33,16 @@ fn main() {
             bytes.parse().expect("a number of bytes"),
             times.parse().expect("a number of times"),
         ),
+        ["checkpoints", pages, blocks, rounds] => println!(
+            "{}",
+            checkpoints::run(
+                pages.parse().expect("a number of pages"),
+                blocks.parse().expect("a number of blocks"),
+                rounds.parse().expect("a number of rounds"),
+            )
+        ),
         _ => {
-            eprintln!("usage: baseline run WORDS STEPS | until WORDS MOST | sim SCRIPT | copy BYTES TIMES");
+            eprintln!("usage: baseline run WORDS STEPS | until WORDS MOST | sim SCRIPT | copy BYTES TIMES | checkpoints PAGES BLOCKS ROUNDS");
             std::process::exit(2);
         }
     }

@@ -1,0 +1,53 @@
+#!/usr/bin/env bash
+# What a checkpoint costs: one epoch (change, cut, encode, read, stage and commit) in which 1, 64 or 4096 pages of 4096 change, one block of
+# each or all 64, beside the same in plain Rust (bench/baseline); and how many bytes a second `remus check-stream` reads of files of 100 MB
+# and more. Processor time, the best of three; a run of no epochs, which only boots, is taken off. REMUS names another program to measure
+# in the place of the repository's own.
+set -eu
+cd "$(dirname "$0")/.."
+epochs=$(bench/epochs/build.sh)
+program=${REMUS:-crates/remus/out/remus}
+baseline=bench/baseline/target/release/baseline
+folder=$(mktemp -d)
+trap 'rm -rf "$folder"' EXIT
+# Built before the clock starts.
+[ -n "${REMUS:-}" ] || ./remus sim /dev/null
+(cd bench/baseline && cargo build --release --quiet)
+
+# The least seconds of processor time that a command takes in three runs, its output aside.
+seconds() {
+    local TIMEFORMAT='%U %S'
+    for _ in 1 2 3; do
+        { time "$@" >/dev/null; } 2>&1
+    done | awk '{ s = $1 + $2; if (NR == 1 || s < least) least = s } END { print least }'
+}
+
+for blocks in 1 64; do
+    for pages in 1 64 4096; do
+        rounds=$((400000 / (pages * blocks + 20) + 20))
+        proved=$("$epochs" measure "$pages" "$blocks" "$rounds")
+        plain=$("$baseline" checkpoints "$pages" "$blocks" "$rounds")
+        [ "$proved" = "$plain" ] || {
+            echo "$pages pages, $blocks blocks: $proved bytes, and $plain in plain Rust" >&2
+            exit 1
+        }
+        awk -v pages="$pages" -v blocks="$blocks" -v rounds="$rounds" -v bytes="$proved" \
+            -v proved="$(seconds "$epochs" measure "$pages" "$blocks" "$rounds")" -v boot="$(seconds "$epochs" measure "$pages" "$blocks" 0)" \
+            -v plain="$(seconds "$baseline" checkpoints "$pages" "$blocks" "$rounds")" \
+            -v start="$(seconds "$baseline" checkpoints "$pages" "$blocks" 0)" 'BEGIN {
+            a = (proved - boot) / rounds
+            b = (plain - start) / rounds
+            printf "%4d pages, %2d blocks each, %8d bytes: %9.1f us an epoch, plain Rust %9.1f us, ratio %.2f\n",
+                pages, blocks, bytes / rounds, a * 1e6, b * 1e6, a / b
+        }'
+    done
+done
+
+# Streams of whole pages, of one block a page, of sectors, and of the beacon's checkpoint again and again.
+python3 bench/streams.py "$folder"
+for stream in pages:4096:32768 blocks:4096:32768 sectors:4096:32768 beacons:2:1; do
+    IFS=: read -r name pages sectors <<<"$stream"
+    file=$folder/$name
+    awk -v name="$name" -v bytes="$(stat -c %s "$file")" -v s="$(seconds "$program" check-stream "$file" --pages "$pages" --sectors "$sectors")" \
+        'BEGIN { printf "check-stream, %-8s %4d MB: %4d MB a second\n", name, bytes / 1e6, bytes / s / 1e6 }'
+done

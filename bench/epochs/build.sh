@@ -1,0 +1,26 @@
+#!/usr/bin/env bash
+# Proves and builds bench/epochs over the repository's crates, and prints the program's path. The crate stands in no crates.txt, since it
+# is no part of the product: it is built in a folder of its own, out/build, which has the crates and what is proved of them as hard links.
+set -eu
+here=$(dirname "$(readlink -f "$0")")
+root=$(readlink -f "$here/../..")
+program=$here/out/epochs
+build=$here/out/build
+if [ ! -x "$program" ] || [ -n "$(find "$root"/crates/*/src "$here/src" "$here/proofs" -newer "$program" -print -quit)" ]; then
+    trap 'rm -rf "$build"' EXIT
+    rm -rf "$build"
+    mkdir -p "$build/crates/epochs"
+    cp -al "$root"/crates/* "$build/crates/"
+    cp -r "$here/src" "$here/proofs" "$build/crates/epochs/"
+    {
+        cat "$root/crates.txt"
+        echo 'epochs: backup_image checkpoint_stream epoch_snapshot guest_machine'
+    } >"$build/crates.txt"
+    # The smallest epoch, to build it.
+    if ! (cd "$build/crates/epochs" && rt run -- measure 1 1 1) >"$build/log" 2>&1; then
+        tail -n 20 "$build/log" >&2
+        exit 1
+    fi
+    mv "$build/crates/epochs/out/epochs" "$program"
+fi
+echo "$program"
