@@ -19,13 +19,16 @@ on_err (Ok x) P p = tt
 on_err (Err e) P p = p
 
 -- it is answered and leaves what the protocol says
-pub answered_so : (o : Result Reply AllocError) (r : Record) (done out : Outcome) → done ≡ out → IfOk o (λ reply. (reply, r) ≡ done) → IfOk o (λ reply. (reply, r) ≡ out)
+pub answered_so : (o : Result Reply AllocError) (r : Record) (done out : Outcome) → done ≡ out → IfOk o (λ reply. (reply, r) ≡ done)
+    → IfOk o (λ reply. (reply, r) ≡ out)
 answered_so (Ok x) r done out e k = k ∙ e
 answered_so (Err x) r done out e k = tt
 
 -- the invariant after a call that did all or nothing
 pub after_call : (w : Pair) → Holds w → (s : RecordState) (o : Result Reply AllocError) (done : Outcome) (ports : PortsState)
-    → IfOk o (λ reply. (reply, s.protocol) ≡ done) → OnOk o (s.ports ≡ ports) → OnErr o (s ≡ record { protocol = w.protocol; ports = w.ports })
+    → IfOk o (λ reply. (reply, s.protocol) ≡ done) → OnOk o (s.ports ≡ ports)
+    → OnErr o (s ≡ record { protocol = w.protocol; ports = w.ports })
     → Holds (record w { protocol = done.1; ports = ports }) → Holds (record w { protocol = s.protocol; ports = s.ports })
-after_call w h s (Ok x) done ports k p e now = subst Holds (λ i. record w { protocol = sym (ap (λ (q : Outcome). q.1) k) i; ports = sym p i }) now
+after_call w h s (Ok x) done ports k p e now =
+    subst Holds (λ i. record w { protocol = sym (ap (λ (q : Outcome). q.1) k) i; ports = sym p i }) now
 after_call w h s (Err x) done ports k p e now = subst Holds (λ i. record w { protocol = (sym e i).protocol; ports = (sym e i).ports }) h

@@ -1,5 +1,6 @@
 -- What clients and their lines do keeps the invariant: it goes into the history, before what is kept.
-use Rattle.std.proofs.Common.{◌≡◌, ℕ, ◌+◌, ◌-◌, ◌<◌, ◌≤◌, List, [], ◌∷◌, ◌++◌, length, drop, remove, refl, sym, ap, ◌∙◌, subst, arith, Bool, true, cond, Some, inr}
+use Rattle.std.proofs.Common.{◌≡◌, ℕ, ◌+◌, ◌-◌, ◌<◌, ◌≤◌, List, [], ◌∷◌, ◌++◌, length, drop, remove, refl, sym, ap, ◌∙◌, subst, arith, Bool}
+use Rattle.std.proofs.Common.{true, cond, Some, inr}
 use Rattle.std.specs.Prelude.{slice_get, nat_lt, ◌==◌}
 use Rattle.std.proofs.lemmas.Bool.{eq-eqb, lt-ltb}
 use Rattle.std.proofs.lemmas.List.Edits.{length-remove}
@@ -18,7 +19,8 @@ use Rattle.pair_history.proofs.States.{at-append, Legal-append, DropsAreKnown-ap
 use Rattle.pair_history.proofs.Waiting.{inbox_of-append, AreRising-push, AreRising-without, StandsAt, Leaves, leaves-at}
 use Rattle.pair_history.proofs.Losses.{AreRising-left, LeavesBefore, leaves-before}
 use Rattle.pair_history.proofs.Moves.{AllCan-more, left-more, left-shorter}
-use Rattle.pair_history.proofs.LandingLaws.{length-lands, BoxesFit-set, BoxesFit-at, BoxesFit-lands, AllClients-targets, landings-land, AllLand, AllClients}
+use Rattle.pair_history.proofs.LandingLaws.{length-lands, BoxesFit-set, BoxesFit-at, BoxesFit-lands, AllClients-targets, landings-land}
+use Rattle.pair_history.proofs.LandingLaws.{AllLand, AllClients}
 use Rattle.pair_core.specs.declared.window.Window.{Window}
 use Rattle.pair_core.specs.Invariant.{frames_by_epoch, AreInboxes, AreNodes, AreClients, Holds}
 use Rattle.pair_core.specs.Journal.{with_history}
@@ -43,7 +45,10 @@ module _ (w : Pair) (h : Holds w) (es : List Entry) (now : HistoryState)
     (stays : window.to_commit ≡ w.protocol.window.to_commit)
     (same : uncommitted_of window pending ≡ uncommitted_of w.protocol.window w.protocol.pending)
     (owed : now.out ≡ targets_of (length ports.boxes) (frames_of (committed_of window pending))) where
-  pub history_holds : Holds (record w { protocol = record w.protocol { journal = with_history w.protocol.journal es; window = window; pending = pending }; ports = ports })
+  pub history_holds : Holds (record w {
+    protocol = record w.protocol { journal = with_history w.protocol.journal es; window = window; pending = pending };
+    ports = ports;
+  })
   history_holds =
       let history = w.protocol.journal.history in
       let shown : now ≡ at w.start (history ++ es) = sym (at-append w.start history es ∙ leads) in
@@ -59,9 +64,12 @@ module _ (w : Pair) (h : Holds w) (es : List Entry) (now : HistoryState)
           can = subst (λ (t : HistoryState). AllCan t.waiting ms) shown can;
         };
         nodes =
-            subst (λ (n : ℕ). AreNodes w.protocol.generation n (at w.start (history ++ es)).guest h.journal.sealed_moves h.journal.running_moves (frames_by_epoch (uncommitted_of window pending)) w.nodes) (sym stays)
-            (subst (λ (us : List Epoch). AreNodes w.protocol.generation w.protocol.window.to_commit (at w.start (history ++ es)).guest h.journal.sealed_moves h.journal.running_moves (frames_by_epoch us) w.nodes) (sym same)
-            (subst (λ (g : Guest). AreNodes w.protocol.generation w.protocol.window.to_commit g h.journal.sealed_moves h.journal.running_moves (frames_by_epoch (uncommitted_of w.protocol.window w.protocol.pending)) w.nodes) (sym guest ∙ ap (λ t. t.guest) shown) h.nodes));
+            subst (λ (n : ℕ). AreNodes w.protocol.generation n (at w.start (history ++ es)).guest h.journal.sealed_moves h.journal.running_moves
+            (frames_by_epoch (uncommitted_of window pending)) w.nodes) (sym stays)
+            (subst (λ (us : List Epoch). AreNodes w.protocol.generation w.protocol.window.to_commit (at w.start (history ++ es)).guest
+            h.journal.sealed_moves h.journal.running_moves (frames_by_epoch us) w.nodes) (sym same)
+            (subst (λ (g : Guest). AreNodes w.protocol.generation w.protocol.window.to_commit g h.journal.sealed_moves h.journal.running_moves
+            (frames_by_epoch (uncommitted_of w.protocol.window w.protocol.pending)) w.nodes) (sym guest ∙ ap (λ t. t.guest) shown) h.nodes));
         clients = subst (λ (t : HistoryState). AreClients t (left t.waiting ms) ports) shown clients;
         owed = ap (λ t. t.out) (sym shown) ∙ owed;
       }
@@ -93,7 +101,8 @@ module _ (w : Pair) (h : Holds w) where
       ∙ ap (λ x. targets_of m x ++ qs) (sym (gone r.window r.pending k.window n below)) in
       let all = AllClients-targets m (frames_to n r.pending) in
       subst (λ (x : List (List Frame)). AllLand s ps qs (landings x ps)) (sym h.clients.boxes)
-      (landings-land s ps qs out (subst (λ (x : List (List Frame)). AllClients (length x) ps) h.clients.boxes all) (subst BoxesFit h.clients.boxes h.clients.fit))
+      (landings-land s ps qs out (subst (λ (x : List (List Frame)). AllClients (length x) ps) h.clients.boxes all)
+      (subst BoxesFit h.clients.boxes h.clients.fit))
 
   pub ack_holds : IsRecord w.protocol → (n : ℕ) → n < w.protocol.window.to_commit
       → Holds (record w { protocol = (ack_done w.ports.boxes w.protocol n).1; ports = ports_after_ack w.ports w.protocol n })
@@ -130,10 +139,13 @@ module _ (w : Pair) (h : Holds w) where
         let b = w.ports.boxes in
         let box = list_of b c in
         let entry = Took c (slice_get box 0) in
-        let allowed : Allows s entry = subst (λ (x : List (List Frame)). Allows s (Took c (slice_get (list_of x c) 0))) (sym h.clients.boxes) (answer s c (list_of s.boxes c) refl low (high_there c high)) in
+        let allowed : Allows s entry =
+        subst (λ (x : List (List Frame)). Allows s (Took c (slice_get (list_of x c) 0))) (sym h.clients.boxes)
+        (answer s c (list_of s.boxes c) refl low (high_there c high)) in
         let long : length (with_list b c (drop 1 box)) ≡ length b = length-set b (c - 1) (drop 1 box) in
         let now : HistoryState = record s { boxes = with_list b c (drop 1 box) } in
-        history_holds w h (entry ∷ []) now (λ i. record s { boxes = with_list (sym h.clients.boxes i) c (drop 1 (list_of (sym h.clients.boxes i) c)) }) refl
+        history_holds w h (entry ∷ []) now
+        (λ i. record s { boxes = with_list (sym h.clients.boxes i) c (drop 1 (list_of (sym h.clients.boxes i) c)) }) refl
         (allowed, tt) tt h.journal.can (ports_after_take w.ports c)
         (record {
           number = h.clients.number;
@@ -146,7 +158,8 @@ module _ (w : Pair) (h : Holds w) where
         w.protocol.window w.protocol.pending refl refl
         (h.owed ∙ ap (λ (x : ℕ). targets_of x (frames_of (committed_of w.protocol.window w.protocol.pending))) (sym long))
       where
-        answer : (s : HistoryState) (c : ℕ) (box : List Frame) → list_of s.boxes c ≡ box → 1 ≤ c → c ≤ length s.boxes → Allows s (Took c (slice_get box 0))
+        answer : (s : HistoryState) (c : ℕ) (box : List Frame) → list_of s.boxes c ≡ box → 1 ≤ c → c ≤ length s.boxes
+            → Allows s (Took c (slice_get box 0))
         answer s c [] e l k = ((l, k), e)
         answer s c (f ∷ fs) e l k = ((l, k), ap (λ b. slice_get b 0) e)
 
@@ -223,7 +236,10 @@ module _ (w : Pair) (h : Holds w) where
       the_frame = record { items = bytes }
 
       -- Deliver: the frame waits after the others, also after what is kept
-      pub deliver_holds : Holds (record w { protocol = (deliver_done w.protocol c the_frame w.ports.next).1; ports = after_delivery w.ports c bytes })
+      pub deliver_holds : Holds (record w {
+        protocol = (deliver_done w.protocol c the_frame w.ports.next).1;
+        ports = after_delivery w.ports c bytes;
+      })
       deliver_holds =
           let s = shown_state w in
           let p = w.ports in
@@ -236,7 +252,8 @@ module _ (w : Pair) (h : Holds w) where
           let mine : list_of p.inboxes c ≡ inbox_of c ws = h.clients.inboxes c low high in
           let longer = list_of p.inboxes c ++ (p.next, f) ∷ [] in
           history_holds w h (Delivered c f p.next ∷ []) now refl refl
-          (((low, high_there c high), frame, h.clients.number), tt) tt (AllCan-more s.waiting (x ∷ []) ms h.journal.can) (after_delivery p c bytes)
+          (((low, high_there c high), frame, h.clients.number), tt) tt (AllCan-more s.waiting (x ∷ []) ms h.journal.can)
+          (after_delivery p c bytes)
           (record {
             number = ap (λ k. k + 1) h.clients.number;
             rising = AreRising-push 1 p.next s.waiting x h.clients.rising refl;
@@ -244,20 +261,26 @@ module _ (w : Pair) (h : Holds w) where
             inboxes =
                 subst (AreInboxes (length p.boxes) (with_list p.inboxes c longer)) left_is
                 (AreInboxes-with (length p.boxes) c p.inboxes longer ws (ws ++ x ∷ []) low high h.clients.count h.clients.inboxes
-                (ap (λ t. t ++ (p.next, f) ∷ []) mine ∙ ap (λ (t : Bool). inbox_of c ws ++ cond t ((p.next, f) ∷ []) []) (sym (eq-eqb c c refl)) ∙ sym (inbox_of-append c ws (x ∷ [])))
+                (ap (λ t. t ++ (p.next, f) ∷ []) mine
+                ∙ ap (λ (t : Bool). inbox_of c ws ++ cond t ((p.next, f) ∷ []) []) (sym (eq-eqb c c refl))
+                ∙ sym (inbox_of-append c ws (x ∷ [])))
                 (λ d other.
-                sym (append-nil (inbox_of d ws)) ∙ ap (λ (t : Bool). inbox_of d ws ++ cond t ((p.next, f) ∷ []) []) (sym (apart c d (λ (e : c ≡ d). other (sym e)))) ∙ sym (inbox_of-append d ws (x ∷ []))));
+                sym (append-nil (inbox_of d ws))
+                ∙ ap (λ (t : Bool). inbox_of d ws ++ cond t ((p.next, f) ∷ []) []) (sym (apart c d (λ (e : c ≡ d). other (sym e))))
+                ∙ sym (inbox_of-append d ws (x ∷ []))));
             boxes = h.clients.boxes;
             fit = h.clients.fit;
           })
           w.protocol.window w.protocol.pending refl refl h.owed
 
       -- Deliver at a full inbox: that is recorded, and that is all
-      pub full_holds : INBOX_FRAMES ≤ length (list_of w.ports.inboxes c) → Holds (record w { protocol = record w.protocol { journal = with_history w.protocol.journal (Refused c the_frame ∷ []) } })
+      pub full_holds : INBOX_FRAMES ≤ length (list_of w.ports.inboxes c)
+          → Holds (record w { protocol = record w.protocol { journal = with_history w.protocol.journal (Refused c the_frame ∷ []) } })
       full_holds full =
           let s = shown_state w in
           let mine = ap length (h.clients.inboxes c low high) in
           let fewer = left-shorter c s.waiting (kept_moves w h) in
           let many : INBOX_FRAMES ≤ length (inbox_of c s.waiting) = omega arith in
-          history_holds w h (Refused c the_frame ∷ []) s refl refl (((low, high_there c high), frame, many), tt) tt h.journal.can w.ports h.clients
+          history_holds w h (Refused c the_frame ∷ []) s refl refl (((low, high_there c high), frame, many), tt) tt h.journal.can w.ports
+          h.clients
           w.protocol.window w.protocol.pending refl refl h.owed

@@ -1,5 +1,6 @@
 -- What the protocol answers to a loss that is asked for.
-use Rattle.std.proofs.Common.{◌≡◌, ℕ, zero, suc, ◌<◌, ◌≤◌, List, [], ◌∷◌, length, refl, sym, ap, ◌∙◌, subst, arith, Bool, true, false, Option, None, Some}
+use Rattle.std.proofs.Common.{◌≡◌, ℕ, zero, suc, ◌<◌, ◌≤◌, List, [], ◌∷◌, length, refl, sym, ap, ◌∙◌, subst, arith, Bool, true, false}
+use Rattle.std.proofs.Common.{Option, None, Some}
 use Rattle.std.specs.Prelude.{slice_get, option_map, not}
 use Rattle.frame_ports.specs.Lands.{list_of}
 use Rattle.pair_history.specs.Entries.{Frame, Entry}
@@ -40,7 +41,8 @@ numbered (Some x) n e = let is : x.0 ≡ n = cc in (x.1, λ i. Some (is i, x.1))
 
 module _ (w : Pair) (h : Holds w) where
   pub lose_in_sight : (c place : ℕ)
-      → lose_in_outcome_at (length w.ports.boxes) (list_of w.ports.inboxes c) w.protocol c place ≡ outcome w.start w.protocol (LoseIn c place)
+      → lose_in_outcome_at (length w.ports.boxes) (list_of w.ports.inboxes c) w.protocol c place
+      ≡ outcome w.start w.protocol (LoseIn c place)
   lose_in_sight c place =
       by_test (not (is_among c (length w.ports.boxes))) refl
       ∙ ap (λ (b : List (List Frame)). lose_in_outcome_at (length b) (inbox_of c (live_state w).waiting) w.protocol c place) h.clients.boxes

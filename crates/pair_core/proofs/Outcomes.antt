@@ -16,17 +16,23 @@ use Rattle.pair_core.specs.declared.event.Refusal.TheVariants.{Full, BadFrame, N
 use Rattle.pair_core.specs.declared.event.Reply.TheVariants as replies
 use Rattle.pair_core.specs.Invariant.{Holds}
 use Rattle.pair_core.specs.Pair.{Pair, shown_state, live_state, AfterRefusal}
-use Rattle.pair_core.specs.Protocol.{Record, Outcome, Row, MayWantMemory, outcome, first_refusal, or_else, unless, refused, exhausts, is_among, is_bad_length, step_outcome, step_outcome_at, cut_refusals, cut_done, outbox_of, ack_outcome_at, admit_outcome_at, admit_first, admit_refusals, admit_done, client_refusals, deliver_outcome_at, deliver_refusals, take_outcome_at, delivery_refused, deliver_done}
+use Rattle.pair_core.specs.Protocol.{Record, Outcome, Row, MayWantMemory, outcome, first_refusal, or_else, unless, refused, exhausts}
+use Rattle.pair_core.specs.Protocol.{is_among, is_bad_length, step_outcome, step_outcome_at, cut_refusals, cut_done, outbox_of}
+use Rattle.pair_core.specs.Protocol.{ack_outcome_at, admit_outcome_at, admit_first, admit_refusals, admit_done, client_refusals}
+use Rattle.pair_core.specs.Protocol.{deliver_outcome_at, deliver_refusals, take_outcome_at, delivery_refused, deliver_done}
 use Rattle.pair_core.proofs.Consistent.{live_is, live_waiting, outbox_is}
 
 -- a table decides
-pub stops : (r : Record) (rows : List Row) (done : Outcome) (o : Option Refusal) (why : Refusal) → o ≡ first_refusal rows → o ≡ Some why → refused r why ≡ unless r rows done
+pub stops : (r : Record) (rows : List Row) (done : Outcome) (o : Option Refusal) (why : Refusal) → o ≡ first_refusal rows → o ≡ Some why
+    → refused r why ≡ unless r rows done
 stops r rows done o why e f = ap (λ x. or_else x (refused r) done) (sym f ∙ e)
 
-pub goes : (r : Record) (rows : List Row) (done : Outcome) (o : Option Refusal) → o ≡ first_refusal rows → o ≡ None → done ≡ unless r rows done
+pub goes : (r : Record) (rows : List Row) (done : Outcome) (o : Option Refusal) → o ≡ first_refusal rows → o ≡ None
+    → done ≡ unless r rows done
 goes r rows done o e f = ap (λ x. or_else x (refused r) done) (sym f ∙ e)
 
-pub all_stop : (r : Record) (rows : List Row) (done out : Outcome) (o : Option Refusal) → o ≡ first_refusal rows → unless r rows done ≡ out → IfSome o (λ why. refused r why ≡ out)
+pub all_stop : (r : Record) (rows : List Row) (done out : Outcome) (o : Option Refusal) → o ≡ first_refusal rows → unless r rows done ≡ out
+    → IfSome o (λ why. refused r why ≡ out)
 all_stop r rows done out None e f = tt
 all_stop r rows done out (Some why) e f = stops r rows done (Some why) why e refl ∙ f
 
@@ -51,7 +57,9 @@ pub inbox_full : (n : ℕ) → nat_le INBOX_FRAMES n ≡ true → INBOX_FRAMES �
 inbox_full n e = grind (arith, nat_tests)
 
 -- of a full inbox the rows before don't apply
-pub full_rows : (a b c d e : Bool) → first_refusal ((a, NoClient) ∷ (b, BadFrame) ∷ (c, Exhausted) ∷ (d, Full) ∷ (e, Exhausted) ∷ []) ≡ Some Full → (a ≡ false) × (b ≡ false) × (d ≡ true)
+pub full_rows : (a b c d e : Bool)
+    → first_refusal ((a, NoClient) ∷ (b, BadFrame) ∷ (c, Exhausted) ∷ (d, Full) ∷ (e, Exhausted) ∷ []) ≡ Some Full
+    → (a ≡ false) × (b ≡ false) × (d ≡ true)
 full_rows true b c d e p = absurd (cc)
 full_rows false true c d e p = absurd (cc)
 full_rows false false true d e p = absurd (cc)
@@ -67,7 +75,8 @@ module _ (w : Pair) (h : Holds w) where
       ap (λ (fs : List Frame). step_outcome_at fs (next w.nodes.live.guest).steps w.protocol) (sym (outbox_is w h))
       ∙ ap (λ (g : Guest). step_outcome_at (outbox_of w.start w.protocol) (next g).steps w.protocol) (sym (live_is w h))
 
-  pub cut_sight : unless w.protocol (cut_refusals w.protocol) (cut_done w.nodes.live.outbox w.protocol) ≡ unless w.protocol (cut_refusals w.protocol) (cut_done (outbox_of w.start w.protocol) w.protocol)
+  pub cut_sight : unless w.protocol (cut_refusals w.protocol) (cut_done w.nodes.live.outbox w.protocol)
+      ≡ unless w.protocol (cut_refusals w.protocol) (cut_done (outbox_of w.start w.protocol) w.protocol)
   cut_sight = ap (λ (fs : List Frame). unless w.protocol (cut_refusals w.protocol) (cut_done fs w.protocol)) (sym (outbox_is w h))
 
   pub ack_sight : (o : Option Packet) → ack_outcome_at w.ports.boxes w.protocol o ≡ ack_outcome_at (shown_state w).boxes w.protocol o
@@ -80,7 +89,9 @@ module _ (w : Pair) (h : Holds w) where
   inbox_is c low high = h.clients.inboxes c low high ∙ ap (inbox_of c) (sym (live_waiting w h))
 
   -- where no client has the number, what would wait of it doesn't count
-  pub admit_sight : (c : ℕ) → admit_outcome_at (length w.ports.boxes) (list_of w.ports.inboxes c) w.protocol c ≡ admit_outcome_at (length (shown_state w).boxes) (inbox_of c (live_state w).waiting) w.protocol c
+  pub admit_sight : (c : ℕ)
+      → admit_outcome_at (length w.ports.boxes) (list_of w.ports.inboxes c) w.protocol c
+      ≡ admit_outcome_at (length (shown_state w).boxes) (inbox_of c (live_state w).waiting) w.protocol c
   admit_sight c =
       by_test (not (is_among c (length w.ports.boxes))) refl
       ∙ ap (λ (b : List (List Frame)). admit_outcome_at (length b) (inbox_of c (live_state w).waiting) w.protocol c) h.clients.boxes
@@ -96,8 +107,10 @@ module _ (w : Pair) (h : Holds w) where
   -- the table of a delivery, by its first test
   abbrev at_rows : ℕ → List ℕ → Bool → List (ℕ × Frame) → Outcome
   at_rows c bytes t inbox =
-      or_else (first_refusal ((t, NoClient) ∷ (is_bad_length (length bytes), BadFrame) ∷ (exhausts w.protocol 1, Exhausted) ∷ (nat_le INBOX_FRAMES (length inbox), Full) ∷ (nat_le NUMBER_LIMIT (shown_state w).number, Exhausted) ∷ []))
-      (delivery_refused w.protocol c (record { items = bytes })) (deliver_done w.protocol c (record { items = bytes }) (shown_state w).number)
+      or_else (first_refusal ((t, NoClient) ∷ (is_bad_length (length bytes), BadFrame) ∷ (exhausts w.protocol 1, Exhausted)
+      ∷ (nat_le INBOX_FRAMES (length inbox), Full) ∷ (nat_le NUMBER_LIMIT (shown_state w).number, Exhausted) ∷ []))
+      (delivery_refused w.protocol c (record { items = bytes }))
+      (deliver_done w.protocol c (record { items = bytes }) (shown_state w).number)
 
   pub deliver_sight : (c : ℕ) (bytes : List ℕ)
       → deliver_outcome_at (length w.ports.boxes) (list_of w.ports.inboxes c) w.ports.next w.protocol c bytes
@@ -105,47 +118,58 @@ module _ (w : Pair) (h : Holds w) where
   deliver_sight c bytes =
       ap (λ (n : ℕ). deliver_outcome_at (length w.ports.boxes) (list_of w.ports.inboxes c) n w.protocol c bytes) h.clients.number
       ∙ by_test (not (is_among c (length w.ports.boxes))) refl
-      ∙ ap (λ (b : List (List Frame)). deliver_outcome_at (length b) (inbox_of c (live_state w).waiting) (shown_state w).number w.protocol c bytes) h.clients.boxes
+      ∙ ap
+      (λ (b : List (List Frame)). deliver_outcome_at (length b) (inbox_of c (live_state w).waiting)
+      (shown_state w).number w.protocol c bytes)
+      h.clients.boxes
     where
-      by_test : (t : Bool) → not (is_among c (length w.ports.boxes)) ≡ t → at_rows c bytes t (list_of w.ports.inboxes c) ≡ at_rows c bytes t (inbox_of c (live_state w).waiting)
+      by_test : (t : Bool) → not (is_among c (length w.ports.boxes)) ≡ t
+          → at_rows c bytes t (list_of w.ports.inboxes c) ≡ at_rows c bytes t (inbox_of c (live_state w).waiting)
       by_test true e = refl
       by_test false e =
           let range = client_range c (length w.ports.boxes) e in
           ap (at_rows c bytes false) (inbox_is c range.0 range.1)
 
   -- ADMIT, step by step: the client, the inbox, the table
-  module _ (c : ℕ) (client : Option Refusal) (is : client ≡ first_refusal (client_refusals (length w.ports.boxes) c)) (none : client ≡ None) where
-    admits : (o : Option (ℕ × Frame)) → slice_get (list_of w.ports.inboxes c) 0 ≡ o → admit_first w.protocol o ≡ outcome w.start w.protocol (Admit c)
-    admits o e =
-        ap (admit_first w.protocol) (sym e)
-        ∙ goes w.protocol (client_refusals (length w.ports.boxes) c) (admit_first w.protocol (slice_get (list_of w.ports.inboxes c) 0)) client is none
-        ∙ admit_sight c
+  module _ (c : ℕ) (client : Option Refusal) (is : client ≡ first_refusal (client_refusals (length w.ports.boxes) c)) (none : client ≡ None)
+    where
+      admits : (o : Option (ℕ × Frame)) → slice_get (list_of w.ports.inboxes c) 0 ≡ o
+          → admit_first w.protocol o ≡ outcome w.start w.protocol (Admit c)
+      admits o e =
+          ap (admit_first w.protocol) (sym e)
+          ∙ goes w.protocol (client_refusals (length w.ports.boxes) c) (admit_first w.protocol (slice_get (list_of w.ports.inboxes c) 0))
+          client is none
+          ∙ admit_sight c
 
-    pub admit_empty : length (list_of w.ports.inboxes c) ≡ 0 → (replies.Empty, w.protocol) ≡ outcome w.start w.protocol (Admit c)
-    admit_empty e = admits None (no_first (list_of w.ports.inboxes c) e)
+      pub admit_empty : length (list_of w.ports.inboxes c) ≡ 0 → (replies.Empty, w.protocol) ≡ outcome w.start w.protocol (Admit c)
+      admit_empty e = admits None (no_first (list_of w.ports.inboxes c) e)
 
-    module _ (some : length (list_of w.ports.inboxes c) ≡ 0 → ⊥) (o : Option Refusal) (row : o ≡ first_refusal (admit_refusals w.protocol)) where
-      pub admit_stops : (why : Refusal) → o ≡ Some why → refused w.protocol why ≡ outcome w.start w.protocol (Admit c)
-      admit_stops why e =
-          let first = some_first (list_of w.ports.inboxes c) some in
-          stops w.protocol (admit_refusals w.protocol) (admit_done w.protocol first.0.0) o why row e ∙ admits (Some first.0) first.1
+      module _ (some : length (list_of w.ports.inboxes c) ≡ 0 → ⊥)
+          (o : Option Refusal) (row : o ≡ first_refusal (admit_refusals w.protocol)) where
+        pub admit_stops : (why : Refusal) → o ≡ Some why → refused w.protocol why ≡ outcome w.start w.protocol (Admit c)
+        admit_stops why e =
+            let first = some_first (list_of w.ports.inboxes c) some in
+            stops w.protocol (admit_refusals w.protocol) (admit_done w.protocol first.0.0) o why row e ∙ admits (Some first.0) first.1
 
-      pub admit_goes : (n : ℕ) (f : Frame) → slice_get (list_of w.ports.inboxes c) 0 ≡ Some (n, f) → o ≡ None → admit_done w.protocol n ≡ outcome w.start w.protocol (Admit c)
-      admit_goes n f first e = goes w.protocol (admit_refusals w.protocol) (admit_done w.protocol n) o row e ∙ admits (Some (n, f)) first
+        pub admit_goes : (n : ℕ) (f : Frame) → slice_get (list_of w.ports.inboxes c) 0 ≡ Some (n, f) → o ≡ None
+            → admit_done w.protocol n ≡ outcome w.start w.protocol (Admit c)
+        admit_goes n f first e = goes w.protocol (admit_refusals w.protocol) (admit_done w.protocol n) o row e ∙ admits (Some (n, f)) first
 
-      pub admit_wants : o ≡ None → MayWantMemory (outcome w.start w.protocol (Admit c)).0
-      admit_wants e =
-          let first = some_first (list_of w.ports.inboxes c) some in
-          subst (λ (x : Outcome). MayWantMemory x.0) (admit_goes first.0.0 first.0.1 first.1 e) tt
+        pub admit_wants : o ≡ None → MayWantMemory (outcome w.start w.protocol (Admit c)).0
+        admit_wants e =
+            let first = some_first (list_of w.ports.inboxes c) some in
+            subst (λ (x : Outcome). MayWantMemory x.0) (admit_goes first.0.0 first.0.1 first.1 e) tt
 
   -- DELIVER, by its table
   module _ (c : ℕ) (bytes : List ℕ) (o : Option Refusal)
       (row : o ≡ first_refusal (deliver_refusals (length w.ports.boxes) (list_of w.ports.inboxes c) w.ports.next w.protocol c bytes)) where
     by_table : (x : Option Refusal) → o ≡ x
-        → or_else x (delivery_refused w.protocol c (record { items = bytes })) (deliver_done w.protocol c (record { items = bytes }) w.ports.next)
+        → or_else x (delivery_refused w.protocol c (record { items = bytes }))
+        (deliver_done w.protocol c (record { items = bytes }) w.ports.next)
         ≡ deliver_outcome_at (length (shown_state w).boxes) (inbox_of c (live_state w).waiting) (shown_state w).number w.protocol c bytes
     by_table x e =
-        ap (λ (y : Option Refusal). or_else y (delivery_refused w.protocol c (record { items = bytes })) (deliver_done w.protocol c (record { items = bytes }) w.ports.next)) (sym e ∙ row)
+        ap (λ (y : Option Refusal). or_else y (delivery_refused w.protocol c (record { items = bytes }))
+        (deliver_done w.protocol c (record { items = bytes }) w.ports.next)) (sym e ∙ row)
         ∙ deliver_sight c bytes
 
     pub deliver_goes : o ≡ None → deliver_done w.protocol c (record { items = bytes }) w.ports.next
@@ -160,7 +184,8 @@ module _ (w : Pair) (h : Holds w) where
         ≡ deliver_outcome_at (length (shown_state w).boxes) (inbox_of c (live_state w).waiting) (shown_state w).number w.protocol c bytes
     deliver_stops why other e = other_refusal why other ∙ by_table (Some why) e
       where
-        other_refusal : (why : Refusal) → (why ≡ Full → ⊥) → refused w.protocol why ≡ delivery_refused w.protocol c (record { items = bytes }) why
+        other_refusal : (why : Refusal) → (why ≡ Full → ⊥)
+            → refused w.protocol why ≡ delivery_refused w.protocol c (record { items = bytes }) why
         other_refusal Full n = absurd (n refl)
         other_refusal BadFrame n = refl
         other_refusal NoClient n = refl

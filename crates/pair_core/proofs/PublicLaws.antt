@@ -1,5 +1,6 @@
 -- What the public calls say, from what each event does.
-use Rattle.std.proofs.Common.{◌≡◌, ℕ, List, [], ◌∷◌, ◌++◌, length, refl, sym, ap, ◌∙◌, subst, append_assoc, Bool, true, false, cond, Option, None, Some, inl, inr, Result, Ok, Err, OnErr}
+use Rattle.std.proofs.Common.{◌≡◌, ℕ, List, [], ◌∷◌, ◌++◌, length, refl, sym, ap, ◌∙◌, subst, append_assoc, Bool, true, false, cond, Option}
+use Rattle.std.proofs.Common.{None, Some, inl, inr, Result, Ok, Err, OnErr}
 use Rattle.std.specs.Prelude.{map, option_map, not, nat_lt, ◌==◌, slice_get, IfOk}
 use Rattle.std.proofs.lemmas.Bool.{eqb-true}
 use Rattle.std.proofs.lemmas.List.{append-nil}
@@ -23,7 +24,11 @@ use Rattle.pair_core.specs.Drops.{DropsOnly, Drops}
 use Rattle.pair_core.specs.Invariant.{Holds}
 use Rattle.pair_core.specs.Journal.{first_of, with_history}
 use Rattle.pair_core.specs.Pair.{Pair, OnRefused, shown_state, live_state}
-use Rattle.pair_core.specs.Protocol.{Record, Outcome, Row, Answers, MayWantMemory, outcome, exhausts, first_refusal, or_else, unless, refused, let_go, again_done, commit_done, backup_refusals, backup_done, backup_outcome, ack_outcome_at, ack_refusals, ack_done, admit_first, admit_refusals, admit_done, client_refusals, delivery_refused, deliver_refusals, deliver_done, take_refusals, take_done, loss_refusals, loss_done, loss_of, lost_in, lost_out, step_refusals, step_done, cut_refusals, cut_done, outbox_of, shown_at, live_at}
+use Rattle.pair_core.specs.Protocol.{Record, Outcome, Row, Answers, MayWantMemory, outcome, exhausts, first_refusal, or_else, unless}
+use Rattle.pair_core.specs.Protocol.{refused, let_go, again_done, commit_done, backup_refusals, backup_done, backup_outcome, ack_outcome_at}
+use Rattle.pair_core.specs.Protocol.{ack_refusals, ack_done, admit_first, admit_refusals, admit_done, client_refusals, delivery_refused}
+use Rattle.pair_core.specs.Protocol.{deliver_refusals, deliver_done, take_refusals, take_done, loss_refusals, loss_done, loss_of, lost_in}
+use Rattle.pair_core.specs.Protocol.{lost_out, step_refusals, step_done, cut_refusals, cut_done, outbox_of, shown_at, live_at}
 use Rattle.pair_core.specs.Record.{IsRecord}
 use Rattle.pair_core.specs.Runs.{Change, Along}
 use Rattle.pair_core.proofs.ClientEvents.{ack_lands}
@@ -96,7 +101,8 @@ module _ (w : Pair) (h : Holds w) (k : IsRecord w.protocol) where
 
   -- what an acknowledgement lets go is dropped only at full boxes
   ack_grows : (n : ℕ) (p : Packet) → slice_get w.protocol.lines.back n ≡ Some p
-      → GrowsBy (AckGet n) (unless w.protocol (ack_refusals (shown_state w).boxes w.protocol p) (ack_done (shown_state w).boxes w.protocol p.number))
+      → GrowsBy (AckGet n) (unless w.protocol (ack_refusals (shown_state w).boxes w.protocol p)
+      (ack_done (shown_state w).boxes w.protocol p.number))
   ack_grows n p e = by_test (p.generation == w.protocol.generation) refl
     where
       by_test : (t : Bool) → (p.generation == w.protocol.generation) ≡ t
@@ -109,7 +115,8 @@ module _ (w : Pair) (h : Holds w) (k : IsRecord w.protocol) where
           unless_grows (DropsOnly w.start w.protocol (AckGet n)) w.protocol (rows p true) (ack_done boxes w.protocol p.number) (λ why. tt) (
             landings boxes (let_go boxes w.protocol p.number),
             refl,
-            subst (λ (x : List (List Frame)). DropsAtFull (shown_state w) (landings x (let_go x w.protocol p.number))) h.clients.boxes land.2,
+            subst (λ (x : List (List Frame)). DropsAtFull (shown_state w) (landings x (let_go x w.protocol p.number))) h.clients.boxes
+                land.2,
           )
 
   lose_in_grows : (c place : ℕ) (o : Option (ℕ × Frame)) → slice_get (inbox_of c (live_state w).waiting) place ≡ o
@@ -162,7 +169,8 @@ module _ (w : Pair) (h : Holds w) (k : IsRecord w.protocol) where
       let f : Frame = record { items = bytes.now } in
       let number = (shown_at w.start r).number in
       let rows = deliver_refusals (length (shown_at w.start r).boxes) (inbox_of c (live_at w.start r).waiting) number r c bytes.now in
-      table_grows (λ reply es. DropsNone es) r (first_refusal rows) (delivery_refused r c f) (deliver_done r c f number) (delivery_plain r c f)
+      table_grows (λ reply es. DropsNone es) r (first_refusal rows) (delivery_refused r c f) (deliver_done r c f number)
+      (delivery_plain r c f)
       (Delivered c f number ∷ [], refl, tt)
   outcome_grows (Take c) =
       let r = w.protocol in
@@ -232,12 +240,14 @@ Along-more Does start (e ∷ events) (r ∷ replies) old mid new event reply run
 module _ (old new : Pair) (event : Event) (o : Result Reply AllocError) (reply : Reply)
     (ok : IfOk o (λ r. reply ≡ r))
     (err : OnErr o (reply ≡ replies.Refused NoMemory)) where
-  pub answers_by_outcome : IfOk o (λ r. (r, new.protocol) ≡ outcome old.start old.protocol event) → OnErr o (MayWantMemory (outcome old.start old.protocol event).0) → OnErr o (new ≡ old)
+  pub answers_by_outcome : IfOk o (λ r. (r, new.protocol) ≡ outcome old.start old.protocol event)
+      → OnErr o (MayWantMemory (outcome old.start old.protocol event).0) → OnErr o (new ≡ old)
       → Answers old.start old.protocol event reply new.protocol
   answers_by_outcome = by_result o ok err
     where
       by_result : (o : Result Reply AllocError) → IfOk o (λ r. reply ≡ r) → OnErr o (reply ≡ replies.Refused NoMemory)
-          → IfOk o (λ r. (r, new.protocol) ≡ outcome old.start old.protocol event) → OnErr o (MayWantMemory (outcome old.start old.protocol event).0) → OnErr o (new ≡ old)
+          → IfOk o (λ r. (r, new.protocol) ≡ outcome old.start old.protocol event)
+          → OnErr o (MayWantMemory (outcome old.start old.protocol event).0) → OnErr o (new ≡ old)
           → Answers old.start old.protocol event reply new.protocol
       by_result (Ok r) k e d m f = inl (ap (λ (x : Reply). (x, new.protocol)) k ∙ d)
       by_result (Err x) k e d m f = inr (m, e, ap (λ (w : Pair). w.protocol) f)

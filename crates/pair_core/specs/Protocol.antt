@@ -3,7 +3,8 @@
 -- the record after it, and the only place that spells them. What it looks at beside the record (the frames that the guest sent
 -- along the running epoch, its step count, the clients' boxes and inboxes) is an argument, and `outcome` gives what the history
 -- says of it.
-use Rattle.std.specs.Prelude.{◌≡◌, ℕ, ◌+◌, ◌-◌, ◌<◌, ◌==◌, ◌&&◌, ◌||◌, not, nat_lt, nat_le, Bool, if◌then◌else◌, List, [], ◌∷◌, ◌++◌, length, map, option_map, slice_get, Option, None, Some, Result, Ok, Err, ◌⊎◌}
+use Rattle.std.specs.Prelude.{◌≡◌, ℕ, ◌+◌, ◌-◌, ◌<◌, ◌==◌, ◌&&◌, ◌||◌, not, nat_lt, nat_le, Bool, if◌then◌else◌, List, [], ◌∷◌, ◌++◌}
+use Rattle.std.specs.Prelude.{length, map, option_map, slice_get, Option, None, Some, Result, Ok, Err, ◌⊎◌}
 use Rattle.guest_machine.specs.Step.{next}
 use Rattle.frame_ports.specs.Addresses.{targets_of}
 use Rattle.frame_ports.specs.Lands.{list_of, put_count}

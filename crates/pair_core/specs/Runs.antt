@@ -17,7 +17,8 @@ Change = HistoryState → Record → Event → Reply → Record → Type 0
 -- These events, one after another, answered so, lead from the record old to new by such changes.
 abbrev pub Along : Change → HistoryState → Record → List Event → List Reply → Record → Type 0
 Along Does start old [] [] new = new ≡ old
-Along Does start old (event ∷ events) (reply ∷ replies) new = (mid : Record) × Does start old event reply mid × Along Does start mid events replies new
+Along Does start old (event ∷ events) (reply ∷ replies) new =
+    (mid : Record) × Does start old event reply mid × Along Does start mid events replies new
 Along Does start old [] (reply ∷ replies) new = ⊥
 Along Does start old (event ∷ events) [] new = ⊥
 

@@ -1,5 +1,6 @@
 -- Laws of the accounts of clients: they are sound, and they are what the history's state says.
-use Rattle.std.proofs.Common.{◌≡◌, ℕ, zero, suc, ◌+◌, ◌-◌, ◌<◌, ◌≤◌, List, [], ◌∷◌, ◌++◌, length, take, drop, remove, get_or, replicate, refl, sym, ap, ◌∙◌, subst, arith, append_assoc, Bool, true, false, cond}
+use Rattle.std.proofs.Common.{◌≡◌, ℕ, zero, suc, ◌+◌, ◌-◌, ◌<◌, ◌≤◌, List, [], ◌∷◌, ◌++◌, length, take, drop, remove, get_or, replicate}
+use Rattle.std.proofs.Common.{refl, sym, ap, ◌∙◌, subst, arith, append_assoc, Bool, true, false, cond}
 use Rattle.std.specs.Prelude.{nat_lt, ◌==◌, slice_get, Option, Some, None}
 use Rattle.std.specs.List.{All, Contains, flat_map, count_by}
 use Rattle.std.proofs.lemmas.Bool.{eqb-true, ltb-true, ltb-false}
@@ -11,7 +12,9 @@ use Rattle.guest_machine.specs.Step.{sent}
 use Rattle.frame_ports.specs.Lands.{list_of, with_list}
 use Rattle.pair_history.specs.Entries.{Frame, Entry, Ran, Land, DropOut, Took}
 use Rattle.pair_history.specs.HistoryState.{HistoryState, at, after, along, Allows, Legal, out_of, out_without}
-use Rattle.pair_history.specs.Released.{frames_for, Sent, sent_at, frames, Effect, Sends, Lands, DropsBoxed, DropsOnWay, Takes, Nothing, effect_on, Account, booked, goes_on, WasSent, IsPartOf, IsSound, sent_for, landed_by, taken_by, is_drop, IsFresh}
+use Rattle.pair_history.specs.Released.{frames_for, Sent, sent_at, frames, Effect, Sends, Lands, DropsBoxed, DropsOnWay, Takes, Nothing}
+use Rattle.pair_history.specs.Released.{effect_on, Account, booked, goes_on, WasSent, IsPartOf, IsSound, sent_for, landed_by, taken_by}
+use Rattle.pair_history.specs.Released.{is_drop, IsFresh}
 use Rattle.pair_history.proofs.ClientLists.{out_of-append, out_of-without, list_of-with}
 use Rattle.pair_history.proofs.Parts.{part-trans, part-append, part-remove}
 
@@ -33,7 +36,9 @@ sound-booked place (Sends fs) a h =
     let more = length-append a.sent new in
     let later = length-append a.on_way new in
     record {
-      in_order = subst (λ xs. IsPartOf xs (a.sent ++ new)) (append_assoc a.released a.on_way new) (part-append (a.released ++ a.on_way) a.sent new h.in_order);
+      in_order =
+          subst (λ xs. IsPartOf xs (a.sent ++ new)) (append_assoc a.released a.on_way new)
+          (part-append (a.released ++ a.on_way) a.sent new h.in_order);
       taken_in_order = h.taken_in_order;
       none_missing = let n = h.none_missing in omega arith;
     }
@@ -43,7 +48,9 @@ sound-booked place Lands a h =
     let split = length-without a.on_way 0 in
     record {
       in_order = subst (λ xs. IsPartOf xs a.sent) (sym (first-and-rest a.released a.on_way)) h.in_order;
-      taken_in_order = subst (λ xs. IsPartOf xs (a.released ++ first)) (append_assoc a.taken a.boxed first) (part-append (a.taken ++ a.boxed) a.released first h.taken_in_order);
+      taken_in_order =
+          subst (λ xs. IsPartOf xs (a.released ++ first)) (append_assoc a.taken a.boxed first)
+          (part-append (a.taken ++ a.boxed) a.released first h.taken_in_order);
       none_missing = let n = h.none_missing in omega arith;
     }
 sound-booked place (DropsBoxed k) a h =
@@ -51,14 +58,16 @@ sound-booked place (DropsBoxed k) a h =
     let split = length-without a.boxed k in
     record {
       in_order = h.in_order;
-      taken_in_order = part-trans (a.taken ++ remove a.boxed k) (a.taken ++ a.boxed) a.released (part-remove a.taken a.boxed k) h.taken_in_order;
+      taken_in_order =
+          part-trans (a.taken ++ remove a.boxed k) (a.taken ++ a.boxed) a.released (part-remove a.taken a.boxed k) h.taken_in_order;
       none_missing = let n = h.none_missing in omega arith;
     }
 sound-booked place (DropsOnWay k) a h =
     let more = length-append a.dropped (take 1 (drop k a.on_way)) in
     let split = length-without a.on_way k in
     record {
-      in_order = part-trans (a.released ++ remove a.on_way k) (a.released ++ a.on_way) a.sent (part-remove a.released a.on_way k) h.in_order;
+      in_order =
+          part-trans (a.released ++ remove a.on_way k) (a.released ++ a.on_way) a.sent (part-remove a.released a.on_way k) h.in_order;
       taken_in_order = h.taken_in_order;
       none_missing = let n = h.none_missing in omega arith;
     }
@@ -107,7 +116,8 @@ sent_frames other = []
 booked_sent : (place : ℕ) (e : Effect) (a : Account) (P : Sent → Type 0) → All P a.sent
     → ((f : Frame) → Contains (sent_frames e) f → P (place, f)) → All P (booked place e a).sent
 booked_sent place (Sends fs) a P old new =
-    All-append P a.sent (sent_at place fs) old (All-map P (λ f. (place, f)) fs (λ k d l. new (get_or fs k d) (k, l, get_or_default fs k (get_or fs k d) d l)))
+    All-append P a.sent (sent_at place fs) old
+    (All-map P (λ f. (place, f)) fs (λ k d l. new (get_or fs k d) (k, l, get_or_default fs k (get_or fs k d) d l)))
 booked_sent place other a P old new = old
 
 -- only a step sends
@@ -205,7 +215,8 @@ on_way-booked c s place a (DropOut d k) h = by_tests (d == c) (nat_lt k boxed) (
     boxed = length (list_of s.boxes d)
 
     by_tests : (t u : Bool) → out_of c (out_without d (k - boxed) s.out) ≡ cond t (remove (out_of c s.out) (k - boxed)) (out_of c s.out)
-        → OnWay (out_of c (cond u s.out (out_without d (k - boxed) s.out))) [] a (booked place (cond t (cond u (DropsBoxed k) (DropsOnWay (k - boxed))) Nothing) a)
+        → OnWay (out_of c (cond u s.out (out_without d (k - boxed) s.out))) [] a
+        (booked place (cond t (cond u (DropsBoxed k) (DropsOnWay (k - boxed))) Nothing) a)
     by_tests true true e = record { on_way = h; released = sym (append-nil (frames a.released)) }
     by_tests true false e =
         record { on_way = frames-remove a.on_way (k - boxed) (out_of c s.out) h ∙ sym e; released = sym (append-nil (frames a.released)) }
@@ -226,7 +237,8 @@ on_way-is c s place a (e ∷ es) h =
     let more = on_way-is c (after s e) (1 + place) (booked place (effect_on c s e) a) es one.on_way in
     record {
       on_way = more.on_way;
-      released = more.released ∙ ap (λ fs. fs ++ along (landed_by c) (after s e) es) one.released ∙ append_assoc (frames a.released) (landed_by c s e) (along (landed_by c) (after s e) es);
+      released = more.released ∙ ap (λ fs. fs ++ along (landed_by c) (after s e) es) one.released
+          ∙ append_assoc (frames a.released) (landed_by c s e) (along (landed_by c) (after s e) es);
     }
 
 -- what lies in the box, what was taken, and how many were dropped
@@ -248,7 +260,8 @@ nothing : (t : Bool) → ◌≡◌ {A = List Frame} [] (cond t [] [])
 nothing true = refl
 nothing false = refl
 
-module _ (c : ℕ) (s : HistoryState) (place : ℕ) (a : Account) (low : 1 ≤ c) (way : frames a.on_way ≡ out_of c s.out) (box : frames a.boxed ≡ list_of s.boxes c) where
+module _ (c : ℕ) (s : HistoryState) (place : ℕ) (a : Account) (low : 1 ≤ c) (way : frames a.on_way ≡ out_of c s.out)
+    (box : frames a.boxed ≡ list_of s.boxes c) where
   same : Boxed (list_of s.boxes c) [] 0 a a
   same = record { boxed = box; taken = sym (append-nil (frames a.taken)); dropped = omega arith }
 
@@ -276,7 +289,8 @@ module _ (c : ℕ) (s : HistoryState) (place : ℕ) (a : Account) (low : 1 ≤ c
 
     box_dropped : (k : ℕ) → k < length (list_of s.boxes d) + length (out_of d s.out) → (t u : Bool) → (d == c) ≡ t
         → nat_lt k (length (list_of s.boxes d)) ≡ u
-        → Boxed (cond u (cond t (remove (list_of s.boxes d) k) (list_of s.boxes c)) (list_of s.boxes c)) [] (cond t 1 0) a (booked place (cond t (lost k u) Nothing) a)
+        → Boxed (cond u (cond t (remove (list_of s.boxes d) k) (list_of s.boxes c)) (list_of s.boxes c)) [] (cond t 1 0) a
+        (booked place (cond t (lost k u) Nothing) a)
     box_dropped k within false true is e = same
     box_dropped k within false false is e = same
     box_dropped k within true true is e =
@@ -291,7 +305,9 @@ module _ (c : ℕ) (s : HistoryState) (place : ℕ) (a : Account) (low : 1 ≤ c
         record {
           boxed = box;
           taken = sym (append-nil (frames a.taken));
-          dropped = dropped_one a.on_way (k - length (list_of s.boxes d)) (out_of d s.out) (way ∙ ap (λ i. out_of i s.out) (sym (eqb-true d c is))) (omega arith);
+          dropped =
+              dropped_one a.on_way (k - length (list_of s.boxes d)) (out_of d s.out)
+              (way ∙ ap (λ i. out_of i s.out) (sym (eqb-true d c is))) (omega arith);
         }
 
     box_taken : (took : List Frame) (t : Bool) → (d == c) ≡ t → took ≡ cond t (take 1 (list_of s.boxes d)) []
@@ -313,15 +329,22 @@ module _ (c : ℕ) (s : HistoryState) (place : ℕ) (a : Account) (low : 1 ≤ c
       let box = list_of s.boxes d ++ take 1 (out_of d s.out) in
       subst (λ fs. Boxed fs [] 0 a (booked place (effect_on c s (Land d)) a)) (sym (list_of-with s.boxes c d box low p.0.0 p.0.1))
       (box_landed d p.0.0 p.0.1 (d == c) refl)
-  boxed-booked (DropOut d k) p = by_test (nat_lt k (length (list_of s.boxes d))) (box_dropped d p.0.0 p.0.1 k p.1 (d == c) (nat_lt k (length (list_of s.boxes d))) refl refl)
+  boxed-booked (DropOut d k) p =
+      by_test (nat_lt k (length (list_of s.boxes d)))
+      (box_dropped d p.0.0 p.0.1 k p.1 (d == c) (nat_lt k (length (list_of s.boxes d))) refl refl)
     where
       by_test : (u : Bool)
-          → Boxed (cond u (cond (d == c) (remove (list_of s.boxes d) k) (list_of s.boxes c)) (list_of s.boxes c)) [] (cond (d == c) 1 0) a (booked place (effect_on c s (DropOut d k)) a)
-          → Boxed (list_of (cond u (with_list s.boxes d (remove (list_of s.boxes d) k)) s.boxes) c) [] (cond (d == c) 1 0) a (booked place (effect_on c s (DropOut d k)) a)
-      by_test true h = subst (λ fs. Boxed fs [] (cond (d == c) 1 0) a (booked place (effect_on c s (DropOut d k)) a)) (sym (list_of-with s.boxes c d (remove (list_of s.boxes d) k) low p.0.0 p.0.1)) h
+          → Boxed (cond u (cond (d == c) (remove (list_of s.boxes d) k) (list_of s.boxes c)) (list_of s.boxes c)) [] (cond (d == c) 1 0) a
+          (booked place (effect_on c s (DropOut d k)) a)
+          → Boxed (list_of (cond u (with_list s.boxes d (remove (list_of s.boxes d) k)) s.boxes) c) [] (cond (d == c) 1 0) a
+          (booked place (effect_on c s (DropOut d k)) a)
+      by_test true h =
+          subst (λ fs. Boxed fs [] (cond (d == c) 1 0) a (booked place (effect_on c s (DropOut d k)) a))
+          (sym (list_of-with s.boxes c d (remove (list_of s.boxes d) k) low p.0.0 p.0.1)) h
       by_test false h = h
   boxed-booked (Took d answer) p =
-      subst (λ fs. Boxed fs (taken_by c (Took d answer)) 0 a (booked place (effect_on c s (Took d answer)) a)) (sym (list_of-with s.boxes c d (drop 1 (list_of s.boxes d)) low (is_client answer p).0 (is_client answer p).1))
+      subst (λ fs. Boxed fs (taken_by c (Took d answer)) 0 a (booked place (effect_on c s (Took d answer)) a))
+      (sym (list_of-with s.boxes c d (drop 1 (list_of s.boxes d)) low (is_client answer p).0 (is_client answer p).1))
       (box_taken d (is_client answer p).0 (is_client answer p).1 (taken_by c (Took d answer)) (d == c) refl (first answer p))
     where
       is_client : (answer : Option Frame) → Allows s (Took d answer) → (1 ≤ d) × (d ≤ length s.boxes)
@@ -344,7 +367,8 @@ boxed-is c s place a (e ∷ es) low legal way box =
     let more = boxed-is c (after s e) (1 + place) b es low legal.1 (on_way-booked c s place a e way).on_way one.boxed in
     record {
       boxed = more.boxed;
-      taken = more.taken ∙ ap (λ fs. fs ++ flat_map (taken_by c) es) one.taken ∙ append_assoc (frames a.taken) (taken_by c e) (flat_map (taken_by c) es);
+      taken = more.taken ∙ ap (λ fs. fs ++ flat_map (taken_by c) es) one.taken
+          ∙ append_assoc (frames a.taken) (taken_by c e) (flat_map (taken_by c) es);
       dropped = let m = more.dropped in let o = one.dropped in let n = sum_by-cons (λ x. cond (is_drop c x) 1 0) e es in omega arith;
     }
 

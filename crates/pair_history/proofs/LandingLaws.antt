@@ -1,5 +1,6 @@
 -- Laws of landings: what the entries that an acknowledgement adds do to a history's state.
-use Rattle.std.proofs.Common.{◌≡◌, ℕ, zero, suc, ◌-◌, ◌<◌, ◌≤◌, List, [], ◌∷◌, ◌++◌, length, take, set, remove, get_or, refl, sym, ap, ◌∙◌, subst, arith, Bool, true, false, cond}
+use Rattle.std.proofs.Common.{◌≡◌, ℕ, zero, suc, ◌-◌, ◌<◌, ◌≤◌, List, [], ◌∷◌, ◌++◌, length, take, set, remove, get_or, refl, sym, ap, ◌∙◌}
+use Rattle.std.proofs.Common.{subst, arith, Bool, true, false, cond}
 use Rattle.std.specs.Prelude.{nat_lt}
 use Rattle.std.specs.List.{All}
 use Rattle.std.proofs.lemmas.Bool.{eq-eqb, ltb-true}
@@ -63,7 +64,8 @@ out_without-first : (c : ℕ) (f : Frame) (qs : List (ℕ × Frame)) → out_wit
 out_without-first c f qs = ap (λ t. cond t qs ((c, f) ∷ out_without c 0 qs)) (eq-eqb c c refl)
 
 -- one frame lands, or is dropped at a full box
-module _ (s : HistoryState) (c : ℕ) (f : Frame) (qs : List (ℕ × Frame)) (first : s.out ≡ (c, f) ∷ qs) (low : 1 ≤ c) (high : c ≤ length s.boxes) (fit : BoxesFit s.boxes) where
+module _ (s : HistoryState) (c : ℕ) (f : Frame) (qs : List (ℕ × Frame)) (first : s.out ≡ (c, f) ∷ qs) (low : 1 ≤ c)
+    (high : c ≤ length s.boxes) (fit : BoxesFit s.boxes) where
   abbrev the_box : List Frame
   the_box = list_of s.boxes c
 
@@ -85,7 +87,11 @@ module _ (s : HistoryState) (c : ℕ) (f : Frame) (qs : List (ℕ × Frame)) (fi
   with_room : has_room s.boxes c ≡ true → Lands (Land c)
   with_room e = (
     ((low, high), subst (λ (fs : List Frame). 0 < length fs) (sym front) (omega arith), ltb-true (length the_box) BOX_FRAMES e),
-    (λ i. record s { out = rest i; boxes = (ap (λ (fs : List Frame). with_list s.boxes c (the_box ++ take 1 fs)) front ∙ sym (ap (λ t. cond t (with_list s.boxes c (the_box ++ f ∷ [])) s.boxes) e)) i }),
+    (λ i. record s {
+      out = rest i;
+      boxes = (ap (λ (fs : List Frame). with_list s.boxes c (the_box ++ take 1 fs)) front
+          ∙ sym (ap (λ t. cond t (with_list s.boxes c (the_box ++ f ∷ [])) s.boxes) e)) i;
+    }),
     (λ es d. d),
   )
 
@@ -100,8 +106,10 @@ module _ (s : HistoryState) (c : ℕ) (f : Frame) (qs : List (ℕ × Frame)) (fi
       let some : length (out_of c s.out) ≡ suc (length (out_of c qs)) = ap length front in (
         ((low, high), omega arith),
         (λ i. record s {
-          out = (ap (λ t. cond t s.out (out_without c (BOX_FRAMES - length the_box) s.out)) test ∙ ap (λ k. out_without c k s.out) here ∙ rest) i;
-          boxes = (ap (λ t. cond t (with_list s.boxes c (remove the_box BOX_FRAMES)) s.boxes) test ∙ sym (ap (λ t. cond t (with_list s.boxes c (the_box ++ f ∷ [])) s.boxes) e)) i;
+          out = (ap (λ t. cond t s.out (out_without c (BOX_FRAMES - length the_box) s.out)) test ∙ ap (λ k. out_without c k s.out) here
+              ∙ rest) i;
+          boxes = (ap (λ t. cond t (with_list s.boxes c (remove the_box BOX_FRAMES)) s.boxes) test
+              ∙ sym (ap (λ t. cond t (with_list s.boxes c (the_box ++ f ∷ [])) s.boxes) e)) i;
         }),
         (λ es d. ((refl, is), d)),
       )
@@ -125,7 +133,8 @@ landings-land s (p ∷ ps) qs e a fit =
     let entry = cond (has_room s.boxes p.0) (Land p.0) (DropOut p.0 BOX_FRAMES) in
     let t : HistoryState = record s { out = ps ++ qs; boxes = landed_at s.boxes p.0 p.1 } in
     let more : AllLand t ps qs (landings t.boxes ps) =
-    landings-land t ps qs refl (subst (λ n. AllClients n ps) (sym (length-landed_at s.boxes p.0 p.1)) a.2) (BoxesFit-landed_at s.boxes p.0 p.1 fit) in
+    landings-land t ps qs refl (subst (λ n. AllClients n ps) (sym (length-landed_at s.boxes p.0 p.1)) a.2)
+    (BoxesFit-landed_at s.boxes p.0 p.1 fit) in
     let es = landings t.boxes ps in
     let legal : Legal (after s entry) es = subst (λ (v : HistoryState). Legal v es) (sym one.1) more.0 in
     let drops : DropsAtFull (after s entry) es = subst (λ (v : HistoryState). DropsAtFull v es) (sym one.1) more.2 in

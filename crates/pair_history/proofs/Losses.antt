@@ -1,5 +1,6 @@
 -- Laws of a delivered frame that is lost: what is so of the others, and of what the guest takes in.
-use Rattle.std.proofs.Common.{◌≡◌, ◌≢◌, ℕ, ◌+◌, ◌<◌, List, [], ◌∷◌, refl, sym, ap, ◌∙◌, subst, arith, Bool, true, false, cond, Option, Some, None}
+use Rattle.std.proofs.Common.{◌≡◌, ◌≢◌, ℕ, ◌+◌, ◌<◌, List, [], ◌∷◌, refl, sym, ap, ◌∙◌, subst, arith, Bool, true, false, cond, Option, Some}
+use Rattle.std.proofs.Common.{None}
 use Rattle.std.specs.Prelude.{slice_get, ◌==◌}
 use Rattle.std.proofs.lemmas.Bool.{eqb-true, eq-eqb}
 use Rattle.pair_history.specs.Entries.{Frame}
@@ -20,7 +21,8 @@ module _ (m n : ℕ) (differ : m ≢ n) where
           → frame_numbered m (cond t xs (x ∷ without_number n xs)) ≡ cond u (Some x.frame) (frame_numbered m xs)
       by_tests true true e f more = not_both x e f
       by_tests true false e f more = refl
-      by_tests false u e f more = ap (λ t. cond t (Some x.frame) (frame_numbered m (without_number n xs))) f ∙ ap (cond u (Some x.frame)) more
+      by_tests false u e f more = ap (λ t. cond t (Some x.frame) (frame_numbered m (without_number n xs))) f
+          ∙ ap (cond u (Some x.frame)) more
 
   -- two leave in either order
   pub without-swaps : (ws : List Waiting) → without_number m (without_number n ws) ≡ without_number n (without_number m ws)
@@ -52,7 +54,8 @@ module _ (m n : ℕ) (differ : m ≢ n) where
           not_both x is (eq-eqb x.number m (ap (λ (q : ℕ × Frame). q.0) p))
       by_tests true false is other e more = e
       by_tests false true is mine e more =
-          ap (λ t. slice_get (cond t ((x.number, x.frame) ∷ inbox_of c (without_number n xs)) (inbox_of c (without_number n xs))) 0) mine ∙ e
+          ap (λ t. slice_get (cond t ((x.number, x.frame) ∷ inbox_of c (without_number n xs)) (inbox_of c (without_number n xs))) 0)
+          mine ∙ e
       by_tests false false is other e more =
           ap (λ t. slice_get (cond t ((x.number, x.frame) ∷ inbox_of c (without_number n xs)) (inbox_of c (without_number n xs))) 0) other
           ∙ more e
@@ -107,6 +110,9 @@ leaves-before n f first end ws (Arrives m g ∷ ms) h can e =
         let differ : m ≢ n = λ (k : m ≡ n). clash (m == n) (eq-eqb m n k) is in
         let swaps = without-swaps m n differ ws in (
           sym (found-without n m (λ (k : n ≡ m). differ (sym k)) ws) ∙ more.0,
-          ((IsFirst-without m n differ ws can.0.0, found-without m n differ ws ∙ can.0.1), subst (λ (vs : List Waiting). AllCan vs ms) (sym swaps) more.1),
+          (
+            (IsFirst-without m n differ ws can.0.0, found-without m n differ ws ∙ can.0.1),
+            subst (λ (vs : List Waiting). AllCan vs ms) (sym swaps) more.1,
+          ),
           ap (λ vs. left vs ms) swaps ∙ more.2,
         )

@@ -8,7 +8,8 @@ use Rattle.pair_history.specs.Entries.{Ran, Arrive}
 use Rattle.pair_history.specs.HistoryState.{HistoryState, Waiting, inbox_of, with_arrived, without_number, at, after, Legal}
 use Rattle.pair_history.specs.HistoryState.{sent_along}
 use Rattle.pair_history.specs.Landings.{DropsAreKnown, DropsNone}
-use Rattle.pair_history.specs.Moves.{Move, Steps, Arrives, entry_of, entries_of, guest_moved, frames_by, guest_along, frames_along, left_by, left, CanMove, AllCan}
+use Rattle.pair_history.specs.Moves.{Move, Steps, Arrives, entry_of, entries_of, guest_moved, frames_by, guest_along, frames_along, left_by}
+use Rattle.pair_history.specs.Moves.{left, CanMove, AllCan}
 use Rattle.pair_history.proofs.States.{append-nil, targets_of-append}
 use Rattle.pair_history.proofs.Waiting.{IsFirst-more, frame_numbered-more, shorter}
 
@@ -116,8 +117,11 @@ left_by-more ws xs (Arrives n f) h = (frame_numbered-more n f ws xs h.1).1
 
 pub AllCan-more : (ws xs : List Waiting) (ms : List Move) → AllCan ws ms → AllCan (ws ++ xs) ms
 AllCan-more ws xs [] h = tt
-AllCan-more ws xs (m ∷ ms) h =
-    (CanMove-more ws xs m h.0, subst (λ (v : List Waiting). AllCan v ms) (sym (left_by-more ws xs m h.0)) (AllCan-more (left_by ws m) xs ms h.1))
+AllCan-more ws xs (m ∷ ms) h = (
+  CanMove-more ws xs m h.0,
+  subst (λ (v : List Waiting). AllCan v ms) (sym (left_by-more ws xs m h.0))
+      (AllCan-more (left_by ws m) xs ms h.1),
+)
 
 pub left-more : (ws xs : List Waiting) (ms : List Move) → AllCan ws ms → left (ws ++ xs) ms ≡ left ws ms ++ xs
 left-more ws xs [] h = refl

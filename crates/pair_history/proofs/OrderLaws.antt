@@ -1,5 +1,6 @@
 -- What clients and their lines do can come before what the guest does.
-use Rattle.std.proofs.Common.{◌≡◌, ℕ, zero, suc, ◌+◌, ◌-◌, ◌<◌, ◌≤◌, List, [], ◌∷◌, ◌++◌, length, take, drop, remove, refl, sym, ap, ◌∙◌, subst, arith, Bool, true, false, cond}
+use Rattle.std.proofs.Common.{◌≡◌, ℕ, zero, suc, ◌+◌, ◌-◌, ◌<◌, ◌≤◌, List, [], ◌∷◌, ◌++◌, length, take, drop, remove, refl, sym, ap, ◌∙◌}
+use Rattle.std.proofs.Common.{subst, arith, Bool, true, false, cond}
 use Rattle.std.specs.Prelude.{nat_lt, ◌==◌}
 use Rattle.std.proofs.lemmas.Bool.{ltb-false}
 use Rattle.std.proofs.lemmas.List.{length-append, length-set, take-append-le}
@@ -56,8 +57,10 @@ module _ (s : HistoryState) where
       let boxed = list_of s.boxes c ++ take 1 (out_of c s.out) in
       λ i. record s {
         guest = next s.guest;
-        out = (ap (λ n. out_without c 0 s.out ++ targets_of n (sent s.guest)) (length-set s.boxes (c - 1) boxed) ∙ sym (out_without-more c 0 s.out new r)) i;
-        boxes = ap (λ fs. with_list s.boxes c (list_of s.boxes c ++ fs)) (sym (ap (take 1) (out_of-append c s.out new) ∙ take-append-le 1 (out_of c s.out) (out_of c new) some)) i;
+        out = (ap (λ n. out_without c 0 s.out ++ targets_of n (sent s.guest)) (length-set s.boxes (c - 1) boxed)
+            ∙ sym (out_without-more c 0 s.out new r)) i;
+        boxes = ap (λ fs. with_list s.boxes c (list_of s.boxes c ++ fs))
+            (sym (ap (take 1) (out_of-append c s.out new) ∙ take-append-le 1 (out_of c s.out) (out_of c new) some)) i;
       }
 
   drop-swaps : (c place : ℕ) → place < length (list_of s.boxes c) + length (out_of c s.out)
@@ -71,7 +74,8 @@ module _ (s : HistoryState) where
       on_way = out_without c (place - length (list_of s.boxes c))
 
       by_test : (u : Bool) → nat_lt place (length (list_of s.boxes c)) ≡ u
-          → stepped (cond u s.out (on_way s.out)) (cond u fewer s.boxes) (length (cond u fewer s.boxes)) ≡ record s { guest = next s.guest; out = cond u (s.out ++ new) (on_way (s.out ++ new)); boxes = cond u fewer s.boxes }
+          → stepped (cond u s.out (on_way s.out)) (cond u fewer s.boxes) (length (cond u fewer s.boxes))
+          ≡ record s { guest = next s.guest; out = cond u (s.out ++ new) (on_way (s.out ++ new)); boxes = cond u fewer s.boxes }
       by_test true e = ap (stepped s.out fewer) (length-set s.boxes (c - 1) (remove (list_of s.boxes c) place))
       by_test false e =
           let far : length (list_of s.boxes c) ≤ place = ltb-false place (length (list_of s.boxes c)) e in
@@ -86,7 +90,8 @@ module _ (s : HistoryState) where
   step-swaps es (Delivered c f n) r = (tt, refl, tt)
   step-swaps es (Refused c f) r = (tt, refl, tt)
   step-swaps es (DropIn n) r = (tt, refl, r)
-  step-swaps es (Took c answer) r = let box = with_list s.boxes c (drop 1 (list_of s.boxes c)) in (tt, ap (stepped s.out box) (length-set s.boxes (c - 1) (drop 1 (list_of s.boxes c))), tt)
+  step-swaps es (Took c answer) r = let box = with_list s.boxes c (drop 1 (list_of s.boxes c)) in
+      (tt, ap (stepped s.out box) (length-set s.boxes (c - 1) (drop 1 (list_of s.boxes c))), tt)
   step-swaps es (Land c) r = (tt, landing-swaps c r, let n = more_out c in omega arith)
   step-swaps es (DropOut c place) r = (tt, drop-swaps c place r, let n = more_out c in omega arith)
   step-swaps es other r = absurd r

@@ -1,5 +1,6 @@
 -- Laws of the frames that wait for the guest.
-use Rattle.std.proofs.Common.{◌≡◌, ◌≢◌, ℕ, zero, suc, ◌+◌, ◌≤◌, List, [], ◌∷◌, ◌++◌, length, remove, refl, sym, ap, ◌∙◌, arith, Bool, true, false, cond, true≢false, Option, Some}
+use Rattle.std.proofs.Common.{◌≡◌, ◌≢◌, ℕ, zero, suc, ◌+◌, ◌≤◌, List, [], ◌∷◌, ◌++◌, length, remove, refl, sym, ap, ◌∙◌, arith, Bool, true}
+use Rattle.std.proofs.Common.{false, cond, true≢false, Option, Some}
 use Rattle.std.specs.Prelude.{slice_get, ◌==◌}
 use Rattle.std.proofs.lemmas.Bool.{eqb-true, eq-eqb}
 use Rattle.std.proofs.lemmas.Bool.Decides.{nat_tests}
@@ -21,7 +22,8 @@ pub inbox_of-append : (c : ℕ) (xs ys : List Waiting) → inbox_of c (xs ++ ys)
 inbox_of-append c [] ys = refl
 inbox_of-append c (x ∷ xs) ys =
     let first : ℕ × Frame = (x.number, x.frame) in
-    ap (λ ps. cond (x.client == c) (first ∷ ps) ps) (inbox_of-append c xs ys) ∙ cond_more (x.client == c) first (inbox_of c xs) (inbox_of c ys)
+    ap (λ ps. cond (x.client == c) (first ∷ ps) ps) (inbox_of-append c xs ys)
+    ∙ cond_more (x.client == c) first (inbox_of c xs) (inbox_of c ys)
 
 first-more : {A : Type 0} (xs ys : List A) (a : A) → slice_get xs 0 ≡ Some a → slice_get (xs ++ ys) 0 ≡ Some a
 first-more [] ys a e = absurd (cc)
@@ -41,7 +43,8 @@ first-waits n c f (x ∷ xs) e = by_tests (x.number == n) (x.client == c) refl e
         → (slice_get (inbox_of c xs) 0 ≡ Some (n, f) → (g : Frame) × (frame_numbered n xs ≡ Some g))
         → (g : Frame) × (cond t (Some x.frame) (frame_numbered n xs) ≡ Some g)
     by_tests true u is e more = (x.frame, refl)
-    by_tests false true off e more = let p : ◌≡◌ {A = ℕ × Frame} (x.number, x.frame) (n, f) = cc in clash (x.number == n) (eq-eqb x.number n (ap (λ (q : ℕ × Frame). q.0) p)) off
+    by_tests false true off e more = let p : ◌≡◌ {A = ℕ × Frame} (x.number, x.frame) (n, f) = cc in
+        clash (x.number == n) (eq-eqb x.number n (ap (λ (q : ℕ × Frame). q.0) p)) off
     by_tests false false off e more = more e
 
 pub frame_numbered-more : (n : ℕ) (f : Frame) (xs ys : List Waiting) → frame_numbered n xs ≡ Some f
@@ -50,8 +53,10 @@ frame_numbered-more n f [] ys e = absurd (cc)
 frame_numbered-more n f (x ∷ xs) ys e = by_test (x.number == n) e (frame_numbered-more n f xs ys)
   where
     by_test : (t : Bool) → cond t (Some x.frame) (frame_numbered n xs) ≡ Some f
-        → (frame_numbered n xs ≡ Some f → (frame_numbered n (xs ++ ys) ≡ Some f) × (without_number n (xs ++ ys) ≡ without_number n xs ++ ys))
-        → (cond t (Some x.frame) (frame_numbered n (xs ++ ys)) ≡ Some f) × (cond t (xs ++ ys) (x ∷ without_number n (xs ++ ys)) ≡ cond t xs (x ∷ without_number n xs) ++ ys)
+        → (frame_numbered n xs ≡ Some f
+        → (frame_numbered n (xs ++ ys) ≡ Some f) × (without_number n (xs ++ ys) ≡ without_number n xs ++ ys))
+        → (cond t (Some x.frame) (frame_numbered n (xs ++ ys)) ≡ Some f)
+        × (cond t (xs ++ ys) (x ∷ without_number n (xs ++ ys)) ≡ cond t xs (x ∷ without_number n xs) ++ ys)
     by_test true e more = (e, refl)
     by_test false e more = let m = more e in (m.0, ap (λ ws. x ∷ ws) m.1)
 
@@ -80,7 +85,8 @@ AreRising-without n first end (x ∷ xs) h = by_test (x.number == n) (AreRising-
 abbrev pub StandsAt : ℕ → ℕ → ℕ → Frame → List Waiting → Type 0
 StandsAt c place n f ws = slice_get (inbox_of c ws) place ≡ Some (n, f)
 
-number-is : (x : Waiting) (n : ℕ) (f : Frame) → ◌≡◌ {A = Option (ℕ × Frame)} (Some (x.number, x.frame)) (Some (n, f)) → (x.number ≡ n) × (x.frame ≡ f)
+number-is : (x : Waiting) (n : ℕ) (f : Frame) → ◌≡◌ {A = Option (ℕ × Frame)} (Some (x.number, x.frame)) (Some (n, f))
+    → (x.number ≡ n) × (x.frame ≡ f)
 number-is x n f e =
     let p : ◌≡◌ {A = ℕ × Frame} (x.number, x.frame) (n, f) = cc in
     (ap (λ (q : ℕ × Frame). q.0) p, ap (λ (q : ℕ × Frame). q.1) p)
@@ -99,7 +105,8 @@ from c place n f first end (x ∷ xs) h s =
 -- what is so of the frame at that place of client c's inbox where it has number n
 abbrev pub Leaves : ℕ → ℕ → ℕ → Frame → List Waiting → Type 0
 Leaves c place n f ws =
-    (frame_numbered n ws ≡ Some f) × ((d : ℕ) → inbox_of d (without_number n ws) ≡ cond (d == c) (remove (inbox_of c ws) place) (inbox_of d ws))
+    (frame_numbered n ws ≡ Some f)
+    × ((d : ℕ) → inbox_of d (without_number n ws) ≡ cond (d == c) (remove (inbox_of c ws) place) (inbox_of d ws))
 
 module _ (c n : ℕ) (f : Frame) (x : Waiting) (xs : List Waiting) where
   abbrev with_first : Bool → List (ℕ × Frame) → List (ℕ × Frame)
@@ -122,11 +129,13 @@ module _ (c n : ℕ) (f : Frame) (x : Waiting) (xs : List Waiting) where
         λ d.
             ap (λ (t : Bool). inbox_of d (cond t xs (x ∷ without_number n xs))) found
             ∙ others_here mine d (d == c) refl
-            ∙ ap (λ (t : Bool). cond (d == c) (remove (with_first t (inbox_of c xs)) 0) (with_first (x.client == d) (inbox_of d xs))) (sym mine),
+            ∙ ap (λ (t : Bool). cond (d == c) (remove (with_first t (inbox_of c xs)) 0) (with_first (x.client == d) (inbox_of d xs)))
+            (sym mine),
       )
 
   others_there : (place : ℕ) → (x.client == c) ≡ false → (d : ℕ) (t : Bool) → (d == c) ≡ t
-      → with_first (x.client == d) (cond t (remove (inbox_of c xs) place) (inbox_of d xs)) ≡ cond t (remove (inbox_of c xs) place) (with_first (x.client == d) (inbox_of d xs))
+      → with_first (x.client == d) (cond t (remove (inbox_of c xs) place) (inbox_of d xs))
+      ≡ cond t (remove (inbox_of c xs) place) (with_first (x.client == d) (inbox_of d xs))
   others_there place other d false e = refl
   others_there place other d true e =
       ap (λ t. with_first t (remove (inbox_of c xs) place)) (ap (λ k. x.client == k) (eqb-true d c e) ∙ other)
@@ -140,7 +149,8 @@ module _ (c n : ℕ) (f : Frame) (x : Waiting) (xs : List Waiting) where
             ap (λ (t : Bool). inbox_of d (cond t xs (x ∷ without_number n xs))) off
             ∙ ap (with_first (x.client == d)) (more.1 d)
             ∙ others_there place other d (d == c) refl
-            ∙ ap (λ (t : Bool). cond (d == c) (remove (with_first t (inbox_of c xs)) place) (with_first (x.client == d) (inbox_of d xs))) (sym other),
+            ∙ ap (λ (t : Bool). cond (d == c) (remove (with_first t (inbox_of c xs)) place) (with_first (x.client == d) (inbox_of d xs)))
+            (sym other),
       )
 
   own_later : (place : ℕ) → (x.client == c) ≡ true → (d : ℕ) (t : Bool) → (d == c) ≡ t
@@ -159,7 +169,8 @@ module _ (c n : ℕ) (f : Frame) (x : Waiting) (xs : List Waiting) where
             ap (λ (t : Bool). inbox_of d (cond t xs (x ∷ without_number n xs))) off
             ∙ ap (with_first (x.client == d)) (more.1 d)
             ∙ own_later place mine d (d == c) refl
-            ∙ ap (λ (t : Bool). cond (d == c) (remove (with_first t (inbox_of c xs)) (suc place)) (with_first (x.client == d) (inbox_of d xs))) (sym mine),
+            ∙ ap (λ (t : Bool). cond (d == c) (remove (with_first t (inbox_of c xs)) (suc place))
+            (with_first (x.client == d) (inbox_of d xs))) (sym mine),
       )
 
   leaves_by : (place : ℕ) (t : Bool) → (x.client == c) ≡ t → slice_get (with_first t (inbox_of c xs)) place ≡ Some (n, f)
@@ -173,7 +184,8 @@ pub leaves-at : (c place n : ℕ) (f : Frame) (first end : ℕ) (ws : List Waiti
     → Leaves c place n f ws
 leaves-at c place n f first end [] h s = absurd (cc)
 leaves-at c place n f first end (x ∷ xs) h s =
-    leaves_by c n f x xs place (x.client == c) refl s (λ k. from c k n f (x.number + 1) end xs h.1) (λ k. leaves-at c k n f (x.number + 1) end xs h.1)
+    leaves_by c n f x xs place (x.client == c) refl s (λ k. from c k n f (x.number + 1) end xs h.1)
+    (λ k. leaves-at c k n f (x.number + 1) end xs h.1)
 
 -- a client's inbox gets no longer where a frame leaves
 pub shorter : (c n : ℕ) (ws : List Waiting) → length (inbox_of c (without_number n ws)) ≤ length (inbox_of c ws)

@@ -1,5 +1,6 @@
 -- The first form that fits is the one form that fits.
-use Rattle.std.proofs.Common.{◌≡◌, ◌≤◌, ℕ, Bool, true, false, cond, List, ◌∷◌, ◌++◌, Option, Some, None, refl, ap, subst, arith, ◌∙◌, nat_eq, codes}
+use Rattle.std.proofs.Common.{◌≡◌, ◌≤◌, ℕ, Bool, true, false, cond, List, ◌∷◌, ◌++◌, Option, Some, None, refl, ap, subst, arith, ◌∙◌}
+use Rattle.std.proofs.Common.{nat_eq, codes}
 use Rattle.std.specs.Option.{option_map, option_map_or, option_and_then}
 use Rattle.std.specs.Str.{bytes_eq}
 use Rattle.std.proofs.lemmas.Slice.Eq.{bytes_eq-Decides}
@@ -31,9 +32,11 @@ command_of-spelled text (Admit client) (digits, shape, value) =
 command_of-spelled text (Take client) (digits, shape, value) =
     ap command_of shape ∙ ap (λ o. option_map_or (λ k. Some (Take k)) o None) value
 command_of-spelled text (LoseIn client place) (first, second, shape, m, n) =
-    ap command_of shape ∙ ap (λ o. option_map_or (λ found. Some (LoseIn found.0 found.1)) o None) (numbers-spelled first second client place m n)
+    ap command_of shape ∙ ap (λ o. option_map_or (λ found. Some (LoseIn found.0 found.1)) o None)
+    (numbers-spelled first second client place m n)
 command_of-spelled text (LoseOut client place) (first, second, shape, m, n) =
-    ap command_of shape ∙ ap (λ o. option_map_or (λ found. Some (LoseOut found.0 found.1)) o None) (numbers-spelled first second client place m n)
+    ap command_of shape ∙ ap (λ o. option_map_or (λ found. Some (LoseOut found.0 found.1)) o None)
+    (numbers-spelled first second client place m n)
 command_of-spelled text (Sector sector) (digits, shape, value) =
     ap command_of shape ∙ ap (λ o. option_map_or (λ k. Some (Sector k)) o None) value
 command_of-spelled text Show shape = ap command_of shape
@@ -104,7 +107,8 @@ step_form text = option_map_or (λ n. cond (nat_eq n 0) None (Some (Step n))) (n
 from_lose_out : (text : List ℕ) (command : Command) → lose_out_form text ≡ Some command → IsCommand text command
 from_lose_out text command = told (IsCommand text command) (λ (f : ℕ × ℕ). Some (LoseOut f.0 f.1)) (numbers_by (codes "loseout ") text) None
     command
-    (λ f spelled e. let same : LoseOut f.0 f.1 ≡ command = cc in subst (IsCommand text) same (has_numbers (codes "loseout ") text f spelled))
+    (λ f spelled e.
+    let same : LoseOut f.0 f.1 ≡ command = cc in subst (IsCommand text) same (has_numbers (codes "loseout ") text f spelled))
     (λ e. cc)
 
 from_lose_in : (text : List ℕ) (command : Command) → lose_in_form text ≡ Some command → IsCommand text command
@@ -114,7 +118,8 @@ from_lose_in text command = told (IsCommand text command) (λ (f : ℕ × ℕ). 
     (from_lose_out text command)
 
 from_sector : (text : List ℕ) (command : Command) → sector_form text ≡ Some command → IsCommand text command
-from_sector text command = told (IsCommand text command) (λ n. Some (Sector n)) (numbered_by (codes "sector ") text) (lose_in_form text) command
+from_sector text command =
+    told (IsCommand text command) (λ n. Some (Sector n)) (numbered_by (codes "sector ") text) (lose_in_form text) command
     (λ n spelled e. let same : Sector n ≡ command = cc in subst (IsCommand text) same (is_numbered (codes "sector ") text n spelled))
     (from_lose_in text command)
 

@@ -1,5 +1,6 @@
 -- The lines of a text, one by one.
-use Rattle.std.proofs.Common.{◌≡◌, ◌≤◌, ◌<◌, ◌+◌, ◌-◌, ℕ, suc, List, [], ◌∷◌, length, take, drop, Bool, true, false, cond, Option, None, Some, Bor, subst, refl, sym, ap, ◌∙◌, arith, length-drop}
+use Rattle.std.proofs.Common.{◌≡◌, ◌≤◌, ◌<◌, ◌+◌, ◌-◌, ℕ, suc, List, [], ◌∷◌, length, take, drop, Bool, true, false, cond, Option, None}
+use Rattle.std.proofs.Common.{Some, Bor, subst, refl, sym, ap, ◌∙◌, arith, length-drop}
 use Rattle.std.specs.Prelude.{not, nat_lt, position, slice_index, ◌==◌}
 use Rattle.std.specs.Option.{option_map}
 use Rattle.std.specs.List.{slice_split, onto_first, position_or_len}
@@ -40,7 +41,8 @@ module _ (xs : List ℕ) where
       let within : end_of < length xs = grind (arith, nat_tests) in
       let same : end_of ≡ end = some-is e in
       let cut : slice_split is_newline xs ≡ take end xs ∷ slice_split is_newline (drop (end + 1) xs) =
-      subst (λ n. slice_split is_newline xs ≡ take n xs ∷ slice_split is_newline (drop (n + 1) xs)) same (slice_split_first is_newline xs 0 within) in
+      subst (λ n. slice_split is_newline xs ≡ take n xs ∷ slice_split is_newline (drop (n + 1) xs)) same
+      (slice_split_first is_newline xs 0 within) in
       let whole : take (length xs - (end + 1)) (drop (end + 1) xs) ≡ drop (end + 1) xs =
       ap (λ n. take n (drop (end + 1) xs)) (sym (length-drop (end + 1) xs)) ∙ take-length (drop (end + 1) xs) in
       cut ∙ ap (λ t. take end xs ∷ slice_split is_newline t) (sym whole)

@@ -1,5 +1,6 @@
 -- What a line, and a script, means.
-use Rattle.std.proofs.Common.{◌≡◌, ℕ, List, [], ◌∷◌, ◌++◌, ◌⊎◌, inl, inr, Bool, true, false, Option, None, Some, Result, Ok, Err, OnOk, OnErr, IsErr, IfSome, subst, refl, sym, ap, cond, ◌∙◌, append-nil, append_assoc}
+use Rattle.std.proofs.Common.{◌≡◌, ℕ, List, [], ◌∷◌, ◌++◌, ◌⊎◌, inl, inr, Bool, true, false, Option, None, Some, Result, Ok, Err, OnOk}
+use Rattle.std.proofs.Common.{OnErr, IsErr, IfSome, subst, refl, sym, ap, cond, ◌∙◌, append-nil, append_assoc}
 use Rattle.std.specs.Result.{IsErrAnd}
 use Rattle.std.specs.Prelude.{codes}
 use Rattle.std.specs.Fmt.{digits}
@@ -30,7 +31,8 @@ on-err (Ok t) p = tt
 on-err (Err e) p = p
 
 -- a line whose event happened is answered
-pub answered : (old : Pair) (line : Line) (event : Event) (printed : List ℕ) (new : Pair) → AsksFor line event → Happens old event printed new → IsAnswered old line printed new
+pub answered : (old : Pair) (line : Line) (event : Event) (printed : List ℕ) (new : Pair) → AsksFor line event
+    → Happens old event printed new → IsAnswered old line printed new
 answered old (order (Step count)) event printed new a h = absurd a
 answered old (order Cut) event printed new a h = (event, a, h)
 answered old (order Send) event printed new a h = (event, a, h)
@@ -51,7 +53,8 @@ module _ {E : Type 0} (old : Pair) (line : Line) (printed : List ℕ) (new : Pai
   failed (Err e') all e h = (all, h)
 
   pub happened : (r : Result Bool E) (event : Event) → AsksFor line event
-      → OnOk r ((r ≡ Ok true) × Happens old event printed new) → OnErr r ((all : List ℕ) × Happens old event all new) → IsDone old line r printed new
+      → OnOk r ((r ≡ Ok true) × Happens old event printed new) → OnErr r ((all : List ℕ) × Happens old event all new)
+      → IsDone old line r printed new
   happened (Ok true) event a ok err = answered old line event printed new a ok.1
   happened (Ok false) event a ok err = absurd (false-not-true (ap ok_value ok.0))
   happened (Err e) event a ok err = (err.0, answered old line event err.0 new a err.1)
@@ -87,7 +90,8 @@ IsCutAt stage number text o o' =
     ⊎ ((last : List ℕ) × (how : Ending) × Ends stage number text last how × AppendsFront o o' last))
 
 module _ {T : Type 0} (stage : Stage) (number : ℕ) (text : List ℕ) (next : T → Stage) (o o' : Option (List ℕ)) where
-  pub line-cut : (r : Result T Stop) → IsErrAnd r (λ stop. stop ≡ stops.Failed) → IsCutAt stage number text o o' → IsLineDone stage number text r next o o'
+  pub line-cut : (r : Result T Stop) → IsErrAnd r (λ stop. stop ≡ stops.Failed) → IsCutAt stage number text o o'
+      → IsLineDone stage number text r next o o'
   line-cut (Ok value) e h = absurd e
   line-cut (Err stop) e h = subst (λ s. IsLineDone stage number text (Err s) next o o') (sym e) h
 
@@ -97,13 +101,16 @@ no_memory_line = refl
 
 module _ (old : Pair) (number : ℕ) (line : Line) (new : Pair) (o : Option (List ℕ)) where
   -- a line is done whose answer found no memory, and nothing was printed
-  pub unprinted : (r : Result Unit Stop) → IsErrAnd r (λ stop. stop ≡ stops.Failed) → (all : List ℕ) → IsAnswered old line all new → IsLineAnswered old number line r new o o
+  pub unprinted : (r : Result Unit Stop) → IsErrAnd r (λ stop. stop ≡ stops.Failed) → (all : List ℕ) → IsAnswered old line all new
+      → IsLineAnswered old number line r new o o
   unprinted (Ok done) e all h = absurd e
-  unprinted (Err stop) e all h = subst (λ s. IsLineAnswered old number line (Err s) new o o) (sym e) (all, h, ([], all, refl, Appends-nil o))
+  unprinted (Err stop) e all h =
+      subst (λ s. IsLineAnswered old number line (Err s) new o o) (sym e) (all, h, ([], all, refl, Appends-nil o))
 
 module _ (old : Pair) (number : ℕ) (text : List ℕ) (line : Line) (new : Pair) (o m o' : Option (List ℕ)) where
   -- a line that was read and answered is done
-  pub line-done : IsLine text line → Keeps o m → (r : Result Unit Stop) → IsLineAnswered old number line r new m o' → IsLineDone (playing old) number text r (λ _. playing new) o o'
+  pub line-done : IsLine text line → Keeps o m → (r : Result Unit Stop) → IsLineAnswered old number line r new m o'
+      → IsLineDone (playing old) number text r (λ _. playing new) o o'
   line-done is same (Ok done) h = (h.0, inl (line, is, h.1), Appends-trans o m o' [] h.0 (kept o m same) h.2)
   line-done is same (Err stops.Failed) h =
       let cut = h.2 in

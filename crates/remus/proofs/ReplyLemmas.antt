@@ -1,5 +1,6 @@
 -- A reply's line can be read back.
-use Rattle.std.proofs.Common.{◌≡◌, ◌<◌, ◌^◌, ◌-◌, ℕ, true, false, cond, List, [], ◌∷◌, ◌++◌, length, take, drop, Option, Some, None, refl, subst, sym, ap, arith, ◌==◌, ◌∙◌, codes, append_assoc, length-append}
+use Rattle.std.proofs.Common.{◌≡◌, ◌<◌, ◌^◌, ◌-◌, ℕ, true, false, cond, List, [], ◌∷◌, ◌++◌, length, take, drop, Option, Some, None, refl}
+use Rattle.std.proofs.Common.{subst, sym, ap, arith, ◌==◌, ◌∙◌, codes, append_assoc, length-append}
 use Rattle.std.specs.Prelude.{decimal}
 use Rattle.std.specs.Option.{option_map}
 use Rattle.std.specs.Result.{result_ok}
@@ -66,8 +67,11 @@ abbrev frame : List ℕ → Option Reply
 frame text = option_map frame_of (result_ok (decode_of (take (length text - 1) text)))
 
 abbrev refusal_of : ℕ → Option Refusal
-refusal_of n = cond (n == 1) (Some Full) (cond (n == 2) (Some BadFrame) (cond (n == 3) (Some NoClient) (cond (n == 5) (Some Behind) (cond (n == 9) (Some Stale)
-    (cond (n == 10) (Some Gap) (cond (n == 12) (Some NoMemory) (cond (n == 13) (Some CutNeeded) (cond (n == 14) (Some Exhausted) None))))))))
+refusal_of n =
+    cond (n == 1) (Some Full) (cond (n == 2) (Some BadFrame)
+    (cond (n == 3) (Some NoClient) (cond (n == 5) (Some Behind) (cond (n == 9) (Some Stale)
+    (cond (n == 10) (Some Gap) (cond (n == 12) (Some NoMemory)
+    (cond (n == 13) (Some CutNeeded) (cond (n == 14) (Some Exhausted) None))))))))
 
 abbrev refused : List ℕ → Option Reply
 refused text = option_map (λ r. Refused r) (refusal_of (number_at 32 text).0)
@@ -75,7 +79,8 @@ refused text = option_map (λ r. Refused r) (refusal_of (number_at 32 text).0)
 one-back : (make : ℕ → Reply) (n : ℕ) → n < 2 ^ 64 → one make (decimal n ++ 10 ∷ []) ≡ Some (make n)
 one-back make n h = ap (λ (p : ℕ × List ℕ). Some (make p.0)) (number-back 10 n [] (omega arith) h)
 
-two-back : (make : ℕ → ℕ → Reply) (g n : ℕ) → g < 2 ^ 64 → n < 2 ^ 64 → two make ((decimal g ++ 32 ∷ decimal n) ++ 10 ∷ []) ≡ Some (make g n)
+two-back : (make : ℕ → ℕ → Reply) (g n : ℕ) → g < 2 ^ 64 → n < 2 ^ 64
+    → two make ((decimal g ++ 32 ∷ decimal n) ++ 10 ∷ []) ≡ Some (make g n)
 two-back make g n hg hn =
     ap (two make) (append_assoc (decimal g) (32 ∷ decimal n) (10 ∷ []))
     ∙ ap (λ (p : ℕ × List ℕ). one (make p.0) p.1) (number-back 32 g (decimal n ++ 10 ∷ []) (omega arith) hg)
@@ -87,7 +92,8 @@ three-back make g n m hg hn hm =
     ap (three make) (append_assoc (decimal g) (32 ∷ (decimal n ++ 32 ∷ (codes "landed " ++ decimal m))) (10 ∷ []))
     ∙ ap (λ (p : ℕ × List ℕ). one (make p.0 (number_at 32 p.1).0) (drop 7 (number_at 32 p.1).1))
     (number-back 32 g ((decimal n ++ 32 ∷ (codes "landed " ++ decimal m)) ++ 10 ∷ []) (omega arith) hg)
-    ∙ ap (λ t. one (make g (number_at 32 t).0) (drop 7 (number_at 32 t).1)) (append_assoc (decimal n) (32 ∷ (codes "landed " ++ decimal m)) (10 ∷ []))
+    ∙ ap (λ t. one (make g (number_at 32 t).0) (drop 7 (number_at 32 t).1))
+    (append_assoc (decimal n) (32 ∷ (codes "landed " ++ decimal m)) (10 ∷ []))
     ∙ ap (λ (p : ℕ × List ℕ). one (make g p.0) (drop 7 p.1)) (number-back 32 n (codes "landed " ++ (decimal m ++ 10 ∷ [])) (omega arith) hn)
     ∙ one-back (make g n) m hm
 
@@ -126,7 +132,8 @@ small Exhausted = omega arith
 refused-back : (r : Refusal) (name : List ℕ) → refused ((decimal (number_of r) ++ 32 ∷ name) ++ 10 ∷ []) ≡ Some (Refused r)
 refused-back r name =
     ap refused (append_assoc (decimal (number_of r)) (32 ∷ name) (10 ∷ []))
-    ∙ ap (λ (p : ℕ × List ℕ). option_map (λ r. Refused r) (refusal_of p.0)) (number-back 32 (number_of r) (name ++ 10 ∷ []) (omega arith) (small r))
+    ∙ ap (λ (p : ℕ × List ℕ). option_map (λ r. Refused r) (refusal_of p.0))
+    (number-back 32 (number_of r) (name ++ 10 ∷ []) (omega arith) (small r))
     ∙ ap (option_map (λ r. Refused r)) (refusal-back r)
 
 -- ---- the first word

@@ -1,5 +1,6 @@
 -- A script's meaning, line by line.
-use Rattle.std.proofs.Common.{◌≡◌, ◌≤◌, ◌<◌, ◌+◌, ℕ, List, [], ◌∷◌, ◌++◌, length, Option, None, Some, IfSome, Bor, Bool, true, false, Result, Ok, Err, inl, inr, subst, refl, sym, ap, ◌∙◌, append_assoc, append-nil, arith}
+use Rattle.std.proofs.Common.{◌≡◌, ◌≤◌, ◌<◌, ◌+◌, ℕ, List, [], ◌∷◌, ◌++◌, length, Option, None, Some, IfSome, Bor, Bool, true, false}
+use Rattle.std.proofs.Common.{Result, Ok, Err, inl, inr, subst, refl, sym, ap, ◌∙◌, append_assoc, append-nil, arith}
 use Rattle.std.specs.Prelude.{MatchOption}
 use Rattle.std.specs.Result.{IsErrAnd}
 use Rattle.std.specs.Io.KnownBytes.{Appends}
@@ -12,11 +13,13 @@ use Rattle.remus.proofs.LineLemmas.{texts}
 
 -- the lines that are left once the first was read
 pub after-first : (text line : List ℕ) (r : Option (Bor (List ℕ)))
-    → MatchOption r (lines_of text ≡ line ∷ []) (λ rest. lines_of text ≡ line ∷ lines_of rest.now) → lines_of text ≡ line ∷ lines_left (texts r)
+    → MatchOption r (lines_of text ≡ line ∷ []) (λ rest. lines_of text ≡ line ∷ lines_of rest.now)
+    → lines_of text ≡ line ∷ lines_left (texts r)
 after-first text line None e = e
 after-first text line (Some rest) e = e
 
-pub fewer : (text : List ℕ) (r : Option (Bor (List ℕ))) → IfSome r (λ rest. length rest.now < length text) → most_lines (texts r) ≤ length text
+pub fewer : (text : List ℕ) (r : Option (Bor (List ℕ))) → IfSome r (λ rest. length rest.now < length text)
+    → most_lines (texts r) ≤ length text
 fewer text None h = omega arith
 fewer text (Some rest) h = omega arith
 
@@ -26,7 +29,8 @@ err-is {T} (Err s) stop h = ap (λ x. ending_of {T = T} (Err x)) h
 
 module _ (stage : Stage) (number : ℕ) (line : List ℕ) (texts' : List (List ℕ)) (loud : is_silent line ≡ false) where
   -- the script goes on after a line
-  pub goes-on : (next : Stage) (first rest : List ℕ) (ending : Ending) → GoesOn stage line first next → Means next (number + 1) texts' rest ending
+  pub goes-on : (next : Stage) (first rest : List ℕ) (ending : Ending) → GoesOn stage line first next
+      → Means next (number + 1) texts' rest ending
       → Means stage number (line ∷ texts') (first ++ rest) ending
   goes-on next first rest ending g m = inr (inr (inl (loud, first, next, g, inl (rest, refl, m))))
 
@@ -44,7 +48,8 @@ module _ (stage : Stage) (number : ℕ) (line : List ℕ) (texts' : List (List �
   ends next o o' (stops.Bad n) h = (h.0, inr (inr (inr (loud, h.0, bad n, h.1, inl (refl, refl)))), h.2)
 
 -- what was printed up to a write that fails is a beginning of what the script prints
-pub shorter : (stage : Stage) (number : ℕ) (lines : List (List ℕ)) (out : List ℕ) (ending : Ending) → Means stage number lines out ending → Means stage number lines out cut_short
+pub shorter : (stage : Stage) (number : ℕ) (lines : List (List ℕ)) (out : List ℕ) (ending : Ending) → Means stage number lines out ending
+    → Means stage number lines out cut_short
 shorter stage number [] out ending (inl h) = inr (h.0, refl)
 shorter stage number [] out ending (inr h) = inr (h.0, refl)
 shorter stage number (text ∷ texts') out ending (inl h) = inl (h.0, refl)

@@ -5,7 +5,8 @@ use Rattle.pair_core.specs.Pair.{Pair}
 use Rattle.remus.specs.declared.player.Player.{Player}
 use Rattle.remus.specs.declared.player.Stop.{Stop}
 use Rattle.remus.specs.declared.player.Stop.TheVariants as stops
-use Rattle.remus.specs.Meaning.{Stage, unbooted, playing, Ending, finished, bad, refused, cut_short, GoesOn, Ends, IsAnswered, IsBeyond, Means, lines_of}
+use Rattle.remus.specs.Meaning.{Stage, unbooted, playing, Ending, finished, bad, refused, cut_short, GoesOn, Ends, IsAnswered, IsBeyond}
+use Rattle.remus.specs.Meaning.{Means, lines_of}
 use Rattle.remus.specs.Lines.{Line}
 use Rattle.remus.specs.Output.{AppendsFront}
 
@@ -28,13 +29,16 @@ IsLineDone stage number text (Err stops.Failed) next out out' =
     Appends out out' []
     ⊎ (((first : List ℕ) × (after : Stage) × GoesOn stage text first after × AppendsFront out out' first)
     ⊎ ((last : List ℕ) × (how : Ending) × Ends stage number text last how × AppendsFront out out' last))
-IsLineDone stage number text (Err stops.Refused) next out out' = (last : List ℕ) × Ends stage number text last refused × Appends out out' last
-IsLineDone stage number text (Err (stops.Bad n)) next out out' = (last : List ℕ) × Ends stage number text last (bad n) × Appends out out' last
+IsLineDone stage number text (Err stops.Refused) next out out' =
+    (last : List ℕ) × Ends stage number text last refused × Appends out out' last
+IsLineDone stage number text (Err (stops.Bad n)) next out out' =
+    (last : List ℕ) × Ends stage number text last (bad n) × Appends out out' last
 
 -- What became of a line that was read, in the same way.
 abbrev pub IsLineAnswered : Pair → ℕ → Line → Result Unit Stop → Pair → Option (List ℕ) → Option (List ℕ) → Type 0
 IsLineAnswered old number line (Ok done) new out out' = (first : List ℕ) × IsAnswered old line first new × Appends out out' first
-IsLineAnswered old number line (Err stops.Failed) new out out' = (first : List ℕ) × IsAnswered old line first new × AppendsFront out out' first
+IsLineAnswered old number line (Err stops.Failed) new out out' =
+    (first : List ℕ) × IsAnswered old line first new × AppendsFront out out' first
 IsLineAnswered old number line (Err stops.Refused) new out out' = ⊥
 IsLineAnswered old number line (Err (stops.Bad n)) new out out' = (n ≡ number) × IsBeyond old line × (new ≡ old) × Appends out out' []
 

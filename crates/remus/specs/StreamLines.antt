@@ -17,5 +17,6 @@ short_line len = line (codes "short" ∷ codes "at" ∷ decimal len ∷ [])
 
 -- the number and the name of a refusal, and where the bytes are malformed the offset
 abbrev pub stream_refusal_line : StreamError → List ℕ
-stream_refusal_line (Malformed offset) = line (codes "refused" ∷ decimal (number_of (Malformed offset)) ∷ name_of (Malformed offset) ∷ decimal offset ∷ [])
+stream_refusal_line (Malformed offset) =
+    line (codes "refused" ∷ decimal (number_of (Malformed offset)) ∷ name_of (Malformed offset) ∷ decimal offset ∷ [])
 stream_refusal_line NoMemory = line (codes "refused" ∷ decimal (number_of NoMemory) ∷ name_of NoMemory ∷ [])

@@ -71,7 +71,8 @@ impl Player {
         number: u64,
         out: &mut O,
     ) -> Result<Player, Stop>
-        ensures { IsLineDone unbooted number text.now result (λ player. playing player.world.value) (O.contents out.old) (O.contents out.new) }
+        ensures { IsLineDone unbooted number text.now result (λ player. playing player.world.value)
+            (O.contents out.old) (O.contents out.new) }
     {
         match booted(alloc, text) {
             Ok(Some(player)) => {
@@ -99,7 +100,8 @@ impl Player {
         number: u64,
         out: &mut O,
     ) -> Result<(), Stop>
-        ensures { IsLineDone (playing self.old.world.value) number text.now result (λ _. playing self.new.world.value) (O.contents out.old) (O.contents out.new) }
+        ensures { IsLineDone (playing self.old.world.value) number text.now result (λ _. playing self.new.world.value)
+            (O.contents out.old) (O.contents out.new) }
     {
         match read_line(alloc, text) {
             Ok(Some(line)) => {
@@ -155,7 +157,8 @@ fn do_line<O: Write>(
 
 /// A script whose boot line is this text; none where the text is no boot line.
 fn booted(alloc: Global, text: &[u8]) -> Result<Option<Player>, AllocError>
-    ensures some { IfOk result (λ found. IfSome found (λ player. (line : BootLine) × IsBoot text.now line × IsReady line player.world.value)) }
+    ensures some { IfOk result (λ found. IfSome found (λ player. (line : BootLine)
+        × IsBoot text.now line × IsReady line player.world.value)) }
     ensures none { IfOk result (λ found. IfNone found ((line : BootLine) → IsBoot text.now line → ⊥)) }
     ensures err { OnErr result (BeginsBoot text.now) }
 {

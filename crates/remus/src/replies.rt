@@ -121,7 +121,8 @@ fn write_checkpoint<W: Write>(out: &mut W, event: &str, generation: u64, number:
 /// Prints `frame` and the bytes in lower case hex.
 fn write_frame<W: Write>(out: &mut W, frame: &Frame) -> Result<()>
     ensures bytes { IsBytes frame.now.items }
-    ensures printed { OnOk result (Appends (W.contents out.old) (W.contents out.new) (line (codes "frame" ∷ encode_lower frame.now.items ∷ []))) }
+    ensures printed { OnOk result (Appends (W.contents out.old) (W.contents out.new)
+        (line (codes "frame" ∷ encode_lower frame.now.items ∷ []))) }
 {
     let bytes = frame.as_slice();
     let mut digits = [0; 2 * MOST_BYTES];

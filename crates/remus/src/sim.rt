@@ -94,7 +94,8 @@ fn play_line<O: Write>(
 
 /// The first line of a text, and what stands after its newline, if it has one.
 fn first_line(text: &[u8]) -> (&[u8], Option<&[u8]>)
-    ensures lines { MatchOption result.1 (lines_of text.now ≡ result.0.now ∷ []) (λ rest. lines_of text.now ≡ result.0.now ∷ lines_of rest.now) }
+    ensures lines { MatchOption result.1 (lines_of text.now ≡ result.0.now ∷ [])
+        (λ rest. lines_of text.now ≡ result.0.now ∷ lines_of rest.now) }
     ensures shorter { IfSome result.1 (λ rest. length rest.now < length text.now) }
 {
     match first_newline(text) {

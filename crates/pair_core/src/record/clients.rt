@@ -69,7 +69,8 @@ impl PairRecord {
     /// Why a delivery is refused.
     pub(crate) fn deliver_refusal(&self, client: u64, bytes: &[u8]) -> Option<Refusal>
         ensures { result
-            ≡ first_refusal (deliver_refusals (length self.now.ports.boxes) (inbox_of self.now.ports client) self.now.ports.next self.now.protocol client bytes.now) }
+            ≡ first_refusal (deliver_refusals (length self.now.ports.boxes) (inbox_of self.now.ports client) self.now.ports.next
+            self.now.protocol client bytes.now) }
     {
         if !self.is_client(client) {
             Some(Refusal::NoClient)
@@ -88,7 +89,8 @@ impl PairRecord {
 
     /// A delivery to a full inbox is recorded, and that is all.
     pub(crate) fn refuse_delivery(&mut self, client: u64, bytes: &[u8]) -> Result<Reply, AllocError>
-        requires { first_refusal (deliver_refusals (length self.old.ports.boxes) (inbox_of self.old.ports client) self.old.ports.next self.old.protocol client bytes.now) ≡ Some Refusal.Full }
+        requires { first_refusal (deliver_refusals (length self.old.ports.boxes) (inbox_of self.old.ports client) self.old.ports.next
+            self.old.protocol client bytes.now) ≡ Some Refusal.Full }
         ensures ok { IfOk result (λ reply. (reply, self.new.protocol)
             ≡ delivery_refused self.old.protocol client (record { items = bytes.now }) Refusal.Full) }
         ensures ports { self.new.ports ≡ self.old.ports }
@@ -103,7 +105,8 @@ impl PairRecord {
 
     /// The client delivers a frame of these bytes, which waits for the guest.
     pub(crate) fn deliver(&mut self, client: u64, bytes: &[u8]) -> Result<Reply, AllocError>
-        requires { first_refusal (deliver_refusals (length self.old.ports.boxes) (inbox_of self.old.ports client) self.old.ports.next self.old.protocol client bytes.now) ≡ None }
+        requires { first_refusal (deliver_refusals (length self.old.ports.boxes) (inbox_of self.old.ports client) self.old.ports.next
+            self.old.protocol client bytes.now) ≡ None }
         ensures ok { IfOk result (λ reply. (reply, self.new.protocol)
             ≡ deliver_done self.old.protocol client (record { items = bytes.now }) self.old.ports.next) }
         ensures ports { OnOk result (self.new.ports ≡ after_delivery self.old.ports client bytes.now) }

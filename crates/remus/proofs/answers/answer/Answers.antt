@@ -10,6 +10,7 @@ use Rattle.remus.proofs.answers.answer.Goals as goal
 pub returns-in-Delivery : goal.returns-in-Delivery
 returns-in-Delivery c =
     let d = c.in-Delivery.delivery in
-    subst (λ (line : ReadLine). IsDone c.args.world.now (line_of line) c.happen.result c.happen.new.text.items c.happen.new.world) (sym c.in-Delivery.is)
+    subst (λ (line : ReadLine). IsDone c.args.world.now (line_of line) c.happen.result c.happen.new.text.items c.happen.new.world)
+    (sym c.in-Delivery.is)
     (happened c.args.world.now (delivery d.client d.bytes.items) c.happen.new.text.items c.happen.new.world c.happen.result
     (events.Deliver d.client c.as_slice.result) (refl, c.as_slice.ensures.value) c.happen.ensures.ok c.happen.ensures.err)

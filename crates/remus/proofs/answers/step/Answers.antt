@@ -7,7 +7,8 @@ use Rattle.remus.proofs.answers.step.Goals as goal
 
 pub returns-in_err-write_reply : goal.returns-in_err-write_reply
 returns-in_err-write_reply c =
-    failed c.args.world.now (order (Step c.args.count)) c.write_reply.new.out.items c.run_steps-reply.new.world c.from_residual.result (reply_line c.run_steps-reply.result) c.from_residual.ensures.0
+    failed c.args.world.now (order (Step c.args.count)) c.write_reply.new.out.items c.run_steps-reply.new.world c.from_residual.result
+    (reply_line c.run_steps-reply.result) c.from_residual.ensures.0
     record {
       reply = c.run_steps-reply.result;
       outcome = c.run_steps-reply.ensures.outcome;

@@ -8,19 +8,24 @@ pub returns-in-Steps-clause-readable : goal.returns-in-Steps-clause-readable
 returns-in-Steps-clause-readable g c = readable c.args.reply.now (Steps c.in-Steps.steps) c.in-Steps.is (omega arith)
 
 pub returns-in-Cut-clause-readable : goal.returns-in-Cut-clause-readable
-returns-in-Cut-clause-readable g c = readable c.args.reply.now (Cut c.in-Cut.generation c.in-Cut.number) c.in-Cut.is (omega arith, omega arith)
+returns-in-Cut-clause-readable g c =
+    readable c.args.reply.now (Cut c.in-Cut.generation c.in-Cut.number) c.in-Cut.is (omega arith, omega arith)
 
 pub returns-in-Sent-clause-readable : goal.returns-in-Sent-clause-readable
 returns-in-Sent-clause-readable g c = readable c.args.reply.now (Sent c.in-Sent.packets) c.in-Sent.is (omega arith)
 
 pub returns-in-Committed-clause-readable : goal.returns-in-Committed-clause-readable
-returns-in-Committed-clause-readable g c = readable c.args.reply.now (Committed c.in-Committed.generation c.in-Committed.number) c.in-Committed.is (omega arith, omega arith)
+returns-in-Committed-clause-readable g c =
+    readable c.args.reply.now (Committed c.in-Committed.generation c.in-Committed.number) c.in-Committed.is (omega arith, omega arith)
 
 pub returns-in-Again-clause-readable : goal.returns-in-Again-clause-readable
-returns-in-Again-clause-readable g c = readable c.args.reply.now (Again c.in-Again.generation c.in-Again.number) c.in-Again.is (omega arith, omega arith)
+returns-in-Again-clause-readable g c =
+    readable c.args.reply.now (Again c.in-Again.generation c.in-Again.number) c.in-Again.is (omega arith, omega arith)
 
 pub returns-in-Acked-clause-readable : goal.returns-in-Acked-clause-readable
-returns-in-Acked-clause-readable g c = readable c.args.reply.now (Acked c.in-Acked.generation c.in-Acked.number c.in-Acked.landed) c.in-Acked.is (omega arith, omega arith, omega arith)
+returns-in-Acked-clause-readable g c =
+    readable c.args.reply.now (Acked c.in-Acked.generation c.in-Acked.number c.in-Acked.landed) c.in-Acked.is
+    (omega arith, omega arith, omega arith)
 
 pub returns-in-Admitted-clause-readable : goal.returns-in-Admitted-clause-readable
 returns-in-Admitted-clause-readable g c = readable c.args.reply.now (Admitted c.in-Admitted.number) c.in-Admitted.is (omega arith)

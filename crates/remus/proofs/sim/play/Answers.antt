@@ -1,4 +1,5 @@
-use Rattle.std.proofs.Common.{◌≡◌, ◌++◌, ◌+◌, List, ℕ, Option, Bor, Some, None, [], ◌∷◌, subst, sym, ap, ◌∙◌, append-nil, append_assoc, arith, refl, inl}
+use Rattle.std.proofs.Common.{◌≡◌, ◌++◌, ◌+◌, List, ℕ, Option, Bor, Some, None, [], ◌∷◌, subst, sym, ap, ◌∙◌, append-nil, append_assoc}
+use Rattle.std.proofs.Common.{arith, refl, inl}
 use Rattle.std.proofs.KnownBytes.{Appends-trans}
 use Rattle.std.specs.Io.KnownBytes.{Appends}
 use Rattle.remus.specs.Meaning.{Ending, Means, unbooted, finished, lines_of}
@@ -31,7 +32,8 @@ loop-left-preserved-in-Continue-1 g c =
             subst (λ (t : List ℕ). Means unbooted 1 (lines_of c.args.source.now) t ending) (sym (append_assoc printed first rest))
             (before.1.2 (first ++ rest) ending
             (subst (λ (ls : List (List ℕ)). Means (stage_of c.loop-left.player) number ls (first ++ rest) ending) (sym split)
-            (goes-on (stage_of c.loop-left.player) number line rest' (sym c.is_silent.ensures ∙ c.if-not-is_silent.true) (stage_of c.play_line.new.player) first rest ending done.1 m))),
+            (goes-on (stage_of c.loop-left.player) number line rest'
+            (sym c.is_silent.ensures ∙ c.if-not-is_silent.true) (stage_of c.play_line.new.player) first rest ending done.1 m))),
       ),
     )
 
@@ -46,10 +48,13 @@ returns-in_err-play_line g c =
     let same : lines_left (texts c.loop-left.left) ≡ lines_of text = ap lines_left left in
     let split = same ∙ after-first text line c.first_line.result.1 c.first_line.ensures.lines in
     let printed = before.1.0 in
-    let ended = ends (stage_of c.loop-left.player) number line rest' (sym c.is_silent.ensures ∙ c.if-not-is_silent.true) _ _ _ c.in_err-play_line.field-0.0 c.in_err-play_line.ensures in (
+    let ended =
+    ends (stage_of c.loop-left.player) number line rest'
+    (sym c.is_silent.ensures ∙ c.if-not-is_silent.true) _ _ _ c.in_err-play_line.field-0.0 c.in_err-play_line.ensures in (
       printed ++ ended.0,
       before.1.2 ended.0 (ending_of c.from_residual.result)
-          (subst (λ (ls : List (List ℕ)). Means (stage_of c.loop-left.player) number ls ended.0 (ending_of c.from_residual.result)) (sym split)
+          (subst (λ (ls : List (List ℕ)). Means (stage_of c.loop-left.player) number ls ended.0 (ending_of c.from_residual.result))
+          (sym split)
           (subst (λ (ending : Ending). Means (stage_of c.loop-left.player) number (line ∷ rest') ended.0 ending)
           (sym (err-is c.from_residual.result c.in_err-play_line.field-0.0 c.from_residual.ensures.1)) ended.1)),
       Appends-trans _ _ _ printed ended.0 before.1.1 ended.2,
@@ -63,6 +68,7 @@ returns g c =
       printed,
       subst (λ (t : List ℕ). Means unbooted 1 (lines_of c.args.source.now) t finished) (append-nil printed)
           (before.1.2 [] finished
-          (subst (λ (ls : List (List ℕ)). Means (stage_of c.loop-left.player) (c.loop-left.number + 1) ls [] finished) (sym none) (inl (refl, refl)))),
+          (subst (λ (ls : List (List ℕ)). Means (stage_of c.loop-left.player) (c.loop-left.number + 1) ls [] finished) (sym none)
+          (inl (refl, refl)))),
       before.1.1,
     )

@@ -11,7 +11,9 @@ pub invariant_of-self : goal.invariant_of-self
 invariant_of-self c =
     let w = pair_of c.self.inside in
     let p = c.in-Some.packet in
-    let same = generation_is p.generation w.protocol.generation (passed _ _ _ (sym c.ack_refusal.ensures.refusal ∙ c.in_default-ack_refusal.is)).0 in
-    after_call w c.self.invariant c.acknowledge.new.self c.acknowledge.result (ack_done w.ports.boxes w.protocol p.number) (ports_after_ack w.ports w.protocol p.number)
+    let same =
+    generation_is p.generation w.protocol.generation (passed _ _ _ (sym c.ack_refusal.ensures.refusal ∙ c.in_default-ack_refusal.is)).0 in
+    after_call w c.self.invariant c.acknowledge.new.self c.acknowledge.result (ack_done w.ports.boxes w.protocol p.number)
+    (ports_after_ack w.ports w.protocol p.number)
     c.acknowledge.ensures.ok c.acknowledge.ensures.ports c.acknowledge.ensures.err
     (ack_holds w c.self.invariant c.ack_refusal.ensures.record p.number (c.in-Some.ensures.committed same))

@@ -3,9 +3,11 @@ use Rattle.pair_core.specs.Protocol.{Answers}
 use Rattle.pair_core.proofs.world.World.apply.Goals as goal
 use Rattle.pair_core.proofs.world.World.apply.Goals.{After-answered}
 
-answers : (c : After-answered) → Answers c.args.self.now.start c.args.self.now.protocol c.args.event c.answered.result c.act-outcome.new.self.protocol
+answers : (c : After-answered)
+    → Answers c.args.self.now.start c.args.self.now.protocol c.args.event c.answered.result c.act-outcome.new.self.protocol
 answers c =
-    answers_by_outcome c.args.self.now c.act-outcome.new.self c.args.event c.act-outcome.result c.answered.result c.answered.ensures.ok c.answered.ensures.err
+    answers_by_outcome c.args.self.now c.act-outcome.new.self c.args.event c.act-outcome.result c.answered.result c.answered.ensures.ok
+    c.answered.ensures.err
     c.act-outcome.ensures.outcome c.act-outcome.ensures.memory c.act-outcome.ensures.err
 
 pub returns-clause-answers : goal.returns-clause-answers
@@ -13,13 +15,15 @@ returns-clause-answers c = answers (goal.at.returns-clause-answers c).After-answ
 
 pub returns-clause-refused : goal.returns-clause-refused
 returns-clause-refused c =
-    refused_by_outcome c.args.self.now c.act-outcome.new.self c.args.event c.act-outcome.result c.answered.result c.answered.ensures.ok c.answered.ensures.err
+    refused_by_outcome c.args.self.now c.act-outcome.new.self c.args.event c.act-outcome.result c.answered.result c.answered.ensures.ok
+    c.answered.ensures.err
     c.act-outcome.ensures.refused c.act-outcome.ensures.err
 
 pub returns-clause-grows : goal.returns-clause-grows
 returns-clause-grows c =
     let drops =
-    c.keep_drops.ensures c.args.event c.answered.result c.act-outcome.new.self.protocol (answers (goal.at.returns-clause-grows c).After-answered) in
+    c.keep_drops.ensures c.args.event c.answered.result c.act-outcome.new.self.protocol
+    (answers (goal.at.returns-clause-grows c).After-answered) in
     (drops.entries, drops.grows)
 
 pub returns-clause-drops : goal.returns-clause-drops

@@ -7,7 +7,8 @@ use Rattle.pair_core.specs.Protocol.{Outcome, MayWantMemory, outcome, refused, d
 use Rattle.pair_core.specs.WorldFields.{pair_of}
 use Rattle.pair_core.proofs.Calls.{on_ok, on_err, answered_so, after_call}
 use Rattle.pair_core.proofs.ClientEvents.{deliver_holds, full_holds}
-use Rattle.pair_core.proofs.Outcomes.{client_range, frame_range, inbox_full, full_rows, deliver_goes, deliver_full, deliver_stops, after_none}
+use Rattle.pair_core.proofs.Outcomes.{client_range, frame_range, inbox_full, full_rows, deliver_goes, deliver_full, deliver_stops}
+use Rattle.pair_core.proofs.Outcomes.{after_none}
 use Rattle.pair_core.proofs.RecordLaws.{passed}
 use Rattle.pair_core.proofs.world.World.deliver.Goals as goal
 
@@ -19,7 +20,8 @@ invariant_of-self c =
     let rows = passed _ _ _ (sym c.deliver_refusal.ensures ∙ c.in_default.is) in
     let range = client_range client (length w.ports.boxes) rows.0 in
     let frame = frame_range bytes (passed _ _ _ rows.1).0 in
-    after_call w c.self.invariant c.deliver.new.self c.deliver.result (deliver_done w.protocol client (record { items = bytes }) w.ports.next) (after_delivery w.ports client bytes)
+    after_call w c.self.invariant c.deliver.new.self c.deliver.result
+    (deliver_done w.protocol client (record { items = bytes }) w.ports.next) (after_delivery w.ports client bytes)
     c.deliver.ensures.ok c.deliver.ensures.ports c.deliver.ensures.err
     (deliver_holds w c.self.invariant client range.0 range.1 bytes frame)
 
@@ -32,7 +34,8 @@ invariant_of-self-in-Full c =
     let rows = full_rows _ _ _ _ _ (sym c.deliver_refusal.ensures ∙ is) in
     let range = client_range client (length w.ports.boxes) rows.0 in
     let frame = frame_range bytes rows.1 in
-    after_call w c.self.invariant c.refuse_delivery.new.self c.refuse_delivery.result (delivery_refused w.protocol client (record { items = bytes }) Full) w.ports
+    after_call w c.self.invariant c.refuse_delivery.new.self c.refuse_delivery.result
+    (delivery_refused w.protocol client (record { items = bytes }) Full) w.ports
     c.refuse_delivery.ensures.ok (on_ok c.refuse_delivery.result _ c.refuse_delivery.ensures.ports) c.refuse_delivery.ensures.err
     (full_holds w c.self.invariant client range.0 range.1 bytes frame (inbox_full _ rows.2))
 
@@ -43,7 +46,8 @@ returns-in_default-clause-outcome c =
     let Out : Pair → Outcome = λ v. outcome v.start v.protocol (Deliver c.args.client c.args.bytes) in
     let done = deliver_done w.protocol c.args.client (record { items = bytes }) w.ports.next in
     answered_so c.deliver.result c.deliver.new.self.protocol done (Out c.args.self.now)
-    (subst (λ (v : Pair). done ≡ Out v) c.self.view_is (deliver_goes w c.self.invariant c.args.client bytes c.deliver_refusal.result c.deliver_refusal.ensures c.in_default.is))
+    (subst (λ (v : Pair). done ≡ Out v) c.self.view_is
+    (deliver_goes w c.self.invariant c.args.client bytes c.deliver_refusal.result c.deliver_refusal.ensures c.in_default.is))
     c.deliver.ensures.ok
 
 pub returns-in-Full-clause-outcome : goal.returns-in-Full-clause-outcome
@@ -53,7 +57,9 @@ returns-in-Full-clause-outcome c =
     let Out : Pair → Outcome = λ v. outcome v.start v.protocol (Deliver c.args.client c.args.bytes) in
     let done = delivery_refused w.protocol c.args.client (record { items = bytes }) Full in
     answered_so c.refuse_delivery.result c.refuse_delivery.new.self.protocol done (Out c.args.self.now)
-    (subst (λ (v : Pair). done ≡ Out v) c.self.view_is (deliver_full w c.self.invariant c.args.client bytes c.deliver_refusal.result c.deliver_refusal.ensures (c.in-Some.is ∙ ap Some c.in-Full.is)))
+    (subst (λ (v : Pair). done ≡ Out v) c.self.view_is
+    (deliver_full w c.self.invariant c.args.client bytes c.deliver_refusal.result c.deliver_refusal.ensures
+    (c.in-Some.is ∙ ap Some c.in-Full.is)))
     c.refuse_delivery.ensures.ok
 
 pub returns-in-Full-clause-memory : goal.returns-in-Full-clause-memory
@@ -62,8 +68,11 @@ returns-in-Full-clause-memory c =
     let bytes = c.args.bytes.now in
     let Out : Pair → Outcome = λ v. outcome v.start v.protocol (Deliver c.args.client c.args.bytes) in
     let done = delivery_refused w.protocol c.args.client (record { items = bytes }) Full in
-    let goes = deliver_full w c.self.invariant c.args.client bytes c.deliver_refusal.result c.deliver_refusal.ensures (c.in-Some.is ∙ ap Some c.in-Full.is) in
-    on_err c.refuse_delivery.result _ (subst (λ (v : Pair). MayWantMemory (Out v).0) c.self.view_is (subst (λ (o : Outcome). MayWantMemory o.0) goes refl))
+    let goes =
+    deliver_full w c.self.invariant c.args.client bytes c.deliver_refusal.result c.deliver_refusal.ensures
+    (c.in-Some.is ∙ ap Some c.in-Full.is) in
+    on_err c.refuse_delivery.result _
+    (subst (λ (v : Pair). MayWantMemory (Out v).0) c.self.view_is (subst (λ (o : Outcome). MayWantMemory o.0) goes refl))
 
 pub returns-in_default-why : goal.returns-in_default-why
 returns-in_default-why c =
@@ -74,7 +83,8 @@ returns-in_default-why c =
     record {
       outcome =
           subst (λ (v : Pair). refused v.protocol why ≡ Out v) c.self.view_is
-          (deliver_stops w c.self.invariant c.args.client bytes c.deliver_refusal.result c.deliver_refusal.ensures why c.in_default-why.not-Full c.in-Some.is);
+          (deliver_stops w c.self.invariant c.args.client bytes c.deliver_refusal.result c.deliver_refusal.ensures why
+          c.in_default-why.not-Full c.in-Some.is);
       start = refl;
       refused = subst (λ (v : Pair). AfterRefusal why v v) c.self.view_is (after_none w c.self.invariant why);
       memory = tt;

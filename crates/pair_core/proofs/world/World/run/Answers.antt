@@ -27,16 +27,24 @@ loop-event-preserved c =
     let step : Answers start c.loop-event.self.protocol (get_or events i Step) c.apply-reply.result new =
     subst (λ (s : HistoryState). Answers s c.loop-event.self.protocol (get_or events i Step) c.apply-reply.result new) v.start a in
     let run : Run start old (take i events ++ get_or events i Step ∷ []) (c.loop-event.replies.items ++ c.apply-reply.result ∷ []) new =
-    Along-more Answers start (take i events) c.loop-event.replies.items old c.loop-event.self.protocol new (get_or events i Step) c.apply-reply.result v.replies step in
+    Along-more Answers start (take i events) c.loop-event.replies.items old c.loop-event.self.protocol new (get_or events i Step)
+    c.apply-reply.result v.replies step in
     let known : Drops start c.loop-event.self.protocol (get_or events i Step) c.apply-reply.result new =
-    subst (λ (s : HistoryState). Drops s c.loop-event.self.protocol (get_or events i Step) c.apply-reply.result new) v.start c.apply-reply.ensures.drops in
-    let dropped : Along Drops start old (take i events ++ get_or events i Step ∷ []) (c.loop-event.replies.items ++ c.apply-reply.result ∷ []) new =
-    Along-more Drops start (take i events) c.loop-event.replies.items old c.loop-event.self.protocol new (get_or events i Step) c.apply-reply.result v.drops known in
+    subst (λ (s : HistoryState). Drops s c.loop-event.self.protocol (get_or events i Step) c.apply-reply.result new) v.start
+    c.apply-reply.ensures.drops in
+    let dropped : Along Drops start old (take i events ++ get_or events i Step ∷ [])
+    (c.loop-event.replies.items ++ c.apply-reply.result ∷ []) new =
+    Along-more Drops start (take i events) c.loop-event.replies.items old c.loop-event.self.protocol new (get_or events i Step)
+    c.apply-reply.result v.drops known in
     record {
-      drops = subst (λ (es : List Event). Along Drops start old es c.push.new.self.items new) (sym more) (subst (λ (rs : List Reply). Along Drops start old (take i events ++ get_or events i Step ∷ []) rs new) (sym items) dropped);
-      replies = subst (λ (es : List Event). Run start old es c.push.new.self.items new) (sym more) (subst (λ (rs : List Reply). Run start old (take i events ++ get_or events i Step ∷ []) rs new) (sym items) run);
+      drops = subst (λ (es : List Event). Along Drops start old es c.push.new.self.items new) (sym more)
+          (subst (λ (rs : List Reply). Along Drops start old (take i events ++ get_or events i Step ∷ []) rs new) (sym items) dropped);
+      replies =
+          subst (λ (es : List Event). Run start old es c.push.new.self.items new) (sym more)
+          (subst (λ (rs : List Reply). Run start old (take i events ++ get_or events i Step ∷ []) rs new) (sym items) run);
       start = c.apply-reply.ensures.start ∙ v.start;
-      grows = Begins-trans c.args.self.now.protocol.journal.history c.loop-event.self.protocol.journal.history c.apply-reply.new.self.protocol.journal.history v.grows c.apply-reply.ensures.grows;
+      grows = Begins-trans c.args.self.now.protocol.journal.history c.loop-event.self.protocol.journal.history
+          c.apply-reply.new.self.protocol.journal.history v.grows c.apply-reply.ensures.grows;
       consistent = c.apply-reply.ensures.consistent;
       counted = let k = v.counted in omega arith;
       room = let k = v.room in omega arith;
