@@ -1,5 +1,6 @@
 -- What the two nodes keep along steps, arrivals, cuts and commits.
-use Rattle.std.proofs.Common.{◌≡◌, ℕ, zero, suc, ◌+◌, ◌-◌, ◌*◌, ◌/◌, ◌<◌, ◌≤◌, List, [], ◌∷◌, ◌++◌, length, replicate, refl, sym, ap, ◌∙◌, subst, arith, append_assoc, Bool, true, false, cond, Some, None, Result, Ok, Err}
+use Rattle.std.proofs.Common.{◌≡◌, ℕ, zero, suc, ◌+◌, ◌-◌, ◌*◌, ◌/◌, ◌<◌, ◌≤◌, List, [], ◌∷◌, ◌++◌, length, replicate, refl, sym, ap, ◌∙◌}
+use Rattle.std.proofs.Common.{subst, arith, append_assoc, Bool, true, false, cond, Some, None, Result, Ok, Err}
 use Rattle.std.specs.Prelude.{nat_lt, not, ◌==◌, slice_range, take, drop}
 use Rattle.std.proofs.Math.Bridge.{le_prop}
 use Rattle.std.proofs.lemmas.Bool.{eq-eqb}
@@ -30,7 +31,8 @@ use Rattle.pair_history.specs.Entries.{Frame}
 use Rattle.pair_history.specs.Moves.{Move, guest_along, frames_along}
 use Rattle.pair_history.proofs.Moves.{guest_along-append}
 use Rattle.pair_core.specs.Invariant.{all_moves, epoch_frames, AreSealed, AreNodes}
-use Rattle.pair_core.specs.Nodes.{Nodes, HasShape, node_of, machine_of, just_settled, start_nodes, after_run, with_arrival, with_sealed, with_commit, first_text, later_texts, read_as}
+use Rattle.pair_core.specs.Nodes.{Nodes, HasShape, node_of, machine_of, just_settled, start_nodes, after_run, with_arrival, with_sealed}
+use Rattle.pair_core.specs.Nodes.{with_commit, first_text, later_texts, read_as}
 use Rattle.pair_core.specs.Texts.{IsText}
 
 -- Sizes
@@ -85,7 +87,8 @@ base-after_run n x b h =
       ram = h.ram;
       size = h.size ∙ sym size;
       sectors = λ i low none.
-          h.sectors i (subst (λ (k : ℕ). i < k / 512) size low) (unlisted (is_in i x.live.dirty) (is_in i (marked_in n g x.live.dirty)) (listed.stays i) none)
+          h.sectors i (subst (λ (k : ℕ). i < k / 512) size low)
+          (unlisted (is_in i x.live.dirty) (is_in i (marked_in n g x.live.dirty)) (listed.stays i) none)
           ∙ sym (sector-slice g.sectors i) ∙ sym (listed.others i none) ∙ sector-slice (after_steps n g).sectors i;
     }
 
@@ -95,7 +98,8 @@ base-with_arrival f x b h =
     record {
       ram = h.ram;
       size = h.size ∙ ap length (sym same);
-      sectors = λ i low none. h.sectors i (subst (λ (bytes : List ℕ). i < sector_count bytes) same low) none ∙ ap (λ bytes. sector_of bytes i) (sym same);
+      sectors = λ i low none. h.sectors i (subst (λ (bytes : List ℕ). i < sector_count bytes) same low) none
+          ∙ ap (λ bytes. sector_of bytes i) (sym same);
     }
 
 pub base-settled : (g : Guest) → IsBase (machine_of (just_settled g)) g
@@ -107,11 +111,13 @@ pub all_moves-push : (mss : List (List Move)) (ms : List Move) → all_moves (ms
 all_moves-push [] ms = append-nil ms
 all_moves-push (x ∷ mss) ms = ap (λ t. x ++ t) (all_moves-push mss ms) ∙ sym (append_assoc x (all_moves mss) ms)
 
-epoch_frames-push : (g : Guest) (mss : List (List Move)) (ms : List Move) → epoch_frames g (mss ++ ms ∷ []) ≡ epoch_frames g mss ++ frames_along (guest_along g (all_moves mss)) ms ∷ []
+epoch_frames-push : (g : Guest) (mss : List (List Move)) (ms : List Move)
+    → epoch_frames g (mss ++ ms ∷ []) ≡ epoch_frames g mss ++ frames_along (guest_along g (all_moves mss)) ms ∷ []
 epoch_frames-push g [] ms = refl
 epoch_frames-push g (x ∷ mss) ms =
     ap (λ t. frames_along g x ∷ t) (epoch_frames-push (guest_along g x) mss ms)
-    ∙ ap (λ h. frames_along g x ∷ (epoch_frames (guest_along g x) mss ++ frames_along h ms ∷ [])) (sym (guest_along-append g x (all_moves mss)))
+    ∙ ap (λ h. frames_along g x ∷ (epoch_frames (guest_along g x) mss ++ frames_along h ms ∷ []))
+    (sym (guest_along-append g x (all_moves mss)))
 
 -- Texts
 
@@ -131,12 +137,14 @@ module _ (shape : Shape) (generation n : ℕ) (before after : Guest) (text : Lis
 abbrev made : (pages sectors : ℕ) → 1 ≤ pages → pages ≤ 4096 → 1 ≤ sectors → sectors ≤ 32768 → Shape
 made pages sectors a b c d = record { pages = pages; sectors = sectors; some_pages = a; most_pages = b; some_sectors = c; most_sectors = d }
 
-same-pages : (m n k : ℕ) (a : 1 ≤ m) (b : m ≤ 4096) (c : 1 ≤ k) (d : k ≤ 32768) → m ≡ n → (a' : 1 ≤ n) (b' : n ≤ 4096) → made m k a b c d ≡ made n k a' b' c d
+same-pages : (m n k : ℕ) (a : 1 ≤ m) (b : m ≤ 4096) (c : 1 ≤ k) (d : k ≤ 32768) → m ≡ n → (a' : 1 ≤ n) (b' : n ≤ 4096)
+    → made m k a b c d ≡ made n k a' b' c d
 same-pages m n k a b c d e =
     subst (λ (x : ℕ). (a' : 1 ≤ x) (b' : x ≤ 4096) → made m k a b c d ≡ made x k a' b' c d) e
     (λ a' b'. λ i. made m k (le_prop {n = 1} {m = m} a a' i) (le_prop {n = m} {m = 4096} b b' i) c d)
 
-same-sectors : (m n k : ℕ) (a : 1 ≤ k) (b : k ≤ 4096) (c : 1 ≤ m) (d : m ≤ 32768) → m ≡ n → (c' : 1 ≤ n) (d' : n ≤ 32768) → made k m a b c d ≡ made k n a b c' d'
+same-sectors : (m n k : ℕ) (a : 1 ≤ k) (b : k ≤ 4096) (c : 1 ≤ m) (d : m ≤ 32768) → m ≡ n → (c' : 1 ≤ n) (d' : n ≤ 32768)
+    → made k m a b c d ≡ made k n a b c' d'
 same-sectors m n k a b c d e =
     subst (λ (x : ℕ). (c' : 1 ≤ x) (d' : x ≤ 32768) → made k m a b c d ≡ made k x a b c' d') e
     (λ c' d'. λ i. made k m a b (le_prop {n = 1} {m = m} c c' i) (le_prop {n = m} {m = 32768} d d' i))
@@ -172,21 +180,25 @@ pub base-of : (m : State) (base : Guest) → IsBase (machine_of (node_of m)) bas
 base-of m base h = record { ram = h.ram; size = h.size; sectors = h.sectors }
 
 module _ (shape : Shape) (generation : ℕ) where
-  pub length-sealed : (n : ℕ) (g : Guest) (mss : List (List Move)) (texts : List (List ℕ)) → AreSealed shape generation n g mss texts → length texts ≡ length mss
+  pub length-sealed : (n : ℕ) (g : Guest) (mss : List (List Move)) (texts : List (List ℕ)) → AreSealed shape generation n g mss texts
+      → length texts ≡ length mss
   length-sealed n g [] [] h = refl
   length-sealed n g [] (t ∷ texts) h = absurd h
   length-sealed n g (ms ∷ mss) [] h = absurd h
   length-sealed n g (ms ∷ mss) (t ∷ texts) h = ap suc (length-sealed (n + 1) (guest_along g ms) mss texts h.1)
 
-  pub first-sealed : (n : ℕ) (g : Guest) (ms : List Move) (mss : List (List Move)) (texts : List (List ℕ)) → AreSealed shape generation n g (ms ∷ mss) texts → IsText shape generation n g (guest_along g ms) (first_text texts)
+  pub first-sealed : (n : ℕ) (g : Guest) (ms : List Move) (mss : List (List Move)) (texts : List (List ℕ))
+      → AreSealed shape generation n g (ms ∷ mss) texts → IsText shape generation n g (guest_along g ms) (first_text texts)
   first-sealed n g ms mss [] h = absurd h
   first-sealed n g ms mss (t ∷ texts) h = h.0
 
-  later-sealed : (n : ℕ) (g : Guest) (ms : List Move) (mss : List (List Move)) (texts : List (List ℕ)) → AreSealed shape generation n g (ms ∷ mss) texts → AreSealed shape generation (n + 1) (guest_along g ms) mss (later_texts texts)
+  later-sealed : (n : ℕ) (g : Guest) (ms : List Move) (mss : List (List Move)) (texts : List (List ℕ))
+      → AreSealed shape generation n g (ms ∷ mss) texts → AreSealed shape generation (n + 1) (guest_along g ms) mss (later_texts texts)
   later-sealed n g ms mss [] h = absurd h
   later-sealed n g ms mss (t ∷ texts) h = h.1
 
-  sealed-push : (n : ℕ) (g : Guest) (mss : List (List Move)) (texts : List (List ℕ)) (ms : List Move) (m : ℕ) (text : List ℕ) → AreSealed shape generation n g mss texts
+  sealed-push : (n : ℕ) (g : Guest) (mss : List (List Move)) (texts : List (List ℕ)) (ms : List Move) (m : ℕ) (text : List ℕ)
+      → AreSealed shape generation n g mss texts
       → n + length mss ≡ m → IsText shape generation m (guest_along g (all_moves mss)) (guest_along (guest_along g (all_moves mss)) ms) text
       → AreSealed shape generation n g (mss ++ ms ∷ []) (texts ++ text ∷ [])
   sealed-push n g [] [] ms m text h e t =
@@ -195,12 +207,16 @@ module _ (shape : Shape) (generation : ℕ) where
   sealed-push n g [] (x ∷ texts) ms m text h e t = absurd h
   sealed-push n g (xs ∷ mss) [] ms m text h e t = absurd h
   sealed-push n g (xs ∷ mss) (x ∷ texts) ms m text h e t =
-      let along = guest_along-append g xs (all_moves mss) in
-      (h.0, sealed-push (n + 1) (guest_along g xs) mss texts ms m text h.1 (omega arith) (subst (λ (b : Guest). IsText shape generation m b (guest_along b ms) text) along t))
+      let along = guest_along-append g xs (all_moves mss) in (
+        h.0,
+        sealed-push (n + 1) (guest_along g xs) mss texts ms m text h.1 (omega arith)
+            (subst (λ (b : Guest). IsText shape generation m b (guest_along b ms) text) along t),
+      )
 
 -- Cut
 
-pub nodes-cut : (generation n : ℕ) (g : Guest) (mss : List (List Move)) (ran : List Move) (held : List (List Frame)) (x : Nodes) (m : ℕ) (text : List ℕ)
+pub nodes-cut : (generation n : ℕ) (g : Guest) (mss : List (List Move)) (ran : List Move) (held : List (List Frame)) (x : Nodes) (m : ℕ)
+    (text : List ℕ)
     → AreNodes generation n g mss ran held x → n + length mss ≡ m
     → IsText x.image.shape generation m (guest_along g (all_moves mss)) x.live.guest text
     → AreNodes generation n g (mss ++ ran ∷ []) [] (held ++ x.live.outbox ∷ []) (with_sealed x text)
@@ -230,7 +246,12 @@ nodes-cut generation n g mss ran held x m text h e t =
 
 -- the image that a new checkpoint makes
 abbrev taken_in : ImageState → Change → ImageState
-taken_in i c = record { shape = i.shape; guest = image_of c i.guest; stands_at = Some (record { generation = c.generation; number = c.number }); staged = None }
+taken_in i c = record {
+  shape = i.shape;
+  guest = image_of c i.guest;
+  stands_at = Some (record { generation = c.generation; number = c.number });
+  staged = None;
+}
 
 takes-in : (i : ImageState) (c : Change) → stage_answer i c ≡ Ok New → committed (after_stage i c) ≡ taken_in i c
 takes-in i c e = ap (λ (o : Result Staged ImageError). committed (record i { staged = staged_after o c i.staged })) e
@@ -247,7 +268,8 @@ next-is-new generation n some = λ i. cond (same i) (Err Stale) (cond (near i) (
     next_one : (n == n - 1 + 1) ≡ true
     next_one = eq-eqb n (n - 1 + 1) (omega arith)
 
-module _ (generation n : ℕ) (g : Guest) (ms : List Move) (mss : List (List Move)) (ran : List Move) (f : List Frame) (held : List (List Frame)) (x : Nodes)
+module _ (generation n : ℕ) (g : Guest) (ms : List Move) (mss : List (List Move)) (ran : List Move) (f : List Frame)
+    (held : List (List Frame)) (x : Nodes)
     (h : AreNodes generation n g (ms ∷ mss) ran (f ∷ held) x) where
   text : IsText x.image.shape generation n g (guest_along g ms) (first_text x.sealed)
   text = first-sealed x.image.shape generation n g ms mss x.sealed h.sealed
@@ -291,12 +313,14 @@ module _ (generation n : ℕ) (g : Guest) (ms : List Move) (mss : List (List Mov
 
   pub nodes-commit : AreNodes generation (n + 1) (guest_along g ms) mss ran held (with_commit x)
   nodes-commit =
-      subst (λ (i : ImageState). AreNodes generation (n + 1) (guest_along g ms) mss ran held (record x { image = i; sealed = later_texts x.sealed }))
+      subst (λ (i : ImageState). AreNodes generation (n + 1) (guest_along g ms) mss ran held
+      (record x { image = i; sealed = later_texts x.sealed }))
       (sym (takes-in x.image change is-new)) taken
 
 -- Where both nodes boot
 
-pub nodes-start : (s : Shape) (image : List ℕ) → length image ≤ 4096 * s.pages → AreNodes 1 1 (boot_guest s.pages s.sectors image) [] [] [] (start_nodes s image)
+pub nodes-start : (s : Shape) (image : List ℕ) → length image ≤ 4096 * s.pages
+    → AreNodes 1 1 (boot_guest s.pages s.sectors image) [] [] [] (start_nodes s image)
 nodes-start s image fits = record {
   first_generation = omega arith;
   last_generation = omega arith;

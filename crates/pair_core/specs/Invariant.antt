@@ -55,9 +55,10 @@ AreSealed shape generation n g (ms ∷ mss) (text ∷ texts) =
 AreSealed shape generation n g [] (text ∷ texts) = ⊥
 AreSealed shape generation n g (ms ∷ mss) [] = ⊥
 
--- The nodes in this generation, where n is the number of the next checkpoint to be committed, the history's guest is g, these moves are kept, and
--- the gate holds these frames of uncommitted checkpoints.
-pub record AreNodes (generation n : ℕ) (g : Guest) (sealed_moves : List (List Move)) (running_moves : List Move) (held : List (List Frame)) (x : Nodes) : Type 0 where
+-- The nodes in this generation, where n is the number of the next checkpoint to be committed, the history's guest is g, these moves are
+-- kept, and the gate holds these frames of uncommitted checkpoints.
+pub record AreNodes (generation n : ℕ) (g : Guest) (sealed_moves : List (List Move)) (running_moves : List Move)
+    (held : List (List Frame)) (x : Nodes) : Type 0 where
   pub first_generation : 1 ≤ generation
   pub last_generation : generation < NUMBER_LIMIT
   pub some_committed : 1 ≤ n

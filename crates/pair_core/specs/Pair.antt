@@ -46,12 +46,14 @@ pub record IsConsistent (w : Pair) : Type 0 where
   -- the live machine is the guest of the history followed by what is kept, and was last settled at the guest of the last cut
   pub live : w.nodes.live.guest ≡ (live_state w).guest
   pub base : IsBase (machine_of w.nodes.live) (cut_state w).guest
-  -- the image is the guest of the history, memory, disk and devices; it stands at the last checkpoint that was committed, and nothing is staged
+  -- the image is the guest of the history, memory, disk and devices; it stands at the last checkpoint that was committed, and nothing
+  -- is staged
   pub image : w.nodes.image.guest ≡ (shown_state w).guest
   pub stands_at : w.nodes.image.stands_at ≡ Some (record { generation = w.protocol.generation; number = w.protocol.window.to_commit - 1 })
   pub staged : w.nodes.image.staged ≡ None
   -- each sealed text reads back as the checkpoint of its number, which makes the guest of its epoch's end of the one of the epoch before
-  pub sealed : AreTexts w.nodes.image.shape w.protocol.generation w.protocol.window.to_commit (shown_state w) w.protocol.journal.sealed w.nodes.sealed
+  pub sealed : AreTexts w.nodes.image.shape w.protocol.generation w.protocol.window.to_commit
+      (shown_state w) w.protocol.journal.sealed w.nodes.sealed
   -- the outbox is all that the guest sent along the epoch that runs, also what goes nowhere
   pub outbox : w.nodes.live.outbox ≡ outbox_of w.start w.protocol
   -- each client's inbox is what waits of it after all that is kept, and numbers go on from the history's

@@ -9,7 +9,8 @@ ghost use Rattle.guest_machine.specs.Runs.{HaveRoom};
 ghost use Rattle.epoch_snapshot.specs.Bases.{IsBase};
 ghost use Rattle.checkpoint_stream.specs.Readings.{begun, fed};
 ghost use Rattle.checkpoint_stream.specs.declared.place.Place.TheVariants.{Whole};
-ghost use Rattle.pair_core.specs.Nodes.{HasShape, machine_of, start_nodes, after_run, with_arrival, with_sealed, first_text, read_as, with_commit};
+ghost use Rattle.pair_core.specs.Nodes.{HasShape, machine_of, start_nodes, after_run, with_arrival, with_sealed, with_commit};
+ghost use Rattle.pair_core.specs.Nodes.{first_text, read_as};
 ghost use Rattle.pair_core.specs.Texts.{IsText};
 
 use backup_image::Image;

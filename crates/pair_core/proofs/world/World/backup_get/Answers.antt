@@ -16,13 +16,15 @@ use Rattle.pair_core.proofs.world.World.backup_get.Goals as goal
 pub invariant_of-self : goal.invariant_of-self
 invariant_of-self c =
     let w = pair_of c.self.inside in
-    after_call w c.self.invariant c.acknowledge_again.new.self c.acknowledge_again.result (again_done w.protocol) w.ports c.acknowledge_again.ensures.ok
+    after_call w c.self.invariant c.acknowledge_again.new.self c.acknowledge_again.result (again_done w.protocol) w.ports
+    c.acknowledge_again.ensures.ok
     (on_ok c.acknowledge_again.result _ c.acknowledge_again.ensures.ports) c.acknowledge_again.ensures.err
     (lines_hold w c.self.invariant (again_done w.protocol).1.lines)
 
 -- a packet that isn't refused, of no number that was committed, names the next checkpoint, which was cut
 names_next : (r : Record) (p : Packet) (n : ℕ) (o : Option Refusal) → o ≡ first_refusal (backup_refusals r p) → o ≡ None
-    → (p.generation ≡ r.generation → p.number < r.window.to_cut) → n ≡ r.window.to_commit → n ≤ p.number → r.window.to_commit < r.window.to_cut
+    → (p.generation ≡ r.generation → p.number < r.window.to_cut) → n ≡ r.window.to_commit → n ≤ p.number
+    → r.window.to_commit < r.window.to_cut
 names_next r p n o is none cut e least =
     let below = cut (generation_is p.generation r.generation (passed _ _ _ (sym is ∙ none)).0) in
     omega arith
@@ -31,7 +33,8 @@ pub oldest-requires-clause-some : goal.oldest-requires-clause-some
 oldest-requires-clause-some c =
     let w = pair_of c.self.inside in
     let more =
-    names_next w.protocol c.in-Some.packet c.to_commit.result c.backup_refusal.result c.backup_refusal.ensures.refusal c.in_default-backup_refusal.is c.in-Some.ensures.cut
+    names_next w.protocol c.in-Some.packet c.to_commit.result c.backup_refusal.result c.backup_refusal.ensures.refusal
+    c.in_default-backup_refusal.is c.in-Some.ensures.cut
     c.to_commit.ensures c.if-packet-to_commit.false in
     (oldest_text w c.self.invariant c.backup_refusal.ensures.record more).1.0
 
@@ -39,16 +42,19 @@ pub oldest-requires-clause-whole : goal.oldest-requires-clause-whole
 oldest-requires-clause-whole c =
     let w = pair_of c.self.inside in
     let more =
-    names_next w.protocol c.in-Some.packet c.to_commit.result c.backup_refusal.result c.backup_refusal.ensures.refusal c.in_default-backup_refusal.is c.in-Some.ensures.cut
+    names_next w.protocol c.in-Some.packet c.to_commit.result c.backup_refusal.result c.backup_refusal.ensures.refusal
+    c.in_default-backup_refusal.is c.in-Some.ensures.cut
     c.to_commit.ensures c.if-packet-to_commit.false in
     let oldest = oldest_text w c.self.invariant c.backup_refusal.ensures.record more in
-    reads-whole w.nodes.image.shape w.protocol.generation w.protocol.window.to_commit (shown_state w).guest oldest.0 (first_text w.nodes.sealed) oldest.1.1
+    reads-whole w.nodes.image.shape w.protocol.generation w.protocol.window.to_commit (shown_state w).guest oldest.0
+    (first_text w.nodes.sealed) oldest.1.1
 
 pub commit-requires-2-clause-some : goal.commit-requires-2-clause-some
 commit-requires-2-clause-some c =
     let w = pair_of c.self.inside in
     let more =
-    names_next w.protocol c.in-Some.packet c.to_commit.result c.backup_refusal.result c.backup_refusal.ensures.refusal c.in_default-backup_refusal.is c.in-Some.ensures.cut
+    names_next w.protocol c.in-Some.packet c.to_commit.result c.backup_refusal.result c.backup_refusal.ensures.refusal
+    c.in_default-backup_refusal.is c.in-Some.ensures.cut
     c.to_commit.ensures c.if-packet-to_commit.false in
     (oldest_text w c.self.invariant c.backup_refusal.ensures.record more).1.0
 
@@ -56,18 +62,21 @@ pub commit-requires-2-clause-shape : goal.commit-requires-2-clause-shape
 commit-requires-2-clause-shape c =
     let w = pair_of c.self.inside in
     let more =
-    names_next w.protocol c.in-Some.packet c.to_commit.result c.backup_refusal.result c.backup_refusal.ensures.refusal c.in_default-backup_refusal.is c.in-Some.ensures.cut
+    names_next w.protocol c.in-Some.packet c.to_commit.result c.backup_refusal.result c.backup_refusal.ensures.refusal
+    c.in_default-backup_refusal.is c.in-Some.ensures.cut
     c.to_commit.ensures c.if-packet-to_commit.false in
     let oldest = oldest_text w c.self.invariant c.backup_refusal.ensures.record more in
     ap (λ (checkpoint : Change). checkpoint.shape) c.in_ok-checkpoint.ensures
-    ∙ reads-shape w.nodes.image.shape w.protocol.generation w.protocol.window.to_commit (shown_state w).guest oldest.0 (first_text w.nodes.sealed) oldest.1.1
+    ∙ reads-shape w.nodes.image.shape w.protocol.generation w.protocol.window.to_commit (shown_state w).guest oldest.0
+    (first_text w.nodes.sealed) oldest.1.1
 
 pub invariant_of-self-2 : goal.invariant_of-self-2
 invariant_of-self-2 c =
     let w = pair_of c.self.inside in
     let protocol = ap (λ (o : Outcome). o.1) c.in_ok-reply.ensures.ok in
     let more =
-    names_next w.protocol c.in-Some.packet c.to_commit.result c.backup_refusal.result c.backup_refusal.ensures.refusal c.in_default-backup_refusal.is c.in-Some.ensures.cut
+    names_next w.protocol c.in-Some.packet c.to_commit.result c.backup_refusal.result c.backup_refusal.ensures.refusal
+    c.in_default-backup_refusal.is c.in-Some.ensures.cut
     c.to_commit.ensures c.if-packet-to_commit.false in
     subst Holds (λ i. record w { protocol = sym protocol i; ports = sym c.commit.ensures.ports i; nodes = sym c.commit-2.ensures i })
     (commit_holds w c.self.invariant c.backup_refusal.ensures.record more)

@@ -42,10 +42,12 @@ checkpoint-requires-clause-last_number c =
     omega arith
 
 -- what the record answered and left, by the live machine's outbox
-done : (c : In_ok-reply) → (c.in_ok-reply.reply, c.cut.new.self.protocol) ≡ cut_done (pair_of c.self.inside).nodes.live.outbox (pair_of c.self.inside).protocol
+done : (c : In_ok-reply) → (c.in_ok-reply.reply, c.cut.new.self.protocol) ≡ cut_done (pair_of c.self.inside).nodes.live.outbox
+    (pair_of c.self.inside).protocol
 done c =
     c.in_ok-reply.ensures.ok
-    ∙ ap (λ (fs : List Frame). cut_done fs (pair_of c.self.inside).protocol) (c.outbox.ensures.value ∙ ap (λ (x : Nodes). x.live.outbox) c.checkpoint.ensures.nodes)
+    ∙ ap (λ (fs : List Frame). cut_done fs (pair_of c.self.inside).protocol)
+    (c.outbox.ensures.value ∙ ap (λ (x : Nodes). x.live.outbox) c.checkpoint.ensures.nodes)
 
 pub invariant_of-self-2 : goal.invariant_of-self-2
 invariant_of-self-2 c =
@@ -57,12 +59,14 @@ invariant_of-self-2 c =
     (cut_holds w c.self.invariant c.cut_refusal.ensures.record text
     (λ base is sized.
     subst (λ (n : ℕ). IsText w.nodes.image.shape w.protocol.generation n base w.nodes.live.guest text) c.to_cut.ensures
-    (subst (λ (g : ℕ). IsText w.nodes.image.shape g c.to_cut.result base w.nodes.live.guest text) c.generation.ensures (c.in_ok-text.ensures.text base is sized))))
+    (subst (λ (g : ℕ). IsText w.nodes.image.shape g c.to_cut.result base w.nodes.live.guest text) c.generation.ensures
+    (c.in_ok-text.ensures.text base is sized))))
 
 pub returns-clause-outcome : goal.returns-clause-outcome
 returns-clause-outcome c =
     let w = pair_of c.self.inside in
     subst (λ (v : Pair). (c.in_ok-reply.reply, c.cut.new.self.protocol) ≡ outcome v.start v.protocol Cut) c.self.view_is
     (done (goal.at.returns-clause-outcome c).In_ok-reply
-    ∙ goes w.protocol (cut_refusals w.protocol) (cut_done w.nodes.live.outbox w.protocol) c.cut_refusal.result c.cut_refusal.ensures.refusal c.in_default.is
+    ∙ goes w.protocol (cut_refusals w.protocol) (cut_done w.nodes.live.outbox w.protocol)
+    c.cut_refusal.result c.cut_refusal.ensures.refusal c.in_default.is
     ∙ cut_sight w c.self.invariant)
