@@ -73,21 +73,6 @@ impl SectorSet {
         })
     }
 
-    /// The same set once more.
-    pub(crate) fn copy(&self, alloc: Global) -> Result<SectorSet, AllocError>
-        ensures { IfOk result (λ set. set ≡ self.now) }
-    {
-        let mut bits = Vec::with_capacity(alloc, self.bits.len())?;
-        bits.extend_from_slice(self.bits.as_slice())?;
-        let mut list = Vec::with_capacity(alloc, self.sectors as usize)?;
-        list.extend_from_slice(self.list.as_slice())?;
-        Ok(SectorSet {
-            sectors: self.sectors,
-            bits,
-            list,
-        })
-    }
-
     /// Its sectors in rising order.
     pub(crate) fn list(&self) -> &[u32]
         ensures value { result.now ≡ self.now.list }

@@ -56,21 +56,6 @@ impl Disk {
         })
     }
 
-    /// The same disk once more: its registers, its sectors, and the list of those that were written.
-    ///
-    /// # Errors
-    /// `NoMemory` where memory is refused.
-    pub fn copy(&self, alloc: Global) -> Result<Disk, DiskError>
-        ensures disk { IfOk result (λ disk. disk ≡ self.now) }
-        ensures err { OnErr result (result ≡ Err DiskError.NoMemory) }
-    {
-        let storage = self.storage.copy(alloc)?;
-        Ok(Disk {
-            transport: self.transport,
-            storage,
-        })
-    }
-
     /// How many sectors the disk has: 1 to 32768.
     pub fn sectors(&self) -> u32
         ensures value { result ≡ capacity self.now.contents }

@@ -48,16 +48,6 @@ impl Storage {
         Ok(Storage { bytes, dirty })
     }
 
-    /// The same sectors once more, and the same list.
-    pub(crate) fn copy(&self, alloc: Global) -> Result<Storage, AllocError>
-        ensures { IfOk result (λ storage. storage ≡ self.now) }
-    {
-        let mut bytes = Vec::with_capacity(alloc, self.bytes.len())?;
-        bytes.extend_from_slice(self.bytes.as_slice())?;
-        let dirty = self.dirty.copy(alloc)?;
-        Ok(Storage { bytes, dirty })
-    }
-
     /// How many sectors there are: 1 to 32768.
     pub(crate) fn sectors(&self) -> u32
         ensures value { result ≡ capacity self.now }

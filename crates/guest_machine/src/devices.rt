@@ -78,17 +78,6 @@ impl Devices {
         })
     }
 
-    /// The same devices once more.
-    pub(crate) fn copy(&self, alloc: Global) -> Result<Devices, DiskError>
-        ensures { IfOk result (λ devices. devices ≡ self.now) }
-    {
-        let disk = self.disk.copy(alloc)?;
-        Ok(Devices {
-            net: self.net,
-            disk,
-        })
-    }
-
     /// Whether a device has an interrupt for its driver.
     #[inline]
     pub(crate) fn interrupts_wait(&self) -> bool

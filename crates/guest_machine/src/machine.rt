@@ -147,31 +147,6 @@ impl Machine {
         self.devices.receive(&mut self.ram, frame)
     }
 
-    /// The same machine once more: its guest, its outbox, and its list of written sectors.
-    ///
-    /// # Errors
-    /// `NoMemory` where memory is refused.
-    pub fn copy(&self, alloc: Global) -> Result<Machine, MachineError>
-        ensures ok { IfOk result (λ machine. machine ≡ self.now) }
-        ensures err { OnErr result (result ≡ Err MachineError.NoMemory) }
-    {
-        let Ok(memory) = self.ram.memory.copy(alloc) else {
-            return Err(MachineError::NoMemory);
-        };
-        let Ok(devices) = self.devices.copy(alloc) else {
-            return Err(MachineError::NoMemory);
-        };
-        let Ok(outbox) = self.outbox.copy(alloc) else {
-            return Err(MachineError::NoMemory);
-        };
-        Ok(Machine {
-            hart: self.hart,
-            ram: Ram { memory },
-            devices,
-            outbox,
-        })
-    }
-
     /// Empties the outbox and the list of written sectors. From now on no page counts as written, and the bytes of the last settle
     /// are those that memory has now.
     pub fn settle(&mut self)

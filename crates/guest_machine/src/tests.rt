@@ -1,6 +1,5 @@
 //! Whole runs of small guests, with the values that the rules give.
 
-mod copies;
 mod disk;
 mod disk_interrupts;
 mod interrupts;

@@ -100,17 +100,6 @@ impl Outbox {
     {
         self.frames.clear();
     }
-
-    /// The same outbox once more, with as many places. The one error is `NoMemory`.
-    pub fn copy(&self, alloc: Global) -> Result<Outbox, OutboxError>
-        ensures { IfOk result (λ outbox. outbox ≡ self.now) }
-    {
-        let mut copy = Outbox::new(alloc)?;
-        for frame in self.frames() {
-            copy.push(frame.as_slice());
-        }
-        Ok(copy)
-    }
 }
 
 /// Puts a frame of `len` zero bytes last.

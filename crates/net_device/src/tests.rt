@@ -152,12 +152,11 @@ fn an_outbox_keeps_frames_in_order(rt: HostRuntime) -> Result<(), Fail> {
     let mut outbox = Outbox::new(rt.alloc())?;
     outbox.push(&[1; 14]);
     outbox.push(&[2; 1514]);
-    let copy = outbox.copy(rt.alloc())?;
+    assert_eq!(rt; outbox.len(), 2);
+    assert_eq!(rt; outbox.frames()[0].as_slice(), [1; 14].as_slice());
+    assert_eq!(rt; outbox.frames()[1].len(), 1514);
     outbox.clear();
     assert_eq!(rt; outbox.len(), 0);
-    assert_eq!(rt; copy.len(), 2);
-    assert_eq!(rt; copy.frames()[0].as_slice(), [1; 14].as_slice());
-    assert_eq!(rt; copy.frames()[1].len(), 1514);
     Ok(())
 }
 

@@ -67,27 +67,6 @@ impl Memory {
         })
     }
 
-    /// The same memory once more, with its flags, the bytes of the last settle, and its count of copies.
-    ///
-    /// # Errors
-    /// Where memory is refused.
-    pub fn copy(&self, alloc: Global) -> Result<Memory, AllocError>
-        ensures { IfOk result (λ memory. memory ≡ self.now) }
-    {
-        let bytes = Vec::from_slice(alloc, self.bytes.as_slice())?;
-        let originals = Vec::from_slice(alloc, self.originals.as_slice())?;
-        let written = Vec::from_slice(alloc, self.written.as_slice())?;
-        let mut dirty = Vec::with_capacity(alloc, self.written.len())?;
-        dirty.extend_from_slice(self.dirty.as_slice())?;
-        Ok(Memory {
-            bytes,
-            originals,
-            written,
-            dirty,
-            copies: self.copies,
-        })
-    }
-
     /// How many bytes there are: 1 to 4096 whole pages.
     #[inline]
     pub fn size(&self) -> usize

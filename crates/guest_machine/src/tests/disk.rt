@@ -124,15 +124,11 @@ fn a_sector_is_written_in_step_23(rt: HostRuntime) -> Result<(), Fail> {
     assert_eq!(rt; machine.disk().interrupt_status, 1);
     assert_eq!(rt; machine.net(), DeviceState::boot());
     assert!(rt; machine.outbox().is_empty());
-    // a copy has the same disk, and a settle of the one isn't one of the other
-    let copy = machine.copy(rt.alloc())?;
+    // a settle leaves the disk as it is
     machine.settle();
     assert!(rt; machine.dirty_sectors().is_empty());
     assert_last_sector(&rt, &machine, 0xab);
     assert_eq!(rt; machine.disk().interrupt_status, 1);
-    assert_eq!(rt; copy.dirty_sectors(), [7].as_slice());
-    assert_last_sector(&rt, &copy, 0xab);
-    assert_eq!(rt; copy.disk(), machine.disk());
     Ok(())
 }
 
