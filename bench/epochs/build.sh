@@ -1,12 +1,13 @@
 #!/usr/bin/env bash
 # Proves and builds bench/epochs over the repository's crates, and prints the program's path. The crate stands in no crates.txt, since it
-# is no part of the product (its sources bear other endings than a crate's, which the gate would want to check): it is built in a folder of its own, out/build, which has the crates and what is proved of them as hard links.
+# is no part of the product, and its sources have endings of their own, since the gate takes every .rt and .antt file for a crate's. It is
+# built in a folder of its own, out/build, which has the crates and what is proved of them as hard links.
 set -eu
 here=$(dirname "$(readlink -f "$0")")
 root=$(readlink -f "$here/../..")
 program=$here/out/epochs
 build=$here/out/build
-if [ ! -x "$program" ] || [ -n "$(find "$root"/crates/*/src "$here"/main.rattle "$here"/back_up.answers -newer "$program" -print -quit)" ]; then
+if [ ! -x "$program" ] || [ -n "$(find "$root"/crates/*/src "$here" -newer "$program" -not -path "$here/out*" -print -quit)" ]; then
     trap 'rm -rf "$build"' EXIT
     rm -rf "$build"
     mkdir -p "$build/crates/epochs/src" "$build/crates/epochs/proofs/back_up"
