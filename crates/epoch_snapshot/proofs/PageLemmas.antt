@@ -143,6 +143,11 @@ changed_pages-skip old new n m e none =
     ∙ ap (λ k. changed_pages old new n ++ cond (not (k == 0)) (record { page = n; mask = k } ∷ []) []) (sym e ∙ none)
     ∙ append-nil (changed_pages old new n)
 
+-- a page that is the same isn't added
+pub changed_pages-same : (old new : List ℕ) (n : ℕ) → slice_range new (4096 * n) (4096 * n + 4096) ≡
+    slice_range old (4096 * n) (4096 * n + 4096) → changed_pages old new (n + 1) ≡ changed_pages old new n
+changed_pages-same old new n same = changed_pages-skip old new n 0 (mask-same old new n same) refl
+
 pub count-push : (ps : List PageChange) (p : PageChange) → block_count (ps ++ p ∷ []) ≡ block_count ps + count_ones p.mask
 count-push ps p = sum_by_push (λ (q : PageChange). count_ones q.mask) ps p
 

@@ -1,5 +1,5 @@
 //! What a cut records of memory.
-ghost use Rattle.std.specs.Prelude.{◌≡◌, ℕ, ◌+◌, ◌*◌, ◌<◌, ◌≤◌, ◌^◌, length, [], ◌++◌, map, vec_capacity, All};
+ghost use Rattle.std.specs.Prelude.{◌≡◌, ℕ, ◌+◌, ◌*◌, ◌<◌, ◌≤◌, ◌^◌, false, length, [], ◌++◌, map, vec_capacity, All};
 ghost use Rattle.epoch_snapshot.specs.Blocks.{set_blocks, block_numbers, xored, block_in, changed_mask};
 ghost use Rattle.epoch_snapshot.specs.Checkpoints.{block_count};
 ghost use Rattle.epoch_snapshot.specs.Cuts.{changed_pages, changed_blocks};
@@ -11,6 +11,9 @@ use page_lanes::{Page, mask, xor_blocks};
 
 /// How many blocks a page has.
 const PAGE_BLOCKS: usize = 64;
+
+/// How many pages are passed over in one go where none of them was written.
+const GROUP_PAGES: u32 = 64;
 
 /// A page of zeros.
 static ZERO_PAGE: Page = [0; 4096];
@@ -55,6 +58,56 @@ fn page_mask(machine: &Machine, over: Over, page: u32) -> u64
     }
 }
 
+/// Whether one of the pages from `from` up to `end` was written since the last settle. It looks at each, so that several are looked
+/// at in one go.
+fn some_written(machine: &Machine, from: u32, end: u32) -> bool
+    requires ordered { from ≤ end }
+    requires size { 4096 * end ≤ length machine.now.guest.ram }
+    ensures { result ≡ false →
+        changed_pages machine.now.settled machine.now.guest.ram end ≡ changed_pages machine.now.settled machine.now.guest.ram from }
+{
+    let mut some = false;
+    for page in from..end {
+        some |= machine.dirty(page);
+    }
+    some
+}
+
+/// The first page from `from` on that was written since the last settle, or `pages` where none of the first `pages` was.
+fn next_written(machine: &Machine, from: u32, pages: u32) -> u32
+    requires ordered { from ≤ pages }
+    requires size { 4096 * pages ≤ length machine.now.guest.ram }
+    ensures first { from ≤ result }
+    ensures last { result ≤ pages }
+    ensures same { changed_pages machine.now.settled machine.now.guest.ram result ≡ changed_pages machine.now.settled machine.now.guest.ram from }
+{
+    let mut page = from;
+    while page < pages && !machine.dirty(page) {
+        let group = page % GROUP_PAGES == 0 && pages - page >= GROUP_PAGES;
+        if group && !some_written(machine, page, page + GROUP_PAGES) {
+            page += GROUP_PAGES;
+        } else {
+            page += 1;
+        }
+    }
+    page
+}
+
+/// A page from `from` on such that none before it changes, or `pages` where none of the first `pages` does.
+fn next_page(machine: &Machine, over: Over, from: u32, pages: u32) -> u32
+    requires ordered { from ≤ pages }
+    requires size { 4096 * pages ≤ length machine.now.guest.ram }
+    ensures first { from ≤ result }
+    ensures last { result ≤ pages }
+    ensures same { changed_pages (old_ram over machine.now) machine.now.guest.ram result ≡
+        changed_pages (old_ram over machine.now) machine.now.guest.ram from }
+{
+    match over {
+        Over::Settled => next_written(machine, from, pages),
+        Over::Zero => from,
+    }
+}
+
 /// How many of the first `pages` pages change, and how many blocks.
 pub(crate) fn count_changes(machine: &Machine, over: Over, pages: u32) -> Counts
     requires { 4096 * pages ≤ length machine.now.guest.ram }
@@ -65,12 +118,14 @@ pub(crate) fn count_changes(machine: &Machine, over: Over, pages: u32) -> Counts
         pages: 0,
         blocks: 0,
     };
-    for page in 0..pages {
+    let mut page = next_page(machine, over, 0, pages);
+    while page < pages {
         let mask = page_mask(machine, over, page);
         if mask != 0 {
             counts.pages += 1;
             counts.blocks += mask.count_ones() as usize;
         }
+        page = next_page(machine, over, page + 1, pages);
     }
     counts
 }
@@ -82,11 +137,13 @@ pub(crate) fn push_pages(machine: &Machine, over: Over, pages: u32, list: &mut V
     requires room { length (changed_pages (old_ram over machine.now) machine.now.guest.ram pages) ≤ vec_capacity list.old }
     ensures { list.new.items ≡ changed_pages (old_ram over machine.now) machine.now.guest.ram pages }
 {
-    for page in 0..pages {
+    let mut page = next_page(machine, over, 0, pages);
+    while page < pages {
         let mask = page_mask(machine, over, page);
         if mask != 0 {
             list.push_reserved(PageChange { page, mask });
         }
+        page = next_page(machine, over, page + 1, pages);
     }
 }
 

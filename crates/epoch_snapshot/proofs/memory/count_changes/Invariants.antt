@@ -1,5 +1,5 @@
 -- What was counted so far are the changed ones among the pages so far.
-use Rattle.std.proofs.Common.{◌≡◌, ◌*◌, ◌≤◌, length}
+use Rattle.std.proofs.Common.{◌≡◌, ◌-◌, ◌*◌, ◌≤◌, length}
 use Rattle.epoch_snapshot.specs.Bases.{old_ram}
 use Rattle.epoch_snapshot.specs.Checkpoints.{block_count}
 use Rattle.epoch_snapshot.specs.Cuts.{changed_pages}
@@ -9,6 +9,10 @@ abbrev pub invariant-loop-page : goal.invariant-loop-page
 invariant-loop-page l = record {
   pages : l.counts.pages ≡ length (changed_pages (old_ram l.over l.machine) l.machine.guest.ram l.page);
   blocks : l.counts.blocks ≡ block_count (changed_pages (old_ram l.over l.machine) l.machine.guest.ram l.page);
+  last : l.page ≤ l.pages;
   few_pages : l.counts.pages ≤ l.page;
   few_blocks : l.counts.blocks ≤ 64 * l.page;
 }
+
+abbrev pub decreases-loop-page : goal.decreases-loop-page
+decreases-loop-page l = l.pages - l.page
