@@ -2,12 +2,12 @@
 ghost use Rattle.std.specs.Prelude.{◌≡◌, ℕ, ◌+◌, ◌*◌, ◌<◌, ◌≤◌, ◌^◌, false, length, [], ◌++◌, map, vec_capacity, All};
 ghost use Rattle.epoch_snapshot.specs.Blocks.{set_blocks, block_numbers, xored, block_in, changed_mask};
 ghost use Rattle.epoch_snapshot.specs.Checkpoints.{block_count};
-ghost use Rattle.epoch_snapshot.specs.Cuts.{changed_pages, changed_blocks};
+ghost use Rattle.epoch_snapshot.specs.Cuts.{page_change, is_changed, changed_pages, changed_blocks};
 ghost use Rattle.epoch_snapshot.specs.Bases.{old_ram};
 
 use crate::changes::{BLOCK_BYTES, Block, PageChange};
 use guest_machine::Machine;
-use page_lanes::{Page, mask, xor_blocks};
+use page_lanes::{Page, equal, mask, xor_blocks};
 
 /// How many blocks a page has.
 const PAGE_BLOCKS: usize = 64;
@@ -27,15 +27,6 @@ pub(crate) enum Over {
     Zero,
 }
 
-/// How much a cut records of memory.
-#[derive(Clone, Copy)]
-pub(crate) struct Counts {
-    /// Pages that change.
-    pub(crate) pages: usize,
-    /// Blocks that change.
-    pub(crate) blocks: usize,
-}
-
 /// A page of what the checkpoint is cut over.
 fn old_page(machine: &Machine, over: Over, page: u32) -> &Page
     requires { 4096 * page + 4096 ≤ length machine.now.guest.ram }
@@ -52,10 +43,7 @@ fn page_mask(machine: &Machine, over: Over, page: u32) -> u64
     requires { 4096 * page + 4096 ≤ length machine.now.guest.ram }
     ensures { result ≡ changed_mask (old_ram over machine.now) machine.now.guest.ram page }
 {
-    match over {
-        Over::Settled if !machine.dirty(page) => 0,
-        _ => mask(old_page(machine, over, page), machine.page(page)),
-    }
+    mask(old_page(machine, over, page), machine.page(page))
 }
 
 /// Whether one of the pages from `from` up to `end` was written since the last settle. It looks at each, so that several are looked
@@ -79,7 +67,8 @@ fn next_written(machine: &Machine, from: u32, pages: u32) -> u32
     requires size { 4096 * pages ≤ length machine.now.guest.ram }
     ensures first { from ≤ result }
     ensures last { result ≤ pages }
-    ensures same { changed_pages machine.now.settled machine.now.guest.ram result ≡ changed_pages machine.now.settled machine.now.guest.ram from }
+    ensures same { changed_pages machine.now.settled machine.now.guest.ram result ≡
+        changed_pages machine.now.settled machine.now.guest.ram from }
 {
     let mut page = from;
     while page < pages && !machine.dirty(page) {
@@ -108,43 +97,54 @@ fn next_page(machine: &Machine, over: Over, from: u32, pages: u32) -> u32
     }
 }
 
-/// How many of the first `pages` pages change, and how many blocks.
-pub(crate) fn count_changes(machine: &Machine, over: Over, pages: u32) -> Counts
-    requires { 4096 * pages ≤ length machine.now.guest.ram }
-    ensures pages { result.pages ≡ length (changed_pages (old_ram over machine.now) machine.now.guest.ram pages) }
-    ensures blocks { result.blocks ≡ block_count (changed_pages (old_ram over machine.now) machine.now.guest.ram pages) }
+/// Whether a page changes. It stops at the first block that does.
+fn page_changes(machine: &Machine, over: Over, page: u32) -> bool
+    requires { 4096 * page + 4096 ≤ length machine.now.guest.ram }
+    ensures { result ≡ is_changed (page_change (old_ram over machine.now) machine.now.guest.ram page) }
 {
-    let mut counts = Counts {
-        pages: 0,
-        blocks: 0,
-    };
+    !equal(old_page(machine, over, page), machine.page(page))
+}
+
+/// How many of the first `pages` pages change.
+pub(crate) fn count_pages(machine: &Machine, over: Over, pages: u32) -> usize
+    requires { 4096 * pages ≤ length machine.now.guest.ram }
+    ensures { result ≡ length (changed_pages (old_ram over machine.now) machine.now.guest.ram pages) }
+{
+    let mut count = 0;
     let mut page = next_page(machine, over, 0, pages);
     while page < pages {
-        let mask = page_mask(machine, over, page);
-        if mask != 0 {
-            counts.pages += 1;
-            counts.blocks += mask.count_ones() as usize;
+        if page_changes(machine, over, page) {
+            count += 1;
         }
         page = next_page(machine, over, page + 1, pages);
     }
-    counts
+    count
 }
 
-/// Puts those of the first `pages` pages that change into an empty list that has room for them.
-pub(crate) fn push_pages(machine: &Machine, over: Over, pages: u32, list: &mut Vec<PageChange>)
+/// Puts those of the first `pages` pages that change into an empty list that has room for them. Answers how many of their blocks do.
+pub(crate) fn push_pages(
+    machine: &Machine,
+    over: Over,
+    pages: u32,
+    list: &mut Vec<PageChange>,
+) -> usize
     requires size { 4096 * pages ≤ length machine.now.guest.ram }
     requires empty { list.old.items ≡ [] }
     requires room { length (changed_pages (old_ram over machine.now) machine.now.guest.ram pages) ≤ vec_capacity list.old }
-    ensures { list.new.items ≡ changed_pages (old_ram over machine.now) machine.now.guest.ram pages }
+    ensures pages { list.new.items ≡ changed_pages (old_ram over machine.now) machine.now.guest.ram pages }
+    ensures blocks { result ≡ block_count (changed_pages (old_ram over machine.now) machine.now.guest.ram pages) }
 {
+    let mut blocks = 0;
     let mut page = next_page(machine, over, 0, pages);
     while page < pages {
         let mask = page_mask(machine, over, page);
         if mask != 0 {
             list.push_reserved(PageChange { page, mask });
+            blocks += mask.count_ones() as usize;
         }
         page = next_page(machine, over, page + 1, pages);
     }
+    blocks
 }
 
 /// A block of a page.
