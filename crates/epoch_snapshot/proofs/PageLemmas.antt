@@ -243,7 +243,7 @@ filter_last p n =
     ∙ filter-append p (range_with_len 0 n) (range_with_len (0 + n) 1)
     ∙ ap (λ k. filter p (range_with_len 0 n) ++ filter p (range_with_len k 1)) e
 
--- one block more is named, or isn't
+-- one block more is named
 pub blocks-push : (f : ℕ → List ℕ) (m n : ℕ) (xs ys : List (List ℕ)) (b : List ℕ) → bit_at m n ≡ 1 → b ≡ f n →
     ys ≡ xs ++ map f (filter (λ i. bit_at m i == 1) (range_with_len 0 n)) →
     ys ++ b ∷ [] ≡ xs ++ map f (filter (λ i. bit_at m i == 1) (range_with_len 0 (n + 1)))
@@ -254,16 +254,6 @@ blocks-push f m n xs ys b set e so_far =
     (sym (map-append f (filter (λ i. bit_at m i == 1) (range_with_len 0 n)) (n ∷ []))
     ∙ ap (λ c. map f (filter (λ i. bit_at m i == 1) (range_with_len 0 n) ++ cond c (n ∷ []) [])) (sym (eq-eqb (bit_at m n) 1 set))
     ∙ ap (map f) (sym (filter_last (λ i. bit_at m i == 1) n)))
-
-pub blocks-skip : (f : ℕ → List ℕ) (m n : ℕ) (xs ys : List (List ℕ)) → (bit_at m n ≡ 1 → ⊥) →
-    ys ≡ xs ++ map f (filter (λ i. bit_at m i == 1) (range_with_len 0 n)) →
-    ys ≡ xs ++ map f (filter (λ i. bit_at m i == 1) (range_with_len 0 (n + 1)))
-blocks-skip f m n xs ys clear so_far =
-    so_far
-    ∙ ap (λ l. xs ++ map f l)
-    (sym (append-nil (filter (λ i. bit_at m i == 1) (range_with_len 0 n)))
-    ∙ ap (λ c. filter (λ i. bit_at m i == 1) (range_with_len 0 n) ++ cond c (n ∷ []) []) (sym (ne_eqb (bit_at m n) 1 clear))
-    ∙ sym (filter_last (λ i. bit_at m i == 1) n))
 
 -- a mask that names block n names at least one more than those below it
 pub fewer_blocks : (m n : ℕ) → n < 64 → bit_at m n ≡ 1 → length (filter (λ i. bit_at m i == 1) (range_with_len 0 n)) < length (set_blocks m)

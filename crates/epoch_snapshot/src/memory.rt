@@ -9,9 +9,6 @@ use crate::changes::{BLOCK_BYTES, Block, PageChange};
 use guest_machine::Machine;
 use page_lanes::{Page, equal, mask, xor_blocks};
 
-/// How many blocks a page has.
-const PAGE_BLOCKS: usize = 64;
-
 /// How many pages are passed over in one go where none of them was written.
 const GROUP_PAGES: u32 = 64;
 
@@ -148,11 +145,11 @@ pub(crate) fn push_pages(
 }
 
 /// A block of a page.
-fn block(page: &Page, number: usize) -> &Block
+fn block(page: &Page, number: u32) -> &Block
     requires { number < 64 }
     ensures { result.now ≡ block_in page.now number }
 {
-    let start = BLOCK_BYTES * number;
+    let start = BLOCK_BYTES * number as usize;
     let Ok(block) = <&Block>::try_from(&page[start..start + BLOCK_BYTES]) else {
         unreachable!()
     };
@@ -165,10 +162,14 @@ fn push_page_blocks(old: &Page, new: &Page, mask: u64, list: &mut Vec<Block>)
     ensures items { list.new.items ≡ list.old.items ++ map (λ i. xored (block_in old.now i) (block_in new.now i)) (set_blocks mask) }
     ensures capacity { vec_capacity list.new ≡ vec_capacity list.old }
 {
-    for i in 0..PAGE_BLOCKS {
-        if (mask >> i) % 2 == 1 {
-            list.push_reserved(xor_blocks(block(old, i), block(new, i)));
-        }
+    // The bits of the mask from block `next` on; those below it are done.
+    let mut rest = mask;
+    let mut next = 0;
+    while rest != 0 {
+        let number = next + rest.trailing_zeros();
+        list.push_reserved(xor_blocks(block(old, number), block(new, number)));
+        next = number + 1;
+        rest = mask >> number >> 1;
     }
 }
 

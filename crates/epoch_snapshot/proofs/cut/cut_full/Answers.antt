@@ -31,8 +31,8 @@ push_blocks-requires-clause-room c =
 
 -- what the checkpoint is made of
 abbrev made : goal.After-state → Change
-made c = change_of c.shape-shape.result c.args.generation 0 c.state.result c.push_pages-block_count.new.list.items c.push_blocks.new.list.items
-    c.push_used.new.list.items
+made c = change_of c.shape-shape.result c.args.generation 0 c.state.result c.push_pages-block_count.new.list.items
+    c.push_blocks.new.list.items c.push_used.new.list.items
 
 is_cut : (c : goal.After-state) →
     IsCut (replicate (length c.args.machine.now.guest.ram) 0) (used_sectors c.args.machine.now.guest.sectors c.shape-shape.result.sectors)

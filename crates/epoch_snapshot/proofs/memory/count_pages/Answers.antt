@@ -1,7 +1,6 @@
 -- A page that changes counts.
 use Rattle.std.proofs.Common.{length, ap, sym, ◌∙◌, arith}
 use Rattle.epoch_snapshot.specs.Bases.{old_ram}
-use Rattle.epoch_snapshot.specs.Cuts.{changed_pages}
 use Rattle.epoch_snapshot.proofs.PageLemmas.{length-changed_more, length-changed_same, no_pages}
 use Rattle.epoch_snapshot.proofs.memory.count_pages.Goals as goal
 use Rattle.epoch_snapshot.proofs.memory.count_pages.Goals.{then-page_changes, else-page_changes}

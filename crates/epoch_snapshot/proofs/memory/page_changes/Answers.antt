@@ -1,5 +1,5 @@
 -- Two pages are equal exactly where no block of them differs.
-use Rattle.std.proofs.Common.{ap, sym, ◌∙◌, arith}
+use Rattle.std.proofs.Common.{ap, ◌∙◌, arith}
 use Rattle.epoch_snapshot.specs.Bases.{old_ram}
 use Rattle.epoch_snapshot.specs.Blocks.{block_in}
 use Rattle.epoch_snapshot.proofs.PageLemmas.{block_in-page, equal-pages}

@@ -6,4 +6,4 @@ use Rattle.epoch_snapshot.proofs.memory.some_written.Given as goal
 abbrev pub invariant-loop-page : goal.invariant-loop-page
 invariant-loop-page l =
     l.some ≡ false →
-        changed_pages l.machine.settled l.machine.guest.ram l.page ≡ changed_pages l.machine.settled l.machine.guest.ram l.from
+    changed_pages l.machine.settled l.machine.guest.ram l.page ≡ changed_pages l.machine.settled l.machine.guest.ram l.from
