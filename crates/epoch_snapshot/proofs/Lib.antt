@@ -5,5 +5,6 @@ mod MaskLemmas
 mod CutLemmas
 mod CanonicalLemmas
 mod PageLemmas
+mod BitLemmas
 mod SectorLemmas
 mod ImageLemmas

@@ -110,3 +110,17 @@ mask_from_bits old new page m fits bits =
     same_from_bits_below 64 m (mask_l (map (λ i. block_differs old new (64 * page + i)) (range_with_len 0 64))) fits
     (flag_lt (λ i. block_differs old new (64 * page + i)) 64)
     (λ i below. bits i below ∙ sym (flag_bit (λ j. block_differs old new (64 * page + j)) 64 i below))
+
+no_bit : (b : Bool) (n : ℕ) → n ≡ cond b 1 0 → n ≡ 0 → b ≡ false
+no_bit true n e z = absurd (omega (arith, e, z))
+no_bit false n e z = refl
+
+-- a mask of 0 says that no block differs
+pub no_block : (old new : List ℕ) (page : ℕ) → changed_mask old new page ≡ 0 → (i : ℕ) → i < 64 →
+    block_differs old new (64 * page + i) ≡ false
+unfolding changed_mask
+no_block old new page none i below =
+    no_bit (block_differs old new (64 * page + i))
+    (bit_at (mask_l (map (λ j. block_differs old new (64 * page + j)) (range_with_len 0 64))) i)
+    (flag_bit (λ j. block_differs old new (64 * page + j)) 64 i below)
+    (ap (λ m. bit_at m i) none ∙ bit_at-zero i)

@@ -51,10 +51,12 @@ use Rattle.std.proofs.lemmas.List.{
   length-map,
   take_more,
   take-append-drop,
+  length-take-le,
+  length-drop,
 }
 use Rattle.std.proofs.lemmas.List.Sums.{sum_by_push}
 use Rattle.std.proofs.lemmas.Nat.{ones-le}
-use Rattle.std.proofs.lemmas.Bool.{eq-eqb, ne_eqb, true≢false}
+use Rattle.std.proofs.lemmas.Bool.{eqb-true, eq-eqb, ne_eqb, true≢false}
 use Rattle.std.proofs.lemmas.Nat.Bits.{bit_at-zero}
 use Rattle.std.proofs.lemmas.List.FromFn.{filter_of_map_range_with_len_more}
 use Rattle.std.proofs.lemmas.List.Elements.{filter-append, All-filter}
@@ -62,7 +64,9 @@ use Rattle.epoch_snapshot.specs.declared.changes.PageChange.{PageChange}
 use Rattle.epoch_snapshot.specs.Blocks.{set_blocks, block_numbers, xored, differ, block_in, changed_mask}
 use Rattle.epoch_snapshot.specs.Checkpoints.{block_count}
 use Rattle.epoch_snapshot.specs.Cuts.{page_change, is_changed, changed_pages, block_change}
-use Rattle.epoch_snapshot.proofs.MaskLemmas.{mask_from_bits}
+use Rattle.epoch_snapshot.proofs.BlockLemmas.{same-bytes}
+use Rattle.epoch_snapshot.proofs.MaskLemmas.{mask_from_bits, no_block}
+use Rattle.epoch_snapshot.proofs.PartLemmas.{same_from_parts}
 use Rattle.epoch_snapshot.proofs.RangeLemmas.{range-append}
 
 -- a block of a page is a block of memory
@@ -121,6 +125,41 @@ mask-pages old new page m p q fits olds news bits =
     bit_from (differ (block_in p i) (block_in q i)) (bit_at m i) (omega arith) (bits i below)
     ∙ (λ k. cond (differ (olds i below k) (news i below k)) 1 0))
 
+differs_by : (old new : List ℕ) (page : ℕ) (p q : List ℕ) → length p ≡ 4096 → length q ≡ 4096 →
+    ((i : ℕ) → i < 64 → block_in p i ≡ block_in old (64 * page + i)) → ((i : ℕ) → i < 64 → block_in q i ≡ block_in new (64 * page + i)) →
+    changed_mask old new page ≡ 0 → p ≡ q
+differs_by old new page p q long also olds news none =
+    same_from_parts 64 64 p q long also
+    (λ i below.
+    same-bytes (block_in p i) (block_in q i)
+    (length-take-le 64 (drop (64 * i) p) (omega (arith, length-drop (64 * i) p))
+    ∙ sym (length-take-le 64 (drop (64 * i) q) (omega (arith, length-drop (64 * i) q))))
+    ((λ k. differ (olds i below k) (news i below k)) ∙ no_block old new page none i below))
+
+mask-none : (old new : List ℕ) (page : ℕ) (p q : List ℕ) →
+    ((i : ℕ) → i < 64 → block_in p i ≡ block_in old (64 * page + i)) → ((i : ℕ) → i < 64 → block_in q i ≡ block_in new (64 * page + i)) →
+    p ≡ q → 0 ≡ changed_mask old new page
+mask-none old new page p q olds news same =
+    mask_from_bits old new page 0 (lit< tt)
+    (λ i below.
+    let e : block_in new (64 * page + i) ≡ block_in old (64 * page + i)
+    = sym (news i below) ∙ ap (λ l. block_in l i) (sym same) ∙ olds i below in
+    bit_at-zero i ∙ sym (ap (λ b. cond b 1 0) (ap (differ (block_in old (64 * page + i))) e ∙ differ-self (block_in old (64 * page + i)))))
+
+equal_by : (r b : Bool) → (r ≡ true → b ≡ true) → (b ≡ true → r ≡ true) → not r ≡ not b
+equal_by true b f g = sym (ap not (f refl))
+equal_by false true f g = ap not (g refl)
+equal_by false false f g = refl
+
+-- whether two pages are equal says whether the page of the two memories is unchanged
+pub equal-pages : (old new : List ℕ) (page : ℕ) (r : Bool) (p q : List ℕ) → length p ≡ 4096 → length q ≡ 4096 →
+    ((i : ℕ) → i < 64 → block_in p i ≡ block_in old (64 * page + i)) → ((i : ℕ) → i < 64 → block_in q i ≡ block_in new (64 * page + i)) →
+    IsTrue r ↔ (p ≡ q) → not r ≡ is_changed (page_change old new page)
+equal-pages old new page r p q long also olds news says =
+    equal_by r (changed_mask old new page == 0)
+    (λ h. eq-eqb (changed_mask old new page) 0 (sym (mask-none old new page p q olds news (says.0 h))))
+    (λ h. says.1 (differs_by old new page p q long also olds news (eqb-true (changed_mask old new page) 0 h)))
+
 -- ---- one page more
 
 pub changed_pages-more : (old new : List ℕ) (n : ℕ) → changed_pages old new (n + 1) ≡
@@ -142,6 +181,23 @@ changed_pages-skip old new n m e none =
     changed_pages-more old new n
     ∙ ap (λ k. changed_pages old new n ++ cond (not (k == 0)) (record { page = n; mask = k } ∷ []) []) (sym e ∙ none)
     ∙ append-nil (changed_pages old new n)
+
+-- a page that is the same isn't added
+pub changed_pages-same : (old new : List ℕ) (n : ℕ) → slice_range new (4096 * n) (4096 * n + 4096) ≡
+    slice_range old (4096 * n) (4096 * n + 4096) → changed_pages old new (n + 1) ≡ changed_pages old new n
+changed_pages-same old new n same = changed_pages-skip old new n 0 (mask-same old new n same) refl
+
+pub length-changed_more : (old new : List ℕ) (n : ℕ) → is_changed (page_change old new n) ≡ true →
+    length (changed_pages old new (n + 1)) ≡ length (changed_pages old new n) + 1
+length-changed_more old new n some =
+    ap length (changed_pages-more old new n ∙ ap (λ b. changed_pages old new n ++ cond b (page_change old new n ∷ []) []) some)
+    ∙ length_push (changed_pages old new n) (page_change old new n)
+
+pub length-changed_same : (old new : List ℕ) (n : ℕ) → is_changed (page_change old new n) ≡ false →
+    length (changed_pages old new (n + 1)) ≡ length (changed_pages old new n)
+length-changed_same old new n none =
+    ap length (changed_pages-more old new n ∙ ap (λ b. changed_pages old new n ++ cond b (page_change old new n ∷ []) []) none
+    ∙ append-nil (changed_pages old new n))
 
 pub count-push : (ps : List PageChange) (p : PageChange) → block_count (ps ++ p ∷ []) ≡ block_count ps + count_ones p.mask
 count-push ps p = sum_by_push (λ (q : PageChange). count_ones q.mask) ps p
@@ -187,7 +243,7 @@ filter_last p n =
     ∙ filter-append p (range_with_len 0 n) (range_with_len (0 + n) 1)
     ∙ ap (λ k. filter p (range_with_len 0 n) ++ filter p (range_with_len k 1)) e
 
--- one block more is named, or isn't
+-- one block more is named
 pub blocks-push : (f : ℕ → List ℕ) (m n : ℕ) (xs ys : List (List ℕ)) (b : List ℕ) → bit_at m n ≡ 1 → b ≡ f n →
     ys ≡ xs ++ map f (filter (λ i. bit_at m i == 1) (range_with_len 0 n)) →
     ys ++ b ∷ [] ≡ xs ++ map f (filter (λ i. bit_at m i == 1) (range_with_len 0 (n + 1)))
@@ -198,16 +254,6 @@ blocks-push f m n xs ys b set e so_far =
     (sym (map-append f (filter (λ i. bit_at m i == 1) (range_with_len 0 n)) (n ∷ []))
     ∙ ap (λ c. map f (filter (λ i. bit_at m i == 1) (range_with_len 0 n) ++ cond c (n ∷ []) [])) (sym (eq-eqb (bit_at m n) 1 set))
     ∙ ap (map f) (sym (filter_last (λ i. bit_at m i == 1) n)))
-
-pub blocks-skip : (f : ℕ → List ℕ) (m n : ℕ) (xs ys : List (List ℕ)) → (bit_at m n ≡ 1 → ⊥) →
-    ys ≡ xs ++ map f (filter (λ i. bit_at m i == 1) (range_with_len 0 n)) →
-    ys ≡ xs ++ map f (filter (λ i. bit_at m i == 1) (range_with_len 0 (n + 1)))
-blocks-skip f m n xs ys clear so_far =
-    so_far
-    ∙ ap (λ l. xs ++ map f l)
-    (sym (append-nil (filter (λ i. bit_at m i == 1) (range_with_len 0 n)))
-    ∙ ap (λ c. filter (λ i. bit_at m i == 1) (range_with_len 0 n) ++ cond c (n ∷ []) []) (sym (ne_eqb (bit_at m n) 1 clear))
-    ∙ sym (filter_last (λ i. bit_at m i == 1) n))
 
 -- a mask that names block n names at least one more than those below it
 pub fewer_blocks : (m n : ℕ) → n < 64 → bit_at m n ≡ 1 → length (filter (λ i. bit_at m i == 1) (range_with_len 0 n)) < length (set_blocks m)

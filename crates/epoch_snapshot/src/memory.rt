@@ -1,16 +1,16 @@
 //! What a cut records of memory.
-ghost use Rattle.std.specs.Prelude.{◌≡◌, ℕ, ◌+◌, ◌*◌, ◌<◌, ◌≤◌, ◌^◌, length, [], ◌++◌, map, vec_capacity, All};
+ghost use Rattle.std.specs.Prelude.{◌≡◌, ℕ, ◌+◌, ◌*◌, ◌<◌, ◌≤◌, ◌^◌, false, length, [], ◌++◌, map, vec_capacity, All};
 ghost use Rattle.epoch_snapshot.specs.Blocks.{set_blocks, block_numbers, xored, block_in, changed_mask};
 ghost use Rattle.epoch_snapshot.specs.Checkpoints.{block_count};
-ghost use Rattle.epoch_snapshot.specs.Cuts.{changed_pages, changed_blocks};
+ghost use Rattle.epoch_snapshot.specs.Cuts.{page_change, is_changed, changed_pages, changed_blocks};
 ghost use Rattle.epoch_snapshot.specs.Bases.{old_ram};
 
 use crate::changes::{BLOCK_BYTES, Block, PageChange};
 use guest_machine::Machine;
-use page_lanes::{Page, mask, xor_blocks};
+use page_lanes::{Page, equal, mask, xor_blocks};
 
-/// How many blocks a page has.
-const PAGE_BLOCKS: usize = 64;
+/// How many pages are passed over in one go where none of them was written.
+const GROUP_PAGES: u32 = 64;
 
 /// A page of zeros.
 static ZERO_PAGE: Page = [0; 4096];
@@ -22,15 +22,6 @@ pub(crate) enum Over {
     Settled,
     /// A machine that is all zero: the checkpoint is full.
     Zero,
-}
-
-/// How much a cut records of memory.
-#[derive(Clone, Copy)]
-pub(crate) struct Counts {
-    /// Pages that change.
-    pub(crate) pages: usize,
-    /// Blocks that change.
-    pub(crate) blocks: usize,
 }
 
 /// A page of what the checkpoint is cut over.
@@ -49,53 +40,116 @@ fn page_mask(machine: &Machine, over: Over, page: u32) -> u64
     requires { 4096 * page + 4096 ≤ length machine.now.guest.ram }
     ensures { result ≡ changed_mask (old_ram over machine.now) machine.now.guest.ram page }
 {
-    match over {
-        Over::Settled if !machine.dirty(page) => 0,
-        _ => mask(old_page(machine, over, page), machine.page(page)),
-    }
+    mask(old_page(machine, over, page), machine.page(page))
 }
 
-/// How many of the first `pages` pages change, and how many blocks.
-pub(crate) fn count_changes(machine: &Machine, over: Over, pages: u32) -> Counts
-    requires { 4096 * pages ≤ length machine.now.guest.ram }
-    ensures pages { result.pages ≡ length (changed_pages (old_ram over machine.now) machine.now.guest.ram pages) }
-    ensures blocks { result.blocks ≡ block_count (changed_pages (old_ram over machine.now) machine.now.guest.ram pages) }
+/// Whether one of the pages from `from` up to `end` was written since the last settle. It looks at each, so that several are looked
+/// at in one go.
+fn some_written(machine: &Machine, from: u32, end: u32) -> bool
+    requires ordered { from ≤ end }
+    requires size { 4096 * end ≤ length machine.now.guest.ram }
+    ensures { result ≡ false →
+        changed_pages machine.now.settled machine.now.guest.ram end ≡ changed_pages machine.now.settled machine.now.guest.ram from }
 {
-    let mut counts = Counts {
-        pages: 0,
-        blocks: 0,
-    };
-    for page in 0..pages {
-        let mask = page_mask(machine, over, page);
-        if mask != 0 {
-            counts.pages += 1;
-            counts.blocks += mask.count_ones() as usize;
+    let mut some = false;
+    for page in from..end {
+        some |= machine.dirty(page);
+    }
+    some
+}
+
+/// The first page from `from` on that was written since the last settle, or `pages` where none of the first `pages` was.
+fn next_written(machine: &Machine, from: u32, pages: u32) -> u32
+    requires ordered { from ≤ pages }
+    requires size { 4096 * pages ≤ length machine.now.guest.ram }
+    ensures first { from ≤ result }
+    ensures last { result ≤ pages }
+    ensures same { changed_pages machine.now.settled machine.now.guest.ram result ≡
+        changed_pages machine.now.settled machine.now.guest.ram from }
+{
+    let mut page = from;
+    while page < pages && !machine.dirty(page) {
+        let group = page % GROUP_PAGES == 0 && pages - page >= GROUP_PAGES;
+        if group && !some_written(machine, page, page + GROUP_PAGES) {
+            page += GROUP_PAGES;
+        } else {
+            page += 1;
         }
     }
-    counts
+    page
 }
 
-/// Puts those of the first `pages` pages that change into an empty list that has room for them.
-pub(crate) fn push_pages(machine: &Machine, over: Over, pages: u32, list: &mut Vec<PageChange>)
+/// A page from `from` on such that none before it changes, or `pages` where none of the first `pages` does.
+fn next_page(machine: &Machine, over: Over, from: u32, pages: u32) -> u32
+    requires ordered { from ≤ pages }
+    requires size { 4096 * pages ≤ length machine.now.guest.ram }
+    ensures first { from ≤ result }
+    ensures last { result ≤ pages }
+    ensures same { changed_pages (old_ram over machine.now) machine.now.guest.ram result ≡
+        changed_pages (old_ram over machine.now) machine.now.guest.ram from }
+{
+    match over {
+        Over::Settled => next_written(machine, from, pages),
+        Over::Zero => from,
+    }
+}
+
+/// Whether a page changes. It stops at the first block that does.
+fn page_changes(machine: &Machine, over: Over, page: u32) -> bool
+    requires { 4096 * page + 4096 ≤ length machine.now.guest.ram }
+    ensures { result ≡ is_changed (page_change (old_ram over machine.now) machine.now.guest.ram page) }
+{
+    !equal(old_page(machine, over, page), machine.page(page))
+}
+
+/// How many of the first `pages` pages change.
+pub(crate) fn count_pages(machine: &Machine, over: Over, pages: u32) -> usize
+    requires { 4096 * pages ≤ length machine.now.guest.ram }
+    ensures { result ≡ length (changed_pages (old_ram over machine.now) machine.now.guest.ram pages) }
+{
+    let mut count = 0;
+    let mut page = next_page(machine, over, 0, pages);
+    while page < pages {
+        if page_changes(machine, over, page) {
+            count += 1;
+        }
+        page = next_page(machine, over, page + 1, pages);
+    }
+    count
+}
+
+/// Puts those of the first `pages` pages that change into an empty list that has room for them. Answers how many of their blocks do.
+pub(crate) fn push_pages(
+    machine: &Machine,
+    over: Over,
+    pages: u32,
+    list: &mut Vec<PageChange>,
+) -> usize
     requires size { 4096 * pages ≤ length machine.now.guest.ram }
     requires empty { list.old.items ≡ [] }
     requires room { length (changed_pages (old_ram over machine.now) machine.now.guest.ram pages) ≤ vec_capacity list.old }
-    ensures { list.new.items ≡ changed_pages (old_ram over machine.now) machine.now.guest.ram pages }
+    ensures pages { list.new.items ≡ changed_pages (old_ram over machine.now) machine.now.guest.ram pages }
+    ensures blocks { result ≡ block_count (changed_pages (old_ram over machine.now) machine.now.guest.ram pages) }
 {
-    for page in 0..pages {
+    let mut blocks = 0;
+    let mut page = next_page(machine, over, 0, pages);
+    while page < pages {
         let mask = page_mask(machine, over, page);
         if mask != 0 {
             list.push_reserved(PageChange { page, mask });
+            blocks += mask.count_ones() as usize;
         }
+        page = next_page(machine, over, page + 1, pages);
     }
+    blocks
 }
 
 /// A block of a page.
-fn block(page: &Page, number: usize) -> &Block
+fn block(page: &Page, number: u32) -> &Block
     requires { number < 64 }
     ensures { result.now ≡ block_in page.now number }
 {
-    let start = BLOCK_BYTES * number;
+    let start = BLOCK_BYTES * number as usize;
     let Ok(block) = <&Block>::try_from(&page[start..start + BLOCK_BYTES]) else {
         unreachable!()
     };
@@ -108,10 +162,14 @@ fn push_page_blocks(old: &Page, new: &Page, mask: u64, list: &mut Vec<Block>)
     ensures items { list.new.items ≡ list.old.items ++ map (λ i. xored (block_in old.now i) (block_in new.now i)) (set_blocks mask) }
     ensures capacity { vec_capacity list.new ≡ vec_capacity list.old }
 {
-    for i in 0..PAGE_BLOCKS {
-        if (mask >> i) % 2 == 1 {
-            list.push_reserved(xor_blocks(block(old, i), block(new, i)));
-        }
+    // The bits of the mask from block `next` on; those below it are done.
+    let mut rest = mask;
+    let mut next = 0;
+    while rest != 0 {
+        let number = next + rest.trailing_zeros();
+        list.push_reserved(xor_blocks(block(old, number), block(new, number)));
+        next = number + 1;
+        rest = mask >> number >> 1;
     }
 }
 

@@ -18,21 +18,21 @@ pub push_blocks-requires-clause-inside : goal.push_blocks-requires-clause-inside
 push_blocks-requires-clause-inside c =
     let m = c.args.machine.now in
     subst (λ (ps : List PageChange). All (λ (p : PageChange). 4096 * p.page + 4096 ≤ length m.guest.ram) ps)
-    (sym (c.as_slice.ensures.value ∙ c.push_pages.ensures))
+    (sym (c.as_slice.ensures.value ∙ c.push_pages-block_count.ensures.pages))
     (pages_within (replicate (length m.guest.ram) 0) m.guest.ram c.shape-shape.result.pages (length m.guest.ram)
     c.shape-shape.ensures.pages)
 
 pub push_blocks-requires-clause-room : goal.push_blocks-requires-clause-room
 push_blocks-requires-clause-room c =
     let m = c.args.machine.now in
-    let is = ap (λ ps. length (block_numbers ps)) (c.as_slice.ensures.value ∙ c.push_pages.ensures) in
+    let is = ap (λ ps. length (block_numbers ps)) (c.as_slice.ensures.value ∙ c.push_pages-block_count.ensures.pages) in
     let count = numbers-count (replicate (length m.guest.ram) 0) m.guest.ram c.shape-shape.result.pages in
-    omega (arith, is, count, c.count_changes-counts.ensures.blocks, ap length c.in_ok-blocks.ensures.items, c.in_ok-blocks.ensures.exact)
+    omega (arith, is, count, c.push_pages-block_count.ensures.blocks, ap length c.in_ok-blocks.ensures.items, c.in_ok-blocks.ensures.exact)
 
 -- what the checkpoint is made of
 abbrev made : goal.After-state → Change
-made c = change_of c.shape-shape.result c.args.generation 0 c.state.result c.push_pages.new.list.items c.push_blocks.new.list.items
-    c.push_used.new.list.items
+made c = change_of c.shape-shape.result c.args.generation 0 c.state.result c.push_pages-block_count.new.list.items
+    c.push_blocks.new.list.items c.push_used.new.list.items
 
 is_cut : (c : goal.After-state) →
     IsCut (replicate (length c.args.machine.now.guest.ram) 0) (used_sectors c.args.machine.now.guest.sectors c.shape-shape.result.sectors)
@@ -45,7 +45,7 @@ is_cut c =
       generation = refl;
       number = refl;
       state = c.state.ensures.value;
-      pages = c.push_pages.ensures;
+      pages = c.push_pages-block_count.ensures.pages;
       blocks =
           c.push_blocks.ensures
           ∙ (λ k. c.in_ok-blocks.ensures.items k

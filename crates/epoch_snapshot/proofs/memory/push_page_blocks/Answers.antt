@@ -1,48 +1,60 @@
 -- A block that the mask names is added.
-use Rattle.std.proofs.Common.{◌≡◌, ℕ, List, ◌==◌, ◌++◌, length, map, ap, ◌∙◌, arith, length-append}
-use Rattle.std.specs.Int.{bit_at}
-use Rattle.std.specs.List.{range_with_len, filter}
+use Rattle.std.proofs.Common.{ℕ, List, ◌+◌, ◌++◌, length, map, ap, sym, ◌∙◌, arith, length-append, w64}
+use Rattle.std.specs.Int.{trailing_zeros}
 use Rattle.std.proofs.lemmas.List.{length-map}
-use Rattle.epoch_snapshot.specs.Blocks.{block_in, xored, set_blocks}
-use Rattle.epoch_snapshot.proofs.PageLemmas.{blocks-push, blocks-skip, fewer_blocks}
+use Rattle.std.proofs.lemmas.Nat.{shr-shr}
+use Rattle.epoch_snapshot.specs.Blocks.{block_in, xored}
+use Rattle.epoch_snapshot.proofs.BitLemmas.{named_below, next_set, all_below}
+use Rattle.epoch_snapshot.proofs.PageLemmas.{blocks-push, fewer_blocks}
 use Rattle.epoch_snapshot.proofs.memory.push_page_blocks.Goals as goal
-use Rattle.epoch_snapshot.proofs.memory.push_page_blocks.Goals.{then-mask-i-eq1, else-mask-i-eq1}
+
+pub block-requires : goal.block-requires
+block-requires c =
+    (next_set c.args.mask c.loop-rest.next c.loop-rest.rest (omega arith) c.loop-rest.invariant.rest (omega arith) (omega arith)).0
+
+pub block-requires-in-loop-rest : goal.block-requires-in-loop-rest
+block-requires-in-loop-rest c =
+    (next_set c.args.mask c.loop-rest.next c.loop-rest.rest (omega arith) c.loop-rest.invariant.rest (omega arith) (omega arith)).0
 
 pub push_reserved-requires : goal.push_reserved-requires
 push_reserved-requires c =
     let f : ℕ → List ℕ = λ i. xored (block_in c.args.old.now i) (block_in c.args.new.now i) in
-    let ns = filter (λ i. bit_at c.args.mask i == 1) (range_with_len 0 c.loop-i.i) in
-    let fewer = fewer_blocks c.args.mask c.loop-i.i (omega arith) c.if-mask-i-eq1.true in
+    let m = c.args.mask in
+    let s = c.loop-rest.next in
+    let t = trailing_zeros w64 c.loop-rest.rest in
+    let found = next_set m s c.loop-rest.rest (omega arith) c.loop-rest.invariant.rest (omega arith) (omega arith) in
+    let fewer = fewer_blocks m (s + t) found.0 found.1 in
     omega (
       arith,
       fewer,
-      ap length c.loop-i.invariant.0,
-      c.loop-i.invariant.1,
-      length-append c.args.list.now.items (map f ns),
-      length-map ns f,
+      ap length found.2,
+      ap length c.loop-rest.invariant.items,
+      c.loop-rest.invariant.capacity,
+      length-append c.args.list.now.items (map f (named_below m s)),
+      length-map (named_below m s) f,
     )
 
-pub loop-i-preserved : goal.loop-i-preserved
-loop-i-preserved c =
+pub loop-rest-preserved : goal.loop-rest-preserved
+loop-rest-preserved c =
     let f : ℕ → List ℕ = λ i. xored (block_in c.args.old.now i) (block_in c.args.new.now i) in
-    elim c.if-mask-i-eq1.branch [
-      | then-mask-i-eq1 w ↦
-          rw w.list-is (
-            w.push_reserved.ensures.items
-                ∙ blocks-push f c.args.mask c.loop-i.i c.args.list.now.items c.loop-i.list.items w.xor_blocks.result w.if-mask-i-eq1.true
-                (w.xor_blocks.ensures ∙ (λ k. xored (w.block.ensures k) (w.block-then-mask-i-eq1.ensures k))) c.loop-i.invariant.0,
-            w.push_reserved.ensures.capacity ∙ c.loop-i.invariant.1,
-          )
-      | else-mask-i-eq1 w ↦
-          rw w.list-is (
-            blocks-skip f c.args.mask c.loop-i.i c.args.list.now.items c.loop-i.list.items w.if-mask-i-eq1.false c.loop-i.invariant.0,
-            c.loop-i.invariant.1,
-          )
-    ]
+    let m = c.args.mask in
+    let s = c.loop-rest.next in
+    let t = trailing_zeros w64 c.loop-rest.rest in
+    let found = next_set m s c.loop-rest.rest (omega arith) c.loop-rest.invariant.rest (omega arith) (omega arith) in
+    record {
+      items =
+          c.push_reserved.ensures.items
+          ∙ blocks-push f m (s + t) c.args.list.now.items c.loop-rest.list.items c.xor_blocks.result found.1
+          (c.xor_blocks.ensures ∙ (λ k. xored (c.block.ensures k) (c.block-in-loop-rest.ensures k)))
+          (c.loop-rest.invariant.items ∙ ap (λ ns. c.args.list.now.items ++ map f ns) (sym found.2));
+      capacity = c.push_reserved.ensures.capacity ∙ c.loop-rest.invariant.capacity;
+      most = omega (arith, found.0);
+      rest = shr-shr m (s + t) 1;
+    }
 
 pub returns-clause-items : goal.returns-clause-items
-unfolding set_blocks
 returns-clause-items c =
     let f : ℕ → List ℕ = λ i. xored (block_in c.args.old.now i) (block_in c.args.new.now i) in
-    let end : c.loop-i.i ≡ 64 = omega arith in
-    c.loop-i.invariant.0 ∙ ap (λ n. c.args.list.now.items ++ map f (filter (λ i. bit_at c.args.mask i == 1) (range_with_len 0 n))) end
+    c.loop-rest.invariant.items
+    ∙ ap (λ ns. c.args.list.now.items ++ map f ns)
+    (sym (all_below c.args.mask c.loop-rest.next c.loop-rest.invariant.most (omega (arith, c.loop-rest.invariant.rest))))
