@@ -1,37 +1,34 @@
 -- Each event keeps the invariant: one lemma for each part that it touches, and the others pass on by name.
-use Rattle.std.proofs.Common.{◌≡◌, ◌≢◌, ℕ, zero, suc, ◌+◌, ◌-◌, ◌*◌, ◌<◌, ◌≤◌, List, [], ◌∷◌, ◌++◌, length, take, drop, remove, get_or, replicate, refl, sym, ap, ◌∙◌, subst, arith, append_assoc, Bool, true, false, cond, Some, ⊎_elim}
+use Rattle.std.proofs.Common.{◌≡◌, ◌≢◌, ℕ, zero, suc, ◌+◌, ◌-◌, ◌*◌, ◌<◌, ◌≤◌, List, [], ◌∷◌, ◌++◌, length, take, drop, remove, get_or, replicate, refl, sym, ap, ◌∙◌, subst, arith, append_assoc, true, false, cond, Some, ⊎_elim}
 use Rattle.std.specs.Prelude.{map, slice_get, ◌==◌}
 use Rattle.std.proofs.lemmas.Bool.{eq-eqb}
 use Rattle.std.proofs.lemmas.Bool.Decides.{nat_tests, eqb_tells}
 use Rattle.std.proofs.lemmas.List.{append-nil, length-map, length-replicate, length-set, map-append, get_or-set_same, get_or-set_other, drop-append-le, take-append-le}
 use Rattle.guest_machine.specs.declared.shapes.Shape.{Shape}
-use Rattle.guest_machine.specs.Guest.{Guest, boot_guest}
+use Rattle.guest_machine.specs.Guest.{Guest}
 use Rattle.epoch_snapshot.specs.Bases.{IsBase}
-use Rattle.frame_ports.specs.Addresses.{IsFrame, targets_of}
-use Rattle.frame_ports.specs.Lands.{list_of, with_list, lands}
-use Rattle.frame_ports.specs.Ports.{PortsState, empty_ports, after_delivery}
-use Rattle.frame_ports.specs.declared.limits.TheConstants.{INBOX_FRAMES, BOX_FRAMES}
-use Rattle.output_gate.specs.Epochs.{Epoch, frames_to, frames_of}
-use Rattle.pair_history.specs.Entries.{Frame, Entry, Delivered, Refused, Took}
-use Rattle.pair_history.specs.HistoryState.{HistoryState, Waiting, inbox_of, without_number, at, Legal, Allows, start_state}
+use Rattle.frame_ports.specs.Addresses.{targets_of}
+use Rattle.frame_ports.specs.Lands.{list_of, with_list}
+use Rattle.frame_ports.specs.Ports.{empty_ports}
+use Rattle.output_gate.specs.Epochs.{Epoch, frames_of}
+use Rattle.pair_history.specs.Entries.{Frame, Entry}
+use Rattle.pair_history.specs.HistoryState.{HistoryState, Waiting, inbox_of, without_number, at, Legal, start_state}
 use Rattle.pair_history.specs.Landings.{BoxesFit, DropsAreKnown}
 use Rattle.pair_history.specs.Moves.{Move, Arrives, entry_of, entries_of, guest_along, frames_along, left, AllCan, AreRising}
 use Rattle.pair_history.proofs.States.{at-append, Legal-append, targets_of-append, DropsAreKnown-append}
-use Rattle.pair_history.proofs.Waiting.{inbox_of-append, AreRising-push, AreRising-without, Leaves, StandsAt, leaves-at}
-use Rattle.pair_history.proofs.Moves.{guest_along-append, frames_along-append, left-append, AllCan-append, AllCan-front, AllCan-back, moved, at-moves, Legal-moves, AllCan-more, left-more, left-shorter, DropsAreKnown-moves}
-use Rattle.pair_history.proofs.LandingLaws.{length-lands, BoxesFit-set, BoxesFit-at, BoxesFit-lands, AllClients-targets, landings-land, AllLand, AllClients}
-use Rattle.pair_core.specs.declared.window.Window.{Window}
+use Rattle.pair_history.proofs.Waiting.{Leaves, StandsAt, leaves-at}
+use Rattle.pair_history.proofs.Moves.{guest_along-append, frames_along-append, left-append, AllCan-append, AllCan-front, AllCan-back, moved, at-moves, Legal-moves, DropsAreKnown-moves}
 use Rattle.pair_core.specs.Invariant.{all_moves, epoch_frames, frames_by_epoch, AreInboxes, AreSealed, AreNodes, AreClients, Holds}
-use Rattle.pair_core.specs.Journal.{with_history, with_running, first_of, rest_of}
+use Rattle.pair_core.specs.Journal.{with_running, first_of, rest_of}
 use Rattle.pair_core.specs.Lines.{Lines}
 use Rattle.pair_core.specs.Nodes.{Node, HasShape, machine_of, start_nodes, with_arrival, with_sealed, with_commit, first_text}
 use Rattle.pair_core.specs.Texts.{IsText}
 use Rattle.pair_core.specs.Pair.{Pair, shown_state}
-use Rattle.pair_core.specs.Protocol.{cut_done, commit_done, ack_done, deliver_done, take_done, let_go}
-use Rattle.pair_core.specs.Record.{IsRecord, start_record, ports_after_ack, ports_after_admit, ports_after_take}
+use Rattle.pair_core.specs.Protocol.{cut_done, commit_done}
+use Rattle.pair_core.specs.Record.{IsRecord, start_record, ports_after_admit}
 use Rattle.pair_core.specs.Window.{committed_of, uncommitted_of, committed_count}
 use Rattle.pair_core.proofs.NodesLaws.{all_moves-push, shape-arrived, base-with_arrival, first-sealed, length-sealed, nodes-cut, nodes-commit, nodes-start}
-use Rattle.pair_core.proofs.WindowLaws.{within, leaves, gone, committed_left, uncommitted_left}
+use Rattle.pair_core.proofs.WindowLaws.{within}
 use Rattle.pair_history.proofs.Losses.{AreRising-left}
 
 -- Lists of epochs

@@ -1,5 +1,5 @@
 -- Laws of stored epochs, and of how many entries a journal has.
-use Rattle.std.proofs.Common.{◌≡◌, ℕ, ◌+◌, List, [], ◌∷◌, ◌++◌, length, sym, ap, ◌∙◌, arith, append_assoc}
+use Rattle.std.proofs.Common.{◌≡◌, ℕ, ◌+◌, List, [], ◌∷◌, ◌++◌, length, sym, ap, ◌∙◌, append_assoc}
 use Rattle.std.proofs.lemmas.List.{append-nil, length-append, replicate-append-replicate}
 use Rattle.pair_history.specs.Entries.{Entry, Ran, Arrive}
 use Rattle.pair_core.specs.declared.epochs.Arrival.{Arrival}

@@ -8,6 +8,8 @@ pub mod NodesLaws
 pub mod Events
 pub mod ClientEvents
 pub mod Consistent
+pub mod ReplicationLaws
+pub mod ReplicationRuns
 pub mod Outcomes
 pub mod LossOutcomes
 pub mod StepRuns

@@ -14,6 +14,7 @@ pub mod Invariant
 pub mod Start
 pub mod Runs
 pub mod Drops
+pub mod Replication
 pub mod WorldFields
 pub mod Lengths
 pub mod Refusals

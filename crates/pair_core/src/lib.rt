@@ -10,6 +10,7 @@ mod event;
 mod frames;
 mod journal;
 mod landings;
+mod laws;
 mod limits;
 mod lines;
 mod nodes;
@@ -21,5 +22,6 @@ mod world;
 
 pub use event::{Event, Mode, Packet, Refusal, Reply, Show};
 pub use guest_machine::{SECTOR_BYTES, Shape};
+pub use laws::{committed_guests_are_those_cut, cut_guests_are_awaited};
 pub use pair_history::{Entry, Frame, History, released_frames_were_sent};
 pub use world::World;

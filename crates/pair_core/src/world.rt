@@ -1,6 +1,7 @@
 //! The pair as one value, and what each event does to it.
 ghost use Rattle.std.specs.Prelude.{◌≡◌, ℕ, ◌+◌, ◌*◌, ◌≤◌, ◌<◌, length, IfOk, IfErr, IfSome, IfNone, OnErr};
 
+mod clients;
 mod losses;
 
 use crate::event::{Event, Refusal, Reply, Show};
@@ -45,6 +46,7 @@ impl World {
     ghost use Rattle.pair_core.specs.Record.{start_record};
     ghost use Rattle.pair_core.specs.Runs.{Along, Run, steps_outcome, with_steps};
     ghost use Rattle.pair_core.specs.Drops.{Drops};
+    ghost use Rattle.pair_core.specs.Replication.{KeepsBackup, Replicates, Leads};
     ghost use Rattle.pair_core.specs.declared.event.Event.{Event};
     ghost use Rattle.pair_core.specs.declared.event.Reply.{Reply};
     ghost use Rattle.pair_core.specs.Start.{shown, shown_sector};
@@ -96,6 +98,10 @@ impl World {
 
         // Why a frame was dropped: a loss that was asked for drops that frame, an acknowledgement what finds a box full.
         ensures drops { Drops self.old.start self.old.protocol event.entry result self.new.protocol }
+
+        // A cut puts the live guest last among those that the image will be, a commit makes the image the first of them, and
+        // nothing else touches either.
+        ensures replicates { Replicates event.entry result self.old.nodes self.new.nodes }
     {
         self.keep_drops();
         let outcome = self.act(event);
@@ -107,6 +113,7 @@ impl World {
     fn act(&mut self, event: Event<'_>) -> Result<Reply, AllocError>
         ensures outcome { IfOk result (λ reply. (reply, self.new.protocol) ≡ outcome self.old.start self.old.protocol event.entry) }
         ensures start { self.new.start ≡ self.old.start }
+        ensures replicates { IfOk result (λ reply. Replicates event.entry reply self.old.nodes self.new.nodes) }
         ensures refused { IfOk result (λ reply. OnRefused reply self.old self.new) }
         ensures memory { OnErr result (MayWantMemory (outcome self.old.start self.old.protocol event.entry).0) }
         ensures err { OnErr result (self.new ≡ self.old) }
@@ -129,6 +136,7 @@ impl World {
     fn stepped(&mut self) -> Reply
         ensures outcome { (result, self.new.protocol) ≡ step_outcome self.old.start self.old.protocol }
         ensures start { self.new.start ≡ self.old.start }
+        ensures backup { KeepsBackup self.old.nodes self.new.nodes }
         ensures refused { OnRefused result self.old self.new }
     {
         match self.step() {
@@ -164,6 +172,8 @@ impl World {
         ensures consistent { IsConsistent self.new }
         // Why a frame was dropped, event by event.
         ensures drops { IfOk result (λ replies. Along Drops self.old.start self.old.protocol events.now replies.items self.new.protocol) }
+        // What the image is after each commit: see `committed_guests_are_those_cut`.
+        ensures leads { IfOk result (λ replies. Leads self.old events.now replies.items self.new) }
         ensures err { IfErr result (λ e. (e ≡ Refusal.NoMemory) × (self.new ≡ self.old)) }
     {
         self.keep_consistent();
@@ -220,6 +230,7 @@ impl World {
     pub fn step(&mut self) -> Result<u64, Refusal>
         ensures outcome { (step_reply result, self.new.protocol) ≡ step_outcome self.old.start self.old.protocol }
         ensures start { self.new.start ≡ self.old.start }
+        ensures backup { KeepsBackup self.old.nodes self.new.nodes }
         ensures refused { OnErr result (self.new ≡ self.old) }
         ensures consistent { IsConsistent self.new }
     {
@@ -267,6 +278,7 @@ impl World {
     ghost use Rattle.pair_core.specs.Journal.{all_entries};
     ghost use Rattle.pair_core.specs.Protocol.{MayWantMemory, refused, outcome, step_outcome};
     ghost use Rattle.pair_core.specs.Pair.{Pair, OnRefused};
+    ghost use Rattle.pair_core.specs.Replication.{KeepsBackup, Replicates};
     ghost use Rattle.pair_core.specs.Runs.{steps_outcome, with_steps};
 
     /// Makes as many of these steps as there is room for, in the outbox and in the history.
@@ -297,6 +309,7 @@ impl World {
     fn cut(&mut self) -> Result<Reply, AllocError>
         ensures outcome { IfOk result (λ reply. (reply, self.new.protocol) ≡ outcome self.old.start self.old.protocol events.Cut) }
         ensures start { self.new.start ≡ self.old.start }
+        ensures replicates { IfOk result (λ reply. Replicates events.Cut reply self.old.nodes self.new.nodes) }
         ensures refused { IfOk result (λ reply. OnRefused reply self.old self.new) }
         ensures memory { OnErr result (MayWantMemory (outcome self.old.start self.old.protocol events.Cut).0) }
         ensures err { OnErr result (self.new ≡ self.old) }
@@ -316,6 +329,7 @@ impl World {
     fn send(&mut self) -> Result<Reply, AllocError>
         ensures outcome { IfOk result (λ reply. (reply, self.new.protocol) ≡ outcome self.old.start self.old.protocol events.Send) }
         ensures start { self.new.start ≡ self.old.start }
+        ensures backup { KeepsBackup self.old.nodes self.new.nodes }
         ensures refused { IfOk result (λ reply. OnRefused reply self.old self.new) }
         ensures memory { OnErr result (MayWantMemory (outcome self.old.start self.old.protocol events.Send).0) }
         ensures err { OnErr result (self.new ≡ self.old) }
@@ -328,6 +342,7 @@ impl World {
         ensures outcome { IfOk result (λ reply. (reply, self.new.protocol)
             ≡ outcome self.old.start self.old.protocol (events.BackupGet k)) }
         ensures start { self.new.start ≡ self.old.start }
+        ensures replicates { IfOk result (λ reply. Replicates (events.BackupGet k) reply self.old.nodes self.new.nodes) }
         ensures refused { IfOk result (λ reply. OnRefused reply self.old self.new) }
         ensures memory { OnErr result (MayWantMemory (outcome self.old.start self.old.protocol (events.BackupGet k)).0) }
         ensures err { OnErr result (self.new ≡ self.old) }
@@ -351,6 +366,7 @@ impl World {
     fn ack_get(&mut self, k: u64) -> Result<Reply, AllocError>
         ensures outcome { IfOk result (λ reply. (reply, self.new.protocol) ≡ outcome self.old.start self.old.protocol (events.AckGet k)) }
         ensures start { self.new.start ≡ self.old.start }
+        ensures backup { KeepsBackup self.old.nodes self.new.nodes }
         ensures refused { IfOk result (λ reply. OnRefused reply self.old self.new) }
         ensures memory { OnErr result (MayWantMemory (outcome self.old.start self.old.protocol (events.AckGet k)).0) }
         ensures err { OnErr result (self.new ≡ self.old) }
@@ -362,61 +378,5 @@ impl World {
             return Ok(Reply::Refused(why));
         }
         self.record.acknowledge(packet)
-    }
-
-    /// The first frame of a client's inbox arrives at the guest.
-    fn admit(&mut self, client: u64) -> Result<Reply, AllocError>
-        ensures outcome { IfOk result (λ reply. (reply, self.new.protocol)
-            ≡ outcome self.old.start self.old.protocol (events.Admit client)) }
-        ensures start { self.new.start ≡ self.old.start }
-        ensures refused { IfOk result (λ reply. OnRefused reply self.old self.new) }
-        ensures memory { OnErr result (MayWantMemory (outcome self.old.start self.old.protocol (events.Admit client)).0) }
-        ensures err { OnErr result (self.new ≡ self.old) }
-    {
-        if let Some(why) = self.record.client_refusal(client) {
-            return Ok(Reply::Refused(why));
-        }
-        if self.record.inbox_len(client) == 0 {
-            return Ok(Reply::Empty);
-        }
-        if let Some(why) = self.record.admit_refusal() {
-            return Ok(Reply::Refused(why));
-        }
-        let (number, frame) = self.record.admit(client)?;
-        self.nodes.arrive(&frame);
-        Ok(Reply::Admitted(number))
-    }
-
-    /// A client delivers a frame of these bytes.
-    fn deliver(&mut self, client: u64, bytes: &[u8]) -> Result<Reply, AllocError>
-        ensures outcome { IfOk result (λ reply. (reply, self.new.protocol)
-            ≡ outcome self.old.start self.old.protocol (events.Deliver client bytes.entry)) }
-        ensures start { self.new.start ≡ self.old.start }
-        ensures refused { IfOk result (λ reply. OnRefused reply self.old self.new) }
-        ensures memory { OnErr result (MayWantMemory (outcome self.old.start self.old.protocol (events.Deliver client bytes.entry)).0) }
-        ensures err { OnErr result (self.new ≡ self.old) }
-    {
-        let Some(why) = self.record.deliver_refusal(client, bytes) else {
-            return self.record.deliver(client, bytes);
-        };
-        match why {
-            Refusal::Full => self.record.refuse_delivery(client, bytes),
-            _ => Ok(Reply::Refused(why)),
-        }
-    }
-
-    /// A client takes the first frame of its box.
-    fn take(&mut self, client: u64) -> Result<Reply, AllocError>
-        ensures outcome { IfOk result (λ reply. (reply, self.new.protocol)
-            ≡ outcome self.old.start self.old.protocol (events.Take client)) }
-        ensures start { self.new.start ≡ self.old.start }
-        ensures refused { IfOk result (λ reply. OnRefused reply self.old self.new) }
-        ensures memory { OnErr result (MayWantMemory (outcome self.old.start self.old.protocol (events.Take client)).0) }
-        ensures err { OnErr result (self.new ≡ self.old) }
-    {
-        if let Some(why) = self.record.take_refusal(client) {
-            return Ok(Reply::Refused(why));
-        }
-        self.record.take(client)
     }
 }

@@ -3,6 +3,7 @@ ghost use Rattle.std.specs.Prelude.{◌≡◌, IfOk, OnErr};
 ghost use Rattle.pair_core.specs.declared.event.Event.TheVariants as events;
 ghost use Rattle.pair_core.specs.Protocol.{MayWantMemory, outcome};
 ghost use Rattle.pair_core.specs.Pair.{OnRefused};
+ghost use Rattle.pair_core.specs.Replication.{KeepsBackup};
 
 use super::World;
 use crate::event::Reply;
@@ -14,6 +15,7 @@ impl World {
         ensures outcome { IfOk result (λ reply. (reply, self.new.protocol)
             ≡ outcome self.old.start self.old.protocol (events.LoseIn client place)) }
         ensures start { self.new.start ≡ self.old.start }
+        ensures backup { KeepsBackup self.old.nodes self.new.nodes }
         ensures refused { IfOk result (λ reply. OnRefused reply self.old self.new) }
         ensures memory { OnErr result (MayWantMemory (outcome self.old.start self.old.protocol (events.LoseIn client place)).0) }
         ensures err { OnErr result (self.new ≡ self.old) }
@@ -36,6 +38,7 @@ impl World {
         ensures outcome { IfOk result (λ reply. (reply, self.new.protocol)
             ≡ outcome self.old.start self.old.protocol (events.LoseOut client place)) }
         ensures start { self.new.start ≡ self.old.start }
+        ensures backup { KeepsBackup self.old.nodes self.new.nodes }
         ensures refused { IfOk result (λ reply. OnRefused reply self.old self.new) }
         ensures memory { OnErr result (MayWantMemory (outcome self.old.start self.old.protocol (events.LoseOut client place)).0) }
         ensures err { OnErr result (self.new ≡ self.old) }

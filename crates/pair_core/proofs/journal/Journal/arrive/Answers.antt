@@ -1,10 +1,10 @@
 use Rattle.std.proofs.Common.{◌≡◌, ◌≤◌, ◌-◌, ◌+◌, ◌++◌, ◌∷◌, [], ◌∙◌, List, length, sym, ap, subst, arith}
 use Rattle.std.proofs.lemmas.List.{length-append}
 use Rattle.frame_ports.specs.declared.limits.TheConstants.{NUMBER_LIMIT}
-use Rattle.pair_history.specs.Entries.{Entry, Arrive}
+use Rattle.pair_history.specs.Entries.{Arrive}
 use Rattle.pair_core.specs.declared.epochs.Arrival.{Arrival}
 use Rattle.pair_core.specs.Arrivals.{epoch_entries}
-use Rattle.pair_core.specs.Journal.{Journal, Stored, with_running, all_entries, joined}
+use Rattle.pair_core.specs.Journal.{Stored, with_running, all_entries, joined}
 use Rattle.pair_core.specs.JournalFields.{stored}
 use Rattle.pair_core.proofs.JournalLaws.{epoch-arrives, length-all}
 use Rattle.pair_core.proofs.journal.Journal.arrive.Goals as goal

@@ -1,6 +1,6 @@
-use Rattle.std.proofs.Common.{sym, ap, ◌∙◌, ◌++◌, replicate}
+use Rattle.std.proofs.Common.{sym, ap, ◌∙◌, replicate}
 use Rattle.pair_history.specs.Entries.{Ran}
-use Rattle.pair_core.specs.Journal.{Journal, Stored, with_running}
+use Rattle.pair_core.specs.Journal.{Stored, with_running}
 use Rattle.pair_core.specs.JournalFields.{stored}
 use Rattle.pair_core.proofs.JournalLaws.{epoch-steps}
 use Rattle.pair_core.proofs.journal.Journal.run.Goals as goal

@@ -1,4 +1,4 @@
-use Rattle.std.proofs.Common.{◌≡◌, ◌∙◌, sym, ap, cond, length, Some, None}
+use Rattle.std.proofs.Common.{◌∙◌, sym, ap, cond, length, Some, None}
 use Rattle.output_gate.specs.Epochs.{frames_to}
 use Rattle.pair_core.specs.declared.event.Refusal.TheVariants.{Exhausted}
 use Rattle.pair_core.specs.Lengths.{receivers}

@@ -1,4 +1,4 @@
-use Rattle.std.proofs.Common.{◌≡◌, ◌<◌, ◌+◌, ◌∙◌, sym, ap, subst, arith, length, None}
+use Rattle.std.proofs.Common.{◌≡◌, ◌<◌, ◌∙◌, sym, ap, subst, arith, length, None}
 use Rattle.frame_ports.specs.Addresses.{targets_of}
 use Rattle.pair_history.specs.Landings.{landings}
 use Rattle.output_gate.specs.Epochs.{frames_to}

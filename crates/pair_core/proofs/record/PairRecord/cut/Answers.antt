@@ -1,4 +1,4 @@
-use Rattle.std.proofs.Common.{◌≡◌, ◌∙◌, sym, subst, None}
+use Rattle.std.proofs.Common.{◌≡◌, sym, subst, None}
 use Rattle.pair_core.specs.Protocol.{first_refusal, cut_refusals}
 use Rattle.pair_core.specs.Record.{RecordState, IsRecord}
 use Rattle.pair_core.specs.RecordFields.{record_state}

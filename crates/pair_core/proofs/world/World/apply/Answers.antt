@@ -1,4 +1,5 @@
 use Rattle.pair_core.proofs.PublicLaws.{answers_by_outcome, refused_by_outcome}
+use Rattle.pair_core.proofs.ReplicationRuns.{replicates_by_outcome}
 use Rattle.pair_core.specs.Protocol.{Answers}
 use Rattle.pair_core.proofs.world.World.apply.Goals as goal
 use Rattle.pair_core.proofs.world.World.apply.Goals.{After-answered}
@@ -30,3 +31,9 @@ pub returns-clause-drops : goal.returns-clause-drops
 returns-clause-drops c =
     c.keep_drops.ensures c.args.event c.answered.result c.act-outcome.new.self.protocol
     (answers (goal.at.returns-clause-drops c).After-answered)
+
+pub returns-clause-replicates : goal.returns-clause-replicates
+returns-clause-replicates c =
+    replicates_by_outcome c.args.self.now c.act-outcome.new.self c.args.event c.act-outcome.result c.answered.result c.answered.ensures.ok
+    c.answered.ensures.err
+    c.act-outcome.ensures.replicates c.act-outcome.ensures.err

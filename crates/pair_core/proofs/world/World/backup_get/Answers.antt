@@ -3,8 +3,12 @@ use Rattle.epoch_snapshot.specs.Checkpoints.{Change}
 use Rattle.pair_core.specs.declared.event.Packet.{Packet}
 use Rattle.pair_core.specs.declared.event.Refusal.{Refusal}
 use Rattle.pair_core.specs.Invariant.{Holds}
-use Rattle.pair_core.specs.Nodes.{first_text}
-use Rattle.pair_core.specs.Pair.{shown_state}
+use Rattle.pair_core.specs.declared.event.Event.TheVariants.{BackupGet}
+use Rattle.pair_core.specs.declared.event.Reply.{Reply}
+use Rattle.pair_core.specs.Nodes.{Nodes, first_text}
+use Rattle.pair_core.specs.Pair.{Pair, shown_state}
+use Rattle.pair_core.specs.Replication.{Replicates}
+use Rattle.pair_core.proofs.ReplicationLaws.{commit_replicates}
 use Rattle.pair_core.specs.Protocol.{Record, Outcome, first_refusal, backup_refusals, again_done}
 use Rattle.pair_core.specs.WorldFields.{pair_of}
 use Rattle.pair_core.proofs.Calls.{on_ok, after_call}
@@ -80,3 +84,15 @@ invariant_of-self-2 c =
     c.to_commit.ensures c.if-packet-to_commit.false in
     subst Holds (λ i. record w { protocol = sym protocol i; ports = sym c.commit.ensures.ports i; nodes = sym c.commit-2.ensures i })
     (commit_holds w c.self.invariant c.backup_refusal.ensures.record more)
+
+pub returns-clause-replicates : goal.returns-clause-replicates
+returns-clause-replicates c =
+    let w = pair_of c.self.inside in
+    let reply = ap (λ (o : Outcome). o.0) c.in_ok-reply.ensures.ok in
+    let more =
+    names_next w.protocol c.in-Some.packet c.to_commit.result c.backup_refusal.result c.backup_refusal.ensures.refusal
+    c.in_default-backup_refusal.is c.in-Some.ensures.cut
+    c.to_commit.ensures c.if-packet-to_commit.false in
+    subst (λ (v : Pair). Replicates (BackupGet c.args.k) c.in_ok-reply.reply v.nodes c.commit-2.new.self.nodes) c.self.view_is
+    (subst (λ (o : Reply × Nodes). Replicates (BackupGet c.args.k) o.0 w.nodes o.1) (λ i. (sym reply i, sym c.commit-2.ensures i))
+    (commit_replicates w c.self.invariant c.backup_refusal.ensures.record more))

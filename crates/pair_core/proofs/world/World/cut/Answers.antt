@@ -2,7 +2,12 @@ use Rattle.std.proofs.Common.{◌≡◌, ◌∙◌, ℕ, List, ap, sym, subst, a
 use Rattle.frame_ports.specs.declared.limits.TheConstants.{NUMBER_LIMIT}
 use Rattle.pair_core.specs.declared.event.Event.TheVariants.{Cut}
 use Rattle.pair_core.specs.Invariant.{Holds}
-use Rattle.pair_core.specs.Nodes.{Nodes, with_sealed}
+use Rattle.epoch_snapshot.specs.Bases.{IsBase}
+use Rattle.guest_machine.specs.Guest.{Guest}
+use Rattle.pair_core.specs.Nodes.{Nodes, HasShape, machine_of, with_sealed}
+use Rattle.pair_core.specs.declared.event.Reply.{Reply}
+use Rattle.pair_core.specs.Replication.{Replicates}
+use Rattle.pair_core.proofs.ReplicationLaws.{cut_replicates}
 use Rattle.pair_core.specs.Texts.{IsText}
 use Rattle.pair_history.specs.Entries.{Frame}
 use Rattle.pair_core.specs.Pair.{Pair}
@@ -49,6 +54,18 @@ done c =
     ∙ ap (λ (fs : List Frame). cut_done fs (pair_of c.self.inside).protocol)
     (c.outbox.ensures.value ∙ ap (λ (x : Nodes). x.live.outbox) c.checkpoint.ensures.nodes)
 
+-- the text makes the live guest of the one that the live machine was last settled at
+makes : (c : In_ok-reply) (base : Guest) → IsBase (machine_of (pair_of c.self.inside).nodes.live) base
+    → HasShape (pair_of c.self.inside).nodes.image.shape (pair_of c.self.inside).nodes.live.guest
+    → IsText (pair_of c.self.inside).nodes.image.shape (pair_of c.self.inside).protocol.generation
+    (pair_of c.self.inside).protocol.window.to_cut base (pair_of c.self.inside).nodes.live.guest c.in_ok-text.text.items
+makes c base is sized =
+    let w = pair_of c.self.inside in
+    let text = c.in_ok-text.text.items in
+    subst (λ (n : ℕ). IsText w.nodes.image.shape w.protocol.generation n base w.nodes.live.guest text) c.to_cut.ensures
+    (subst (λ (g : ℕ). IsText w.nodes.image.shape g c.to_cut.result base w.nodes.live.guest text) c.generation.ensures
+    (c.in_ok-text.ensures.text base is sized))
+
 pub invariant_of-self-2 : goal.invariant_of-self-2
 invariant_of-self-2 c =
     let w = pair_of c.self.inside in
@@ -57,10 +74,18 @@ invariant_of-self-2 c =
     let nodes = c.seal.ensures ∙ ap (λ (x : Nodes). with_sealed x text) c.checkpoint.ensures.nodes in
     subst Holds (λ i. record w { protocol = sym protocol i; ports = sym c.cut.ensures.ports i; nodes = sym nodes i })
     (cut_holds w c.self.invariant c.cut_refusal.ensures.record text
-    (λ base is sized.
-    subst (λ (n : ℕ). IsText w.nodes.image.shape w.protocol.generation n base w.nodes.live.guest text) c.to_cut.ensures
-    (subst (λ (g : ℕ). IsText w.nodes.image.shape g c.to_cut.result base w.nodes.live.guest text) c.generation.ensures
-    (c.in_ok-text.ensures.text base is sized))))
+    (makes (goal.at.invariant_of-self-2 c).In_ok-reply))
+
+pub returns-clause-replicates : goal.returns-clause-replicates
+returns-clause-replicates c =
+    let w = pair_of c.self.inside in
+    let text = c.in_ok-text.text.items in
+    let nodes = c.seal.ensures ∙ ap (λ (x : Nodes). with_sealed x text) c.checkpoint.ensures.nodes in
+    let reply = ap (λ (o : Outcome). o.0) (done (goal.at.returns-clause-replicates c).In_ok-reply) in
+    subst (λ (v : Pair). Replicates Cut c.in_ok-reply.reply v.nodes c.seal.new.self.nodes) c.self.view_is
+    (subst (λ (o : Reply × Nodes). Replicates Cut o.0 w.nodes o.1) (λ i. (sym reply i, sym nodes i))
+    (cut_replicates w c.self.invariant c.cut_refusal.ensures.record text
+    (makes (goal.at.returns-clause-replicates c).In_ok-reply)))
 
 pub returns-clause-outcome : goal.returns-clause-outcome
 returns-clause-outcome c =

@@ -86,6 +86,7 @@ returns-in_default-why c =
           (deliver_stops w c.self.invariant c.args.client bytes c.deliver_refusal.result c.deliver_refusal.ensures why
           c.in_default-why.not-Full c.in-Some.is);
       start = refl;
+      backup = (refl, refl);
       refused = subst (λ (v : Pair). AfterRefusal why v v) c.self.view_is (after_none w c.self.invariant why);
       memory = tt;
       err = tt;

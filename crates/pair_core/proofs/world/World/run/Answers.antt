@@ -7,6 +7,8 @@ use Rattle.pair_history.specs.HistoryState.{HistoryState}
 use Rattle.pair_core.specs.Protocol.{Answers}
 use Rattle.pair_core.specs.Runs.{Along, Run}
 use Rattle.pair_core.specs.Drops.{Drops}
+use Rattle.pair_core.specs.Replication.{Does, Leads}
+use Rattle.pair_core.proofs.ReplicationRuns.{Leads-more}
 use Rattle.pair_core.proofs.PublicLaws.{Along-more, Begins-trans}
 use Rattle.pair_core.proofs.world.World.run.Goals as goal
 
@@ -36,7 +38,21 @@ loop-event-preserved c =
     (c.loop-event.replies.items ++ c.apply-reply.result ∷ []) new =
     Along-more Drops start (take i events) c.loop-event.replies.items old c.loop-event.self.protocol new (get_or events i Step)
     c.apply-reply.result v.drops known in
+    let does : Does c.loop-event.self (get_or events i Step) c.apply-reply.result c.apply-reply.new.self = record {
+      start = c.apply-reply.ensures.start;
+      answers = a;
+      consistent = c.apply-reply.ensures.consistent;
+      replicates = c.apply-reply.ensures.replicates;
+    } in
+    let leads : Leads c.args.self.now (take i events ++ get_or events i Step ∷ []) (c.loop-event.replies.items ++ c.apply-reply.result ∷ [])
+    c.apply-reply.new.self =
+    Leads-more (take i events) c.loop-event.replies.items c.args.self.now c.loop-event.self c.apply-reply.new.self (get_or events i Step)
+    c.apply-reply.result v.leads does in
     record {
+      leads =
+          subst (λ (es : List Event). Leads c.args.self.now es c.push.new.self.items c.apply-reply.new.self) (sym more)
+          (subst (λ (rs : List Reply). Leads c.args.self.now (take i events ++ get_or events i Step ∷ []) rs c.apply-reply.new.self) (sym items)
+          leads);
       drops = subst (λ (es : List Event). Along Drops start old es c.push.new.self.items new) (sym more)
           (subst (λ (rs : List Reply). Along Drops start old (take i events ++ get_or events i Step ∷ []) rs new) (sym items) dropped);
       replies =

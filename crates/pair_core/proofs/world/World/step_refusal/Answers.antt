@@ -1,4 +1,4 @@
-use Rattle.std.proofs.Common.{◌≡◌, ◌∙◌, List, sym, ap, subst}
+use Rattle.std.proofs.Common.{◌≡◌, ◌∙◌, List, ap, subst}
 use Rattle.std.specs.Prelude.{IfSome}
 use Rattle.guest_machine.specs.Step.{next}
 use Rattle.pair_history.specs.Entries.{Frame}
