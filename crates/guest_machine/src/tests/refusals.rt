@@ -1,4 +1,4 @@
-//! Steps that are refused until the next settle, and the numbers and names of refusals.
+//! Steps that are refused until the next settle, runs that stop at a frame, and the numbers and names of refusals.
 use super::{AVAILABLE, USED, beacon, boot, number, put, put_words};
 use crate::MachineError;
 use std::test::Fail;
@@ -44,6 +44,29 @@ fn a_step_needs_64_free_places(rt: HostRuntime) -> Result<(), Fail> {
     machine.settle();
     assert_eq!(rt; machine.step(), Ok(()));
     assert_eq!(rt; machine.steps(), 35);
+    Ok(())
+}
+
+#[test]
+fn a_run_stops_after_a_step_that_sent_frames(rt: HostRuntime) -> Result<(), Fail> {
+    let mut image = beacon(rt.alloc())?;
+    put(&mut image, AVAILABLE + 2, &[64]);
+    put_words(&mut image, 22, &NOTIFY_MORE);
+    let mut machine = boot(&rt, rt.alloc(), &image)?;
+    assert_eq!(rt; machine.run_to_frame(21), 21);
+    assert!(rt; machine.outbox().is_empty());
+    assert_eq!(rt; machine.run_to_frame(u64::MAX), 1);
+    assert_eq!(rt; machine.outbox().len(), 64);
+    assert_eq!(rt; machine.run_to_frame(5), 0);
+    assert_eq!(rt; machine.steps(), 22);
+    machine.clear_outbox();
+    assert!(rt; machine.outbox().is_empty());
+    // the used ring was written, and still counts so
+    assert!(rt; machine.ram_size() >= 8192);
+    assert!(rt; machine.dirty(1));
+    assert_eq!(rt; machine.run_to_frame(u64::MAX), 6);
+    assert_eq!(rt; machine.outbox().len(), 64);
+    assert_eq!(rt; machine.steps(), 28);
     Ok(())
 }
 

@@ -3,8 +3,8 @@ use Rattle.guest_machine.specs.Aligned.{IsAligned}
 use Rattle.guest_machine.specs.Guest.{State}
 use Rattle.guest_machine.specs.Parts.{state_with}
 use Rattle.guest_machine.proofs.AlignedLemmas.{aligned-next}
-use Rattle.guest_machine.proofs.RunLemmas.{IsRun, no_run, longer_run}
-use Rattle.guest_machine.proofs.machine.Machine.run.Goals as goal
+use Rattle.guest_machine.proofs.RunLemmas.{IsRun, no_run, none_before, longer_run, few_before}
+use Rattle.guest_machine.proofs.machine.Machine.run_while.Goals as goal
 
 pub loop-made-init : goal.loop-made-init
 loop-made-init c =
@@ -14,6 +14,7 @@ loop-made-init c =
     record {
       most = omega arith;
       run = subst Run c.self.view_is (no_run now);
+      before = none_before c.args.limit c.args.self.now;
       unchanged = λ none. c.self.view_is;
       aligned = c.self.invariant;
     }
@@ -24,6 +25,7 @@ loop-made-preserved c = record {
   run =
       longer_run _ _ _ _ c.loop-made.invariant.run (omega arith) c.run_step.ensures.guest c.run_step.ensures.frames c.run_step.ensures.list
       c.run_step.ensures.settled;
+  before = few_before _ _ _ _ c.loop-made.invariant.run (omega arith);
   unchanged = λ none. absurd (omega arith);
   aligned = subst IsAligned (sym c.run_step.ensures.guest) (aligned-next _ c.loop-made.invariant.aligned);
 }
