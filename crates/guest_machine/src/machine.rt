@@ -1,6 +1,7 @@
 //! A machine: the guest and the frames that it sent.
 ghost use Rattle.std.specs.Prelude.{◌≡◌, ◌-◌, ◌*◌, ◌<◌, ◌≤◌, ◌↔◌, [], ◌++◌, false, length, replicate, IsErr, IfOk, OnOk, OnErr, Err};
 ghost use Rattle.net_device.specs.Receive.{received};
+ghost use Rattle.guest_machine.specs.Flags.{KeepsFlags};
 ghost use Rattle.guest_machine.specs.Guest.{boot_guest};
 ghost use Rattle.guest_machine.specs.Runs.{after_steps, sent_in, marked_in, HaveRoom};
 ghost use Rattle.guest_machine.specs.Step.{next, sent, marked, arrived};
@@ -95,6 +96,7 @@ impl Machine {
         ensures outbox { OnOk result (self.new.outbox ≡ self.old.outbox ++ sent self.old.guest) }
         ensures dirty { OnOk result (self.new.dirty ≡ marked self.old.guest self.old.dirty) }
         ensures settled { self.new.settled ≡ self.old.settled }
+        ensures flags { KeepsFlags self.old.written self.new.written }
         ensures refused { IsErr result ↔ (192 < length self.old.outbox) }
         ensures err { OnErr result ((result ≡ Err MachineError.CutNeeded) × (self.new ≡ self.old)) }
     {
@@ -113,6 +115,7 @@ impl Machine {
         ensures outbox { self.new.outbox ≡ self.old.outbox ++ sent_in result self.old.guest }
         ensures dirty { self.new.dirty ≡ marked_in result self.old.guest self.old.dirty }
         ensures settled { self.new.settled ≡ self.old.settled }
+        ensures flags { KeepsFlags self.old.written self.new.written }
         ensures room { HaveRoom result self.old.guest self.old.outbox }
         ensures unchanged { result ≡ 0 → self.new ≡ self.old }
         ensures cut_needed { result < count → 192 < length self.new.outbox }
@@ -128,6 +131,7 @@ impl Machine {
         ensures outbox { self.new.outbox ≡ self.old.outbox ++ sent_in result self.old.guest }
         ensures dirty { self.new.dirty ≡ marked_in result self.old.guest self.old.dirty }
         ensures settled { self.new.settled ≡ self.old.settled }
+        ensures flags { KeepsFlags self.old.written self.new.written }
         ensures room { HaveRoom result self.old.guest self.old.outbox }
         ensures unchanged { result ≡ 0 → self.new ≡ self.old }
         ensures quiet { sent_in (result - 1) self.old.guest ≡ [] }
@@ -146,6 +150,7 @@ impl Machine {
         ensures outbox { self.new.outbox ≡ self.old.outbox ++ sent_in result self.old.guest }
         ensures dirty { self.new.dirty ≡ marked_in result self.old.guest self.old.dirty }
         ensures settled { self.new.settled ≡ self.old.settled }
+        ensures flags { KeepsFlags self.old.written self.new.written }
         ensures room { HaveRoom result self.old.guest self.old.outbox }
         ensures unchanged { result ≡ 0 → self.new ≡ self.old }
         ensures before { 0 < result → length (self.old.outbox ++ sent_in (result - 1) self.old.guest) ≤ limit }
@@ -176,6 +181,7 @@ impl Machine {
         ensures outbox { self.new.outbox ≡ self.old.outbox }
         ensures dirty { self.new.dirty ≡ self.old.dirty }
         ensures settled { self.new.settled ≡ self.old.settled }
+        ensures flags { KeepsFlags self.old.written self.new.written }
         ensures taken { result ≡ (received self.old.guest.ram self.old.guest.net frame.now).taken }
     {
         self.devices.receive(&mut self.ram, frame)

@@ -1,6 +1,7 @@
 //! One step of the guest.
 ghost use Rattle.std.specs.Prelude.{◌≡◌, ◌+◌, ◌≤◌, ◌++◌, length};
 ghost use Rattle.rv64_core.specs.Rows.{decoded};
+ghost use Rattle.guest_machine.specs.Flags.{KeepsFlags};
 ghost use Rattle.guest_machine.specs.Parts.{guest_of};
 ghost use Rattle.guest_machine.specs.Step.{planned, carried_out, instruction_done, next, sent, marked};
 
@@ -24,13 +25,14 @@ const INSTRUCTION_BYTES: u64 = 4;
 /// One step: the interrupt that is due, or else the instruction at the pc, and then the step count. Sent frames go last into the
 /// outbox.
 #[inline]
-#[tactic(auto, unfolding(crate::specs::Step::step_done, crate::specs::Step::next, crate::specs::Step::sent, crate::specs::Step::marked))]
+#[tactic(auto, using(crate::proofs::FlagLemmas::keeps_same), unfolding(crate::specs::Step::step_done, crate::specs::Step::next, crate::specs::Step::sent, crate::specs::Step::marked))]
 pub(crate) fn run_step(hart: &mut Hart, ram: &mut Ram, devices: &mut Devices, outbox: &mut Outbox)
     requires room { length outbox.old + 64 ≤ 256 }
     ensures guest { guest_of hart.new ram.new.memory.bytes devices.new ≡ next (guest_of hart.old ram.old.memory.bytes devices.old) }
     ensures frames { outbox.new ≡ outbox.old ++ sent (guest_of hart.old ram.old.memory.bytes devices.old) }
     ensures list { devices.new.contents.dirty ≡ marked (guest_of hart.old ram.old.memory.bytes devices.old) devices.old.contents.dirty }
     ensures settled { ram.new.memory.settled ≡ ram.old.memory.settled }
+    ensures flags { KeepsFlags ram.old.memory.written ram.new.memory.written }
 {
     match due(hart, devices) {
         Some(cause) => hart.trap(cause, 0),
@@ -41,7 +43,7 @@ pub(crate) fn run_step(hart: &mut Hart, ram: &mut Ram, devices: &mut Devices, ou
 
 /// The instruction at the pc, or its exception.
 #[inline]
-#[tactic(auto, unfolding(crate::specs::Step::instruction_done, crate::specs::Step::carried_out))]
+#[tactic(auto, using(crate::proofs::FlagLemmas::keeps_same), unfolding(crate::specs::Step::instruction_done, crate::specs::Step::carried_out))]
 fn run_instruction(hart: &mut Hart, ram: &mut Ram, devices: &mut Devices, outbox: &mut Outbox)
     requires room { length outbox.old + 64 ≤ 256 }
     ensures guest { guest_of hart.new ram.new.memory.bytes devices.new ≡
@@ -50,6 +52,7 @@ fn run_instruction(hart: &mut Hart, ram: &mut Ram, devices: &mut Devices, outbox
     ensures list { devices.new.contents.dirty ≡ (instruction_done (guest_of hart.old ram.old.memory.bytes devices.old)).marks
         devices.old.contents.dirty }
     ensures settled { ram.new.memory.settled ≡ ram.old.memory.settled }
+    ensures flags { KeepsFlags ram.old.memory.written ram.new.memory.written }
 {
     if !in_ram(ram.memory.size(), hart.pc, INSTRUCTION_BYTES) {
         hart.trap(INSTRUCTION_ACCESS_FAULT, hart.pc);
@@ -82,7 +85,7 @@ fn plan_word(regs: &Regs, pc: u64, word: u32) -> Plan
 
 /// Does what the plan of the instruction `word` says.
 #[inline]
-#[tactic(auto, unfolding(crate::specs::Step::carried_out))]
+#[tactic(auto, using(crate::proofs::FlagLemmas::keeps_same), unfolding(crate::specs::Step::carried_out))]
 fn carry_out(
     hart: &mut Hart,
     ram: &mut Ram,
@@ -98,6 +101,7 @@ fn carry_out(
     ensures list { devices.new.contents.dirty ≡ (carried_out (guest_of hart.old ram.old.memory.bytes devices.old) word plan).marks
         devices.old.contents.dirty }
     ensures settled { ram.new.memory.settled ≡ ram.old.memory.settled }
+    ensures flags { KeepsFlags ram.old.memory.written ram.new.memory.written }
 {
     match plan {
         Plan::Next { pc, rd, value } => {
