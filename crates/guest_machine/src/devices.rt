@@ -127,7 +127,6 @@ impl Devices {
     }
 
     /// What the network card does that a store asked to act.
-    #[tactic(auto, using(crate::proofs::FlagLemmas::keeps_same))]
     pub(crate) fn act_net(&mut self, ram: &mut Ram, outbox: &mut Outbox, action: Action)
         requires room { length outbox.old + 64 ≤ 256 }
         ensures memory { ram.new.memory.bytes ≡ (acted ram.old.memory.bytes self.old.net action).ram }
@@ -147,7 +146,6 @@ impl Devices {
     }
 
     /// What the disk does that a store asked to act.
-    #[tactic(auto, using(crate::proofs::FlagLemmas::keeps_same))]
     pub(crate) fn act_disk(&mut self, ram: &mut Ram, action: Action)
         ensures memory { ram.new.memory.bytes ≡ (disk_acted ram.old.memory.bytes self.old.disk (unlisted self.old.contents) action).ram }
         ensures settled { ram.new.memory.settled ≡ ram.old.memory.settled }

@@ -20,7 +20,6 @@ const STORE_ACCESS_FAULT: u64 = 7;
 
 /// A store: its bytes into memory or a device, or its exception.
 #[inline]
-#[tactic(auto, using(crate::proofs::FlagLemmas::keeps_same))]
 pub(crate) fn store(
     hart: &mut Hart,
     ram: &mut Ram,
