@@ -64,6 +64,7 @@ pub(crate) fn transmit<F: Flags>(card: &mut NetDevice, memory: &mut Memory, outb
     requires network { card.old.transport.kind ≡ Network }
     requires room { length outbox.old + 64 ≤ 256 }
     ensures memory { memory.new.bytes ≡ (served memory.old.bytes card.old.transport.state).ram }
+    ensures size { length memory.new.bytes ≡ length memory.old.bytes }
     ensures settled { memory.new.settled ≡ memory.old.settled }
     ensures flags { KeepsFlags memory.old.written memory.new.written }
     ensures device { card.new ≡ record {
@@ -84,6 +85,7 @@ pub(crate) fn receive<F: Flags>(card: &mut NetDevice, memory: &mut Memory, frame
     requires network { card.old.transport.kind ≡ Network }
     ensures taken { result ≡ (received memory.old.bytes card.old.transport.state frame.now).taken }
     ensures memory { memory.new.bytes ≡ (received memory.old.bytes card.old.transport.state frame.now).ram }
+    ensures size { length memory.new.bytes ≡ length memory.old.bytes }
     ensures settled { memory.new.settled ≡ memory.old.settled }
     ensures flags { KeepsFlags memory.old.written memory.new.written }
     ensures device { card.new ≡ record {
@@ -101,6 +103,7 @@ pub(crate) fn receive<F: Flags>(card: &mut NetDevice, memory: &mut Memory, frame
 pub(crate) fn serve<F: Flags>(disk: &mut Disk, memory: &mut Memory)
     requires flags { memory.old.written ≡ F.flags }
     ensures memory { memory.new.bytes ≡ (disk_served memory.old.bytes disk.old.state (unlisted disk.old.contents)).ram }
+    ensures size { length memory.new.bytes ≡ length memory.old.bytes }
     ensures settled { memory.new.settled ≡ memory.old.settled }
     ensures flags { KeepsFlags memory.old.written memory.new.written }
     ensures state { disk.new.state ≡ (disk_served memory.old.bytes disk.old.state (unlisted disk.old.contents)).state }
