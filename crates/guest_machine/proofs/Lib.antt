@@ -1,4 +1,5 @@
 pub mod BytesLemmas
+pub mod FlagLemmas
 pub mod TimerLemmas
 pub mod StepCases
 pub mod SentLemmas

@@ -1,5 +1,5 @@
 -- Steps change only sectors of the list, and take none off it.
-use Rattle.std.proofs.Common.{◌≡◌, ℕ, zero, suc, Bool, true, false, ◌==◌, ◌⊎◌, inl, inr, if◌then◌else◌, List, [], refl, sym, ◌∙◌, subst}
+use Rattle.std.proofs.Common.{◌≡◌, ℕ, zero, suc, Bool, true, false, ◌==◌, ◌⊎◌, inl, inr, if◌then◌else◌, List, [], refl, ◌∙◌, subst}
 use Rattle.bus_map.specs.declared.parts.TimerRegister.{TimerRegister}
 use Rattle.bus_map.specs.declared.parts.TimerRegister.TheVariants.{Msip, Mtimecmp, Mtime}
 use Rattle.virtio_mmio.specs.declared.states.DeviceState.{DeviceState}

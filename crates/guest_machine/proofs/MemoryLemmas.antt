@@ -136,53 +136,20 @@ boot-kept pages sectors image =
       disk = record { status_bits = refl; interrupt_bits = omega arith; queue_0 = queue; queue_1 = queue; absent = refl };
     }
 
--- ---- the number of sectors, whatever the records
-
-disk_acted_sectors : (ram : List ℕ) (disk : DeviceState) (c : Contents) (a : Action) →
-    sector_count (disk_acted ram disk c a).kept.bytes ≡ sector_count c.bytes
-disk_acted_sectors ram disk c asks.None = refl
-disk_acted_sectors ram disk c (asks.Notify queue) = either (queue == 0) (disk_served ram disk c) (standing ram disk c)
-    (sector_count c.bytes) (disk_served-capacity ram disk c) refl
-  where
-    either : (b : Bool) (x y : DiskServed Contents) (n : ℕ) → sector_count x.kept.bytes ≡ n → sector_count y.kept.bytes ≡ n →
-        sector_count (if b then x else y).kept.bytes ≡ n
-    either true x y n f h = f
-    either false x y n f h = h
-disk_acted_sectors ram disk c asks.Reset = refl
-
-timer_sectors : (g : Guest) (value : ℕ) (r : TimerRegister) → sector_count (timer_stored g value r).sectors ≡ sector_count g.sectors
-timer_sectors g value Msip = refl
-timer_sectors g value Mtimecmp = refl
-timer_sectors g value Mtime = refl
-
-pub next-sectors : (g : Guest) → sector_count (next g).sectors ≡ sector_count g.sectors
-unfolding next
-next-sectors g =
-    step_case (λ e. sector_count e.guest.sectors ≡ sector_count g.sectors) g (record {
-      trap = λ cause value. refl;
-      goes_on = λ regs pc aligned. refl;
-      loads = λ regs. refl;
-      stores = λ offset n value inside. refl;
-      sets_timer = λ register value. timer_sectors g value register;
-      serves = λ offset n value after is. refl;
-      serves_disk = λ offset n value after is. disk_acted_sectors g.ram after.state (contents_of g.sectors []) after.action;
-      writes_csr = λ regs number value. refl;
-      returns = refl;
-    })
-
--- ---- the number of the disk's bytes, whatever the records
+-- ---- the number of the disk's bytes, and so of its sectors, whatever the records
 
 disk_served_bytes : (ram : List ℕ) (disk : DeviceState) (c : Contents) → length (disk_served ram disk c).kept.bytes ≡ length c.bytes
 unfolding disk_served
 disk_served_bytes ram disk c = disk_size ram disk c (Block (capacity c))
 
-disk_acted_bytes : (ram : List ℕ) (disk : DeviceState) (c : Contents) (a : Action) → length (disk_acted ram disk c a).kept.bytes ≡ length c.bytes
+disk_acted_bytes : (ram : List ℕ) (disk : DeviceState) (c : Contents) (a : Action) →
+    length (disk_acted ram disk c a).kept.bytes ≡ length c.bytes
 disk_acted_bytes ram disk c asks.None = refl
-disk_acted_bytes ram disk c (asks.Notify queue) = either (queue == 0) (disk_served ram disk c) (standing ram disk c) (length c.bytes) (disk_served_bytes ram disk c) refl
+disk_acted_bytes ram disk c (asks.Notify queue) = either (queue == 0)
   where
-    either : (b : Bool) (x y : DiskServed Contents) (n : ℕ) → length x.kept.bytes ≡ n → length y.kept.bytes ≡ n → length (if b then x else y).kept.bytes ≡ n
-    either true x y n f h = f
-    either false x y n f h = h
+    either : (b : Bool) → length (if b then disk_served ram disk c else standing ram disk c).kept.bytes ≡ length c.bytes
+    either true = disk_served_bytes ram disk c
+    either false = refl
 disk_acted_bytes ram disk c asks.Reset = refl
 
 timer_bytes : (g : Guest) (value : ℕ) (r : TimerRegister) → length (timer_stored g value r).sectors ≡ length g.sectors
@@ -204,6 +171,9 @@ next-disk_bytes g =
       writes_csr = λ regs number value. refl;
       returns = refl;
     })
+
+pub next-sectors : (g : Guest) → sector_count (next g).sectors ≡ sector_count g.sectors
+next-sectors g = ap (λ (n : ℕ). n / 512) (next-disk_bytes g)
 
 whole : (n : ℕ) → 512 * n / 512 ≡ n
 whole n = omega arith

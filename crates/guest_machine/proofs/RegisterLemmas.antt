@@ -1,29 +1,6 @@
 -- The values of x1 to x31 among those of x0 to x31.
-use Rattle.std.proofs.Common.{
-  ◌≡◌,
-  ℕ,
-  zero,
-  suc,
-  ◌+◌,
-  ◌%◌,
-  ◌<◌,
-  ◌^◌,
-  ◌==◌,
-  if◌then◌else◌,
-  inl,
-  inr,
-  Bool,
-  List,
-  ◌∷◌,
-  length,
-  drop,
-  get_or,
-  sym,
-  ap,
-  ◌∙◌,
-  add-one,
-  arith,
-}
+use Rattle.std.proofs.Common.{◌≡◌, ℕ, zero, suc, ◌+◌, ◌%◌, ◌<◌, ◌^◌, if◌then◌else◌, inl, inr, Bool}
+use Rattle.std.proofs.Common.{List, ◌∷◌, length, drop, get_or, sym, ap, ◌∙◌, add-one, arith}
 use Rattle.std.proofs.Math.ListN.{set}
 use Rattle.std.proofs.lemmas.Bool.{cases_eq, ne_eqb}
 use Rattle.std.proofs.lemmas.List.{ext_get_or, length-drop, length-set, get_or-drop, get_or-set_same, get_or-set_other}

@@ -4,6 +4,7 @@ pub mod Blocks
 pub mod DiskGuest
 pub mod Errors
 pub mod Examples
+pub mod Flags
 pub mod Guest
 pub mod MachineStates
 pub mod Parts

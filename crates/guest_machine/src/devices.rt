@@ -28,15 +28,17 @@ ghost use Rattle.virtio_mmio.specs.Transport.{loaded, stored};
 ghost use Rattle.net_device.specs.Receive.{received};
 ghost use Rattle.block_device.specs.Contents.{capacity, boot_contents, contents_with, unlisted};
 ghost use Rattle.block_device.specs.Dirty.{Rises};
+ghost use Rattle.guest_machine.specs.Flags.{KeepsFlags};
 ghost use Rattle.guest_machine.specs.Guest.{sector_count, sector_of};
 ghost use Rattle.guest_machine.specs.Step.{acted, disk_acted};
 
+use crate::lending::{receive, serve, transmit};
 use crate::ram::Ram;
 use block_device::{Disk, DiskError, SECTOR_BYTES};
 use net_device::{Frame, NetDevice, Outbox};
 use rv64_core::Width;
 use std::alloc::Global;
-use std::marker::Model;
+use std::marker::{Brand, Model};
 use virtio_mmio::{Action, DeviceState};
 
 /// The number of the network card's transmit queue (virtio 1.1, 5.1.2).
@@ -129,13 +131,14 @@ impl Devices {
         requires room { length outbox.old + 64 ≤ 256 }
         ensures memory { ram.new.memory.bytes ≡ (acted ram.old.memory.bytes self.old.net action).ram }
         ensures settled { ram.new.memory.settled ≡ ram.old.memory.settled }
+        ensures flags { KeepsFlags ram.old.memory.written ram.new.memory.written }
         ensures card { self.new ≡ record self.old { net = (acted ram.old.memory.bytes self.old.net action).net } }
         ensures frames { outbox.new ≡ outbox.old ++ (acted ram.old.memory.bytes self.old.net action).frames }
     {
         match action {
             Action::Notify(queue) => {
                 if queue == TRANSMIT_QUEUE {
-                    self.net.transmit(ram, outbox);
+                    transmit::<Brand>(&mut self.net, &mut ram.memory, outbox);
                 }
             }
             Action::None | Action::Reset => {}
@@ -146,6 +149,7 @@ impl Devices {
     pub(crate) fn act_disk(&mut self, ram: &mut Ram, action: Action)
         ensures memory { ram.new.memory.bytes ≡ (disk_acted ram.old.memory.bytes self.old.disk (unlisted self.old.contents) action).ram }
         ensures settled { ram.new.memory.settled ≡ ram.old.memory.settled }
+        ensures flags { KeepsFlags ram.old.memory.written ram.new.memory.written }
         ensures disk { self.new.disk ≡ (disk_acted ram.old.memory.bytes self.old.disk (unlisted self.old.contents) action).state }
         ensures sectors { self.new.contents.bytes
             ≡ (disk_acted ram.old.memory.bytes self.old.disk (unlisted self.old.contents) action).kept.bytes }
@@ -155,7 +159,7 @@ impl Devices {
         match action {
             Action::Notify(queue) => {
                 if queue == REQUEST_QUEUE {
-                    self.disk.serve(ram);
+                    serve::<Brand>(&mut self.disk, &mut ram.memory);
                 }
             }
             Action::None | Action::Reset => {}
@@ -167,9 +171,10 @@ impl Devices {
         ensures taken { result ≡ (received ram.old.memory.bytes self.old.net frame.now).taken }
         ensures memory { ram.new.memory.bytes ≡ (received ram.old.memory.bytes self.old.net frame.now).ram }
         ensures settled { ram.new.memory.settled ≡ ram.old.memory.settled }
+        ensures flags { KeepsFlags ram.old.memory.written ram.new.memory.written }
         ensures card { self.new ≡ record self.old { net = (received ram.old.memory.bytes self.old.net frame.now).net } }
     {
-        self.net.receive(ram, frame)
+        receive::<Brand>(&mut self.net, &mut ram.memory, frame)
     }
 
     /// What the network card keeps.

@@ -16,6 +16,7 @@ mod errors;
 mod hart;
 mod interrupts;
 mod laws;
+mod lending;
 mod loads;
 mod machine;
 mod machine_state;

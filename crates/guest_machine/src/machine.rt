@@ -1,6 +1,7 @@
 //! A machine: the guest and the frames that it sent.
-ghost use Rattle.std.specs.Prelude.{◌≡◌, ◌*◌, ◌<◌, ◌≤◌, ◌↔◌, [], ◌++◌, false, length, replicate, IsErr, IfOk, OnOk, OnErr, Err};
+ghost use Rattle.std.specs.Prelude.{◌≡◌, ◌-◌, ◌*◌, ◌<◌, ◌≤◌, ◌↔◌, [], ◌++◌, false, length, replicate, IsErr, IfOk, OnOk, OnErr, Err};
 ghost use Rattle.net_device.specs.Receive.{received};
+ghost use Rattle.guest_machine.specs.Flags.{KeepsFlags};
 ghost use Rattle.guest_machine.specs.Guest.{boot_guest};
 ghost use Rattle.guest_machine.specs.Runs.{after_steps, sent_in, marked_in, HaveRoom};
 ghost use Rattle.guest_machine.specs.Step.{next, sent, marked, arrived};
@@ -95,6 +96,7 @@ impl Machine {
         ensures outbox { OnOk result (self.new.outbox ≡ self.old.outbox ++ sent self.old.guest) }
         ensures dirty { OnOk result (self.new.dirty ≡ marked self.old.guest self.old.dirty) }
         ensures settled { self.new.settled ≡ self.old.settled }
+        ensures flags { KeepsFlags self.old.written self.new.written }
         ensures refused { IsErr result ↔ (192 < length self.old.outbox) }
         ensures err { OnErr result ((result ≡ Err MachineError.CutNeeded) × (self.new ≡ self.old)) }
     {
@@ -113,12 +115,49 @@ impl Machine {
         ensures outbox { self.new.outbox ≡ self.old.outbox ++ sent_in result self.old.guest }
         ensures dirty { self.new.dirty ≡ marked_in result self.old.guest self.old.dirty }
         ensures settled { self.new.settled ≡ self.old.settled }
+        ensures flags { KeepsFlags self.old.written self.new.written }
         ensures room { HaveRoom result self.old.guest self.old.outbox }
         ensures unchanged { result ≡ 0 → self.new ≡ self.old }
         ensures cut_needed { result < count → 192 < length self.new.outbox }
     {
+        self.run_while(count, STEPPING_FRAMES)
+    }
+
+    /// Steps of the guest, as [`run`](Machine::run) makes them, for one whose frames are to leave at once: no step is made after one that
+    /// sent a frame, and none at all while the outbox isn't empty. The answer is how many were made. It takes no memory.
+    pub fn run_to_frame(&mut self, count: u64) -> u64
+        ensures most { result ≤ count }
+        ensures guest { self.new.guest ≡ after_steps result self.old.guest }
+        ensures outbox { self.new.outbox ≡ self.old.outbox ++ sent_in result self.old.guest }
+        ensures dirty { self.new.dirty ≡ marked_in result self.old.guest self.old.dirty }
+        ensures settled { self.new.settled ≡ self.old.settled }
+        ensures flags { KeepsFlags self.old.written self.new.written }
+        ensures room { HaveRoom result self.old.guest self.old.outbox }
+        ensures unchanged { result ≡ 0 → self.new ≡ self.old }
+        ensures quiet { sent_in (result - 1) self.old.guest ≡ [] }
+        ensures empty { 0 < result → self.old.outbox ≡ [] }
+        ensures stopped { result < count → 0 < length self.new.outbox }
+    {
+        self.run_while(count, 0)
+    }
+
+    /// Steps of the guest, one by one: `count` of them, or fewer where one finds more than `limit` frames in the outbox.
+    #[inline]
+    fn run_while(&mut self, count: u64, limit: usize) -> u64
+        requires { limit ≤ 192 }
+        ensures most { result ≤ count }
+        ensures guest { self.new.guest ≡ after_steps result self.old.guest }
+        ensures outbox { self.new.outbox ≡ self.old.outbox ++ sent_in result self.old.guest }
+        ensures dirty { self.new.dirty ≡ marked_in result self.old.guest self.old.dirty }
+        ensures settled { self.new.settled ≡ self.old.settled }
+        ensures flags { KeepsFlags self.old.written self.new.written }
+        ensures room { HaveRoom result self.old.guest self.old.outbox }
+        ensures unchanged { result ≡ 0 → self.new ≡ self.old }
+        ensures before { 0 < result → length (self.old.outbox ++ sent_in (result - 1) self.old.guest) ≤ limit }
+        ensures stopped { result < count → limit < length self.new.outbox }
+    {
         let mut made = 0;
-        while made < count && self.outbox.len() <= STEPPING_FRAMES {
+        while made < count && self.outbox.len() <= limit {
             run_step(
                 &mut self.hart,
                 &mut self.ram,
@@ -142,6 +181,7 @@ impl Machine {
         ensures outbox { self.new.outbox ≡ self.old.outbox }
         ensures dirty { self.new.dirty ≡ self.old.dirty }
         ensures settled { self.new.settled ≡ self.old.settled }
+        ensures flags { KeepsFlags self.old.written self.new.written }
         ensures taken { result ≡ (received self.old.guest.ram self.old.guest.net frame.now).taken }
     {
         self.devices.receive(&mut self.ram, frame)
@@ -160,5 +200,12 @@ impl Machine {
         self.outbox.clear();
         self.devices.settle();
         self.ram.memory.settle();
+    }
+
+    /// Empties the outbox, and nothing else: what was written since the last settle still counts so. It copies no page.
+    pub fn clear_outbox(&mut self)
+        ensures { self.new ≡ record self.old { outbox = [] } }
+    {
+        self.outbox.clear();
     }
 }

@@ -1,6 +1,7 @@
 //! One step of the guest.
 ghost use Rattle.std.specs.Prelude.{◌≡◌, ◌+◌, ◌≤◌, ◌++◌, length};
 ghost use Rattle.rv64_core.specs.Rows.{decoded};
+ghost use Rattle.guest_machine.specs.Flags.{KeepsFlags};
 ghost use Rattle.guest_machine.specs.Parts.{guest_of};
 ghost use Rattle.guest_machine.specs.Step.{planned, carried_out, instruction_done, next, sent, marked};
 
@@ -31,6 +32,7 @@ pub(crate) fn run_step(hart: &mut Hart, ram: &mut Ram, devices: &mut Devices, ou
     ensures frames { outbox.new ≡ outbox.old ++ sent (guest_of hart.old ram.old.memory.bytes devices.old) }
     ensures list { devices.new.contents.dirty ≡ marked (guest_of hart.old ram.old.memory.bytes devices.old) devices.old.contents.dirty }
     ensures settled { ram.new.memory.settled ≡ ram.old.memory.settled }
+    ensures flags { KeepsFlags ram.old.memory.written ram.new.memory.written }
 {
     match due(hart, devices) {
         Some(cause) => hart.trap(cause, 0),
@@ -50,6 +52,7 @@ fn run_instruction(hart: &mut Hart, ram: &mut Ram, devices: &mut Devices, outbox
     ensures list { devices.new.contents.dirty ≡ (instruction_done (guest_of hart.old ram.old.memory.bytes devices.old)).marks
         devices.old.contents.dirty }
     ensures settled { ram.new.memory.settled ≡ ram.old.memory.settled }
+    ensures flags { KeepsFlags ram.old.memory.written ram.new.memory.written }
 {
     if !in_ram(ram.memory.size(), hart.pc, INSTRUCTION_BYTES) {
         hart.trap(INSTRUCTION_ACCESS_FAULT, hart.pc);
@@ -98,6 +101,7 @@ fn carry_out(
     ensures list { devices.new.contents.dirty ≡ (carried_out (guest_of hart.old ram.old.memory.bytes devices.old) word plan).marks
         devices.old.contents.dirty }
     ensures settled { ram.new.memory.settled ≡ ram.old.memory.settled }
+    ensures flags { KeepsFlags ram.old.memory.written ram.new.memory.written }
 {
     match plan {
         Plan::Next { pc, rd, value } => {

@@ -1,6 +1,7 @@
 //! Stores into memory and to the devices.
 ghost use Rattle.std.specs.Prelude.{◌≡◌, ℕ, List, ◌+◌, ◌≤◌, ◌++◌, length};
 ghost use Rattle.rv64_core.specs.Widths.{width_bytes};
+ghost use Rattle.guest_machine.specs.Flags.{KeepsFlags};
 ghost use Rattle.guest_machine.specs.Parts.{Attached, guest_of};
 ghost use Rattle.guest_machine.specs.Step.{passed, timer_stored, store_done};
 
@@ -37,6 +38,7 @@ pub(crate) fn store(
         ≡ (store_done (guest_of hart.old ram.old.memory.bytes devices.old) address (width_bytes width) value).marks
         devices.old.contents.dirty }
     ensures settled { ram.new.memory.settled ≡ ram.old.memory.settled }
+    ensures flags { KeepsFlags ram.old.memory.written ram.new.memory.written }
 {
     if !is_aligned(address, width) {
         hart.trap(STORE_MISALIGNED, address);

@@ -1,5 +1,6 @@
 //! Whole runs of small guests, with the values that the rules give.
 
+mod asserts;
 mod disk;
 mod disk_interrupts;
 mod interrupts;
@@ -12,7 +13,7 @@ mod refusals;
 mod traps;
 
 use crate::{Machine, PAGE_BYTES, Shape};
-use rv64_core::Register;
+use asserts::assert_run;
 use std::alloc::{AllocError, Global};
 use std::process::Abort;
 use std::test::Fail;
@@ -95,38 +96,6 @@ fn boot_shape(
 }
 
 /// So many steps, none of which is refused.
-fn run(rt: &impl Abort, machine: &mut Machine, steps: u32) {
-    for _ in 0..steps {
-        assert_eq!(rt; machine.step(), Ok(()));
-    }
-}
-
-/// The number of 2 bytes at a place of memory.
-fn number(rt: &impl Abort, machine: &Machine, at: usize) -> u16 {
-    assert!(rt; at < 1 << 20);
-    assert!(rt; at + 1 < machine.ram_size());
-    u16::from_le_bytes([machine.byte(at), machine.byte(at + 1)])
-}
-
-/// A register by its number.
-fn register(rt: &impl Abort, machine: &Machine, number: u8) -> u64 {
-    machine.register(Register::new(number).expect(rt, "below 32"))
-}
-
-/// The trap registers hold the cause, the value and the pc of a trap.
-fn assert_trap(rt: &impl Abort, machine: &Machine, cause: u64, value: u64, pc: u64) {
-    let csrs = machine.csrs();
-    assert_eq!(rt; csrs.mcause, cause);
-    assert_eq!(rt; csrs.mtval, value);
-    assert_eq!(rt; csrs.mepc, pc);
-}
-
-/// A page of memory has these bytes from a place on.
-fn assert_bytes(rt: &impl Abort, machine: &Machine, at: usize, bytes: &[u8]) {
-    for (i, byte) in bytes.iter().enumerate() {
-        assert!(rt; at < 1 << 20);
-        assert!(rt; i < 1 << 20);
-        assert!(rt; at + i < machine.ram_size());
-        assert_eq!(rt; machine.byte(at + i), *byte);
-    }
+fn run(rt: &impl Abort, machine: &mut Machine, steps: u64) {
+    assert_run(rt, machine, steps, steps);
 }

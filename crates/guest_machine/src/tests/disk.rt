@@ -1,13 +1,15 @@
 //! The disk in the machine: requests of guests, what breaks the disk, its reset, and its registers.
 
-use super::{
-    AVAILABLE, DESCRIPTOR, USED, assert_bytes, boot_shape, number, put, put_words, register, run,
+use super::asserts::{
+    assert_boot_card, assert_boot_disk, assert_bytes, assert_cause, assert_disk_interrupt,
+    assert_disk_status, assert_frames, assert_number, assert_register, assert_sector,
+    assert_sectors, assert_written,
 };
+use super::{AVAILABLE, DESCRIPTOR, USED, boot_shape, put, put_words, run};
 use crate::{Machine, PAGE_BYTES, Shape};
 use std::alloc::{AllocError, Global};
 use std::process::Abort;
 use std::test::Fail;
-use virtio_mmio::DeviceState;
 
 /// The guest of one request: as the beacon, but for queue 0 of the disk, which has 4 descriptors. It notifies in step 23.
 const ONE_REQUEST: [u32; 24] = [
@@ -79,7 +81,7 @@ pub(super) fn after(
     rt: &impl Abort,
     alloc: Global,
     image: &[u8],
-    steps: u32,
+    steps: u64,
 ) -> Result<Box<Machine>, Fail> {
     let shape = Shape {
         pages: 2,
@@ -92,13 +94,11 @@ pub(super) fn after(
 
 /// The disk has 8 sectors, and each but the last is 0; the last is 512 times a byte.
 pub(super) fn assert_last_sector(rt: &impl Abort, machine: &Machine, byte: u8) {
-    assert_eq!(rt; machine.sectors(), 8);
+    assert_sectors(rt, machine, 8);
     for sector in 0..7 {
-        assert_eq!(rt; machine.sector(sector).as_slice(), [0; 512].as_slice());
+        assert_sector(rt, machine, sector, 0);
     }
-    assert_eq!(rt; machine.sector(7).as_slice(), [byte; 512].as_slice());
-    assert!(rt; machine.blank(6));
-    assert_eq!(rt; machine.blank(7), byte == 0);
+    assert_sector(rt, machine, 7, byte);
 }
 
 /// The used ring has one entry, of the chain at descriptor 0, into which so many bytes were written.
@@ -113,22 +113,22 @@ fn a_sector_is_written_in_step_23(rt: HostRuntime) -> Result<(), Fail> {
     let image = request(rt.alloc(), WRITE, 7, 0xab)?;
     let mut machine = after(&rt, rt.alloc(), &image, 22)?;
     assert_last_sector(&rt, &machine, 0);
-    assert!(rt; machine.dirty_sectors().is_empty());
+    assert_written(&rt, &machine, &[]);
     assert_bytes(&rt, &machine, STATUS, &[0xff]);
     run(&rt, &mut machine, 1);
     assert_last_sector(&rt, &machine, 0xab);
-    assert_eq!(rt; machine.dirty_sectors(), [7].as_slice());
+    assert_written(&rt, &machine, &[7]);
     assert_bytes(&rt, &machine, STATUS, &[0]);
     assert_used(&rt, &machine, 1);
-    assert_eq!(rt; machine.disk().status, 0x0f);
-    assert_eq!(rt; machine.disk().interrupt_status, 1);
-    assert_eq!(rt; machine.net(), DeviceState::boot());
-    assert!(rt; machine.outbox().is_empty());
+    assert_disk_status(&rt, &machine, 0x0f);
+    assert_disk_interrupt(&rt, &machine, 1);
+    assert_boot_card(&rt, &machine);
+    assert_frames(&rt, &machine, 0);
     // a settle leaves the disk as it is
     machine.settle();
-    assert!(rt; machine.dirty_sectors().is_empty());
+    assert_written(&rt, &machine, &[]);
     assert_last_sector(&rt, &machine, 0xab);
-    assert_eq!(rt; machine.disk().interrupt_status, 1);
+    assert_disk_interrupt(&rt, &machine, 1);
     Ok(())
 }
 
@@ -138,8 +138,8 @@ fn answers(rt: &impl Abort, alloc: Global, image: &[u8], status: u8, len: u16) -
     assert_bytes(rt, &machine, STATUS, &[status]);
     assert_used(rt, &machine, len);
     assert_last_sector(rt, &machine, 0);
-    assert!(rt; machine.dirty_sectors().is_empty());
-    assert_eq!(rt; machine.disk().status, 0x0f);
+    assert_written(rt, &machine, &[]);
+    assert_disk_status(rt, &machine, 0x0f);
     Ok(())
 }
 
@@ -187,7 +187,7 @@ fn a_sector_is_read(rt: HostRuntime) -> Result<(), Fail> {
     assert_bytes(&rt, &machine, DATA, &[0; 512]);
     assert_bytes(&rt, &machine, STATUS, &[0]);
     assert_used(&rt, &machine, 513);
-    assert!(rt; machine.dirty_sectors().is_empty());
+    assert_written(&rt, &machine, &[]);
     Ok(())
 }
 
@@ -217,13 +217,13 @@ fn breaks(rt: &impl Abort, alloc: Global, changes: &[(usize, u32)]) -> Result<()
         put(&mut image, *at, &word.to_le_bytes());
     }
     let machine = after(rt, alloc, &image, 23)?;
-    assert_eq!(rt; machine.disk().status, 0x4f);
-    assert_eq!(rt; machine.disk().interrupt_status, 2);
-    assert_eq!(rt; number(rt, &machine, USED + 2), 0);
+    assert_disk_status(rt, &machine, 0x4f);
+    assert_disk_interrupt(rt, &machine, 2);
+    assert_number(rt, &machine, USED + 2, 0);
     assert_bytes(rt, &machine, STATUS, &[0xff]);
     assert_last_sector(rt, &machine, 0);
-    assert!(rt; machine.dirty_sectors().is_empty());
-    assert_eq!(rt; machine.net(), DeviceState::boot());
+    assert_written(rt, &machine, &[]);
+    assert_boot_card(rt, &machine);
     Ok(())
 }
 
@@ -281,13 +281,13 @@ fn a_broken_disk_serves_nothing_until_its_reset(rt: HostRuntime) -> Result<(), F
     put(&mut image, AVAILABLE + 4, &[4]);
     put_words(&mut image, BEHIND, &MEND_AND_RESET);
     let mut machine = after(&rt, rt.alloc(), &image, 26)?;
-    assert_eq!(rt; number(&rt, &machine, AVAILABLE + 4), 0);
-    assert_eq!(rt; machine.disk().status, 0x4f);
+    assert_number(&rt, &machine, AVAILABLE + 4, 0);
+    assert_disk_status(&rt, &machine, 0x4f);
     assert_last_sector(&rt, &machine, 0);
     run(&rt, &mut machine, 1);
-    assert_eq!(rt; machine.disk(), DeviceState::boot());
+    assert_boot_disk(&rt, &machine);
     run(&rt, &mut machine, 23);
-    assert_eq!(rt; machine.disk().status, 0x0f);
+    assert_disk_status(&rt, &machine, 0x0f);
     assert_last_sector(&rt, &machine, 0xab);
     assert_used(&rt, &machine, 1);
     Ok(())
@@ -299,9 +299,9 @@ fn a_reset_leaves_the_sectors(rt: HostRuntime) -> Result<(), Fail> {
     // SW x0, 0x70(x5): Status
     put_words(&mut image, BEHIND, &[0x0602a823]);
     let machine = after(&rt, rt.alloc(), &image, 24)?;
-    assert_eq!(rt; machine.disk(), DeviceState::boot());
+    assert_boot_disk(&rt, &machine);
     assert_last_sector(&rt, &machine, 0xab);
-    assert_eq!(rt; machine.dirty_sectors(), [7].as_slice());
+    assert_written(&rt, &machine, &[7]);
     Ok(())
 }
 
@@ -337,8 +337,8 @@ fn registers_of_the_disk_are_read(rt: HostRuntime) -> Result<(), Fail> {
     let machine = after(&rt, rt.alloc(), &image, 20)?;
     let want = [0x74726976, 2, 2, 0, 0x200, 64, 0, 8, 8, 0, 0, 0, 1, 1, 0, 8];
     for (number, value) in (2..18).zip(want) {
-        assert_eq!(rt; register(&rt, &machine, number), value, "x{number}");
+        assert_register(&rt, &machine, number, value);
     }
-    assert_eq!(rt; machine.csrs().mcause, 0);
+    assert_cause(&rt, &machine, 0);
     Ok(())
 }

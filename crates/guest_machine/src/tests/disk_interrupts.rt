@@ -1,7 +1,11 @@
 //! The interrupt of the disk in the machine: it is told, acknowledged and taken.
 
+use super::asserts::{
+    assert_card_interrupt, assert_card_status, assert_cause, assert_disk_interrupt,
+    assert_disk_status, assert_pc, assert_register,
+};
 use super::disk::{BEHIND, WRITE, after, assert_last_sector, request};
-use super::{BEACON, put_words, register, run};
+use super::{BEACON, put_words, run};
 use std::test::Fail;
 
 /// What stands behind the notify to read mip and InterruptStatus, acknowledge the interrupt, and read them again.
@@ -18,11 +22,11 @@ fn an_answer_is_told_by_an_interrupt(rt: HostRuntime) -> Result<(), Fail> {
     let mut image = request(rt.alloc(), WRITE, 7, 0xab)?;
     put_words(&mut image, BEHIND, &ACKNOWLEDGE);
     let machine = after(&rt, rt.alloc(), &image, 28)?;
-    assert_eq!(rt; register(&rt, &machine, 10), 0x800);
-    assert_eq!(rt; register(&rt, &machine, 11), 1);
-    assert_eq!(rt; register(&rt, &machine, 12), 0);
-    assert_eq!(rt; register(&rt, &machine, 13), 0);
-    assert_eq!(rt; machine.disk().interrupt_status, 0);
+    assert_register(&rt, &machine, 10, 0x800);
+    assert_register(&rt, &machine, 11, 1);
+    assert_register(&rt, &machine, 12, 0);
+    assert_register(&rt, &machine, 13, 0);
+    assert_disk_interrupt(&rt, &machine, 0);
     Ok(())
 }
 
@@ -44,16 +48,16 @@ fn either_device_makes_the_interrupt_pending(rt: HostRuntime) -> Result<(), Fail
     put_words(&mut image, BEHIND, &BEACON);
     put_words(&mut image, BEHIND + 22, &ACKNOWLEDGE_BOTH);
     let mut machine = after(&rt, rt.alloc(), &image, 45)?;
-    assert_eq!(rt; machine.net().status, 0x4f);
-    assert_eq!(rt; machine.net().interrupt_status, 2);
+    assert_card_status(&rt, &machine, 0x4f);
+    assert_card_interrupt(&rt, &machine, 2);
     // the broken card leaves the disk as it was
-    assert_eq!(rt; machine.disk().status, 0x0f);
-    assert_eq!(rt; machine.disk().interrupt_status, 1);
+    assert_disk_status(&rt, &machine, 0x0f);
+    assert_disk_interrupt(&rt, &machine, 1);
     assert_last_sector(&rt, &machine, 0xab);
     run(&rt, &mut machine, 7);
-    assert_eq!(rt; register(&rt, &machine, 10), 0x800);
-    assert_eq!(rt; register(&rt, &machine, 11), 0x800);
-    assert_eq!(rt; register(&rt, &machine, 12), 0);
+    assert_register(&rt, &machine, 10, 0x800);
+    assert_register(&rt, &machine, 11, 0x800);
+    assert_register(&rt, &machine, 12, 0);
     Ok(())
 }
 
@@ -70,8 +74,8 @@ fn the_interrupt_of_the_disk_is_taken(rt: HostRuntime) -> Result<(), Fail> {
     let mut image = request(rt.alloc(), WRITE, 7, 0xab)?;
     put_words(&mut image, BEHIND, &ENABLE_EXTERNAL);
     let machine = after(&rt, rt.alloc(), &image, 28)?;
-    assert_eq!(rt; machine.csrs().mcause, 0x8000_0000_0000_000b);
+    assert_cause(&rt, &machine, 0x8000_0000_0000_000b);
     assert_eq!(rt; machine.csrs().mepc, 0x8000_006c);
-    assert_eq!(rt; machine.pc(), 0);
+    assert_pc(&rt, &machine, 0);
     Ok(())
 }

@@ -1,5 +1,9 @@
 //! Interrupts: which is taken, where its handler is, and how often the timer's comes.
-use super::{assert_trap, beacon, boot, number, put_words, register, run, words};
+use super::asserts::{
+    assert_cause, assert_mstatus, assert_number, assert_pc, assert_register, assert_steps,
+    assert_trap, number,
+};
+use super::{beacon, boot, put_words, run, words};
 use std::alloc::Global;
 use std::process::Abort;
 use std::test::Fail;
@@ -28,13 +32,13 @@ fn takes_timer_interrupt(
     )?;
     let mut machine = boot(rt, alloc, &image)?;
     run(rt, &mut machine, 9);
-    assert_eq!(rt; machine.csrs().mstatus, 0x1808);
-    assert_eq!(rt; machine.csrs().mcause, 0);
+    assert_mstatus(rt, &machine, 0x1808);
+    assert_cause(rt, &machine, 0);
     run(rt, &mut machine, 1);
     assert_trap(rt, &machine, 0x8000000000000007, 0, 0x80000024);
-    assert_eq!(rt; machine.csrs().mstatus, 0x1880);
-    assert_eq!(rt; machine.pc(), handler);
-    assert_eq!(rt; machine.steps(), 10);
+    assert_mstatus(rt, &machine, 0x1880);
+    assert_pc(rt, &machine, handler);
+    assert_steps(rt, &machine, 10);
     Ok(())
 }
 
@@ -65,10 +69,10 @@ fn first_taken(rt: &impl Abort, alloc: Global, sets_mie: u32, cause: u64) -> Res
     put_words(&mut image, 26, &[sets_mie]);
     let mut machine = boot(rt, alloc, &image)?;
     run(rt, &mut machine, 30);
-    assert_eq!(rt; register(rt, &machine, 10), 0x888);
-    assert_eq!(rt; machine.pc(), 0x80000078);
+    assert_register(rt, &machine, 10, 0x888);
+    assert_pc(rt, &machine, 0x80000078);
     run(rt, &mut machine, 1);
-    assert_eq!(rt; machine.csrs().mcause, cause);
+    assert_cause(rt, &machine, cause);
     Ok(())
 }
 
@@ -97,7 +101,7 @@ fn the_counter_counts_timer_interrupts(rt: HostRuntime) -> Result<(), Fail> {
     let count = number(&rt, &machine, 0x1000);
     assert!(rt; 50 <= count && count <= 100);
     for i in 1..4 {
-        assert_eq!(rt; number(&rt, &machine, 0x1000 + 2 * i), 0);
+        assert_number(&rt, &machine, 0x1000 + 2 * i, 0);
     }
     Ok(())
 }

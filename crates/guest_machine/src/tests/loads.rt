@@ -1,5 +1,6 @@
 //! Loads and stores: of memory, of the timer's registers and of the devices' registers, and their widths.
-use super::{assert_trap, boot, number, register, run, words};
+use super::asserts::{assert_cause, assert_number, assert_register, assert_trap};
+use super::{boot, run, words};
 use crate::PAGE_BYTES;
 use std::alloc::Global;
 use std::process::Abort;
@@ -25,13 +26,13 @@ fn timer_registers_have_their_widths(rt: HostRuntime) -> Result<(), Fail> {
     )?;
     let mut machine = boot(&rt, rt.alloc(), &image)?;
     run(&rt, &mut machine, 11);
-    assert_eq!(rt; register(&rt, &machine, 3), 1);
-    assert_eq!(rt; register(&rt, &machine, 5), 0xffffffffffffffff);
-    assert_eq!(rt; register(&rt, &machine, 6), 1);
-    assert_eq!(rt; register(&rt, &machine, 8), 10);
+    assert_register(&rt, &machine, 3, 1);
+    assert_register(&rt, &machine, 5, 0xffffffffffffffff);
+    assert_register(&rt, &machine, 6, 1);
+    assert_register(&rt, &machine, 8, 10);
     assert_eq!(rt; machine.msip(), 1);
     assert_eq!(rt; machine.mtimecmp(), 1);
-    assert_eq!(rt; machine.csrs().mcause, 0);
+    assert_cause(&rt, &machine, 0);
     Ok(())
 }
 
@@ -84,10 +85,10 @@ fn loads_are_sign_extended(rt: HostRuntime) -> Result<(), Fail> {
     )?;
     let mut machine = boot(&rt, rt.alloc(), &image)?;
     run(&rt, &mut machine, 4);
-    assert_eq!(rt; register(&rt, &machine, 3), 0xffffffff80000000);
-    assert_eq!(rt; number(&rt, &machine, 0x104), 0);
-    assert_eq!(rt; number(&rt, &machine, 0x106), 0x8000);
-    assert_eq!(rt; number(&rt, &machine, 0x108), 0);
+    assert_register(&rt, &machine, 3, 0xffffffff80000000);
+    assert_number(&rt, &machine, 0x104, 0);
+    assert_number(&rt, &machine, 0x106, 0x8000);
+    assert_number(&rt, &machine, 0x108, 0);
     assert_eq!(rt; machine.ram_size(), 2 * PAGE_BYTES);
     assert_eq!(rt; machine.page(0).len(), PAGE_BYTES);
     Ok(())

@@ -1,40 +1,41 @@
 //! The network card: what the beacon sends, what breaks it, and frames that arrive.
-ghost use Rattle.std.specs.Prelude.{◌≡◌, length};
 
-use super::{
-    AVAILABLE, BUFFER, DESCRIPTOR, FRAME, USED, assert_bytes, beacon, boot, boot_shape, number,
-    put, put_words, register, run, words,
+use super::asserts::{
+    assert_boot_card, assert_boot_disk, assert_bytes, assert_card_interrupt, assert_card_status,
+    assert_frame, assert_frames, assert_lost, assert_number, assert_pc, assert_register,
+    assert_steps, assert_taken, assert_written,
 };
-use crate::{Frame, PAGE_BYTES, Shape};
+use super::{
+    AVAILABLE, BUFFER, DESCRIPTOR, FRAME, USED, beacon, boot, boot_shape, put, put_words, run,
+    words,
+};
+use crate::{PAGE_BYTES, Shape};
 use std::alloc::{AllocError, Global};
 use std::process::Abort;
 use std::test::Fail;
-use virtio_mmio::DeviceState;
 
 #[test]
 fn beacon_sends_one_frame_in_step_22(rt: HostRuntime) -> Result<(), Fail> {
     let image = beacon(rt.alloc())?;
     let mut machine = boot(&rt, rt.alloc(), &image)?;
     run(&rt, &mut machine, 21);
-    assert!(rt; machine.outbox().is_empty());
+    assert_frames(&rt, &machine, 0);
     run(&rt, &mut machine, 1);
-    assert_eq!(rt; machine.steps(), 22);
-    let outbox = machine.outbox();
-    assert_eq!(rt; outbox.len(), 1);
-    assert_eq!(rt; outbox[0].as_slice(), FRAME.as_slice());
+    assert_steps(&rt, &machine, 22);
+    assert_frame(&rt, &machine, &FRAME);
     // the used ring: flags 0, idx 1, then the descriptor's number 0 and length 0
-    assert_eq!(rt; number(&rt, &machine, USED), 0);
-    assert_eq!(rt; number(&rt, &machine, USED + 2), 1);
-    assert_eq!(rt; number(&rt, &machine, USED + 4), 0);
-    assert_eq!(rt; number(&rt, &machine, USED + 8), 0);
-    assert_eq!(rt; machine.net().status, 0x0f);
-    assert_eq!(rt; machine.net().interrupt_status, 1);
+    assert_number(&rt, &machine, USED, 0);
+    assert_number(&rt, &machine, USED + 2, 1);
+    assert_number(&rt, &machine, USED + 4, 0);
+    assert_number(&rt, &machine, USED + 8, 0);
+    assert_card_status(&rt, &machine, 0x0f);
+    assert_card_interrupt(&rt, &machine, 1);
     // the loop sends nothing more
     run(&rt, &mut machine, 100);
-    assert_eq!(rt; machine.outbox().len(), 1);
-    assert_eq!(rt; machine.pc(), 0x80000058);
+    assert_frames(&rt, &machine, 1);
+    assert_pc(&rt, &machine, 0x80000058);
     machine.settle();
-    assert!(rt; machine.outbox().is_empty());
+    assert_frames(&rt, &machine, 0);
     Ok(())
 }
 
@@ -45,12 +46,12 @@ fn breaks(rt: &impl Abort, alloc: Global, at: usize, bytes: &[u8]) -> Result<(),
     put(&mut image, at, bytes);
     let mut machine = boot(rt, alloc, &image)?;
     run(rt, &mut machine, 22);
-    assert_eq!(rt; machine.net().status, 0x4f);
-    assert_eq!(rt; machine.net().interrupt_status, 2);
-    assert!(rt; machine.outbox().is_empty());
-    assert_eq!(rt; number(rt, &machine, USED + 2), 0);
-    assert_eq!(rt; machine.disk(), DeviceState::boot());
-    assert!(rt; machine.dirty_sectors().is_empty());
+    assert_card_status(rt, &machine, 0x4f);
+    assert_card_interrupt(rt, &machine, 2);
+    assert_frames(rt, &machine, 0);
+    assert_number(rt, &machine, USED + 2, 0);
+    assert_boot_disk(rt, &machine);
+    assert_written(rt, &machine, &[]);
     Ok(())
 }
 
@@ -78,28 +79,17 @@ fn buffers_at_the_edge_are_whole(rt: HostRuntime) -> Result<(), Fail> {
     put(&mut image, DESCRIPTOR, &[0xe6, 0x1f]);
     let mut machine = boot(&rt, rt.alloc(), &image)?;
     run(&rt, &mut machine, 22);
-    assert_eq!(rt; machine.net().status, 0x0f);
-    let outbox = machine.outbox();
-    assert_eq!(rt; outbox.len(), 1);
-    assert_eq!(rt; outbox[0].as_slice(), [0; 14].as_slice());
+    assert_card_status(&rt, &machine, 0x0f);
+    assert_frame(&rt, &machine, &[0; 14]);
     // one of no bytes lies anywhere, and its frame is lost
     let mut image = beacon(rt.alloc())?;
     put(&mut image, DESCRIPTOR, &[0; 12]);
     let mut machine = boot(&rt, rt.alloc(), &image)?;
     run(&rt, &mut machine, 22);
-    assert_eq!(rt; machine.net().status, 0x0f);
-    assert_eq!(rt; machine.net().interrupt_status, 1);
-    assert!(rt; machine.outbox().is_empty());
+    assert_card_status(&rt, &machine, 0x0f);
+    assert_card_interrupt(&rt, &machine, 1);
+    assert_frames(&rt, &machine, 0);
     Ok(())
-}
-
-/// A frame of these bytes.
-fn frame(rt: &impl Abort, bytes: &[u8]) -> Frame
-    ensures { length bytes.now ≡ 14 → length result.items ≡ 14 }
-{
-    let mut frame = Frame::new();
-    assert!(rt; frame.try_extend_from_slice(bytes).is_ok());
-    frame
 }
 
 /// A frame from client 1 to the guest: to 02:00:00:00:00:01, from 02:00:00:00:01:01, of type 88b5.
@@ -110,12 +100,11 @@ fn a_frame_is_lost_at_a_guest_with_no_queue(rt: HostRuntime) -> Result<(), Fail>
     let image = words(rt.alloc(), &[0x0000006f])?;
     let mut machine = boot(&rt, rt.alloc(), &image)?;
     run(&rt, &mut machine, 3);
-    let frame = frame(&rt, &FROM_CLIENT);
-    assert!(rt; !machine.arrive(&frame));
-    assert_eq!(rt; machine.net(), DeviceState::boot());
-    assert_eq!(rt; machine.steps(), 3);
-    assert_eq!(rt; machine.pc(), 0x80000000);
-    assert!(rt; machine.outbox().is_empty());
+    assert_lost(&rt, &mut machine, &FROM_CLIENT);
+    assert_boot_card(&rt, &machine);
+    assert_steps(&rt, &machine, 3);
+    assert_pc(&rt, &machine, 0x80000000);
+    assert_frames(&rt, &machine, 0);
     Ok(())
 }
 
@@ -137,23 +126,22 @@ fn a_frame_arrives_in_the_receive_queue(rt: HostRuntime) -> Result<(), Fail> {
     let image = receiver(rt.alloc(), 26)?;
     let mut machine = boot(&rt, rt.alloc(), &image)?;
     run(&rt, &mut machine, 22);
-    let frame = frame(&rt, &FROM_CLIENT);
-    assert!(rt; machine.arrive(&frame));
+    assert_taken(&rt, &mut machine, &FROM_CLIENT);
     // ten zero bytes, le16 1, and the frame
     assert_bytes(&rt, &machine, BUFFER, &[0, 0, 0, 0, 0, 0, 0, 0, 0, 0, 1, 0]);
     assert_bytes(&rt, &machine, BUFFER + 12, &FROM_CLIENT);
     // the used ring: flags 0, idx 1, then the descriptor's number 0 and length 26
     assert_bytes(&rt, &machine, USED, &[0, 0, 1, 0, 0, 0, 0, 0, 26, 0, 0, 0]);
-    assert_eq!(rt; machine.net().status, 0x0f);
-    assert_eq!(rt; machine.net().interrupt_status, 1);
-    assert_eq!(rt; machine.steps(), 22);
-    assert!(rt; machine.outbox().is_empty());
+    assert_card_status(&rt, &machine, 0x0f);
+    assert_card_interrupt(&rt, &machine, 1);
+    assert_steps(&rt, &machine, 22);
+    assert_frames(&rt, &machine, 0);
     // the card's interrupt is pending
     run(&rt, &mut machine, 1);
-    assert_eq!(rt; register(&rt, &machine, 10), 0x800);
+    assert_register(&rt, &machine, 10, 0x800);
     // no chain is left
-    assert!(rt; !machine.arrive(&frame));
-    assert_eq!(rt; number(&rt, &machine, USED + 2), 1);
+    assert_lost(&rt, &mut machine, &FROM_CLIENT);
+    assert_number(&rt, &machine, USED + 2, 1);
     Ok(())
 }
 
@@ -162,13 +150,12 @@ fn a_frame_is_lost_where_the_buffer_is_too_short(rt: HostRuntime) -> Result<(), 
     let image = receiver(rt.alloc(), 25)?;
     let mut machine = boot(&rt, rt.alloc(), &image)?;
     run(&rt, &mut machine, 22);
-    let frame = frame(&rt, &FROM_CLIENT);
-    assert!(rt; !machine.arrive(&frame));
-    assert_eq!(rt; number(&rt, &machine, USED + 2), 0);
+    assert_lost(&rt, &mut machine, &FROM_CLIENT);
+    assert_number(&rt, &machine, USED + 2, 0);
     assert_bytes(&rt, &machine, BUFFER + 12, &FRAME);
-    assert_eq!(rt; machine.net().interrupt_status, 0);
+    assert_card_interrupt(&rt, &machine, 0);
     run(&rt, &mut machine, 1);
-    assert_eq!(rt; register(&rt, &machine, 10), 0);
+    assert_register(&rt, &machine, 10, 0);
     Ok(())
 }
 
@@ -211,13 +198,10 @@ fn the_echo_sends_a_frame_back(rt: HostRuntime) -> Result<(), Fail> {
     };
     let mut machine = boot_shape(&rt, rt.alloc(), shape, &image)?;
     run(&rt, &mut machine, 5000);
-    assert!(rt; machine.outbox().is_empty());
-    let frame = frame(&rt, &FROM_CLIENT);
-    assert!(rt; machine.arrive(&frame));
+    assert_frames(&rt, &machine, 0);
+    assert_taken(&rt, &mut machine, &FROM_CLIENT);
     run(&rt, &mut machine, 5000);
-    let outbox = machine.outbox();
-    assert_eq!(rt; outbox.len(), 1);
     // its addresses are turned round
-    assert_eq!(rt; outbox[0].as_slice(), FRAME.as_slice());
+    assert_frame(&rt, &machine, &FRAME);
     Ok(())
 }

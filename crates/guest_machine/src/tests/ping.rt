@@ -1,9 +1,13 @@
 //! The guest of `guests/ping.c`, which its card's interrupts drive. The frames are those of `examples/ping.sim`, and the answers those
 //! of `examples/ping.expected`: Python's (`guests/examples.py`).
 
+use super::asserts::{
+    assert_bytes, assert_card_interrupt, assert_card_status, assert_dirty, assert_frame,
+    assert_frames, assert_sector, assert_sectors, assert_steps, assert_taken, assert_written,
+};
 use super::program_words::PING;
-use super::{assert_bytes, boot_shape, run, words};
-use crate::{Frame, Machine, Shape};
+use super::{boot_shape, run, words};
+use crate::{Machine, Shape};
 use std::alloc::Global;
 use std::process::Abort;
 use std::test::Fail;
@@ -64,19 +68,9 @@ fn booted(rt: &impl Abort, alloc: Global) -> Result<Box<Machine>, Fail> {
     boot_shape(rt, alloc, shape, &image)
 }
 
-/// The guest takes a frame of these bytes.
-fn takes(rt: &impl Abort, machine: &mut Machine, bytes: &[u8]) {
-    let mut frame = Frame::new();
-    assert!(rt; frame.try_extend_from_slice(bytes).is_ok());
-    assert!(rt; frame.len() >= 14);
-    assert!(rt; machine.arrive(&frame));
-}
-
 /// The outbox holds one frame, of these bytes; a cut takes it out.
 fn sent(rt: &impl Abort, machine: &mut Machine, bytes: &[u8]) {
-    let outbox = machine.outbox();
-    assert_eq!(rt; outbox.len(), 1);
-    assert_eq!(rt; outbox[0].as_slice(), bytes);
+    assert_frame(rt, machine, bytes);
     machine.settle();
 }
 
@@ -84,20 +78,20 @@ fn sent(rt: &impl Abort, machine: &mut Machine, bytes: &[u8]) {
 fn answers_arp_and_pings(rt: HostRuntime) -> Result<(), Fail> {
     let mut machine = booted(&rt, rt.alloc())?;
     run(&rt, &mut machine, 5000);
-    assert!(rt; machine.outbox().is_empty());
-    takes(&rt, &mut machine, &ARP_REQUEST);
+    assert_frames(&rt, &machine, 0);
+    assert_taken(&rt, &mut machine, &ARP_REQUEST);
     run(&rt, &mut machine, 2000);
     sent(&rt, &mut machine, &ARP_REPLY);
-    takes(&rt, &mut machine, &ECHO_REQUEST);
+    assert_taken(&rt, &mut machine, &ECHO_REQUEST);
     run(&rt, &mut machine, 3000);
     sent(&rt, &mut machine, &ECHO_REPLY);
-    takes(&rt, &mut machine, &DAMAGED_REQUEST);
-    takes(&rt, &mut machine, &OTHERS_REQUEST);
+    assert_taken(&rt, &mut machine, &DAMAGED_REQUEST);
+    assert_taken(&rt, &mut machine, &OTHERS_REQUEST);
     run(&rt, &mut machine, 5000);
-    assert!(rt; machine.outbox().is_empty());
+    assert_frames(&rt, &machine, 0);
     // the driver acknowledged the last interrupt, and the card isn't broken
-    assert_eq!(rt; machine.net().interrupt_status, 0);
-    assert_eq!(rt; machine.net().status, 0x0f);
+    assert_card_interrupt(&rt, &machine, 0);
+    assert_card_status(&rt, &machine, 0x0f);
     Ok(())
 }
 
@@ -110,11 +104,11 @@ fn a_state_is_put_back(rt: HostRuntime) -> Result<(), Fail> {
     assert_eq!(rt; machine.state(), state);
     // the guest only waits, so its memory stays as it is
     run(&rt, &mut machine, 10);
-    assert_eq!(rt; machine.steps(), 5010);
+    assert_steps(&rt, &machine, 5010);
     machine.put_state(&state);
-    assert_eq!(rt; machine.steps(), 5000);
+    assert_steps(&rt, &machine, 5000);
     assert_eq!(rt; machine.state(), state);
-    takes(&rt, &mut machine, &ARP_REQUEST);
+    assert_taken(&rt, &mut machine, &ARP_REQUEST);
     run(&rt, &mut machine, 2000);
     sent(&rt, &mut machine, &ARP_REPLY);
     Ok(())
@@ -128,9 +122,8 @@ fn turn_block(rt: &impl Abort, machine: &mut Machine) {
 
 /// The first page counts as written, and the second doesn't.
 fn assert_first_written(rt: &impl Abort, machine: &Machine) {
-    assert!(rt; machine.ram_size() >= 8192);
-    assert!(rt; machine.dirty(0));
-    assert!(rt; !machine.dirty(1));
+    assert_dirty(rt, machine, 0, true);
+    assert_dirty(rt, machine, 1, false);
 }
 
 #[test]
@@ -150,14 +143,19 @@ fn a_block_is_turned_and_turned_back(rt: HostRuntime) -> Result<(), Fail> {
     Ok(())
 }
 
+/// Puts 512 times a byte in the place of a sector's.
+fn put_sector(rt: &impl Abort, machine: &mut Machine, sector: u32, byte: u8) {
+    assert!(rt; sector < machine.sectors());
+    machine.put_sector(sector, &[byte; 512]);
+}
+
 #[test]
 fn a_sector_is_put(rt: HostRuntime) -> Result<(), Fail> {
     let mut machine = booted(&rt, rt.alloc())?;
-    assert_eq!(rt; machine.sectors(), 2);
-    machine.put_sector(1, &[0xab; 512]);
-    assert_eq!(rt; machine.dirty_sectors(), [1].as_slice());
-    assert_eq!(rt; machine.sectors(), 2);
-    assert_eq!(rt; machine.sector(0).as_slice(), [0; 512].as_slice());
-    assert_eq!(rt; machine.sector(1).as_slice(), [0xab; 512].as_slice());
+    put_sector(&rt, &mut machine, 1, 0xab);
+    assert_written(&rt, &machine, &[1]);
+    assert_sectors(&rt, &machine, 2);
+    assert_sector(&rt, &machine, 0, 0);
+    assert_sector(&rt, &machine, 1, 0xab);
     Ok(())
 }

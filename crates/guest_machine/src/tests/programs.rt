@@ -1,8 +1,9 @@
 //! Programs that a stock compiler made of C, run until each jumps to itself. The answers are those of Python's `zlib`, `hashlib`
 //! and whole numbers (`guests/expected.py`), the step counts those of the interpreter in `bench/baseline`.
 
+use super::asserts::{assert_frame, assert_pc, assert_register, assert_run};
 use super::program_words::{CRC32, DISK, DIVISION, SHA256, SORT};
-use super::{boot, boot_shape, register, run, words};
+use super::{boot, boot_shape, run, words};
 use crate::{Machine, Shape};
 use std::alloc::Global;
 use std::process::Abort;
@@ -22,33 +23,33 @@ fn after(
     rt: &impl Abort,
     alloc: Global,
     program: &[u32],
-    steps: u32,
+    steps: u64,
 ) -> Result<Box<Machine>, Fail> {
     let image = words(alloc, program)?;
     let mut machine = boot(rt, alloc, image.as_slice())?;
     run(rt, &mut machine, steps);
-    assert_eq!(rt; machine.pc(), STOP);
+    assert_pc(rt, &machine, STOP);
     Ok(machine)
 }
 
 #[test]
 fn sorts_a_hundred_numbers(rt: HostRuntime) -> Result<(), Fail> {
     let machine = after(&rt, rt.alloc(), &SORT, 16136)?;
-    assert_eq!(rt; register(&rt, &machine, A0), 0xdeb9_69f6_7aa6_1aa2);
+    assert_register(&rt, &machine, A0, 0xdeb9_69f6_7aa6_1aa2);
     Ok(())
 }
 
 #[test]
 fn checksum_of_nine_digits(rt: HostRuntime) -> Result<(), Fail> {
     let machine = after(&rt, rt.alloc(), &CRC32, 532)?;
-    assert_eq!(rt; register(&rt, &machine, A0), 0xcbf4_3926);
+    assert_register(&rt, &machine, A0, 0xcbf4_3926);
     Ok(())
 }
 
 #[test]
 fn digest_of_three_letters(rt: HostRuntime) -> Result<(), Fail> {
     let machine = after(&rt, rt.alloc(), &SHA256, 5909)?;
-    assert_eq!(rt; register(&rt, &machine, A0), 0xba78_16bf_8f01_cfea);
+    assert_register(&rt, &machine, A0, 0xba78_16bf_8f01_cfea);
     assert!(rt; machine.ram_size() >= 8192);
     let answers = machine.page((ANSWER / 4096) as u32);
     assert!(rt; answers.len() >= 32);
@@ -67,7 +68,7 @@ fn digest_of_three_letters(rt: HostRuntime) -> Result<(), Fail> {
 #[test]
 fn division_agrees_with_long_division(rt: HostRuntime) -> Result<(), Fail> {
     let machine = after(&rt, rt.alloc(), &DIVISION, 725_971)?;
-    assert_eq!(rt; register(&rt, &machine, A0), 0x02a8_7200_df38_d16b);
+    assert_register(&rt, &machine, A0, 0x02a8_7200_df38_d16b);
     Ok(())
 }
 
@@ -88,12 +89,10 @@ fn writes_200_sectors_and_reads_them_back(rt: HostRuntime) -> Result<(), Fail> {
         sectors: 200,
     };
     let mut machine = boot_shape(&rt, rt.alloc(), shape, &image)?;
-    assert_eq!(rt; machine.run(1_342_483), 1_342_483);
-    assert_eq!(rt; machine.pc(), STOP);
-    assert_eq!(rt; register(&rt, &machine, A0), HASH);
-    let outbox = machine.outbox();
-    assert_eq!(rt; outbox.len(), 1);
-    assert_eq!(rt; outbox[0].as_slice(), REPORT.as_slice());
+    assert_run(&rt, &mut machine, 1_342_483, 1_342_483);
+    assert_pc(&rt, &machine, STOP);
+    assert_register(&rt, &machine, A0, HASH);
+    assert_frame(&rt, &machine, &REPORT);
     assert_eq!(rt; machine.sectors(), 200);
     assert_eq!(rt; machine.dirty_sectors().len(), 200);
     // each byte is the top one of a multiple of its place, counted from 1

@@ -1,6 +1,12 @@
-//! Steps that are refused until the next settle, and the numbers and names of refusals.
-use super::{AVAILABLE, USED, beacon, boot, number, put, put_words};
+//! Steps that are refused until the next settle, runs that stop at a frame, and the numbers and names of refusals.
+use super::asserts::{
+    assert_dirty, assert_frames, assert_number, assert_pc, assert_run, assert_run_to_frame,
+    assert_steps, number,
+};
+use super::{AVAILABLE, USED, beacon, boot, put, put_words};
 use crate::MachineError;
+use std::alloc::Global;
+use std::process::Abort;
 use std::test::Fail;
 
 /// What stands behind the beacon's first notify (in the place of its loop) to make 64 more chains available and notify
@@ -27,37 +33,65 @@ fn a_step_needs_64_free_places(rt: HostRuntime) -> Result<(), Fail> {
     put(&mut image, AVAILABLE + 2, &[64]);
     put_words(&mut image, 22, &NOTIFY_MORE);
     let mut machine = boot(&rt, rt.alloc(), &image)?;
-    assert_eq!(rt; machine.run(31), 31);
-    assert_eq!(rt; machine.outbox().len(), 192);
+    assert_run(&rt, &mut machine, 31, 31);
+    assert_frames(&rt, &machine, 192);
     // at 192 frames steps go on, and the third of these sends one more
-    assert_eq!(rt; machine.run(u64::MAX), 3);
-    assert_eq!(rt; machine.outbox().len(), 193);
-    assert_eq!(rt; machine.steps(), 34);
+    assert_run(&rt, &mut machine, u64::MAX, 3);
+    assert_frames(&rt, &machine, 193);
+    assert_steps(&rt, &machine, 34);
     // at 193 a step is refused, and nothing is changed
     let pc = machine.pc();
-    assert_eq!(rt; machine.run(2), 0);
+    assert_run(&rt, &mut machine, 2, 0);
     assert_eq!(rt; machine.step(), Err(MachineError::CutNeeded));
-    assert_eq!(rt; machine.steps(), 34);
-    assert_eq!(rt; machine.pc(), pc);
-    assert_eq!(rt; machine.outbox().len(), 193);
-    assert_eq!(rt; number(&rt, &machine, USED + 2), 193);
+    assert_steps(&rt, &machine, 34);
+    assert_pc(&rt, &machine, pc);
+    assert_frames(&rt, &machine, 193);
+    assert_number(&rt, &machine, USED + 2, 193);
     machine.settle();
     assert_eq!(rt; machine.step(), Ok(()));
-    assert_eq!(rt; machine.steps(), 35);
+    assert_steps(&rt, &machine, 35);
+    Ok(())
+}
+
+#[test]
+fn a_run_stops_after_a_step_that_sent_frames(rt: HostRuntime) -> Result<(), Fail> {
+    let mut image = beacon(rt.alloc())?;
+    put(&mut image, AVAILABLE + 2, &[64]);
+    put_words(&mut image, 22, &NOTIFY_MORE);
+    let mut machine = boot(&rt, rt.alloc(), &image)?;
+    assert_run_to_frame(&rt, &mut machine, 21, 21);
+    assert_frames(&rt, &machine, 0);
+    assert_run_to_frame(&rt, &mut machine, u64::MAX, 1);
+    assert_frames(&rt, &machine, 64);
+    assert_run_to_frame(&rt, &mut machine, 5, 0);
+    assert_steps(&rt, &machine, 22);
+    machine.clear_outbox();
+    assert_frames(&rt, &machine, 0);
+    // the used ring was written, and still counts so
+    assert_dirty(&rt, &machine, 1, true);
+    assert_run_to_frame(&rt, &mut machine, u64::MAX, 6);
+    assert_frames(&rt, &machine, 64);
+    assert_steps(&rt, &machine, 28);
+    Ok(())
+}
+
+/// A refusal has this number, this name, and this text.
+fn assert_name(
+    rt: &impl Abort,
+    alloc: Global,
+    error: MachineError,
+    number: u32,
+    name: &str,
+) -> Result<(), Fail> {
+    assert_eq!(rt; error.number(), number);
+    assert_eq!(rt; error.name(), name);
+    let text = format!(in alloc; "{error}")?;
+    assert_eq!(rt; text.as_str(), name);
     Ok(())
 }
 
 #[test]
 fn refusals_have_their_numbers_and_names(rt: HostRuntime) -> Result<(), Fail> {
-    assert_eq!(rt; MachineError::NoMemory.number(), 12);
-    assert_eq!(rt; MachineError::CutNeeded.number(), 13);
-    let error = MachineError::CutNeeded;
-    let text = format!(in rt.alloc(); "{error}")?;
-    assert_eq!(rt; text.as_str(), "CutNeeded");
-    assert_eq!(rt; MachineError::CutNeeded.name(), "CutNeeded");
-    let error = MachineError::NoMemory;
-    let text = format!(in rt.alloc(); "{error}")?;
-    assert_eq!(rt; text.as_str(), "NoMemory");
-    assert_eq!(rt; MachineError::NoMemory.name(), "NoMemory");
-    Ok(())
+    assert_name(&rt, rt.alloc(), MachineError::NoMemory, 12, "NoMemory")?;
+    assert_name(&rt, rt.alloc(), MachineError::CutNeeded, 13, "CutNeeded")
 }

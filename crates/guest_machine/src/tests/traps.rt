@@ -1,5 +1,8 @@
 //! Exceptions and their causes, the trap's way back, and the CSRs.
-use super::{assert_trap, boot, register, run, words};
+use super::asserts::{
+    assert_cause, assert_mstatus, assert_pc, assert_register, assert_steps, assert_trap,
+};
+use super::{boot, run, words};
 use std::alloc::Global;
 use std::process::Abort;
 use std::test::Fail;
@@ -10,10 +13,10 @@ fn traps(rt: &impl Abort, alloc: Global, word: u32, cause: u64, value: u64) -> R
     let mut machine = boot(rt, alloc, &image)?;
     run(rt, &mut machine, 1);
     assert_trap(rt, &machine, cause, value, 0x80000000);
-    assert_eq!(rt; machine.pc(), 0);
-    assert_eq!(rt; machine.steps(), 1);
+    assert_pc(rt, &machine, 0);
+    assert_steps(rt, &machine, 1);
     for number in 0..32 {
-        assert_eq!(rt; register(rt, &machine, number), 0);
+        assert_register(rt, &machine, number, 0);
     }
     Ok(())
 }
@@ -81,12 +84,12 @@ fn csrs_are_read_and_written(rt: HostRuntime) -> Result<(), Fail> {
     ];
     for (i, value) in want.iter().enumerate() {
         if i < 9 {
-            assert_eq!(rt; register(&rt, &machine, i as u8 + 1), *value);
+            assert_register(&rt, &machine, i as u8 + 1, *value);
         }
     }
     assert_eq!(rt; machine.csrs().mscratch, 0);
-    assert_eq!(rt; machine.csrs().mcause, 0);
-    assert_eq!(rt; machine.pc(), 0x80000028);
+    assert_cause(&rt, &machine, 0);
+    assert_pc(&rt, &machine, 0x80000028);
     Ok(())
 }
 
@@ -99,9 +102,9 @@ fn mret_goes_back(rt: HostRuntime) -> Result<(), Fail> {
     )?;
     let mut machine = boot(&rt, rt.alloc(), &image)?;
     run(&rt, &mut machine, 4);
-    assert_eq!(rt; machine.pc(), 0x80000100);
+    assert_pc(&rt, &machine, 0x80000100);
     // MIE is MPIE, which was 0, and MPIE is 1
-    assert_eq!(rt; machine.csrs().mstatus, 0x1880);
+    assert_mstatus(&rt, &machine, 0x1880);
     Ok(())
 }
 
@@ -111,10 +114,10 @@ fn a_branch_traps_on_itself_only_where_it_is_taken(rt: HostRuntime) -> Result<()
     let image = words(rt.alloc(), &[0x00001163, 0x00000163])?;
     let mut machine = boot(&rt, rt.alloc(), &image)?;
     run(&rt, &mut machine, 1);
-    assert_eq!(rt; machine.pc(), 0x80000004);
+    assert_pc(&rt, &machine, 0x80000004);
     run(&rt, &mut machine, 1);
     assert_trap(&rt, &machine, 0, 0x80000006, 0x80000004);
-    assert_eq!(rt; machine.pc(), 0);
+    assert_pc(&rt, &machine, 0);
     run(&rt, &mut machine, 1);
     assert_trap(&rt, &machine, 1, 0, 0);
     Ok(())
@@ -126,8 +129,8 @@ fn jalr_clears_bit_0(rt: HostRuntime) -> Result<(), Fail> {
     let image = words(rt.alloc(), &[0x00000097, 0x00108093, 0x100082e7])?;
     let mut machine = boot(&rt, rt.alloc(), &image)?;
     run(&rt, &mut machine, 3);
-    assert_eq!(rt; machine.pc(), 0x80000100);
-    assert_eq!(rt; register(&rt, &machine, 5), 0x8000000c);
+    assert_pc(&rt, &machine, 0x80000100);
+    assert_register(&rt, &machine, 5, 0x8000000c);
     Ok(())
 }
 
@@ -137,12 +140,12 @@ fn a_pc_outside_memory_is_an_access_fault(rt: HostRuntime) -> Result<(), Fail> {
     let image = words(rt.alloc(), &[0xff9ff0ef])?;
     let mut machine = boot(&rt, rt.alloc(), &image)?;
     run(&rt, &mut machine, 1);
-    assert_eq!(rt; machine.pc(), 0x7ffffff8);
-    assert_eq!(rt; register(&rt, &machine, 1), 0x80000004);
+    assert_pc(&rt, &machine, 0x7ffffff8);
+    assert_register(&rt, &machine, 1, 0x80000004);
     run(&rt, &mut machine, 1);
     assert_trap(&rt, &machine, 1, 0x7ffffff8, 0x7ffffff8);
     run(&rt, &mut machine, 1);
     assert_trap(&rt, &machine, 1, 0, 0);
-    assert_eq!(rt; machine.steps(), 3);
+    assert_steps(&rt, &machine, 3);
     Ok(())
 }

@@ -1,4 +1,4 @@
-use Rattle.std.proofs.Common.{ℕ, ◌%◌, ap, ◌∙◌}
+use Rattle.std.proofs.Common.{◌%◌, ap, ◌∙◌}
 use Rattle.mtraps.specs.declared.values.CsrValues.{CsrValues}
 use Rattle.guest_machine.proofs.AlignedLemmas.{legal_aligned}
 use Rattle.guest_machine.proofs.machine.Machine.put_state.Goals as goal

@@ -1,19 +1,24 @@
 use Rattle.std.proofs.Common.{arith, subst, sym}
 use Rattle.guest_machine.specs.Aligned.{IsAligned}
+use Rattle.guest_machine.specs.Flags.{KeepsFlags}
 use Rattle.guest_machine.specs.Guest.{State}
 use Rattle.guest_machine.specs.Parts.{state_with}
 use Rattle.guest_machine.proofs.AlignedLemmas.{aligned-next}
-use Rattle.guest_machine.proofs.RunLemmas.{IsRun, no_run, longer_run}
-use Rattle.guest_machine.proofs.machine.Machine.run.Goals as goal
+use Rattle.guest_machine.proofs.FlagLemmas.{keeps_same, keeps_on}
+use Rattle.guest_machine.proofs.RunLemmas.{IsRun, no_run, none_before, longer_run, few_before}
+use Rattle.guest_machine.proofs.machine.Machine.run_while.Goals as goal
 
 pub loop-made-init : goal.loop-made-init
 loop-made-init c =
     let parts = c.self.inside in
     let now : State = state_with parts.hart parts.ram.memory parts.devices parts.outbox in
     let Run : State → Type 0 = λ s. IsRun 0 s now in
+    let Flags : State → Type 0 = λ s. KeepsFlags s.written now.written in
     record {
       most = omega arith;
       run = subst Run c.self.view_is (no_run now);
+      flags = subst Flags c.self.view_is (keeps_same now.written);
+      before = none_before c.args.limit c.args.self.now;
       unchanged = λ none. c.self.view_is;
       aligned = c.self.invariant;
     }
@@ -24,6 +29,8 @@ loop-made-preserved c = record {
   run =
       longer_run _ _ _ _ c.loop-made.invariant.run (omega arith) c.run_step.ensures.guest c.run_step.ensures.frames c.run_step.ensures.list
       c.run_step.ensures.settled;
+  flags = keeps_on _ _ _ c.loop-made.invariant.flags c.run_step.ensures.flags;
+  before = few_before _ _ _ _ c.loop-made.invariant.run (omega arith);
   unchanged = λ none. absurd (omega arith);
   aligned = subst IsAligned (sym c.run_step.ensures.guest) (aligned-next _ c.loop-made.invariant.aligned);
 }

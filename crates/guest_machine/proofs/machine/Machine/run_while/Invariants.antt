@@ -1,8 +1,9 @@
 use Rattle.std.proofs.Common.{◌≡◌, ◌-◌, ◌≤◌}
 use Rattle.guest_machine.specs.Aligned.{IsAligned}
+use Rattle.guest_machine.specs.Flags.{KeepsFlags}
 use Rattle.guest_machine.specs.Parts.{guest_of, state_with}
-use Rattle.guest_machine.proofs.RunLemmas.{IsRun}
-use Rattle.guest_machine.proofs.machine.Machine.run.Given as goal
+use Rattle.guest_machine.proofs.RunLemmas.{IsRun, IsFewBefore}
+use Rattle.guest_machine.proofs.machine.Machine.run_while.Given as goal
 
 abbrev pub invariant-loop-made : goal.invariant-loop-made
 invariant-loop-made l = record {
@@ -10,6 +11,8 @@ invariant-loop-made l = record {
   run :
       IsRun l.made l.fn.self
       (state_with l.self-inside.hart l.self-inside.ram.memory l.self-inside.devices l.self-inside.outbox);
+  flags : KeepsFlags l.fn.self.written l.self-inside.ram.memory.written;
+  before : IsFewBefore l.limit l.made l.fn.self;
   unchanged : l.made ≡ 0 → state_with l.self-inside.hart l.self-inside.ram.memory l.self-inside.devices l.self-inside.outbox ≡ l.fn.self;
   aligned : IsAligned (guest_of l.self-inside.hart l.self-inside.ram.memory.bytes l.self-inside.devices);
 }
