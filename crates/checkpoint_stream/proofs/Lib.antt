@@ -9,6 +9,7 @@ pub mod Numbers
 pub mod Leading
 pub mod HeadRead
 pub mod RecordsRead
+pub mod RunLemmas
 pub mod SectorsRead
 pub mod HeadFits
 pub mod StateRead

@@ -3,6 +3,8 @@ use Rattle.std.proofs.Common.{◌≡◌, ℕ, ◌+◌, ◌<◌, ◌≤◌, List,
 use Rattle.std.proofs.Common.{append_assoc, add-one, count_ones, All, take_all, subst}
 use Rattle.std.proofs.lemmas.List.{append-nil, drop_all}
 use Rattle.std.proofs.Math.Seq.{drop-cons}
+use Rattle.std.specs.List.{flat_map}
+use Rattle.std.proofs.lemmas.List.Concat.{flat_map-cons}
 use Rattle.std.proofs.lemmas.List.Sums.{sum_by-cons}
 use Rattle.epoch_snapshot.specs.declared.changes.PageChange.{PageChange}
 use Rattle.epoch_snapshot.specs.declared.changes.SectorChange.{SectorChange}
@@ -139,3 +141,9 @@ text-spelled c =
     ∙ ap (λ (l : List ℕ). joined (number_units head_table (head_numbers c))
     ++ l) (joined-append (bytes_of Four (length c.pages) ∷ page_units c.pages c.blocks) _
     ∙ both _ _ _ _ (joined-cons _ _) (joined-cons _ _))
+
+-- the bytes of blocks that lie one after another
+pub joined-flat : (us : List (List ℕ)) → flat_map (λ u. u) us ≡ joined us
+unfolding joined
+joined-flat [] = refl
+joined-flat (u ∷ us) = flat_map-cons (λ (l : List ℕ). l) u us ∙ ap (λ (l : List ℕ). u ++ l) (joined-flat us)

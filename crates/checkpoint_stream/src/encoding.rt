@@ -105,18 +105,14 @@ fn put_page(out: &mut Vec<u8>, page: &PageChange, blocks: &[Block]) -> Result<()
 {
     put(out, Width::Four, u64::from(page.page))?;
     put(out, Width::Eight, page.mask)?;
-    put_blocks(out, blocks)?;
-    Ok(())
+    put_blocks(out, blocks)
 }
 
 /// Blocks at the end.
 fn put_blocks(out: &mut Vec<u8>, blocks: &[Block]) -> Result<(), AllocError>
     ensures { OnOk result (out.new.items ≡ out.old.items ++ joined blocks.now) }
 {
-    for block in blocks {
-        out.extend_from_slice(block)?;
-    }
-    Ok(())
+    out.extend_from_slice(blocks.as_flattened())
 }
 
 /// The sector records at the end.

@@ -49,7 +49,7 @@ impl Parts {
     }
 
     /// Takes a number of the head.
-    fn take_number(&mut self, n: u64)
+    pub(crate) fn take_number(&mut self, n: u64)
         requires { self.old.place ≡ Head }
         ensures { self.new ≡ number_judged self.old (row_at self.old.known) n }
     {
@@ -101,7 +101,13 @@ impl Parts {
     }
 
     /// Takes a block.
-    fn take_block(&mut self, left: u32, page: u32, more: u32, unit: &[u8]) -> Result<(), AllocError>
+    pub(crate) fn take_block(
+        &mut self,
+        left: u32,
+        page: u32,
+        more: u32,
+        unit: &[u8],
+    ) -> Result<(), AllocError>
         requires { length unit.now ≡ 64 }
         ensures ok { OnOk result (self.new ≡ block_judged self.old left page more unit.now) }
         ensures err { OnErr result (self.new ≡ self.old) }

@@ -13,6 +13,7 @@ mod parts;
 mod place;
 mod reader;
 mod rules;
+mod runs;
 mod states;
 #[cfg(test)]
 mod tests;

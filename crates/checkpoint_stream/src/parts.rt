@@ -160,9 +160,10 @@ impl Parts {
         ensures count { IfOk result (λ n. n ≡ taken self.old piece.now) }
         ensures err { OnErr result (Extends self.old self.new) }
     {
-        let mut at = 0;
+        let mut at = self.take_numbers(piece);
         while at < piece.len() && !self.is_closed() {
             at += self.take(&piece[at..])?;
+            at += self.take_blocks(&piece[at..])?;
         }
         Ok(at)
     }

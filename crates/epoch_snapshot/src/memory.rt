@@ -10,7 +10,10 @@ use guest_machine::Machine;
 use page_lanes::{Page, equal, mask, xor_blocks};
 
 /// How many pages are passed over in one go where none of them was written.
-const GROUP_PAGES: u32 = 64;
+const GROUP_PAGES: u32 = 256;
+
+/// The same where some page of such a group was written.
+const FEW_PAGES: u32 = 16;
 
 /// A page of zeros.
 static ZERO_PAGE: Page = [0; 4096];
@@ -58,6 +61,28 @@ fn some_written(machine: &Machine, from: u32, end: u32) -> bool
     some
 }
 
+/// A page after `from`, or `pages`, such that none from `from` up to it was written since the last settle. `from` wasn't, as the caller
+/// knows.
+fn end_of_unwritten(machine: &Machine, from: u32, pages: u32) -> u32
+    requires some { from < pages }
+    requires size { 4096 * pages ≤ length machine.now.guest.ram }
+    requires here { changed_pages machine.now.settled machine.now.guest.ram (from + 1) ≡
+        changed_pages machine.now.settled machine.now.guest.ram from }
+    ensures first { from < result }
+    ensures last { result ≤ pages }
+    ensures same { changed_pages machine.now.settled machine.now.guest.ram result ≡
+        changed_pages machine.now.settled machine.now.guest.ram from }
+{
+    let left = pages - from;
+    if from % GROUP_PAGES == 0 && left >= GROUP_PAGES && !some_written(machine, from, from + GROUP_PAGES) {
+        from + GROUP_PAGES
+    } else if from % FEW_PAGES == 0 && left >= FEW_PAGES && !some_written(machine, from, from + FEW_PAGES) {
+        from + FEW_PAGES
+    } else {
+        from + 1
+    }
+}
+
 /// The first page from `from` on that was written since the last settle, or `pages` where none of the first `pages` was.
 fn next_written(machine: &Machine, from: u32, pages: u32) -> u32
     requires ordered { from ≤ pages }
@@ -69,12 +94,7 @@ fn next_written(machine: &Machine, from: u32, pages: u32) -> u32
 {
     let mut page = from;
     while page < pages && !machine.dirty(page) {
-        let group = page % GROUP_PAGES == 0 && pages - page >= GROUP_PAGES;
-        if group && !some_written(machine, page, page + GROUP_PAGES) {
-            page += GROUP_PAGES;
-        } else {
-            page += 1;
-        }
+        page = end_of_unwritten(machine, page, pages);
     }
     page
 }

@@ -11,6 +11,7 @@ pub const BLOCK_SIZE: usize = 64;
 pub type Block = [u8; BLOCK_SIZE];
 
 /// The exclusive or of two blocks, byte by byte: what turns either of them into the other.
+#[inline(always)]
 pub fn xor_blocks(a: &Block, b: &Block) -> Block
     ensures { result ≡ xored a.now b.now }
 {
@@ -18,7 +19,8 @@ pub fn xor_blocks(a: &Block, b: &Block) -> Block
 }
 
 /// Puts the exclusive or of a block and the 64 bytes from `at` on in their place.
-pub(crate) fn xor_block_at(into: &mut [u8], at: usize, block: &Block)
+#[inline(always)]
+pub fn xor_block_at(into: &mut [u8], at: usize, block: &Block)
     requires { at + 64 ≤ length into.old }
     ensures { into.new ≡ take at into.old ++ (xored (take 64 (drop at into.old)) block.now ++ drop (at + 64) into.old) }
 {
@@ -27,6 +29,7 @@ pub(crate) fn xor_block_at(into: &mut [u8], at: usize, block: &Block)
 }
 
 /// Whether some byte of the two blocks differs.
+#[inline(always)]
 pub(crate) fn blocks_differ(a: &Block, b: &Block) -> bool
     ensures bytes { result ≡ differ a.now b.now }
     ensures blocks { IsTrue result ↔ (a.now ≡ b.now → ⊥) }

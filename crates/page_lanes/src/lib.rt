@@ -13,6 +13,6 @@ mod slices;
 #[cfg(test)]
 mod tests;
 
-pub use blocks::{BLOCK_SIZE, Block, xor_blocks};
+pub use blocks::{BLOCK_SIZE, Block, xor_block_at, xor_blocks};
 pub use pages::{PAGE_SIZE, Page, mask};
 pub use slices::{count_differing, equal, is_zero, xor_into};

@@ -4,7 +4,7 @@ ghost use Rattle.paged_memory.specs.Bytes.{with_bytes, with_xored};
 ghost use Rattle.paged_memory.specs.Pages.{IsPaged, page_of, is_written, written_pages, with_written, boot_bytes, settled_at};
 
 use crate::keeping::clear_flags;
-use page_lanes::{BLOCK_SIZE, Block, xor_blocks};
+use page_lanes::{BLOCK_SIZE, Block, xor_block_at};
 use std::alloc::{AllocError, Global};
 use std::marker::Model;
 
@@ -120,9 +120,8 @@ impl Memory {
         ensures size { length self.new.bytes ≡ length self.old.bytes }
         ensures pages { length self.new.written ≡ length self.old.written }
     {
-        let mut bytes = [0; BLOCK_SIZE];
-        self.read(at, &mut bytes);
-        self.write(at, &xor_blocks(&bytes, block));
+        self.keep_few(at, BLOCK_SIZE);
+        xor_at(&mut self.bytes, at, block);
     }
 
     /// The byte at a place of memory, as the caller knows.
@@ -190,6 +189,15 @@ pub(crate) fn put(bytes: &mut Vec<u8>, at: usize, from: &[u8])
     ensures size { length bytes.new.items ≡ length bytes.old.items }
 {
     bytes[at..at + from.len()].copy_from_slice(from);
+}
+
+/// XORs a block into the bytes from a place on.
+fn xor_at(bytes: &mut Vec<u8>, at: usize, block: &Block)
+    requires { at + 64 ≤ length bytes.old.items }
+    ensures value { bytes.new.items ≡ with_xored bytes.old.items at block.now }
+    ensures size { length bytes.new.items ≡ length bytes.old.items }
+{
+    xor_block_at(bytes.as_mut_slice(), at, block);
 }
 
 /// The bytes of a page as an array.

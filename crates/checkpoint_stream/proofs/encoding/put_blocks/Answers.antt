@@ -1,11 +1,10 @@
-use Rattle.std.proofs.Common.{arith}
-use Rattle.checkpoint_stream.proofs.Spelling.{advance, finish, joined-drop, joined-done}
+use Rattle.std.proofs.Common.{rules, ◌≡◌, ◌++◌, List, ℕ, OnOk, ◌∙◌, subst}
+use Rattle.checkpoint_stream.specs.Text.{joined}
+use Rattle.checkpoint_stream.proofs.Spelling.{joined-flat}
 use Rattle.checkpoint_stream.proofs.encoding.put_blocks.Goals as goal
 
-pub loop-block-preserved : goal.loop-block-preserved
-loop-block-preserved c =
-    advance c.loop-block.out.items _ c.extend_from_slice.new.self.items _ _ _ c.loop-block.invariant
-    (joined-drop c.args.blocks.now c.loop-block.block-index _ (omega arith)) c.in_ok-extend_from_slice.ensures.items
-
 pub returns : goal.returns
-returns c = finish c.loop-block.out.items _ _ c.loop-block.invariant (joined-done c.args.blocks.now c.loop-block.block-index (omega arith))
+returns c =
+    let flat : c.as_flattened.result.now ≡ joined c.args.blocks.now = c.as_flattened.ensures.value ∙ joined-flat c.args.blocks.now in
+    subst (λ (l : List ℕ). OnOk c.extend_from_slice.result (c.extend_from_slice.new.self.items ≡ c.args.out.now.items ++ l)) flat
+    (search rules)

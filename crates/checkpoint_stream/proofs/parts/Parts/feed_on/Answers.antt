@@ -1,22 +1,44 @@
-use Rattle.std.proofs.Common.{sym, ◌∙◌, ap, subst, arith}
+use Rattle.std.proofs.Common.{rules, ◌≤◌, ◌+◌, length, take, sym, ◌∙◌, ap, subst}
 use Rattle.std.proofs.lemmas.List.{length-take-le, take-append-drop}
 use Rattle.checkpoint_stream.specs.Readings.{fed, taken}
-use Rattle.checkpoint_stream.specs.Taken.{Extends}
+use Rattle.checkpoint_stream.specs.Taken.{Takes, Extends}
 use Rattle.checkpoint_stream.proofs.Extending.{Extends-itself, fed-extends}
-use Rattle.checkpoint_stream.proofs.Feeding.{Takes-nothing, Takes-more, count-inside, fed-done, taken-done}
+use Rattle.checkpoint_stream.proofs.Feeding.{Takes-more, count-inside, fed-done, taken-done}
+use Rattle.checkpoint_stream.proofs.RunLemmas.{Extends-both}
 use Rattle.checkpoint_stream.proofs.parts.Parts.feed_on.Goals as goal
 
 pub loop-at-init : goal.loop-at-init
-loop-at-init c = record { inside = omega arith; read = Takes-nothing c.args.self.now; extends = Extends-itself c.args.self.now }
+loop-at-init c = record {
+  inside = c.take_numbers-at.ensures.count;
+  read = c.take_numbers-at.ensures.read;
+  extends = subst (Extends c.args.self.now) c.take_numbers-at.ensures.read.reading
+      (fed-extends c.args.self.now c.args.self.now _ (Extends-itself c.args.self.now));
+}
 
 pub loop-at-preserved : goal.loop-at-preserved
-loop-at-preserved c = record {
-  inside = count-inside c.loop-at.at _ c.args.piece.now c.loop-at.invariant.inside c.in_ok-at.ensures.count.1;
-  read = Takes-more c.args.self.now c.loop-at.self c.take.new.self c.loop-at.at _ c.args.piece.now c.loop-at.invariant.read
-      c.in_ok-at.ensures.read;
-  extends = subst (Extends c.args.self.now) (c.in_ok-at.ensures.read.reading)
-      (fed-extends c.args.self.now c.loop-at.self _ c.loop-at.invariant.extends);
-}
+loop-at-preserved c =
+    let taken : Takes c.args.self.now (take (c.loop-at.at + c.in_ok-at.field-0) c.args.piece.now) c.take.new.self
+    = Takes-more c.args.self.now c.loop-at.self c.take.new.self c.loop-at.at c.in_ok-at.field-0 c.args.piece.now
+    c.loop-at.invariant.read c.in_ok-at.ensures.read in
+    let inside : c.loop-at.at + c.in_ok-at.field-0 ≤ length c.args.piece.now
+    = count-inside c.loop-at.at c.in_ok-at.field-0 c.args.piece.now c.loop-at.invariant.inside c.in_ok-at.ensures.count.1 in
+    let all = Takes-more c.args.self.now c.take.new.self c.take_blocks.new.self (c.loop-at.at + c.in_ok-at.field-0) c.in_ok-at-2.field-0
+    c.args.piece.now taken c.in_ok-at-2.ensures.read in
+    record {
+      inside = count-inside (c.loop-at.at + c.in_ok-at.field-0) c.in_ok-at-2.field-0 c.args.piece.now inside c.in_ok-at-2.ensures.count;
+      read = all;
+      extends = subst (Extends c.args.self.now) all.reading
+          (fed-extends c.args.self.now c.args.self.now _ (Extends-itself c.args.self.now));
+    }
+
+pub returns-in_err-at-2-clause-err : goal.returns-in_err-at-2-clause-err
+returns-in_err-at-2-clause-err c =
+    let before : Extends c.args.self.now c.take.new.self
+    = subst (Extends c.args.self.now) c.in_ok-at.ensures.read.reading
+    (fed-extends c.args.self.now c.loop-at.self _ c.loop-at.invariant.extends) in
+    let extends : Extends c.args.self.now c.take_blocks.new.self
+    = Extends-both c.args.self.now c.take.new.self c.take_blocks.new.self before c.in_err-at-2.ensures.err in
+    search rules
 
 pub returns-else-not-is_closed-clause-read : goal.returns-else-not-is_closed-clause-read
 returns-else-not-is_closed-clause-read c =

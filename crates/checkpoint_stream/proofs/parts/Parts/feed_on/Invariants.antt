@@ -5,8 +5,8 @@ use Rattle.checkpoint_stream.proofs.parts.Parts.feed_on.Given as goal
 abbrev pub invariant-loop-at : goal.invariant-loop-at
 invariant-loop-at l = record {
   inside : l.at ≤ length l.piece;
-  read : Takes l.initial.self (take l.at l.piece) l.self;
-  extends : Extends l.initial.self l.self;
+  read : Takes l.fn.self (take l.at l.piece) l.self;
+  extends : Extends l.fn.self l.self;
 }
 
 abbrev pub decreases-loop-at : goal.decreases-loop-at

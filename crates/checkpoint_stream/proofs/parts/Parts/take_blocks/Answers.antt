@@ -1,0 +1,37 @@
+use Rattle.std.proofs.Common.{rules, ◌≡◌, ◌≤◌, ◌+◌, ◌-◌, ℕ, List, [], length, take, drop, refl, sym, ◌∙◌, ap, subst, arith, length-drop}
+use Rattle.std.proofs.lemmas.List.{length-take-le}
+use Rattle.checkpoint_stream.specs.declared.place.Place.{Place}
+use Rattle.checkpoint_stream.specs.declared.place.Place.TheVariants.{Block}
+use Rattle.checkpoint_stream.specs.Readings.{is_closed, width_at, judged, block_judged}
+use Rattle.checkpoint_stream.specs.Taken.{Takes, Extends}
+use Rattle.checkpoint_stream.proofs.Feeding.{Takes-nothing, Takes-unit}
+use Rattle.checkpoint_stream.proofs.Extending.{Extends-itself, fed-extends}
+use Rattle.checkpoint_stream.proofs.RunLemmas.{judged-block, Takes-next}
+use Rattle.checkpoint_stream.proofs.parts.Parts.take_blocks.Goals as goal
+
+pub loop-at-init : goal.loop-at-init
+loop-at-init c = record { inside = omega arith; extends = Extends-itself c.args.self.now; read = Takes-nothing c.args.self.now }
+
+pub loop-at-preserved : goal.loop-at-preserved
+loop-at-preserved c =
+    let m = c.loop-at.self in
+    let at = c.loop-at.at in
+    let unit : List ℕ = take 64 (drop at c.args.rest.now) in
+    let inside : at + 64 ≤ length c.args.rest.now = omega arith in
+    let long : length unit ≡ 64
+    = length-take-le 64 (drop at c.args.rest.now) (omega (arith, inside, length-drop at c.args.rest.now)) in
+    let count : at + 64 - at ≡ 64 = omega arith in
+    let place : m.place ≡ Block c.in-Block.left c.in-Block.page c.in-Block.more = search rules in
+    let begun : m.partial ≡ [] = rw (← c.self.view_is, c.if-self-eq0.true) refl in
+    let is : c.take_block.new.self ≡ judged m unit
+    = c.in_ok-take_block.ensures.ok
+    ∙ ap (λ (n : ℕ). block_judged m c.in-Block.left c.in-Block.page c.in-Block.more (take n (drop at c.args.rest.now))) count
+    ∙ sym (judged-block m unit c.in-Block.left c.in-Block.page c.in-Block.more place) in
+    let taken : Takes m unit c.take_block.new.self
+    = Takes-unit m c.take_block.new.self unit (ap is_closed place) begun (omega (arith, long))
+    (long ∙ sym (ap (λ (p : Place). width_at p m.known) place)) is in
+    record {
+      inside = inside;
+      extends = subst (Extends c.args.self.now) taken.reading (fed-extends c.args.self.now m unit c.loop-at.invariant.extends);
+      read = Takes-next c.args.self.now m c.take_block.new.self at 64 c.args.rest.now c.loop-at.invariant.read taken;
+    }
