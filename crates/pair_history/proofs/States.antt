@@ -1,5 +1,5 @@
 -- Laws of histories: what a list of entries does, in two parts.
-use Rattle.std.proofs.Common.{◌≡◌, List, [], ◌∷◌, ◌++◌, refl, sym, ap, ◌∙◌, append_assoc, inl}
+use Rattle.std.proofs.Common.{◌≡◌, List, [], ◌∷◌, ◌++◌, refl, sym, ap, ◌∙◌, append_assoc, arith}
 pub use Rattle.frame_ports.proofs.AddressLaws.{targets_of-append}
 pub use Rattle.std.proofs.lemmas.List.{append-nil}
 use Rattle.pair_history.specs.Entries.{Entry, DropIn, DropOut}
@@ -23,7 +23,7 @@ DropsAreKnown-append s (other ∷ es) fs p q = DropsAreKnown-append (after s oth
 pub at_full-known : (s : HistoryState) (es : List Entry) → DropsAtFull s es → DropsAreKnown s es
 at_full-known s [] p = tt
 at_full-known s (DropIn n ∷ es) p = absurd p
-at_full-known s (DropOut c place ∷ es) p = (inl p.0, at_full-known (after s (DropOut c place)) es p.1)
+at_full-known s (DropOut c place ∷ es) p = (let e = p.0.0 in let l = p.0.1 in omega arith, at_full-known (after s (DropOut c place)) es p.1)
 at_full-known s (other ∷ es) p = at_full-known (after s other) es p
 
 pub along-append : {X : Type 0} (gives : HistoryState → Entry → List X) (s : HistoryState) (es fs : List Entry)

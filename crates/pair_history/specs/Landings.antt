@@ -1,5 +1,5 @@
 -- What becomes of frames that are let go: each lands in its client's box, or is dropped at a full one.
-use Rattle.std.specs.Prelude.{◌≡◌, ℕ, ◌<◌, ◌≤◌, ◌⊎◌, if◌then◌else◌, List, [], ◌∷◌, length}
+use Rattle.std.specs.Prelude.{◌≡◌, ℕ, ◌<◌, ◌≤◌, if◌then◌else◌, List, [], ◌∷◌, length}
 use Rattle.frame_ports.specs.Lands.{list_of, has_room, landed_at}
 use Rattle.frame_ports.specs.declared.limits.TheConstants.{BOX_FRAMES}
 use Rattle.pair_history.specs.Entries.{Frame, Entry, DropIn, Land, DropOut}
@@ -19,10 +19,10 @@ IsAtFull s c place = (place ≡ BOX_FRAMES) × (length (list_of s.boxes c) ≡ B
 abbrev pub IsInBox : HistoryState → ℕ → ℕ → Type 0
 IsInBox s c place = place < length (list_of s.boxes c)
 
--- each frame for a client was dropped at its full box, or out of its box
+-- each frame for a client was dropped out of its box, or as the next one on its way to it
 abbrev pub DropsAreKnown : HistoryState → List Entry → Type 0
 DropsAreKnown s [] = Unit {0}
-DropsAreKnown s (DropOut c place ∷ es) = (IsAtFull s c place ⊎ IsInBox s c place) × DropsAreKnown (after s (DropOut c place)) es
+DropsAreKnown s (DropOut c place ∷ es) = (place ≤ length (list_of s.boxes c)) × DropsAreKnown (after s (DropOut c place)) es
 DropsAreKnown s (other ∷ es) = DropsAreKnown (after s other) es
 
 -- these entries drop no frame but at full boxes

@@ -1,4 +1,6 @@
-ghost use Rattle.std.specs.Prelude.{◌≡◌, ◌+◌, ◌^◌, ◌<◌, ◌≤◌, ◌++◌, [], length, OnOk, IsTrue, ◌↔◌};
+ghost use Rattle.std.specs.Prelude.{◌≡◌, ◌+◌, ◌^◌, ◌<◌, ◌≤◌, ◌++◌, [], length, replicate, vec_len, vec_capacity, OnOk, IsTrue, ◌↔◌};
+ghost use Rattle.pair_history.specs.Entries.{Ran};
+ghost use Rattle.pair_history.specs.Log.{all_expanded};
 
 use frame_ports::Frame;
 use std::alloc::{AllocError, Global};
@@ -77,6 +79,19 @@ impl History {
         self.entries.push(entry).unwrap();
     }
 
+    /// The guest made so many steps, in the room that was reserved. They count among those that the history ends with, so that many
+    /// steps in a row, however they come, take the room of one stored entry.
+    pub fn run(&mut self, steps: u64)
+        requires room { 0 < self.old.room }
+        requires fits { length self.old.entries + steps < 2 ^ 62 }
+        ensures entries { self.new.entries ≡ self.old.entries ++ replicate steps Ran }
+        ensures room { self.old.room ≤ self.new.room + 1 }
+    {
+        let before = take_steps(&mut self.entries);
+        self.len += steps;
+        self.entries.push(Entry::Ran(before + steps)).unwrap();
+    }
+
     /// How many entries there are, each step counted.
     pub fn len(&self) -> u64
         ensures { result ≡ length self.now.entries }
@@ -96,6 +111,21 @@ impl History {
         ensures { all_expanded result.now ≡ self.now.entries }
     {
         self.entries.as_slice()
+    }
+}
+
+/// Takes the steps that these entries end with off their end, and says how many they are.
+fn take_steps(entries: &mut Vec<Entry>) -> u64
+    ensures steps { all_expanded entries.old.items ≡ all_expanded entries.new.items ++ replicate result Ran }
+    ensures room { vec_capacity entries.old + vec_len entries.new ≤ vec_capacity entries.new + vec_len entries.old }
+{
+    match entries.pop() {
+        Some(Entry::Ran(steps)) => steps,
+        Some(other) => {
+            entries.push(other).unwrap();
+            0
+        }
+        None => 0,
     }
 }
 
