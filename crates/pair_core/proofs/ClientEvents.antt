@@ -1,6 +1,6 @@
 -- What clients and their lines do keeps the invariant: it goes into the history, before what is kept.
 use Rattle.std.proofs.Common.{◌≡◌, ℕ, ◌+◌, ◌-◌, ◌<◌, ◌≤◌, List, [], ◌∷◌, ◌++◌, length, drop, remove, refl, sym, ap, ◌∙◌, subst, arith, Bool}
-use Rattle.std.proofs.Common.{true, cond, Some, inr}
+use Rattle.std.proofs.Common.{true, cond, Some}
 use Rattle.std.specs.Prelude.{slice_get, nat_lt, ◌==◌}
 use Rattle.std.proofs.lemmas.Bool.{eq-eqb, lt-ltb}
 use Rattle.std.proofs.lemmas.List.Edits.{length-remove}
@@ -24,6 +24,7 @@ use Rattle.pair_history.proofs.LandingLaws.{AllLand, AllClients}
 use Rattle.pair_core.specs.declared.window.Window.{Window}
 use Rattle.pair_core.specs.Invariant.{frames_by_epoch, AreInboxes, AreNodes, AreClients, Holds}
 use Rattle.pair_core.specs.Journal.{with_history}
+use Rattle.pair_core.specs.Modes.{is_alone}
 use Rattle.pair_core.specs.Pair.{Pair, shown_state}
 use Rattle.pair_core.specs.Protocol.{ack_done, deliver_done, take_done, loss_done, let_go}
 use Rattle.pair_core.specs.Record.{IsRecord, ports_after_ack, ports_after_take, ports_after_lose_in, ports_after_lose_out}
@@ -64,11 +65,11 @@ module _ (w : Pair) (h : Holds w) (es : List Entry) (now : HistoryState)
           can = subst (λ (t : HistoryState). AllCan t.waiting ms) shown can;
         };
         nodes =
-            subst (λ (n : ℕ). AreNodes w.protocol.generation n (at w.start (history ++ es)).guest h.journal.sealed_moves h.journal.running_moves
+            subst (λ (n : ℕ). AreNodes (is_alone w.protocol.mode) w.protocol.generation n (at w.start (history ++ es)).guest h.journal.sealed_moves h.journal.running_moves
             (frames_by_epoch (uncommitted_of window pending)) w.nodes) (sym stays)
-            (subst (λ (us : List Epoch). AreNodes w.protocol.generation w.protocol.window.to_commit (at w.start (history ++ es)).guest
+            (subst (λ (us : List Epoch). AreNodes (is_alone w.protocol.mode) w.protocol.generation w.protocol.window.to_commit (at w.start (history ++ es)).guest
             h.journal.sealed_moves h.journal.running_moves (frames_by_epoch us) w.nodes) (sym same)
-            (subst (λ (g : Guest). AreNodes w.protocol.generation w.protocol.window.to_commit g h.journal.sealed_moves h.journal.running_moves
+            (subst (λ (g : Guest). AreNodes (is_alone w.protocol.mode) w.protocol.generation w.protocol.window.to_commit g h.journal.sealed_moves h.journal.running_moves
             (frames_by_epoch (uncommitted_of w.protocol.window w.protocol.pending)) w.nodes) (sym guest ∙ ap (λ t. t.guest) shown) h.nodes));
         clients = subst (λ (t : HistoryState). AreClients t (left t.waiting ms) ports) shown clients;
         owed = ap (λ t. t.out) (sym shown) ∙ owed;
@@ -217,7 +218,7 @@ module _ (w : Pair) (h : Holds w) where
         history_holds w h (DropOut c place ∷ []) now
         (ap (λ (t : Bool). record s { out = cond t s.out without; boxes = cond t others s.boxes }) test
         ∙ (λ i. record s { boxes = with_list (same i) c (remove (list_of (same i) c) place) }))
-        refl (((low, high_there c high), omega arith), tt) (inr boxed, tt) h.journal.can (ports_after_lose_out w.ports c place)
+        refl (((low, high_there c high), omega arith), tt) (omega arith, tt) h.journal.can (ports_after_lose_out w.ports c place)
         (record {
           number = h.clients.number;
           rising = h.clients.rising;

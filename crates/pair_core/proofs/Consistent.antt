@@ -1,5 +1,5 @@
 -- What is kept true from event to event gives what contracts say.
-use Rattle.std.proofs.Common.{◌≡◌, ℕ, ◌+◌, List, [], ◌∷◌, ◌++◌, length, refl, sym, ap, ◌∙◌, subst, append_assoc}
+use Rattle.std.proofs.Common.{◌≡◌, ℕ, ◌+◌, false, List, [], ◌∷◌, ◌++◌, length, refl, sym, ap, ◌∙◌, subst, append_assoc}
 use Rattle.std.specs.Prelude.{map}
 use Rattle.std.proofs.lemmas.List.{map-append, take-append-drop}
 use Rattle.guest_machine.specs.declared.shapes.Shape.{Shape}
@@ -15,8 +15,10 @@ use Rattle.pair_history.proofs.Moves.{moved, at-moves, Legal-moves, sent_along-m
 use Rattle.pair_core.specs.Invariant.{all_moves, epoch_frames, frames_by_epoch, AreInboxes, AreSealed, Holds}
 use Rattle.pair_core.specs.Journal.{joined, kept_entries}
 use Rattle.pair_core.specs.Nodes.{machine_of}
-use Rattle.pair_core.specs.Pair.{Pair, shown_state, live_state, IsConsistent}
+use Rattle.pair_core.specs.Modes.{is_alone}
+use Rattle.pair_core.specs.Pair.{Pair, shown_state, live_state, HasBackup, IsAlone, IsConsistent}
 use Rattle.pair_core.specs.Protocol.{outbox_of}
+use Rattle.pair_core.specs.Record.{IsRecord, IsLone}
 use Rattle.pair_core.specs.Texts.{IsText, AreTexts}
 use Rattle.pair_core.specs.Window.{committed_count, committed_of, uncommitted_of}
 use Rattle.pair_core.proofs.Events.{frames_of-append, kept_moves, left_now}
@@ -47,12 +49,12 @@ module _ (w : Pair) (h : Holds w) where
   sealed_entries : joined w.protocol.journal.sealed ≡ entries_of sealed_moves
   sealed_entries = ap joined h.journal.sealed_are ∙ joined-entries h.journal.sealed_moves
 
-  kept_is : kept_entries w.protocol.journal ≡ entries_of (kept_moves w h)
+  pub kept_is : kept_entries w.protocol.journal ≡ entries_of (kept_moves w h)
   kept_is =
       ap (λ t. t ++ w.protocol.journal.running) sealed_entries ∙ ap (λ t. entries_of sealed_moves ++ t) h.journal.running_are
       ∙ sym (map-append entry_of sealed_moves h.journal.running_moves)
 
-  live_is_moved : live_state w ≡ moved (shown_state w) (kept_moves w h)
+  pub live_is_moved : live_state w ≡ moved (shown_state w) (kept_moves w h)
   live_is_moved = at-append w.start w.protocol.journal.history (kept_entries w.protocol.journal) ∙ ap (at (shown_state w)) kept_is ∙ at-moves (shown_state w) (kept_moves w h) h.journal.can
 
   pub live_is : (live_state w).guest ≡ w.nodes.live.guest
@@ -89,7 +91,7 @@ module _ (w : Pair) (h : Holds w) where
           let tail : frames_by_epoch es ≡ epoch_frames (guest_along g k) mss = cc in
           ap (λ t. t ++ frames_of es) head ∙ ap (λ t. frames_along g k ++ t) (of_epochs (guest_along g k) mss es tail) ∙ sym (frames_along-append g k (all_moves mss))
 
-  owed_is : targets_of (length w.ports.boxes) (frames_of w.protocol.pending ++ w.nodes.live.outbox) ≡ (live_state w).out
+  pub owed_is : targets_of (length w.ports.boxes) (frames_of w.protocol.pending ++ w.nodes.live.outbox) ≡ (live_state w).out
   owed_is =
       let n = length w.ports.boxes in
       let covered = committed_of w.protocol.window w.protocol.pending in
@@ -103,19 +105,36 @@ module _ (w : Pair) (h : Holds w) where
       ∙ ap (λ (b : List (List Frame)). (shown_state w).out ++ targets_of (length b) (frames_along (shown_state w).guest (kept_moves w h))) h.clients.boxes
       ∙ sym (ap (λ s. s.out) live_is_moved)
 
-  pub consistent : IsConsistent w
-  consistent = record {
+  pub has_backup : is_alone w.protocol.mode ≡ false → HasBackup w
+  has_backup two =
+      let b = h.nodes.backed two in
+      record {
+        base = subst (λ (s : HistoryState). IsBase (machine_of w.nodes.live) s.guest) (sym sealed_state) b.base;
+        image = b.image;
+        stands_at = b.stands_at;
+        staged = b.staged;
+        sealed =
+            subst (λ (ess : List (List Entry)). AreTexts w.nodes.image.shape w.protocol.generation w.protocol.window.to_commit
+            (shown_state w) ess w.nodes.sealed) (sym h.journal.sealed_are)
+            (texts_are w.nodes.image.shape w.protocol.generation w.protocol.window.to_commit (shown_state w) h.journal.sealed_moves
+            h.journal.running_moves w.nodes.sealed h.journal.can b.sealed);
+      }
+
+  pub alone_is : IsLone w.protocol → IsAlone w
+  alone_is k = record {
+    kept = λ i. joined (k.0 i) ++ k.1 i;
+    pending = k.2;
+    outbox = sym outbox_is ∙ ap (sent_along (at w.start (w.protocol.journal.history ++ joined w.protocol.journal.sealed))) k.1;
+  }
+
+  pub consistent : IsRecord w.protocol → IsConsistent w
+  consistent k = record {
     legal = h.journal.legal;
     drops = h.journal.drops;
     goes_on = subst (Legal (shown_state w)) (sym kept_is) (Legal-moves (shown_state w) (kept_moves w h) h.journal.can);
     live = sym live_is;
-    base = subst (λ (s : HistoryState). IsBase (machine_of w.nodes.live) s.guest) (sym sealed_state) h.nodes.base;
-    image = h.nodes.image;
-    stands_at = h.nodes.stands_at;
-    staged = h.nodes.staged;
-    sealed =
-        subst (λ (ess : List (List Entry)). AreTexts w.nodes.image.shape w.protocol.generation w.protocol.window.to_commit (shown_state w) ess w.nodes.sealed) (sym h.journal.sealed_are)
-        (texts_are w.nodes.image.shape w.protocol.generation w.protocol.window.to_commit (shown_state w) h.journal.sealed_moves h.journal.running_moves w.nodes.sealed h.journal.can h.nodes.sealed);
+    backup = has_backup;
+    alone = λ e. alone_is (k.alone e);
     outbox = sym outbox_is;
     number = h.clients.number;
     clients = h.clients.count;

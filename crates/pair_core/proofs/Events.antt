@@ -1,5 +1,5 @@
 -- Each event keeps the invariant: one lemma for each part that it touches, and the others pass on by name.
-use Rattle.std.proofs.Common.{◌≡◌, ◌≢◌, ℕ, zero, suc, ◌+◌, ◌-◌, ◌*◌, ◌<◌, ◌≤◌, List, [], ◌∷◌, ◌++◌, length, take, drop, remove, get_or, replicate, refl, sym, ap, ◌∙◌, subst, arith, append_assoc, true, false, cond, Some, ⊎_elim}
+use Rattle.std.proofs.Common.{◌≡◌, ◌≢◌, ℕ, zero, suc, ◌+◌, ◌-◌, ◌*◌, ◌<◌, ◌≤◌, List, [], ◌∷◌, ◌++◌, length, take, drop, remove, get_or, replicate, refl, sym, ap, ◌∙◌, subst, arith, append_assoc, true, false, cond, Some, ⊎_elim, Bool}
 use Rattle.std.specs.Prelude.{map, slice_get, ◌==◌}
 use Rattle.std.proofs.lemmas.Bool.{eq-eqb}
 use Rattle.std.proofs.lemmas.Bool.Decides.{nat_tests, eqb_tells}
@@ -10,6 +10,7 @@ use Rattle.epoch_snapshot.specs.Bases.{IsBase}
 use Rattle.frame_ports.specs.Addresses.{targets_of}
 use Rattle.frame_ports.specs.Lands.{list_of, with_list}
 use Rattle.frame_ports.specs.Ports.{empty_ports}
+use Rattle.failover.specs.declared.mode.Mode.{Mode}
 use Rattle.output_gate.specs.Epochs.{Epoch, frames_of}
 use Rattle.pair_history.specs.Entries.{Frame, Entry}
 use Rattle.pair_history.specs.HistoryState.{HistoryState, Waiting, inbox_of, without_number, at, Legal, start_state}
@@ -21,6 +22,7 @@ use Rattle.pair_history.proofs.Moves.{guest_along-append, frames_along-append, l
 use Rattle.pair_core.specs.Invariant.{all_moves, epoch_frames, frames_by_epoch, AreInboxes, AreSealed, AreNodes, AreClients, Holds}
 use Rattle.pair_core.specs.Journal.{with_running, first_of, rest_of}
 use Rattle.pair_core.specs.Lines.{Lines}
+use Rattle.pair_core.specs.Modes.{is_alone}
 use Rattle.pair_core.specs.Nodes.{Node, HasShape, machine_of, start_nodes, with_arrival, with_sealed, with_commit, first_text}
 use Rattle.pair_core.specs.Texts.{IsText}
 use Rattle.pair_core.specs.Pair.{Pair, shown_state}
@@ -86,18 +88,23 @@ module _ (w : Pair) (h : Holds w) (ms : List Move) (es : List Entry) (live : Nod
         nodes = record {
           first_generation = h.nodes.first_generation;
           last_generation = h.nodes.last_generation;
-          some_committed = h.nodes.some_committed;
-          image = h.nodes.image;
-          stands_at = h.nodes.stands_at;
-          staged = h.nodes.staged;
-          sealed = h.nodes.sealed;
+          backed = λ e.
+              let b = h.nodes.backed e in
+              record {
+                some_committed = b.some_committed;
+                image = b.image;
+                stands_at = b.stands_at;
+                staged = b.staged;
+                image_shape = b.image_shape;
+                sealed = b.sealed;
+                base = base g b.base;
+              };
           frames = h.nodes.frames;
           live = guest ∙ ap (λ x. guest_along x ms) h.nodes.live ∙ sym (guest_along-append s.guest now ms) ∙ ap (guest_along s.guest) regroup;
           outbox =
               outbox ∙ ap (λ t. t ++ frames_along w.nodes.live.guest ms) h.nodes.outbox
               ∙ ap (λ x. frames_along g ran ++ frames_along x ms) live_is ∙ sym (frames_along-append g ran ms);
           shape = shape w.nodes.image.shape h.nodes.shape;
-          base = base g h.nodes.base;
         };
         clients = subst (λ (v : List Waiting). AreClients s v (record w.ports { inboxes = inboxes })) left_is clients;
         owed = h.owed;
@@ -183,9 +190,10 @@ module _ (w : Pair) (h : Holds w) (k : IsRecord w.protocol) (text : List ℕ)
           can = subst (AllCan s.waiting) same h.journal.can;
         };
         nodes =
-            subst (λ (held : List (List Frame)). AreNodes w.protocol.generation w.protocol.window.to_commit s.guest (mss ++ ran ∷ []) [] held (with_sealed w.nodes text)) frames
-            (nodes-cut w.protocol.generation w.protocol.window.to_commit s.guest mss ran (frames_by_epoch (drop n pending)) w.nodes w.protocol.window.to_cut text h.nodes counted
-            (is_text (guest_along s.guest (all_moves mss)) h.nodes.base h.nodes.shape));
+            subst (λ (held : List (List Frame)). AreNodes (is_alone w.protocol.mode) w.protocol.generation w.protocol.window.to_commit s.guest
+            (mss ++ ran ∷ []) [] held (with_sealed w.nodes text)) frames
+            (nodes-cut (is_alone w.protocol.mode) w.protocol.generation w.protocol.window.to_commit s.guest mss ran (frames_by_epoch (drop n pending)) w.nodes w.protocol.window.to_cut text h.nodes counted
+            (λ e. is_text (guest_along s.guest (all_moves mss)) (h.nodes.backed e).base h.nodes.shape));
         clients = subst (λ (ms : List Move). AreClients s (left s.waiting ms) w.ports) same h.clients;
         owed = h.owed ∙ ap (λ t. targets_of (length w.ports.boxes) (frames_of t)) (sym (take-append-le n pending (e ∷ []) enough));
       }
@@ -195,8 +203,22 @@ module _ (w : Pair) (h : Holds w) (k : IsRecord w.protocol) (text : List ℕ)
 pub lines_hold : (w : Pair) → Holds w → (l : Lines) → Holds (record w { protocol = record w.protocol { lines = l } })
 lines_hold w h l = record { journal = h.journal; nodes = h.nodes; clients = h.clients; owed = h.owed }
 
+-- FAILPRIMARY: only the mode
+
+pub mode_holds : (w : Pair) → Holds w → (mode : Mode) → is_alone w.protocol.mode ≡ is_alone mode
+    → Holds (record w { protocol = record w.protocol { mode = mode } })
+mode_holds w h mode same = record {
+  journal = h.journal;
+  nodes =
+      subst (λ (alone : Bool). AreNodes alone w.protocol.generation w.protocol.window.to_commit (shown_state w).guest h.journal.sealed_moves
+      h.journal.running_moves (frames_by_epoch (uncommitted_of w.protocol.window w.protocol.pending)) w.nodes) same h.nodes;
+  clients = h.clients;
+  owed = h.owed;
+}
+
 -- each checkpoint that was cut and not committed has its text
-module _ (w : Pair) (h : Holds w) (k : IsRecord w.protocol) (more : w.protocol.window.to_commit < w.protocol.window.to_cut) where
+module _ (w : Pair) (h : Holds w) (k : IsRecord w.protocol) (two : is_alone w.protocol.mode ≡ false)
+    (more : w.protocol.window.to_commit < w.protocol.window.to_cut) where
   abbrev IsOldest : Guest → List (List ℕ) → Type 0
   IsOldest after texts =
       (0 < length texts)
@@ -207,7 +229,7 @@ module _ (w : Pair) (h : Holds w) (k : IsRecord w.protocol) (more : w.protocol.w
       let c = ap length h.journal.sealed_are in
       let d = length-map h.journal.sealed_moves entries_of in
       let e = k.sealed in
-      by_moves h.journal.sealed_moves h.nodes.sealed (omega arith)
+      by_moves h.journal.sealed_moves (h.nodes.backed two).sealed (omega arith)
     where
       by_moves : (mss : List (List Move)) → AreSealed w.nodes.image.shape w.protocol.generation w.protocol.window.to_commit (shown_state w).guest mss w.nodes.sealed
           → 0 < length mss → (after : Guest) × IsOldest after w.nodes.sealed
@@ -220,7 +242,7 @@ module _ (w : Pair) (h : Holds w) (k : IsRecord w.protocol) (more : w.protocol.w
 
 -- COMMIT: the oldest sealed epoch moves to the history, and the image takes its checkpoint in
 
-module _ (w : Pair) (h : Holds w) (k : IsRecord w.protocol) where
+module _ (w : Pair) (h : Holds w) (k : IsRecord w.protocol) (two : is_alone w.protocol.mode ≡ false) where
   abbrev after_commit : Pair
   after_commit = record w { protocol = (commit_done w.protocol).1; nodes = with_commit w.nodes }
 
@@ -265,12 +287,13 @@ module _ (w : Pair) (h : Holds w) (k : IsRecord w.protocol) where
             let rest_held = frames_by_epoch us in
             let held : frames_by_epoch us ≡ frames_by_epoch (drop ((n + 1) - r.window.to_acknowledge) r.pending) =
             ap frames_by_epoch (sym (ap (λ m. drop m r.pending) one_more ∙ next.1)) in
-            let now : AreNodes r.generation n s.guest (ms ∷ mss) h.journal.running_moves (e.frames ∷ rest_held) w.nodes =
-            subst (λ (t : List (List Move)). AreNodes r.generation n s.guest t h.journal.running_moves (e.frames ∷ rest_held) w.nodes) moves_are
-            (subst (λ (us : List Epoch). AreNodes r.generation n s.guest h.journal.sealed_moves h.journal.running_moves (frames_by_epoch us) w.nodes) us_is h.nodes) in
-            subst (λ (x : Guest). AreNodes r.generation (n + 1) x mss h.journal.running_moves (frames_by_epoch (drop ((n + 1) - r.window.to_acknowledge) r.pending)) (with_commit w.nodes)) guest
-            (subst (λ (fs : List (List Frame)). AreNodes r.generation (n + 1) g mss h.journal.running_moves fs (with_commit w.nodes)) held
-            (nodes-commit r.generation n s.guest ms mss h.journal.running_moves e.frames rest_held w.nodes now));
+            let alone = is_alone r.mode in
+            let now : AreNodes alone r.generation n s.guest (ms ∷ mss) h.journal.running_moves (e.frames ∷ rest_held) w.nodes =
+            subst (λ (t : List (List Move)). AreNodes alone r.generation n s.guest t h.journal.running_moves (e.frames ∷ rest_held) w.nodes) moves_are
+            (subst (λ (us : List Epoch). AreNodes alone r.generation n s.guest h.journal.sealed_moves h.journal.running_moves (frames_by_epoch us) w.nodes) us_is h.nodes) in
+            subst (λ (x : Guest). AreNodes alone r.generation (n + 1) x mss h.journal.running_moves (frames_by_epoch (drop ((n + 1) - r.window.to_acknowledge) r.pending)) (with_commit w.nodes)) guest
+            (subst (λ (fs : List (List Frame)). AreNodes alone r.generation (n + 1) g mss h.journal.running_moves fs (with_commit w.nodes)) held
+            (nodes-commit alone r.generation n s.guest ms mss h.journal.running_moves e.frames rest_held w.nodes now two));
         clients = record {
           number = h.clients.number ∙ sym (ap (λ t. t.number) shown);
           rising =

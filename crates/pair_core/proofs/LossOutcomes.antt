@@ -12,7 +12,7 @@ use Rattle.pair_core.specs.declared.event.Refusal.TheVariants.{NoClient}
 use Rattle.pair_core.specs.declared.event.Reply.TheVariants as replies
 use Rattle.pair_core.specs.Invariant.{Holds}
 use Rattle.pair_core.specs.Pair.{Pair, live_state}
-use Rattle.pair_core.specs.Protocol.{Outcome, MayWantMemory, outcome, unless, refused, first_refusal, is_among, client_refusals}
+use Rattle.pair_core.specs.Protocol.{Outcome, MayWantMemory, allowed, unless, refused, first_refusal, is_among, client_refusals}
 use Rattle.pair_core.specs.Protocol.{loss_refusals, loss_done, loss_of, lost_in, lose_in_outcome_at, lose_out_outcome_at}
 use Rattle.pair_core.proofs.Outcomes.{stops, goes, client_range, inbox_is}
 
@@ -42,7 +42,7 @@ numbered (Some x) n e = let is : x.0 ≡ n = cc in (x.1, λ i. Some (is i, x.1))
 module _ (w : Pair) (h : Holds w) where
   pub lose_in_sight : (c place : ℕ)
       → lose_in_outcome_at (length w.ports.boxes) (list_of w.ports.inboxes c) w.protocol c place
-      ≡ outcome w.start w.protocol (LoseIn c place)
+      ≡ allowed w.start w.protocol (LoseIn c place)
   lose_in_sight c place =
       by_test (not (is_among c (length w.ports.boxes))) refl
       ∙ ap (λ (b : List (List Frame)). lose_in_outcome_at (length b) (inbox_of c (live_state w).waiting) w.protocol c place) h.clients.boxes
@@ -56,28 +56,28 @@ module _ (w : Pair) (h : Holds w) where
           ap (λ xs. loss_of w.protocol (lost_in xs place)) (inbox_is w h c range.0 range.1)
 
   pub lose_out_sight : (c place : ℕ)
-      → lose_out_outcome_at w.ports.boxes w.protocol c place ≡ outcome w.start w.protocol (LoseOut c place)
+      → lose_out_outcome_at w.ports.boxes w.protocol c place ≡ allowed w.start w.protocol (LoseOut c place)
   lose_out_sight c place = ap (λ (b : List (List Frame)). lose_out_outcome_at b w.protocol c place) h.clients.boxes
 
 -- step by step: the client, the place, the table
 module _ (w : Pair) (event : Event) (c : ℕ) (lost : Option Entry)
-    (sight : unless w.protocol (client_refusals (length w.ports.boxes) c) (loss_of w.protocol lost) ≡ outcome w.start w.protocol event)
+    (sight : unless w.protocol (client_refusals (length w.ports.boxes) c) (loss_of w.protocol lost) ≡ allowed w.start w.protocol event)
     (client : Option Refusal) (is : client ≡ first_refusal (client_refusals (length w.ports.boxes) c)) (none : client ≡ None) where
-  loses : (o : Option Entry) → lost ≡ o → loss_of w.protocol o ≡ outcome w.start w.protocol event
+  loses : (o : Option Entry) → lost ≡ o → loss_of w.protocol o ≡ allowed w.start w.protocol event
   loses o e =
       ap (loss_of w.protocol) (sym e)
       ∙ goes w.protocol (client_refusals (length w.ports.boxes) c) (loss_of w.protocol lost) client is none
       ∙ sight
 
-  pub loss_empty : lost ≡ None → (replies.Empty, w.protocol) ≡ outcome w.start w.protocol event
+  pub loss_empty : lost ≡ None → (replies.Empty, w.protocol) ≡ allowed w.start w.protocol event
   loss_empty = loses None
 
   module _ (e : Entry) (some : lost ≡ Some e) (o : Option Refusal) (row : o ≡ first_refusal (loss_refusals w.protocol)) where
-    pub loss_stops : (why : Refusal) → o ≡ Some why → refused w.protocol why ≡ outcome w.start w.protocol event
+    pub loss_stops : (why : Refusal) → o ≡ Some why → refused w.protocol why ≡ allowed w.start w.protocol event
     loss_stops why k = stops w.protocol (loss_refusals w.protocol) (loss_done w.protocol e) o why row k ∙ loses (Some e) some
 
-    pub loss_goes : o ≡ None → loss_done w.protocol e ≡ outcome w.start w.protocol event
+    pub loss_goes : o ≡ None → loss_done w.protocol e ≡ allowed w.start w.protocol event
     loss_goes k = goes w.protocol (loss_refusals w.protocol) (loss_done w.protocol e) o row k ∙ loses (Some e) some
 
-    pub loss_wants : o ≡ None → MayWantMemory (outcome w.start w.protocol event).0
-    loss_wants k = subst (λ (x : Outcome). MayWantMemory x.0) (loss_goes k) tt
+    pub loss_wants : o ≡ None → MayWantMemory w.protocol.mode (allowed w.start w.protocol event).0
+    loss_wants k = subst (λ (x : Outcome). MayWantMemory w.protocol.mode x.0) (loss_goes k) tt

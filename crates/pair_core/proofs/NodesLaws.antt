@@ -28,9 +28,9 @@ use Rattle.backup_image.specs.declared.standing.Staged.{Staged}
 use Rattle.backup_image.specs.declared.standing.Staged.TheVariants.{New, Again}
 use Rattle.backup_image.specs.Images.{ImageState, answer_at, stage_answer, staged_after, after_stage, committed}
 use Rattle.pair_history.specs.Entries.{Frame}
-use Rattle.pair_history.specs.Moves.{Move, guest_along, frames_along}
+use Rattle.pair_history.specs.Moves.{Move, Steps, Arrives, guest_along, frames_along}
 use Rattle.pair_history.proofs.Moves.{guest_along-append}
-use Rattle.pair_core.specs.Invariant.{all_moves, epoch_frames, AreSealed, AreNodes}
+use Rattle.pair_core.specs.Invariant.{all_moves, epoch_frames, AreSealed, AreNodes, IsBacked}
 use Rattle.pair_core.specs.Nodes.{Nodes, HasShape, node_of, machine_of, just_settled, start_nodes, after_run, with_arrival, with_sealed}
 use Rattle.pair_core.specs.Nodes.{with_commit, first_text, later_texts, read_as}
 use Rattle.pair_core.specs.Texts.{IsText}
@@ -53,6 +53,15 @@ pub shape-arrived : (f : Frame) (s : Shape) (g : Guest) → HasShape s g → Has
 shape-arrived f s g h =
     let kept = arrived-kept g f h.records in
     record { records = kept.rules; ram = kept.bytes ∙ h.ram; sectors = ap length (arrived-apart g f).1 ∙ h.sectors }
+
+shape-next : (s : Shape) (g : Guest) → HasShape s g → HasShape s (next g)
+unfolding after_steps
+shape-next s g h = shape-after_steps 1 s g h
+
+pub shape-moves : (s : Shape) (g : Guest) (ms : List Move) → HasShape s g → HasShape s (guest_along g ms)
+shape-moves s g [] h = h
+shape-moves s g (Steps ∷ ms) h = shape-moves s (next g) ms (shape-next s g h)
+shape-moves s g (Arrives n f ∷ ms) h = shape-moves s (arrived g f) ms (shape-arrived f s g h)
 
 pub shape-boot : (s : Shape) (image : List ℕ) → length image ≤ 4096 * s.pages → HasShape s (boot_guest s.pages s.sectors image)
 unfolding boot_guest
@@ -215,31 +224,36 @@ module _ (shape : Shape) (generation : ℕ) where
 
 -- Cut
 
-pub nodes-cut : (generation n : ℕ) (g : Guest) (mss : List (List Move)) (ran : List Move) (held : List (List Frame)) (x : Nodes) (m : ℕ)
+pub nodes-cut : (alone : Bool) (generation n : ℕ) (g : Guest) (mss : List (List Move)) (ran : List Move) (held : List (List Frame)) (x : Nodes) (m : ℕ)
     (text : List ℕ)
-    → AreNodes generation n g mss ran held x → n + length mss ≡ m
-    → IsText x.image.shape generation m (guest_along g (all_moves mss)) x.live.guest text
-    → AreNodes generation n g (mss ++ ran ∷ []) [] (held ++ x.live.outbox ∷ []) (with_sealed x text)
-nodes-cut generation n g mss ran held x m text h e t =
+    → AreNodes alone generation n g mss ran held x → n + length mss ≡ m
+    → (alone ≡ false → IsText x.image.shape generation m (guest_along g (all_moves mss)) x.live.guest text)
+    → AreNodes alone generation n g (mss ++ ran ∷ []) [] (held ++ x.live.outbox ∷ []) (with_sealed x text)
+nodes-cut alone generation n g mss ran held x m text h e t =
     let all : all_moves mss ++ ran ≡ all_moves (mss ++ ran ∷ []) = sym (all_moves-push mss ran) in
     let now : x.live.guest ≡ guest_along g (all_moves (mss ++ ran ∷ [])) = h.live ∙ ap (guest_along g) all in
     let parted : x.live.guest ≡ guest_along (guest_along g (all_moves mss)) ran = h.live ∙ guest_along-append g (all_moves mss) ran in
     record {
       first_generation = h.first_generation;
       last_generation = h.last_generation;
-      some_committed = h.some_committed;
-      image = h.image;
-      stands_at = h.stands_at;
-      staged = h.staged;
-      sealed =
-          sealed-push x.image.shape generation n g mss x.sealed ran m text h.sealed e
-          (subst (λ (a : Guest). IsText x.image.shape generation m (guest_along g (all_moves mss)) a text) parted t);
+      backed = λ two.
+          let b = h.backed two in
+          record {
+            some_committed = b.some_committed;
+            image = b.image;
+            stands_at = b.stands_at;
+            staged = b.staged;
+            image_shape = b.image_shape;
+            sealed =
+                sealed-push x.image.shape generation n g mss x.sealed ran m text b.sealed e
+                (subst (λ (a : Guest). IsText x.image.shape generation m (guest_along g (all_moves mss)) a text) parted (t two));
+            base = subst (IsBase (machine_of (just_settled x.live.guest))) now (base-settled x.live.guest);
+          };
       frames =
           ap (λ t. t ++ x.live.outbox ∷ []) h.frames ∙ ap (λ t. epoch_frames g mss ++ t ∷ []) h.outbox ∙ sym (epoch_frames-push g mss ran);
       live = now ∙ ap (guest_along g) (sym (append-nil (all_moves (mss ++ ran ∷ []))));
       outbox = refl;
       shape = h.shape;
-      base = subst (IsBase (machine_of (just_settled x.live.guest))) now (base-settled x.live.guest);
     }
 
 -- Commit
@@ -268,11 +282,14 @@ next-is-new generation n some = λ i. cond (same i) (Err Stale) (cond (near i) (
     next_one : (n == n - 1 + 1) ≡ true
     next_one = eq-eqb n (n - 1 + 1) (omega arith)
 
-module _ (generation n : ℕ) (g : Guest) (ms : List Move) (mss : List (List Move)) (ran : List Move) (f : List Frame)
+module _ (alone : Bool) (generation n : ℕ) (g : Guest) (ms : List Move) (mss : List (List Move)) (ran : List Move) (f : List Frame)
     (held : List (List Frame)) (x : Nodes)
-    (h : AreNodes generation n g (ms ∷ mss) ran (f ∷ held) x) where
+    (h : AreNodes alone generation n g (ms ∷ mss) ran (f ∷ held) x) (two : alone ≡ false) where
+  backed : IsBacked generation n g (ms ∷ mss) x
+  backed = h.backed two
+
   text : IsText x.image.shape generation n g (guest_along g ms) (first_text x.sealed)
-  text = first-sealed x.image.shape generation n g ms mss x.sealed h.sealed
+  text = first-sealed x.image.shape generation n g ms mss x.sealed backed.sealed
 
   abbrev change : Change
   change = read_as x.image.shape (first_text x.sealed)
@@ -287,51 +304,57 @@ module _ (generation n : ℕ) (g : Guest) (ms : List Move) (mss : List (List Mov
   number-is = ap (λ (c : Change). c.number) change-is ∙ text.of_number
 
   is-new : stage_answer x.image change ≡ Ok New
-  is-new = (λ i. answer_at (h.stands_at i) (generation-is i) (number-is i)) ∙ next-is-new generation n h.some_committed
+  is-new = (λ i. answer_at (backed.stands_at i) (generation-is i) (number-is i)) ∙ next-is-new generation n backed.some_committed
 
   abbrev after : Nodes
   after = record x { image = taken_in x.image change; sealed = later_texts x.sealed }
 
-  taken : AreNodes generation (n + 1) (guest_along g ms) mss ran held after
+  taken : AreNodes alone generation (n + 1) (guest_along g ms) mss ran held after
   taken =
       let number : n ≡ n + 1 - 1 = omega arith in
       let frames : f ∷ held ≡ frames_along g ms ∷ epoch_frames (guest_along g ms) mss = h.frames in
       record {
         first_generation = h.first_generation;
         last_generation = h.last_generation;
-        some_committed = omega arith;
-        image = ap (image_of change) h.image ∙ ap (λ c. image_of c g) change-is ∙ text.image;
-        stands_at = λ i. Some (record { generation = generation-is i; number = (number-is ∙ number) i });
-        staged = refl;
-        sealed = later-sealed x.image.shape generation n g ms mss x.sealed h.sealed;
+        backed = λ e. record {
+          some_committed = omega arith;
+          image = ap (image_of change) backed.image ∙ ap (λ c. image_of c g) change-is ∙ text.image;
+          stands_at = λ i. Some (record { generation = generation-is i; number = (number-is ∙ number) i });
+          staged = refl;
+          image_shape = shape-moves x.image.shape g ms backed.image_shape;
+          sealed = later-sealed x.image.shape generation n g ms mss x.sealed backed.sealed;
+          base = subst (IsBase (machine_of x.live)) (guest_along-append g ms (all_moves mss)) backed.base;
+        };
         frames = cc;
         live = h.live ∙ ap (guest_along g) (append_assoc ms (all_moves mss) ran) ∙ guest_along-append g ms (all_moves mss ++ ran);
         outbox = h.outbox ∙ ap (λ b. frames_along b ran) (guest_along-append g ms (all_moves mss));
         shape = h.shape;
-        base = subst (IsBase (machine_of x.live)) (guest_along-append g ms (all_moves mss)) h.base;
       }
 
-  pub nodes-commit : AreNodes generation (n + 1) (guest_along g ms) mss ran held (with_commit x)
+  pub nodes-commit : AreNodes alone generation (n + 1) (guest_along g ms) mss ran held (with_commit x)
   nodes-commit =
-      subst (λ (i : ImageState). AreNodes generation (n + 1) (guest_along g ms) mss ran held
+      subst (λ (i : ImageState). AreNodes alone generation (n + 1) (guest_along g ms) mss ran held
       (record x { image = i; sealed = later_texts x.sealed }))
       (sym (takes-in x.image change is-new)) taken
 
 -- Where both nodes boot
 
 pub nodes-start : (s : Shape) (image : List ℕ) → length image ≤ 4096 * s.pages
-    → AreNodes 1 1 (boot_guest s.pages s.sectors image) [] [] [] (start_nodes s image)
+    → AreNodes false 1 1 (boot_guest s.pages s.sectors image) [] [] [] (start_nodes s image)
 nodes-start s image fits = record {
   first_generation = omega arith;
   last_generation = omega arith;
-  some_committed = omega arith;
-  image = refl;
-  stands_at = refl;
-  staged = refl;
-  sealed = tt;
+  backed = λ e. record {
+    some_committed = omega arith;
+    image = refl;
+    stands_at = refl;
+    staged = refl;
+    image_shape = shape-boot s image fits;
+    sealed = tt;
+    base = base-settled (boot_guest s.pages s.sectors image);
+  };
   frames = refl;
   live = refl;
   outbox = refl;
   shape = shape-boot s image fits;
-  base = base-settled (boot_guest s.pages s.sectors image);
 }

@@ -3,7 +3,7 @@ use Rattle.std.proofs.Common.{◌≡◌, ℕ, ◌≤◌, List, [], ◌∷◌, le
 use Rattle.std.specs.Prelude.{slice_get, IfSome, nat_le, not}
 use Rattle.std.proofs.lemmas.Bool.Decides.{nat_tests}
 use Rattle.guest_machine.specs.Guest.{Guest}
-use Rattle.guest_machine.specs.Step.{next}
+use Rattle.guest_machine.specs.Step.{next, sent}
 use Rattle.frame_ports.specs.Lands.{list_of}
 use Rattle.frame_ports.specs.Addresses.{IsFrame}
 use Rattle.frame_ports.specs.declared.limits.TheConstants.{INBOX_FRAMES, NUMBER_LIMIT}
@@ -12,13 +12,15 @@ use Rattle.pair_history.specs.HistoryState.{inbox_of}
 use Rattle.pair_core.specs.declared.event.Event.TheVariants.{Admit}
 use Rattle.pair_core.specs.declared.event.Packet.{Packet}
 use Rattle.pair_core.specs.declared.event.Refusal.{Refusal}
-use Rattle.pair_core.specs.declared.event.Refusal.TheVariants.{Full, BadFrame, NoClient, Behind, Stale, Gap, NoMemory, CutNeeded, Exhausted}
+use Rattle.pair_core.specs.declared.event.Refusal.TheVariants.{Full, BadFrame, NoClient, Stopped, Behind, NotPaired}
+use Rattle.pair_core.specs.declared.event.Refusal.TheVariants.{AlreadyPaired, NoImage, Stale, Gap, NoMemory, CutNeeded, Exhausted}
 use Rattle.pair_core.specs.declared.event.Reply.TheVariants as replies
 use Rattle.pair_core.specs.Invariant.{Holds}
+use Rattle.pair_core.specs.Modes.{is_stopped}
 use Rattle.pair_core.specs.Pair.{Pair, shown_state, live_state, AfterRefusal}
-use Rattle.pair_core.specs.Protocol.{Record, Outcome, Row, MayWantMemory, outcome, first_refusal, or_else, unless, refused, exhausts}
+use Rattle.pair_core.specs.Protocol.{Record, Outcome, Row, MayWantMemory, allowed, first_refusal, or_else, unless, refused, exhausts}
 use Rattle.pair_core.specs.Protocol.{is_among, is_bad_length, step_outcome, step_outcome_at, cut_refusals, cut_done, outbox_of}
-use Rattle.pair_core.specs.Protocol.{ack_outcome_at, admit_outcome_at, admit_first, admit_refusals, admit_done, client_refusals}
+use Rattle.pair_core.specs.Protocol.{fail_backup_outcome_at, ack_outcome_at, admit_outcome_at, admit_first, admit_refusals, admit_done, arrival_refusals}
 use Rattle.pair_core.specs.Protocol.{deliver_outcome_at, deliver_refusals, take_outcome_at, delivery_refused, deliver_done}
 use Rattle.pair_core.proofs.Consistent.{live_is, live_waiting, outbox_is}
 
@@ -70,14 +72,25 @@ full_rows false false false false false p = absurd (cc)
 -- WHAT AN EVENT LOOKS AT
 
 module _ (w : Pair) (h : Holds w) where
-  pub step_sight : step_outcome_at w.nodes.live.outbox (next w.nodes.live.guest).steps w.protocol ≡ step_outcome w.start w.protocol
+  pub step_sight : step_outcome_at w.nodes.live.outbox w.ports.boxes (sent w.nodes.live.guest) (next w.nodes.live.guest).steps w.protocol
+      ≡ step_outcome w.start w.protocol
   step_sight =
-      ap (λ (fs : List Frame). step_outcome_at fs (next w.nodes.live.guest).steps w.protocol) (sym (outbox_is w h))
-      ∙ ap (λ (g : Guest). step_outcome_at (outbox_of w.start w.protocol) (next g).steps w.protocol) (sym (live_is w h))
+      let g = w.nodes.live.guest in
+      ap (λ (fs : List Frame). step_outcome_at fs w.ports.boxes (sent g) (next g).steps w.protocol) (sym (outbox_is w h))
+      ∙ ap (λ (b : List (List Frame)). step_outcome_at (outbox_of w.start w.protocol) b (sent g) (next g).steps w.protocol)
+      h.clients.boxes
+      ∙ ap (λ (g : Guest). step_outcome_at (outbox_of w.start w.protocol) (shown_state w).boxes (sent g) (next g).steps w.protocol)
+      (sym (live_is w h))
 
   pub cut_sight : unless w.protocol (cut_refusals w.protocol) (cut_done w.nodes.live.outbox w.protocol)
       ≡ unless w.protocol (cut_refusals w.protocol) (cut_done (outbox_of w.start w.protocol) w.protocol)
   cut_sight = ap (λ (fs : List Frame). unless w.protocol (cut_refusals w.protocol) (cut_done fs w.protocol)) (sym (outbox_is w h))
+
+  pub fail_backup_sight : fail_backup_outcome_at w.ports.boxes w.nodes.live.outbox w.protocol
+      ≡ fail_backup_outcome_at (shown_state w).boxes (outbox_of w.start w.protocol) w.protocol
+  fail_backup_sight =
+      ap (λ (fs : List Frame). fail_backup_outcome_at w.ports.boxes fs w.protocol) (sym (outbox_is w h))
+      ∙ ap (λ (b : List (List Frame)). fail_backup_outcome_at b (outbox_of w.start w.protocol) w.protocol) h.clients.boxes
 
   pub ack_sight : (o : Option Packet) → ack_outcome_at w.ports.boxes w.protocol o ≡ ack_outcome_at (shown_state w).boxes w.protocol o
   ack_sight o = ap (λ (b : List (List Frame)). ack_outcome_at b w.protocol o) h.clients.boxes
@@ -96,13 +109,16 @@ module _ (w : Pair) (h : Holds w) where
       by_test (not (is_among c (length w.ports.boxes))) refl
       ∙ ap (λ (b : List (List Frame)). admit_outcome_at (length b) (inbox_of c (live_state w).waiting) w.protocol c) h.clients.boxes
     where
+      rows : Bool → List Row
+      rows t = (t, NoClient) ∷ (is_stopped w.protocol.mode, Stopped) ∷ []
+
       by_test : (t : Bool) → not (is_among c (length w.ports.boxes)) ≡ t
-          → unless w.protocol ((t, NoClient) ∷ []) (admit_first w.protocol (slice_get (list_of w.ports.inboxes c) 0))
-          ≡ unless w.protocol ((t, NoClient) ∷ []) (admit_first w.protocol (slice_get (inbox_of c (live_state w).waiting) 0))
+          → unless w.protocol (rows t) (admit_first w.protocol (slice_get (list_of w.ports.inboxes c) 0))
+          ≡ unless w.protocol (rows t) (admit_first w.protocol (slice_get (inbox_of c (live_state w).waiting) 0))
       by_test true e = refl
       by_test false e =
           let range = client_range c (length w.ports.boxes) e in
-          ap (λ xs. admit_first w.protocol (slice_get xs 0)) (inbox_is c range.0 range.1)
+          ap (λ xs. unless w.protocol (rows false) (admit_first w.protocol (slice_get xs 0))) (inbox_is c range.0 range.1)
 
   -- the table of a delivery, by its first test
   abbrev at_rows : ℕ → List ℕ → Bool → List (ℕ × Frame) → Outcome
@@ -131,34 +147,34 @@ module _ (w : Pair) (h : Holds w) where
           ap (at_rows c bytes false) (inbox_is c range.0 range.1)
 
   -- ADMIT, step by step: the client, the inbox, the table
-  module _ (c : ℕ) (client : Option Refusal) (is : client ≡ first_refusal (client_refusals (length w.ports.boxes) c)) (none : client ≡ None)
+  module _ (c : ℕ) (client : Option Refusal) (is : client ≡ first_refusal (arrival_refusals (length w.ports.boxes) w.protocol c)) (none : client ≡ None)
     where
       admits : (o : Option (ℕ × Frame)) → slice_get (list_of w.ports.inboxes c) 0 ≡ o
-          → admit_first w.protocol o ≡ outcome w.start w.protocol (Admit c)
+          → admit_first w.protocol o ≡ allowed w.start w.protocol (Admit c)
       admits o e =
           ap (admit_first w.protocol) (sym e)
-          ∙ goes w.protocol (client_refusals (length w.ports.boxes) c) (admit_first w.protocol (slice_get (list_of w.ports.inboxes c) 0))
+          ∙ goes w.protocol (arrival_refusals (length w.ports.boxes) w.protocol c) (admit_first w.protocol (slice_get (list_of w.ports.inboxes c) 0))
           client is none
           ∙ admit_sight c
 
-      pub admit_empty : length (list_of w.ports.inboxes c) ≡ 0 → (replies.Empty, w.protocol) ≡ outcome w.start w.protocol (Admit c)
+      pub admit_empty : length (list_of w.ports.inboxes c) ≡ 0 → (replies.Empty, w.protocol) ≡ allowed w.start w.protocol (Admit c)
       admit_empty e = admits None (no_first (list_of w.ports.inboxes c) e)
 
       module _ (some : length (list_of w.ports.inboxes c) ≡ 0 → ⊥)
           (o : Option Refusal) (row : o ≡ first_refusal (admit_refusals w.protocol)) where
-        pub admit_stops : (why : Refusal) → o ≡ Some why → refused w.protocol why ≡ outcome w.start w.protocol (Admit c)
+        pub admit_stops : (why : Refusal) → o ≡ Some why → refused w.protocol why ≡ allowed w.start w.protocol (Admit c)
         admit_stops why e =
             let first = some_first (list_of w.ports.inboxes c) some in
             stops w.protocol (admit_refusals w.protocol) (admit_done w.protocol first.0.0) o why row e ∙ admits (Some first.0) first.1
 
         pub admit_goes : (n : ℕ) (f : Frame) → slice_get (list_of w.ports.inboxes c) 0 ≡ Some (n, f) → o ≡ None
-            → admit_done w.protocol n ≡ outcome w.start w.protocol (Admit c)
+            → admit_done w.protocol n ≡ allowed w.start w.protocol (Admit c)
         admit_goes n f first e = goes w.protocol (admit_refusals w.protocol) (admit_done w.protocol n) o row e ∙ admits (Some (n, f)) first
 
-        pub admit_wants : o ≡ None → MayWantMemory (outcome w.start w.protocol (Admit c)).0
+        pub admit_wants : o ≡ None → MayWantMemory w.protocol.mode (allowed w.start w.protocol (Admit c)).0
         admit_wants e =
             let first = some_first (list_of w.ports.inboxes c) some in
-            subst (λ (x : Outcome). MayWantMemory x.0) (admit_goes first.0.0 first.0.1 first.1 e) tt
+            subst (λ (x : Outcome). MayWantMemory w.protocol.mode x.0) (admit_goes first.0.0 first.0.1 first.1 e) tt
 
   -- DELIVER, by its table
   module _ (c : ℕ) (bytes : List ℕ) (o : Option Refusal)
@@ -189,7 +205,11 @@ module _ (w : Pair) (h : Holds w) where
         other_refusal Full n = absurd (n refl)
         other_refusal BadFrame n = refl
         other_refusal NoClient n = refl
+        other_refusal Stopped n = refl
         other_refusal Behind n = refl
+        other_refusal NotPaired n = refl
+        other_refusal AlreadyPaired n = refl
+        other_refusal NoImage n = refl
         other_refusal Stale n = refl
         other_refusal Gap n = refl
         other_refusal NoMemory n = refl
@@ -201,7 +221,11 @@ module _ (w : Pair) (h : Holds w) where
   after_none Full = refl
   after_none BadFrame = refl
   after_none NoClient = refl
+  after_none Stopped = refl
   after_none Behind = refl
+  after_none NotPaired = refl
+  after_none AlreadyPaired = refl
+  after_none NoImage = refl
   after_none Stale = refl
   after_none Gap = refl
   after_none NoMemory = refl

@@ -5,9 +5,9 @@ use Rattle.std.specs.Prelude.{map, option_map, not, nat_lt, ◌==◌, slice_get,
 use Rattle.std.proofs.lemmas.Bool.{eqb-true}
 use Rattle.std.proofs.lemmas.List.{append-nil}
 use Rattle.std.specs.declared.alloc.AllocError.{AllocError}
-use Rattle.guest_machine.specs.Step.{next}
+use Rattle.guest_machine.specs.Step.{next, sent}
 use Rattle.frame_ports.specs.Lands.{list_of}
-use Rattle.pair_history.specs.Entries.{Frame, Entry, Delivered, DropIn, DropOut, Took, Begins}
+use Rattle.pair_history.specs.Entries.{Frame, Entry, Arrive, Delivered, DropIn, DropOut, Took, Begins}
 use Rattle.pair_history.specs.Entries as entries
 use Rattle.pair_history.specs.HistoryState.{HistoryState, inbox_of}
 use Rattle.pair_history.specs.Landings.{landings, DropsAtFull, DropsNone}
@@ -15,22 +15,28 @@ use Rattle.pair_history.specs.Moves.{Move, entries_of}
 use Rattle.pair_history.proofs.Moves.{DropsNone-moves}
 use Rattle.pair_core.specs.declared.event.Event.{Event}
 use Rattle.pair_core.specs.declared.event.Event.TheVariants.{Step, Cut, Send, BackupGet, AckGet, Admit, Deliver, Take, LoseIn, LoseOut}
+use Rattle.pair_core.specs.declared.event.Event.TheVariants.{FailPrimary, FailBackup, GoLive}
 use Rattle.pair_core.specs.declared.event.Packet.{Packet}
 use Rattle.pair_core.specs.declared.event.Refusal.{Refusal}
-use Rattle.pair_core.specs.declared.event.Refusal.TheVariants.{Full, BadFrame, NoClient, Behind, Stale, Gap, NoMemory, CutNeeded, Exhausted}
+use Rattle.pair_core.specs.declared.event.Refusal.TheVariants.{Full, BadFrame, NoClient, Stopped, Behind, NotPaired}
+use Rattle.pair_core.specs.declared.event.Refusal.TheVariants.{AlreadyPaired, NoImage, Stale, Gap, NoMemory, CutNeeded, Exhausted}
 use Rattle.pair_core.specs.declared.event.Reply.{Reply}
 use Rattle.pair_core.specs.declared.event.Reply.TheVariants as replies
 use Rattle.pair_core.specs.Drops.{DropsOnly, Drops}
 use Rattle.pair_core.specs.Invariant.{Holds}
-use Rattle.pair_core.specs.Journal.{first_of, with_history}
+use Rattle.pair_core.specs.Journal.{first_of, kept_entries, with_history, with_moves}
+use Rattle.pair_core.specs.Modes.{is_alone, mode_refusal}
 use Rattle.pair_core.specs.Pair.{Pair, OnRefused, shown_state, live_state}
-use Rattle.pair_core.specs.Protocol.{Record, Outcome, Row, Answers, MayWantMemory, outcome, exhausts, first_refusal, or_else, unless}
+use Rattle.pair_core.specs.Protocol.{Record, Outcome, Row, Answers, MayWantMemory, allowed, outcome, exhausts, first_refusal, or_else, unless}
 use Rattle.pair_core.specs.Protocol.{refused, let_go, again_done, commit_done, backup_refusals, backup_done, backup_outcome, ack_outcome_at}
-use Rattle.pair_core.specs.Protocol.{ack_refusals, ack_done, admit_first, admit_refusals, admit_done, client_refusals, delivery_refused}
+use Rattle.pair_core.specs.Protocol.{ack_refusals, ack_done, admit_first, admit_refusals, admit_done, arrival_refusals, client_refusals, delivery_refused}
 use Rattle.pair_core.specs.Protocol.{deliver_refusals, deliver_done, take_refusals, take_done, loss_refusals, loss_done, loss_of, lost_in}
 use Rattle.pair_core.specs.Protocol.{lost_out, step_refusals, step_done, cut_refusals, cut_done, outbox_of, shown_at, live_at}
+use Rattle.pair_core.specs.Protocol.{step_entries, all_held, fail_backup_refusals, fail_backup_done}
+use Rattle.pair_core.specs.Protocol.{live_entries, go_live_refusals, go_live_done}
 use Rattle.pair_core.specs.Record.{IsRecord}
 use Rattle.pair_core.specs.Runs.{Change, Along}
+use Rattle.pair_core.proofs.AllLands.{step_drops, failure_drops}
 use Rattle.pair_core.proofs.ClientEvents.{ack_lands}
 use Rattle.pair_core.proofs.LossOutcomes.{within}
 use Rattle.pair_core.proofs.RecordLaws.{below_at}
@@ -68,7 +74,11 @@ delivery_plain : (r : Record) (c : ℕ) (f : Frame) (why : Refusal) → Plain r 
 delivery_plain r c f Full = (entries.Refused c f ∷ [], refl, tt)
 delivery_plain r c f BadFrame = plain_same r (replies.Refused BadFrame)
 delivery_plain r c f NoClient = plain_same r (replies.Refused NoClient)
+delivery_plain r c f Stopped = plain_same r (replies.Refused Stopped)
 delivery_plain r c f Behind = plain_same r (replies.Refused Behind)
+delivery_plain r c f NotPaired = plain_same r (replies.Refused NotPaired)
+delivery_plain r c f AlreadyPaired = plain_same r (replies.Refused AlreadyPaired)
+delivery_plain r c f NoImage = plain_same r (replies.Refused NoImage)
 delivery_plain r c f Stale = plain_same r (replies.Refused Stale)
 delivery_plain r c f Gap = plain_same r (replies.Refused Gap)
 delivery_plain r c f NoMemory = plain_same r (replies.Refused NoMemory)
@@ -134,37 +144,51 @@ module _ (w : Pair) (h : Holds w) (k : IsRecord w.protocol) where
       (loss_done w.protocol (DropOut c place)) (λ why. tt)
       (DropOut c place ∷ [], refl, (within (list_of (shown_state w).boxes c) place f e, refl))
 
-  outcome_grows : (event : Event) → GrowsBy event (outcome w.start w.protocol event)
-  outcome_grows Step =
+  allowed_grows : (event : Event) → GrowsBy event (allowed w.start w.protocol event)
+  allowed_grows Step =
       let r = w.protocol in
-      plain_unless r (step_refusals (outbox_of w.start r) r) (step_done (next (live_at w.start r).guest).steps r)
-      ([], sym (append-nil r.journal.history), tt)
-  outcome_grows Cut =
+      let g = (live_at w.start r).guest in
+      unless_grows (DropsOnly w.start r Step) r (step_refusals (outbox_of w.start r) r)
+      (step_done (shown_at w.start r).boxes (sent g) (next g).steps r) (λ why. tt) (by_mode (is_alone r.mode) refl)
+    where
+      by_mode : (t : Bool) → is_alone w.protocol.mode ≡ t → GrowsBy Step (
+        replies.Steps (next (live_state w).guest).steps,
+        record w.protocol { journal = with_moves t w.protocol.journal (step_entries t (shown_state w).boxes (sent (live_state w).guest)) },
+      )
+      by_mode false e = ([], sym (append-nil w.protocol.journal.history), tt)
+      by_mode true e = (step_entries true (shown_state w).boxes (sent (live_state w).guest), refl, step_drops w h (k.alone e))
+  allowed_grows Cut =
       let r = w.protocol in
       plain_unless r (cut_refusals r) (cut_done (outbox_of w.start r) r) ([], sym (append-nil r.journal.history), tt)
-  outcome_grows Send = ([], sym (append-nil w.protocol.journal.history), tt)
-  outcome_grows (BackupGet n) = by_packet (slice_get w.protocol.lines.forward n)
+  allowed_grows Send = ([], sym (append-nil w.protocol.journal.history), tt)
+  allowed_grows (BackupGet n) = by_packet (slice_get w.protocol.lines.forward n)
     where
       by_packet : (o : Option Packet) → Plain w.protocol (backup_outcome w.protocol o)
       by_packet None = plain_same w.protocol replies.Lost
       by_packet (Some p) = plain_unless w.protocol (backup_refusals w.protocol p) (backup_done w.protocol p) (commit_plain p)
-  outcome_grows (AckGet n) = by_packet (slice_get w.protocol.lines.back n) refl
+  allowed_grows (AckGet n) = by_packet (slice_get w.protocol.lines.back n) refl
     where
       by_packet : (o : Option Packet) → slice_get w.protocol.lines.back n ≡ o
           → GrowsBy (AckGet n) (ack_outcome_at (shown_state w).boxes w.protocol o)
       by_packet None e = same (DropsOnly w.start w.protocol (AckGet n)) w.protocol replies.Lost tt
       by_packet (Some p) e = ack_grows n p e
-  outcome_grows (Admit c) =
+  allowed_grows (Admit c) =
       let r = w.protocol in
       let first = slice_get (inbox_of c (live_at w.start r).waiting) 0 in
-      plain_unless r (client_refusals (length (shown_at w.start r).boxes) c) (admit_first r first) (by_first first)
+      plain_unless r (arrival_refusals (length (shown_at w.start r).boxes) r c) (admit_first r first) (by_first first)
     where
+      by_mode : (n : ℕ) (t : Bool) → Plain w.protocol (
+        replies.Admitted n,
+        record w.protocol { journal = with_moves t w.protocol.journal (Arrive n ∷ []) },
+      )
+      by_mode n false = ([], sym (append-nil w.protocol.journal.history), tt)
+      by_mode n true = (Arrive n ∷ [], refl, tt)
+
       by_first : (o : Option (ℕ × Frame)) → Plain w.protocol (admit_first w.protocol o)
       by_first None = plain_same w.protocol replies.Empty
       by_first (Some first) =
-          plain_unless w.protocol (admit_refusals w.protocol) (admit_done w.protocol first.0)
-          ([], sym (append-nil w.protocol.journal.history), tt)
-  outcome_grows (Deliver c bytes) =
+          plain_unless w.protocol (admit_refusals w.protocol) (admit_done w.protocol first.0) (by_mode first.0 (is_alone w.protocol.mode))
+  allowed_grows (Deliver c bytes) =
       let r = w.protocol in
       let f : Frame = record { items = bytes.now } in
       let number = (shown_at w.start r).number in
@@ -172,7 +196,7 @@ module _ (w : Pair) (h : Holds w) (k : IsRecord w.protocol) where
       table_grows (λ reply es. DropsNone es) r (first_refusal rows) (delivery_refused r c f) (deliver_done r c f number)
       (delivery_plain r c f)
       (Delivered c f number ∷ [], refl, tt)
-  outcome_grows (Take c) =
+  allowed_grows (Take c) =
       let r = w.protocol in
       let boxes = (shown_at w.start r).boxes in
       plain_unless r (take_refusals (length boxes) r c) (take_done boxes r c) (took c (slice_get (list_of boxes c) 0))
@@ -181,16 +205,30 @@ module _ (w : Pair) (h : Holds w) (k : IsRecord w.protocol) where
           → Plain w.protocol (replies.Took o, record w.protocol { journal = with_history w.protocol.journal (Took c o ∷ []) })
       took c None = (Took c None ∷ [], refl, tt)
       took c (Some f) = (Took c (Some f) ∷ [], refl, tt)
-  outcome_grows (LoseIn c place) =
+  allowed_grows (LoseIn c place) =
       let r = w.protocol in
       let there = slice_get (inbox_of c (live_state w).waiting) place in
       unless_grows (DropsOnly w.start r (LoseIn c place)) r (client_refusals (length (shown_state w).boxes) c)
       (loss_of r (lost_in (inbox_of c (live_state w).waiting) place)) (λ why. tt) (lose_in_grows c place there refl)
-  outcome_grows (LoseOut c place) =
+  allowed_grows (LoseOut c place) =
       let r = w.protocol in
       let box = list_of (shown_state w).boxes c in
       unless_grows (DropsOnly w.start r (LoseOut c place)) r (client_refusals (length (shown_state w).boxes) c)
       (loss_of r (lost_out c box place)) (λ why. tt) (lose_out_grows c place (slice_get box place) refl)
+  allowed_grows FailPrimary = ([], sym (append-nil w.protocol.journal.history), tt)
+  allowed_grows FailBackup =
+      let r = w.protocol in
+      let b = (shown_at w.start r).boxes in
+      let outbox = outbox_of w.start r in
+      let kept = kept_entries r.journal in
+      let es = landings b (all_held b outbox r) in
+      unless_grows (DropsOnly w.start r FailBackup) r (fail_backup_refusals b outbox r) (fail_backup_done b outbox r) (λ why. tt)
+      (kept ++ es, append_assoc r.journal.history kept es, failure_drops w h)
+  allowed_grows GoLive =
+      let r = w.protocol in
+      let s = shown_at w.start r in
+      unless_grows (DropsOnly w.start r GoLive) r (go_live_refusals s.boxes s.out r) (go_live_done s.boxes s.out s.guest.steps r)
+      (λ why. tt) (live_entries s.boxes s.out r.journal, refl, refl)
 
   refused_only : (event : Event) (why : Refusal) → DropsOnly w.start w.protocol event (replies.Refused why) []
   refused_only (AckGet n) why = tt
@@ -203,6 +241,15 @@ module _ (w : Pair) (h : Holds w) (k : IsRecord w.protocol) where
   refused_only (Admit c) why = tt
   refused_only (Deliver c bytes) why = tt
   refused_only (Take c) why = tt
+  refused_only FailPrimary why = tt
+  refused_only FailBackup why = tt
+  refused_only GoLive why = tt
+
+  outcome_grows : (event : Event) → GrowsBy event (outcome w.start w.protocol event)
+  outcome_grows event =
+      let r = w.protocol in
+      table_grows (DropsOnly w.start r event) r (mode_refusal r.mode event) (refused r) (allowed w.start r event)
+      (λ why. same (DropsOnly w.start r event) r (replies.Refused why) (refused_only event why)) (allowed_grows event)
 
   pub answers_drop : (event : Event) (reply : Reply) (new : Record) → Answers w.start w.protocol event reply new
       → Drops w.start w.protocol event reply new
@@ -241,13 +288,13 @@ module _ (old new : Pair) (event : Event) (o : Result Reply AllocError) (reply :
     (ok : IfOk o (λ r. reply ≡ r))
     (err : OnErr o (reply ≡ replies.Refused NoMemory)) where
   pub answers_by_outcome : IfOk o (λ r. (r, new.protocol) ≡ outcome old.start old.protocol event)
-      → OnErr o (MayWantMemory (outcome old.start old.protocol event).0) → OnErr o (new ≡ old)
+      → OnErr o (MayWantMemory old.protocol.mode (outcome old.start old.protocol event).0) → OnErr o (new ≡ old)
       → Answers old.start old.protocol event reply new.protocol
   answers_by_outcome = by_result o ok err
     where
       by_result : (o : Result Reply AllocError) → IfOk o (λ r. reply ≡ r) → OnErr o (reply ≡ replies.Refused NoMemory)
           → IfOk o (λ r. (r, new.protocol) ≡ outcome old.start old.protocol event)
-          → OnErr o (MayWantMemory (outcome old.start old.protocol event).0) → OnErr o (new ≡ old)
+          → OnErr o (MayWantMemory old.protocol.mode (outcome old.start old.protocol event).0) → OnErr o (new ≡ old)
           → Answers old.start old.protocol event reply new.protocol
       by_result (Ok r) k e d m f = inl (ap (λ (x : Reply). (x, new.protocol)) k ∙ d)
       by_result (Err x) k e d m f = inr (m, e, ap (λ (w : Pair). w.protocol) f)

@@ -5,17 +5,19 @@ use Rattle.std.proofs.lemmas.Bool.{eq-eqb}
 use Rattle.std.proofs.lemmas.Bool.Decides.{nat_tests}
 use Rattle.std.proofs.lemmas.List.{length-append}
 use Rattle.frame_ports.specs.declared.limits.TheConstants.{NUMBER_LIMIT}
-use Rattle.output_gate.specs.Epochs.{Epoch, frames_to}
+use Rattle.output_gate.specs.Epochs.{Epoch, frames_to, after_number}
 use Rattle.pair_history.specs.Entries.{Frame, Entry}
 use Rattle.pair_core.specs.declared.event.Packet.{Packet}
 use Rattle.pair_core.specs.declared.event.Refusal.TheVariants.{Stale, Exhausted}
 use Rattle.pair_core.specs.Journal.{all_entries, rest_of}
 use Rattle.pair_core.specs.Lengths.{receivers}
 use Rattle.pair_core.specs.Lines.{packet, packet_of, packets_from, AreBelow}
+use Rattle.pair_core.specs.Modes.{is_alone}
 use Rattle.pair_core.specs.Protocol.{Record, first_refusal, cut_refusals, ack_refusals, exhausts, let_go, cut_done, send_done, again_done, commit_done, ack_done}
 use Rattle.pair_core.specs.Record.{IsRecord}
 use Rattle.pair_core.specs.Window.{NumberedFrom}
 use Rattle.pair_core.proofs.LengthLaws.{length-receivers}
+use Rattle.pair_core.proofs.ModeLaws.{clash}
 use Rattle.pair_core.proofs.LineLaws.{packets_from-numbered}
 use Rattle.pair_core.proofs.WindowLaws.{numbered_below, cut_window, commit_window, ack_window}
 
@@ -47,7 +49,7 @@ AreBelow-append : (g n : ℕ) (ps qs : List Packet) → AreBelow g n ps → AreB
 AreBelow-append g n [] qs h k = k
 AreBelow-append g n (p ∷ ps) qs h k = (h.0, h.1, AreBelow-append g n ps qs h.2 k)
 
-AreBelow-more : (g n m : ℕ) (ps : List Packet) → n ≤ m → AreBelow g n ps → AreBelow g m ps
+pub AreBelow-more : (g n m : ℕ) (ps : List Packet) → n ≤ m → AreBelow g n ps → AreBelow g m ps
 AreBelow-more g n m [] l h = tt
 AreBelow-more g n m (p ∷ ps) l h = (h.0, λ e. let k = h.1 e in omega arith, AreBelow-more g n m ps l h.2)
 
@@ -76,8 +78,8 @@ module _ (r : Record) (h : IsRecord r) where
   pub rising : (k : ℕ) (d : Epoch) → k < length r.pending → (get_or r.pending k d).number < r.window.to_cut
   rising = numbered_below r.window.to_acknowledge r.window.to_cut r.pending h.window.numbers (let e = h.window.count in omega arith)
 
-  pub cut_record : (fs : List Frame) → first_refusal (cut_refusals r) ≡ None → IsRecord (cut_done fs r).1
-  cut_record fs free =
+  pub cut_record : (fs : List Frame) → is_alone r.mode ≡ false → first_refusal (cut_refusals r) ≡ None → IsRecord (cut_done fs r).1
+  cut_record fs two free =
       let rows = passed _ _ _ free in
       let few = is_below 4 (length r.pending) rows.0 in
       let last = is_below NUMBER_LIMIT r.window.to_cut (passed _ _ _ rows.1).0 in
@@ -86,6 +88,7 @@ module _ (r : Record) (h : IsRecord r) where
         forward = AreBelow-more r.generation r.window.to_cut (r.window.to_cut + 1) r.lines.forward (omega arith) h.forward;
         back = h.back;
         sealed = let s = h.sealed in let e = length-append r.journal.sealed (r.journal.running ∷ []) in omega arith;
+        alone = λ e. absurd (clash (is_alone r.mode) e two);
       }
 
   pub sent_are : packets_from r.generation r.window.to_acknowledge (r.window.to_cut - r.window.to_acknowledge) ≡ map (packet_of r.generation) r.pending
@@ -101,6 +104,7 @@ module _ (r : Record) (h : IsRecord r) where
         (AreBelow-numbered r.generation r.window.to_acknowledge r.window.to_cut r.pending h.window.numbers (let p = h.window.count in omega arith));
     back = h.back;
     sealed = h.sealed;
+    alone = h.alone;
   }
 
   pub again_record : 0 < r.window.to_commit → IsRecord (again_done r).1
@@ -111,6 +115,7 @@ module _ (r : Record) (h : IsRecord r) where
         AreBelow-append r.generation r.window.to_commit r.lines.back (packet r.generation (r.window.to_commit - 1) ∷ []) h.back
         (omega arith, λ s. omega arith, tt);
     sealed = h.sealed;
+    alone = h.alone;
   }
 
   pub some_sealed : r.window.to_commit < r.window.to_cut → 0 < length r.journal.sealed
@@ -125,6 +130,7 @@ module _ (r : Record) (h : IsRecord r) where
         (AreBelow-more r.generation r.window.to_commit (r.window.to_commit + 1) r.lines.back (omega arith) h.back)
         (omega arith, λ s. omega arith, tt);
     sealed = let s = h.sealed in let l = length-rest r.journal.sealed (some_sealed more) in omega arith;
+    alone = λ e. let none = ap length (h.alone e).0 in let some = some_sealed more in absurd (omega arith);
   }
 
   pub ack_record : (boxes : List (List Frame)) (n : ℕ) → n < r.window.to_commit → IsRecord (ack_done boxes r n).1
@@ -133,6 +139,7 @@ module _ (r : Record) (h : IsRecord r) where
     forward = h.forward;
     back = h.back;
     sealed = h.sealed;
+    alone = λ e. ((h.alone e).0, (h.alone e).1, ap (after_number n) (h.alone e).2);
   }
 
 -- a packet of the current generation

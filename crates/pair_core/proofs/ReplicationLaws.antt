@@ -1,5 +1,5 @@
 -- What a cut and a commit do to the guests that the image will be.
-use Rattle.std.proofs.Common.{◌≡◌, ℕ, suc, ◌+◌, ◌-◌, ◌<◌, List, [], ◌∷◌, ◌++◌, length, refl, sym, ap, ◌∙◌, arith, append_assoc, Some}
+use Rattle.std.proofs.Common.{◌≡◌, ℕ, suc, ◌+◌, ◌-◌, ◌<◌, List, [], ◌∷◌, ◌++◌, length, refl, sym, ap, ◌∙◌, arith, append_assoc, false, Some}
 use Rattle.guest_machine.specs.declared.shapes.Shape.{Shape}
 use Rattle.guest_machine.specs.Guest.{Guest}
 use Rattle.epoch_snapshot.specs.Bases.{IsBase}
@@ -11,12 +11,13 @@ use Rattle.pair_history.proofs.States.{at-append}
 use Rattle.pair_core.specs.Invariant.{Holds}
 use Rattle.pair_core.specs.Journal.{joined, kept_entries, first_of, rest_of}
 use Rattle.pair_core.specs.Nodes.{HasShape, machine_of, with_sealed, with_commit, read_as}
-use Rattle.pair_core.specs.Pair.{Pair, IsConsistent, shown_state}
+use Rattle.pair_core.specs.Modes.{is_alone}
+use Rattle.pair_core.specs.Pair.{Pair, HasBackup, shown_state}
 use Rattle.pair_core.specs.Protocol.{cut_done, commit_done}
 use Rattle.pair_core.specs.Record.{IsRecord}
 use Rattle.pair_core.specs.Replication.{guests_of, to_come, IsCut, IsCommit}
 use Rattle.pair_core.specs.Texts.{IsText, AreTexts}
-use Rattle.pair_core.proofs.Consistent.{consistent}
+use Rattle.pair_core.proofs.Consistent.{has_backup, live_is}
 use Rattle.pair_core.proofs.Events.{cut_holds, commit_holds}
 use Rattle.pair_core.proofs.NodesLaws.{reads-as}
 
@@ -55,13 +56,13 @@ length-ends s [] = refl
 length-ends s (es ∷ ess) = ap suc (length-ends (at s es) ess)
 
 -- what the image will be are the guests at the ends of the sealed epochs
-to_come-ends : (w : Pair) → IsConsistent w → to_come w.nodes ≡ ends (shown_state w) w.protocol.journal.sealed
+to_come-ends : (w : Pair) → HasBackup w → to_come w.nodes ≡ ends (shown_state w) w.protocol.journal.sealed
 to_come-ends w k =
     ap (λ (g : Guest). guests_of w.nodes.image.shape g w.nodes.sealed) k.image
     ∙ texts-make w.nodes.image.shape w.protocol.generation w.protocol.window.to_commit (shown_state w) w.protocol.journal.sealed
     w.nodes.sealed k.sealed
 
-module _ (w : Pair) (h : Holds w) (k : IsRecord w.protocol) where
+module _ (w : Pair) (h : Holds w) (k : IsRecord w.protocol) (two : is_alone w.protocol.mode ≡ false) where
   module _ (text : List ℕ)
       (is_text : (base : Guest) → IsBase (machine_of w.nodes.live) base → HasShape w.nodes.image.shape w.nodes.live.guest
       → IsText w.nodes.image.shape w.protocol.generation w.protocol.window.to_cut base w.nodes.live.guest text) where
@@ -72,13 +73,13 @@ module _ (w : Pair) (h : Holds w) (k : IsRecord w.protocol) where
     cut_replicates =
         let j = w.protocol.journal in
         let s = shown_state w in
-        let now = consistent w h in
+        let now = has_backup w h two in
         let old : to_come w.nodes ≡ ends s j.sealed = to_come-ends w now in
         let new : to_come (with_sealed w.nodes text) ≡ ends s (j.sealed ++ j.running ∷ []) =
-        to_come-ends after_cut (consistent after_cut (cut_holds w h k text is_text)) in
+        to_come-ends after_cut (has_backup after_cut (cut_holds w h k text is_text) two) in
         let live : (at s (joined j.sealed ++ j.running)).guest ≡ w.nodes.live.guest =
-        ap (λ (t : HistoryState). t.guest) (sym (at-append w.start j.history (kept_entries j))) ∙ sym now.live in
-        let some = h.nodes.some_committed in
+        ap (λ (t : HistoryState). t.guest) (sym (at-append w.start j.history (kept_entries j))) ∙ live_is w h in
+        let some = (h.nodes.backed two).some_committed in
         let counted = k.sealed in
         let long : length (to_come w.nodes) ≡ length j.sealed = ap length old ∙ length-ends s j.sealed in
         record {
@@ -86,7 +87,7 @@ module _ (w : Pair) (h : Holds w) (k : IsRecord w.protocol) where
           live = refl;
           image = refl;
           taken = w.protocol.window.to_commit - 1;
-          stands = h.nodes.stands_at;
+          stands = (h.nodes.backed two).stands_at;
           place = omega arith;
         }
 
@@ -99,8 +100,8 @@ module _ (w : Pair) (h : Holds w) (k : IsRecord w.protocol) where
       let j = w.protocol.journal in
       let s = shown_state w in
       let n = w.protocol.window.to_commit in
-      let now = consistent w h in
-      let then = consistent after_commit (commit_holds w h k more) in
+      let now = has_backup w h two in
+      let then = has_backup after_commit (commit_holds w h k two more) two in
       let counted = k.sealed in
       let shown : shown_state after_commit ≡ at s (first_of j.sealed) = at-append w.start j.history (first_of j.sealed) in
       let first : ends s j.sealed ≡ (at s (first_of j.sealed)).guest ∷ ends (at s (first_of j.sealed)) (rest_of j.sealed) =
@@ -112,7 +113,7 @@ module _ (w : Pair) (h : Holds w) (k : IsRecord w.protocol) where
             ∙ (λ i. (sym shown i).guest ∷ ends (sym shown i) (rest_of j.sealed))
             ∙ (λ i. sym then.image i ∷ sym (to_come-ends after_commit then) i);
         live = refl;
-        some = h.nodes.some_committed;
-        before = h.nodes.stands_at;
+        some = (h.nodes.backed two).some_committed;
+        before = (h.nodes.backed two).stands_at;
         stands = then.stands_at ∙ ap (λ (m : ℕ). Some (record { generation = w.protocol.generation; number = m })) number;
       }

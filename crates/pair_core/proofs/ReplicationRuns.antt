@@ -8,13 +8,14 @@ use Rattle.backup_image.specs.declared.standing.Standing.{Standing}
 use Rattle.backup_image.specs.Images.{ImageState}
 use Rattle.pair_core.specs.declared.event.Event.{Event}
 use Rattle.pair_core.specs.declared.event.Event.TheVariants.{Step, Cut, Send, BackupGet, AckGet, Admit, Deliver, Take, LoseIn, LoseOut}
+use Rattle.pair_core.specs.declared.event.Event.TheVariants.{FailPrimary, FailBackup, GoLive}
 use Rattle.pair_core.specs.declared.event.Refusal.{Refusal}
 use Rattle.pair_core.specs.declared.event.Refusal.TheVariants.{NoMemory}
 use Rattle.pair_core.specs.declared.event.Reply.{Reply}
 use Rattle.pair_core.specs.declared.event.Reply.TheVariants as replies
 use Rattle.pair_core.specs.Nodes.{Nodes}
 use Rattle.pair_core.specs.Pair.{Pair}
-use Rattle.pair_core.specs.Replication.{guests_of, to_come, HasTaken, IsCut, IsCommit, KeepsBackup, Awaits, Replicates, Does, Leads}
+use Rattle.pair_core.specs.Replication.{guests_of, to_come, HasTaken, IsCut, IsCommit, KeepsBackup, LosesBackup, Awaits, Replicates, Does, Leads}
 
 -- what stands at a place of a list
 
@@ -53,6 +54,9 @@ refused_replicates (Deliver c bytes) why x = (refl, refl)
 refused_replicates (Take c) why x = (refl, refl)
 refused_replicates (LoseIn c place) why x = (refl, refl)
 refused_replicates (LoseOut c place) why x = (refl, refl)
+refused_replicates FailPrimary why x = (refl, refl)
+refused_replicates FailBackup why x = (refl, refl)
+refused_replicates GoLive why x = (refl, refl)
 
 -- what an event did, as a reply
 pub replicates_by_outcome : (old new : Pair) (event : Event) (o : Result Reply AllocError) (reply : Reply)
@@ -96,6 +100,9 @@ module _ (generation number : ℕ) (g : Guest) where
       k.before ∙ ap (λ (x : ℕ). Some (record { generation = x; number = n - 1 })) same_generation in
       ap (λ (x : List Guest). slice_get x (suc j)) (sym k.first) ∙ p (n - 1) (suc j) stood (omega arith)
 
+  waits_lost : (new : Nodes) → LosesBackup new → Waits new
+  waits_lost new k taken j t e = absurd (let clash = sym k ∙ t in cc)
+
   -- a reply to a cut, and to a packet at the backup
 
   waits_at_cut : (reply : Reply) (old new : Nodes) → Replicates Cut reply old new → Waits old → Waits new
@@ -111,6 +118,9 @@ module _ (generation number : ℕ) (g : Guest) where
   waits_at_cut replies.Dropped old new k p = waits_kept old new k p
   waits_at_cut (replies.Delivered n) old new k p = waits_kept old new k p
   waits_at_cut (replies.Took frame) old new k p = waits_kept old new k p
+  waits_at_cut replies.Stopped old new k p = waits_kept old new k p
+  waits_at_cut (replies.Alone m landed) old new k p = waits_kept old new k p
+  waits_at_cut (replies.Live m steps) old new k p = waits_kept old new k p
   waits_at_cut (replies.Refused why) old new k p = waits_kept old new k p
 
   waits_at_packet : (place : ℕ) (reply : Reply) (old new : Nodes) → Replicates (BackupGet place) reply old new → Waits old → Waits new
@@ -126,7 +136,48 @@ module _ (generation number : ℕ) (g : Guest) where
   waits_at_packet place replies.Dropped old new k p = waits_kept old new k p
   waits_at_packet place (replies.Delivered n) old new k p = waits_kept old new k p
   waits_at_packet place (replies.Took frame) old new k p = waits_kept old new k p
+  waits_at_packet place replies.Stopped old new k p = waits_kept old new k p
+  waits_at_packet place (replies.Alone m landed) old new k p = waits_kept old new k p
+  waits_at_packet place (replies.Live m steps) old new k p = waits_kept old new k p
   waits_at_packet place (replies.Refused why) old new k p = waits_kept old new k p
+
+  -- a reply where a node fails, and where the backup goes live
+
+  waits_at_failure : (reply : Reply) (old new : Nodes) → Replicates FailBackup reply old new → Waits old → Waits new
+  waits_at_failure (replies.Cut m n) old new k p = waits_kept old new k p
+  waits_at_failure (replies.Steps count) old new k p = waits_kept old new k p
+  waits_at_failure (replies.Sent count) old new k p = waits_kept old new k p
+  waits_at_failure (replies.Committed m n) old new k p = waits_kept old new k p
+  waits_at_failure (replies.Again m n) old new k p = waits_kept old new k p
+  waits_at_failure replies.Lost old new k p = waits_kept old new k p
+  waits_at_failure (replies.Acked m n landed) old new k p = waits_kept old new k p
+  waits_at_failure (replies.Admitted n) old new k p = waits_kept old new k p
+  waits_at_failure replies.Empty old new k p = waits_kept old new k p
+  waits_at_failure replies.Dropped old new k p = waits_kept old new k p
+  waits_at_failure (replies.Delivered n) old new k p = waits_kept old new k p
+  waits_at_failure (replies.Took frame) old new k p = waits_kept old new k p
+  waits_at_failure replies.Stopped old new k p = waits_kept old new k p
+  waits_at_failure (replies.Alone m landed) old new k p = waits_lost new k
+  waits_at_failure (replies.Live m steps) old new k p = waits_kept old new k p
+  waits_at_failure (replies.Refused why) old new k p = waits_kept old new k p
+
+  waits_at_live : (reply : Reply) (old new : Nodes) → Replicates GoLive reply old new → Waits old → Waits new
+  waits_at_live (replies.Cut m n) old new k p = waits_kept old new k p
+  waits_at_live (replies.Steps count) old new k p = waits_kept old new k p
+  waits_at_live (replies.Sent count) old new k p = waits_kept old new k p
+  waits_at_live (replies.Committed m n) old new k p = waits_kept old new k p
+  waits_at_live (replies.Again m n) old new k p = waits_kept old new k p
+  waits_at_live replies.Lost old new k p = waits_kept old new k p
+  waits_at_live (replies.Acked m n landed) old new k p = waits_kept old new k p
+  waits_at_live (replies.Admitted n) old new k p = waits_kept old new k p
+  waits_at_live replies.Empty old new k p = waits_kept old new k p
+  waits_at_live replies.Dropped old new k p = waits_kept old new k p
+  waits_at_live (replies.Delivered n) old new k p = waits_kept old new k p
+  waits_at_live (replies.Took frame) old new k p = waits_kept old new k p
+  waits_at_live replies.Stopped old new k p = waits_kept old new k p
+  waits_at_live (replies.Alone m landed) old new k p = waits_kept old new k p
+  waits_at_live (replies.Live m steps) old new k p = waits_lost new k.1
+  waits_at_live (replies.Refused why) old new k p = waits_kept old new k p
 
   pub waits_event : (event : Event) (reply : Reply) (old new : Nodes) → Replicates event reply old new → Waits old → Waits new
   waits_event Cut reply old new k p = waits_at_cut reply old new k p
@@ -139,6 +190,9 @@ module _ (generation number : ℕ) (g : Guest) where
   waits_event (Take c) reply old new k p = waits_kept old new k p
   waits_event (LoseIn c place) reply old new k p = waits_kept old new k p
   waits_event (LoseOut c place) reply old new k p = waits_kept old new k p
+  waits_event FailPrimary reply old new k p = waits_kept old new k p
+  waits_event FailBackup reply old new k p = waits_at_failure reply old new k p
+  waits_event GoLive reply old new k p = waits_at_live reply old new k p
 
   pub waits_along : (events : List Event) (replies : List Reply) (old new : Pair) → Leads old events replies new → Waits old.nodes → Waits new.nodes
   waits_along [] [] old new l p = subst (λ (w : Pair). Waits w.nodes) (sym l) p

@@ -11,13 +11,16 @@ use Rattle.pair_history.specs.Entries.{Frame, Ran}
 use Rattle.pair_history.specs.HistoryState.{HistoryState, Waiting}
 use Rattle.pair_history.specs.Moves.{Steps, entries_of, guest_along, frames_along, left, AllCan}
 use Rattle.pair_core.specs.declared.event.Refusal.{Refusal}
-use Rattle.pair_core.specs.declared.event.Refusal.TheVariants.{CutNeeded, Exhausted}
+use Rattle.pair_core.specs.declared.event.Refusal.TheVariants.{Stopped, CutNeeded, Exhausted}
 use Rattle.pair_core.specs.declared.event.Reply.TheVariants as replies
 use Rattle.pair_core.specs.Invariant.{AreClients, Holds}
-use Rattle.pair_core.specs.Journal.{all_entries, with_running}
+use Rattle.pair_core.specs.Journal.{all_entries, with_running, with_moves}
+use Rattle.pair_core.specs.declared.limits.TheConstants.{STEP_ENTRIES}
+use Rattle.pair_core.specs.Modes.{is_stopped, is_alone}
 use Rattle.pair_core.specs.Nodes.{after_run}
 use Rattle.pair_core.specs.Pair.{Pair, shown_state}
-use Rattle.pair_core.specs.Protocol.{Record, Outcome, first_refusal, or_else, refused, live_at, step_refusals, step_done, step_outcome, step_reply, outbox_of}
+use Rattle.pair_core.specs.Protocol.{Record, Outcome, first_refusal, or_else, refused, shown_at, live_at, step_refusals, step_done, step_outcome, step_reply, outbox_of}
+use Rattle.pair_core.specs.Protocol.{step_room, step_entries}
 use Rattle.pair_core.specs.Runs.{goes_on, steps_outcome, with_steps}
 use Rattle.pair_core.proofs.Consistent.{live_is}
 use Rattle.pair_core.proofs.Events.{left_now, moves_hold}
@@ -27,11 +30,11 @@ use Rattle.pair_core.proofs.Outcomes.{goes, step_sight}
 
 -- Runs of the guest alone
 
-no-steps : (g : Guest) → after_steps 0 g ≡ g
+pub no-steps : (g : Guest) → after_steps 0 g ≡ g
 unfolding after_steps
 no-steps g = refl
 
-none-sent : (g : Guest) → sent_in 0 g ≡ []
+pub none-sent : (g : Guest) → sent_in 0 g ≡ []
 unfolding sent_in
 none-sent g = refl
 
@@ -39,7 +42,7 @@ none-marked : (g : Guest) (ds : List ℕ) → marked_in 0 g ds ≡ ds
 unfolding marked_in
 none-marked g ds = refl
 
-after_steps-last : (n : ℕ) (g : Guest) → after_steps (suc n) g ≡ next (after_steps n g)
+pub after_steps-last : (n : ℕ) (g : Guest) → after_steps (suc n) g ≡ next (after_steps n g)
 unfolding after_steps
 after_steps-last zero g = refl
 after_steps-last (suc n) g = after_steps-last n (next g)
@@ -93,7 +96,7 @@ steps_hold n w h =
     (can-steps n (left_now w h))
     (subst (λ (ws : List Waiting). AreClients (shown_state w) ws w.ports) (sym (left-steps n (left_now w h))) h.clients)
 
-replicate-last : (n : ℕ) → replicate (suc n) Ran ≡ replicate n Ran ++ Ran ∷ []
+pub replicate-last : (n : ℕ) → replicate (suc n) Ran ≡ replicate n Ran ++ Ran ∷ []
 replicate-last zero = refl
 replicate-last (suc n) = ap (λ t. Ran ∷ t) (replicate-last n)
 
@@ -121,11 +124,11 @@ steps-counted n w =
 
 -- What is answered
 
-no-steps-answered : (start : HistoryState) (r : Record) → steps_outcome start r 0 ≡ (replies.Steps (live_at start r).guest.steps, r)
+pub no-steps-answered : (start : HistoryState) (r : Record) → steps_outcome start r 0 ≡ (replies.Steps (live_at start r).guest.steps, r)
 unfolding steps_outcome
 no-steps-answered start r = refl
 
-more-answered :
+pub more-answered :
     (start : HistoryState) (r : Record) (n : ℕ)
     → steps_outcome start r (suc n) ≡ goes_on start (steps_outcome start r n).0 (steps_outcome start r n).1
 unfolding steps_outcome
@@ -136,9 +139,12 @@ pub one-step-answered : (start : HistoryState) (r : Record) → steps_outcome st
 unfolding steps_outcome
 one-step-answered start r = refl
 
--- where the outbox and the history have room, no row applies
-none_applies : (r : Record) (outbox : List Frame) → length outbox ≤ 192 → length (all_entries r.journal) + 1 < NUMBER_LIMIT → first_refusal (step_refusals outbox r) ≡ None
-none_applies r outbox few room = λ i. cond (no_lt 192 (length outbox) few i) (Some CutNeeded) (cond (no_le NUMBER_LIMIT (length (all_entries r.journal) + 1) room i) (Some Exhausted) None)
+-- where the guest runs, and the outbox and the history have room, no row applies
+none_applies : (r : Record) (outbox : List Frame) → is_stopped r.mode ≡ false → length outbox ≤ 192
+    → length (all_entries r.journal) + step_room r.mode < NUMBER_LIMIT → first_refusal (step_refusals outbox r) ≡ None
+none_applies r outbox runs few room =
+    λ i. cond (runs i) (Some Stopped) (cond (no_lt 192 (length outbox) few i) (Some CutNeeded) (cond (no_le NUMBER_LIMIT (length (all_entries r.journal) + step_room r.mode) room i)
+    (Some Exhausted) None))
   where
     no_lt : (a b : ℕ) → b ≤ a → nat_lt a b ≡ false
     no_lt a b l = grind (arith, nat_tests)
@@ -146,30 +152,42 @@ none_applies r outbox few room = λ i. cond (no_lt 192 (length outbox) few i) (S
     no_le : (a b : ℕ) → b < a → nat_le a b ≡ false
     no_le a b l = grind (arith, nat_tests)
 
-step_goes : (w : Pair) → Holds w → length w.nodes.live.outbox ≤ 192 → length (all_entries w.protocol.journal) + 1 < NUMBER_LIMIT
-    → step_done (next w.nodes.live.guest).steps w.protocol ≡ step_outcome w.start w.protocol
-step_goes w h few room =
-    goes w.protocol (step_refusals w.nodes.live.outbox w.protocol) (step_done (next w.nodes.live.guest).steps w.protocol) None (sym (none_applies w.protocol w.nodes.live.outbox few room)) refl
+pub step_goes : (w : Pair) → Holds w → is_stopped w.protocol.mode ≡ false → length w.nodes.live.outbox ≤ 192
+    → length (all_entries w.protocol.journal) + step_room w.protocol.mode < NUMBER_LIMIT
+    → step_done w.ports.boxes (sent w.nodes.live.guest) (next w.nodes.live.guest).steps w.protocol ≡ step_outcome w.start w.protocol
+step_goes w h runs few room =
+    let g = w.nodes.live.guest in
+    goes w.protocol (step_refusals w.nodes.live.outbox w.protocol) (step_done w.ports.boxes (sent g) (next g).steps w.protocol) None
+    (sym (none_applies w.protocol w.nodes.live.outbox runs few room)) refl
     ∙ step_sight w h
 
+-- in a pair a step is kept
+step_kept : (boxes : List (List Frame)) (fs : List Frame) (steps : ℕ) (r : Record) → is_alone r.mode ≡ false
+    → (replies.Steps steps, record r { journal = with_running r.journal (Ran ∷ []) }) ≡ step_done boxes fs steps r
+step_kept boxes fs steps r two =
+    λ i. (replies.Steps steps, record r { journal = with_moves (sym two i) r.journal (step_entries (sym two i) boxes fs) })
+
 pub steps_answered :
-    (n : ℕ) (w : Pair) → Holds w → length (all_entries w.protocol.journal) + n < NUMBER_LIMIT → HaveRoom n w.nodes.live.guest w.nodes.live.outbox
+    (n : ℕ) (w : Pair) → Holds w → is_alone w.protocol.mode ≡ false → (0 < n → is_stopped w.protocol.mode ≡ false) → length (all_entries w.protocol.journal) + n < NUMBER_LIMIT
+    → HaveRoom n w.nodes.live.guest w.nodes.live.outbox
     → (replies.Steps (after_steps n w.nodes.live.guest).steps, (with_steps n w).protocol) ≡ steps_outcome w.start w.protocol n
-steps_answered zero w h fits room =
+steps_answered zero w h two runs fits room =
     ap (λ (g : Guest). (replies.Steps g.steps, (with_steps 0 w).protocol)) (no-steps w.nodes.live.guest ∙ sym (live_is w h))
     ∙ ap (λ (v : Pair). (replies.Steps (live_at w.start w.protocol).guest.steps, v.protocol)) (with_no_steps w)
     ∙ sym (no-steps-answered w.start w.protocol)
-steps_answered (suc n) w h fits room =
+steps_answered (suc n) w h two runs fits room =
     let v = with_steps n w in
     let g = w.nodes.live.guest in
     let ran = w.protocol.journal.running in
     let e = steps-counted n w in
-    let before = steps_answered n w h (omega arith) (room-before n g w.nodes.live.outbox room) in
+    let before = steps_answered n w h two (λ l. runs (omega arith)) (omega arith) (room-before n g w.nodes.live.outbox room) in
     (λ i. (
       replies.Steps (after_steps-last n g i).steps,
       record w.protocol { journal = record w.protocol.journal { running = (ap (λ t. ran ++ t) (replicate-last n) ∙ sym (append_assoc ran (replicate n Ran) (Ran ∷ []))) i } },
     ))
-    ∙ step_goes v (steps_hold n w h) (room-last n g w.nodes.live.outbox room) (omega arith)
+    ∙ step_kept w.ports.boxes (sent (after_steps n g)) (next (after_steps n g)).steps v.protocol two
+    ∙ step_goes v (steps_hold n w h) (runs (omega arith)) (room-last n g w.nodes.live.outbox room)
+    (let one : step_room w.protocol.mode ≡ 1 = ap (λ (b : Bool). cond b STEP_ENTRIES 1) two in omega arith)
     ∙ ap (λ (o : Outcome). goes_on w.start o.0 o.1) before
     ∙ sym (more-answered w.start w.protocol n)
 
@@ -203,7 +221,7 @@ module _ (start : HistoryState) (r r' : Record) (n k : ℕ) (why : Refusal)
 refused_stays : (start : HistoryState) (r r' : Record) (why : Refusal) → refused r' why ≡ step_outcome start r → r' ≡ r
 refused_stays start r r' why e = by_refusal (first_refusal (step_refusals (outbox_of start r) r)) e
   where
-    by_refusal : (o : Option Refusal) → refused r' why ≡ or_else o (refused r) (step_done (next (live_at start r).guest).steps r) → r' ≡ r
+    by_refusal : (o : Option Refusal) → refused r' why ≡ or_else o (refused r) (step_done (shown_at start r).boxes (sent (live_at start r).guest) (next (live_at start r).guest).steps r) → r' ≡ r
     by_refusal (Some x) e = ap (λ (o : Outcome). o.1) e
     by_refusal None e =
         let clash : replies.Refused why ≡ replies.Steps (next (live_at start r).guest).steps = ap (λ (o : Outcome). o.0) e in

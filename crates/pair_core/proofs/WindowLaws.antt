@@ -9,7 +9,7 @@ use Rattle.output_gate.specs.Epochs.{Epoch, frames_to, after_number, frames_of}
 use Rattle.pair_core.specs.declared.window.Window.{Window}
 use Rattle.pair_core.specs.Window.{NumberedFrom, IsWindow, with_cut, with_commit, with_acknowledged, first_after, committed_count, committed_of, uncommitted_of}
 
-NumberedFrom-push : (n : ℕ) (es : List Epoch) (e : Epoch) → NumberedFrom n es → e.number ≡ n + length es → NumberedFrom n (es ++ e ∷ [])
+pub NumberedFrom-push : (n : ℕ) (es : List Epoch) (e : Epoch) → NumberedFrom n es → e.number ≡ n + length es → NumberedFrom n (es ++ e ∷ [])
 NumberedFrom-push n [] e h k = (omega arith, tt)
 NumberedFrom-push n (x ∷ es) e h k = (h.0, NumberedFrom-push (n + 1) es e h.1 (omega arith))
 

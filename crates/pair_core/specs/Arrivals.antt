@@ -1,6 +1,7 @@
 -- How an epoch is stored: its arrivals, each with the steps since the one before, and the steps behind the last.
-use Rattle.std.specs.Prelude.{ℕ, List, [], ◌∷◌, ◌++◌, replicate}
+use Rattle.std.specs.Prelude.{ℕ, List, [], ◌∷◌, ◌++◌, replicate, map, flat_map}
 use Rattle.pair_core.specs.declared.epochs.Arrival.{Arrival}
+use Rattle.pair_core.specs.declared.epochs.RunningEpoch.{RunningEpoch}
 use Rattle.pair_history.specs.Entries.{Entry, Ran, Arrive}
 
 abbrev pub steps_of : ℕ → List Entry
@@ -16,3 +17,10 @@ arrivals_of (a ∷ later) = arrival_of a ++ arrivals_of later
 -- the entries of the whole epoch
 abbrev pub epoch_entries : List Arrival → ℕ → List Entry
 epoch_entries arrivals steps = arrivals_of arrivals ++ steps_of steps
+
+-- the numbers of the frames that arrived, and of those that did in these epochs
+abbrev pub numbers_of : List Arrival → List ℕ
+numbers_of arrivals = map (λ (a : Arrival). a.number) arrivals
+
+abbrev pub numbers_in : List RunningEpoch → List ℕ
+numbers_in epochs = flat_map (λ (e : RunningEpoch). numbers_of e.arrivals.items) epochs

@@ -1,21 +1,28 @@
 -- Why a frame was dropped.
-use Rattle.std.specs.Prelude.{◌≡◌, ℕ, List, [], ◌∷◌, ◌++◌, Some, slice_get}
+use Rattle.std.specs.Prelude.{◌≡◌, ◌⊎◌, ℕ, List, [], ◌∷◌, ◌++◌, Some, slice_get}
 use Rattle.pair_history.specs.Entries.{Frame, Entry, DropIn, DropOut}
 use Rattle.pair_history.specs.HistoryState.{HistoryState, inbox_of}
 use Rattle.pair_history.specs.Landings.{IsInBox, DropsAtFull, DropsNone}
+use Rattle.pair_history.specs.Failures.{go_live_entries, arrived_numbers, rising}
 use Rattle.pair_core.specs.declared.event.Event.{Event}
-use Rattle.pair_core.specs.declared.event.Event.TheVariants.{AckGet, LoseIn, LoseOut}
+use Rattle.pair_core.specs.declared.event.Event.TheVariants.{Step, AckGet, LoseIn, LoseOut, FailBackup, GoLive}
 use Rattle.pair_core.specs.declared.event.Reply.{Reply}
-use Rattle.pair_core.specs.declared.event.Reply.TheVariants.{Dropped}
+use Rattle.pair_core.specs.declared.event.Reply.TheVariants.{Dropped, Live}
+use Rattle.pair_core.specs.Journal.{kept_entries}
 use Rattle.pair_core.specs.Protocol.{Record, Answers, shown_at, live_at}
 
--- What an event may drop, where the history grows by these entries: a loss that was asked for drops that frame and no other, an
--- acknowledgement what finds its client's box full, and nothing else drops a frame.
+-- What an event may drop, where the history grows by these entries: a loss that was asked for drops that frame and no other; where
+-- frames land, which is at an acknowledgement, where the backup fails, and at a step of a node that is alone, what finds its client's
+-- box full; the backup that goes live drops each frame that a discarded epoch took in, and each that is on its way; nothing else drops
+-- a frame.
 abbrev pub DropsOnly : HistoryState → Record → Event → Reply → List Entry → Type 0
 DropsOnly start old (LoseIn c place) Dropped es =
     (n : ℕ) × (f : Frame) × (slice_get (inbox_of c (live_at start old).waiting) place ≡ Some (n, f)) × (es ≡ DropIn n ∷ [])
 DropsOnly start old (LoseOut c place) Dropped es = IsInBox (shown_at start old) c place × (es ≡ DropOut c place ∷ [])
 DropsOnly start old (AckGet k) reply es = DropsAtFull (shown_at start old) es
+DropsOnly start old Step reply es = DropsAtFull (shown_at start old) es
+DropsOnly start old FailBackup reply es = DropsAtFull (shown_at start old) es
+DropsOnly start old GoLive (Live generation steps) es = es ≡ go_live_entries (shown_at start old) (kept_entries old.journal)
 DropsOnly start old event reply es = DropsNone es
 
 -- An event, answered so, makes the history grow by entries that drop what it may drop.
@@ -24,3 +31,11 @@ pub record Drops (start : HistoryState) (old : Record) (event : Event) (reply : 
   pub entries : List Entry
   pub grows : new.journal.history ≡ old.journal.history ++ entries
   pub only : DropsOnly start old event reply entries
+
+-- Why frames that clients delivered, of these numbers, were dropped: none was; or a loss was asked for, of that one frame; or the backup
+-- went live, and the epochs that had taken them in were never committed.
+abbrev pub WhyLost : Record → Event → List ℕ → Type 0
+WhyLost old event numbers =
+    (numbers ≡ [])
+    ⊎ ((c : ℕ) × (place : ℕ) × (n : ℕ) × (event ≡ LoseIn c place) × (numbers ≡ n ∷ []))
+    ⊎ ((event ≡ GoLive) × (numbers ≡ rising (arrived_numbers (kept_entries old.journal))))

@@ -1,6 +1,6 @@
 -- What is kept true from event to event, so that what contracts say of a pair follows: a record of parts, each over the values that
 -- it speaks of. A part that an event doesn't touch passes on by name.
-use Rattle.std.specs.Prelude.{◌≡◌, ℕ, ◌+◌, ◌-◌, ◌<◌, ◌≤◌, List, [], ◌∷◌, ◌++◌, length, map, Some, None}
+use Rattle.std.specs.Prelude.{◌≡◌, ℕ, ◌+◌, ◌-◌, ◌<◌, ◌≤◌, Bool, false, List, [], ◌∷◌, ◌++◌, length, map, Some, None}
 use Rattle.guest_machine.specs.declared.shapes.Shape.{Shape}
 use Rattle.guest_machine.specs.Guest.{Guest}
 use Rattle.epoch_snapshot.specs.Bases.{IsBase}
@@ -14,6 +14,7 @@ use Rattle.pair_history.specs.HistoryState.{HistoryState, Waiting, inbox_of, at,
 use Rattle.pair_history.specs.Landings.{DropsAreKnown, BoxesFit}
 use Rattle.pair_history.specs.Moves.{Move, entries_of, guest_along, frames_along, left, AllCan, AreRising}
 use Rattle.pair_core.specs.Journal.{Journal}
+use Rattle.pair_core.specs.Modes.{is_alone}
 use Rattle.pair_core.specs.Nodes.{Nodes, HasShape, machine_of}
 use Rattle.pair_core.specs.Pair.{Pair, shown_state}
 use Rattle.pair_core.specs.Texts.{IsText}
@@ -55,23 +56,29 @@ AreSealed shape generation n g (ms ∷ mss) (text ∷ texts) =
 AreSealed shape generation n g [] (text ∷ texts) = ⊥
 AreSealed shape generation n g (ms ∷ mss) [] = ⊥
 
--- The nodes in this generation, where n is the number of the next checkpoint to be committed, the history's guest is g, these moves are
--- kept, and the gate holds these frames of uncommitted checkpoints.
-pub record AreNodes (generation n : ℕ) (g : Guest) (sealed_moves : List (List Move)) (running_moves : List Move)
-    (held : List (List Frame)) (x : Nodes) : Type 0 where
-  pub first_generation : 1 ≤ generation
-  pub last_generation : generation < NUMBER_LIMIT
+-- The backup in this generation, where n is the number of the next checkpoint to be committed, the history's guest is g, and these
+-- moves are sealed.
+pub record IsBacked (generation n : ℕ) (g : Guest) (sealed_moves : List (List Move)) (x : Nodes) : Type 0 where
   pub some_committed : 1 ≤ n
   pub image : x.image.guest ≡ g
   pub stands_at : x.image.stands_at ≡ Some (record { generation = generation; number = n - 1 })
   pub staged : x.image.staged ≡ None
+  pub image_shape : HasShape x.image.shape g
   pub sealed : AreSealed x.image.shape generation n g sealed_moves x.sealed
+  -- the live machine was last settled at the guest of the last cut
+  pub base : IsBase (machine_of x.live) (guest_along g (all_moves sealed_moves))
+
+-- The nodes in this generation: besides, all these moves are kept, and the gate holds these frames of uncommitted checkpoints. Where a
+-- node is alone there is no backup.
+pub record AreNodes (alone : Bool) (generation n : ℕ) (g : Guest) (sealed_moves : List (List Move)) (running_moves : List Move)
+    (held : List (List Frame)) (x : Nodes) : Type 0 where
+  pub first_generation : 1 ≤ generation
+  pub last_generation : generation < NUMBER_LIMIT
+  pub backed : alone ≡ false → IsBacked generation n g sealed_moves x
   pub frames : held ≡ epoch_frames g sealed_moves
   pub live : x.live.guest ≡ guest_along g (all_moves sealed_moves ++ running_moves)
   pub outbox : x.live.outbox ≡ frames_along (guest_along g (all_moves sealed_moves)) running_moves
   pub shape : HasShape x.image.shape x.live.guest
-  -- it was last settled at the guest of the last cut
-  pub base : IsBase (machine_of x.live) (guest_along g (all_moves sealed_moves))
 
 -- The ports, where the history's state is s and these frames still wait after what is kept.
 pub record AreClients (s : HistoryState) (waiting : List Waiting) (p : PortsState) : Type 0 where
@@ -84,7 +91,8 @@ pub record AreClients (s : HistoryState) (waiting : List Waiting) (p : PortsStat
 
 pub record Holds (w : Pair) : Type 0 where
   pub journal : IsJournal w.start w.protocol.journal
-  pub nodes : AreNodes w.protocol.generation w.protocol.window.to_commit (shown_state w).guest journal.sealed_moves journal.running_moves
+  pub nodes : AreNodes (is_alone w.protocol.mode) w.protocol.generation w.protocol.window.to_commit (shown_state w).guest
+      journal.sealed_moves journal.running_moves
       (frames_by_epoch (uncommitted_of w.protocol.window w.protocol.pending)) w.nodes
   pub clients : AreClients (shown_state w) (left (shown_state w).waiting (all_moves journal.sealed_moves ++ journal.running_moves)) w.ports
   -- what the history's state owes is what the gate holds of committed checkpoints

@@ -1,5 +1,5 @@
 -- The journal: the history, and what happened to the guest that the history doesn't have yet, epoch by epoch.
-use Rattle.std.specs.Prelude.{ℕ, List, [], ◌∷◌, ◌++◌}
+use Rattle.std.specs.Prelude.{ℕ, Bool, if◌then◌else◌, List, [], ◌∷◌, ◌++◌}
 use Rattle.pair_history.specs.Entries.{Entry}
 
 pub record Journal : Type 0 where
@@ -48,6 +48,17 @@ rest_of (es ∷ ess) = ess
 -- the oldest sealed epoch moves to the history
 abbrev pub committed : Journal → Journal
 committed j = record j { history = j.history ++ first_of j.sealed; sealed = rest_of j.sealed }
+
+-- all that is kept moves to the history; or it is discarded
+abbrev pub all_committed : Journal → Journal
+all_committed j = record { history = all_entries j; sealed = []; running = [] }
+
+abbrev pub discarded : Journal → Journal
+discarded j = record j { sealed = []; running = [] }
+
+-- what the guest does goes into the epoch that runs, and where nothing is kept into the history
+abbrev pub with_moves : Bool → Journal → List Entry → Journal
+with_moves at_once j es = if at_once then with_history j es else with_running j es
 
 -- What contracts see of a stored journal: the journal, and how many more stored entries its history, and how many more arrivals
 -- its running epoch, take without memory.

@@ -1,11 +1,13 @@
 pub mod Journal
 pub mod JournalFields
 pub mod Arrivals
+pub mod Places
 pub mod Window
 pub mod Lines
 pub mod Nodes
 pub mod Texts
 pub mod NodesFields
+pub mod Modes
 pub mod Protocol
 pub mod Record
 pub mod RecordFields
@@ -21,3 +23,4 @@ pub mod Refusals
 -- what public clauses cite of lower crates
 pub use Rattle.pair_history.specs.Entries
 pub use Rattle.pair_history.specs.HistoryState
+pub use Rattle.failover.specs.Words

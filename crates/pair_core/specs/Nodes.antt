@@ -1,5 +1,5 @@
 -- The two nodes: the primary's live machine, and at the backup the image and the texts of the checkpoints that it may still commit.
-use Rattle.std.specs.Prelude.{◌≡◌, ℕ, ◌*◌, List, [], ◌∷◌, ◌++◌, length}
+use Rattle.std.specs.Prelude.{◌≡◌, ◌≢◌, ℕ, ◌*◌, None, List, [], ◌∷◌, ◌++◌, length}
 use Rattle.guest_machine.specs.declared.shapes.Shape.{Shape}
 use Rattle.guest_machine.specs.Guest.{Guest, State, HasDeviceRecords, boot_guest}
 use Rattle.guest_machine.specs.Step.{arrived}
@@ -7,7 +7,7 @@ use Rattle.guest_machine.specs.Runs.{after_steps, sent_in, marked_in}
 use Rattle.epoch_snapshot.specs.Checkpoints.{Change}
 use Rattle.checkpoint_stream.specs.Readings.{begun, fed}
 use Rattle.checkpoint_stream.specs.Sound.{change_in}
-use Rattle.backup_image.specs.Images.{ImageState, booted, after_stage, committed}
+use Rattle.backup_image.specs.Images.{ImageState, booted, empty_image, after_stage, committed}
 use Rattle.pair_history.specs.Entries.{Frame}
 
 -- a machine: its guest; since it was last settled the frames that the guest sent and the sectors that it wrote; and the bytes of memory
@@ -65,6 +65,10 @@ after_run n x = record x {
   };
 }
 
+-- what it sent has landed
+abbrev pub with_sent_off : Nodes → Nodes
+with_sent_off x = record x { live = record x.live { outbox = [] } }
+
 -- a frame arrived at it
 abbrev pub with_arrival : Nodes → Frame → Nodes
 with_arrival x f = record x { live = record x.live { guest = arrived x.live.guest f } }
@@ -84,6 +88,21 @@ later_texts (t ∷ ts) = ts
 -- the checkpoint that a text reads as, where it stands at the start of a stream
 abbrev pub read_as : Shape → List ℕ → Change
 read_as shape text = change_in (fed (begun shape 0) text)
+
+-- the backup holds an image
+abbrev pub HasImage : Nodes → Type 0
+HasImage x = x.image.stands_at ≢ None
+
+-- there is no backup: neither an image nor a text for it
+abbrev pub without_backup : Nodes → Nodes
+without_backup x = record x { image = empty_image x.image.shape; sealed = [] }
+
+-- a node goes on alone, and what it sent has landed; or the backup goes live, from its image
+abbrev pub left_alone : Nodes → Nodes
+left_alone x = record (without_backup x) { live = record x.live { outbox = [] } }
+
+abbrev pub gone_live : Nodes → Nodes
+gone_live x = record (without_backup x) { live = just_settled x.image.guest }
 
 -- the image takes in the oldest sealed checkpoint, as its text reads, and that text is let go
 abbrev pub with_commit : Nodes → Nodes

@@ -1,10 +1,21 @@
 -- How the fields of the nodes stand for what contracts see.
-use Rattle.std.specs.Prelude.{◌-◌, map, vec_len, vec_capacity}
+use Rattle.std.specs.Prelude.{◌≡◌, ◌-◌, map, vec_len, vec_capacity, Option, None, Some}
+use Rattle.guest_machine.specs.declared.shapes.Shape.{Shape}
+use Rattle.backup_image.specs.Images.{ImageState, empty_image}
 use Rattle.pair_core.specs.declared.nodes.Nodes.TheInside.{Inside}
 use Rattle.pair_core.specs.Nodes.{Housed, node_of}
 
+-- the image, if there is one
+abbrev pub image_or : Shape → Option ImageState → ImageState
+image_or shape None = empty_image shape
+image_or shape (Some image) = image
+
 abbrev pub housed : Inside → Housed
 housed a = record {
-  nodes = record { live = node_of a.live; image = a.image; sealed = map (λ text. text.items) a.sealed.items };
+  nodes = record { live = node_of a.live; image = image_or a.shape a.image; sealed = map (λ text. text.items) a.sealed.items };
   room = vec_capacity a.sealed - vec_len a.sealed;
 }
+
+-- the image has the shape of the nodes
+abbrev pub AreFields : Inside → Type 0
+AreFields a = (image_or a.shape a.image).shape ≡ a.shape

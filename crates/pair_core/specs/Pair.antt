@@ -1,5 +1,5 @@
 -- What contracts see of the whole pair, and how its parts stand to the history.
-use Rattle.std.specs.Prelude.{◌≡◌, ℕ, ◌-◌, ◌≤◌, ◌++◌, length, Some, None}
+use Rattle.std.specs.Prelude.{◌≡◌, ℕ, ◌-◌, ◌≤◌, [], ◌++◌, length, true, false, Some, None}
 use Rattle.epoch_snapshot.specs.Bases.{IsBase}
 use Rattle.frame_ports.specs.Addresses.{targets_of}
 use Rattle.frame_ports.specs.Lands.{list_of}
@@ -12,6 +12,7 @@ use Rattle.pair_core.specs.declared.event.Refusal.TheVariants.{Full}
 use Rattle.pair_core.specs.declared.event.Reply.{Reply}
 use Rattle.pair_core.specs.declared.event.Reply.TheVariants as replies
 use Rattle.pair_core.specs.Journal.{joined, kept_entries}
+use Rattle.pair_core.specs.Modes.{is_alone}
 use Rattle.pair_core.specs.Nodes.{Nodes, machine_of}
 use Rattle.pair_core.specs.Protocol.{Record, outbox_of, shown_at, live_at}
 use Rattle.pair_core.specs.Texts.{AreTexts}
@@ -36,15 +37,9 @@ live_state w = live_at w.start w.protocol
 abbrev pub cut_state : Pair → HistoryState
 cut_state w = at w.start (w.protocol.journal.history ++ joined w.protocol.journal.sealed)
 
--- What holds between events.
-pub record IsConsistent (w : Pair) : Type 0 where
-  -- the history is one of a guest that never fails, and dropped no frame for a client but at its full box or out of its box; what is
-  -- kept goes on from it
-  pub legal : Legal w.start w.protocol.journal.history
-  pub drops : DropsAreKnown w.start w.protocol.journal.history
-  pub goes_on : Legal (shown_state w) (kept_entries w.protocol.journal)
-  -- the live machine is the guest of the history followed by what is kept, and was last settled at the guest of the last cut
-  pub live : w.nodes.live.guest ≡ (live_state w).guest
+-- What holds of the backup, where there is one.
+pub record HasBackup (w : Pair) : Type 0 where
+  -- the live machine was last settled at the guest of the last cut
   pub base : IsBase (machine_of w.nodes.live) (cut_state w).guest
   -- the image is the guest of the history, memory, disk and devices; it stands at the last checkpoint that was committed, and nothing
   -- is staged
@@ -54,6 +49,25 @@ pub record IsConsistent (w : Pair) : Type 0 where
   -- each sealed text reads back as the checkpoint of its number, which makes the guest of its epoch's end of the one of the epoch before
   pub sealed : AreTexts w.nodes.image.shape w.protocol.generation w.protocol.window.to_commit
       (shown_state w) w.protocol.journal.sealed w.nodes.sealed
+
+-- What holds where a node is alone: nothing is kept, pending, held or in the outbox.
+pub record IsAlone (w : Pair) : Type 0 where
+  pub kept : kept_entries w.protocol.journal ≡ []
+  pub pending : w.protocol.pending ≡ []
+  pub outbox : w.nodes.live.outbox ≡ []
+
+-- What holds between events.
+pub record IsConsistent (w : Pair) : Type 0 where
+  -- the history is one of a guest that never fails, and dropped no frame for a client but out of its box, or the next one on its way;
+  -- what is kept goes on from it
+  pub legal : Legal w.start w.protocol.journal.history
+  pub drops : DropsAreKnown w.start w.protocol.journal.history
+  pub goes_on : Legal (shown_state w) (kept_entries w.protocol.journal)
+  -- the live machine is the guest of the history followed by what is kept
+  pub live : w.nodes.live.guest ≡ (live_state w).guest
+  -- there is a backup, unless a node is alone
+  pub backup : is_alone w.protocol.mode ≡ false → HasBackup w
+  pub alone : is_alone w.protocol.mode ≡ true → IsAlone w
   -- the outbox is all that the guest sent along the epoch that runs, also what goes nowhere
   pub outbox : w.nodes.live.outbox ≡ outbox_of w.start w.protocol
   -- each client's inbox is what waits of it after all that is kept, and numbers go on from the history's

@@ -4,29 +4,35 @@
 -- along the running epoch, its step count, the clients' boxes and inboxes) is an argument, and `outcome` gives what the history
 -- says of it.
 use Rattle.std.specs.Prelude.{◌≡◌, ℕ, ◌+◌, ◌-◌, ◌<◌, ◌==◌, ◌&&◌, ◌||◌, not, nat_lt, nat_le, Bool, if◌then◌else◌, List, [], ◌∷◌, ◌++◌}
-use Rattle.std.specs.Prelude.{length, map, option_map, slice_get, Option, None, Some, Result, Ok, Err, ◌⊎◌}
-use Rattle.guest_machine.specs.Step.{next}
+use Rattle.std.specs.Prelude.{true, length, map, option_map, slice_get, Option, None, Some, Result, Ok, Err, ◌⊎◌}
+use Rattle.guest_machine.specs.Step.{next, sent}
 use Rattle.frame_ports.specs.Addresses.{targets_of}
 use Rattle.frame_ports.specs.Lands.{list_of, put_count}
 use Rattle.frame_ports.specs.declared.limits.TheConstants.{MIN_FRAME, MAX_FRAME, INBOX_FRAMES, NUMBER_LIMIT}
-use Rattle.output_gate.specs.Epochs.{Epoch, frames_to, after_number}
+use Rattle.output_gate.specs.Epochs.{Epoch, frames_of, frames_to, after_number}
+use Rattle.failover.specs.declared.mode.Mode.{Mode}
+use Rattle.failover.specs.declared.mode.Mode.TheVariants as modes
 use Rattle.pair_history.specs.Entries.{Frame, Entry, Ran, Arrive, Delivered, DropIn, DropOut, Took}
 use Rattle.pair_history.specs.Entries as entries
 use Rattle.pair_history.specs.HistoryState.{HistoryState, at, inbox_of, sent_along}
 use Rattle.pair_history.specs.Landings.{landings}
+use Rattle.pair_history.specs.Failures.{drops_of_taken_in, drops_of_owed_from}
 use Rattle.pair_core.specs.declared.event.Event.{Event}
 use Rattle.pair_core.specs.declared.event.Event.TheVariants.{Step, Cut, Send, BackupGet, AckGet, Admit, Deliver, Take, LoseIn, LoseOut}
-use Rattle.pair_core.specs.declared.event.Mode.{Mode}
+use Rattle.pair_core.specs.declared.event.Event.TheVariants.{FailPrimary, FailBackup, GoLive}
 use Rattle.pair_core.specs.declared.event.Packet.{Packet}
 use Rattle.pair_core.specs.declared.event.Refusal.{Refusal}
-use Rattle.pair_core.specs.declared.event.Refusal.TheVariants.{Full, BadFrame, NoClient, Behind, Stale, Gap, NoMemory, CutNeeded, Exhausted}
+use Rattle.pair_core.specs.declared.event.Refusal.TheVariants.{Full, BadFrame, NoClient, Stopped, Behind, Stale, Gap, NoMemory, CutNeeded}
+use Rattle.pair_core.specs.declared.event.Refusal.TheVariants.{Exhausted}
 use Rattle.pair_core.specs.declared.event.Reply.{Reply}
 use Rattle.pair_core.specs.declared.event.Reply.TheVariants as replies
-use Rattle.pair_core.specs.declared.limits.TheConstants.{MOST_PENDING, STEP_ROOM}
+use Rattle.pair_core.specs.declared.limits.TheConstants.{MOST_PENDING, STEP_ROOM, STEP_ENTRIES}
 use Rattle.pair_core.specs.declared.window.Window.{Window}
-use Rattle.pair_core.specs.Journal.{Journal, joined, all_entries, with_history, with_running, sealed_off, committed}
+use Rattle.pair_core.specs.Journal.{Journal, joined, kept_entries, all_entries, with_history, with_moves, sealed_off, committed}
+use Rattle.pair_core.specs.Journal.{all_committed, discarded}
 use Rattle.pair_core.specs.Lines.{Lines, packet, packet_of, with_forward, with_back}
-use Rattle.pair_core.specs.Window.{with_cut, with_commit, with_acknowledged}
+use Rattle.pair_core.specs.Modes.{is_stopped, is_alone, mode_refusal}
+use Rattle.pair_core.specs.Window.{with_cut, with_commit, with_acknowledged, none_pending}
 
 pub record Record : Type 0 where
   pub mode : Mode
@@ -74,15 +80,26 @@ is_among c count = nat_le 1 c && nat_le c count
 
 -- STEP
 
+-- how many entries a step counts as, whatever it sends: where a node is alone its 64 frames may land for 16 clients each
+abbrev pub step_room : Mode → ℕ
+step_room mode = if is_alone mode then STEP_ENTRIES else 1
+
 abbrev pub step_refusals : List Frame → Record → List Row
-step_refusals outbox r = (nat_lt STEP_ROOM (length outbox), CutNeeded) ∷ (exhausts r 1, Exhausted) ∷ []
+step_refusals outbox r =
+    (is_stopped r.mode, Stopped) ∷ (nat_lt STEP_ROOM (length outbox), CutNeeded) ∷ (exhausts r (step_room r.mode), Exhausted) ∷ []
 
--- the guest makes one step, its `steps`th
-abbrev pub step_done : ℕ → Record → Outcome
-step_done steps r = (replies.Steps steps, record r { journal = with_running r.journal (Ran ∷ []) })
+-- The guest makes one step, its `steps`th, in which it sends these frames. Where a node is alone they land at once.
+abbrev pub step_entries : Bool → List (List Frame) → List Frame → List Entry
+step_entries alone boxes sent = if alone then Ran ∷ landings boxes (targets_of (length boxes) sent) else Ran ∷ []
 
-abbrev pub step_outcome_at : List Frame → ℕ → Record → Outcome
-step_outcome_at outbox steps r = unless r (step_refusals outbox r) (step_done steps r)
+abbrev pub step_done : List (List Frame) → List Frame → ℕ → Record → Outcome
+step_done boxes sent steps r = (
+  replies.Steps steps,
+  record r { journal = with_moves (is_alone r.mode) r.journal (step_entries (is_alone r.mode) boxes sent) },
+)
+
+abbrev pub step_outcome_at : List Frame → List (List Frame) → List Frame → ℕ → Record → Outcome
+step_outcome_at outbox boxes sent steps r = unless r (step_refusals outbox r) (step_done boxes sent steps r)
 
 -- CUT
 
@@ -169,16 +186,20 @@ client_refusals count c = (not (is_among c count), NoClient) ∷ []
 abbrev pub admit_refusals : Record → List Row
 admit_refusals r = (exhausts r 1, Exhausted) ∷ []
 
--- the first frame of the client's inbox arrives at the guest, in the epoch that runs
+-- whose frame can arrive at all
+abbrev pub arrival_refusals : ℕ → Record → ℕ → List Row
+arrival_refusals count r c = (not (is_among c count), NoClient) ∷ (is_stopped r.mode, Stopped) ∷ []
+
+-- the first frame of the client's inbox arrives at the guest
 abbrev pub admit_done : Record → ℕ → Outcome
-admit_done r n = (replies.Admitted n, record r { journal = with_running r.journal (Arrive n ∷ []) })
+admit_done r n = (replies.Admitted n, record r { journal = with_moves (is_alone r.mode) r.journal (Arrive n ∷ []) })
 
 abbrev pub admit_first : Record → Option (ℕ × Frame) → Outcome
 admit_first r None = (replies.Empty, r)
 admit_first r (Some first) = unless r (admit_refusals r) (admit_done r first.0)
 
 abbrev pub admit_outcome_at : ℕ → List (ℕ × Frame) → Record → ℕ → Outcome
-admit_outcome_at count inbox r c = unless r (client_refusals count c) (admit_first r (slice_get inbox 0))
+admit_outcome_at count inbox r c = unless r (arrival_refusals count r c) (admit_first r (slice_get inbox 0))
 
 -- DELIVER: of so many clients, where these frames of client c wait and the next frame gets this number
 
@@ -198,14 +219,7 @@ deliver_refusals count inbox number r c bytes =
 -- a full inbox: that is recorded, and that is all. The other refusals change nothing
 abbrev pub delivery_refused : Record → ℕ → Frame → Refusal → Outcome
 delivery_refused r c f Full = (replies.Refused Full, record r { journal = with_history r.journal (entries.Refused c f ∷ []) })
-delivery_refused r c f BadFrame = refused r BadFrame
-delivery_refused r c f NoClient = refused r NoClient
-delivery_refused r c f Behind = refused r Behind
-delivery_refused r c f Stale = refused r Stale
-delivery_refused r c f Gap = refused r Gap
-delivery_refused r c f NoMemory = refused r NoMemory
-delivery_refused r c f CutNeeded = refused r CutNeeded
-delivery_refused r c f Exhausted = refused r Exhausted
+delivery_refused r c f why = refused r why
 
 -- the frame waits for the guest under that number
 abbrev pub deliver_done : Record → ℕ → Frame → ℕ → Outcome
@@ -257,6 +271,64 @@ lose_in_outcome_at count inbox r c place = unless r (client_refusals count c) (l
 abbrev pub lose_out_outcome_at : List (List Frame) → Record → ℕ → ℕ → Outcome
 lose_out_outcome_at boxes r c place = unless r (client_refusals (length boxes) c) (loss_of r (lost_out c (list_of boxes c) place))
 
+-- FAILPRIMARY
+
+-- the primary stops: all else stays
+abbrev pub fail_primary_done : Record → Outcome
+fail_primary_done r = (replies.Stopped, record r { mode = modes.Stopped })
+
+-- FAILBACKUP: the backup stops, and the primary goes on alone
+
+-- what lands: what the gate holds, and then the outbox
+abbrev pub all_held : List (List Frame) → List Frame → Record → List (ℕ × Frame)
+all_held boxes outbox r = targets_of (length boxes) (frames_of r.pending ++ outbox)
+
+abbrev pub fail_backup_refusals : List (List Frame) → List Frame → Record → List Row
+fail_backup_refusals boxes outbox r = (exhausts r (length (all_held boxes outbox r)), Exhausted) ∷ []
+
+-- all that was kept goes to the history, the pending checkpoints are given up, and what was held lands
+abbrev pub fail_backup_done : List (List Frame) → List Frame → Record → Outcome
+fail_backup_done boxes outbox r =
+    let leaving = all_held boxes outbox r in (
+      replies.Alone r.generation (put_count boxes leaving),
+      record r {
+        mode = modes.Alone;
+        journal = with_history (all_committed r.journal) (landings boxes leaving);
+        window = none_pending r.window.to_cut;
+        pending = [];
+      },
+    )
+
+abbrev pub fail_backup_outcome_at : List (List Frame) → List Frame → Record → Outcome
+fail_backup_outcome_at boxes outbox r = unless r (fail_backup_refusals boxes outbox r) (fail_backup_done boxes outbox r)
+
+-- GOLIVE: the backup goes on from its image, in the next generation; what was kept is discarded, and so is what the clients were owed
+
+-- what that adds to the history, where these are the boxes, and these frames are on their way to their clients
+abbrev pub live_entries : List (List Frame) → List (ℕ × Frame) → Journal → List Entry
+live_entries boxes out j = drops_of_taken_in (kept_entries j) ++ drops_of_owed_from (length boxes) 1 boxes out
+
+abbrev pub go_live_refusals : List (List Frame) → List (ℕ × Frame) → Record → List Row
+go_live_refusals boxes out r =
+    (nat_le NUMBER_LIMIT (r.generation + 1), Exhausted)
+    ∷ (nat_le NUMBER_LIMIT (length r.journal.history + length (live_entries boxes out r.journal)), Exhausted)
+    ∷ []
+
+abbrev pub go_live_done : List (List Frame) → List (ℕ × Frame) → ℕ → Record → Outcome
+go_live_done boxes out steps r = (
+  replies.Live (r.generation + 1) steps,
+  record r {
+    mode = modes.Alone;
+    generation = r.generation + 1;
+    journal = with_history (discarded r.journal) (live_entries boxes out r.journal);
+    window = none_pending r.window.to_commit;
+    pending = [];
+  },
+)
+
+abbrev pub go_live_outcome_at : List (List Frame) → List (ℕ × Frame) → ℕ → Record → Outcome
+go_live_outcome_at boxes out steps r = unless r (go_live_refusals boxes out r) (go_live_done boxes out steps r)
+
 -- WHAT THE HISTORY SAYS of what an event looks at
 
 -- the state that clients see, and the one after all that is kept
@@ -271,46 +343,51 @@ abbrev pub outbox_of : HistoryState → Record → List Frame
 outbox_of start r = sent_along (at start (r.journal.history ++ joined r.journal.sealed)) r.journal.running
 
 abbrev pub step_outcome : HistoryState → Record → Outcome
-step_outcome start r = step_outcome_at (outbox_of start r) (next (live_at start r).guest).steps r
+step_outcome start r =
+    let g = (live_at start r).guest in
+    step_outcome_at (outbox_of start r) (shown_at start r).boxes (sent g) (next g).steps r
+
+-- an event that its mode doesn't refuse
+abbrev pub allowed : HistoryState → Record → Event → Outcome
+allowed start r Step = step_outcome start r
+allowed start r Cut = unless r (cut_refusals r) (cut_done (outbox_of start r) r)
+allowed start r Send = send_done r
+allowed start r (BackupGet k) = backup_outcome r (slice_get r.lines.forward k)
+allowed start r (AckGet k) = ack_outcome_at (shown_at start r).boxes r (slice_get r.lines.back k)
+allowed start r (Admit c) = admit_outcome_at (length (shown_at start r).boxes) (inbox_of c (live_at start r).waiting) r c
+allowed start r (Deliver c bytes) =
+    deliver_outcome_at (length (shown_at start r).boxes) (inbox_of c (live_at start r).waiting) (shown_at start r).number r c bytes.now
+allowed start r (Take c) = take_outcome_at (shown_at start r).boxes r c
+allowed start r (LoseIn c place) =
+    lose_in_outcome_at (length (shown_at start r).boxes) (inbox_of c (live_at start r).waiting) r c place
+allowed start r (LoseOut c place) = lose_out_outcome_at (shown_at start r).boxes r c place
+allowed start r FailPrimary = fail_primary_done r
+allowed start r FailBackup = fail_backup_outcome_at (shown_at start r).boxes (outbox_of start r) r
+allowed start r GoLive =
+    let s = shown_at start r in
+    go_live_outcome_at s.boxes s.out s.guest.steps r
 
 abbrev pub outcome : HistoryState → Record → Event → Outcome
-outcome start r Step = step_outcome start r
-outcome start r Cut = unless r (cut_refusals r) (cut_done (outbox_of start r) r)
-outcome start r Send = send_done r
-outcome start r (BackupGet k) = backup_outcome r (slice_get r.lines.forward k)
-outcome start r (AckGet k) = ack_outcome_at (shown_at start r).boxes r (slice_get r.lines.back k)
-outcome start r (Admit c) = admit_outcome_at (length (shown_at start r).boxes) (inbox_of c (live_at start r).waiting) r c
-outcome start r (Deliver c bytes) =
-    deliver_outcome_at (length (shown_at start r).boxes) (inbox_of c (live_at start r).waiting) (shown_at start r).number r c bytes.now
-outcome start r (Take c) = take_outcome_at (shown_at start r).boxes r c
-outcome start r (LoseIn c place) =
-    lose_in_outcome_at (length (shown_at start r).boxes) (inbox_of c (live_at start r).waiting) r c place
-outcome start r (LoseOut c place) = lose_out_outcome_at (shown_at start r).boxes r c place
+outcome start r event = or_else (mode_refusal r.mode event) (refused r) (allowed start r event)
 
 -- WANT OF MEMORY
 
--- An event that the protocol answers so may want memory first: it adds to the history, to a line, or to what is sealed or kept. A
--- step doesn't, nor does one that changes nothing.
-abbrev pub MayWantMemory : Reply → Type 0
-MayWantMemory (replies.Steps count) = ⊥
-MayWantMemory (replies.Cut generation number) = Unit {0}
-MayWantMemory (replies.Sent count) = 0 < count
-MayWantMemory (replies.Committed generation number) = Unit {0}
-MayWantMemory (replies.Again generation number) = Unit {0}
-MayWantMemory replies.Lost = ⊥
-MayWantMemory (replies.Acked generation number landed) = Unit {0}
-MayWantMemory (replies.Admitted number) = Unit {0}
-MayWantMemory replies.Empty = ⊥
-MayWantMemory replies.Dropped = Unit {0}
-MayWantMemory (replies.Delivered number) = Unit {0}
-MayWantMemory (replies.Took frame) = Unit {0}
-MayWantMemory (replies.Refused why) = why ≡ Full
+-- An event that the protocol answers so in a mode may want memory first: it adds to the history, to a line, or to what is sealed or
+-- kept. A step doesn't, unless a node is alone, where its frames may land; nor does an event that changes nothing.
+abbrev pub MayWantMemory : Mode → Reply → Type 0
+MayWantMemory mode (replies.Steps count) = is_alone mode ≡ true
+MayWantMemory mode (replies.Sent count) = 0 < count
+MayWantMemory mode replies.Lost = ⊥
+MayWantMemory mode replies.Empty = ⊥
+MayWantMemory mode replies.Stopped = ⊥
+MayWantMemory mode (replies.Refused why) = why ≡ Full
+MayWantMemory mode other = Unit {0}
 
 -- From the record old an event may be answered reply and leave new: by the protocol, or for want of memory with nothing changed.
 abbrev pub Answers : HistoryState → Record → Event → Reply → Record → Type 0
 Answers start old event reply new =
     ((reply, new) ≡ outcome start old event)
-    ⊎ (MayWantMemory (outcome start old event).0 × (reply ≡ replies.Refused NoMemory) × (new ≡ old))
+    ⊎ (MayWantMemory old.mode (outcome start old event).0 × (reply ≡ replies.Refused NoMemory) × (new ≡ old))
 
 -- what a step answers, as a reply
 abbrev pub step_reply : Result ℕ Refusal → Reply

@@ -1,16 +1,24 @@
 -- What contracts see of the pair's record: the protocol's record, and the clients' ports; and what is true of every record.
-use Rattle.std.specs.Prelude.{◌≡◌, ℕ, ◌+◌, [], length, drop, remove}
+use Rattle.std.specs.Prelude.{◌≡◌, ℕ, ◌+◌, true, List, [], length, drop, remove}
+use Rattle.frame_ports.specs.Addresses.{targets_of}
+use Rattle.output_gate.specs.Epochs.{frames_of}
 use Rattle.frame_ports.specs.Lands.{list_of, with_list, lands}
 use Rattle.frame_ports.specs.Ports.{PortsState}
+use Rattle.pair_history.specs.Entries.{Frame}
 use Rattle.pair_core.specs.Journal.{empty_journal}
 use Rattle.pair_core.specs.Lines.{no_packets, AreBelow}
-use Rattle.pair_core.specs.Protocol.{Record, let_go}
-use Rattle.pair_core.specs.Window.{start_window, IsWindow}
-use Rattle.pair_core.specs.declared.event.Mode.TheVariants.{Paired}
+use Rattle.pair_core.specs.Modes.{is_alone}
+use Rattle.pair_core.specs.Protocol.{Record, let_go, all_held}
+use Rattle.pair_core.specs.Window.{start_window, IsWindow, committed_of}
+use Rattle.failover.specs.declared.mode.Mode.TheVariants.{Paired}
 
 pub record RecordState : Type 0 where
   pub protocol : Record
   pub ports : PortsState
+
+-- what is on its way to the clients: what the gate holds of committed checkpoints
+abbrev pub owed_to : RecordState → List (ℕ × Frame)
+owed_to s = targets_of (length s.ports.boxes) (frames_of (committed_of s.protocol.window s.protocol.pending))
 
 -- nothing happened yet
 abbrev pub start_record : Record
@@ -19,6 +27,10 @@ start_record = record { mode = Paired; generation = 1; journal = empty_journal; 
 -- the ports once what leaves the gate at that number has landed
 abbrev pub ports_after_ack : PortsState → Record → ℕ → PortsState
 ports_after_ack p r n = record p { boxes = lands p.boxes (let_go p.boxes r n) }
+
+-- once all that the gate holds, and then the outbox, has landed
+abbrev pub ports_after_all : PortsState → List Frame → Record → PortsState
+ports_after_all p outbox r = record p { boxes = lands p.boxes (all_held p.boxes outbox r) }
 
 -- once the first frame of a client's inbox has left it, and once that of its box has
 abbrev pub ports_after_admit : PortsState → ℕ → PortsState
@@ -34,10 +46,16 @@ ports_after_lose_in p c place = record p { inboxes = with_list p.inboxes c (remo
 abbrev pub ports_after_lose_out : PortsState → ℕ → ℕ → PortsState
 ports_after_lose_out p c place = record p { boxes = with_list p.boxes c (remove (list_of p.boxes c) place) }
 
+-- Where a node is alone nothing is kept, and nothing is pending.
+abbrev pub IsLone : Record → Type 0
+IsLone r = (r.journal.sealed ≡ []) × (r.journal.running ≡ []) × (r.pending ≡ [])
+
 -- The window is that of what is pending; every packet of this generation names a checkpoint that was cut, every acknowledgement of
--- it one that was committed; and each checkpoint that was cut and not committed has its epoch.
+-- it one that was committed; each checkpoint that was cut and not committed has its epoch; and where a node is alone nothing is kept
+-- or pending.
 pub record IsRecord (r : Record) : Type 0 where
   pub window : IsWindow r.window r.pending
   pub forward : AreBelow r.generation r.window.to_cut r.lines.forward
   pub back : AreBelow r.generation r.window.to_commit r.lines.back
   pub sealed : r.window.to_commit + length r.journal.sealed ≡ r.window.to_cut
+  pub alone : is_alone r.mode ≡ true → IsLone r

@@ -1,10 +1,10 @@
 -- Replication: the guests that the backup's image will be, one after another, and that each is the guest that the live machine was at a cut.
-use Rattle.std.specs.Prelude.{◌≡◌, ℕ, ◌+◌, ◌-◌, ◌≤◌, List, [], ◌∷◌, ◌++◌, length, Some, slice_get}
+use Rattle.std.specs.Prelude.{◌≡◌, ℕ, ◌+◌, ◌-◌, ◌≤◌, List, [], ◌∷◌, ◌++◌, length, None, Some, slice_get}
 use Rattle.guest_machine.specs.declared.shapes.Shape.{Shape}
 use Rattle.guest_machine.specs.Guest.{Guest}
 use Rattle.epoch_snapshot.specs.Images.{image_of}
 use Rattle.pair_core.specs.declared.event.Event.{Event}
-use Rattle.pair_core.specs.declared.event.Event.TheVariants.{Cut, BackupGet}
+use Rattle.pair_core.specs.declared.event.Event.TheVariants.{Cut, BackupGet, FailBackup, GoLive}
 use Rattle.pair_core.specs.declared.event.Reply.{Reply}
 use Rattle.pair_core.specs.declared.event.Reply.TheVariants as replies
 use Rattle.pair_core.specs.Nodes.{Nodes, read_as}
@@ -53,11 +53,21 @@ abbrev pub Awaits : ℕ → ℕ → Guest → Nodes → Type 0
 Awaits generation number g x =
     (taken j : ℕ) → HasTaken generation taken x → taken + j + 1 ≡ number → slice_get (to_come x) j ≡ Some g
 
--- What an event, answered so, does for replication: one that is answered Cut cuts, one that is answered Committed commits, and no other
--- touches the image or what is to come.
+-- there is no backup any more
+abbrev pub LosesBackup : Nodes → Type 0
+LosesBackup new = new.image.stands_at ≡ None
+
+-- the backup goes live: the live guest is the image's
+abbrev pub IsLive : Nodes → Nodes → Type 0
+IsLive old new = (new.live.guest ≡ old.image.guest) × LosesBackup new
+
+-- What an event, answered so, does for replication: one that is answered Cut cuts, one that is answered Committed commits, the backup
+-- that goes live is its image's guest, one that fails is gone, and no other event touches the image or what is to come.
 abbrev pub Replicates : Event → Reply → Nodes → Nodes → Type 0
 Replicates Cut (replies.Cut generation number) old new = IsCut generation number old new
 Replicates (BackupGet k) (replies.Committed generation number) old new = IsCommit generation number old new
+Replicates FailBackup (replies.Alone generation landed) old new = LosesBackup new
+Replicates GoLive (replies.Live generation steps) old new = IsLive old new
 Replicates event reply old new = KeepsBackup old new
 
 -- An event, answered so, leads from the pair old to new.

@@ -1,13 +1,15 @@
 -- Whole runs: of events, and of the guest's steps.
-use Rattle.std.specs.Prelude.{◌≡◌, ℕ, zero, suc, List, [], ◌∷◌, replicate}
+use Rattle.std.specs.Prelude.{◌≡◌, ℕ, zero, suc, ◌<◌, ◌⊎◌, true, List, [], ◌∷◌, replicate}
 use Rattle.pair_core.specs.declared.event.Event.{Event}
+use Rattle.pair_core.specs.declared.event.Refusal.TheVariants.{NoMemory}
 use Rattle.pair_core.specs.declared.event.Reply.{Reply}
 use Rattle.pair_core.specs.declared.event.Reply.TheVariants as replies
 use Rattle.pair_history.specs.Entries.{Ran}
 use Rattle.pair_history.specs.HistoryState.{HistoryState}
 use Rattle.pair_core.specs.Journal.{with_running}
+use Rattle.pair_core.specs.Modes.{is_alone}
 use Rattle.pair_core.specs.Nodes.{after_run}
-use Rattle.pair_core.specs.Protocol.{Record, Outcome, Answers, live_at, refused, step_outcome}
+use Rattle.pair_core.specs.Protocol.{Record, Outcome, Answers, MayWantMemory, live_at, refused, step_outcome}
 use Rattle.pair_core.specs.Pair.{Pair}
 
 -- what one event, answered so, does to a record
@@ -38,6 +40,15 @@ steps_outcome start r zero = (replies.Steps (live_at start r).guest.steps, r)
 steps_outcome start r (suc n) =
     let before = steps_outcome start r n in
     goes_on start before.0 before.1
+
+-- What so many steps may be answered, and leave: by the protocol; or, where a node is alone, for want of memory before one of them,
+-- and those before it stay made.
+abbrev pub StepsAnswer : HistoryState → Record → ℕ → Reply → Record → Type 0
+StepsAnswer start old count reply new =
+    ((reply, new) ≡ steps_outcome start old count)
+    ⊎ ((is_alone old.mode ≡ true) × (reply ≡ replies.Refused NoMemory)
+    × ((made : ℕ) × (made < count) × (steps : ℕ) × ((replies.Steps steps, new) ≡ steps_outcome start old made)
+    × MayWantMemory new.mode (step_outcome start new).0))
 
 -- the pair after n steps of its live guest
 abbrev pub with_steps : ℕ → Pair → Pair

@@ -22,6 +22,10 @@ first_after n next = if nat_le next n then n + 1 else next
 abbrev pub with_acknowledged : ℕ → Window → Window
 with_acknowledged n w = record w { to_acknowledge = first_after n w.to_acknowledge }
 
+-- none is pending, and the next one has this number
+abbrev pub none_pending : ℕ → Window
+none_pending n = record { to_cut = n; to_commit = n; to_acknowledge = n }
+
 -- the epochs have consecutive numbers from n on
 abbrev pub NumberedFrom : ℕ → List Epoch → Type 0
 NumberedFrom n [] = Unit {0}

@@ -1,6 +1,9 @@
 //! An epoch of the guest as it is stored: its arrivals, each with the steps before it, and the steps after the last.
-ghost use Rattle.std.specs.Prelude.{◌≡◌, ◌+◌, ◌*◌, ◌^◌, ◌≤◌, ◌<◌, ◌++◌, [], length};
+ghost use Rattle.std.specs.Prelude.{◌≡◌, ◌+◌, ◌*◌, ◌^◌, ◌≤◌, ◌<◌, ◌++◌, [], length, map, IfSome};
 ghost use Rattle.pair_core.specs.Arrivals.{arrival_of, epoch_entries};
+ghost use Rattle.pair_core.specs.Journal.{joined};
+ghost use Rattle.pair_core.specs.JournalFields.{epoch_of};
+ghost use Rattle.pair_core.specs.Places.{places_of};
 
 use pair_history::{Entry, History};
 use std::alloc::Global;
@@ -43,7 +46,7 @@ fn add_arrival(history: &mut History, arrival: Arrival)
     ensures entries { history.new.entries ≡ history.old.entries ++ arrival_of arrival }
     ensures room { history.old.room ≤ history.new.room + 2 }
 {
-    history.add(Entry::Ran(arrival.steps));
+    history.run(arrival.steps);
     history.add(Entry::Arrive(arrival.number));
 }
 
@@ -51,10 +54,34 @@ fn add_arrival(history: &mut History, arrival: Arrival)
 pub(crate) fn add_epoch(history: &mut History, arrivals: &[Arrival], steps: u64)
     requires room { 2 * length arrivals.now + 1 ≤ history.old.room }
     requires fits { length (history.old.entries ++ epoch_entries arrivals.now steps) < 2 ^ 62 }
-    ensures { history.new.entries ≡ history.old.entries ++ epoch_entries arrivals.now steps }
+    ensures entries { history.new.entries ≡ history.old.entries ++ epoch_entries arrivals.now steps }
+    ensures room { history.old.room ≤ history.new.room + (2 * length arrivals.now + 1) }
 {
     for arrival in arrivals {
         add_arrival(history, *arrival);
     }
-    history.add(Entry::Ran(steps));
+    history.run(steps);
+}
+
+/// Adds the entries of these epochs to the history, in the room that was reserved.
+pub(crate) fn add_epochs(history: &mut History, epochs: &[RunningEpoch])
+    requires room { places_of epochs.now ≤ history.old.room }
+    requires fits { length (history.old.entries ++ joined (map epoch_of epochs.now)) < 2 ^ 62 }
+    ensures entries { history.new.entries ≡ history.old.entries ++ joined (map epoch_of epochs.now) }
+    ensures room { history.old.room ≤ history.new.room + places_of epochs.now }
+{
+    for epoch in epochs {
+        add_epoch(history, epoch.arrivals.as_slice(), epoch.steps);
+    }
+}
+
+/// The places that these epochs take in the history, and so many more; none if that is no number.
+pub(crate) fn places_with(epochs: &[RunningEpoch], more: usize) -> Option<usize>
+    ensures { IfSome result (λ n. n ≡ places_of epochs.now + more) }
+{
+    let mut places = more;
+    for epoch in epochs {
+        places = places.checked_add(2 * epoch.arrivals.len() + 1)?;
+    }
+    Some(places)
 }

@@ -1,6 +1,7 @@
-ghost use Rattle.std.specs.Prelude.{◌≡◌, Some, codes};
+ghost use Rattle.std.specs.Prelude.{◌≡◌};
 ghost use Rattle.pair_core.specs.declared.event.Refusal.TheVariants.{NoMemory};
 
+use failover::Mode;
 use pair_history::Frame;
 use std::alloc::AllocError;
 use std::fmt;
@@ -29,6 +30,12 @@ pub enum Event<'a> {
     LoseIn(u64, u64),
     /// The line drops the frame at this place, from 0, of this client's box: `LoseOut(client, place)`.
     LoseOut(u64, u64),
+    /// The primary stops. From then on it does nothing, and the pair waits for the backup to go live.
+    FailPrimary,
+    /// The backup stops. The primary goes on alone: what was held lands, and what the guest sends lands at once.
+    FailBackup,
+    /// The backup goes on in the place of the stopped primary, from its image. Its generation is the next one.
+    GoLive,
 }
 
 /// Why an event was refused. Nothing changed, but that the history tells of a refusal [`Refusal::Full`].
@@ -43,9 +50,21 @@ pub enum Refusal {
     /// The client number is 0 or above the count.
     #[error("NoClient")]
     NoClient,
+    /// The node that would act has stopped.
+    #[error("Stopped")]
+    Stopped,
     /// Four checkpoints are pending.
     #[error("Behind")]
     Behind,
+    /// The event needs a pair, and one node is alone.
+    #[error("NotPaired")]
+    NotPaired,
+    /// The event needs a node that is alone or stopped.
+    #[error("AlreadyPaired")]
+    AlreadyPaired,
+    /// No backup holds an image that could go on.
+    #[error("NoImage")]
+    NoImage,
     /// The message is of another generation.
     #[error("Stale")]
     Stale,
@@ -74,7 +93,11 @@ impl Refusal {
             Refusal::Full => 1,
             Refusal::BadFrame => 2,
             Refusal::NoClient => 3,
+            Refusal::Stopped => 4,
             Refusal::Behind => 5,
+            Refusal::NotPaired => 6,
+            Refusal::AlreadyPaired => 7,
+            Refusal::NoImage => 8,
             Refusal::Stale => 9,
             Refusal::Gap => 10,
             Refusal::NoMemory => 12,
@@ -91,22 +114,16 @@ impl Refusal {
             Refusal::Full => "Full",
             Refusal::BadFrame => "BadFrame",
             Refusal::NoClient => "NoClient",
+            Refusal::Stopped => "Stopped",
             Refusal::Behind => "Behind",
+            Refusal::NotPaired => "NotPaired",
+            Refusal::AlreadyPaired => "AlreadyPaired",
+            Refusal::NoImage => "NoImage",
             Refusal::Stale => "Stale",
             Refusal::Gap => "Gap",
             Refusal::NoMemory => "NoMemory",
             Refusal::CutNeeded => "CutNeeded",
             Refusal::Exhausted => "Exhausted",
-        }
-    }
-}
-
-impl fmt::Display for Mode {
-    ghost output = { λ _. Some (codes "paired") };
-
-    fn fmt<W: fmt::Write>(&self, f: &mut fmt::Formatter<W>) -> fmt::Result {
-        match self {
-            Mode::Paired => write!(f, "paired"),
         }
     }
 }
@@ -159,27 +176,32 @@ pub enum Reply {
     Delivered(u64),
     /// The frame, or none where the box is empty.
     Took(Option<Frame>),
+    /// The primary has stopped.
+    Stopped,
+    /// The backup has stopped, and `landed` frames were put into boxes, counted for each client.
+    Alone {
+        generation: u64,
+        landed: u64,
+    },
+    /// The backup goes on, in this generation, from a guest that has made so many steps.
+    Live {
+        generation: u64,
+        steps: u64,
+    },
     /// Nothing happened, or a frame found the inbox full.
     Refused(Refusal),
-}
-
-/// The state of the pair.
-#[derive(Clone, Copy, Debug, PartialEq, Eq)]
-pub enum Mode {
-    /// The primary is live and the backup holds an image.
-    Paired,
 }
 
 /// What an operator sees of the pair.
 #[derive(Clone, Copy, Debug, PartialEq, Eq)]
 pub struct Show {
-    /// The state of the pair.
+    /// Who runs the guest.
     pub mode: Mode,
     /// The generation, from 1.
     pub generation: u64,
     /// How many checkpoints wait for their acknowledgement.
     pub pending: u64,
-    /// The guest's step count.
+    /// The guest's step count: the live guest's, where the primary has stopped the image's.
     pub steps: u64,
     /// The length of the history.
     pub entries: u64,

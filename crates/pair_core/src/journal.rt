@@ -3,13 +3,17 @@ ghost use Rattle.std.specs.Prelude.{◌≡◌, ◌+◌, ◌-◌, ◌*◌, ◌^�
 ghost use Rattle.frame_ports.specs.Addresses.{targets_of};
 ghost use Rattle.frame_ports.specs.declared.limits.TheConstants.{NUMBER_LIMIT};
 ghost use Rattle.pair_history.specs.Entries.{Ran, Arrive};
+ghost use Rattle.pair_history.specs.Failures.{arrived_numbers};
 ghost use Rattle.pair_history.specs.Landings.{landings};
 ghost use Rattle.pair_history.specs.Log.{expanded};
 ghost use Rattle.pair_core.specs.Journal.{all_entries, kept_entries, empty_journal, with_history, with_running, sealed_off, committed};
+ghost use Rattle.pair_core.specs.Journal.{all_committed, discarded};
 ghost use Rattle.pair_core.specs.Lengths.{receivers};
+ghost use Rattle.pair_core.specs.Protocol.{live_entries};
 
-use crate::epochs::{Arrival, RunningEpoch, add_epoch};
-use crate::landings::add_landings;
+use crate::discards::{add_drops_in, add_drops_out, count_arrivals, sorted_numbers};
+use crate::epochs::{Arrival, RunningEpoch, add_epoch, add_epochs, places_with};
+use crate::landings::{add_landings, count_landings};
 use frame_ports::{NUMBER_LIMIT, Ports};
 use pair_history::{Entry, Frame, History};
 use std::alloc::{AllocError, Global};
@@ -74,12 +78,14 @@ impl Journal {
         self.kept += steps;
     }
 
-    /// Makes room for one more arrival in the running epoch.
+    /// Makes room for one more arrival, in the running epoch and in the history.
     pub(crate) fn reserve_arrival(&mut self) -> Result<(), AllocError>
         ensures journal { self.new.journal ≡ self.old.journal }
-        ensures room { OnOk result (0 < self.new.arrival_room) }
+        ensures arrival_room { OnOk result (0 < self.new.arrival_room) }
+        ensures room { OnOk result (0 < self.new.room) }
     {
-        self.running.arrivals.reserve(1)
+        self.running.arrivals.reserve(1)?;
+        self.history.reserve(1)
     }
 
     /// The frame of this number arrived at the guest.
@@ -123,6 +129,28 @@ impl Journal {
         Ok(())
     }
 
+    /// All that is kept moves to the history, where so many more stored entries have room then.
+    pub(crate) fn commit_all(&mut self, more: usize) -> Result<(), AllocError>
+        ensures ok { OnOk result (self.new.journal ≡ all_committed self.old.journal) }
+        ensures room { OnOk result (more ≤ self.new.room) }
+        ensures err { OnErr result (self.new.journal ≡ self.old.journal) }
+    {
+        let last = self.running.arrivals.as_slice();
+        let Some(places) = places_with(self.sealed.as_slice(), 2 * last.len() + 1) else {
+            return Err(AllocError);
+        };
+        let Some(places) = places.checked_add(more) else {
+            return Err(AllocError);
+        };
+        self.history.reserve(places)?;
+        add_epochs(&mut self.history, self.sealed.as_slice());
+        add_epoch(&mut self.history, last, self.running.steps);
+        self.sealed.clear();
+        self.running = RunningEpoch::new(self.alloc);
+        self.kept = 0;
+        Ok(())
+    }
+
     /// Makes room for so many more stored entries in the history.
     pub(crate) fn reserve(&mut self, additional: usize) -> Result<(), AllocError>
         ensures journal { self.new.journal ≡ self.old.journal }
@@ -148,5 +176,50 @@ impl Journal {
             ≡ with_history self.old.journal (landings ports.now.boxes (targets_of (length ports.now.boxes) frames.now)) }
     {
         add_landings(&mut self.history, ports, frames);
+    }
+
+    /// The guest of a node that is alone made so many steps, the last of which sent these frames, and they land in these ports: that goes
+    /// into the history, in the room that was reserved.
+    pub(crate) fn run_alone(&mut self, steps: u64, ports: &Ports, frames: &[Frame])
+        requires room { length (receivers (length ports.now.boxes) frames.now) < self.old.room }
+        requires fits { length (all_entries self.old.journal) + (steps + length (receivers (length ports.now.boxes) frames.now))
+            < NUMBER_LIMIT }
+        ensures { self.new.journal
+            ≡ with_history self.old.journal
+            (replicate steps Ran ++ landings ports.now.boxes (targets_of (length ports.now.boxes) frames.now)) }
+    {
+        self.history.run(steps);
+        add_landings(&mut self.history, ports, frames);
+    }
+
+    /// How many frames the kept epochs took in.
+    pub(crate) fn taken_in(&self) -> u64
+        ensures count { result ≡ length (arrived_numbers (kept_entries self.now.journal)) }
+        ensures fits { length self.now.journal.history + result < NUMBER_LIMIT }
+    {
+        count_arrivals(self.sealed.as_slice()) + self.running.arrivals.len() as u64
+    }
+
+    /// What is kept is discarded: the frames that it took in are dropped, and then these, which are on their way to the clients of these
+    /// ports.
+    pub(crate) fn go_live(&mut self, ports: &Ports, owed: &[Frame]) -> Result<(), AllocError>
+        requires few { length owed.now ≤ 2 ^ 58 }
+        requires fits { length self.old.journal.history
+            + length (live_entries ports.now.boxes (targets_of (length ports.now.boxes) owed.now) self.old.journal) < NUMBER_LIMIT }
+        ensures ok { OnOk result (self.new.journal
+            ≡ with_history (discarded self.old.journal)
+            (live_entries ports.now.boxes (targets_of (length ports.now.boxes) owed.now) self.old.journal)) }
+        ensures err { OnErr result (self.new.journal ≡ self.old.journal) }
+    {
+        let count = self.taken_in() as usize;
+        let numbers = sorted_numbers(self.alloc, count, self.sealed.as_slice(), &self.running)?;
+        self.history
+            .reserve(count + count_landings(ports, owed) as usize)?;
+        self.sealed.clear();
+        self.running = RunningEpoch::new(self.alloc);
+        self.kept = 0;
+        add_drops_in(&mut self.history, numbers.as_slice());
+        add_drops_out(&mut self.history, ports, owed);
+        Ok(())
     }
 }

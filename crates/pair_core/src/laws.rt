@@ -7,6 +7,10 @@ ghost use Rattle.pair_core.specs.declared.event.Reply.{Reply};
 ghost use Rattle.pair_core.specs.declared.event.Reply.TheVariants as replies;
 ghost use Rattle.pair_core.specs.Nodes.{Nodes};
 ghost use Rattle.pair_core.specs.Pair.{Pair};
+ghost use Rattle.pair_history.specs.Failures.{dropped_numbers};
+ghost use Rattle.pair_history.specs.HistoryState.{HistoryState};
+ghost use Rattle.pair_core.specs.Drops.{Drops, WhyLost};
+ghost use Rattle.pair_core.specs.Protocol.{Record};
 ghost use Rattle.pair_core.specs.Replication.{IsCut, IsCommit, KeepsBackup, Awaits, Replicates, Does, Leads};
 
 /// The image after a commit is the guest that the live machine was at the cut of that checkpoint: memory, disk and devices.
@@ -34,4 +38,15 @@ pub fn cut_guests_are_awaited()
         → Leads old events answers new → Awaits generation number g old.nodes → Awaits generation number g new.nodes }
     ensures commit { (generation number : ℕ) (g : Guest) (old new : Nodes)
         → IsCommit generation number old new → Awaits generation number g old → new.image.guest ≡ g }
+{}
+
+/// What a client was given is never taken back, and what it delivered is lost only by a loss that was asked for, or because the epoch
+/// that took it in was never committed.
+///
+/// Each event lets the history grow ([`World::apply`](crate::World::apply), clause `grows`), so that what was released stays
+/// ([`released_frames_were_sent`](crate::released_frames_were_sent)). Of the frames that clients delivered, the entries that an event
+/// adds drop none; or the one that a `LoseIn` named; or, where the backup goes live, those that the discarded epochs had taken in.
+pub fn what_is_delivered_is_lost_for_a_reason()
+    ensures { (start : HistoryState) (old new : Record) (event : Event) (reply : Reply) → (drops : Drops start old event reply new)
+        → WhyLost old event (dropped_numbers drops.entries) }
 {}

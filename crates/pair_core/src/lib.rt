@@ -5,6 +5,7 @@
 //! of the specs, whose part `protocol` is the pair protocol's record.
 #![tactic(auto)]
 
+mod discards;
 mod epochs;
 mod event;
 mod frames;
@@ -13,6 +14,7 @@ mod landings;
 mod laws;
 mod limits;
 mod lines;
+mod modes;
 mod nodes;
 mod record;
 #[cfg(test)]
@@ -20,8 +22,11 @@ mod tests;
 mod window;
 mod world;
 
-pub use event::{Event, Mode, Packet, Refusal, Reply, Show};
+pub use event::{Event, Packet, Refusal, Reply, Show};
+pub use failover::Mode;
 pub use guest_machine::{SECTOR_BYTES, Shape};
-pub use laws::{committed_guests_are_those_cut, cut_guests_are_awaited};
+pub use laws::{
+    committed_guests_are_those_cut, cut_guests_are_awaited, what_is_delivered_is_lost_for_a_reason,
+};
 pub use pair_history::{Entry, Frame, History, released_frames_were_sent};
 pub use world::World;

@@ -4,8 +4,14 @@
 /// How many checkpoints may be pending.
 pub(crate) const MOST_PENDING: u64 = 4;
 
+/// How many frames a step sends at most.
+pub(crate) const STEP_FRAMES: usize = 64;
+
 /// A step needs 64 free places of the 256 in the outbox.
 pub(crate) const STEP_ROOM: usize = 192;
+
+/// A step of a node that is alone counts as so many entries of the history: itself, and 64 frames for 16 clients each.
+pub(crate) const STEP_ENTRIES: u64 = 1025;
 
 /// The generation before any failure.
 pub(crate) const FIRST_GENERATION: u64 = 1;

@@ -1,22 +1,23 @@
 //! The two nodes: the primary's live machine, and at the backup the image and the checkpoints that may still be committed, each as the
 //! text that a link carries.
 ghost use Rattle.std.specs.Prelude.{◌≡◌, ◌+◌, ◌^◌, ◌≤◌, ◌<◌, ◌++◌, ◌∷◌, [], length, All, OnOk, OnErr, IfOk};
-ghost use Rattle.std.specs.Prelude.{slice_range, ◌*◌};
+ghost use Rattle.std.specs.Prelude.{option_map, ◌-◌, ◌*◌};
 ghost use Rattle.frame_ports.specs.Addresses.{IsFrame};
-ghost use Rattle.guest_machine.specs.Guest.{Guest, boot_guest, sector_count};
+ghost use Rattle.guest_machine.specs.Guest.{Guest, boot_guest, sector_in};
 ghost use Rattle.guest_machine.specs.Step.{arrived};
-ghost use Rattle.guest_machine.specs.Runs.{HaveRoom};
+ghost use Rattle.guest_machine.specs.Runs.{HaveRoom, sent_in};
 ghost use Rattle.epoch_snapshot.specs.Bases.{IsBase};
 ghost use Rattle.checkpoint_stream.specs.Readings.{begun, fed};
 ghost use Rattle.checkpoint_stream.specs.declared.place.Place.TheVariants.{Whole};
 ghost use Rattle.pair_core.specs.Nodes.{HasShape, machine_of, start_nodes, after_run, with_arrival, with_sealed, with_commit};
+ghost use Rattle.pair_core.specs.Nodes.{HasImage, with_sent_off, left_alone, gone_live};
 ghost use Rattle.pair_core.specs.Nodes.{first_text, read_as};
 ghost use Rattle.pair_core.specs.Texts.{IsText};
 
 use backup_image::Image;
 use checkpoint_stream::{Reader, StreamError, encode};
 use epoch_snapshot::{Checkpoint, cut_delta};
-use guest_machine::{Machine, SECTOR_BYTES, Shape};
+use guest_machine::{Machine, SECTOR_BYTES, Shape, sent_frames};
 use pair_history::Frame;
 use std::alloc::{AllocError, Global};
 use std::marker::Model;
@@ -25,8 +26,10 @@ use std::marker::Model;
 #[derive(Drop)]
 pub struct Nodes {
     alloc: Global,
+    shape: Shape,
     live: Machine,
-    image: Image,
+    /// None where a node is alone.
+    image: Option<Image>,
     sealed: Vec<Vec<u8>>,
 }
 
@@ -35,9 +38,11 @@ impl Model for Nodes {
 
     ghost Value = { Housed };
 
-    ghost use Rattle.pair_core.specs.NodesFields.{housed};
+    ghost use Rattle.pair_core.specs.NodesFields.{housed, AreFields};
 
     ghost view = { housed };
+
+    ghost invariant = { AreFields };
 }
 
 impl Nodes {
@@ -54,8 +59,9 @@ impl Nodes {
         };
         Ok(Nodes {
             alloc,
+            shape,
             live,
-            image,
+            image: Some(image),
             sealed: Vec::new(alloc),
         })
     }
@@ -76,19 +82,37 @@ impl Nodes {
         self.live.outbox()
     }
 
-    /// How many sectors the live guest's disk has.
-    pub(crate) fn sectors(&self) -> u32
-        ensures { result ≡ sector_count self.now.nodes.live.guest.sectors }
+    /// The image's step count.
+    pub(crate) fn image_steps(&self) -> u64
+        requires { HasImage self.now.nodes }
+        ensures { result ≡ self.now.nodes.image.guest.steps }
     {
-        self.live.sectors()
+        match &self.image {
+            Some(image) => image.steps(),
+            None => unreachable!(),
+        }
     }
 
-    /// The bytes of a sector of the live guest's disk.
-    pub(crate) fn sector(&self, sector: u32) -> &[u8; SECTOR_BYTES]
-        requires { sector < sector_count self.now.nodes.live.guest.sectors }
-        ensures { result.now ≡ slice_range self.now.nodes.live.guest.sectors (512 * sector) (512 * sector + 512) }
+    /// The bytes of a sector of the live guest's disk, none beyond the disk.
+    pub(crate) fn sector(&self, sector: u32) -> Option<&[u8; SECTOR_BYTES]>
+        ensures { option_map (λ bytes. bytes.now) result ≡ sector_in self.now.nodes.live.guest.sectors sector }
     {
-        self.live.sector(sector)
+        if sector < self.live.sectors() {
+            Some(self.live.sector(sector))
+        } else {
+            None
+        }
+    }
+
+    /// The bytes of a sector of the image's disk, none beyond the disk.
+    pub(crate) fn image_sector(&self, sector: u32) -> Option<&[u8; SECTOR_BYTES]>
+        requires { HasImage self.now.nodes }
+        ensures { option_map (λ bytes. bytes.now) result ≡ sector_in self.now.nodes.image.guest.sectors sector }
+    {
+        match &self.image {
+            Some(image) => sector_of(image, sector),
+            None => unreachable!(),
+        }
     }
 
     /// The live guest makes steps, as many as the outbox has room for and `count` at most.
@@ -99,6 +123,27 @@ impl Nodes {
         ensures cut_needed { result < count → 192 < length self.new.nodes.live.outbox }
     {
         self.live.run(count)
+    }
+
+    /// The live guest, whose outbox is empty, makes steps, `count` at most and none after one that sent a frame.
+    pub(crate) fn run_to_frame(&mut self, count: u64) -> u64
+        requires { self.old.nodes.live.outbox ≡ [] }
+        ensures most { result ≤ count }
+        ensures some { 0 < count → 0 < result }
+        // Only the last of them sends.
+        ensures quiet { sent_in (result - 1) self.old.nodes.live.guest ≡ [] }
+        ensures few { length (sent_in result self.old.nodes.live.guest) ≤ 64 }
+        ensures made { self.new.nodes ≡ after_run result self.old.nodes }
+    {
+        sent_frames();
+        self.live.run_to_frame(count)
+    }
+
+    /// What the live guest sent has landed.
+    pub(crate) fn send_off(&mut self)
+        ensures { self.new.nodes ≡ with_sent_off self.old.nodes }
+    {
+        self.live.clear_outbox();
     }
 
     /// The frame arrives at the live guest.
@@ -148,7 +193,7 @@ impl Nodes {
         requires whole { (fed (begun self.now.nodes.image.shape 0) (first_text self.now.nodes.sealed)).place ≡ Whole }
         ensures { IfOk result (λ checkpoint. checkpoint ≡ read_as self.now.nodes.image.shape (first_text self.now.nodes.sealed)) }
     {
-        let mut reader = Reader::new(self.alloc, self.image.shape());
+        let mut reader = Reader::new(self.alloc, self.shape);
         match reader.feed(self.sealed[0].as_slice()) {
             Ok(_) => {}
             Err(StreamError::NoMemory) => return Err(AllocError),
@@ -163,12 +208,51 @@ impl Nodes {
     /// The backup's image takes this checkpoint in, which was read from the oldest sealed text, and that text goes.
     pub(crate) fn commit(&mut self, checkpoint: Checkpoint)
         requires some { 0 < length self.old.nodes.sealed }
+        requires image { HasImage self.old.nodes }
         requires shape { checkpoint.shape ≡ self.old.nodes.image.shape }
         requires oldest { checkpoint ≡ read_as self.old.nodes.image.shape (first_text self.old.nodes.sealed) }
         ensures { self.new.nodes ≡ with_commit self.old.nodes }
     {
-        let _staged = self.image.stage(checkpoint);
-        self.image.commit();
+        let Some(image) = &mut self.image else {
+            unreachable!();
+        };
+        let _staged = image.stage(checkpoint);
+        image.commit();
         drop(self.sealed.remove(0));
+    }
+
+    /// The backup is given up, and what the live guest sent has landed.
+    pub(crate) fn leave_alone(&mut self)
+        ensures { self.new.nodes ≡ left_alone self.old.nodes }
+    {
+        self.image = None;
+        self.sealed.clear();
+        self.live.clear_outbox();
+    }
+
+    /// The backup goes live: from now on its image's guest is the live one, and there is no backup.
+    pub(crate) fn go_live(&mut self)
+        requires { HasImage self.old.nodes }
+        ensures { self.new.nodes ≡ gone_live self.old.nodes }
+    {
+        let Some(image) = std::mem::replace(&mut self.image, None) else {
+            unreachable!();
+        };
+        let Ok(machine) = image.resume() else {
+            unreachable!();
+        };
+        self.live = machine;
+        self.sealed.clear();
+    }
+}
+
+/// The bytes of a sector of an image's disk, none beyond the disk.
+fn sector_of(image: &Image, sector: u32) -> Option<&[u8; SECTOR_BYTES]>
+    ensures { option_map (λ bytes. bytes.now) result ≡ sector_in image.now.guest.sectors sector }
+{
+    if sector < image.shape().sectors {
+        Some(image.sector(sector))
+    } else {
+        None
     }
 }

@@ -1,21 +1,26 @@
 //! The pair's record: all of a pair but its machines.
-ghost use Rattle.std.specs.Prelude.{◌≡◌, ℕ, ◌+◌, ◌-◌, ◌*◌, ◌^◌, ◌≤◌, ◌<◌, ◌++◌, ◌∷◌, [], length, replicate, All, IfOk, IfSome, OnOk, OnErr, None, Some, slice_get};
+ghost use Rattle.std.specs.Prelude.{◌≡◌, ℕ, ◌+◌, ◌-◌, ◌*◌, ◌^◌, ◌≤◌, ◌<◌, ◌++◌, ◌∷◌, [], length, replicate, All, IfOk, IfSome, OnOk, OnErr, None, Some, false, slice_get};
 ghost use Rattle.frame_ports.specs.Addresses.{IsFrame};
 ghost use Rattle.frame_ports.specs.Ports.{empty_ports};
 ghost use Rattle.frame_ports.specs.declared.limits.TheConstants.{MAX_CLIENTS, NUMBER_LIMIT};
 ghost use Rattle.pair_history.specs.Entries.{Ran};
 ghost use Rattle.pair_core.specs.Journal.{all_entries, with_running};
-ghost use Rattle.pair_core.specs.Protocol.{exhausts, is_among, first_refusal, step_refusals, cut_refusals, cut_done, send_done, backup_refusals, again_done, commit_done, ack_refusals, ack_done};
+ghost use Rattle.pair_core.specs.Modes.{is_stopped as stopped, is_alone as alone};
+ghost use Rattle.pair_core.specs.Protocol.{exhausts, is_among, first_refusal, step_refusals, cut_refusals, cut_done, send_done, backup_refusals, again_done, commit_done, ack_refusals, ack_done, fail_primary_done};
 ghost use Rattle.pair_core.specs.Record.{IsRecord, start_record, ports_after_ack};
 
+mod alone;
 mod clients;
+mod live;
 
-use crate::event::{Mode, Packet, Refusal, Reply};
+use crate::event::{Packet, Refusal, Reply};
 use crate::journal::Journal;
 use crate::landings::count_landings;
 use crate::limits::{FIRST_GENERATION, MOST_PENDING, STEP_ROOM};
 use crate::lines::Lines;
+use crate::modes::{is_stopped, step_room};
 use crate::window::Window;
+use failover::Mode;
 use frame_ports::{NUMBER_LIMIT, Ports};
 use output_gate::Gate;
 use pair_history::{Frame, History};
@@ -84,6 +89,15 @@ impl PairRecord {
         self.mode
     }
 
+    /// The primary stops.
+    pub(crate) fn fail_primary(&mut self) -> Reply
+        ensures protocol { (result, self.new.protocol) ≡ fail_primary_done self.old.protocol }
+        ensures ports { self.new.ports ≡ self.old.ports }
+    {
+        self.mode = Mode::Stopped;
+        Reply::Stopped
+    }
+
     /// The generation, from 1.
     pub(crate) fn generation(&self) -> u64
         ensures { result ≡ self.now.protocol.generation }
@@ -126,11 +140,20 @@ impl PairRecord {
         self.window.to_commit
     }
 
-    /// How many more entries have numbers.
-    pub(crate) fn entries_left(&self) -> u64
-        ensures { length (all_entries self.now.protocol.journal) + (result + 1) ≡ NUMBER_LIMIT }
+    /// How many of these steps the history has numbers for: none where the primary has stopped.
+    pub(crate) fn steps_left(&self, count: u64) -> u64
+        ensures most { result ≤ count }
+        ensures runs { 0 < result → stopped self.now.protocol.mode ≡ false }
+        ensures fits { length (all_entries self.now.protocol.journal) + result < NUMBER_LIMIT }
+        ensures fewer { result < count → stopped self.now.protocol.mode ≡ false
+            → NUMBER_LIMIT ≤ length (all_entries self.now.protocol.journal) + result + 1 }
     {
-        self.journal.entries_left()
+        let left = self.journal.entries_left();
+        if is_stopped(self.mode) {
+            0
+        } else {
+            count.min(left)
+        }
     }
 
     /// Whether so many more entries would be too many for the history.
@@ -151,9 +174,11 @@ impl PairRecord {
     pub(crate) fn step_refusal(&self, outbox: &[Frame]) -> Option<Refusal>
         ensures { result ≡ first_refusal (step_refusals outbox.now self.now.protocol) }
     {
-        if outbox.len() > STEP_ROOM {
+        if is_stopped(self.mode) {
+            Some(Refusal::Stopped)
+        } else if outbox.len() > STEP_ROOM {
             Some(Refusal::CutNeeded)
-        } else if self.is_exhausted_by(1) {
+        } else if self.is_exhausted_by(step_room(self.mode)) {
             Some(Refusal::Exhausted)
         } else {
             None
@@ -162,7 +187,8 @@ impl PairRecord {
 
     /// The guest made so many steps.
     pub(crate) fn run(&mut self, steps: u64)
-        requires { length (all_entries self.old.protocol.journal) + steps < NUMBER_LIMIT }
+        requires pair { alone self.old.protocol.mode ≡ false }
+        requires fits { length (all_entries self.old.protocol.journal) + steps < NUMBER_LIMIT }
         ensures { self.new
             ≡ record self.old { protocol = record self.old.protocol { journal = with_running self.old.protocol.journal (replicate steps Ran) } } }
     {
@@ -186,6 +212,7 @@ impl PairRecord {
 
     /// The running epoch, along which the guest sent these frames, is sealed, and they go to the gate.
     pub(crate) fn cut(&mut self, frames: &[Frame]) -> Result<Reply, AllocError>
+        requires pair { alone self.old.protocol.mode ≡ false }
         requires free { first_refusal (cut_refusals self.old.protocol) ≡ None }
         requires few { length frames.now ≤ 256 }
         requires frames { All IsFrame frames.now }

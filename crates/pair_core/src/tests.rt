@@ -1,5 +1,6 @@
 //! Whole runs with the expected replies of the beacon's worked example, and what no clause says: that calls succeed
 //! where there is memory.
+mod failures;
 mod texts;
 
 use crate::{Event, Mode, Refusal, Reply, Shape, Show, World};
@@ -142,10 +143,7 @@ fn the_beacons_frame_reaches_client_1_after_its_acknowledgement(
         Took(Some([2, 0, 0, 0, 1, 1, 2, 0, 0, 0, 0, 1, 136, 181]))\nTook(None)\n",
     )?;
     assert!(rt; answers(rt.alloc(), &mut world, events.as_slice(), wanted.as_str())?);
-    assert_eq!(rt;
-        (world.history().len(), world.show()),
-        (27, paired(0, 22, 27))
-    );
+    assert_eq!(rt; world.show(), paired(0, 22, 27));
     Ok(())
 }
 
@@ -377,24 +375,5 @@ fn a_sector_is_the_live_guests(rt: HostRuntime) -> Result<(), Fail> {
     let written = world.step().is_ok();
     assert!(rt; written && is_filled(&world, 7, 0xab) && is_filled(&world, 6, 0));
     assert!(rt; world.sector(8).is_none());
-    Ok(())
-}
-
-#[test]
-fn refusals_print_their_names(rt: HostRuntime) -> Result<(), Fail> {
-    for refusal in [
-        Refusal::Full,
-        Refusal::BadFrame,
-        Refusal::NoClient,
-        Refusal::Behind,
-        Refusal::Stale,
-        Refusal::Gap,
-        Refusal::NoMemory,
-        Refusal::CutNeeded,
-        Refusal::Exhausted,
-    ] {
-        let text = format!(in rt.alloc(); "{refusal}")?;
-        assert_eq!(rt; text.as_str(), refusal.name());
-    }
     Ok(())
 }

@@ -1,10 +1,13 @@
 //! The pair as one value, and what each event does to it.
-ghost use Rattle.std.specs.Prelude.{◌≡◌, ℕ, ◌+◌, ◌*◌, ◌≤◌, ◌<◌, length, IfOk, IfErr, IfSome, IfNone, OnErr};
+ghost use Rattle.std.specs.Prelude.{◌≡◌, ℕ, ◌+◌, ◌*◌, ◌≤◌, ◌<◌, length, IfOk, IfErr, IfSome, IfNone, OnErr, None, true, false};
 
 mod clients;
+mod failures;
 mod losses;
+mod steps;
 
 use crate::event::{Event, Refusal, Reply, Show};
+use crate::modes::{is_stopped, mode_refusal};
 use crate::nodes::Nodes;
 use crate::record::PairRecord;
 use guest_machine::{SECTOR_BYTES, Shape};
@@ -42,14 +45,14 @@ impl World {
     ghost use Rattle.pair_history.specs.Entries.{Begins};
     ghost use Rattle.pair_history.specs.HistoryState.{start_state};
     ghost use Rattle.pair_core.specs.Protocol.{Record, Answers, MayWantMemory, outcome, step_reply, step_outcome};
-    ghost use Rattle.pair_core.specs.Pair.{Pair, live_state, OnRefused, IsConsistent};
+    ghost use Rattle.pair_core.specs.Pair.{Pair, OnRefused, IsConsistent};
     ghost use Rattle.pair_core.specs.Record.{start_record};
     ghost use Rattle.pair_core.specs.Runs.{Along, Run, steps_outcome, with_steps};
     ghost use Rattle.pair_core.specs.Drops.{Drops};
     ghost use Rattle.pair_core.specs.Replication.{KeepsBackup, Replicates, Leads};
     ghost use Rattle.pair_core.specs.declared.event.Event.{Event};
     ghost use Rattle.pair_core.specs.declared.event.Reply.{Reply};
-    ghost use Rattle.pair_core.specs.Start.{shown, shown_sector};
+    ghost use Rattle.pair_core.specs.Start.{shown, shown_sector, serving_guest, serving_state};
 
     /// A pair at its start: both nodes were given this boot image, which counts as checkpoint 0, committed and
     /// acknowledged.
@@ -85,7 +88,7 @@ impl World {
 
     /// Does one event and answers it, as the pair protocol says. A refusal leaves everything as it was, but that the
     /// history tells of a refusal [`Refusal::Full`]. [`Refusal::NoMemory`] may come in place of an answer that takes memory, where
-    /// memory was asked for and refused; a step, and an event that changes nothing, takes none.
+    /// memory was asked for and refused; a step of a pair, and an event that changes nothing, takes none.
     pub fn apply(&mut self, event: Event<'_>) -> Reply
         // The reply and the next record are the protocol's.
         ensures answers { Answers self.old.start self.old.protocol event.entry result self.new.protocol }
@@ -115,11 +118,14 @@ impl World {
         ensures start { self.new.start ≡ self.old.start }
         ensures replicates { IfOk result (λ reply. Replicates event.entry reply self.old.nodes self.new.nodes) }
         ensures refused { IfOk result (λ reply. OnRefused reply self.old self.new) }
-        ensures memory { OnErr result (MayWantMemory (outcome self.old.start self.old.protocol event.entry).0) }
+        ensures memory { OnErr result (MayWantMemory self.old.protocol.mode (outcome self.old.start self.old.protocol event.entry).0) }
         ensures err { OnErr result (self.new ≡ self.old) }
     {
+        if let Some(why) = mode_refusal(self.record.mode(), event) {
+            return Ok(Reply::Refused(why));
+        }
         match event {
-            Event::Step => Ok(self.stepped()),
+            Event::Step => self.stepped(),
             Event::Cut => self.cut(),
             Event::Send => self.send(),
             Event::BackupGet(k) => self.backup_get(k),
@@ -129,19 +135,9 @@ impl World {
             Event::Take(client) => self.take(client),
             Event::LoseIn(client, place) => self.lose_in(client, place),
             Event::LoseOut(client, place) => self.lose_out(client, place),
-        }
-    }
-
-    /// One step, as a reply.
-    fn stepped(&mut self) -> Reply
-        ensures outcome { (result, self.new.protocol) ≡ step_outcome self.old.start self.old.protocol }
-        ensures start { self.new.start ≡ self.old.start }
-        ensures backup { KeepsBackup self.old.nodes self.new.nodes }
-        ensures refused { OnRefused result self.old self.new }
-    {
-        match self.step() {
-            Ok(count) => Reply::Steps(count),
-            Err(refusal) => Reply::Refused(refusal),
+            Event::FailPrimary => Ok(self.fail_primary()),
+            Event::FailBackup => self.fail_backup(),
+            Event::GoLive => self.go_live(),
         }
     }
 
@@ -149,7 +145,7 @@ impl World {
     fn keep_consistent(&self)
         ensures { IsConsistent self.now }
     {
-        let _clients = self.clients;
+        self.record.keep();
     }
 
     /// What each event may drop is known before it happens.
@@ -192,7 +188,7 @@ impl World {
         self.record.history()
     }
 
-    /// The state of the pair. The steps are the live guest's.
+    /// The state of the pair. The steps are the live guest's; where the primary has stopped they are the image's.
     pub fn show(&self) -> Show
         ensures { result ≡ shown self.now }
     {
@@ -200,63 +196,35 @@ impl World {
             mode: self.record.mode(),
             generation: self.record.generation(),
             pending: self.record.pending(),
-            steps: self.nodes.steps(),
+            steps: self.steps(),
             entries: self.record.history().len(),
         }
     }
 
-    /// The 512 bytes of a sector, counted from 0, of the live guest's disk; `None` beyond the disk.
+    /// The step count of the guest that goes on.
+    fn steps(&self) -> u64
+        ensures { result ≡ (serving_guest self.now).steps }
+    {
+        if is_stopped(self.record.mode()) {
+            self.nodes.image_steps()
+        } else {
+            self.nodes.steps()
+        }
+    }
+
+    /// The 512 bytes of a sector, counted from 0, of the live guest's disk, where the primary has stopped of the image's; `None` beyond
+    /// the disk.
     pub fn sector(&self, sector: u32) -> Option<&[u8; SECTOR_BYTES]>
         ensures value { option_map (λ bytes. bytes.now) result ≡ shown_sector self.now sector }
 
-        // They are those of the guest of the history followed by what is kept.
-        ensures history { option_map (λ bytes. bytes.now) result ≡ sector_in (live_state self.now).guest.sectors sector }
+        // They are those of the guest of the history followed by what is kept, where the primary has stopped of the history's guest.
+        ensures history { option_map (λ bytes. bytes.now) result ≡ sector_in (serving_state self.now).guest.sectors sector }
     {
         self.keep_consistent();
-        if sector < self.nodes.sectors() {
-            Some(self.nodes.sector(sector))
+        if is_stopped(self.record.mode()) {
+            self.nodes.image_sector(sector)
         } else {
-            None
-        }
-    }
-
-    /// The guest makes one step, as [`World::apply`] of [`Event::Step`] does, and answers the guest's step count. This
-    /// form copies no reply.
-    ///
-    /// # Errors
-    ///
-    /// [`Refusal::CutNeeded`] where fewer than 64 places of the outbox are free, else [`Refusal::Exhausted`] where the
-    /// history with what is kept would hold 2^62 entries. Nothing changed then.
-    pub fn step(&mut self) -> Result<u64, Refusal>
-        ensures outcome { (step_reply result, self.new.protocol) ≡ step_outcome self.old.start self.old.protocol }
-        ensures start { self.new.start ≡ self.old.start }
-        ensures backup { KeepsBackup self.old.nodes self.new.nodes }
-        ensures refused { OnErr result (self.new ≡ self.old) }
-        ensures consistent { IsConsistent self.new }
-    {
-        self.run_steps(1)
-    }
-
-    /// The guest makes `count` steps, each as [`World::step`] makes one, and answers its step count after the last. The first step that
-    /// is refused ends them, and those before it stay made. One call for a long run is much faster than a call for each step.
-    ///
-    /// # Errors
-    ///
-    /// What the first refused step answers.
-    pub fn run_steps(&mut self, count: u64) -> Result<u64, Refusal>
-        ensures outcome { (step_reply result, self.new.protocol) ≡ steps_outcome self.old.start self.old.protocol count }
-        ensures start { self.new.start ≡ self.old.start }
-        ensures made { (made : ℕ) × (self.new ≡ with_steps made self.old) }
-        ensures consistent { IsConsistent self.new }
-    {
-        let made = self.make_steps(count);
-        self.keep_consistent();
-        if made == count {
-            return Ok(self.nodes.steps());
-        }
-        match self.step_refusal() {
-            Some(why) => Err(why),
-            None => unreachable!(),
+            self.nodes.sector(sector)
         }
     }
 }
@@ -276,42 +244,20 @@ impl World {
     ghost use Rattle.frame_ports.specs.declared.limits.TheConstants.{NUMBER_LIMIT};
     ghost use Rattle.pair_core.specs.declared.event.Event.TheVariants as events;
     ghost use Rattle.pair_core.specs.Journal.{all_entries};
-    ghost use Rattle.pair_core.specs.Protocol.{MayWantMemory, refused, outcome, step_outcome};
+    ghost use Rattle.pair_core.specs.Modes.{is_stopped as stopped, is_alone as alone, mode_refusal};
+    ghost use Rattle.pair_core.specs.Protocol.{MayWantMemory, refused, allowed, step_outcome};
     ghost use Rattle.pair_core.specs.Pair.{Pair, OnRefused};
     ghost use Rattle.pair_core.specs.Replication.{KeepsBackup, Replicates};
     ghost use Rattle.pair_core.specs.Runs.{steps_outcome, with_steps};
 
-    /// Makes as many of these steps as there is room for, in the outbox and in the history.
-    fn make_steps(&mut self, count: u64) -> u64
-        ensures most { result ≤ count }
-        ensures made { self.new ≡ with_steps result self.old }
-        ensures answered { (Reply.Steps self.new.nodes.live.guest.steps, self.new.protocol)
-            ≡ steps_outcome self.old.start self.old.protocol result }
-        ensures ended { result < count
-            → length self.new.nodes.live.outbox ≤ 192 → NUMBER_LIMIT ≤ length (all_entries self.new.protocol.journal) + 1 }
-    {
-        let most = count.min(self.record.entries_left());
-        let made = self.nodes.run(most);
-        self.record.run(made);
-        made
-    }
-
-    /// Why the next step is refused.
-    fn step_refusal(&self) -> Option<Refusal>
-        ensures refused { IfSome result (λ why. refused self.now.protocol why ≡ step_outcome self.now.start self.now.protocol) }
-        ensures none { IfNone result ((length self.now.nodes.live.outbox ≤ 192) × (length (all_entries self.now.protocol.journal) + 1
-            < NUMBER_LIMIT)) }
-    {
-        self.record.step_refusal(self.nodes.outbox())
-    }
-
     /// The running epoch ends: its checkpoint is sealed as a text, and its frames go to the gate.
     fn cut(&mut self) -> Result<Reply, AllocError>
-        ensures outcome { IfOk result (λ reply. (reply, self.new.protocol) ≡ outcome self.old.start self.old.protocol events.Cut) }
+        requires { mode_refusal self.old.protocol.mode events.Cut ≡ None }
+        ensures outcome { IfOk result (λ reply. (reply, self.new.protocol) ≡ allowed self.old.start self.old.protocol events.Cut) }
         ensures start { self.new.start ≡ self.old.start }
         ensures replicates { IfOk result (λ reply. Replicates events.Cut reply self.old.nodes self.new.nodes) }
         ensures refused { IfOk result (λ reply. OnRefused reply self.old self.new) }
-        ensures memory { OnErr result (MayWantMemory (outcome self.old.start self.old.protocol events.Cut).0) }
+        ensures memory { OnErr result (MayWantMemory self.old.protocol.mode (allowed self.old.start self.old.protocol events.Cut).0) }
         ensures err { OnErr result (self.new ≡ self.old) }
     {
         if let Some(why) = self.record.cut_refusal() {
@@ -327,11 +273,12 @@ impl World {
 
     /// One packet for each pending checkpoint is sent.
     fn send(&mut self) -> Result<Reply, AllocError>
-        ensures outcome { IfOk result (λ reply. (reply, self.new.protocol) ≡ outcome self.old.start self.old.protocol events.Send) }
+        requires { mode_refusal self.old.protocol.mode events.Send ≡ None }
+        ensures outcome { IfOk result (λ reply. (reply, self.new.protocol) ≡ allowed self.old.start self.old.protocol events.Send) }
         ensures start { self.new.start ≡ self.old.start }
         ensures backup { KeepsBackup self.old.nodes self.new.nodes }
         ensures refused { IfOk result (λ reply. OnRefused reply self.old self.new) }
-        ensures memory { OnErr result (MayWantMemory (outcome self.old.start self.old.protocol events.Send).0) }
+        ensures memory { OnErr result (MayWantMemory self.old.protocol.mode (allowed self.old.start self.old.protocol events.Send).0) }
         ensures err { OnErr result (self.new ≡ self.old) }
     {
         self.record.send()
@@ -339,12 +286,13 @@ impl World {
 
     /// The backup gets a packet.
     fn backup_get(&mut self, k: u64) -> Result<Reply, AllocError>
+        requires { mode_refusal self.old.protocol.mode (events.BackupGet k) ≡ None }
         ensures outcome { IfOk result (λ reply. (reply, self.new.protocol)
-            ≡ outcome self.old.start self.old.protocol (events.BackupGet k)) }
+            ≡ allowed self.old.start self.old.protocol (events.BackupGet k)) }
         ensures start { self.new.start ≡ self.old.start }
         ensures replicates { IfOk result (λ reply. Replicates (events.BackupGet k) reply self.old.nodes self.new.nodes) }
         ensures refused { IfOk result (λ reply. OnRefused reply self.old self.new) }
-        ensures memory { OnErr result (MayWantMemory (outcome self.old.start self.old.protocol (events.BackupGet k)).0) }
+        ensures memory { OnErr result (MayWantMemory self.old.protocol.mode (allowed self.old.start self.old.protocol (events.BackupGet k)).0) }
         ensures err { OnErr result (self.new ≡ self.old) }
     {
         let Some(packet) = self.record.packet(k) else {
@@ -364,11 +312,12 @@ impl World {
 
     /// The primary gets an acknowledgement.
     fn ack_get(&mut self, k: u64) -> Result<Reply, AllocError>
-        ensures outcome { IfOk result (λ reply. (reply, self.new.protocol) ≡ outcome self.old.start self.old.protocol (events.AckGet k)) }
+        requires { mode_refusal self.old.protocol.mode (events.AckGet k) ≡ None }
+        ensures outcome { IfOk result (λ reply. (reply, self.new.protocol) ≡ allowed self.old.start self.old.protocol (events.AckGet k)) }
         ensures start { self.new.start ≡ self.old.start }
         ensures backup { KeepsBackup self.old.nodes self.new.nodes }
         ensures refused { IfOk result (λ reply. OnRefused reply self.old self.new) }
-        ensures memory { OnErr result (MayWantMemory (outcome self.old.start self.old.protocol (events.AckGet k)).0) }
+        ensures memory { OnErr result (MayWantMemory self.old.protocol.mode (allowed self.old.start self.old.protocol (events.AckGet k)).0) }
         ensures err { OnErr result (self.new ≡ self.old) }
     {
         let Some(packet) = self.record.acknowledgement(k) else {

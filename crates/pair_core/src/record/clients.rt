@@ -4,7 +4,7 @@ ghost use Rattle.frame_ports.specs.Addresses.{IsFrame};
 ghost use Rattle.frame_ports.specs.Ports.{IsClient, inbox_of, box_of, after_delivery};
 ghost use Rattle.pair_history.specs.Entries.{DropIn, DropOut, Took};
 ghost use Rattle.pair_history.specs.Log.{expanded};
-ghost use Rattle.pair_core.specs.Protocol.{first_refusal, client_refusals, admit_refusals, admit_done};
+ghost use Rattle.pair_core.specs.Protocol.{first_refusal, client_refusals, arrival_refusals, admit_refusals, admit_done};
 ghost use Rattle.pair_core.specs.Protocol.{deliver_refusals, delivery_refused, deliver_done, take_refusals, take_done};
 ghost use Rattle.pair_core.specs.Protocol.{loss_refusals, loss_done};
 ghost use Rattle.pair_core.specs.Record.{ports_after_admit, ports_after_take, ports_after_lose_in, ports_after_lose_out};
@@ -12,6 +12,7 @@ ghost use Rattle.pair_core.specs.Record.{ports_after_admit, ports_after_take, po
 use super::PairRecord;
 use crate::event::{Refusal, Reply};
 use crate::frames::{fill, place_for_frame};
+use crate::modes::{is_alone, is_stopped};
 use frame_ports::{INBOX_FRAMES, MAX_FRAME, MIN_FRAME, NUMBER_LIMIT};
 use pair_history::{Entry, Frame};
 use std::alloc::AllocError;
@@ -25,6 +26,19 @@ impl PairRecord {
             None
         } else {
             Some(Refusal::NoClient)
+        }
+    }
+
+    /// Why a frame of this client's can't arrive.
+    pub(crate) fn arrival_refusal(&self, client: u64) -> Option<Refusal>
+        ensures { result ≡ first_refusal (arrival_refusals (length self.now.ports.boxes) self.now.protocol client) }
+    {
+        if !self.is_client(client) {
+            Some(Refusal::NoClient)
+        } else if is_stopped(self.mode) {
+            Some(Refusal::Stopped)
+        } else {
+            None
         }
     }
 
@@ -62,7 +76,11 @@ impl PairRecord {
         let Ok(Some((number, frame))) = self.ports.admit(client) else {
             unreachable!();
         };
-        self.journal.arrive(number);
+        if is_alone(self.mode) {
+            self.journal.add(Entry::Arrive(number));
+        } else {
+            self.journal.arrive(number);
+        }
         Ok((number, frame))
     }
 

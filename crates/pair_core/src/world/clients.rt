@@ -1,7 +1,7 @@
 //! What clients and their lines do, at the world.
 ghost use Rattle.std.specs.Prelude.{◌≡◌, IfOk, OnErr};
 ghost use Rattle.pair_core.specs.declared.event.Event.TheVariants as events;
-ghost use Rattle.pair_core.specs.Protocol.{MayWantMemory, outcome};
+ghost use Rattle.pair_core.specs.Protocol.{MayWantMemory, allowed};
 ghost use Rattle.pair_core.specs.Pair.{OnRefused};
 ghost use Rattle.pair_core.specs.Replication.{KeepsBackup};
 
@@ -13,14 +13,14 @@ impl World {
     /// The first frame of a client's inbox arrives at the guest.
     pub(super) fn admit(&mut self, client: u64) -> Result<Reply, AllocError>
         ensures outcome { IfOk result (λ reply. (reply, self.new.protocol)
-            ≡ outcome self.old.start self.old.protocol (events.Admit client)) }
+            ≡ allowed self.old.start self.old.protocol (events.Admit client)) }
         ensures start { self.new.start ≡ self.old.start }
         ensures backup { KeepsBackup self.old.nodes self.new.nodes }
         ensures refused { IfOk result (λ reply. OnRefused reply self.old self.new) }
-        ensures memory { OnErr result (MayWantMemory (outcome self.old.start self.old.protocol (events.Admit client)).0) }
+        ensures memory { OnErr result (MayWantMemory self.old.protocol.mode (allowed self.old.start self.old.protocol (events.Admit client)).0) }
         ensures err { OnErr result (self.new ≡ self.old) }
     {
-        if let Some(why) = self.record.client_refusal(client) {
+        if let Some(why) = self.record.arrival_refusal(client) {
             return Ok(Reply::Refused(why));
         }
         if self.record.inbox_len(client) == 0 {
@@ -29,6 +29,7 @@ impl World {
         if let Some(why) = self.record.admit_refusal() {
             return Ok(Reply::Refused(why));
         }
+        self.record.keep();
         let (number, frame) = self.record.admit(client)?;
         self.nodes.arrive(&frame);
         Ok(Reply::Admitted(number))
@@ -37,11 +38,11 @@ impl World {
     /// A client delivers a frame of these bytes.
     pub(super) fn deliver(&mut self, client: u64, bytes: &[u8]) -> Result<Reply, AllocError>
         ensures outcome { IfOk result (λ reply. (reply, self.new.protocol)
-            ≡ outcome self.old.start self.old.protocol (events.Deliver client bytes.entry)) }
+            ≡ allowed self.old.start self.old.protocol (events.Deliver client bytes.entry)) }
         ensures start { self.new.start ≡ self.old.start }
         ensures backup { KeepsBackup self.old.nodes self.new.nodes }
         ensures refused { IfOk result (λ reply. OnRefused reply self.old self.new) }
-        ensures memory { OnErr result (MayWantMemory (outcome self.old.start self.old.protocol (events.Deliver client bytes.entry)).0) }
+        ensures memory { OnErr result (MayWantMemory self.old.protocol.mode (allowed self.old.start self.old.protocol (events.Deliver client bytes.entry)).0) }
         ensures err { OnErr result (self.new ≡ self.old) }
     {
         let Some(why) = self.record.deliver_refusal(client, bytes) else {
@@ -56,11 +57,11 @@ impl World {
     /// A client takes the first frame of its box.
     pub(super) fn take(&mut self, client: u64) -> Result<Reply, AllocError>
         ensures outcome { IfOk result (λ reply. (reply, self.new.protocol)
-            ≡ outcome self.old.start self.old.protocol (events.Take client)) }
+            ≡ allowed self.old.start self.old.protocol (events.Take client)) }
         ensures start { self.new.start ≡ self.old.start }
         ensures backup { KeepsBackup self.old.nodes self.new.nodes }
         ensures refused { IfOk result (λ reply. OnRefused reply self.old self.new) }
-        ensures memory { OnErr result (MayWantMemory (outcome self.old.start self.old.protocol (events.Take client)).0) }
+        ensures memory { OnErr result (MayWantMemory self.old.protocol.mode (allowed self.old.start self.old.protocol (events.Take client)).0) }
         ensures err { OnErr result (self.new ≡ self.old) }
     {
         if let Some(why) = self.record.take_refusal(client) {

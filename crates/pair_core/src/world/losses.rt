@@ -1,7 +1,7 @@
 //! The losses that are asked for, at the world.
 ghost use Rattle.std.specs.Prelude.{◌≡◌, IfOk, OnErr};
 ghost use Rattle.pair_core.specs.declared.event.Event.TheVariants as events;
-ghost use Rattle.pair_core.specs.Protocol.{MayWantMemory, outcome};
+ghost use Rattle.pair_core.specs.Protocol.{MayWantMemory, allowed};
 ghost use Rattle.pair_core.specs.Pair.{OnRefused};
 ghost use Rattle.pair_core.specs.Replication.{KeepsBackup};
 
@@ -13,11 +13,11 @@ impl World {
     /// The line drops a frame of a client's inbox.
     pub(super) fn lose_in(&mut self, client: u64, place: u64) -> Result<Reply, AllocError>
         ensures outcome { IfOk result (λ reply. (reply, self.new.protocol)
-            ≡ outcome self.old.start self.old.protocol (events.LoseIn client place)) }
+            ≡ allowed self.old.start self.old.protocol (events.LoseIn client place)) }
         ensures start { self.new.start ≡ self.old.start }
         ensures backup { KeepsBackup self.old.nodes self.new.nodes }
         ensures refused { IfOk result (λ reply. OnRefused reply self.old self.new) }
-        ensures memory { OnErr result (MayWantMemory (outcome self.old.start self.old.protocol (events.LoseIn client place)).0) }
+        ensures memory { OnErr result (MayWantMemory self.old.protocol.mode (allowed self.old.start self.old.protocol (events.LoseIn client place)).0) }
         ensures err { OnErr result (self.new ≡ self.old) }
     {
         if let Some(why) = self.record.client_refusal(client) {
@@ -36,11 +36,11 @@ impl World {
     /// The line drops a frame of a client's box.
     pub(super) fn lose_out(&mut self, client: u64, place: u64) -> Result<Reply, AllocError>
         ensures outcome { IfOk result (λ reply. (reply, self.new.protocol)
-            ≡ outcome self.old.start self.old.protocol (events.LoseOut client place)) }
+            ≡ allowed self.old.start self.old.protocol (events.LoseOut client place)) }
         ensures start { self.new.start ≡ self.old.start }
         ensures backup { KeepsBackup self.old.nodes self.new.nodes }
         ensures refused { IfOk result (λ reply. OnRefused reply self.old self.new) }
-        ensures memory { OnErr result (MayWantMemory (outcome self.old.start self.old.protocol (events.LoseOut client place)).0) }
+        ensures memory { OnErr result (MayWantMemory self.old.protocol.mode (allowed self.old.start self.old.protocol (events.LoseOut client place)).0) }
         ensures err { OnErr result (self.new ≡ self.old) }
     {
         if let Some(why) = self.record.client_refusal(client) {

@@ -2,6 +2,7 @@ use Rattle.std.proofs.Common.{subst}
 use Rattle.guest_machine.specs.Guest.{Guest}
 use Rattle.epoch_snapshot.specs.Bases.{IsBase}
 use Rattle.pair_core.specs.Nodes.{Housed, HasShape, machine_of}
+use Rattle.pair_core.specs.NodesFields.{image_or}
 use Rattle.pair_core.specs.Texts.{IsText}
 use Rattle.pair_core.proofs.NodesLaws.{base-of, delta-text}
 use Rattle.pair_core.proofs.nodes.Nodes.checkpoint.Goals as goal
@@ -14,6 +15,6 @@ returns-clause-text c =
     → IsText x.nodes.image.shape c.args.generation c.args.number base x.nodes.live.guest text)
     c.self.view_is
     (λ base is sized.
-    delta-text m.settled m.dirty m c.args.generation c.args.number c.in-Ok.checkpoint c.self.inside.image.shape text base
+    delta-text m.settled m.dirty m c.args.generation c.args.number c.in-Ok.checkpoint (image_or c.self.inside.shape c.self.inside.image).shape text base
     c.in-Ok.ensures.parts
     c.in-Ok-encode.ensures.read (c.in-Ok.ensures.image base (base-of m base is)) sized)

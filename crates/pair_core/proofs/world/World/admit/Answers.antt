@@ -3,10 +3,10 @@ use Rattle.pair_core.specs.declared.event.Event.TheVariants.{Admit}
 use Rattle.pair_core.specs.declared.event.Reply.TheVariants as replies
 use Rattle.pair_core.specs.Invariant.{Holds}
 use Rattle.pair_core.specs.Pair.{Pair}
-use Rattle.pair_core.specs.Protocol.{MayWantMemory, outcome, refused, admit_done}
+use Rattle.pair_core.specs.Protocol.{MayWantMemory, allowed, refused, admit_done}
 use Rattle.pair_core.specs.WorldFields.{pair_of}
 use Rattle.pair_core.proofs.Calls.{on_err}
-use Rattle.pair_core.proofs.Events.{admit_holds}
+use Rattle.pair_core.proofs.AllLands.{admitted_holds}
 use Rattle.pair_core.proofs.Outcomes.{client_range, admit_empty, admit_stops, admit_goes, admit_wants}
 use Rattle.pair_core.proofs.RecordLaws.{passed}
 use Rattle.pair_core.proofs.world.World.admit.Goals as goal
@@ -14,15 +14,15 @@ use Rattle.pair_core.proofs.world.World.admit.Goals as goal
 pub returns-then-inbox_len-eq0-clause-outcome : goal.returns-then-inbox_len-eq0-clause-outcome
 returns-then-inbox_len-eq0-clause-outcome c =
     let w = pair_of c.self.inside in
-    subst (λ (v : Pair). (replies.Empty, v.protocol) ≡ outcome v.start v.protocol (Admit c.args.client)) c.self.view_is
-    (admit_empty w c.self.invariant c.args.client c.client_refusal.result c.client_refusal.ensures c.in_default.is
+    subst (λ (v : Pair). (replies.Empty, v.protocol) ≡ allowed v.start v.protocol (Admit c.args.client)) c.self.view_is
+    (admit_empty w c.self.invariant c.args.client c.arrival_refusal.result c.arrival_refusal.ensures c.in_default.is
     (sym c.inbox_len.ensures ∙ c.if-inbox_len-eq0.true))
 
 pub returns-in-Some-admit_refusal-clause-outcome : goal.returns-in-Some-admit_refusal-clause-outcome
 returns-in-Some-admit_refusal-clause-outcome c =
     let w = pair_of c.self.inside in
-    subst (λ (v : Pair). refused v.protocol c.in-Some-admit_refusal.why ≡ outcome v.start v.protocol (Admit c.args.client)) c.self.view_is
-    (admit_stops w c.self.invariant c.args.client c.client_refusal.result c.client_refusal.ensures c.in_default.is
+    subst (λ (v : Pair). refused v.protocol c.in-Some-admit_refusal.why ≡ allowed v.start v.protocol (Admit c.args.client)) c.self.view_is
+    (admit_stops w c.self.invariant c.args.client c.arrival_refusal.result c.arrival_refusal.ensures c.in_default.is
     (λ e. c.if-inbox_len-eq0.false (c.inbox_len.ensures ∙ e))
     c.admit_refusal.result c.admit_refusal.ensures c.in-Some-admit_refusal.why c.in-Some-admit_refusal.is)
 
@@ -30,25 +30,25 @@ pub returns-in_err-number-clause-memory : goal.returns-in_err-number-clause-memo
 returns-in_err-number-clause-memory c =
     let w = pair_of c.self.inside in
     on_err c.from_residual.result _
-    (subst (λ (v : Pair). MayWantMemory (outcome v.start v.protocol (Admit c.args.client)).0) c.self.view_is
-    (admit_wants w c.self.invariant c.args.client c.client_refusal.result c.client_refusal.ensures c.in_default.is
+    (subst (λ (v : Pair). MayWantMemory v.protocol.mode (allowed v.start v.protocol (Admit c.args.client)).0) c.self.view_is
+    (admit_wants w c.self.invariant c.args.client c.arrival_refusal.result c.arrival_refusal.ensures c.in_default.is
     (λ e. c.if-inbox_len-eq0.false (c.inbox_len.ensures ∙ e))
     c.admit_refusal.result c.admit_refusal.ensures c.in_default-admit_refusal.is))
 
 pub invariant_of-self-2 : goal.invariant_of-self-2
 invariant_of-self-2 c =
     let w = pair_of c.self.inside in
-    let range = client_range c.args.client (length w.ports.boxes) (passed _ _ _ (sym c.client_refusal.ensures ∙ c.in_default.is)).0 in
+    let range = client_range c.args.client (length w.ports.boxes) (passed _ _ _ (sym c.arrival_refusal.ensures ∙ c.in_default.is)).0 in
     let x = c.in_ok-number.ensures in
     subst Holds (λ i. record w { protocol = sym x.protocol i; ports = sym x.ports i; nodes = sym c.arrive.ensures i })
-    (admit_holds w c.self.invariant c.args.client c.in_ok-number.number c.in_ok-number.frame range.0 range.1 c.in_ok-number.ensures.first)
+    (admitted_holds w c.self.invariant c.keep.ensures c.args.client c.in_ok-number.number c.in_ok-number.frame range.0 range.1 c.in_ok-number.ensures.first)
 
 pub returns-clause-outcome : goal.returns-clause-outcome
 returns-clause-outcome c =
     let w = pair_of c.self.inside in
     (λ i. (replies.Admitted c.in_ok-number.number, c.in_ok-number.ensures.protocol i))
-    ∙ subst (λ (v : Pair). admit_done w.protocol c.in_ok-number.number ≡ outcome v.start v.protocol (Admit c.args.client)) c.self.view_is
-    (admit_goes w c.self.invariant c.args.client c.client_refusal.result c.client_refusal.ensures c.in_default.is
+    ∙ subst (λ (v : Pair). admit_done w.protocol c.in_ok-number.number ≡ allowed v.start v.protocol (Admit c.args.client)) c.self.view_is
+    (admit_goes w c.self.invariant c.args.client c.arrival_refusal.result c.arrival_refusal.ensures c.in_default.is
     (λ e. c.if-inbox_len-eq0.false (c.inbox_len.ensures ∙ e))
     c.admit_refusal.result c.admit_refusal.ensures c.in_ok-number.number c.in_ok-number.frame c.in_ok-number.ensures.first
     c.in_default-admit_refusal.is)

@@ -1,4 +1,4 @@
-use Rattle.std.proofs.Common.{◌≡◌, ℕ, ◌<◌, ◌≤◌, ◌∙◌, sym, ap, subst, arith, Option, None}
+use Rattle.std.proofs.Common.{◌≡◌, ℕ, ◌<◌, ◌≤◌, ◌∙◌, sym, ap, subst, arith, false, Option, None}
 use Rattle.epoch_snapshot.specs.Checkpoints.{Change}
 use Rattle.pair_core.specs.declared.event.Packet.{Packet}
 use Rattle.pair_core.specs.declared.event.Refusal.{Refusal}
@@ -6,7 +6,9 @@ use Rattle.pair_core.specs.Invariant.{Holds}
 use Rattle.pair_core.specs.declared.event.Event.TheVariants.{BackupGet}
 use Rattle.pair_core.specs.declared.event.Reply.{Reply}
 use Rattle.pair_core.specs.Nodes.{Nodes, first_text}
+use Rattle.pair_core.specs.Modes.{is_alone, mode_refusal}
 use Rattle.pair_core.specs.Pair.{Pair, shown_state}
+use Rattle.pair_core.proofs.ModeLaws.{backup_goes}
 use Rattle.pair_core.specs.Replication.{Replicates}
 use Rattle.pair_core.proofs.ReplicationLaws.{commit_replicates}
 use Rattle.pair_core.specs.Protocol.{Record, Outcome, first_refusal, backup_refusals, again_done}
@@ -25,6 +27,10 @@ invariant_of-self c =
     (on_ok c.acknowledge_again.result _ c.acknowledge_again.ensures.ports) c.acknowledge_again.ensures.err
     (lines_hold w c.self.invariant (again_done w.protocol).1.lines)
 
+-- no node is alone
+two : (k : ℕ) {w v : Pair} → w ≡ v → mode_refusal v.protocol.mode (BackupGet k) ≡ None → is_alone w.protocol.mode ≡ false
+two k {w} same goes = backup_goes w.protocol.mode (subst (λ (v : Pair). mode_refusal v.protocol.mode (BackupGet k) ≡ None) (sym same) goes)
+
 -- a packet that isn't refused, of no number that was committed, names the next checkpoint, which was cut
 names_next : (r : Record) (p : Packet) (n : ℕ) (o : Option Refusal) → o ≡ first_refusal (backup_refusals r p) → o ≡ None
     → (p.generation ≡ r.generation → p.number < r.window.to_cut) → n ≡ r.window.to_commit → n ≤ p.number
@@ -40,7 +46,7 @@ oldest-requires-clause-some c =
     names_next w.protocol c.in-Some.packet c.to_commit.result c.backup_refusal.result c.backup_refusal.ensures.refusal
     c.in_default-backup_refusal.is c.in-Some.ensures.cut
     c.to_commit.ensures c.if-packet-to_commit.false in
-    (oldest_text w c.self.invariant c.backup_refusal.ensures.record more).1.0
+    (oldest_text w c.self.invariant c.backup_refusal.ensures.record (two c.args.k c.self.view_is c.requires) more).1.0
 
 pub oldest-requires-clause-whole : goal.oldest-requires-clause-whole
 oldest-requires-clause-whole c =
@@ -49,7 +55,7 @@ oldest-requires-clause-whole c =
     names_next w.protocol c.in-Some.packet c.to_commit.result c.backup_refusal.result c.backup_refusal.ensures.refusal
     c.in_default-backup_refusal.is c.in-Some.ensures.cut
     c.to_commit.ensures c.if-packet-to_commit.false in
-    let oldest = oldest_text w c.self.invariant c.backup_refusal.ensures.record more in
+    let oldest = oldest_text w c.self.invariant c.backup_refusal.ensures.record (two c.args.k c.self.view_is c.requires) more in
     reads-whole w.nodes.image.shape w.protocol.generation w.protocol.window.to_commit (shown_state w).guest oldest.0
     (first_text w.nodes.sealed) oldest.1.1
 
@@ -60,7 +66,7 @@ commit-requires-2-clause-some c =
     names_next w.protocol c.in-Some.packet c.to_commit.result c.backup_refusal.result c.backup_refusal.ensures.refusal
     c.in_default-backup_refusal.is c.in-Some.ensures.cut
     c.to_commit.ensures c.if-packet-to_commit.false in
-    (oldest_text w c.self.invariant c.backup_refusal.ensures.record more).1.0
+    (oldest_text w c.self.invariant c.backup_refusal.ensures.record (two c.args.k c.self.view_is c.requires) more).1.0
 
 pub commit-requires-2-clause-shape : goal.commit-requires-2-clause-shape
 commit-requires-2-clause-shape c =
@@ -69,7 +75,7 @@ commit-requires-2-clause-shape c =
     names_next w.protocol c.in-Some.packet c.to_commit.result c.backup_refusal.result c.backup_refusal.ensures.refusal
     c.in_default-backup_refusal.is c.in-Some.ensures.cut
     c.to_commit.ensures c.if-packet-to_commit.false in
-    let oldest = oldest_text w c.self.invariant c.backup_refusal.ensures.record more in
+    let oldest = oldest_text w c.self.invariant c.backup_refusal.ensures.record (two c.args.k c.self.view_is c.requires) more in
     ap (λ (checkpoint : Change). checkpoint.shape) c.in_ok-checkpoint.ensures
     ∙ reads-shape w.nodes.image.shape w.protocol.generation w.protocol.window.to_commit (shown_state w).guest oldest.0
     (first_text w.nodes.sealed) oldest.1.1
@@ -83,7 +89,7 @@ invariant_of-self-2 c =
     c.in_default-backup_refusal.is c.in-Some.ensures.cut
     c.to_commit.ensures c.if-packet-to_commit.false in
     subst Holds (λ i. record w { protocol = sym protocol i; ports = sym c.commit.ensures.ports i; nodes = sym c.commit-2.ensures i })
-    (commit_holds w c.self.invariant c.backup_refusal.ensures.record more)
+    (commit_holds w c.self.invariant c.backup_refusal.ensures.record (two c.args.k c.self.view_is c.requires) more)
 
 pub returns-clause-replicates : goal.returns-clause-replicates
 returns-clause-replicates c =
@@ -95,4 +101,4 @@ returns-clause-replicates c =
     c.to_commit.ensures c.if-packet-to_commit.false in
     subst (λ (v : Pair). Replicates (BackupGet c.args.k) c.in_ok-reply.reply v.nodes c.commit-2.new.self.nodes) c.self.view_is
     (subst (λ (o : Reply × Nodes). Replicates (BackupGet c.args.k) o.0 w.nodes o.1) (λ i. (sym reply i, sym c.commit-2.ensures i))
-    (commit_replicates w c.self.invariant c.backup_refusal.ensures.record more))
+    (commit_replicates w c.self.invariant c.backup_refusal.ensures.record (two c.args.k c.self.view_is c.requires) more))

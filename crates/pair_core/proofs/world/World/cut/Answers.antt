@@ -1,4 +1,4 @@
-use Rattle.std.proofs.Common.{◌≡◌, ◌∙◌, ℕ, List, ap, sym, subst, arith}
+use Rattle.std.proofs.Common.{◌≡◌, ◌∙◌, ℕ, List, ap, sym, subst, arith, false, None}
 use Rattle.frame_ports.specs.declared.limits.TheConstants.{NUMBER_LIMIT}
 use Rattle.pair_core.specs.declared.event.Event.TheVariants.{Cut}
 use Rattle.pair_core.specs.Invariant.{Holds}
@@ -10,14 +10,20 @@ use Rattle.pair_core.specs.Replication.{Replicates}
 use Rattle.pair_core.proofs.ReplicationLaws.{cut_replicates}
 use Rattle.pair_core.specs.Texts.{IsText}
 use Rattle.pair_history.specs.Entries.{Frame}
+use Rattle.pair_core.specs.Modes.{is_alone, mode_refusal}
 use Rattle.pair_core.specs.Pair.{Pair}
-use Rattle.pair_core.specs.Protocol.{Outcome, outcome, cut_refusals, cut_done}
+use Rattle.pair_core.proofs.ModeLaws.{primary_goes}
+use Rattle.pair_core.specs.Protocol.{Outcome, allowed, cut_refusals, cut_done}
 use Rattle.pair_core.specs.WorldFields.{pair_of}
 use Rattle.pair_core.proofs.Events.{cut_holds}
 use Rattle.pair_core.proofs.Outcomes.{goes, cut_sight}
 use Rattle.pair_core.proofs.RecordLaws.{passed, is_below}
 use Rattle.pair_core.proofs.world.World.cut.Goals as goal
 use Rattle.pair_core.proofs.world.World.cut.Goals.{In_ok-reply}
+
+-- no node is alone
+two : {w v : Pair} → w ≡ v → mode_refusal v.protocol.mode Cut ≡ None → is_alone w.protocol.mode ≡ false
+two {w} same goes = primary_goes w.protocol.mode (subst (λ (v : Pair). mode_refusal v.protocol.mode Cut ≡ None) (sym same) goes)
 
 -- the generation and the number are a checkpoint's
 pub checkpoint-requires-clause-first_generation : goal.checkpoint-requires-clause-first_generation
@@ -35,7 +41,7 @@ checkpoint-requires-clause-last_generation c =
 pub checkpoint-requires-clause-first_number : goal.checkpoint-requires-clause-first_number
 checkpoint-requires-clause-first_number c =
     let is = c.to_cut.ensures in
-    let some = c.self.invariant.nodes.some_committed in
+    let some = (c.self.invariant.nodes.backed (two c.self.view_is c.requires)).some_committed in
     let cut = c.cut_refusal.ensures.record.window.cut in
     omega arith
 
@@ -84,13 +90,13 @@ returns-clause-replicates c =
     let reply = ap (λ (o : Outcome). o.0) (done (goal.at.returns-clause-replicates c).In_ok-reply) in
     subst (λ (v : Pair). Replicates Cut c.in_ok-reply.reply v.nodes c.seal.new.self.nodes) c.self.view_is
     (subst (λ (o : Reply × Nodes). Replicates Cut o.0 w.nodes o.1) (λ i. (sym reply i, sym nodes i))
-    (cut_replicates w c.self.invariant c.cut_refusal.ensures.record text
+    (cut_replicates w c.self.invariant c.cut_refusal.ensures.record (two c.self.view_is c.requires) text
     (makes (goal.at.returns-clause-replicates c).In_ok-reply)))
 
 pub returns-clause-outcome : goal.returns-clause-outcome
 returns-clause-outcome c =
     let w = pair_of c.self.inside in
-    subst (λ (v : Pair). (c.in_ok-reply.reply, c.cut.new.self.protocol) ≡ outcome v.start v.protocol Cut) c.self.view_is
+    subst (λ (v : Pair). (c.in_ok-reply.reply, c.cut.new.self.protocol) ≡ allowed v.start v.protocol Cut) c.self.view_is
     (done (goal.at.returns-clause-outcome c).In_ok-reply
     ∙ goes w.protocol (cut_refusals w.protocol) (cut_done w.nodes.live.outbox w.protocol)
     c.cut_refusal.result c.cut_refusal.ensures.refusal c.in_default.is

@@ -3,7 +3,7 @@ use Rattle.frame_ports.specs.Ports.{after_delivery}
 use Rattle.pair_core.specs.declared.event.Event.TheVariants.{Deliver}
 use Rattle.pair_core.specs.declared.event.Refusal.TheVariants.{Full}
 use Rattle.pair_core.specs.Pair.{Pair, AfterRefusal}
-use Rattle.pair_core.specs.Protocol.{Outcome, MayWantMemory, outcome, refused, deliver_done, delivery_refused}
+use Rattle.pair_core.specs.Protocol.{Outcome, MayWantMemory, allowed, refused, deliver_done, delivery_refused}
 use Rattle.pair_core.specs.WorldFields.{pair_of}
 use Rattle.pair_core.proofs.Calls.{on_ok, on_err, answered_so, after_call}
 use Rattle.pair_core.proofs.ClientEvents.{deliver_holds, full_holds}
@@ -43,7 +43,7 @@ pub returns-in_default-clause-outcome : goal.returns-in_default-clause-outcome
 returns-in_default-clause-outcome c =
     let w = pair_of c.self.inside in
     let bytes = c.args.bytes.now in
-    let Out : Pair → Outcome = λ v. outcome v.start v.protocol (Deliver c.args.client c.args.bytes) in
+    let Out : Pair → Outcome = λ v. allowed v.start v.protocol (Deliver c.args.client c.args.bytes) in
     let done = deliver_done w.protocol c.args.client (record { items = bytes }) w.ports.next in
     answered_so c.deliver.result c.deliver.new.self.protocol done (Out c.args.self.now)
     (subst (λ (v : Pair). done ≡ Out v) c.self.view_is
@@ -54,7 +54,7 @@ pub returns-in-Full-clause-outcome : goal.returns-in-Full-clause-outcome
 returns-in-Full-clause-outcome c =
     let w = pair_of c.self.inside in
     let bytes = c.args.bytes.now in
-    let Out : Pair → Outcome = λ v. outcome v.start v.protocol (Deliver c.args.client c.args.bytes) in
+    let Out : Pair → Outcome = λ v. allowed v.start v.protocol (Deliver c.args.client c.args.bytes) in
     let done = delivery_refused w.protocol c.args.client (record { items = bytes }) Full in
     answered_so c.refuse_delivery.result c.refuse_delivery.new.self.protocol done (Out c.args.self.now)
     (subst (λ (v : Pair). done ≡ Out v) c.self.view_is
@@ -66,19 +66,20 @@ pub returns-in-Full-clause-memory : goal.returns-in-Full-clause-memory
 returns-in-Full-clause-memory c =
     let w = pair_of c.self.inside in
     let bytes = c.args.bytes.now in
-    let Out : Pair → Outcome = λ v. outcome v.start v.protocol (Deliver c.args.client c.args.bytes) in
+    let Out : Pair → Outcome = λ v. allowed v.start v.protocol (Deliver c.args.client c.args.bytes) in
     let done = delivery_refused w.protocol c.args.client (record { items = bytes }) Full in
     let goes =
     deliver_full w c.self.invariant c.args.client bytes c.deliver_refusal.result c.deliver_refusal.ensures
     (c.in-Some.is ∙ ap Some c.in-Full.is) in
     on_err c.refuse_delivery.result _
-    (subst (λ (v : Pair). MayWantMemory (Out v).0) c.self.view_is (subst (λ (o : Outcome). MayWantMemory o.0) goes refl))
+    (subst (λ (v : Pair). MayWantMemory v.protocol.mode (Out v).0) c.self.view_is
+    (subst (λ (o : Outcome). MayWantMemory w.protocol.mode o.0) goes refl))
 
 pub returns-in_default-why : goal.returns-in_default-why
 returns-in_default-why c =
     let w = pair_of c.self.inside in
     let bytes = c.args.bytes.now in
-    let Out : Pair → Outcome = λ v. outcome v.start v.protocol (Deliver c.args.client c.args.bytes) in
+    let Out : Pair → Outcome = λ v. allowed v.start v.protocol (Deliver c.args.client c.args.bytes) in
     let why = c.in-Some.why in
     record {
       outcome =

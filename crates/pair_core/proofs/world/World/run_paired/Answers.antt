@@ -3,7 +3,7 @@ use Rattle.pair_history.specs.HistoryState.{HistoryState}
 use Rattle.pair_core.specs.Pair.{Pair}
 use Rattle.pair_core.specs.Protocol.{refused, step_outcome}
 use Rattle.pair_core.proofs.StepRuns.{refusal_answered}
-use Rattle.pair_core.proofs.world.World.run_steps.Goals as goal
+use Rattle.pair_core.proofs.world.World.run_paired.Goals as goal
 
 pub returns-clause-outcome : goal.returns-clause-outcome
 returns-clause-outcome c =

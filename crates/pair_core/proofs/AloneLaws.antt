@@ -1,0 +1,114 @@
+-- Laws of a node that is alone: what the gate held lands, followed by the outbox, and nothing is kept or pending.
+use Rattle.std.proofs.Common.{◌≡◌, ℕ, zero, suc, ◌+◌, ◌-◌, ◌*◌, ◌≤◌, List, [], ◌∷◌, ◌++◌, length, Bool, true, cond}
+use Rattle.std.proofs.Common.{refl, sym, ap, ◌∙◌, subst, arith, append_assoc, mul-le-mul_right}
+use Rattle.std.specs.Prelude.{nat_le}
+use Rattle.std.proofs.lemmas.Bool.Decides.{nat_tests}
+use Rattle.std.proofs.lemmas.List.{length-append, append-nil}
+use Rattle.guest_machine.specs.Guest.{Guest}
+use Rattle.guest_machine.specs.Runs.{sent_in}
+use Rattle.guest_machine.specs.Step.{next, sent}
+use Rattle.frame_ports.proofs.AddressLaws.{length-targets_of}
+use Rattle.frame_ports.specs.Addresses.{clients_of}
+use Rattle.output_gate.specs.Epochs.{Epoch, epoch, frames_of, frames_to}
+use Rattle.pair_history.specs.Entries.{Frame}
+use Rattle.pair_core.specs.Lengths.{receivers}
+use Rattle.pair_core.specs.Protocol.{Record, all_held, fail_backup_done}
+use Rattle.pair_core.specs.Record.{IsRecord}
+use Rattle.pair_core.specs.Window.{NumberedFrom}
+use Rattle.pair_core.proofs.LengthLaws.{length-receivers}
+use Rattle.pair_core.proofs.RecordLaws.{AreBelow-more}
+use Rattle.pair_core.proofs.WindowLaws.{NumberedFrom-push}
+
+none_of : (fs : List Frame) → length fs ≡ 0 → fs ≡ []
+none_of [] e = refl
+none_of (f ∷ fs) e = absurd (omega arith)
+
+is_up_to : (a n : ℕ) → a ≤ n → nat_le a n ≡ true
+is_up_to a n h = grind (arith, nat_tests)
+
+-- the frames of all epochs, where none has a number above n
+pub frames_to-all : (n m : ℕ) (es : List Epoch) → NumberedFrom m es → m + length es ≤ n + 1 → frames_to n es ≡ frames_of es
+frames_to-all n m [] h l = refl
+frames_to-all n m (e ∷ es) h l =
+    ap (λ (t : Bool). cond t (e.frames ++ frames_to n es) (frames_to n es)) (is_up_to e.number n (let k = h.0 in omega arith))
+    ∙ ap (λ (t : List Frame). e.frames ++ t) (frames_to-all n (m + 1) es h.1 (omega arith))
+
+pub frames_of-push : (es : List Epoch) (e : Epoch) → frames_of (es ++ e ∷ []) ≡ frames_of es ++ e.frames
+frames_of-push [] e = append-nil e.frames
+frames_of-push (x ∷ es) e =
+    ap (λ (t : List Frame). x.frames ++ t) (frames_of-push es e) ∙ sym (append_assoc x.frames (frames_of es) e.frames)
+
+receivers-append : (n : ℕ) (fs gs : List Frame) → receivers n (fs ++ gs) ≡ receivers n fs ++ receivers n gs
+receivers-append n [] gs = refl
+receivers-append n (f ∷ fs) gs =
+    ap (λ (t : List ℕ). clients_of n f.items ++ t) (receivers-append n fs gs)
+    ∙ sym (append_assoc (clients_of n f.items) (receivers n fs) (receivers n gs))
+
+-- to how many clients all that is held goes, and then the outbox
+pub count-all : (boxes : List (List Frame)) (outbox : List Frame) (r : Record)
+    → length (receivers (length boxes) (frames_of r.pending)) + length (receivers (length boxes) outbox) ≡ length (all_held boxes outbox r)
+count-all boxes outbox r =
+    let n = length boxes in
+    let fs = frames_of r.pending in
+    sym (length-append (receivers n fs) (receivers n outbox))
+    ∙ ap length (sym (receivers-append n fs outbox))
+    ∙ length-receivers n (fs ++ outbox)
+
+module _ (r : Record) (h : IsRecord r) where
+  -- all that the gate holds has numbers below the next one
+  pub held_are : frames_to r.window.to_cut r.pending ≡ frames_of r.pending
+  held_are =
+      frames_to-all r.window.to_cut r.window.to_acknowledge r.pending h.window.numbers (let c = h.window.count in omega arith)
+
+  -- and with the outbox held behind it, up to it
+  pub all_are : (outbox : List Frame)
+      → frames_to r.window.to_cut (r.pending ++ epoch r.window.to_cut outbox ∷ []) ≡ frames_of r.pending ++ outbox
+  all_are outbox =
+      let e = epoch r.window.to_cut outbox in
+      let long = length-append r.pending (e ∷ []) in
+      let c = h.window.count in
+      frames_to-all r.window.to_cut r.window.to_acknowledge (r.pending ++ e ∷ [])
+      (NumberedFrom-push r.window.to_acknowledge r.pending e h.window.numbers (sym h.window.count)) (omega arith)
+      ∙ frames_of-push r.pending e
+
+  pub fail_backup_record : (boxes : List (List Frame)) (outbox : List Frame) → IsRecord (fail_backup_done boxes outbox r).1
+  fail_backup_record boxes outbox = record {
+    window = record {
+      numbers = tt;
+      count = omega arith;
+      committed = omega arith;
+      cut = omega arith;
+      few = omega arith;
+      last = h.window.last;
+    };
+    forward = h.forward;
+    back = AreBelow-more r.generation r.window.to_commit r.window.to_cut r.lines.back h.window.cut h.back;
+    sealed = omega arith;
+    alone = λ e. (refl, refl, refl);
+  }
+
+-- steps of which only the last sends send no more frames than it
+few_by_last : ((g : Guest) → length (sent g) ≤ 64) → (n : ℕ) (g : Guest) → sent_in n g ≡ [] → length (sent_in (suc n) g) ≤ 64
+unfolding sent_in
+few_by_last most zero g quiet = let e = length-append (sent g) [] in let m = most g in omega arith
+few_by_last most (suc n) g quiet =
+    let e = length-append (sent g) (sent_in n (next g)) in
+    let l = length-append (sent g) (sent_in (suc n) (next g)) in
+    let q = ap length quiet in
+    let later = few_by_last most n (next g) (none_of (sent_in n (next g)) (omega arith)) in
+    omega arith
+
+pub few_sent : ((g : Guest) → length (sent g) ≤ 64) → (n : ℕ) (g : Guest) → sent_in (n - 1) g ≡ [] → length (sent_in n g) ≤ 64
+unfolding sent_in
+few_sent most zero g quiet = omega arith
+few_sent most (suc n) g quiet =
+    let e : suc n - 1 ≡ n = omega arith in
+    few_by_last most n g (subst (λ (k : ℕ). sent_in k g ≡ []) e quiet)
+
+-- 64 frames go to 64 times as many as there are clients, at most
+pub few_receivers : (n : ℕ) (fs : List Frame) → length fs ≤ 64 → length (receivers n fs) ≤ 64 * n
+few_receivers n fs few =
+    let e = length-receivers n fs in
+    let l = length-targets_of n fs in
+    let m : length fs * n ≤ 64 * n = mul-le-mul_right n few in
+    omega arith

@@ -1,0 +1,218 @@
+-- What the steps of a node that is alone leave, and what the protocol answers to them: what a step sends lands at once.
+use Rattle.std.proofs.Common.{◌≡◌, ℕ, zero, suc, ◌+◌, ◌-◌, ◌<◌, List, [], ◌∷◌, ◌++◌, length, replicate, refl, sym, ap, ◌∙◌, subst, arith}
+use Rattle.std.proofs.Common.{append_assoc, Bool, true, false, cond, inl, inr}
+use Rattle.std.specs.Prelude.{nat_lt}
+use Rattle.std.proofs.lemmas.List.{append-nil, length-append, length-replicate}
+use Rattle.guest_machine.specs.Guest.{Guest}
+use Rattle.guest_machine.specs.Step.{next, sent}
+use Rattle.guest_machine.specs.Runs.{after_steps, sent_in}
+use Rattle.frame_ports.specs.Addresses.{targets_of}
+use Rattle.frame_ports.specs.Lands.{lands}
+use Rattle.frame_ports.specs.declared.limits.TheConstants.{NUMBER_LIMIT}
+use Rattle.pair_history.specs.Entries.{Frame, Entry, Ran}
+use Rattle.pair_history.specs.HistoryState.{HistoryState}
+use Rattle.pair_history.specs.Landings.{landings}
+use Rattle.pair_core.specs.declared.event.Refusal.TheVariants.{Stopped, NoMemory, CutNeeded, Exhausted}
+use Rattle.pair_core.specs.declared.event.Event.TheVariants.{Step}
+use Rattle.pair_core.specs.declared.event.Reply.{Reply}
+use Rattle.pair_core.specs.declared.event.Reply.TheVariants as replies
+use Rattle.pair_core.specs.declared.limits.TheConstants.{STEP_ROOM, STEP_ENTRIES}
+use Rattle.pair_core.specs.Invariant.{Holds}
+use Rattle.pair_core.specs.Journal.{joined, all_entries, with_history, with_moves}
+use Rattle.pair_core.specs.Modes.{is_stopped, is_alone}
+use Rattle.pair_core.specs.Nodes.{after_run, with_sent_off}
+use Rattle.pair_core.specs.Pair.{Pair}
+use Rattle.pair_core.specs.Protocol.{Record, Outcome, live_at, shown_at, outbox_of, step_entries, step_done, step_outcome, step_room}
+use Rattle.pair_core.specs.Protocol.{first_refusal, or_else, refused, exhausts, Answers, MayWantMemory}
+use Rattle.pair_core.specs.Record.{IsLone}
+use Rattle.pair_core.specs.Runs.{StepsAnswer, goes_on, steps_outcome}
+use Rattle.pair_core.proofs.AllLands.{at_once_holds}
+use Rattle.pair_core.proofs.Consistent.{live_is, alone_is}
+use Rattle.pair_core.proofs.ModeLaws.{alone_not_stopped}
+use Rattle.pair_core.proofs.StepRuns.{steps_hold, step_goes, no-steps, none-sent, no-steps-answered, more-answered, after_steps-last, replicate-last, one-step-answered}
+
+sent_in-last : (n : ℕ) (g : Guest) → sent_in (suc n) g ≡ sent_in n g ++ sent (after_steps n g)
+unfolding sent_in after_steps
+sent_in-last zero g = append-nil (sent g)
+sent_in-last (suc n) g = ap (λ (t : List Frame). sent g ++ t) (sent_in-last n (next g)) ∙ sym (append_assoc (sent g) (sent_in n (next g)) (sent (after_steps n (next g))))
+
+both_empty : {A : Type 0} (xs ys : List A) → xs ++ ys ≡ [] → (xs ≡ []) × (ys ≡ [])
+both_empty [] ys e = (refl, e)
+both_empty (x ∷ xs) ys e = absurd (cc)
+
+module _ (w : Pair) where
+  abbrev boxes : List (List Frame)
+  boxes = w.ports.boxes
+
+  -- the pair after n steps in which these frames were sent, and landed
+  abbrev pub after_alone : ℕ → List Frame → Pair
+  after_alone n fs = record w {
+    protocol = record w.protocol {
+      journal = with_history w.protocol.journal (replicate n Ran ++ landings boxes (targets_of (length boxes) fs));
+    };
+    ports = record w.ports { boxes = lands boxes (targets_of (length boxes) fs) };
+    nodes = with_sent_off (after_run n w.nodes);
+  }
+
+  module _ (h : Holds w) (k : IsLone w.protocol) (lone : is_alone w.protocol.mode ≡ true) where
+    none : w.nodes.live.outbox ≡ []
+    none = (alone_is w h k).outbox
+
+    pub alone_holds : (n : ℕ) → Holds (after_alone n (sent_in n w.nodes.live.guest))
+    alone_holds n =
+        let live = (after_run n w.nodes).live in
+        let fs = sent_in n w.nodes.live.guest in
+        let all : live.outbox ≡ fs = ap (λ (t : List Frame). t ++ fs) none in
+        subst (λ (x : List Frame). Holds (after_alone n x)) all
+        (at_once_holds w k lone (replicate n Ran) live w.ports.inboxes (steps_hold n w h))
+
+    -- quiet steps: none of them sends a frame
+    abbrev quiet : ℕ → Pair
+    quiet n = after_alone n []
+
+    quiet-holds : (n : ℕ) → sent_in n w.nodes.live.guest ≡ [] → Holds (quiet n)
+    quiet-holds n e = subst (λ (x : List Frame). Holds (after_alone n x)) e (alone_holds n)
+
+    -- one more step, after quiet ones
+    module _ (n : ℕ) (silent : sent_in n w.nodes.live.guest ≡ [])
+        (fits : length (all_entries w.protocol.journal) + (n + 1025) < NUMBER_LIMIT) where
+      abbrev g : Guest
+      g = after_steps n w.nodes.live.guest
+
+      counted : length (all_entries (quiet n).protocol.journal) ≡ length (all_entries w.protocol.journal) + n
+      counted =
+          let j = w.protocol.journal in
+          let kept = joined j.sealed ++ j.running in
+          let e1 = length-append (j.history ++ (replicate n Ran ++ [])) kept in
+          let e2 = length-append j.history (replicate n Ran ++ []) in
+          let e3 = length-append (replicate n Ran) [] in
+          let e4 = length-replicate n Ran in
+          let e5 = length-append j.history kept in
+          omega arith
+
+      step_next : step_done boxes (sent g) (next g).steps (quiet n).protocol ≡ step_outcome w.start (quiet n).protocol
+      step_next =
+          let c = counted in
+          let room : step_room w.protocol.mode ≡ 1025 = ap (λ (b : Bool). cond b STEP_ENTRIES 1) lone in
+          step_goes (quiet n) (quiet-holds n silent) (alone_not_stopped w.protocol.mode lone) (omega arith) (omega arith)
+
+      step_makes : (replies.Steps (after_steps (suc n) w.nodes.live.guest).steps, (after_alone (suc n) (sent g)).protocol)
+          ≡ step_done boxes (sent g) (next g).steps (quiet n).protocol
+      step_makes =
+          let j = w.protocol.journal in
+          let es = landings boxes (targets_of (length boxes) (sent g)) in
+          let before = (quiet n).protocol.journal in
+          let history : j.history ++ (replicate (suc n) Ran ++ es) ≡ before.history ++ (Ran ∷ es) =
+          ap (λ (t : List Entry). j.history ++ (t ++ es)) (replicate-last n)
+          ∙ ap (λ (t : List Entry). j.history ++ t) (append_assoc (replicate n Ran) (Ran ∷ []) es)
+          ∙ sym (append_assoc j.history (replicate n Ran) (Ran ∷ es))
+          ∙ ap (λ (t : List Entry). (j.history ++ t) ++ (Ran ∷ es)) (sym (append-nil (replicate n Ran))) in
+          (λ i. (
+            replies.Steps (after_steps-last n w.nodes.live.guest i).steps,
+            record w.protocol { journal = record j { history = history i } },
+          ))
+          ∙ (λ i. (
+            replies.Steps (next g).steps,
+            record w.protocol { journal = with_moves (sym lone i) before (step_entries (sym lone i) boxes (sent g)) },
+          ))
+
+      one_more : (replies.Steps g.steps, (quiet n).protocol) ≡ steps_outcome w.start w.protocol n
+          → (replies.Steps (after_steps (suc n) w.nodes.live.guest).steps, (after_alone (suc n) (sent g)).protocol)
+          ≡ steps_outcome w.start w.protocol (suc n)
+      one_more before =
+          step_makes ∙ step_next ∙ ap (λ (o : Outcome). goes_on w.start o.0 o.1) before ∙ sym (more-answered w.start w.protocol n)
+
+    -- so many quiet steps
+    quiet_answered : (n : ℕ) → sent_in n w.nodes.live.guest ≡ [] → length (all_entries w.protocol.journal) + (n + 1024) < NUMBER_LIMIT
+        → (replies.Steps (after_steps n w.nodes.live.guest).steps, (quiet n).protocol) ≡ steps_outcome w.start w.protocol n
+    quiet_answered zero e fits =
+        let j = w.protocol.journal in
+        (λ i. (
+          replies.Steps (no-steps w.nodes.live.guest i).steps,
+          record w.protocol { journal = record j { history = append-nil j.history i } },
+        ))
+        ∙ ap (λ (g : Guest). (replies.Steps g.steps, w.protocol)) (sym (live_is w h))
+        ∙ sym (no-steps-answered w.start w.protocol)
+    quiet_answered (suc n) e fits =
+        let parts = both_empty (sent_in n w.nodes.live.guest) (sent (after_steps n w.nodes.live.guest))
+        (sym (sent_in-last n w.nodes.live.guest) ∙ e) in
+        let before = quiet_answered n parts.0 (omega arith) in
+        subst
+        (λ (fs : List Frame). (replies.Steps (after_steps (suc n) w.nodes.live.guest).steps, (after_alone (suc n) fs).protocol)
+        ≡ steps_outcome w.start w.protocol (suc n)) parts.1 (one_more n parts.0 (omega arith) before)
+
+    -- so many steps of which only the last sends frames
+    pub alone_answered : (n : ℕ) → sent_in (n - 1) w.nodes.live.guest ≡ []
+        → length (all_entries w.protocol.journal) + (n + 1024) < NUMBER_LIMIT
+        → (replies.Steps (after_steps n w.nodes.live.guest).steps, (after_alone n (sent_in n w.nodes.live.guest)).protocol)
+        ≡ steps_outcome w.start w.protocol n
+    alone_answered zero e fits =
+        subst
+        (λ (fs : List Frame). (replies.Steps (after_steps 0 w.nodes.live.guest).steps, (after_alone 0 fs).protocol)
+        ≡ steps_outcome w.start w.protocol 0) (sym (none-sent w.nodes.live.guest))
+        (quiet_answered 0 (none-sent w.nodes.live.guest) fits)
+    alone_answered (suc n) e fits =
+        let g = w.nodes.live.guest in
+        let same : suc n - 1 ≡ n = omega arith in
+        let silent : sent_in n g ≡ [] = sym (ap (λ (m : ℕ). sent_in m g) same) ∙ e in
+        let last : sent (after_steps n g) ≡ sent_in (suc n) g =
+        ap (λ (t : List Frame). t ++ sent (after_steps n g)) (sym silent) ∙ sym (sent_in-last n g) in
+        subst
+        (λ (fs : List Frame). (replies.Steps (after_steps (suc n) g).steps, (after_alone (suc n) fs).protocol)
+        ≡ steps_outcome w.start w.protocol (suc n)) last
+        (one_more n silent (omega arith) (quiet_answered n silent (omega arith)))
+
+-- steps after steps
+module _ (start : HistoryState) (r r' : Record) (m k : ℕ) (made : (replies.Steps k, r') ≡ steps_outcome start r m) where
+  pub steps_after : (n p : ℕ) → p ≡ n + m → steps_outcome start r' (suc n) ≡ steps_outcome start r (suc p)
+  steps_after zero p e =
+      let same : m ≡ p = omega arith in
+      more-answered start r' 0 ∙ ap (λ (o : Outcome). goes_on start o.0 o.1) (no-steps-answered start r')
+      ∙ ap (λ (o : Outcome). goes_on start o.0 o.1) (made ∙ ap (steps_outcome start r) same) ∙ sym (more-answered start r p)
+  steps_after (suc n) zero e = absurd (omega arith)
+  steps_after (suc n) (suc p) e =
+      more-answered start r' (suc n) ∙ ap (λ (o : Outcome). goes_on start o.0 o.1) (steps_after n p (omega arith))
+      ∙ sym (more-answered start r (suc p))
+
+  pub steps_join : (n total : ℕ) → 0 < n → total ≡ m + n → steps_outcome start r' n ≡ steps_outcome start r total
+  steps_join zero total l e = absurd (omega arith)
+  steps_join (suc n) zero l e = absurd (omega arith)
+  steps_join (suc n) (suc p) l e = steps_after n p (omega arith)
+
+-- no row of a step's table is want of memory
+pub never_wants : (start : HistoryState) (r r' : Record) → refused r' NoMemory ≡ step_outcome start r → ⊥
+never_wants start r r' e =
+    by_rows (is_stopped r.mode) (nat_lt STEP_ROOM (length (outbox_of start r))) (exhausts r (step_room r.mode)) e
+  where
+    by_rows : (a b c : Bool) → refused r' NoMemory
+        ≡ or_else (first_refusal ((a, Stopped) ∷ (b, CutNeeded) ∷ (c, Exhausted) ∷ [])) (refused r)
+        (step_done (shown_at start r).boxes (sent (live_at start r).guest) (next (live_at start r).guest).steps r) → ⊥
+    by_rows true b c e = absurd (let clash = ap (λ (o : Outcome). o.0) e in cc)
+    by_rows false true c e = absurd (let clash = ap (λ (o : Outcome). o.0) e in cc)
+    by_rows false false true e = absurd (let clash = ap (λ (o : Outcome). o.0) e in cc)
+    by_rows false false false e = absurd (let clash = ap (λ (o : Outcome). o.0) e in cc)
+
+-- ONE STEP, as an event
+
+module _ (start : HistoryState) (old new : Record) where
+  pub paired_answer : (reply : Reply) → (reply, new) ≡ steps_outcome start old 1 → Answers start old Step reply new
+  paired_answer reply e = inl (e ∙ one-step-answered start old)
+
+  pub alone_answer : (reply : Reply) → StepsAnswer start old 1 reply new → Answers start old Step reply new
+  alone_answer reply (inl e) = paired_answer reply e
+  alone_answer reply (inr k) =
+      let made = k.2 in
+      let less = made.1 in
+      let first : made.0 ≡ 0 = omega arith in
+      let stays : new ≡ old =
+      ap (λ (o : Outcome). o.1) (made.3 ∙ ap (steps_outcome start old) first ∙ no-steps-answered start old) in
+      inr (subst (λ (r : Record). MayWantMemory r.mode (step_outcome start r).0) stays made.4, k.1, stays)
+
+  pub not_wanting : (reply : Reply) → (reply ≡ replies.Refused NoMemory → ⊥) → Answers start old Step reply new
+      → (reply, new) ≡ step_outcome start old
+  not_wanting reply other (inl e) = e
+  not_wanting reply other (inr k) = absurd (other k.1)
+
+  pub wanting : Answers start old Step (replies.Refused NoMemory) new → MayWantMemory old.mode (step_outcome start old).0
+  wanting (inl e) = absurd (never_wants start old new e)
+  wanting (inr k) = k.0

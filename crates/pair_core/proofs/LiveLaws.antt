@@ -1,0 +1,301 @@
+-- What going live adds to the history, as the loops over it want it; and what is true of the record after it.
+use Rattle.std.proofs.Common.{◌≡◌, ℕ, zero, suc, ◌+◌, ◌-◌, ◌<◌, ◌≤◌, List, [], ◌∷◌, ◌++◌, length, take, drop, replicate, get_or}
+use Rattle.std.proofs.Common.{refl, sym, ap, ◌∙◌, subst, arith, append_assoc, Bool, true, false, cond, Option, Some, None}
+use Rattle.std.specs.Prelude.{map, nat_le, filter, ◌&&◌}
+use Rattle.std.specs.List.Sorted.{IsPermutation, IsNonDecreasing}
+use Rattle.std.proofs.Math.Seq.{drop-cons}
+use Rattle.std.proofs.lemmas.Bool.Decides.{nat_tests}
+use Rattle.std.proofs.lemmas.List.{append-nil, length-append, length-map, length-replicate, length-take-le, nil_from_length}
+use Rattle.std.proofs.lemmas.List.Sorted.{length_permutation}
+use Rattle.frame_ports.specs.Addresses.{addressed, targets_of}
+use Rattle.frame_ports.specs.Lands.{list_of}
+use Rattle.frame_ports.specs.Targets.{has_target, AreTargets}
+use Rattle.frame_ports.specs.declared.limits.TheConstants.{NUMBER_LIMIT}
+use Rattle.output_gate.specs.Epochs.{Epoch, frames_of, frames_to}
+use Rattle.pair_history.specs.Entries.{Frame, Entry, Arrive, DropIn, DropOut}
+use Rattle.pair_history.specs.HistoryState.{HistoryState, out_of, start_state}
+use Rattle.pair_history.specs.Failures.{arrived_numbers, rising, drops_of_taken_in, drops_of_owed_from}
+use Rattle.pair_history.proofs.AddressedLaws.{out_of-targets}
+use Rattle.pair_history.proofs.LandingLaws.{AllClients-targets}
+use Rattle.pair_history.proofs.OwedLaws.{owed_dropped}
+use Rattle.pair_history.proofs.SortedLaws.{rising-sorted}
+use Rattle.pair_history.proofs.TakenInLaws.{IsPermutation-rising}
+use Rattle.pair_core.specs.declared.epochs.Arrival.{Arrival}
+use Rattle.pair_core.specs.declared.epochs.RunningEpoch.{RunningEpoch}
+use Rattle.pair_core.specs.declared.event.Packet.{Packet}
+use Rattle.pair_core.specs.declared.event.Refusal.{Refusal}
+use Rattle.pair_core.specs.declared.event.Refusal.TheVariants.{Exhausted}
+use Rattle.pair_core.specs.declared.journal.Journal.TheInside.{Inside}
+use Rattle.pair_core.specs.declared.window.Window.{Window}
+use Rattle.pair_core.specs.Arrivals.{steps_of, arrivals_of, epoch_entries, numbers_of, numbers_in}
+use Rattle.pair_core.specs.Journal.{Journal, joined, kept_entries}
+use Rattle.pair_core.specs.JournalFields.{epoch_of, stored, AreFields}
+use Rattle.pair_core.specs.Lengths.{receivers}
+use Rattle.pair_core.specs.Lines.{AreBelow}
+use Rattle.pair_core.specs.Protocol.{Record, first_refusal, live_entries, go_live_refusals, go_live_done}
+use Rattle.pair_core.specs.Record.{RecordState, owed_to, IsRecord}
+use Rattle.pair_core.specs.Window.{IsWindow, first_after, committed_count, committed_of}
+use Rattle.pair_core.proofs.LengthLaws.{length-receivers}
+use Rattle.pair_core.proofs.WindowLaws.{within, leaves, gone}
+
+test_from : (a b : ℕ) → a ≤ b → nat_le a b ≡ true
+test_from a b h = grind (arith, nat_tests)
+
+test_below : (a b : ℕ) → b < a → nat_le a b ≡ false
+test_below a b h = grind (arith, nat_tests)
+
+-- The numbers of the frames that arrived
+
+arrived-append : (es fs : List Entry) → arrived_numbers (es ++ fs) ≡ arrived_numbers es ++ arrived_numbers fs
+arrived-append [] fs = refl
+arrived-append (Arrive n ∷ es) fs = ap (λ ns. n ∷ ns) (arrived-append es fs)
+arrived-append (other ∷ es) fs = arrived-append es fs
+
+pub arrived-few : (es : List Entry) → length (arrived_numbers es) ≤ length es
+arrived-few [] = omega arith
+arrived-few (Arrive n ∷ es) = let l = arrived-few es in omega arith
+arrived-few (other ∷ es) = let l = arrived-few es in omega arith
+
+arrived-steps : (k : ℕ) → arrived_numbers (steps_of k) ≡ []
+arrived-steps zero = refl
+arrived-steps (suc k) = arrived-steps k
+
+arrived-arrivals : (arrivals : List Arrival) → arrived_numbers (arrivals_of arrivals) ≡ numbers_of arrivals
+arrived-arrivals [] = refl
+arrived-arrivals (a ∷ arrivals) =
+    let one : arrived_numbers (steps_of a.steps ++ Arrive a.number ∷ []) ≡ a.number ∷ [] =
+    arrived-append (steps_of a.steps) (Arrive a.number ∷ []) ∙ ap (λ ns. ns ++ a.number ∷ []) (arrived-steps a.steps) in
+    arrived-append (steps_of a.steps ++ Arrive a.number ∷ []) (arrivals_of arrivals)
+    ∙ ap (λ ns. ns ++ arrived_numbers (arrivals_of arrivals)) one
+    ∙ ap (λ ns. a.number ∷ ns) (arrived-arrivals arrivals)
+
+arrived-epoch : (arrivals : List Arrival) (k : ℕ) → arrived_numbers (epoch_entries arrivals k) ≡ numbers_of arrivals
+arrived-epoch arrivals k =
+    arrived-append (arrivals_of arrivals) (steps_of k)
+    ∙ ap (λ ns. arrived_numbers (arrivals_of arrivals) ++ ns) (arrived-steps k)
+    ∙ append-nil (arrived_numbers (arrivals_of arrivals))
+    ∙ arrived-arrivals arrivals
+
+arrived-joined : (es : List RunningEpoch) → arrived_numbers (joined (map epoch_of es)) ≡ numbers_in es
+arrived-joined [] = refl
+arrived-joined (e ∷ es) =
+    arrived-append (epoch_of e) (joined (map epoch_of es))
+    ∙ ap (λ ns. ns ++ arrived_numbers (joined (map epoch_of es))) (arrived-epoch e.arrivals.items e.steps)
+    ∙ ap (λ ns. numbers_of e.arrivals.items ++ ns) (arrived-joined es)
+
+pub arrived-kept : (a : Inside)
+    → arrived_numbers (kept_entries (stored a).journal) ≡ numbers_in a.sealed.items ++ numbers_of a.running.arrivals.items
+arrived-kept a =
+    arrived-append (joined (map epoch_of a.sealed.items)) (epoch_of a.running)
+    ∙ ap (λ ns. ns ++ arrived_numbers (epoch_of a.running)) (arrived-joined a.sealed.items)
+    ∙ ap (λ ns. numbers_in a.sealed.items ++ ns) (arrived-epoch a.running.arrivals.items a.running.steps)
+
+pub numbers_in-next : (es : List RunningEpoch) (i : ℕ) (e : RunningEpoch) → i < length es → e ≡ get_or es i e
+    → numbers_in (drop i es) ≡ numbers_of e.arrivals.items ++ numbers_in (drop (i + 1) es)
+numbers_in-next es i e l is =
+    let next : suc i ≡ i + 1 = omega arith in
+    ap numbers_in (drop-cons es i e l)
+    ∙ ap (λ (x : RunningEpoch). numbers_of x.arrivals.items ++ numbers_in (drop (suc i) es)) (sym is)
+    ∙ ap (λ j. numbers_of e.arrivals.items ++ numbers_in (drop j es)) next
+
+-- The frames on their way to a client
+
+pub to_next : (c n : ℕ) (fs : List Frame) (i : ℕ) (f : Frame) → 1 ≤ c → c ≤ n → i < length fs → f ≡ get_or fs i f
+    → length (out_of c (targets_of n (drop i fs))) ≡ cond (addressed f.items c) 1 0 + length (out_of c (targets_of n (drop (i + 1) fs)))
+to_next c n fs i f low high l is =
+    let next : suc i ≡ i + 1 = omega arith in
+    let p : Frame → Bool = λ g. addressed g.items c in
+    ap length (out_of-targets c n (drop i fs) low high)
+    ∙ ap (λ gs. length (filter p gs)) (drop-cons fs i f l)
+    ∙ ap (λ g. length (filter p (g ∷ drop (suc i) fs))) (sym is)
+    ∙ ap (λ j. length (filter p (f ∷ drop j fs))) next
+    ∙ by_test (addressed f.items c) (filter p (drop (i + 1) fs))
+    ∙ ap (λ k. cond (addressed f.items c) 1 0 + k) (sym (ap length (out_of-targets c n (drop (i + 1) fs) low high)))
+  where
+    by_test : (t : Bool) (gs : List Frame) → length (cond t (f ∷ gs) gs) ≡ cond t 1 0 + length gs
+    by_test true gs = omega arith
+    by_test false gs = omega arith
+
+pub is_addressed : (n c : ℕ) (bytes : List ℕ) (targets : ℕ) → AreTargets n bytes targets → 1 ≤ c → c ≤ n → c ≤ 16
+    → has_target targets c ≡ addressed bytes c
+is_addressed n c bytes targets are low high most = are c low most ∙ ap (λ t. t && addressed bytes c) (test_from c n high)
+
+-- what is dropped for the clients from c on, of n
+abbrev pub drops_on : ℕ → ℕ → List (List Frame) → List Frame → List Entry
+drops_on n c boxes fs = drops_of_owed_from (n + 1 - c) c boxes (targets_of (length boxes) fs)
+
+pub drops_on-first : (n : ℕ) (boxes : List (List Frame)) (fs : List Frame) → n ≡ length boxes
+    → drops_on n 1 boxes fs ≡ drops_of_owed_from (length boxes) 1 boxes (targets_of (length boxes) fs)
+drops_on-first n boxes fs e =
+    let k : n + 1 - 1 ≡ length boxes = omega arith in
+    ap (λ j. drops_of_owed_from j 1 boxes (targets_of (length boxes) fs)) k
+
+-- the next client's
+module _ (n c : ℕ) (boxes : List (List Frame)) (fs : List Frame) (k place : ℕ) (high : c ≤ n)
+    (count : k ≡ length (out_of c (targets_of (length boxes) fs))) (box : place ≡ length (list_of boxes c)) where
+  pub drops_on-next : drops_on n c boxes fs ≡ replicate k (DropOut c place) ++ drops_on n (c + 1) boxes fs
+  drops_on-next =
+      let out = targets_of (length boxes) fs in
+      let rest = drops_on n (c + 1) boxes fs in
+      let one : n + 1 - c ≡ suc (n + 1 - (c + 1)) = omega arith in
+      ap (λ j. drops_of_owed_from j c boxes out) one
+      ∙ ap (λ j. replicate j (DropOut c (length (list_of boxes c))) ++ rest) (sym count)
+      ∙ ap (λ j. replicate k (DropOut c j) ++ rest) (sym box)
+
+  pub drops_on-length : length (drops_on n c boxes fs) ≡ k + length (drops_on n (c + 1) boxes fs)
+  drops_on-length =
+      let rest = drops_on n (c + 1) boxes fs in
+      ap length drops_on-next
+      ∙ length-append (replicate k (DropOut c place)) rest
+      ∙ ap (λ j. j + length rest) (length-replicate k (DropOut c place))
+
+-- each frame on its way is dropped once
+pub length-drops : (boxes : List (List Frame)) (fs : List Frame)
+    → length (drops_of_owed_from (length boxes) 1 boxes (targets_of (length boxes) fs)) ≡ length (targets_of (length boxes) fs)
+length-drops boxes fs =
+    let s : HistoryState = record (start_state 0 0 [] 0) { boxes = boxes; out = targets_of (length boxes) fs } in
+    (owed_dropped s (AllClients-targets (length boxes) fs)).1
+
+-- What is added
+
+-- however the numbers are sorted
+pub live_entries-are : (boxes : List (List Frame)) (out : List (ℕ × Frame)) (j : Journal) (ns : List ℕ)
+    → IsPermutation (arrived_numbers (kept_entries j)) ns → IsNonDecreasing ns
+    → live_entries boxes out j ≡ map DropIn ns ++ drops_of_owed_from (length boxes) 1 boxes out
+live_entries-are boxes out j ns same sorted =
+    ap (λ ms. map DropIn ms ++ drops_of_owed_from (length boxes) 1 boxes out)
+    (sym (rising-sorted (arrived_numbers (kept_entries j)) ns same sorted))
+
+pub length-live : (boxes : List (List Frame)) (fs : List Frame) (j : Journal)
+    → length (live_entries boxes (targets_of (length boxes) fs) j)
+    ≡ length (arrived_numbers (kept_entries j)) + length (receivers (length boxes) fs)
+length-live boxes fs j =
+    let ns = arrived_numbers (kept_entries j) in
+    let out = targets_of (length boxes) fs in
+    omega (
+      arith,
+      length-append (drops_of_taken_in (kept_entries j)) (drops_of_owed_from (length boxes) 1 boxes out),
+      length-map (rising ns) DropIn,
+      length_permutation ns (rising ns) (IsPermutation-rising ns),
+      length-drops boxes fs,
+      length-receivers (length boxes) fs,
+    )
+
+-- What the gate holds of committed checkpoints
+
+pub committed_held : (w : Window) (pending : List Epoch) → IsWindow w pending → w.to_acknowledge < w.to_commit
+    → frames_to (w.to_commit - 1) pending ≡ frames_of (committed_of w pending)
+committed_held w pending h some =
+    let n = w.to_commit - 1 in
+    let below : n < w.to_commit = omega arith in
+    let t = leaves w pending h n below in
+    let from : nat_le w.to_acknowledge n ≡ true = test_from w.to_acknowledge n (omega arith) in
+    let start : first_after n w.to_acknowledge ≡ n + 1 = ap (λ (b : Bool). cond b (n + 1) w.to_acknowledge) from in
+    let whole : length (committed_of w pending) ≡ committed_count w = length-take-le (committed_count w) pending (within w pending h) in
+    let none : length t.stay ≡ 0 = let k = t.count in omega arith in
+    gone w pending h n below
+    ∙ ap frames_of (sym (append-nil t.gone) ∙ ap (λ es. t.gone ++ es) (sym (nil_from_length t.stay none)) ∙ sym t.split)
+
+pub none_committed : (w : Window) (pending : List Epoch) → w.to_commit ≤ w.to_acknowledge → frames_of (committed_of w pending) ≡ []
+none_committed w pending l =
+    let none : committed_count w ≡ 0 = omega arith in
+    ap (λ k. frames_of (take k pending)) none
+
+-- The record
+
+-- how many entries the history would have
+abbrev pub live_count : RecordState → List Frame → ℕ
+live_count s fs =
+    let taken_in = length (arrived_numbers (kept_entries s.protocol.journal)) in
+    length s.protocol.journal.history + (taken_in + length (receivers (length s.ports.boxes) fs))
+
+abbrev pub live_table : RecordState → Option Refusal
+live_table s = first_refusal (go_live_refusals s.ports.boxes (owed_to s) s.protocol)
+
+-- the table of refusals, where there is a next generation
+module _ (s : RecordState) (fs : List Frame) (count : ℕ) (held : fs ≡ frames_of (committed_of s.protocol.window s.protocol.pending))
+    (is : count ≡ live_count s fs) (next : s.protocol.generation + 1 < NUMBER_LIMIT) where
+  live_row : live_table s ≡ cond (nat_le NUMBER_LIMIT count) (Some Exhausted) None
+  live_row =
+      let boxes = s.ports.boxes in
+      let r = s.protocol in
+      let all : length r.journal.history + length (live_entries boxes (owed_to s) r.journal) ≡ count =
+      ap (λ n. length r.journal.history + n) (length-live boxes (frames_of (committed_of r.window r.pending)) r.journal)
+      ∙ ap (live_count s) (sym held)
+      ∙ sym is in
+      let row : ℕ → Option Refusal = λ n. cond (nat_le NUMBER_LIMIT n) (Some Exhausted) None in
+      ap (λ (t : Bool). cond t (Some Exhausted) (row (length r.journal.history + length (live_entries boxes (owed_to s) r.journal))))
+      (test_below NUMBER_LIMIT (r.generation + 1) next)
+      ∙ ap row all
+
+  pub live_refused : NUMBER_LIMIT ≤ count → Some Exhausted ≡ live_table s
+  live_refused h = sym (live_row ∙ ap (λ (t : Bool). cond t (Some Exhausted) None) (test_from NUMBER_LIMIT count h))
+
+  pub live_allowed : count < NUMBER_LIMIT → None ≡ live_table s
+  live_allowed h = sym (live_row ∙ ap (λ (t : Bool). cond t (Some Exhausted) None) (test_below NUMBER_LIMIT count h))
+
+-- in the next generation every packet is of an earlier one
+AreBelow-next : (g n m : ℕ) (ps : List Packet) → AreBelow g n ps → AreBelow (g + 1) m ps
+AreBelow-next g n m [] h = tt
+AreBelow-next g n m (p ∷ ps) h = (let l = h.0 in omega arith, λ e. let l = h.0 in absurd (omega arith), AreBelow-next g n m ps h.2)
+
+pub live_record : (r : Record) → IsRecord r → (boxes : List (List Frame)) (out : List (ℕ × Frame)) (steps : ℕ)
+    → IsRecord (go_live_done boxes out steps r).1
+live_record r h boxes out steps =
+    let cut = h.window.cut in
+    let last = h.window.last in
+    record {
+      window = record {
+        numbers = tt;
+        count = omega arith;
+        committed = omega arith;
+        cut = omega arith;
+        few = omega arith;
+        last = omega arith;
+      };
+      forward = AreBelow-next r.generation r.window.to_cut r.window.to_commit r.lines.forward h.forward;
+      back = AreBelow-next r.generation r.window.to_commit r.window.to_commit r.lines.back h.back;
+      sealed = omega arith;
+      alone = λ e. (refl, refl, refl);
+    }
+
+-- The journal
+
+module _ (a : Inside) where
+  -- the frames that the kept epochs took in, in number
+  pub taken_in-count : length (numbers_in a.sealed.items) + length a.running.arrivals.items
+      ≡ length (arrived_numbers (kept_entries (stored a).journal))
+  taken_in-count =
+      let l = ap length (arrived-kept a) in
+      let both = length-append (numbers_in a.sealed.items) (numbers_of a.running.arrivals.items) in
+      let one = length-map a.running.arrivals.items (λ (x : Arrival). x.number) in
+      omega arith
+
+  pub taken_in-few : AreFields a → length a.history.entries + length (arrived_numbers (kept_entries (stored a).journal)) < NUMBER_LIMIT
+  taken_in-few h =
+      let few = arrived-few (kept_entries (stored a).journal) in
+      let counted = h.counted in
+      let fits = h.fits in
+      omega arith
+
+  module _ (sealed : List RunningEpoch) (ns : List ℕ) (is : sealed ≡ a.sealed.items)
+      (same : IsPermutation (numbers_in sealed ++ numbers_of a.running.arrivals.items) ns) where
+    pub same_numbers : IsPermutation (arrived_numbers (kept_entries (stored a).journal)) ns
+    same_numbers =
+        subst (λ (ms : List ℕ). IsPermutation ms ns)
+        (ap (λ (es : List RunningEpoch). numbers_in es ++ numbers_of a.running.arrivals.items) is ∙ sym (arrived-kept a)) same
+
+    pub as_many : length ns ≡ length (arrived_numbers (kept_entries (stored a).journal))
+    as_many = length_permutation (arrived_numbers (kept_entries (stored a).journal)) ns same_numbers
+
+    -- the history after the frames that were taken in are dropped, and then those on their way
+    pub live_history : (boxes : List (List Frame)) (out : List (ℕ × Frame)) (slice : List ℕ) (first second third : List Entry)
+        → IsNonDecreasing ns → slice ≡ ns → first ≡ a.history.entries → second ≡ first ++ map DropIn slice
+        → third ≡ second ++ drops_of_owed_from (length boxes) 1 boxes out
+        → third ≡ a.history.entries ++ live_entries boxes out (stored a).journal
+    live_history boxes out slice first second third sorted e f g h =
+        let drops = drops_of_owed_from (length boxes) 1 boxes out in
+        h
+        ∙ ap (λ es. es ++ drops) (g ∙ ap (λ es. es ++ map DropIn slice) f ∙ ap (λ ms. a.history.entries ++ map DropIn ms) e)
+        ∙ append_assoc a.history.entries (map DropIn ns) drops
+        ∙ ap (λ es. a.history.entries ++ es) (sym (live_entries-are boxes out (stored a).journal ns same_numbers sorted))

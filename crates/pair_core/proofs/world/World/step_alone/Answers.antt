@@ -1,0 +1,76 @@
+use Rattle.std.proofs.Common.{◌≡◌, ◌∙◌, ℕ, zero, suc, ◌+◌, ◌-◌, ◌<◌, ◌≤◌, [], length, sym, ap, subst, arith, true, Result, Ok, Err, OnErr}
+use Rattle.std.specs.Prelude.{IfOk}
+use Rattle.std.specs.declared.alloc.AllocError.{AllocError}
+use Rattle.guest_machine.specs.Runs.{sent_in}
+use Rattle.frame_ports.specs.Ports.{PortsState}
+use Rattle.frame_ports.specs.declared.limits.TheConstants.{NUMBER_LIMIT}
+use Rattle.pair_core.specs.declared.event.Reply.TheVariants as replies
+use Rattle.pair_core.specs.Invariant.{Holds}
+use Rattle.pair_core.specs.Journal.{all_entries}
+use Rattle.pair_core.specs.Modes.{is_alone}
+use Rattle.pair_core.specs.Nodes.{Housed, Nodes, after_run, with_sent_off}
+use Rattle.pair_core.specs.Pair.{Pair}
+use Rattle.pair_core.specs.Protocol.{Record}
+use Rattle.pair_core.specs.Record.{RecordState, IsLone}
+use Rattle.pair_core.specs.Runs.{steps_outcome}
+use Rattle.pair_core.specs.WorldFields.{pair_of}
+use Rattle.pair_core.proofs.AloneRuns.{after_alone, alone_holds, alone_answered}
+use Rattle.pair_core.proofs.world.World.step_alone.Goals as goal
+
+-- the pair after a call that did all or nothing
+module _ (w : Pair) (h : Holds w) (k : IsLone w.protocol) (lone : is_alone w.protocol.mode ≡ true) (protocol : Record) (ports : PortsState)
+    (nodes : Nodes) where
+  after_all : (o : Result ℕ AllocError)
+      → IfOk o (λ n. protocol ≡ (after_alone w n (sent_in n w.nodes.live.guest)).protocol)
+      → IfOk o (λ n. ports ≡ (after_alone w n (sent_in n w.nodes.live.guest)).ports)
+      → IfOk o (λ n. nodes ≡ with_sent_off (after_run n w.nodes))
+      → OnErr o (protocol ≡ w.protocol) → OnErr o (ports ≡ w.ports) → OnErr o (nodes ≡ w.nodes)
+      → Holds (record w { protocol = protocol; ports = ports; nodes = nodes })
+  after_all (Ok n) p q x e f g =
+      subst Holds (λ i. record w { protocol = sym p i; ports = sym q i; nodes = sym x i }) (alone_holds w h k lone n)
+  after_all (Err error) p q x e f g = subst Holds (λ i. record w { protocol = sym e i; ports = sym f i; nodes = sym g i }) h
+
+  answered : (o : Result ℕ AllocError) (most : ℕ)
+      → IfOk o (λ n. protocol ≡ (after_alone w n (sent_in n w.nodes.live.guest)).protocol)
+      → IfOk o (λ n. nodes ≡ with_sent_off (after_run n w.nodes))
+      → IfOk o (λ n. sent_in (n - 1) w.nodes.live.guest ≡ []) → IfOk o (λ n. n ≤ most)
+      → length (all_entries w.protocol.journal) + (most + 1024) < NUMBER_LIMIT
+      → IfOk o (λ n. (replies.Steps nodes.live.guest.steps, protocol) ≡ steps_outcome w.start w.protocol n)
+  answered (Ok n) most p x quiet least fits =
+      (λ i. (replies.Steps (x i).live.guest.steps, p i)) ∙ alone_answered w h k lone n quiet (omega arith)
+  answered (Err error) most p x quiet least fits = tt
+
+-- what is so of both sides where the call did nothing
+ap_err : {A B : Type 0} (o : Result ℕ AllocError) (f : A → B) (x y : A) → OnErr o (x ≡ y) → OnErr o (f x ≡ f y)
+ap_err (Ok n) f x y e = tt
+ap_err (Err error) f x y e = ap f e
+
+by_count : (n used : ℕ) → used + 1025 < NUMBER_LIMIT → (0 < n → used + (n + 1024) < NUMBER_LIMIT) → used + (n + 1024) < NUMBER_LIMIT
+by_count zero used room some = omega arith
+by_count (suc n) used room some = some (omega arith)
+
+pub invariant_of-self : goal.invariant_of-self
+invariant_of-self c =
+    let w = pair_of c.self.inside in
+    let lone = subst (λ (v : Pair). is_alone v.protocol.mode ≡ true) (sym c.self.view_is) c.requires.alone in
+    after_all w c.self.invariant (c.keep.ensures.alone lone) lone c.step_alone.new.self.protocol c.step_alone.new.self.ports
+    c.step_alone.new.nodes.nodes c.step_alone.result c.step_alone.ensures.protocol c.step_alone.ensures.ports c.step_alone.ensures.nodes
+    (ap_err c.step_alone.result (λ (s : RecordState). s.protocol) _ _ c.step_alone.ensures.err)
+    (ap_err c.step_alone.result (λ (s : RecordState). s.ports) _ _ c.step_alone.ensures.err)
+    (ap_err c.step_alone.result (λ (x : Housed). x.nodes) _ _ c.step_alone.ensures.err_nodes)
+
+pub returns-clause-answered : goal.returns-clause-answered
+returns-clause-answered c =
+    let w = pair_of c.self.inside in
+    let n = c.alone_steps_left-most.result in
+    let lone = subst (λ (v : Pair). is_alone v.protocol.mode ≡ true) (sym c.self.view_is) c.requires.alone in
+    let room = subst (λ (v : Pair). length (all_entries v.protocol.journal) + 1025 < NUMBER_LIMIT) (sym c.self.view_is) c.requires.room in
+    let fits : length (all_entries w.protocol.journal) + (n + 1024) < NUMBER_LIMIT =
+    by_count n (length (all_entries w.protocol.journal)) room c.alone_steps_left-most.ensures.fits in
+    subst (λ (v : Pair). IfOk c.step_alone.result (λ k. (
+      replies.Steps c.step_alone.new.nodes.nodes.live.guest.steps,
+      c.step_alone.new.self.protocol,
+    ) ≡ steps_outcome v.start v.protocol k)) c.self.view_is
+    (answered w c.self.invariant (c.keep.ensures.alone lone) lone c.step_alone.new.self.protocol c.step_alone.new.self.ports
+    c.step_alone.new.nodes.nodes c.step_alone.result n c.step_alone.ensures.protocol c.step_alone.ensures.nodes c.step_alone.ensures.quiet
+    c.step_alone.ensures.most fits)

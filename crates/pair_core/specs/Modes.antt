@@ -1,0 +1,62 @@
+-- The modes of a pair, and which events each of them refuses whatever else holds.
+use Rattle.std.specs.Prelude.{Bool, true, false, Option, None, Some}
+use Rattle.failover.specs.declared.mode.Mode.{Mode}
+use Rattle.failover.specs.declared.mode.Mode.TheVariants as modes
+use Rattle.pair_core.specs.declared.event.Event.{Event}
+use Rattle.pair_core.specs.declared.event.Event.TheVariants.{Cut, Send, BackupGet, AckGet, FailPrimary, FailBackup, GoLive}
+use Rattle.pair_core.specs.declared.event.Refusal.{Refusal}
+use Rattle.pair_core.specs.declared.event.Refusal.TheVariants.{Stopped, NotPaired, AlreadyPaired, NoImage}
+
+-- whether the primary has stopped, and the backup hasn't gone live
+abbrev pub is_stopped : Mode → Bool
+is_stopped modes.Stopped = true
+is_stopped modes.Paired = false
+is_stopped modes.Filling = false
+is_stopped modes.Alone = false
+
+-- whether a node is alone
+abbrev pub is_alone : Mode → Bool
+is_alone modes.Alone = true
+is_alone modes.Paired = false
+is_alone modes.Filling = false
+is_alone modes.Stopped = false
+
+-- what the primary does in a pair is refused where it has stopped, and where a node is alone
+abbrev pub primary_refusal : Mode → Option Refusal
+primary_refusal modes.Paired = None
+primary_refusal modes.Filling = None
+primary_refusal modes.Alone = Some NotPaired
+primary_refusal modes.Stopped = Some Stopped
+
+-- what the backup does, where a node is alone: it goes on where the primary has stopped
+abbrev pub backup_refusal : Mode → Option Refusal
+backup_refusal modes.Paired = None
+backup_refusal modes.Filling = None
+backup_refusal modes.Alone = Some NotPaired
+backup_refusal modes.Stopped = None
+
+-- the primary's stop, where it has stopped, and where no backup could go on
+abbrev pub stop_refusal : Mode → Option Refusal
+stop_refusal modes.Paired = None
+stop_refusal modes.Filling = Some NoImage
+stop_refusal modes.Alone = Some NoImage
+stop_refusal modes.Stopped = Some Stopped
+
+-- that the backup goes live, where the primary hasn't stopped
+abbrev pub live_refusal : Mode → Option Refusal
+live_refusal modes.Paired = Some AlreadyPaired
+live_refusal modes.Filling = Some AlreadyPaired
+live_refusal modes.Alone = Some NotPaired
+live_refusal modes.Stopped = None
+
+-- Why an event is refused in a mode. A step, and a frame's arrival, are refused where the primary has stopped, each in its own place of
+-- its table of refusals; what clients and their lines do is not refused by any mode.
+abbrev pub mode_refusal : Mode → Event → Option Refusal
+mode_refusal mode Cut = primary_refusal mode
+mode_refusal mode Send = primary_refusal mode
+mode_refusal mode (BackupGet k) = backup_refusal mode
+mode_refusal mode (AckGet k) = primary_refusal mode
+mode_refusal mode FailPrimary = stop_refusal mode
+mode_refusal mode FailBackup = primary_refusal mode
+mode_refusal mode GoLive = live_refusal mode
+mode_refusal mode other = None

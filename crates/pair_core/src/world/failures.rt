@@ -1,0 +1,61 @@
+//! What happens when a node fails, at the world.
+ghost use Rattle.std.specs.Prelude.{◌≡◌, IfOk, OnErr, None};
+ghost use Rattle.pair_core.specs.declared.event.Event.TheVariants as events;
+ghost use Rattle.pair_core.specs.Modes.{mode_refusal};
+ghost use Rattle.pair_core.specs.Protocol.{MayWantMemory, allowed};
+ghost use Rattle.pair_core.specs.Pair.{OnRefused};
+ghost use Rattle.pair_core.specs.Replication.{KeepsBackup, Replicates};
+
+use super::World;
+use crate::event::Reply;
+use std::alloc::AllocError;
+
+impl World {
+    /// The primary stops.
+    pub(super) fn fail_primary(&mut self) -> Reply
+        requires { mode_refusal self.old.protocol.mode events.FailPrimary ≡ None }
+        ensures outcome { (result, self.new.protocol) ≡ allowed self.old.start self.old.protocol events.FailPrimary }
+        ensures start { self.new.start ≡ self.old.start }
+        ensures backup { KeepsBackup self.old.nodes self.new.nodes }
+        ensures refused { OnRefused result self.old self.new }
+    {
+        self.record.fail_primary()
+    }
+
+    /// The backup stops, and the primary goes on alone.
+    pub(super) fn fail_backup(&mut self) -> Result<Reply, AllocError>
+        requires { mode_refusal self.old.protocol.mode events.FailBackup ≡ None }
+        ensures outcome { IfOk result (λ reply. (reply, self.new.protocol) ≡ allowed self.old.start self.old.protocol events.FailBackup) }
+        ensures start { self.new.start ≡ self.old.start }
+        ensures replicates { IfOk result (λ reply. Replicates events.FailBackup reply self.old.nodes self.new.nodes) }
+        ensures refused { IfOk result (λ reply. OnRefused reply self.old self.new) }
+        ensures memory { OnErr result (MayWantMemory self.old.protocol.mode
+            (allowed self.old.start self.old.protocol events.FailBackup).0) }
+        ensures err { OnErr result (self.new ≡ self.old) }
+    {
+        if let Some(why) = self.record.fail_backup_refusal(self.nodes.outbox()) {
+            return Ok(Reply::Refused(why));
+        }
+        let reply = self.record.fail_backup(self.nodes.outbox())?;
+        self.nodes.leave_alone();
+        Ok(reply)
+    }
+
+    /// The backup goes live in the place of the stopped primary.
+    pub(super) fn go_live(&mut self) -> Result<Reply, AllocError>
+        requires { mode_refusal self.old.protocol.mode events.GoLive ≡ None }
+        ensures outcome { IfOk result (λ reply. (reply, self.new.protocol) ≡ allowed self.old.start self.old.protocol events.GoLive) }
+        ensures start { self.new.start ≡ self.old.start }
+        ensures replicates { IfOk result (λ reply. Replicates events.GoLive reply self.old.nodes self.new.nodes) }
+        ensures refused { IfOk result (λ reply. OnRefused reply self.old self.new) }
+        ensures memory { OnErr result (MayWantMemory self.old.protocol.mode (allowed self.old.start self.old.protocol events.GoLive).0) }
+        ensures err { OnErr result (self.new ≡ self.old) }
+    {
+        if let Some(why) = self.record.go_live_refusal() {
+            return Ok(Reply::Refused(why));
+        }
+        let reply = self.record.go_live(self.nodes.image_steps())?;
+        self.nodes.go_live();
+        Ok(reply)
+    }
+}
