@@ -27,6 +27,7 @@ for name in sort crc32 sha256 division; do
     make $name small.ld start.s $name.c
 done
 make ping large.ld start.s interrupts.s ping.c
+make account large.ld start.s account.c
 make disk large.ld start.s disk.c
 make flood small.ld start.s flood.c
 make stream large.ld start.s stream.c

@@ -1,6 +1,6 @@
 #!/usr/bin/env python3
-"""Writes ../examples/ping.sim and ../examples/disk.sim from the words of the guests, and beside each what it prints. The
-frames, their answers and the hash are worked out here, with no part of the guests."""
+"""Writes ../examples/ping.sim, ../examples/disk.sim and ../examples/failover.sim from the words of the guests, and beside each
+what it prints. The frames, their answers and the hash are worked out here, with no part of the guests."""
 import struct
 from pathlib import Path
 
@@ -131,5 +131,53 @@ def disk():
     write("disk", lines)
 
 
+def failover():
+    def request(amount):
+        return ethernet(GUEST_MAC, CLIENT_MAC, 0x88B5, struct.pack(">I", amount)).hex()
+
+    def answer(balance):
+        return ethernet(CLIENT_MAC, GUEST_MAC, 0x88B5, struct.pack(">I", balance)).hex()
+
+    set_up, each = 5000, 1000
+    # What was committed, with the frame of 100 delivered, arrived, landed and taken.
+    steps, entries = set_up + each, set_up + each + 4
+    write("failover", [
+        "The guest of guests/account.c adds the amount that a frame names to a balance, and answers with the balance.",
+        (f"boot 32 1 1 words {words('account')}", "booted"),
+        (f"step {set_up}", f"steps {set_up}"),
+        "Client 1 pays 100 in, and has its answer when the backup has the state that sent it.",
+        (f"deliver 1 {request(100)}", "delivered 1"),
+        ("admit 1", "admitted 1"),
+        (f"step {each}", f"steps {steps}"),
+        ("cut", "cut 1 1"),
+        ("send", "sent 1"),
+        ("backup 0", "committed 1 1"),
+        ("ack 0", "acked 1 1 landed 1"),
+        ("take 1", f"frame {answer(100)}"),
+        "It pays 50 in. The guest adds that and answers, and then the primary stops: the checkpoint never reaches the backup.",
+        (f"deliver 1 {request(50)}", "delivered 2"),
+        ("admit 1", "admitted 2"),
+        (f"step {each}", f"steps {steps + each}"),
+        ("cut", "cut 1 2"),
+        ("send", "sent 1"),
+        ("fail primary", "stopped primary"),
+        (f"step {each}", "refused 4 Stopped"),
+        ("show", f"mode stopped generation 1 pending 1 steps {steps} entries {entries + 1}"),
+        "The backup goes live from the state that was committed. The frame that paid 50 in is lost, as on a line, and so is its answer.",
+        ("golive", f"live 2 steps {steps}"),
+        ("take 1", "none"),
+        ("show", f"mode alone generation 2 pending 0 steps {steps} entries {entries + 3}"),
+        "The client asks again: the balance is 150, and not 200. What a node sends that is alone is on its way at once.",
+        (f"deliver 1 {request(50)}", "delivered 3"),
+        ("admit 1", "admitted 3"),
+        (f"step {each}", f"steps {steps + each}"),
+        ("take 1", f"frame {answer(150)}"),
+        ("take 1", "none"),
+        "The old pair's packet finds no pair.",
+        ("backup 1", "refused 6 NotPaired"),
+    ])
+
+
 ping()
 disk()
+failover()
