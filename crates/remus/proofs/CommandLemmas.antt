@@ -7,7 +7,8 @@ use Rattle.std.proofs.lemmas.Slice.Eq.{bytes_eq-Decides}
 use Rattle.remus.specs.Fields.{text_after, number_of, numbered_by, operand_of, with_second, numbers_by}
 use Rattle.remus.specs.Command.{IsNumbered, HasNumbers, IsCommand, command_of}
 use Rattle.remus.specs.declared.script.Command.{Command}
-use Rattle.remus.specs.declared.script.Command.TheVariants.{Step, Cut, Send, Backup, Ack, Admit, Take, LoseIn, LoseOut, Sector, Show}
+use Rattle.remus.specs.declared.script.Command.TheVariants.{Step, Cut, Send, Backup, Ack, Admit, Take, LoseIn, LoseOut, FailPrimary}
+use Rattle.remus.specs.declared.script.Command.TheVariants.{FailBackup, GoLive, Sector, Show}
 use Rattle.remus.proofs.FieldLemmas.{text_after-some, operand_of-spelled, operand_of-read}
 use Rattle.remus.proofs.OptionLemmas.{and_then_some}
 
@@ -39,6 +40,9 @@ command_of-spelled text (LoseOut client place) (first, second, shape, m, n) =
     (numbers-spelled first second client place m n)
 command_of-spelled text (Sector sector) (digits, shape, value) =
     ap command_of shape ∙ ap (λ o. option_map_or (λ k. Some (Sector k)) o None) value
+command_of-spelled text FailPrimary shape = ap command_of shape
+command_of-spelled text FailBackup shape = ap command_of shape
+command_of-spelled text GoLive shape = ap command_of shape
 command_of-spelled text Show shape = ap command_of shape
 
 named : (P : Type 0) (test : Bool) (first : Command) (others : Option Command) (command : Command) → (test ≡ true → first ≡ command → P)
@@ -104,6 +108,21 @@ backup_form text = option_map_or (λ k. Some (Backup k)) (numbered_by (codes "ba
 abbrev step_form : List ℕ → Option Command
 step_form text = option_map_or (λ n. cond (nat_eq n 0) None (Some (Step n))) (numbered_by (codes "step ") text) (backup_form text)
 
+abbrev go_live_form : List ℕ → Option Command
+go_live_form text = cond (bytes_eq text (codes "golive")) (Some GoLive) (step_form text)
+
+abbrev fail_backup_form : List ℕ → Option Command
+fail_backup_form text = cond (bytes_eq text (codes "fail backup")) (Some FailBackup) (go_live_form text)
+
+abbrev fail_primary_form : List ℕ → Option Command
+fail_primary_form text = cond (bytes_eq text (codes "fail primary")) (Some FailPrimary) (fail_backup_form text)
+
+abbrev show_form : List ℕ → Option Command
+show_form text = cond (bytes_eq text (codes "show")) (Some Show) (fail_primary_form text)
+
+abbrev send_form : List ℕ → Option Command
+send_form text = cond (bytes_eq text (codes "send")) (Some Send) (show_form text)
+
 from_lose_out : (text : List ℕ) (command : Command) → lose_out_form text ≡ Some command → IsCommand text command
 from_lose_out text command = told (IsCommand text command) (λ (f : ℕ × ℕ). Some (LoseOut f.0 f.1)) (numbers_by (codes "loseout ") text) None
     command
@@ -152,23 +171,34 @@ from_step text command = told (IsCommand text command) (λ n. cond (nat_eq n 0) 
 same_text : (text name : List ℕ) → bytes_eq text name ≡ true → text ≡ name
 same_text text name h = (bytes_eq-Decides text name).0 h
 
-from_show : (text : List ℕ) (command : Command) → cond (bytes_eq text (codes "show")) (Some Show) (step_form text) ≡ Some command
-    → IsCommand text command
-from_show text command = named (IsCommand text command) (bytes_eq text (codes "show")) Show (step_form text) command
-    (λ e same. subst (IsCommand text) same (same_text text (codes "show") e))
+from_go_live : (text : List ℕ) (command : Command) → go_live_form text ≡ Some command → IsCommand text command
+from_go_live text command = named (IsCommand text command) (bytes_eq text (codes "golive")) GoLive (step_form text) command
+    (λ e same. subst (IsCommand text) same (same_text text (codes "golive") e))
     (from_step text command)
 
-from_send : (text : List ℕ) (command : Command)
-    → cond (bytes_eq text (codes "send")) (Some Send) (cond (bytes_eq text (codes "show")) (Some Show) (step_form text)) ≡ Some command
-    → IsCommand text command
-from_send text command = named (IsCommand text command) (bytes_eq text (codes "send")) Send
-    (cond (bytes_eq text (codes "show")) (Some Show) (step_form text)) command
+from_fail_backup : (text : List ℕ) (command : Command) → fail_backup_form text ≡ Some command → IsCommand text command
+from_fail_backup text command = named (IsCommand text command) (bytes_eq text (codes "fail backup")) FailBackup (go_live_form text) command
+    (λ e same. subst (IsCommand text) same (same_text text (codes "fail backup") e))
+    (from_go_live text command)
+
+from_fail_primary : (text : List ℕ) (command : Command) → fail_primary_form text ≡ Some command → IsCommand text command
+from_fail_primary text command =
+    named (IsCommand text command) (bytes_eq text (codes "fail primary")) FailPrimary (fail_backup_form text) command
+    (λ e same. subst (IsCommand text) same (same_text text (codes "fail primary") e))
+    (from_fail_backup text command)
+
+from_show : (text : List ℕ) (command : Command) → show_form text ≡ Some command → IsCommand text command
+from_show text command = named (IsCommand text command) (bytes_eq text (codes "show")) Show (fail_primary_form text) command
+    (λ e same. subst (IsCommand text) same (same_text text (codes "show") e))
+    (from_fail_primary text command)
+
+from_send : (text : List ℕ) (command : Command) → send_form text ≡ Some command → IsCommand text command
+from_send text command = named (IsCommand text command) (bytes_eq text (codes "send")) Send (show_form text) command
     (λ e same. subst (IsCommand text) same (same_text text (codes "send") e))
     (from_show text command)
 
 -- what is read is spelled so
 pub command_of-read : (text : List ℕ) (command : Command) → command_of text ≡ Some command → IsCommand text command
-command_of-read text command = named (IsCommand text command) (bytes_eq text (codes "cut")) Cut
-    (cond (bytes_eq text (codes "send")) (Some Send) (cond (bytes_eq text (codes "show")) (Some Show) (step_form text))) command
+command_of-read text command = named (IsCommand text command) (bytes_eq text (codes "cut")) Cut (send_form text) command
     (λ e same. subst (IsCommand text) same (same_text text (codes "cut") e))
     (from_send text command)

@@ -11,7 +11,8 @@ use Rattle.std.proofs.KnownBytes.{Appends-nil, Appends-trans, Appends-kept}
 use Rattle.pair_core.specs.declared.event.Event.{Event}
 use Rattle.pair_core.specs.Pair.{Pair}
 use Rattle.remus.specs.declared.script.Command.{Command}
-use Rattle.remus.specs.declared.script.Command.TheVariants.{Step, Cut, Send, Backup, Ack, Admit, Take, LoseIn, LoseOut, Sector, Show}
+use Rattle.remus.specs.declared.script.Command.TheVariants.{Step, Cut, Send, Backup, Ack, Admit, Take, LoseIn, LoseOut, FailPrimary}
+use Rattle.remus.specs.declared.script.Command.TheVariants.{FailBackup, GoLive, Sector, Show}
 use Rattle.remus.specs.Lines.{Line, order, delivery}
 use Rattle.remus.specs.declared.player.Stop.{Stop}
 use Rattle.remus.specs.declared.player.Stop.TheVariants as stops
@@ -42,6 +43,9 @@ answered old (order (Admit client)) event printed new a h = (event, a, h)
 answered old (order (Take client)) event printed new a h = (event, a, h)
 answered old (order (LoseIn client place)) event printed new a h = (event, a, h)
 answered old (order (LoseOut client place)) event printed new a h = (event, a, h)
+answered old (order FailPrimary) event printed new a h = (event, a, h)
+answered old (order FailBackup) event printed new a h = (event, a, h)
+answered old (order GoLive) event printed new a h = (event, a, h)
 answered old (order (Sector sector)) event printed new a h = absurd a
 answered old (order Show) event printed new a h = absurd a
 answered old (delivery client bytes) event printed new a h = (event, a, h)

@@ -15,10 +15,11 @@ use Rattle.hex.specs.Hex.{encode_lower, decode_of, IsBytes}
 use Rattle.hex.proofs.HexLemmas.{decode_of-encode_lower}
 use Rattle.pair_core.specs.Refusals.{number_of, name_of}
 use Rattle.pair_core.specs.declared.event.Refusal.{Refusal}
-use Rattle.pair_core.specs.declared.event.Refusal.TheVariants.{Full, BadFrame, NoClient, Behind, Stale, Gap, NoMemory, CutNeeded, Exhausted}
+use Rattle.pair_core.specs.declared.event.Refusal.TheVariants.{Full, BadFrame, NoClient, Stopped, Behind, NotPaired, AlreadyPaired}
+use Rattle.pair_core.specs.declared.event.Refusal.TheVariants.{NoImage, Stale, Gap, NoMemory, CutNeeded, Exhausted}
 use Rattle.pair_core.specs.declared.event.Reply.{Reply}
 use Rattle.pair_core.specs.declared.event.Reply.TheVariants.{Steps, Cut, Sent, Committed, Again, Lost, Acked, Admitted, Empty}
-use Rattle.pair_core.specs.declared.event.Reply.TheVariants.{Delivered, Took, Dropped, Refused}
+use Rattle.pair_core.specs.declared.event.Reply.TheVariants.{Delivered, Took, Dropped, Alone, Live, Refused, Stopped as HasStopped}
 use Rattle.remus.specs.Fields.{text_after}
 use Rattle.remus.specs.Printed.{reply_line, IsPlain}
 use Rattle.remus.proofs.OptionLemmas.{some_same}
@@ -57,6 +58,10 @@ one make text = Some (make (number_at 10 text).0)
 abbrev two : (ℕ → ℕ → Reply) → List ℕ → Option Reply
 two make text = one (make (number_at 32 text).0) (number_at 32 text).1
 
+-- two numbers, with so many bytes between them
+abbrev two_apart : ℕ → (ℕ → ℕ → Reply) → List ℕ → Option Reply
+two_apart count make text = one (make (number_at 32 text).0) (drop count (number_at 32 text).1)
+
 abbrev three : (ℕ → ℕ → ℕ → Reply) → List ℕ → Option Reply
 three make text = one (make (number_at 32 text).0 (number_at 32 (number_at 32 text).1).0) (drop 7 (number_at 32 (number_at 32 text).1).1)
 
@@ -69,9 +74,10 @@ frame text = option_map frame_of (result_ok (decode_of (take (length text - 1) t
 abbrev refusal_of : ℕ → Option Refusal
 refusal_of n =
     cond (n == 1) (Some Full) (cond (n == 2) (Some BadFrame)
-    (cond (n == 3) (Some NoClient) (cond (n == 5) (Some Behind) (cond (n == 9) (Some Stale)
+    (cond (n == 3) (Some NoClient) (cond (n == 4) (Some Stopped) (cond (n == 5) (Some Behind)
+    (cond (n == 6) (Some NotPaired) (cond (n == 7) (Some AlreadyPaired) (cond (n == 8) (Some NoImage) (cond (n == 9) (Some Stale)
     (cond (n == 10) (Some Gap) (cond (n == 12) (Some NoMemory)
-    (cond (n == 13) (Some CutNeeded) (cond (n == 14) (Some Exhausted) None))))))))
+    (cond (n == 13) (Some CutNeeded) (cond (n == 14) (Some Exhausted) None))))))))))))
 
 abbrev refused : List ℕ → Option Reply
 refused text = option_map (λ r. Refused r) (refusal_of (number_at 32 text).0)
@@ -84,6 +90,16 @@ two-back : (make : ℕ → ℕ → Reply) (g n : ℕ) → g < 2 ^ 64 → n < 2 ^
 two-back make g n hg hn =
     ap (two make) (append_assoc (decimal g) (32 ∷ decimal n) (10 ∷ []))
     ∙ ap (λ (p : ℕ × List ℕ). one (make p.0) p.1) (number-back 32 g (decimal n ++ 10 ∷ []) (omega arith) hg)
+    ∙ one-back (make g) n hn
+
+two-apart-back : (between : List ℕ) (count : ℕ) → ((rest : List ℕ) → drop count (between ++ rest) ≡ rest)
+    → (make : ℕ → ℕ → Reply) (g n : ℕ) → g < 2 ^ 64 → n < 2 ^ 64
+    → two_apart count make ((decimal g ++ 32 ∷ (between ++ decimal n)) ++ 10 ∷ []) ≡ Some (make g n)
+two-apart-back between count drops make g n hg hn =
+    ap (two_apart count make) (append_assoc (decimal g) (32 ∷ (between ++ decimal n)) (10 ∷ []))
+    ∙ ap (λ (p : ℕ × List ℕ). one (make p.0) (drop count p.1)) (number-back 32 g ((between ++ decimal n) ++ 10 ∷ []) (omega arith) hg)
+    ∙ ap (λ t. one (make g) (drop count t)) (append_assoc between (decimal n) (10 ∷ []))
+    ∙ ap (one (make g)) (drops (decimal n ++ 10 ∷ []))
     ∙ one-back (make g) n hn
 
 three-back : (make : ℕ → ℕ → ℕ → Reply) (g n m : ℕ) → g < 2 ^ 64 → n < 2 ^ 64 → m < 2 ^ 64
@@ -111,7 +127,11 @@ refusal-back : (r : Refusal) → refusal_of (number_of r) ≡ Some r
 refusal-back Full = refl
 refusal-back BadFrame = refl
 refusal-back NoClient = refl
+refusal-back Stopped = refl
 refusal-back Behind = refl
+refusal-back NotPaired = refl
+refusal-back AlreadyPaired = refl
+refusal-back NoImage = refl
 refusal-back Stale = refl
 refusal-back Gap = refl
 refusal-back NoMemory = refl
@@ -122,7 +142,11 @@ small : (r : Refusal) → number_of r < 2 ^ 64
 small Full = omega arith
 small BadFrame = omega arith
 small NoClient = omega arith
+small Stopped = omega arith
 small Behind = omega arith
+small NotPaired = omega arith
+small AlreadyPaired = omega arith
+small NoImage = omega arith
 small Stale = omega arith
 small Gap = omega arith
 small NoMemory = omega arith
@@ -158,8 +182,11 @@ reply_of =
     (after (codes "none\n") (λ _. Some (Took None))
     (after (codes "frame ") frame
     (after (codes "dropped\n") (λ _. Some Dropped)
+    (after (codes "stopped primary\n") (λ _. Some HasStopped)
+    (after (codes "alone ") (two_apart 7 (λ g m. Alone g m))
+    (after (codes "live ") (two_apart 6 (λ g n. Live g n))
     (after (codes "refused ") refused
-    (λ _. None))))))))))))))
+    (λ _. None)))))))))))))))))
 
 -- the line of a reply is read as that reply
 read-back : (reply : Reply) → IsPlain reply → reply_of (reply_line reply) ≡ Some reply
@@ -176,6 +203,9 @@ read-back (Delivered n) h = one-back (λ n. Delivered n) n h
 read-back (Took None) h = refl
 read-back (Took (Some bytes)) h = frame-back bytes.items h
 read-back Dropped h = refl
+read-back HasStopped h = refl
+read-back (Alone g m) h = two-apart-back (codes "landed ") 7 (λ rest. refl) (λ g m. Alone g m) g m h.0 h.1
+read-back (Live g n) h = two-apart-back (codes "steps ") 6 (λ rest. refl) (λ g n. Live g n) g n h.0 h.1
 read-back (Refused refusal) h = refused-back refusal (name_of refusal)
 
 -- no two replies print alike

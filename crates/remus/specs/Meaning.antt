@@ -9,10 +9,11 @@ use Rattle.pair_core.specs.declared.event.Refusal.TheVariants.{NoMemory}
 use Rattle.pair_core.specs.declared.event.Reply.{Reply}
 use Rattle.pair_core.specs.Pair.{Pair, IsConsistent}
 use Rattle.pair_core.specs.Protocol.{Answers}
-use Rattle.pair_core.specs.Runs.{steps_outcome}
+use Rattle.pair_core.specs.Runs.{StepsAnswer}
 use Rattle.pair_core.specs.Record.{start_record}
 use Rattle.pair_core.specs.Start.{shown}
-use Rattle.remus.specs.declared.script.Command.TheVariants.{Step, Cut, Send, Backup, Ack, Admit, Take, LoseIn, LoseOut, Sector, Show}
+use Rattle.remus.specs.declared.script.Command.TheVariants.{Step, Cut, Send, Backup, Ack, Admit, Take, LoseIn, LoseOut, FailPrimary}
+use Rattle.remus.specs.declared.script.Command.TheVariants.{FailBackup, GoLive, Sector, Show}
 use Rattle.remus.specs.Boot.{BootLine, IsBoot, BeginsBoot, booted_state}
 use Rattle.remus.specs.Command.{IsCommand}
 use Rattle.remus.specs.Delivery.{IsDelivery, BeginsDelivery}
@@ -48,6 +49,9 @@ AsksFor (order (Admit client)) event = event ≡ events.Admit client
 AsksFor (order (Take client)) event = event ≡ events.Take client
 AsksFor (order (LoseIn client place)) event = event ≡ events.LoseIn client place
 AsksFor (order (LoseOut client place)) event = event ≡ events.LoseOut client place
+AsksFor (order FailPrimary) event = event ≡ events.FailPrimary
+AsksFor (order FailBackup) event = event ≡ events.FailBackup
+AsksFor (order GoLive) event = event ≡ events.GoLive
 AsksFor (delivery client bytes) (events.Deliver to lent) = (to ≡ client) × (lent.now ≡ bytes)
 AsksFor line event = ⊥
 
@@ -62,7 +66,7 @@ pub record Happens (old : Pair) (event : Event) (printed : List ℕ) (new : Pair
 -- The guest makes so many steps, or as many as it can before a refusal, and the last reply is printed.
 pub record Steps (old : Pair) (count : ℕ) (printed : List ℕ) (new : Pair) : Type 0 where
   pub reply : Reply
-  pub outcome : (reply, new.protocol) ≡ steps_outcome old.start old.protocol count
+  pub outcome : StepsAnswer old.start old.protocol count reply new.protocol
   pub start : new.start ≡ old.start
   pub consistent : IsConsistent new
   pub is_printed : printed ≡ reply_line reply

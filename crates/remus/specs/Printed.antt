@@ -4,12 +4,13 @@ use Rattle.std.specs.List.{join_with_byte}
 use Rattle.hex.specs.Hex.{encode_lower, IsBytes}
 use Rattle.pair_core.specs.Pair.{Pair}
 use Rattle.pair_core.specs.Start.{shown_sector}
+use Rattle.pair_core.specs.Words.{word_of}
 use Rattle.pair_core.specs.declared.event.Refusal.{Refusal}
 use Rattle.pair_core.specs.Refusals.{number_of, name_of}
 use Rattle.pair_core.specs.declared.event.Show.{Show}
 use Rattle.pair_core.specs.declared.event.Reply.{Reply}
 use Rattle.pair_core.specs.declared.event.Reply.TheVariants.{Steps, Cut, Sent, Committed, Again, Lost, Acked, Admitted, Empty}
-use Rattle.pair_core.specs.declared.event.Reply.TheVariants.{Delivered, Took, Dropped, Refused}
+use Rattle.pair_core.specs.declared.event.Reply.TheVariants.{Delivered, Took, Dropped, Stopped, Alone, Live, Refused}
 
 -- fields parted by one space, and the end of the line
 abbrev pub line : List (List ℕ) → List ℕ
@@ -34,6 +35,9 @@ reply_line (Delivered n) = line (codes "delivered" ∷ decimal n ∷ [])
 reply_line (Took None) = line (codes "none" ∷ [])
 reply_line (Took (Some frame)) = line (codes "frame" ∷ encode_lower frame.items ∷ [])
 reply_line Dropped = line (codes "dropped" ∷ [])
+reply_line Stopped = line (codes "stopped" ∷ codes "primary" ∷ [])
+reply_line (Alone g m) = line (codes "alone" ∷ decimal g ∷ codes "landed" ∷ decimal m ∷ [])
+reply_line (Live g n) = line (codes "live" ∷ decimal g ∷ codes "steps" ∷ decimal n ∷ [])
 reply_line (Refused refusal) = refusal_line refusal
 
 -- The numbers are what 64 bits hold, and a frame's items are bytes.
@@ -47,11 +51,13 @@ IsPlain (Acked g n m) = (g < 2 ^ 64) × (n < 2 ^ 64) × (m < 2 ^ 64)
 IsPlain (Admitted n) = n < 2 ^ 64
 IsPlain (Delivered n) = n < 2 ^ 64
 IsPlain (Took (Some frame)) = IsBytes frame.items
+IsPlain (Alone g m) = (g < 2 ^ 64) × (m < 2 ^ 64)
+IsPlain (Live g n) = (g < 2 ^ 64) × (n < 2 ^ 64)
 IsPlain reply = Unit {0}
 
 -- the state in one line
 abbrev pub show_line : Show → List ℕ
-show_line s = line (codes "mode" ∷ codes "paired" ∷ codes "generation" ∷ decimal s.generation ∷ codes "pending" ∷ decimal s.pending
+show_line s = line (codes "mode" ∷ word_of s.mode ∷ codes "generation" ∷ decimal s.generation ∷ codes "pending" ∷ decimal s.pending
     ∷ codes "steps" ∷ decimal s.steps ∷ codes "entries" ∷ decimal s.entries ∷ [])
 
 -- The bytes of the sector that a script's number names, none beyond the disk. A disk has 32768 sectors at most, so a number of

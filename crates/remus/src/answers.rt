@@ -2,7 +2,7 @@
 
 ghost use Rattle.std.specs.Prelude.{◌≡◌, ℕ, List, [], Ok, OnOk, OnErr, true, option_map};
 ghost use Rattle.pair_core.specs.Pair.{IsConsistent};
-ghost use Rattle.pair_core.specs.Runs.{steps_outcome};
+ghost use Rattle.pair_core.specs.Runs.{StepsAnswer};
 ghost use Rattle.remus.specs.Lines.{line_of, order};
 ghost use Rattle.remus.specs.Meaning.{Happens, IsDone};
 ghost use Rattle.remus.specs.Printed.{named_sector};
@@ -47,6 +47,9 @@ fn obey(world: &mut World, command: Command, text: &mut Vec<u8>) -> io::Result<b
         Command::Take(client) => happen(world, Event::Take(client), text),
         Command::LoseIn(client, place) => happen(world, Event::LoseIn(client, place), text),
         Command::LoseOut(client, place) => happen(world, Event::LoseOut(client, place), text),
+        Command::FailPrimary => happen(world, Event::FailPrimary, text),
+        Command::FailBackup => happen(world, Event::FailBackup, text),
+        Command::GoLive => happen(world, Event::GoLive, text),
         Command::Sector(sector) => print_sector(world, sector, text),
         Command::Show => print_show(world, text),
     }
@@ -75,7 +78,7 @@ fn step(world: &mut World, count: u64, text: &mut Vec<u8>) -> io::Result<bool>
 
 /// The last of `count` steps' replies, or the first refusal.
 fn run_steps(world: &mut World, count: u64) -> Reply
-    ensures outcome { (result, world.new.protocol) ≡ steps_outcome world.old.start world.old.protocol count }
+    ensures outcome { StepsAnswer world.old.start world.old.protocol count result world.new.protocol }
     ensures start { world.new.start ≡ world.old.start }
     ensures consistent { IsConsistent world.new }
 {

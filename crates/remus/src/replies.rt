@@ -42,6 +42,13 @@ pub fn write_reply<W: Write>(out: &mut W, reply: &Reply) -> Result<()>
         Reply::Took(Some(frame)) => write_frame(out, frame),
         Reply::Took(None) => writeln!(out, "none"),
         Reply::Dropped => writeln!(out, "dropped"),
+        Reply::Stopped => writeln!(out, "stopped primary"),
+        Reply::Alone { generation, landed } => {
+            write_generation(out, "alone", *generation, "landed", *landed)
+        }
+        Reply::Live { generation, steps } => {
+            write_generation(out, "live", *generation, "steps", *steps)
+        }
         Reply::Refused(refusal) => write_refusal(out, *refusal),
     }
 }
@@ -116,6 +123,20 @@ fn write_checkpoint<W: Write>(out: &mut W, event: &str, generation: u64, number:
         (line (event.now ∷ decimal generation ∷ decimal number ∷ []))) }
 {
     writeln!(out, "{event} {generation} {number}")
+}
+
+/// Prints what happened, the generation, and a number with its name.
+fn write_generation<W: Write>(
+    out: &mut W,
+    event: &str,
+    generation: u64,
+    name: &str,
+    number: u64,
+) -> Result<()>
+    ensures { OnOk result (Appends (W.contents out.old) (W.contents out.new)
+        (line (event.now ∷ decimal generation ∷ name.now ∷ decimal number ∷ []))) }
+{
+    writeln!(out, "{event} {generation} {name} {number}")
 }
 
 /// Prints `frame` and the bytes in lower case hex.

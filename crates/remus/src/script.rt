@@ -27,7 +27,13 @@ pub enum Command {
     LoseIn(u64, u64),
     /// `loseout C P`: the line drops the frame at place `P`, from 0, of client `C`'s box.
     LoseOut(u64, u64),
-    /// `sector S`: the bytes of sector `S` of the live guest's disk, from 0. Beyond the disk it is a bad line.
+    /// `fail primary`: the primary stops.
+    FailPrimary,
+    /// `fail backup`: the backup stops, and the primary goes on alone.
+    FailBackup,
+    /// `golive`: the backup goes on in the place of the stopped primary.
+    GoLive,
+    /// `sector S`: the bytes of sector `S` of the disk of the guest that goes on, from 0. Beyond the disk it is a bad line.
     Sector(u64),
     /// `show`: the state in one line.
     Show,
@@ -56,6 +62,15 @@ fn first_form(text: &[u8]) -> Option<Command>
     }
     if text == b"show".as_slice() {
         return Some(Command::Show);
+    }
+    if text == b"fail primary".as_slice() {
+        return Some(Command::FailPrimary);
+    }
+    if text == b"fail backup".as_slice() {
+        return Some(Command::FailBackup);
+    }
+    if text == b"golive".as_slice() {
+        return Some(Command::GoLive);
     }
     if let Some(count) = numbered(text, b"step ") {
         return if count == 0 {

@@ -5,6 +5,7 @@ use Rattle.remus.specs.Lines.{order}
 use Rattle.remus.specs.Meaning.{IsDone}
 use Rattle.remus.specs.declared.script.Command.{Command}
 use Rattle.remus.specs.declared.script.Command.TheVariants.{Cut, Send, Backup, Ack, Admit, Take, LoseIn, LoseOut}
+use Rattle.remus.specs.declared.script.Command.TheVariants.{FailPrimary, FailBackup, GoLive}
 use Rattle.remus.proofs.MeaningLemmas.{happened}
 use Rattle.remus.proofs.answers.obey.Goals as goal
 
@@ -79,3 +80,27 @@ returns-in-LoseOut c =
     (sym c.in-LoseOut.is)
     (happened c.args.world.now (order (LoseOut client place)) done.new.text.items done.new.world done.result
     (events.LoseOut client place) refl done.ensures.ok done.ensures.err)
+
+pub returns-in-FailPrimary : goal.returns-in-FailPrimary
+returns-in-FailPrimary c =
+    let done = c.happen-in-FailPrimary in
+    subst (λ (command : Command). IsDone c.args.world.now (order command) done.result done.new.text.items done.new.world)
+    (sym c.in-FailPrimary.is)
+    (happened c.args.world.now (order FailPrimary) done.new.text.items done.new.world done.result
+    events.FailPrimary refl done.ensures.ok done.ensures.err)
+
+pub returns-in-FailBackup : goal.returns-in-FailBackup
+returns-in-FailBackup c =
+    let done = c.happen-in-FailBackup in
+    subst (λ (command : Command). IsDone c.args.world.now (order command) done.result done.new.text.items done.new.world)
+    (sym c.in-FailBackup.is)
+    (happened c.args.world.now (order FailBackup) done.new.text.items done.new.world done.result
+    events.FailBackup refl done.ensures.ok done.ensures.err)
+
+pub returns-in-GoLive : goal.returns-in-GoLive
+returns-in-GoLive c =
+    let done = c.happen-in-GoLive in
+    subst (λ (command : Command). IsDone c.args.world.now (order command) done.result done.new.text.items done.new.world)
+    (sym c.in-GoLive.is)
+    (happened c.args.world.now (order GoLive) done.new.text.items done.new.world done.result
+    events.GoLive refl done.ensures.ok done.ensures.err)

@@ -1,6 +1,7 @@
 -- the line of a reply tells which reply it was
 use Rattle.std.proofs.Common.{◌≡◌, ◌∙◌, Some, ap, arith}
-use Rattle.pair_core.specs.declared.event.Reply.TheVariants.{Steps, Cut, Sent, Committed, Again, Acked, Admitted, Delivered, Took, Refused}
+use Rattle.pair_core.specs.declared.event.Reply.TheVariants.{Steps, Cut, Sent, Committed, Again, Acked, Admitted, Delivered, Took}
+use Rattle.pair_core.specs.declared.event.Reply.TheVariants.{Alone, Live, Refused}
 use Rattle.remus.proofs.ReplyLemmas.{readable}
 use Rattle.remus.proofs.replies.write_reply.Goals as goal
 
@@ -40,3 +41,11 @@ pub returns-in-Took-Some-clause-readable : goal.returns-in-Took-Some-clause-read
 returns-in-Took-Some-clause-readable g c =
     let some : c.in-Took-Some.field-0 ≡ Some c.in-Took-Some.frame = rw c.in-Took-Some.is at c.in-Took-Some.field-0-is in
     readable c.args.reply.now (Took (Some c.in-Took-Some.frame)) (c.in-Took-Some.is ∙ ap (λ f. Took f) some) c.write_frame.ensures.bytes
+
+pub returns-in-Alone-clause-readable : goal.returns-in-Alone-clause-readable
+returns-in-Alone-clause-readable g c =
+    readable c.args.reply.now (Alone c.in-Alone.generation c.in-Alone.landed) c.in-Alone.is (omega arith, omega arith)
+
+pub returns-in-Live-clause-readable : goal.returns-in-Live-clause-readable
+returns-in-Live-clause-readable g c =
+    readable c.args.reply.now (Live c.in-Live.generation c.in-Live.steps) c.in-Live.is (omega arith, omega arith)

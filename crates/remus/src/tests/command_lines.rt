@@ -1,0 +1,89 @@
+//! What the program is asked for.
+use crate::command_line::{Invocation, read};
+use std::test::Fail;
+
+/// Whether the words name this file, and where they ask for its checkpoints, 4096 pages and 7 sectors.
+fn names(rt: &HostRuntime, words: &[&str], file: &str) -> Result<bool, Fail> {
+    let mut owned = Vec::new(rt.alloc());
+    for word in words {
+        owned.push(String::from_str(rt.alloc(), word)?)?;
+    }
+    let found = match read(rt.alloc(), owned.as_slice()) {
+        Ok(Some(Invocation::Sim(found))) => found == file,
+        Ok(Some(Invocation::CheckStream(found, shape))) => {
+            found == file && shape.pages == 4096 && shape.sectors == 7
+        }
+        Ok(None) => false,
+        Err(_) => false,
+    };
+    Ok(found)
+}
+
+#[test]
+fn command_lines(rt: HostRuntime) -> Result<(), Fail> {
+    assert!(rt; names(&rt, &["remus", "sim", "a.sim"], "a.sim")?);
+    assert!(rt; names(&rt, &["remus", "sim", "--", "-a"], "-a")?);
+    let asked = [
+        "remus",
+        "check-stream",
+        "a",
+        "--pages",
+        "4096",
+        "--sectors",
+        "7",
+    ];
+    assert!(rt; names(&rt, &asked, "a")?);
+    let bad: [&[&str]; 14] = [
+        &["remus", "check-stream", "a"],
+        &[
+            "remus",
+            "check-stream",
+            "a",
+            "--pages",
+            "0",
+            "--sectors",
+            "1",
+        ],
+        &[
+            "remus",
+            "check-stream",
+            "a",
+            "--pages",
+            "4097",
+            "--sectors",
+            "1",
+        ],
+        &[
+            "remus",
+            "check-stream",
+            "a",
+            "--pages",
+            "1",
+            "--sectors",
+            "32769",
+        ],
+        &["remus"],
+        &["remus", "sim"],
+        &["remus", "sim", ""],
+        &["remus", "sim", "a", "b"],
+        &["remus", "--help"],
+        &["remus", "help"],
+        &["remus", "sim", "--help"],
+        &["remus", "sim", "-x", "a"],
+        &["remus", "run", "a"],
+        &["remus", "--version"],
+    ];
+    for words in bad {
+        let mut owned = Vec::new(rt.alloc());
+        for word in words {
+            owned.push(String::from_str(rt.alloc(), word)?)?;
+        }
+        let taken = match read(rt.alloc(), owned.as_slice()) {
+            Ok(Some(_)) => true,
+            Ok(None) => false,
+            Err(_) => false,
+        };
+        assert!(rt; !taken, "{words:?}");
+    }
+    Ok(())
+}
