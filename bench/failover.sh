@@ -1,0 +1,95 @@
+#!/usr/bin/env bash
+# How long the backup takes to go live, at three sizes of memory and disk, beside a copy of as many bytes; how fast a loop of arithmetic
+# runs where a node is alone, beside the same loop in a pair; and the most memory that 20 million steps take there. Going live is the
+# middle of TIMES (20 if left out) times, where 0 is less than can be seen from outside; the others are the best of some times. REMUS names
+# another program to measure in the place of the repository's own.
+set -eu
+cd "$(dirname "$0")/.."
+program=${REMUS:-crates/remus/out/remus}
+# Built before the clock starts.
+[ -n "${REMUS:-}" ] || ./remus sim /dev/null
+exec python3 - "$program" "${1:-20}" <<'PYTHON'
+import os
+import re
+import resource
+import statistics
+import subprocess
+import sys
+import tempfile
+import time
+from pathlib import Path
+
+PROGRAM, TIMES = sys.argv[1], int(sys.argv[2])
+PAGE, SECTOR = 4096, 512
+
+
+def play(lines, wanted=()):
+    """Plays a script: its processor time, and when each of the wanted texts was printed, by a reader that doesn't sleep."""
+    with tempfile.NamedTemporaryFile("w", suffix=".sim") as script:
+        script.write("\n".join(lines) + "\n")
+        script.flush()
+        before = resource.getrusage(resource.RUSAGE_CHILDREN).ru_utime
+        process = subprocess.Popen([PROGRAM, "sim", script.name], stdout=subprocess.PIPE)
+        os.set_blocking(process.stdout.fileno(), False)
+        printed, when = b"", {}
+        while True:
+            try:
+                part = os.read(process.stdout.fileno(), 65536)
+            except BlockingIOError:
+                continue
+            now = time.perf_counter()
+            printed += part
+            for text in wanted:
+                if text in printed:
+                    when.setdefault(text, now)
+            if not part:
+                break
+        process.wait()
+        for text in wanted:
+            if text not in when:
+                sys.exit(f"{text.decode()} was not printed")
+        return resource.getrusage(resource.RUSAGE_CHILDREN).ru_utime - before, [when[text] for text in wanted]
+
+
+def going_live(pages, sectors):
+    """A line `step 100000` has all that was printed before it written out, and where the primary has stopped it does nothing else."""
+    written = ["step 100000"]
+    lines = [f"boot {pages} {sectors} 1 beacon", "step 22", "cut", "send", "backup 0", "step 5", "fail primary"]
+    _, (before, after) = play(lines + written + ["golive"] + written, [b"stopped primary\n", b"live 2 steps 22\n"])
+    return after - before
+
+
+def copying(count):
+    """The time in which so many bytes are copied."""
+    source, target = memoryview(bytearray(b"x" * count)), bytearray(count)
+    start = time.perf_counter()
+    target[:] = source
+    return time.perf_counter() - start
+
+
+for pages, sectors in [(16, 64), (256, 2048), (4096, 32768)]:
+    live = statistics.median(going_live(pages, sectors) for _ in range(TIMES))
+    copied = min(copying(pages * PAGE + sectors * SECTOR) for _ in range(TIMES))
+    print(f"{pages:5} pages, {sectors:5} sectors: going live {live * 1e6:7.0f} us, copying them {copied * 1e6:7.0f} us", flush=True)
+
+words = Path("bench/loops/arithmetic.words").read_text().strip()
+count, modes = 50_000_000, {"paired": [], "alone": ["fail backup"]}
+best = {}
+for _ in range(3):
+    for mode, lines in modes.items():
+        spent, _ = play([f"boot 2 1 1 words {words}", *lines, f"step {count}"])
+        best[mode] = min(spent, best.get(mode, spent))
+print(f"arithmetic: alone {count / best['alone'] / 1e6:.0f} million steps a second, "
+      f"{best['paired'] / best['alone']:.2f} times as many as in a pair", flush=True)
+
+for mode, lines in modes.items():
+    with tempfile.NamedTemporaryFile("w", suffix=".sim") as script:
+        script.write("\n".join(["boot 2 1 1 idle", *lines, "step 20000000"]) + "\n")
+        script.flush()
+        process, most = subprocess.Popen([PROGRAM, "sim", script.name], stdout=subprocess.DEVNULL), "nothing"
+        while process.poll() is None:
+            seen = re.search(r"VmHWM:\s*(.*)", Path(f"/proc/{process.pid}/status").read_text())
+            most = seen[1] if seen else most
+            time.sleep(0.02)
+        print(f"20 million steps, {mode}: at most {most} of memory", flush=True)
+PYTHON
