@@ -4,6 +4,7 @@ pub mod Arrivals
 pub mod Places
 pub mod Window
 pub mod Lines
+pub mod LinesFields
 pub mod Nodes
 pub mod Texts
 pub mod NodesFields

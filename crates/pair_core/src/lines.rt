@@ -1,54 +1,55 @@
 //! The two lines between the nodes: each packet that was ever sent.
-ghost use Rattle.std.specs.Prelude.{◌≡◌, ◌+◌, ◌-◌, ◌^◌, ◌≤◌, ◌<◌, ◌++◌, ◌∷◌, [], OnOk, OnErr, slice_get};
+ghost use Rattle.std.specs.Prelude.{◌≡◌, ◌+◌, ◌-◌, ◌^◌, ◌≤◌, ◌<◌, ◌++◌, ◌∷◌, [], map, OnOk, OnErr, Some, None, slice_get, slice_index_or};
 ghost use Rattle.pair_core.specs.Lines.{packet, packets_from, no_packets, with_forward, with_back};
 
 use crate::event::Packet;
+use lossy_line::Line;
 use std::alloc::{AllocError, Global};
 use std::marker::Model;
 
 /// What was sent to the backup, and what was sent back. Contracts see them as `Carried` lines of the specs.
 #[derive(Drop)]
 pub struct Lines {
-    forward: Vec<Packet>,
-    back: Vec<Packet>,
+    forward: Line<Packet>,
+    back: Line<Packet>,
 }
 
 impl Model for Lines {
-    ghost use Rattle.std.specs.Prelude.{◌-◌, vec_len, vec_capacity};
     ghost use Rattle.pair_core.specs.Lines.{Carried};
 
     ghost Value = { Carried };
 
-    ghost view = { λ a. record { lines = record { forward = a.forward.items; back = a.back.items }; room = vec_capacity a.back - vec_len a.back } };
+    ghost use Rattle.pair_core.specs.LinesFields.{carried, AreFields};
+
+    ghost view = { carried };
+
+    ghost invariant = { AreFields };
 }
 
 /// The packet of this number, counted from 0 in the order sent.
-fn packet_at(packets: &[Packet], k: u64) -> Option<Packet>
-    ensures { result ≡ slice_get packets.now k }
+fn packet_at(line: &Line<Packet>, k: u64) -> Option<Packet>
+    ensures { result ≡ slice_index_or line.now.packets k None }
 {
-    let place = k as usize;
-    if place < packets.len() {
-        Some(packets[place])
-    } else {
-        None
-    }
+    line.get(k).copied()
 }
 
-/// Adds one packet for each of these numbers, rising.
+/// Sends one packet for each of these numbers, rising.
 fn send_all(
-    packets: &mut Vec<Packet>,
+    line: &mut Line<Packet>,
     generation: u64,
     first: u64,
     end: u64,
 ) -> Result<(), AllocError>
     requires { first ≤ end }
-    ensures ok { OnOk result (packets.new.items ≡ packets.old.items ++ packets_from generation first (end - first)) }
-    ensures err { OnErr result (packets.new.items ≡ packets.old.items) }
+    ensures ok { OnOk result (line.new.packets ≡ line.old.packets ++ map Some (packets_from generation first (end - first))) }
+    ensures err { OnErr result (line.new ≡ line.old) }
     ensures none { OnErr result (first < end) }
 {
-    packets.reserve((end - first) as usize)?;
+    let Ok(()) = line.reserve((end - first) as usize) else {
+        return Err(AllocError);
+    };
     for number in first..end {
-        packets.push(Packet { generation, number }).unwrap();
+        line.send(Packet { generation, number }).unwrap();
     }
     Ok(())
 }
@@ -59,8 +60,8 @@ impl Lines {
         ensures { result.lines ≡ no_packets }
     {
         Lines {
-            forward: Vec::new(alloc),
-            back: Vec::new(alloc),
+            forward: Line::new(alloc),
+            back: Line::new(alloc),
         }
     }
 
@@ -93,7 +94,10 @@ impl Lines {
         ensures lines { self.new.lines ≡ self.old.lines }
         ensures room { OnOk result (0 < self.new.room) }
     {
-        self.back.reserve(1)
+        let Ok(()) = self.back.reserve(1) else {
+            return Err(AllocError);
+        };
+        Ok(())
     }
 
     /// Sends one packet back, in the room that was reserved.
@@ -101,6 +105,6 @@ impl Lines {
         requires { 0 < self.old.room }
         ensures { self.new.lines ≡ with_back self.old.lines (packet generation number) }
     {
-        self.back.push(Packet { generation, number }).unwrap();
+        self.back.send(Packet { generation, number }).unwrap();
     }
 }
