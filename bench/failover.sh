@@ -1,14 +1,16 @@
 #!/usr/bin/env bash
-# How long the backup takes to go live, at three sizes of memory and disk, beside a copy of as many bytes; how fast a loop of arithmetic
-# runs where a node is alone, beside the same loop in a pair; and the most memory that 20 million steps take there. Going live is the
-# middle of TIMES (20 if left out) times, where 0 is less than can be seen from outside; the others are the best of some times. REMUS names
-# another program to measure in the place of the repository's own.
+# How long the backup takes to go live, at three sizes of memory and disk, beside a copy of as many bytes, and beside what the system
+# takes to be given back the memory of a machine, as that of the stopped primary is then; how fast a loop of arithmetic runs where a
+# node is alone, beside the same loop in a pair; and the most memory that 20 million steps take there. Going live is the middle of
+# TIMES (20 if left out) times, where 0 is less than can be seen from outside; the others are the best of some times. REMUS names another
+# program to measure in the place of the repository's own.
 set -eu
 cd "$(dirname "$0")/.."
 program=${REMUS:-crates/remus/out/remus}
 # Built before the clock starts.
 [ -n "${REMUS:-}" ] || ./remus sim /dev/null
 exec python3 - "$program" "${1:-20}" <<'PYTHON'
+import mmap
 import os
 import re
 import resource
@@ -67,10 +69,23 @@ def copying(count):
     return time.perf_counter() - start
 
 
+def giving_back(pages, sectors):
+    """The time in which a machine's memory is given back: its pages, these as they were at the last settle, and its disk."""
+    areas = [mmap.mmap(-1, count) for count in (pages * PAGE, pages * PAGE, sectors * SECTOR)]
+    for area in areas:
+        area.write(b"x" * len(area))
+    start = time.perf_counter()
+    for area in areas:
+        area.close()
+    return time.perf_counter() - start
+
+
 for pages, sectors in [(16, 64), (256, 2048), (4096, 32768)]:
     live = statistics.median(going_live(pages, sectors) for _ in range(TIMES))
     copied = min(copying(pages * PAGE + sectors * SECTOR) for _ in range(TIMES))
-    print(f"{pages:5} pages, {sectors:5} sectors: going live {live * 1e6:7.0f} us, copying them {copied * 1e6:7.0f} us", flush=True)
+    given = min(giving_back(pages, sectors) for _ in range(TIMES))
+    print(f"{pages:5} pages, {sectors:5} sectors: going live {live * 1e6:6.0f} us, copying them {copied * 1e6:6.0f} us, "
+          f"giving back a machine's {given * 1e6:6.0f} us", flush=True)
 
 words = Path("bench/loops/arithmetic.words").read_text().strip()
 count, modes = 50_000_000, {"paired": [], "alone": ["fail backup"]}

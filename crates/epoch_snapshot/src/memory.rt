@@ -74,9 +74,15 @@ fn end_of_unwritten(machine: &Machine, from: u32, pages: u32) -> u32
         changed_pages machine.now.settled machine.now.guest.ram from }
 {
     let left = pages - from;
-    if from % GROUP_PAGES == 0 && left >= GROUP_PAGES && !some_written(machine, from, from + GROUP_PAGES) {
+    if from % GROUP_PAGES == 0
+        && left >= GROUP_PAGES
+        && !some_written(machine, from, from + GROUP_PAGES)
+    {
         from + GROUP_PAGES
-    } else if from % FEW_PAGES == 0 && left >= FEW_PAGES && !some_written(machine, from, from + FEW_PAGES) {
+    } else if from % FEW_PAGES == 0
+        && left >= FEW_PAGES
+        && !some_written(machine, from, from + FEW_PAGES)
+    {
         from + FEW_PAGES
     } else {
         from + 1

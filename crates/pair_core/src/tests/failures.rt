@@ -1,6 +1,7 @@
 //! What is answered where a node fails, and after it: what the backup goes on from, and what lands.
 use super::{FRAME, answers, beacon_pair, idle_pair, is_filled, paired, writer_pair};
 use crate::{Event, Mode, Refusal, Show};
+use std::fmt::Write;
 use std::test::Fail;
 
 /// The printed reply to a client that takes the beacon's frame.
@@ -300,24 +301,31 @@ fn many_steps_of_a_node_alone_are_made_in_one_call(rt: HostRuntime) -> Result<()
 
 #[test]
 fn refusals_print_their_names(rt: HostRuntime) -> Result<(), Fail> {
-    for (refusal, number, name) in [
-        (Refusal::Full, 1, "Full"),
-        (Refusal::BadFrame, 2, "BadFrame"),
-        (Refusal::NoClient, 3, "NoClient"),
-        (Refusal::Stopped, 4, "Stopped"),
-        (Refusal::Behind, 5, "Behind"),
-        (Refusal::NotPaired, 6, "NotPaired"),
-        (Refusal::AlreadyPaired, 7, "AlreadyPaired"),
-        (Refusal::NoImage, 8, "NoImage"),
-        (Refusal::Stale, 9, "Stale"),
-        (Refusal::Gap, 10, "Gap"),
-        (Refusal::NoMemory, 12, "NoMemory"),
-        (Refusal::CutNeeded, 13, "CutNeeded"),
-        (Refusal::Exhausted, 14, "Exhausted"),
+    let mut text = String::new(rt.alloc());
+    for refusal in [
+        Refusal::Full,
+        Refusal::BadFrame,
+        Refusal::NoClient,
+        Refusal::Stopped,
+        Refusal::Behind,
+        Refusal::NotPaired,
+        Refusal::AlreadyPaired,
+        Refusal::NoImage,
+        Refusal::Stale,
+        Refusal::Gap,
+        Refusal::NoMemory,
+        Refusal::CutNeeded,
+        Refusal::Exhausted,
     ] {
-        let text = format!(in rt.alloc(); "{refusal}")?;
-        assert_eq!(rt; (text.as_str(), refusal.name()), (name, name));
-        assert_eq!(rt; refusal.number(), number);
+        let number = refusal.number();
+        let name = refusal.name();
+        writeln!(text, "{number} {refusal} {name}")?;
     }
+    assert_eq!(rt;
+        text.as_str(),
+        "1 Full Full\n2 BadFrame BadFrame\n3 NoClient NoClient\n4 Stopped Stopped\n5 Behind Behind\n\
+        6 NotPaired NotPaired\n7 AlreadyPaired AlreadyPaired\n8 NoImage NoImage\n9 Stale Stale\n10 Gap Gap\n\
+        12 NoMemory NoMemory\n13 CutNeeded CutNeeded\n14 Exhausted Exhausted\n"
+    );
     Ok(())
 }

@@ -65,8 +65,8 @@ land-requires-clause-fits c =
     let r = s.protocol in
     let outbox = c.args.outbox.now in
     let free =
-        subst (λ (t : RecordState). first_refusal (fail_backup_refusals t.ports.boxes outbox t.protocol) ≡ None)
-        (sym c.self.view_is) c.requires.free in
+    subst (λ (t : RecordState). first_refusal (fail_backup_refusals t.ports.boxes outbox t.protocol) ≡ None)
+    (sym c.self.view_is) c.requires.free in
     let room = has_room_for r (length (all_held s.ports.boxes outbox r)) (passed _ _ _ free).0 in
     let e1 = count_is (goal.at.land-requires-clause-fits c).After-held in
     let e2 = c.count_all-count.ensures ∙ sym (ap (λ (t : RecordState). length (all_held t.ports.boxes outbox t.protocol)) c.self.view_is) in

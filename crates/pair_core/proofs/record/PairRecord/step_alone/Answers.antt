@@ -36,6 +36,6 @@ run_alone-requires-clause-fits c =
     let e = ap (λ (j : Journal). length (all_entries j)) c.in_ok-reserve.ensures.journal in
     let s = c.run_to_frame-steps.ensures.most in
     let room =
-        subst (λ (t : RecordState). length (all_entries t.protocol.journal) + (c.args.most + 1024) ≤ NUMBER_LIMIT - 1)
-        (sym c.self.view_is) (let r = c.requires.fits in omega arith) in
+    subst (λ (t : RecordState). length (all_entries t.protocol.journal) + (c.args.most + 1024) ≤ NUMBER_LIMIT - 1)
+    (sym c.self.view_is) (let r = c.requires.fits in omega arith) in
     omega arith
