@@ -31,6 +31,8 @@ pub struct Nodes {
     /// None where a node is alone.
     image: Option<Image>,
     sealed: Vec<Vec<u8>>,
+    /// The stopped primary's machine, kept so that going live gives no memory back, which would take time by its size.
+    retired: Option<Machine>,
 }
 
 impl Model for Nodes {
@@ -63,6 +65,7 @@ impl Nodes {
             live,
             image: Some(image),
             sealed: Vec::new(alloc),
+            retired: None,
         })
     }
 
@@ -241,7 +244,7 @@ impl Nodes {
         let Ok(machine) = image.resume() else {
             unreachable!();
         };
-        self.live = machine;
+        self.retired = Some(std::mem::replace(&mut self.live, machine));
         self.sealed.clear();
     }
 }
