@@ -85,6 +85,7 @@ module _ (r : Record) (h : IsRecord r) where
     back = AreBelow-more r.generation r.window.to_commit r.window.to_cut r.lines.back h.window.cut h.back;
     sealed = omega arith;
     alone = λ e. (refl, refl, refl);
+    suits = tt;
   }
 
 -- steps of which only the last sends send no more frames than it

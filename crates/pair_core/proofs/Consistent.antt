@@ -1,27 +1,29 @@
 -- What is kept true from event to event gives what contracts say.
-use Rattle.std.proofs.Common.{◌≡◌, ℕ, ◌+◌, false, List, [], ◌∷◌, ◌++◌, length, refl, sym, ap, ◌∙◌, subst, append_assoc}
-use Rattle.std.specs.Prelude.{map}
+use Rattle.std.proofs.Common.{◌≡◌, ℕ, ◌+◌, true, false, List, [], ◌∷◌, ◌++◌, length, refl, sym, ap, ◌∙◌, subst, append_assoc}
+use Rattle.std.specs.Prelude.{map, All}
 use Rattle.std.proofs.lemmas.List.{map-append, take-append-drop}
+use Rattle.std.proofs.lemmas.List.Elements.{All-nil, All-cons}
 use Rattle.guest_machine.specs.declared.shapes.Shape.{Shape}
 use Rattle.guest_machine.specs.Guest.{Guest}
 use Rattle.epoch_snapshot.specs.Bases.{IsBase}
 use Rattle.frame_ports.specs.Addresses.{targets_of}
 use Rattle.output_gate.specs.Epochs.{Epoch, frames_of}
-use Rattle.pair_history.specs.Entries.{Frame, Entry}
+use Rattle.pair_history.specs.Entries.{Frame, Entry, Ran, Arrive}
 use Rattle.pair_history.specs.HistoryState.{HistoryState, at, sent_along, Legal}
-use Rattle.pair_history.specs.Moves.{Move, entry_of, entries_of, guest_along, frames_along, AllCan}
+use Rattle.pair_history.specs.Moves.{Move, Steps, Arrives, entry_of, entries_of, guest_along, frames_along, AllCan}
 use Rattle.pair_history.proofs.States.{at-append, targets_of-append}
 use Rattle.pair_history.proofs.Moves.{moved, at-moves, Legal-moves, sent_along-moves, frames_along-append, AllCan-front, AllCan-back}
-use Rattle.pair_core.specs.Invariant.{all_moves, epoch_frames, frames_by_epoch, AreInboxes, AreSealed, Holds}
-use Rattle.pair_core.specs.Journal.{joined, kept_entries}
-use Rattle.pair_core.specs.Nodes.{machine_of}
+use Rattle.pair_core.specs.Invariant.{all_moves, first_moves, epoch_frames, frames_by_epoch, AreInboxes, AreSealed, Holds}
+use Rattle.pair_core.specs.Journal.{joined, first_of, kept_entries}
+use Rattle.pair_core.specs.Nodes.{Fills, machine_of}
 use Rattle.pair_core.specs.Modes.{is_alone}
-use Rattle.pair_core.specs.Pair.{Pair, shown_state, live_state, HasBackup, IsAlone, IsConsistent}
+use Rattle.pair_core.specs.Pair.{Pair, shown_state, live_state, HasBackup, IsAlone, is_of_guest, IsConsistent}
 use Rattle.pair_core.specs.Protocol.{outbox_of}
 use Rattle.pair_core.specs.Record.{IsRecord, IsLone}
 use Rattle.pair_core.specs.Texts.{IsText, AreTexts}
 use Rattle.pair_core.specs.Window.{committed_count, committed_of, uncommitted_of}
 use Rattle.pair_core.proofs.Events.{frames_of-append, kept_moves, left_now}
+use Rattle.pair_core.proofs.RecordLaws.{some_committed, none_committed}
 
 joined-entries : (mss : List (List Move)) → joined (map entries_of mss) ≡ entries_of (all_moves mss)
 joined-entries [] = refl
@@ -40,6 +42,15 @@ texts_are shape generation n s (ms ∷ mss) rest (t ∷ texts) can h =
       subst (λ (a : HistoryState). AreTexts shape generation (n + 1) a (map entries_of mss) texts) is
           (texts_are shape generation (n + 1) (moved s ms) mss rest texts (AllCan-back s.waiting ms (all_moves mss ++ rest) apart) h.1),
     )
+
+-- the guest does all moves
+abbrev IsOfGuest : Entry → Type 0
+IsOfGuest e = is_of_guest e ≡ true
+
+of_guest : (ms : List Move) → All IsOfGuest (entries_of ms)
+of_guest [] = All-nil IsOfGuest
+of_guest (Steps ∷ ms) = All-cons IsOfGuest Ran (entries_of ms) refl (of_guest ms)
+of_guest (Arrives n f ∷ ms) = All-cons IsOfGuest (Arrive n) (entries_of ms) refl (of_guest ms)
 
 -- what the kept entries do to the shown state
 module _ (w : Pair) (h : Holds w) where
@@ -105,13 +116,32 @@ module _ (w : Pair) (h : Holds w) where
       ∙ ap (λ (b : List (List Frame)). (shown_state w).out ++ targets_of (length b) (frames_along (shown_state w).guest (kept_moves w h))) h.clients.boxes
       ∙ sym (ap (λ s. s.out) live_is_moved)
 
-  pub has_backup : is_alone w.protocol.mode ≡ false → HasBackup w
-  has_backup two =
+  -- the guest at the end of the oldest sealed epoch
+  first_guest : (at (shown_state w) (first_of w.protocol.journal.sealed)).guest
+      ≡ guest_along (shown_state w).guest (first_moves h.journal.sealed_moves)
+  first_guest =
+      ap (λ ess. (at (shown_state w) (first_of ess)).guest) h.journal.sealed_are ∙ by_moves h.journal.sealed_moves h.journal.can
+    where
+      by_moves : (mss : List (List Move)) → AllCan (shown_state w).waiting (all_moves mss ++ h.journal.running_moves)
+          → (at (shown_state w) (first_of (map entries_of mss))).guest ≡ guest_along (shown_state w).guest (first_moves mss)
+      by_moves [] can = refl
+      by_moves (ms ∷ mss) can =
+          let s = shown_state w in
+          let rest = all_moves mss ++ h.journal.running_moves in
+          let apart : AllCan s.waiting (ms ++ rest) =
+          subst (AllCan s.waiting) (append_assoc ms (all_moves mss) h.journal.running_moves) can in
+          ap (λ (t : HistoryState). t.guest) (at-moves s ms (AllCan-front s.waiting ms rest apart))
+
+  pub has_backup : IsRecord w.protocol → is_alone w.protocol.mode ≡ false → HasBackup w
+  has_backup k two =
       let b = h.nodes.backed two in
       record {
         base = subst (λ (s : HistoryState). IsBase (machine_of w.nodes.live) s.guest) (sym sealed_state) b.base;
-        image = b.image;
-        stands_at = b.stands_at;
+        follows = λ e.
+            let f = b.follows (some_committed w.protocol k two e) in
+            record { image = f.image; stands_at = f.stands_at };
+        filling = λ e.
+            subst (λ (g : Guest). Fills g w.nodes) (sym first_guest) (b.fills (none_committed w.protocol k e));
         staged = b.staged;
         sealed =
             subst (λ (ess : List (List Entry)). AreTexts w.nodes.image.shape w.protocol.generation w.protocol.window.to_commit
@@ -133,7 +163,8 @@ module _ (w : Pair) (h : Holds w) where
     drops = h.journal.drops;
     goes_on = subst (Legal (shown_state w)) (sym kept_is) (Legal-moves (shown_state w) (kept_moves w h) h.journal.can);
     live = sym live_is;
-    backup = has_backup;
+    kept = subst (All IsOfGuest) (sym kept_is) (of_guest (kept_moves w h));
+    backup = has_backup k;
     alone = λ e. alone_is (k.alone e);
     outbox = sym outbox_is;
     number = h.clients.number;

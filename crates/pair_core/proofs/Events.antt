@@ -22,14 +22,17 @@ use Rattle.pair_history.proofs.Moves.{guest_along-append, frames_along-append, l
 use Rattle.pair_core.specs.Invariant.{all_moves, epoch_frames, frames_by_epoch, AreInboxes, AreSealed, AreNodes, AreClients, Holds}
 use Rattle.pair_core.specs.Journal.{with_running, first_of, rest_of}
 use Rattle.pair_core.specs.Lines.{Lines}
-use Rattle.pair_core.specs.Modes.{is_alone}
+use Rattle.pair_core.specs.Modes.{is_alone, filled}
 use Rattle.pair_core.specs.Nodes.{Node, HasShape, machine_of, start_nodes, with_arrival, with_sealed, with_commit, first_text}
 use Rattle.pair_core.specs.Texts.{IsText}
 use Rattle.pair_core.specs.Pair.{Pair, shown_state}
 use Rattle.pair_core.specs.Protocol.{cut_done, commit_done}
 use Rattle.pair_core.specs.Record.{IsRecord, start_record, ports_after_admit}
 use Rattle.pair_core.specs.Window.{committed_of, uncommitted_of, committed_count}
-use Rattle.pair_core.proofs.NodesLaws.{all_moves-push, shape-arrived, base-with_arrival, first-sealed, length-sealed, nodes-cut, nodes-commit, nodes-start}
+use Rattle.pair_core.proofs.ModeLaws.{filled_alone}
+use Rattle.pair_core.proofs.NodesLaws.{all_moves-push, shape-arrived, base-with_arrival, first-sealed, length-sealed, backed-live}
+use Rattle.pair_core.proofs.NodesLaws.{nodes-cut, nodes-start}
+use Rattle.pair_core.proofs.CommitLaws.{nodes-commit}
 use Rattle.pair_core.proofs.WindowLaws.{within}
 use Rattle.pair_history.proofs.Losses.{AreRising-left}
 
@@ -90,15 +93,7 @@ module _ (w : Pair) (h : Holds w) (ms : List Move) (es : List Entry) (live : Nod
           last_generation = h.nodes.last_generation;
           backed = λ e.
               let b = h.nodes.backed e in
-              record {
-                some_committed = b.some_committed;
-                image = b.image;
-                stands_at = b.stands_at;
-                staged = b.staged;
-                image_shape = b.image_shape;
-                sealed = b.sealed;
-                base = base g b.base;
-              };
+              backed-live w.protocol.generation w.protocol.window.to_commit s.guest h.journal.sealed_moves w.nodes live b (base g b.base);
           frames = h.nodes.frames;
           live = guest ∙ ap (λ x. guest_along x ms) h.nodes.live ∙ sym (guest_along-append s.guest now ms) ∙ ap (guest_along s.guest) regroup;
           outbox =
@@ -287,13 +282,18 @@ module _ (w : Pair) (h : Holds w) (k : IsRecord w.protocol) (two : is_alone w.pr
             let rest_held = frames_by_epoch us in
             let held : frames_by_epoch us ≡ frames_by_epoch (drop ((n + 1) - r.window.to_acknowledge) r.pending) =
             ap frames_by_epoch (sym (ap (λ m. drop m r.pending) one_more ∙ next.1)) in
-            let alone = is_alone r.mode in
+            let alone = is_alone (filled r.mode) in
+            let same = filled_alone r.mode in
+            let before =
+            subst (λ (a : Bool). AreNodes a r.generation n s.guest h.journal.sealed_moves h.journal.running_moves
+            (frames_by_epoch (uncommitted_of r.window r.pending)) w.nodes) (sym same) h.nodes in
             let now : AreNodes alone r.generation n s.guest (ms ∷ mss) h.journal.running_moves (e.frames ∷ rest_held) w.nodes =
             subst (λ (t : List (List Move)). AreNodes alone r.generation n s.guest t h.journal.running_moves (e.frames ∷ rest_held) w.nodes) moves_are
-            (subst (λ (us : List Epoch). AreNodes alone r.generation n s.guest h.journal.sealed_moves h.journal.running_moves (frames_by_epoch us) w.nodes) us_is h.nodes) in
+            (subst (λ (us : List Epoch). AreNodes alone r.generation n s.guest h.journal.sealed_moves h.journal.running_moves
+            (frames_by_epoch us) w.nodes) us_is before) in
             subst (λ (x : Guest). AreNodes alone r.generation (n + 1) x mss h.journal.running_moves (frames_by_epoch (drop ((n + 1) - r.window.to_acknowledge) r.pending)) (with_commit w.nodes)) guest
             (subst (λ (fs : List (List Frame)). AreNodes alone r.generation (n + 1) g mss h.journal.running_moves fs (with_commit w.nodes)) held
-            (nodes-commit alone r.generation n s.guest ms mss h.journal.running_moves e.frames rest_held w.nodes now two));
+            (nodes-commit alone r.generation n s.guest ms mss h.journal.running_moves e.frames rest_held w.nodes now (same ∙ two)));
         clients = record {
           number = h.clients.number ∙ sym (ap (λ t. t.number) shown);
           rising =

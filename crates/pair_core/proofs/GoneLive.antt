@@ -1,6 +1,6 @@
 -- Where the backup goes live: what was kept is discarded, and the guest is the history's.
-use Rattle.std.proofs.Common.{◌≡◌, ℕ, zero, suc, ◌+◌, ◌<◌, List, [], ◌∷◌, ◌++◌, length, replicate, refl, sym, ap, ◌∙◌, subst, arith, Bool}
-use Rattle.std.proofs.Common.{true, false, cond}
+use Rattle.std.proofs.Common.{◌≡◌, ℕ, zero, suc, ◌+◌, ◌<◌, ◌≤◌, List, [], ◌∷◌, ◌++◌, length, replicate, refl, sym, ap, ◌∙◌, subst, arith}
+use Rattle.std.proofs.Common.{Bool, true, false, cond}
 use Rattle.std.specs.Prelude.{map, remove, nat_lt}
 use Rattle.std.proofs.lemmas.Bool.Decides.{nat_tests}
 use Rattle.frame_ports.specs.Addresses.{targets_of}
@@ -64,7 +64,7 @@ go_live_known s kept =
     known-ins s.boxes (rising (arrived_numbers kept)) (drops_of_owed_from (length s.boxes) 1 s.boxes s.out)
     (known-from s.boxes (length s.boxes) 1 s.out) s refl
 
-module _ (w : Pair) (h : Holds w) (two : is_alone w.protocol.mode ≡ false) (steps : ℕ)
+module _ (w : Pair) (h : Holds w) (two : is_alone w.protocol.mode ≡ false) (some : 1 ≤ w.protocol.window.to_commit) (steps : ℕ)
     (last : w.protocol.generation + 1 < NUMBER_LIMIT) where
   -- the pair once the backup has gone live, where these are the boxes, and these frames were on their way
   abbrev live_with : List (List Frame) → List (ℕ × Frame) → Pair
@@ -92,6 +92,7 @@ module _ (w : Pair) (h : Holds w) (two : is_alone w.protocol.mode ≡ false) (st
       at-append w.start j.history es ∙ goes.1 ∙ (λ i. record s { waiting = waiting i; out = [] }) in
       let window = none_pending r.window.to_commit in
       let backed = h.nodes.backed two in
+      let image = (backed.follows some).image in
       let nodes : AreNodes true (r.generation + 1) r.window.to_commit s.guest [] [] (frames_by_epoch (uncommitted_of window []))
       (gone_live w.nodes) =
       record {
@@ -99,9 +100,9 @@ module _ (w : Pair) (h : Holds w) (two : is_alone w.protocol.mode ≡ false) (st
         last_generation = last;
         backed = λ e. absurd (cc);
         frames = ap frames_by_epoch (drop-none (committed_count window));
-        live = backed.image;
+        live = image;
         outbox = refl;
-        shape = subst (HasShape w.nodes.image.shape) (sym backed.image) backed.image_shape;
+        shape = subst (HasShape w.nodes.image.shape) (sym image) backed.image_shape;
       } in
       let clients : AreClients now (left now.waiting []) w.ports = record {
         number = h.clients.number;

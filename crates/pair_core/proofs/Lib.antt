@@ -6,14 +6,18 @@ pub mod JournalLaws
 pub mod WindowLaws
 pub mod RecordLaws
 pub mod LiveLaws
+pub mod ProtectLaws
 pub mod AloneLaws
 pub mod NodesLaws
+pub mod CommitLaws
 pub mod Events
 pub mod ClientEvents
 pub mod Consistent
 pub mod AllLands
 pub mod GoneLive
+pub mod Protected
 pub mod ReplicationLaws
+pub mod Generations
 pub mod ReplicationRuns
 pub mod Outcomes
 pub mod LossOutcomes
@@ -21,4 +25,7 @@ pub mod StepRuns
 pub mod AloneRuns
 pub mod PublicLaws
 pub mod LostWhy
+pub mod Tells
+pub mod ServiceLaws
+pub mod ServiceRuns
 pub mod Calls

@@ -235,7 +235,7 @@ module _ (s : RecordState) (fs : List Frame) (count : ℕ) (held : fs ≡ frames
   live_allowed h = sym (live_row ∙ ap (λ (t : Bool). cond t (Some Exhausted) None) (test_below NUMBER_LIMIT count h))
 
 -- in the next generation every packet is of an earlier one
-AreBelow-next : (g n m : ℕ) (ps : List Packet) → AreBelow g n ps → AreBelow (g + 1) m ps
+pub AreBelow-next : (g n m : ℕ) (ps : List Packet) → AreBelow g n ps → AreBelow (g + 1) m ps
 AreBelow-next g n m [] h = tt
 AreBelow-next g n m (p ∷ ps) h = (let l = h.0 in omega arith, λ e. let l = h.0 in absurd (omega arith), AreBelow-next g n m ps h.2)
 
@@ -257,6 +257,7 @@ live_record r h boxes out steps =
       back = AreBelow-next r.generation r.window.to_commit r.window.to_commit r.lines.back h.back;
       sealed = omega arith;
       alone = λ e. (refl, refl, refl);
+      suits = tt;
     }
 
 -- The journal

@@ -7,7 +7,7 @@ use Rattle.pair_history.specs.Landings.{DropsAtFull, DropsNone}
 use Rattle.pair_history.proofs.FailureLaws.{go_live_numbers}
 use Rattle.pair_core.specs.declared.event.Event.{Event}
 use Rattle.pair_core.specs.declared.event.Event.TheVariants.{Step, Cut, Send, BackupGet, AckGet, Admit, Deliver, Take, LoseIn, LoseOut}
-use Rattle.pair_core.specs.declared.event.Event.TheVariants.{FailPrimary, FailBackup, GoLive}
+use Rattle.pair_core.specs.declared.event.Event.TheVariants.{FailPrimary, FailBackup, GoLive, Protect}
 use Rattle.pair_core.specs.declared.event.Reply.{Reply}
 use Rattle.pair_core.specs.declared.event.Reply.TheVariants as replies
 use Rattle.pair_core.specs.Drops.{DropsOnly, WhyLost}
@@ -57,6 +57,7 @@ module _ (start : HistoryState) (old : Record) (es : List Entry) where
   why_in c place (replies.Alone m landed) p = inl (none es p)
   why_in c place (replies.Refused why) p = inl (none es p)
   why_in c place (replies.Live m steps) p = inl (none es p)
+  why_in c place (replies.Protecting m) p = inl (none es p)
 
   why_out : (c place : ℕ) (reply : Reply) → DropsOnly start old (LoseOut c place) reply es → Why (LoseOut c place)
   why_out c place replies.Dropped p = inl (ap dropped_numbers p.1)
@@ -75,6 +76,7 @@ module _ (start : HistoryState) (old : Record) (es : List Entry) where
   why_out c place (replies.Alone m landed) p = inl (none es p)
   why_out c place (replies.Refused why) p = inl (none es p)
   why_out c place (replies.Live m steps) p = inl (none es p)
+  why_out c place (replies.Protecting m) p = inl (none es p)
 
   why_live : (reply : Reply) → DropsOnly start old GoLive reply es → Why GoLive
   why_live (replies.Live m steps) p =
@@ -94,6 +96,7 @@ module _ (start : HistoryState) (old : Record) (es : List Entry) where
   why_live (replies.Alone m landed) p = inl (none es p)
   why_live (replies.Refused why) p = inl (none es p)
   why_live replies.Dropped p = inl (none es p)
+  why_live (replies.Protecting m) p = inl (none es p)
 
   pub why : (event : Event) (reply : Reply) → DropsOnly start old event reply es → Why event
   why (LoseIn c place) reply p = why_in c place reply p
@@ -109,3 +112,4 @@ module _ (start : HistoryState) (old : Record) (es : List Entry) where
   why (Deliver c bytes) reply p = inl (none es p)
   why (Take c) reply p = inl (none es p)
   why FailPrimary reply p = inl (none es p)
+  why Protect reply p = inl (none es p)

@@ -2,7 +2,8 @@
 use Rattle.std.proofs.Common.{◌≡◌, refl, Bool, true, false, None}
 use Rattle.failover.specs.declared.mode.Mode.{Mode}
 use Rattle.failover.specs.declared.mode.Mode.TheVariants.{Paired, Filling, Alone, Stopped}
-use Rattle.pair_core.specs.Modes.{is_stopped, is_alone, primary_refusal, backup_refusal, stop_refusal, live_refusal}
+use Rattle.pair_core.specs.Modes.{is_stopped, is_alone, is_filling, filled, primary_refusal, backup_refusal, stop_refusal}
+use Rattle.pair_core.specs.Modes.{live_refusal, protect_refusal}
 
 pub clash : (t : Bool) → t ≡ true → t ≡ false → ⊥
 clash true e f = cc
@@ -44,3 +45,24 @@ alone_not_stopped Paired e = refl
 alone_not_stopped Filling e = refl
 alone_not_stopped Alone e = refl
 alone_not_stopped Stopped e = absurd (cc)
+
+-- a commit leaves no node alone, and ends no node's being alone
+pub filled_alone : (mode : Mode) → is_alone (filled mode) ≡ is_alone mode
+filled_alone Paired = refl
+filled_alone Filling = refl
+filled_alone Alone = refl
+filled_alone Stopped = refl
+
+-- a backup goes live only once it took a full checkpoint
+pub live_full : (mode : Mode) → live_refusal mode ≡ None → is_filling mode ≡ false
+live_full Paired e = refl
+live_full Filling e = absurd (cc)
+live_full Alone e = refl
+live_full Stopped e = refl
+
+-- only a node that is alone gets a new backup
+pub protect_goes : (mode : Mode) → protect_refusal mode ≡ None → is_alone mode ≡ true
+protect_goes Paired e = absurd (cc)
+protect_goes Filling e = absurd (cc)
+protect_goes Alone e = refl
+protect_goes Stopped e = absurd (cc)

@@ -1,10 +1,8 @@
--- What the two nodes keep along steps, arrivals, cuts and commits.
+-- What the two nodes keep along steps, arrivals and cuts.
 use Rattle.std.proofs.Common.{◌≡◌, ℕ, zero, suc, ◌+◌, ◌-◌, ◌*◌, ◌/◌, ◌<◌, ◌≤◌, List, [], ◌∷◌, ◌++◌, length, replicate, refl, sym, ap, ◌∙◌}
-use Rattle.std.proofs.Common.{subst, arith, append_assoc, Bool, true, false, cond, Some, None, Result, Ok, Err}
-use Rattle.std.specs.Prelude.{nat_lt, not, ◌==◌, slice_range, take, drop}
+use Rattle.std.proofs.Common.{subst, arith, append_assoc, Bool, true, false, None}
+use Rattle.std.specs.Prelude.{slice_range, take, drop}
 use Rattle.std.proofs.Math.Bridge.{le_prop}
-use Rattle.std.proofs.lemmas.Bool.{eq-eqb}
-use Rattle.std.proofs.lemmas.Bool.Decides.{nat_tests}
 use Rattle.std.proofs.lemmas.List.{append-nil, length-append, length-replicate}
 use Rattle.guest_machine.specs.Dirty.{is_in}
 use Rattle.guest_machine.specs.declared.shapes.Shape.{Shape}
@@ -22,17 +20,12 @@ use Rattle.checkpoint_stream.specs.declared.place.Place.TheVariants.{Whole}
 use Rattle.checkpoint_stream.specs.ReadBack.{ReadsBack}
 use Rattle.checkpoint_stream.specs.Readings.{begun, fed}
 use Rattle.checkpoint_stream.specs.Sound.{change_in}
-use Rattle.backup_image.specs.declared.errors.ImageError.{ImageError}
-use Rattle.backup_image.specs.declared.errors.ImageError.TheVariants.{Stale, Gap}
-use Rattle.backup_image.specs.declared.standing.Staged.{Staged}
-use Rattle.backup_image.specs.declared.standing.Staged.TheVariants.{New, Again}
-use Rattle.backup_image.specs.Images.{ImageState, answer_at, stage_answer, staged_after, after_stage, committed}
 use Rattle.pair_history.specs.Entries.{Frame}
 use Rattle.pair_history.specs.Moves.{Move, Steps, Arrives, guest_along, frames_along}
 use Rattle.pair_history.proofs.Moves.{guest_along-append}
-use Rattle.pair_core.specs.Invariant.{all_moves, epoch_frames, AreSealed, AreNodes, IsBacked}
-use Rattle.pair_core.specs.Nodes.{Nodes, HasShape, node_of, machine_of, just_settled, start_nodes, after_run, with_arrival, with_sealed}
-use Rattle.pair_core.specs.Nodes.{with_commit, first_text, later_texts, read_as}
+use Rattle.pair_core.specs.Invariant.{all_moves, first_moves, epoch_frames, AreSealed, AreNodes, IsBacked}
+use Rattle.pair_core.specs.Nodes.{Node, Nodes, HasShape, node_of, machine_of, just_settled, start_nodes}
+use Rattle.pair_core.specs.Nodes.{after_run, with_arrival, with_sealed, first_text, later_texts, read_as}
 use Rattle.pair_core.specs.Texts.{IsText}
 
 -- Sizes
@@ -201,7 +194,7 @@ module _ (shape : Shape) (generation : ℕ) where
   first-sealed n g ms mss [] h = absurd h
   first-sealed n g ms mss (t ∷ texts) h = h.0
 
-  later-sealed : (n : ℕ) (g : Guest) (ms : List Move) (mss : List (List Move)) (texts : List (List ℕ))
+  pub later-sealed : (n : ℕ) (g : Guest) (ms : List Move) (mss : List (List Move)) (texts : List (List ℕ))
       → AreSealed shape generation n g (ms ∷ mss) texts → AreSealed shape generation (n + 1) (guest_along g ms) mss (later_texts texts)
   later-sealed n g ms mss [] h = absurd h
   later-sealed n g ms mss (t ∷ texts) h = h.1
@@ -222,7 +215,32 @@ module _ (shape : Shape) (generation : ℕ) where
             (subst (λ (b : Guest). IsText shape generation m b (guest_along b ms) text) along t),
       )
 
+-- The backup, whatever the live machine is, if it was last settled at the guest of the last cut
+
+pub backed-live : (generation n : ℕ) (g : Guest) (mss : List (List Move)) (x : Nodes) (live : Node) → IsBacked generation n g mss x
+    → IsBase (machine_of live) (guest_along g (all_moves mss)) → IsBacked generation n g mss (record x { live = live })
+backed-live generation n g mss x live b base = record {
+  follows = λ l. record { image = (b.follows l).image; stands_at = (b.follows l).stands_at };
+  fills = λ e.
+      let f = b.fills e in
+      record { empty = f.empty; text = f.text; later = f.later; sealed = f.sealed; makes = f.makes };
+  staged = b.staged;
+  image_shape = b.image_shape;
+  sealed = b.sealed;
+  base = base;
+}
+
+-- its image could go on, or a text is sealed that will fill it
+pub some-text : (generation n : ℕ) (g : Guest) (mss : List (List Move)) (x : Nodes) → IsBacked generation n g mss x
+    → x.image.stands_at ≡ None → 0 < length x.sealed
+some-text generation zero g mss x b e = let held = ap length (b.fills refl).sealed in omega arith
+some-text generation (suc n) g mss x b e = absurd (let at = (b.follows (omega arith)).stands_at in cc)
+
 -- Cut
+
+first-push : (mss : List (List Move)) (ms : List Move) → 0 < length mss → first_moves mss ≡ first_moves (mss ++ ms ∷ [])
+first-push [] ms l = absurd (omega arith)
+first-push (x ∷ mss) ms l = refl
 
 pub nodes-cut : (alone : Bool) (generation n : ℕ) (g : Guest) (mss : List (List Move)) (ran : List Move) (held : List (List Frame)) (x : Nodes) (m : ℕ)
     (text : List ℕ)
@@ -239,9 +257,18 @@ nodes-cut alone generation n g mss ran held x m text h e t =
       backed = λ two.
           let b = h.backed two in
           record {
-            some_committed = b.some_committed;
-            image = b.image;
-            stands_at = b.stands_at;
+            follows = λ l. record { image = (b.follows l).image; stands_at = (b.follows l).stands_at };
+            fills = λ e.
+                let f = b.fills e in
+                let long = length-sealed x.image.shape generation n g mss x.sealed b.sealed in
+                let held = ap length f.sealed in
+                record {
+                  empty = f.empty;
+                  text = f.text;
+                  later = f.later ++ text ∷ [];
+                  sealed = ap (λ t. t ++ text ∷ []) f.sealed;
+                  makes = λ before. f.makes before ∙ ap (guest_along g) (first-push mss ran (omega arith));
+                };
             staged = b.staged;
             image_shape = b.image_shape;
             sealed =
@@ -256,87 +283,6 @@ nodes-cut alone generation n g mss ran held x m text h e t =
       shape = h.shape;
     }
 
--- Commit
-
--- the image that a new checkpoint makes
-abbrev taken_in : ImageState → Change → ImageState
-taken_in i c = record {
-  shape = i.shape;
-  guest = image_of c i.guest;
-  stands_at = Some (record { generation = c.generation; number = c.number });
-  staged = None;
-}
-
-takes-in : (i : ImageState) (c : Change) → stage_answer i c ≡ Ok New → committed (after_stage i c) ≡ taken_in i c
-takes-in i c e = ap (λ (o : Result Staged ImageError). committed (record i { staged = staged_after o c i.staged })) e
-
-next-is-new : (generation n : ℕ) → 1 ≤ n → answer_at (Some (record { generation = generation; number = n - 1 })) generation n ≡ Ok New
-next-is-new generation n some = λ i. cond (same i) (Err Stale) (cond (near i) (Err Gap) (cond (next_one i) (Ok New) (Ok Again)))
-  where
-    same : not (generation == generation) ≡ false
-    same = ap not (eq-eqb generation generation refl)
-
-    near : nat_lt (n - 1 + 1) n ≡ false
-    near = grind (arith, nat_tests)
-
-    next_one : (n == n - 1 + 1) ≡ true
-    next_one = eq-eqb n (n - 1 + 1) (omega arith)
-
-module _ (alone : Bool) (generation n : ℕ) (g : Guest) (ms : List Move) (mss : List (List Move)) (ran : List Move) (f : List Frame)
-    (held : List (List Frame)) (x : Nodes)
-    (h : AreNodes alone generation n g (ms ∷ mss) ran (f ∷ held) x) (two : alone ≡ false) where
-  backed : IsBacked generation n g (ms ∷ mss) x
-  backed = h.backed two
-
-  text : IsText x.image.shape generation n g (guest_along g ms) (first_text x.sealed)
-  text = first-sealed x.image.shape generation n g ms mss x.sealed backed.sealed
-
-  abbrev change : Change
-  change = read_as x.image.shape (first_text x.sealed)
-
-  change-is : change ≡ text.change
-  change-is = reads-as x.image.shape generation n g (guest_along g ms) (first_text x.sealed) text
-
-  generation-is : change.generation ≡ generation
-  generation-is = ap (λ (c : Change). c.generation) change-is ∙ text.of_generation
-
-  number-is : change.number ≡ n
-  number-is = ap (λ (c : Change). c.number) change-is ∙ text.of_number
-
-  is-new : stage_answer x.image change ≡ Ok New
-  is-new = (λ i. answer_at (backed.stands_at i) (generation-is i) (number-is i)) ∙ next-is-new generation n backed.some_committed
-
-  abbrev after : Nodes
-  after = record x { image = taken_in x.image change; sealed = later_texts x.sealed }
-
-  taken : AreNodes alone generation (n + 1) (guest_along g ms) mss ran held after
-  taken =
-      let number : n ≡ n + 1 - 1 = omega arith in
-      let frames : f ∷ held ≡ frames_along g ms ∷ epoch_frames (guest_along g ms) mss = h.frames in
-      record {
-        first_generation = h.first_generation;
-        last_generation = h.last_generation;
-        backed = λ e. record {
-          some_committed = omega arith;
-          image = ap (image_of change) backed.image ∙ ap (λ c. image_of c g) change-is ∙ text.image;
-          stands_at = λ i. Some (record { generation = generation-is i; number = (number-is ∙ number) i });
-          staged = refl;
-          image_shape = shape-moves x.image.shape g ms backed.image_shape;
-          sealed = later-sealed x.image.shape generation n g ms mss x.sealed backed.sealed;
-          base = subst (IsBase (machine_of x.live)) (guest_along-append g ms (all_moves mss)) backed.base;
-        };
-        frames = cc;
-        live = h.live ∙ ap (guest_along g) (append_assoc ms (all_moves mss) ran) ∙ guest_along-append g ms (all_moves mss ++ ran);
-        outbox = h.outbox ∙ ap (λ b. frames_along b ran) (guest_along-append g ms (all_moves mss));
-        shape = h.shape;
-      }
-
-  pub nodes-commit : AreNodes alone generation (n + 1) (guest_along g ms) mss ran held (with_commit x)
-  nodes-commit =
-      subst (λ (i : ImageState). AreNodes alone generation (n + 1) (guest_along g ms) mss ran held
-      (record x { image = i; sealed = later_texts x.sealed }))
-      (sym (takes-in x.image change is-new)) taken
-
 -- Where both nodes boot
 
 pub nodes-start : (s : Shape) (image : List ℕ) → length image ≤ 4096 * s.pages
@@ -345,9 +291,8 @@ nodes-start s image fits = record {
   first_generation = omega arith;
   last_generation = omega arith;
   backed = λ e. record {
-    some_committed = omega arith;
-    image = refl;
-    stands_at = refl;
+    follows = λ l. record { image = refl; stands_at = refl };
+    fills = λ none. absurd (omega arith);
     staged = refl;
     image_shape = shape-boot s image fits;
     sealed = tt;

@@ -15,7 +15,7 @@ use Rattle.pair_history.specs.Moves.{Move, entries_of}
 use Rattle.pair_history.proofs.Moves.{DropsNone-moves}
 use Rattle.pair_core.specs.declared.event.Event.{Event}
 use Rattle.pair_core.specs.declared.event.Event.TheVariants.{Step, Cut, Send, BackupGet, AckGet, Admit, Deliver, Take, LoseIn, LoseOut}
-use Rattle.pair_core.specs.declared.event.Event.TheVariants.{FailPrimary, FailBackup, GoLive}
+use Rattle.pair_core.specs.declared.event.Event.TheVariants.{FailPrimary, FailBackup, GoLive, Protect}
 use Rattle.pair_core.specs.declared.event.Packet.{Packet}
 use Rattle.pair_core.specs.declared.event.Refusal.{Refusal}
 use Rattle.pair_core.specs.declared.event.Refusal.TheVariants.{Full, BadFrame, NoClient, Stopped, Behind, NotPaired}
@@ -33,7 +33,7 @@ use Rattle.pair_core.specs.Protocol.{ack_refusals, ack_done, admit_first, admit_
 use Rattle.pair_core.specs.Protocol.{deliver_refusals, deliver_done, take_refusals, take_done, loss_refusals, loss_done, loss_of, lost_in}
 use Rattle.pair_core.specs.Protocol.{lost_out, step_refusals, step_done, cut_refusals, cut_done, outbox_of, shown_at, live_at}
 use Rattle.pair_core.specs.Protocol.{step_entries, all_held, fail_backup_refusals, fail_backup_done}
-use Rattle.pair_core.specs.Protocol.{live_entries, go_live_refusals, go_live_done}
+use Rattle.pair_core.specs.Protocol.{live_entries, go_live_refusals, go_live_done, protect_refusals, protect_done}
 use Rattle.pair_core.specs.Record.{IsRecord}
 use Rattle.pair_core.specs.Runs.{Change, Along}
 use Rattle.pair_core.proofs.AllLands.{step_drops, failure_drops}
@@ -45,18 +45,18 @@ use Rattle.pair_core.proofs.RecordLaws.{below_at}
 
 module _ (Fits : Reply → List Entry → Type 0) (r : Record) where
   -- the history grows by entries that fit the reply
-  abbrev Grows : Outcome → Type 0
+  abbrev pub Grows : Outcome → Type 0
   Grows o = (es : List Entry) × (o.1.journal.history ≡ r.journal.history ++ es) × Fits o.0 es
 
-  same : (reply : Reply) → Fits reply [] → Grows (reply, r)
+  pub same : (reply : Reply) → Fits reply [] → Grows (reply, r)
   same reply p = ([], sym (append-nil r.journal.history), p)
 
-  table_grows : (o : Option Refusal) (refuse : Refusal → Outcome) (done : Outcome) → ((why : Refusal) → Grows (refuse why)) → Grows done
-      → Grows (or_else o refuse done)
+  pub table_grows : (o : Option Refusal) (refuse : Refusal → Outcome) (done : Outcome) → ((why : Refusal) → Grows (refuse why))
+      → Grows done → Grows (or_else o refuse done)
   table_grows None refuse done p q = q
   table_grows (Some why) refuse done p q = p why
 
-  unless_grows : (rows : List Row) (done : Outcome) → ((why : Refusal) → Fits (replies.Refused why) []) → Grows done
+  pub unless_grows : (rows : List Row) (done : Outcome) → ((why : Refusal) → Fits (replies.Refused why) []) → Grows done
       → Grows (unless r rows done)
   unless_grows rows done p q = table_grows (first_refusal rows) (refused r) done (λ why. same (replies.Refused why) (p why)) q
 
@@ -229,6 +229,9 @@ module _ (w : Pair) (h : Holds w) (k : IsRecord w.protocol) where
       let s = shown_at w.start r in
       unless_grows (DropsOnly w.start r GoLive) r (go_live_refusals s.boxes s.out r) (go_live_done s.boxes s.out s.guest.steps r)
       (λ why. tt) (live_entries s.boxes s.out r.journal, refl, refl)
+  allowed_grows Protect =
+      let r = w.protocol in
+      plain_unless r (protect_refusals r) (protect_done r) ([], sym (append-nil r.journal.history), tt)
 
   refused_only : (event : Event) (why : Refusal) → DropsOnly w.start w.protocol event (replies.Refused why) []
   refused_only (AckGet n) why = tt
@@ -244,6 +247,7 @@ module _ (w : Pair) (h : Holds w) (k : IsRecord w.protocol) where
   refused_only FailPrimary why = tt
   refused_only FailBackup why = tt
   refused_only GoLive why = tt
+  refused_only Protect why = tt
 
   outcome_grows : (event : Event) → GrowsBy event (outcome w.start w.protocol event)
   outcome_grows event =

@@ -4,20 +4,24 @@ use Rattle.std.specs.Prelude.{map, slice_get, IfSome, nat_le, ◌==◌, not}
 use Rattle.std.proofs.lemmas.Bool.{eq-eqb}
 use Rattle.std.proofs.lemmas.Bool.Decides.{nat_tests}
 use Rattle.std.proofs.lemmas.List.{length-append}
+use Rattle.failover.specs.declared.mode.Mode.{Mode}
+use Rattle.failover.specs.declared.mode.Mode.TheVariants.{Paired, Filling, Alone, Stopped}
 use Rattle.frame_ports.specs.declared.limits.TheConstants.{NUMBER_LIMIT}
 use Rattle.output_gate.specs.Epochs.{Epoch, frames_to, after_number}
 use Rattle.pair_history.specs.Entries.{Frame, Entry}
 use Rattle.pair_core.specs.declared.event.Packet.{Packet}
 use Rattle.pair_core.specs.declared.event.Refusal.TheVariants.{Stale, Exhausted}
+use Rattle.pair_core.specs.declared.window.Window.{Window}
 use Rattle.pair_core.specs.Journal.{all_entries, rest_of}
 use Rattle.pair_core.specs.Lengths.{receivers}
 use Rattle.pair_core.specs.Lines.{packet, packet_of, packets_from, AreBelow}
-use Rattle.pair_core.specs.Modes.{is_alone}
-use Rattle.pair_core.specs.Protocol.{Record, first_refusal, cut_refusals, ack_refusals, exhausts, let_go, cut_done, send_done, again_done, commit_done, ack_done}
-use Rattle.pair_core.specs.Record.{IsRecord}
-use Rattle.pair_core.specs.Window.{NumberedFrom}
+use Rattle.pair_core.specs.Modes.{is_alone, is_filling, filled, stop_refusal}
+use Rattle.pair_core.specs.Protocol.{Record, first_refusal, cut_refusals, ack_refusals, exhausts, let_go, cut_done, send_done}
+use Rattle.pair_core.specs.Protocol.{again_done, commit_done, ack_done, fail_primary_done}
+use Rattle.pair_core.specs.Record.{IsRecord, SuitsMode}
+use Rattle.pair_core.specs.Window.{NumberedFrom, with_cut, with_commit, with_acknowledged}
 use Rattle.pair_core.proofs.LengthLaws.{length-receivers}
-use Rattle.pair_core.proofs.ModeLaws.{clash}
+use Rattle.pair_core.proofs.ModeLaws.{clash, filled_alone}
 use Rattle.pair_core.proofs.LineLaws.{packets_from-numbered}
 use Rattle.pair_core.proofs.WindowLaws.{numbered_below, cut_window, commit_window, ack_window}
 
@@ -68,6 +72,46 @@ below_at g n (q ∷ ps) zero (Some p) h e =
     subst (λ (x : Packet). x.generation ≡ g → x.number < n) (sym same) h.1
 below_at g n (q ∷ ps) (suc k) o h e = below_at g n ps k o h.2 e
 
+-- The window that suits a mode: after a cut or an acknowledgement, after a commit, and once the primary stops
+
+suits_later : (mode : Mode) (w v : Window) → w.to_cut ≤ v.to_cut → v.to_commit ≡ w.to_commit → SuitsMode mode w → SuitsMode mode v
+suits_later Paired w v more same h = omega arith
+suits_later Filling w v more same h = (same ∙ h.0, let some = h.1 in omega arith)
+suits_later Alone w v more same h = tt
+suits_later Stopped w v more same h = omega arith
+
+suits_committed : (mode : Mode) (w : Window) → SuitsMode (filled mode) (with_commit w)
+suits_committed Paired w = omega arith
+suits_committed Filling w = omega arith
+suits_committed Alone w = tt
+suits_committed Stopped w = omega arith
+
+suits_stopped : (mode : Mode) (w : Window) → stop_refusal mode ≡ None → SuitsMode mode w → SuitsMode Stopped w
+suits_stopped Paired w goes h = h
+suits_stopped Filling w goes h = absurd (cc)
+suits_stopped Alone w goes h = absurd (cc)
+suits_stopped Stopped w goes h = absurd (cc)
+
+-- and what it says of the numbers
+
+suits_cut : (mode : Mode) (w : Window) → is_alone mode ≡ false → w.to_commit ≤ w.to_cut → SuitsMode mode w → 1 ≤ w.to_cut
+suits_cut Paired w two cut h = omega arith
+suits_cut Filling w two cut h = h.1
+suits_cut Alone w two cut h = absurd (cc)
+suits_cut Stopped w two cut h = omega arith
+
+suits_full : (mode : Mode) (w : Window) → is_alone mode ≡ false → is_filling mode ≡ false → SuitsMode mode w → 1 ≤ w.to_commit
+suits_full Paired w two full h = h
+suits_full Filling w two full h = absurd (cc)
+suits_full Alone w two full h = absurd (cc)
+suits_full Stopped w two full h = h
+
+suits_filling : (mode : Mode) (w : Window) → is_filling mode ≡ true → SuitsMode mode w → w.to_commit ≡ 0
+suits_filling Paired w new h = absurd (cc)
+suits_filling Filling w new h = h.0
+suits_filling Alone w new h = absurd (cc)
+suits_filling Stopped w new h = absurd (cc)
+
 -- Events
 
 length-rest : (ess : List (List Entry)) → 0 < length ess → suc (length (rest_of ess)) ≡ length ess
@@ -89,6 +133,7 @@ module _ (r : Record) (h : IsRecord r) where
         back = h.back;
         sealed = let s = h.sealed in let e = length-append r.journal.sealed (r.journal.running ∷ []) in omega arith;
         alone = λ e. absurd (clash (is_alone r.mode) e two);
+        suits = suits_later r.mode r.window (with_cut r.window) (omega arith) refl h.suits;
       }
 
   pub sent_are : packets_from r.generation r.window.to_acknowledge (r.window.to_cut - r.window.to_acknowledge) ≡ map (packet_of r.generation) r.pending
@@ -105,6 +150,7 @@ module _ (r : Record) (h : IsRecord r) where
     back = h.back;
     sealed = h.sealed;
     alone = h.alone;
+    suits = h.suits;
   }
 
   pub again_record : 0 < r.window.to_commit → IsRecord (again_done r).1
@@ -116,6 +162,7 @@ module _ (r : Record) (h : IsRecord r) where
         (omega arith, λ s. omega arith, tt);
     sealed = h.sealed;
     alone = h.alone;
+    suits = h.suits;
   }
 
   pub some_sealed : r.window.to_commit < r.window.to_cut → 0 < length r.journal.sealed
@@ -130,7 +177,12 @@ module _ (r : Record) (h : IsRecord r) where
         (AreBelow-more r.generation r.window.to_commit (r.window.to_commit + 1) r.lines.back (omega arith) h.back)
         (omega arith, λ s. omega arith, tt);
     sealed = let s = h.sealed in let l = length-rest r.journal.sealed (some_sealed more) in omega arith;
-    alone = λ e. let none = ap length (h.alone e).0 in let some = some_sealed more in absurd (omega arith);
+    alone =
+        λ e.
+        let none = ap length (h.alone (sym (filled_alone r.mode) ∙ e)).0 in
+        let some = some_sealed more in
+        absurd (omega arith);
+    suits = suits_committed r.mode r.window;
   }
 
   pub ack_record : (boxes : List (List Frame)) (n : ℕ) → n < r.window.to_commit → IsRecord (ack_done boxes r n).1
@@ -140,7 +192,29 @@ module _ (r : Record) (h : IsRecord r) where
     back = h.back;
     sealed = h.sealed;
     alone = λ e. ((h.alone e).0, (h.alone e).1, ap (after_number n) (h.alone e).2);
+    suits = suits_later r.mode r.window (with_acknowledged n r.window) (omega arith) refl h.suits;
   }
+
+  -- the primary stops in a pair alone
+  pub stop_record : stop_refusal r.mode ≡ None → IsRecord (fail_primary_done r).1
+  stop_record goes = record {
+    window = h.window;
+    forward = h.forward;
+    back = h.back;
+    sealed = h.sealed;
+    alone = λ e. absurd (cc);
+    suits = suits_stopped r.mode r.window goes h.suits;
+  }
+
+  -- in a pair some checkpoint was cut; and once the backup's first one is committed, some was committed
+  pub some_cut : is_alone r.mode ≡ false → 1 ≤ r.window.to_cut
+  some_cut two = suits_cut r.mode r.window two h.window.cut h.suits
+
+  pub some_committed : is_alone r.mode ≡ false → is_filling r.mode ≡ false → 1 ≤ r.window.to_commit
+  some_committed two full = suits_full r.mode r.window two full h.suits
+
+  pub none_committed : is_filling r.mode ≡ true → r.window.to_commit ≡ 0
+  none_committed new = suits_filling r.mode r.window new h.suits
 
 -- a packet of the current generation
 pub generation_is : (a b : ℕ) → not (a == b) ≡ false → a ≡ b

@@ -1,24 +1,24 @@
 -- What a cut and a commit do to the guests that the image will be.
-use Rattle.std.proofs.Common.{◌≡◌, ℕ, suc, ◌+◌, ◌-◌, ◌<◌, List, [], ◌∷◌, ◌++◌, length, refl, sym, ap, ◌∙◌, arith, append_assoc, false, Some}
+use Rattle.std.proofs.Common.{◌≡◌, ℕ, suc, ◌+◌, ◌-◌, ◌<◌, List, [], ◌∷◌, ◌++◌, length, refl, sym, ap, ◌∙◌, arith, append_assoc}
+use Rattle.std.proofs.Common.{Bool, true, false, Some}
+use Rattle.failover.specs.declared.mode.Mode.{Mode}
+use Rattle.failover.specs.declared.mode.Mode.TheVariants.{Paired, Filling, Alone, Stopped}
 use Rattle.guest_machine.specs.declared.shapes.Shape.{Shape}
 use Rattle.guest_machine.specs.Guest.{Guest}
-use Rattle.epoch_snapshot.specs.Bases.{IsBase}
+use Rattle.backup_image.specs.Images.{empty_image}
 use Rattle.epoch_snapshot.specs.Checkpoints.{Change}
 use Rattle.epoch_snapshot.specs.Images.{image_of}
 use Rattle.pair_history.specs.Entries.{Entry}
 use Rattle.pair_history.specs.HistoryState.{HistoryState, at}
 use Rattle.pair_history.proofs.States.{at-append}
-use Rattle.pair_core.specs.Invariant.{Holds}
 use Rattle.pair_core.specs.Journal.{joined, kept_entries, first_of, rest_of}
-use Rattle.pair_core.specs.Nodes.{HasShape, machine_of, with_sealed, with_commit, read_as}
-use Rattle.pair_core.specs.Modes.{is_alone}
-use Rattle.pair_core.specs.Pair.{Pair, HasBackup, shown_state}
+use Rattle.pair_core.specs.Nodes.{Nodes, Fills, with_sealed, with_commit, with_protected, read_as}
+use Rattle.pair_core.specs.Modes.{is_alone, is_filling, filled}
+use Rattle.pair_core.specs.Pair.{Pair, HasBackup, ImageFollows, shown_state, live_state}
 use Rattle.pair_core.specs.Protocol.{cut_done, commit_done}
-use Rattle.pair_core.specs.Record.{IsRecord}
-use Rattle.pair_core.specs.Replication.{guests_of, to_come, IsCut, IsCommit}
+use Rattle.pair_core.specs.Record.{IsRecord, SuitsMode}
+use Rattle.pair_core.specs.Replication.{guests_of, to_come, number_after, next_number, IsCut, IsCommit, IsProtected}
 use Rattle.pair_core.specs.Texts.{IsText, AreTexts}
-use Rattle.pair_core.proofs.Consistent.{has_backup, live_is}
-use Rattle.pair_core.proofs.Events.{cut_holds, commit_holds}
 use Rattle.pair_core.proofs.NodesLaws.{reads-as}
 
 -- the guests at the ends of epochs
@@ -55,55 +55,91 @@ length-ends : (s : HistoryState) (ess : List (List Entry)) → length (ends s es
 length-ends s [] = refl
 length-ends s (es ∷ ess) = ap suc (length-ends (at s es) ess)
 
--- what the image will be are the guests at the ends of the sealed epochs
-to_come-ends : (w : Pair) → HasBackup w → to_come w.nodes ≡ ends (shown_state w) w.protocol.journal.sealed
-to_come-ends w k =
-    ap (λ (g : Guest). guests_of w.nodes.image.shape g w.nodes.sealed) k.image
-    ∙ texts-make w.nodes.image.shape w.protocol.generation w.protocol.window.to_commit (shown_state w) w.protocol.journal.sealed
-    w.nodes.sealed k.sealed
+-- a full checkpoint makes its guest of whatever guest
+from-any : (g before : Guest) (x : Nodes) → Fills g x → to_come x ≡ guests_of x.image.shape before x.sealed
+from-any g before x f =
+    let shape = x.image.shape in
+    ap (guests_of shape x.image.guest) f.sealed
+    ∙ ap (λ (h : Guest). h ∷ guests_of shape h f.later) (f.makes x.image.guest ∙ sym (f.makes before))
+    ∙ ap (guests_of shape before) (sym f.sealed)
 
-module _ (w : Pair) (h : Holds w) (k : IsRecord w.protocol) (two : is_alone w.protocol.mode ≡ false) where
-  module _ (text : List ℕ)
-      (is_text : (base : Guest) → IsBase (machine_of w.nodes.live) base → HasShape w.nodes.image.shape w.nodes.live.guest
-      → IsText w.nodes.image.shape w.protocol.generation w.protocol.window.to_cut base w.nodes.live.guest text) where
-    abbrev after_cut : Pair
-    after_cut = record w { protocol = (cut_done w.nodes.live.outbox w.protocol).1; nodes = with_sealed w.nodes text }
+module _ (w : Pair) (b : HasBackup w) where
+  -- what the image will be are the guests at the ends of the sealed epochs
+  to_come-ends : to_come w.nodes ≡ ends (shown_state w) w.protocol.journal.sealed
+  to_come-ends =
+      by_mode (is_filling w.protocol.mode) refl
+      ∙ texts-make w.nodes.image.shape w.protocol.generation w.protocol.window.to_commit (shown_state w) w.protocol.journal.sealed
+      w.nodes.sealed b.sealed
+    where
+      by_mode : (t : Bool) → is_filling w.protocol.mode ≡ t
+          → to_come w.nodes ≡ guests_of w.nodes.image.shape (shown_state w).guest w.nodes.sealed
+      by_mode false e = ap (λ (g : Guest). guests_of w.nodes.image.shape g w.nodes.sealed) (b.follows e).image
+      by_mode true e =
+          from-any (at (shown_state w) (first_of w.protocol.journal.sealed)).guest (shown_state w).guest w.nodes (b.filling e)
 
-    pub cut_replicates : IsCut w.protocol.generation w.protocol.window.to_cut w.nodes (with_sealed w.nodes text)
-    cut_replicates =
-        let j = w.protocol.journal in
-        let s = shown_state w in
-        let now = has_backup w h two in
-        let old : to_come w.nodes ≡ ends s j.sealed = to_come-ends w now in
-        let new : to_come (with_sealed w.nodes text) ≡ ends s (j.sealed ++ j.running ∷ []) =
-        to_come-ends after_cut (has_backup after_cut (cut_holds w h k text is_text) two) in
-        let live : (at s (joined j.sealed ++ j.running)).guest ≡ w.nodes.live.guest =
-        ap (λ (t : HistoryState). t.guest) (sym (at-append w.start j.history (kept_entries j))) ∙ live_is w h in
-        let some = (h.nodes.backed two).some_committed in
-        let counted = k.sealed in
-        let long : length (to_come w.nodes) ≡ length j.sealed = ap length old ∙ length-ends s j.sealed in
-        record {
-          last = new ∙ ends-push s j.sealed j.running ∙ (λ i. sym old i ++ live i ∷ []);
-          live = refl;
-          image = refl;
-          taken = w.protocol.window.to_commit - 1;
-          stands = (h.nodes.backed two).stands_at;
-          place = omega arith;
-        }
+  -- the image takes the next checkpoint to be committed next
+  next-number : is_alone w.protocol.mode ≡ false → SuitsMode w.protocol.mode w.protocol.window
+      → next_number w.nodes ≡ w.protocol.window.to_commit
+  next-number = by_mode w.protocol.mode b.follows b.filling
+    where
+      by_mode : (mode : Mode) → (is_filling mode ≡ false → ImageFollows w)
+          → (is_filling mode ≡ true → Fills (at (shown_state w) (first_of w.protocol.journal.sealed)).guest w.nodes)
+          → is_alone mode ≡ false → SuitsMode mode w.protocol.window → next_number w.nodes ≡ w.protocol.window.to_commit
+      by_mode Filling follows fills two s = ap number_after (fills refl).empty ∙ sym s.0
+      by_mode Paired follows fills two s = ap number_after (follows refl).stands_at ∙ omega arith
+      by_mode Stopped follows fills two s = ap number_after (follows refl).stands_at ∙ omega arith
+      by_mode Alone follows fills two s = absurd (cc)
 
-  abbrev after_commit : Pair
-  after_commit = record w { protocol = (commit_done w.protocol).1; nodes = with_commit w.nodes }
+-- a commit makes a pair
+filled-follows : (mode : Mode) → is_filling (filled mode) ≡ false
+filled-follows Paired = refl
+filled-follows Filling = refl
+filled-follows Alone = refl
+filled-follows Stopped = refl
 
-  pub commit_replicates : w.protocol.window.to_commit < w.protocol.window.to_cut
+pub filled-pairs : (mode : Mode) → is_alone mode ≡ false → is_alone (filled mode) ≡ false
+filled-pairs Paired e = refl
+filled-pairs Filling e = refl
+filled-pairs Alone e = absurd (cc)
+filled-pairs Stopped e = refl
+
+-- CUT and COMMIT, from what holds of the backup before and after
+
+abbrev pub after_cut : Pair → List ℕ → Pair
+after_cut w text = record w { protocol = (cut_done w.nodes.live.outbox w.protocol).1; nodes = with_sealed w.nodes text }
+
+abbrev pub after_commit : Pair → Pair
+after_commit w = record w { protocol = (commit_done w.protocol).1; nodes = with_commit w.nodes }
+
+module _ (w : Pair) (k : IsRecord w.protocol) (two : is_alone w.protocol.mode ≡ false) (now : HasBackup w) where
+  pub cut_replicates : (text : List ℕ) → HasBackup (after_cut w text) → (live_state w).guest ≡ w.nodes.live.guest
+      → IsCut w.protocol.window.to_cut w.nodes (with_sealed w.nodes text)
+  cut_replicates text then live =
+      let j = w.protocol.journal in
+      let s = shown_state w in
+      let old : to_come w.nodes ≡ ends s j.sealed = to_come-ends w now in
+      let new : to_come (with_sealed w.nodes text) ≡ ends s (j.sealed ++ j.running ∷ []) = to_come-ends (after_cut w text) then in
+      let is : (at s (joined j.sealed ++ j.running)).guest ≡ w.nodes.live.guest =
+      ap (λ (t : HistoryState). t.guest) (sym (at-append w.start j.history (kept_entries j))) ∙ live in
+      let counted = k.sealed in
+      let next = next-number w now two k.suits in
+      let long : length (to_come w.nodes) ≡ length j.sealed = ap length old ∙ length-ends s j.sealed in
+      record {
+        last = new ∙ ends-push s j.sealed j.running ∙ (λ i. sym old i ++ is i ∷ []);
+        live = refl;
+        image = refl;
+        place = omega arith;
+      }
+
+  pub commit_replicates : HasBackup (after_commit w) → w.protocol.window.to_commit < w.protocol.window.to_cut
       → IsCommit w.protocol.generation w.protocol.window.to_commit w.nodes (with_commit w.nodes)
-  commit_replicates more =
+  commit_replicates then more =
       let j = w.protocol.journal in
       let s = shown_state w in
       let n = w.protocol.window.to_commit in
-      let now = has_backup w h two in
-      let then = has_backup after_commit (commit_holds w h k two more) two in
+      let follows = then.follows (filled-follows w.protocol.mode) in
       let counted = k.sealed in
-      let shown : shown_state after_commit ≡ at s (first_of j.sealed) = at-append w.start j.history (first_of j.sealed) in
+      let shown : shown_state (after_commit w) ≡ at s (first_of j.sealed) = at-append w.start j.history (first_of j.sealed) in
       let first : ends s j.sealed ≡ (at s (first_of j.sealed)).guest ∷ ends (at s (first_of j.sealed)) (rest_of j.sealed) =
       ends-first s j.sealed (omega arith) in
       let number : n + 1 - 1 ≡ n = omega arith in
@@ -111,9 +147,24 @@ module _ (w : Pair) (h : Holds w) (k : IsRecord w.protocol) (two : is_alone w.pr
         first =
             to_come-ends w now ∙ first
             ∙ (λ i. (sym shown i).guest ∷ ends (sym shown i) (rest_of j.sealed))
-            ∙ (λ i. sym then.image i ∷ sym (to_come-ends after_commit then) i);
+            ∙ (λ i. sym follows.image i ∷ sym (to_come-ends (after_commit w) then) i);
         live = refl;
-        some = (h.nodes.backed two).some_committed;
-        before = (h.nodes.backed two).stands_at;
-        stands = then.stands_at ∙ ap (λ (m : ℕ). Some (record { generation = w.protocol.generation; number = m })) number;
+        before = next-number w now two k.suits;
+        stands = follows.stands_at ∙ ap (λ (m : ℕ). Some (record { generation = w.protocol.generation; number = m })) number;
       }
+
+-- PROTECT: the full checkpoint's text makes the live guest
+
+pub protect_replicates : (x : Nodes) (generation : ℕ) (text : List ℕ)
+    → ((before : Guest) → IsText x.image.shape generation 0 before x.live.guest text) → IsProtected x (with_protected x text)
+protect_replicates x generation text is_text =
+    let shape = x.image.shape in
+    let before = (empty_image shape).guest in
+    let is = is_text before in
+    record {
+      only =
+          ap (λ (c : Change). image_of c before ∷ []) (reads-as shape generation 0 before x.live.guest text is)
+          ∙ ap (λ (g : Guest). g ∷ []) is.image;
+      live = refl;
+      empty = refl;
+    }

@@ -1,7 +1,7 @@
 -- Why a frame was dropped.
 use Rattle.std.specs.Prelude.{◌≡◌, ◌⊎◌, ℕ, List, [], ◌∷◌, ◌++◌, Some, slice_get}
 use Rattle.pair_history.specs.Entries.{Frame, Entry, DropIn, DropOut}
-use Rattle.pair_history.specs.HistoryState.{HistoryState, inbox_of}
+use Rattle.pair_history.specs.HistoryState.{HistoryState, inbox_of, at}
 use Rattle.pair_history.specs.Landings.{IsInBox, DropsAtFull, DropsNone}
 use Rattle.pair_history.specs.Failures.{go_live_entries, arrived_numbers, rising}
 use Rattle.pair_core.specs.declared.event.Event.{Event}
@@ -9,21 +9,25 @@ use Rattle.pair_core.specs.declared.event.Event.TheVariants.{Step, AckGet, LoseI
 use Rattle.pair_core.specs.declared.event.Reply.{Reply}
 use Rattle.pair_core.specs.declared.event.Reply.TheVariants.{Dropped, Live}
 use Rattle.pair_core.specs.Journal.{kept_entries}
-use Rattle.pair_core.specs.Protocol.{Record, Answers, shown_at, live_at}
+use Rattle.pair_core.specs.Protocol.{Record, Answers}
 
--- What an event may drop, where the history grows by these entries: a loss that was asked for drops that frame and no other; where
--- frames land, which is at an acknowledgement, where the backup fails, and at a step of a node that is alone, what finds its client's
--- box full; the backup that goes live drops each frame that a discarded epoch took in, and each that is on its way; nothing else drops
--- a frame.
+-- What an event may drop, where the history and what the guest did ahead of it were so, and the history grows by these entries: a loss
+-- that was asked for drops that frame and no other; where frames land, which is at an acknowledgement, where the backup fails, and at a
+-- step of a node that is alone, what finds its client's box full; the backup that goes live drops each frame that the guest took in
+-- ahead of the history, and each that is on its way; nothing else drops a frame.
+abbrev pub Loses : HistoryState → List Entry → List Entry → Event → Reply → List Entry → Type 0
+Loses start history ahead (LoseIn c place) Dropped es =
+    (n : ℕ) × (f : Frame) × (slice_get (inbox_of c (at start (history ++ ahead)).waiting) place ≡ Some (n, f)) × (es ≡ DropIn n ∷ [])
+Loses start history ahead (LoseOut c place) Dropped es = IsInBox (at start history) c place × (es ≡ DropOut c place ∷ [])
+Loses start history ahead (AckGet k) reply es = DropsAtFull (at start history) es
+Loses start history ahead Step reply es = DropsAtFull (at start history) es
+Loses start history ahead FailBackup reply es = DropsAtFull (at start history) es
+Loses start history ahead GoLive (Live generation steps) es = es ≡ go_live_entries (at start history) ahead
+Loses start history ahead event reply es = DropsNone es
+
+-- the same at a record
 abbrev pub DropsOnly : HistoryState → Record → Event → Reply → List Entry → Type 0
-DropsOnly start old (LoseIn c place) Dropped es =
-    (n : ℕ) × (f : Frame) × (slice_get (inbox_of c (live_at start old).waiting) place ≡ Some (n, f)) × (es ≡ DropIn n ∷ [])
-DropsOnly start old (LoseOut c place) Dropped es = IsInBox (shown_at start old) c place × (es ≡ DropOut c place ∷ [])
-DropsOnly start old (AckGet k) reply es = DropsAtFull (shown_at start old) es
-DropsOnly start old Step reply es = DropsAtFull (shown_at start old) es
-DropsOnly start old FailBackup reply es = DropsAtFull (shown_at start old) es
-DropsOnly start old GoLive (Live generation steps) es = es ≡ go_live_entries (shown_at start old) (kept_entries old.journal)
-DropsOnly start old event reply es = DropsNone es
+DropsOnly start old event reply es = Loses start old.journal.history (kept_entries old.journal) event reply es
 
 -- An event, answered so, makes the history grow by entries that drop what it may drop.
 pub record Drops (start : HistoryState) (old : Record) (event : Event) (reply : Reply) (new : Record) : Type 0 where

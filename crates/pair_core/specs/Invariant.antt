@@ -15,7 +15,7 @@ use Rattle.pair_history.specs.Landings.{DropsAreKnown, BoxesFit}
 use Rattle.pair_history.specs.Moves.{Move, entries_of, guest_along, frames_along, left, AllCan, AreRising}
 use Rattle.pair_core.specs.Journal.{Journal}
 use Rattle.pair_core.specs.Modes.{is_alone}
-use Rattle.pair_core.specs.Nodes.{Nodes, HasShape, machine_of}
+use Rattle.pair_core.specs.Nodes.{Nodes, HasShape, Fills, machine_of}
 use Rattle.pair_core.specs.Pair.{Pair, shown_state}
 use Rattle.pair_core.specs.Texts.{IsText}
 use Rattle.pair_core.specs.Window.{committed_of, uncommitted_of}
@@ -48,6 +48,10 @@ pub record IsJournal (start : HistoryState) (j : Journal) : Type 0 where
   pub running_are : j.running ≡ entries_of running_moves
   pub can : AllCan (at start j.history).waiting (all_moves sealed_moves ++ running_moves)
 
+abbrev pub first_moves : List (List Move) → List Move
+first_moves [] = []
+first_moves (ms ∷ mss) = ms
+
 -- the texts of epochs of these moves, numbered from n on, where the guest before them is g
 abbrev pub AreSealed : Shape → ℕ → ℕ → Guest → List (List Move) → List (List ℕ) → Type 0
 AreSealed shape generation n g [] [] = Unit {0}
@@ -56,12 +60,17 @@ AreSealed shape generation n g (ms ∷ mss) (text ∷ texts) =
 AreSealed shape generation n g [] (text ∷ texts) = ⊥
 AreSealed shape generation n g (ms ∷ mss) [] = ⊥
 
+-- The image follows the history, whose guest is g: it took in the checkpoint before number n.
+pub record Follows (generation n : ℕ) (g : Guest) (x : Nodes) : Type 0 where
+  pub image : x.image.guest ≡ g
+  pub stands_at : x.image.stands_at ≡ Some (record { generation = generation; number = n - 1 })
+
 -- The backup in this generation, where n is the number of the next checkpoint to be committed, the history's guest is g, and these
 -- moves are sealed.
 pub record IsBacked (generation n : ℕ) (g : Guest) (sealed_moves : List (List Move)) (x : Nodes) : Type 0 where
-  pub some_committed : 1 ≤ n
-  pub image : x.image.guest ≡ g
-  pub stands_at : x.image.stands_at ≡ Some (record { generation = generation; number = n - 1 })
+  pub follows : 1 ≤ n → Follows generation n g x
+  -- before the first checkpoint
+  pub fills : n ≡ 0 → Fills (guest_along g (first_moves sealed_moves)) x
   pub staged : x.image.staged ≡ None
   pub image_shape : HasShape x.image.shape g
   pub sealed : AreSealed x.image.shape generation n g sealed_moves x.sealed

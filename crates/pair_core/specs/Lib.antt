@@ -18,6 +18,7 @@ pub mod Start
 pub mod Runs
 pub mod Drops
 pub mod Replication
+pub mod Service
 pub mod WorldFields
 pub mod Lengths
 pub mod Refusals

@@ -3,7 +3,7 @@ use Rattle.std.specs.Prelude.{Bool, true, false, Option, None, Some}
 use Rattle.failover.specs.declared.mode.Mode.{Mode}
 use Rattle.failover.specs.declared.mode.Mode.TheVariants as modes
 use Rattle.pair_core.specs.declared.event.Event.{Event}
-use Rattle.pair_core.specs.declared.event.Event.TheVariants.{Cut, Send, BackupGet, AckGet, FailPrimary, FailBackup, GoLive}
+use Rattle.pair_core.specs.declared.event.Event.TheVariants.{Cut, Send, BackupGet, AckGet, FailPrimary, FailBackup, GoLive, Protect}
 use Rattle.pair_core.specs.declared.event.Refusal.{Refusal}
 use Rattle.pair_core.specs.declared.event.Refusal.TheVariants.{Stopped, NotPaired, AlreadyPaired, NoImage}
 
@@ -20,6 +20,20 @@ is_alone modes.Alone = true
 is_alone modes.Paired = false
 is_alone modes.Filling = false
 is_alone modes.Stopped = false
+
+-- whether a new backup still waits for its first checkpoint, which is a full one
+abbrev pub is_filling : Mode → Bool
+is_filling modes.Filling = true
+is_filling modes.Paired = false
+is_filling modes.Alone = false
+is_filling modes.Stopped = false
+
+-- the mode once that one is committed, or any other
+abbrev pub filled : Mode → Mode
+filled modes.Filling = modes.Paired
+filled modes.Paired = modes.Paired
+filled modes.Alone = modes.Alone
+filled modes.Stopped = modes.Stopped
 
 -- what the primary does in a pair is refused where it has stopped, and where a node is alone
 abbrev pub primary_refusal : Mode → Option Refusal
@@ -49,6 +63,13 @@ live_refusal modes.Filling = Some AlreadyPaired
 live_refusal modes.Alone = Some NotPaired
 live_refusal modes.Stopped = None
 
+-- that a node gets a new backup, where it has one, and where the primary has stopped
+abbrev pub protect_refusal : Mode → Option Refusal
+protect_refusal modes.Paired = Some AlreadyPaired
+protect_refusal modes.Filling = Some AlreadyPaired
+protect_refusal modes.Alone = None
+protect_refusal modes.Stopped = Some Stopped
+
 -- Why an event is refused in a mode. A step, and a frame's arrival, are refused where the primary has stopped, each in its own place of
 -- its table of refusals; what clients and their lines do is not refused by any mode.
 abbrev pub mode_refusal : Mode → Event → Option Refusal
@@ -59,4 +80,5 @@ mode_refusal mode (AckGet k) = primary_refusal mode
 mode_refusal mode FailPrimary = stop_refusal mode
 mode_refusal mode FailBackup = primary_refusal mode
 mode_refusal mode GoLive = live_refusal mode
+mode_refusal mode Protect = protect_refusal mode
 mode_refusal mode other = None

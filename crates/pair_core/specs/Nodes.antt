@@ -5,6 +5,7 @@ use Rattle.guest_machine.specs.Guest.{Guest, State, HasDeviceRecords, boot_guest
 use Rattle.guest_machine.specs.Step.{arrived}
 use Rattle.guest_machine.specs.Runs.{after_steps, sent_in, marked_in}
 use Rattle.epoch_snapshot.specs.Checkpoints.{Change}
+use Rattle.epoch_snapshot.specs.Images.{image_of}
 use Rattle.checkpoint_stream.specs.Readings.{begun, fed}
 use Rattle.checkpoint_stream.specs.Sound.{change_in}
 use Rattle.backup_image.specs.Images.{ImageState, booted, empty_image, after_stage, committed}
@@ -89,7 +90,7 @@ later_texts (t ∷ ts) = ts
 abbrev pub read_as : Shape → List ℕ → Change
 read_as shape text = change_in (fed (begun shape 0) text)
 
--- the backup holds an image
+-- the backup holds an image that could go on
 abbrev pub HasImage : Nodes → Type 0
 HasImage x = x.image.stands_at ≢ None
 
@@ -103,6 +104,18 @@ left_alone x = record (without_backup x) { live = record x.live { outbox = [] } 
 
 abbrev pub gone_live : Nodes → Nodes
 gone_live x = record (without_backup x) { live = just_settled x.image.guest }
+
+-- a new backup: its image is empty, and this is the text of the full checkpoint, at which the live machine is settled
+abbrev pub with_protected : Nodes → List ℕ → Nodes
+with_protected x text = record x { live = just_settled x.live.guest; image = empty_image x.image.shape; sealed = text ∷ [] }
+
+-- The image is empty, and the oldest text is a full checkpoint: it makes the guest g, whatever guest it is applied to.
+pub record Fills (g : Guest) (x : Nodes) : Type 0 where
+  pub empty : x.image.stands_at ≡ None
+  pub text : List ℕ
+  pub later : List (List ℕ)
+  pub sealed : x.sealed ≡ text ∷ later
+  pub makes : (before : Guest) → image_of (read_as x.image.shape text) before ≡ g
 
 -- the image takes in the oldest sealed checkpoint, as its text reads, and that text is let go
 abbrev pub with_commit : Nodes → Nodes

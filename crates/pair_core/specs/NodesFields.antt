@@ -1,5 +1,5 @@
 -- How the fields of the nodes stand for what contracts see.
-use Rattle.std.specs.Prelude.{◌≡◌, ◌-◌, map, vec_len, vec_capacity, Option, None, Some}
+use Rattle.std.specs.Prelude.{◌≡◌, ◌-◌, [], map, vec_len, vec_capacity, Option, None, Some}
 use Rattle.guest_machine.specs.declared.shapes.Shape.{Shape}
 use Rattle.backup_image.specs.Images.{ImageState, empty_image}
 use Rattle.pair_core.specs.declared.nodes.Nodes.TheInside.{Inside}
@@ -16,6 +16,7 @@ housed a = record {
   room = vec_capacity a.sealed - vec_len a.sealed;
 }
 
--- the image has the shape of the nodes
-abbrev pub AreFields : Inside → Type 0
-AreFields a = (image_or a.shape a.image).shape ≡ a.shape
+-- the image has the shape of the nodes, and where there is no image nothing is sealed
+pub record AreFields (a : Inside) : Type 0 where
+  pub shape : (image_or a.shape a.image).shape ≡ a.shape
+  pub unsealed : a.image ≡ None → a.sealed.items ≡ []

@@ -1,19 +1,20 @@
 -- What contracts see of the whole pair, and how its parts stand to the history.
-use Rattle.std.specs.Prelude.{◌≡◌, ℕ, ◌-◌, ◌≤◌, [], ◌++◌, length, true, false, Some, None}
+use Rattle.std.specs.Prelude.{◌≡◌, ℕ, ◌-◌, ◌≤◌, [], ◌++◌, length, All, Bool, true, false, Some, None}
 use Rattle.epoch_snapshot.specs.Bases.{IsBase}
 use Rattle.frame_ports.specs.Addresses.{targets_of}
 use Rattle.frame_ports.specs.Lands.{list_of}
 use Rattle.frame_ports.specs.Ports.{PortsState}
 use Rattle.output_gate.specs.Epochs.{frames_of}
+use Rattle.pair_history.specs.Entries.{Entry, Ran, Arrive}
 use Rattle.pair_history.specs.HistoryState.{HistoryState, inbox_of, at, Legal}
 use Rattle.pair_history.specs.Landings.{DropsAreKnown}
 use Rattle.pair_core.specs.declared.event.Refusal.{Refusal}
 use Rattle.pair_core.specs.declared.event.Refusal.TheVariants.{Full}
 use Rattle.pair_core.specs.declared.event.Reply.{Reply}
 use Rattle.pair_core.specs.declared.event.Reply.TheVariants as replies
-use Rattle.pair_core.specs.Journal.{joined, kept_entries}
-use Rattle.pair_core.specs.Modes.{is_alone}
-use Rattle.pair_core.specs.Nodes.{Nodes, machine_of}
+use Rattle.pair_core.specs.Journal.{joined, first_of, kept_entries}
+use Rattle.pair_core.specs.Modes.{is_alone, is_filling}
+use Rattle.pair_core.specs.Nodes.{Nodes, Fills, machine_of}
 use Rattle.pair_core.specs.Protocol.{Record, outbox_of, shown_at, live_at}
 use Rattle.pair_core.specs.Texts.{AreTexts}
 
@@ -37,14 +38,19 @@ live_state w = live_at w.start w.protocol
 abbrev pub cut_state : Pair → HistoryState
 cut_state w = at w.start (w.protocol.journal.history ++ joined w.protocol.journal.sealed)
 
+-- The image is the guest of the history, memory, disk and devices, and stands at the last checkpoint that was committed.
+pub record ImageFollows (w : Pair) : Type 0 where
+  pub image : w.nodes.image.guest ≡ (shown_state w).guest
+  pub stands_at : w.nodes.image.stands_at ≡ Some (record { generation = w.protocol.generation; number = w.protocol.window.to_commit - 1 })
+
 -- What holds of the backup, where there is one.
 pub record HasBackup (w : Pair) : Type 0 where
   -- the live machine was last settled at the guest of the last cut
   pub base : IsBase (machine_of w.nodes.live) (cut_state w).guest
-  -- the image is the guest of the history, memory, disk and devices; it stands at the last checkpoint that was committed, and nothing
-  -- is staged
-  pub image : w.nodes.image.guest ≡ (shown_state w).guest
-  pub stands_at : w.nodes.image.stands_at ≡ Some (record { generation = w.protocol.generation; number = w.protocol.window.to_commit - 1 })
+  pub follows : is_filling w.protocol.mode ≡ false → ImageFollows w
+  -- a new backup's image is empty, until it takes in the full checkpoint, which makes the guest of its epoch's end
+  pub filling : is_filling w.protocol.mode ≡ true → Fills (at (shown_state w) (first_of w.protocol.journal.sealed)).guest w.nodes
+  -- nothing is staged
   pub staged : w.nodes.image.staged ≡ None
   -- each sealed text reads back as the checkpoint of its number, which makes the guest of its epoch's end of the one of the epoch before
   pub sealed : AreTexts w.nodes.image.shape w.protocol.generation w.protocol.window.to_commit
@@ -56,6 +62,12 @@ pub record IsAlone (w : Pair) : Type 0 where
   pub pending : w.protocol.pending ≡ []
   pub outbox : w.nodes.live.outbox ≡ []
 
+-- whether the guest did it: a step, or a frame's arrival
+abbrev pub is_of_guest : Entry → Bool
+is_of_guest Ran = true
+is_of_guest (Arrive n) = true
+is_of_guest other = false
+
 -- What holds between events.
 pub record IsConsistent (w : Pair) : Type 0 where
   -- the history is one of a guest that never fails, and dropped no frame for a client but out of its box, or the next one on its way;
@@ -63,6 +75,7 @@ pub record IsConsistent (w : Pair) : Type 0 where
   pub legal : Legal w.start w.protocol.journal.history
   pub drops : DropsAreKnown w.start w.protocol.journal.history
   pub goes_on : Legal (shown_state w) (kept_entries w.protocol.journal)
+  pub kept : All (λ e. is_of_guest e ≡ true) (kept_entries w.protocol.journal)
   -- the live machine is the guest of the history followed by what is kept
   pub live : w.nodes.live.guest ≡ (live_state w).guest
   -- there is a backup, unless a node is alone

@@ -19,7 +19,7 @@ use Rattle.pair_history.specs.Landings.{landings}
 use Rattle.pair_history.specs.Failures.{drops_of_taken_in, drops_of_owed_from}
 use Rattle.pair_core.specs.declared.event.Event.{Event}
 use Rattle.pair_core.specs.declared.event.Event.TheVariants.{Step, Cut, Send, BackupGet, AckGet, Admit, Deliver, Take, LoseIn, LoseOut}
-use Rattle.pair_core.specs.declared.event.Event.TheVariants.{FailPrimary, FailBackup, GoLive}
+use Rattle.pair_core.specs.declared.event.Event.TheVariants.{FailPrimary, FailBackup, GoLive, Protect}
 use Rattle.pair_core.specs.declared.event.Packet.{Packet}
 use Rattle.pair_core.specs.declared.event.Refusal.{Refusal}
 use Rattle.pair_core.specs.declared.event.Refusal.TheVariants.{Full, BadFrame, NoClient, Stopped, Behind, Stale, Gap, NoMemory, CutNeeded}
@@ -31,8 +31,8 @@ use Rattle.pair_core.specs.declared.window.Window.{Window}
 use Rattle.pair_core.specs.Journal.{Journal, joined, kept_entries, all_entries, with_history, with_moves, sealed_off, committed}
 use Rattle.pair_core.specs.Journal.{all_committed, discarded}
 use Rattle.pair_core.specs.Lines.{Lines, packet, packet_of, with_forward, with_back}
-use Rattle.pair_core.specs.Modes.{is_stopped, is_alone, mode_refusal}
-use Rattle.pair_core.specs.Window.{with_cut, with_commit, with_acknowledged, none_pending}
+use Rattle.pair_core.specs.Modes.{is_stopped, is_alone, filled, mode_refusal}
+use Rattle.pair_core.specs.Window.{filling_window, with_cut, with_commit, with_acknowledged, none_pending}
 
 pub record Record : Type 0 where
   pub mode : Mode
@@ -135,11 +135,12 @@ again_done r =
     let last = r.window.to_commit - 1 in
     (replies.Again r.generation last, record r { lines = with_back r.lines (packet r.generation last) })
 
--- the next checkpoint is committed and acknowledged: its epoch moves to the history
+-- the next checkpoint is committed and acknowledged: its epoch moves to the history. A new backup's first one makes a pair
 abbrev pub commit_done : Record → Outcome
 commit_done r = (
   replies.Committed r.generation r.window.to_commit,
   record r {
+    mode = filled r.mode;
     journal = committed r.journal;
     window = with_commit r.window;
     lines = with_back r.lines (packet r.generation r.window.to_commit);
@@ -329,6 +330,24 @@ go_live_done boxes out steps r = (
 abbrev pub go_live_outcome_at : List (List Frame) → List (ℕ × Frame) → ℕ → Record → Outcome
 go_live_outcome_at boxes out steps r = unless r (go_live_refusals boxes out r) (go_live_done boxes out steps r)
 
+-- PROTECT: a node that is alone gets a new backup, in the next generation
+
+abbrev pub protect_refusals : Record → List Row
+protect_refusals r = (nat_le NUMBER_LIMIT (r.generation + 1), Exhausted) ∷ []
+
+-- its full checkpoint, which no frame waits for, is pending under number 0; from now on what the guest does and sends is kept
+abbrev pub protect_done : Record → Outcome
+protect_done r = (
+  replies.Protecting (r.generation + 1),
+  record r {
+    mode = modes.Filling;
+    generation = r.generation + 1;
+    journal = sealed_off r.journal;
+    window = filling_window;
+    pending = record { number = 0; frames = [] } ∷ [];
+  },
+)
+
 -- WHAT THE HISTORY SAYS of what an event looks at
 
 -- the state that clients see, and the one after all that is kept
@@ -366,6 +385,7 @@ allowed start r FailBackup = fail_backup_outcome_at (shown_at start r).boxes (ou
 allowed start r GoLive =
     let s = shown_at start r in
     go_live_outcome_at s.boxes s.out s.guest.steps r
+allowed start r Protect = unless r (protect_refusals r) (protect_done r)
 
 abbrev pub outcome : HistoryState → Record → Event → Outcome
 outcome start r event = or_else (mode_refusal r.mode event) (refused r) (allowed start r event)

@@ -1,5 +1,5 @@
 -- What contracts see of the pair's record: the protocol's record, and the clients' ports; and what is true of every record.
-use Rattle.std.specs.Prelude.{◌≡◌, ℕ, ◌+◌, true, List, [], length, drop, remove}
+use Rattle.std.specs.Prelude.{◌≡◌, ℕ, ◌+◌, ◌≤◌, true, List, [], length, drop, remove}
 use Rattle.frame_ports.specs.Addresses.{targets_of}
 use Rattle.output_gate.specs.Epochs.{frames_of}
 use Rattle.frame_ports.specs.Lands.{list_of, with_list, lands}
@@ -10,7 +10,9 @@ use Rattle.pair_core.specs.Lines.{no_packets, AreBelow}
 use Rattle.pair_core.specs.Modes.{is_alone}
 use Rattle.pair_core.specs.Protocol.{Record, let_go, all_held}
 use Rattle.pair_core.specs.Window.{start_window, IsWindow, committed_of}
-use Rattle.failover.specs.declared.mode.Mode.TheVariants.{Paired}
+use Rattle.failover.specs.declared.mode.Mode.{Mode}
+use Rattle.failover.specs.declared.mode.Mode.TheVariants.{Paired, Filling, Alone, Stopped}
+use Rattle.pair_core.specs.declared.window.Window.{Window}
 
 pub record RecordState : Type 0 where
   pub protocol : Record
@@ -50,6 +52,13 @@ ports_after_lose_out p c place = record p { boxes = with_list p.boxes c (remove 
 abbrev pub IsLone : Record → Type 0
 IsLone r = (r.journal.sealed ≡ []) × (r.journal.running ≡ []) × (r.pending ≡ [])
 
+-- A new backup takes the full checkpoint, number 0, next, and that one was cut; a backup that could go on has taken one.
+abbrev pub SuitsMode : Mode → Window → Type 0
+SuitsMode Filling w = (w.to_commit ≡ 0) × (1 ≤ w.to_cut)
+SuitsMode Paired w = 1 ≤ w.to_commit
+SuitsMode Stopped w = 1 ≤ w.to_commit
+SuitsMode Alone w = Unit {0}
+
 -- The window is that of what is pending; every packet of this generation names a checkpoint that was cut, every acknowledgement of
 -- it one that was committed; each checkpoint that was cut and not committed has its epoch; and where a node is alone nothing is kept
 -- or pending.
@@ -59,3 +68,4 @@ pub record IsRecord (r : Record) : Type 0 where
   pub back : AreBelow r.generation r.window.to_commit r.lines.back
   pub sealed : r.window.to_commit + length r.journal.sealed ≡ r.window.to_cut
   pub alone : is_alone r.mode ≡ true → IsLone r
+  pub suits : SuitsMode r.mode r.window

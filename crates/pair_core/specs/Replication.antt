@@ -1,12 +1,14 @@
 -- Replication: the guests that the backup's image will be, one after another, and that each is the guest that the live machine was at a cut.
-use Rattle.std.specs.Prelude.{◌≡◌, ℕ, ◌+◌, ◌-◌, ◌≤◌, List, [], ◌∷◌, ◌++◌, length, None, Some, slice_get}
+use Rattle.std.specs.Prelude.{◌≡◌, ℕ, ◌+◌, ◌≤◌, false, List, [], ◌∷◌, ◌++◌, length, Option, None, Some, slice_get}
 use Rattle.guest_machine.specs.declared.shapes.Shape.{Shape}
 use Rattle.guest_machine.specs.Guest.{Guest}
 use Rattle.epoch_snapshot.specs.Images.{image_of}
 use Rattle.pair_core.specs.declared.event.Event.{Event}
-use Rattle.pair_core.specs.declared.event.Event.TheVariants.{Cut, BackupGet, FailBackup, GoLive}
+use Rattle.pair_core.specs.declared.event.Event.TheVariants.{Cut, BackupGet, FailBackup, GoLive, Protect}
 use Rattle.pair_core.specs.declared.event.Reply.{Reply}
 use Rattle.pair_core.specs.declared.event.Reply.TheVariants as replies
+use Rattle.backup_image.specs.declared.standing.Standing.{Standing}
+use Rattle.pair_core.specs.Modes.{is_alone}
 use Rattle.pair_core.specs.Nodes.{Nodes, read_as}
 use Rattle.pair_core.specs.Pair.{Pair, IsConsistent}
 use Rattle.pair_core.specs.Protocol.{Answers}
@@ -25,33 +27,45 @@ to_come x = guests_of x.image.shape x.image.guest x.sealed
 abbrev pub HasTaken : ℕ → ℕ → Nodes → Type 0
 HasTaken generation number x = x.image.stands_at ≡ Some (record { generation = generation; number = number })
 
--- A cut of a checkpoint: the last guest that the image will be is the one that the live machine was before the cut and still is. The
--- checkpoint has as high a number above the image's as there are guests to come, and the image stays.
-pub record IsCut (generation number : ℕ) (old new : Nodes) : Type 0 where
+-- the number of the checkpoint that the image takes next: the full one's, 0, while it is empty
+abbrev pub number_after : Option Standing → ℕ
+number_after None = 0
+number_after (Some at) = at.number + 1
+
+abbrev pub next_number : Nodes → ℕ
+next_number x = number_after x.image.stands_at
+
+-- A cut of a checkpoint: the last guest that the image will be is the one that the live machine was before the cut and still is. As
+-- many checkpoints before it are to be committed as there are guests to come, and the image stays.
+pub record IsCut (number : ℕ) (old new : Nodes) : Type 0 where
   pub last : to_come new ≡ to_come old ++ old.live.guest ∷ []
   pub live : new.live.guest ≡ old.live.guest
   pub image : new.image ≡ old.image
-  pub taken : ℕ
-  pub stands : HasTaken generation taken old
-  pub place : taken + length (to_come old) + 1 ≡ number
+  pub place : next_number old + length (to_come old) ≡ number
 
 -- A commit of a checkpoint: the image is the first of the guests that were to come, the others are to come still, and the live guest stays.
 pub record IsCommit (generation number : ℕ) (old new : Nodes) : Type 0 where
   pub first : to_come old ≡ new.image.guest ∷ to_come new
   pub live : new.live ≡ old.live
-  pub some : 1 ≤ number
-  pub before : HasTaken generation (number - 1) old
+  pub before : next_number old ≡ number
   pub stands : HasTaken generation number new
+
+-- A new backup: its image is empty, and the only guest that is to come is the one that the live machine was and still is.
+pub record IsProtected (old new : Nodes) : Type 0 where
+  pub only : to_come new ≡ old.live.guest ∷ []
+  pub live : new.live.guest ≡ old.live.guest
+  pub empty : new.image.stands_at ≡ None
 
 -- the image, and what is to come, are as they were
 abbrev pub KeepsBackup : Nodes → Nodes → Type 0
 KeepsBackup old new = (new.image ≡ old.image) × (new.sealed ≡ old.sealed)
 
--- Once the checkpoint of this number is committed, the image will be this guest: where the image took in checkpoint n, checkpoint
--- n + 1 + j makes the guest at place j of those to come.
-abbrev pub Awaits : ℕ → ℕ → Guest → Nodes → Type 0
-Awaits generation number g x =
-    (taken j : ℕ) → HasTaken generation taken x → taken + j + 1 ≡ number → slice_get (to_come x) j ≡ Some g
+-- Once the checkpoint of this generation and number is committed, the image will be this guest: as long as there is a backup in that
+-- generation, the guest stands in its place among those to come.
+pub record Awaits (generation number : ℕ) (g : Guest) (w : Pair) : Type 0 where
+  pub begun : generation ≤ w.protocol.generation
+  pub place : is_alone w.protocol.mode ≡ false → w.protocol.generation ≡ generation
+      → (j : ℕ) → next_number w.nodes + j ≡ number → slice_get (to_come w.nodes) j ≡ Some g
 
 -- there is no backup any more
 abbrev pub LosesBackup : Nodes → Type 0
@@ -62,12 +76,14 @@ abbrev pub IsLive : Nodes → Nodes → Type 0
 IsLive old new = (new.live.guest ≡ old.image.guest) × LosesBackup new
 
 -- What an event, answered so, does for replication: one that is answered Cut cuts, one that is answered Committed commits, the backup
--- that goes live is its image's guest, one that fails is gone, and no other event touches the image or what is to come.
+-- that goes live is its image's guest, one that fails is gone, a new one takes the live guest first, and no other event touches the
+-- image or what is to come.
 abbrev pub Replicates : Event → Reply → Nodes → Nodes → Type 0
-Replicates Cut (replies.Cut generation number) old new = IsCut generation number old new
+Replicates Cut (replies.Cut generation number) old new = IsCut number old new
 Replicates (BackupGet k) (replies.Committed generation number) old new = IsCommit generation number old new
 Replicates FailBackup (replies.Alone generation landed) old new = LosesBackup new
 Replicates GoLive (replies.Live generation steps) old new = IsLive old new
+Replicates Protect (replies.Protecting generation) old new = IsProtected old new
 Replicates event reply old new = KeepsBackup old new
 
 -- An event, answered so, leads from the pair old to new.

@@ -36,6 +36,8 @@ pub enum Event<'a> {
     FailBackup,
     /// The backup goes on in the place of the stopped primary, from its image. Its generation is the next one.
     GoLive,
+    /// The node that is alone gets a new backup, while it runs. The generation is the next one, and begins with a full checkpoint.
+    Protect,
 }
 
 /// Why an event was refused. Nothing changed, but that the history tells of a refusal [`Refusal::Full`].
@@ -188,6 +190,8 @@ pub enum Reply {
         generation: u64,
         steps: u64,
     },
+    /// There is a new backup, in this generation, and its full checkpoint is pending.
+    Protecting(u64),
     /// Nothing happened, or a frame found the inbox full.
     Refused(Refusal),
 }

@@ -26,7 +26,8 @@ pub use event::{Event, Packet, Refusal, Reply, Show};
 pub use failover::Mode;
 pub use guest_machine::{SECTOR_BYTES, Shape};
 pub use laws::{
-    committed_guests_are_those_cut, cut_guests_are_awaited, what_is_delivered_is_lost_for_a_reason,
+    clients_have_one_guest_that_never_fails, committed_guests_are_those_cut,
+    cut_guests_are_awaited, what_is_delivered_is_lost_for_a_reason,
 };
 pub use pair_history::{Entry, Frame, History, released_frames_were_sent};
 pub use world::World;

@@ -15,3 +15,6 @@ pub(crate) const STEP_ENTRIES: u64 = 1025;
 
 /// The generation before any failure.
 pub(crate) const FIRST_GENERATION: u64 = 1;
+
+/// The number of a generation's full checkpoint.
+pub(crate) const FULL_CHECKPOINT: u64 = 0;

@@ -27,6 +27,17 @@ pub(crate) fn is_alone(mode: Mode) -> bool
     }
 }
 
+/// The mode once a new backup's full checkpoint is committed, or any other.
+pub(crate) fn filled(mode: Mode) -> Mode
+    ensures { result ≡ modes.filled mode }
+{
+    match mode {
+        Mode::Paired | Mode::Filling => Mode::Paired,
+        Mode::Alone => Mode::Alone,
+        Mode::Stopped => Mode::Stopped,
+    }
+}
+
 /// Why what the primary does in a pair is refused.
 fn primary_refusal(mode: Mode) -> Option<Refusal>
     ensures { result ≡ modes.primary_refusal mode }
@@ -70,6 +81,17 @@ fn live_refusal(mode: Mode) -> Option<Refusal>
     }
 }
 
+/// Why a node can't get a new backup.
+fn protect_refusal(mode: Mode) -> Option<Refusal>
+    ensures { result ≡ modes.protect_refusal mode }
+{
+    match mode {
+        Mode::Paired | Mode::Filling => Some(Refusal::AlreadyPaired),
+        Mode::Alone => None,
+        Mode::Stopped => Some(Refusal::Stopped),
+    }
+}
+
 /// Why an event is refused in a mode, if the mode alone says so.
 pub(crate) fn mode_refusal(mode: Mode, event: Event<'_>) -> Option<Refusal>
     ensures { result ≡ modes.mode_refusal mode event.entry }
@@ -79,6 +101,7 @@ pub(crate) fn mode_refusal(mode: Mode, event: Event<'_>) -> Option<Refusal>
         Event::BackupGet(_) => backup_refusal(mode),
         Event::FailPrimary => stop_refusal(mode),
         Event::GoLive => live_refusal(mode),
+        Event::Protect => protect_refusal(mode),
         Event::Step
         | Event::Admit(_)
         | Event::Deliver(_, _)

@@ -1,6 +1,6 @@
 //! The two nodes: the primary's live machine, and at the backup the image and the checkpoints that may still be committed, each as the
 //! text that a link carries.
-ghost use Rattle.std.specs.Prelude.{◌≡◌, ◌+◌, ◌^◌, ◌≤◌, ◌<◌, ◌++◌, ◌∷◌, [], length, All, OnOk, OnErr, IfOk};
+ghost use Rattle.std.specs.Prelude.{◌≡◌, ◌+◌, ◌^◌, ◌≤◌, ◌<◌, ◌++◌, ◌∷◌, [], length, All, None, OnOk, OnErr, IfOk};
 ghost use Rattle.std.specs.Prelude.{option_map, ◌-◌, ◌*◌};
 ghost use Rattle.frame_ports.specs.Addresses.{IsFrame};
 ghost use Rattle.guest_machine.specs.Guest.{Guest, boot_guest, sector_in};
@@ -10,13 +10,14 @@ ghost use Rattle.epoch_snapshot.specs.Bases.{IsBase};
 ghost use Rattle.checkpoint_stream.specs.Readings.{begun, fed};
 ghost use Rattle.checkpoint_stream.specs.declared.place.Place.TheVariants.{Whole};
 ghost use Rattle.pair_core.specs.Nodes.{HasShape, machine_of, start_nodes, after_run, with_arrival, with_sealed, with_commit};
-ghost use Rattle.pair_core.specs.Nodes.{HasImage, with_sent_off, left_alone, gone_live};
+ghost use Rattle.pair_core.specs.Nodes.{HasImage, with_sent_off, with_protected, left_alone, gone_live};
 ghost use Rattle.pair_core.specs.Nodes.{first_text, read_as};
 ghost use Rattle.pair_core.specs.Texts.{IsText};
+ghost use Rattle.backup_image.specs.Images.{empty_image};
 
 use backup_image::Image;
 use checkpoint_stream::{Reader, StreamError, encode};
-use epoch_snapshot::{Checkpoint, cut_delta};
+use epoch_snapshot::{Checkpoint, cut_delta, cut_full};
 use guest_machine::{Machine, SECTOR_BYTES, Shape, sent_frames};
 use pair_history::Frame;
 use std::alloc::{AllocError, Global};
@@ -183,10 +184,52 @@ impl Nodes {
 
     /// The checkpoint's text is sealed, and the live machine is settled.
     pub(crate) fn seal(&mut self, text: Vec<u8>)
-        requires { 0 < self.old.room }
+        requires room { 0 < self.old.room }
+        // There is a backup: its image could go on, or a text is sealed that will fill it.
+        requires backup { self.old.nodes.image.stands_at ≡ None → 0 < length self.old.nodes.sealed }
         ensures { self.new.nodes ≡ with_sealed self.old.nodes text.items }
     {
         self.sealed.push(text).unwrap();
+        self.live.settle();
+    }
+
+    /// A new backup's empty image, and the text of the full checkpoint of the live machine, of this generation; and room for that text.
+    pub(crate) fn full_checkpoint(
+        &mut self,
+        generation: u64,
+    ) -> Result<(Image, Vec<u8>), AllocError>
+        requires first_generation { 1 ≤ generation }
+        requires last_generation { generation < 2 ^ 62 }
+        ensures nodes { self.new.nodes ≡ self.old.nodes }
+        ensures room { OnOk result (0 < self.new.room) }
+        ensures image { IfOk result (λ made. made.0 ≡ empty_image self.old.nodes.image.shape) }
+        // It reads back as the checkpoint that makes the live guest, whatever guest it is applied to.
+        ensures text { IfOk result (λ made. (before : Guest)
+            → HasShape self.old.nodes.image.shape self.old.nodes.live.guest
+            → IsText self.old.nodes.image.shape generation 0 before self.old.nodes.live.guest made.1.items) }
+    {
+        self.sealed.reserve(1)?;
+        let Ok(image) = Image::empty(self.alloc, self.shape) else {
+            return Err(AllocError);
+        };
+        let Ok(checkpoint) = cut_full(self.alloc, &self.live, generation) else {
+            return Err(AllocError);
+        };
+        let Ok(text) = encode(self.alloc, &checkpoint) else {
+            return Err(AllocError);
+        };
+        Ok((image, text))
+    }
+
+    /// There is a new backup, of this empty image and this text, and the live machine is settled.
+    pub(crate) fn protect(&mut self, image: Image, full: Vec<u8>)
+        requires room { 0 < self.old.room }
+        requires image { image ≡ empty_image self.old.nodes.image.shape }
+        ensures { self.new.nodes ≡ with_protected self.old.nodes full.items }
+    {
+        self.image = Some(image);
+        self.sealed.clear();
+        self.sealed.push(full).unwrap();
         self.live.settle();
     }
 
@@ -211,7 +254,6 @@ impl Nodes {
     /// The backup's image takes this checkpoint in, which was read from the oldest sealed text, and that text goes.
     pub(crate) fn commit(&mut self, checkpoint: Checkpoint)
         requires some { 0 < length self.old.nodes.sealed }
-        requires image { HasImage self.old.nodes }
         requires shape { checkpoint.shape ≡ self.old.nodes.image.shape }
         requires oldest { checkpoint ≡ read_as self.old.nodes.image.shape (first_text self.old.nodes.sealed) }
         ensures { self.new.nodes ≡ with_commit self.old.nodes }

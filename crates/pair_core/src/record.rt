@@ -5,20 +5,21 @@ ghost use Rattle.frame_ports.specs.Ports.{empty_ports};
 ghost use Rattle.frame_ports.specs.declared.limits.TheConstants.{MAX_CLIENTS, NUMBER_LIMIT};
 ghost use Rattle.pair_history.specs.Entries.{Ran};
 ghost use Rattle.pair_core.specs.Journal.{all_entries, with_running};
-ghost use Rattle.pair_core.specs.Modes.{is_stopped as stopped, is_alone as alone};
+ghost use Rattle.pair_core.specs.Modes.{is_stopped as stopped, is_alone as alone, stop_refusal};
 ghost use Rattle.pair_core.specs.Protocol.{exhausts, is_among, first_refusal, step_refusals, cut_refusals, cut_done, send_done, backup_refusals, again_done, commit_done, ack_refusals, ack_done, fail_primary_done};
 ghost use Rattle.pair_core.specs.Record.{IsRecord, start_record, ports_after_ack};
 
 mod alone;
 mod clients;
 mod live;
+mod protect;
 
 use crate::event::{Packet, Refusal, Reply};
 use crate::journal::Journal;
 use crate::landings::count_landings;
 use crate::limits::{FIRST_GENERATION, MOST_PENDING, STEP_ROOM};
 use crate::lines::Lines;
-use crate::modes::{is_stopped, step_room};
+use crate::modes::{filled, is_stopped, step_room};
 use crate::window::Window;
 use failover::Mode;
 use frame_ports::{NUMBER_LIMIT, Ports};
@@ -91,6 +92,7 @@ impl PairRecord {
 
     /// The primary stops.
     pub(crate) fn fail_primary(&mut self) -> Reply
+        requires { stop_refusal self.old.protocol.mode ≡ None }
         ensures protocol { (result, self.new.protocol) ≡ fail_primary_done self.old.protocol }
         ensures ports { self.new.ports ≡ self.old.ports }
     {
@@ -297,6 +299,7 @@ impl PairRecord {
         self.journal.commit()?;
         self.lines.acknowledge(self.generation, number);
         self.window.commit();
+        self.mode = filled(self.mode);
         Ok(Reply::Committed {
             generation: self.generation,
             number,

@@ -52,6 +52,7 @@ impl World {
     ghost use Rattle.pair_core.specs.Replication.{KeepsBackup, Replicates, Leads};
     ghost use Rattle.pair_core.specs.declared.event.Event.{Event};
     ghost use Rattle.pair_core.specs.declared.event.Reply.{Reply};
+    ghost use Rattle.pair_core.specs.Service.{HasServed, Serves, moment};
     ghost use Rattle.pair_core.specs.Start.{shown, shown_sector, serving_guest, serving_state};
 
     /// A pair at its start: both nodes were given this boot image, which counts as checkpoint 0, committed and
@@ -105,7 +106,11 @@ impl World {
         // A cut puts the live guest last among those that the image will be, a commit makes the image the first of them, and
         // nothing else touches either.
         ensures replicates { Replicates event.entry result self.old.nodes self.new.nodes }
+
+        // What the event is to the clients: one guest that never fails, behind a line that may lose frames.
+        ensures serves { Serves self.old.start (moment self.old) event.entry result (moment self.new) }
     {
+        self.keep_consistent();
         self.keep_drops();
         let outcome = self.act(event);
         self.keep_consistent();
@@ -138,6 +143,7 @@ impl World {
             Event::FailPrimary => Ok(self.fail_primary()),
             Event::FailBackup => self.fail_backup(),
             Event::GoLive => self.go_live(),
+            Event::Protect => self.protect(),
         }
     }
 
@@ -168,6 +174,8 @@ impl World {
         ensures consistent { IsConsistent self.new }
         // Why a frame was dropped, event by event.
         ensures drops { IfOk result (λ replies. Along Drops self.old.start self.old.protocol events.now replies.items self.new.protocol) }
+        // What the run is to its clients: see `clients_have_one_guest_that_never_fails`.
+        ensures served { IfOk result (λ replies. HasServed self.old.start (moment self.old) events.now replies.items (moment self.new)) }
         // What the image is after each commit: see `committed_guests_are_those_cut`.
         ensures leads { IfOk result (λ replies. Leads self.old events.now replies.items self.new) }
         ensures err { IfErr result (λ e. (e ≡ Refusal.NoMemory) × (self.new ≡ self.old)) }
@@ -205,6 +213,7 @@ impl World {
     fn steps(&self) -> u64
         ensures { result ≡ (serving_guest self.now).steps }
     {
+        self.keep_consistent();
         if is_stopped(self.record.mode()) {
             self.nodes.image_steps()
         } else {

@@ -5,7 +5,7 @@ use std::fmt::Write;
 use std::test::Fail;
 
 /// The printed reply to a client that takes the beacon's frame.
-const TOOK_FRAME: &str = "Took(Some([2, 0, 0, 0, 1, 1, 2, 0, 0, 0, 0, 1, 136, 181]))\n";
+pub(super) const TOOK_FRAME: &str = "Took(Some([2, 0, 0, 0, 1, 1, 2, 0, 0, 0, 0, 1, 136, 181]))\n";
 
 /// A pair of generation 1 whose primary has stopped.
 fn stopped(pending: u64, steps: u64, entries: u64) -> Show {
@@ -19,7 +19,7 @@ fn stopped(pending: u64, steps: u64, entries: u64) -> Show {
 }
 
 /// A node that is alone.
-fn alone(generation: u64, steps: u64, entries: u64) -> Show {
+pub(super) fn alone(generation: u64, steps: u64, entries: u64) -> Show {
     Show {
         mode: Mode::Alone,
         generation,

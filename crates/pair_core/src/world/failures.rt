@@ -51,11 +51,33 @@ impl World {
         ensures memory { OnErr result (MayWantMemory self.old.protocol.mode (allowed self.old.start self.old.protocol events.GoLive).0) }
         ensures err { OnErr result (self.new ≡ self.old) }
     {
+        self.record.keep();
         if let Some(why) = self.record.go_live_refusal() {
             return Ok(Reply::Refused(why));
         }
         let reply = self.record.go_live(self.nodes.image_steps())?;
         self.nodes.go_live();
+        Ok(reply)
+    }
+
+    /// The node that is alone gets a new backup.
+    pub(super) fn protect(&mut self) -> Result<Reply, AllocError>
+        requires { mode_refusal self.old.protocol.mode events.Protect ≡ None }
+        ensures outcome { IfOk result (λ reply. (reply, self.new.protocol) ≡ allowed self.old.start self.old.protocol events.Protect) }
+        ensures start { self.new.start ≡ self.old.start }
+        ensures replicates { IfOk result (λ reply. Replicates events.Protect reply self.old.nodes self.new.nodes) }
+        ensures refused { IfOk result (λ reply. OnRefused reply self.old self.new) }
+        ensures memory { OnErr result (MayWantMemory self.old.protocol.mode (allowed self.old.start self.old.protocol events.Protect).0) }
+        ensures err { OnErr result (self.new ≡ self.old) }
+    {
+        self.record.keep();
+        if let Some(why) = self.record.protect_refusal() {
+            return Ok(Reply::Refused(why));
+        }
+        let generation = self.record.generation() + 1;
+        let (image, text) = self.nodes.full_checkpoint(generation)?;
+        let reply = self.record.protect()?;
+        self.nodes.protect(image, text);
         Ok(reply)
     }
 }

@@ -1,5 +1,8 @@
-use Rattle.pair_core.proofs.ReplicationRuns.{committed_is_cut}
+use Rattle.pair_core.proofs.ReplicationRuns.{committed_is_cut, full_is_live}
 use Rattle.pair_core.proofs.laws.committed_guests_are_those_cut.Goals as goal
 
-pub returns : goal.returns
-returns c = committed_is_cut
+pub returns-clause-cut : goal.returns-clause-cut
+returns-clause-cut c = committed_is_cut
+
+pub returns-clause-full : goal.returns-clause-full
+returns-clause-full c = full_is_live

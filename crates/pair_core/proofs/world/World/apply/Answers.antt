@@ -1,5 +1,6 @@
 use Rattle.pair_core.proofs.PublicLaws.{answers_by_outcome, refused_by_outcome}
 use Rattle.pair_core.proofs.ReplicationRuns.{replicates_by_outcome}
+use Rattle.pair_core.proofs.ServiceLaws.{serves}
 use Rattle.pair_core.specs.Protocol.{Answers}
 use Rattle.pair_core.proofs.world.World.apply.Goals as goal
 use Rattle.pair_core.proofs.world.World.apply.Goals.{After-answered}
@@ -37,3 +38,11 @@ returns-clause-replicates c =
     replicates_by_outcome c.args.self.now c.act-outcome.new.self c.args.event c.act-outcome.result c.answered.result c.answered.ensures.ok
     c.answered.ensures.err
     c.act-outcome.ensures.replicates c.act-outcome.ensures.err
+
+pub returns-clause-serves : goal.returns-clause-serves
+returns-clause-serves c =
+    let drops =
+    c.keep_drops.ensures c.args.event c.answered.result c.act-outcome.new.self.protocol
+    (answers (goal.at.returns-clause-serves c).After-answered) in
+    serves c.args.self.now c.act-outcome.new.self c.args.event c.answered.result c.act-outcome.ensures.start c.keep_consistent.ensures
+    c.keep_consistent-2.ensures drops

@@ -10,13 +10,14 @@ use Rattle.pair_core.specs.Modes.{is_alone, mode_refusal}
 use Rattle.pair_core.specs.Pair.{Pair, shown_state}
 use Rattle.pair_core.proofs.ModeLaws.{backup_goes}
 use Rattle.pair_core.specs.Replication.{Replicates}
-use Rattle.pair_core.proofs.ReplicationLaws.{commit_replicates}
+use Rattle.pair_core.proofs.ReplicationLaws.{after_commit, filled-pairs, commit_replicates}
+use Rattle.pair_core.proofs.Consistent.{has_backup}
 use Rattle.pair_core.specs.Protocol.{Record, Outcome, first_refusal, backup_refusals, again_done}
 use Rattle.pair_core.specs.WorldFields.{pair_of}
 use Rattle.pair_core.proofs.Calls.{on_ok, after_call}
 use Rattle.pair_core.proofs.Events.{lines_hold, commit_holds, oldest_text}
 use Rattle.pair_core.proofs.NodesLaws.{reads-whole, reads-shape}
-use Rattle.pair_core.proofs.RecordLaws.{passed, generation_is}
+use Rattle.pair_core.proofs.RecordLaws.{passed, generation_is, commit_record}
 use Rattle.pair_core.proofs.world.World.backup_get.Goals as goal
 
 pub invariant_of-self : goal.invariant_of-self
@@ -95,10 +96,16 @@ pub returns-clause-replicates : goal.returns-clause-replicates
 returns-clause-replicates c =
     let w = pair_of c.self.inside in
     let reply = ap (λ (o : Outcome). o.0) c.in_ok-reply.ensures.ok in
+    let h = c.self.invariant in
+    let k = c.backup_refusal.ensures.record in
+    let alone = two c.args.k c.self.view_is c.requires in
     let more =
     names_next w.protocol c.in-Some.packet c.to_commit.result c.backup_refusal.result c.backup_refusal.ensures.refusal
     c.in_default-backup_refusal.is c.in-Some.ensures.cut
     c.to_commit.ensures c.if-packet-to_commit.false in
+    let now = has_backup w h k alone in
+    let then =
+    has_backup (after_commit w) (commit_holds w h k alone more) (commit_record w.protocol k more) (filled-pairs w.protocol.mode alone) in
     subst (λ (v : Pair). Replicates (BackupGet c.args.k) c.in_ok-reply.reply v.nodes c.commit-2.new.self.nodes) c.self.view_is
     (subst (λ (o : Reply × Nodes). Replicates (BackupGet c.args.k) o.0 w.nodes o.1) (λ i. (sym reply i, sym c.commit-2.ensures i))
-    (commit_replicates w c.self.invariant c.backup_refusal.ensures.record (two c.args.k c.self.view_is c.requires) more))
+    (commit_replicates w k alone now then more))

@@ -1,4 +1,4 @@
-use Rattle.std.proofs.Common.{◌≡◌, ◌∙◌, ℕ, List, ap, sym, subst, arith, false, None}
+use Rattle.std.proofs.Common.{◌≡◌, ◌∙◌, ◌<◌, ℕ, List, length, ap, sym, subst, arith, false, None}
 use Rattle.frame_ports.specs.declared.limits.TheConstants.{NUMBER_LIMIT}
 use Rattle.pair_core.specs.declared.event.Event.TheVariants.{Cut}
 use Rattle.pair_core.specs.Invariant.{Holds}
@@ -7,17 +7,19 @@ use Rattle.guest_machine.specs.Guest.{Guest}
 use Rattle.pair_core.specs.Nodes.{Nodes, HasShape, machine_of, with_sealed}
 use Rattle.pair_core.specs.declared.event.Reply.{Reply}
 use Rattle.pair_core.specs.Replication.{Replicates}
-use Rattle.pair_core.proofs.ReplicationLaws.{cut_replicates}
+use Rattle.pair_core.proofs.Consistent.{has_backup, live_is}
+use Rattle.pair_core.proofs.ReplicationLaws.{after_cut, cut_replicates}
 use Rattle.pair_core.specs.Texts.{IsText}
 use Rattle.pair_history.specs.Entries.{Frame}
 use Rattle.pair_core.specs.Modes.{is_alone, mode_refusal}
-use Rattle.pair_core.specs.Pair.{Pair}
+use Rattle.pair_core.specs.Pair.{Pair, shown_state}
 use Rattle.pair_core.proofs.ModeLaws.{primary_goes}
 use Rattle.pair_core.specs.Protocol.{Outcome, allowed, cut_refusals, cut_done}
 use Rattle.pair_core.specs.WorldFields.{pair_of}
 use Rattle.pair_core.proofs.Events.{cut_holds}
+use Rattle.pair_core.proofs.NodesLaws.{some-text}
 use Rattle.pair_core.proofs.Outcomes.{goes, cut_sight}
-use Rattle.pair_core.proofs.RecordLaws.{passed, is_below}
+use Rattle.pair_core.proofs.RecordLaws.{passed, is_below, cut_record, some_cut}
 use Rattle.pair_core.proofs.world.World.cut.Goals as goal
 use Rattle.pair_core.proofs.world.World.cut.Goals.{In_ok-reply}
 
@@ -41,8 +43,7 @@ checkpoint-requires-clause-last_generation c =
 pub checkpoint-requires-clause-first_number : goal.checkpoint-requires-clause-first_number
 checkpoint-requires-clause-first_number c =
     let is = c.to_cut.ensures in
-    let some = (c.self.invariant.nodes.backed (two c.self.view_is c.requires)).some_committed in
-    let cut = c.cut_refusal.ensures.record.window.cut in
+    let some = some_cut (pair_of c.self.inside).protocol c.cut_refusal.ensures.record (two c.self.view_is c.requires) in
     omega arith
 
 pub checkpoint-requires-clause-last_number : goal.checkpoint-requires-clause-last_number
@@ -72,6 +73,14 @@ makes c base is sized =
     (subst (λ (g : ℕ). IsText w.nodes.image.shape g c.to_cut.result base w.nodes.live.guest text) c.generation.ensures
     (c.in_ok-text.ensures.text base is sized))
 
+-- there is a backup
+pub seal-requires-clause-backup : goal.seal-requires-clause-backup
+seal-requires-clause-backup c =
+    let w = pair_of c.self.inside in
+    let backed = c.self.invariant.nodes.backed (two c.self.view_is c.requires) in
+    subst (λ (x : Nodes). x.image.stands_at ≡ None → 0 < length x.sealed) (sym c.checkpoint.ensures.nodes)
+    (some-text w.protocol.generation w.protocol.window.to_commit (shown_state w).guest c.self.invariant.journal.sealed_moves w.nodes backed)
+
 pub invariant_of-self-2 : goal.invariant_of-self-2
 invariant_of-self-2 c =
     let w = pair_of c.self.inside in
@@ -88,10 +97,16 @@ returns-clause-replicates c =
     let text = c.in_ok-text.text.items in
     let nodes = c.seal.ensures ∙ ap (λ (x : Nodes). with_sealed x text) c.checkpoint.ensures.nodes in
     let reply = ap (λ (o : Outcome). o.0) (done (goal.at.returns-clause-replicates c).In_ok-reply) in
+    let h = c.self.invariant in
+    let k = c.cut_refusal.ensures.record in
+    let alone = two c.self.view_is c.requires in
+    let now = has_backup w h k alone in
+    let then =
+    has_backup (after_cut w text) (cut_holds w h k text (makes (goal.at.returns-clause-replicates c).In_ok-reply))
+    (cut_record w.protocol k w.nodes.live.outbox alone (sym c.cut_refusal.ensures.refusal ∙ c.in_default.is)) alone in
     subst (λ (v : Pair). Replicates Cut c.in_ok-reply.reply v.nodes c.seal.new.self.nodes) c.self.view_is
     (subst (λ (o : Reply × Nodes). Replicates Cut o.0 w.nodes o.1) (λ i. (sym reply i, sym nodes i))
-    (cut_replicates w c.self.invariant c.cut_refusal.ensures.record (two c.self.view_is c.requires) text
-    (makes (goal.at.returns-clause-replicates c).In_ok-reply)))
+    (cut_replicates w k alone now text then (live_is w h)))
 
 pub returns-clause-outcome : goal.returns-clause-outcome
 returns-clause-outcome c =

@@ -7,17 +7,18 @@ use Rattle.pair_core.specs.Pair.{Pair}
 use Rattle.pair_core.specs.Protocol.{Outcome}
 use Rattle.pair_core.specs.WorldFields.{pair_of}
 use Rattle.pair_core.proofs.GoneLive.{gone_live_holds}
-use Rattle.pair_core.proofs.ModeLaws.{live_goes}
-use Rattle.pair_core.proofs.RecordLaws.{passed, is_below}
+use Rattle.pair_core.proofs.ModeLaws.{live_goes, live_full}
+use Rattle.pair_core.proofs.RecordLaws.{passed, is_below, some_committed}
 use Rattle.pair_core.proofs.world.World.go_live.Goals as goal
 
 pub invariant_of-self-2 : goal.invariant_of-self-2
 invariant_of-self-2 c =
     let w = pair_of c.self.inside in
-    let two =
-    live_goes w.protocol.mode (subst (λ (v : Pair). mode_refusal v.protocol.mode GoLive ≡ None) (sym c.self.view_is) c.requires) in
+    let goes = subst (λ (v : Pair). mode_refusal v.protocol.mode GoLive ≡ None) (sym c.self.view_is) c.requires in
+    let two = live_goes w.protocol.mode goes in
+    let some = some_committed w.protocol c.keep.ensures two (live_full w.protocol.mode goes) in
     let rows = passed _ _ _ (sym c.go_live_refusal.ensures.refusal ∙ c.in_default.is) in
     let last = is_below NUMBER_LIMIT (w.protocol.generation + 1) rows.0 in
     let protocol = ap (λ (o : Outcome). o.1) c.in_ok-reply.ensures.ok in
     subst Holds (λ i. record w { protocol = sym protocol i; ports = sym c.go_live.ensures.ports i; nodes = sym c.go_live-2.ensures i })
-    (gone_live_holds w c.self.invariant two c.image_steps.result last)
+    (gone_live_holds w c.self.invariant two some c.image_steps.result last)

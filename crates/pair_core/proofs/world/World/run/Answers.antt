@@ -1,4 +1,4 @@
-use Rattle.std.proofs.Common.{◌≡◌, ◌+◌, ◌++◌, ◌∷◌, [], length, take, get_or, subst, ◌∙◌, sym, arith, List, ◌<◌}
+use Rattle.std.proofs.Common.{rules, ◌≡◌, ◌+◌, ◌++◌, ◌∷◌, [], length, take, get_or, subst, ◌∙◌, sym, arith, List, ◌<◌}
 use Rattle.std.proofs.lemmas.List.{take_more}
 use Rattle.pair_core.specs.declared.event.Event.{Event}
 use Rattle.pair_core.specs.declared.event.Event.TheVariants.{Step}
@@ -8,9 +8,24 @@ use Rattle.pair_core.specs.Protocol.{Answers}
 use Rattle.pair_core.specs.Runs.{Along, Run}
 use Rattle.pair_core.specs.Drops.{Drops}
 use Rattle.pair_core.specs.Replication.{Does, Leads}
+use Rattle.pair_core.specs.Service.{HasServed, Serves, moment}
 use Rattle.pair_core.proofs.ReplicationRuns.{Leads-more}
+use Rattle.pair_core.proofs.ServiceRuns.{HasServed-more}
 use Rattle.pair_core.proofs.PublicLaws.{Along-more, Begins-trans}
 use Rattle.pair_core.proofs.world.World.run.Goals as goal
+
+pub loop-event-init : goal.loop-event-init
+loop-event-init c = record {
+  replies = search rules;
+  drops = search rules;
+  served = search rules;
+  leads = search rules;
+  start = search rules;
+  grows = search rules;
+  consistent = c.keep_consistent.ensures;
+  counted = search rules;
+  room = search rules;
+}
 
 pub loop-event-preserved : goal.loop-event-preserved
 loop-event-preserved c =
@@ -48,7 +63,18 @@ loop-event-preserved c =
     c.apply-reply.new.self =
     Leads-more (take i events) c.loop-event.replies.items c.args.self.now c.loop-event.self c.apply-reply.new.self (get_or events i Step)
     c.apply-reply.result v.leads does in
+    let serves : Serves start (moment c.loop-event.self) (get_or events i Step) c.apply-reply.result (moment c.apply-reply.new.self) =
+    subst (λ (s : HistoryState). Serves s (moment c.loop-event.self) (get_or events i Step) c.apply-reply.result
+    (moment c.apply-reply.new.self)) v.start c.apply-reply.ensures.serves in
+    let served : HasServed start (moment c.args.self.now) (take i events ++ get_or events i Step ∷ [])
+    (c.loop-event.replies.items ++ c.apply-reply.result ∷ []) (moment c.apply-reply.new.self) =
+    HasServed-more start (take i events) c.loop-event.replies.items (moment c.args.self.now) (moment c.loop-event.self)
+    (moment c.apply-reply.new.self) (get_or events i Step) c.apply-reply.result v.served serves in
     record {
+      served =
+          subst (λ (es : List Event). HasServed start (moment c.args.self.now) es c.push.new.self.items (moment c.apply-reply.new.self))
+          (sym more) (subst (λ (rs : List Reply). HasServed start (moment c.args.self.now) (take i events ++ get_or events i Step ∷ []) rs
+          (moment c.apply-reply.new.self)) (sym items) served);
       leads =
           subst (λ (es : List Event). Leads c.args.self.now es c.push.new.self.items c.apply-reply.new.self) (sym more)
           (subst (λ (rs : List Reply). Leads c.args.self.now (take i events ++ get_or events i Step ∷ []) rs c.apply-reply.new.self) (sym items)

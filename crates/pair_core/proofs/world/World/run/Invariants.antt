@@ -5,12 +5,14 @@ use Rattle.pair_core.specs.Pair.{IsConsistent}
 use Rattle.pair_core.specs.Runs.{Along, Run}
 use Rattle.pair_core.specs.Drops.{Drops}
 use Rattle.pair_core.specs.Replication.{Leads}
+use Rattle.pair_core.specs.Service.{HasServed, moment}
 use Rattle.pair_core.proofs.world.World.run.Given as goal
 
 abbrev pub invariant-loop-event : goal.invariant-loop-event
 invariant-loop-event l = record {
   replies : Run l.initial.self.start l.initial.self.protocol (take l.event-index l.events) l.replies.items l.self.protocol;
   drops : Along Drops l.initial.self.start l.initial.self.protocol (take l.event-index l.events) l.replies.items l.self.protocol;
+  served : HasServed l.initial.self.start (moment l.initial.self) (take l.event-index l.events) l.replies.items (moment l.self);
   leads : Leads l.initial.self (take l.event-index l.events) l.replies.items l.self;
   start : l.self.start ≡ l.initial.self.start;
   grows : Begins l.initial.self.protocol.journal.history l.self.protocol.journal.history;

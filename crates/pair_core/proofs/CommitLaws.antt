@@ -1,0 +1,115 @@
+-- What the two nodes keep along a commit: the image takes in the oldest sealed text, an empty one as well as one that follows.
+use Rattle.std.proofs.Common.{◌≡◌, ℕ, zero, suc, ◌+◌, ◌-◌, ◌≤◌, List, ◌∷◌, ◌++◌, refl, sym, ap, ◌∙◌, subst, arith, append_assoc}
+use Rattle.std.proofs.Common.{Bool, true, false, cond, Some, None, Result, Ok, Err}
+use Rattle.std.specs.Prelude.{nat_lt, not, ◌==◌}
+use Rattle.std.proofs.lemmas.Bool.{eq-eqb}
+use Rattle.std.proofs.lemmas.Bool.Decides.{nat_tests}
+use Rattle.guest_machine.specs.Guest.{Guest}
+use Rattle.epoch_snapshot.specs.Bases.{IsBase}
+use Rattle.epoch_snapshot.specs.Checkpoints.{Change}
+use Rattle.epoch_snapshot.specs.Images.{image_of}
+use Rattle.backup_image.specs.declared.errors.ImageError.{ImageError}
+use Rattle.backup_image.specs.declared.errors.ImageError.TheVariants.{Stale, Gap}
+use Rattle.backup_image.specs.declared.standing.Staged.{Staged}
+use Rattle.backup_image.specs.declared.standing.Staged.TheVariants.{New, Again}
+use Rattle.backup_image.specs.Images.{ImageState, answer_at, stage_answer, staged_after, after_stage, committed}
+use Rattle.pair_history.specs.Entries.{Frame}
+use Rattle.pair_history.specs.Moves.{Move, guest_along, frames_along}
+use Rattle.pair_history.proofs.Moves.{guest_along-append}
+use Rattle.pair_core.specs.Invariant.{all_moves, epoch_frames, AreNodes, IsBacked}
+use Rattle.pair_core.specs.Nodes.{Nodes, machine_of, with_commit, first_text, later_texts, read_as}
+use Rattle.pair_core.specs.Texts.{IsText}
+use Rattle.pair_core.proofs.NodesLaws.{shape-moves, reads-as, first-sealed, later-sealed}
+
+-- the image that a new checkpoint makes
+abbrev taken_in : ImageState → Change → ImageState
+taken_in i c = record {
+  shape = i.shape;
+  guest = image_of c i.guest;
+  stands_at = Some (record { generation = c.generation; number = c.number });
+  staged = None;
+}
+
+takes-in : (i : ImageState) (c : Change) → stage_answer i c ≡ Ok New → committed (after_stage i c) ≡ taken_in i c
+takes-in i c e = ap (λ (o : Result Staged ImageError). committed (record i { staged = staged_after o c i.staged })) e
+
+next-is-new : (generation n : ℕ) → 1 ≤ n → answer_at (Some (record { generation = generation; number = n - 1 })) generation n ≡ Ok New
+next-is-new generation n some = λ i. cond (same i) (Err Stale) (cond (near i) (Err Gap) (cond (next_one i) (Ok New) (Ok Again)))
+  where
+    same : not (generation == generation) ≡ false
+    same = ap not (eq-eqb generation generation refl)
+
+    near : nat_lt (n - 1 + 1) n ≡ false
+    near = grind (arith, nat_tests)
+
+    next_one : (n == n - 1 + 1) ≡ true
+    next_one = eq-eqb n (n - 1 + 1) (omega arith)
+
+module _ (alone : Bool) (generation n : ℕ) (g : Guest) (ms : List Move) (mss : List (List Move)) (ran : List Move) (f : List Frame)
+    (held : List (List Frame)) (x : Nodes)
+    (h : AreNodes alone generation n g (ms ∷ mss) ran (f ∷ held) x) (two : alone ≡ false) where
+  backed : IsBacked generation n g (ms ∷ mss) x
+  backed = h.backed two
+
+  text : IsText x.image.shape generation n g (guest_along g ms) (first_text x.sealed)
+  text = first-sealed x.image.shape generation n g ms mss x.sealed backed.sealed
+
+  abbrev change : Change
+  change = read_as x.image.shape (first_text x.sealed)
+
+  change-is : change ≡ text.change
+  change-is = reads-as x.image.shape generation n g (guest_along g ms) (first_text x.sealed) text
+
+  generation-is : change.generation ≡ generation
+  generation-is = ap (λ (c : Change). c.generation) change-is ∙ text.of_generation
+
+  number-is : change.number ≡ n
+  number-is = ap (λ (c : Change). c.number) change-is ∙ text.of_number
+
+  -- the first checkpoint fills the empty image, and each later one follows the one before it
+  is-new : (m : ℕ) → n ≡ m → stage_answer x.image change ≡ Ok New
+  is-new zero e = λ i. answer_at ((backed.fills e).empty i) (generation-is i) ((number-is ∙ e) i)
+  is-new (suc m) e =
+      let some : 1 ≤ n = omega arith in
+      (λ i. answer_at ((backed.follows some).stands_at i) (generation-is i) (number-is i)) ∙ next-is-new generation n some
+
+  makes : (m : ℕ) → n ≡ m → image_of change x.image.guest ≡ guest_along g ms
+  makes zero e =
+      let f = backed.fills e in
+      ap (λ t. image_of (read_as x.image.shape (first_text t)) x.image.guest) f.sealed ∙ f.makes x.image.guest
+  makes (suc m) e =
+      let some : 1 ≤ n = omega arith in
+      ap (image_of change) (backed.follows some).image ∙ ap (λ c. image_of c g) change-is ∙ text.image
+
+  abbrev after : Nodes
+  after = record x { image = taken_in x.image change; sealed = later_texts x.sealed }
+
+  taken : AreNodes alone generation (n + 1) (guest_along g ms) mss ran held after
+  taken =
+      let number : n ≡ n + 1 - 1 = omega arith in
+      let frames : f ∷ held ≡ frames_along g ms ∷ epoch_frames (guest_along g ms) mss = h.frames in
+      record {
+        first_generation = h.first_generation;
+        last_generation = h.last_generation;
+        backed = λ e. record {
+          follows = λ l. record {
+            image = makes n refl;
+            stands_at = λ i. Some (record { generation = generation-is i; number = (number-is ∙ number) i });
+          };
+          fills = λ none. absurd (omega arith);
+          staged = refl;
+          image_shape = shape-moves x.image.shape g ms backed.image_shape;
+          sealed = later-sealed x.image.shape generation n g ms mss x.sealed backed.sealed;
+          base = subst (IsBase (machine_of x.live)) (guest_along-append g ms (all_moves mss)) backed.base;
+        };
+        frames = cc;
+        live = h.live ∙ ap (guest_along g) (append_assoc ms (all_moves mss) ran) ∙ guest_along-append g ms (all_moves mss ++ ran);
+        outbox = h.outbox ∙ ap (λ b. frames_along b ran) (guest_along-append g ms (all_moves mss));
+        shape = h.shape;
+      }
+
+  pub nodes-commit : AreNodes alone generation (n + 1) (guest_along g ms) mss ran held (with_commit x)
+  nodes-commit =
+      subst (λ (i : ImageState). AreNodes alone generation (n + 1) (guest_along g ms) mss ran held
+      (record x { image = i; sealed = later_texts x.sealed }))
+      (sym (takes-in x.image change (is-new n refl))) taken
