@@ -8,7 +8,7 @@ use Rattle.remus.specs.Fields.{text_after, number_of, numbered_by, operand_of, w
 use Rattle.remus.specs.Command.{IsNumbered, HasNumbers, IsCommand, command_of}
 use Rattle.remus.specs.declared.script.Command.{Command}
 use Rattle.remus.specs.declared.script.Command.TheVariants.{Step, Cut, Send, Backup, Ack, Admit, Take, LoseIn, LoseOut, FailPrimary}
-use Rattle.remus.specs.declared.script.Command.TheVariants.{FailBackup, GoLive, Sector, Show}
+use Rattle.remus.specs.declared.script.Command.TheVariants.{FailBackup, GoLive, Protect, Sector, Show}
 use Rattle.remus.proofs.FieldLemmas.{text_after-some, operand_of-spelled, operand_of-read}
 use Rattle.remus.proofs.OptionLemmas.{and_then_some}
 
@@ -43,6 +43,7 @@ command_of-spelled text (Sector sector) (digits, shape, value) =
 command_of-spelled text FailPrimary shape = ap command_of shape
 command_of-spelled text FailBackup shape = ap command_of shape
 command_of-spelled text GoLive shape = ap command_of shape
+command_of-spelled text Protect shape = ap command_of shape
 command_of-spelled text Show shape = ap command_of shape
 
 named : (P : Type 0) (test : Bool) (first : Command) (others : Option Command) (command : Command) → (test ≡ true → first ≡ command → P)
@@ -108,8 +109,11 @@ backup_form text = option_map_or (λ k. Some (Backup k)) (numbered_by (codes "ba
 abbrev step_form : List ℕ → Option Command
 step_form text = option_map_or (λ n. cond (nat_eq n 0) None (Some (Step n))) (numbered_by (codes "step ") text) (backup_form text)
 
+abbrev protect_form : List ℕ → Option Command
+protect_form text = cond (bytes_eq text (codes "protect")) (Some Protect) (step_form text)
+
 abbrev go_live_form : List ℕ → Option Command
-go_live_form text = cond (bytes_eq text (codes "golive")) (Some GoLive) (step_form text)
+go_live_form text = cond (bytes_eq text (codes "golive")) (Some GoLive) (protect_form text)
 
 abbrev fail_backup_form : List ℕ → Option Command
 fail_backup_form text = cond (bytes_eq text (codes "fail backup")) (Some FailBackup) (go_live_form text)
@@ -171,10 +175,15 @@ from_step text command = told (IsCommand text command) (λ n. cond (nat_eq n 0) 
 same_text : (text name : List ℕ) → bytes_eq text name ≡ true → text ≡ name
 same_text text name h = (bytes_eq-Decides text name).0 h
 
-from_go_live : (text : List ℕ) (command : Command) → go_live_form text ≡ Some command → IsCommand text command
-from_go_live text command = named (IsCommand text command) (bytes_eq text (codes "golive")) GoLive (step_form text) command
-    (λ e same. subst (IsCommand text) same (same_text text (codes "golive") e))
+from_protect : (text : List ℕ) (command : Command) → protect_form text ≡ Some command → IsCommand text command
+from_protect text command = named (IsCommand text command) (bytes_eq text (codes "protect")) Protect (step_form text) command
+    (λ e same. subst (IsCommand text) same (same_text text (codes "protect") e))
     (from_step text command)
+
+from_go_live : (text : List ℕ) (command : Command) → go_live_form text ≡ Some command → IsCommand text command
+from_go_live text command = named (IsCommand text command) (bytes_eq text (codes "golive")) GoLive (protect_form text) command
+    (λ e same. subst (IsCommand text) same (same_text text (codes "golive") e))
+    (from_protect text command)
 
 from_fail_backup : (text : List ℕ) (command : Command) → fail_backup_form text ≡ Some command → IsCommand text command
 from_fail_backup text command = named (IsCommand text command) (bytes_eq text (codes "fail backup")) FailBackup (go_live_form text) command

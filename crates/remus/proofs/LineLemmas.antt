@@ -1,5 +1,5 @@
 -- The lines of a text, one by one.
-use Rattle.std.proofs.Common.{◌≡◌, ◌≤◌, ◌<◌, ◌+◌, ◌-◌, ℕ, suc, List, [], ◌∷◌, length, take, drop, Bool, true, false, cond, Option, None}
+use Rattle.std.proofs.Common.{◌≡◌, ◌≤◌, ◌<◌, ◌+◌, ◌-◌, ℕ, List, [], ◌∷◌, length, take, drop, Bool, true, false, cond, Option, None}
 use Rattle.std.proofs.Common.{Some, Bor, subst, refl, sym, ap, ◌∙◌, arith, length-drop}
 use Rattle.std.specs.Prelude.{not, nat_lt, position, slice_index, ◌==◌}
 use Rattle.std.specs.Option.{option_map}

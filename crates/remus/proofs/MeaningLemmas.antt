@@ -1,24 +1,23 @@
 -- What a line, and a script, means.
-use Rattle.std.proofs.Common.{◌≡◌, ℕ, List, [], ◌∷◌, ◌++◌, ◌⊎◌, inl, inr, Bool, true, false, Option, None, Some, Result, Ok, Err, OnOk}
-use Rattle.std.proofs.Common.{OnErr, IsErr, IfSome, subst, refl, sym, ap, cond, ◌∙◌, append-nil, append_assoc}
+use Rattle.std.proofs.Common.{◌≡◌, ℕ, List, [], ◌⊎◌, inl, inr, Bool, true, false, Option, None, Some, Result, Ok, Err, OnOk}
+use Rattle.std.proofs.Common.{OnErr, IsErr, IfSome, subst, refl, sym, ap, cond, ◌∙◌, append-nil}
 use Rattle.std.specs.Result.{IsErrAnd}
 use Rattle.std.specs.Prelude.{codes}
 use Rattle.std.specs.Fmt.{digits}
 use Rattle.pair_core.specs.declared.event.Refusal.TheVariants.{NoMemory}
 use Rattle.remus.specs.Printed.{refusal_line}
 use Rattle.std.specs.Io.KnownBytes.{Appends, Keeps}
-use Rattle.std.proofs.KnownBytes.{Appends-nil, Appends-trans, Appends-kept}
+use Rattle.std.proofs.KnownBytes.{Appends-nil, Appends-trans}
 use Rattle.pair_core.specs.declared.event.Event.{Event}
 use Rattle.pair_core.specs.Pair.{Pair}
-use Rattle.remus.specs.declared.script.Command.{Command}
 use Rattle.remus.specs.declared.script.Command.TheVariants.{Step, Cut, Send, Backup, Ack, Admit, Take, LoseIn, LoseOut, FailPrimary}
-use Rattle.remus.specs.declared.script.Command.TheVariants.{FailBackup, GoLive, Sector, Show}
+use Rattle.remus.specs.declared.script.Command.TheVariants.{FailBackup, GoLive, Protect, Sector, Show}
 use Rattle.remus.specs.Lines.{Line, order, delivery}
 use Rattle.remus.specs.declared.player.Stop.{Stop}
 use Rattle.remus.specs.declared.player.Stop.TheVariants as stops
 use Rattle.remus.specs.Output.{AppendsFront}
 use Rattle.remus.specs.Playing.{IsLineDone, IsLineAnswered}
-use Rattle.remus.specs.Meaning.{AsksFor, Happens, IsAnswered, IsDone, IsBeyond, IsLine, Stage, unbooted, playing, Ending, GoesOn, Ends}
+use Rattle.remus.specs.Meaning.{AsksFor, Happens, IsAnswered, IsDone, IsLine, Stage, playing, Ending, GoesOn, Ends}
 
 pub false-not-true : false ≡ true → ⊥
 false-not-true e = subst (λ b. cond b ⊥ Unit) e tt
@@ -46,6 +45,7 @@ answered old (order (LoseOut client place)) event printed new a h = (event, a, h
 answered old (order FailPrimary) event printed new a h = (event, a, h)
 answered old (order FailBackup) event printed new a h = (event, a, h)
 answered old (order GoLive) event printed new a h = (event, a, h)
+answered old (order Protect) event printed new a h = (event, a, h)
 answered old (order (Sector sector)) event printed new a h = absurd a
 answered old (order Show) event printed new a h = absurd a
 answered old (delivery client bytes) event printed new a h = (event, a, h)

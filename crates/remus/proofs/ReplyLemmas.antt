@@ -19,7 +19,7 @@ use Rattle.pair_core.specs.declared.event.Refusal.TheVariants.{Full, BadFrame, N
 use Rattle.pair_core.specs.declared.event.Refusal.TheVariants.{NoImage, Stale, Gap, NoMemory, CutNeeded, Exhausted}
 use Rattle.pair_core.specs.declared.event.Reply.{Reply}
 use Rattle.pair_core.specs.declared.event.Reply.TheVariants.{Steps, Cut, Sent, Committed, Again, Lost, Acked, Admitted, Empty}
-use Rattle.pair_core.specs.declared.event.Reply.TheVariants.{Delivered, Took, Dropped, Alone, Live, Refused, Stopped as HasStopped}
+use Rattle.pair_core.specs.declared.event.Reply.TheVariants.{Delivered, Took, Dropped, Alone, Live, Protecting, Refused, Stopped as HasStopped}
 use Rattle.remus.specs.Fields.{text_after}
 use Rattle.remus.specs.Printed.{reply_line, IsPlain}
 use Rattle.remus.proofs.OptionLemmas.{some_same}
@@ -185,8 +185,9 @@ reply_of =
     (after (codes "stopped primary\n") (λ _. Some HasStopped)
     (after (codes "alone ") (two_apart 7 (λ g m. Alone g m))
     (after (codes "live ") (two_apart 6 (λ g n. Live g n))
+    (after (codes "protecting ") (one (λ g. Protecting g))
     (after (codes "refused ") refused
-    (λ _. None)))))))))))))))))
+    (λ _. None))))))))))))))))))
 
 -- the line of a reply is read as that reply
 read-back : (reply : Reply) → IsPlain reply → reply_of (reply_line reply) ≡ Some reply
@@ -206,6 +207,7 @@ read-back Dropped h = refl
 read-back HasStopped h = refl
 read-back (Alone g m) h = two-apart-back (codes "landed ") 7 (λ rest. refl) (λ g m. Alone g m) g m h.0 h.1
 read-back (Live g n) h = two-apart-back (codes "steps ") 6 (λ rest. refl) (λ g n. Live g n) g n h.0 h.1
+read-back (Protecting g) h = one-back (λ g. Protecting g) g h
 read-back (Refused refusal) h = refused-back refusal (name_of refusal)
 
 -- no two replies print alike

@@ -1,13 +1,12 @@
 -- A script's meaning, line by line.
-use Rattle.std.proofs.Common.{◌≡◌, ◌≤◌, ◌<◌, ◌+◌, ℕ, List, [], ◌∷◌, ◌++◌, length, Option, None, Some, IfSome, Bor, Bool, true, false}
-use Rattle.std.proofs.Common.{Result, Ok, Err, inl, inr, subst, refl, sym, ap, ◌∙◌, append_assoc, append-nil, arith}
+use Rattle.std.proofs.Common.{◌≡◌, ◌≤◌, ◌<◌, ◌+◌, ℕ, List, [], ◌∷◌, ◌++◌, length, Option, None, Some, IfSome, Bor, false}
+use Rattle.std.proofs.Common.{Result, Ok, Err, inl, inr, refl, sym, ap, ◌∙◌, append-nil, arith}
 use Rattle.std.specs.Prelude.{MatchOption}
 use Rattle.std.specs.Result.{IsErrAnd}
 use Rattle.std.specs.Io.KnownBytes.{Appends}
-use Rattle.std.proofs.KnownBytes.{Appends-trans}
 use Rattle.remus.specs.declared.player.Stop.{Stop}
 use Rattle.remus.specs.declared.player.Stop.TheVariants as stops
-use Rattle.remus.specs.Meaning.{Stage, unbooted, Ending, finished, bad, refused, cut_short, is_silent, lines_of, GoesOn, Means}
+use Rattle.remus.specs.Meaning.{Stage, Ending, bad, refused, cut_short, is_silent, lines_of, GoesOn, Means}
 use Rattle.remus.specs.Playing.{IsLineDone, ending_of, lines_left, most_lines}
 use Rattle.remus.proofs.LineLemmas.{texts}
 

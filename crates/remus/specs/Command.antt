@@ -5,7 +5,7 @@ use Rattle.std.specs.Str.{bytes_eq}
 use Rattle.remus.specs.Fields.{number_of, numbered_by, numbers_by}
 use Rattle.remus.specs.declared.script.Command.{Command}
 use Rattle.remus.specs.declared.script.Command.TheVariants.{Step, Cut, Send, Backup, Ack, Admit, Take, LoseIn, LoseOut, FailPrimary}
-use Rattle.remus.specs.declared.script.Command.TheVariants.{FailBackup, GoLive, Sector, Show}
+use Rattle.remus.specs.declared.script.Command.TheVariants.{FailBackup, GoLive, Protect, Sector, Show}
 
 -- the front, and digits that write n
 abbrev pub IsNumbered : List ℕ → ℕ → List ℕ → Type 0
@@ -31,6 +31,7 @@ IsCommand text (LoseOut client place) = HasNumbers (codes "loseout ") client pla
 IsCommand text FailPrimary = text ≡ codes "fail primary"
 IsCommand text FailBackup = text ≡ codes "fail backup"
 IsCommand text GoLive = text ≡ codes "golive"
+IsCommand text Protect = text ≡ codes "protect"
 IsCommand text (Sector sector) = IsNumbered (codes "sector ") sector text
 IsCommand text Show = text ≡ codes "show"
 
@@ -43,6 +44,7 @@ command_of text =
     else if bytes_eq text (codes "fail primary") then Some FailPrimary
     else if bytes_eq text (codes "fail backup") then Some FailBackup
     else if bytes_eq text (codes "golive") then Some GoLive
+    else if bytes_eq text (codes "protect") then Some Protect
     else option_map_or (λ n. if nat_eq n 0 then None else Some (Step n)) (numbered_by (codes "step ") text)
     (option_map_or (λ k. Some (Backup k)) (numbered_by (codes "backup ") text)
     (option_map_or (λ k. Some (Ack k)) (numbered_by (codes "ack ") text)

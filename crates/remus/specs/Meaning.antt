@@ -13,7 +13,7 @@ use Rattle.pair_core.specs.Runs.{StepsAnswer}
 use Rattle.pair_core.specs.Record.{start_record}
 use Rattle.pair_core.specs.Start.{shown}
 use Rattle.remus.specs.declared.script.Command.TheVariants.{Step, Cut, Send, Backup, Ack, Admit, Take, LoseIn, LoseOut, FailPrimary}
-use Rattle.remus.specs.declared.script.Command.TheVariants.{FailBackup, GoLive, Sector, Show}
+use Rattle.remus.specs.declared.script.Command.TheVariants.{FailBackup, GoLive, Protect, Sector, Show}
 use Rattle.remus.specs.Boot.{BootLine, IsBoot, BeginsBoot, booted_state}
 use Rattle.remus.specs.Command.{IsCommand}
 use Rattle.remus.specs.Delivery.{IsDelivery, BeginsDelivery}
@@ -52,6 +52,7 @@ AsksFor (order (LoseOut client place)) event = event ≡ events.LoseOut client p
 AsksFor (order FailPrimary) event = event ≡ events.FailPrimary
 AsksFor (order FailBackup) event = event ≡ events.FailBackup
 AsksFor (order GoLive) event = event ≡ events.GoLive
+AsksFor (order Protect) event = event ≡ events.Protect
 AsksFor (delivery client bytes) (events.Deliver to lent) = (to ≡ client) × (lent.now ≡ bytes)
 AsksFor line event = ⊥
 

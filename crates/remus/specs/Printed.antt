@@ -10,7 +10,7 @@ use Rattle.pair_core.specs.Refusals.{number_of, name_of}
 use Rattle.pair_core.specs.declared.event.Show.{Show}
 use Rattle.pair_core.specs.declared.event.Reply.{Reply}
 use Rattle.pair_core.specs.declared.event.Reply.TheVariants.{Steps, Cut, Sent, Committed, Again, Lost, Acked, Admitted, Empty}
-use Rattle.pair_core.specs.declared.event.Reply.TheVariants.{Delivered, Took, Dropped, Stopped, Alone, Live, Refused}
+use Rattle.pair_core.specs.declared.event.Reply.TheVariants.{Delivered, Took, Dropped, Stopped, Alone, Live, Protecting, Refused}
 
 -- fields parted by one space, and the end of the line
 abbrev pub line : List (List ℕ) → List ℕ
@@ -38,6 +38,7 @@ reply_line Dropped = line (codes "dropped" ∷ [])
 reply_line Stopped = line (codes "stopped" ∷ codes "primary" ∷ [])
 reply_line (Alone g m) = line (codes "alone" ∷ decimal g ∷ codes "landed" ∷ decimal m ∷ [])
 reply_line (Live g n) = line (codes "live" ∷ decimal g ∷ codes "steps" ∷ decimal n ∷ [])
+reply_line (Protecting g) = line (codes "protecting" ∷ decimal g ∷ [])
 reply_line (Refused refusal) = refusal_line refusal
 
 -- The numbers are what 64 bits hold, and a frame's items are bytes.
@@ -53,6 +54,7 @@ IsPlain (Delivered n) = n < 2 ^ 64
 IsPlain (Took (Some frame)) = IsBytes frame.items
 IsPlain (Alone g m) = (g < 2 ^ 64) × (m < 2 ^ 64)
 IsPlain (Live g n) = (g < 2 ^ 64) × (n < 2 ^ 64)
+IsPlain (Protecting g) = g < 2 ^ 64
 IsPlain reply = Unit {0}
 
 -- the state in one line

@@ -50,6 +50,7 @@ fn obey(world: &mut World, command: Command, text: &mut Vec<u8>) -> io::Result<b
         Command::FailPrimary => happen(world, Event::FailPrimary, text),
         Command::FailBackup => happen(world, Event::FailBackup, text),
         Command::GoLive => happen(world, Event::GoLive, text),
+        Command::Protect => happen(world, Event::Protect, text),
         Command::Sector(sector) => print_sector(world, sector, text),
         Command::Show => print_show(world, text),
     }

@@ -49,6 +49,7 @@ pub fn write_reply<W: Write>(out: &mut W, reply: &Reply) -> Result<()>
         Reply::Live { generation, steps } => {
             write_generation(out, "live", *generation, "steps", *steps)
         }
+        Reply::Protecting(generation) => write_number(out, "protecting", *generation),
         Reply::Refused(refusal) => write_refusal(out, *refusal),
     }
 }

@@ -33,6 +33,8 @@ pub enum Command {
     FailBackup,
     /// `golive`: the backup goes on in the place of the stopped primary.
     GoLive,
+    /// `protect`: the node that is alone gets a new backup.
+    Protect,
     /// `sector S`: the bytes of sector `S` of the disk of the guest that goes on, from 0. Beyond the disk it is a bad line.
     Sector(u64),
     /// `show`: the state in one line.
@@ -71,6 +73,9 @@ fn first_form(text: &[u8]) -> Option<Command>
     }
     if text == b"golive".as_slice() {
         return Some(Command::GoLive);
+    }
+    if text == b"protect".as_slice() {
+        return Some(Command::Protect);
     }
     if let Some(count) = numbered(text, b"step ") {
         return if count == 0 {

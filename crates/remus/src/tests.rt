@@ -3,6 +3,7 @@
 mod bad_lines;
 mod command_lines;
 mod failures;
+mod protection;
 mod writers;
 
 use super::sim::sim;

@@ -5,7 +5,7 @@ use Rattle.remus.specs.Lines.{order}
 use Rattle.remus.specs.Meaning.{IsDone}
 use Rattle.remus.specs.declared.script.Command.{Command}
 use Rattle.remus.specs.declared.script.Command.TheVariants.{Cut, Send, Backup, Ack, Admit, Take, LoseIn, LoseOut}
-use Rattle.remus.specs.declared.script.Command.TheVariants.{FailPrimary, FailBackup, GoLive}
+use Rattle.remus.specs.declared.script.Command.TheVariants.{FailPrimary, FailBackup, GoLive, Protect}
 use Rattle.remus.proofs.MeaningLemmas.{happened}
 use Rattle.remus.proofs.answers.obey.Goals as goal
 
@@ -104,3 +104,11 @@ returns-in-GoLive c =
     (sym c.in-GoLive.is)
     (happened c.args.world.now (order GoLive) done.new.text.items done.new.world done.result
     events.GoLive refl done.ensures.ok done.ensures.err)
+
+pub returns-in-Protect : goal.returns-in-Protect
+returns-in-Protect c =
+    let done = c.happen-in-Protect in
+    subst (λ (command : Command). IsDone c.args.world.now (order command) done.result done.new.text.items done.new.world)
+    (sym c.in-Protect.is)
+    (happened c.args.world.now (order Protect) done.new.text.items done.new.world done.result
+    events.Protect refl done.ensures.ok done.ensures.err)

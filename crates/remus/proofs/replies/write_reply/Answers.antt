@@ -1,7 +1,7 @@
 -- the line of a reply tells which reply it was
 use Rattle.std.proofs.Common.{◌≡◌, ◌∙◌, Some, ap, arith}
 use Rattle.pair_core.specs.declared.event.Reply.TheVariants.{Steps, Cut, Sent, Committed, Again, Acked, Admitted, Delivered, Took}
-use Rattle.pair_core.specs.declared.event.Reply.TheVariants.{Alone, Live, Refused}
+use Rattle.pair_core.specs.declared.event.Reply.TheVariants.{Alone, Live, Protecting, Refused}
 use Rattle.remus.proofs.ReplyLemmas.{readable}
 use Rattle.remus.proofs.replies.write_reply.Goals as goal
 
@@ -49,3 +49,6 @@ returns-in-Alone-clause-readable g c =
 pub returns-in-Live-clause-readable : goal.returns-in-Live-clause-readable
 returns-in-Live-clause-readable g c =
     readable c.args.reply.now (Live c.in-Live.generation c.in-Live.steps) c.in-Live.is (omega arith, omega arith)
+
+pub returns-in-Protecting-clause-readable : goal.returns-in-Protecting-clause-readable
+returns-in-Protecting-clause-readable g c = readable c.args.reply.now (Protecting c.in-Protecting.generation) c.in-Protecting.is (omega arith)

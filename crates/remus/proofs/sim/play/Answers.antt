@@ -1,7 +1,6 @@
-use Rattle.std.proofs.Common.{◌≡◌, ◌++◌, ◌+◌, List, ℕ, Option, Bor, Some, None, [], ◌∷◌, subst, sym, ap, ◌∙◌, append-nil, append_assoc}
+use Rattle.std.proofs.Common.{◌≡◌, ◌++◌, ◌+◌, List, ℕ, Option, Bor, Some, [], ◌∷◌, subst, sym, ap, ◌∙◌, append-nil, append_assoc}
 use Rattle.std.proofs.Common.{arith, refl, inl}
 use Rattle.std.proofs.KnownBytes.{Appends-trans}
-use Rattle.std.specs.Io.KnownBytes.{Appends}
 use Rattle.remus.specs.Meaning.{Ending, Means, unbooted, finished, lines_of}
 use Rattle.remus.specs.Playing.{stage_of, ending_of, lines_left, most_lines}
 use Rattle.remus.proofs.ScriptLemmas.{after-first, fewer, err-is, goes-on, ends}

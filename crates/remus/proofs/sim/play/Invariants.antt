@@ -1,5 +1,5 @@
 -- what was printed so far, followed by what the lines that are left mean, is what the script means
-use Rattle.std.proofs.Common.{◌≡◌, ◌≤◌, ◌+◌, ◌++◌, ℕ, List, length}
+use Rattle.std.proofs.Common.{◌≤◌, ◌+◌, ◌++◌, ℕ, List, length}
 use Rattle.std.specs.Io.KnownBytes.{Appends}
 use Rattle.remus.specs.Meaning.{Ending, Means, unbooted, lines_of}
 use Rattle.remus.specs.Playing.{stage_of, lines_left, most_lines}
