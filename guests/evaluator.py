@@ -16,7 +16,8 @@ DISK_STEP = 23
 SECTOR_BYTES, PAGE_WORDS = 512, 1024
 MOST_PAGES, MOST_SECTORS, MOST_CLIENTS = 4096, 32768, 16
 NUMBERS_END = 2**64
-FAILURES = ["fail primary", "fail backup", "golive"]
+# The lines by which nodes stop, go live and get a new backup.
+CHANGES = ["fail primary", "fail backup", "golive", "protect"]
 
 
 class Bad(Exception):
@@ -95,7 +96,7 @@ def booted(fields):
 def answer(pair, fields):
     """What the line of these fields prints; one space stands between two of them, and none elsewhere."""
     word, rest = fields[0], fields[1:]
-    for name in FAILURES:
+    for name in CHANGES:
         if name.encode() == b" ".join(fields):
             return getattr(pair, name.replace(" ", "_"))()
     if word in (b"cut", b"send", b"show") and not rest:

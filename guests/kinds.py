@@ -1,10 +1,15 @@
 """The scripts that scripts.py plays: each kind of them is a function of this file."""
+import functools
 import random
 
-from evaluator import FAILURES, NUMBERS_END, Player
-from pair import STOPPED
+from evaluator import CHANGES, NUMBERS_END, Player
+from pair import ALONE, STOPPED
 from sender import Sender
 from spellings import BAD_LINES, BOOTS, COMMENTS, GREATEST, NO_HEX, NO_NUMBERS, TOO_BIG, WORDS
+from worked import NEW_PAIR, broken as broken_scripts
+
+
+STRIDE = 1009  # a prime that divides no count of broken scripts
 
 
 class Writer:
@@ -58,13 +63,32 @@ class Writer:
             return rng.choice([0, clients + 1, clients + 256, 17, 2**32 + 1, NUMBERS_END - 1])
         return rng.choice([1, rng.randint(1, clients)])
 
-    def packet(self, there, in_order):
+    def packet(self, word):
         """The number of a packet: the next in order, one that was got before, one that wasn't, or one that there isn't."""
-        rng = self.rng
+        rng, in_order = self.rng, self.next_packet(word)
+        there = len(self.sent_on(word))
         if rng.random() < 0.6 or not there:
             return in_order
         return rng.choice([rng.randrange(there), rng.randrange(there), there - 1, max(0, there - 3), there, there + rng.randint(1, 9),
                            NUMBERS_END - 1 if rng.random() < 0.2 else 0])
+
+    def get(self, word, k):
+        """The line by which that packet is got."""
+        if k < len(self.sent_on(word)):
+            self.next[word] = k + 1
+        return word + b" " + self.text(k)
+
+    def sent_on(self, word):
+        """The packets of the line that this word gets from, or its acknowledgements."""
+        return self.pair.packets if word == b"backup" else self.pair.acks
+
+    def next_packet(self, word):
+        """The number of the next packet in order. Those of an older generation are mostly passed over."""
+        sent, k = self.sent_on(word), self.next[word]
+        if self.rng.random() < 0.8:
+            while k < len(sent) and sent[k][0] != self.pair.generation:
+                k += 1
+        return k
 
     def frame(self):
         rng = self.rng
@@ -77,11 +101,7 @@ class Writer:
         if word == b"step":
             return b"step " + self.text(self.count())
         if word in (b"backup", b"ack"):
-            there = len(pair.packets if word == b"backup" else pair.acks)
-            k = self.packet(there, self.next[word])
-            if k < there:
-                self.next[word] = k + 1
-            return word + b" " + self.text(k)
+            return self.get(word, self.packet(word))
         if word == b"deliver":
             return b"deliver " + self.text(self.client()) + b" " + self.frame().hex().encode()
         if word in (b"admit", b"take"):
@@ -96,13 +116,17 @@ class Writer:
 
     def some(self, count, **weights):
         """So many lines; each word's weight is 1, or what is given."""
-        words = self.LINES + FAILURES
+        words = self.LINES + CHANGES
         weight = {"losein": 0.5, "loseout": 0.5, "sector": 0.3, "#": 0.4, "show": 0.7} | weights
         for _ in range(count):
-            # A primary that stopped rarely stays so for long.
-            golive = 1.5 if self.pair.mode == STOPPED else 0.05
-            failures = {"fail primary": 0.1, "fail backup": 0.05, "golive": golive} if self.fails else dict.fromkeys(FAILURES, 0)
-            self.add(self.line(self.rng.choices(words, [(failures | weight).get(word, 1) for word in words])[0].encode()))
+            changes = self.changes() if self.fails else dict.fromkeys(CHANGES, 0)
+            self.add(self.line(self.rng.choices(words, [(changes | weight).get(word, 1) for word in words])[0].encode()))
+
+    def changes(self):
+        """Weights by which a primary that stopped rarely stays so for long, nor a node alone."""
+        mode = self.pair.mode
+        return {"fail primary": 0.1, "fail backup": 0.05, "golive": 1.5 if mode == STOPPED else 0.05,
+                "protect": 0.8 if mode == ALONE else 0.05}
 
     def of_use(self):
         """Weights by which lines mostly find something to do."""
@@ -205,25 +229,83 @@ def events(w, _):
           rng.choice([b"beacon", b"disk 0 ab", w.sender(), w.sender(), w.sender()]))
     for _ in range(60):
         w.some(1, **{"show": 0, "sector": 0, "#": 0} | w.of_use())
-        w.some(rng.choice([0, 0, 1]), **dict.fromkeys(w.LINES + FAILURES, 0) | {"show": 1, "sector": 0.2})
+        w.some(rng.choice([0, 0, 1]), **dict.fromkeys(w.LINES + CHANGES, 0) | {"show": 1, "sector": 0.2})
     w.add(b"show")
+
+
+def generations(w, _):
+    """Nodes that fail and are replaced again and again: what each new pair still gets of the packets of all those before it."""
+    rng = w.rng
+    w.add(b"boot 2 %d %d " % (rng.choice([1, 8]), rng.choice([1, 2, 16])) +
+          rng.choice([b"beacon", b"disk 0 ab", w.sender(), w.sender()]))
+    for _ in range(rng.choice([1, 2, 3, 3, 5, 10, 25])):
+        calm(w, rng.choice([0, 0, 2, 5, 10]), step=2, deliver=0.7)
+        w.add(*rng.choice([[b"fail backup"], [b"fail primary", b"golive"], [b"fail primary", b"golive"]]))
+        calm(w, rng.choice([0, 0, 1, 4]), step=2, take=2, backup=0.5, ack=0.5)
+        w.add(b"protect", *rng.choices([b"show", b"protect", b"golive", b"fail primary", b"sector 0"], k=rng.choice([0, 0, 1, 3])))
+        filling(w)
+    w.some(rng.randint(0, 10), **dict.fromkeys(CHANGES, 0.3))
+    w.add(b"show", *[b"take 1"] * rng.choice([0, 3, 70]), b"cut", b"send", b"show")
+
+
+def calm(w, count, **weights):
+    """So many lines by which no node changes; mostly ones that find something to do."""
+    for _ in range(count):
+        w.some(1, **w.of_use() | dict.fromkeys(CHANGES, 0) | weights)
+
+
+def filling(w):
+    """A new pair: its full checkpoint is committed, with others after it, late or never, or its backup fails before that."""
+    rng = w.rng
+    calm(w, rng.choice([0, 0, 1, 4]), step=2, cut=1.5, backup=0.5, ack=0.5)
+    if rng.random() < 0.15:
+        w.add(b"fail backup", b"show", *[b"take 1"] * rng.choice([0, 2]), b"protect")
+    w.add(*[b"cut"] * rng.choice([0, 0, 1, 4]), *[b"send"] * rng.choice([1, 1, 2]))
+    for word in b"backup", b"ack":
+        w.add(*[w.get(word, k) for k in came(w, word)], b"show")
+
+
+def came(w, word):
+    """Some packets that were ever sent, and then those of this generation: some or all, in order or turned round, one of them again."""
+    rng, sent = w.rng, w.sent_on(word)
+    now = [k for k, (generation, _) in enumerate(sent) if generation == w.pair.generation][:rng.choice([0, 1, 9, 9, 9])]
+    return rng.choices(range(len(sent)), k=rng.choice([0, 0, 1, 3]) if sent else 0) + now[::rng.choice([1, 1, 1, -1])] + now[:1]
+
+
+def broken(w, turn):
+    """A worked script in which a node fails before one of its events, and gets a new backup; then the rest of the script."""
+    every = all_broken()
+    # Neighbours are of different scripts.
+    before, failure, is_filled, after = every[turn * STRIDE % len(every)]
+    w.add(*before, failure, *NEW_PAIR)
+    if is_filled:
+        sent = len(w.pair.packets)
+        w.add(b"send")
+        w.add(*[b"backup %d" % k for k in range(sent, len(w.pair.packets))])
+        w.add(b"ack %d" % (len(w.pair.acks) - 1))
+    w.add(*after, b"show")
+
+
+@functools.cache
+def all_broken():
+    return broken_scripts()
 
 
 def failures(w, _):
     """A primary that fails with epochs open, cut, sent, committed or acknowledged, and what the backup still gets; or a failing backup."""
     rng = w.rng
     w.add(b"boot 2 1 %d " % rng.choice([1, 2, 16]) + rng.choice([b"beacon", w.sender(), w.sender()]))
-    calm = dict.fromkeys(FAILURES, 0)
+    none = dict.fromkeys(CHANGES, 0)
     for _ in range(rng.choice([0, 1, 1, 2, 4])):
         w.add(b"step %d" % rng.choice([22, 27, 50, 100]), b"cut", b"send")
-        w.some(rng.randint(0, 8), deliver=2, admit=3, backup=3, ack=2, take=2, **calm)
-    w.some(rng.randint(0, 6), deliver=2, admit=3, step=2, **calm)
+        w.some(rng.randint(0, 8), deliver=2, admit=3, backup=3, ack=2, take=2, **none)
+    w.some(rng.randint(0, 6), deliver=2, admit=3, step=2, **none)
     w.add(b"show")
     for name in rng.choice([[b"fail primary", b"golive"], [b"fail primary", b"golive"], [b"fail backup"], [b"fail primary"]]):
         w.add(name, b"show")
-        w.some(rng.randint(0, 6), backup=4, **calm)
+        w.some(rng.randint(0, 6), backup=4, **none)
     w.some(rng.randint(0, 20), take=3)
-    w.add(b"show", *[b"take 1"] * rng.choice([0, 3, 70]), *[name.encode() for name in FAILURES], b"show")
+    w.add(b"show", *[b"take 1"] * rng.choice([0, 3, 70]), *[name.encode() for name in CHANGES], b"show")
 
 
 def disks(w, _):
@@ -243,7 +325,7 @@ def disks(w, _):
 def mutated(w):
     """A good line with something wrong in it."""
     rng = w.rng
-    words = "step cut send backup ack deliver admit take losein loseout show sector".split() + FAILURES
+    words = "step cut send backup ack deliver admit take losein loseout show sector".split() + CHANGES
     line = w.line(rng.choice(words).encode())
     fields = line.split(b" ")
     place = rng.randrange(len(line) + 1)
@@ -322,8 +404,9 @@ def bare(w, turn):
         w.add(w.rng.randbytes(w.rng.randint(1, 40)))
 
 
+# Enough of `bad` and `boots` that 1000 scripts try all their lines.
 KINDS = [wild, bad, packets, boots, orderly, bad, beacons, mutants, wild, boots, crowded, bad, packets, behind, edges, disks,
-         beacons, losses, bad, boots, events, failures, events, failures, bare]
+         bad, beacons, losses, bad, boots, events, failures, bad, generations, broken, events, boots, failures, bad, generations, bare]
 
 
 def named(name):

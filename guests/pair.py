@@ -6,7 +6,9 @@ import collections
 from history import BOX_FRAMES, MOST_WAITING, State, length, targets
 
 MOST_PENDING, OUTBOX_ROOM = 4, 192
-PAIRED, ALONE, STOPPED = "paired", "alone", "stopped"
+PAIRED, FILLING, ALONE, STOPPED = "paired", "filling", "alone", "stopped"
+SHOWN = {FILLING: PAIRED}  # what `show` calls a mode, where that isn't its own name
+EMPTY = -1  # the number of the last committed checkpoint where the backup holds no image
 
 
 class Refused(Exception):
@@ -22,7 +24,7 @@ class Pair:
     def __init__(self, guest, sectors, clients):
         self.guest, self.sectors, self.clients = guest, sectors, clients
         self.mode, self.generation = PAIRED, 1
-        self.steps, self.image_steps = 0, 0  # of the live guest, and of the backup's image
+        self.steps, self.image_steps = 0, 0  # of the live guest, and of the backup's image, or None where that is empty
         self.running, self.outbox = [], []  # the running epoch: the entries that it will add, and its frames
         self.next, self.committed, self.pending = 1, 0, []  # checkpoints: the next number, the last committed, those not acknowledged
         self.sealed, self.cut_at = {}, {}  # by checkpoint: the entries of an epoch not committed; the steps at its cut
@@ -118,11 +120,18 @@ class Pair:
             raise Refused(GAP)
         word = "again"
         if n == self.committed + 1:
-            word, self.committed, self.image_steps = "committed", n, self.cut_at[n]
-            for entry in self.sealed.pop(n):
-                self.record(*entry)
+            word = "committed"
+            self.commit(n)
         self.acks.append((self.generation, self.committed))
         return f"{word} {self.generation} {self.committed}"
+
+    def commit(self, n):
+        """The image becomes the guest at that cut, whose epoch moves to the history. A full checkpoint makes a pair."""
+        self.committed, self.image_steps = n, self.cut_at[n]
+        for entry in self.sealed.pop(n):
+            self.record(*entry)
+        if self.mode == FILLING:
+            self.mode = PAIRED
 
     def ack(self, k):
         self.refuse(stopped=HAS_STOPPED, alone=NOT_PAIRED)
@@ -179,7 +188,7 @@ class Pair:
         return "dropped"
 
     def fail_primary(self):
-        self.refuse(stopped=HAS_STOPPED, alone=NO_IMAGE)
+        self.refuse(stopped=HAS_STOPPED, alone=NO_IMAGE, filling=NO_IMAGE)
         self.mode = STOPPED
         return "stopped primary"
 
@@ -192,7 +201,7 @@ class Pair:
         return f"alone {self.generation} landed {landed}"
 
     def golive(self):
-        self.refuse(alone=NOT_PAIRED, paired=ALREADY_PAIRED)
+        self.refuse(alone=NOT_PAIRED, paired=ALREADY_PAIRED, filling=ALREADY_PAIRED)
         # What uncommitted epochs took in, by rising number; then what is committed and not landed, each client's from its front.
         for n in sorted(entry[1] for entry in self.kept() if entry[0] == "Arrive"):
             self.record("DropIn", n)
@@ -204,6 +213,16 @@ class Pair:
         self.generation += 1
         self.steps = self.image_steps
         return f"live {self.generation} steps {self.steps}"
+
+    def protect(self):
+        self.refuse(stopped=HAS_STOPPED, paired=ALREADY_PAIRED, filling=ALREADY_PAIRED)
+        self.mode = FILLING
+        self.generation += 1
+        # The full checkpoint is number 0. It ends an epoch in which nothing was done: what a lone node did is in the history.
+        self.next, self.committed, self.pending = 1, EMPTY, [0]
+        self.sealed, self.held, self.cut_at = {0: []}, {0: []}, {0: self.steps}
+        self.image_steps = None
+        return f"protecting {self.generation}"
 
     def kept(self):
         """The entries of the epochs that are not committed, the running one last."""
@@ -220,8 +239,8 @@ class Pair:
         return self.image_steps if self.mode == STOPPED else self.steps
 
     def show(self):
-        return (f"mode {self.mode} generation {self.generation} pending {len(self.pending)} steps {self.shown_steps()} "
-                f"entries {length(self.history)}")
+        return (f"mode {SHOWN.get(self.mode, self.mode)} generation {self.generation} pending {len(self.pending)} "
+                f"steps {self.shown_steps()} entries {length(self.history)}")
 
     def sector(self, s):
         return f"sector {s} {self.guest.sector(s, self.shown_steps()).hex()}"
@@ -238,15 +257,42 @@ class Follower:
         guests are those that it and what is kept lead to."""
         shown, self.seen = self.shown.follow(pair.history, self.seen), length(pair.history)
         kept = shown.copy().after(pair.kept())
-        held = [frame for n in pair.pending for frame in pair.held[n]] + pair.outbox
-        alone = pair.mode == ALONE
         wanted = {
             "number": (pair.delivered + 1, shown.number),
             "steps": (pair.steps, kept.steps),
-            "image": (pair.image_steps, pair.image_steps if alone else shown.steps),
+            "image": (committed_steps(pair), shown.steps),
             "inboxes": ({c: list(numbers) for c, numbers in pair.inboxes.items()}, {c: kept.inbox(c) for c in pair.boxes}),
             "boxes": ({c: list(frames) for c, frames in pair.boxes.items()}, shown.boxes),
-            "owed": ({c: [frame for frame in held if c in targets(frame, pair.clients)] for c in pair.boxes}, kept.out),
-            "kept": (alone and (pair.kept(), pair.pending, held), alone and ([], [], [])),
+            "owed": (by_client(pair, held_to(pair, pair.next) + pair.outbox), kept.out),
+            "owed by what is committed": (by_client(pair, held_to(pair, pair.committed + 1)), shown.out),
+            "numbers": (numbers_fit(pair), True),
         }
         return [name for name, (here, there) in wanted.items() if here != there]
+
+
+def committed_steps(pair):
+    """The steps of the image; of a new backup, those of its full checkpoint, and where a node is alone, its own."""
+    if pair.mode == FILLING:
+        return pair.cut_at[0]
+    return pair.steps if pair.mode == ALONE else pair.image_steps
+
+
+def held_to(pair, end):
+    """The frames that are held under numbers before that one."""
+    return [frame for n in pair.pending if n < end for frame in pair.held[n]]
+
+
+def by_client(pair, frames):
+    return {c: [frame for frame in frames if c in targets(frame, pair.clients)] for c in pair.boxes}
+
+
+def numbers_fit(pair):
+    """Whether the numbers of checkpoints, packets and acknowledgements are those of the pair's mode."""
+    if pair.mode == ALONE:
+        return not (pair.kept() or pair.pending or pair.held or pair.outbox)
+    sealed, first = list(range(pair.committed + 1, pair.next)), pair.next - len(pair.pending)
+    now = [[n for generation, n in line if generation == pair.generation] for line in (pair.packets, pair.acks)]
+    return (sorted(pair.sealed) == sealed and pair.pending == list(range(first, pair.next)) == sorted(pair.held)
+            and first <= pair.committed + 1 and len(pair.pending) <= MOST_PENDING
+            and max(now[0], default=0) < pair.next and max(now[1], default=EMPTY) <= pair.committed
+            and (pair.mode == FILLING) == (pair.committed == EMPTY) and (pair.mode != FILLING or not pair.sealed[0]))

@@ -11,9 +11,9 @@ those two pages; then PROGRAM (`remus` of this repository where it isn't given) 
 pipe. A script that differs is kept in FOLDER (a new one under /tmp where it isn't given), with what was expected and what
 came. The last line is `N played, M differ`; the status is 1 where any differ, or where PROGRAM doesn't play an empty script.
 --counts says how often each answer was expected. --kind writes scripts of one kind of kinds.py alone: `--kind events` those of 60
-events each, with failures. --check plays no program: after each line of each script the evaluator's pair is compared with what its
-history says, by history.py. --say plays no program either: it prints what is expected of one script, whose guest must be one that
-evaluator.py knows.
+events each, with failures and new backups; `generations` and `broken` have more of them. --check plays no program: after each line of
+each script the evaluator's pair is compared with what its history says, by history.py. --say plays no program either: it prints what is
+expected of one script, whose guest must be one that evaluator.py knows.
 
 1000 scripts try each boot line, each bad line and each spelling of a number and of a frame that stands in spellings.py."""
 import argparse

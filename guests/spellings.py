@@ -36,4 +36,7 @@ BAD_LINES = (
     b"loseout|loseout |loseout 1|loseout 1 |loseout  1 0|loseout 1  0|loseout 1 0 |loseout 1 0 0|loseouts 1 0|loseout 1 x|loseout1 0|"
     b"take|take |take 1 1|take 1\r|takes 1|sector|sector |sector 0 0|sectors 0|sector 0 |sector 18446744073709551615| # x|\t# x|"
     b"deliver|deliver |deliver 1|deliver 1 |deliver FRAME|deliver  1 FRAME|deliver 1  FRAME|deliver 1 FRAME |deliver 1 FRAME\r|"
-    b"deliver 1 FRAME 00|deliver FRAME 1|delivers 1 FRAME").replace(b"FRAME", b"5a" * 14).split(b"|")
+    b"deliver 1 FRAME 00|deliver FRAME 1|delivers 1 FRAME|fail|fail |fail primary |fail  primary|fail primary 1|Fail primary|fail Backup|"
+    b"fail backups|fails backup|fail both|failbackup|fail backup\r|fail protect|golive |golive 2| golive|golives|go live|Golive|golive\x00|"
+    b"protect 1|protect 2|protect | protect|protects|Protect|protect\r|protect\x00|protec|protect backup|protecting|protecting 2"
+).replace(b"FRAME", b"5a" * 14).split(b"|")
