@@ -28,6 +28,7 @@ for name in sort crc32 sha256 division; do
 done
 make ping large.ld start.s interrupts.s ping.c
 make account large.ld start.s account.c
+make tally large.ld start.s tally.c
 make disk large.ld start.s disk.c
 make flood small.ld start.s flood.c
 make stream large.ld start.s stream.c

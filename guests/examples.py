@@ -1,8 +1,13 @@
 #!/usr/bin/env python3
-"""Writes ../examples/ping.sim, ../examples/disk.sim and ../examples/failover.sim from the words of the guests, and beside each
-what it prints. The frames, their answers and the hash are worked out here, with no part of the guests."""
+"""Writes ../examples/ping.sim, ../examples/disk.sim, ../examples/failover.sim and ../examples/ten_failovers.sim from the words of the
+guests, and beside each what it prints. The frames, their answers, the hash and the counts are worked out here, with no part of the guests;
+what the pair answers in ten_failovers is worked out by pair.py, with no part of the program."""
+import itertools
 import struct
 from pathlib import Path
+
+from evaluator import answer
+from pair import Pair
 
 HERE = Path(__file__).parent
 EXAMPLES = HERE.parent / "examples"
@@ -178,6 +183,161 @@ def failover():
     ])
 
 
+class Tally:
+    """The guest of tally.c: its count is how many of the client's frames came to it in its own past, which is the history and what the
+    pair keeps. The steps after a frame came are enough for its answer."""
+
+    SET_UP, EACH = 5000, 1000
+
+    def __init__(self):
+        self.pair = None
+
+    def steps_to_send(self, steps, most):
+        return most
+
+    def past(self):
+        return self.pair.history + self.pair.kept()
+
+    def sent(self, before, after):
+        """An answer to each frame that came since the last step."""
+        new = self.count(itertools.takewhile(lambda entry: entry[0] != "Ran", reversed(self.past())))
+        counted = self.count(self.past())
+        return [self.frame(n) for n in range(counted - new + 1, counted + 1)]
+
+    def sector(self, s, steps):
+        return struct.pack(">I", self.count(self.past()) if s == 0 else 0) + bytes(508)
+
+    @staticmethod
+    def count(entries):
+        return sum(entry[0] == "Arrive" for entry in entries)
+
+    @staticmethod
+    def frame(count):
+        return ethernet(CLIENT_MAC, GUEST_MAC, 0x88B6, struct.pack(">I", count))
+
+
+class Talk:
+    """A script in which client 1 asks the tally for its next count, with what each line prints; and the counts that the client saw."""
+
+    REQUEST = ethernet(GUEST_MAC, CLIENT_MAC, 0x88B6, b"").hex()
+
+    def __init__(self, sectors):
+        self.pair = Pair(Tally(), sectors, 1)
+        self.pair.guest.pair = self.pair
+        self.lines, self.seen = [(f"boot 32 {sectors} 1 words {words('tally')}", "booted")], []
+
+    def say(self, text):
+        self.lines.append(text)
+
+    def play(self, *lines):
+        for line in lines:
+            self.lines.append((line, answer(self.pair, line.encode().split(b" "))))
+
+    def ask(self):
+        self.play(f"deliver 1 {self.REQUEST}", "admit 1", f"step {Tally.EACH}")
+
+    def send(self):
+        """Sends what is pending; answers which packets that were."""
+        first = len(self.pair.packets)
+        self.play("send")
+        return range(first, len(self.pair.packets))
+
+    def commit(self):
+        """What is pending reaches the backup."""
+        self.play(*[f"backup {k}" for k in self.send()])
+
+    def acknowledge(self):
+        self.play(f"ack {len(self.pair.acks) - 1}")
+
+    def epoch(self):
+        """An epoch that goes well."""
+        self.play("cut")
+        self.commit()
+        self.acknowledge()
+
+    def take(self):
+        """The client takes what came, until it finds none."""
+        self.play("take 1")
+        while (found := self.lines[-1][1]) != "none":
+            self.seen.append(int.from_bytes(bytes.fromhex(found.split()[1])[14:], "big"))
+            self.play("take 1")
+
+    # How far the last epoch of a primary came before that one stopped.
+
+    def stops_in_mid_epoch(self):
+        self.say("The primary stops before its epoch is cut: the count goes back on the disk, and no client knew it.")
+        self.play("fail primary")
+
+    def stops_with_a_packet_lost(self):
+        self.say("The primary stops after the epoch was sent, and the packet never comes.")
+        self.play("cut")
+        self.send()
+        self.play("fail primary")
+
+    def stops_with_a_packet_on_its_way(self):
+        self.say("The primary stops after the epoch was sent, and the packet comes then: the disk counts on, and the answer is lost.")
+        self.play("cut")
+        sent = self.send()
+        self.play("fail primary", *[f"backup {k}" for k in sent])
+
+    def stops_before_the_acknowledgement(self):
+        self.say("The primary stops after the backup had the epoch, before it knew that: the disk counts on, and the answer is lost.")
+        self.play("cut")
+        self.commit()
+        self.play("fail primary")
+
+    def stops_after_the_answer(self):
+        self.say("The primary stops after it was told that the backup has the epoch: the answer is there.")
+        self.epoch()
+        self.play("fail primary")
+
+    def fail_over(self, stop):
+        """The client asks, the primary stops, the backup goes live, and the client asks again."""
+        self.ask()
+        stop()
+        self.play("golive")
+        self.take()
+        self.ask()
+        self.take()
+
+    def protect(self):
+        """The node that is alone gets a new backup, while the client asks."""
+        self.play("protect")
+        self.ask()
+        self.take()
+        self.commit()
+        self.acknowledge()
+        self.take()
+        self.epoch()
+        self.take()
+
+
+def ten_failovers():
+    talk = Talk(8)
+    talk.lines.insert(0, "The guest of guests/tally.c counts on its disk: each frame of client 1 adds one, and is answered with the count.")
+    talk.play(f"step {Tally.SET_UP}")
+    talk.epoch()
+    stops = [Talk.stops_in_mid_epoch, Talk.stops_with_a_packet_lost, Talk.stops_with_a_packet_on_its_way,
+             Talk.stops_before_the_acknowledgement, Talk.stops_after_the_answer]
+    for number in range(10):
+        talk.say(f"Failover {number + 1}.")
+        talk.fail_over(lambda: stops[number % len(stops)](talk))
+        if number == 4:
+            talk.say("The new backup fails before it has anything: the primary goes on alone, and what was held lands.")
+            talk.play("protect")
+            talk.ask()
+            talk.take()
+            talk.play("fail backup")
+            talk.take()
+        talk.say("A new backup. What the guest sends is held from now on, until that one has the state which sent it.")
+        talk.protect()
+    talk.say("Ten primaries have stopped, and no count came twice or went back.")
+    talk.play("show", "sector 0")
+    assert all(a < b for a, b in zip(talk.seen, talk.seen[1:])) and talk.pair.generation >= 21
+    write("ten_failovers", talk.lines)
+
+
 ping()
 disk()
 failover()
+ten_failovers()
