@@ -1,8 +1,9 @@
 //! Epochs of a checkpoint in plain Rust: pages change, and those that were written are compared with what they were, XORed, encoded,
 //! decoded and applied to a second memory. The bytes are those of docs/CHECKPOINT.md, with a head of zeros but for its counts.
 
-const PAGE: usize = 4096;
-const BLOCK: usize = 64;
+pub const PAGE: usize = 4096;
+pub const BLOCK: usize = 64;
+pub const SECTOR: usize = 512;
 const PAGES: usize = 4096;
 /// The bytes of the head, before the count of the page records.
 const HEAD: usize = 524;
@@ -15,11 +16,12 @@ struct Memory {
     written: Vec<bool>,
 }
 
-/// The page records, and their blocks.
+/// The page records, their blocks, and the sector records.
 #[derive(Default)]
-struct Delta {
-    pages: Vec<(u32, u64)>,
-    blocks: Vec<Block>,
+pub struct Delta {
+    pub pages: Vec<(u32, u64)>,
+    pub blocks: Vec<Block>,
+    pub sectors: Vec<(u32, [u8; SECTOR])>,
 }
 
 /// Runs so many epochs, in each of which so many blocks of so many pages change. Answers how many bytes their checkpoints had.
@@ -106,9 +108,13 @@ fn xor_into(bytes: &mut [u8], change: &Block) {
     }
 }
 
-fn encode(delta: &Delta) -> Vec<u8> {
-    let mut text =
-        Vec::with_capacity(HEAD + 8 + 12 * delta.pages.len() + BLOCK * delta.blocks.len());
+pub fn encode(delta: &Delta) -> Vec<u8> {
+    let mut text = Vec::with_capacity(
+        HEAD + 8
+            + 12 * delta.pages.len()
+            + BLOCK * delta.blocks.len()
+            + (4 + SECTOR) * delta.sectors.len(),
+    );
     text.resize(HEAD, 0);
     text.extend_from_slice(&(delta.pages.len() as u32).to_le_bytes());
     let mut blocks = delta.blocks.iter();
@@ -119,7 +125,11 @@ fn encode(delta: &Delta) -> Vec<u8> {
             text.extend_from_slice(block);
         }
     }
-    text.extend_from_slice(&0u32.to_le_bytes());
+    text.extend_from_slice(&(delta.sectors.len() as u32).to_le_bytes());
+    for (sector, bytes) in &delta.sectors {
+        text.extend_from_slice(&sector.to_le_bytes());
+        text.extend_from_slice(bytes);
+    }
     text
 }
 

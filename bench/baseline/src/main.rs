@@ -6,15 +6,19 @@
 //! `baseline sim SCRIPT` plays a script of `remus sim` in which nothing fails.
 //! `baseline copy BYTES TIMES` copies so many bytes in memory so often.
 //! `baseline checkpoints PAGES BLOCKS ROUNDS` runs epochs in which so many blocks of so many pages change, and prints their bytes.
+//! `baseline protect PAGES SECTORS WORDS STEPS ZEROS ROUNDS` runs words for so many steps, makes an empty backup and a full checkpoint so
+//! many times, and prints the checkpoint's bytes; ZEROS is `asked` or `written`, which is how the backup's zeros come to be.
 
 mod checkpoints;
 mod csrs;
 mod hart;
 mod pair;
+mod protect;
 mod virtio;
 
 use hart::{Machine, RAM_BASE};
 use pair::Pair;
+use protect::Zeros;
 use std::time::Instant;
 
 const PAGES: usize = 64;
@@ -41,8 +45,23 @@ fn main() {
                 rounds.parse().expect("a number of rounds"),
             )
         ),
+        ["protect", pages, sectors, file, steps, zeros, rounds] => {
+            let number = |text: &str| text.parse::<u64>().expect("a number");
+            let (pages, sectors) = (number(pages) as usize, number(sectors) as usize);
+            let mut machine = Machine::boot(pages, sectors, &words_of(&read(file)));
+            machine.run(number(steps));
+            let zeros = match zeros {
+                "asked" => Zeros::Asked,
+                "written" => Zeros::Written,
+                _ => panic!("asked or written"),
+            };
+            println!("{}", protect::run(&machine, zeros, number(rounds)));
+        }
         _ => {
-            eprintln!("usage: baseline run WORDS STEPS | until WORDS MOST | sim SCRIPT | copy BYTES TIMES | checkpoints PAGES BLOCKS ROUNDS");
+            eprintln!(
+                "usage: baseline run WORDS STEPS | until WORDS MOST | sim SCRIPT | copy BYTES TIMES\n\
+                 | checkpoints PAGES BLOCKS ROUNDS | protect PAGES SECTORS WORDS STEPS ZEROS ROUNDS"
+            );
             std::process::exit(2);
         }
     }
