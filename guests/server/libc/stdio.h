@@ -1,0 +1,1 @@
+/* lwIP includes it, and uses nothing of it here. */

@@ -1,0 +1,40 @@
+/* The options of lwIP that are not its defaults (include/lwip/opt.h and include/lwip/apps/httpd_opts.h of its sources). */
+#ifndef LWIPOPTS_H
+#define LWIPOPTS_H
+
+/* One loop that polls: no threads, no locks, no sockets. */
+#define NO_SYS 1
+#define SYS_LIGHTWEIGHT_PROT 0
+#define LWIP_NETCONN 0
+#define LWIP_SOCKET 0
+
+/* TCP and ICMP over IPv4 and ARP alone. */
+#define LWIP_UDP 0
+#define LWIP_RAW 0
+#define IP_REASSEMBLY 0
+#define IP_FRAG 0
+#define LWIP_STATS 0
+
+/* A word is aligned to 8 bytes here: pointers have as many. */
+#define MEM_ALIGNMENT 8
+#define MEM_SIZE (96 * 1024)
+#define MEMP_NUM_TCP_SEG 64
+#define PBUF_POOL_SIZE 32
+
+/* Whole frames, and sixteen of them on their way. */
+#define TCP_MSS 1460
+#define TCP_WND (8 * TCP_MSS)
+#define TCP_SND_BUF (16 * TCP_MSS)
+#define TCP_SND_QUEUELEN 64
+
+/* The server: every file is opened and read by files.c, its headers are made as it is sent, and a client may ask again on the same
+   connection. */
+#define LWIP_HTTPD_CUSTOM_FILES 1
+#define LWIP_HTTPD_DYNAMIC_FILE_READ 1
+#define LWIP_HTTPD_DYNAMIC_HEADERS 1
+#define LWIP_HTTPD_SUPPORT_11_KEEPALIVE 1
+#define HTTPD_FSDATA_FILE "no_pages.h"
+/* As much as the connection takes is read at once, and not two frames' worth. */
+#define HTTPD_LIMIT_SENDING_TO_2MSS 0
+
+#endif

@@ -1,0 +1,13 @@
+/* The network card, as a network interface of lwIP. */
+#ifndef NETWORK_H
+#define NETWORK_H
+
+#include "lwip/netif.h"
+
+/* For netif_add. */
+err_t network_start(struct netif *netif);
+
+/* Hands the frames that came to the stack. */
+void network_poll(struct netif *netif);
+
+#endif

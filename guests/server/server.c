@@ -1,0 +1,44 @@
+/* A web server at 10.0.0.1: lwIP's TCP/IP stack and its own server (apps/http), over the drivers beside this file. One loop takes in
+   what came and does what is due. */
+#include "disk.h"
+#include "files.h"
+#include "network.h"
+
+#include "lwip/apps/httpd.h"
+#include "lwip/init.h"
+#include "lwip/ip4_addr.h"
+#include "lwip/netif.h"
+#include "lwip/sys.h"
+#include "lwip/timeouts.h"
+#include "netif/ethernet.h"
+
+/* The register that counts the machine's steps. A thousand of them are a millisecond to this server. */
+#define MTIME 0x0200bff8UL
+#define STEPS_A_MILLISECOND 1000
+
+void stop(void) {
+    for (;;)
+        ;
+}
+
+u32_t sys_now(void) { return (u32_t)(*(volatile uint64_t *)MTIME / STEPS_A_MILLISECOND); }
+
+int main(void) {
+    static struct netif netif;
+    ip4_addr_t address, mask, gateway;
+    IP4_ADDR(&address, 10, 0, 0, 1);
+    IP4_ADDR(&mask, 255, 255, 255, 0);
+    ip4_addr_set_zero(&gateway);
+    if (!files_start())
+        stop();
+    lwip_init();
+    if (netif_add(&netif, &address, &mask, &gateway, NULL, network_start, ethernet_input) == NULL)
+        stop();
+    netif_set_default(&netif);
+    netif_set_up(&netif);
+    httpd_init();
+    for (;;) {
+        network_poll(&netif);
+        sys_check_timeouts();
+    }
+}
