@@ -3,7 +3,7 @@
 //!
 //! `baseline run WORDS STEPS` runs the words of a file for so many steps, and prints its registers and the speed.
 //! `baseline until WORDS MOST` runs until the guest jumps to itself, and says after how many steps that is.
-//! `baseline sim SCRIPT` plays a script of `remus sim` in which nothing fails.
+//! `baseline sim SCRIPT` plays a script of `remus sim` whose guest is given as words.
 //! `baseline copy BYTES TIMES` copies so many bytes in memory so often.
 //! `baseline checkpoints PAGES BLOCKS ROUNDS` runs epochs in which so many blocks of so many pages change, and prints their bytes.
 //! `baseline protect PAGES SECTORS WORDS STEPS ZEROS ROUNDS` runs words for so many steps, makes an empty backup and a full checkpoint so

@@ -1,43 +1,93 @@
-//! Plays a script of `remus sim` in which nothing fails, with plain lists in the place of the pair.
+//! Plays a script of `remus sim`, with plain lists in the place of the pair: a checkpoint is a whole copy of the machine, and of the
+//! history only the length is kept. Written from the tables of docs/PROTOCOL.md.
 
 use crate::hart::Machine;
 use std::collections::VecDeque;
 
 const CLIENT_MAC: [u8; 5] = [2, 0, 0, 0, 1];
 const BOX_FRAMES: usize = 64;
-const MOST_PENDING: u64 = 4;
+const MOST_PENDING: usize = 4;
 const STEP_FRAMES: usize = 192;
 
+#[derive(Clone, Copy, PartialEq)]
+enum Mode {
+    Paired,
+    /// A new backup waits for the full checkpoint.
+    Filling,
+    Stopped,
+    Alone,
+}
+
+type Answer = Result<String, &'static str>;
+
+const FULL: &str = "refused 1 Full";
+const BAD_FRAME: &str = "refused 2 BadFrame";
+const NO_CLIENT: &str = "refused 3 NoClient";
+const STOPPED: &str = "refused 4 Stopped";
+const BEHIND: &str = "refused 5 Behind";
+const NOT_PAIRED: &str = "refused 6 NotPaired";
+const ALREADY_PAIRED: &str = "refused 7 AlreadyPaired";
+const NO_IMAGE: &str = "refused 8 NoImage";
+const STALE: &str = "refused 9 Stale";
+const GAP: &str = "refused 10 Gap";
+const CUT_NEEDED: &str = "refused 13 CutNeeded";
+
+/// What an epoch adds to the history when it is committed.
+#[derive(Default)]
+struct Epoch {
+    steps: u64,
+    arrivals: u64,
+}
+
+/// A checkpoint that wasn't acknowledged.
+struct Pending {
+    number: u64,
+    frames: Vec<Vec<u8>>,
+    /// What its commit brings; none where it was committed.
+    rest: Option<(Epoch, Machine)>,
+}
+
+/// The generation and the number of a checkpoint, on a line.
+type Message = (u64, u64);
+
 pub struct Pair {
-    machine: Machine,
-    clients: u64,
+    live: Machine,
+    /// None where there is no backup, or where it waits for the full checkpoint.
+    image: Option<Machine>,
+    mode: Mode,
+    generation: u64,
+    /// The number of the next checkpoint that is cut, and of the next that is committed.
+    to_cut: u64,
+    to_commit: u64,
+    running: Epoch,
+    pending: VecDeque<Pending>,
+    packets: Vec<Message>,
+    answers: Vec<Message>,
     inboxes: Vec<VecDeque<(u64, Vec<u8>)>>,
     boxes: Vec<VecDeque<Vec<u8>>>,
-    numbers: u64,
-    /// The frames of each checkpoint that was cut and not acknowledged, from `to_acknowledge` on.
-    held: VecDeque<Vec<Vec<u8>>>,
-    cut: u64,
-    committed: u64,
-    acknowledged: u64,
-    packets: Vec<u64>,
-    answers: Vec<u64>,
+    delivered: u64,
+    /// How many entries the history has.
+    entries: u64,
 }
 
 impl Pair {
     pub fn boot(pages: usize, sectors: usize, clients: u64, words: &[u32]) -> Pair {
-        let count = clients as usize;
+        let live = Machine::boot(pages, sectors, words);
         Pair {
-            machine: Machine::boot(pages, sectors, words),
-            clients,
-            inboxes: vec![VecDeque::new(); count],
-            boxes: vec![VecDeque::new(); count],
-            numbers: 0,
-            held: VecDeque::new(),
-            cut: 0,
-            committed: 0,
-            acknowledged: 0,
+            image: Some(live.clone()),
+            live,
+            mode: Mode::Paired,
+            generation: 1,
+            to_cut: 1,
+            to_commit: 1,
+            running: Epoch::default(),
+            pending: VecDeque::new(),
             packets: Vec::new(),
             answers: Vec::new(),
+            inboxes: vec![VecDeque::new(); clients as usize],
+            boxes: vec![VecDeque::new(); clients as usize],
+            delivered: 0,
+            entries: 0,
         }
     }
 
@@ -45,130 +95,356 @@ impl Pair {
     pub fn obey(&mut self, line: &str) -> Option<String> {
         let words: Vec<&str> = line.split(' ').collect();
         let number = |i: usize| words.get(i)?.parse::<u64>().ok();
-        Some(match words[0] {
-            "step" => self.step(number(1)?),
-            "deliver" => match self.index(number(1)?) {
-                Some(client) => self.deliver(client, &bytes(words.get(2)?)?),
-                None => "refused 3 NoClient".into(),
-            },
-            "admit" => match self.index(number(1)?) {
-                Some(client) => self.admit(client),
-                None => "refused 3 NoClient".into(),
-            },
-            "take" => match self.index(number(1)?) {
-                Some(client) => match self.boxes[client].pop_front() {
-                    Some(frame) => format!("frame {}", hex(&frame)),
-                    None => "none".into(),
-                },
-                None => "refused 3 NoClient".into(),
-            },
-            "cut" if self.cut - self.acknowledged >= MOST_PENDING => "refused 5 Behind".into(),
-            "cut" => {
-                self.cut += 1;
-                self.held.push_back(std::mem::take(&mut self.machine.sent));
-                format!("cut 1 {}", self.cut)
-            }
-            "send" => {
-                self.packets.extend(self.acknowledged + 1..=self.cut);
-                format!("sent {}", self.cut - self.acknowledged)
-            }
-            "backup" => self.backup(number(1)?),
-            "ack" => self.acknowledge(number(1)?),
-            "sector" => {
-                let sector = number(1)? as usize;
-                let bytes = self
-                    .machine
-                    .disk
-                    .bytes()?
-                    .get(512 * sector..512 * sector + 512)?;
-                format!("sector {sector} {}", hex(bytes))
-            }
+        let answer = match (words[0], words.get(1).copied()) {
+            ("step", _) => self.step(number(1)?),
+            ("cut", None) => self.cut(),
+            ("send", None) => self.send(),
+            ("backup", _) => self.backup(number(1)?),
+            ("ack", _) => self.acknowledge(number(1)?),
+            ("deliver", _) => self.deliver(number(1)?, bytes(words.get(2)?)?),
+            ("admit", _) => self.admit(number(1)?),
+            ("take", _) => self.take(number(1)?),
+            ("losein", _) => self.lose_in(number(1)?, number(2)?),
+            ("loseout", _) => self.lose_out(number(1)?, number(2)?),
+            ("fail", Some("primary")) => self.fail_primary(),
+            ("fail", Some("backup")) => self.fail_backup(),
+            ("golive", None) => self.go_live(),
+            ("protect", None) => self.protect(),
+            ("show", None) => Ok(self.show()),
+            ("sector", _) => Ok(self.sector(number(1)?)?),
             _ => return None,
-        })
-    }
-
-    fn index(&self, client: u64) -> Option<usize> {
-        (1..=self.clients)
-            .contains(&client)
-            .then(|| client as usize - 1)
-    }
-
-    fn step(&mut self, count: u64) -> String {
-        for _ in 0..count {
-            if self.machine.sent.len() > STEP_FRAMES {
-                return "refused 13 CutNeeded".into();
-            }
-            self.machine.run(1);
-        }
-        format!("steps {}", self.machine.steps)
-    }
-
-    fn deliver(&mut self, client: usize, frame: &[u8]) -> String {
-        if !(14..=1514).contains(&frame.len()) {
-            return "refused 2 BadFrame".into();
-        }
-        if self.inboxes[client].len() >= BOX_FRAMES {
-            return "refused 1 Full".into();
-        }
-        self.numbers += 1;
-        self.inboxes[client].push_back((self.numbers, frame.to_vec()));
-        format!("delivered {}", self.numbers)
-    }
-
-    fn admit(&mut self, client: usize) -> String {
-        match self.inboxes[client].pop_front() {
-            Some((number, frame)) => {
-                self.machine.net.arrive(&mut self.machine.ram, &frame);
-                format!("admitted {number}")
-            }
-            None => "empty".into(),
-        }
-    }
-
-    fn backup(&mut self, packet: u64) -> String {
-        let Some(number) = self.packets.get(packet as usize).copied() else {
-            return "lost".into();
         };
-        if number > self.committed + 1 {
-            return "refused 10 Gap".into();
+        Some(answer.unwrap_or_else(str::to_string))
+    }
+
+    fn index(&self, client: u64) -> Result<usize, &'static str> {
+        let is_there = (1..=self.boxes.len() as u64).contains(&client);
+        is_there.then(|| client as usize - 1).ok_or(NO_CLIENT)
+    }
+
+    fn need_live(&self) -> Result<(), &'static str> {
+        if self.mode == Mode::Stopped {
+            return Err(STOPPED);
         }
-        let word = if number == self.committed + 1 {
+        Ok(())
+    }
+
+    fn need_pair(&self) -> Result<(), &'static str> {
+        if self.mode == Mode::Alone {
+            return Err(NOT_PAIRED);
+        }
+        Ok(())
+    }
+
+    fn step(&mut self, count: u64) -> Answer {
+        self.need_live()?;
+        for _ in 0..count {
+            if self.live.sent.len() > STEP_FRAMES {
+                return Err(CUT_NEEDED);
+            }
+            self.live.run(1);
+            if self.mode == Mode::Alone {
+                self.entries += 1;
+                if !self.live.sent.is_empty() {
+                    let frames = std::mem::take(&mut self.live.sent);
+                    self.land(frames);
+                }
+            } else {
+                self.running.steps += 1;
+            }
+        }
+        Ok(format!("steps {}", self.live.steps))
+    }
+
+    fn cut(&mut self) -> Answer {
+        self.need_live()?;
+        self.need_pair()?;
+        if self.pending.len() >= MOST_PENDING {
+            return Err(BEHIND);
+        }
+        let number = self.to_cut;
+        self.to_cut += 1;
+        self.seal(number);
+        Ok(format!("cut {} {number}", self.generation))
+    }
+
+    /// Ends the running epoch: its checkpoint is pending under that number.
+    fn seal(&mut self, number: u64) {
+        let frames = std::mem::take(&mut self.live.sent);
+        let epoch = std::mem::take(&mut self.running);
+        self.pending.push_back(Pending {
+            number,
+            frames,
+            rest: Some((epoch, self.live.clone())),
+        });
+    }
+
+    fn send(&mut self) -> Answer {
+        self.need_live()?;
+        self.need_pair()?;
+        let numbers = self
+            .pending
+            .iter()
+            .map(|pending| (self.generation, pending.number));
+        self.packets.extend(numbers);
+        Ok(format!("sent {}", self.pending.len()))
+    }
+
+    fn backup(&mut self, packet: u64) -> Answer {
+        self.need_pair()?;
+        let Some((generation, number)) = message(&self.packets, packet) else {
+            return Ok("lost".into());
+        };
+        if generation != self.generation {
+            return Err(STALE);
+        }
+        if number > self.to_commit {
+            return Err(GAP);
+        }
+        let word = if number == self.to_commit {
+            self.commit();
             "committed"
         } else {
             "again"
         };
-        self.committed = self.committed.max(number);
-        self.answers.push(self.committed);
-        format!("{word} 1 {}", self.committed)
+        let last = self.to_commit - 1;
+        self.answers.push((self.generation, last));
+        Ok(format!("{word} {} {last}", self.generation))
     }
 
-    fn acknowledge(&mut self, answer: u64) -> String {
-        let Some(number) = self.answers.get(answer as usize).copied() else {
-            return "lost".into();
+    fn commit(&mut self) {
+        let wanted = self.to_commit;
+        let mut waiting = self
+            .pending
+            .iter_mut()
+            .filter(|pending| pending.number == wanted);
+        let (epoch, machine) = waiting
+            .next()
+            .and_then(|pending| pending.rest.take())
+            .expect("what isn't committed is pending");
+        self.entries += epoch.steps + epoch.arrivals;
+        self.image = Some(machine);
+        self.to_commit += 1;
+        if self.mode == Mode::Filling {
+            self.mode = Mode::Paired;
+        }
+    }
+
+    fn acknowledge(&mut self, answer: u64) -> Answer {
+        self.need_live()?;
+        self.need_pair()?;
+        let Some((generation, number)) = message(&self.answers, answer) else {
+            return Ok("lost".into());
         };
+        if generation != self.generation {
+            return Err(STALE);
+        }
         let mut landed = 0;
-        while self.acknowledged < number {
-            self.acknowledged += 1;
-            for frame in self.held.pop_front().unwrap_or_default() {
-                for client in targets(&frame, self.clients) {
-                    if self.boxes[client].len() < BOX_FRAMES {
-                        self.boxes[client].push_back(frame.clone());
-                        landed += 1;
-                    }
+        while self
+            .pending
+            .front()
+            .is_some_and(|first| first.number <= number)
+        {
+            let frames = self.pending.pop_front().map(|first| first.frames);
+            landed += self.land(frames.unwrap_or_default());
+        }
+        Ok(format!("acked {generation} {number} landed {landed}"))
+    }
+
+    /// Puts frames into the boxes of their clients. Answers how often.
+    fn land(&mut self, frames: Vec<Vec<u8>>) -> u64 {
+        let mut landed = 0;
+        for frame in frames {
+            for client in targets(&frame, self.boxes.len()) {
+                // A frame for a full box is dropped, which is an entry too.
+                self.entries += 1;
+                if self.boxes[client].len() < BOX_FRAMES {
+                    self.boxes[client].push_back(frame.clone());
+                    landed += 1;
                 }
             }
         }
-        format!("acked 1 {number} landed {landed}")
+        landed
+    }
+
+    fn deliver(&mut self, client: u64, frame: Vec<u8>) -> Answer {
+        let client = self.index(client)?;
+        if !(14..=1514).contains(&frame.len()) {
+            return Err(BAD_FRAME);
+        }
+        self.entries += 1;
+        if self.inboxes[client].len() >= BOX_FRAMES {
+            return Err(FULL);
+        }
+        self.delivered += 1;
+        self.inboxes[client].push_back((self.delivered, frame));
+        Ok(format!("delivered {}", self.delivered))
+    }
+
+    fn admit(&mut self, client: u64) -> Answer {
+        let client = self.index(client)?;
+        self.need_live()?;
+        let Some((number, frame)) = self.inboxes[client].pop_front() else {
+            return Ok("empty".into());
+        };
+        self.live.net.arrive(&mut self.live.ram, &frame);
+        if self.mode == Mode::Alone {
+            self.entries += 1;
+        } else {
+            self.running.arrivals += 1;
+        }
+        Ok(format!("admitted {number}"))
+    }
+
+    fn take(&mut self, client: u64) -> Answer {
+        let client = self.index(client)?;
+        self.entries += 1;
+        Ok(match self.boxes[client].pop_front() {
+            Some(frame) => format!("frame {}", hex(&frame)),
+            None => "none".into(),
+        })
+    }
+
+    fn lose_in(&mut self, client: u64, place: u64) -> Answer {
+        let client = self.index(client)?;
+        let dropped = remove(&mut self.inboxes[client], place);
+        Ok(self.dropped(dropped))
+    }
+
+    fn lose_out(&mut self, client: u64, place: u64) -> Answer {
+        let client = self.index(client)?;
+        let dropped = remove(&mut self.boxes[client], place);
+        Ok(self.dropped(dropped))
+    }
+
+    fn dropped(&mut self, is_dropped: bool) -> String {
+        self.entries += u64::from(is_dropped);
+        if is_dropped { "dropped" } else { "empty" }.into()
+    }
+
+    fn fail_primary(&mut self) -> Answer {
+        self.need_live()?;
+        if self.mode != Mode::Paired {
+            return Err(NO_IMAGE);
+        }
+        self.mode = Mode::Stopped;
+        Ok("stopped primary".into())
+    }
+
+    fn fail_backup(&mut self) -> Answer {
+        self.need_live()?;
+        self.need_pair()?;
+        let running = std::mem::take(&mut self.running);
+        self.entries += running.steps + running.arrivals;
+        let mut frames = Vec::new();
+        for pending in std::mem::take(&mut self.pending) {
+            if let Some((epoch, _)) = pending.rest {
+                self.entries += epoch.steps + epoch.arrivals;
+            }
+            frames.extend(pending.frames);
+        }
+        frames.append(&mut self.live.sent);
+        let landed = self.land(frames);
+        self.be_alone();
+        Ok(format!("alone {} landed {landed}", self.generation))
+    }
+
+    fn go_live(&mut self) -> Answer {
+        match self.mode {
+            Mode::Alone => return Err(NOT_PAIRED),
+            Mode::Paired | Mode::Filling => return Err(ALREADY_PAIRED),
+            Mode::Stopped => {}
+        }
+        // Each frame that was taken in by an epoch that isn't committed is dropped, and each that was committed and hasn't landed.
+        let mut dropped = self.running.arrivals;
+        for pending in &self.pending {
+            dropped += match &pending.rest {
+                Some((epoch, _)) => epoch.arrivals,
+                None => pending
+                    .frames
+                    .iter()
+                    .map(|frame| targets(frame, self.boxes.len()).len() as u64)
+                    .sum(),
+            };
+        }
+        self.entries += dropped;
+        self.live = self.image.take().expect("a stopped pair has an image");
+        self.generation += 1;
+        self.be_alone();
+        Ok(format!(
+            "live {} steps {}",
+            self.generation, self.live.steps
+        ))
+    }
+
+    fn be_alone(&mut self) {
+        self.mode = Mode::Alone;
+        self.image = None;
+        self.pending.clear();
+        self.running = Epoch::default();
+    }
+
+    fn protect(&mut self) -> Answer {
+        self.need_live()?;
+        if self.mode != Mode::Alone {
+            return Err(ALREADY_PAIRED);
+        }
+        self.mode = Mode::Filling;
+        self.generation += 1;
+        self.to_commit = 0;
+        self.to_cut = 1;
+        self.seal(0);
+        Ok(format!("protecting {}", self.generation))
+    }
+
+    /// The guest that an operator sees.
+    fn shown(&self) -> &Machine {
+        match &self.image {
+            Some(image) if self.mode == Mode::Stopped => image,
+            _ => &self.live,
+        }
+    }
+
+    fn show(&self) -> String {
+        let mode = match self.mode {
+            Mode::Paired => "paired",
+            Mode::Filling => "filling",
+            Mode::Stopped => "stopped",
+            Mode::Alone => "alone",
+        };
+        format!(
+            "mode {mode} generation {} pending {} steps {} entries {}",
+            self.generation,
+            self.pending.len(),
+            self.shown().steps,
+            self.entries
+        )
+    }
+
+    /// `None`: the disk doesn't have it.
+    fn sector(&self, sector: u64) -> Option<String> {
+        let disk = self.shown().disk.bytes()?;
+        let bytes = disk.chunks_exact(512).nth(sector as usize)?;
+        Some(format!("sector {sector} {}", hex(bytes)))
     }
 }
 
+fn message(line: &[Message], place: u64) -> Option<Message> {
+    line.get(place as usize).copied()
+}
+
+/// Removes what stands at a place. Answers whether there was something.
+fn remove<T>(queue: &mut VecDeque<T>, place: u64) -> bool {
+    queue.remove(place as usize).is_some()
+}
+
 /// The clients to whom a frame goes: the one of its destination, or all of them by broadcast.
-fn targets(frame: &[u8], clients: u64) -> std::ops::Range<usize> {
+fn targets(frame: &[u8], clients: usize) -> std::ops::Range<usize> {
     if frame[..6] == [0xff; 6] {
-        return 0..clients as usize;
+        return 0..clients;
     }
     let last = usize::from(frame[5]);
-    if frame[..5] == CLIENT_MAC && (1..=clients as usize).contains(&last) {
+    if frame[..5] == CLIENT_MAC && (1..=clients).contains(&last) {
         last - 1..last
     } else {
         0..0
@@ -182,5 +458,12 @@ fn bytes(digits: &str) -> Option<Vec<u8>> {
 }
 
 fn hex(bytes: &[u8]) -> String {
-    bytes.iter().map(|byte| format!("{byte:02x}")).collect()
+    const DIGITS: &[u8; 16] = b"0123456789abcdef";
+    let digits = bytes.iter().flat_map(|byte| {
+        [
+            DIGITS[usize::from(byte >> 4)],
+            DIGITS[usize::from(byte & 15)],
+        ]
+    });
+    digits.map(char::from).collect()
 }

@@ -18,6 +18,7 @@ const SHORTEST: usize = 14;
 const LONGEST: usize = 1514;
 const MOST: u16 = 64;
 
+#[derive(Clone)]
 pub enum Kind {
     Network,
     /// The bytes of the disk.
@@ -35,6 +36,7 @@ struct Queue {
     used: u16,
 }
 
+#[derive(Clone)]
 pub struct Device {
     pub kind: Kind,
     status: u32,
