@@ -41,7 +41,7 @@ sources="$sources lwip/src/netif/ethernet.c lwip/src/apps/http/httpd.c lwip/src/
 
 # The paths are the same in every folder, so that the words are; lwIP's files warn of nothing under -Wall alone.
 # shellcheck disable=SC2086
-riscv64-unknown-elf-gcc -march=rv64im_zicsr -mabi=lp64 -mcmodel=medany -mno-relax -mstrict-align -Os -std=c11 -Wall \
+riscv64-unknown-elf-gcc -march=rv64im_zicsr -mabi=lp64 -mcmodel=medany -mno-relax -mstrict-align -O2 -std=c11 -Wall \
     -ffreestanding -nostdlib -static -fno-builtin -fno-tree-loop-distribute-patterns -fno-pic -fno-asynchronous-unwind-tables \
     -ffunction-sections -fdata-sections -Wl,--gc-sections -Wl,--build-id=none -Wl,--no-warn-rwx-segments \
     -Iserver -Iserver/libc -Ilwip/src/include -T server/server.ld -o server.elf start.s $sources

@@ -21,6 +21,9 @@
 #define MEMP_NUM_TCP_SEG 64
 #define PBUF_POOL_SIZE 32
 
+/* The checksum that adds four bytes at a time. */
+#define LWIP_CHKSUM_ALGORITHM 3
+
 /* Whole frames, and sixteen of them on their way. */
 #define TCP_MSS 1460
 #define TCP_WND (8 * TCP_MSS)

@@ -6,17 +6,33 @@
 /* Eight bytes, wherever the code may read or write them as one. */
 typedef uint64_t __attribute__((may_alias)) word;
 
+/* Copies whole words to an aligned place. The machine traps where an access isn't aligned, so the words of a source that isn't are put
+   together from the two aligned ones that each lies in. */
+static void copy_words(word *to, const unsigned char *from, size_t words) {
+    unsigned shift = 8 * ((uintptr_t)from & 7);
+    const word *source = (const word *)((uintptr_t)from & ~(uintptr_t)7);
+    if (shift == 0) {
+        while (words--)
+            *to++ = *source++;
+        return;
+    }
+    uint64_t low = *source++ >> shift;
+    while (words--) {
+        uint64_t next = *source++;
+        *to++ = low | next << (64 - shift);
+        low = next >> shift;
+    }
+}
+
 void *memcpy(void *to, const void *from, size_t count) {
     unsigned char *target = to;
     const unsigned char *source = from;
-    /* A machine that traps where an access isn't aligned copies words only between places that are aligned alike. */
-    if ((((uintptr_t)target ^ (uintptr_t)source) & 7) == 0) {
-        for (; count && ((uintptr_t)target & 7); count--)
-            *target++ = *source++;
-        for (; count >= 8; count -= 8, target += 8, source += 8)
-            *(word *)target = *(const word *)source;
-    }
-    for (; count; count--)
+    for (; count && ((uintptr_t)target & 7); count--)
+        *target++ = *source++;
+    copy_words((word *)target, source, count / 8);
+    target += count & ~(size_t)7;
+    source += count & ~(size_t)7;
+    for (count &= 7; count; count--)
         *target++ = *source++;
     return to;
 }
