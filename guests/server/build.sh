@@ -1,6 +1,7 @@
 #!/usr/bin/env bash
 # Makes ../words/server.words anew: fetches Debian's source package of lwIP, builds it with the sources beside this script, and writes
-# the image as words. Nothing of lwIP is kept here. It needs, on Debian: apt-get install gcc-riscv64-unknown-elf curl patch xz-utils.
+# the image as words. Nothing of lwIP is kept here. It needs, on Debian:
+# apt-get install gcc-riscv64-unknown-elf ca-certificates curl patch xz-utils.
 # The committed words are those of gcc 12.2.0 and binutils 2.40.
 #
 # DEBIAN names another mirror, for when Debian no longer has this version: DEBIAN=https://archive.debian.org/debian, say.
