@@ -1,14 +1,14 @@
 #!/usr/bin/env bash
 # Makes ../words/server.words anew: fetches Debian's source package of lwIP, builds it with the sources beside this script, and writes
-# the image as words. Nothing of lwIP is kept here. It needs, on Debian:
-# apt-get install gcc-riscv64-unknown-elf ca-certificates curl patch xz-utils.
+# the image as words. Nothing of lwIP is kept here. It needs, on Debian: apt-get install gcc-riscv64-unknown-elf curl patch xz-utils.
 # The committed words are those of gcc 12.2.0 and binutils 2.40.
 #
-# DEBIAN names another mirror, for when Debian no longer has this version: DEBIAN=https://archive.debian.org/debian, say.
+# DEBIAN names another mirror, for when Debian no longer has this version: DEBIAN=http://archive.debian.org/debian, say.
 # LISTING names a folder for the program as it was linked, and its listing.
 set -eu
 here=$(dirname "$(readlink -f "$0")")
-mirror=${DEBIAN:-https://deb.debian.org/debian}
+# Without TLS, as apt does: what came is known by its hash.
+mirror=${DEBIAN:-http://deb.debian.org/debian}
 version=2.1.3+dfsg1
 revision=2
 room=$(mktemp -d)
