@@ -407,8 +407,7 @@ impl Pair {
 
     fn show(&self) -> String {
         let mode = match self.mode {
-            Mode::Paired => "paired",
-            Mode::Filling => "filling",
+            Mode::Paired | Mode::Filling => "paired",
             Mode::Stopped => "stopped",
             Mode::Alone => "alone",
         };
