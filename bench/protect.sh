@@ -1,21 +1,23 @@
 #!/usr/bin/env bash
-# What it takes that a node gets a new backup: the line `protect` in a machine of 4096 pages, of which none, 16 or all aren't zero, and
-# on a disk of which no sector or every one is written, beside the same in plain Rust (bench/baseline): an empty machine is made, all is
-# compared with zeros, and what isn't zero is copied and encoded. Each line has plain Rust's time where it asks the allocator for the
-# zeros of the empty machine, and where it writes them. Processor time, the best of TIMES (3 if left out) runs each, in turn; a run
-# without a `protect` is taken off. The backup fails after each, so that the next one can come: that is in the time of both.
+# What it takes that a node gets a new backup, in a machine of 4096 pages, of which none, 16 or all aren't zero, and on a disk of which no
+# sector or every one is written, beside the same in plain Rust (bench/baseline). First the full checkpoint, as bench/epochs cuts and encodes
+# it: all is compared with zeros, and what isn't zero is copied and encoded. Then the whole line `protect`, which makes the new backup's empty
+# machine besides; plain Rust writes as many zeros. There both take all large memory anew from the system (MALLOC_MMAP_THRESHOLD_), and
+# the backup fails after each, so that the next one can come. Processor time, the best of TIMES (3 if left out) runs each, in turn; a run of
+# no rounds is taken off.
 #
-# Then the bytes of those checkpoints, as bench/epochs cuts and encodes them: 532, for each page that isn't zero 12 and 64 for each of its
-# blocks that isn't, for each such sector 516, and for the others none. REMUS names another program to measure in the place of the
-# repository's own, and EPOCHS another build of bench/epochs; `EPOCHS=` leaves the bytes out.
+# Beside each stands how many bytes the checkpoint has: 532, for each page that isn't zero 12 and 64 for each of its blocks that isn't, for
+# each such sector 516, and for the others none. REMUS names another program to measure in the place of the repository's own, and EPOCHS
+# another build of bench/epochs.
 set -eu
 cd "$(dirname "$0")/.."
 program=${REMUS:-crates/remus/out/remus}
-epochs=${EPOCHS-$(bench/epochs/build.sh)}
+epochs=${EPOCHS:-$(bench/epochs/build.sh)}
 # Built before the clock starts.
 [ -n "${REMUS:-}" ] || ./remus sim /dev/null
 (cd bench/baseline && cargo build --release --quiet)
 exec python3 - "$program" "$epochs" "${1:-3}" <<'PYTHON'
+import os
 import resource
 import struct
 import subprocess
@@ -55,10 +57,11 @@ def nothing():
     return [0], 1
 
 
-def spent(command):
-    """The processor time of a command, and what it prints."""
+def spent(command, fresh):
+    """The processor time of a command, and what it prints; where large memory always comes anew from the system, or as the C library likes."""
+    environment = os.environ | ({"MALLOC_MMAP_THRESHOLD_": "131072"} if fresh else {})
     before = resource.getrusage(resource.RUSAGE_CHILDREN)
-    printed = subprocess.run(command, check=True, capture_output=True, text=True).stdout
+    printed = subprocess.run(command, check=True, capture_output=True, text=True, env=environment).stdout
     after = resource.getrusage(resource.RUSAGE_CHILDREN)
     return after.ru_utime + after.ru_stime - before.ru_utime - before.ru_stime, printed
 
@@ -78,10 +81,8 @@ def plain(folder, steps, sectors, zeros, rounds):
     return [BASELINE, "protect", str(PAGES), str(sectors), f"{folder}/words", str(steps), zeros, str(rounds)]
 
 
-def size_of_full(folder, words, steps, sectors):
+def size_of_full(image, steps, sectors):
     """The bytes of the full checkpoint among those that bench/epochs cuts of a guest, and how many pages and sectors stand there."""
-    image = Path(folder) / "image"
-    image.write_bytes(struct.pack(f"<{len(words)}I", *words))
     command = [EPOCHS, "cuts", str(image), str(PAGES), str(sectors), str(steps)]
     units = Units(subprocess.run(command, check=True, capture_output=True).stdout)
     while True:
@@ -91,31 +92,41 @@ def size_of_full(folder, words, steps, sectors):
             return units.at - start, len(found.page_records), len(found.sector_records)
 
 
+def best_of(commands, rounds, fresh):
+    """The least time of a round of each of these commands, which take the number of rounds."""
+    best = {}
+    for _ in range(TIMES):
+        for what, command in commands.items():
+            for count in (0, rounds):
+                seconds, printed = spent(command(count), fresh)
+                if what == "line" and not has_protected(printed, count):
+                    sys.exit(printed[-200:])
+                best[what, count] = min(seconds, best.get((what, count), seconds))
+    return {what: (best[what, rounds] - best[what, 0]) / rounds for what in commands}
+
+
 def measure(name, guest, sectors):
     words, steps = guest
     with tempfile.TemporaryDirectory() as folder:
         (Path(folder) / "words").write_text(" ".join(f"{word:08x}" for word in words))
-        size = int(spent(plain(folder, steps, sectors, "asked", 0))[1])
+        image = Path(folder) / "image"
+        image.write_bytes(struct.pack(f"<{len(words)}I", *words))
+        size, pages, used = size_of_full(image, steps, sectors)
+        if int(spent(plain(folder, steps, sectors, "unmade", 0), False)[1]) != size:
+            sys.exit(f"{name}: plain Rust has other than {size} bytes")
         rounds = max(8, min(ROUNDS, BYTES // size))
-        commands = {"proved": lambda n: script(folder, words, steps, sectors, n)}
-        commands |= {zeros: lambda n, zeros=zeros: plain(folder, steps, sectors, zeros, n) for zeros in ("asked", "written")}
-        best = {}
-        for _ in range(TIMES):
-            for what, command in commands.items():
-                for count in (0, rounds):
-                    seconds, printed = spent(command(count))
-                    if what == "proved" and not has_protected(printed, count):
-                        sys.exit(f"{name}: {printed[-200:]}")
-                    best[what, count] = min(seconds, best.get((what, count), seconds))
-        each = {what: (best[what, rounds] - best[what, 0]) / rounds for what in commands}
-        print(f"{name:52} {each['proved'] * 1e3:7.2f} ms; plain Rust {each['asked'] * 1e3:7.2f} ms, ratio "
-              f"{each['proved'] / each['asked']:.2f}, with zeros written {each['written'] * 1e3:7.2f} ms, ratio "
-              f"{each['proved'] / each['written']:.2f}", flush=True)
-        if EPOCHS:
-            real, pages, used = size_of_full(folder, words, steps, sectors)
-            print(f"    {real} bytes: {pages} pages, {used} sectors", flush=True)
-            if real != size:
-                sys.exit(f"{name}: plain Rust has {size} bytes")
+        cut = best_of({
+            "proved": lambda n: [EPOCHS, "full", str(image), str(PAGES), str(sectors), str(steps), str(n)],
+            "plain": lambda n: plain(folder, steps, sectors, "unmade", n),
+        }, rounds, False)
+        whole = best_of({
+            "line": lambda n: script(folder, words, steps, sectors, n),
+            "plain": lambda n: plain(folder, steps, sectors, "written", n),
+        }, rounds, True)
+        print(f"{name}: {size} bytes, {pages} pages, {used} sectors\n"
+              f"    its checkpoint  {cut['proved'] * 1e3:7.2f} ms, plain Rust {cut['plain'] * 1e3:7.2f} ms, ratio {cut['proved'] / cut['plain']:.2f}\n"
+              f"    the whole line  {whole['line'] * 1e3:7.2f} ms, plain Rust {whole['plain'] * 1e3:7.2f} ms, ratio {whole['line'] / whole['plain']:.2f}",
+              flush=True)
 
 
 FEW, MANY = 64, 32768

@@ -7,7 +7,8 @@
 //! `baseline copy BYTES TIMES` copies so many bytes in memory so often.
 //! `baseline checkpoints PAGES BLOCKS ROUNDS` runs epochs in which so many blocks of so many pages change, and prints their bytes.
 //! `baseline protect PAGES SECTORS WORDS STEPS ZEROS ROUNDS` runs words for so many steps, makes an empty backup and a full checkpoint so
-//! many times, and prints the checkpoint's bytes; ZEROS is `asked` or `written`, which is how the backup's zeros come to be.
+//! many times, and prints the checkpoint's bytes; ZEROS is `asked` or `written`, which is how the backup's zeros come to be, or `unmade`,
+//! where no empty backup is made.
 
 mod checkpoints;
 mod csrs;
@@ -53,7 +54,8 @@ fn main() {
             let zeros = match zeros {
                 "asked" => Zeros::Asked,
                 "written" => Zeros::Written,
-                _ => panic!("asked or written"),
+                "unmade" => Zeros::Unmade,
+                _ => panic!("asked, written or unmade"),
             };
             println!("{}", protect::run(&machine, zeros, number(rounds)));
         }

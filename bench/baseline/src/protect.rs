@@ -13,6 +13,8 @@ pub enum Zeros {
     Asked,
     /// They are written.
     Written,
+    /// No empty machine is made.
+    Unmade,
 }
 
 /// Protects the machine so many times. Answers how many bytes one checkpoint had.
@@ -31,6 +33,7 @@ pub fn run(machine: &Machine, zeros: Zeros, rounds: u64) -> usize {
 /// An empty machine: its memory, what that was at the last settle, and its disk.
 fn empty(memory: usize, disk: usize, zeros: Zeros) -> [Vec<u8>; 3] {
     [memory, memory, disk].map(|count| match zeros {
+        Zeros::Unmade => Vec::new(),
         Zeros::Asked => vec![0; count],
         Zeros::Written => {
             let mut bytes = black_box(Vec::with_capacity(count));
