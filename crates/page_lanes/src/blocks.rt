@@ -49,6 +49,7 @@ pub(crate) fn bytes_differing(a: &Block, b: &Block) -> usize
 }
 
 /// Whether every byte of the block is 0.
+#[inline(always)]
 pub(crate) fn is_zero_block(block: &Block) -> bool
     ensures { IsTrue result ↔ All (λ b. b ≡ 0) block.now }
 {

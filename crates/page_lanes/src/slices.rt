@@ -33,6 +33,7 @@ pub fn equal(a: &[u8], b: &[u8]) -> bool
 }
 
 /// Whether every byte is 0.
+#[inline]
 pub fn is_zero(bytes: &[u8]) -> bool
     ensures { IsTrue result ↔ All (λ b. b ≡ 0) bytes.now }
 {
