@@ -1,14 +1,13 @@
 -- Blocks put into memory, one after another.
-use Rattle.std.proofs.Common.{◌≡◌, ℕ, suc, ◌+◌, ◌-◌, ◌*◌, ◌/◌, ◌<◌, ◌≤◌, ◌==◌, Bool, true, cond, List, [], ◌∷◌, ◌++◌, length, take}
-use Rattle.std.proofs.Common.{drop, replicate, get_or, refl, sym, ap, ◌∙◌, arith, add-one, length-append}
+use Rattle.std.proofs.Common.{◌≡◌, ℕ, suc, ◌+◌, ◌-◌, ◌*◌, ◌<◌, ◌≤◌, ◌==◌, cond, List, [], ◌∷◌, ◌++◌, length, take}
+use Rattle.std.proofs.Common.{drop, get_or, refl, sym, ap, ◌∙◌, arith, add-one, length-append}
 use Rattle.std.specs.Int.{bit_at}
 use Rattle.std.specs.List.{range_with_len, filter}
 use Rattle.std.proofs.Math.Seq.{drop-cons}
 use Rattle.std.proofs.lemmas.Bool.{eq-eqb, ne_eqb}
-use Rattle.std.proofs.lemmas.List.{length-take-le, length-drop, length-replicate}
+use Rattle.std.proofs.lemmas.List.{length-take-le, length-drop}
 use Rattle.guest_machine.specs.Bytes.{with_bytes, with_xored}
 use Rattle.guest_machine.specs.Blocks.{block_place}
-use Rattle.guest_machine.specs.Pages.{flagged, marked}
 use Rattle.epoch_snapshot.specs.Blocks.{xored}
 
 pub next : {X : Type 0} (xs : List X) (i : ℕ) (d : X) → i < length xs → drop i xs ≡ get_or xs i d ∷ drop (i + 1) xs
@@ -71,23 +70,3 @@ length-with_xored ram block page i whole below within =
     let new : length (xored (take 64 (drop at ram)) block) ≡ length (take 64 (drop at ram))
     = length-xored (take 64 (drop at ram)) block part in
     length-with_bytes ram (xored (take 64 (drop at ram)) block) at (omega arith)
-
--- a flag is set in place
-length-flag : (flags : List Bool) (page : ℕ) → page < length flags → length (flagged flags page (page + 1)) ≡ length flags
-length-flag flags page within =
-    let front : length (take page flags) ≡ page = length-take-le page flags (omega arith) in
-    omega (
-      arith,
-      front,
-      length-append (take page flags) (replicate ((page + 1) - page) true ++ drop (page + 1) flags),
-      length-append (replicate ((page + 1) - page) true) (drop (page + 1) flags),
-      length-replicate ((page + 1) - page) true,
-      length-drop (page + 1) flags,
-    )
-
-pub length-marked : (flags : List Bool) (page i : ℕ) → i < 64 → page < length flags →
-    length (marked flags (block_place page i) 64) ≡ length flags
-length-marked flags page i below within =
-    let from : block_place page i / 4096 ≡ page = omega arith in
-    let end : (block_place page i + 64 - 1) / 4096 + 1 ≡ page + 1 = omega arith in
-    (λ k. length (flagged flags (from k) (end k))) ∙ length-flag flags page within

@@ -7,7 +7,6 @@ use Rattle.std.proofs.lemmas.List.{drop_all, length-map}
 use Rattle.guest_machine.specs.Guest.{Guest, State}
 use Rattle.guest_machine.specs.Bytes.{with_bytes, with_xored}
 use Rattle.guest_machine.specs.Blocks.{block_place, with_block, with_sector}
-use Rattle.guest_machine.specs.Pages.{marked}
 use Rattle.guest_machine.specs.MachineStates.{with_state}
 use Rattle.guest_machine.specs.declared.machine_state.MachineState.{MachineState}
 use Rattle.epoch_snapshot.specs.declared.changes.PageChange.{PageChange}
@@ -17,14 +16,14 @@ use Rattle.epoch_snapshot.specs.Checkpoints.{Change, block_count}
 use Rattle.epoch_snapshot.specs.Images.{base_ram, base_sectors, image_of, with_blocks, with_sectors}
 use Rattle.backup_image.specs.Images.{settled_machine}
 use Rattle.backup_image.proofs.BlockLemmas.{next, from_block, from_block-set, from_block-clear, from_block-end, same_place}
-use Rattle.backup_image.proofs.BlockLemmas.{length-with_xored, length-marked}
+use Rattle.backup_image.proofs.BlockLemmas.{length-with_xored}
 use Rattle.backup_image.proofs.MaskLemmas.{blocks-append, block_count-drop}
 
 -- a machine whose memory only is another than at first
 pub record SameButMemory (first m : State) : Type 0 where
   pub guest : m.guest ≡ record first.guest { ram = m.guest.ram }
   pub size : length m.guest.ram ≡ length first.guest.ram
-  pub flags : length m.written ≡ length first.written
+  pub flags : m.written ≡ first.written
 
 -- a machine's guest with other memory, of another of the kind
 with_ram-again : (first g new : Guest) (ram : List ℕ) → g ≡ record first { ram = g.ram } → new ≡ record g { ram = ram } →
@@ -64,7 +63,10 @@ pub page-put : (first m put : State) (page mask i at then : ℕ) (blocks : List 
     PutsPage first page mask blocks i m at →
     i < 64 → bit_at mask i ≡ 1 → length (get_or blocks at d) ≡ 64 → page + 1 ≤ length first.written →
     length first.guest.ram ≡ 4096 * length first.written →
-    put ≡ record m { guest = with_block m.guest page i (get_or blocks at d); written = marked m.written (block_place page i) 64 } →
+    put ≡ record m {
+      guest = with_block m.guest page i (get_or blocks at d);
+      settled = (with_block m.guest page i (get_or blocks at d)).ram;
+    } →
     then ≡ at + 1 →
     PutsPage first page mask blocks (i + 1) put then
 unfolding with_blocks
@@ -75,8 +77,7 @@ page-put first m put page mask i at then blocks d so_far below set long inside w
     let b = get_or blocks at d in
     let guest : put.guest ≡ with_block m.guest page i b = ap (λ (s : State). s.guest) is in
     let ram : put.guest.ram ≡ with_xored m.guest.ram (block_place page i) b = ap (λ (g : Guest). g.ram) guest in
-    let written : length put.written ≡ length m.written
-    = ap (λ (s : State). length s.written) is ∙ length-marked m.written page i below (omega (arith, so_far.same.flags)) in
+    let written : put.written ≡ m.written = ap (λ (s : State). s.written) is in
     let size : length put.guest.ram ≡ length m.guest.ram
     = ap length ram ∙ length-with_xored m.guest.ram b page i long below (omega (arith, so_far.same.size)) in
     record {
@@ -101,7 +102,7 @@ page-skip first m put page mask i at then blocks so_far below clear is after =
       same = record {
         guest = ap (λ (s : State). s.guest) is ∙ so_far.same.guest ∙ ap (λ (s : State). record first.guest { ram = s.guest.ram }) (sym is);
         size = ap (λ (s : State). length s.guest.ram) is ∙ so_far.same.size;
-        flags = ap (λ (s : State). length s.written) is ∙ so_far.same.flags;
+        flags = ap (λ (s : State). s.written) is ∙ so_far.same.flags;
       };
       put = (λ k. with_blocks (is k).guest.ram (from_page page (sym named k)) (drop (after k) blocks)) ∙ so_far.put;
       enough = omega (arith, ap length named, so_far.enough, after);
@@ -144,7 +145,7 @@ pub pages-put : (first m put : State) (pages : List PageChange) (k : ℕ) (d : P
     length own ≡ count_ones (get_or pages k d).mask →
     put.guest ≡ record m.guest
     { ram = with_blocks m.guest.ram (from_page (get_or pages k d).page (set_blocks (get_or pages k d).mask)) own } →
-    length put.guest.ram ≡ length m.guest.ram → length put.written ≡ length m.written → PutsPages first pages blocks (k + 1) put later
+    length put.guest.ram ≡ length m.guest.ram → put.written ≡ m.written → PutsPages first pages blocks (k + 1) put later
 pages-put first m put pages k d blocks rest own later so_far within count split long is size flags =
     let p = get_or pages k d in
     let ns = from_page p.page (set_blocks p.mask) in

@@ -1,5 +1,5 @@
 //! What a checkpoint does to a machine, in place.
-ghost use Rattle.std.specs.Prelude.{◌≡◌, ◌+◌, ◌*◌, ◌<◌, ◌≤◌, length, map, count_ones};
+ghost use Rattle.std.specs.Prelude.{◌≡◌, ◌+◌, ◌*◌, ◌<◌, ◌≤◌, false, length, replicate, map, count_ones};
 ghost use Rattle.guest_machine.specs.Blocks.{with_sector};
 ghost use Rattle.guest_machine.specs.Dirty.{Rises};
 ghost use Rattle.guest_machine.specs.Guest.{sector_count};
@@ -14,38 +14,40 @@ use guest_machine::{Machine, SECTOR_BYTES};
 /// How many blocks a page has.
 const PAGE_BLOCKS: u32 = 64;
 
-/// XORs the blocks that a mask names into a page, in turn.
+/// XORs the blocks that a mask names into a page, in turn. No page counts as written, before as after.
 fn put_page(machine: &mut Machine, page: u32, mask: u64, blocks: &[Block])
     requires inside { page + 1 ≤ length machine.old.written }
     requires whole { length machine.old.guest.ram ≡ 4096 * length machine.old.written }
+    requires settled { machine.old.written ≡ replicate (length machine.old.written) false }
     requires enough { count_ones mask ≤ length blocks.now }
     ensures guest { machine.new.guest ≡ record machine.old.guest {
       ram = with_blocks machine.old.guest.ram (map (λ i. 64 * page + i) (set_blocks mask)) blocks.now;
     } }
     ensures count { length (set_blocks mask) ≡ count_ones mask }
     ensures size { length machine.new.guest.ram ≡ length machine.old.guest.ram }
-    ensures flags { length machine.new.written ≡ length machine.old.written }
+    ensures flags { machine.new.written ≡ machine.old.written }
 {
     let mut next = 0;
     for block in 0..PAGE_BLOCKS {
         if (mask >> block) % 2 == 1 {
-            machine.xor_block(page, block, &blocks[next]);
+            machine.xor_settled(page, block, &blocks[next]);
             next += 1;
         }
     }
 }
 
 /// XORs the blocks that pages change into the machine's memory. The pages rise and are the machine's, and for each bit of their masks
-/// there is a block.
+/// there is a block. No page counts as written, before as after.
 fn put_pages(machine: &mut Machine, pages: &[PageChange], blocks: &[Block])
     requires inside { Rises 0 (length machine.old.written) (map (λ p. p.page) pages.now) }
     requires whole { length machine.old.guest.ram ≡ 4096 * length machine.old.written }
+    requires settled { machine.old.written ≡ replicate (length machine.old.written) false }
     requires enough { block_count pages.now ≤ length blocks.now }
     ensures guest { machine.new.guest ≡ record machine.old.guest {
       ram = with_blocks machine.old.guest.ram (block_numbers pages.now) blocks.now;
     } }
     ensures size { length machine.new.guest.ram ≡ length machine.old.guest.ram }
-    ensures flags { length machine.new.written ≡ length machine.old.written }
+    ensures flags { machine.new.written ≡ machine.old.written }
 {
     let mut rest = blocks;
     for change in pages {
@@ -89,6 +91,8 @@ pub(crate) fn apply(machine: &mut Machine, checkpoint: &Checkpoint)
     ensures same_pages { length machine.new.guest.ram ≡ length machine.old.guest.ram }
     ensures same_sectors { length machine.new.guest.sectors ≡ length machine.old.guest.sectors }
 {
+    // So no page counts as written, and none has to be kept as it was before its blocks go in.
+    machine.settle();
     put_pages(machine, checkpoint.pages(), checkpoint.blocks());
     put_sectors(machine, checkpoint.sectors());
     machine.put_state(checkpoint.state());

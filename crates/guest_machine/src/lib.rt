@@ -6,7 +6,8 @@
 //! last settle, and a flag for each page that was written since.
 //!
 //! [`Machine::state`], [`Machine::page`] and [`Machine::sector`] give all that a checkpoint states; [`Machine::put_state`],
-//! [`Machine::xor_block`] and [`Machine::put_sector`] put it back.
+//! [`Machine::xor_block`] and [`Machine::put_sector`] put it back. An image, which is compared with nothing that stood there before,
+//! takes blocks in by [`Machine::xor_settled`], and copies no page.
 #![tactic(auto)]
 
 mod blocks;

@@ -1,5 +1,5 @@
 //! What a checkpoint states of a machine, and how one is put back.
-ghost use Rattle.std.specs.Prelude.{◌≡◌, ◌+◌, ◌*◌, ◌<◌, ◌≤◌, ◌↔◌, false, length, All, IsTrue};
+ghost use Rattle.std.specs.Prelude.{◌≡◌, ◌+◌, ◌*◌, ◌<◌, ◌≤◌, ◌↔◌, false, length, replicate, All, IsTrue};
 ghost use Rattle.block_device.specs.Dirty.{Rises, with_written};
 ghost use Rattle.paged_memory.specs.Pages.{page_of, is_written, marked};
 ghost use Rattle.guest_machine.specs.Blocks.{block_place, with_block, with_sector};
@@ -125,6 +125,21 @@ impl Machine {
         } }
     {
         self.ram.xor_block(page, block, change);
+    }
+
+    /// XORs 64 bytes into one of the 64 blocks of a page, as an image takes them in, which needs nothing of what stood there before: no
+    /// page counts as written, before as after, so that the memory of the last settle changes along, and no page is copied. The guest
+    /// has the page, and no page counts as written, as the caller knows.
+    pub fn xor_settled(&mut self, page: u32, block: u32, change: &[u8; BLOCK_BYTES])
+        requires page { 4096 * page + 4096 ≤ length self.old.guest.ram }
+        requires block { block < 64 }
+        requires settled { self.old.written ≡ replicate (length self.old.written) false }
+        ensures { self.new ≡ record self.old {
+          guest = with_block self.old.guest page block change.now;
+          settled = (with_block self.old.guest page block change.now).ram;
+        } }
+    {
+        self.ram.xor_settled(page, block, change);
     }
 
     /// Puts other bytes in the place of a sector's, and the sector into the list of the written ones. The guest's disk has it, as the

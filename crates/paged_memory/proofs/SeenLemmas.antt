@@ -1,6 +1,6 @@
 -- What each change of the parts is to the memory that contracts see.
 use Rattle.std.proofs.Common.{◌≡◌, ℕ, ◌+◌, ◌-◌, ◌*◌, ◌/◌, ◌%◌, ◌^◌, ◌<◌, ◌≤◌, ◌++◌, Bool, true, false, List, length}
-use Rattle.std.proofs.Common.{replicate, take, drop, sym, ap, ◌∙◌, arith}
+use Rattle.std.proofs.Common.{replicate, take, drop, refl, sym, ap, ◌∙◌, arith}
 use Rattle.std.proofs.Math.ListN.{set}
 use Rattle.std.proofs.Math.Nat.{mod-eq_of_lt, mod-add-div', add-mul-mod_self_right}
 use Rattle.std.proofs.lemmas.List.{set-get_or}
@@ -70,6 +70,18 @@ seen_by_settle m b o w v d capacity copies is view none =
     let with_none : List Bool → Paged = λ fs. record { bytes = b; settled = b; written = fs; copies = copies } in
     let next : Paged → Paged = λ q. settled_at q.bytes (length q.written) q.copies in
     ap with_settled (settled_afresh b o v (length w) is.whole none) ∙ ap with_none none ∙ ap next view
+
+-- bytes are put into a memory of which no page counts as written, and it stays so
+pub seen_unmarked : (m : Paged) (b c o : List ℕ) (w : List Bool) (d : List ℕ) (capacity copies : ℕ) (put : List ℕ → List ℕ) →
+    IsStored b o w d capacity copies → seen b o w copies ≡ m → m.written ≡ replicate (length m.written) false → c ≡ put b →
+    length c ≡ length b → seen c o w copies ≡ settled_at (put m.bytes) (length m.written) m.copies
+seen_unmarked m b c o w d capacity copies put is view clear after long =
+    let flags : w ≡ m.written = ap (λ (q : Paged). q.written) view in
+    let none : w ≡ replicate (length w) false = flags ∙ clear ∙ ap (λ (fs : List Bool). replicate (length fs) false) (sym flags) in
+    let next : Paged → Paged = λ q. settled_at (put q.bytes) (length q.written) q.copies in
+    seen_by_settle (seen c o w copies) c o w w d capacity copies (stored_by_write b c o w d capacity copies long is) refl none
+    ∙ ap (λ (xs : List ℕ). settled_at xs (length w) copies) after
+    ∙ ap next view
 
 -- the memory at boot
 pub seen_at_boot : (b o bytes : List ℕ) (w : List Bool) (n : ℕ) → length b ≡ 4096 * n → b ≡ bytes → w ≡ replicate n false →

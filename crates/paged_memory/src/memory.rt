@@ -1,5 +1,5 @@
 //! Memory in pages.
-ghost use Rattle.std.specs.Prelude.{◌≡◌, ◌+◌, ◌-◌, ◌*◌, ◌%◌, ◌^◌, ◌<◌, ◌≤◌, IfOk, false, length, take, drop, slice_index};
+ghost use Rattle.std.specs.Prelude.{◌≡◌, ◌+◌, ◌-◌, ◌*◌, ◌%◌, ◌^◌, ◌<◌, ◌≤◌, IfOk, false, length, replicate, take, drop, slice_index};
 ghost use Rattle.paged_memory.specs.Bytes.{with_bytes, with_xored};
 ghost use Rattle.paged_memory.specs.Pages.{IsPaged, page_of, is_written, written_pages, with_written, boot_bytes, settled_at};
 
@@ -121,6 +121,19 @@ impl Memory {
         ensures pages { length self.new.written ≡ length self.old.written }
     {
         self.keep_few(at, BLOCK_SIZE);
+        xor_at(&mut self.bytes, at, block);
+    }
+
+    /// XORs a block of 64 bytes into those from a place on, as a memory takes it in that needs no originals. No page counts as
+    /// written, before as after, so what stands there now is the original too, and no page is copied. The bytes lie in memory, and
+    /// no page counts as written, as the caller knows.
+    pub fn xor_settled(&mut self, at: usize, block: &Block)
+        requires within { at + 64 ≤ length self.old.bytes }
+        requires settled { self.old.written ≡ replicate (length self.old.written) false }
+        ensures value { self.new ≡ settled_at (with_xored self.old.bytes at block.now) (length self.old.written) self.old.copies }
+        ensures size { length self.new.bytes ≡ length self.old.bytes }
+    {
+        // There is no original to keep.
         xor_at(&mut self.bytes, at, block);
     }
 

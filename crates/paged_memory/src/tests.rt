@@ -69,3 +69,20 @@ fn a_page_is_copied_at_its_first_write_after_a_settle(rt: HostRuntime) -> Result
     assert_eq!(rt; memory.original(0)[4095], 6);
     Ok(())
 }
+
+#[test]
+fn a_block_that_is_taken_in_marks_and_copies_no_page(rt: HostRuntime) -> Result<(), Fail> {
+    let mut memory = Memory::boot(rt.alloc(), 3, &[7, 8, 9])?;
+    memory.xor_settled(0, &[1; 64]);
+    // in two pages
+    memory.xor_settled(4064, &[5; 64]);
+    assert_eq!(rt; memory.read_u32(0), 0x0108_0906);
+    assert_eq!(rt; memory.read_u64(4124), 0x0505_0505);
+    assert_eq!(rt; flags(&rt, &memory), [false, false, false]);
+    assert_eq!(rt; memory.copies(), 0);
+    assert_eq!(rt; memory.original(0)[0], 6);
+    memory.write_u8(0, 2);
+    assert_eq!(rt; memory.copies(), 1);
+    assert_eq!(rt; memory.original(0)[0], 6);
+    Ok(())
+}

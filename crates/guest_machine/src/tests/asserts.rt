@@ -100,6 +100,15 @@ pub(super) fn assert_dirty(rt: &impl Abort, machine: &Machine, page: u32, dirty:
     assert_eq!(rt; machine.dirty(page), dirty);
 }
 
+/// At a place of the first page stood this word at the last settle.
+pub(super) fn assert_original(rt: &impl Abort, machine: &Machine, at: usize, word: u32) {
+    assert!(rt; machine.ram_size() >= 8192);
+    assert!(rt; at < 4092);
+    let page = machine.original(0);
+    let bytes = [page[at], page[at + 1], page[at + 2], page[at + 3]];
+    assert_eq!(rt; u32::from_le_bytes(bytes), word);
+}
+
 /// So many frames wait in the outbox.
 pub(super) fn assert_frames(rt: &impl Abort, machine: &Machine, count: usize) {
     assert_eq!(rt; machine.outbox().len(), count);

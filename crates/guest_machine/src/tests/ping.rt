@@ -3,7 +3,8 @@
 
 use super::asserts::{
     assert_bytes, assert_card_interrupt, assert_card_status, assert_dirty, assert_frame,
-    assert_frames, assert_sector, assert_sectors, assert_steps, assert_taken, assert_written,
+    assert_frames, assert_original, assert_sector, assert_sectors, assert_steps, assert_taken,
+    assert_written,
 };
 use super::program_words::PING;
 use super::{boot_shape, run, words};
@@ -140,6 +141,26 @@ fn a_block_is_turned_and_turned_back(rt: HostRuntime) -> Result<(), Fail> {
         assert_bytes(&rt, &machine, 4 * i, &word.to_le_bytes());
     }
     assert_first_written(&rt, &machine);
+    Ok(())
+}
+
+/// Settles the machine, and turns each bit of the second block of the first page.
+fn turn_settled_block(rt: &impl Abort, machine: &mut Machine) {
+    assert!(rt; machine.ram_size() >= 8192);
+    machine.settle();
+    machine.xor_settled(0, 1, &[0xff; 64]);
+}
+
+#[test]
+fn a_block_is_turned_in_an_image(rt: HostRuntime) -> Result<(), Fail> {
+    let mut machine = booted(&rt, rt.alloc())?;
+    turn_settled_block(&rt, &mut machine);
+    for (i, word) in PING.iter().enumerate() {
+        let want = if i / 16 == 1 { !*word } else { *word };
+        assert_bytes(&rt, &machine, 4 * i, &want.to_le_bytes());
+    }
+    assert_dirty(&rt, &machine, 0, false);
+    assert_original(&rt, &machine, 64, !PING[16]);
     Ok(())
 }
 

@@ -19,7 +19,7 @@ loop-block-preserved c =
           c.loop-block.next c.if-mask-block-eq1.next
           c.args.blocks.now [] c.loop-block.invariant (omega arith) w.if-mask-block-eq1.true (c.told-blocks c.loop-block.next within)
           c.requires.inside c.requires.whole
-          (w.machine-is ∙ w.xor_block.ensures) w.next-is
+          (w.machine-is ∙ w.xor_settled.ensures) w.next-is
       | else-mask-block-eq1 w ↦
           page-skip c.args.machine.now c.loop-block.machine c.if-mask-block-eq1.machine c.args.page c.args.mask c.loop-block.block
           c.loop-block.next c.if-mask-block-eq1.next

@@ -1,5 +1,5 @@
 -- One page more.
-use Rattle.std.proofs.Common.{◌≡◌, ℕ, List, ◌++◌, length, take, drop, sym, ◌∙◌, arith}
+use Rattle.std.proofs.Common.{◌≡◌, ℕ, List, ◌++◌, length, take, drop, sym, ap, ◌∙◌, arith}
 use Rattle.std.proofs.lemmas.List.{take-append-drop}
 use Rattle.epoch_snapshot.specs.declared.changes.PageChange.{PageChange}
 use Rattle.backup_image.proofs.RisingLemmas.{rising-below}
@@ -27,10 +27,11 @@ unfolding none
 put_page-requires-clause-inside c =
     let below = rising-below (λ (p : PageChange). p.page) 0 (length c.args.machine.now.written) c.args.pages.now
     c.loop-change.change-index none c.requires.inside (omega arith) in
-    omega (arith, below, c.loop-change.invariant.same.flags)
+    omega (arith, below, ap length c.loop-change.invariant.same.flags)
 
 pub put_page-requires-clause-whole : goal.put_page-requires-clause-whole
-put_page-requires-clause-whole c = omega (arith, c.requires.whole, c.loop-change.invariant.same.size, c.loop-change.invariant.same.flags)
+put_page-requires-clause-whole c =
+    omega (arith, c.requires.whole, c.loop-change.invariant.same.size, ap length c.loop-change.invariant.same.flags)
 
 pub put_page-requires-clause-enough : goal.put_page-requires-clause-enough
 put_page-requires-clause-enough c = omega (arith, c.split_at.ensures.front_len)
