@@ -61,7 +61,7 @@ def say(text):
 def main(log):
     crates, proved, running, started = stands_on(PROGRAM), set(), {}, time.monotonic()
     jobs = jobs_at_once()
-    say(f"building the proved program; the first time proves {len(crates)} crates, which takes some fifteen minutes on four free cores")
+    say(f"building the proved program; the first time proves {len(crates)} crates, which takes some nine minutes on four free cores")
     with concurrent.futures.ThreadPoolExecutor(jobs) as pool, open(log, "w") as kept:
         while len(proved) < len(crates):
             ready = startable(crates, proved, running.values())[: jobs - len(running)]
