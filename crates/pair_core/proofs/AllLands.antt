@@ -1,5 +1,6 @@
 -- Where a node goes on alone: all that is kept goes to the history, and all that is on its way lands. So does what each of its steps sends.
-use Rattle.std.proofs.Common.{◌≡◌, ℕ, zero, suc, List, [], ◌∷◌, ◌++◌, length, take, drop, refl, sym, ap, ◌∙◌, subst, append_assoc, Bool, true, false, Some}
+use Rattle.std.proofs.Common.{◌≡◌, ℕ, zero, suc, List, [], ◌∷◌, ◌++◌, length, take, drop, refl, sym, ap, ◌∙◌, subst, append_assoc, Bool}
+use Rattle.std.proofs.Common.{true, false, Some}
 use Rattle.std.specs.Prelude.{slice_get, ◌≤◌}
 use Rattle.std.proofs.lemmas.List.{append-nil}
 use Rattle.frame_ports.specs.Addresses.{targets_of}
@@ -46,7 +47,8 @@ module _ (w : Pair) (h : Holds w) where
       let u = moved (shown_state w) (kept_moves w h) in
       let b = w.ports.boxes in
       let same : u.boxes ≡ b = sym h.clients.boxes in
-      let out : u.out ≡ held ++ [] = ap (λ (s : HistoryState). s.out) (sym (live_is_moved w h)) ∙ sym (owed_is w h) ∙ sym (append-nil held) in
+      let out : u.out ≡ held ++ [] = ap (λ (s : HistoryState). s.out) (sym (live_is_moved w h)) ∙ sym (owed_is w h)
+          ∙ sym (append-nil held) in
       let all : AllClients (length b) held = AllClients-targets (length b) (frames_of w.protocol.pending ++ w.nodes.live.outbox) in
       let land : AllLand u held [] (landings u.boxes held) =
       landings-land u held [] out (subst (λ (x : List (List Frame)). AllClients (length x) held) h.clients.boxes all)
@@ -99,7 +101,8 @@ module _ (w : Pair) (h : Holds w) (mode : Mode) (lone : is_alone mode ≡ true) 
         frames = ap frames_by_epoch (drop-none (committed_count window));
         live = guest;
         outbox = ap (λ (n : Node). n.outbox) live;
-        shape = subst (λ (n : Node). HasShape x.image.shape n.guest) (sym live) (subst (λ t. HasShape t w.nodes.live.guest) (sym shape) h.nodes.shape);
+        shape = subst (λ (n : Node). HasShape x.image.shape n.guest) (sym live)
+            (subst (λ t. HasShape t w.nodes.live.guest) (sym shape) h.nodes.shape);
       } in
       let clients : AreClients now (left now.waiting []) (record w.ports { boxes = lands b ps }) =
       record {
@@ -125,7 +128,8 @@ module _ (w : Pair) (h : Holds w) (mode : Mode) (lone : is_alone mode ≡ true) 
         nodes =
             subst (λ (t : HistoryState). AreNodes (is_alone mode) w.protocol.generation window.to_commit t.guest [] []
             (frames_by_epoch (uncommitted_of window [])) x) (sym shown) nodes;
-        clients = subst (λ (t : HistoryState). AreClients t (left t.waiting []) (record w.ports { boxes = lands b ps })) (sym shown) clients;
+        clients = subst (λ (t : HistoryState). AreClients t (left t.waiting []) (record w.ports { boxes = lands b ps })) (sym shown)
+            clients;
         owed =
             ap (λ (t : HistoryState). t.out) shown
             ∙ ap (λ (es : List Epoch). targets_of (length (lands b ps)) (frames_of es)) (sym (take-none (committed_count window)));

@@ -29,12 +29,14 @@ use Rattle.pair_core.specs.Runs.{StepsAnswer, goes_on, steps_outcome}
 use Rattle.pair_core.proofs.AllLands.{at_once_holds}
 use Rattle.pair_core.proofs.Consistent.{live_is, alone_is}
 use Rattle.pair_core.proofs.ModeLaws.{alone_not_stopped}
-use Rattle.pair_core.proofs.StepRuns.{steps_hold, step_goes, no-steps, none-sent, no-steps-answered, more-answered, after_steps-last, replicate-last, one-step-answered}
+use Rattle.pair_core.proofs.StepRuns.{steps_hold, step_goes, no-steps, none-sent, no-steps-answered, more-answered, after_steps-last}
+use Rattle.pair_core.proofs.StepRuns.{replicate-last, one-step-answered}
 
 sent_in-last : (n : ℕ) (g : Guest) → sent_in (suc n) g ≡ sent_in n g ++ sent (after_steps n g)
 unfolding sent_in after_steps
 sent_in-last zero g = append-nil (sent g)
-sent_in-last (suc n) g = ap (λ (t : List Frame). sent g ++ t) (sent_in-last n (next g)) ∙ sym (append_assoc (sent g) (sent_in n (next g)) (sent (after_steps n (next g))))
+sent_in-last (suc n) g = ap (λ (t : List Frame). sent g ++ t) (sent_in-last n (next g))
+    ∙ sym (append_assoc (sent g) (sent_in n (next g)) (sent (after_steps n (next g))))
 
 both_empty : {A : Type 0} (xs ys : List A) → xs ++ ys ≡ [] → (xs ≡ []) × (ys ≡ [])
 both_empty [] ys e = (refl, e)

@@ -31,7 +31,8 @@ joined-entries (ms ∷ mss) = ap (λ t. entries_of ms ++ t) (joined-entries mss)
 
 -- the texts of epochs of moves are those of their entries
 texts_are : (shape : Shape) (generation n : ℕ) (s : HistoryState) (mss : List (List Move)) (rest : List Move) (texts : List (List ℕ))
-    → AllCan s.waiting (all_moves mss ++ rest) → AreSealed shape generation n s.guest mss texts → AreTexts shape generation n s (map entries_of mss) texts
+    → AllCan s.waiting (all_moves mss ++ rest) → AreSealed shape generation n s.guest mss texts
+        → AreTexts shape generation n s (map entries_of mss) texts
 texts_are shape generation n s [] rest [] can h = tt
 texts_are shape generation n s [] rest (t ∷ texts) can h = absurd h
 texts_are shape generation n s (ms ∷ mss) rest [] can h = absurd h
@@ -66,7 +67,8 @@ module _ (w : Pair) (h : Holds w) where
       ∙ sym (map-append entry_of sealed_moves h.journal.running_moves)
 
   pub live_is_moved : live_state w ≡ moved (shown_state w) (kept_moves w h)
-  live_is_moved = at-append w.start w.protocol.journal.history (kept_entries w.protocol.journal) ∙ ap (at (shown_state w)) kept_is ∙ at-moves (shown_state w) (kept_moves w h) h.journal.can
+  live_is_moved = at-append w.start w.protocol.journal.history (kept_entries w.protocol.journal) ∙ ap (at (shown_state w)) kept_is
+      ∙ at-moves (shown_state w) (kept_moves w h) h.journal.can
 
   pub live_is : (live_state w).guest ≡ w.nodes.live.guest
   live_is = ap (λ s. s.guest) live_is_moved ∙ sym h.nodes.live
@@ -83,37 +85,45 @@ module _ (w : Pair) (h : Holds w) where
   outbox_is =
       ap (λ s. sent_along s w.protocol.journal.running) sealed_state
       ∙ ap (sent_along (moved (shown_state w) sealed_moves)) h.journal.running_are
-      ∙ sent_along-moves (moved (shown_state w) sealed_moves) h.journal.running_moves (AllCan-back (shown_state w).waiting sealed_moves h.journal.running_moves h.journal.can)
+      ∙ sent_along-moves (moved (shown_state w) sealed_moves)
+          h.journal.running_moves (AllCan-back (shown_state w).waiting sealed_moves h.journal.running_moves h.journal.can)
       ∙ sym h.nodes.outbox
 
   -- the frames sent along all that is kept
-  kept_frames : frames_along (shown_state w).guest (kept_moves w h) ≡ frames_of (uncommitted_of w.protocol.window w.protocol.pending) ++ w.nodes.live.outbox
+  kept_frames : frames_along (shown_state w).guest (kept_moves w h) ≡ frames_of (uncommitted_of w.protocol.window w.protocol.pending)
+      ++ w.nodes.live.outbox
   kept_frames =
       frames_along-append (shown_state w).guest sealed_moves h.journal.running_moves
-      ∙ ap (λ t. t ++ frames_along (guest_along (shown_state w).guest sealed_moves) h.journal.running_moves) (sym (of_epochs (shown_state w).guest h.journal.sealed_moves (uncommitted_of w.protocol.window w.protocol.pending) h.nodes.frames))
+      ∙ ap (λ t. t ++ frames_along (guest_along (shown_state w).guest sealed_moves) h.journal.running_moves)
+          (sym (of_epochs (shown_state w).guest h.journal.sealed_moves (uncommitted_of w.protocol.window w.protocol.pending)
+          h.nodes.frames))
       ∙ ap (λ t. frames_of (uncommitted_of w.protocol.window w.protocol.pending) ++ t) (sym h.nodes.outbox)
     where
-      of_epochs : (g : Guest) (mss : List (List Move)) (es : List Epoch) → frames_by_epoch es ≡ epoch_frames g mss → frames_of es ≡ frames_along g (all_moves mss)
+      of_epochs : (g : Guest) (mss : List (List Move)) (es : List Epoch) → frames_by_epoch es ≡ epoch_frames g mss
+          → frames_of es ≡ frames_along g (all_moves mss)
       of_epochs g [] [] e = refl
       of_epochs g [] (x ∷ es) e = cc
       of_epochs g (k ∷ mss) [] e = cc
       of_epochs g (k ∷ mss) (x ∷ es) e =
           let head : x.frames ≡ frames_along g k = cc in
           let tail : frames_by_epoch es ≡ epoch_frames (guest_along g k) mss = cc in
-          ap (λ t. t ++ frames_of es) head ∙ ap (λ t. frames_along g k ++ t) (of_epochs (guest_along g k) mss es tail) ∙ sym (frames_along-append g k (all_moves mss))
+          ap (λ t. t ++ frames_of es) head ∙ ap (λ t. frames_along g k ++ t) (of_epochs (guest_along g k) mss es tail)
+              ∙ sym (frames_along-append g k (all_moves mss))
 
   pub owed_is : targets_of (length w.ports.boxes) (frames_of w.protocol.pending ++ w.nodes.live.outbox) ≡ (live_state w).out
   owed_is =
       let n = length w.ports.boxes in
       let covered = committed_of w.protocol.window w.protocol.pending in
       let others = uncommitted_of w.protocol.window w.protocol.pending in
-      ap (λ t. targets_of n (frames_of t ++ w.nodes.live.outbox)) (sym (take-append-drop (committed_count w.protocol.window) w.protocol.pending))
+      ap (λ t. targets_of n (frames_of t ++ w.nodes.live.outbox))
+          (sym (take-append-drop (committed_count w.protocol.window) w.protocol.pending))
       ∙ ap (λ t. targets_of n (t ++ w.nodes.live.outbox)) (frames_of-append covered others)
       ∙ ap (targets_of n) (append_assoc (frames_of covered) (frames_of others) w.nodes.live.outbox)
       ∙ targets_of-append n (frames_of covered) (frames_of others ++ w.nodes.live.outbox)
       ∙ ap (λ t. t ++ targets_of n (frames_of others ++ w.nodes.live.outbox)) (sym h.owed)
       ∙ ap (λ t. (shown_state w).out ++ targets_of n t) (sym kept_frames)
-      ∙ ap (λ (b : List (List Frame)). (shown_state w).out ++ targets_of (length b) (frames_along (shown_state w).guest (kept_moves w h))) h.clients.boxes
+      ∙ ap (λ (b : List (List Frame)). (shown_state w).out ++ targets_of (length b) (frames_along (shown_state w).guest (kept_moves w h)))
+          h.clients.boxes
       ∙ sym (ap (λ s. s.out) live_is_moved)
 
   -- the guest at the end of the oldest sealed epoch

@@ -1,9 +1,11 @@
 -- Each event keeps the invariant: one lemma for each part that it touches, and the others pass on by name.
-use Rattle.std.proofs.Common.{◌≡◌, ◌≢◌, ℕ, zero, suc, ◌+◌, ◌-◌, ◌*◌, ◌<◌, ◌≤◌, List, [], ◌∷◌, ◌++◌, length, take, drop, remove, get_or, replicate, refl, sym, ap, ◌∙◌, subst, arith, append_assoc, true, false, cond, Some, ⊎_elim, Bool}
+use Rattle.std.proofs.Common.{◌≡◌, ◌≢◌, ℕ, zero, suc, ◌+◌, ◌-◌, ◌*◌, ◌<◌, ◌≤◌, List, [], ◌∷◌, ◌++◌, length, take, drop, remove, get_or}
+use Rattle.std.proofs.Common.{replicate, refl, sym, ap, ◌∙◌, subst, arith, append_assoc, true, false, cond, Some, ⊎_elim, Bool}
 use Rattle.std.specs.Prelude.{map, slice_get, ◌==◌}
 use Rattle.std.proofs.lemmas.Bool.{eq-eqb}
 use Rattle.std.proofs.lemmas.Bool.Decides.{nat_tests, eqb_tells}
-use Rattle.std.proofs.lemmas.List.{append-nil, length-map, length-replicate, length-set, map-append, get_or-set_same, get_or-set_other, drop-append-le, take-append-le}
+use Rattle.std.proofs.lemmas.List.{append-nil, length-map, length-replicate, length-set, map-append, get_or-set_same, get_or-set_other}
+use Rattle.std.proofs.lemmas.List.{drop-append-le, take-append-le}
 use Rattle.guest_machine.specs.declared.shapes.Shape.{Shape}
 use Rattle.guest_machine.specs.Guest.{Guest}
 use Rattle.epoch_snapshot.specs.Bases.{IsBase}
@@ -18,7 +20,8 @@ use Rattle.pair_history.specs.Landings.{BoxesFit, DropsAreKnown}
 use Rattle.pair_history.specs.Moves.{Move, Arrives, entry_of, entries_of, guest_along, frames_along, left, AllCan, AreRising}
 use Rattle.pair_history.proofs.States.{at-append, Legal-append, targets_of-append, DropsAreKnown-append}
 use Rattle.pair_history.proofs.Waiting.{Leaves, StandsAt, leaves-at}
-use Rattle.pair_history.proofs.Moves.{guest_along-append, frames_along-append, left-append, AllCan-append, AllCan-front, AllCan-back, moved, at-moves, Legal-moves, DropsAreKnown-moves}
+use Rattle.pair_history.proofs.Moves.{guest_along-append, frames_along-append, left-append, AllCan-append, AllCan-front, AllCan-back, moved}
+use Rattle.pair_history.proofs.Moves.{at-moves, Legal-moves, DropsAreKnown-moves}
 use Rattle.pair_core.specs.Invariant.{all_moves, epoch_frames, frames_by_epoch, AreInboxes, AreSealed, AreNodes, AreClients, Holds}
 use Rattle.pair_core.specs.Journal.{with_running, first_of, rest_of}
 use Rattle.pair_core.specs.Lines.{Lines}
@@ -43,7 +46,8 @@ frames_of-append [] ys = refl
 frames_of-append (x ∷ xs) ys = ap (λ t. x.frames ++ t) (frames_of-append xs ys) ∙ sym (append_assoc x.frames (frames_of xs) (frames_of ys))
 
 -- the first of the epochs that come after so many
-next_epoch : (n : ℕ) (xs : List Epoch) (e : Epoch) (us : List Epoch) → drop n xs ≡ e ∷ us → (take (suc n) xs ≡ take n xs ++ e ∷ []) × (drop (suc n) xs ≡ us)
+next_epoch : (n : ℕ) (xs : List Epoch) (e : Epoch) (us : List Epoch) → drop n xs ≡ e ∷ us → (take (suc n) xs ≡ take n xs ++ e ∷ [])
+    × (drop (suc n) xs ≡ us)
 next_epoch zero [] e us p = absurd (cc)
 next_epoch zero (x ∷ xs) e us p = let head : x ≡ e = cc in let tail : xs ≡ us = cc in (ap (λ y. y ∷ []) head, tail)
 next_epoch (suc n) [] e us p = absurd (cc)
@@ -67,14 +71,16 @@ module _ (w : Pair) (h : Holds w) (ms : List Move) (es : List Entry) (live : Nod
     (base : (b : Guest) → IsBase (machine_of w.nodes.live) b → IsBase (machine_of live) b)
     (can : AllCan (left_now w h) ms)
     (clients : AreClients (shown_state w) (left (left_now w h) ms) (record w.ports { inboxes = inboxes })) where
-  pub moves_hold : Holds (record w { protocol = record w.protocol { journal = with_running w.protocol.journal es }; ports = record w.ports { inboxes = inboxes }; nodes = record w.nodes { live = live } })
+  pub moves_hold : Holds (record w { protocol = record w.protocol { journal = with_running w.protocol.journal es }; ports =
+      record w.ports { inboxes = inboxes }; nodes = record w.nodes { live = live } })
   moves_hold =
       let s = shown_state w in
       let ran = h.journal.running_moves in
       let sealed = all_moves h.journal.sealed_moves in
       let now = kept_moves w h in
       let regroup : now ++ ms ≡ sealed ++ (ran ++ ms) = append_assoc sealed ran ms in
-      let left_is : left (left_now w h) ms ≡ left s.waiting (sealed ++ (ran ++ ms)) = sym (left-append s.waiting now ms) ∙ ap (left s.waiting) regroup in
+      let left_is : left (left_now w h) ms ≡ left s.waiting (sealed ++ (ran ++ ms)) = sym (left-append s.waiting now ms)
+          ∙ ap (left s.waiting) regroup in
       let g = guest_along s.guest sealed in
       let live_is : w.nodes.live.guest ≡ guest_along g ran = h.nodes.live ∙ guest_along-append s.guest sealed ran in
       record {
@@ -95,7 +101,8 @@ module _ (w : Pair) (h : Holds w) (ms : List Move) (es : List Entry) (live : Nod
               let b = h.nodes.backed e in
               backed-live w.protocol.generation w.protocol.window.to_commit s.guest h.journal.sealed_moves w.nodes live b (base g b.base);
           frames = h.nodes.frames;
-          live = guest ∙ ap (λ x. guest_along x ms) h.nodes.live ∙ sym (guest_along-append s.guest now ms) ∙ ap (guest_along s.guest) regroup;
+          live = guest ∙ ap (λ x. guest_along x ms) h.nodes.live ∙ sym (guest_along-append s.guest now ms)
+              ∙ ap (guest_along s.guest) regroup;
           outbox =
               outbox ∙ ap (λ t. t ++ frames_along w.nodes.live.guest ms) h.nodes.outbox
               ∙ ap (λ x. frames_along g ran ++ frames_along x ms) live_is ∙ sym (frames_along-append g ran ms);
@@ -118,7 +125,8 @@ module _ (count c : ℕ) (inboxes : List (List (ℕ × Frame))) (new : List (ℕ
       (λ (same : ((d - 1 == c - 1) ≡ true) × (d - 1 ≡ c - 1)).
       let is : d ≡ c = let e = same.1 in omega arith in
       let within : c - 1 < length inboxes = omega arith in
-      ap (λ j. list_of (with_list inboxes c new) j) is ∙ get_or-set_same inboxes (c - 1) new [] within ∙ here ∙ ap (λ j. inbox_of j vs) (sym is))
+      ap (λ j. list_of (with_list inboxes c new) j) is ∙ get_or-set_same inboxes (c - 1) new [] within ∙ here
+          ∙ ap (λ j. inbox_of j vs) (sym is))
       (λ (apart : ((d - 1 == c - 1) ≡ false) × (d - 1 ≢ c - 1)).
       get_or-set_other inboxes (c - 1) (d - 1) new [] apart.1 ∙ are d l k ∙ others d (λ (e : d ≡ c). apart.1 (ap (λ j. j - 1) e)))
       (eqb_tells (d - 1) (c - 1))
@@ -126,8 +134,10 @@ module _ (count c : ℕ) (inboxes : List (List (ℕ × Frame))) (new : List (ℕ
 pub apart : (a b : ℕ) → a ≢ b → (a == b) ≡ false
 apart a b h = grind (arith, nat_tests)
 
-pub admit_holds : (w : Pair) (h : Holds w) (c n : ℕ) (f : Frame) → 1 ≤ c → c ≤ length w.ports.boxes → slice_get (list_of w.ports.inboxes c) 0 ≡ Some (n, f)
-    → Holds (record w { protocol = record w.protocol { journal = with_running w.protocol.journal (entries_of (Arrives n f ∷ [])) }; ports = ports_after_admit w.ports c; nodes = with_arrival w.nodes f })
+pub admit_holds : (w : Pair) (h : Holds w) (c n : ℕ) (f : Frame) → 1 ≤ c → c ≤ length w.ports.boxes
+    → slice_get (list_of w.ports.inboxes c) 0 ≡ Some (n, f)
+    → Holds (record w { protocol = record w.protocol { journal = with_running w.protocol.journal (entries_of (Arrives n f ∷ [])) }; ports =
+        ports_after_admit w.ports c; nodes = with_arrival w.nodes f })
 admit_holds w h c n f low high first =
     let ws = left_now w h in
     let k = h.clients in
@@ -137,7 +147,8 @@ admit_holds w h c n f low high first =
     let rising = AreRising-left 1 w.ports.next (shown_state w).waiting (kept_moves w h) k.rising in
     let leaves : Leaves c 0 n f ws = leaves-at c 0 n f 1 w.ports.next ws rising starts in
     let same : (c == c) ≡ true = eq-eqb c c refl in
-    moves_hold w h (Arrives n f ∷ []) (entries_of (Arrives n f ∷ [])) (with_arrival w.nodes f).live (with_list inboxes c (drop 1 (list_of inboxes c))) refl refl
+    moves_hold w h (Arrives n f ∷ []) (entries_of (Arrives n f ∷ []))
+        (with_arrival w.nodes f).live (with_list inboxes c (drop 1 (list_of inboxes c))) refl refl
     (sym (append-nil w.nodes.live.outbox)) (λ t k. shape-arrived f t w.nodes.live.guest k) (λ b k. base-with_arrival f w.nodes b k)
     (((c, f, starts), leaves.0), tt)
     (record {
@@ -167,11 +178,13 @@ module _ (w : Pair) (h : Holds w) (k : IsRecord w.protocol) (text : List ℕ)
       let enough = within w.protocol.window pending k.window in
       let mss = h.journal.sealed_moves in
       let ran = h.journal.running_moves in
-      let same : kept_moves w h ≡ all_moves (mss ++ ran ∷ []) ++ [] = sym (append-nil (all_moves (mss ++ ran ∷ [])) ∙ all_moves-push mss ran) in
+      let same : kept_moves w h ≡ all_moves (mss ++ ran ∷ []) ++ [] = sym (append-nil (all_moves (mss ++ ran ∷ []))
+          ∙ all_moves-push mss ran) in
       let counted : w.protocol.window.to_commit + length mss ≡ w.protocol.window.to_cut =
       ap (λ (m : ℕ). w.protocol.window.to_commit + m) (sym (ap length h.journal.sealed_are ∙ length-map mss entries_of)) ∙ k.sealed in
       let frames : frames_by_epoch (drop n pending) ++ w.nodes.live.outbox ∷ [] ≡ frames_by_epoch (drop n (pending ++ e ∷ [])) =
-      sym (ap frames_by_epoch (drop-append-le n pending (e ∷ []) enough) ∙ map-append (λ (x : Epoch). x.frames) (drop n pending) (e ∷ [])) in
+      sym (ap frames_by_epoch (drop-append-le n pending (e ∷ []) enough) ∙ map-append (λ (x : Epoch). x.frames) (drop n pending) (e ∷ []))
+          in
       record {
         journal = record {
           legal = h.journal.legal;
@@ -185,9 +198,11 @@ module _ (w : Pair) (h : Holds w) (k : IsRecord w.protocol) (text : List ℕ)
           can = subst (AllCan s.waiting) same h.journal.can;
         };
         nodes =
-            subst (λ (held : List (List Frame)). AreNodes (is_alone w.protocol.mode) w.protocol.generation w.protocol.window.to_commit s.guest
+            subst (λ (held : List (List Frame)). AreNodes (is_alone w.protocol.mode)
+                w.protocol.generation w.protocol.window.to_commit s.guest
             (mss ++ ran ∷ []) [] held (with_sealed w.nodes text)) frames
-            (nodes-cut (is_alone w.protocol.mode) w.protocol.generation w.protocol.window.to_commit s.guest mss ran (frames_by_epoch (drop n pending)) w.nodes w.protocol.window.to_cut text h.nodes counted
+            (nodes-cut (is_alone w.protocol.mode) w.protocol.generation w.protocol.window.to_commit s.guest mss ran
+                (frames_by_epoch (drop n pending)) w.nodes w.protocol.window.to_cut text h.nodes counted
             (λ e. is_text (guest_along s.guest (all_moves mss)) (h.nodes.backed e).base h.nodes.shape));
         clients = subst (λ (ms : List Move). AreClients s (left s.waiting ms) w.ports) same h.clients;
         owed = h.owed ∙ ap (λ t. targets_of (length w.ports.boxes) (frames_of t)) (sym (take-append-le n pending (e ∷ []) enough));
@@ -226,7 +241,8 @@ module _ (w : Pair) (h : Holds w) (k : IsRecord w.protocol) (two : is_alone w.pr
       let e = k.sealed in
       by_moves h.journal.sealed_moves (h.nodes.backed two).sealed (omega arith)
     where
-      by_moves : (mss : List (List Move)) → AreSealed w.nodes.image.shape w.protocol.generation w.protocol.window.to_commit (shown_state w).guest mss w.nodes.sealed
+      by_moves : (mss : List (List Move)) → AreSealed w.nodes.image.shape w.protocol.generation w.protocol.window.to_commit
+          (shown_state w).guest mss w.nodes.sealed
           → 0 < length mss → (after : Guest) × IsOldest after w.nodes.sealed
       by_moves [] s l = absurd (omega arith)
       by_moves (ms ∷ mss) s l =
@@ -241,7 +257,8 @@ module _ (w : Pair) (h : Holds w) (k : IsRecord w.protocol) (two : is_alone w.pr
   abbrev after_commit : Pair
   after_commit = record w { protocol = (commit_done w.protocol).1; nodes = with_commit w.nodes }
 
-  commit_with : (ms : List Move) (mss : List (List Move)) (e : Epoch) (us : List Epoch) → h.journal.sealed_moves ≡ ms ∷ mss → uncommitted_of w.protocol.window w.protocol.pending ≡ e ∷ us → Holds after_commit
+  commit_with : (ms : List Move) (mss : List (List Move)) (e : Epoch) (us : List Epoch) → h.journal.sealed_moves ≡ ms ∷ mss
+      → uncommitted_of w.protocol.window w.protocol.pending ≡ e ∷ us → Holds after_commit
   commit_with ms mss e us moves_are us_is =
       let r = w.protocol in
       let j = r.journal in
@@ -252,7 +269,8 @@ module _ (w : Pair) (h : Holds w) (k : IsRecord w.protocol) (two : is_alone w.pr
       let first : first_of j.sealed ≡ es = ap first_of sealed_is in
       let rest = all_moves mss ++ h.journal.running_moves in
       let all_is : all_moves h.journal.sealed_moves ≡ ms ++ all_moves mss = ap all_moves moves_are in
-      let split_moves : kept_moves w h ≡ ms ++ rest = ap (λ t. t ++ h.journal.running_moves) all_is ∙ append_assoc ms (all_moves mss) h.journal.running_moves in
+      let split_moves : kept_moves w h ≡ ms ++ rest = ap (λ t. t ++ h.journal.running_moves) all_is
+          ∙ append_assoc ms (all_moves mss) h.journal.running_moves in
       let can : AllCan s.waiting (ms ++ rest) = subst (AllCan s.waiting) split_moves h.journal.can in
       let front : AllCan s.waiting ms = AllCan-front s.waiting ms rest can in
       let g = guest_along s.guest ms in
@@ -264,13 +282,15 @@ module _ (w : Pair) (h : Holds w) (k : IsRecord w.protocol) (two : is_alone w.pr
       let e_sent : e.frames ≡ frames_along s.guest ms = cc in
       let us_sent : frames_by_epoch us ≡ epoch_frames g mss = cc in
       let next = next_epoch (committed_count r.window) r.pending e us us_is in
-      let one_more : (r.window.to_commit + 1) - r.window.to_acknowledge ≡ suc (committed_count r.window) = let c = k.window.committed in omega arith in
+      let one_more : (r.window.to_commit + 1) - r.window.to_acknowledge ≡ suc (committed_count r.window) = let c = k.window.committed in
+          omega arith in
       let left_is : left s.waiting (kept_moves w h) ≡ left (at w.start (j.history ++ first_of j.sealed)).waiting rest =
       ap (left s.waiting) split_moves ∙ left-append s.waiting ms rest ∙ ap (λ t. left t.waiting rest) (sym shown) in
       record {
         journal = record {
           legal = Legal-append w.start j.history (first_of j.sealed) h.journal.legal (subst (Legal s) (sym first) (Legal-moves s ms front));
-          drops = DropsAreKnown-append w.start j.history (first_of j.sealed) h.journal.drops (subst (DropsAreKnown s) (sym first) (DropsAreKnown-moves s ms front));
+          drops = DropsAreKnown-append w.start j.history (first_of j.sealed)
+              h.journal.drops (subst (DropsAreKnown s) (sym first) (DropsAreKnown-moves s ms front));
           sealed_moves = mss;
           running_moves = h.journal.running_moves;
           sealed_are = ap rest_of sealed_is;
@@ -288,16 +308,21 @@ module _ (w : Pair) (h : Holds w) (k : IsRecord w.protocol) (two : is_alone w.pr
             subst (λ (a : Bool). AreNodes a r.generation n s.guest h.journal.sealed_moves h.journal.running_moves
             (frames_by_epoch (uncommitted_of r.window r.pending)) w.nodes) (sym same) h.nodes in
             let now : AreNodes alone r.generation n s.guest (ms ∷ mss) h.journal.running_moves (e.frames ∷ rest_held) w.nodes =
-            subst (λ (t : List (List Move)). AreNodes alone r.generation n s.guest t h.journal.running_moves (e.frames ∷ rest_held) w.nodes) moves_are
+            subst (λ (t : List (List Move)). AreNodes alone r.generation n s.guest t h.journal.running_moves (e.frames ∷ rest_held) w.nodes)
+                moves_are
             (subst (λ (us : List Epoch). AreNodes alone r.generation n s.guest h.journal.sealed_moves h.journal.running_moves
             (frames_by_epoch us) w.nodes) us_is before) in
-            subst (λ (x : Guest). AreNodes alone r.generation (n + 1) x mss h.journal.running_moves (frames_by_epoch (drop ((n + 1) - r.window.to_acknowledge) r.pending)) (with_commit w.nodes)) guest
-            (subst (λ (fs : List (List Frame)). AreNodes alone r.generation (n + 1) g mss h.journal.running_moves fs (with_commit w.nodes)) held
+            subst (λ (x : Guest). AreNodes alone r.generation (n + 1)
+                x mss h.journal.running_moves (frames_by_epoch (drop ((n + 1) - r.window.to_acknowledge) r.pending)) (with_commit w.nodes))
+                guest
+            (subst (λ (fs : List (List Frame)). AreNodes alone r.generation (n + 1) g mss h.journal.running_moves fs (with_commit w.nodes))
+                held
             (nodes-commit alone r.generation n s.guest ms mss h.journal.running_moves e.frames rest_held w.nodes now (same ∙ two)));
         clients = record {
           number = h.clients.number ∙ sym (ap (λ t. t.number) shown);
           rising =
-              subst (λ (t : HistoryState). AreRising 1 w.ports.next t.waiting) (sym shown) (AreRising-left 1 w.ports.next s.waiting ms h.clients.rising);
+              subst (λ (t : HistoryState). AreRising 1 w.ports.next t.waiting) (sym shown)
+                  (AreRising-left 1 w.ports.next s.waiting ms h.clients.rising);
           count = h.clients.count;
           inboxes = subst (AreInboxes n w.ports.inboxes) left_is h.clients.inboxes;
           boxes = h.clients.boxes ∙ sym (ap (λ t. t.boxes) shown);
@@ -306,7 +331,8 @@ module _ (w : Pair) (h : Holds w) (k : IsRecord w.protocol) (two : is_alone w.pr
         owed =
             ap (λ t. t.out) shown
             ∙ ap (λ t. t ++ targets_of (length s.boxes) (frames_along s.guest ms)) h.owed
-            ∙ ap (λ (b : List (List Frame)). targets_of n (frames_of (committed_of r.window r.pending)) ++ targets_of (length b) (frames_along s.guest ms)) (sym h.clients.boxes)
+            ∙ ap (λ (b : List (List Frame)). targets_of n (frames_of (committed_of r.window r.pending)) ++ targets_of (length b)
+                (frames_along s.guest ms)) (sym h.clients.boxes)
             ∙ ap (λ t. targets_of n (frames_of (committed_of r.window r.pending)) ++ targets_of n t) (sym e_sent)
             ∙ sym (targets_of-append n (frames_of (committed_of r.window r.pending)) e.frames)
             ∙ ap (λ t. targets_of n (frames_of (committed_of r.window r.pending) ++ t)) (sym (append-nil e.frames))
@@ -329,7 +355,8 @@ module _ (w : Pair) (h : Holds w) (k : IsRecord w.protocol) (two : is_alone w.pr
       length-frames g [] = refl
       length-frames g (ms ∷ mss) = ap suc (length-frames (guest_along g ms) mss)
 
-      by_lists : (sealed : List (List Move)) (us : List Epoch) → h.journal.sealed_moves ≡ sealed → uncommitted_of w.protocol.window w.protocol.pending ≡ us → 0 < length sealed → 0 < length us → Holds after_commit
+      by_lists : (sealed : List (List Move)) (us : List Epoch) → h.journal.sealed_moves ≡ sealed
+          → uncommitted_of w.protocol.window w.protocol.pending ≡ us → 0 < length sealed → 0 < length us → Holds after_commit
       by_lists [] us p q l m = absurd (omega arith)
       by_lists (ms ∷ mss) [] p q l m = absurd (omega arith)
       by_lists (ms ∷ mss) (e ∷ us) p q l m = commit_with ms mss e us p q
@@ -353,7 +380,8 @@ start_pair shape image clients = record {
   nodes = start_nodes shape image;
 }
 
-pub start_holds : (shape : Shape) (image : List ℕ) (clients : ℕ) → length image ≤ 4096 * shape.pages → Holds (start_pair shape image clients)
+pub start_holds : (shape : Shape) (image : List ℕ) (clients : ℕ) → length image ≤ 4096 * shape.pages
+    → Holds (start_pair shape image clients)
 start_holds shape image clients fits = record {
   journal = record { legal = tt; drops = tt; sealed_moves = []; running_moves = []; sealed_are = refl; running_are = refl; can = tt };
   nodes = nodes-start shape image fits;

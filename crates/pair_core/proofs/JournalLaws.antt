@@ -9,16 +9,20 @@ use Rattle.pair_core.specs.Journal.{Journal, joined, kept_entries, all_entries}
 -- an epoch goes on by steps, or by an arrival
 
 pub epoch-steps : (arrivals : List Arrival) (n k : ℕ) → epoch_entries arrivals n ++ steps_of k ≡ epoch_entries arrivals (n + k)
-epoch-steps arrivals n k = append_assoc (arrivals_of arrivals) (steps_of n) (steps_of k) ∙ ap (λ t. arrivals_of arrivals ++ t) (replicate-append-replicate n k Ran)
+epoch-steps arrivals n k = append_assoc (arrivals_of arrivals) (steps_of n) (steps_of k)
+    ∙ ap (λ t. arrivals_of arrivals ++ t) (replicate-append-replicate n k Ran)
 
 arrivals_of-push : (arrivals : List Arrival) (x : Arrival) → arrivals_of (arrivals ++ x ∷ []) ≡ arrivals_of arrivals ++ arrival_of x
 arrivals_of-push [] x = append-nil (arrival_of x)
-arrivals_of-push (y ∷ arrivals) x = ap (λ t. arrival_of y ++ t) (arrivals_of-push arrivals x) ∙ sym (append_assoc (arrival_of y) (arrivals_of arrivals) (arrival_of x))
+arrivals_of-push (y ∷ arrivals) x = ap (λ t. arrival_of y ++ t) (arrivals_of-push arrivals x)
+    ∙ sym (append_assoc (arrival_of y) (arrivals_of arrivals) (arrival_of x))
 
-pub epoch-arrives : (arrivals : List Arrival) (n k : ℕ) → epoch_entries arrivals n ++ Arrive k ∷ [] ≡ epoch_entries (arrivals ++ record { steps = n; number = k } ∷ []) 0
+pub epoch-arrives : (arrivals : List Arrival) (n k : ℕ)
+    → epoch_entries arrivals n ++ Arrive k ∷ [] ≡ epoch_entries (arrivals ++ record { steps = n; number = k } ∷ []) 0
 epoch-arrives arrivals n k =
     append_assoc (arrivals_of arrivals) (steps_of n) (Arrive k ∷ [])
-    ∙ sym (append-nil (arrivals_of (arrivals ++ record { steps = n; number = k } ∷ [])) ∙ arrivals_of-push arrivals (record { steps = n; number = k }))
+    ∙ sym (append-nil (arrivals_of (arrivals ++ record { steps = n; number = k } ∷ []))
+        ∙ arrivals_of-push arrivals (record { steps = n; number = k }))
 
 pub joined-push : (ess : List (List Entry)) (es : List Entry) → joined (ess ++ es ∷ []) ≡ joined ess ++ es
 joined-push [] es = append-nil es

@@ -1,5 +1,6 @@
 -- Landings by the lengths of the boxes are landings.
-use Rattle.std.proofs.Common.{◌≡◌, ℕ, zero, suc, ◌+◌, ◌-◌, ◌<◌, ◌≤◌, List, [], ◌∷◌, ◌++◌, length, get_or, set, refl, sym, ap, ◌∙◌, subst, arith, Bool, true, false, cond, inl, inr}
+use Rattle.std.proofs.Common.{◌≡◌, ℕ, zero, suc, ◌+◌, ◌-◌, ◌<◌, ◌≤◌, List, [], ◌∷◌, ◌++◌, length, get_or, set, refl, sym, ap, ◌∙◌, subst}
+use Rattle.std.proofs.Common.{arith, Bool, true, false, cond, inl, inr}
 use Rattle.std.specs.Prelude.{map, nat_lt}
 use Rattle.std.proofs.lemmas.List.{get_or-set_same, get_or-set_other}
 use Rattle.std.proofs.lemmas.Bool.Decides.{eqb_tells}
@@ -18,7 +19,8 @@ firsts-paired (c ∷ cs) f ps = ap (λ t. c ∷ t) (firsts-paired cs f ps)
 
 pub firsts-targets : (n : ℕ) (fs : List Frame) → map (λ p. p.0) (targets_of n fs) ≡ receivers n fs
 firsts-targets n [] = refl
-firsts-targets n (f ∷ fs) = firsts-paired (clients_of n f.items) f (targets_of n fs) ∙ ap (λ t. clients_of n f.items ++ t) (firsts-targets n fs)
+firsts-targets n (f ∷ fs) = firsts-paired (clients_of n f.items) f (targets_of n fs)
+    ∙ ap (λ t. clients_of n f.items ++ t) (firsts-targets n fs)
 
 length-firsts : (ps : List (ℕ × Frame)) → length (map (λ p. p.0) ps) ≡ length ps
 length-firsts [] = refl
@@ -36,7 +38,8 @@ length-set-ℕ [] i v = refl
 length-set-ℕ (x ∷ xs) zero v = refl
 length-set-ℕ (x ∷ xs) (suc i) v = ap suc (length-set-ℕ xs i v)
 
-module _ (lengths : List ℕ) (boxes : List (List Frame)) (are : AreLengths lengths boxes) (c : ℕ) (f : Frame) (low : 1 ≤ c) (high : c ≤ length boxes) where
+module _ (lengths : List ℕ) (boxes : List (List Frame)) (are : AreLengths lengths boxes) (c : ℕ) (f : Frame) (low : 1 ≤ c)
+    (high : c ≤ length boxes) where
   here : get_or lengths (c - 1) 0 ≡ length (list_of boxes c)
   here = are.each (c - 1) (omega arith)
 
@@ -45,11 +48,13 @@ module _ (lengths : List ℕ) (boxes : List (List Frame)) (are : AreLengths leng
 
   with_room : AreLengths (set lengths (c - 1) (get_or lengths (c - 1) 0 + 1)) (with_list boxes c (list_of boxes c ++ f ∷ []))
   with_room = record {
-    places = let p = are.places in let e = length-set-ℕ lengths (c - 1) (get_or lengths (c - 1) 0 + 1) in let d = length-set' boxes (c - 1) (list_of boxes c ++ f ∷ []) in omega arith;
+    places = let p = are.places in let e = length-set-ℕ lengths (c - 1) (get_or lengths (c - 1) 0 + 1) in let d = length-set' boxes (c - 1)
+        (list_of boxes c ++ f ∷ []) in omega arith;
     each = λ k l. at_place k (let d = length-set' boxes (c - 1) (list_of boxes c ++ f ∷ []) in omega arith);
   }
     where
-      at_place : (k : ℕ) → k < length boxes → get_or (set lengths (c - 1) (get_or lengths (c - 1) 0 + 1)) k 0 ≡ length (get_or (with_list boxes c (list_of boxes c ++ f ∷ [])) k [])
+      at_place : (k : ℕ) → k < length boxes → get_or (set lengths (c - 1) (get_or lengths (c - 1) 0 + 1))
+          k 0 ≡ length (get_or (with_list boxes c (list_of boxes c ++ f ∷ [])) k [])
       at_place k l = elim (eqb_tells k (c - 1)) [
         | inl same ↦
             let p = are.places in
@@ -71,28 +76,37 @@ module _ (lengths : List ℕ) (boxes : List (List Frame)) (are : AreLengths leng
   pub AreLengths-at : AreLengths (lengths_at lengths c) (landed_at boxes c f)
   AreLengths-at = by_test (has_room boxes c) space_is_room
     where
-      by_test : (t : Bool) → has_space lengths c ≡ t → AreLengths (cond (has_space lengths c) (set lengths (c - 1) (get_or lengths (c - 1) 0 + 1)) lengths) (cond t (with_list boxes c (list_of boxes c ++ f ∷ [])) boxes)
-      by_test true e = subst (λ (t : Bool). AreLengths (cond t (set lengths (c - 1) (get_or lengths (c - 1) 0 + 1)) lengths) (with_list boxes c (list_of boxes c ++ f ∷ []))) (sym e) with_room
-      by_test false e = subst (λ (t : Bool). AreLengths (cond t (set lengths (c - 1) (get_or lengths (c - 1) 0 + 1)) lengths) boxes) (sym e) are
+      by_test : (t : Bool) → has_space lengths c ≡ t
+          → AreLengths (cond (has_space lengths c) (set lengths (c - 1) (get_or lengths (c - 1) 0 + 1)) lengths)
+          (cond t (with_list boxes c (list_of boxes c ++ f ∷ [])) boxes)
+      by_test true e = subst (λ (t : Bool). AreLengths (cond t (set lengths (c - 1) (get_or lengths (c - 1) 0 + 1)) lengths)
+          (with_list boxes c (list_of boxes c ++ f ∷ []))) (sym e) with_room
+      by_test false e = subst (λ (t : Bool). AreLengths (cond t (set lengths (c - 1) (get_or lengths (c - 1) 0 + 1)) lengths) boxes) (sym e)
+          are
 
-pub landings-by : (lengths : List ℕ) (boxes : List (List Frame)) (ps : List (ℕ × Frame)) → AreLengths lengths boxes → AllClients (length boxes) ps → landings_by lengths (map (λ p. p.0) ps) ≡ landings boxes ps
+pub landings-by : (lengths : List ℕ) (boxes : List (List Frame)) (ps : List (ℕ × Frame)) → AreLengths lengths boxes
+    → AllClients (length boxes) ps → landings_by lengths (map (λ p. p.0) ps) ≡ landings boxes ps
 landings-by lengths boxes [] are h = refl
 landings-by lengths boxes (p ∷ ps) are h =
     let e = space_is_room lengths boxes are p.0 p.1 h.0 h.1 in
     ap (λ (t : Bool). cond t (Land p.0) (DropOut p.0 BOX_FRAMES) ∷ landings_by (lengths_at lengths p.0) (map (λ q. q.0) ps)) e
     ∙ ap (λ t. cond (has_room boxes p.0) (Land p.0) (DropOut p.0 BOX_FRAMES) ∷ t)
-    (landings-by (lengths_at lengths p.0) (landed_at boxes p.0 p.1) ps (AreLengths-at lengths boxes are p.0 p.1 h.0 h.1) (subst (λ n. AllClients n ps) (sym (length-landed_at boxes p.0 p.1)) h.2))
+    (landings-by (lengths_at lengths p.0) (landed_at boxes p.0 p.1) ps (AreLengths-at lengths boxes are p.0 p.1 h.0 h.1)
+        (subst (λ n. AllClients n ps) (sym (length-landed_at boxes p.0 p.1)) h.2))
 
-pub landings_by-targets : (n : ℕ) (lengths : List ℕ) (boxes : List (List Frame)) (fs : List Frame) → AreLengths lengths boxes → length boxes ≡ n → landings_by lengths (receivers n fs) ≡ landings boxes (targets_of n fs)
+pub landings_by-targets : (n : ℕ) (lengths : List ℕ) (boxes : List (List Frame)) (fs : List Frame) → AreLengths lengths boxes
+    → length boxes ≡ n → landings_by lengths (receivers n fs) ≡ landings boxes (targets_of n fs)
 landings_by-targets n lengths boxes fs are e =
     ap (landings_by lengths) (sym (firsts-targets n fs))
     ∙ landings-by lengths boxes (targets_of n fs) are (subst (λ m. AllClients m (targets_of n fs)) (sym e) (AllClients-targets n fs))
 
-pub landings_by-append : (lengths : List ℕ) (cs ds : List ℕ) → landings_by lengths (cs ++ ds) ≡ landings_by lengths cs ++ landings_by (lengths_after lengths cs) ds
+pub landings_by-append : (lengths : List ℕ) (cs ds : List ℕ)
+    → landings_by lengths (cs ++ ds) ≡ landings_by lengths cs ++ landings_by (lengths_after lengths cs) ds
 landings_by-append lengths [] ds = refl
 landings_by-append lengths (c ∷ cs) ds = ap (λ t. landing_by lengths c ∷ t) (landings_by-append (lengths_at lengths c) cs ds)
 
-pub lengths_after-append : (lengths : List ℕ) (cs ds : List ℕ) → lengths_after lengths (cs ++ ds) ≡ lengths_after (lengths_after lengths cs) ds
+pub lengths_after-append : (lengths : List ℕ) (cs ds : List ℕ)
+    → lengths_after lengths (cs ++ ds) ≡ lengths_after (lengths_after lengths cs) ds
 lengths_after-append lengths [] ds = refl
 lengths_after-append lengths (c ∷ cs) ds = lengths_after-append (lengths_at lengths c) cs ds
 

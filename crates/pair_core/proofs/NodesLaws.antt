@@ -242,7 +242,8 @@ first-push : (mss : List (List Move)) (ms : List Move) → 0 < length mss → fi
 first-push [] ms l = absurd (omega arith)
 first-push (x ∷ mss) ms l = refl
 
-pub nodes-cut : (alone : Bool) (generation n : ℕ) (g : Guest) (mss : List (List Move)) (ran : List Move) (held : List (List Frame)) (x : Nodes) (m : ℕ)
+pub nodes-cut : (alone : Bool) (generation n : ℕ) (g : Guest) (mss : List (List Move)) (ran : List Move) (held : List (List Frame))
+    (x : Nodes) (m : ℕ)
     (text : List ℕ)
     → AreNodes alone generation n g mss ran held x → n + length mss ≡ m
     → (alone ≡ false → IsText x.image.shape generation m (guest_along g (all_moves mss)) x.live.guest text)

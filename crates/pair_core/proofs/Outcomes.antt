@@ -20,7 +20,8 @@ use Rattle.pair_core.specs.Modes.{is_stopped}
 use Rattle.pair_core.specs.Pair.{Pair, shown_state, live_state, AfterRefusal}
 use Rattle.pair_core.specs.Protocol.{Record, Outcome, Row, MayWantMemory, allowed, first_refusal, or_else, unless, refused, exhausts}
 use Rattle.pair_core.specs.Protocol.{is_among, is_bad_length, step_outcome, step_outcome_at, cut_refusals, cut_done, outbox_of}
-use Rattle.pair_core.specs.Protocol.{fail_backup_outcome_at, ack_outcome_at, admit_outcome_at, admit_first, admit_refusals, admit_done, arrival_refusals}
+use Rattle.pair_core.specs.Protocol.{fail_backup_outcome_at, ack_outcome_at, admit_outcome_at, admit_first, admit_refusals, admit_done}
+use Rattle.pair_core.specs.Protocol.{arrival_refusals}
 use Rattle.pair_core.specs.Protocol.{deliver_outcome_at, deliver_refusals, take_outcome_at, delivery_refused, deliver_done}
 use Rattle.pair_core.proofs.Consistent.{live_is, live_waiting, outbox_is}
 
@@ -147,13 +148,15 @@ module _ (w : Pair) (h : Holds w) where
           ap (at_rows c bytes false) (inbox_is c range.0 range.1)
 
   -- ADMIT, step by step: the client, the inbox, the table
-  module _ (c : ℕ) (client : Option Refusal) (is : client ≡ first_refusal (arrival_refusals (length w.ports.boxes) w.protocol c)) (none : client ≡ None)
+  module _ (c : ℕ) (client : Option Refusal) (is : client ≡ first_refusal (arrival_refusals (length w.ports.boxes) w.protocol c))
+      (none : client ≡ None)
     where
       admits : (o : Option (ℕ × Frame)) → slice_get (list_of w.ports.inboxes c) 0 ≡ o
           → admit_first w.protocol o ≡ allowed w.start w.protocol (Admit c)
       admits o e =
           ap (admit_first w.protocol) (sym e)
-          ∙ goes w.protocol (arrival_refusals (length w.ports.boxes) w.protocol c) (admit_first w.protocol (slice_get (list_of w.ports.inboxes c) 0))
+          ∙ goes w.protocol (arrival_refusals (length w.ports.boxes) w.protocol c)
+              (admit_first w.protocol (slice_get (list_of w.ports.inboxes c) 0))
           client is none
           ∙ admit_sight c
 

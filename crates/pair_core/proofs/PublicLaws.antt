@@ -27,9 +27,11 @@ use Rattle.pair_core.specs.Invariant.{Holds}
 use Rattle.pair_core.specs.Journal.{first_of, kept_entries, with_history, with_moves}
 use Rattle.pair_core.specs.Modes.{is_alone, mode_refusal}
 use Rattle.pair_core.specs.Pair.{Pair, OnRefused, shown_state, live_state}
-use Rattle.pair_core.specs.Protocol.{Record, Outcome, Row, Answers, MayWantMemory, allowed, outcome, exhausts, first_refusal, or_else, unless}
+use Rattle.pair_core.specs.Protocol.{Record, Outcome, Row, Answers, MayWantMemory, allowed, outcome, exhausts, first_refusal, or_else}
+use Rattle.pair_core.specs.Protocol.{unless}
 use Rattle.pair_core.specs.Protocol.{refused, let_go, again_done, commit_done, backup_refusals, backup_done, backup_outcome, ack_outcome_at}
-use Rattle.pair_core.specs.Protocol.{ack_refusals, ack_done, admit_first, admit_refusals, admit_done, arrival_refusals, client_refusals, delivery_refused}
+use Rattle.pair_core.specs.Protocol.{ack_refusals, ack_done, admit_first, admit_refusals, admit_done, arrival_refusals, client_refusals}
+use Rattle.pair_core.specs.Protocol.{delivery_refused}
 use Rattle.pair_core.specs.Protocol.{deliver_refusals, deliver_done, take_refusals, take_done, loss_refusals, loss_done, loss_of, lost_in}
 use Rattle.pair_core.specs.Protocol.{lost_out, step_refusals, step_done, cut_refusals, cut_done, outbox_of, shown_at, live_at}
 use Rattle.pair_core.specs.Protocol.{step_entries, all_held, fail_backup_refusals, fail_backup_done}

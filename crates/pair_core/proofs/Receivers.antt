@@ -1,5 +1,6 @@
 -- Laws of the clients to whom frames go, as the loops over them want them.
-use Rattle.std.proofs.Common.{◌≡◌, ℕ, zero, suc, ◌+◌, ◌-◌, ◌<◌, ◌≤◌, List, [], ◌∷◌, ◌++◌, length, drop, get_or, refl, sym, ap, ◌∙◌, arith, append_assoc, true, false, cond}
+use Rattle.std.proofs.Common.{◌≡◌, ℕ, zero, suc, ◌+◌, ◌-◌, ◌<◌, ◌≤◌, List, [], ◌∷◌, ◌++◌, length, drop, get_or, refl, sym, ap, ◌∙◌, arith}
+use Rattle.std.proofs.Common.{append_assoc, true, false, cond}
 use Rattle.std.specs.Prelude.{nat_le, ◌&&◌}
 use Rattle.std.proofs.lemmas.Bool.Decides.{nat_tests}
 use Rattle.frame_ports.specs.Addresses.{addressed, clients_from, clients_of}
@@ -15,7 +16,8 @@ from_on n c bytes = clients_from (n + 1 - c) c bytes
 step_count : (n c : ℕ) → c ≤ n → n + 1 - c ≡ suc (n + 1 - (c + 1))
 step_count n c h = omega arith
 
-next : (n c : ℕ) (bytes : List ℕ) → c ≤ n → from_on n c bytes ≡ cond (addressed bytes c) (c ∷ from_on n (c + 1) bytes) (from_on n (c + 1) bytes)
+next : (n c : ℕ) (bytes : List ℕ) → c ≤ n
+    → from_on n c bytes ≡ cond (addressed bytes c) (c ∷ from_on n (c + 1) bytes) (from_on n (c + 1) bytes)
 next n c bytes h = ap (λ k. clients_from k c bytes) (step_count n c h)
 
 module _ (n c : ℕ) (bytes : List ℕ) (targets : ℕ) (are : AreTargets n bytes targets) (low : 1 ≤ c) (high : c ≤ n) (most : n ≤ 16) where
@@ -38,13 +40,16 @@ pub from_first : (n : ℕ) (bytes : List ℕ) → from_on n 1 bytes ≡ clients_
 from_first n bytes = let e : n + 1 - 1 ≡ n = omega arith in ap (λ k. clients_from k 1 bytes) e
 
 -- the receivers of the frames from place i on
-behind : (n : ℕ) (fs : List Frame) (i : ℕ) (d : Frame) → i < length fs → receivers n (drop i fs) ≡ clients_of n (get_or fs i d).items ++ receivers n (drop (suc i) fs)
+behind : (n : ℕ) (fs : List Frame) (i : ℕ) (d : Frame) → i < length fs
+    → receivers n (drop i fs) ≡ clients_of n (get_or fs i d).items ++ receivers n (drop (suc i) fs)
 behind n [] i d h = absurd (omega arith)
 behind n (f ∷ fs) zero d h = refl
 behind n (f ∷ fs) (suc i) d h = behind n fs i d (omega arith)
 
-pub receivers-next : (n : ℕ) (fs : List Frame) (i : ℕ) (d : Frame) → i < length fs → receivers n (drop i fs) ≡ clients_of n (get_or fs i d).items ++ receivers n (drop (i + 1) fs)
-receivers-next n fs i d h = let e : suc i ≡ i + 1 = omega arith in behind n fs i d h ∙ ap (λ j. clients_of n (get_or fs i d).items ++ receivers n (drop j fs)) e
+pub receivers-next : (n : ℕ) (fs : List Frame) (i : ℕ) (d : Frame) → i < length fs
+    → receivers n (drop i fs) ≡ clients_of n (get_or fs i d).items ++ receivers n (drop (i + 1) fs)
+receivers-next n fs i d h = let e : suc i ≡ i + 1 = omega arith in behind n fs i d h
+    ∙ ap (λ j. clients_of n (get_or fs i d).items ++ receivers n (drop j fs)) e
 
 pub receivers-none : (n : ℕ) (fs : List Frame) (i : ℕ) → length fs ≤ i → receivers n (drop i fs) ≡ []
 receivers-none n [] zero h = refl
@@ -53,10 +58,12 @@ receivers-none n (f ∷ fs) zero h = absurd (omega arith)
 receivers-none n (f ∷ fs) (suc i) h = receivers-none n fs i (omega arith)
 
 -- one client more, in the count and in the entries
-pub counted_more : (count total : ℕ) (c : ℕ) (rest now : List ℕ) → now ≡ c ∷ rest → count + length now ≡ total → count + 1 + length rest ≡ total
+pub counted_more : (count total : ℕ) (c : ℕ) (rest now : List ℕ) → now ≡ c ∷ rest → count + length now ≡ total
+    → count + 1 + length rest ≡ total
 counted_more count total c rest now e h = let l = ap length e in omega arith
 
-pub entries_more : (old new : List Entry) (lengths after : List ℕ) (c : ℕ) (rest now : List ℕ) (total : List Entry) → now ≡ c ∷ rest → new ≡ old ++ landing_by lengths c ∷ [] → after ≡ lengths_at lengths c
+pub entries_more : (old new : List Entry) (lengths after : List ℕ) (c : ℕ) (rest now : List ℕ) (total : List Entry) → now ≡ c ∷ rest
+    → new ≡ old ++ landing_by lengths c ∷ [] → after ≡ lengths_at lengths c
     → old ++ landings_by lengths now ≡ total → new ++ landings_by after rest ≡ total
 entries_more old new lengths after c rest now total e n a h =
     ap (λ t. t ++ landings_by after rest) n
@@ -66,7 +73,8 @@ entries_more old new lengths after c rest now total e n a h =
     ∙ h
 
 -- one frame more
-pub frames_more : (old new : List Entry) (lengths after : List ℕ) (cs rest now : List ℕ) (total : List Entry) → now ≡ cs ++ rest → new ≡ old ++ landings_by lengths cs → after ≡ lengths_after lengths cs
+pub frames_more : (old new : List Entry) (lengths after : List ℕ) (cs rest now : List ℕ) (total : List Entry) → now ≡ cs ++ rest
+    → new ≡ old ++ landings_by lengths cs → after ≡ lengths_after lengths cs
     → old ++ landings_by lengths now ≡ total → new ++ landings_by after rest ≡ total
 frames_more old new lengths after cs rest now total e n a h =
     ap (λ t. t ++ landings_by after rest) n
@@ -76,7 +84,8 @@ frames_more old new lengths after cs rest now total e n a h =
     ∙ ap (λ t. old ++ landings_by lengths t) (sym e)
     ∙ h
 
-pub nil-append : (old : List Entry) (lengths now : List ℕ) (total : List Entry) → now ≡ [] → old ++ landings_by lengths now ≡ total → old ≡ total
+pub nil-append : (old : List Entry) (lengths now : List ℕ) (total : List Entry) → now ≡ [] → old ++ landings_by lengths now ≡ total
+    → old ≡ total
 nil-append old lengths now total e h = sym (none old) ∙ ap (λ t. old ++ landings_by lengths t) (sym e) ∙ h
   where
     none : (xs : List Entry) → xs ++ [] ≡ xs

@@ -1,5 +1,6 @@
 -- Each event leaves what is true of every record, and what the tables of refusals say.
-use Rattle.std.proofs.Common.{◌≡◌, ℕ, zero, suc, ◌+◌, ◌-◌, ◌<◌, ◌≤◌, List, [], ◌∷◌, ◌++◌, length, get_or, refl, sym, ap, ◌∙◌, subst, arith, Bool, true, false, cond, Option, None, Some}
+use Rattle.std.proofs.Common.{◌≡◌, ℕ, zero, suc, ◌+◌, ◌-◌, ◌<◌, ◌≤◌, List, [], ◌∷◌, ◌++◌, length, get_or, refl, sym, ap, ◌∙◌, subst, arith}
+use Rattle.std.proofs.Common.{Bool, true, false, cond, Option, None, Some}
 use Rattle.std.specs.Prelude.{map, slice_get, IfSome, nat_le, ◌==◌, not}
 use Rattle.std.proofs.lemmas.Bool.{eq-eqb}
 use Rattle.std.proofs.lemmas.Bool.Decides.{nat_tests}
@@ -43,8 +44,10 @@ pub ack_row : (boxes : List (List Frame)) (r : Record) (p : Packet) (count : ℕ
     → count ≡ length (receivers (length boxes) fs) → fs ≡ frames_to p.number r.pending → p.generation ≡ r.generation
     → first_refusal (ack_refusals boxes r p) ≡ cond (exhausts r count) (Some Exhausted) None
 ack_row boxes r p count fs is held same =
-    let n : count ≡ length (let_go boxes r p.number) = is ∙ ap (λ gs. length (receivers (length boxes) gs)) held ∙ length-receivers (length boxes) (frames_to p.number r.pending) in
-    ap (λ t. cond (not t) (Some Stale) (cond (exhausts r (length (let_go boxes r p.number))) (Some Exhausted) None)) (eq-eqb p.generation r.generation same)
+    let n : count ≡ length (let_go boxes r p.number) = is ∙ ap (λ gs. length (receivers (length boxes) gs)) held
+        ∙ length-receivers (length boxes) (frames_to p.number r.pending) in
+    ap (λ t. cond (not t) (Some Stale) (cond (exhausts r (length (let_go boxes r p.number))) (Some Exhausted) None))
+        (eq-eqb p.generation r.generation same)
     ∙ ap (λ k. cond (exhausts r k) (Some Exhausted) None) (sym n)
 
 -- Lines
@@ -63,7 +66,8 @@ AreBelow-numbered g n m [] h l = tt
 AreBelow-numbered g n m (e ∷ es) h l = (omega arith, λ s. omega arith, AreBelow-numbered g (n + 1) m es h.1 (omega arith))
 
 -- what a packet on the line names
-pub below_at : (g n : ℕ) (ps : List Packet) (k : ℕ) (o : Option Packet) → AreBelow g n ps → o ≡ slice_get ps k → IfSome o (λ p. p.generation ≡ g → p.number < n)
+pub below_at : (g n : ℕ) (ps : List Packet) (k : ℕ) (o : Option Packet) → AreBelow g n ps → o ≡ slice_get ps k
+    → IfSome o (λ p. p.generation ≡ g → p.number < n)
 below_at g n [] k None h e = tt
 below_at g n [] k (Some p) h e = absurd (cc)
 below_at g n (q ∷ ps) zero None h e = tt
@@ -136,17 +140,20 @@ module _ (r : Record) (h : IsRecord r) where
         suits = suits_later r.mode r.window (with_cut r.window) (omega arith) refl h.suits;
       }
 
-  pub sent_are : packets_from r.generation r.window.to_acknowledge (r.window.to_cut - r.window.to_acknowledge) ≡ map (packet_of r.generation) r.pending
+  pub sent_are : packets_from r.generation r.window.to_acknowledge (r.window.to_cut - r.window.to_acknowledge)
+      ≡ map (packet_of r.generation) r.pending
   sent_are =
       let e : r.window.to_cut - r.window.to_acknowledge ≡ length r.pending = let p = h.window.count in omega arith in
-      ap (packets_from r.generation r.window.to_acknowledge) e ∙ packets_from-numbered r.generation r.window.to_acknowledge r.pending h.window.numbers
+      ap (packets_from r.generation r.window.to_acknowledge) e
+          ∙ packets_from-numbered r.generation r.window.to_acknowledge r.pending h.window.numbers
 
   pub send_record : IsRecord (send_done r).1
   send_record = record {
     window = h.window;
     forward =
         AreBelow-append r.generation r.window.to_cut r.lines.forward (map (packet_of r.generation) r.pending) h.forward
-        (AreBelow-numbered r.generation r.window.to_acknowledge r.window.to_cut r.pending h.window.numbers (let p = h.window.count in omega arith));
+        (AreBelow-numbered r.generation r.window.to_acknowledge r.window.to_cut r.pending h.window.numbers (let p = h.window.count in
+            omega arith));
     back = h.back;
     sealed = h.sealed;
     alone = h.alone;

@@ -1,5 +1,6 @@
 -- What so many steps of the guest leave, and what the protocol answers to them.
-use Rattle.std.proofs.Common.{◌≡◌, ℕ, zero, suc, ◌+◌, ◌<◌, ◌≤◌, List, [], ◌∷◌, ◌++◌, length, replicate, refl, sym, ap, ◌∙◌, subst, arith, append_assoc, Bool, true, false, cond, Option, None, Some, Result, Ok, Err, OnErr}
+use Rattle.std.proofs.Common.{◌≡◌, ℕ, zero, suc, ◌+◌, ◌<◌, ◌≤◌, List, [], ◌∷◌, ◌++◌, length, replicate, refl, sym, ap, ◌∙◌, subst, arith}
+use Rattle.std.proofs.Common.{append_assoc, Bool, true, false, cond, Option, None, Some, Result, Ok, Err, OnErr}
 use Rattle.std.specs.Prelude.{nat_lt, nat_le}
 use Rattle.std.proofs.lemmas.Bool.Decides.{nat_tests}
 use Rattle.std.proofs.lemmas.List.{append-nil, length-append, length-replicate}
@@ -19,7 +20,8 @@ use Rattle.pair_core.specs.declared.limits.TheConstants.{STEP_ENTRIES}
 use Rattle.pair_core.specs.Modes.{is_stopped, is_alone}
 use Rattle.pair_core.specs.Nodes.{after_run}
 use Rattle.pair_core.specs.Pair.{Pair, shown_state}
-use Rattle.pair_core.specs.Protocol.{Record, Outcome, first_refusal, or_else, refused, shown_at, live_at, step_refusals, step_done, step_outcome, step_reply, outbox_of}
+use Rattle.pair_core.specs.Protocol.{Record, Outcome, first_refusal, or_else, refused, shown_at, live_at, step_refusals, step_done}
+use Rattle.pair_core.specs.Protocol.{step_outcome, step_reply, outbox_of}
 use Rattle.pair_core.specs.Protocol.{step_room, step_entries}
 use Rattle.pair_core.specs.Runs.{goes_on, steps_outcome, with_steps}
 use Rattle.pair_core.proofs.Consistent.{live_is}
@@ -113,7 +115,8 @@ with_no_steps w = λ i. record w {
 }
 
 -- each step is one entry more
-pub steps-counted : (n : ℕ) (w : Pair) → length (all_entries (with_steps n w).protocol.journal) ≡ length (all_entries w.protocol.journal) + n
+pub steps-counted : (n : ℕ) (w : Pair) → length (all_entries (with_steps n w).protocol.journal) ≡ length (all_entries w.protocol.journal)
+    + n
 steps-counted n w =
     let j = w.protocol.journal in
     let e1 = length-all (with_running j (replicate n Ran)) in
@@ -143,7 +146,8 @@ one-step-answered start r = refl
 none_applies : (r : Record) (outbox : List Frame) → is_stopped r.mode ≡ false → length outbox ≤ 192
     → length (all_entries r.journal) + step_room r.mode < NUMBER_LIMIT → first_refusal (step_refusals outbox r) ≡ None
 none_applies r outbox runs few room =
-    λ i. cond (runs i) (Some Stopped) (cond (no_lt 192 (length outbox) few i) (Some CutNeeded) (cond (no_le NUMBER_LIMIT (length (all_entries r.journal) + step_room r.mode) room i)
+    λ i. cond (runs i) (Some Stopped) (cond (no_lt 192 (length outbox) few i) (Some CutNeeded)
+        (cond (no_le NUMBER_LIMIT (length (all_entries r.journal) + step_room r.mode) room i)
     (Some Exhausted) None))
   where
     no_lt : (a b : ℕ) → b ≤ a → nat_lt a b ≡ false
@@ -168,7 +172,8 @@ step_kept boxes fs steps r two =
     λ i. (replies.Steps steps, record r { journal = with_moves (sym two i) r.journal (step_entries (sym two i) boxes fs) })
 
 pub steps_answered :
-    (n : ℕ) (w : Pair) → Holds w → is_alone w.protocol.mode ≡ false → (0 < n → is_stopped w.protocol.mode ≡ false) → length (all_entries w.protocol.journal) + n < NUMBER_LIMIT
+    (n : ℕ) (w : Pair) → Holds w → is_alone w.protocol.mode ≡ false → (0 < n → is_stopped w.protocol.mode ≡ false)
+        → length (all_entries w.protocol.journal) + n < NUMBER_LIMIT
     → HaveRoom n w.nodes.live.guest w.nodes.live.outbox
     → (replies.Steps (after_steps n w.nodes.live.guest).steps, (with_steps n w).protocol) ≡ steps_outcome w.start w.protocol n
 steps_answered zero w h two runs fits room =
@@ -183,7 +188,8 @@ steps_answered (suc n) w h two runs fits room =
     let before = steps_answered n w h two (λ l. runs (omega arith)) (omega arith) (room-before n g w.nodes.live.outbox room) in
     (λ i. (
       replies.Steps (after_steps-last n g i).steps,
-      record w.protocol { journal = record w.protocol.journal { running = (ap (λ t. ran ++ t) (replicate-last n) ∙ sym (append_assoc ran (replicate n Ran) (Ran ∷ []))) i } },
+      record w.protocol { journal = record w.protocol.journal { running = (ap (λ t. ran ++ t) (replicate-last n)
+          ∙ sym (append_assoc ran (replicate n Ran) (Ran ∷ []))) i } },
     ))
     ∙ step_kept w.ports.boxes (sent (after_steps n g)) (next (after_steps n g)).steps v.protocol two
     ∙ step_goes v (steps_hold n w h) (runs (omega arith)) (room-last n g w.nodes.live.outbox room)
@@ -212,7 +218,8 @@ module _ (start : HistoryState) (r r' : Record) (n k : ℕ) (why : Refusal)
       is_from : (a b : ℕ) → nat_lt a b ≡ false → b ≤ a
       is_from a b e = grind (arith, nat_tests)
 
-      by_test : (m : ℕ) → n < suc m → (t : Bool) → nat_lt n m ≡ t → (n < m → refused r' why ≡ steps_outcome start r m) → refused r' why ≡ steps_outcome start r (suc m)
+      by_test : (m : ℕ) → n < suc m → (t : Bool) → nat_lt n m ≡ t → (n < m → refused r' why ≡ steps_outcome start r m)
+          → refused r' why ≡ steps_outcome start r (suc m)
       by_test m l true e more = longer m (more (is_below n m e))
       by_test m l false e more = let from = is_from n m e in after m (omega arith)
 
@@ -221,7 +228,8 @@ module _ (start : HistoryState) (r r' : Record) (n k : ℕ) (why : Refusal)
 refused_stays : (start : HistoryState) (r r' : Record) (why : Refusal) → refused r' why ≡ step_outcome start r → r' ≡ r
 refused_stays start r r' why e = by_refusal (first_refusal (step_refusals (outbox_of start r) r)) e
   where
-    by_refusal : (o : Option Refusal) → refused r' why ≡ or_else o (refused r) (step_done (shown_at start r).boxes (sent (live_at start r).guest) (next (live_at start r).guest).steps r) → r' ≡ r
+    by_refusal : (o : Option Refusal) → refused r' why ≡ or_else o (refused r)
+        (step_done (shown_at start r).boxes (sent (live_at start r).guest) (next (live_at start r).guest).steps r) → r' ≡ r
     by_refusal (Some x) e = ap (λ (o : Outcome). o.1) e
     by_refusal None e =
         let clash : replies.Refused why ≡ replies.Steps (next (live_at start r).guest).steps = ap (λ (o : Outcome). o.0) e in

@@ -1,5 +1,6 @@
 -- Laws of the window of checkpoints.
-use Rattle.std.proofs.Common.{◌≡◌, ℕ, zero, suc, ◌+◌, ◌<◌, ◌≤◌, List, [], ◌∷◌, ◌++◌, length, take, drop, get_or, refl, sym, ap, ◌∙◌, subst, arith, Bool, true, false, cond}
+use Rattle.std.proofs.Common.{◌≡◌, ℕ, zero, suc, ◌+◌, ◌<◌, ◌≤◌, List, [], ◌∷◌, ◌++◌, length, take, drop, get_or, refl, sym, ap, ◌∙◌, subst}
+use Rattle.std.proofs.Common.{arith, Bool, true, false, cond}
 use Rattle.std.specs.Prelude.{nat_le}
 use Rattle.std.proofs.lemmas.Bool.Decides.{nat_tests}
 use Rattle.std.proofs.lemmas.List.{length-append, length-take-le, take-append-drop}
@@ -7,13 +8,15 @@ use Rattle.std.proofs.Math.Seq.{take-append_seam, drop-append_seam}
 use Rattle.frame_ports.specs.declared.limits.TheConstants.{NUMBER_LIMIT}
 use Rattle.output_gate.specs.Epochs.{Epoch, frames_to, after_number, frames_of}
 use Rattle.pair_core.specs.declared.window.Window.{Window}
-use Rattle.pair_core.specs.Window.{NumberedFrom, IsWindow, with_cut, with_commit, with_acknowledged, first_after, committed_count, committed_of, uncommitted_of}
+use Rattle.pair_core.specs.Window.{NumberedFrom, IsWindow, with_cut, with_commit, with_acknowledged, first_after, committed_count}
+use Rattle.pair_core.specs.Window.{committed_of, uncommitted_of}
 
 pub NumberedFrom-push : (n : ℕ) (es : List Epoch) (e : Epoch) → NumberedFrom n es → e.number ≡ n + length es → NumberedFrom n (es ++ e ∷ [])
 NumberedFrom-push n [] e h k = (omega arith, tt)
 NumberedFrom-push n (x ∷ es) e h k = (h.0, NumberedFrom-push (n + 1) es e h.1 (omega arith))
 
-pub numbered_below : (n m : ℕ) (es : List Epoch) → NumberedFrom n es → n + length es ≤ m → (k : ℕ) (d : Epoch) → k < length es → (get_or es k d).number < m
+pub numbered_below : (n m : ℕ) (es : List Epoch) → NumberedFrom n es → n + length es ≤ m → (k : ℕ) (d : Epoch) → k < length es
+    → (get_or es k d).number < m
 numbered_below n m [] h l k d i = absurd (omega arith)
 numbered_below n m (e ∷ es) h l zero d i = omega arith
 numbered_below n m (e ∷ es) h l (suc k) d i = numbered_below (n + 1) m es h.1 (omega arith) k d (omega arith)
@@ -71,7 +74,8 @@ next_start a n h = by_test (nat_le (a + 1) n) refl
     by_test false e = let l : n < a + 1 = is_below (a + 1) n e in omega arith
 
 -- the first is taken, and then what comes behind it
-one_more : (n a : ℕ) (e : Epoch) (waiting others : List Epoch) → a ≤ n → NumberedFrom a (e ∷ (waiting ++ others)) → Taken n (a + 1) waiting others → Taken n a (e ∷ waiting) others
+one_more : (n a : ℕ) (e : Epoch) (waiting others : List Epoch) → a ≤ n → NumberedFrom a (e ∷ (waiting ++ others))
+    → Taken n (a + 1) waiting others → Taken n a (e ∷ waiting) others
 one_more n a e waiting others l h m =
     let on : nat_le e.number n ≡ true = ap (λ k. nat_le k n) h.0 ∙ test_from a n l in
     let here : cond (nat_le a n) (n + 1) a ≡ n + 1 = ap (λ t. cond t (n + 1) a) (test_from a n l) in
@@ -80,7 +84,8 @@ one_more n a e waiting others l h m =
       gone = e ∷ m.gone;
       stay = m.stay;
       split = ap (λ t. e ∷ t) m.split;
-      frames = ap (λ t. cond t (e.frames ++ frames_to n (waiting ++ others)) (frames_to n (waiting ++ others))) on ∙ ap (λ t. e.frames ++ t) m.frames;
+      frames = ap (λ t. cond t (e.frames ++ frames_to n (waiting ++ others)) (frames_to n (waiting ++ others))) on
+          ∙ ap (λ t. e.frames ++ t) m.frames;
       rest = ap (λ t. cond t (after_number n (waiting ++ others)) (e ∷ after_number n (waiting ++ others))) on ∙ m.rest;
       count = let c = m.count in omega arith;
       numbers = subst (λ (k : ℕ). NumberedFrom k (m.stay ++ others)) (there ∙ sym here) m.numbers;
@@ -91,7 +96,8 @@ taken n a [] others l h = none n a [] others (omega arith) h
 taken n a (e ∷ waiting) others l h =
     by_test n a e waiting others h (nat_le a n) refl (λ from. taken n (a + 1) waiting others (omega arith) h.1)
   where
-    by_test : (n a : ℕ) (e : Epoch) (waiting others : List Epoch) → NumberedFrom a (e ∷ (waiting ++ others)) → (t : Bool) → nat_le a n ≡ t → (a ≤ n → Taken n (a + 1) waiting others) → Taken n a (e ∷ waiting) others
+    by_test : (n a : ℕ) (e : Epoch) (waiting others : List Epoch) → NumberedFrom a (e ∷ (waiting ++ others)) → (t : Bool) → nat_le a n ≡ t
+        → (a ≤ n → Taken n (a + 1) waiting others) → Taken n a (e ∷ waiting) others
     by_test n a e waiting others h true i more = one_more n a e waiting others (is_from a n i) h (more (is_from a n i))
     by_test n a e waiting others h false i more = none n a (e ∷ waiting) others (is_below a n i) h
 
@@ -101,7 +107,8 @@ module _ (w : Window) (pending : List Epoch) (h : IsWindow w pending) where
   pub within : committed_count w ≤ length pending
   within = let a = h.count in let b = h.cut in let c = h.committed in omega arith
 
-  pub cut_window : (e : Epoch) → e.number ≡ w.to_cut → length pending < 4 → w.to_cut < NUMBER_LIMIT → IsWindow (with_cut w) (pending ++ e ∷ [])
+  pub cut_window : (e : Epoch) → e.number ≡ w.to_cut → length pending < 4 → w.to_cut < NUMBER_LIMIT
+      → IsWindow (with_cut w) (pending ++ e ∷ [])
   cut_window e number few last =
       let long : length (pending ++ e ∷ []) ≡ length pending + 1 = length-append pending (e ∷ []) in
       let a = h.count in let b = h.cut in

@@ -1,4 +1,5 @@
--- Replication: the guests that the backup's image will be, one after another, and that each is the guest that the live machine was at a cut.
+-- Replication: the guests that the backup's image will be, one after another, and that each is the guest that the live machine was at a
+-- cut.
 use Rattle.std.specs.Prelude.{◌≡◌, ℕ, ◌+◌, ◌≤◌, false, List, [], ◌∷◌, ◌++◌, length, Option, None, Some, slice_get}
 use Rattle.guest_machine.specs.declared.shapes.Shape.{Shape}
 use Rattle.guest_machine.specs.Guest.{Guest}

@@ -1,12 +1,14 @@
 //! The pair's record: all of a pair but its machines.
-ghost use Rattle.std.specs.Prelude.{◌≡◌, ℕ, ◌+◌, ◌-◌, ◌*◌, ◌^◌, ◌≤◌, ◌<◌, ◌++◌, ◌∷◌, [], length, replicate, All, IfOk, IfSome, OnOk, OnErr, None, Some, false, slice_get};
+ghost use Rattle.std.specs.Prelude.{◌≡◌, ℕ, ◌+◌, ◌-◌, ◌*◌, ◌^◌, ◌≤◌, ◌<◌, ◌++◌, ◌∷◌, [], length, replicate, All, IfOk, IfSome, OnOk, OnErr};
+ghost use Rattle.std.specs.Prelude.{None, Some, false, slice_get};
 ghost use Rattle.frame_ports.specs.Addresses.{IsFrame};
 ghost use Rattle.frame_ports.specs.Ports.{empty_ports};
 ghost use Rattle.frame_ports.specs.declared.limits.TheConstants.{MAX_CLIENTS, NUMBER_LIMIT};
 ghost use Rattle.pair_history.specs.Entries.{Ran};
 ghost use Rattle.pair_core.specs.Journal.{all_entries, with_running};
 ghost use Rattle.pair_core.specs.Modes.{is_stopped as stopped, is_alone as alone, stop_refusal};
-ghost use Rattle.pair_core.specs.Protocol.{exhausts, is_among, first_refusal, step_refusals, cut_refusals, cut_done, send_done, backup_refusals, again_done, commit_done, ack_refusals, ack_done, fail_primary_done};
+ghost use Rattle.pair_core.specs.Protocol.{exhausts, is_among, first_refusal, step_refusals, cut_refusals, cut_done, send_done};
+ghost use Rattle.pair_core.specs.Protocol.{backup_refusals, again_done, commit_done, ack_refusals, ack_done, fail_primary_done};
 ghost use Rattle.pair_core.specs.Record.{IsRecord, start_record, ports_after_ack};
 
 mod alone;
@@ -192,7 +194,8 @@ impl PairRecord {
         requires pair { alone self.old.protocol.mode ≡ false }
         requires fits { length (all_entries self.old.protocol.journal) + steps < NUMBER_LIMIT }
         ensures { self.new
-            ≡ record self.old { protocol = record self.old.protocol { journal = with_running self.old.protocol.journal (replicate steps Ran) } } }
+            ≡ record self.old { protocol = record self.old.protocol { journal = with_running self.old.protocol.journal (replicate steps Ran)
+                } } }
     {
         self.journal.run(steps);
     }

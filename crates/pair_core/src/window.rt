@@ -1,6 +1,7 @@
 //! The numbers of the checkpoints that are under way.
 ghost use Rattle.std.specs.Prelude.{◌≡◌, ◌+◌, ◌-◌, ◌^◌, ◌≤◌, ◌<◌};
-ghost use Rattle.pair_core.specs.Window.{start_window, filling_window, with_cut, with_commit, with_acknowledged, none_pending as none_pending_from};
+ghost use Rattle.pair_core.specs.Window.{start_window, filling_window, with_cut, with_commit, with_acknowledged};
+ghost use Rattle.pair_core.specs.Window.{none_pending as none_pending_from};
 
 /// The numbers of the next checkpoint to be cut, to be committed and to be acknowledged.
 #[derive(Clone, Copy)]

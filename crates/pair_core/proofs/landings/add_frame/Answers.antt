@@ -12,11 +12,14 @@ most : (c : After-contains) → c.clients-clients.result ≤ 16
 most c = let p = c.clients-clients.ensures.ports in let q = p.clients.1 in let e = c.clients-clients.ensures.count in omega arith
 
 are : (c : After-contains) → AreTargets c.clients-clients.result c.args.frame.now.items c.route-targets.result
-are c = subst (λ m. AreTargets m c.args.frame.now.items c.route-targets.result) (sym c.clients-clients.ensures.count) c.route-targets.ensures
+are c = subst (λ m. AreTargets m c.args.frame.now.items c.route-targets.result) (sym c.clients-clients.ensures.count)
+    c.route-targets.ensures
 
 next : (c : After-contains) → has_target c.route-targets.result c.loop-client.client ≡ true
-    → from_on c.clients-clients.result c.loop-client.client c.args.frame.now.items ≡ c.loop-client.client ∷ from_on c.clients-clients.result (c.loop-client.client + 1) c.args.frame.now.items
-next c e = next_yes c.clients-clients.result c.loop-client.client c.args.frame.now.items c.route-targets.result (are c) c.loop-client.invariant.first (omega arith) (most c) e
+    → from_on c.clients-clients.result c.loop-client.client c.args.frame.now.items ≡ c.loop-client.client
+        ∷ from_on c.clients-clients.result (c.loop-client.client + 1) c.args.frame.now.items
+next c e = next_yes c.clients-clients.result c.loop-client.client c.args.frame.now.items c.route-targets.result (are c)
+    c.loop-client.invariant.first (omega arith) (most c) e
 
 pub add_landing-requires-clause-room : goal.add_landing-requires-clause-room
 add_landing-requires-clause-room c =
@@ -56,7 +59,8 @@ loop-client-preserved c =
           record {
             first = omega arith;
             places = c.if-contains.array_long;
-            entries = entries_more old c.if-contains.history.entries c.loop-client.lengths c.if-contains.lengths i rest now (c.args.history.now.entries ++ landings_by c.args.lengths.now all) e n_is a_is v.entries;
+            entries = entries_more old c.if-contains.history.entries c.loop-client.lengths c.if-contains.lengths i rest now
+                (c.args.history.now.entries ++ landings_by c.args.lengths.now all) e n_is a_is v.entries;
             lengths = ap (λ t. lengths_after t rest) a_is ∙ ap (lengths_after c.loop-client.lengths) (sym e) ∙ v.lengths;
             size =
                 let x = ap length n_is in
@@ -77,7 +81,8 @@ loop-client-preserved c =
           record {
             first = omega arith;
             places = c.if-contains.array_long;
-            entries = ap (λ t. t ++ landings_by c.if-contains.lengths rest) same ∙ ap (λ t. old ++ landings_by t rest) w.lengths-is ∙ ap (λ t. old ++ landings_by c.loop-client.lengths t) (sym e) ∙ v.entries;
+            entries = ap (λ t. t ++ landings_by c.if-contains.lengths rest) same ∙ ap (λ t. old ++ landings_by t rest) w.lengths-is
+                ∙ ap (λ t. old ++ landings_by c.loop-client.lengths t) (sym e) ∙ v.entries;
             lengths = ap (λ t. lengths_after t rest) w.lengths-is ∙ ap (lengths_after c.loop-client.lengths) (sym e) ∙ v.lengths;
             size =
                 let x = ap length same in

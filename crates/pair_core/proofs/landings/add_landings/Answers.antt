@@ -23,7 +23,9 @@ loop-frame-preserved c =
     let added = ap length c.add_frame.ensures.entries in
     record {
       places = c.add_frame.array_long;
-      entries = frames_more old c.add_frame.new.history.entries c.loop-frame.lengths c.add_frame.new.lengths cs rest now (c.args.history.now.entries ++ landings_by c.box_lengths-lengths.result (receivers n fs)) e c.add_frame.ensures.entries c.add_frame.ensures.lengths c.loop-frame.invariant.entries;
+      entries = frames_more old c.add_frame.new.history.entries c.loop-frame.lengths c.add_frame.new.lengths cs rest now
+          (c.args.history.now.entries ++ landings_by c.box_lengths-lengths.result (receivers n fs))
+          e c.add_frame.ensures.entries c.add_frame.ensures.lengths c.loop-frame.invariant.entries;
       size =
           let x = length-append old (landings_by c.loop-frame.lengths cs) in
           let y = landings_length c.loop-frame.lengths cs in
@@ -39,5 +41,8 @@ pub returns : goal.returns
 returns c =
     let n = length c.args.ports.now.boxes in
     let fs = c.args.frames.now in
-    nil-append c.loop-frame.history.entries c.loop-frame.lengths (receivers n (drop c.loop-frame.frame-index fs)) (c.args.history.now.entries ++ landings_by c.box_lengths-lengths.result (receivers n fs)) (receivers-none n fs c.loop-frame.frame-index (omega arith)) c.loop-frame.invariant.entries
-    ∙ ap (λ t. c.args.history.now.entries ++ t) (landings_by-targets n c.box_lengths-lengths.result c.args.ports.now.boxes fs c.box_lengths-lengths.ensures refl)
+    nil-append c.loop-frame.history.entries c.loop-frame.lengths (receivers n (drop c.loop-frame.frame-index fs))
+        (c.args.history.now.entries ++ landings_by c.box_lengths-lengths.result (receivers n fs))
+        (receivers-none n fs c.loop-frame.frame-index (omega arith)) c.loop-frame.invariant.entries
+    ∙ ap (λ t. c.args.history.now.entries ++ t)
+        (landings_by-targets n c.box_lengths-lengths.result c.args.ports.now.boxes fs c.box_lengths-lengths.ensures refl)

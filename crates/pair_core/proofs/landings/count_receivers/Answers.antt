@@ -10,9 +10,11 @@ loop-client-preserved c =
     let n = c.clients-clients.result in
     let bytes = c.args.frame.now.items in
     let i = c.loop-client.client in
-    let most : n ≤ 16 = let p = c.clients-clients.ensures.ports in let q = p.clients.1 in let e = c.clients-clients.ensures.count in omega arith in
+    let most : n ≤ 16 = let p = c.clients-clients.ensures.ports in let q = p.clients.1 in let e = c.clients-clients.ensures.count in
+        omega arith in
     let high : i ≤ n = omega arith in
-    let are : AreTargets n bytes c.route-targets.result = subst (λ m. AreTargets m bytes c.route-targets.result) (sym c.clients-clients.ensures.count) c.route-targets.ensures in
+    let are : AreTargets n bytes c.route-targets.result = subst (λ m. AreTargets m bytes c.route-targets.result)
+        (sym c.clients-clients.ensures.count) c.route-targets.ensures in
     let low = c.loop-client.invariant.first in
     elim c.if-contains.branch [
       | then-contains w ↦
@@ -21,7 +23,9 @@ loop-client-preserved c =
           record {
             first = omega arith;
             few = omega arith;
-            counted = ap (λ k. k + length (from_on n (i + 1) bytes)) is ∙ counted_more c.loop-client.count (length (clients_of n bytes)) i (from_on n (i + 1) bytes) (from_on n i bytes) e c.loop-client.invariant.counted;
+            counted = ap (λ k. k + length (from_on n (i + 1) bytes)) is
+                ∙ counted_more c.loop-client.count (length (clients_of n bytes)) i (from_on n (i + 1) bytes) (from_on n i bytes)
+                e c.loop-client.invariant.counted;
           }
       | else-contains w ↦
           let is = w.count-is in
@@ -29,7 +33,8 @@ loop-client-preserved c =
           record {
             first = omega arith;
             few = omega arith;
-            counted = ap (λ k. k + length (from_on n (i + 1) bytes)) is ∙ ap (λ t. c.loop-client.count + length t) (sym e) ∙ c.loop-client.invariant.counted;
+            counted = ap (λ k. k + length (from_on n (i + 1) bytes)) is ∙ ap (λ t. c.loop-client.count + length t) (sym e)
+                ∙ c.loop-client.invariant.counted;
           }
     ]
 

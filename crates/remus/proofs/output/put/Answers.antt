@@ -1,4 +1,5 @@
-use Rattle.std.proofs.Common.{◌≡◌, ◌≤◌, ◌+◌, ◌-◌, ◌++◌, ℕ, List, length, take, drop, sym, ap, subst, ◌∙◌, arith, length-take, length-drop, take-append-drop}
+use Rattle.std.proofs.Common.{◌≡◌, ◌≤◌, ◌+◌, ◌-◌, ◌++◌, ℕ, List, length, take, drop, sym, ap, subst, ◌∙◌, arith, length-take, length-drop}
+use Rattle.std.proofs.Common.{take-append-drop}
 use lib.Seq.{take-add, take-take}
 use Rattle.std.specs.Io.KnownBytes.{Appends}
 use Rattle.std.proofs.KnownBytes.{Appends-trans, Appends-kept}
@@ -19,7 +20,8 @@ returns-in-Ok-eq0-clause-err g c =
       take (done + n) xs,
       drop (done + n) xs,
       sym (take-append-drop (done + n) xs),
-      subst (Appends _ _) (joined xs done n c.in-Ok-eq0.ensures.bound) (Appends-trans _ _ _ _ _ c.loop-written.invariant.2 c.in-Ok-eq0.ensures.bytes),
+      subst (Appends _ _) (joined xs done n c.in-Ok-eq0.ensures.bound)
+          (Appends-trans _ _ _ _ _ c.loop-written.invariant.2 c.in-Ok-eq0.ensures.bytes),
     )
 
 pub loop-written-preserved-in-Ok : goal.loop-written-preserved-in-Ok

@@ -51,4 +51,5 @@ returns-in-Live-clause-readable g c =
     readable c.args.reply.now (Live c.in-Live.generation c.in-Live.steps) c.in-Live.is (omega arith, omega arith)
 
 pub returns-in-Protecting-clause-readable : goal.returns-in-Protecting-clause-readable
-returns-in-Protecting-clause-readable g c = readable c.args.reply.now (Protecting c.in-Protecting.generation) c.in-Protecting.is (omega arith)
+returns-in-Protecting-clause-readable g c = readable c.args.reply.now (Protecting c.in-Protecting.generation)
+    c.in-Protecting.is (omega arith)

@@ -10,7 +10,8 @@ use Rattle.pair_core.proofs.JournalLaws.{epoch-arrives, length-all}
 use Rattle.pair_core.proofs.journal.Journal.arrive.Goals as goal
 use Rattle.pair_core.proofs.journal.Journal.arrive.Goals.{After-unwrap}
 
-running_is : (c : After-unwrap) → epoch_entries c.push.new.self.items 0 ≡ epoch_entries c.self.inside.running.arrivals.items c.self.inside.running.steps ++ Arrive c.args.number ∷ []
+running_is : (c : After-unwrap) → epoch_entries c.push.new.self.items 0
+    ≡ epoch_entries c.self.inside.running.arrivals.items c.self.inside.running.steps ++ Arrive c.args.number ∷ []
 running_is c =
     let items = rw c.unwrap.ensures at c.push.ensures.items in
     let a = c.self.inside in
@@ -26,7 +27,8 @@ invariant_of-self c =
     let e4 = length-append j.running (Arrive c.args.number ∷ []) in
     let e5 = length-append (joined j.sealed) j.running in
     let k = c.self.invariant.counted in
-    let room = subst (λ (s : Stored). length (all_entries s.journal) + 1 ≤ NUMBER_LIMIT - 1) (sym c.self.view_is) (let r = c.requires.fits in omega arith) in
+    let room = subst (λ (s : Stored). length (all_entries s.journal) + 1 ≤ NUMBER_LIMIT - 1) (sym c.self.view_is)
+        (let r = c.requires.fits in omega arith) in
     record { counted = omega arith; fits = omega arith }
 
 pub returns : goal.returns

@@ -15,6 +15,7 @@ returns-clause-text c =
     → IsText x.nodes.image.shape c.args.generation c.args.number base x.nodes.live.guest text)
     c.self.view_is
     (λ base is sized.
-    delta-text m.settled m.dirty m c.args.generation c.args.number c.in-Ok.checkpoint (image_or c.self.inside.shape c.self.inside.image).shape text base
+    delta-text m.settled m.dirty m c.args.generation c.args.number c.in-Ok.checkpoint
+        (image_or c.self.inside.shape c.self.inside.image).shape text base
     c.in-Ok.ensures.parts
     c.in-Ok-encode.ensures.read (c.in-Ok.ensures.image base (base-of m base is)) sized)

@@ -23,4 +23,5 @@ invariant_of-self c =
       protocol = sym (ap (λ (o : Outcome). o.1) c.fail_primary.ensures.protocol) i;
       ports = sym c.fail_primary.ensures.ports i;
     })
-    (mode_holds w c.self.invariant Stopped (stays w.protocol.mode (subst (λ (v : Pair). mode_refusal v.protocol.mode FailPrimary ≡ None) (sym c.self.view_is) c.requires)))
+    (mode_holds w c.self.invariant Stopped (stays w.protocol.mode (subst (λ (v : Pair). mode_refusal v.protocol.mode FailPrimary ≡ None)
+        (sym c.self.view_is) c.requires)))

@@ -13,6 +13,7 @@ returns-clause-outcome c =
     let other = c.if-made-count.false in
     let fewer : made.result < c.args.count = omega arith in
     let ends =
-    subst (λ (s : HistoryState). refused r c.in-Some.why ≡ step_outcome s r) (ap (λ (v : Pair). v.start) made.ensures.made) c.in-Some.ensures.refused in
+    subst (λ (s : HistoryState). refused r c.in-Some.why ≡ step_outcome s r) (ap (λ (v : Pair). v.start) made.ensures.made)
+        c.in-Some.ensures.refused in
     refusal_answered c.args.self.now.start c.args.self.now.protocol r made.result made.new.self.nodes.live.guest.steps c.in-Some.why
     made.ensures.answered ends c.args.count fewer
