@@ -1,13 +1,14 @@
 #!/usr/bin/env python3
-"""Writes ../examples/ping.sim, ../examples/disk.sim, ../examples/failover.sim and ../examples/ten_failovers.sim from the words of the
-guests, and beside each what it prints. The frames, their answers, the hash and the counts are worked out here, with no part of the guests;
-what the pair answers in ten_failovers is worked out by pair.py, with no part of the program."""
+"""Writes ping.sim, disk.sim, failover.sim, ten_failovers.sim and everyone.sim of ../examples from the words of the guests, and beside
+each what it prints. The frames, their answers, the hash and the counts are worked out here, with no part of the guests; what the pair
+answers in the last two is worked out by pair.py, with no part of the program."""
 import itertools
 import struct
 from pathlib import Path
 
-from evaluator import answer
+from evaluator import answer, booted
 from pair import Pair
+from sender import Sender
 
 HERE = Path(__file__).parent
 EXAMPLES = HERE.parent / "examples"
@@ -337,7 +338,29 @@ def ten_failovers():
     write("ten_failovers", talk.lines)
 
 
+def everyone():
+    """The guest of sender.py sends to every client, in the largest machine."""
+    boot = b"boot 4096 32768 16 words " + Sender([1] * 8, 1, 0).words()
+    pair = booted(boot.split(b" "))
+    lines = ["A guest in the largest machine, with as many clients as there can be. In step 27 it sends a frame to all of them.",
+             (boot.decode(), "booted")]
+
+    def play(*orders):
+        for line in orders:
+            lines.append((line, answer(pair, line.encode().split(b" "))))
+
+    play("step 27", "cut", "send", "backup 0")
+    lines.append("It lands for each, once the backup has the state that sent it.")
+    play("ack 0", "take 1", "take 16", "take 16", "sector 32767")
+    lines.append("The last client's longest frame arrives, and the shortest one.")
+    longest = ethernet(GUEST_MAC, bytes.fromhex("020000000110"), 0x88B5, bytes(1500)).hex()
+    play(f"deliver 16 {longest}", "admit 16", f"deliver 16 {longest[:28]}", "admit 16", "admit 16", "show")
+    assert lines[7][1] == "acked 1 1 landed 16"
+    write("everyone", lines)
+
+
 ping()
 disk()
 failover()
 ten_failovers()
+everyone()
