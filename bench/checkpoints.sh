@@ -1,8 +1,8 @@
 #!/usr/bin/env bash
 # What a checkpoint costs: one epoch (change, cut, encode, read, stage and commit) in which 1, 64 or 4096 pages of 4096 change, one block of
-# each or all 64, beside the same in plain Rust (bench/baseline); and how many bytes a second `remus check-stream` reads of files of 100 MB
-# and more. Processor time, the best of three; a run of no epochs, which only boots, is taken off. REMUS names another program to measure
-# in the place of the repository's own.
+# each or all 64, beside the same in plain Rust (bench/baseline); an epoch of one block in machines of other sizes, beside that of the
+# smallest; and how many bytes a second `remus check-stream` reads of files of 100 MB and more. Processor time, the best of three; a run of
+# no epochs, which only boots, is taken off. REMUS names another program to measure in the place of the repository's own.
 set -eu
 cd "$(dirname "$0")/.."
 epochs=$(bench/epochs/build.sh)
@@ -41,6 +41,21 @@ for blocks in 1 64; do
                 pages, blocks, bytes / rounds, a * 1e6, b * 1e6, a / b
         }'
     done
+done
+
+# The time of an epoch in which one block changes, in a machine of so many pages and sectors.
+flat() {
+    local rounds=20000
+    awk -v all="$(seconds "$epochs" flat "$1" "$2" "$rounds")" -v boot="$(seconds "$epochs" flat "$1" "$2" 0)" -v rounds="$rounds" \
+        'BEGIN { print (all - boot) / rounds * 1e6 }'
+}
+small=$(flat 16 64)
+for size in "4096 64" "16 32768"; do
+    read -r pages sectors <<<"$size"
+    awk -v pages="$pages" -v sectors="$sectors" -v here="$(flat "$pages" "$sectors")" -v small="$small" 'BEGIN {
+        printf "one block, %4d pages and %5d sectors: %9.1f us an epoch, %9.1f us with 16 and 64, ratio %.2f\n",
+            pages, sectors, here, small, here / small
+    }'
 done
 
 # Streams of whole pages, of one block a page, of sectors, and of the beacon's checkpoint again and again.
