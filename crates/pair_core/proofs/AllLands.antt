@@ -48,7 +48,7 @@ module _ (w : Pair) (h : Holds w) where
       let b = w.ports.boxes in
       let same : u.boxes ≡ b = sym h.clients.boxes in
       let out : u.out ≡ held ++ [] = ap (λ (s : HistoryState). s.out) (sym (live_is_moved w h)) ∙ sym (owed_is w h)
-          ∙ sym (append-nil held) in
+      ∙ sym (append-nil held) in
       let all : AllClients (length b) held = AllClients-targets (length b) (frames_of w.protocol.pending ++ w.nodes.live.outbox) in
       let land : AllLand u held [] (landings u.boxes held) =
       landings-land u held [] out (subst (λ (x : List (List Frame)). AllClients (length x) held) h.clients.boxes all)

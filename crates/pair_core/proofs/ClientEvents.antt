@@ -66,15 +66,15 @@ module _ (w : Pair) (h : Holds w) (es : List Entry) (now : HistoryState)
         };
         nodes =
             subst (λ (n : ℕ). AreNodes (is_alone w.protocol.mode)
-                w.protocol.generation n (at w.start (history ++ es)).guest h.journal.sealed_moves h.journal.running_moves
+            w.protocol.generation n (at w.start (history ++ es)).guest h.journal.sealed_moves h.journal.running_moves
             (frames_by_epoch (uncommitted_of window pending)) w.nodes) (sym stays)
             (subst (λ (us : List Epoch). AreNodes (is_alone w.protocol.mode)
-                w.protocol.generation w.protocol.window.to_commit (at w.start (history ++ es)).guest
+            w.protocol.generation w.protocol.window.to_commit (at w.start (history ++ es)).guest
             h.journal.sealed_moves h.journal.running_moves (frames_by_epoch us) w.nodes) (sym same)
             (subst (λ (g : Guest). AreNodes (is_alone w.protocol.mode)
-                w.protocol.generation w.protocol.window.to_commit g h.journal.sealed_moves h.journal.running_moves
+            w.protocol.generation w.protocol.window.to_commit g h.journal.sealed_moves h.journal.running_moves
             (frames_by_epoch (uncommitted_of w.protocol.window w.protocol.pending)) w.nodes) (sym guest ∙ ap (λ t. t.guest) shown)
-                h.nodes));
+            h.nodes));
         clients = subst (λ (t : HistoryState). AreClients t (left t.waiting ms) ports) shown clients;
         owed = ap (λ t. t.out) (sym shown) ∙ owed;
       }

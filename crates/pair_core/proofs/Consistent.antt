@@ -32,7 +32,7 @@ joined-entries (ms ∷ mss) = ap (λ t. entries_of ms ++ t) (joined-entries mss)
 -- the texts of epochs of moves are those of their entries
 texts_are : (shape : Shape) (generation n : ℕ) (s : HistoryState) (mss : List (List Move)) (rest : List Move) (texts : List (List ℕ))
     → AllCan s.waiting (all_moves mss ++ rest) → AreSealed shape generation n s.guest mss texts
-        → AreTexts shape generation n s (map entries_of mss) texts
+    → AreTexts shape generation n s (map entries_of mss) texts
 texts_are shape generation n s [] rest [] can h = tt
 texts_are shape generation n s [] rest (t ∷ texts) can h = absurd h
 texts_are shape generation n s (ms ∷ mss) rest [] can h = absurd h
@@ -86,7 +86,7 @@ module _ (w : Pair) (h : Holds w) where
       ap (λ s. sent_along s w.protocol.journal.running) sealed_state
       ∙ ap (sent_along (moved (shown_state w) sealed_moves)) h.journal.running_are
       ∙ sent_along-moves (moved (shown_state w) sealed_moves)
-          h.journal.running_moves (AllCan-back (shown_state w).waiting sealed_moves h.journal.running_moves h.journal.can)
+      h.journal.running_moves (AllCan-back (shown_state w).waiting sealed_moves h.journal.running_moves h.journal.can)
       ∙ sym h.nodes.outbox
 
   -- the frames sent along all that is kept
@@ -95,8 +95,8 @@ module _ (w : Pair) (h : Holds w) where
   kept_frames =
       frames_along-append (shown_state w).guest sealed_moves h.journal.running_moves
       ∙ ap (λ t. t ++ frames_along (guest_along (shown_state w).guest sealed_moves) h.journal.running_moves)
-          (sym (of_epochs (shown_state w).guest h.journal.sealed_moves (uncommitted_of w.protocol.window w.protocol.pending)
-          h.nodes.frames))
+      (sym (of_epochs (shown_state w).guest h.journal.sealed_moves (uncommitted_of w.protocol.window w.protocol.pending)
+      h.nodes.frames))
       ∙ ap (λ t. frames_of (uncommitted_of w.protocol.window w.protocol.pending) ++ t) (sym h.nodes.outbox)
     where
       of_epochs : (g : Guest) (mss : List (List Move)) (es : List Epoch) → frames_by_epoch es ≡ epoch_frames g mss
@@ -108,7 +108,7 @@ module _ (w : Pair) (h : Holds w) where
           let head : x.frames ≡ frames_along g k = cc in
           let tail : frames_by_epoch es ≡ epoch_frames (guest_along g k) mss = cc in
           ap (λ t. t ++ frames_of es) head ∙ ap (λ t. frames_along g k ++ t) (of_epochs (guest_along g k) mss es tail)
-              ∙ sym (frames_along-append g k (all_moves mss))
+          ∙ sym (frames_along-append g k (all_moves mss))
 
   pub owed_is : targets_of (length w.ports.boxes) (frames_of w.protocol.pending ++ w.nodes.live.outbox) ≡ (live_state w).out
   owed_is =
@@ -116,14 +116,14 @@ module _ (w : Pair) (h : Holds w) where
       let covered = committed_of w.protocol.window w.protocol.pending in
       let others = uncommitted_of w.protocol.window w.protocol.pending in
       ap (λ t. targets_of n (frames_of t ++ w.nodes.live.outbox))
-          (sym (take-append-drop (committed_count w.protocol.window) w.protocol.pending))
+      (sym (take-append-drop (committed_count w.protocol.window) w.protocol.pending))
       ∙ ap (λ t. targets_of n (t ++ w.nodes.live.outbox)) (frames_of-append covered others)
       ∙ ap (targets_of n) (append_assoc (frames_of covered) (frames_of others) w.nodes.live.outbox)
       ∙ targets_of-append n (frames_of covered) (frames_of others ++ w.nodes.live.outbox)
       ∙ ap (λ t. t ++ targets_of n (frames_of others ++ w.nodes.live.outbox)) (sym h.owed)
       ∙ ap (λ t. (shown_state w).out ++ targets_of n t) (sym kept_frames)
       ∙ ap (λ (b : List (List Frame)). (shown_state w).out ++ targets_of (length b) (frames_along (shown_state w).guest (kept_moves w h)))
-          h.clients.boxes
+      h.clients.boxes
       ∙ sym (ap (λ s. s.out) live_is_moved)
 
   -- the guest at the end of the oldest sealed epoch

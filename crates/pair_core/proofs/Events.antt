@@ -71,8 +71,12 @@ module _ (w : Pair) (h : Holds w) (ms : List Move) (es : List Entry) (live : Nod
     (base : (b : Guest) → IsBase (machine_of w.nodes.live) b → IsBase (machine_of live) b)
     (can : AllCan (left_now w h) ms)
     (clients : AreClients (shown_state w) (left (left_now w h) ms) (record w.ports { inboxes = inboxes })) where
-  pub moves_hold : Holds (record w { protocol = record w.protocol { journal = with_running w.protocol.journal es }; ports =
-      record w.ports { inboxes = inboxes }; nodes = record w.nodes { live = live } })
+  pub moves_hold : Holds (record w {
+    protocol = record w.protocol { journal = with_running w.protocol.journal es };
+    ports =
+        record w.ports { inboxes = inboxes };
+    nodes = record w.nodes { live = live };
+  })
   moves_hold =
       let s = shown_state w in
       let ran = h.journal.running_moves in
@@ -80,7 +84,7 @@ module _ (w : Pair) (h : Holds w) (ms : List Move) (es : List Entry) (live : Nod
       let now = kept_moves w h in
       let regroup : now ++ ms ≡ sealed ++ (ran ++ ms) = append_assoc sealed ran ms in
       let left_is : left (left_now w h) ms ≡ left s.waiting (sealed ++ (ran ++ ms)) = sym (left-append s.waiting now ms)
-          ∙ ap (left s.waiting) regroup in
+      ∙ ap (left s.waiting) regroup in
       let g = guest_along s.guest sealed in
       let live_is : w.nodes.live.guest ≡ guest_along g ran = h.nodes.live ∙ guest_along-append s.guest sealed ran in
       record {
@@ -126,7 +130,7 @@ module _ (count c : ℕ) (inboxes : List (List (ℕ × Frame))) (new : List (ℕ
       let is : d ≡ c = let e = same.1 in omega arith in
       let within : c - 1 < length inboxes = omega arith in
       ap (λ j. list_of (with_list inboxes c new) j) is ∙ get_or-set_same inboxes (c - 1) new [] within ∙ here
-          ∙ ap (λ j. inbox_of j vs) (sym is))
+      ∙ ap (λ j. inbox_of j vs) (sym is))
       (λ (apart : ((d - 1 == c - 1) ≡ false) × (d - 1 ≢ c - 1)).
       get_or-set_other inboxes (c - 1) (d - 1) new [] apart.1 ∙ are d l k ∙ others d (λ (e : d ≡ c). apart.1 (ap (λ j. j - 1) e)))
       (eqb_tells (d - 1) (c - 1))
@@ -136,8 +140,12 @@ apart a b h = grind (arith, nat_tests)
 
 pub admit_holds : (w : Pair) (h : Holds w) (c n : ℕ) (f : Frame) → 1 ≤ c → c ≤ length w.ports.boxes
     → slice_get (list_of w.ports.inboxes c) 0 ≡ Some (n, f)
-    → Holds (record w { protocol = record w.protocol { journal = with_running w.protocol.journal (entries_of (Arrives n f ∷ [])) }; ports =
-        ports_after_admit w.ports c; nodes = with_arrival w.nodes f })
+    → Holds (record w {
+      protocol = record w.protocol { journal = with_running w.protocol.journal (entries_of (Arrives n f ∷ [])) };
+      ports =
+          ports_after_admit w.ports c;
+      nodes = with_arrival w.nodes f;
+    })
 admit_holds w h c n f low high first =
     let ws = left_now w h in
     let k = h.clients in
@@ -148,7 +156,7 @@ admit_holds w h c n f low high first =
     let leaves : Leaves c 0 n f ws = leaves-at c 0 n f 1 w.ports.next ws rising starts in
     let same : (c == c) ≡ true = eq-eqb c c refl in
     moves_hold w h (Arrives n f ∷ []) (entries_of (Arrives n f ∷ []))
-        (with_arrival w.nodes f).live (with_list inboxes c (drop 1 (list_of inboxes c))) refl refl
+    (with_arrival w.nodes f).live (with_list inboxes c (drop 1 (list_of inboxes c))) refl refl
     (sym (append-nil w.nodes.live.outbox)) (λ t k. shape-arrived f t w.nodes.live.guest k) (λ b k. base-with_arrival f w.nodes b k)
     (((c, f, starts), leaves.0), tt)
     (record {
@@ -179,12 +187,12 @@ module _ (w : Pair) (h : Holds w) (k : IsRecord w.protocol) (text : List ℕ)
       let mss = h.journal.sealed_moves in
       let ran = h.journal.running_moves in
       let same : kept_moves w h ≡ all_moves (mss ++ ran ∷ []) ++ [] = sym (append-nil (all_moves (mss ++ ran ∷ []))
-          ∙ all_moves-push mss ran) in
+      ∙ all_moves-push mss ran) in
       let counted : w.protocol.window.to_commit + length mss ≡ w.protocol.window.to_cut =
       ap (λ (m : ℕ). w.protocol.window.to_commit + m) (sym (ap length h.journal.sealed_are ∙ length-map mss entries_of)) ∙ k.sealed in
       let frames : frames_by_epoch (drop n pending) ++ w.nodes.live.outbox ∷ [] ≡ frames_by_epoch (drop n (pending ++ e ∷ [])) =
       sym (ap frames_by_epoch (drop-append-le n pending (e ∷ []) enough) ∙ map-append (λ (x : Epoch). x.frames) (drop n pending) (e ∷ []))
-          in
+      in
       record {
         journal = record {
           legal = h.journal.legal;
@@ -199,10 +207,10 @@ module _ (w : Pair) (h : Holds w) (k : IsRecord w.protocol) (text : List ℕ)
         };
         nodes =
             subst (λ (held : List (List Frame)). AreNodes (is_alone w.protocol.mode)
-                w.protocol.generation w.protocol.window.to_commit s.guest
+            w.protocol.generation w.protocol.window.to_commit s.guest
             (mss ++ ran ∷ []) [] held (with_sealed w.nodes text)) frames
             (nodes-cut (is_alone w.protocol.mode) w.protocol.generation w.protocol.window.to_commit s.guest mss ran
-                (frames_by_epoch (drop n pending)) w.nodes w.protocol.window.to_cut text h.nodes counted
+            (frames_by_epoch (drop n pending)) w.nodes w.protocol.window.to_cut text h.nodes counted
             (λ e. is_text (guest_along s.guest (all_moves mss)) (h.nodes.backed e).base h.nodes.shape));
         clients = subst (λ (ms : List Move). AreClients s (left s.waiting ms) w.ports) same h.clients;
         owed = h.owed ∙ ap (λ t. targets_of (length w.ports.boxes) (frames_of t)) (sym (take-append-le n pending (e ∷ []) enough));
@@ -270,7 +278,7 @@ module _ (w : Pair) (h : Holds w) (k : IsRecord w.protocol) (two : is_alone w.pr
       let rest = all_moves mss ++ h.journal.running_moves in
       let all_is : all_moves h.journal.sealed_moves ≡ ms ++ all_moves mss = ap all_moves moves_are in
       let split_moves : kept_moves w h ≡ ms ++ rest = ap (λ t. t ++ h.journal.running_moves) all_is
-          ∙ append_assoc ms (all_moves mss) h.journal.running_moves in
+      ∙ append_assoc ms (all_moves mss) h.journal.running_moves in
       let can : AllCan s.waiting (ms ++ rest) = subst (AllCan s.waiting) split_moves h.journal.can in
       let front : AllCan s.waiting ms = AllCan-front s.waiting ms rest can in
       let g = guest_along s.guest ms in
@@ -283,7 +291,7 @@ module _ (w : Pair) (h : Holds w) (k : IsRecord w.protocol) (two : is_alone w.pr
       let us_sent : frames_by_epoch us ≡ epoch_frames g mss = cc in
       let next = next_epoch (committed_count r.window) r.pending e us us_is in
       let one_more : (r.window.to_commit + 1) - r.window.to_acknowledge ≡ suc (committed_count r.window) = let c = k.window.committed in
-          omega arith in
+      omega arith in
       let left_is : left s.waiting (kept_moves w h) ≡ left (at w.start (j.history ++ first_of j.sealed)).waiting rest =
       ap (left s.waiting) split_moves ∙ left-append s.waiting ms rest ∙ ap (λ t. left t.waiting rest) (sym shown) in
       record {
@@ -309,20 +317,20 @@ module _ (w : Pair) (h : Holds w) (k : IsRecord w.protocol) (two : is_alone w.pr
             (frames_by_epoch (uncommitted_of r.window r.pending)) w.nodes) (sym same) h.nodes in
             let now : AreNodes alone r.generation n s.guest (ms ∷ mss) h.journal.running_moves (e.frames ∷ rest_held) w.nodes =
             subst (λ (t : List (List Move)). AreNodes alone r.generation n s.guest t h.journal.running_moves (e.frames ∷ rest_held) w.nodes)
-                moves_are
+            moves_are
             (subst (λ (us : List Epoch). AreNodes alone r.generation n s.guest h.journal.sealed_moves h.journal.running_moves
             (frames_by_epoch us) w.nodes) us_is before) in
             subst (λ (x : Guest). AreNodes alone r.generation (n + 1)
-                x mss h.journal.running_moves (frames_by_epoch (drop ((n + 1) - r.window.to_acknowledge) r.pending)) (with_commit w.nodes))
-                guest
+            x mss h.journal.running_moves (frames_by_epoch (drop ((n + 1) - r.window.to_acknowledge) r.pending)) (with_commit w.nodes))
+            guest
             (subst (λ (fs : List (List Frame)). AreNodes alone r.generation (n + 1) g mss h.journal.running_moves fs (with_commit w.nodes))
-                held
+            held
             (nodes-commit alone r.generation n s.guest ms mss h.journal.running_moves e.frames rest_held w.nodes now (same ∙ two)));
         clients = record {
           number = h.clients.number ∙ sym (ap (λ t. t.number) shown);
           rising =
               subst (λ (t : HistoryState). AreRising 1 w.ports.next t.waiting) (sym shown)
-                  (AreRising-left 1 w.ports.next s.waiting ms h.clients.rising);
+              (AreRising-left 1 w.ports.next s.waiting ms h.clients.rising);
           count = h.clients.count;
           inboxes = subst (AreInboxes n w.ports.inboxes) left_is h.clients.inboxes;
           boxes = h.clients.boxes ∙ sym (ap (λ t. t.boxes) shown);
@@ -332,7 +340,7 @@ module _ (w : Pair) (h : Holds w) (k : IsRecord w.protocol) (two : is_alone w.pr
             ap (λ t. t.out) shown
             ∙ ap (λ t. t ++ targets_of (length s.boxes) (frames_along s.guest ms)) h.owed
             ∙ ap (λ (b : List (List Frame)). targets_of n (frames_of (committed_of r.window r.pending)) ++ targets_of (length b)
-                (frames_along s.guest ms)) (sym h.clients.boxes)
+            (frames_along s.guest ms)) (sym h.clients.boxes)
             ∙ ap (λ t. targets_of n (frames_of (committed_of r.window r.pending)) ++ targets_of n t) (sym e_sent)
             ∙ sym (targets_of-append n (frames_of (committed_of r.window r.pending)) e.frames)
             ∙ ap (λ t. targets_of n (frames_of (committed_of r.window r.pending) ++ t)) (sym (append-nil e.frames))

@@ -22,7 +22,7 @@ pub epoch-arrives : (arrivals : List Arrival) (n k : ℕ)
 epoch-arrives arrivals n k =
     append_assoc (arrivals_of arrivals) (steps_of n) (Arrive k ∷ [])
     ∙ sym (append-nil (arrivals_of (arrivals ++ record { steps = n; number = k } ∷ []))
-        ∙ arrivals_of-push arrivals (record { steps = n; number = k }))
+    ∙ arrivals_of-push arrivals (record { steps = n; number = k }))
 
 pub joined-push : (ess : List (List Entry)) (es : List Entry) → joined (ess ++ es ∷ []) ≡ joined ess ++ es
 joined-push [] es = append-nil es

@@ -92,7 +92,7 @@ landings-by lengths boxes (p ∷ ps) are h =
     ap (λ (t : Bool). cond t (Land p.0) (DropOut p.0 BOX_FRAMES) ∷ landings_by (lengths_at lengths p.0) (map (λ q. q.0) ps)) e
     ∙ ap (λ t. cond (has_room boxes p.0) (Land p.0) (DropOut p.0 BOX_FRAMES) ∷ t)
     (landings-by (lengths_at lengths p.0) (landed_at boxes p.0 p.1) ps (AreLengths-at lengths boxes are p.0 p.1 h.0 h.1)
-        (subst (λ n. AllClients n ps) (sym (length-landed_at boxes p.0 p.1)) h.2))
+    (subst (λ n. AllClients n ps) (sym (length-landed_at boxes p.0 p.1)) h.2))
 
 pub landings_by-targets : (n : ℕ) (lengths : List ℕ) (boxes : List (List Frame)) (fs : List Frame) → AreLengths lengths boxes
     → length boxes ≡ n → landings_by lengths (receivers n fs) ≡ landings boxes (targets_of n fs)

@@ -156,7 +156,7 @@ module _ (w : Pair) (h : Holds w) where
       admits o e =
           ap (admit_first w.protocol) (sym e)
           ∙ goes w.protocol (arrival_refusals (length w.ports.boxes) w.protocol c)
-              (admit_first w.protocol (slice_get (list_of w.ports.inboxes c) 0))
+          (admit_first w.protocol (slice_get (list_of w.ports.inboxes c) 0))
           client is none
           ∙ admit_sight c
 

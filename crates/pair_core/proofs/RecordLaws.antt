@@ -45,9 +45,9 @@ pub ack_row : (boxes : List (List Frame)) (r : Record) (p : Packet) (count : ℕ
     → first_refusal (ack_refusals boxes r p) ≡ cond (exhausts r count) (Some Exhausted) None
 ack_row boxes r p count fs is held same =
     let n : count ≡ length (let_go boxes r p.number) = is ∙ ap (λ gs. length (receivers (length boxes) gs)) held
-        ∙ length-receivers (length boxes) (frames_to p.number r.pending) in
+    ∙ length-receivers (length boxes) (frames_to p.number r.pending) in
     ap (λ t. cond (not t) (Some Stale) (cond (exhausts r (length (let_go boxes r p.number))) (Some Exhausted) None))
-        (eq-eqb p.generation r.generation same)
+    (eq-eqb p.generation r.generation same)
     ∙ ap (λ k. cond (exhausts r k) (Some Exhausted) None) (sym n)
 
 -- Lines
@@ -145,7 +145,7 @@ module _ (r : Record) (h : IsRecord r) where
   sent_are =
       let e : r.window.to_cut - r.window.to_acknowledge ≡ length r.pending = let p = h.window.count in omega arith in
       ap (packets_from r.generation r.window.to_acknowledge) e
-          ∙ packets_from-numbered r.generation r.window.to_acknowledge r.pending h.window.numbers
+      ∙ packets_from-numbered r.generation r.window.to_acknowledge r.pending h.window.numbers
 
   pub send_record : IsRecord (send_done r).1
   send_record = record {
@@ -153,7 +153,7 @@ module _ (r : Record) (h : IsRecord r) where
     forward =
         AreBelow-append r.generation r.window.to_cut r.lines.forward (map (packet_of r.generation) r.pending) h.forward
         (AreBelow-numbered r.generation r.window.to_acknowledge r.window.to_cut r.pending h.window.numbers (let p = h.window.count in
-            omega arith));
+        omega arith));
     back = h.back;
     sealed = h.sealed;
     alone = h.alone;

@@ -147,7 +147,7 @@ none_applies : (r : Record) (outbox : List Frame) → is_stopped r.mode ≡ fals
     → length (all_entries r.journal) + step_room r.mode < NUMBER_LIMIT → first_refusal (step_refusals outbox r) ≡ None
 none_applies r outbox runs few room =
     λ i. cond (runs i) (Some Stopped) (cond (no_lt 192 (length outbox) few i) (Some CutNeeded)
-        (cond (no_le NUMBER_LIMIT (length (all_entries r.journal) + step_room r.mode) room i)
+    (cond (no_le NUMBER_LIMIT (length (all_entries r.journal) + step_room r.mode) room i)
     (Some Exhausted) None))
   where
     no_lt : (a b : ℕ) → b ≤ a → nat_lt a b ≡ false
@@ -173,7 +173,7 @@ step_kept boxes fs steps r two =
 
 pub steps_answered :
     (n : ℕ) (w : Pair) → Holds w → is_alone w.protocol.mode ≡ false → (0 < n → is_stopped w.protocol.mode ≡ false)
-        → length (all_entries w.protocol.journal) + n < NUMBER_LIMIT
+    → length (all_entries w.protocol.journal) + n < NUMBER_LIMIT
     → HaveRoom n w.nodes.live.guest w.nodes.live.outbox
     → (replies.Steps (after_steps n w.nodes.live.guest).steps, (with_steps n w).protocol) ≡ steps_outcome w.start w.protocol n
 steps_answered zero w h two runs fits room =
@@ -188,8 +188,12 @@ steps_answered (suc n) w h two runs fits room =
     let before = steps_answered n w h two (λ l. runs (omega arith)) (omega arith) (room-before n g w.nodes.live.outbox room) in
     (λ i. (
       replies.Steps (after_steps-last n g i).steps,
-      record w.protocol { journal = record w.protocol.journal { running = (ap (λ t. ran ++ t) (replicate-last n)
-          ∙ sym (append_assoc ran (replicate n Ran) (Ran ∷ []))) i } },
+      record w.protocol {
+        journal = record w.protocol.journal {
+          running = (ap (λ t. ran ++ t) (replicate-last n)
+              ∙ sym (append_assoc ran (replicate n Ran) (Ran ∷ []))) i;
+        };
+      },
     ))
     ∙ step_kept w.ports.boxes (sent (after_steps n g)) (next (after_steps n g)).steps v.protocol two
     ∙ step_goes v (steps_hold n w h) (runs (omega arith)) (room-last n g w.nodes.live.outbox room)

@@ -194,8 +194,11 @@ impl PairRecord {
         requires pair { alone self.old.protocol.mode ≡ false }
         requires fits { length (all_entries self.old.protocol.journal) + steps < NUMBER_LIMIT }
         ensures { self.new
-            ≡ record self.old { protocol = record self.old.protocol { journal = with_running self.old.protocol.journal (replicate steps Ran)
-                } } }
+            ≡ record self.old {
+              protocol = record self.old.protocol {
+                journal = with_running self.old.protocol.journal (replicate steps Ran);
+              };
+            } }
     {
         self.journal.run(steps);
     }

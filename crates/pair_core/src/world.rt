@@ -327,8 +327,7 @@ impl World {
         ensures start { self.new.start ≡ self.old.start }
         ensures backup { KeepsBackup self.old.nodes self.new.nodes }
         ensures refused { IfOk result (λ reply. OnRefused reply self.old self.new) }
-        ensures memory { OnErr result (MayWantMemory self.old.protocol.mode (allowed self.old.start self.old.protocol (events.AckGet k)).0)
-            }
+        ensures memory { OnErr result (MayWantMemory self.old.protocol.mode (allowed self.old.start self.old.protocol (events.AckGet k)).0) }
         ensures err { OnErr result (self.new ≡ self.old) }
     {
         let Some(packet) = self.record.acknowledgement(k) else {

@@ -17,7 +17,7 @@ none-later c (suc n) first bytes f l = by_test (addressed bytes first) (none-lat
         → out_of c (paired_with (cond t (first ∷ clients_from n (first + 1) bytes) (clients_from n (first + 1) bytes)) f) ≡ []
     by_test true rest =
         ap (λ t. cond t (f ∷ out_of c (paired_with (clients_from n (first + 1) bytes) f))
-            (out_of c (paired_with (clients_from n (first + 1) bytes) f)))
+        (out_of c (paired_with (clients_from n (first + 1) bytes) f)))
         (ne_eqb first c (λ same. omega arith))
         ∙ rest
     by_test false rest = rest

@@ -17,7 +17,7 @@ are c = subst (λ m. AreTargets m c.args.frame.now.items c.route-targets.result)
 
 next : (c : After-contains) → has_target c.route-targets.result c.loop-client.client ≡ true
     → from_on c.clients-clients.result c.loop-client.client c.args.frame.now.items ≡ c.loop-client.client
-        ∷ from_on c.clients-clients.result (c.loop-client.client + 1) c.args.frame.now.items
+    ∷ from_on c.clients-clients.result (c.loop-client.client + 1) c.args.frame.now.items
 next c e = next_yes c.clients-clients.result c.loop-client.client c.args.frame.now.items c.route-targets.result (are c)
     c.loop-client.invariant.first (omega arith) (most c) e
 

@@ -42,7 +42,7 @@ returns c =
     let n = length c.args.ports.now.boxes in
     let fs = c.args.frames.now in
     nil-append c.loop-frame.history.entries c.loop-frame.lengths (receivers n (drop c.loop-frame.frame-index fs))
-        (c.args.history.now.entries ++ landings_by c.box_lengths-lengths.result (receivers n fs))
-        (receivers-none n fs c.loop-frame.frame-index (omega arith)) c.loop-frame.invariant.entries
+    (c.args.history.now.entries ++ landings_by c.box_lengths-lengths.result (receivers n fs))
+    (receivers-none n fs c.loop-frame.frame-index (omega arith)) c.loop-frame.invariant.entries
     ∙ ap (λ t. c.args.history.now.entries ++ t)
-        (landings_by-targets n c.box_lengths-lengths.result c.args.ports.now.boxes fs c.box_lengths-lengths.ensures refl)
+    (landings_by-targets n c.box_lengths-lengths.result c.args.ports.now.boxes fs c.box_lengths-lengths.ensures refl)

@@ -14,7 +14,7 @@ loop-frame-preserved c =
     let next = ap length (receivers-next n fs i f (omega arith)) in
     let both = length-append (clients_of n (get_or fs i f).items) (receivers n (drop (i + 1) fs)) in
     let here : length (clients_of n f.items) ≡ length (clients_of n (get_or fs i f).items) = ap (λ x. length (clients_of n x.items))
-        c.frame-item.is in
+    c.frame-item.is in
     let k = c.count_receivers-count.ensures.count in
     let few = c.count_receivers-count.ensures.few in
     let was = c.loop-frame.invariant.counted in

@@ -11,10 +11,10 @@ loop-client-preserved c =
     let bytes = c.args.frame.now.items in
     let i = c.loop-client.client in
     let most : n ≤ 16 = let p = c.clients-clients.ensures.ports in let q = p.clients.1 in let e = c.clients-clients.ensures.count in
-        omega arith in
+    omega arith in
     let high : i ≤ n = omega arith in
     let are : AreTargets n bytes c.route-targets.result = subst (λ m. AreTargets m bytes c.route-targets.result)
-        (sym c.clients-clients.ensures.count) c.route-targets.ensures in
+    (sym c.clients-clients.ensures.count) c.route-targets.ensures in
     let low = c.loop-client.invariant.first in
     elim c.if-contains.branch [
       | then-contains w ↦

@@ -28,7 +28,7 @@ invariant_of-self c =
     let e5 = length-append (joined j.sealed) j.running in
     let k = c.self.invariant.counted in
     let room = subst (λ (s : Stored). length (all_entries s.journal) + 1 ≤ NUMBER_LIMIT - 1) (sym c.self.view_is)
-        (let r = c.requires.fits in omega arith) in
+    (let r = c.requires.fits in omega arith) in
     record { counted = omega arith; fits = omega arith }
 
 pub returns : goal.returns

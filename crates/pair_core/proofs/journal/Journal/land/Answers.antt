@@ -23,5 +23,5 @@ invariant_of-self c =
     let k = c.self.invariant.counted in
     let l = length-all (stored a).journal in
     let room = subst (λ (s : Stored). length (all_entries s.journal) + length (receivers n fs) ≤ NUMBER_LIMIT - 1) (sym c.self.view_is)
-        (let r = c.requires.fits in omega arith) in
+    (let r = c.requires.fits in omega arith) in
     record { counted = k; fits = let m = length-kept (stored a).journal in omega arith }

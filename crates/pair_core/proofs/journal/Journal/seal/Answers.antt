@@ -14,7 +14,7 @@ invariant_of-self-2 c =
     let e = c.replace-epoch.result in
     let items = rw c.unwrap.ensures at c.push.ensures.items in
     let sealed_are = ap (map epoch_of) items ∙ map-append epoch_of c.reserve.new.self.items (e ∷ [])
-        ∙ ap (λ xs. map epoch_of xs ++ epoch_of e ∷ []) c.reserve.ensures.items in
+    ∙ ap (λ xs. map epoch_of xs ++ epoch_of e ∷ []) c.reserve.ensures.items in
     let e1 = ap (λ ess. length (joined ess)) sealed_are in
     let e2 = ap length (joined-push j.sealed (epoch_of e)) in
     let e3 = length-append (joined j.sealed) (epoch_of e) in

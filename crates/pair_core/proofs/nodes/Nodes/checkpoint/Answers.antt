@@ -16,6 +16,6 @@ returns-clause-text c =
     c.self.view_is
     (λ base is sized.
     delta-text m.settled m.dirty m c.args.generation c.args.number c.in-Ok.checkpoint
-        (image_or c.self.inside.shape c.self.inside.image).shape text base
+    (image_or c.self.inside.shape c.self.inside.image).shape text base
     c.in-Ok.ensures.parts
     c.in-Ok-encode.ensures.read (c.in-Ok.ensures.image base (base-of m base is)) sized)

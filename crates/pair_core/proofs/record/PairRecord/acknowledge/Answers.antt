@@ -16,7 +16,7 @@ land-requires-clause-fits c =
     let a = c.self.inside in
     let r = (record_state a).protocol in
     let free = subst (λ (s : RecordState). first_refusal (ack_refusals s.ports.boxes s.protocol c.args.packet) ≡ None) (sym c.self.view_is)
-        c.requires.free in
+    c.requires.free in
     let room = has_room_for r (length (let_go a.ports.boxes r c.args.packet.number)) (passed _ _ _ (passed _ _ _ free).1).0 in
     let e1 = ap (λ (j : Journal). length (all_entries j)) c.reserve.ensures.journal in
     let e2 = ap (λ fs. length (receivers (length a.ports.boxes) fs)) c.held-2.ensures.held in
@@ -32,8 +32,12 @@ invariant_of-self-2 c =
     let boxes = a.ports.boxes in
     let journal =
     c.land.ensures ∙ ap (λ (j : Journal). with_history j (landings boxes (targets_of (length boxes) c.held-2.result.now)))
-        c.reserve.ensures.journal
+    c.reserve.ensures.journal
     ∙ ap (λ fs. with_history r.journal (landings boxes (targets_of (length boxes) fs))) c.held-2.ensures.held in
-    subst IsRecord (λ i. record r { journal = sym journal i; window = sym c.acknowledge.ensures i; pending =
-        sym c.ack-landed.ensures.gate i })
+    subst IsRecord (λ i. record r {
+      journal = sym journal i;
+      window = sym c.acknowledge.ensures i;
+      pending =
+          sym c.ack-landed.ensures.gate i;
+    })
     (ack_record r c.self.invariant boxes n below)

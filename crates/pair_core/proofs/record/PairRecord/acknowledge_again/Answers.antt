@@ -10,5 +10,5 @@ invariant_of-self-2 c =
     let r = (record_state c.self.inside).protocol in
     let some = subst (λ (s : RecordState). 0 < s.protocol.window.to_commit) (sym c.self.view_is) c.requires in
     let lines = c.acknowledge.ensures ∙ ap (λ (l : Lines). with_back l (packet r.generation (r.window.to_commit - 1)))
-        c.reserve_acknowledgement.ensures.lines in
+    c.reserve_acknowledgement.ensures.lines in
     subst IsRecord (λ i. record r { lines = sym lines i }) (again_record r c.self.invariant some)

@@ -8,6 +8,6 @@ pub returns-clause-committed : goal.returns-clause-committed
 returns-clause-committed c =
     let a = c.self.inside in
     subst (λ (s : RecordState). IfSome c.acknowledgement.result (λ p. p.generation ≡ s.protocol.generation
-        → p.number < s.protocol.window.to_commit)) c.self.view_is
+    → p.number < s.protocol.window.to_commit)) c.self.view_is
     (below_at a.generation a.window.to_commit a.lines.lines.back c.args.k c.acknowledgement.result c.self.invariant.back
-        c.acknowledgement.ensures)
+    c.acknowledgement.ensures)

@@ -10,7 +10,7 @@ invariant_of-self-2 c =
     let r = (record_state c.self.inside).protocol in
     let more = subst (λ (s : RecordState). s.protocol.window.to_commit < s.protocol.window.to_cut) (sym c.self.view_is) c.requires in
     let lines = c.acknowledge.ensures ∙ ap (λ (l : Lines). with_back l (packet r.generation r.window.to_commit))
-        c.reserve_acknowledgement.ensures.lines in
+    c.reserve_acknowledgement.ensures.lines in
     subst IsRecord (λ i. record r {
       mode = sym c.filled-self-inside.ensures i;
       journal = sym c.in_ok-commit.ensures.ok i;

@@ -42,7 +42,7 @@ invariant_of-self-2 c =
     let x = c.in_ok-number.ensures in
     subst Holds (λ i. record w { protocol = sym x.protocol i; ports = sym x.ports i; nodes = sym c.arrive.ensures i })
     (admitted_holds w c.self.invariant c.keep.ensures c.args.client c.in_ok-number.number c.in_ok-number.frame range.0 range.1
-        c.in_ok-number.ensures.first)
+    c.in_ok-number.ensures.first)
 
 pub returns-clause-outcome : goal.returns-clause-outcome
 returns-clause-outcome c =

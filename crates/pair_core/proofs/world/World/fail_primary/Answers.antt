@@ -24,4 +24,4 @@ invariant_of-self c =
       ports = sym c.fail_primary.ensures.ports i;
     })
     (mode_holds w c.self.invariant Stopped (stays w.protocol.mode (subst (λ (v : Pair). mode_refusal v.protocol.mode FailPrimary ≡ None)
-        (sym c.self.view_is) c.requires)))
+    (sym c.self.view_is) c.requires)))

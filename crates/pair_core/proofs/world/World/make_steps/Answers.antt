@@ -14,8 +14,12 @@ use Rattle.pair_core.proofs.world.World.make_steps.Goals as goal
 pub invariant_of-self : goal.invariant_of-self
 invariant_of-self c =
     let w = pair_of c.self.inside in
-    subst Holds (λ i. record w { protocol = (sym c.run.ensures i).protocol; ports = (sym c.run.ensures i).ports; nodes =
-        sym c.run-made.ensures.made i })
+    subst Holds (λ i. record w {
+      protocol = (sym c.run.ensures i).protocol;
+      ports = (sym c.run.ensures i).ports;
+      nodes =
+          sym c.run-made.ensures.made i;
+    })
     (steps_hold c.run-made.result w c.self.invariant)
 
 pub returns-clause-answered : goal.returns-clause-answered
@@ -29,5 +33,5 @@ returns-clause-answered c =
     let fits : length (all_entries w.protocol.journal) + n < NUMBER_LIMIT = omega arith in
     (λ i. (replies.Steps (c.run-made.ensures.made i).live.guest.steps, (c.run.ensures i).protocol))
     ∙ subst (λ (v : Pair). (replies.Steps (after_steps n w.nodes.live.guest).steps, (with_steps n w).protocol)
-        ≡ steps_outcome v.start v.protocol n) c.self.view_is
+    ≡ steps_outcome v.start v.protocol n) c.self.view_is
     (steps_answered n w c.self.invariant two runs fits c.run-made.ensures.room)

@@ -78,7 +78,7 @@ loop-event-preserved c =
       leads =
           subst (λ (es : List Event). Leads c.args.self.now es c.push.new.self.items c.apply-reply.new.self) (sym more)
           (subst (λ (rs : List Reply). Leads c.args.self.now (take i events ++ get_or events i Step ∷ []) rs c.apply-reply.new.self)
-              (sym items)
+          (sym items)
           leads);
       drops = subst (λ (es : List Event). Along Drops start old es c.push.new.self.items new) (sym more)
           (subst (λ (rs : List Reply). Along Drops start old (take i events ++ get_or events i Step ∷ []) rs new) (sym items) dropped);

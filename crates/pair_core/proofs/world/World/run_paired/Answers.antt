@@ -14,6 +14,6 @@ returns-clause-outcome c =
     let fewer : made.result < c.args.count = omega arith in
     let ends =
     subst (λ (s : HistoryState). refused r c.in-Some.why ≡ step_outcome s r) (ap (λ (v : Pair). v.start) made.ensures.made)
-        c.in-Some.ensures.refused in
+    c.in-Some.ensures.refused in
     refusal_answered c.args.self.now.start c.args.self.now.protocol r made.result made.new.self.nodes.live.guest.steps c.in-Some.why
     made.ensures.answered ends c.args.count fewer

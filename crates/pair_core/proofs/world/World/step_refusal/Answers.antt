@@ -13,7 +13,7 @@ returns-clause-refused c =
     let w = pair_of c.self.inside in
     subst (λ (v : Pair). IfSome c.step_refusal.result (λ why. refused v.protocol why ≡ step_outcome v.start v.protocol)) c.self.view_is
     (all_stop w.protocol (step_refusals w.nodes.live.outbox w.protocol)
-        (step_done w.ports.boxes (sent w.nodes.live.guest) (next w.nodes.live.guest).steps w.protocol) (step_outcome w.start w.protocol)
-        c.step_refusal.result
+    (step_done w.ports.boxes (sent w.nodes.live.guest) (next w.nodes.live.guest).steps w.protocol) (step_outcome w.start w.protocol)
+    c.step_refusal.result
     (c.step_refusal.ensures ∙ ap (λ (fs : List Frame). first_refusal (step_refusals fs w.protocol)) c.outbox.ensures.value)
     (step_sight w c.self.invariant))
