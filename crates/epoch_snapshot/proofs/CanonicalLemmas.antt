@@ -160,8 +160,3 @@ blocks-changed old new n =
     (λ k d within. ap not (is_zero-xored (block_in old (get_or (filter (block_differs old new) (range_with_len 0 (64 * n))) k d))
     (block_in new (get_or (filter (block_differs old new) (range_with_len 0 (64 * n))) k d))
     (filter_passes (block_differs old new) (range_with_len 0 (64 * n)) k d within))))
-
--- the changed pages name as many blocks as their masks have ones
-pub numbers-count : (old new : List ℕ) (n : ℕ) → length (block_numbers (changed_pages old new n)) ≡ block_count (changed_pages old new n)
-unfolding changed_pages
-numbers-count old new n = length_from old new 0 n

@@ -1,72 +1,17 @@
 -- Pages of a memory, as the list of its bytes.
-use Rattle.std.proofs.Common.{
-  ◌≡◌,
-  ℕ,
-  zero,
-  suc,
-  ◌+◌,
-  ◌-◌,
-  ◌*◌,
-  ◌^◌,
-  ◌<◌,
-  ◌≤◌,
-  ◌==◌,
-  ◌||◌,
-  not,
-  lit<,
-  Bool,
-  true,
-  false,
-  cond,
-  List,
-  [],
-  ◌∷◌,
-  ◌++◌,
-  length,
-  take,
-  drop,
-  replicate,
-  map,
-  get_or,
-  refl,
-  sym,
-  ap,
-  ◌∙◌,
-  arith,
-  subst,
-  length-append,
-}
-use Rattle.std.specs.Prelude.{slice_range, ◌↔◌, IsTrue, All, count_ones}
+use Rattle.std.proofs.Common.{◌≡◌, ℕ, zero, suc, ◌+◌, ◌-◌, ◌*◌, ◌^◌, ◌<◌, ◌≤◌, ◌==◌, ◌||◌, not, lit<, Bool, true, false, cond, List, [], ◌∷◌, ◌++◌, length, take, drop, replicate, map, refl, sym, ap, ◌∙◌, arith, subst, length-append}
+use Rattle.std.specs.Prelude.{slice_range, ◌↔◌, IsTrue}
 use Rattle.std.specs.List.{range_with_len, filter}
 use Rattle.std.specs.Int.{bit_at}
-use Rattle.std.proofs.lemmas.List.{
-  take-take,
-  drop-drop,
-  drop-take,
-  map-append,
-  map-id,
-  append-nil,
-  append_assoc,
-  length_push,
-  length-map,
-  take_more,
-  take-append-drop,
-  length-take-le,
-  length-drop,
-}
-use Rattle.std.proofs.lemmas.List.Sums.{sum_by_push}
-use Rattle.std.proofs.lemmas.Nat.{ones-le}
-use Rattle.std.proofs.lemmas.Bool.{eqb-true, eq-eqb, ne_eqb, true≢false}
+use Rattle.std.proofs.lemmas.List.{take-take, drop-drop, drop-take, map-append, map-id, append-nil, append_assoc, length_push}
+use Rattle.std.proofs.lemmas.Bool.{eq-eqb, ne_eqb, true≢false}
 use Rattle.std.proofs.lemmas.Nat.Bits.{bit_at-zero}
 use Rattle.std.proofs.lemmas.List.FromFn.{filter_of_map_range_with_len_more}
-use Rattle.std.proofs.lemmas.List.Elements.{filter-append, All-filter}
+use Rattle.std.proofs.lemmas.List.Elements.{filter-append}
 use Rattle.epoch_snapshot.specs.declared.changes.PageChange.{PageChange}
 use Rattle.epoch_snapshot.specs.Blocks.{set_blocks, block_numbers, xored, differ, block_in, changed_mask}
-use Rattle.epoch_snapshot.specs.Checkpoints.{block_count}
-use Rattle.epoch_snapshot.specs.Cuts.{page_change, is_changed, changed_pages, block_change}
-use Rattle.epoch_snapshot.proofs.BlockLemmas.{same-bytes}
-use Rattle.epoch_snapshot.proofs.MaskLemmas.{mask_from_bits, no_block}
-use Rattle.epoch_snapshot.proofs.PartLemmas.{same_from_parts}
+use Rattle.epoch_snapshot.specs.Cuts.{page_change, is_changed, changed_pages, block_change, changed_blocks}
+use Rattle.epoch_snapshot.proofs.MaskLemmas.{mask_from_bits}
 use Rattle.epoch_snapshot.proofs.RangeLemmas.{range-append}
 
 -- a block of a page is a block of memory
@@ -125,41 +70,6 @@ mask-pages old new page m p q fits olds news bits =
     bit_from (differ (block_in p i) (block_in q i)) (bit_at m i) (omega arith) (bits i below)
     ∙ (λ k. cond (differ (olds i below k) (news i below k)) 1 0))
 
-differs_by : (old new : List ℕ) (page : ℕ) (p q : List ℕ) → length p ≡ 4096 → length q ≡ 4096 →
-    ((i : ℕ) → i < 64 → block_in p i ≡ block_in old (64 * page + i)) → ((i : ℕ) → i < 64 → block_in q i ≡ block_in new (64 * page + i)) →
-    changed_mask old new page ≡ 0 → p ≡ q
-differs_by old new page p q long also olds news none =
-    same_from_parts 64 64 p q long also
-    (λ i below.
-    same-bytes (block_in p i) (block_in q i)
-    (length-take-le 64 (drop (64 * i) p) (omega (arith, length-drop (64 * i) p))
-    ∙ sym (length-take-le 64 (drop (64 * i) q) (omega (arith, length-drop (64 * i) q))))
-    ((λ k. differ (olds i below k) (news i below k)) ∙ no_block old new page none i below))
-
-mask-none : (old new : List ℕ) (page : ℕ) (p q : List ℕ) →
-    ((i : ℕ) → i < 64 → block_in p i ≡ block_in old (64 * page + i)) → ((i : ℕ) → i < 64 → block_in q i ≡ block_in new (64 * page + i)) →
-    p ≡ q → 0 ≡ changed_mask old new page
-mask-none old new page p q olds news same =
-    mask_from_bits old new page 0 (lit< tt)
-    (λ i below.
-    let e : block_in new (64 * page + i) ≡ block_in old (64 * page + i)
-    = sym (news i below) ∙ ap (λ l. block_in l i) (sym same) ∙ olds i below in
-    bit_at-zero i ∙ sym (ap (λ b. cond b 1 0) (ap (differ (block_in old (64 * page + i))) e ∙ differ-self (block_in old (64 * page + i)))))
-
-equal_by : (r b : Bool) → (r ≡ true → b ≡ true) → (b ≡ true → r ≡ true) → not r ≡ not b
-equal_by true b f g = sym (ap not (f refl))
-equal_by false true f g = ap not (g refl)
-equal_by false false f g = refl
-
--- whether two pages are equal says whether the page of the two memories is unchanged
-pub equal-pages : (old new : List ℕ) (page : ℕ) (r : Bool) (p q : List ℕ) → length p ≡ 4096 → length q ≡ 4096 →
-    ((i : ℕ) → i < 64 → block_in p i ≡ block_in old (64 * page + i)) → ((i : ℕ) → i < 64 → block_in q i ≡ block_in new (64 * page + i)) →
-    IsTrue r ↔ (p ≡ q) → not r ≡ is_changed (page_change old new page)
-equal-pages old new page r p q long also olds news says =
-    equal_by r (changed_mask old new page == 0)
-    (λ h. eq-eqb (changed_mask old new page) 0 (sym (mask-none old new page p q olds news (says.0 h))))
-    (λ h. says.1 (differs_by old new page p q long also olds news (eqb-true (changed_mask old new page) 0 h)))
-
 -- ---- one page more
 
 pub changed_pages-more : (old new : List ℕ) (n : ℕ) → changed_pages old new (n + 1) ≡
@@ -187,24 +97,6 @@ pub changed_pages-same : (old new : List ℕ) (n : ℕ) → slice_range new (409
     slice_range old (4096 * n) (4096 * n + 4096) → changed_pages old new (n + 1) ≡ changed_pages old new n
 changed_pages-same old new n same = changed_pages-skip old new n 0 (mask-same old new n same) refl
 
-pub length-changed_more : (old new : List ℕ) (n : ℕ) → is_changed (page_change old new n) ≡ true →
-    length (changed_pages old new (n + 1)) ≡ length (changed_pages old new n) + 1
-length-changed_more old new n some =
-    ap length (changed_pages-more old new n ∙ ap (λ b. changed_pages old new n ++ cond b (page_change old new n ∷ []) []) some)
-    ∙ length_push (changed_pages old new n) (page_change old new n)
-
-pub length-changed_same : (old new : List ℕ) (n : ℕ) → is_changed (page_change old new n) ≡ false →
-    length (changed_pages old new (n + 1)) ≡ length (changed_pages old new n)
-length-changed_same old new n none =
-    ap length (changed_pages-more old new n ∙ ap (λ b. changed_pages old new n ++ cond b (page_change old new n ∷ []) []) none
-    ∙ append-nil (changed_pages old new n))
-
-pub count-push : (ps : List PageChange) (p : PageChange) → block_count (ps ++ p ∷ []) ≡ block_count ps + count_ones p.mask
-count-push ps p = sum_by_push (λ (q : PageChange). count_ones q.mask) ps p
-
-pub ones_few : (m : ℕ) → m < 2 ^ 64 → count_ones m ≤ 64
-ones_few m fits = ones-le 64 m fits
-
 pub no_pages : (old new : List ℕ) → [] ≡ changed_pages old new 0
 unfolding changed_pages
 no_pages old new = refl
@@ -228,11 +120,6 @@ fewer_range p n m less =
     let h : F (map (λ (i : ℕ). i) (range_with_len 0 n)) (map (λ (i : ℕ). i) (range_with_len 0 m)) = length-fewer p (λ i. i) n m less in
     subst (λ (xs : List ℕ). F xs (range_with_len 0 m)) (map-id (range_with_len 0 n))
     (subst (λ (ys : List ℕ). F (map (λ (i : ℕ). i) (range_with_len 0 n)) ys) (map-id (range_with_len 0 m)) h)
-
--- fewer pages have no more changed ones
-pub length-fewer_pages : (old new : List ℕ) (n m : ℕ) → n ≤ m → length (changed_pages old new n) ≤ length (changed_pages old new m)
-unfolding changed_pages
-length-fewer_pages old new n m less = length-fewer is_changed (page_change old new) n m less
 
 -- ---- the blocks of a page
 
@@ -301,39 +188,18 @@ numbers-append (p ∷ ps) qs =
     ap (λ l. map (λ i. 64 * p.page + i) (set_blocks p.mask) ++ l) (numbers-append ps qs)
     ∙ sym (append_assoc (map (λ i. 64 * p.page + i) (set_blocks p.mask)) (block_numbers ps) (block_numbers qs))
 
-one_page : (p : PageChange) → block_numbers (p ∷ []) ≡ map (λ i. 64 * p.page + i) (set_blocks p.mask)
+-- one page's blocks
+pub one_page : (p : PageChange) → block_numbers (p ∷ []) ≡ map (λ i. 64 * p.page + i) (set_blocks p.mask)
 unfolding block_numbers
 one_page p = append-nil (map (λ i. 64 * p.page + i) (set_blocks p.mask))
 
+pub no_blocks : (old new : List ℕ) → [] ≡ changed_blocks old new []
+unfolding block_numbers
+no_blocks old new = refl
+
 -- the blocks of one page more
-pub numbers-more : (ps : List PageChange) (k : ℕ) (d : PageChange) → k < length ps →
-    block_numbers (take (k + 1) ps) ≡ block_numbers (take k ps) ++ map (λ i. 64 * (get_or ps k d).page + i)
-    (set_blocks (get_or ps k d).mask)
-numbers-more ps k d within =
-    ap block_numbers (take_more ps k d within)
-    ∙ numbers-append (take k ps) (get_or ps k d ∷ [])
-    ∙ ap (λ l. block_numbers (take k ps) ++ l) (one_page (get_or ps k d))
-
-pub numbers-room : (ps : List PageChange) (k : ℕ) (d : PageChange) → k < length ps →
-    length (block_numbers (take k ps)) + length (set_blocks (get_or ps k d).mask) ≤ length (block_numbers ps)
-numbers-room ps k d within =
-    let p = get_or ps k d in
-    let more = ap length (numbers-more ps k d within) ∙ length-append (block_numbers (take k ps))
-    (map (λ i. 64 * p.page + i) (set_blocks p.mask)) in
-    let here = length-map (set_blocks p.mask) (λ i. 64 * p.page + i) in
-    let all = ap length (ap block_numbers (sym (take-append-drop (k + 1) ps)) ∙ numbers-append (take (k + 1) ps) (drop (k + 1) ps))
-    ∙ length-append (block_numbers (take (k + 1) ps)) (block_numbers (drop (k + 1) ps)) in
-    omega (arith, more, here, all)
-
--- each changed page is one of the memory's
-pub pages_within : (old new : List ℕ) (n size : ℕ) → size ≡ 4096 * n →
-    All (λ (p : PageChange). 4096 * p.page + 4096 ≤ size) (changed_pages old new n)
-unfolding changed_pages
-pages_within old new n size e =
-    All-filter is_changed (λ (p : PageChange). 4096 * p.page + 4096 ≤ size) (map (page_change old new) (range_with_len 0 n))
-    (each 0 n (omega arith))
-  where
-    each : (s m : ℕ) → s + m ≤ n → All (λ (p : PageChange). 4096 * p.page + 4096 ≤ size) (map (page_change old new) (range_with_len s m))
-    each s zero h k d within = absurd (omega arith)
-    each s (suc m) h zero d within = omega arith
-    each s (suc m) h (suc k) d within = each (s + 1) m (omega arith) k d (omega arith)
+pub changed_blocks-push : (old new : List ℕ) (ps : List PageChange) (p : PageChange) →
+    changed_blocks old new (ps ++ p ∷ []) ≡ changed_blocks old new ps ++ changed_blocks old new (p ∷ [])
+changed_blocks-push old new ps p =
+    ap (map (block_change old new)) (numbers-append ps (p ∷ []))
+    ∙ map-append (block_change old new) (block_numbers ps) (block_numbers (p ∷ []))

@@ -51,7 +51,7 @@ use Rattle.epoch_snapshot.specs.Images.{with_sectors}
 use Rattle.epoch_snapshot.proofs.PartLemmas.{length-with_bytes, part-same, part-below, part-above, same_from_parts}
 use Rattle.epoch_snapshot.proofs.BlockLemmas.{or_parts}
 use Rattle.epoch_snapshot.proofs.CanonicalLemmas.{Rises-filter, all_mapped}
-use Rattle.epoch_snapshot.proofs.PageLemmas.{filter_last, fewer_range}
+use Rattle.epoch_snapshot.proofs.PageLemmas.{filter_last}
 
 -- two disks of this many sectors agree on each sector that isn't in the list
 unfoldable pub AgreesOff : ℕ → List ℕ → List ℕ → List ℕ → Type 0
@@ -223,10 +223,6 @@ used-skip bytes n r e none =
 pub no_sectors : (bytes : List ℕ) → [] ≡ used_sectors bytes 0
 unfolding used_sectors
 no_sectors bytes = refl
-
-pub length-fewer_used : (bytes : List ℕ) (n m : ℕ) → n ≤ m → length (used_sectors bytes n) ≤ length (used_sectors bytes m)
-unfolding used_sectors
-length-fewer_used bytes n m less = fewer_range (λ i. not (is_zero (sector_of bytes i))) n m less
 
 pub Rises-used : (bytes : List ℕ) (n : ℕ) → Rises 0 n (used_sectors bytes n)
 unfolding used_sectors

@@ -7,8 +7,8 @@ ghost use Rattle.epoch_snapshot.specs.Images.{image_of};
 
 use crate::checkpoint::Checkpoint;
 use crate::errors::SnapshotError;
-use crate::memory::{Over, count_pages, push_blocks, push_pages};
-use crate::sectors::{count_used, push_used, push_written};
+use crate::memory::{Over, push_pages};
+use crate::sectors::{push_used, push_written};
 use guest_machine::Machine;
 use std::alloc::Global;
 
@@ -35,12 +35,10 @@ pub fn cut_delta(
     ensures err { OnErr result (result ≡ Err SnapshotError.NoMemory) }
 {
     let shape = machine.shape();
-    let page_count = count_pages(machine, Over::Settled, shape.pages);
-    let mut pages = Vec::with_capacity(alloc, page_count)?;
-    let block_count = push_pages(machine, Over::Settled, shape.pages, &mut pages);
-    let mut blocks = Vec::with_capacity(alloc, block_count)?;
+    let mut pages = Vec::new(alloc);
+    let mut blocks = Vec::new(alloc);
     let mut sectors = Vec::with_capacity(alloc, machine.dirty_sectors().len())?;
-    push_blocks(machine, Over::Settled, pages.as_slice(), &mut blocks);
+    push_pages(machine, Over::Settled, shape.pages, &mut pages, &mut blocks)?;
     push_written(machine, &mut sectors);
     Ok(Checkpoint::from_parts(
         shape,
@@ -73,14 +71,11 @@ pub fn cut_full(
     ensures err { OnErr result (result ≡ Err SnapshotError.NoMemory) }
 {
     let shape = machine.shape();
-    let page_count = count_pages(machine, Over::Zero, shape.pages);
-    let used = count_used(machine, shape.sectors);
-    let mut pages = Vec::with_capacity(alloc, page_count)?;
-    let block_count = push_pages(machine, Over::Zero, shape.pages, &mut pages);
-    let mut blocks = Vec::with_capacity(alloc, block_count)?;
-    let mut sectors = Vec::with_capacity(alloc, used)?;
-    push_blocks(machine, Over::Zero, pages.as_slice(), &mut blocks);
-    push_used(machine, shape.sectors, &mut sectors);
+    let mut pages = Vec::new(alloc);
+    let mut blocks = Vec::new(alloc);
+    let mut sectors = Vec::new(alloc);
+    push_pages(machine, Over::Zero, shape.pages, &mut pages, &mut blocks)?;
+    push_used(machine, shape.sectors, &mut sectors)?;
     Ok(Checkpoint::from_parts(
         shape,
         generation,

@@ -1,13 +1,13 @@
 //! What a cut records of memory.
-ghost use Rattle.std.specs.Prelude.{◌≡◌, ℕ, ◌+◌, ◌*◌, ◌<◌, ◌≤◌, ◌^◌, false, length, [], ◌++◌, map, vec_capacity, All};
-ghost use Rattle.epoch_snapshot.specs.Blocks.{set_blocks, block_numbers, xored, block_in, changed_mask};
-ghost use Rattle.epoch_snapshot.specs.Checkpoints.{block_count};
-ghost use Rattle.epoch_snapshot.specs.Cuts.{page_change, is_changed, changed_pages, changed_blocks};
+ghost use Rattle.std.specs.Prelude.{◌≡◌, ℕ, ◌+◌, ◌*◌, ◌<◌, ◌≤◌, ◌^◌, false, length, [], ◌∷◌, ◌++◌, map, vec_capacity, OnOk};
+ghost use Rattle.epoch_snapshot.specs.Blocks.{set_blocks, xored, block_in, changed_mask};
+ghost use Rattle.epoch_snapshot.specs.Cuts.{changed_pages, changed_blocks};
 ghost use Rattle.epoch_snapshot.specs.Bases.{old_ram};
 
 use crate::changes::{BLOCK_BYTES, Block, PageChange};
 use guest_machine::Machine;
-use page_lanes::{Page, equal, mask, xor_blocks};
+use page_lanes::{Page, mask, xor_blocks};
+use std::alloc::AllocError;
 
 /// How many pages are passed over in one go where none of them was written.
 const GROUP_PAGES: u32 = 256;
@@ -120,56 +120,6 @@ fn next_page(machine: &Machine, over: Over, from: u32, pages: u32) -> u32
     }
 }
 
-/// Whether a page changes. It stops at the first block that does.
-fn page_changes(machine: &Machine, over: Over, page: u32) -> bool
-    requires { 4096 * page + 4096 ≤ length machine.now.guest.ram }
-    ensures { result ≡ is_changed (page_change (old_ram over machine.now) machine.now.guest.ram page) }
-{
-    !equal(old_page(machine, over, page), machine.page(page))
-}
-
-/// How many of the first `pages` pages change.
-pub(crate) fn count_pages(machine: &Machine, over: Over, pages: u32) -> usize
-    requires { 4096 * pages ≤ length machine.now.guest.ram }
-    ensures { result ≡ length (changed_pages (old_ram over machine.now) machine.now.guest.ram pages) }
-{
-    let mut count = 0;
-    let mut page = next_page(machine, over, 0, pages);
-    while page < pages {
-        if page_changes(machine, over, page) {
-            count += 1;
-        }
-        page = next_page(machine, over, page + 1, pages);
-    }
-    count
-}
-
-/// Puts those of the first `pages` pages that change into an empty list that has room for them. Answers how many of their blocks do.
-pub(crate) fn push_pages(
-    machine: &Machine,
-    over: Over,
-    pages: u32,
-    list: &mut Vec<PageChange>,
-) -> usize
-    requires size { 4096 * pages ≤ length machine.now.guest.ram }
-    requires empty { list.old.items ≡ [] }
-    requires room { length (changed_pages (old_ram over machine.now) machine.now.guest.ram pages) ≤ vec_capacity list.old }
-    ensures pages { list.new.items ≡ changed_pages (old_ram over machine.now) machine.now.guest.ram pages }
-    ensures blocks { result ≡ block_count (changed_pages (old_ram over machine.now) machine.now.guest.ram pages) }
-{
-    let mut blocks = 0;
-    let mut page = next_page(machine, over, 0, pages);
-    while page < pages {
-        let mask = page_mask(machine, over, page);
-        if mask != 0 {
-            list.push_reserved(PageChange { page, mask });
-            blocks += mask.count_ones() as usize;
-        }
-        page = next_page(machine, over, page + 1, pages);
-    }
-    blocks
-}
-
 /// A block of a page.
 fn block(page: &Page, number: u32) -> &Block
     requires { number < 64 }
@@ -199,23 +149,54 @@ fn push_page_blocks(old: &Page, new: &Page, mask: u64, list: &mut Vec<Block>)
     }
 }
 
-/// Puts the blocks that pages of the machine change, in turn, last into a list that has room for them, the old XOR the new.
-pub(crate) fn push_blocks(
+/// Puts a page last into two lists: the page with its mask, and the blocks that the mask names, the old XOR the new. After an error the
+/// lists hold what they held, and maybe the page.
+fn push_page(
     machine: &Machine,
     over: Over,
-    changes: &[PageChange],
-    list: &mut Vec<Block>,
-)
-    requires inside { All (λ p. 4096 * p.page + 4096 ≤ length machine.now.guest.ram) changes.now }
-    requires room { length list.old.items + length (block_numbers changes.now) ≤ vec_capacity list.old }
-    ensures { list.new.items ≡ list.old.items ++ changed_blocks (old_ram over machine.now) machine.now.guest.ram changes.now }
+    change: PageChange,
+    pages: &mut Vec<PageChange>,
+    blocks: &mut Vec<Block>,
+) -> Result<(), AllocError>
+    requires { 4096 * change.page + 4096 ≤ length machine.now.guest.ram }
+    ensures pages { OnOk result (pages.new.items ≡ pages.old.items ++ change ∷ []) }
+    ensures blocks { OnOk result (blocks.new.items
+        ≡ blocks.old.items ++ changed_blocks (old_ram over machine.now) machine.now.guest.ram (change ∷ [])) }
 {
-    for change in changes {
-        push_page_blocks(
-            old_page(machine, over, change.page),
-            machine.page(change.page),
-            change.mask,
-            list,
-        );
+    pages.push(change)?;
+    blocks.reserve(change.mask.count_ones() as usize)?;
+    push_page_blocks(
+        old_page(machine, over, change.page),
+        machine.page(change.page),
+        change.mask,
+        blocks,
+    );
+    Ok(())
+}
+
+/// Puts those of the first `count` pages that change into two empty lists: each with the mask of its blocks that do, and these blocks, the
+/// old XOR the new. After an error the lists hold some of them.
+pub(crate) fn push_pages(
+    machine: &Machine,
+    over: Over,
+    count: u32,
+    pages: &mut Vec<PageChange>,
+    blocks: &mut Vec<Block>,
+) -> Result<(), AllocError>
+    requires size { 4096 * count ≤ length machine.now.guest.ram }
+    requires no_pages { pages.old.items ≡ [] }
+    requires no_blocks { blocks.old.items ≡ [] }
+    ensures pages { OnOk result (pages.new.items ≡ changed_pages (old_ram over machine.now) machine.now.guest.ram count) }
+    ensures blocks { OnOk result (blocks.new.items ≡ changed_blocks (old_ram over machine.now) machine.now.guest.ram
+        (changed_pages (old_ram over machine.now) machine.now.guest.ram count)) }
+{
+    let mut page = next_page(machine, over, 0, count);
+    while page < count {
+        let mask = page_mask(machine, over, page);
+        if mask != 0 {
+            push_page(machine, over, PageChange { page, mask }, pages, blocks)?;
+        }
+        page = next_page(machine, over, page + 1, count);
     }
+    Ok(())
 }
