@@ -12,8 +12,7 @@ use Rattle.pair_history.specs.Entries.{Entry, Arrive, Delivered, DropIn}
 use Rattle.pair_history.specs.HistoryState.{HistoryState, Waiting, frame_numbered, without_number, at, after, Legal}
 use Rattle.pair_history.specs.Failures.{arrived_numbers, dropped_numbers}
 use Rattle.pair_history.specs.Fates.{delivered_numbers, waiting_numbers}
-use Rattle.pair_history.proofs.Waiting.{first-waits}
-use Rattle.pair_history.proofs.TakenInLaws.{Waits}
+use Rattle.pair_history.proofs.Waiting.{Waits, first-waits}
 
 -- a frame that leaves what waits
 leaves : (n : ℕ) (ws : List Waiting) → Waits n ws → IsPermutation (waiting_numbers ws) (n ∷ waiting_numbers (without_number n ws))
@@ -54,7 +53,7 @@ fates s [] h =
 fates s (Arrive n ∷ es) h =
     let t = after s (Arrive n) in
     let after_it = arrived_numbers es ++ (dropped_numbers es ++ waiting_numbers (at t es).waiting) in
-    one_leaves s n es after_it (first-waits n h.0.0 h.0.1 s.waiting h.0.2) (fates t es h.1)
+    one_leaves s n es after_it (first-waits n s.waiting h.0) (fates t es h.1)
 fates s (DropIn n ∷ es) h =
     let t = after s (DropIn n) in
     let came = arrived_numbers es in

@@ -1,7 +1,7 @@
 -- Each entry of a legal history keeps what is so of the states that it leads to.
 use Rattle.std.proofs.Common.{ℕ, zero, suc, ◌-◌, ◌<◌, ◌≤◌, List, [], ◌∷◌, ◌++◌, length, take}
-use Rattle.std.proofs.Common.{drop, remove, replicate, sym, subst, arith, Bool, true, false, cond}
-use Rattle.std.specs.Prelude.{nat_lt, ◌==◌}
+use Rattle.std.proofs.Common.{drop, remove, replicate, arith}
+use Rattle.std.proofs.lemmas.Bool.Decides.{nat_tests}
 use Rattle.std.proofs.lemmas.List.{length-append, length-set, length-take, length-drop}
 use Rattle.guest_machine.specs.Step.{sent}
 use Rattle.frame_ports.specs.Addresses.{targets_of}
@@ -20,24 +20,14 @@ AllClients-append : (n : ℕ) (ps qs : List (ℕ × Frame)) → AllClients n ps 
 AllClients-append n [] qs a b = b
 AllClients-append n (p ∷ ps) qs a b = (a.0, a.1, AllClients-append n ps qs a.2 b)
 
-AllClients-without : (n c place : ℕ) (ps : List (ℕ × Frame)) → AllClients n ps → AllClients n (out_without c place ps)
+pub AllClients-without : (n c place : ℕ) (ps : List (ℕ × Frame)) → AllClients n ps → AllClients n (out_without c place ps)
 AllClients-without n c zero [] a = tt
 AllClients-without n c (suc place) [] a = tt
-AllClients-without n c zero (p ∷ ps) a = by_test (p.0 == c) (AllClients-without n c zero ps a.2)
-  where
-    by_test : (t : Bool) → AllClients n (out_without c zero ps) → AllClients n (cond t ps (p ∷ out_without c zero ps))
-    by_test true later = a.2
-    by_test false later = (a.0, a.1, later)
+AllClients-without n c zero (p ∷ ps) a = grind (arith, nat_tests, AllClients-without n c zero ps a.2)
 AllClients-without n c (suc place) (p ∷ ps) a =
-    by_test (p.0 == c) (AllClients-without n c place ps a.2) (AllClients-without n c (suc place) ps a.2)
-  where
-    by_test : (t : Bool) → AllClients n (out_without c place ps) → AllClients n (out_without c (suc place) ps)
-        → AllClients n (p ∷ out_without c (cond t place (suc place)) ps)
-    by_test true nearer later = (a.0, a.1, nearer)
-    by_test false nearer later = (a.0, a.1, later)
+    grind (arith, nat_tests, AllClients-without n c place ps a.2, AllClients-without n c (suc place) ps a.2)
 
 -- a box with one frame less
-
 length-remove : (fs : List Frame) (place : ℕ) → length (remove fs place) ≤ length fs
 length-remove [] zero = omega arith
 length-remove [] (suc place) = omega arith
@@ -48,31 +38,7 @@ module _ (s : HistoryState) (h : IsReached s) where
   -- with one client's box in place, and some of what was on its way
   boxed : (out : List (ℕ × Frame)) (c : ℕ) (fs : List Frame) → AllClients (length s.boxes) out → length fs ≤ BOX_FRAMES
       → IsReached (record s { out = out; boxes = with_list s.boxes c fs })
-  boxed out c fs a l = record {
-    rising = h.rising;
-    clients = subst (λ n. AllClients n out) (sym (length-set s.boxes (c - 1) fs)) a;
-    fit = BoxesFit-set s.boxes (c - 1) fs h.fit l;
-  }
-
-  dropped : (c place : ℕ) → IsReached (after s (DropOut c place))
-  dropped c place = by_test (nat_lt place (length (list_of s.boxes c)))
-    where
-      box : List Frame
-      box = list_of s.boxes c
-
-      by_test : (t : Bool) → IsReached (record s {
-        out = cond t s.out (out_without c (place - length box) s.out);
-        boxes = cond t (with_list s.boxes c (remove box place)) s.boxes;
-      })
-      by_test true =
-          let most = BoxesFit-at s.boxes (c - 1) h.fit in
-          let less = length-remove box place in
-          boxed s.out c (remove box place) h.clients (omega arith)
-      by_test false = record {
-        rising = h.rising;
-        clients = AllClients-without (length s.boxes) c (place - length box) s.out h.clients;
-        fit = h.fit;
-      }
+  boxed out c fs a l = record { rising = h.rising; clients = rw length-set a; fit = BoxesFit-set s.boxes (c - 1) fs h.fit l }
 
   one_reached : (e : Entry) → Allows s e → IsReached (after s e)
   one_reached Ran a = record {
@@ -95,7 +61,13 @@ module _ (s : HistoryState) (h : IsReached s) where
       let room : length box < BOX_FRAMES = a.2 in
       boxed (out_without c 0 s.out) c (box ++ first) (AllClients-without (length s.boxes) c 0 s.out h.clients)
       (omega (arith, length-append box first, length-take 1 (out_of c s.out)))
-  one_reached (DropOut c place) a = dropped c place
+  one_reached (DropOut c place) a =
+      let box = list_of s.boxes c in
+      let less = AllClients-without (length s.boxes) c (place - length box) s.out h.clients in
+      let most = BoxesFit-at s.boxes (c - 1) h.fit in
+      let kept = length-remove box place in
+      let smaller = boxed s.out c (remove box place) h.clients (omega arith) in
+      grind (arith, nat_tests)
   one_reached (Took c answer) a =
       let box = list_of s.boxes c in
       let most = BoxesFit-at s.boxes (c - 1) h.fit in
