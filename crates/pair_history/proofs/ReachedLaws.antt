@@ -3,6 +3,7 @@ use Rattle.std.proofs.Common.{ℕ, zero, suc, ◌-◌, ◌<◌, ◌≤◌, List,
 use Rattle.std.proofs.Common.{drop, remove, replicate, arith}
 use Rattle.std.proofs.lemmas.Bool.Decides.{nat_tests}
 use Rattle.std.proofs.lemmas.List.{length-append, length-set, length-take, length-drop}
+use Rattle.std.proofs.lemmas.List.Edits.{length-remove}
 use Rattle.guest_machine.specs.Step.{sent}
 use Rattle.frame_ports.specs.Addresses.{targets_of}
 use Rattle.frame_ports.specs.Lands.{list_of, with_list}
@@ -26,13 +27,6 @@ AllClients-without n c (suc place) [] a = tt
 AllClients-without n c zero (p ∷ ps) a = grind (arith, nat_tests, AllClients-without n c zero ps a.2)
 AllClients-without n c (suc place) (p ∷ ps) a =
     grind (arith, nat_tests, AllClients-without n c place ps a.2, AllClients-without n c (suc place) ps a.2)
-
--- a box with one frame less
-length-remove : (fs : List Frame) (place : ℕ) → length (remove fs place) ≤ length fs
-length-remove [] zero = omega arith
-length-remove [] (suc place) = omega arith
-length-remove (f ∷ fs) zero = omega arith
-length-remove (f ∷ fs) (suc place) = let l = length-remove fs place in omega arith
 
 module _ (s : HistoryState) (h : IsReached s) where
   -- with one client's box in place, and some of what was on its way
@@ -65,9 +59,8 @@ module _ (s : HistoryState) (h : IsReached s) where
       let box = list_of s.boxes c in
       let less = AllClients-without (length s.boxes) c (place - length box) s.out h.clients in
       let most = BoxesFit-at s.boxes (c - 1) h.fit in
-      let kept = length-remove box place in
-      let smaller = boxed s.out c (remove box place) h.clients (omega arith) in
-      grind (arith, nat_tests)
+      let smaller = boxed s.out c (remove box place) h.clients in
+      grind (arith, nat_tests, length-remove box place)
   one_reached (Took c answer) a =
       let box = list_of s.boxes c in
       let most = BoxesFit-at s.boxes (c - 1) h.fit in
