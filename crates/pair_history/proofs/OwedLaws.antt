@@ -23,12 +23,15 @@ AreFront-more : (k d : ℕ) (boxes : List (List Frame)) (es : List Entry) → 1 
 AreFront-more zero d boxes es low high h = h
 AreFront-more (suc k) d boxes es low high h = (low, high, refl, AreFront-more k d boxes es low high h)
 
-pub AreFront-owed : (n first : ℕ) (boxes : List (List Frame)) (out : List (ℕ × Frame)) → 1 ≤ first → first + n ≤ length boxes + 1
+AreFront-owed : (n first : ℕ) (boxes : List (List Frame)) (out : List (ℕ × Frame)) → 1 ≤ first → first + n ≤ length boxes + 1
     → AreFront boxes (drops_of_owed_from n first boxes out)
 AreFront-owed zero first boxes out low high = tt
 AreFront-owed (suc n) first boxes out low high =
     AreFront-more (length (out_of first out)) first boxes (drops_of_owed_from n (first + 1) boxes out) low (omega arith)
     (AreFront-owed n (first + 1) boxes out (omega arith) (omega arith))
+
+pub AreFront-all : (s : HistoryState) → AreFront s.boxes (drops_of_owed s)
+AreFront-all s = AreFront-owed (length s.boxes) 1 s.boxes s.out (omega arith) (omega arith)
 
 -- as many are for client c as are on their way to it
 
@@ -86,5 +89,5 @@ pub owed_dropped : (s : HistoryState) → AllClients (length s.boxes) s.out
     → Leaves s [] (drops_of_owed s) × (length (drops_of_owed s) ≡ length s.out)
 owed_dropped s a =
     let n = length s.boxes in
-    all_leave (drops_of_owed s) s (AreFront-owed n 1 s.boxes s.out (omega arith) (omega arith)) a (λ c low high.
+    all_leave (drops_of_owed s) s (AreFront-all s) a (λ c low high.
     count-owed c n 1 s.boxes s.out low (omega arith))
