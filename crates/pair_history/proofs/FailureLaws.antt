@@ -25,7 +25,7 @@ use Rattle.pair_history.proofs.LandingLaws.{landings-land}
 use Rattle.pair_history.proofs.AccountLaws.{first-and-rest, account-append}
 use Rattle.pair_history.proofs.ReachedLaws.{reached}
 use Rattle.pair_history.proofs.OwedLaws.{AreFront, AreFront-all, count-owed, after-drop, owed_dropped}
-use Rattle.pair_history.proofs.TakenInLaws.{without_numbers, taken_in_dropped, at-drops_in, IsPermutation-rising}
+use Rattle.pair_history.proofs.TakenInLaws.{without_numbers, taken_in_dropped, at-drops_in, kept_boxes, IsPermutation-rising}
 
 -- The backup goes live.
 
@@ -143,6 +143,8 @@ pub fail_backup_count : (s : HistoryState) (kept : List Entry)
 fail_backup_count s kept =
     let t = at s kept in
     omega (arith, length-append kept (all_land t), length-landings t.boxes t.out)
+
+pub ruleset fail_backup_laws = (fails_backup, fail_backup_count, kept_boxes)
 
 -- A node that is alone makes a step.
 

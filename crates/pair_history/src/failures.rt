@@ -54,6 +54,7 @@ pub fn going_live_drops_frames()
 
 /// Where the backup fails, all that was kept stays in the history, and then all that is on its way lands, in the order sent: it goes
 /// last in its client's box, or is dropped where that is full. The guest is that after the kept entries.
+#[tactic(auto, using(crate::proofs::FailureLaws::fail_backup_laws))]
 pub fn failing_backup_lets_all_land()
     ensures legal { (s : HistoryState) (kept : List Entry) → IsReached s → Legal s kept → Legal s (fail_backup_entries s kept) }
     ensures state { (s : HistoryState) (kept : List Entry) → IsReached s → Legal s kept

@@ -12,6 +12,7 @@ ghost use Rattle.pair_history.specs.Released.{frames_for};
 
 /// Delivered frames are numbered one after another, and each has one fate: of those that waited at first and those that a legal
 /// history delivered, each either arrived at the guest, or was dropped before it could, or waits in the end, and none twice.
+#[tactic(auto, using(crate::proofs::FateLaws::fates, crate::proofs::FateLaws::numbered))]
 pub fn delivered_frames_have_one_fate()
     ensures numbers { (s : HistoryState) (es : List Entry) → Legal s es
         → delivered_numbers es ≡ range_with_len s.number (length (delivered_numbers es)) }
