@@ -13,7 +13,7 @@ use Rattle.pair_history.specs.Entries.{Frame, Entry, Ran, Land, DropOut, Took}
 use Rattle.pair_history.specs.HistoryState.{HistoryState, at, after, along, Allows, Legal, out_of}
 use Rattle.pair_history.specs.Released.{frames_for, Sent, sent_at, frames, Effect, Sends, Lands, DropsBoxed, DropsOnWay, Takes, Nothing}
 use Rattle.pair_history.specs.Released.{effect_on, Account, booked, goes_on, WasSent, IsSound, sent_for, landed_by, taken_by}
-use Rattle.pair_history.specs.Released.{is_drop, IsFresh}
+use Rattle.pair_history.specs.Released.{is_drop, IsFresh, empty_account, account, released, taken, dropped_count}
 use Rattle.pair_history.proofs.ClientLists.{out_of-append, out_of-without, list_of-with}
 use Rattle.pair_history.proofs.Parts.{part-trans, part-append, part-remove}
 
@@ -139,12 +139,12 @@ sent-is c s place a (e ∷ es) =
     ∙ rw (sent-booked c s place a e, frames-append, sent_at-frames) (append_assoc (frames a.sent) (sent_for c s e) _)
 
 -- what is on its way, and what landed
-pub record OnWay (way landed : List Frame) (a b : Account) : Type 0 where
+pub record OnWay (a b : Account) (way landed : List Frame) : Type 0 where
   pub on_way : frames b.on_way ≡ way
   pub released : frames b.released ≡ frames a.released ++ landed
 
 on_way-booked : (c : ℕ) (s : HistoryState) (place : ℕ) (a : Account) (e : Entry) → frames a.on_way ≡ out_of c s.out
-    → OnWay (out_of c (after s e).out) (landed_by c s e) a (booked place (effect_on c s e) a)
+    → OnWay a (booked place (effect_on c s e) a) (out_of c (after s e).out) (landed_by c s e)
 on_way-booked c s place a Ran h =
     record { on_way = rw (frames-append, sent_at-frames, out_of-append, h); released = sym (append-nil (frames a.released)) }
 on_way-booked c s place a (Land d) h =
@@ -161,8 +161,8 @@ on_way-booked c s place a (DropOut d k) h =
 on_way-booked c s place a (Took d answer) h = grind (arith, nat_tests, append-nil)
 on_way-booked c s place a other h = record { on_way = h; released = sym (append-nil (frames a.released)) }
 
-pub on_way-is : (c : ℕ) (s : HistoryState) (place : ℕ) (a : Account) (es : List Entry) → frames a.on_way ≡ out_of c s.out
-    → OnWay (out_of c (at s es).out) (along (landed_by c) s es) a (goes_on c s place a es)
+on_way-is : (c : ℕ) (s : HistoryState) (place : ℕ) (a : Account) (es : List Entry) → frames a.on_way ≡ out_of c s.out
+    → OnWay a (goes_on c s place a es) (out_of c (at s es).out) (along (landed_by c) s es)
 on_way-is c s place a [] h = record { on_way = h; released = sym (append-nil (frames a.released)) }
 on_way-is c s place a (e ∷ es) h =
     let one = on_way-booked c s place a e h in
@@ -170,7 +170,7 @@ on_way-is c s place a (e ∷ es) h =
     record { on_way = more.on_way; released = more.released ∙ rw one.released (append_assoc (frames a.released) (landed_by c s e) _) }
 
 -- what lies in the box, what was taken, and how many were dropped
-pub record Boxed (box took : List Frame) (drops : ℕ) (a b : Account) : Type 0 where
+pub record Boxed (a b : Account) (box took : List Frame) (drops : ℕ) : Type 0 where
   pub boxed : frames b.boxed ≡ box
   pub taken : frames b.taken ≡ frames a.taken ++ took
   pub dropped : length b.dropped ≡ length a.dropped + drops
@@ -185,7 +185,7 @@ first_of (g ∷ fs) f e = cc
 module _ (c : ℕ) (s : HistoryState) (place : ℕ) (a : Account) (low : 1 ≤ c) (way : frames a.on_way ≡ out_of c s.out)
     (box : frames a.boxed ≡ list_of s.boxes c) where
   boxed-booked : (e : Entry) → Allows s e
-      → Boxed (list_of (after s e).boxes c) (taken_by c e) (cond (is_drop c e) 1 0) a (booked place (effect_on c s e) a)
+      → Boxed a (booked place (effect_on c s e) a) (list_of (after s e).boxes c) (taken_by c e) (cond (is_drop c e) 1 0)
   boxed-booked (Land d) p =
       let there = list_of-with s.boxes c d (list_of s.boxes d ++ take 1 (out_of d s.out)) low p.0.0 p.0.1 in
       let more = frames-append a.boxed (take 1 a.on_way) in
@@ -213,9 +213,9 @@ module _ (c : ℕ) (s : HistoryState) (place : ℕ) (a : Account) (low : 1 ≤ c
       grind (arith, nat_tests, append-nil)
   boxed-booked other p = record { boxed = box; taken = sym (append-nil (frames a.taken)); dropped = omega arith }
 
-pub boxed-is : (c : ℕ) (s : HistoryState) (place : ℕ) (a : Account) (es : List Entry) → 1 ≤ c → Legal s es
+boxed-is : (c : ℕ) (s : HistoryState) (place : ℕ) (a : Account) (es : List Entry) → 1 ≤ c → Legal s es
     → frames a.on_way ≡ out_of c s.out → frames a.boxed ≡ list_of s.boxes c
-    → Boxed (list_of (at s es).boxes c) (flat_map (taken_by c) es) (count_by (is_drop c) es) a (goes_on c s place a es)
+    → Boxed a (goes_on c s place a es) (list_of (at s es).boxes c) (flat_map (taken_by c) es) (count_by (is_drop c) es)
 boxed-is c s place a [] low legal way box = record { boxed = box; taken = sym (append-nil (frames a.taken)); dropped = omega arith }
 boxed-is c s place a (e ∷ es) low legal way box =
     let one = boxed-booked c s place a low way box e legal.0 in
@@ -236,3 +236,15 @@ empty_box (suc clients) (suc place) = empty_box clients place
 
 pub start_fresh : (s : HistoryState) (clients : ℕ) → s.out ≡ [] → s.boxes ≡ replicate clients [] → IsFresh s
 start_fresh s clients out boxes = record { out = out; boxes = λ c. rw boxes (empty_box clients (c - 1)) }
+
+-- so the lists of an account from there on are those that the state and the entries say
+
+pub on_way_fresh : (s : HistoryState) (es : List Entry) (c : ℕ) → IsFresh s
+    → OnWay empty_account (account s es c) (out_of c (at s es).out) (released s es c)
+on_way_fresh s es c fresh = on_way-is c s 0 empty_account es (ap (out_of c) (sym fresh.out))
+
+pub boxed_fresh : (s : HistoryState) (es : List Entry) (c : ℕ) → IsFresh s → Legal s es → 1 ≤ c
+    → Boxed empty_account (account s es c) (list_of (at s es).boxes c) (taken es c) (dropped_count es c)
+boxed_fresh s es c fresh legal low = boxed-is c s 0 empty_account es low legal (ap (out_of c) (sym fresh.out)) (sym (fresh.boxes c))
+
+pub ruleset account_laws = (sent-is, account-append, on_way_fresh, boxed_fresh, start_fresh)

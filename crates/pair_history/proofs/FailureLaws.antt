@@ -25,7 +25,7 @@ use Rattle.pair_history.proofs.LandingLaws.{landings-land}
 use Rattle.pair_history.proofs.AccountLaws.{first-and-rest, account-append}
 use Rattle.pair_history.proofs.ReachedLaws.{reached}
 use Rattle.pair_history.proofs.OwedLaws.{AreFront, AreFront-all, count-owed, after-drop, owed_dropped}
-use Rattle.pair_history.proofs.TakenInLaws.{without_numbers, taken_in_dropped, at-drops_in, kept_boxes, IsPermutation-rising}
+use Rattle.pair_history.proofs.TakenInLaws.{without_numbers, taken_in_dropped, at-drops_in, kept_boxes, taken_in_rises, IsPermutation-rising}
 
 -- The backup goes live.
 
@@ -164,3 +164,5 @@ alone_step_most s none few =
     let n = length s.boxes in
     let most : length (sent s.guest) * n ≤ 64 * n = mul-le-mul_right n few in
     rw none (omega (arith, length-targets_of n (sent s.guest), length-landings s.boxes (targets_of n (sent s.guest))))
+
+pub ruleset go_live_laws = (goes_live, go_live_numbers, go_live_count, IsPermutation-rising, taken_in_rises, two_clients)

@@ -29,6 +29,7 @@ pub fn reached_states()
 /// no inbox changes: the frames that they had taken in are dropped, each once, by rising number, and no others. Nothing is on its way
 /// to a client any more: of each client's account, all that was on its way is dropped, from the front, and what was released to it, what
 /// lies in its box and what it took stay. There are as many entries as frames that were taken in, or on their way.
+#[tactic(auto, using(crate::proofs::FailureLaws::go_live_laws))]
 pub fn going_live_drops_frames()
     ensures legal { (s : HistoryState) (kept : List Entry) → IsReached s → AreGuests kept → Legal s kept
         → Legal s (go_live_entries s kept) }

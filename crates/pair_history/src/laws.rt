@@ -16,6 +16,7 @@ ghost use Rattle.frame_ports.specs.Lands.{list_of};
 ///
 /// A history that goes on goes on with the same account, and what was released stays so. From where a pair starts, the account's
 /// frames are those that the history's state and its entries say.
+#[tactic(auto, using(crate::proofs::AccountLaws::account_laws))]
 pub fn released_frames_were_sent()
     ensures sent { (s : HistoryState) (es : List Entry) (c : ℕ) → All (WasSent s es c) (account s es c).sent }
     ensures all_sent { (s : HistoryState) (es : List Entry) (c : ℕ) → frames (account s es c).sent ≡ sent_to s es c }
