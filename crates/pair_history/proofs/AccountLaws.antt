@@ -1,6 +1,6 @@
 -- Laws of the accounts of clients: they are sound, and they are what the history's state says.
 use Rattle.std.proofs.Common.{◌≡◌, ℕ, zero, suc, ◌+◌, ◌-◌, ◌<◌, ◌≤◌, List, [], ◌∷◌, ◌++◌, length, take, drop, remove, get_or, replicate}
-use Rattle.std.proofs.Common.{refl, sym, ap, ◌∙◌, arith, append_assoc, cond}
+use Rattle.std.proofs.Common.{refl, sym, ap, ◌∙◌, arith, append_assoc, cond, zero-add}
 use Rattle.std.specs.Prelude.{slice_get, Some, None}
 use Rattle.std.specs.List.{All, Contains, flat_map, count_by}
 use Rattle.std.proofs.lemmas.Bool.Decides.{nat_tests}
@@ -30,31 +30,22 @@ module _ {X : Type 0} where
   length-without (x ∷ xs) (suc k) = let e = length-without xs k in omega arith
 
 sound-booked : (place : ℕ) (e : Effect) (a : Account) → IsSound a → IsSound (booked place e a)
-sound-booked place (Sends fs) a h = record {
-  in_order = rw (← append_assoc a.released a.on_way (sent_at place fs)) (part-append (a.released ++ a.on_way) a.sent _ h.in_order);
-  taken_in_order = h.taken_in_order;
-  none_missing = omega (arith, length-append {A = Sent});
-}
-sound-booked place Lands a h = record {
-  in_order = rw first-and-rest h.in_order;
-  taken_in_order = rw (← append_assoc a.taken a.boxed (take 1 a.on_way)) (part-append (a.taken ++ a.boxed) a.released _ h.taken_in_order);
-  none_missing = omega (arith, length-append {A = Sent}, length-without a.on_way 0);
-}
-sound-booked place (DropsBoxed k) a h = record {
-  in_order = h.in_order;
-  taken_in_order = part-trans _ _ _ (part-remove a.taken a.boxed k) h.taken_in_order;
-  none_missing = omega (arith, length-append {A = Sent}, length-without a.boxed k);
-}
-sound-booked place (DropsOnWay k) a h = record {
-  in_order = part-trans _ _ _ (part-remove a.released a.on_way k) h.in_order;
-  taken_in_order = h.taken_in_order;
-  none_missing = omega (arith, length-append {A = Sent}, length-without a.on_way k);
-}
-sound-booked place Takes a h = record {
-  in_order = h.in_order;
-  taken_in_order = rw first-and-rest h.taken_in_order;
-  none_missing = omega (arith, length-append {A = Sent}, length-without a.boxed 0);
-}
+sound-booked place (Sends fs) a h =
+    let more = part-append (a.released ++ a.on_way) a.sent (sent_at place fs) h.in_order in
+    grind (arith, append_assoc a.released a.on_way (sent_at place fs), length-append)
+sound-booked place Lands a h =
+    let more = part-append (a.taken ++ a.boxed) a.released (take 1 a.on_way) h.taken_in_order in
+    let first = first-and-rest a.released a.on_way in
+    grind (arith, append_assoc a.taken a.boxed (take 1 a.on_way), length-append, length-without a.on_way 0)
+sound-booked place (DropsBoxed k) a h =
+    let less = part-trans (a.taken ++ remove a.boxed k) _ _ (part-remove a.taken a.boxed k) h.taken_in_order in
+    grind (arith, length-append, length-without a.boxed k)
+sound-booked place (DropsOnWay k) a h =
+    let less = part-trans (a.released ++ remove a.on_way k) _ _ (part-remove a.released a.on_way k) h.in_order in
+    grind (arith, length-append, length-without a.on_way k)
+sound-booked place Takes a h =
+    let first = first-and-rest a.taken a.boxed in
+    grind (arith, length-append, length-without a.boxed 0)
 sound-booked place Nothing a h = h
 
 pub sound : (c : ℕ) (s : HistoryState) (place : ℕ) (a : Account) (es : List Entry) → IsSound a → IsSound (goes_on c s place a es)
@@ -64,11 +55,10 @@ sound c s place a (e ∷ es) h =
 
 pub account-append : (c : ℕ) (s : HistoryState) (place : ℕ) (a : Account) (es more : List Entry)
     → goes_on c s place a (es ++ more) ≡ goes_on c (at s es) (length es + place) (goes_on c s place a es) more
-account-append c s place a [] more = let k : place ≡ length {A = Entry} [] + place = omega arith in ap (λ n. goes_on c s n a more) k
+account-append c s place a [] more = rw zero-add
 account-append c s place a (e ∷ es) more =
     let k : length es + (1 + place) ≡ length (e ∷ es) + place = omega arith in
-    account-append c (after s e) (1 + place) (booked place (effect_on c s e) a) es more
-    ∙ ap (λ n. goes_on c (at s (e ∷ es)) n (goes_on c s place a (e ∷ es)) more) k
+    rw k at (account-append c (after s e) (1 + place) (booked place (effect_on c s e) a) es more)
 
 -- what was released stays so
 pub released_later : (c : ℕ) (s : HistoryState) (place : ℕ) (a : Account) (es : List Entry)
@@ -88,10 +78,7 @@ released_later c s place a (e ∷ es) =
 sent-booked : (c : ℕ) (s : HistoryState) (place : ℕ) (a : Account) (e : Entry)
     → (booked place (effect_on c s e) a).sent ≡ a.sent ++ sent_at place (sent_for c s e)
 sent-booked c s place a Ran = refl
-sent-booked c s place a (Land d) = grind (arith, nat_tests, append-nil)
-sent-booked c s place a (DropOut d k) = grind (arith, nat_tests, append-nil)
-sent-booked c s place a (Took d answer) = grind (arith, nat_tests, append-nil)
-sent-booked c s place a other = sym (append-nil a.sent)
+sent-booked c s place a other = grind (arith, nat_tests, append-nil)
 
 -- only a step sends
 step_sends : (c : ℕ) (s : HistoryState) (e : Entry) (f : Frame) → Contains (sent_for c s e) f → (e ≡ Ran) × Contains (frames_for c s) f
@@ -131,6 +118,8 @@ sent_at-frames : (place : ℕ) (fs : List Frame) → frames (sent_at place fs) �
 sent_at-frames place [] = refl
 sent_at-frames place (f ∷ fs) = ap (λ gs. f ∷ gs) (sent_at-frames place fs)
 
+ruleset frames_laws = (frames-append, frames-take, frames-remove)
+
 pub sent-is : (c : ℕ) (s : HistoryState) (place : ℕ) (a : Account) (es : List Entry)
     → frames (goes_on c s place a es).sent ≡ frames a.sent ++ along (sent_for c) s es
 sent-is c s place a [] = sym (append-nil (frames a.sent))
@@ -147,19 +136,10 @@ on_way-booked : (c : ℕ) (s : HistoryState) (place : ℕ) (a : Account) (e : En
     → OnWay a (booked place (effect_on c s e) a) (out_of c (after s e).out) (landed_by c s e)
 on_way-booked c s place a Ran h =
     record { on_way = rw (frames-append, sent_at-frames, out_of-append, h); released = sym (append-nil (frames a.released)) }
-on_way-booked c s place a (Land d) h =
-    let way = out_of-without c d 0 s.out in
-    let rest = frames-remove a.on_way 0 in
-    let first = frames-take a.on_way in
-    let landed = frames-append a.released (take 1 a.on_way) in
-    grind (arith, nat_tests, append-nil)
+on_way-booked c s place a (Land d) h = grind (arith, nat_tests, append-nil, frames_laws, out_of-without c d 0 s.out)
 on_way-booked c s place a (DropOut d k) h =
-    let place = k - length (list_of s.boxes d) in
-    let way = out_of-without c d place s.out in
-    let rest = frames-remove a.on_way place in
-    grind (arith, nat_tests, append-nil)
-on_way-booked c s place a (Took d answer) h = grind (arith, nat_tests, append-nil)
-on_way-booked c s place a other h = record { on_way = h; released = sym (append-nil (frames a.released)) }
+    grind (arith, nat_tests, append-nil, frames_laws, out_of-without c d (k - length (list_of s.boxes d)) s.out)
+on_way-booked c s place a other h = grind (arith, nat_tests, append-nil)
 
 on_way-is : (c : ℕ) (s : HistoryState) (place : ℕ) (a : Account) (es : List Entry) → frames a.on_way ≡ out_of c s.out
     → OnWay a (goes_on c s place a es) (out_of c (at s es).out) (along (landed_by c) s es)
@@ -188,29 +168,19 @@ module _ (c : ℕ) (s : HistoryState) (place : ℕ) (a : Account) (low : 1 ≤ c
       → Boxed a (booked place (effect_on c s e) a) (list_of (after s e).boxes c) (taken_by c e) (cond (is_drop c e) 1 0)
   boxed-booked (Land d) p =
       let there = list_of-with s.boxes c d (list_of s.boxes d ++ take 1 (out_of d s.out)) low p.0.0 p.0.1 in
-      let more = frames-append a.boxed (take 1 a.on_way) in
-      let first = frames-take a.on_way in
-      grind (arith, nat_tests, append-nil)
+      grind (arith, nat_tests, append-nil, frames_laws)
   boxed-booked (DropOut d k) p =
-      let at = k - length (list_of s.boxes d) in
       let there = list_of-with s.boxes c d (remove (list_of s.boxes d) k) low p.0.0 p.0.1 in
-      let rest = frames-remove a.boxed k in
       let boxed : length a.boxed ≡ length (list_of s.boxes c) = sym (length-map a.boxed (λ p. p.1)) ∙ ap length box in
       let on_way : length a.on_way ≡ length (out_of c s.out) = sym (length-map a.on_way (λ p. p.1)) ∙ ap length way in
-      grind (arith, nat_tests, append-nil, length-append, length-one a.boxed k, length-one a.on_way at)
+      let one = length-one a.on_way (k - length (list_of s.boxes d)) in
+      grind (arith, nat_tests, append-nil, frames_laws, length-append, length-one a.boxed k)
   boxed-booked (Took d (Some f)) p =
       let there = list_of-with s.boxes c d (drop 1 (list_of s.boxes d)) low p.0.0 p.0.1 in
-      let rest = frames-remove a.boxed 0 in
-      let first = frames-take a.boxed in
-      let more = frames-append a.taken (take 1 a.boxed) in
-      let it = first_of (list_of s.boxes d) f p.1 in
-      grind (arith, nat_tests, append-nil)
+      grind (arith, nat_tests, append-nil, frames_laws, first_of (list_of s.boxes d) f p.1)
   boxed-booked (Took d None) p =
       let there = list_of-with s.boxes c d (drop 1 (list_of s.boxes d)) low p.0.0 p.0.1 in
-      let rest = frames-remove a.boxed 0 in
-      let first = frames-take a.boxed in
-      let more = frames-append a.taken (take 1 a.boxed) in
-      grind (arith, nat_tests, append-nil)
+      grind (arith, nat_tests, append-nil, frames_laws)
   boxed-booked other p = record { boxed = box; taken = sym (append-nil (frames a.taken)); dropped = omega arith }
 
 boxed-is : (c : ℕ) (s : HistoryState) (place : ℕ) (a : Account) (es : List Entry) → 1 ≤ c → Legal s es

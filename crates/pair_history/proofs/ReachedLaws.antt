@@ -35,20 +35,14 @@ module _ (s : HistoryState) (h : IsReached s) where
   boxed out c fs a l = record { rising = h.rising; clients = rw length-set a; fit = BoxesFit-set s.boxes (c - 1) fs h.fit l }
 
   one_reached : (e : Entry) → Allows s e → IsReached (after s e)
-  one_reached Ran a = record {
-    rising = h.rising;
-    clients = AllClients-append (length s.boxes) s.out (targets_of (length s.boxes) (sent s.guest)) h.clients
-        (AllClients-targets (length s.boxes) (sent s.guest));
-    fit = h.fit;
-  }
-  one_reached (Arrive n) a = record { rising = AreRising-without n 1 s.number s.waiting h.rising; clients = h.clients; fit = h.fit }
-  one_reached (Delivered c f n) a = record {
-    rising = AreRising-push 1 s.number s.waiting (record { number = n; client = c; frame = f }) h.rising a.2;
-    clients = h.clients;
-    fit = h.fit;
-  }
+  one_reached Ran a =
+      let more = AllClients-targets (length s.boxes) (sent s.guest) in
+      assumption (AllClients-append (length s.boxes) s.out (targets_of (length s.boxes) (sent s.guest)) h.clients more)
+  one_reached (Arrive n) a = assumption (AreRising-without n 1 s.number s.waiting h.rising)
+  one_reached (Delivered c f n) a =
+      assumption (AreRising-push 1 s.number s.waiting (record { number = n; client = c; frame = f }) h.rising a.2)
   one_reached (Refused c f) a = h
-  one_reached (DropIn n) a = record { rising = AreRising-without n 1 s.number s.waiting h.rising; clients = h.clients; fit = h.fit }
+  one_reached (DropIn n) a = assumption (AreRising-without n 1 s.number s.waiting h.rising)
   one_reached (Land c) a =
       let box = list_of s.boxes c in
       let first = take 1 (out_of c s.out) in
