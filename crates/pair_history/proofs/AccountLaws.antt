@@ -4,7 +4,8 @@ use Rattle.std.proofs.Common.{refl, sym, ap, ◌∙◌, arith, append_assoc, con
 use Rattle.std.specs.Prelude.{slice_get, Some, None}
 use Rattle.std.specs.List.{All, Contains, flat_map, count_by}
 use Rattle.std.proofs.lemmas.Bool.Decides.{nat_tests}
-use Rattle.std.proofs.lemmas.List.{append-nil, length-append, take-append-drop, map-append, take-map, length-map, get_or_default}
+use Rattle.std.proofs.lemmas.List.{append-nil, length-append, length-take, length-drop, take-append-drop, map-append, take-map, drop-map}
+use Rattle.std.proofs.lemmas.List.{length-map, get_or_default}
 use Rattle.std.proofs.lemmas.List.Edits.{length-remove}
 use Rattle.std.proofs.lemmas.List.Sums.{sum_by-cons}
 use Rattle.std.proofs.lemmas.List.Elements.{All-append, All-map}
@@ -24,10 +25,7 @@ module _ {X : Type 0} where
   first-and-rest xs ys = rw (append_assoc, take-append-drop)
 
   pub length-without : (xs : List X) (k : ℕ) → length (remove xs k) + length (take 1 (drop k xs)) ≡ length xs
-  length-without [] zero = refl
-  length-without [] (suc k) = refl
-  length-without (x ∷ xs) zero = omega arith
-  length-without (x ∷ xs) (suc k) = let e = length-without xs k in omega arith
+  length-without xs k = simp (length-append, length-take, length-drop) (omega arith)
 
 sound-booked : (place : ℕ) (e : Effect) (a : Account) → IsSound a → IsSound (booked place e a)
 sound-booked place (Sends fs) a h =
@@ -109,10 +107,7 @@ frames-take : (ps : List Sent) → frames (take 1 ps) ≡ take 1 (frames ps)
 frames-take ps = sym (take-map (λ p. p.1) 1 ps)
 
 frames-remove : (ps : List Sent) (k : ℕ) → frames (remove ps k) ≡ remove (frames ps) k
-frames-remove [] zero = refl
-frames-remove [] (suc k) = refl
-frames-remove (p ∷ ps) zero = refl
-frames-remove (p ∷ ps) (suc k) = ap (λ fs. p.1 ∷ fs) (frames-remove ps k)
+frames-remove ps k = rw (map-append, take-map, drop-map)
 
 sent_at-frames : (place : ℕ) (fs : List Frame) → frames (sent_at place fs) ≡ fs
 sent_at-frames place [] = refl

@@ -17,8 +17,7 @@ pub out_of-without : (c d place : ℕ) (ps : List (ℕ × Frame))
     → out_of c (out_without d place ps) ≡ cond (d == c) (remove (out_of c ps) place) (out_of c ps)
 out_of-without c d zero [] = grind (arith, nat_tests)
 out_of-without c d (suc place) [] = grind (arith, nat_tests)
-out_of-without c d zero (p ∷ ps) = grind (arith, nat_tests, out_of-without c d zero ps)
-out_of-without c d (suc place) (p ∷ ps) = grind (arith, nat_tests, out_of-without c d place ps, out_of-without c d (suc place) ps)
+out_of-without c d place (p ∷ ps) = let more = λ (k : ℕ). out_of-without c d k ps in grind (arith, nat_tests)
 
 -- A client's box where a client's was written.
 pub list_of-with : (boxes : List (List Frame)) (c d : ℕ) (fs : List Frame) → 1 ≤ c → 1 ≤ d → d ≤ length boxes

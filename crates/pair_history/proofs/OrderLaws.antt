@@ -1,5 +1,5 @@
 -- What clients and their lines do can come before what the guest does.
-use Rattle.std.proofs.Common.{◌≡◌, ℕ, zero, suc, ◌+◌, ◌-◌, ◌<◌, ◌≤◌, List, [], ◌∷◌, ◌++◌, length, refl, sym, ◌∙◌}
+use Rattle.std.proofs.Common.{◌≡◌, ℕ, ◌+◌, ◌-◌, ◌<◌, ◌≤◌, List, [], ◌∷◌, ◌++◌, length, refl, sym, ◌∙◌}
 use Rattle.std.proofs.Common.{arith}
 use Rattle.std.proofs.lemmas.Bool.Decides.{nat_tests}
 use Rattle.std.proofs.lemmas.List.{length-append, length-set, take-append-le}
@@ -16,9 +16,7 @@ use Rattle.pair_history.proofs.Waiting.{IsFirst-more, frame_numbered-more, first
 out_without-more : (c place : ℕ) (ps qs : List (ℕ × Frame)) → place < length (out_of c ps)
     → out_without c place (ps ++ qs) ≡ out_without c place ps ++ qs
 out_without-more c place [] qs l = absurd (omega arith)
-out_without-more c zero (p ∷ ps) qs l = grind (arith, nat_tests, out_without-more c zero ps qs)
-out_without-more c (suc place) (p ∷ ps) qs l =
-    grind (arith, nat_tests, out_without-more c place ps qs, out_without-more c (suc place) ps qs)
+out_without-more c place (p ∷ ps) qs l = let more = λ (k : ℕ). out_without-more c k ps qs in grind (arith, nat_tests)
 
 -- two entries change places: the guest's is still allowed, and the state after both is the same
 abbrev Swaps : HistoryState → Entry → List Entry → Entry → Type 0

@@ -22,11 +22,8 @@ AllClients-append n [] qs a b = b
 AllClients-append n (p ∷ ps) qs a b = (a.0, a.1, AllClients-append n ps qs a.2 b)
 
 pub AllClients-without : (n c place : ℕ) (ps : List (ℕ × Frame)) → AllClients n ps → AllClients n (out_without c place ps)
-AllClients-without n c zero [] a = tt
-AllClients-without n c (suc place) [] a = tt
-AllClients-without n c zero (p ∷ ps) a = grind (arith, nat_tests, AllClients-without n c zero ps a.2)
-AllClients-without n c (suc place) (p ∷ ps) a =
-    grind (arith, nat_tests, AllClients-without n c place ps a.2, AllClients-without n c (suc place) ps a.2)
+AllClients-without n c place [] a = grind (arith, nat_tests)
+AllClients-without n c place (p ∷ ps) a = let more = λ (k : ℕ). AllClients-without n c k ps a.2 in grind (arith, nat_tests)
 
 module _ (s : HistoryState) (h : IsReached s) where
   -- with one client's box in place, and some of what was on its way

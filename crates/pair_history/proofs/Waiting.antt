@@ -1,5 +1,5 @@
 -- Laws of the frames that wait for the guest.
-use Rattle.std.proofs.Common.{◌≡◌, ◌≢◌, ℕ, zero, suc, ◌+◌, ◌<◌, ◌≤◌, List, [], ◌∷◌, ◌++◌, length, remove, refl, arith, cond}
+use Rattle.std.proofs.Common.{◌≡◌, ◌≢◌, ℕ, ◌+◌, ◌<◌, ◌≤◌, List, [], ◌∷◌, ◌++◌, length, remove, refl, arith, cond}
 use Rattle.std.proofs.Common.{Option, Some, None}
 use Rattle.std.specs.Prelude.{slice_get, ◌==◌}
 use Rattle.std.proofs.lemmas.Bool.Decides.{nat_tests}
@@ -94,9 +94,9 @@ StandsAt c place n f ws = slice_get (inbox_of c ws) place ≡ Some (n, f)
 
 from : (c place n : ℕ) (f : Frame) (first end : ℕ) (ws : List Waiting) → AreRising first end ws → StandsAt c place n f ws → first ≤ n
 from c place n f first end [] h s = absurd (cc)
-from c zero n f first end (x ∷ xs) h s = grind (arith, nat_tests, from c zero n f (x.number + 1) end xs)
-from c (suc place) n f first end (x ∷ xs) h s =
-    grind (arith, nat_tests, from c place n f (x.number + 1) end xs, from c (suc place) n f (x.number + 1) end xs)
+from c place n f first end (x ∷ xs) h s =
+    let more = λ (k : ℕ). from c k n f (x.number + 1) end xs h.1 in
+    grind (arith, nat_tests)
 
 -- what is so of the frame at that place of client c's inbox where it has number n
 abbrev pub Leaves : ℕ → ℕ → ℕ → Frame → List Waiting → Type 0
@@ -107,17 +107,10 @@ Leaves c place n f ws =
 pub leaves-at : (c place n : ℕ) (f : Frame) (first end : ℕ) (ws : List Waiting) → AreRising first end ws → StandsAt c place n f ws
     → Leaves c place n f ws
 leaves-at c place n f first end [] h s = absurd (cc)
-leaves-at c zero n f first end (x ∷ xs) h s =
-    grind (arith, nat_tests, from c zero n f (x.number + 1) end xs, leaves-at c zero n f (x.number + 1) end xs)
-leaves-at c (suc place) n f first end (x ∷ xs) h s =
-    grind (
-      arith,
-      nat_tests,
-      from c place n f (x.number + 1) end xs,
-      from c (suc place) n f (x.number + 1) end xs,
-      leaves-at c place n f (x.number + 1) end xs,
-      leaves-at c (suc place) n f (x.number + 1) end xs,
-    )
+leaves-at c place n f first end (x ∷ xs) h s =
+    let above = λ (k : ℕ). from c k n f (x.number + 1) end xs h.1 in
+    let more = λ (k : ℕ). leaves-at c k n f (x.number + 1) end xs h.1 in
+    grind (arith, nat_tests)
 
 -- a client's inbox gets no longer where a frame leaves
 pub shorter : (c n : ℕ) (ws : List Waiting) → length (inbox_of c (without_number n ws)) ≤ length (inbox_of c ws)
