@@ -25,3 +25,5 @@ out_of-targets c n (f ∷ fs) low high =
     let rest = out_of-targets c n fs low high in
     let here = one-frame c n 1 f.items f low (omega arith) in
     grind (arith, out_of-append c (paired_with (clients_of n f.items) f) (targets_of n fs))
+
+pub ruleset address_laws = (out_of-targets)

@@ -96,9 +96,7 @@ left_to_drop false place a = refl
 
 drops_seen : (c : ℕ) (es : List Entry) (s : HistoryState) (place : ℕ) (a : Account) → AreFront s.boxes es
     → length a.on_way ≡ dropped_count es c → goes_on c s place a es ≡ all_dropped a
-drops_seen c [] s place a f e =
-    let none = nil_from_length a.on_way e in
-    λ i. record a { on_way = none i; dropped = (sym (append-nil a.dropped) ∙ ap (λ ps. a.dropped ++ ps) (sym none)) i }
+drops_seen c [] s place a f e = grind (arith, append-nil, nil_from_length a.on_way e)
 drops_seen c (DropOut d k ∷ es) s place a f e =
     let b = booked place (by_drop (d == c)) a in
     let count = sum_by-cons (λ x. cond (is_drop c x) 1 0) (DropOut d k) es in
@@ -164,5 +162,7 @@ alone_step_most s none few =
     let n = length s.boxes in
     let most : length (sent s.guest) * n ≤ 64 * n = mul-le-mul_right n few in
     rw none (omega (arith, length-targets_of n (sent s.guest), length-landings s.boxes (targets_of n (sent s.guest))))
+
+pub ruleset alone_laws = (steps_alone, alone_step_is, alone_step_most)
 
 pub ruleset go_live_laws = (goes_live, go_live_numbers, go_live_count, IsPermutation-rising, taken_in_rises, two_clients)

@@ -45,14 +45,9 @@ pub count-owed : (c n first : ℕ) (boxes : List (List Frame)) (out : List (ℕ 
     → dropped_count (drops_of_owed_from n first boxes out) c ≡ length (out_of c out)
 count-owed c zero first boxes out low high = absurd (omega arith)
 count-owed c (suc n) first boxes out low high =
-    grind (
-      arith,
-      nat_tests,
-      sum_by-append,
-      sum_by-replicate,
-      count-later c n (first + 1) boxes out,
-      count-owed c n (first + 1) boxes out,
-    )
+    let later = count-later c n (first + 1) boxes out in
+    let more = count-owed c n (first + 1) boxes out in
+    grind (arith, nat_tests, sum_by-append, sum_by-replicate)
 
 -- the drop of the first frame on its way to client c
 pub after-drop : (s : HistoryState) (c : ℕ) → after s (DropOut c (length (list_of s.boxes c))) ≡ record s { out = out_without c 0 s.out }

@@ -9,7 +9,7 @@ use Rattle.frame_ports.specs.Addresses.{targets_of}
 use Rattle.frame_ports.specs.Lands.{list_of, with_list}
 use Rattle.frame_ports.specs.declared.limits.TheConstants.{BOX_FRAMES}
 use Rattle.pair_history.specs.Entries.{Frame, Entry, Ran, Arrive, Delivered, Refused, DropIn, Land, DropOut, Took}
-use Rattle.pair_history.specs.HistoryState.{HistoryState, out_of, out_without, at, after, Allows, Legal, start_state}
+use Rattle.pair_history.specs.HistoryState.{HistoryState, out_of, out_without, at, after, Allows, Legal}
 use Rattle.pair_history.specs.Landings.{BoxesFit}
 use Rattle.pair_history.specs.Reached.{AllClients, IsReached}
 use Rattle.pair_history.proofs.LandingLaws.{BoxesFit-set, BoxesFit-at, AllClients-targets}
@@ -61,9 +61,8 @@ pub reached : (s : HistoryState) (es : List Entry) → IsReached s → Legal s e
 reached s [] h legal = h
 reached s (e ∷ es) h legal = reached (after s e) es (one_reached s h e legal.0) legal.1
 
-BoxesFit-empty : (clients : ℕ) → BoxesFit (replicate clients [])
+pub BoxesFit-empty : (clients : ℕ) → BoxesFit (replicate clients [])
 BoxesFit-empty zero = tt
 BoxesFit-empty (suc clients) = (omega arith, BoxesFit-empty clients)
 
-pub start_reached : (pages sectors : ℕ) (image : List ℕ) (clients : ℕ) → IsReached (start_state pages sectors image clients)
-start_reached pages sectors image clients = record { rising = omega arith; clients = tt; fit = BoxesFit-empty clients }
+pub ruleset reached_laws = (reached, BoxesFit-empty)

@@ -17,6 +17,7 @@ use guest_machine::sent_frames;
 
 /// From where a pair starts, a legal history leads only to states in which the frames that wait have rising numbers below the next
 /// one, each frame on its way is for a client that there is, and no box holds more than it has room for.
+#[tactic(auto, using(crate::proofs::ReachedLaws::reached_laws))]
 pub fn reached_states()
     ensures start { (pages sectors : ℕ) (image : List ℕ) (clients : ℕ) → IsReached (start_state pages sectors image clients) }
     ensures goes_on { (s : HistoryState) (es : List Entry) → IsReached s → Legal s es → IsReached (at s es) }
@@ -67,6 +68,7 @@ pub fn failing_backup_lets_all_land()
 
 /// At a node that is alone nothing is on its way between its steps: the frames that a step sends, at most 64 for
 /// each client, land at once.
+#[tactic(auto, using(crate::proofs::FailureLaws::alone_laws))]
 pub fn steps_alone_land_at_once()
     ensures entries { (s : HistoryState) → s.out ≡ []
         → alone_step_entries s ≡ Ran ∷ landings s.boxes (targets_of (length s.boxes) (sent s.guest)) }

@@ -24,6 +24,7 @@ pub fn delivered_frames_have_one_fate()
 {}
 
 /// The frames that the guest's next step sends to a client are those that are addressed to it, in order.
+#[tactic(auto, using(crate::proofs::AddressedLaws::address_laws))]
 pub fn sent_frames_go_by_address()
     ensures { (s : HistoryState) (c : ℕ) → IsClient s c → frames_for c s ≡ filter (λ f. addressed f.items c) (sent s.guest) }
 {}
