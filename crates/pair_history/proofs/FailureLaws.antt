@@ -25,7 +25,8 @@ use Rattle.pair_history.proofs.LandingLaws.{landings-land}
 use Rattle.pair_history.proofs.AccountLaws.{first-and-rest, account-append}
 use Rattle.pair_history.proofs.ReachedLaws.{reached}
 use Rattle.pair_history.proofs.OwedLaws.{AreFront, AreFront-all, count-owed, after-drop, owed_dropped}
-use Rattle.pair_history.proofs.TakenInLaws.{without_numbers, taken_in_dropped, at-drops_in, kept_boxes, taken_in_rises, IsPermutation-rising}
+use Rattle.pair_history.proofs.TakenInLaws.{without_numbers, taken_in_dropped, at-drops_in, kept_boxes}
+use Rattle.pair_history.proofs.TakenInLaws.{taken_in_rises, IsPermutation-rising}
 
 -- The backup goes live.
 
