@@ -212,4 +212,5 @@ pub boxed_fresh : (s : HistoryState) (es : List Entry) (c : ℕ) → IsFresh s �
     → Boxed empty_account (account s es c) (list_of (at s es).boxes c) (taken es c) (dropped_count es c)
 boxed_fresh s es c fresh legal low = boxed-is c s 0 empty_account es low legal (ap (out_of c) (sym fresh.out)) (sym (fresh.boxes c))
 
+-- for the clauses of `released_frames_were_sent` that have no answer
 pub ruleset account_laws = (sent-is, account-append, on_way_fresh, boxed_fresh, start_fresh)

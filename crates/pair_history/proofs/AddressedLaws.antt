@@ -26,4 +26,5 @@ out_of-targets c n (f ∷ fs) low high =
     let here = one-frame c n 1 f.items f low (omega arith) in
     grind (arith, out_of-append c (paired_with (clients_of n f.items) f) (targets_of n fs))
 
+-- what `sent_frames_go_by_address` follows from
 pub ruleset address_laws = (out_of-targets)

@@ -24,7 +24,7 @@ use Rattle.pair_history.proofs.States.{at-append, Legal-append}
 use Rattle.pair_history.proofs.LandingLaws.{landings-land}
 use Rattle.pair_history.proofs.AccountLaws.{first-and-rest, account-append}
 use Rattle.pair_history.proofs.ReachedLaws.{reached}
-use Rattle.pair_history.proofs.OwedLaws.{AreFront, AreFront-all, count-owed, after-drop, owed_dropped}
+use Rattle.pair_history.proofs.OwedLaws.{AreFrontDrops, AreFrontDrops-all, count-owed, after-drop, owed_dropped}
 use Rattle.pair_history.proofs.TakenInLaws.{without_numbers, taken_in_dropped, at-drops_in, kept_boxes}
 use Rattle.pair_history.proofs.TakenInLaws.{taken_in_rises, IsPermutation-rising}
 
@@ -62,7 +62,7 @@ two_clients s b f g h boxes out = λ i. DropIn 3 ∷ DropIn 5 ∷ drops_of_owed_
 
 -- which frames are dropped before they arrive
 
-no_number : (boxes : List (List Frame)) (es : List Entry) → AreFront boxes es → dropped_numbers es ≡ []
+no_number : (boxes : List (List Frame)) (es : List Entry) → AreFrontDrops boxes es → dropped_numbers es ≡ []
 no_number boxes [] f = refl
 no_number boxes (DropOut d place ∷ es) f = no_number boxes es f.3
 no_number boxes (other ∷ es) f = absurd f
@@ -73,7 +73,7 @@ dropped_numbers-in (n ∷ ns) es = ap (λ ms. n ∷ ms) (dropped_numbers-in ns e
 
 pub go_live_numbers : (s : HistoryState) (kept : List Entry) → dropped_numbers (go_live_entries s kept) ≡ rising (arrived_numbers kept)
 go_live_numbers s kept =
-    rw (dropped_numbers-in, no_number s.boxes (drops_of_owed s) (AreFront-all s)) (append-nil (rising (arrived_numbers kept)))
+    rw (dropped_numbers-in, no_number s.boxes (drops_of_owed s) (AreFrontDrops-all s)) (append-nil (rising (arrived_numbers kept)))
 
 -- What that does to a client's account: all that is on its way is dropped.
 
@@ -95,7 +95,7 @@ left_to_drop : (own : Bool) (place : ℕ) (a : Account) → all_dropped (booked 
 left_to_drop true place a = rw first-and-rest
 left_to_drop false place a = refl
 
-drops_seen : (c : ℕ) (es : List Entry) (s : HistoryState) (place : ℕ) (a : Account) → AreFront s.boxes es
+drops_seen : (c : ℕ) (es : List Entry) (s : HistoryState) (place : ℕ) (a : Account) → AreFrontDrops s.boxes es
     → length a.on_way ≡ dropped_count es c → goes_on c s place a es ≡ all_dropped a
 drops_seen c [] s place a f e = grind (arith, append-nil, nil_from_length a.on_way e)
 drops_seen c (DropOut d k ∷ es) s place a f e =
@@ -113,7 +113,7 @@ go_live_account c s kept place a client e =
     let t : HistoryState = record s { waiting = without_numbers ns s.waiting } in
     let few = count-owed c (length s.boxes) 1 s.boxes s.out client.0 (let l = client.1 in omega arith) in
     rw (account-append c s place a (drops_of_taken_in kept) (drops_of_owed s), drops_in-unseen c s place a ns, at-drops_in s ns)
-    (drops_seen c (drops_of_owed s) t _ a (AreFront-all s) (e ∙ sym few))
+    (drops_seen c (drops_of_owed s) t _ a (AreFrontDrops-all s) (e ∙ sym few))
 
 -- All that is on its way lands.
 
@@ -143,6 +143,7 @@ fail_backup_count s kept =
     let t = at s kept in
     omega (arith, length-append kept (all_land t), length-landings t.boxes t.out)
 
+-- what `failing_backup_lets_all_land` follows from
 pub ruleset fail_backup_laws = (fails_backup, fail_backup_count, kept_boxes)
 
 -- A node that is alone makes a step.
@@ -164,6 +165,8 @@ alone_step_most s none few =
     let most : length (sent s.guest) * n ≤ 64 * n = mul-le-mul_right n few in
     rw none (omega (arith, length-targets_of n (sent s.guest), length-landings s.boxes (targets_of n (sent s.guest))))
 
+-- for the clauses of `steps_alone_land_at_once` that have no answer
 pub ruleset alone_laws = (steps_alone, alone_step_is, alone_step_most)
 
+-- for the clauses of `going_live_drops_frames` that have no answer
 pub ruleset go_live_laws = (goes_live, go_live_numbers, go_live_count, IsPermutation-rising, taken_in_rises, two_clients)

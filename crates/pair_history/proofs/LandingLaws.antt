@@ -67,8 +67,7 @@ module _ (s : HistoryState) (c : ℕ) (f : Frame) (qs : List (ℕ × Frame)) (fi
   one_lands false e =
       let most : length (list_of s.boxes c) ≤ BOX_FRAMES = BoxesFit-at s.boxes (c - 1) fit in
       let is : length (list_of s.boxes c) ≡ BOX_FRAMES = grind (arith, nat_tests) in
-      let leaves = rest in
-      (((low, high), omega (arith, ap length front)), grind (arith, nat_tests), λ es d. ((refl, is), d))
+      (((low, high), omega (arith, ap length front)), grind (arith, nat_tests, rest), λ es d. ((refl, is), d))
 
 -- all of them do
 abbrev pub AllLand : HistoryState → List (ℕ × Frame) → List (ℕ × Frame) → List Entry → Type 0

@@ -10,4 +10,5 @@ all_expanded-push [] e = append-nil (expanded e)
 all_expanded-push (x ∷ es) e =
     ap (λ t. expanded x ++ t) (all_expanded-push es e) ∙ sym (append_assoc (expanded x) (all_expanded es) (expanded e))
 
+-- what `History` needs of its stored entries
 pub ruleset log_laws = (all_expanded-push, append_assoc, length-append, length-replicate, replicate-append-replicate)

@@ -13,25 +13,25 @@ use Rattle.pair_history.proofs.ClientLists.{out_of-without}
 use Rattle.pair_history.proofs.ReachedLaws.{AllClients-without}
 
 -- each entry drops the first frame on its way to a client that there is
-abbrev pub AreFront : List (List Frame) → List Entry → Type 0
-AreFront boxes [] = Unit {0}
-AreFront boxes (DropOut d place ∷ es) = (1 ≤ d) × (d ≤ length boxes) × (place ≡ length (list_of boxes d)) × AreFront boxes es
-AreFront boxes (other ∷ es) = ⊥
+abbrev pub AreFrontDrops : List (List Frame) → List Entry → Type 0
+AreFrontDrops boxes [] = Unit {0}
+AreFrontDrops boxes (DropOut d place ∷ es) = (1 ≤ d) × (d ≤ length boxes) × (place ≡ length (list_of boxes d)) × AreFrontDrops boxes es
+AreFrontDrops boxes (other ∷ es) = ⊥
 
-AreFront-more : (k d : ℕ) (boxes : List (List Frame)) (es : List Entry) → 1 ≤ d → d ≤ length boxes → AreFront boxes es
-    → AreFront boxes (replicate k (DropOut d (length (list_of boxes d))) ++ es)
-AreFront-more zero d boxes es low high h = h
-AreFront-more (suc k) d boxes es low high h = (low, high, refl, AreFront-more k d boxes es low high h)
+AreFrontDrops-more : (k d : ℕ) (boxes : List (List Frame)) (es : List Entry) → 1 ≤ d → d ≤ length boxes → AreFrontDrops boxes es
+    → AreFrontDrops boxes (replicate k (DropOut d (length (list_of boxes d))) ++ es)
+AreFrontDrops-more zero d boxes es low high h = h
+AreFrontDrops-more (suc k) d boxes es low high h = (low, high, refl, AreFrontDrops-more k d boxes es low high h)
 
-AreFront-owed : (n first : ℕ) (boxes : List (List Frame)) (out : List (ℕ × Frame)) → 1 ≤ first → first + n ≤ length boxes + 1
-    → AreFront boxes (drops_of_owed_from n first boxes out)
-AreFront-owed zero first boxes out low high = tt
-AreFront-owed (suc n) first boxes out low high =
-    AreFront-more (length (out_of first out)) first boxes (drops_of_owed_from n (first + 1) boxes out) low (omega arith)
-    (AreFront-owed n (first + 1) boxes out (omega arith) (omega arith))
+AreFrontDrops-owed : (n first : ℕ) (boxes : List (List Frame)) (out : List (ℕ × Frame)) → 1 ≤ first → first + n ≤ length boxes + 1
+    → AreFrontDrops boxes (drops_of_owed_from n first boxes out)
+AreFrontDrops-owed zero first boxes out low high = tt
+AreFrontDrops-owed (suc n) first boxes out low high =
+    AreFrontDrops-more (length (out_of first out)) first boxes (drops_of_owed_from n (first + 1) boxes out) low (omega arith)
+    (AreFrontDrops-owed n (first + 1) boxes out (omega arith) (omega arith))
 
-pub AreFront-all : (s : HistoryState) → AreFront s.boxes (drops_of_owed s)
-AreFront-all s = AreFront-owed (length s.boxes) 1 s.boxes s.out (omega arith) (omega arith)
+pub AreFrontDrops-all : (s : HistoryState) → AreFrontDrops s.boxes (drops_of_owed s)
+AreFrontDrops-all s = AreFrontDrops-owed (length s.boxes) 1 s.boxes s.out (omega arith) (omega arith)
 
 -- as many are for client c as are on their way to it
 
@@ -59,13 +59,13 @@ Leaves s rest es = Legal s es × (at s es ≡ record s { out = rest })
 
 none-left : (n : ℕ) (ps : List (ℕ × Frame)) → AllClients n ps → ((c : ℕ) → 1 ≤ c → c ≤ n → 0 ≡ length (out_of c ps)) → ps ≡ []
 none-left n [] a e = refl
-none-left n (p ∷ ps) a e = let none = e p.0 a.0 a.1 in grind (arith, nat_tests)
+none-left n (p ∷ ps) a e = grind (arith, nat_tests, e p.0 a.0 a.1)
 
 one-less : (d : ℕ) (ps : List (ℕ × Frame)) → 0 < length (out_of d ps) → length ps ≡ 1 + length (out_without d 0 ps)
 one-less d [] l = absurd (omega arith)
 one-less d (p ∷ ps) l = grind (arith, nat_tests, one-less d ps)
 
-all_leave : (es : List Entry) (s : HistoryState) → AreFront s.boxes es → AllClients (length s.boxes) s.out
+all_leave : (es : List Entry) (s : HistoryState) → AreFrontDrops s.boxes es → AllClients (length s.boxes) s.out
     → ((c : ℕ) → 1 ≤ c → c ≤ length s.boxes → dropped_count es c ≡ length (out_of c s.out))
     → Leaves s [] es × (length es ≡ length s.out)
 all_leave [] s f a e = let none = none-left (length s.boxes) s.out a e in ((tt, rw none), rw none)
@@ -84,5 +84,5 @@ pub owed_dropped : (s : HistoryState) → AllClients (length s.boxes) s.out
     → Leaves s [] (drops_of_owed s) × (length (drops_of_owed s) ≡ length s.out)
 owed_dropped s a =
     let n = length s.boxes in
-    all_leave (drops_of_owed s) s (AreFront-all s) a (λ c low high.
+    all_leave (drops_of_owed s) s (AreFrontDrops-all s) a (λ c low high.
     count-owed c n 1 s.boxes s.out low (omega arith))

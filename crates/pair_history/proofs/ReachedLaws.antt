@@ -65,4 +65,5 @@ pub BoxesFit-empty : (clients : ℕ) → BoxesFit (replicate clients [])
 BoxesFit-empty zero = tt
 BoxesFit-empty (suc clients) = (omega arith, BoxesFit-empty clients)
 
+-- what `reached_states` follows from
 pub ruleset reached_laws = (reached, BoxesFit-empty)
