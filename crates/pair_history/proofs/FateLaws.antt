@@ -1,5 +1,5 @@
 -- Each delivered frame arrived, was dropped before it could, or waits.
-use Rattle.std.proofs.Common.{◌≡◌, ℕ, ◌+◌, List, [], ◌∷◌, ◌++◌, length, refl, sym, ap, ◌∙◌, subst, arith, append_assoc, Bool, true, false}
+use Rattle.std.proofs.Common.{◌≡◌, ℕ, ◌+◌, List, [], ◌∷◌, ◌++◌, length, refl, arith, append_assoc, Bool, true, false}
 use Rattle.std.proofs.Common.{cond}
 use Rattle.std.specs.Prelude.{◌==◌, Some}
 use Rattle.std.specs.List.{range_with_len}
@@ -12,8 +12,7 @@ use Rattle.pair_history.specs.Entries.{Entry, Arrive, Delivered, DropIn}
 use Rattle.pair_history.specs.HistoryState.{HistoryState, Waiting, frame_numbered, without_number, at, after, Legal}
 use Rattle.pair_history.specs.Failures.{arrived_numbers, dropped_numbers}
 use Rattle.pair_history.specs.Fates.{delivered_numbers, waiting_numbers}
-use Rattle.pair_history.proofs.Waiting.{first-waits}
-use Rattle.pair_history.proofs.TakenInLaws.{Waits}
+use Rattle.pair_history.proofs.Waiting.{Waits, first-waits}
 
 -- a frame that leaves what waits
 leaves : (n : ℕ) (ws : List Waiting) → Waits n ws → IsPermutation (waiting_numbers ws) (n ∷ waiting_numbers (without_number n ws))
@@ -23,9 +22,7 @@ leaves n (x ∷ xs) w = by_test (x.number == n) refl w.1 (λ e. leaves n xs (w.0
     by_test : (t : Bool) → (x.number == n) ≡ t → cond t (Some x.frame) (frame_numbered n xs) ≡ Some w.0
         → (frame_numbered n xs ≡ Some w.0 → IsPermutation (waiting_numbers xs) (n ∷ waiting_numbers (without_number n xs)))
         → IsPermutation (x.number ∷ waiting_numbers xs) (n ∷ waiting_numbers (cond t xs (x ∷ without_number n xs)))
-    by_test true e d rest =
-        subst (λ (k : ℕ). IsPermutation (x.number ∷ waiting_numbers xs) (k ∷ waiting_numbers xs)) (eqb-true x.number n e)
-        (IsPermutation-refl (x.number ∷ waiting_numbers xs))
+    by_test true e d rest = rw (eqb-true x.number n e) (IsPermutation-refl (n ∷ waiting_numbers xs))
     by_test false e d rest =
         let left = waiting_numbers (without_number n xs) in
         IsPermutation-trans (x.number ∷ waiting_numbers xs) (x.number ∷ n ∷ left) (n ∷ x.number ∷ left)
@@ -48,29 +45,16 @@ one_leaves s n es fates w rest =
     (IsPermutation-append_left new ws (n ∷ left) (leaves n s.waiting w)) (IsPermutation-cons n (left ++ new) fates rest)
 
 pub fates : (s : HistoryState) (es : List Entry) → Legal s es → Fates s es
-fates s [] h =
-    subst (λ (ns : List ℕ). IsPermutation ns (waiting_numbers s.waiting)) (sym (append-nil (waiting_numbers s.waiting)))
-    (IsPermutation-refl (waiting_numbers s.waiting))
-fates s (Arrive n ∷ es) h =
-    let t = after s (Arrive n) in
-    let after_it = arrived_numbers es ++ (dropped_numbers es ++ waiting_numbers (at t es).waiting) in
-    one_leaves s n es after_it (first-waits n h.0.0 h.0.1 s.waiting h.0.2) (fates t es h.1)
+fates s [] h = rw append-nil (IsPermutation-refl (waiting_numbers s.waiting))
+fates s (Arrive n ∷ es) h = one_leaves s n es _ (first-waits n s.waiting h.0) (fates (after s (Arrive n)) es h.1)
 fates s (DropIn n ∷ es) h =
-    let t = after s (DropIn n) in
     let came = arrived_numbers es in
-    let others = dropped_numbers es ++ waiting_numbers (at t es).waiting in
+    let others = dropped_numbers es ++ waiting_numbers (at (after s (DropIn n)) es).waiting in
     IsPermutation-trans (waiting_numbers s.waiting ++ delivered_numbers es) (n ∷ (came ++ others)) (came ++ (n ∷ others))
-    (one_leaves s n es (came ++ others) h.0 (fates t es h.1))
+    (one_leaves s n es (came ++ others) h.0 (fates (after s (DropIn n)) es h.1))
     (IsPermutation-sym (came ++ (n ∷ others)) (n ∷ (came ++ others)) (IsPermutation-middle came n others))
 fates s (Delivered c f n ∷ es) h =
-    let t = after s (Delivered c f n) in
-    let ws = waiting_numbers s.waiting in
-    let new : List Waiting = record { number = n; client = c; frame = f } ∷ [] in
-    let same : waiting_numbers t.waiting ++ delivered_numbers es ≡ ws ++ (n ∷ delivered_numbers es) =
-    ap (λ ns. ns ++ delivered_numbers es) (map-append (λ (x : Waiting). x.number) s.waiting new)
-    ∙ append_assoc ws (n ∷ []) (delivered_numbers es) in
-    let end = arrived_numbers es ++ (dropped_numbers es ++ waiting_numbers (at t es).waiting) in
-    subst (λ (ns : List ℕ). IsPermutation ns end) same (fates t es h.1)
+    rw (map-append, append_assoc (waiting_numbers s.waiting) (n ∷ []) (delivered_numbers es)) at (fates (after s (Delivered c f n)) es h.1)
 fates s (other ∷ es) h = fates (after s other) es h.1
 
 -- delivered frames are numbered one after another
@@ -81,7 +65,5 @@ pub numbered : (s : HistoryState) (es : List Entry) → Legal s es → Numbered 
 numbered s [] h = (refl, omega arith)
 numbered s (Delivered c f n ∷ es) h =
     let more = numbered (after s (Delivered c f n)) es h.1 in
-    let is : n ≡ s.number = h.0.2 in
-    let end = more.1 in
-    (λ i. is i ∷ more.0 i, omega arith)
+    (λ i. h.0.2 i ∷ more.0 i, omega (arith, more.1))
 numbered s (other ∷ es) h = numbered (after s other) es h.1

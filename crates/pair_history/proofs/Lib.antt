@@ -5,8 +5,8 @@ pub mod Moves
 pub mod LandingLaws
 pub mod ReachedLaws
 pub mod OwedLaws
-pub mod TakenInLaws
 pub mod SortedLaws
+pub mod TakenInLaws
 pub mod FateLaws
 pub mod AddressedLaws
 pub mod FailureLaws

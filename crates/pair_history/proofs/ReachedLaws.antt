@@ -1,14 +1,15 @@
 -- Each entry of a legal history keeps what is so of the states that it leads to.
 use Rattle.std.proofs.Common.{ℕ, zero, suc, ◌-◌, ◌<◌, ◌≤◌, List, [], ◌∷◌, ◌++◌, length, take}
-use Rattle.std.proofs.Common.{drop, remove, replicate, sym, subst, arith, Bool, true, false, cond}
-use Rattle.std.specs.Prelude.{nat_lt, ◌==◌}
+use Rattle.std.proofs.Common.{drop, remove, replicate, arith}
+use Rattle.std.proofs.lemmas.Bool.Decides.{nat_tests}
 use Rattle.std.proofs.lemmas.List.{length-append, length-set, length-take, length-drop}
+use Rattle.std.proofs.lemmas.List.Edits.{length-remove}
 use Rattle.guest_machine.specs.Step.{sent}
 use Rattle.frame_ports.specs.Addresses.{targets_of}
 use Rattle.frame_ports.specs.Lands.{list_of, with_list}
 use Rattle.frame_ports.specs.declared.limits.TheConstants.{BOX_FRAMES}
 use Rattle.pair_history.specs.Entries.{Frame, Entry, Ran, Arrive, Delivered, Refused, DropIn, Land, DropOut, Took}
-use Rattle.pair_history.specs.HistoryState.{HistoryState, out_of, out_without, at, after, Allows, Legal, start_state}
+use Rattle.pair_history.specs.HistoryState.{HistoryState, out_of, out_without, at, after, Allows, Legal}
 use Rattle.pair_history.specs.Landings.{BoxesFit}
 use Rattle.pair_history.specs.Reached.{AllClients, IsReached}
 use Rattle.pair_history.proofs.LandingLaws.{BoxesFit-set, BoxesFit-at, AllClients-targets}
@@ -20,82 +21,37 @@ AllClients-append : (n : ℕ) (ps qs : List (ℕ × Frame)) → AllClients n ps 
 AllClients-append n [] qs a b = b
 AllClients-append n (p ∷ ps) qs a b = (a.0, a.1, AllClients-append n ps qs a.2 b)
 
-AllClients-without : (n c place : ℕ) (ps : List (ℕ × Frame)) → AllClients n ps → AllClients n (out_without c place ps)
-AllClients-without n c zero [] a = tt
-AllClients-without n c (suc place) [] a = tt
-AllClients-without n c zero (p ∷ ps) a = by_test (p.0 == c) (AllClients-without n c zero ps a.2)
-  where
-    by_test : (t : Bool) → AllClients n (out_without c zero ps) → AllClients n (cond t ps (p ∷ out_without c zero ps))
-    by_test true later = a.2
-    by_test false later = (a.0, a.1, later)
-AllClients-without n c (suc place) (p ∷ ps) a =
-    by_test (p.0 == c) (AllClients-without n c place ps a.2) (AllClients-without n c (suc place) ps a.2)
-  where
-    by_test : (t : Bool) → AllClients n (out_without c place ps) → AllClients n (out_without c (suc place) ps)
-        → AllClients n (p ∷ out_without c (cond t place (suc place)) ps)
-    by_test true nearer later = (a.0, a.1, nearer)
-    by_test false nearer later = (a.0, a.1, later)
-
--- a box with one frame less
-
-length-remove : (fs : List Frame) (place : ℕ) → length (remove fs place) ≤ length fs
-length-remove [] zero = omega arith
-length-remove [] (suc place) = omega arith
-length-remove (f ∷ fs) zero = omega arith
-length-remove (f ∷ fs) (suc place) = let l = length-remove fs place in omega arith
+pub AllClients-without : (n c place : ℕ) (ps : List (ℕ × Frame)) → AllClients n ps → AllClients n (out_without c place ps)
+AllClients-without n c place [] a = grind (arith, nat_tests)
+AllClients-without n c place (p ∷ ps) a = let more = λ (k : ℕ). AllClients-without n c k ps a.2 in grind (arith, nat_tests)
 
 module _ (s : HistoryState) (h : IsReached s) where
   -- with one client's box in place, and some of what was on its way
   boxed : (out : List (ℕ × Frame)) (c : ℕ) (fs : List Frame) → AllClients (length s.boxes) out → length fs ≤ BOX_FRAMES
       → IsReached (record s { out = out; boxes = with_list s.boxes c fs })
-  boxed out c fs a l = record {
-    rising = h.rising;
-    clients = subst (λ n. AllClients n out) (sym (length-set s.boxes (c - 1) fs)) a;
-    fit = BoxesFit-set s.boxes (c - 1) fs h.fit l;
-  }
-
-  dropped : (c place : ℕ) → IsReached (after s (DropOut c place))
-  dropped c place = by_test (nat_lt place (length (list_of s.boxes c)))
-    where
-      box : List Frame
-      box = list_of s.boxes c
-
-      by_test : (t : Bool) → IsReached (record s {
-        out = cond t s.out (out_without c (place - length box) s.out);
-        boxes = cond t (with_list s.boxes c (remove box place)) s.boxes;
-      })
-      by_test true =
-          let most = BoxesFit-at s.boxes (c - 1) h.fit in
-          let less = length-remove box place in
-          boxed s.out c (remove box place) h.clients (omega arith)
-      by_test false = record {
-        rising = h.rising;
-        clients = AllClients-without (length s.boxes) c (place - length box) s.out h.clients;
-        fit = h.fit;
-      }
+  boxed out c fs a l = record { rising = h.rising; clients = rw length-set a; fit = BoxesFit-set s.boxes (c - 1) fs h.fit l }
 
   one_reached : (e : Entry) → Allows s e → IsReached (after s e)
-  one_reached Ran a = record {
-    rising = h.rising;
-    clients = AllClients-append (length s.boxes) s.out (targets_of (length s.boxes) (sent s.guest)) h.clients
-        (AllClients-targets (length s.boxes) (sent s.guest));
-    fit = h.fit;
-  }
-  one_reached (Arrive n) a = record { rising = AreRising-without n 1 s.number s.waiting h.rising; clients = h.clients; fit = h.fit }
-  one_reached (Delivered c f n) a = record {
-    rising = AreRising-push 1 s.number s.waiting (record { number = n; client = c; frame = f }) h.rising a.2;
-    clients = h.clients;
-    fit = h.fit;
-  }
+  one_reached Ran a =
+      let more = AllClients-targets (length s.boxes) (sent s.guest) in
+      assumption (AllClients-append (length s.boxes) s.out (targets_of (length s.boxes) (sent s.guest)) h.clients more)
+  one_reached (Arrive n) a = assumption (AreRising-without n 1 s.number s.waiting h.rising)
+  one_reached (Delivered c f n) a =
+      assumption (AreRising-push 1 s.number s.waiting (record { number = n; client = c; frame = f }) h.rising a.2)
   one_reached (Refused c f) a = h
-  one_reached (DropIn n) a = record { rising = AreRising-without n 1 s.number s.waiting h.rising; clients = h.clients; fit = h.fit }
+  one_reached (DropIn n) a = assumption (AreRising-without n 1 s.number s.waiting h.rising)
   one_reached (Land c) a =
       let box = list_of s.boxes c in
       let first = take 1 (out_of c s.out) in
       let room : length box < BOX_FRAMES = a.2 in
       boxed (out_without c 0 s.out) c (box ++ first) (AllClients-without (length s.boxes) c 0 s.out h.clients)
       (omega (arith, length-append box first, length-take 1 (out_of c s.out)))
-  one_reached (DropOut c place) a = dropped c place
+  one_reached (DropOut c place) a =
+      let box = list_of s.boxes c in
+      let less = AllClients-without (length s.boxes) c (place - length box) s.out h.clients in
+      let most = BoxesFit-at s.boxes (c - 1) h.fit in
+      let smaller = boxed s.out c (remove box place) h.clients in
+      grind (arith, nat_tests, length-remove box place)
   one_reached (Took c answer) a =
       let box = list_of s.boxes c in
       let most = BoxesFit-at s.boxes (c - 1) h.fit in
@@ -105,9 +61,9 @@ pub reached : (s : HistoryState) (es : List Entry) → IsReached s → Legal s e
 reached s [] h legal = h
 reached s (e ∷ es) h legal = reached (after s e) es (one_reached s h e legal.0) legal.1
 
-BoxesFit-empty : (clients : ℕ) → BoxesFit (replicate clients [])
+pub BoxesFit-empty : (clients : ℕ) → BoxesFit (replicate clients [])
 BoxesFit-empty zero = tt
 BoxesFit-empty (suc clients) = (omega arith, BoxesFit-empty clients)
 
-pub start_reached : (pages sectors : ℕ) (image : List ℕ) (clients : ℕ) → IsReached (start_state pages sectors image clients)
-start_reached pages sectors image clients = record { rising = omega arith; clients = tt; fit = BoxesFit-empty clients }
+-- what `reached_states` follows from
+pub ruleset reached_laws = (reached, BoxesFit-empty)

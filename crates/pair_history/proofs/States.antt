@@ -1,9 +1,9 @@
 -- Laws of histories: what a list of entries does, in two parts.
-use Rattle.std.proofs.Common.{◌≡◌, List, [], ◌∷◌, ◌++◌, refl, sym, ap, ◌∙◌, append_assoc, arith}
+use Rattle.std.proofs.Common.{◌≡◌, List, [], ◌∷◌, ◌++◌, refl, arith}
 pub use Rattle.frame_ports.proofs.AddressLaws.{targets_of-append}
 pub use Rattle.std.proofs.lemmas.List.{append-nil}
 use Rattle.pair_history.specs.Entries.{Entry, DropIn, DropOut}
-use Rattle.pair_history.specs.HistoryState.{HistoryState, at, after, Legal, along}
+use Rattle.pair_history.specs.HistoryState.{HistoryState, at, after, Legal}
 use Rattle.pair_history.specs.Landings.{DropsAreKnown, DropsAtFull}
 
 pub at-append : (s : HistoryState) (es fs : List Entry) → at s (es ++ fs) ≡ at (at s es) fs
@@ -25,10 +25,3 @@ at_full-known s [] p = tt
 at_full-known s (DropIn n ∷ es) p = absurd p
 at_full-known s (DropOut c place ∷ es) p = (let e = p.0.0 in let l = p.0.1 in omega arith, at_full-known (after s (DropOut c place)) es p.1)
 at_full-known s (other ∷ es) p = at_full-known (after s other) es p
-
-pub along-append : {X : Type 0} (gives : HistoryState → Entry → List X) (s : HistoryState) (es fs : List Entry)
-    → along gives s (es ++ fs) ≡ along gives s es ++ along gives (at s es) fs
-along-append gives s [] fs = refl
-along-append gives s (e ∷ es) fs =
-    ap (λ t. gives s e ++ t) (along-append gives (after s e) es fs)
-    ∙ sym (append_assoc (gives s e) (along gives (after s e) es) (along gives (at (after s e) es) fs))

@@ -17,6 +17,7 @@ use guest_machine::sent_frames;
 
 /// From where a pair starts, a legal history leads only to states in which the frames that wait have rising numbers below the next
 /// one, each frame on its way is for a client that there is, and no box holds more than it has room for.
+#[tactic(auto, using(crate::proofs::ReachedLaws::reached_laws))]
 pub fn reached_states()
     ensures start { (pages sectors : ℕ) (image : List ℕ) (clients : ℕ) → IsReached (start_state pages sectors image clients) }
     ensures goes_on { (s : HistoryState) (es : List Entry) → IsReached s → Legal s es → IsReached (at s es) }
@@ -29,6 +30,7 @@ pub fn reached_states()
 /// no inbox changes: the frames that they had taken in are dropped, each once, by rising number, and no others. Nothing is on its way
 /// to a client any more: of each client's account, all that was on its way is dropped, from the front, and what was released to it, what
 /// lies in its box and what it took stay. There are as many entries as frames that were taken in, or on their way.
+#[tactic(auto, using(crate::proofs::FailureLaws::go_live_laws))]
 pub fn going_live_drops_frames()
     ensures legal { (s : HistoryState) (kept : List Entry) → IsReached s → AreGuests kept → Legal s kept
         → Legal s (go_live_entries s kept) }
@@ -54,6 +56,7 @@ pub fn going_live_drops_frames()
 
 /// Where the backup fails, all that was kept stays in the history, and then all that is on its way lands, in the order sent: it goes
 /// last in its client's box, or is dropped where that is full. The guest is that after the kept entries.
+#[tactic(auto, using(crate::proofs::FailureLaws::fail_backup_laws))]
 pub fn failing_backup_lets_all_land()
     ensures legal { (s : HistoryState) (kept : List Entry) → IsReached s → Legal s kept → Legal s (fail_backup_entries s kept) }
     ensures state { (s : HistoryState) (kept : List Entry) → IsReached s → Legal s kept
@@ -65,6 +68,7 @@ pub fn failing_backup_lets_all_land()
 
 /// At a node that is alone nothing is on its way between its steps: the frames that a step sends, at most 64 for
 /// each client, land at once.
+#[tactic(auto, using(crate::proofs::FailureLaws::alone_laws))]
 pub fn steps_alone_land_at_once()
     ensures entries { (s : HistoryState) → s.out ≡ []
         → alone_step_entries s ≡ Ran ∷ landings s.boxes (targets_of (length s.boxes) (sent s.guest)) }

@@ -12,6 +12,7 @@ ghost use Rattle.pair_history.specs.Released.{frames_for};
 
 /// Delivered frames are numbered one after another, and each has one fate: of those that waited at first and those that a legal
 /// history delivered, each either arrived at the guest, or was dropped before it could, or waits in the end, and none twice.
+#[tactic(auto, using(crate::proofs::FateLaws::fates, crate::proofs::FateLaws::numbered))]
 pub fn delivered_frames_have_one_fate()
     ensures numbers { (s : HistoryState) (es : List Entry) → Legal s es
         → delivered_numbers es ≡ range_with_len s.number (length (delivered_numbers es)) }
@@ -23,6 +24,7 @@ pub fn delivered_frames_have_one_fate()
 {}
 
 /// The frames that the guest's next step sends to a client are those that are addressed to it, in order.
+#[tactic(auto, using(crate::proofs::AddressedLaws::address_laws))]
 pub fn sent_frames_go_by_address()
     ensures { (s : HistoryState) (c : ℕ) → IsClient s c → frames_for c s ≡ filter (λ f. addressed f.items c) (sent s.guest) }
 {}

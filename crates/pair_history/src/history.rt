@@ -69,6 +69,7 @@ impl History {
     }
 
     /// Adds an entry at the end, in the room that was reserved.
+    #[tactic(auto, using(crate::proofs::LogLaws::log_laws))]
     pub fn add(&mut self, entry: Entry)
         requires room { 0 < self.old.room }
         requires fits { length (self.old.entries ++ expanded entry) < 2 ^ 62 }
@@ -81,6 +82,7 @@ impl History {
 
     /// The guest made so many steps, in the room that was reserved. They count among those that the history ends with, so that many
     /// steps in a row, however they come, take the room of one stored entry.
+    #[tactic(auto, using(crate::proofs::LogLaws::log_laws))]
     pub fn run(&mut self, steps: u64)
         requires room { 0 < self.old.room }
         requires fits { length self.old.entries + steps < 2 ^ 62 }
@@ -115,6 +117,7 @@ impl History {
 }
 
 /// Takes the steps that these entries end with off their end, and says how many they are.
+#[tactic(auto, using(crate::proofs::LogLaws::log_laws))]
 fn take_steps(entries: &mut Vec<Entry>) -> u64
     ensures steps { all_expanded entries.old.items ≡ all_expanded entries.new.items ++ replicate result Ran }
     ensures room { vec_capacity entries.old + vec_len entries.new ≤ vec_capacity entries.new + vec_len entries.old }

@@ -16,6 +16,7 @@ ghost use Rattle.frame_ports.specs.Lands.{list_of};
 ///
 /// A history that goes on goes on with the same account, and what was released stays so. From where a pair starts, the account's
 /// frames are those that the history's state and its entries say.
+#[tactic(auto, using(crate::proofs::AccountLaws::account_laws))]
 pub fn released_frames_were_sent()
     ensures sent { (s : HistoryState) (es : List Entry) (c : ℕ) → All (WasSent s es c) (account s es c).sent }
     ensures all_sent { (s : HistoryState) (es : List Entry) (c : ℕ) → frames (account s es c).sent ≡ sent_to s es c }
@@ -38,6 +39,7 @@ pub fn released_frames_were_sent()
 /// What clients and their lines do can come before what the guest does: a delivery, a landing, a drop or a take that is ready before
 /// the guest's entries leaves them legal, and the state after all of them is the same. So what a client is answered while an epoch
 /// is kept can stand in the history before that epoch; so can the loss of a delivered frame that the epoch doesn't take in.
+#[tactic(auto, using(crate::proofs::OrderLaws::goes_first))]
 pub fn client_entries_go_first()
     ensures { (s : HistoryState) (es : List Entry) (e : Entry) → AreGuests es → Legal s es → IsReady s es e
         → Legal (after s e) es × (at (after s e) es ≡ after (at s es) e) }
