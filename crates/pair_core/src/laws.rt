@@ -11,7 +11,7 @@ ghost use Rattle.pair_history.specs.Entries.{Entry, Frame, Delivered, Took, Begi
 ghost use Rattle.pair_history.specs.HistoryState.{HistoryState, Allows, at};
 ghost use Rattle.pair_core.specs.Drops.{Drops, WhyLost};
 ghost use Rattle.pair_core.specs.Protocol.{Record};
-ghost use Rattle.pair_core.specs.Service.{Moment, HasServed, IsDelivery};
+ghost use Rattle.pair_core.specs.Service.{Moment, Serves, HasServed, IsDelivery};
 ghost use Rattle.pair_core.specs.Replication.{KeepsBackup, Awaits, Does, Leads};
 
 /// The image after a commit is the guest that the live machine was at the cut of that checkpoint: memory, disk and devices.
@@ -90,4 +90,7 @@ pub fn clients_have_one_guest_that_never_fails()
         → (k generation steps : ℕ) → slice_get events k ≡ Some GoLive → slice_get answers k ≡ Some (replies.Live generation steps)
         → (before later : List Entry) × (new.history ≡ before ++ later) × Begins old.history before
         × ((at start before).guest.steps ≡ steps) }
+    // At that moment the guest, its memory, disk and devices, is the history's.
+    ensures resumed { (start : HistoryState) (old new : Moment) (generation steps : ℕ)
+        → Serves start old GoLive (replies.Live generation steps) new → new.guest ≡ (at start new.history).guest }
 {}
