@@ -23,7 +23,8 @@ use Rattle.pair_core.specs.Modes.{is_stopped, is_alone}
 use Rattle.pair_core.specs.Nodes.{after_run, with_sent_off}
 use Rattle.pair_core.specs.Pair.{Pair}
 use Rattle.pair_core.specs.Protocol.{Record, Outcome, live_at, shown_at, outbox_of, step_entries, step_done, step_outcome, step_room}
-use Rattle.pair_core.specs.Protocol.{first_refusal, or_else, refused, exhausts, Answers, MayWantMemory}
+use Rattle.pair_core.specs.Protocol.{first_refusal, or_else, refused, exhausts}
+use Rattle.pair_core.specs.Answering.{Answers, MayWantMemory}
 use Rattle.pair_core.specs.Record.{IsLone}
 use Rattle.pair_core.specs.Runs.{StepsAnswer, goes_on, steps_outcome}
 use Rattle.pair_core.proofs.AllLands.{at_once_holds}

@@ -20,7 +20,8 @@ use Rattle.pair_core.specs.declared.event.Reply.{Reply}
 use Rattle.pair_core.specs.declared.event.Reply.TheVariants as replies
 use Rattle.pair_core.specs.Modes.{is_alone, mode_refusal}
 use Rattle.pair_core.specs.Nodes.{Nodes}
-use Rattle.pair_core.specs.Protocol.{Record, Outcome, Row, Answers, allowed, exhausts, first_refusal, or_else, unless, refused}
+use Rattle.pair_core.specs.Protocol.{Record, Outcome, Row, allowed, exhausts, first_refusal, or_else, unless, refused}
+use Rattle.pair_core.specs.Answering.{Answers}
 use Rattle.pair_core.specs.Protocol.{is_among, is_bad_length, shown_at, live_at, outbox_of, step_refusals, step_done}
 use Rattle.pair_core.specs.Protocol.{cut_refusals, cut_done}
 use Rattle.pair_core.specs.Protocol.{again_done, commit_done, backup_refusals, backup_done, backup_outcome, ack_refusals, ack_done}

@@ -12,7 +12,8 @@ use Rattle.pair_core.specs.declared.event.Refusal.TheVariants.{NoClient}
 use Rattle.pair_core.specs.declared.event.Reply.TheVariants as replies
 use Rattle.pair_core.specs.Invariant.{Holds}
 use Rattle.pair_core.specs.Pair.{Pair, live_state}
-use Rattle.pair_core.specs.Protocol.{Outcome, MayWantMemory, allowed, unless, refused, first_refusal, is_among, client_refusals}
+use Rattle.pair_core.specs.Protocol.{Outcome, allowed, unless, refused, first_refusal, is_among, client_refusals}
+use Rattle.pair_core.specs.Answering.{MayWantMemory}
 use Rattle.pair_core.specs.Protocol.{loss_refusals, loss_done, loss_of, lost_in, lose_in_outcome_at, lose_out_outcome_at}
 use Rattle.pair_core.proofs.Outcomes.{stops, goes, client_range, inbox_is}
 

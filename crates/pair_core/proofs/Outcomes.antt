@@ -18,7 +18,8 @@ use Rattle.pair_core.specs.declared.event.Reply.TheVariants as replies
 use Rattle.pair_core.specs.Invariant.{Holds}
 use Rattle.pair_core.specs.Modes.{is_stopped}
 use Rattle.pair_core.specs.Pair.{Pair, shown_state, live_state, AfterRefusal}
-use Rattle.pair_core.specs.Protocol.{Record, Outcome, Row, MayWantMemory, allowed, first_refusal, or_else, unless, refused, exhausts}
+use Rattle.pair_core.specs.Protocol.{Record, Outcome, Row, allowed, first_refusal, or_else, unless, refused, exhausts}
+use Rattle.pair_core.specs.Answering.{MayWantMemory}
 use Rattle.pair_core.specs.Protocol.{is_among, is_bad_length, step_outcome, step_outcome_at, cut_refusals, cut_done, outbox_of}
 use Rattle.pair_core.specs.Protocol.{fail_backup_outcome_at, ack_outcome_at, admit_outcome_at, admit_first, admit_refusals, admit_done}
 use Rattle.pair_core.specs.Protocol.{arrival_refusals}

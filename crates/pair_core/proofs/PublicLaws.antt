@@ -27,7 +27,8 @@ use Rattle.pair_core.specs.Invariant.{Holds}
 use Rattle.pair_core.specs.Journal.{first_of, kept_entries, with_history, with_moves}
 use Rattle.pair_core.specs.Modes.{is_alone, mode_refusal}
 use Rattle.pair_core.specs.Pair.{Pair, OnRefused, shown_state, live_state}
-use Rattle.pair_core.specs.Protocol.{Record, Outcome, Row, Answers, MayWantMemory, allowed, outcome, exhausts, first_refusal, or_else}
+use Rattle.pair_core.specs.Protocol.{Record, Outcome, Row, allowed, outcome, exhausts, first_refusal, or_else}
+use Rattle.pair_core.specs.Answering.{Answers, MayWantMemory}
 use Rattle.pair_core.specs.Protocol.{unless}
 use Rattle.pair_core.specs.Protocol.{refused, let_go, again_done, commit_done, backup_refusals, backup_done, backup_outcome, ack_outcome_at}
 use Rattle.pair_core.specs.Protocol.{ack_refusals, ack_done, admit_first, admit_refusals, admit_done, arrival_refusals, client_refusals}

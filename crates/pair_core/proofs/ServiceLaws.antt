@@ -17,7 +17,8 @@ use Rattle.pair_core.specs.Drops.{Drops}
 use Rattle.pair_core.specs.Journal.{kept_entries}
 use Rattle.pair_core.specs.Modes.{mode_refusal}
 use Rattle.pair_core.specs.Pair.{Pair, IsConsistent}
-use Rattle.pair_core.specs.Protocol.{Record, Outcome, Answers, or_else, refused, first_refusal, shown_at, live_at, live_entries}
+use Rattle.pair_core.specs.Protocol.{Record, Outcome, or_else, refused, first_refusal, shown_at, live_at, live_entries}
+use Rattle.pair_core.specs.Answering.{Answers}
 use Rattle.pair_core.specs.Protocol.{go_live_refusals, go_live_done}
 use Rattle.pair_core.specs.Service.{moment, Tells, Resumes, Serves}
 use Rattle.pair_core.proofs.Tells.{live_all, answers_tell}

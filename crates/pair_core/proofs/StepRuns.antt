@@ -21,7 +21,8 @@ use Rattle.pair_core.specs.Modes.{is_stopped, is_alone}
 use Rattle.pair_core.specs.Nodes.{after_run}
 use Rattle.pair_core.specs.Pair.{Pair, shown_state}
 use Rattle.pair_core.specs.Protocol.{Record, Outcome, first_refusal, or_else, refused, shown_at, live_at, step_refusals, step_done}
-use Rattle.pair_core.specs.Protocol.{step_outcome, step_reply, outbox_of}
+use Rattle.pair_core.specs.Protocol.{step_outcome, outbox_of}
+use Rattle.pair_core.specs.Answering.{step_reply}
 use Rattle.pair_core.specs.Protocol.{step_room, step_entries}
 use Rattle.pair_core.specs.Runs.{goes_on, steps_outcome, with_steps}
 use Rattle.pair_core.proofs.Consistent.{live_is}

@@ -24,7 +24,8 @@ use Rattle.pair_core.specs.declared.event.Reply.TheVariants as replies
 use Rattle.pair_core.specs.Journal.{Journal, joined, first_of, kept_entries, with_history, with_moves}
 use Rattle.pair_core.specs.Modes.{is_alone, mode_refusal}
 use Rattle.pair_core.specs.Pair.{is_of_guest}
-use Rattle.pair_core.specs.Protocol.{Record, Outcome, Row, Answers, allowed, outcome, first_refusal, unless, refused, let_go, again_done}
+use Rattle.pair_core.specs.Protocol.{Record, Outcome, Row, allowed, outcome, first_refusal, unless, refused, let_go, again_done}
+use Rattle.pair_core.specs.Answering.{Answers}
 use Rattle.pair_core.specs.Protocol.{commit_done, backup_refusals, backup_done, backup_outcome, ack_outcome_at, ack_refusals, ack_done}
 use Rattle.pair_core.specs.Protocol.{admit_first, admit_refusals, admit_done, arrival_refusals, client_refusals, delivery_refused}
 use Rattle.pair_core.specs.Protocol.{deliver_refusals, deliver_done, take_refusals, take_done, loss_refusals, loss_done, loss_of, lost_in}

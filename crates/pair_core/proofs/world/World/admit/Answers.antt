@@ -3,7 +3,8 @@ use Rattle.pair_core.specs.declared.event.Event.TheVariants.{Admit}
 use Rattle.pair_core.specs.declared.event.Reply.TheVariants as replies
 use Rattle.pair_core.specs.Invariant.{Holds}
 use Rattle.pair_core.specs.Pair.{Pair}
-use Rattle.pair_core.specs.Protocol.{MayWantMemory, allowed, refused, admit_done}
+use Rattle.pair_core.specs.Protocol.{allowed, refused, admit_done}
+use Rattle.pair_core.specs.Answering.{MayWantMemory}
 use Rattle.pair_core.specs.WorldFields.{pair_of}
 use Rattle.pair_core.proofs.Calls.{on_err}
 use Rattle.pair_core.proofs.AllLands.{admitted_holds}

@@ -1,7 +1,7 @@
 use Rattle.pair_core.proofs.PublicLaws.{answers_by_outcome, refused_by_outcome}
 use Rattle.pair_core.proofs.ReplicationRuns.{replicates_by_outcome}
 use Rattle.pair_core.proofs.ServiceLaws.{serves}
-use Rattle.pair_core.specs.Protocol.{Answers}
+use Rattle.pair_core.specs.Answering.{Answers}
 use Rattle.pair_core.proofs.world.World.apply.Goals as goal
 use Rattle.pair_core.proofs.world.World.apply.Goals.{After-answered}
 

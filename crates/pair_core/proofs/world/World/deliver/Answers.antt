@@ -3,7 +3,8 @@ use Rattle.frame_ports.specs.Ports.{after_delivery}
 use Rattle.pair_core.specs.declared.event.Event.TheVariants.{Deliver}
 use Rattle.pair_core.specs.declared.event.Refusal.TheVariants.{Full}
 use Rattle.pair_core.specs.Pair.{Pair, AfterRefusal}
-use Rattle.pair_core.specs.Protocol.{Outcome, MayWantMemory, allowed, refused, deliver_done, delivery_refused}
+use Rattle.pair_core.specs.Protocol.{Outcome, allowed, refused, deliver_done, delivery_refused}
+use Rattle.pair_core.specs.Answering.{MayWantMemory}
 use Rattle.pair_core.specs.WorldFields.{pair_of}
 use Rattle.pair_core.proofs.Calls.{on_ok, on_err, answered_so, after_call}
 use Rattle.pair_core.proofs.ClientEvents.{deliver_holds, full_holds}

@@ -5,7 +5,8 @@ use Rattle.pair_core.specs.declared.event.Event.TheVariants.{FailBackup}
 use Rattle.pair_core.specs.Invariant.{Holds}
 use Rattle.pair_core.specs.Nodes.{left_alone}
 use Rattle.pair_core.specs.Pair.{Pair}
-use Rattle.pair_core.specs.Protocol.{Outcome, MayWantMemory, allowed, refused, first_refusal, fail_backup_refusals, fail_backup_done}
+use Rattle.pair_core.specs.Protocol.{Outcome, allowed, refused, first_refusal, fail_backup_refusals, fail_backup_done}
+use Rattle.pair_core.specs.Answering.{MayWantMemory}
 use Rattle.pair_core.specs.Record.{ports_after_all}
 use Rattle.pair_core.specs.Window.{none_pending}
 use Rattle.pair_core.specs.WorldFields.{pair_of}

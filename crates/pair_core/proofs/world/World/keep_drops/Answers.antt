@@ -1,7 +1,7 @@
 use Rattle.std.proofs.Common.{subst}
 use Rattle.pair_core.specs.Drops.{Drops}
 use Rattle.pair_core.specs.Pair.{Pair}
-use Rattle.pair_core.specs.Protocol.{Answers}
+use Rattle.pair_core.specs.Answering.{Answers}
 use Rattle.pair_core.specs.WorldFields.{pair_of}
 use Rattle.pair_core.proofs.PublicLaws.{answers_drop}
 use Rattle.pair_core.proofs.world.World.keep_drops.Goals as goal

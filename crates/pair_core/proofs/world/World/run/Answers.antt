@@ -4,7 +4,7 @@ use Rattle.pair_core.specs.declared.event.Event.{Event}
 use Rattle.pair_core.specs.declared.event.Event.TheVariants.{Step}
 use Rattle.pair_core.specs.declared.event.Reply.{Reply}
 use Rattle.pair_history.specs.HistoryState.{HistoryState}
-use Rattle.pair_core.specs.Protocol.{Answers}
+use Rattle.pair_core.specs.Answering.{Answers}
 use Rattle.pair_core.specs.Runs.{Along, Run}
 use Rattle.pair_core.specs.Drops.{Drops}
 use Rattle.pair_core.specs.Replication.{Does, Leads}

@@ -4,7 +4,8 @@ use Rattle.pair_core.specs.declared.event.Reply.TheVariants as replies
 use Rattle.pair_core.specs.declared.limits.TheConstants.{STEP_ENTRIES}
 use Rattle.pair_core.specs.Modes.{is_alone}
 use Rattle.pair_core.specs.Pair.{Pair}
-use Rattle.pair_core.specs.Protocol.{MayWantMemory, refused, step_outcome, step_room}
+use Rattle.pair_core.specs.Protocol.{refused, step_outcome, step_room}
+use Rattle.pair_core.specs.Answering.{MayWantMemory}
 use Rattle.pair_core.specs.Runs.{steps_outcome}
 use Rattle.pair_core.proofs.AloneRuns.{steps_join}
 use Rattle.pair_core.proofs.StepRuns.{no-steps-answered, refusal_answered}

@@ -1,5 +1,5 @@
 use Rattle.std.proofs.Common.{◌∙◌}
-use Rattle.pair_core.specs.Protocol.{step_reply}
+use Rattle.pair_core.specs.Answering.{step_reply}
 use Rattle.pair_core.proofs.AloneRuns.{paired_answer, alone_answer}
 use Rattle.pair_core.proofs.StepRuns.{one-step-answered, refused_step}
 use Rattle.pair_core.proofs.world.World.step.Goals as goal
