@@ -12,7 +12,8 @@ use Rattle.pair_core.specs.declared.event.Reply.TheVariants as replies
 use Rattle.pair_core.specs.Modes.{is_alone}
 use Rattle.pair_core.specs.Pair.{Pair}
 use Rattle.pair_core.specs.Replication.{to_come, number_after, next_number, KeepsBackup, Awaits, Replicates, Does, Leads}
-use Rattle.pair_core.proofs.Generations.{Goes, answers_go, refused_keeps, stays_kept, next-same}
+use Rattle.pair_core.proofs.Ends.{answers_end}
+use Rattle.pair_core.proofs.Generations.{Goes, goes_all, refused_keeps, stays_kept, next-same}
 
 -- what an event did, as a reply
 pub replicates_by_outcome : (old new : Pair) (event : Event) (o : Result Reply AllocError) (reply : Reply)
@@ -36,7 +37,8 @@ Leads-more (e ∷ events) (r ∷ replies) old mid new event reply run step =
 -- what an event did to the generation and to the guests to come
 does : (old new : Pair) (event : Event) (reply : Reply) → Does old event reply new
     → Goes old.protocol old.nodes new.nodes event (reply, new.protocol)
-does old new event reply d = answers_go old.start old.protocol old.nodes new.nodes event reply new.protocol d.answers
+does old new event reply d =
+    (answers_end old.start old.protocol _ (goes_all old.start old.protocol old.nodes new.nodes) event reply new.protocol d.answers).2
 
 module _ (generation number : ℕ) (g : Guest) where
   pub waits_event : (event : Event) (reply : Reply) (old new : Pair) → Does old event reply new

@@ -1,5 +1,5 @@
 -- What one event is to the clients, from what the pair knows of it.
-use Rattle.std.proofs.Common.{◌≡◌, List, [], ◌∷◌, ◌++◌, refl, sym, ap, ◌∙◌, subst, Option, None, Some, inl, inr}
+use Rattle.std.proofs.Common.{◌≡◌, List, [], ◌∷◌, ◌++◌, refl, sym, ap, ◌∙◌, subst, inl, inr}
 use Rattle.std.specs.Prelude.{All}
 use Rattle.std.proofs.lemmas.List.{append-nil, append_cancel_left}
 use Rattle.std.proofs.lemmas.List.Elements.{All-head, All-tail}
@@ -17,11 +17,12 @@ use Rattle.pair_core.specs.Drops.{Drops}
 use Rattle.pair_core.specs.Journal.{kept_entries}
 use Rattle.pair_core.specs.Modes.{mode_refusal}
 use Rattle.pair_core.specs.Pair.{Pair, IsConsistent}
-use Rattle.pair_core.specs.Protocol.{Record, Outcome, or_else, refused, first_refusal, shown_at, live_at, live_entries}
+use Rattle.pair_core.specs.Protocol.{Record, Outcome, refused, first_refusal, shown_at, live_at, live_entries}
 use Rattle.pair_core.specs.Answering.{Answers}
 use Rattle.pair_core.specs.Protocol.{go_live_refusals, go_live_done}
 use Rattle.pair_core.specs.Service.{moment, Tells, Resumes, Serves}
-use Rattle.pair_core.proofs.Tells.{live_all, answers_tell}
+use Rattle.pair_core.proofs.Ends.{by_table, answers_end}
+use Rattle.pair_core.proofs.Tells.{live_all, tells_all}
 
 -- drops leave the guest as it was
 abbrev Keeps : Entry → Type 0
@@ -56,18 +57,16 @@ module _ (start : HistoryState) (r : Record) (w : Pair) (live : w.nodes.live.gue
   resumes_refused : (reply : Reply) (why : Refusal) → reply ≡ replies.Refused why → Resumes GoLive reply (moment w)
   resumes_refused reply why e = subst (λ (x : Reply). Resumes GoLive x (moment w)) (sym e) tt
 
-  resumes_unless : (reply : Reply) (o : Option Refusal) → (reply, w.protocol) ≡ or_else o (refused r) done → Resumes GoLive reply (moment w)
-  resumes_unless reply None e = resumes_done reply e
-  resumes_unless reply (Some why) e = resumes_refused reply why (ap (λ (o : Outcome). o.0) e)
-
-  resumes_live : (reply : Reply) (o : Option Refusal)
-      → (reply, w.protocol) ≡ or_else o (refused r) (or_else (first_refusal (go_live_refusals s.boxes s.out r)) (refused r) done)
-      → Resumes GoLive reply (moment w)
-  resumes_live reply None e = resumes_unless reply (first_refusal (go_live_refusals s.boxes s.out r)) e
-  resumes_live reply (Some why) e = resumes_refused reply why (ap (λ (o : Outcome). o.0) e)
-
   answers_resume : (event : Event) (reply : Reply) → Answers start r event reply w.protocol → Resumes event reply (moment w)
-  answers_resume GoLive reply (inl e) = resumes_live reply (mode_refusal r.mode GoLive) e
+  answers_resume GoLive reply (inl e) =
+      by_table Leaves (mode_refusal r.mode GoLive) (refused r) _ stopped
+      (λ goes. by_table Leaves (first_refusal (go_live_refusals s.boxes s.out r)) (refused r) done stopped (λ none. resumes_done reply)) e
+    where
+      Leaves : Outcome → Type 0
+      Leaves o = (reply, w.protocol) ≡ o → Resumes GoLive reply (moment w)
+
+      stopped : (why : Refusal) → Leaves (refused r why)
+      stopped why e = resumes_refused reply why (ap (λ (o : Outcome). o.0) e)
   answers_resume GoLive reply (inr e) = resumes_refused reply NoMemory e.1
   answers_resume other reply a = tt
 
@@ -77,7 +76,8 @@ pub serves : (old new : Pair) (event : Event) (reply : Reply) → new.start ≡ 
 serves old new event reply e before k d =
     let h = new.protocol.journal.history in
     let ahead = kept_entries new.protocol.journal in
-    let told = answers_tell old.start old.protocol before.kept event reply new.protocol d.answers in
+    let told =
+    answers_end old.start old.protocol _ (tells_all old.start old.protocol before.kept) event reply new.protocol d.answers in
     let same : told.0 ≡ d.entries = append_cancel_left old.protocol.journal.history told.0 d.entries (sym told.1 ∙ d.grows) in
     let live : new.nodes.live.guest ≡ (live_at old.start new.protocol).guest =
     k.live ∙ ap (λ (s : HistoryState). (live_at s new.protocol).guest) e in
