@@ -66,8 +66,7 @@ module _ (w : Pair) where
         let live = (after_run n w.nodes).live in
         let fs = sent_in n w.nodes.live.guest in
         let all : live.outbox ≡ fs = ap (λ (t : List Frame). t ++ fs) none in
-        subst (λ (x : List Frame). Holds (after_alone n x)) all
-        (at_once_holds w k lone (replicate n Ran) live w.ports.inboxes (steps_hold n w h))
+        rw (← all) (at_once_holds w k lone (replicate n Ran) live w.ports.inboxes (steps_hold n w h))
 
     -- quiet steps: none of them sends a frame
     abbrev quiet : ℕ → Pair
@@ -209,7 +208,7 @@ module _ (start : HistoryState) (old new : Record) where
       let first : made.0 ≡ 0 = omega arith in
       let stays : new ≡ old =
       ap (λ (o : Outcome). o.1) (made.3 ∙ ap (steps_outcome start old) first ∙ no-steps-answered start old) in
-      inr (subst (λ (r : Record). MayWantMemory r.mode (step_outcome start r).0) stays made.4, k.1, stays)
+      inr (rw (← stays) made.4, k.1, stays)
 
   pub not_wanting : (reply : Reply) → (reply ≡ replies.Refused NoMemory → ⊥) → Answers start old Step reply new
       → (reply, new) ≡ step_outcome start old

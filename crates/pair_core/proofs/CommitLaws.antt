@@ -1,5 +1,5 @@
 -- What the two nodes keep along a commit: the image takes in the oldest sealed text, an empty one as well as one that follows.
-use Rattle.std.proofs.Common.{◌≡◌, ℕ, zero, suc, ◌+◌, ◌-◌, ◌≤◌, List, ◌∷◌, ◌++◌, refl, sym, ap, ◌∙◌, subst, arith, append_assoc}
+use Rattle.std.proofs.Common.{◌≡◌, ℕ, zero, suc, ◌+◌, ◌-◌, ◌≤◌, List, ◌∷◌, ◌++◌, refl, ap, ◌∙◌, subst, arith, append_assoc}
 use Rattle.std.proofs.Common.{Bool, true, false, cond, Some, None, Result, Ok, Err}
 use Rattle.std.specs.Prelude.{nat_lt, not, ◌==◌}
 use Rattle.std.proofs.lemmas.Bool.{eq-eqb}
@@ -110,6 +110,4 @@ module _ (alone : Bool) (generation n : ℕ) (g : Guest) (ms : List Move) (mss :
 
   pub nodes-commit : AreNodes alone generation (n + 1) (guest_along g ms) mss ran held (with_commit x)
   nodes-commit =
-      subst (λ (i : ImageState). AreNodes alone generation (n + 1) (guest_along g ms) mss ran held
-      (record x { image = i; sealed = later_texts x.sealed }))
-      (sym (takes-in x.image change (is-new n refl))) taken
+      rw (takes-in x.image change (is-new n refl)) taken

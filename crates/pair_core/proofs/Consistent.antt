@@ -5,7 +5,6 @@ use Rattle.std.proofs.lemmas.List.{map-append, take-append-drop}
 use Rattle.std.proofs.lemmas.List.Elements.{All-nil, All-cons}
 use Rattle.guest_machine.specs.declared.shapes.Shape.{Shape}
 use Rattle.guest_machine.specs.Guest.{Guest}
-use Rattle.epoch_snapshot.specs.Bases.{IsBase}
 use Rattle.frame_ports.specs.Addresses.{targets_of}
 use Rattle.output_gate.specs.Epochs.{Epoch, frames_of}
 use Rattle.pair_history.specs.Entries.{Frame, Entry, Ran, Arrive}
@@ -13,14 +12,14 @@ use Rattle.pair_history.specs.HistoryState.{HistoryState, at, sent_along, Legal}
 use Rattle.pair_history.specs.Moves.{Move, Steps, Arrives, entry_of, entries_of, guest_along, frames_along, AllCan}
 use Rattle.pair_history.proofs.States.{at-append, targets_of-append}
 use Rattle.pair_history.proofs.Moves.{moved, at-moves, Legal-moves, sent_along-moves, frames_along-append, AllCan-front, AllCan-back}
-use Rattle.pair_core.specs.Invariant.{all_moves, first_moves, epoch_frames, frames_by_epoch, AreInboxes, AreSealed, Holds}
+use Rattle.pair_core.specs.Invariant.{all_moves, first_moves, epoch_frames, frames_by_epoch, AreSealed, Holds}
 use Rattle.pair_core.specs.Journal.{joined, first_of, kept_entries}
-use Rattle.pair_core.specs.Nodes.{Fills, machine_of}
+use Rattle.pair_core.specs.Nodes.{Fills}
 use Rattle.pair_core.specs.Modes.{is_alone}
 use Rattle.pair_core.specs.Pair.{Pair, shown_state, live_state, HasBackup, IsAlone, is_of_guest, IsConsistent}
 use Rattle.pair_core.specs.Protocol.{outbox_of}
 use Rattle.pair_core.specs.Record.{IsRecord, IsLone}
-use Rattle.pair_core.specs.Texts.{IsText, AreTexts}
+use Rattle.pair_core.specs.Texts.{AreTexts}
 use Rattle.pair_core.specs.Window.{committed_count, committed_of, uncommitted_of}
 use Rattle.pair_core.proofs.Events.{frames_of-append, kept_moves, left_now}
 use Rattle.pair_core.proofs.RecordLaws.{some_committed, none_committed}
@@ -39,9 +38,9 @@ texts_are shape generation n s (ms ∷ mss) rest [] can h = absurd h
 texts_are shape generation n s (ms ∷ mss) rest (t ∷ texts) can h =
     let apart : AllCan s.waiting (ms ++ (all_moves mss ++ rest)) = subst (AllCan s.waiting) (append_assoc ms (all_moves mss) rest) can in
     let is : moved s ms ≡ at s (entries_of ms) = sym (at-moves s ms (AllCan-front s.waiting ms (all_moves mss ++ rest) apart)) in (
-      subst (λ (a : HistoryState). IsText shape generation n s.guest a.guest t) is h.0,
-      subst (λ (a : HistoryState). AreTexts shape generation (n + 1) a (map entries_of mss) texts) is
-          (texts_are shape generation (n + 1) (moved s ms) mss rest texts (AllCan-back s.waiting ms (all_moves mss ++ rest) apart) h.1),
+      rw (← is) h.0,
+      rw (← is) (texts_are shape generation (n + 1) (moved s ms) mss rest texts (AllCan-back s.waiting ms (all_moves mss ++ rest) apart)
+          h.1),
     )
 
 -- the guest does all moves
@@ -146,7 +145,7 @@ module _ (w : Pair) (h : Holds w) where
   has_backup k two =
       let b = h.nodes.backed two in
       record {
-        base = subst (λ (s : HistoryState). IsBase (machine_of w.nodes.live) s.guest) (sym sealed_state) b.base;
+        base = rw sealed_state b.base;
         follows = λ e.
             let f = b.follows (some_committed w.protocol k two e) in
             record { image = f.image; stands_at = f.stands_at };
@@ -154,10 +153,8 @@ module _ (w : Pair) (h : Holds w) where
             subst (λ (g : Guest). Fills g w.nodes) (sym first_guest) (b.fills (none_committed w.protocol k e));
         staged = b.staged;
         sealed =
-            subst (λ (ess : List (List Entry)). AreTexts w.nodes.image.shape w.protocol.generation w.protocol.window.to_commit
-            (shown_state w) ess w.nodes.sealed) (sym h.journal.sealed_are)
-            (texts_are w.nodes.image.shape w.protocol.generation w.protocol.window.to_commit (shown_state w) h.journal.sealed_moves
-            h.journal.running_moves w.nodes.sealed h.journal.can b.sealed);
+            rw h.journal.sealed_are (texts_are w.nodes.image.shape w.protocol.generation w.protocol.window.to_commit (shown_state w)
+            h.journal.sealed_moves h.journal.running_moves w.nodes.sealed h.journal.can b.sealed);
       }
 
   pub alone_is : IsLone w.protocol → IsAlone w
@@ -179,7 +176,7 @@ module _ (w : Pair) (h : Holds w) where
     outbox = sym outbox_is;
     number = h.clients.number;
     clients = h.clients.count;
-    inboxes = subst (AreInboxes (length w.ports.boxes) w.ports.inboxes) (sym live_waiting) h.clients.inboxes;
+    inboxes = rw live_waiting h.clients.inboxes;
     boxes = h.clients.boxes;
     owed = owed_is;
   }

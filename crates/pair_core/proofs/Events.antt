@@ -1,6 +1,6 @@
 -- Each event keeps the invariant: one lemma for each part that it touches, and the others pass on by name.
 use Rattle.std.proofs.Common.{◌≡◌, ◌≢◌, ℕ, zero, suc, ◌+◌, ◌-◌, ◌*◌, ◌<◌, ◌≤◌, List, [], ◌∷◌, ◌++◌, length, take, drop, remove, get_or}
-use Rattle.std.proofs.Common.{replicate, refl, sym, ap, ◌∙◌, subst, arith, append_assoc, true, false, cond, Some, ⊎_elim, Bool}
+use Rattle.std.proofs.Common.{replicate, refl, sym, ap, ◌∙◌, subst, arith, append_assoc, true, false, cond, Some, ⊎_elim}
 use Rattle.std.specs.Prelude.{map, slice_get, ◌==◌}
 use Rattle.std.proofs.lemmas.Bool.{eq-eqb}
 use Rattle.std.proofs.lemmas.Bool.Decides.{nat_tests, eqb_tells}
@@ -15,9 +15,9 @@ use Rattle.frame_ports.specs.Ports.{empty_ports}
 use Rattle.failover.specs.declared.mode.Mode.{Mode}
 use Rattle.output_gate.specs.Epochs.{Epoch, frames_of}
 use Rattle.pair_history.specs.Entries.{Frame, Entry}
-use Rattle.pair_history.specs.HistoryState.{HistoryState, Waiting, inbox_of, without_number, at, Legal, start_state}
+use Rattle.pair_history.specs.HistoryState.{Waiting, inbox_of, without_number, at, Legal, start_state}
 use Rattle.pair_history.specs.Landings.{BoxesFit, DropsAreKnown}
-use Rattle.pair_history.specs.Moves.{Move, Arrives, entry_of, entries_of, guest_along, frames_along, left, AllCan, AreRising}
+use Rattle.pair_history.specs.Moves.{Move, Arrives, entry_of, entries_of, guest_along, frames_along, left, AllCan}
 use Rattle.pair_history.proofs.States.{at-append, Legal-append, targets_of-append, DropsAreKnown-append}
 use Rattle.pair_history.proofs.Waiting.{Leaves, StandsAt, leaves-at}
 use Rattle.pair_history.proofs.Moves.{guest_along-append, frames_along-append, left-append, AllCan-append, AllCan-front, AllCan-back, moved}
@@ -112,7 +112,7 @@ module _ (w : Pair) (h : Holds w) (ms : List Move) (es : List Entry) (live : Nod
               ∙ ap (λ x. frames_along g ran ++ frames_along x ms) live_is ∙ sym (frames_along-append g ran ms);
           shape = shape w.nodes.image.shape h.nodes.shape;
         };
-        clients = subst (λ (v : List Waiting). AreClients s v (record w.ports { inboxes = inboxes })) left_is clients;
+        clients = rw (← left_is) clients;
         owed = h.owed;
       }
 
@@ -206,13 +206,10 @@ module _ (w : Pair) (h : Holds w) (k : IsRecord w.protocol) (text : List ℕ)
           can = subst (AllCan s.waiting) same h.journal.can;
         };
         nodes =
-            subst (λ (held : List (List Frame)). AreNodes (is_alone w.protocol.mode)
-            w.protocol.generation w.protocol.window.to_commit s.guest
-            (mss ++ ran ∷ []) [] held (with_sealed w.nodes text)) frames
-            (nodes-cut (is_alone w.protocol.mode) w.protocol.generation w.protocol.window.to_commit s.guest mss ran
-            (frames_by_epoch (drop n pending)) w.nodes w.protocol.window.to_cut text h.nodes counted
-            (λ e. is_text (guest_along s.guest (all_moves mss)) (h.nodes.backed e).base h.nodes.shape));
-        clients = subst (λ (ms : List Move). AreClients s (left s.waiting ms) w.ports) same h.clients;
+            rw (← frames) (nodes-cut (is_alone w.protocol.mode) w.protocol.generation w.protocol.window.to_commit s.guest mss ran
+            (frames_by_epoch (drop n pending)) w.nodes w.protocol.window.to_cut text h.nodes counted (λ e. is_text (guest_along s.guest
+            (all_moves mss)) (h.nodes.backed e).base h.nodes.shape));
+        clients = rw (← same) h.clients;
         owed = h.owed ∙ ap (λ t. targets_of (length w.ports.boxes) (frames_of t)) (sym (take-append-le n pending (e ∷ []) enough));
       }
 
@@ -228,8 +225,7 @@ pub mode_holds : (w : Pair) → Holds w → (mode : Mode) → is_alone w.protoco
 mode_holds w h mode same = record {
   journal = h.journal;
   nodes =
-      subst (λ (alone : Bool). AreNodes alone w.protocol.generation w.protocol.window.to_commit (shown_state w).guest h.journal.sealed_moves
-      h.journal.running_moves (frames_by_epoch (uncommitted_of w.protocol.window w.protocol.pending)) w.nodes) same h.nodes;
+      rw (← same) h.nodes;
   clients = h.clients;
   owed = h.owed;
 }
@@ -303,7 +299,7 @@ module _ (w : Pair) (h : Holds w) (k : IsRecord w.protocol) (two : is_alone w.pr
           running_moves = h.journal.running_moves;
           sealed_are = ap rest_of sealed_is;
           running_are = h.journal.running_are;
-          can = subst (λ (t : HistoryState). AllCan t.waiting rest) (sym shown) (AllCan-back s.waiting ms rest can);
+          can = rw shown (AllCan-back s.waiting ms rest can);
         };
         nodes =
             let n = r.window.to_commit in
@@ -313,13 +309,9 @@ module _ (w : Pair) (h : Holds w) (k : IsRecord w.protocol) (two : is_alone w.pr
             let alone = is_alone (filled r.mode) in
             let same = filled_alone r.mode in
             let before =
-            subst (λ (a : Bool). AreNodes a r.generation n s.guest h.journal.sealed_moves h.journal.running_moves
-            (frames_by_epoch (uncommitted_of r.window r.pending)) w.nodes) (sym same) h.nodes in
+            rw (← same) at h.nodes in
             let now : AreNodes alone r.generation n s.guest (ms ∷ mss) h.journal.running_moves (e.frames ∷ rest_held) w.nodes =
-            subst (λ (t : List (List Move)). AreNodes alone r.generation n s.guest t h.journal.running_moves (e.frames ∷ rest_held) w.nodes)
-            moves_are
-            (subst (λ (us : List Epoch). AreNodes alone r.generation n s.guest h.journal.sealed_moves h.journal.running_moves
-            (frames_by_epoch us) w.nodes) us_is before) in
+            rw moves_are at (rw us_is at before) in
             subst (λ (x : Guest). AreNodes alone r.generation (n + 1)
             x mss h.journal.running_moves (frames_by_epoch (drop ((n + 1) - r.window.to_acknowledge) r.pending)) (with_commit w.nodes))
             guest
@@ -329,8 +321,7 @@ module _ (w : Pair) (h : Holds w) (k : IsRecord w.protocol) (two : is_alone w.pr
         clients = record {
           number = h.clients.number ∙ sym (ap (λ t. t.number) shown);
           rising =
-              subst (λ (t : HistoryState). AreRising 1 w.ports.next t.waiting) (sym shown)
-              (AreRising-left 1 w.ports.next s.waiting ms h.clients.rising);
+              rw shown (AreRising-left 1 w.ports.next s.waiting ms h.clients.rising);
           count = h.clients.count;
           inboxes = subst (AreInboxes n w.ports.inboxes) left_is h.clients.inboxes;
           boxes = h.clients.boxes ∙ sym (ap (λ t. t.boxes) shown);

@@ -82,8 +82,7 @@ module _ (w : Pair) (h : Holds w) (two : is_alone w.protocol.mode ≡ false) (so
       let guests : AreGuests kept = subst AreGuests (sym (kept_is w h)) (AreGuests-moves ms) in
       let fs = frames_of (committed_of r.window r.pending) in
       let all : AllClients (length s.boxes) s.out =
-      subst (λ (b : List (List Frame)). AllClients (length b) s.out) h.clients.boxes
-      (subst (AllClients (length w.ports.boxes)) (sym h.owed) (AllClients-targets (length w.ports.boxes) fs)) in
+      rw (← h.clients.boxes) (subst (AllClients (length w.ports.boxes)) (sym h.owed) (AllClients-targets (length w.ports.boxes) fs)) in
       let goes = goes_live s kept all guests legal in
       let waiting : (at s kept).waiting ≡ left_now w h =
       ap (λ (t : HistoryState). t.waiting) (sym (at-append w.start j.history kept)) ∙ live_waiting w h in
@@ -123,9 +122,8 @@ module _ (w : Pair) (h : Holds w) (two : is_alone w.protocol.mode ≡ false) (so
           can = tt;
         };
         nodes =
-            subst (λ (t : HistoryState). AreNodes true (r.generation + 1) r.window.to_commit t.guest [] []
-            (frames_by_epoch (uncommitted_of window [])) (gone_live w.nodes)) (sym shown) nodes;
-        clients = subst (λ (t : HistoryState). AreClients t (left t.waiting []) w.ports) (sym shown) clients;
+            rw shown nodes;
+        clients = rw shown clients;
         owed =
             ap (λ (t : HistoryState). t.out) shown
             ∙ ap (λ (es : List Epoch). targets_of (length w.ports.boxes) (frames_of es)) (sym (take-none (committed_count window)));

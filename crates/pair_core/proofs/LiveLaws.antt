@@ -1,6 +1,6 @@
 -- What going live adds to the history, as the loops over it want it; and what is true of the record after it.
 use Rattle.std.proofs.Common.{◌≡◌, ℕ, zero, suc, ◌+◌, ◌-◌, ◌<◌, ◌≤◌, List, [], ◌∷◌, ◌++◌, length, take, drop, replicate, get_or}
-use Rattle.std.proofs.Common.{refl, sym, ap, ◌∙◌, subst, arith, append_assoc, Bool, true, false, cond, Option, Some, None}
+use Rattle.std.proofs.Common.{refl, sym, ap, ◌∙◌, arith, append_assoc, Bool, true, false, cond, Option, Some, None}
 use Rattle.std.specs.Prelude.{map, nat_le, filter, ◌&&◌}
 use Rattle.std.specs.List.Sorted.{IsPermutation, IsNonDecreasing}
 use Rattle.std.proofs.Math.Seq.{drop-cons}
@@ -283,8 +283,7 @@ module _ (a : Inside) where
       (same : IsPermutation (numbers_in sealed ++ numbers_of a.running.arrivals.items) ns) where
     pub same_numbers : IsPermutation (arrived_numbers (kept_entries (stored a).journal)) ns
     same_numbers =
-        subst (λ (ms : List ℕ). IsPermutation ms ns)
-        (ap (λ (es : List RunningEpoch). numbers_in es ++ numbers_of a.running.arrivals.items) is ∙ sym (arrived-kept a)) same
+        rw (ap (λ (es : List RunningEpoch). numbers_in es ++ numbers_of a.running.arrivals.items) is ∙ sym (arrived-kept a)) at same
 
     pub as_many : length ns ≡ length (arrived_numbers (kept_entries (stored a).journal))
     as_many = length_permutation (arrived_numbers (kept_entries (stored a).journal)) ns same_numbers

@@ -1,5 +1,5 @@
 -- What the protocol answers to a loss that is asked for.
-use Rattle.std.proofs.Common.{◌≡◌, ℕ, zero, suc, ◌<◌, ◌≤◌, List, [], ◌∷◌, length, refl, sym, ap, ◌∙◌, subst, arith, Bool, true, false}
+use Rattle.std.proofs.Common.{◌≡◌, ℕ, zero, suc, ◌<◌, ◌≤◌, List, [], ◌∷◌, length, refl, sym, ap, ◌∙◌, arith, Bool, true, false}
 use Rattle.std.proofs.Common.{Option, None, Some}
 use Rattle.std.specs.Prelude.{slice_get, option_map, not}
 use Rattle.frame_ports.specs.Lands.{list_of}
@@ -12,7 +12,7 @@ use Rattle.pair_core.specs.declared.event.Refusal.TheVariants.{NoClient}
 use Rattle.pair_core.specs.declared.event.Reply.TheVariants as replies
 use Rattle.pair_core.specs.Invariant.{Holds}
 use Rattle.pair_core.specs.Pair.{Pair, live_state}
-use Rattle.pair_core.specs.Protocol.{Outcome, allowed, unless, refused, first_refusal, is_among, client_refusals}
+use Rattle.pair_core.specs.Protocol.{allowed, unless, refused, first_refusal, is_among, client_refusals}
 use Rattle.pair_core.specs.Answering.{MayWantMemory}
 use Rattle.pair_core.specs.Protocol.{loss_refusals, loss_done, loss_of, lost_in, lose_in_outcome_at, lose_out_outcome_at}
 use Rattle.pair_core.proofs.Outcomes.{stops, goes, client_range, inbox_is}
@@ -81,4 +81,4 @@ module _ (w : Pair) (event : Event) (c : ℕ) (lost : Option Entry)
     loss_goes k = goes w.protocol (loss_refusals w.protocol) (loss_done w.protocol e) o row k ∙ loses (Some e) some
 
     pub loss_wants : o ≡ None → MayWantMemory w.protocol.mode (allowed w.start w.protocol event).0
-    loss_wants k = subst (λ (x : Outcome). MayWantMemory w.protocol.mode x.0) (loss_goes k) tt
+    loss_wants k = rw (← loss_goes k) tt

@@ -6,7 +6,7 @@ use Rattle.std.proofs.Math.Bridge.{le_prop}
 use Rattle.std.proofs.lemmas.List.{append-nil, length-append, length-replicate}
 use Rattle.guest_machine.specs.Dirty.{is_in}
 use Rattle.guest_machine.specs.declared.shapes.Shape.{Shape}
-use Rattle.guest_machine.specs.Guest.{Guest, State, sector_count, boot_guest}
+use Rattle.guest_machine.specs.Guest.{Guest, State, boot_guest}
 use Rattle.guest_machine.specs.Step.{next, arrived}
 use Rattle.guest_machine.specs.Runs.{after_steps, marked_in}
 use Rattle.guest_machine.proofs.ApartLemmas.{arrived-apart}
@@ -100,7 +100,7 @@ base-with_arrival f x b h =
     record {
       ram = h.ram;
       size = h.size ∙ ap length (sym same);
-      sectors = λ i low none. h.sectors i (subst (λ (bytes : List ℕ). i < sector_count bytes) same low) none
+      sectors = λ i low none. h.sectors i (rw (← same) low) none
           ∙ ap (λ bytes. sector_of bytes i) (sym same);
     }
 
@@ -142,14 +142,12 @@ made pages sectors a b c d = record { pages = pages; sectors = sectors; some_pag
 same-pages : (m n k : ℕ) (a : 1 ≤ m) (b : m ≤ 4096) (c : 1 ≤ k) (d : k ≤ 32768) → m ≡ n → (a' : 1 ≤ n) (b' : n ≤ 4096)
     → made m k a b c d ≡ made n k a' b' c d
 same-pages m n k a b c d e =
-    subst (λ (x : ℕ). (a' : 1 ≤ x) (b' : x ≤ 4096) → made m k a b c d ≡ made x k a' b' c d) e
-    (λ a' b'. λ i. made m k (le_prop {n = 1} {m = m} a a' i) (le_prop {n = m} {m = 4096} b b' i) c d)
+    rw (← e) (λ a' b'. λ i. made m k (le_prop {n = 1} {m = m} a a' i) (le_prop {n = m} {m = 4096} b b' i) c d)
 
 same-sectors : (m n k : ℕ) (a : 1 ≤ k) (b : k ≤ 4096) (c : 1 ≤ m) (d : m ≤ 32768) → m ≡ n → (c' : 1 ≤ n) (d' : n ≤ 32768)
     → made k m a b c d ≡ made k n a b c' d'
 same-sectors m n k a b c d e =
-    subst (λ (x : ℕ). (c' : 1 ≤ x) (d' : x ≤ 32768) → made k m a b c d ≡ made k x a b c' d') e
-    (λ c' d'. λ i. made k m a b (le_prop {n = 1} {m = m} c c' i) (le_prop {n = m} {m = 32768} d d' i))
+    rw (← e) (λ c' d'. λ i. made k m a b (le_prop {n = 1} {m = m} c c' i) (le_prop {n = m} {m = 32768} d d' i))
 
 same-shape : (s t : Shape) → s.pages ≡ t.pages → s.sectors ≡ t.sectors → s ≡ t
 same-shape s t p q =
@@ -205,14 +203,14 @@ module _ (shape : Shape) (generation : ℕ) where
       → AreSealed shape generation n g (mss ++ ms ∷ []) (texts ++ text ∷ [])
   sealed-push n g [] [] ms m text h e t =
       let same : m ≡ n = omega arith in
-      (subst (λ (k : ℕ). IsText shape generation k g (guest_along g ms) text) same t, tt)
+      (rw (← same) t, tt)
   sealed-push n g [] (x ∷ texts) ms m text h e t = absurd h
   sealed-push n g (xs ∷ mss) [] ms m text h e t = absurd h
   sealed-push n g (xs ∷ mss) (x ∷ texts) ms m text h e t =
       let along = guest_along-append g xs (all_moves mss) in (
         h.0,
         sealed-push (n + 1) (guest_along g xs) mss texts ms m text h.1 (omega arith)
-            (subst (λ (b : Guest). IsText shape generation m b (guest_along b ms) text) along t),
+            (rw (← along) t),
       )
 
 -- The backup, whatever the live machine is, if it was last settled at the guest of the last cut
@@ -274,8 +272,8 @@ nodes-cut alone generation n g mss ran held x m text h e t =
             image_shape = b.image_shape;
             sealed =
                 sealed-push x.image.shape generation n g mss x.sealed ran m text b.sealed e
-                (subst (λ (a : Guest). IsText x.image.shape generation m (guest_along g (all_moves mss)) a text) parted (t two));
-            base = subst (IsBase (machine_of (just_settled x.live.guest))) now (base-settled x.live.guest);
+                (rw (← parted) (t two));
+            base = rw (← now) (base-settled x.live.guest);
           };
       frames =
           ap (λ t. t ++ x.live.outbox ∷ []) h.frames ∙ ap (λ t. epoch_frames g mss ++ t ∷ []) h.outbox ∙ sym (epoch_frames-push g mss ran);

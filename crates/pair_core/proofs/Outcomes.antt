@@ -1,5 +1,5 @@
 -- What the protocol answers: what an event looks at is what the world has, and its table of refusals decides.
-use Rattle.std.proofs.Common.{◌≡◌, ℕ, ◌≤◌, List, [], ◌∷◌, length, refl, sym, ap, ◌∙◌, subst, arith, Bool, true, false, Option, None, Some}
+use Rattle.std.proofs.Common.{◌≡◌, ℕ, ◌≤◌, List, [], ◌∷◌, length, refl, sym, ap, ◌∙◌, arith, Bool, true, false, Option, None, Some}
 use Rattle.std.specs.Prelude.{slice_get, IfSome, nat_le, not}
 use Rattle.std.proofs.lemmas.Bool.Decides.{nat_tests}
 use Rattle.guest_machine.specs.Guest.{Guest}
@@ -178,7 +178,7 @@ module _ (w : Pair) (h : Holds w) where
         pub admit_wants : o ≡ None → MayWantMemory w.protocol.mode (allowed w.start w.protocol (Admit c)).0
         admit_wants e =
             let first = some_first (list_of w.ports.inboxes c) some in
-            subst (λ (x : Outcome). MayWantMemory w.protocol.mode x.0) (admit_goes first.0.0 first.0.1 first.1 e) tt
+            rw (← admit_goes first.0.0 first.0.1 first.1 e) tt
 
   -- DELIVER, by its table
   module _ (c : ℕ) (bytes : List ℕ) (o : Option Refusal)

@@ -7,7 +7,7 @@ use Rattle.guest_machine.specs.Step.{sent}
 use Rattle.frame_ports.specs.Lands.{list_of}
 use Rattle.pair_history.specs.Entries.{Frame, Entry, Arrive, Took, Begins}
 use Rattle.pair_history.specs.HistoryState.{HistoryState}
-use Rattle.pair_history.specs.Landings.{landings, DropsAtFull, DropsNone}
+use Rattle.pair_history.specs.Landings.{DropsAtFull, DropsNone}
 use Rattle.pair_history.specs.Moves.{Move, entries_of}
 use Rattle.pair_history.proofs.Moves.{DropsNone-moves}
 use Rattle.pair_core.specs.declared.event.Event.{Event}
@@ -22,7 +22,7 @@ use Rattle.pair_core.specs.Invariant.{Holds}
 use Rattle.pair_core.specs.Journal.{first_of}
 use Rattle.pair_core.specs.Modes.{is_alone}
 use Rattle.pair_core.specs.Pair.{Pair, OnRefused, shown_state, live_state}
-use Rattle.pair_core.specs.Protocol.{Record, outcome, step_entries, let_go}
+use Rattle.pair_core.specs.Protocol.{Record, outcome, step_entries}
 use Rattle.pair_core.specs.Record.{IsRecord}
 use Rattle.pair_core.specs.Runs.{Change, Along}
 use Rattle.pair_core.proofs.AllLands.{step_drops, failure_drops}
@@ -59,8 +59,7 @@ module _ (w : Pair) (h : Holds w) (k : IsRecord w.protocol) where
     acknowledge = λ n p is same.
         let r = w.protocol in
         let below = below_at r.generation r.window.to_commit r.lines.back n (Some p) k.back (sym is) same in
-        subst (λ (x : List (List Frame)). DropsAtFull (shown_state w) (landings x (let_go x r p.number))) h.clients.boxes
-        (ack_lands w h k p.number below).2;
+        rw (← h.clients.boxes) (ack_lands w h k p.number below).2;
     empty = λ c place. (tt, tt, tt);
     admit = by_arrival;
     full = λ c bytes. tt;
@@ -101,7 +100,7 @@ pub Along-more : (Does : Change) (start : HistoryState) (events : List Event) (r
     (event : Event) (reply : Reply) → Along Does start old events replies mid → Does start mid event reply new
     → Along Does start old (events ++ event ∷ []) (replies ++ reply ∷ []) new
 Along-more Does start [] [] old mid new event reply run step =
-    (new, subst (λ (r : Record). Does start r event reply new) run step, refl)
+    (new, rw (← run) step, refl)
 Along-more Does start [] (r ∷ replies) old mid new event reply run step = absurd run
 Along-more Does start (e ∷ events) [] old mid new event reply run step = absurd run
 Along-more Does start (e ∷ events) (r ∷ replies) old mid new event reply run step =

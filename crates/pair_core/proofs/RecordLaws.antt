@@ -1,5 +1,5 @@
 -- Each event leaves what is true of every record, and what the tables of refusals say.
-use Rattle.std.proofs.Common.{◌≡◌, ℕ, zero, suc, ◌+◌, ◌-◌, ◌<◌, ◌≤◌, List, [], ◌∷◌, ◌++◌, length, get_or, refl, sym, ap, ◌∙◌, subst, arith}
+use Rattle.std.proofs.Common.{◌≡◌, ℕ, zero, suc, ◌+◌, ◌-◌, ◌<◌, ◌≤◌, List, [], ◌∷◌, ◌++◌, length, get_or, refl, sym, ap, ◌∙◌, arith}
 use Rattle.std.proofs.Common.{Bool, true, false, cond, Option, None, Some}
 use Rattle.std.specs.Prelude.{map, slice_get, IfSome, nat_le, ◌==◌, not}
 use Rattle.std.proofs.lemmas.Bool.{eq-eqb}
@@ -73,7 +73,7 @@ below_at g n [] k (Some p) h e = absurd (cc)
 below_at g n (q ∷ ps) zero None h e = tt
 below_at g n (q ∷ ps) zero (Some p) h e =
     let same : p ≡ q = cc in
-    subst (λ (x : Packet). x.generation ≡ g → x.number < n) (sym same) h.1
+    rw same h.1
 below_at g n (q ∷ ps) (suc k) o h e = below_at g n ps k o h.2 e
 
 -- The window that suits a mode: after a cut or an acknowledgement, after a commit, and once the primary stops

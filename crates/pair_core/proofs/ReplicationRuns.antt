@@ -20,7 +20,7 @@ pub replicates_by_outcome : (old new : Pair) (event : Event) (o : Result Reply A
     → IfOk o (λ r. reply ≡ r) → OnErr o (reply ≡ replies.Refused NoMemory)
     → IfOk o (λ r. Replicates event r old.nodes new.nodes) → OnErr o (new ≡ old) → Replicates event reply old.nodes new.nodes
 replicates_by_outcome old new event (Ok r) reply ok err done same =
-    subst (λ (x : Reply). Replicates event x old.nodes new.nodes) (sym ok) done
+    rw (← ok) at done
 replicates_by_outcome old new event (Err e) reply ok err done same =
     subst (λ (x : Reply × Pair). Replicates event x.0 old.nodes x.1.nodes) (λ i. (sym err i, sym same i))
     (subst (λ (A : Type 0). A) (sym (refused_keeps event NoMemory old.nodes old.nodes)) (refl, refl))
@@ -28,7 +28,7 @@ replicates_by_outcome old new event (Err e) reply ok err done same =
 -- a run goes on by one event
 pub Leads-more : (events : List Event) (replies : List Reply) (old mid new : Pair) (event : Event) (reply : Reply)
     → Leads old events replies mid → Does mid event reply new → Leads old (events ++ event ∷ []) (replies ++ reply ∷ []) new
-Leads-more [] [] old mid new event reply run step = (new, subst (λ (w : Pair). Does w event reply new) run step, refl)
+Leads-more [] [] old mid new event reply run step = (new, rw (← run) step, refl)
 Leads-more [] (r ∷ replies) old mid new event reply run step = absurd run
 Leads-more (e ∷ events) [] old mid new event reply run step = absurd run
 Leads-more (e ∷ events) (r ∷ replies) old mid new event reply run step =

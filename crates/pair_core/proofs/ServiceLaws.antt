@@ -1,11 +1,11 @@
 -- What one event is to the clients, from what the pair knows of it.
-use Rattle.std.proofs.Common.{◌≡◌, List, [], ◌∷◌, ◌++◌, refl, sym, ap, ◌∙◌, subst, inl, inr}
+use Rattle.std.proofs.Common.{◌≡◌, List, [], ◌∷◌, ◌++◌, refl, sym, ap, ◌∙◌, inl, inr}
 use Rattle.std.specs.Prelude.{All}
 use Rattle.std.proofs.lemmas.List.{append-nil, append_cancel_left}
 use Rattle.std.proofs.lemmas.List.Elements.{All-head, All-tail}
 use Rattle.guest_machine.specs.Guest.{Guest}
 use Rattle.pair_history.specs.Entries.{Entry}
-use Rattle.pair_history.specs.HistoryState.{HistoryState, after, at, Legal}
+use Rattle.pair_history.specs.HistoryState.{HistoryState, after, at}
 use Rattle.pair_history.proofs.States.{at-append, Legal-append}
 use Rattle.pair_core.specs.declared.event.Event.{Event}
 use Rattle.pair_core.specs.declared.event.Event.TheVariants.{GoLive}
@@ -20,7 +20,7 @@ use Rattle.pair_core.specs.Pair.{Pair, IsConsistent}
 use Rattle.pair_core.specs.Protocol.{Record, Outcome, refused, first_refusal, shown_at, live_at, live_entries}
 use Rattle.pair_core.specs.Answering.{Answers}
 use Rattle.pair_core.specs.Protocol.{go_live_refusals, go_live_done}
-use Rattle.pair_core.specs.Service.{moment, Tells, Resumes, Serves}
+use Rattle.pair_core.specs.Service.{moment, Resumes, Serves}
 use Rattle.pair_core.proofs.Ends.{by_table, answers_end}
 use Rattle.pair_core.proofs.Tells.{live_all, tells_all}
 
@@ -45,17 +45,16 @@ module _ (start : HistoryState) (r : Record) (w : Pair) (live : w.nodes.live.gue
   resumes_done reply e =
       let es = live_entries s.boxes s.out r.journal in
       let h = r.journal.history in
-      subst (λ (x : Reply). Resumes GoLive x (moment w)) (sym (ap (λ (o : Outcome). o.0) e)) (
+      rw (ap (λ (o : Outcome). o.0) e) (
         ap (λ (o : Outcome). kept_entries o.1.journal) e,
-        ap (λ (g : Guest). g.steps) live
-            ∙ ap (λ (o : Outcome). (live_at start o.1).guest.steps) e
-            ∙ ap (λ (t : List Entry). (at start t).guest.steps) (append-nil (h ++ es))
-            ∙ ap (λ (t : HistoryState). t.guest.steps) (at-append start h es)
-            ∙ ap (λ (g : Guest). g.steps) (drops_guest s es (live_all Keeps (λ n t. refl) (λ c place t. refl) s.boxes s.out r.journal)),
+        ap (λ (g : Guest). g.steps) live ∙ ap (λ (o :
+            Outcome). (live_at start o.1).guest.steps) e ∙ ap (λ (t : List Entry). (at start t).guest.steps) (append-nil (h ++ es)) ∙ ap (λ (t :
+            HistoryState). t.guest.steps) (at-append start h es) ∙ ap (λ (g : Guest). g.steps) (drops_guest s es (live_all Keeps (λ n t. refl)
+            (λ c place t. refl) s.boxes s.out r.journal)),
       )
 
   resumes_refused : (reply : Reply) (why : Refusal) → reply ≡ replies.Refused why → Resumes GoLive reply (moment w)
-  resumes_refused reply why e = subst (λ (x : Reply). Resumes GoLive x (moment w)) (sym e) tt
+  resumes_refused reply why e = rw e tt
 
   answers_resume : (event : Event) (reply : Reply) → Answers start r event reply w.protocol → Resumes event reply (moment w)
   answers_resume GoLive reply (inl e) =
@@ -84,10 +83,10 @@ serves old new event reply e before k d =
     record {
       added = d.entries;
       grows = d.grows;
-      legal = subst (λ (s : HistoryState). Legal s (h ++ ahead)) e (Legal-append new.start h ahead k.legal k.goes_on);
+      legal = rw (← e) (Legal-append new.start h ahead k.legal k.goes_on);
       moves = k.kept;
       guest = live;
       resumes = answers_resume old.start old.protocol new live event reply d.answers;
-      tells = subst (λ (es : List Entry). Tells event reply es) same told.2;
+      tells = rw (← same) told.2;
       loses = d.only;
     }

@@ -25,7 +25,7 @@ pub HasServed-more : (start : HistoryState) (events : List Event) (replies : Lis
     → HasServed start old events replies mid → Serves start mid event reply new
     → HasServed start old (events ++ event ∷ []) (replies ++ reply ∷ []) new
 HasServed-more start [] [] old mid new event reply run one =
-    (new, subst (λ (m : Moment). Serves start m event reply new) run one, refl)
+    (new, rw (← run) one, refl)
 HasServed-more start [] (r ∷ replies) old mid new event reply run one = absurd run
 HasServed-more start (e ∷ events) [] old mid new event reply run one = absurd run
 HasServed-more start (e ∷ events) (r ∷ replies) old mid new event reply run one =
@@ -63,8 +63,7 @@ happens start old new (x ∷ events) (r ∷ answers) run zero event reply e f =
       before = old;
       later = run.0;
       begins = Begins-same old.history;
-      one = subst (λ (y : Reply). Serves start old event y run.0) answer
-          (subst (λ (y : Event). Serves start old y r run.0) first run.1);
+      one = rw (← answer) (rw (← first) run.1);
       ends = served_grows start run.0 new events answers run.2;
     }
 happens start old new (x ∷ events) (r ∷ answers) run (suc k) event reply e f =

@@ -14,12 +14,12 @@ use Rattle.pair_history.specs.Moves.{Steps, entries_of, guest_along, frames_alon
 use Rattle.pair_core.specs.declared.event.Refusal.{Refusal}
 use Rattle.pair_core.specs.declared.event.Refusal.TheVariants.{Stopped, CutNeeded, Exhausted}
 use Rattle.pair_core.specs.declared.event.Reply.TheVariants as replies
-use Rattle.pair_core.specs.Invariant.{AreClients, Holds}
+use Rattle.pair_core.specs.Invariant.{Holds}
 use Rattle.pair_core.specs.Journal.{all_entries, with_running, with_moves}
 use Rattle.pair_core.specs.declared.limits.TheConstants.{STEP_ENTRIES}
 use Rattle.pair_core.specs.Modes.{is_stopped, is_alone}
 use Rattle.pair_core.specs.Nodes.{after_run}
-use Rattle.pair_core.specs.Pair.{Pair, shown_state}
+use Rattle.pair_core.specs.Pair.{Pair}
 use Rattle.pair_core.specs.Protocol.{Record, Outcome, first_refusal, or_else, refused, shown_at, live_at, step_refusals, step_done}
 use Rattle.pair_core.specs.Protocol.{step_outcome, outbox_of}
 use Rattle.pair_core.specs.Answering.{step_reply}
@@ -97,7 +97,7 @@ steps_hold n w h =
     (λ s k. shape-after_steps n s w.nodes.live.guest k)
     (λ b k. base-after_run n w.nodes b k)
     (can-steps n (left_now w h))
-    (subst (λ (ws : List Waiting). AreClients (shown_state w) ws w.ports) (sym (left-steps n (left_now w h))) h.clients)
+    (rw (left-steps n (left_now w h)) h.clients)
 
 pub replicate-last : (n : ℕ) → replicate (suc n) Ran ≡ replicate n Ran ++ Ran ∷ []
 replicate-last zero = refl

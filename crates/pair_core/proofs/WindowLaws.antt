@@ -57,7 +57,7 @@ none n a waiting others l h =
       frames = (none_taken n a (waiting ++ others) l h).0;
       rest = (none_taken n a (waiting ++ others) l h).1;
       count = ap (λ t. cond t (n + 1) a + length waiting) off;
-      numbers = subst (λ (k : ℕ). NumberedFrom k (waiting ++ others)) (sym (ap (λ t. cond t (n + 1) a) off)) h;
+      numbers = rw (ap (λ t. cond t (n + 1) a) off) h;
     }
 
 is_from : (a n : ℕ) → nat_le a n ≡ true → a ≤ n
@@ -88,7 +88,7 @@ one_more n a e waiting others l h m =
           ∙ ap (λ t. e.frames ++ t) m.frames;
       rest = ap (λ t. cond t (after_number n (waiting ++ others)) (e ∷ after_number n (waiting ++ others))) on ∙ m.rest;
       count = let c = m.count in omega arith;
-      numbers = subst (λ (k : ℕ). NumberedFrom k (m.stay ++ others)) (there ∙ sym here) m.numbers;
+      numbers = rw (← (there ∙ sym here)) m.numbers;
     }
 
 pub taken : (n a : ℕ) (waiting others : List Epoch) → n < a + length waiting → NumberedFrom a (waiting ++ others) → Taken n a waiting others
@@ -180,7 +180,7 @@ module _ (w : Window) (pending : List Epoch) (h : IsWindow w pending) where
         let a = h.count in
         let b = h.few in
         record {
-          numbers = subst (NumberedFrom (first_after n w.to_acknowledge)) (sym left_over) leaves.numbers;
+          numbers = rw left_over leaves.numbers;
           count = omega arith;
           committed = omega arith;
           cut = h.cut;

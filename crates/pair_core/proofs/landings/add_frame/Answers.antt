@@ -1,4 +1,4 @@
-use Rattle.std.proofs.Common.{◌≡◌, ◌+◌, ◌≤◌, ◌++◌, length, ap, ◌∙◌, sym, subst, arith, true, [], ◌∷◌}
+use Rattle.std.proofs.Common.{◌≡◌, ◌+◌, ◌≤◌, ◌++◌, length, ap, ◌∙◌, sym, arith, true, [], ◌∷◌}
 use Rattle.frame_ports.specs.Targets.{AreTargets, has_target}
 use Rattle.frame_ports.specs.Addresses.{clients_of}
 use Rattle.pair_history.specs.Log.{Log}
@@ -12,8 +12,7 @@ most : (c : After-contains) → c.clients-clients.result ≤ 16
 most c = let p = c.clients-clients.ensures.ports in let q = p.clients.1 in let e = c.clients-clients.ensures.count in omega arith
 
 are : (c : After-contains) → AreTargets c.clients-clients.result c.args.frame.now.items c.route-targets.result
-are c = subst (λ m. AreTargets m c.args.frame.now.items c.route-targets.result) (sym c.clients-clients.ensures.count)
-    c.route-targets.ensures
+are c = rw c.clients-clients.ensures.count c.route-targets.ensures
 
 next : (c : After-contains) → has_target c.route-targets.result c.loop-client.client ≡ true
     → from_on c.clients-clients.result c.loop-client.client c.args.frame.now.items ≡ c.loop-client.client

@@ -1,4 +1,4 @@
-use Rattle.std.proofs.Common.{◌+◌, ◌≤◌, length, ap, ◌∙◌, sym, subst, arith}
+use Rattle.std.proofs.Common.{◌+◌, ◌≤◌, length, ap, ◌∙◌, sym, arith}
 use Rattle.frame_ports.specs.Targets.{AreTargets}
 use Rattle.frame_ports.specs.Addresses.{clients_of}
 use Rattle.pair_core.proofs.Receivers.{from_on, next_yes, next_no, counted_more}
@@ -13,8 +13,7 @@ loop-client-preserved c =
     let most : n ≤ 16 = let p = c.clients-clients.ensures.ports in let q = p.clients.1 in let e = c.clients-clients.ensures.count in
     omega arith in
     let high : i ≤ n = omega arith in
-    let are : AreTargets n bytes c.route-targets.result = subst (λ m. AreTargets m bytes c.route-targets.result)
-    (sym c.clients-clients.ensures.count) c.route-targets.ensures in
+    let are : AreTargets n bytes c.route-targets.result = rw c.clients-clients.ensures.count c.route-targets.ensures in
     let low = c.loop-client.invariant.first in
     elim c.if-contains.branch [
       | then-contains w ↦

@@ -1,4 +1,4 @@
-use Rattle.std.proofs.Common.{◌≡◌, ◌∙◌, ◌++◌, List, [], length, sym, ap, subst, arith, None}
+use Rattle.std.proofs.Common.{◌≡◌, ◌∙◌, ◌++◌, List, [], length, sym, ap, subst, arith}
 use Rattle.std.proofs.lemmas.List.{length-append}
 use Rattle.failover.specs.declared.mode.Mode.TheVariants as modes
 use Rattle.frame_ports.specs.Addresses.{targets_of}
@@ -8,7 +8,7 @@ use Rattle.pair_history.specs.Landings.{landings}
 use Rattle.pair_core.specs.declared.event.Reply.TheVariants as replies
 use Rattle.pair_core.specs.Journal.{Journal, all_committed, all_entries, with_history}
 use Rattle.pair_core.specs.Lengths.{receivers}
-use Rattle.pair_core.specs.Protocol.{first_refusal, fail_backup_refusals, fail_backup_done, all_held}
+use Rattle.pair_core.specs.Protocol.{fail_backup_done, all_held}
 use Rattle.pair_core.specs.Record.{RecordState, IsRecord, ports_after_all}
 use Rattle.pair_core.specs.RecordFields.{record_state}
 use Rattle.pair_core.proofs.AloneLaws.{all_are, frames_of-push, fail_backup_record}
@@ -65,8 +65,7 @@ land-requires-clause-fits c =
     let r = s.protocol in
     let outbox = c.args.outbox.now in
     let free =
-    subst (λ (t : RecordState). first_refusal (fail_backup_refusals t.ports.boxes outbox t.protocol) ≡ None)
-    (sym c.self.view_is) c.requires.free in
+    rw (← c.self.view_is) at c.requires.free in
     let room = has_room_for r (length (all_held s.ports.boxes outbox r)) (passed _ _ _ free).0 in
     let e1 = count_is (goal.at.land-requires-clause-fits c).After-held in
     let e2 = c.count_all-count.ensures ∙ sym (ap (λ (t : RecordState). length (all_held t.ports.boxes outbox t.protocol)) c.self.view_is) in

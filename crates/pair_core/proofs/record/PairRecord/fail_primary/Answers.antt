@@ -1,6 +1,3 @@
-use Rattle.std.proofs.Common.{◌≡◌, sym, subst, None}
-use Rattle.pair_core.specs.Modes.{stop_refusal}
-use Rattle.pair_core.specs.Record.{RecordState}
 use Rattle.pair_core.specs.RecordFields.{record_state}
 use Rattle.pair_core.proofs.RecordLaws.{stop_record}
 use Rattle.pair_core.proofs.record.PairRecord.fail_primary.Goals as goal
@@ -8,4 +5,4 @@ use Rattle.pair_core.proofs.record.PairRecord.fail_primary.Goals as goal
 pub invariant_of-self : goal.invariant_of-self
 invariant_of-self c =
     stop_record (record_state c.self.inside).protocol c.self.invariant
-    (subst (λ (s : RecordState). stop_refusal s.protocol.mode ≡ None) (sym c.self.view_is) c.requires)
+    (rw (← c.self.view_is) at c.requires)

@@ -30,7 +30,7 @@ invariant_of-self c =
 
 -- no node is alone
 two : (k : ℕ) {w v : Pair} → w ≡ v → mode_refusal v.protocol.mode (BackupGet k) ≡ None → is_alone w.protocol.mode ≡ false
-two k {w} same goes = backup_goes w.protocol.mode (subst (λ (v : Pair). mode_refusal v.protocol.mode (BackupGet k) ≡ None) (sym same) goes)
+two k {w} same goes = backup_goes w.protocol.mode (rw same goes)
 
 -- a packet that isn't refused, of no number that was committed, names the next checkpoint, which was cut
 names_next : (r : Record) (p : Packet) (n : ℕ) (o : Option Refusal) → o ≡ first_refusal (backup_refusals r p) → o ≡ None
@@ -106,6 +106,8 @@ returns-clause-replicates c =
     let now = has_backup w h k alone in
     let then =
     has_backup (after_commit w) (commit_holds w h k alone more) (commit_record w.protocol k more) (filled-pairs w.protocol.mode alone) in
-    subst (λ (v : Pair). Replicates (BackupGet c.args.k) c.in_ok-reply.reply v.nodes c.commit-2.new.self.nodes) c.self.view_is
-    (subst (λ (o : Reply × Nodes). Replicates (BackupGet c.args.k) o.0 w.nodes o.1) (λ i. (sym reply i, sym c.commit-2.ensures i))
-    (commit_replicates w k alone now then more))
+    rw (← c.self.view_is) (subst (λ (o : Reply × Nodes). Replicates (BackupGet c.args.k) o.0 w.nodes o.1) (λ i. (
+      sym reply i,
+      sym
+          c.commit-2.ensures i,
+    )) (commit_replicates w k alone now then more))

@@ -3,8 +3,7 @@ use Rattle.frame_ports.specs.Ports.{after_delivery}
 use Rattle.pair_core.specs.declared.event.Event.TheVariants.{Deliver}
 use Rattle.pair_core.specs.declared.event.Refusal.TheVariants.{Full}
 use Rattle.pair_core.specs.Pair.{Pair, AfterRefusal}
-use Rattle.pair_core.specs.Protocol.{Outcome, allowed, refused, deliver_done, delivery_refused}
-use Rattle.pair_core.specs.Answering.{MayWantMemory}
+use Rattle.pair_core.specs.Protocol.{Outcome, allowed, deliver_done, delivery_refused}
 use Rattle.pair_core.specs.WorldFields.{pair_of}
 use Rattle.pair_core.proofs.Calls.{on_ok, on_err, answered_so, after_call}
 use Rattle.pair_core.proofs.ClientEvents.{deliver_holds, full_holds}
@@ -73,8 +72,7 @@ returns-in-Full-clause-memory c =
     deliver_full w c.self.invariant c.args.client bytes c.deliver_refusal.result c.deliver_refusal.ensures
     (c.in-Some.is ∙ ap Some c.in-Full.is) in
     on_err c.refuse_delivery.result _
-    (subst (λ (v : Pair). MayWantMemory v.protocol.mode (Out v).0) c.self.view_is
-    (subst (λ (o : Outcome). MayWantMemory w.protocol.mode o.0) goes refl))
+    (rw (← c.self.view_is) (rw (← goes) refl))
 
 pub returns-in_default-why : goal.returns-in_default-why
 returns-in_default-why c =
@@ -84,8 +82,7 @@ returns-in_default-why c =
     let why = c.in-Some.why in
     record {
       outcome =
-          subst (λ (v : Pair). refused v.protocol why ≡ Out v) c.self.view_is
-          (deliver_stops w c.self.invariant c.args.client bytes c.deliver_refusal.result c.deliver_refusal.ensures why
+          rw (← c.self.view_is) (deliver_stops w c.self.invariant c.args.client bytes c.deliver_refusal.result c.deliver_refusal.ensures why
           c.in_default-why.not-Full c.in-Some.is);
       start = refl;
       backup = (refl, refl);

@@ -1,12 +1,9 @@
 use Rattle.std.proofs.Common.{◌≡◌, ◌∙◌, List, refl, sym, ap, subst}
 use Rattle.failover.specs.declared.mode.Mode.TheVariants.{Alone}
 use Rattle.pair_history.specs.Entries.{Frame}
-use Rattle.pair_core.specs.declared.event.Event.TheVariants.{FailBackup}
 use Rattle.pair_core.specs.Invariant.{Holds}
 use Rattle.pair_core.specs.Nodes.{left_alone}
-use Rattle.pair_core.specs.Pair.{Pair}
-use Rattle.pair_core.specs.Protocol.{Outcome, allowed, refused, first_refusal, fail_backup_refusals, fail_backup_done}
-use Rattle.pair_core.specs.Answering.{MayWantMemory}
+use Rattle.pair_core.specs.Protocol.{Outcome, first_refusal, fail_backup_refusals, fail_backup_done}
 use Rattle.pair_core.specs.Record.{ports_after_all}
 use Rattle.pair_core.specs.Window.{none_pending}
 use Rattle.pair_core.specs.WorldFields.{pair_of}
@@ -30,10 +27,9 @@ returns-in-Some-clause-outcome c =
     let w = pair_of c.self.inside in
     let b = w.ports.boxes in
     let outbox = w.nodes.live.outbox in
-    subst (λ (v : Pair). refused v.protocol c.in-Some.why ≡ allowed v.start v.protocol FailBackup) c.self.view_is
-    (stops w.protocol (fail_backup_refusals b outbox w.protocol) (fail_backup_done b outbox w.protocol) c.fail_backup_refusal.result
-    c.in-Some.why (table (goal.at.returns-in-Some-clause-outcome c).After-fail_backup_refusal) c.in-Some.is
-    ∙ fail_backup_sight w c.self.invariant)
+    rw (← c.self.view_is) (stops w.protocol (fail_backup_refusals b outbox w.protocol) (fail_backup_done b outbox w.protocol)
+    c.fail_backup_refusal.result c.in-Some.why (table (goal.at.returns-in-Some-clause-outcome c).After-fail_backup_refusal) c.in-Some.is ∙
+    fail_backup_sight w c.self.invariant)
 
 pub returns-in_err-reply-clause-memory : goal.returns-in_err-reply-clause-memory
 returns-in_err-reply-clause-memory c =
@@ -45,8 +41,7 @@ returns-in_err-reply-clause-memory c =
     (table (goal.at.returns-in_err-reply-clause-memory c).After-fail_backup_refusal) c.in_default.is
     ∙ fail_backup_sight w c.self.invariant in
     on_err c.from_residual.result _
-    (subst (λ (v : Pair). MayWantMemory v.protocol.mode (allowed v.start v.protocol FailBackup).0) c.self.view_is
-    (subst (λ (o : Outcome). MayWantMemory w.protocol.mode o.0) goes_on tt))
+    (rw (← c.self.view_is) (rw (← goes_on) tt))
 
 pub invariant_of-self-2 : goal.invariant_of-self-2
 invariant_of-self-2 c =
@@ -64,9 +59,6 @@ returns-clause-outcome c =
     let w = pair_of c.self.inside in
     let b = w.ports.boxes in
     let outbox = w.nodes.live.outbox in
-    subst (λ (v : Pair). (c.in_ok-reply.reply, c.fail_backup.new.self.protocol) ≡ allowed v.start v.protocol FailBackup) c.self.view_is
-    (c.in_ok-reply.ensures.ok
-    ∙ ap (λ (fs : List Frame). fail_backup_done b fs w.protocol) c.outbox-2.ensures.value
-    ∙ goes w.protocol (fail_backup_refusals b outbox w.protocol) (fail_backup_done b outbox w.protocol) c.fail_backup_refusal.result
-    (table (goal.at.returns-clause-outcome c).After-fail_backup_refusal) c.in_default.is
-    ∙ fail_backup_sight w c.self.invariant)
+    rw (← c.self.view_is) (c.in_ok-reply.ensures.ok ∙ ap (λ (fs : List Frame). fail_backup_done b fs w.protocol) c.outbox-2.ensures.value ∙
+    goes w.protocol (fail_backup_refusals b outbox w.protocol) (fail_backup_done b outbox w.protocol) c.fail_backup_refusal.result (table
+    (goal.at.returns-clause-outcome c).After-fail_backup_refusal) c.in_default.is ∙ fail_backup_sight w c.self.invariant)

@@ -3,7 +3,6 @@ use Rattle.failover.specs.declared.mode.Mode.{Mode}
 use Rattle.failover.specs.declared.mode.Mode.TheVariants.{Paired, Filling, Alone, Stopped}
 use Rattle.pair_core.specs.declared.event.Event.TheVariants.{FailPrimary}
 use Rattle.pair_core.specs.Modes.{is_alone, mode_refusal}
-use Rattle.pair_core.specs.Pair.{Pair}
 use Rattle.pair_core.specs.Invariant.{Holds}
 use Rattle.pair_core.specs.Protocol.{Outcome}
 use Rattle.pair_core.specs.WorldFields.{pair_of}
@@ -23,5 +22,4 @@ invariant_of-self c =
       protocol = sym (ap (λ (o : Outcome). o.1) c.fail_primary.ensures.protocol) i;
       ports = sym c.fail_primary.ensures.ports i;
     })
-    (mode_holds w c.self.invariant Stopped (stays w.protocol.mode (subst (λ (v : Pair). mode_refusal v.protocol.mode FailPrimary ≡ None)
-    (sym c.self.view_is) c.requires)))
+    (mode_holds w c.self.invariant Stopped (stays w.protocol.mode (rw (← c.self.view_is) at c.requires)))

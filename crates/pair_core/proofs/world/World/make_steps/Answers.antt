@@ -1,12 +1,9 @@
 use Rattle.std.proofs.Common.{◌≡◌, false, ◌<◌, ◌+◌, ◌∙◌, length, sym, subst, arith}
-use Rattle.guest_machine.specs.Runs.{after_steps}
 use Rattle.frame_ports.specs.declared.limits.TheConstants.{NUMBER_LIMIT}
 use Rattle.pair_core.specs.declared.event.Reply.TheVariants as replies
 use Rattle.pair_core.specs.Invariant.{Holds}
 use Rattle.pair_core.specs.Journal.{all_entries}
-use Rattle.pair_core.specs.Modes.{is_stopped, is_alone}
-use Rattle.pair_core.specs.Pair.{Pair}
-use Rattle.pair_core.specs.Runs.{steps_outcome, with_steps}
+use Rattle.pair_core.specs.Modes.{is_stopped}
 use Rattle.pair_core.specs.WorldFields.{pair_of}
 use Rattle.pair_core.proofs.StepRuns.{steps_hold, steps_answered}
 use Rattle.pair_core.proofs.world.World.make_steps.Goals as goal
@@ -28,10 +25,8 @@ returns-clause-answered c =
     let n = c.run-made.result in
     let left = c.steps_left-most.ensures.fits in
     let most = c.run-made.ensures.most in
-    let two = subst (λ (v : Pair). is_alone v.protocol.mode ≡ false) (sym c.self.view_is) c.requires in
+    let two = rw (← c.self.view_is) at c.requires in
     let runs : 0 < n → is_stopped w.protocol.mode ≡ false = λ l. c.steps_left-most.ensures.runs (omega arith) in
     let fits : length (all_entries w.protocol.journal) + n < NUMBER_LIMIT = omega arith in
     (λ i. (replies.Steps (c.run-made.ensures.made i).live.guest.steps, (c.run.ensures i).protocol))
-    ∙ subst (λ (v : Pair). (replies.Steps (after_steps n w.nodes.live.guest).steps, (with_steps n w).protocol)
-    ≡ steps_outcome v.start v.protocol n) c.self.view_is
-    (steps_answered n w c.self.invariant two runs fits c.run-made.ensures.room)
+    ∙ (rw (← c.self.view_is) (steps_answered n w c.self.invariant two runs fits c.run-made.ensures.room))

@@ -1,9 +1,6 @@
-use Rattle.std.proofs.Common.{rules, ◌≡◌, ◌+◌, ◌++◌, ◌∷◌, [], length, take, get_or, subst, ◌∙◌, sym, arith, List, ◌<◌}
+use Rattle.std.proofs.Common.{rules, ◌≡◌, ◌+◌, ◌++◌, ◌∷◌, [], length, take, get_or, ◌∙◌, arith, ◌<◌}
 use Rattle.std.proofs.lemmas.List.{take_more}
-use Rattle.pair_core.specs.declared.event.Event.{Event}
 use Rattle.pair_core.specs.declared.event.Event.TheVariants.{Step}
-use Rattle.pair_core.specs.declared.event.Reply.{Reply}
-use Rattle.pair_history.specs.HistoryState.{HistoryState}
 use Rattle.pair_core.specs.Answering.{Answers}
 use Rattle.pair_core.specs.Runs.{Along, Run}
 use Rattle.pair_core.specs.Drops.{Drops}
@@ -42,13 +39,12 @@ loop-event-preserved c =
     let within : i < length events = omega arith in
     let more : take (i + 1) events ≡ take i events ++ get_or events i Step ∷ [] = take_more events i Step within in
     let step : Answers start c.loop-event.self.protocol (get_or events i Step) c.apply-reply.result new =
-    subst (λ (s : HistoryState). Answers s c.loop-event.self.protocol (get_or events i Step) c.apply-reply.result new) v.start a in
+    rw (← v.start) a in
     let run : Run start old (take i events ++ get_or events i Step ∷ []) (c.loop-event.replies.items ++ c.apply-reply.result ∷ []) new =
     Along-more Answers start (take i events) c.loop-event.replies.items old c.loop-event.self.protocol new (get_or events i Step)
     c.apply-reply.result v.replies step in
     let known : Drops start c.loop-event.self.protocol (get_or events i Step) c.apply-reply.result new =
-    subst (λ (s : HistoryState). Drops s c.loop-event.self.protocol (get_or events i Step) c.apply-reply.result new) v.start
-    c.apply-reply.ensures.drops in
+    rw (← v.start) c.apply-reply.ensures.drops in
     let dropped : Along Drops start old (take i events ++ get_or events i Step ∷ [])
     (c.loop-event.replies.items ++ c.apply-reply.result ∷ []) new =
     Along-more Drops start (take i events) c.loop-event.replies.items old c.loop-event.self.protocol new (get_or events i Step)
@@ -64,27 +60,19 @@ loop-event-preserved c =
     Leads-more (take i events) c.loop-event.replies.items c.args.self.now c.loop-event.self c.apply-reply.new.self (get_or events i Step)
     c.apply-reply.result v.leads does in
     let serves : Serves start (moment c.loop-event.self) (get_or events i Step) c.apply-reply.result (moment c.apply-reply.new.self) =
-    subst (λ (s : HistoryState). Serves s (moment c.loop-event.self) (get_or events i Step) c.apply-reply.result
-    (moment c.apply-reply.new.self)) v.start c.apply-reply.ensures.serves in
+    rw (← v.start) c.apply-reply.ensures.serves in
     let served : HasServed start (moment c.args.self.now) (take i events ++ get_or events i Step ∷ [])
     (c.loop-event.replies.items ++ c.apply-reply.result ∷ []) (moment c.apply-reply.new.self) =
     HasServed-more start (take i events) c.loop-event.replies.items (moment c.args.self.now) (moment c.loop-event.self)
     (moment c.apply-reply.new.self) (get_or events i Step) c.apply-reply.result v.served serves in
     record {
       served =
-          subst (λ (es : List Event). HasServed start (moment c.args.self.now) es c.push.new.self.items (moment c.apply-reply.new.self))
-          (sym more) (subst (λ (rs : List Reply). HasServed start (moment c.args.self.now) (take i events ++ get_or events i Step ∷ []) rs
-          (moment c.apply-reply.new.self)) (sym items) served);
+          rw more (rw items served);
       leads =
-          subst (λ (es : List Event). Leads c.args.self.now es c.push.new.self.items c.apply-reply.new.self) (sym more)
-          (subst (λ (rs : List Reply). Leads c.args.self.now (take i events ++ get_or events i Step ∷ []) rs c.apply-reply.new.self)
-          (sym items)
-          leads);
-      drops = subst (λ (es : List Event). Along Drops start old es c.push.new.self.items new) (sym more)
-          (subst (λ (rs : List Reply). Along Drops start old (take i events ++ get_or events i Step ∷ []) rs new) (sym items) dropped);
+          rw more (rw items leads);
+      drops = rw more (rw items dropped);
       replies =
-          subst (λ (es : List Event). Run start old es c.push.new.self.items new) (sym more)
-          (subst (λ (rs : List Reply). Run start old (take i events ++ get_or events i Step ∷ []) rs new) (sym items) run);
+          rw more (rw items run);
       start = c.apply-reply.ensures.start ∙ v.start;
       grows = Begins-trans c.args.self.now.protocol.journal.history c.loop-event.self.protocol.journal.history
           c.apply-reply.new.self.protocol.journal.history v.grows c.apply-reply.ensures.grows;

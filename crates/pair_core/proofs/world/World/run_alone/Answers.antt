@@ -1,11 +1,9 @@
-use Rattle.std.proofs.Common.{◌≡◌, ◌∙◌, ◌+◌, refl, sym, ap, subst, arith, cond, Bool, inl, inr}
-use Rattle.pair_history.specs.HistoryState.{HistoryState}
+use Rattle.std.proofs.Common.{◌≡◌, ◌∙◌, ◌+◌, refl, sym, ap, arith, cond, Bool, inl, inr}
 use Rattle.pair_core.specs.declared.event.Reply.TheVariants as replies
 use Rattle.pair_core.specs.declared.limits.TheConstants.{STEP_ENTRIES}
 use Rattle.pair_core.specs.Modes.{is_alone}
 use Rattle.pair_core.specs.Pair.{Pair}
-use Rattle.pair_core.specs.Protocol.{refused, step_outcome, step_room}
-use Rattle.pair_core.specs.Answering.{MayWantMemory}
+use Rattle.pair_core.specs.Protocol.{step_room}
 use Rattle.pair_core.specs.Runs.{steps_outcome}
 use Rattle.pair_core.proofs.AloneRuns.{steps_join}
 use Rattle.pair_core.proofs.StepRuns.{no-steps-answered, refusal_answered}
@@ -29,7 +27,7 @@ returns-in-Some-clause-outcome c =
     let w = c.args.self.now in
     let v = c.loop-made.invariant in
     let r = c.loop-made.self.protocol in
-    let ends = subst (λ (s : HistoryState). refused r c.in-Some.why ≡ step_outcome s r) v.start c.in-Some.ensures.refused in
+    let ends = rw v.start at c.in-Some.ensures.refused in
     inl (refusal_answered w.start w.protocol r c.loop-made.made c.loop-made.self.nodes.live.guest.steps c.in-Some.why v.answered ends
     c.args.count c.loop-made-test.true)
 
@@ -46,8 +44,7 @@ returns-in_default-step_alone-clause-outcome c =
     let v = c.loop-made.invariant in
     let stays = c.in_default-step_alone.ensures.err in
     let wants =
-    subst (λ (s : HistoryState). MayWantMemory c.loop-made.self.protocol.mode (step_outcome s c.loop-made.self.protocol).0) v.start
-    c.in_default-step_alone.ensures.wants in
+    rw v.start at c.in_default-step_alone.ensures.wants in
     inr (
       c.requires,
       refl,
@@ -56,7 +53,7 @@ returns-in_default-step_alone-clause-outcome c =
         c.loop-made-test.true,
         c.loop-made.self.nodes.live.guest.steps,
         (λ i. (replies.Steps c.loop-made.self.nodes.live.guest.steps, (stays i).protocol)) ∙ v.answered,
-        subst (λ (x : Pair). MayWantMemory x.protocol.mode (step_outcome w.start x.protocol).0) (sym stays) wants,
+        rw stays wants,
       ),
     )
 
@@ -69,8 +66,7 @@ loop-made-preserved c =
     let mid = c.loop-made.self in
     let new = c.step_alone.new.self in
     let kept = c.step_alone.ensures.backup in
-    let answered = subst (λ (s : HistoryState). (replies.Steps new.nodes.live.guest.steps, new.protocol) ≡ steps_outcome s mid.protocol n)
-    v.start made.answered in
+    let answered = rw v.start at made.answered in
     record {
       most = let a = made.most in let b = c.loop-made-test.true in omega arith;
       alone = ap is_alone c.step_alone.ensures.mode ∙ v.alone;
