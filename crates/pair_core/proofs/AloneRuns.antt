@@ -1,7 +1,6 @@
 -- What the steps of a node that is alone leave, and what the protocol answers to them: what a step sends lands at once.
 use Rattle.std.proofs.Common.{◌≡◌, ℕ, zero, suc, ◌+◌, ◌-◌, ◌<◌, List, [], ◌∷◌, ◌++◌, length, replicate, refl, sym, ap, ◌∙◌, subst, arith}
-use Rattle.std.proofs.Common.{append_assoc, Bool, true, false, cond, inl, inr}
-use Rattle.std.specs.Prelude.{nat_lt}
+use Rattle.std.proofs.Common.{append_assoc, Bool, true, cond, inl, inr}
 use Rattle.std.proofs.lemmas.List.{append-nil, length-append, length-replicate}
 use Rattle.guest_machine.specs.Guest.{Guest}
 use Rattle.guest_machine.specs.Step.{next, sent}
@@ -12,19 +11,17 @@ use Rattle.frame_ports.specs.declared.limits.TheConstants.{NUMBER_LIMIT}
 use Rattle.pair_history.specs.Entries.{Frame, Entry, Ran}
 use Rattle.pair_history.specs.HistoryState.{HistoryState}
 use Rattle.pair_history.specs.Landings.{landings}
-use Rattle.pair_core.specs.declared.event.Refusal.TheVariants.{Stopped, NoMemory, CutNeeded, Exhausted}
 use Rattle.pair_core.specs.declared.event.Event.TheVariants.{Step}
 use Rattle.pair_core.specs.declared.event.Reply.{Reply}
 use Rattle.pair_core.specs.declared.event.Reply.TheVariants as replies
-use Rattle.pair_core.specs.declared.limits.TheConstants.{STEP_ROOM, STEP_ENTRIES}
+use Rattle.pair_core.specs.declared.limits.TheConstants.{STEP_ENTRIES}
 use Rattle.pair_core.specs.Invariant.{Holds}
 use Rattle.pair_core.specs.Journal.{joined, all_entries, with_history, with_moves}
-use Rattle.pair_core.specs.Modes.{is_stopped, is_alone}
+use Rattle.pair_core.specs.Modes.{is_alone}
 use Rattle.pair_core.specs.Nodes.{after_run, with_sent_off}
 use Rattle.pair_core.specs.Pair.{Pair}
-use Rattle.pair_core.specs.Protocol.{Record, Outcome, live_at, shown_at, outbox_of, step_entries, step_done, step_outcome, step_room}
-use Rattle.pair_core.specs.Protocol.{first_refusal, or_else, refused, exhausts}
-use Rattle.pair_core.specs.Answering.{Answers, MayWantMemory}
+use Rattle.pair_core.specs.Protocol.{Record, Outcome, step_entries, step_done, step_outcome, step_room}
+use Rattle.pair_core.specs.Answering.{Answers}
 use Rattle.pair_core.specs.Record.{IsLone}
 use Rattle.pair_core.specs.Runs.{StepsAnswer, goes_on, steps_outcome}
 use Rattle.pair_core.proofs.AllLands.{at_once_holds}
@@ -181,19 +178,6 @@ module _ (start : HistoryState) (r r' : Record) (m k : ℕ) (made : (replies.Ste
   steps_join (suc n) zero l e = absurd (omega arith)
   steps_join (suc n) (suc p) l e = steps_after n p (omega arith)
 
--- no row of a step's table is want of memory
-pub never_wants : (start : HistoryState) (r r' : Record) → refused r' NoMemory ≡ step_outcome start r → ⊥
-never_wants start r r' e =
-    by_rows (is_stopped r.mode) (nat_lt STEP_ROOM (length (outbox_of start r))) (exhausts r (step_room r.mode)) e
-  where
-    by_rows : (a b c : Bool) → refused r' NoMemory
-        ≡ or_else (first_refusal ((a, Stopped) ∷ (b, CutNeeded) ∷ (c, Exhausted) ∷ [])) (refused r)
-        (step_done (shown_at start r).boxes (sent (live_at start r).guest) (next (live_at start r).guest).steps r) → ⊥
-    by_rows true b c e = absurd (let clash = ap (λ (o : Outcome). o.0) e in cc)
-    by_rows false true c e = absurd (let clash = ap (λ (o : Outcome). o.0) e in cc)
-    by_rows false false true e = absurd (let clash = ap (λ (o : Outcome). o.0) e in cc)
-    by_rows false false false e = absurd (let clash = ap (λ (o : Outcome). o.0) e in cc)
-
 -- ONE STEP, as an event
 
 module _ (start : HistoryState) (old new : Record) where
@@ -209,12 +193,3 @@ module _ (start : HistoryState) (old new : Record) where
       let stays : new ≡ old =
       ap (λ (o : Outcome). o.1) (made.3 ∙ ap (steps_outcome start old) first ∙ no-steps-answered start old) in
       inr (rw (← stays) made.4, k.1, stays)
-
-  pub not_wanting : (reply : Reply) → (reply ≡ replies.Refused NoMemory → ⊥) → Answers start old Step reply new
-      → (reply, new) ≡ step_outcome start old
-  not_wanting reply other (inl e) = e
-  not_wanting reply other (inr k) = absurd (other k.1)
-
-  pub wanting : Answers start old Step (replies.Refused NoMemory) new → MayWantMemory old.mode (step_outcome start old).0
-  wanting (inl e) = absurd (never_wants start old new e)
-  wanting (inr k) = k.0

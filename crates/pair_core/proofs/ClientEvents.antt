@@ -69,9 +69,6 @@ module _ (w : Pair) (h : Holds w) (es : List Entry) (now : HistoryState)
       }
 
 module _ (w : Pair) (h : Holds w) where
-  abbrev shown_now : HistoryState
-  shown_now = shown_state w
-
   -- a client of the ports is one of the history's
   high_there : (c : ℕ) → c ≤ length w.ports.boxes → c ≤ length (shown_state w).boxes
   high_there c l = rw (← h.clients.boxes) l

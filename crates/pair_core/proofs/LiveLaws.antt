@@ -90,14 +90,6 @@ arrived-kept a =
     ∙ ap (λ ns. ns ++ arrived_numbers (epoch_of a.running)) (arrived-joined a.sealed.items)
     ∙ ap (λ ns. numbers_in a.sealed.items ++ ns) (arrived-epoch a.running.arrivals.items a.running.steps)
 
-pub numbers_in-next : (es : List RunningEpoch) (i : ℕ) (e : RunningEpoch) → i < length es → e ≡ get_or es i e
-    → numbers_in (drop i es) ≡ numbers_of e.arrivals.items ++ numbers_in (drop (i + 1) es)
-numbers_in-next es i e l is =
-    let next : suc i ≡ i + 1 = omega arith in
-    ap numbers_in (drop-cons es i e l)
-    ∙ ap (λ (x : RunningEpoch). numbers_of x.arrivals.items ++ numbers_in (drop (suc i) es)) (sym is)
-    ∙ ap (λ j. numbers_of e.arrivals.items ++ numbers_in (drop j es)) next
-
 -- The frames on their way to a client
 
 pub to_next : (c n : ℕ) (fs : List Frame) (i : ℕ) (f : Frame) → 1 ≤ c → c ≤ n → i < length fs → f ≡ get_or fs i f

@@ -33,13 +33,6 @@ live_goes Filling e = absurd (cc)
 live_goes Alone e = absurd (cc)
 live_goes Stopped e = refl
 
--- one that has stopped isn't alone, and the other way round
-pub stopped_not_alone : (mode : Mode) → is_stopped mode ≡ true → is_alone mode ≡ false
-stopped_not_alone Paired e = refl
-stopped_not_alone Filling e = refl
-stopped_not_alone Alone e = absurd (cc)
-stopped_not_alone Stopped e = refl
-
 pub alone_not_stopped : (mode : Mode) → is_alone mode ≡ true → is_stopped mode ≡ false
 alone_not_stopped Paired e = refl
 alone_not_stopped Filling e = refl

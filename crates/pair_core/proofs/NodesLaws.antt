@@ -1,6 +1,6 @@
 -- What the two nodes keep along steps, arrivals and cuts.
 use Rattle.std.proofs.Common.{◌≡◌, ℕ, zero, suc, ◌+◌, ◌-◌, ◌*◌, ◌/◌, ◌<◌, ◌≤◌, List, [], ◌∷◌, ◌++◌, length, replicate, refl, sym, ap, ◌∙◌}
-use Rattle.std.proofs.Common.{subst, arith, append_assoc, Bool, true, false, None}
+use Rattle.std.proofs.Common.{subst, arith, append_assoc, Bool, true, false}
 use Rattle.std.specs.Prelude.{slice_range, take, drop}
 use Rattle.std.proofs.Math.Bridge.{le_prop}
 use Rattle.std.proofs.lemmas.List.{append-nil, length-append, length-replicate}
@@ -227,12 +227,6 @@ backed-live generation n g mss x live b base = record {
   sealed = b.sealed;
   base = base;
 }
-
--- its image could go on, or a text is sealed that will fill it
-pub some-text : (generation n : ℕ) (g : Guest) (mss : List (List Move)) (x : Nodes) → IsBacked generation n g mss x
-    → x.image.stands_at ≡ None → 0 < length x.sealed
-some-text generation zero g mss x b e = let held = ap length (b.fills refl).sealed in omega arith
-some-text generation (suc n) g mss x b e = absurd (let at = (b.follows (omega arith)).stands_at in cc)
 
 -- Cut
 

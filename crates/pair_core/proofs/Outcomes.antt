@@ -10,7 +10,6 @@ use Rattle.frame_ports.specs.declared.limits.TheConstants.{INBOX_FRAMES, NUMBER_
 use Rattle.pair_history.specs.Entries.{Frame}
 use Rattle.pair_history.specs.HistoryState.{inbox_of}
 use Rattle.pair_core.specs.declared.event.Event.TheVariants.{Admit}
-use Rattle.pair_core.specs.declared.event.Packet.{Packet}
 use Rattle.pair_core.specs.declared.event.Refusal.{Refusal}
 use Rattle.pair_core.specs.declared.event.Refusal.TheVariants.{Full, BadFrame, NoClient, Stopped, Behind, NotPaired}
 use Rattle.pair_core.specs.declared.event.Refusal.TheVariants.{AlreadyPaired, NoImage, Stale, Gap, NoMemory, CutNeeded, Exhausted}
@@ -21,9 +20,9 @@ use Rattle.pair_core.specs.Pair.{Pair, shown_state, live_state, AfterRefusal}
 use Rattle.pair_core.specs.Protocol.{Record, Outcome, Row, allowed, first_refusal, or_else, unless, refused, exhausts}
 use Rattle.pair_core.specs.Answering.{MayWantMemory}
 use Rattle.pair_core.specs.Protocol.{is_among, is_bad_length, step_outcome, step_outcome_at, cut_refusals, cut_done, outbox_of}
-use Rattle.pair_core.specs.Protocol.{fail_backup_outcome_at, ack_outcome_at, admit_outcome_at, admit_first, admit_refusals, admit_done}
+use Rattle.pair_core.specs.Protocol.{fail_backup_outcome_at, admit_outcome_at, admit_first, admit_refusals, admit_done}
 use Rattle.pair_core.specs.Protocol.{arrival_refusals}
-use Rattle.pair_core.specs.Protocol.{deliver_outcome_at, deliver_refusals, take_outcome_at, delivery_refused, deliver_done}
+use Rattle.pair_core.specs.Protocol.{deliver_outcome_at, deliver_refusals, delivery_refused, deliver_done}
 use Rattle.pair_core.proofs.Consistent.{live_is, live_waiting, outbox_is}
 
 -- a table decides
@@ -93,12 +92,6 @@ module _ (w : Pair) (h : Holds w) where
   fail_backup_sight =
       ap (λ (fs : List Frame). fail_backup_outcome_at w.ports.boxes fs w.protocol) (sym (outbox_is w h))
       ∙ ap (λ (b : List (List Frame)). fail_backup_outcome_at b (outbox_of w.start w.protocol) w.protocol) h.clients.boxes
-
-  pub ack_sight : (o : Option Packet) → ack_outcome_at w.ports.boxes w.protocol o ≡ ack_outcome_at (shown_state w).boxes w.protocol o
-  ack_sight o = ap (λ (b : List (List Frame)). ack_outcome_at b w.protocol o) h.clients.boxes
-
-  pub take_sight : (c : ℕ) → take_outcome_at w.ports.boxes w.protocol c ≡ take_outcome_at (shown_state w).boxes w.protocol c
-  take_sight c = ap (λ (b : List (List Frame)). take_outcome_at b w.protocol c) h.clients.boxes
 
   pub inbox_is : (c : ℕ) → 1 ≤ c → c ≤ length w.ports.boxes → list_of w.ports.inboxes c ≡ inbox_of c (live_state w).waiting
   inbox_is c low high = h.clients.inboxes c low high ∙ ap (inbox_of c) (sym (live_waiting w h))

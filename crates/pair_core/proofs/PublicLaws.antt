@@ -1,5 +1,5 @@
 -- What the public calls say, from what each event does.
-use Rattle.std.proofs.Common.{◌≡◌, ℕ, List, [], ◌∷◌, ◌++◌, sym, ap, ◌∙◌, subst, append_assoc, Bool, true, false, Option}
+use Rattle.std.proofs.Common.{◌≡◌, ℕ, List, [], ◌∷◌, ◌++◌, sym, ap, ◌∙◌, append_assoc, Bool, true, false, Option}
 use Rattle.std.proofs.Common.{refl, None, Some, inl, inr, Result, Ok, Err, OnErr}
 use Rattle.std.specs.Prelude.{map, slice_get, IfOk}
 use Rattle.std.specs.declared.alloc.AllocError.{AllocError}
@@ -21,7 +21,7 @@ use Rattle.pair_core.specs.Drops.{DropsOnly, Drops}
 use Rattle.pair_core.specs.Invariant.{Holds}
 use Rattle.pair_core.specs.Journal.{first_of}
 use Rattle.pair_core.specs.Modes.{is_alone}
-use Rattle.pair_core.specs.Pair.{Pair, OnRefused, shown_state, live_state}
+use Rattle.pair_core.specs.Pair.{Pair, shown_state, live_state}
 use Rattle.pair_core.specs.Protocol.{Record, outcome, step_entries}
 use Rattle.pair_core.specs.Record.{IsRecord}
 use Rattle.pair_core.specs.Runs.{Change, Along}
@@ -122,11 +122,3 @@ module _ (old new : Pair) (event : Event) (o : Result Reply AllocError) (reply :
           → Answers old.start old.protocol event reply new.protocol
       by_result (Ok r) k e d m f = inl (ap (λ (x : Reply). (x, new.protocol)) k ∙ d)
       by_result (Err x) k e d m f = inr (m, e, ap (λ (w : Pair). w.protocol) f)
-
-  pub refused_by_outcome : IfOk o (λ r. OnRefused r old new) → OnErr o (new ≡ old) → OnRefused reply old new
-  refused_by_outcome = by_result o ok err
-    where
-      by_result : (o : Result Reply AllocError) → IfOk o (λ r. reply ≡ r) → OnErr o (reply ≡ replies.Refused NoMemory)
-          → IfOk o (λ r. OnRefused r old new) → OnErr o (new ≡ old) → OnRefused reply old new
-      by_result (Ok r) k e refused f = subst (λ (x : Reply). OnRefused x old new) (sym k) refused
-      by_result (Err x) k e refused f = subst (λ (y : Reply). OnRefused y old new) (sym e) f

@@ -33,12 +33,6 @@ module _ (n c : ℕ) (bytes : List ℕ) (targets : ℕ) (are : AreTargets n byte
   pub next_no : has_target targets c ≡ false → from_on n c bytes ≡ from_on n (c + 1) bytes
   next_no e = next n c bytes high ∙ ap (λ t. cond t (c ∷ from_on n (c + 1) bytes) (from_on n (c + 1) bytes)) (sym is_addressed ∙ e)
 
-pub from_none : (n c : ℕ) (bytes : List ℕ) → n + 1 ≤ c → from_on n c bytes ≡ []
-from_none n c bytes h = let e : n + 1 - c ≡ 0 = omega arith in ap (λ k. clients_from k c bytes) e
-
-pub from_first : (n : ℕ) (bytes : List ℕ) → from_on n 1 bytes ≡ clients_of n bytes
-from_first n bytes = let e : n + 1 - 1 ≡ n = omega arith in ap (λ k. clients_from k 1 bytes) e
-
 -- the receivers of the frames from place i on
 behind : (n : ℕ) (fs : List Frame) (i : ℕ) (d : Frame) → i < length fs
     → receivers n (drop i fs) ≡ clients_of n (get_or fs i d).items ++ receivers n (drop (suc i) fs)

@@ -16,9 +16,9 @@ use Rattle.pair_core.specs.declared.window.Window.{Window}
 use Rattle.pair_core.specs.Journal.{all_entries, rest_of}
 use Rattle.pair_core.specs.Lengths.{receivers}
 use Rattle.pair_core.specs.Lines.{packet, packet_of, packets_from, AreBelow}
-use Rattle.pair_core.specs.Modes.{is_alone, is_filling, filled, stop_refusal}
+use Rattle.pair_core.specs.Modes.{is_alone, is_filling, filled}
 use Rattle.pair_core.specs.Protocol.{Record, first_refusal, cut_refusals, ack_refusals, exhausts, let_go, cut_done, send_done}
-use Rattle.pair_core.specs.Protocol.{again_done, commit_done, ack_done, fail_primary_done}
+use Rattle.pair_core.specs.Protocol.{again_done, commit_done, ack_done}
 use Rattle.pair_core.specs.Record.{IsRecord, SuitsMode}
 use Rattle.pair_core.specs.Window.{NumberedFrom, with_cut, with_commit, with_acknowledged}
 use Rattle.pair_core.proofs.LengthLaws.{length-receivers}
@@ -90,19 +90,7 @@ suits_committed Filling w = omega arith
 suits_committed Alone w = tt
 suits_committed Stopped w = omega arith
 
-suits_stopped : (mode : Mode) (w : Window) → stop_refusal mode ≡ None → SuitsMode mode w → SuitsMode Stopped w
-suits_stopped Paired w goes h = h
-suits_stopped Filling w goes h = absurd (cc)
-suits_stopped Alone w goes h = absurd (cc)
-suits_stopped Stopped w goes h = absurd (cc)
-
 -- and what it says of the numbers
-
-suits_cut : (mode : Mode) (w : Window) → is_alone mode ≡ false → w.to_commit ≤ w.to_cut → SuitsMode mode w → 1 ≤ w.to_cut
-suits_cut Paired w two cut h = omega arith
-suits_cut Filling w two cut h = h.1
-suits_cut Alone w two cut h = absurd (cc)
-suits_cut Stopped w two cut h = omega arith
 
 suits_full : (mode : Mode) (w : Window) → is_alone mode ≡ false → is_filling mode ≡ false → SuitsMode mode w → 1 ≤ w.to_commit
 suits_full Paired w two full h = h
@@ -201,21 +189,6 @@ module _ (r : Record) (h : IsRecord r) where
     alone = λ e. ((h.alone e).0, (h.alone e).1, ap (after_number n) (h.alone e).2);
     suits = suits_later r.mode r.window (with_acknowledged n r.window) (omega arith) refl h.suits;
   }
-
-  -- the primary stops in a pair alone
-  pub stop_record : stop_refusal r.mode ≡ None → IsRecord (fail_primary_done r).1
-  stop_record goes = record {
-    window = h.window;
-    forward = h.forward;
-    back = h.back;
-    sealed = h.sealed;
-    alone = λ e. absurd (cc);
-    suits = suits_stopped r.mode r.window goes h.suits;
-  }
-
-  -- in a pair some checkpoint was cut; and once the backup's first one is committed, some was committed
-  pub some_cut : is_alone r.mode ≡ false → 1 ≤ r.window.to_cut
-  some_cut two = suits_cut r.mode r.window two h.window.cut h.suits
 
   pub some_committed : is_alone r.mode ≡ false → is_filling r.mode ≡ false → 1 ≤ r.window.to_commit
   some_committed two full = suits_full r.mode r.window two full h.suits

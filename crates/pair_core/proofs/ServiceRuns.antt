@@ -12,13 +12,6 @@ use Rattle.pair_core.specs.declared.event.Reply.TheVariants as replies
 use Rattle.pair_core.specs.Service.{Moment, Serves, HasServed, IsDelivery}
 use Rattle.pair_core.proofs.PublicLaws.{Begins-trans}
 
--- a backup that goes live has the history's guest
-pub resumed_is : (start : HistoryState) (old new : Moment) (generation steps : ℕ)
-    → Serves start old GoLive (replies.Live generation steps) new → new.guest ≡ (at start new.history).guest
-resumed_is start old new generation steps h =
-    h.guest ∙ ap (λ (t : List Entry). (at start (new.history ++ t)).guest) h.resumes.0
-    ∙ ap (λ (t : List Entry). (at start t).guest) (append-nil new.history)
-
 -- a run goes on by one event
 pub HasServed-more : (start : HistoryState) (events : List Event) (replies : List Reply) (old mid new : Moment)
     (event : Event) (reply : Reply)

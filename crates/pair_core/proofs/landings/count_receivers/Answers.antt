@@ -36,10 +36,3 @@ loop-client-preserved c =
                 ∙ c.loop-client.invariant.counted;
           }
     ]
-
-pub returns-clause-few : goal.returns-clause-few
-returns-clause-few c =
-    let p = c.clients-clients.ensures.ports in
-    let q = p.clients.1 in
-    let e = c.clients-clients.ensures.count in
-    omega arith

@@ -1,4 +1,4 @@
-use Rattle.pair_core.proofs.ServiceRuns.{served_grows, served_take, served_deliver, served_resume, resumed_is}
+use Rattle.pair_core.proofs.ServiceRuns.{served_grows, served_take, served_deliver, served_resume}
 use Rattle.pair_core.proofs.laws.clients_have_one_guest_that_never_fails.Goals as goal
 
 pub returns-clause-grows : goal.returns-clause-grows
@@ -12,6 +12,3 @@ returns-clause-deliver c = served_deliver
 
 pub returns-clause-resume : goal.returns-clause-resume
 returns-clause-resume c = served_resume
-
-pub returns-clause-resumed : goal.returns-clause-resumed
-returns-clause-resumed c = resumed_is

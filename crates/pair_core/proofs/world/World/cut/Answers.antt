@@ -1,5 +1,4 @@
-use Rattle.std.proofs.Common.{◌≡◌, ◌∙◌, List, ap, sym, subst, arith, false, None}
-use Rattle.frame_ports.specs.declared.limits.TheConstants.{NUMBER_LIMIT}
+use Rattle.std.proofs.Common.{◌≡◌, ◌∙◌, List, ap, sym, subst, false, None}
 use Rattle.pair_core.specs.declared.event.Event.TheVariants.{Cut}
 use Rattle.pair_core.specs.Invariant.{Holds}
 use Rattle.epoch_snapshot.specs.Bases.{IsBase}
@@ -12,46 +11,19 @@ use Rattle.pair_core.proofs.ReplicationLaws.{after_cut, cut_replicates}
 use Rattle.pair_core.specs.Texts.{IsText}
 use Rattle.pair_history.specs.Entries.{Frame}
 use Rattle.pair_core.specs.Modes.{is_alone, mode_refusal}
-use Rattle.pair_core.specs.Pair.{Pair, shown_state}
+use Rattle.pair_core.specs.Pair.{Pair}
 use Rattle.pair_core.proofs.ModeLaws.{primary_goes}
 use Rattle.pair_core.specs.Protocol.{Outcome, cut_refusals, cut_done}
 use Rattle.pair_core.specs.WorldFields.{pair_of}
 use Rattle.pair_core.proofs.Events.{cut_holds}
-use Rattle.pair_core.proofs.NodesLaws.{some-text}
 use Rattle.pair_core.proofs.Outcomes.{goes, cut_sight}
-use Rattle.pair_core.proofs.RecordLaws.{passed, is_below, cut_record, some_cut}
+use Rattle.pair_core.proofs.RecordLaws.{cut_record}
 use Rattle.pair_core.proofs.world.World.cut.Goals as goal
 use Rattle.pair_core.proofs.world.World.cut.Goals.{In_ok-reply}
 
 -- no node is alone
 two : {w v : Pair} → w ≡ v → mode_refusal v.protocol.mode Cut ≡ None → is_alone w.protocol.mode ≡ false
 two {w} same goes = primary_goes w.protocol.mode (rw same goes)
-
--- the generation and the number are a checkpoint's
-pub checkpoint-requires-clause-first_generation : goal.checkpoint-requires-clause-first_generation
-checkpoint-requires-clause-first_generation c =
-    let is = c.generation.ensures in
-    let first = c.self.invariant.nodes.first_generation in
-    omega arith
-
-pub checkpoint-requires-clause-last_generation : goal.checkpoint-requires-clause-last_generation
-checkpoint-requires-clause-last_generation c =
-    let is = c.generation.ensures in
-    let last = c.self.invariant.nodes.last_generation in
-    omega arith
-
-pub checkpoint-requires-clause-first_number : goal.checkpoint-requires-clause-first_number
-checkpoint-requires-clause-first_number c =
-    let is = c.to_cut.ensures in
-    let some = some_cut (pair_of c.self.inside).protocol c.cut_refusal.ensures.record (two c.self.view_is c.requires) in
-    omega arith
-
-pub checkpoint-requires-clause-last_number : goal.checkpoint-requires-clause-last_number
-checkpoint-requires-clause-last_number c =
-    let is = c.to_cut.ensures in
-    let rows = passed _ _ _ (sym c.cut_refusal.ensures.refusal ∙ c.in_default.is) in
-    let last = is_below NUMBER_LIMIT (pair_of c.self.inside).protocol.window.to_cut (passed _ _ _ rows.1).0 in
-    omega arith
 
 -- what the record answered and left, by the live machine's outbox
 done : (c : In_ok-reply) → (c.in_ok-reply.reply, c.cut.new.self.protocol) ≡ cut_done (pair_of c.self.inside).nodes.live.outbox
@@ -70,14 +42,6 @@ makes c base is sized =
     let w = pair_of c.self.inside in
     let text = c.in_ok-text.text.items in
     rw (← c.to_cut.ensures) (rw (← c.generation.ensures) (c.in_ok-text.ensures.text base is sized))
-
--- there is a backup
-pub seal-requires-clause-backup : goal.seal-requires-clause-backup
-seal-requires-clause-backup c =
-    let w = pair_of c.self.inside in
-    let backed = c.self.invariant.nodes.backed (two c.self.view_is c.requires) in
-    rw c.checkpoint.ensures.nodes (some-text w.protocol.generation w.protocol.window.to_commit (shown_state w).guest
-    c.self.invariant.journal.sealed_moves w.nodes backed)
 
 pub invariant_of-self-2 : goal.invariant_of-self-2
 invariant_of-self-2 c =

@@ -1,10 +1,6 @@
-use Rattle.std.proofs.Common.{◌≡◌, ◌∙◌, ◌+◌, refl, sym, ap, arith, cond, Bool, inl, inr}
+use Rattle.std.proofs.Common.{◌∙◌, ◌+◌, refl, sym, ap, arith, inl}
 use Rattle.pair_core.specs.declared.event.Reply.TheVariants as replies
-use Rattle.pair_core.specs.declared.limits.TheConstants.{STEP_ENTRIES}
 use Rattle.pair_core.specs.Modes.{is_alone}
-use Rattle.pair_core.specs.Pair.{Pair}
-use Rattle.pair_core.specs.Protocol.{step_room}
-use Rattle.pair_core.specs.Runs.{steps_outcome}
 use Rattle.pair_core.proofs.AloneRuns.{steps_join}
 use Rattle.pair_core.proofs.StepRuns.{no-steps-answered, refusal_answered}
 use Rattle.pair_core.proofs.world.World.run_alone.Goals as goal
@@ -31,32 +27,6 @@ returns-in-Some-clause-outcome c =
     inl (refusal_answered w.start w.protocol r c.loop-made.made c.loop-made.self.nodes.live.guest.steps c.in-Some.why v.answered ends
     c.args.count c.loop-made-test.true)
 
-pub step_alone-requires-clause-room : goal.step_alone-requires-clause-room
-step_alone-requires-clause-room c =
-    let v = c.loop-made.invariant in
-    let room = c.in_default.ensures.none.2 in
-    let many : step_room c.loop-made.self.protocol.mode ≡ 1025 = ap (λ (b : Bool). cond b STEP_ENTRIES 1) v.alone in
-    omega arith
-
-pub returns-in_default-step_alone-clause-outcome : goal.returns-in_default-step_alone-clause-outcome
-returns-in_default-step_alone-clause-outcome c =
-    let w = c.args.self.now in
-    let v = c.loop-made.invariant in
-    let stays = c.in_default-step_alone.ensures.err in
-    let wants =
-    rw v.start at c.in_default-step_alone.ensures.wants in
-    inr (
-      c.requires,
-      refl,
-      (
-        c.loop-made.made,
-        c.loop-made-test.true,
-        c.loop-made.self.nodes.live.guest.steps,
-        (λ i. (replies.Steps c.loop-made.self.nodes.live.guest.steps, (stays i).protocol)) ∙ v.answered,
-        rw stays wants,
-      ),
-    )
-
 pub loop-made-preserved : goal.loop-made-preserved
 loop-made-preserved c =
     let w = c.args.self.now in
@@ -78,13 +48,3 @@ loop-made-preserved c =
           made.some refl;
       none = λ e. absurd (let some = made.some in omega arith);
     }
-
-pub returns-clause-outcome : goal.returns-clause-outcome
-returns-clause-outcome c =
-    let v = c.loop-made.invariant in
-    let most = v.most in
-    let done = c.loop-made-test.false in
-    let all : c.loop-made.made ≡ c.args.count = omega arith in
-    let steps = c.steps.ensures ∙ ap (λ (x : Pair). x.nodes.live.guest.steps) c.self.view_is in
-    inl ((λ i. (replies.Steps (steps i), c.loop-made.self.protocol)) ∙ v.answered
-    ∙ ap (steps_outcome c.args.self.now.start c.args.self.now.protocol) all)
