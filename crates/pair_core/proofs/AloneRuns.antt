@@ -1,4 +1,5 @@
 -- What the steps of a node that is alone leave, and what the protocol answers to them: what a step sends lands at once.
+use Rattle.std.proofs.Common.{rules}
 use Rattle.std.proofs.Common.{◌≡◌, ℕ, zero, suc, ◌+◌, ◌-◌, ◌<◌, List, [], ◌∷◌, ◌++◌, length, replicate, refl, sym, ap, ◌∙◌, subst, arith}
 use Rattle.std.proofs.Common.{append_assoc, Bool, true, cond, inl, inr}
 use Rattle.std.proofs.lemmas.List.{append-nil, length-append, length-replicate}
@@ -8,7 +9,7 @@ use Rattle.guest_machine.specs.Runs.{after_steps, sent_in}
 use Rattle.frame_ports.specs.Addresses.{targets_of}
 use Rattle.frame_ports.specs.Lands.{lands}
 use Rattle.frame_ports.specs.declared.limits.TheConstants.{NUMBER_LIMIT}
-use Rattle.pair_history.specs.Entries.{Frame, Entry, Ran}
+use Rattle.pair_history.specs.Entries.{Frame, Ran}
 use Rattle.pair_history.specs.HistoryState.{HistoryState}
 use Rattle.pair_history.specs.Landings.{landings}
 use Rattle.pair_core.specs.declared.event.Event.TheVariants.{Step}
@@ -16,11 +17,11 @@ use Rattle.pair_core.specs.declared.event.Reply.{Reply}
 use Rattle.pair_core.specs.declared.event.Reply.TheVariants as replies
 use Rattle.pair_core.specs.declared.limits.TheConstants.{STEP_ENTRIES}
 use Rattle.pair_core.specs.Invariant.{Holds}
-use Rattle.pair_core.specs.Journal.{joined, all_entries, with_history, with_moves}
+use Rattle.pair_core.specs.Journal.{all_entries, with_history}
 use Rattle.pair_core.specs.Modes.{is_alone}
 use Rattle.pair_core.specs.Nodes.{after_run, with_sent_off}
 use Rattle.pair_core.specs.Pair.{Pair}
-use Rattle.pair_core.specs.Protocol.{Record, Outcome, step_entries, step_done, step_outcome, step_room}
+use Rattle.pair_core.specs.Protocol.{Record, Outcome, step_done, step_outcome, step_room}
 use Rattle.pair_core.specs.Answering.{Answers}
 use Rattle.pair_core.specs.Record.{IsLone}
 use Rattle.pair_core.specs.Runs.{StepsAnswer, goes_on, steps_outcome}
@@ -79,15 +80,7 @@ module _ (w : Pair) where
       g = after_steps n w.nodes.live.guest
 
       counted : length (all_entries (quiet n).protocol.journal) ≡ length (all_entries w.protocol.journal) + n
-      counted =
-          let j = w.protocol.journal in
-          let kept = joined j.sealed ++ j.running in
-          let e1 = length-append (j.history ++ (replicate n Ran ++ [])) kept in
-          let e2 = length-append j.history (replicate n Ran ++ []) in
-          let e3 = length-append (replicate n Ran) [] in
-          let e4 = length-replicate n Ran in
-          let e5 = length-append j.history kept in
-          omega arith
+      counted = search (arith, rules, length-append, length-replicate)
 
       step_next : step_done boxes (sent g) (next g).steps (quiet n).protocol ≡ step_outcome w.start (quiet n).protocol
       step_next =
@@ -97,23 +90,7 @@ module _ (w : Pair) where
 
       step_makes : (replies.Steps (after_steps (suc n) w.nodes.live.guest).steps, (after_alone (suc n) (sent g)).protocol)
           ≡ step_done boxes (sent g) (next g).steps (quiet n).protocol
-      step_makes =
-          let j = w.protocol.journal in
-          let es = landings boxes (targets_of (length boxes) (sent g)) in
-          let before = (quiet n).protocol.journal in
-          let history : j.history ++ (replicate (suc n) Ran ++ es) ≡ before.history ++ (Ran ∷ es) =
-          ap (λ (t : List Entry). j.history ++ (t ++ es)) (replicate-last n)
-          ∙ ap (λ (t : List Entry). j.history ++ t) (append_assoc (replicate n Ran) (Ran ∷ []) es)
-          ∙ sym (append_assoc j.history (replicate n Ran) (Ran ∷ es))
-          ∙ ap (λ (t : List Entry). (j.history ++ t) ++ (Ran ∷ es)) (sym (append-nil (replicate n Ran))) in
-          (λ i. (
-            replies.Steps (after_steps-last n w.nodes.live.guest i).steps,
-            record w.protocol { journal = record j { history = history i } },
-          ))
-          ∙ (λ i. (
-            replies.Steps (next g).steps,
-            record w.protocol { journal = with_moves (sym lone i) before (step_entries (sym lone i) boxes (sent g)) },
-          ))
+      step_makes = search (arith, rules, after_steps-last, append-nil, append_assoc, replicate-last)
 
       one_more : (replies.Steps g.steps, (quiet n).protocol) ≡ steps_outcome w.start w.protocol n
           → (replies.Steps (after_steps (suc n) w.nodes.live.guest).steps, (after_alone (suc n) (sent g)).protocol)

@@ -1,5 +1,6 @@
 -- What each event does to the generation, and to the places of the guests that the image will be: one lemma for each way in which an
 -- event ends.
+use Rattle.std.proofs.Common.{rules}
 use Rattle.std.proofs.Common.{◌≡◌, ℕ, zero, suc, ◌+◌, ◌≤◌, List, [], ◌∷◌, ◌++◌, refl, sym, ap, ◌∙◌, subst, arith, false, Some}
 use Rattle.std.specs.Prelude.{slice_get}
 use Rattle.guest_machine.specs.Guest.{Guest}
@@ -13,7 +14,7 @@ use Rattle.pair_core.specs.declared.event.Reply.TheVariants as replies
 use Rattle.pair_core.specs.Modes.{is_alone}
 use Rattle.pair_core.specs.Nodes.{Nodes}
 use Rattle.pair_core.specs.Protocol.{Record, Outcome, refused}
-use Rattle.pair_core.specs.Replication.{guests_of, to_come, number_after, next_number, IsCut, IsCommit, KeepsBackup, Replicates}
+use Rattle.pair_core.specs.Replication.{to_come, number_after, next_number, IsCut, IsCommit, KeepsBackup, Replicates}
 use Rattle.pair_core.proofs.Ends.{Ends}
 use Rattle.pair_core.proofs.ModeLaws.{backup_goes, stop_goes}
 
@@ -36,9 +37,7 @@ pub next-same : (x y : Nodes) → y.image ≡ x.image → next_number x ≡ next
 next-same x y e = ap (λ (s : ImageState). number_after s.stands_at) (sym e)
 
 pub stays_kept : (x y : Nodes) → KeepsBackup x y → Stays x y
-stays_kept x y k number g p j e =
-    ap (λ (gs : List Guest). slice_get gs j) (λ i. guests_of (k.0 i).shape (k.0 i).guest (k.1 i))
-    ∙ p j (ap (λ (n : ℕ). n + j) (next-same x y k.0) ∙ e)
+stays_kept x y k number g p j e = search (arith, rules, next-same)
 
 stays_cut : (n : ℕ) (x y : Nodes) → IsCut n x y → Stays x y
 stays_cut n x y k number g p j e =

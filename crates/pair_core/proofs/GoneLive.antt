@@ -1,4 +1,5 @@
 -- Where the backup goes live: what was kept is discarded, and the guest is the history's.
+use Rattle.std.proofs.Common.{rules}
 use Rattle.std.proofs.Common.{◌≡◌, ℕ, zero, suc, ◌+◌, ◌<◌, ◌≤◌, List, [], ◌∷◌, ◌++◌, length, replicate, refl, sym, ap, ◌∙◌, subst, arith}
 use Rattle.std.proofs.Common.{Bool, true, false, cond}
 use Rattle.std.specs.Prelude.{map, remove, nat_lt}
@@ -8,7 +9,7 @@ use Rattle.frame_ports.specs.Lands.{list_of, with_list}
 use Rattle.frame_ports.specs.declared.limits.TheConstants.{NUMBER_LIMIT}
 use Rattle.output_gate.specs.Epochs.{Epoch, frames_of}
 use Rattle.pair_history.specs.Entries.{Frame, Entry, DropIn, DropOut}
-use Rattle.pair_history.specs.Failures.{arrived_numbers, rising, drops_of_owed_from, go_live_entries}
+use Rattle.pair_history.specs.Failures.{drops_of_owed_from, go_live_entries}
 use Rattle.pair_history.specs.HistoryState.{HistoryState, after, at, out_of, Legal}
 use Rattle.pair_history.specs.Landings.{DropsAreKnown}
 use Rattle.pair_history.specs.Moves.{left}
@@ -60,9 +61,7 @@ module _ (b : List (List Frame)) where
       known-to first (length (out_of first out)) (drops_of_owed_from n (first + 1) b out) (known-from n (first + 1) out) t e
 
 go_live_known : (s : HistoryState) (kept : List Entry) → DropsAreKnown s (go_live_entries s kept)
-go_live_known s kept =
-    known-ins s.boxes (rising (arrived_numbers kept)) (drops_of_owed_from (length s.boxes) 1 s.boxes s.out)
-    (known-from s.boxes (length s.boxes) 1 s.out) s refl
+go_live_known s kept = search (arith, rules, known-from, known-ins)
 
 module _ (w : Pair) (h : Holds w) (two : is_alone w.protocol.mode ≡ false) (some : 1 ≤ w.protocol.window.to_commit) (steps : ℕ)
     (last : w.protocol.generation + 1 < NUMBER_LIMIT) where

@@ -1,5 +1,6 @@
 -- What going live adds to the history, as the loops over it want it; and what is true of the record after it.
-use Rattle.std.proofs.Common.{◌≡◌, ℕ, zero, suc, ◌+◌, ◌-◌, ◌<◌, ◌≤◌, List, [], ◌∷◌, ◌++◌, length, take, drop, replicate, get_or}
+use Rattle.std.proofs.Common.{rules}
+use Rattle.std.proofs.Common.{◌≡◌, ℕ, zero, suc, ◌+◌, ◌-◌, ◌<◌, ◌≤◌, List, [], ◌∷◌, ◌++◌, length, drop, replicate, get_or}
 use Rattle.std.proofs.Common.{refl, sym, ap, ◌∙◌, arith, append_assoc, Bool, true, false, cond, Option, Some, None}
 use Rattle.std.specs.Prelude.{map, nat_le, filter, ◌&&◌}
 use Rattle.std.specs.List.Sorted.{IsPermutation, IsNonDecreasing}
@@ -14,7 +15,7 @@ use Rattle.frame_ports.specs.declared.limits.TheConstants.{NUMBER_LIMIT}
 use Rattle.output_gate.specs.Epochs.{Epoch, frames_of, frames_to}
 use Rattle.pair_history.specs.Entries.{Frame, Entry, Arrive, DropIn, DropOut}
 use Rattle.pair_history.specs.HistoryState.{HistoryState, out_of, start_state}
-use Rattle.pair_history.specs.Failures.{arrived_numbers, rising, drops_of_taken_in, drops_of_owed_from}
+use Rattle.pair_history.specs.Failures.{arrived_numbers, drops_of_owed_from}
 use Rattle.pair_history.proofs.AddressedLaws.{out_of-targets}
 use Rattle.pair_history.proofs.LandingLaws.{AllClients-targets}
 use Rattle.pair_history.proofs.OwedLaws.{owed_dropped}
@@ -70,11 +71,7 @@ arrived-arrivals (a ∷ arrivals) =
     ∙ ap (λ ns. a.number ∷ ns) (arrived-arrivals arrivals)
 
 arrived-epoch : (arrivals : List Arrival) (k : ℕ) → arrived_numbers (epoch_entries arrivals k) ≡ numbers_of arrivals
-arrived-epoch arrivals k =
-    arrived-append (arrivals_of arrivals) (steps_of k)
-    ∙ ap (λ ns. arrived_numbers (arrivals_of arrivals) ++ ns) (arrived-steps k)
-    ∙ append-nil (arrived_numbers (arrivals_of arrivals))
-    ∙ arrived-arrivals arrivals
+arrived-epoch arrivals k = search (arith, rules, append-nil, arrived-append, arrived-arrivals, arrived-steps)
 
 arrived-joined : (es : List RunningEpoch) → arrived_numbers (joined (map epoch_of es)) ≡ numbers_in es
 arrived-joined [] = refl
@@ -85,10 +82,7 @@ arrived-joined (e ∷ es) =
 
 pub arrived-kept : (a : Inside)
     → arrived_numbers (kept_entries (stored a).journal) ≡ numbers_in a.sealed.items ++ numbers_of a.running.arrivals.items
-arrived-kept a =
-    arrived-append (joined (map epoch_of a.sealed.items)) (epoch_of a.running)
-    ∙ ap (λ ns. ns ++ arrived_numbers (epoch_of a.running)) (arrived-joined a.sealed.items)
-    ∙ ap (λ ns. numbers_in a.sealed.items ++ ns) (arrived-epoch a.running.arrivals.items a.running.steps)
+arrived-kept a = search (arith, rules, arrived-append, arrived-epoch, arrived-joined)
 
 -- The frames on their way to a client
 
@@ -118,28 +112,16 @@ drops_on n c boxes fs = drops_of_owed_from (n + 1 - c) c boxes (targets_of (leng
 
 pub drops_on-first : (n : ℕ) (boxes : List (List Frame)) (fs : List Frame) → n ≡ length boxes
     → drops_on n 1 boxes fs ≡ drops_of_owed_from (length boxes) 1 boxes (targets_of (length boxes) fs)
-drops_on-first n boxes fs e =
-    let k : n + 1 - 1 ≡ length boxes = omega arith in
-    ap (λ j. drops_of_owed_from j 1 boxes (targets_of (length boxes) fs)) k
+drops_on-first n boxes fs e = search (arith, rules)
 
 -- the next client's
 module _ (n c : ℕ) (boxes : List (List Frame)) (fs : List Frame) (k place : ℕ) (high : c ≤ n)
     (count : k ≡ length (out_of c (targets_of (length boxes) fs))) (box : place ≡ length (list_of boxes c)) where
   pub drops_on-next : drops_on n c boxes fs ≡ replicate k (DropOut c place) ++ drops_on n (c + 1) boxes fs
-  drops_on-next =
-      let out = targets_of (length boxes) fs in
-      let rest = drops_on n (c + 1) boxes fs in
-      let one : n + 1 - c ≡ suc (n + 1 - (c + 1)) = omega arith in
-      ap (λ j. drops_of_owed_from j c boxes out) one
-      ∙ ap (λ j. replicate j (DropOut c (length (list_of boxes c))) ++ rest) (sym count)
-      ∙ ap (λ j. replicate k (DropOut c j) ++ rest) (sym box)
+  drops_on-next = search (arith, rules)
 
   pub drops_on-length : length (drops_on n c boxes fs) ≡ k + length (drops_on n (c + 1) boxes fs)
-  drops_on-length =
-      let rest = drops_on n (c + 1) boxes fs in
-      ap length drops_on-next
-      ∙ length-append (replicate k (DropOut c place)) rest
-      ∙ ap (λ j. j + length rest) (length-replicate k (DropOut c place))
+  drops_on-length = search (arith, rules, drops_on-next, length-append, length-replicate)
 
 -- each frame on its way is dropped once
 pub length-drops : (boxes : List (List Frame)) (fs : List Frame)
@@ -162,16 +144,7 @@ pub length-live : (boxes : List (List Frame)) (fs : List Frame) (j : Journal)
     → length (live_entries boxes (targets_of (length boxes) fs) j)
     ≡ length (arrived_numbers (kept_entries j)) + length (receivers (length boxes) fs)
 length-live boxes fs j =
-    let ns = arrived_numbers (kept_entries j) in
-    let out = targets_of (length boxes) fs in
-    omega (
-      arith,
-      length-append (drops_of_taken_in (kept_entries j)) (drops_of_owed_from (length boxes) 1 boxes out),
-      length-map (rising ns) DropIn,
-      length_permutation ns (rising ns) (IsPermutation-rising ns),
-      length-drops boxes fs,
-      length-receivers (length boxes) fs,
-    )
+    search (arith, rules, IsPermutation-rising, length-append, length-drops, length-map, length-receivers, length_permutation)
 
 -- What the gate holds of committed checkpoints
 
@@ -189,9 +162,7 @@ committed_held w pending h some =
     ∙ ap frames_of (sym (append-nil t.gone) ∙ ap (λ es. t.gone ++ es) (sym (nil_from_length t.stay none)) ∙ sym t.split)
 
 pub none_committed : (w : Window) (pending : List Epoch) → w.to_commit ≤ w.to_acknowledge → frames_of (committed_of w pending) ≡ []
-none_committed w pending l =
-    let none : committed_count w ≡ 0 = omega arith in
-    ap (λ k. frames_of (take k pending)) none
+none_committed w pending l = search (arith, rules)
 
 -- The record
 
@@ -208,17 +179,7 @@ live_table s = first_refusal (go_live_refusals s.ports.boxes (owed_to s) s.proto
 module _ (s : RecordState) (fs : List Frame) (count : ℕ) (held : fs ≡ frames_of (committed_of s.protocol.window s.protocol.pending))
     (is : count ≡ live_count s fs) (next : s.protocol.generation + 1 < NUMBER_LIMIT) where
   live_row : live_table s ≡ cond (nat_le NUMBER_LIMIT count) (Some Exhausted) None
-  live_row =
-      let boxes = s.ports.boxes in
-      let r = s.protocol in
-      let all : length r.journal.history + length (live_entries boxes (owed_to s) r.journal) ≡ count =
-      ap (λ n. length r.journal.history + n) (length-live boxes (frames_of (committed_of r.window r.pending)) r.journal)
-      ∙ ap (live_count s) (sym held)
-      ∙ sym is in
-      let row : ℕ → Option Refusal = λ n. cond (nat_le NUMBER_LIMIT n) (Some Exhausted) None in
-      ap (λ (t : Bool). cond t (Some Exhausted) (row (length r.journal.history + length (live_entries boxes (owed_to s) r.journal))))
-      (test_below NUMBER_LIMIT (r.generation + 1) next)
-      ∙ ap row all
+  live_row = search (arith, rules, length-live, test_below)
 
   pub live_refused : NUMBER_LIMIT ≤ count → Some Exhausted ≡ live_table s
   live_refused h = sym (live_row ∙ ap (λ (t : Bool). cond t (Some Exhausted) None) (test_from NUMBER_LIMIT count h))
@@ -233,24 +194,7 @@ AreBelow-next g n m (p ∷ ps) h = (let l = h.0 in omega arith, λ e. let l = h.
 
 pub live_record : (r : Record) → IsRecord r → (boxes : List (List Frame)) (out : List (ℕ × Frame)) (steps : ℕ)
     → IsRecord (go_live_done boxes out steps r).1
-live_record r h boxes out steps =
-    let cut = h.window.cut in
-    let last = h.window.last in
-    record {
-      window = record {
-        numbers = tt;
-        count = omega arith;
-        committed = omega arith;
-        cut = omega arith;
-        few = omega arith;
-        last = omega arith;
-      };
-      forward = AreBelow-next r.generation r.window.to_cut r.window.to_commit r.lines.forward h.forward;
-      back = AreBelow-next r.generation r.window.to_commit r.window.to_commit r.lines.back h.back;
-      sealed = omega arith;
-      alone = λ e. (refl, refl, refl);
-      suits = tt;
-    }
+live_record r h boxes out steps = search (arith, rules, AreBelow-next)
 
 -- The journal
 
@@ -258,18 +202,10 @@ module _ (a : Inside) where
   -- the frames that the kept epochs took in, in number
   pub taken_in-count : length (numbers_in a.sealed.items) + length a.running.arrivals.items
       ≡ length (arrived_numbers (kept_entries (stored a).journal))
-  taken_in-count =
-      let l = ap length (arrived-kept a) in
-      let both = length-append (numbers_in a.sealed.items) (numbers_of a.running.arrivals.items) in
-      let one = length-map a.running.arrivals.items (λ (x : Arrival). x.number) in
-      omega arith
+  taken_in-count = search (arith, rules, arrived-kept, length-append, length-map)
 
   pub taken_in-few : AreFields a → length a.history.entries + length (arrived_numbers (kept_entries (stored a).journal)) < NUMBER_LIMIT
-  taken_in-few h =
-      let few = arrived-few (kept_entries (stored a).journal) in
-      let counted = h.counted in
-      let fits = h.fits in
-      omega arith
+  taken_in-few h = search (arith, rules, arrived-few)
 
   module _ (sealed : List RunningEpoch) (ns : List ℕ) (is : sealed ≡ a.sealed.items)
       (same : IsPermutation (numbers_in sealed ++ numbers_of a.running.arrivals.items) ns) where

@@ -1,7 +1,8 @@
 -- What the two nodes keep along steps, arrivals and cuts.
-use Rattle.std.proofs.Common.{◌≡◌, ℕ, zero, suc, ◌+◌, ◌-◌, ◌*◌, ◌/◌, ◌<◌, ◌≤◌, List, [], ◌∷◌, ◌++◌, length, replicate, refl, sym, ap, ◌∙◌}
+use Rattle.std.proofs.Common.{rules}
+use Rattle.std.proofs.Common.{◌≡◌, ℕ, zero, suc, ◌+◌, ◌*◌, ◌/◌, ◌<◌, ◌≤◌, List, [], ◌∷◌, ◌++◌, length, refl, sym, ap, ◌∙◌}
 use Rattle.std.proofs.Common.{subst, arith, append_assoc, Bool, true, false}
-use Rattle.std.specs.Prelude.{slice_range, take, drop}
+use Rattle.std.specs.Prelude.{slice_range}
 use Rattle.std.proofs.Math.Bridge.{le_prop}
 use Rattle.std.proofs.lemmas.List.{append-nil, length-append, length-replicate}
 use Rattle.guest_machine.specs.Dirty.{is_in}
@@ -58,21 +59,12 @@ shape-moves s g (Arrives n f ∷ ms) h = shape-moves s (arrived g f) ms (shape-a
 
 pub shape-boot : (s : Shape) (image : List ℕ) → length image ≤ 4096 * s.pages → HasShape s (boot_guest s.pages s.sectors image)
 unfolding boot_guest
-shape-boot s image fits = record {
-  records = boot-kept s.pages s.sectors image;
-  ram =
-      let free = 4096 * s.pages - length image in
-      let whole : length image + free ≡ 4096 * s.pages = omega arith in
-      length-append image (replicate free 0) ∙ ap (λ n. length image + n) (length-replicate free 0) ∙ whole;
-  sectors = length-replicate (512 * s.sectors) 0;
-}
+shape-boot s image fits = search (arith, rules, boot-kept, length-append, length-replicate)
 
 -- What the live machine was last settled at
 
 sector-slice : (bytes : List ℕ) (i : ℕ) → slice_range bytes (512 * i) (512 * i + 512) ≡ sector_of bytes i
-sector-slice bytes i =
-    let size : (512 * i + 512) - 512 * i ≡ 512 = omega arith in
-    ap (λ n. take n (drop (512 * i) bytes)) size
+sector-slice bytes i = search (arith, rules)
 
 unlisted : (a b : Bool) → (a ≡ true → b ≡ true) → b ≡ false → a ≡ false
 unlisted true b f e =
@@ -95,14 +87,7 @@ base-after_run n x b h =
     }
 
 pub base-with_arrival : (f : Frame) (x : Nodes) (b : Guest) → IsBase (machine_of x.live) b → IsBase (machine_of (with_arrival x f).live) b
-base-with_arrival f x b h =
-    let same = (arrived-apart x.live.guest f).1 in
-    record {
-      ram = h.ram;
-      size = h.size ∙ ap length (sym same);
-      sectors = λ i low none. h.sectors i (rw (← same) low) none
-          ∙ ap (λ bytes. sector_of bytes i) (sym same);
-    }
+base-with_arrival f x b h = search (arith, rules, arrived-apart)
 
 pub base-settled : (g : Guest) → IsBase (machine_of (just_settled g)) g
 base-settled g = record { ram = refl; size = refl; sectors = λ i low none. refl }
@@ -157,23 +142,13 @@ same-shape s t p q =
 -- a machine's delta is of its shape
 cut-shape : (old listed : List ℕ) (m : State) (generation number : ℕ) (c : Change) (shape : Shape) → IsCut old listed m generation number c
     → HasShape shape m.guest → c.shape ≡ shape
-cut-shape old listed m generation number c shape cut sized =
-    let pages : c.shape.pages ≡ shape.pages = let p = cut.pages_size in let q = sized.ram in omega arith in
-    let sectors : c.shape.sectors ≡ shape.sectors = let p = cut.sectors_size in let q = sized.sectors in omega arith in
-    same-shape c.shape shape pages sectors
+cut-shape old listed m generation number c shape cut sized = search (arith, rules, same-shape)
 
 -- the text of a machine's delta makes the machine's guest of the one that the machine was last settled at
 pub delta-text : (old listed : List ℕ) (m : State) (generation number : ℕ) (c : Change) (shape : Shape) (text : List ℕ) (base : Guest)
     → IsCut old listed m generation number c → ReadsBack c text → image_of c base ≡ m.guest → HasShape shape m.guest
     → IsText shape generation number base m.guest text
-delta-text old listed m generation number c shape text base cut reads image sized = record {
-  change = c;
-  reads_back = reads;
-  of_shape = cut-shape old listed m generation number c shape cut sized;
-  of_generation = cut.generation;
-  of_number = cut.number;
-  image = image;
-}
+delta-text old listed m generation number c shape text base cut reads image sized = search (arith, rules, cut-shape)
 
 -- whichever pages count as written, it is the same base
 pub base-of : (m : State) (base : Guest) → IsBase (machine_of (node_of m)) base → IsBase m base
@@ -217,16 +192,7 @@ module _ (shape : Shape) (generation : ℕ) where
 
 pub backed-live : (generation n : ℕ) (g : Guest) (mss : List (List Move)) (x : Nodes) (live : Node) → IsBacked generation n g mss x
     → IsBase (machine_of live) (guest_along g (all_moves mss)) → IsBacked generation n g mss (record x { live = live })
-backed-live generation n g mss x live b base = record {
-  follows = λ l. record { image = (b.follows l).image; stands_at = (b.follows l).stands_at };
-  fills = λ e.
-      let f = b.fills e in
-      record { empty = f.empty; text = f.text; later = f.later; sealed = f.sealed; makes = f.makes };
-  staged = b.staged;
-  image_shape = b.image_shape;
-  sealed = b.sealed;
-  base = base;
-}
+backed-live generation n g mss x live b base = search (arith, rules)
 
 -- Cut
 
@@ -241,40 +207,18 @@ pub nodes-cut : (alone : Bool) (generation n : ℕ) (g : Guest) (mss : List (Lis
     → (alone ≡ false → IsText x.image.shape generation m (guest_along g (all_moves mss)) x.live.guest text)
     → AreNodes alone generation n g (mss ++ ran ∷ []) [] (held ++ x.live.outbox ∷ []) (with_sealed x text)
 nodes-cut alone generation n g mss ran held x m text h e t =
-    let all : all_moves mss ++ ran ≡ all_moves (mss ++ ran ∷ []) = sym (all_moves-push mss ran) in
-    let now : x.live.guest ≡ guest_along g (all_moves (mss ++ ran ∷ [])) = h.live ∙ ap (guest_along g) all in
-    let parted : x.live.guest ≡ guest_along (guest_along g (all_moves mss)) ran = h.live ∙ guest_along-append g (all_moves mss) ran in
-    record {
-      first_generation = h.first_generation;
-      last_generation = h.last_generation;
-      backed = λ two.
-          let b = h.backed two in
-          record {
-            follows = λ l. record { image = (b.follows l).image; stands_at = (b.follows l).stands_at };
-            fills = λ e.
-                let f = b.fills e in
-                let long = length-sealed x.image.shape generation n g mss x.sealed b.sealed in
-                let held = ap length f.sealed in
-                record {
-                  empty = f.empty;
-                  text = f.text;
-                  later = f.later ++ text ∷ [];
-                  sealed = ap (λ t. t ++ text ∷ []) f.sealed;
-                  makes = λ before. f.makes before ∙ ap (guest_along g) (first-push mss ran (omega arith));
-                };
-            staged = b.staged;
-            image_shape = b.image_shape;
-            sealed =
-                sealed-push x.image.shape generation n g mss x.sealed ran m text b.sealed e
-                (rw (← parted) (t two));
-            base = rw (← now) (base-settled x.live.guest);
-          };
-      frames =
-          ap (λ t. t ++ x.live.outbox ∷ []) h.frames ∙ ap (λ t. epoch_frames g mss ++ t ∷ []) h.outbox ∙ sym (epoch_frames-push g mss ran);
-      live = now ∙ ap (guest_along g) (sym (append-nil (all_moves (mss ++ ran ∷ []))));
-      outbox = refl;
-      shape = h.shape;
-    }
+    search (
+      arith,
+      rules,
+      all_moves-push,
+      append-nil,
+      base-settled,
+      epoch_frames-push,
+      first-push,
+      guest_along-append,
+      length-sealed,
+      sealed-push,
+    )
 
 -- Where both nodes boot
 

@@ -1,4 +1,5 @@
 -- Laws of the clients to whom frames go, as the loops over them want them.
+use Rattle.std.proofs.Common.{rules}
 use Rattle.std.proofs.Common.{◌≡◌, ℕ, zero, suc, ◌+◌, ◌-◌, ◌<◌, ◌≤◌, List, [], ◌∷◌, ◌++◌, length, drop, get_or, refl, sym, ap, ◌∙◌, arith}
 use Rattle.std.proofs.Common.{append_assoc, true, false, cond}
 use Rattle.std.specs.Prelude.{nat_le, ◌&&◌}
@@ -59,24 +60,13 @@ counted_more count total c rest now e h = let l = ap length e in omega arith
 pub entries_more : (old new : List Entry) (lengths after : List ℕ) (c : ℕ) (rest now : List ℕ) (total : List Entry) → now ≡ c ∷ rest
     → new ≡ old ++ landing_by lengths c ∷ [] → after ≡ lengths_at lengths c
     → old ++ landings_by lengths now ≡ total → new ++ landings_by after rest ≡ total
-entries_more old new lengths after c rest now total e n a h =
-    ap (λ t. t ++ landings_by after rest) n
-    ∙ append_assoc old (landing_by lengths c ∷ []) (landings_by after rest)
-    ∙ ap (λ t. old ++ landing_by lengths c ∷ landings_by t rest) a
-    ∙ ap (λ t. old ++ landings_by lengths t) (sym e)
-    ∙ h
+entries_more old new lengths after c rest now total e n a h = search (arith, rules, append_assoc)
 
 -- one frame more
 pub frames_more : (old new : List Entry) (lengths after : List ℕ) (cs rest now : List ℕ) (total : List Entry) → now ≡ cs ++ rest
     → new ≡ old ++ landings_by lengths cs → after ≡ lengths_after lengths cs
     → old ++ landings_by lengths now ≡ total → new ++ landings_by after rest ≡ total
-frames_more old new lengths after cs rest now total e n a h =
-    ap (λ t. t ++ landings_by after rest) n
-    ∙ append_assoc old (landings_by lengths cs) (landings_by after rest)
-    ∙ ap (λ t. old ++ (landings_by lengths cs ++ landings_by t rest)) a
-    ∙ ap (λ t. old ++ t) (sym (landings_by-append lengths cs rest))
-    ∙ ap (λ t. old ++ landings_by lengths t) (sym e)
-    ∙ h
+frames_more old new lengths after cs rest now total e n a h = search (arith, rules, append_assoc, landings_by-append)
 
 pub nil-append : (old : List Entry) (lengths now : List ℕ) (total : List Entry) → now ≡ [] → old ++ landings_by lengths now ≡ total
     → old ≡ total

@@ -1,4 +1,5 @@
 -- What a cut and a commit do to the guests that the image will be.
+use Rattle.std.proofs.Common.{rules}
 use Rattle.std.proofs.Common.{◌≡◌, ℕ, suc, ◌+◌, ◌-◌, ◌<◌, List, [], ◌∷◌, ◌++◌, length, refl, sym, ap, ◌∙◌, arith, append_assoc}
 use Rattle.std.proofs.Common.{Bool, true, false, Some}
 use Rattle.failover.specs.declared.mode.Mode.{Mode}
@@ -57,11 +58,7 @@ length-ends s (es ∷ ess) = ap suc (length-ends (at s es) ess)
 
 -- a full checkpoint makes its guest of whatever guest
 from-any : (g before : Guest) (x : Nodes) → Fills g x → to_come x ≡ guests_of x.image.shape before x.sealed
-from-any g before x f =
-    let shape = x.image.shape in
-    ap (guests_of shape x.image.guest) f.sealed
-    ∙ ap (λ (h : Guest). h ∷ guests_of shape h f.later) (f.makes x.image.guest ∙ sym (f.makes before))
-    ∙ ap (guests_of shape before) (sym f.sealed)
+from-any g before x f = search (arith, rules)
 
 module _ (w : Pair) (b : HasBackup w) where
   -- what the image will be are the guests at the ends of the sealed epochs
@@ -92,16 +89,13 @@ module _ (w : Pair) (b : HasBackup w) where
 
 -- a commit makes a pair
 filled-follows : (mode : Mode) → is_filling (filled mode) ≡ false
-filled-follows Paired = refl
 filled-follows Filling = refl
-filled-follows Alone = refl
-filled-follows Stopped = refl
+filled-follows other = refl
 
 pub filled-pairs : (mode : Mode) → is_alone mode ≡ false → is_alone (filled mode) ≡ false
-filled-pairs Paired e = refl
-filled-pairs Filling e = refl
 filled-pairs Alone e = absurd (cc)
-filled-pairs Stopped e = refl
+filled-pairs Filling e = refl
+filled-pairs other e = refl
 
 -- CUT and COMMIT, from what holds of the backup before and after
 

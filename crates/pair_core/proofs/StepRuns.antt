@@ -1,4 +1,5 @@
 -- What so many steps of the guest leave, and what the protocol answers to them.
+use Rattle.std.proofs.Common.{rules}
 use Rattle.std.proofs.Common.{◌≡◌, ℕ, zero, suc, ◌+◌, ◌<◌, ◌≤◌, List, [], ◌∷◌, ◌++◌, length, replicate, refl, sym, ap, ◌∙◌, subst, arith}
 use Rattle.std.proofs.Common.{append_assoc, Bool, true, false, cond, Option, None, Some, Result, Ok, Err, OnErr}
 use Rattle.std.specs.Prelude.{nat_lt, nat_le}
@@ -104,27 +105,12 @@ replicate-last zero = refl
 replicate-last (suc n) = ap (λ t. Ran ∷ t) (replicate-last n)
 
 pub with_no_steps : (w : Pair) → with_steps 0 w ≡ w
-with_no_steps w = λ i. record w {
-  protocol = record w.protocol { journal = record w.protocol.journal { running = append-nil w.protocol.journal.running i } };
-  nodes = record w.nodes {
-    live = record w.nodes.live {
-      guest = no-steps w.nodes.live.guest i;
-      outbox = (ap (λ (t : List Frame). w.nodes.live.outbox ++ t) (none-sent w.nodes.live.guest) ∙ append-nil w.nodes.live.outbox) i;
-      dirty = none-marked w.nodes.live.guest w.nodes.live.dirty i;
-    };
-  };
-}
+with_no_steps w = search (arith, rules, append-nil, no-steps, none-marked, none-sent)
 
 -- each step is one entry more
 pub steps-counted : (n : ℕ) (w : Pair) → length (all_entries (with_steps n w).protocol.journal) ≡ length (all_entries w.protocol.journal)
     + n
-steps-counted n w =
-    let j = w.protocol.journal in
-    let e1 = length-all (with_running j (replicate n Ran)) in
-    let e2 = length-append j.running (replicate n Ran) in
-    let e3 = length-replicate n Ran in
-    let e4 = length-all j in
-    omega arith
+steps-counted n w = search (arith, rules, length-all, length-append, length-replicate)
 
 -- What is answered
 

@@ -1,4 +1,5 @@
 -- What the entries that an event adds tell of clients' calls.
+use Rattle.std.proofs.Common.{rules, arith}
 use Rattle.std.proofs.Common.{◌≡◌, ℕ, zero, suc, ◌+◌, List, [], ◌∷◌, ◌++◌, length, replicate, refl, subst, append_assoc, Bool, true, false}
 use Rattle.std.proofs.Common.{cond}
 use Rattle.std.specs.Prelude.{All, map, get_or}
@@ -8,7 +9,7 @@ use Rattle.frame_ports.specs.Addresses.{targets_of}
 use Rattle.frame_ports.specs.Lands.{list_of, has_room, landed_at}
 use Rattle.frame_ports.specs.declared.limits.TheConstants.{BOX_FRAMES}
 use Rattle.pair_history.specs.Entries.{Frame, Entry, Ran, Arrive, DropIn, Land, DropOut}
-use Rattle.pair_history.specs.Failures.{arrived_numbers, rising, drops_of_taken_in, drops_of_owed_from}
+use Rattle.pair_history.specs.Failures.{drops_of_owed_from}
 use Rattle.pair_history.specs.HistoryState.{HistoryState, out_of}
 use Rattle.pair_history.specs.Landings.{landings}
 use Rattle.pair_core.specs.declared.event.Event.{Event}
@@ -70,9 +71,7 @@ module _ (P : Entry → Type 0) (ins : (n : ℕ) → P (DropIn n)) (outs : (c pl
       (All-replicate P count (DropOut first place) (outs first place)) (all_out n (first + 1) boxes out)
 
   pub live_all : (boxes : List (List Frame)) (out : List (ℕ × Frame)) (j : Journal) → All P (live_entries boxes out j)
-  live_all boxes out j =
-      All-append P (drops_of_taken_in (kept_entries j)) (drops_of_owed_from (length boxes) 1 boxes out)
-      (all_in (rising (arrived_numbers (kept_entries j)))) (all_out (length boxes) 1 boxes out)
+  live_all boxes out j = search (arith, rules, All-append, all_in, all_out)
 
 All-front : (P : Entry → Type 0) (es fs : List Entry) → All P (es ++ fs) → All P es
 All-front P [] fs p = All-nil P

@@ -1,3 +1,4 @@
+use Rattle.std.proofs.Common.{rules}
 use Rattle.std.proofs.Common.{◌≡◌, ◌+◌, ◌≤◌, ◌++◌, length, ap, ◌∙◌, sym, arith, true, [], ◌∷◌}
 use Rattle.frame_ports.specs.Targets.{AreTargets, has_target}
 use Rattle.frame_ports.specs.Addresses.{clients_of}
@@ -21,22 +22,10 @@ next c e = next_yes c.clients-clients.result c.loop-client.client c.args.frame.n
     c.loop-client.invariant.first (omega arith) (most c) e
 
 pub add_landing-requires-clause-room : goal.add_landing-requires-clause-room
-add_landing-requires-clause-room c =
-    let d = (goal.at.add_landing-requires-clause-room c).After-contains in
-    let one = ap length (next d (sym c.contains.ensures ∙ c.if-contains.true)) in
-    let i = c.loop-client.invariant.room in
-    let r = c.requires.room in
-    let e = ap (λ n. length (clients_of n c.args.frame.now.items)) c.clients-clients.ensures.count in
-    omega arith
+add_landing-requires-clause-room c = search (arith, rules, After-contains, next)
 
 pub add_landing-requires-clause-fits : goal.add_landing-requires-clause-fits
-add_landing-requires-clause-fits c =
-    let d = (goal.at.add_landing-requires-clause-fits c).After-contains in
-    let one = ap length (next d (sym c.contains.ensures ∙ c.if-contains.true)) in
-    let i = c.loop-client.invariant.size in
-    let r = c.requires.fits in
-    let e = ap (λ n. length (clients_of n c.args.frame.now.items)) c.clients-clients.ensures.count in
-    omega arith
+add_landing-requires-clause-fits c = search (arith, rules, After-contains, next)
 
 pub loop-client-preserved : goal.loop-client-preserved
 loop-client-preserved c =

@@ -1,3 +1,4 @@
+use Rattle.std.proofs.Common.{rules, arith}
 use Rattle.std.proofs.Common.{◌∙◌, sym, subst, length}
 use Rattle.pair_core.specs.declared.event.Reply.TheVariants as replies
 use Rattle.pair_core.specs.Invariant.{Holds}
@@ -9,10 +10,7 @@ use Rattle.pair_core.proofs.RecordLaws.{passed}
 use Rattle.pair_core.proofs.world.World.admit.Goals as goal
 
 pub returns-then-inbox_len-eq0-clause-outcome : goal.returns-then-inbox_len-eq0-clause-outcome
-returns-then-inbox_len-eq0-clause-outcome c =
-    let w = pair_of c.self.inside in
-    rw (← c.self.view_is) (admit_empty w c.self.invariant c.args.client c.arrival_refusal.result c.arrival_refusal.ensures c.in_default.is
-    (sym c.inbox_len.ensures ∙ c.if-inbox_len-eq0.true))
+returns-then-inbox_len-eq0-clause-outcome c = search (arith, rules, admit_empty)
 
 pub returns-in-Some-admit_refusal-clause-outcome : goal.returns-in-Some-admit_refusal-clause-outcome
 returns-in-Some-admit_refusal-clause-outcome c =
@@ -22,11 +20,7 @@ returns-in-Some-admit_refusal-clause-outcome c =
     c.in-Some-admit_refusal.is)
 
 pub returns-in_err-number-clause-memory : goal.returns-in_err-number-clause-memory
-returns-in_err-number-clause-memory c =
-    let w = pair_of c.self.inside in
-    on_err c.from_residual.result _
-    (rw (← c.self.view_is) (admit_wants w c.self.invariant c.args.client c.arrival_refusal.result c.arrival_refusal.ensures c.in_default.is
-    (λ e. c.if-inbox_len-eq0.false (c.inbox_len.ensures ∙ e)) c.admit_refusal.result c.admit_refusal.ensures c.in_default-admit_refusal.is))
+returns-in_err-number-clause-memory c = search (arith, rules, admit_wants, on_err)
 
 pub invariant_of-self-2 : goal.invariant_of-self-2
 invariant_of-self-2 c =

@@ -1,3 +1,4 @@
+use Rattle.std.proofs.Common.{rules, arith}
 use Rattle.pair_core.proofs.PublicLaws.{answers_by_outcome}
 use Rattle.pair_core.proofs.ServiceLaws.{serves}
 use Rattle.pair_core.specs.Answering.{Answers}
@@ -6,10 +7,7 @@ use Rattle.pair_core.proofs.world.World.apply.Goals.{After-answered}
 
 answers : (c : After-answered)
     → Answers c.args.self.now.start c.args.self.now.protocol c.args.event c.answered.result c.act-outcome.new.self.protocol
-answers c =
-    answers_by_outcome c.args.self.now c.act-outcome.new.self c.args.event c.act-outcome.result c.answered.result c.answered.ensures.ok
-    c.answered.ensures.err
-    c.act-outcome.ensures.outcome c.act-outcome.ensures.memory c.act-outcome.ensures.err
+answers c = search (arith, rules, answers_by_outcome)
 
 pub returns-clause-grows : goal.returns-clause-grows
 returns-clause-grows c =
@@ -19,9 +17,7 @@ returns-clause-grows c =
     (drops.entries, drops.grows)
 
 pub returns-clause-drops : goal.returns-clause-drops
-returns-clause-drops c =
-    c.keep_drops.ensures c.args.event c.answered.result c.act-outcome.new.self.protocol
-    (answers (goal.at.returns-clause-drops c).After-answered)
+returns-clause-drops c = search (arith, rules, After-answered, answers)
 
 pub returns-clause-serves : goal.returns-clause-serves
 returns-clause-serves c =

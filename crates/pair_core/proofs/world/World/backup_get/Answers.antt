@@ -1,3 +1,4 @@
+use Rattle.std.proofs.Common.{rules}
 use Rattle.std.proofs.Common.{◌≡◌, ℕ, ◌<◌, ◌≤◌, ◌∙◌, sym, ap, subst, arith, false, Option, None}
 use Rattle.epoch_snapshot.specs.Checkpoints.{Change}
 use Rattle.pair_core.specs.declared.event.Packet.{Packet}
@@ -36,9 +37,7 @@ two k {w} same goes = backup_goes w.protocol.mode (rw same goes)
 names_next : (r : Record) (p : Packet) (n : ℕ) (o : Option Refusal) → o ≡ first_refusal (backup_refusals r p) → o ≡ None
     → (p.generation ≡ r.generation → p.number < r.window.to_cut) → n ≡ r.window.to_commit → n ≤ p.number
     → r.window.to_commit < r.window.to_cut
-names_next r p n o is none cut e least =
-    let below = cut (generation_is p.generation r.generation (passed _ _ _ (sym is ∙ none)).0) in
-    omega arith
+names_next r p n o is none cut e least = search (arith, rules, generation_is, passed)
 
 pub oldest-requires-clause-some : goal.oldest-requires-clause-some
 oldest-requires-clause-some c =

@@ -1,4 +1,5 @@
-use Rattle.std.proofs.Common.{◌≡◌, ◌∙◌, List, ap, sym, subst, false, None}
+use Rattle.std.proofs.Common.{rules, arith}
+use Rattle.std.proofs.Common.{◌≡◌, ◌∙◌, ap, sym, subst, false, None}
 use Rattle.pair_core.specs.declared.event.Event.TheVariants.{Cut}
 use Rattle.pair_core.specs.Invariant.{Holds}
 use Rattle.epoch_snapshot.specs.Bases.{IsBase}
@@ -9,7 +10,6 @@ use Rattle.pair_core.specs.Replication.{Replicates}
 use Rattle.pair_core.proofs.Consistent.{has_backup, live_is}
 use Rattle.pair_core.proofs.ReplicationLaws.{after_cut, cut_replicates}
 use Rattle.pair_core.specs.Texts.{IsText}
-use Rattle.pair_history.specs.Entries.{Frame}
 use Rattle.pair_core.specs.Modes.{is_alone, mode_refusal}
 use Rattle.pair_core.specs.Pair.{Pair}
 use Rattle.pair_core.proofs.ModeLaws.{primary_goes}
@@ -28,10 +28,7 @@ two {w} same goes = primary_goes w.protocol.mode (rw same goes)
 -- what the record answered and left, by the live machine's outbox
 done : (c : In_ok-reply) → (c.in_ok-reply.reply, c.cut.new.self.protocol) ≡ cut_done (pair_of c.self.inside).nodes.live.outbox
     (pair_of c.self.inside).protocol
-done c =
-    c.in_ok-reply.ensures.ok
-    ∙ ap (λ (fs : List Frame). cut_done fs (pair_of c.self.inside).protocol)
-    (c.outbox.ensures.value ∙ ap (λ (x : Nodes). x.live.outbox) c.checkpoint.ensures.nodes)
+done c = search (arith, rules)
 
 -- the text makes the live guest of the one that the live machine was last settled at
 makes : (c : In_ok-reply) (base : Guest) → IsBase (machine_of (pair_of c.self.inside).nodes.live) base

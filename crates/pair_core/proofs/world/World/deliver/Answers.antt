@@ -1,3 +1,4 @@
+use Rattle.std.proofs.Common.{rules, arith}
 use Rattle.std.proofs.Common.{◌≡◌, ◌∙◌, refl, sym, ap, subst, length, Some}
 use Rattle.frame_ports.specs.Ports.{after_delivery}
 use Rattle.pair_core.specs.declared.event.Event.TheVariants.{Deliver}
@@ -51,16 +52,7 @@ returns-in_default-clause-outcome c =
     c.deliver.ensures.ok
 
 pub returns-in-Full-clause-outcome : goal.returns-in-Full-clause-outcome
-returns-in-Full-clause-outcome c =
-    let w = pair_of c.self.inside in
-    let bytes = c.args.bytes.now in
-    let Out : Pair → Outcome = λ v. allowed v.start v.protocol (Deliver c.args.client c.args.bytes) in
-    let done = delivery_refused w.protocol c.args.client (record { items = bytes }) Full in
-    answered_so c.refuse_delivery.result c.refuse_delivery.new.self.protocol done (Out c.args.self.now)
-    (subst (λ (v : Pair). done ≡ Out v) c.self.view_is
-    (deliver_full w c.self.invariant c.args.client bytes c.deliver_refusal.result c.deliver_refusal.ensures
-    (c.in-Some.is ∙ ap Some c.in-Full.is)))
-    c.refuse_delivery.ensures.ok
+returns-in-Full-clause-outcome c = search (arith, rules, answered_so, deliver_full)
 
 pub returns-in-Full-clause-memory : goal.returns-in-Full-clause-memory
 returns-in-Full-clause-memory c =

@@ -1,3 +1,4 @@
+use Rattle.std.proofs.Common.{rules, arith}
 use Rattle.std.proofs.Common.{◌≡◌, ◌∙◌, List, refl, sym, ap, subst}
 use Rattle.failover.specs.declared.mode.Mode.TheVariants.{Alone}
 use Rattle.pair_history.specs.Entries.{Frame}
@@ -17,10 +18,7 @@ use Rattle.pair_core.proofs.world.World.fail_backup.Goals.{After-fail_backup_ref
 table : (c : After-fail_backup_refusal) → c.fail_backup_refusal.result
     ≡ first_refusal (fail_backup_refusals (pair_of c.self.inside).ports.boxes (pair_of c.self.inside).nodes.live.outbox
     (pair_of c.self.inside).protocol)
-table c =
-    let w = pair_of c.self.inside in
-    c.fail_backup_refusal.ensures.refusal
-    ∙ ap (λ (fs : List Frame). first_refusal (fail_backup_refusals w.ports.boxes fs w.protocol)) c.outbox.ensures.value
+table c = search (arith, rules)
 
 pub returns-in-Some-clause-outcome : goal.returns-in-Some-clause-outcome
 returns-in-Some-clause-outcome c =

@@ -1,22 +1,12 @@
-use Rattle.std.proofs.Common.{◌∙◌, ◌+◌, refl, sym, ap, arith, inl}
-use Rattle.pair_core.specs.declared.event.Reply.TheVariants as replies
+use Rattle.std.proofs.Common.{rules}
+use Rattle.std.proofs.Common.{◌∙◌, ◌+◌, refl, ap, arith, inl}
 use Rattle.pair_core.specs.Modes.{is_alone}
 use Rattle.pair_core.proofs.AloneRuns.{steps_join}
 use Rattle.pair_core.proofs.StepRuns.{no-steps-answered, refusal_answered}
 use Rattle.pair_core.proofs.world.World.run_alone.Goals as goal
 
 pub loop-made-init : goal.loop-made-init
-loop-made-init c =
-    let w = c.args.self.now in
-    let is = c.keep_consistent.ensures in
-    record {
-      most = omega arith;
-      alone = c.requires;
-      start = refl;
-      backup = (refl, refl);
-      answered = (λ i. (replies.Steps (is.live i).steps, w.protocol)) ∙ sym (no-steps-answered w.start w.protocol);
-      none = λ e. refl;
-    }
+loop-made-init c = search (arith, rules, no-steps-answered)
 
 pub returns-in-Some-clause-outcome : goal.returns-in-Some-clause-outcome
 returns-in-Some-clause-outcome c =
