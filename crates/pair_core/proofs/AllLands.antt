@@ -1,32 +1,23 @@
 -- Where a node goes on alone: all that is kept goes to the history, and all that is on its way lands. So does what each of its steps sends.
 use Rattle.std.proofs.Common.{◌≡◌, ℕ, zero, suc, List, [], ◌∷◌, ◌++◌, length, take, drop, refl, sym, ap, ◌∙◌, subst, append_assoc, Bool}
-use Rattle.std.proofs.Common.{true, false, Some}
+use Rattle.std.proofs.{Common.{true, false, Some}, lemmas.List.append-nil}
 use Rattle.std.specs.Prelude.{slice_get, ◌≤◌}
-use Rattle.std.proofs.lemmas.List.{append-nil}
-use Rattle.frame_ports.specs.Addresses.{targets_of}
-use Rattle.frame_ports.specs.Lands.{list_of, lands}
+use Rattle.frame_ports.specs.{Addresses.targets_of, Lands.{list_of, lands}}
 use Rattle.failover.specs.declared.mode.Mode.{Mode}
 use Rattle.output_gate.specs.Epochs.{Epoch, frames_of}
 use Rattle.guest_machine.specs.Step.{sent}
-use Rattle.pair_history.specs.Entries.{Frame, Entry, Ran, Arrive}
-use Rattle.pair_history.specs.HistoryState.{HistoryState, after, at, Legal}
-use Rattle.pair_history.specs.Landings.{landings, DropsAreKnown, DropsAtFull, BoxesFit}
-use Rattle.pair_history.specs.Moves.{Move, Steps, Arrives, entries_of, left}
-use Rattle.pair_history.proofs.States.{at-append, Legal-append, DropsAreKnown-append, at_full-known}
-use Rattle.pair_history.proofs.Losses.{AreRising-left}
+use Rattle.pair_history.specs.{Entries.{Frame, Entry, Ran, Arrive}, HistoryState.{HistoryState, after, at, Legal}}
+use Rattle.pair_history.specs.{Landings.{landings, DropsAreKnown, DropsAtFull, BoxesFit}, Moves.{Move, Steps, Arrives, entries_of, left}}
+use Rattle.pair_history.proofs.{States.{at-append, Legal-append, DropsAreKnown-append, at_full-known}, Losses.AreRising-left}
 use Rattle.pair_history.proofs.Moves.{moved, Legal-moves, DropsAreKnown-moves}
 use Rattle.pair_history.proofs.LandingLaws.{length-lands, BoxesFit-lands, AllClients-targets, landings-land, AllLand, AllClients}
-use Rattle.pair_core.specs.declared.window.Window.{Window}
-use Rattle.pair_core.specs.Invariant.{frames_by_epoch, AreNodes, AreClients, Holds}
+use Rattle.pair_core.specs.{declared.window.Window.Window, Invariant.{frames_by_epoch, AreNodes, AreClients, Holds}}
 use Rattle.pair_core.specs.Journal.{joined, kept_entries, all_entries, all_committed, with_history, with_running, with_moves}
-use Rattle.pair_core.specs.Modes.{is_alone}
-use Rattle.pair_core.specs.Nodes.{Node, Nodes, HasShape, with_arrival}
-use Rattle.pair_core.specs.Pair.{Pair, shown_state, live_state}
+use Rattle.pair_core.specs.{Modes.is_alone, Nodes.{Node, Nodes, HasShape, with_arrival}, Pair.{Pair, shown_state, live_state}}
 use Rattle.pair_core.specs.Protocol.{all_held, outbox_of, step_entries, admit_done}
 use Rattle.pair_core.specs.Record.{IsRecord, IsLone, ports_after_all, ports_after_admit}
 use Rattle.pair_core.specs.Window.{committed_of, uncommitted_of, committed_count}
-use Rattle.pair_core.proofs.Consistent.{kept_is, live_is_moved, outbox_is, owed_is, alone_is}
-use Rattle.pair_core.proofs.Events.{kept_moves, admit_holds}
+use Rattle.pair_core.proofs.{Consistent.{kept_is, live_is_moved, outbox_is, owed_is, alone_is}, Events.{kept_moves, admit_holds}}
 use Rattle.pair_core.proofs.ModeLaws.{clash}
 
 pub take-none : {A : Type 0} (n : ℕ) → take {A = A} n [] ≡ []
@@ -124,8 +115,7 @@ module _ (w : Pair) (h : Holds w) (mode : Mode) (lone : is_alone mode ≡ true) 
           running_are = refl;
           can = tt;
         };
-        nodes =
-            rw shown nodes;
+        nodes = rw shown nodes;
         clients = rw shown clients;
         owed =
             ap (λ (t : HistoryState). t.out) shown
@@ -220,8 +210,7 @@ module _ (w : Pair) (h : Holds w) where
       let ms = kept_moves w h in
       let es : List (List Frame) → List Frame → List Entry = λ b outbox. landings b (all_held b outbox r) in
       let land : DropsAtFull (live_state w) (es w.ports.boxes w.nodes.live.outbox) = (all_land w h).2 in
-      let seen : DropsAtFull (live_state w) (es s.boxes (outbox_of w.start r)) =
-      rw (← h.clients.boxes) (rw (outbox_is w h) land) in
+      let seen : DropsAtFull (live_state w) (es s.boxes (outbox_of w.start r)) = rw (← h.clients.boxes) (rw (outbox_is w h) land) in
       let lives : live_state w ≡ at s (entries_of ms) =
       at-append w.start r.journal.history (kept_entries r.journal) ∙ ap (at s) (kept_is w h) in
       rw (kept_is w h) (DropsAtFull-moves s ms (es s.boxes (outbox_of w.start r)) (rw (← lives) seen))

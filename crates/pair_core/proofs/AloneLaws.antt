@@ -1,24 +1,15 @@
 -- Laws of a node that is alone: what the gate held lands, followed by the outbox, and nothing is kept or pending.
-use Rattle.std.proofs.Common.{rules}
-use Rattle.std.proofs.Common.{◌≡◌, ℕ, zero, suc, ◌+◌, ◌-◌, ◌*◌, ◌≤◌, List, [], ◌∷◌, ◌++◌, length, Bool, true, cond}
-use Rattle.std.proofs.Common.{refl, sym, ap, ◌∙◌, subst, arith, append_assoc, mul-le-mul_right}
-use Rattle.std.specs.Prelude.{nat_le}
-use Rattle.std.proofs.lemmas.Bool.Decides.{nat_tests}
+use Rattle.std.proofs.Common.{rules, ◌≡◌, ℕ, zero, suc, ◌+◌, ◌-◌, ◌*◌, ◌≤◌, List, [], ◌∷◌, ◌++◌, length, Bool, true, cond, refl, sym, ap}
+use Rattle.std.proofs.{Common.{◌∙◌, subst, arith, append_assoc, mul-le-mul_right}, lemmas.Bool.Decides.nat_tests}
 use Rattle.std.proofs.lemmas.List.{length-append, append-nil}
-use Rattle.guest_machine.specs.Guest.{Guest}
-use Rattle.guest_machine.specs.Runs.{sent_in}
-use Rattle.guest_machine.specs.Step.{next, sent}
+use Rattle.std.specs.Prelude.{nat_le}
+use Rattle.guest_machine.specs.{Guest.Guest, Runs.sent_in, Step.{next, sent}}
 use Rattle.frame_ports.proofs.AddressLaws.{length-targets_of}
 use Rattle.frame_ports.specs.Addresses.{clients_of}
 use Rattle.output_gate.specs.Epochs.{Epoch, epoch, frames_of, frames_to}
 use Rattle.pair_history.specs.Entries.{Frame}
-use Rattle.pair_core.specs.Lengths.{receivers}
-use Rattle.pair_core.specs.Protocol.{Record, all_held, fail_backup_done}
-use Rattle.pair_core.specs.Record.{IsRecord}
-use Rattle.pair_core.specs.Window.{NumberedFrom}
-use Rattle.pair_core.proofs.LengthLaws.{length-receivers}
-use Rattle.pair_core.proofs.RecordLaws.{AreBelow-more}
-use Rattle.pair_core.proofs.WindowLaws.{NumberedFrom-push}
+use Rattle.pair_core.specs.{Lengths.receivers, Protocol.{Record, all_held, fail_backup_done}, Record.IsRecord, Window.NumberedFrom}
+use Rattle.pair_core.proofs.{LengthLaws.length-receivers, RecordLaws.AreBelow-more, WindowLaws.NumberedFrom-push}
 
 none_of : (fs : List Frame) → length fs ≡ 0 → fs ≡ []
 none_of [] e = refl

@@ -1,35 +1,17 @@
 -- What the steps of a node that is alone leave, and what the protocol answers to them: what a step sends lands at once.
-use Rattle.std.proofs.Common.{rules}
-use Rattle.std.proofs.Common.{◌≡◌, ℕ, zero, suc, ◌+◌, ◌-◌, ◌<◌, List, [], ◌∷◌, ◌++◌, length, replicate, refl, sym, ap, ◌∙◌, subst, arith}
-use Rattle.std.proofs.Common.{append_assoc, Bool, true, cond, inl, inr}
-use Rattle.std.proofs.lemmas.List.{append-nil, length-append, length-replicate}
-use Rattle.guest_machine.specs.Guest.{Guest}
-use Rattle.guest_machine.specs.Step.{next, sent}
-use Rattle.guest_machine.specs.Runs.{after_steps, sent_in}
-use Rattle.frame_ports.specs.Addresses.{targets_of}
-use Rattle.frame_ports.specs.Lands.{lands}
-use Rattle.frame_ports.specs.declared.limits.TheConstants.{NUMBER_LIMIT}
-use Rattle.pair_history.specs.Entries.{Frame, Ran}
-use Rattle.pair_history.specs.HistoryState.{HistoryState}
-use Rattle.pair_history.specs.Landings.{landings}
-use Rattle.pair_core.specs.declared.event.Event.TheVariants.{Step}
-use Rattle.pair_core.specs.declared.event.Reply.{Reply}
-use Rattle.pair_core.specs.declared.event.Reply.TheVariants as replies
-use Rattle.pair_core.specs.declared.limits.TheConstants.{STEP_ENTRIES}
-use Rattle.pair_core.specs.Invariant.{Holds}
-use Rattle.pair_core.specs.Journal.{all_entries, with_history}
-use Rattle.pair_core.specs.Modes.{is_alone}
-use Rattle.pair_core.specs.Nodes.{after_run, with_sent_off}
-use Rattle.pair_core.specs.Pair.{Pair}
-use Rattle.pair_core.specs.Protocol.{Record, Outcome, step_done, step_outcome, step_room}
-use Rattle.pair_core.specs.Answering.{Answers}
-use Rattle.pair_core.specs.Record.{IsLone}
+use Rattle.std.proofs.Common.{rules, ◌≡◌, ℕ, zero, suc, ◌+◌, ◌-◌, ◌<◌, List, [], ◌∷◌, ◌++◌, length, replicate, refl, sym, ap, ◌∙◌, subst}
+use Rattle.std.proofs.{Common.{arith, append_assoc, Bool, true, cond, inl, inr}, lemmas.List.{append-nil, length-append, length-replicate}}
+use Rattle.guest_machine.specs.{Guest.Guest, Step.{next, sent}, Runs.{after_steps, sent_in}}
+use Rattle.frame_ports.specs.{Addresses.targets_of, Lands.lands, declared.limits.TheConstants.NUMBER_LIMIT}
+use Rattle.pair_history.specs.{Entries.{Frame, Ran}, HistoryState.HistoryState, Landings.landings}
+use Rattle.pair_core.specs.{declared.event.Event.TheVariants.Step, declared.event.Reply.Reply, declared.limits.TheConstants.STEP_ENTRIES}
+use Rattle.pair_core.specs.{Invariant.Holds, Journal.{all_entries, with_history}, Modes.is_alone, Nodes.{after_run, with_sent_off}}
+use Rattle.pair_core.specs.{Pair.Pair, Protocol.{Record, Outcome, step_done, step_outcome, step_room}, Answering.Answers, Record.IsLone}
 use Rattle.pair_core.specs.Runs.{StepsAnswer, goes_on, steps_outcome}
-use Rattle.pair_core.proofs.AllLands.{at_once_holds}
-use Rattle.pair_core.proofs.Consistent.{live_is, alone_is}
-use Rattle.pair_core.proofs.ModeLaws.{alone_not_stopped}
+use Rattle.pair_core.proofs.{AllLands.at_once_holds, Consistent.{live_is, alone_is}, ModeLaws.alone_not_stopped}
 use Rattle.pair_core.proofs.StepRuns.{steps_hold, step_goes, no-steps, none-sent, no-steps-answered, more-answered, after_steps-last}
 use Rattle.pair_core.proofs.StepRuns.{replicate-last, one-step-answered}
+use Rattle.pair_core.specs.declared.event.Reply.TheVariants as replies
 
 sent_in-last : (n : ℕ) (g : Guest) → sent_in (suc n) g ≡ sent_in n g ++ sent (after_steps n g)
 unfolding sent_in after_steps
@@ -167,6 +149,5 @@ module _ (start : HistoryState) (old new : Record) where
       let made = k.2 in
       let less = made.1 in
       let first : made.0 ≡ 0 = omega arith in
-      let stays : new ≡ old =
-      ap (λ (o : Outcome). o.1) (made.3 ∙ ap (steps_outcome start old) first ∙ no-steps-answered start old) in
+      let stays : new ≡ old = ap (λ (o : Outcome). o.1) (made.3 ∙ ap (steps_outcome start old) first ∙ no-steps-answered start old) in
       inr (rw (← stays) made.4, k.1, stays)

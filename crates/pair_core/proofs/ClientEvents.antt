@@ -1,29 +1,20 @@
 -- What clients and their lines do keeps the invariant: it goes into the history, before what is kept.
 use Rattle.std.proofs.Common.{◌≡◌, ℕ, ◌+◌, ◌-◌, ◌<◌, ◌≤◌, List, [], ◌∷◌, ◌++◌, length, drop, remove, refl, sym, ap, ◌∙◌, subst, arith, Bool}
-use Rattle.std.proofs.Common.{true, cond, Some}
-use Rattle.std.specs.Prelude.{slice_get, nat_lt, ◌==◌}
-use Rattle.std.proofs.lemmas.Bool.{eq-eqb, lt-ltb}
-use Rattle.std.proofs.lemmas.List.Edits.{length-remove}
+use Rattle.std.proofs.{Common.{true, cond, Some}, lemmas.Bool.{eq-eqb, lt-ltb}, lemmas.List.Edits.length-remove}
 use Rattle.std.proofs.lemmas.List.{append-nil, length-set}
-use Rattle.frame_ports.specs.Addresses.{IsFrame, targets_of}
-use Rattle.frame_ports.specs.Lands.{list_of, with_list, lands}
-use Rattle.frame_ports.specs.Ports.{PortsState, after_delivery}
+use Rattle.std.specs.Prelude.{slice_get, nat_lt, ◌==◌}
+use Rattle.frame_ports.specs.{Addresses.{IsFrame, targets_of}, Lands.{list_of, with_list, lands}, Ports.{PortsState, after_delivery}}
 use Rattle.frame_ports.specs.declared.limits.TheConstants.{INBOX_FRAMES, BOX_FRAMES}
 use Rattle.output_gate.specs.Epochs.{Epoch, frames_to, frames_of}
 use Rattle.pair_history.specs.Entries.{Frame, Entry, Delivered, Refused, DropIn, DropOut, Took}
 use Rattle.pair_history.specs.HistoryState.{HistoryState, Waiting, inbox_of, without_number, out_without, at, Legal, Allows}
-use Rattle.pair_history.specs.Landings.{landings, DropsAreKnown, BoxesFit}
-use Rattle.pair_history.specs.Moves.{left, AllCan}
+use Rattle.pair_history.specs.{Landings.{landings, DropsAreKnown, BoxesFit}, Moves.{left, AllCan}}
 use Rattle.pair_history.proofs.States.{at-append, Legal-append, DropsAreKnown-append, at_full-known, targets_of-append}
 use Rattle.pair_history.proofs.Waiting.{inbox_of-append, AreRising-push, AreRising-without, StandsAt, Leaves, leaves-at}
-use Rattle.pair_history.proofs.Losses.{AreRising-left, LeavesBefore, leaves-before}
-use Rattle.pair_history.proofs.Moves.{AllCan-more, left-more, left-shorter}
+use Rattle.pair_history.proofs.{Losses.{AreRising-left, LeavesBefore, leaves-before}, Moves.{AllCan-more, left-more, left-shorter}}
 use Rattle.pair_history.proofs.LandingLaws.{length-lands, BoxesFit-set, BoxesFit-at, BoxesFit-lands, AllClients-targets, landings-land}
 use Rattle.pair_history.proofs.LandingLaws.{AllLand, AllClients}
-use Rattle.pair_core.specs.declared.window.Window.{Window}
-use Rattle.pair_core.specs.Invariant.{AreClients, Holds}
-use Rattle.pair_core.specs.Journal.{with_history}
-use Rattle.pair_core.specs.Pair.{Pair, shown_state}
+use Rattle.pair_core.specs.{declared.window.Window.Window, Invariant.{AreClients, Holds}, Journal.with_history, Pair.{Pair, shown_state}}
 use Rattle.pair_core.specs.Protocol.{ack_done, deliver_done, take_done, loss_done, let_go}
 use Rattle.pair_core.specs.Record.{IsRecord, ports_after_ack, ports_after_take, ports_after_lose_in, ports_after_lose_out}
 use Rattle.pair_core.specs.Window.{committed_of, uncommitted_of}
@@ -62,8 +53,7 @@ module _ (w : Pair) (h : Holds w) (es : List Entry) (now : HistoryState)
           running_are = h.journal.running_are;
           can = rw shown at can;
         };
-        nodes =
-            rw (← stays) at (rw (← same) at (rw (sym guest ∙ ap (λ t. t.guest) shown) at h.nodes));
+        nodes = rw (← stays) at (rw (← same) at (rw (sym guest ∙ ap (λ t. t.guest) shown) at h.nodes));
         clients = rw shown at clients;
         owed = ap (λ t. t.out) (sym shown) ∙ owed;
       }
@@ -130,8 +120,7 @@ module _ (w : Pair) (h : Holds w) where
         let b = w.ports.boxes in
         let box = list_of b c in
         let entry = Took c (slice_get box 0) in
-        let allowed : Allows s entry =
-        rw h.clients.boxes (answer s c (list_of s.boxes c) refl low (high_there c high)) in
+        let allowed : Allows s entry = rw h.clients.boxes (answer s c (list_of s.boxes c) refl low (high_there c high)) in
         let long : length (with_list b c (drop 1 box)) ≡ length b = length-set b (c - 1) (drop 1 box) in
         let now : HistoryState = record s { boxes = with_list b c (drop 1 box) } in
         history_holds w h (entry ∷ []) now
@@ -197,8 +186,7 @@ module _ (w : Pair) (h : Holds w) where
         let box = list_of b c in
         let fewer = remove box place in
         let same : s.boxes ≡ b = sym h.clients.boxes in
-        let boxed : place < length (list_of s.boxes c) =
-        rw (← h.clients.boxes) there in
+        let boxed : place < length (list_of s.boxes c) = rw (← h.clients.boxes) there in
         let test : nat_lt place (length (list_of s.boxes c)) ≡ true = lt-ltb place (length (list_of s.boxes c)) boxed in
         let long : length (with_list b c fewer) ≡ length b = length-set b (c - 1) fewer in
         let now : HistoryState = record s { boxes = with_list b c fewer } in

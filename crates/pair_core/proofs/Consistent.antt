@@ -1,28 +1,19 @@
 -- What is kept true from event to event gives what contracts say.
-use Rattle.std.proofs.Common.{rules, arith}
-use Rattle.std.proofs.Common.{◌≡◌, ℕ, ◌+◌, true, false, List, [], ◌∷◌, ◌++◌, length, refl, sym, ap, ◌∙◌, subst, append_assoc}
+use Rattle.std.proofs.Common.{rules, arith, ◌≡◌, ℕ, ◌+◌, true, false, List, [], ◌∷◌, ◌++◌, length, refl, sym, ap, ◌∙◌, subst, append_assoc}
+use Rattle.std.proofs.{lemmas.List.{map-append, take-append-drop}, lemmas.List.Elements.{All-nil, All-cons}}
 use Rattle.std.specs.Prelude.{map, All}
-use Rattle.std.proofs.lemmas.List.{map-append, take-append-drop}
-use Rattle.std.proofs.lemmas.List.Elements.{All-nil, All-cons}
-use Rattle.guest_machine.specs.declared.shapes.Shape.{Shape}
-use Rattle.guest_machine.specs.Guest.{Guest}
+use Rattle.guest_machine.specs.{declared.shapes.Shape.Shape, Guest.Guest}
 use Rattle.frame_ports.specs.Addresses.{targets_of}
 use Rattle.output_gate.specs.Epochs.{Epoch, frames_of}
-use Rattle.pair_history.specs.Entries.{Frame, Entry, Ran, Arrive}
-use Rattle.pair_history.specs.HistoryState.{HistoryState, at}
+use Rattle.pair_history.specs.{Entries.{Frame, Entry, Ran, Arrive}, HistoryState.{HistoryState, at}}
 use Rattle.pair_history.specs.Moves.{Move, Steps, Arrives, entry_of, entries_of, guest_along, frames_along, AllCan}
 use Rattle.pair_history.proofs.States.{at-append, targets_of-append}
 use Rattle.pair_history.proofs.Moves.{moved, at-moves, Legal-moves, sent_along-moves, frames_along-append, AllCan-front, AllCan-back}
 use Rattle.pair_core.specs.Invariant.{all_moves, first_moves, epoch_frames, frames_by_epoch, AreSealed, Holds}
-use Rattle.pair_core.specs.Journal.{joined, first_of, kept_entries}
-use Rattle.pair_core.specs.Modes.{is_alone}
-use Rattle.pair_core.specs.Pair.{Pair, shown_state, live_state, HasBackup, IsAlone, is_of_guest, IsConsistent}
-use Rattle.pair_core.specs.Protocol.{outbox_of}
-use Rattle.pair_core.specs.Record.{IsRecord, IsLone}
-use Rattle.pair_core.specs.Texts.{AreTexts}
-use Rattle.pair_core.specs.Window.{committed_count, committed_of, uncommitted_of}
-use Rattle.pair_core.proofs.Events.{frames_of-append, kept_moves, left_now}
-use Rattle.pair_core.proofs.RecordLaws.{some_committed, none_committed}
+use Rattle.pair_core.specs.{Journal.{joined, first_of, kept_entries}, Modes.is_alone}
+use Rattle.pair_core.specs.{Pair.{Pair, shown_state, live_state, HasBackup, IsAlone, is_of_guest, IsConsistent}, Protocol.outbox_of}
+use Rattle.pair_core.specs.{Record.{IsRecord, IsLone}, Texts.AreTexts, Window.{committed_count, committed_of, uncommitted_of}}
+use Rattle.pair_core.proofs.{Events.{frames_of-append, kept_moves, left_now}, RecordLaws.{some_committed, none_committed}}
 
 joined-entries : (mss : List (List Move)) → joined (map entries_of mss) ≡ entries_of (all_moves mss)
 joined-entries [] = refl

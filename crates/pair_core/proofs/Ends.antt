@@ -1,32 +1,25 @@
 -- In which ways each event may end, by its table, and the entries by which the history grows: what holds of each way holds of whatever
 -- the event is answered.
-use Rattle.std.proofs.Common.{◌≡◌, ℕ, List, [], ◌∷◌, ◌++◌, refl, sym, ap, ◌∙◌, subst, append_assoc, Bool, true, false, cond, Option}
-use Rattle.std.proofs.Common.{None, Some, inl, inr, Bor}
+use Rattle.std.proofs.Common.{◌≡◌, ℕ, List, [], ◌∷◌, ◌++◌, refl, sym, ap, ◌∙◌, subst, append_assoc, Bool, true, false, cond, Option, None}
+use Rattle.std.proofs.{Common.{Some, inl, inr, Bor}, lemmas.List.append-nil}
 use Rattle.std.specs.Prelude.{slice_get, nat_lt, option_map}
-use Rattle.std.proofs.lemmas.List.{append-nil}
 use Rattle.guest_machine.specs.Step.{next, sent}
 use Rattle.frame_ports.specs.Lands.{list_of}
-use Rattle.pair_history.specs.Entries.{Frame, Entry, Arrive, Delivered, DropIn, DropOut, Took}
-use Rattle.pair_history.specs.Entries as entries
-use Rattle.pair_history.specs.HistoryState.{HistoryState, inbox_of}
+use Rattle.pair_history.specs.{Entries.{Frame, Entry, Arrive, Delivered, DropIn, DropOut, Took}, HistoryState.{HistoryState, inbox_of}}
 use Rattle.pair_history.specs.Landings.{landings}
 use Rattle.pair_core.specs.declared.event.Event.{Event}
 use Rattle.pair_core.specs.declared.event.Event.TheVariants.{Step, Cut, Send, BackupGet, AckGet, Admit, Deliver, Take, LoseIn, LoseOut}
-use Rattle.pair_core.specs.declared.event.Event.TheVariants.{FailPrimary, FailBackup, GoLive, Protect}
-use Rattle.pair_core.specs.declared.event.Packet.{Packet}
-use Rattle.pair_core.specs.declared.event.Refusal.{Refusal}
-use Rattle.pair_core.specs.declared.event.Refusal.TheVariants.{Full, NoMemory}
-use Rattle.pair_core.specs.declared.event.Reply.TheVariants as replies
-use Rattle.pair_core.specs.declared.event.Reply.{Reply}
-use Rattle.pair_core.specs.Answering.{Answers}
-use Rattle.pair_core.specs.Journal.{first_of, kept_entries, with_moves}
+use Rattle.pair_core.specs.{declared.event.Event.TheVariants.{FailPrimary, FailBackup, GoLive, Protect}, declared.event.Packet.Packet}
+use Rattle.pair_core.specs.{declared.event.Refusal.Refusal, declared.event.Refusal.TheVariants.{Full, NoMemory}, declared.event.Reply.Reply}
+use Rattle.pair_core.specs.{Answering.Answers, Journal.{first_of, kept_entries, with_moves}}
 use Rattle.pair_core.specs.Modes.{is_alone, mode_refusal, backup_refusal, stop_refusal}
-use Rattle.pair_core.specs.Protocol.{Record, Outcome, allowed, outcome, or_else, refused, shown_at, live_at}
-use Rattle.pair_core.specs.Protocol.{outbox_of, step_done, step_entries, cut_done, send_done, again_done, commit_done, backup_outcome}
-use Rattle.pair_core.specs.Protocol.{let_go, ack_done, ack_outcome_at, admit_first, admit_done, delivery_refused, deliver_done, take_done}
-use Rattle.pair_core.specs.Protocol.{loss_of, loss_done, fail_primary_done, all_held, fail_backup_done}
-use Rattle.pair_core.specs.Protocol.{live_entries, go_live_done, protect_done}
+use Rattle.pair_core.specs.Protocol.{Record, Outcome, allowed, outcome, or_else, refused, shown_at, live_at, outbox_of, step_done}
+use Rattle.pair_core.specs.Protocol.{step_entries, cut_done, send_done, again_done, commit_done, backup_outcome, let_go, ack_done}
+use Rattle.pair_core.specs.Protocol.{ack_outcome_at, admit_first, admit_done, delivery_refused, deliver_done, take_done, loss_of, loss_done}
+use Rattle.pair_core.specs.Protocol.{fail_primary_done, all_held, fail_backup_done, live_entries, go_live_done, protect_done}
 use Rattle.pair_core.proofs.RecordLaws.{passed, generation_is}
+use Rattle.pair_history.specs.Entries as entries
+use Rattle.pair_core.specs.declared.event.Reply.TheVariants as replies
 
 -- what the guest does goes to the history at once where a node is alone
 abbrev pub at_once : Bool → List Entry → List Entry

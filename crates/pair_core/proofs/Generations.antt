@@ -1,22 +1,16 @@
 -- What each event does to the generation, and to the places of the guests that the image will be: one lemma for each way in which an
 -- event ends.
-use Rattle.std.proofs.Common.{rules}
-use Rattle.std.proofs.Common.{◌≡◌, ℕ, zero, suc, ◌+◌, ◌≤◌, List, [], ◌∷◌, ◌++◌, refl, sym, ap, ◌∙◌, subst, arith, false, Some}
+use Rattle.std.proofs.Common.{rules, ◌≡◌, ℕ, zero, suc, ◌+◌, ◌≤◌, List, [], ◌∷◌, ◌++◌, refl, sym, ap, ◌∙◌, subst, arith, false, Some}
 use Rattle.std.specs.Prelude.{slice_get}
 use Rattle.guest_machine.specs.Guest.{Guest}
 use Rattle.backup_image.specs.Images.{ImageState}
 use Rattle.pair_history.specs.HistoryState.{HistoryState}
-use Rattle.pair_core.specs.declared.event.Event.{Event}
-use Rattle.pair_core.specs.declared.event.Event.TheVariants.{Step, GoLive, Protect}
-use Rattle.pair_core.specs.declared.event.Refusal.{Refusal}
-use Rattle.pair_core.specs.declared.event.Reply.{Reply}
-use Rattle.pair_core.specs.declared.event.Reply.TheVariants as replies
-use Rattle.pair_core.specs.Modes.{is_alone}
-use Rattle.pair_core.specs.Nodes.{Nodes}
+use Rattle.pair_core.specs.{declared.event.Event.Event, declared.event.Event.TheVariants.{Step, GoLive, Protect}}
+use Rattle.pair_core.specs.{declared.event.Refusal.Refusal, declared.event.Reply.Reply, Modes.is_alone, Nodes.Nodes}
 use Rattle.pair_core.specs.Protocol.{Record, Outcome, refused}
 use Rattle.pair_core.specs.Replication.{to_come, number_after, next_number, IsCut, IsCommit, KeepsBackup, Replicates}
-use Rattle.pair_core.proofs.Ends.{Ends}
-use Rattle.pair_core.proofs.ModeLaws.{backup_goes, stop_goes}
+use Rattle.pair_core.proofs.{Ends.Ends, ModeLaws.{backup_goes, stop_goes}}
+use Rattle.pair_core.specs.declared.event.Reply.TheVariants as replies
 
 -- The places of the guests to come
 
@@ -93,8 +87,7 @@ module _ (start : HistoryState) (r : Record) (x y : Nodes) where
   -- the backup stays, and the mode
   kept : (event : Event) (o : Outcome) → o.1.generation ≡ r.generation → o.1.mode ≡ r.mode → Tells r o.0 o.1
       → (Replicates event o.0 x y → KeepsBackup x y) → Goes r x y event o
-  kept event o generation mode tells keeps =
-      same event o generation (λ e. ap is_alone (sym mode) ∙ e) tells (λ k. stays_kept x y (keeps k))
+  kept event o generation mode tells keeps = same event o generation (λ e. ap is_alone (sym mode) ∙ e) tells (λ k. stays_kept x y (keeps k))
 
   pub goes_all : Ends start r (λ event es o. Goes r x y event o)
   goes_all = record {

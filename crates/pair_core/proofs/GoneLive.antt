@@ -1,35 +1,17 @@
 -- Where the backup goes live: what was kept is discarded, and the guest is the history's.
-use Rattle.std.proofs.Common.{rules}
-use Rattle.std.proofs.Common.{◌≡◌, ℕ, zero, suc, ◌+◌, ◌<◌, ◌≤◌, List, [], ◌∷◌, ◌++◌, length, replicate, refl, sym, ap, ◌∙◌, subst, arith}
-use Rattle.std.proofs.Common.{Bool, true, false, cond}
+use Rattle.std.proofs.Common.{rules, ◌≡◌, ℕ, zero, suc, ◌+◌, ◌<◌, ◌≤◌, List, [], ◌∷◌, ◌++◌, length, replicate, refl, sym, ap, ◌∙◌, subst}
+use Rattle.std.proofs.{Common.{arith, Bool, true, false, cond}, lemmas.Bool.Decides.nat_tests}
 use Rattle.std.specs.Prelude.{map, remove, nat_lt}
-use Rattle.std.proofs.lemmas.Bool.Decides.{nat_tests}
-use Rattle.frame_ports.specs.Addresses.{targets_of}
-use Rattle.frame_ports.specs.Lands.{list_of, with_list}
-use Rattle.frame_ports.specs.declared.limits.TheConstants.{NUMBER_LIMIT}
+use Rattle.frame_ports.specs.{Addresses.targets_of, Lands.{list_of, with_list}, declared.limits.TheConstants.NUMBER_LIMIT}
 use Rattle.output_gate.specs.Epochs.{Epoch, frames_of}
-use Rattle.pair_history.specs.Entries.{Frame, Entry, DropIn, DropOut}
-use Rattle.pair_history.specs.Failures.{drops_of_owed_from, go_live_entries}
-use Rattle.pair_history.specs.HistoryState.{HistoryState, after, at, out_of, Legal}
-use Rattle.pair_history.specs.Landings.{DropsAreKnown}
-use Rattle.pair_history.specs.Moves.{left}
-use Rattle.pair_history.specs.Order.{AreGuests}
-use Rattle.pair_history.proofs.FailureLaws.{goes_live, AreGuests-moves}
-use Rattle.pair_history.proofs.LandingLaws.{AllClients, AllClients-targets}
-use Rattle.pair_history.proofs.Losses.{AreRising-left}
-use Rattle.pair_history.proofs.Moves.{Legal-moves}
-use Rattle.pair_history.proofs.States.{at-append, Legal-append, DropsAreKnown-append}
-use Rattle.pair_core.specs.Invariant.{frames_by_epoch, AreNodes, AreClients, Holds}
-use Rattle.pair_core.specs.Journal.{kept_entries}
-use Rattle.pair_core.specs.Modes.{is_alone}
-use Rattle.pair_core.specs.Nodes.{HasShape, gone_live}
-use Rattle.pair_core.specs.Pair.{Pair, shown_state}
-use Rattle.pair_core.specs.Protocol.{go_live_done}
-use Rattle.pair_core.specs.Record.{owed_to}
+use Rattle.pair_history.specs.{Entries.{Frame, Entry, DropIn, DropOut}, Failures.{drops_of_owed_from, go_live_entries}}
+use Rattle.pair_history.specs.{HistoryState.{HistoryState, after, at, out_of, Legal}, Landings.DropsAreKnown, Moves.left, Order.AreGuests}
+use Rattle.pair_history.proofs.{FailureLaws.{goes_live, AreGuests-moves}, LandingLaws.{AllClients, AllClients-targets}}
+use Rattle.pair_history.proofs.{Losses.AreRising-left, Moves.Legal-moves, States.{at-append, Legal-append, DropsAreKnown-append}}
+use Rattle.pair_core.specs.{Invariant.{frames_by_epoch, AreNodes, AreClients, Holds}, Journal.kept_entries, Modes.is_alone}
+use Rattle.pair_core.specs.{Nodes.{HasShape, gone_live}, Pair.{Pair, shown_state}, Protocol.go_live_done, Record.owed_to}
 use Rattle.pair_core.specs.Window.{committed_of, uncommitted_of, committed_count, none_pending}
-use Rattle.pair_core.proofs.AllLands.{take-none, drop-none}
-use Rattle.pair_core.proofs.Consistent.{kept_is, live_waiting}
-use Rattle.pair_core.proofs.Events.{kept_moves, left_now}
+use Rattle.pair_core.proofs.{AllLands.{take-none, drop-none}, Consistent.{kept_is, live_waiting}, Events.{kept_moves, left_now}}
 
 -- WHAT IT DROPS is what the kept entries took in, and what is next on its way to a client
 
@@ -120,8 +102,7 @@ module _ (w : Pair) (h : Holds w) (two : is_alone w.protocol.mode ≡ false) (so
           running_are = refl;
           can = tt;
         };
-        nodes =
-            rw shown nodes;
+        nodes = rw shown nodes;
         clients = rw shown clients;
         owed =
             ap (λ (t : HistoryState). t.out) shown

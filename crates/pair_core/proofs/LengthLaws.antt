@@ -1,14 +1,11 @@
 -- Landings by the lengths of the boxes are landings.
 use Rattle.std.proofs.Common.{◌≡◌, ℕ, zero, suc, ◌+◌, ◌-◌, ◌<◌, ◌≤◌, List, [], ◌∷◌, ◌++◌, length, get_or, set, refl, sym, ap, ◌∙◌, subst}
-use Rattle.std.proofs.Common.{arith, Bool, true, false, cond, inl, inr}
-use Rattle.std.specs.Prelude.{map, nat_lt}
-use Rattle.std.proofs.lemmas.List.{get_or-set_same, get_or-set_other}
+use Rattle.std.proofs.{Common.{arith, Bool, true, false, cond, inl, inr}, lemmas.List.{get_or-set_same, get_or-set_other}}
 use Rattle.std.proofs.lemmas.Bool.Decides.{eqb_tells}
-use Rattle.frame_ports.specs.Addresses.{targets_of, paired_with, clients_of}
-use Rattle.frame_ports.specs.Lands.{list_of, with_list, has_room, landed_at}
+use Rattle.std.specs.Prelude.{map, nat_lt}
+use Rattle.frame_ports.specs.{Addresses.{targets_of, paired_with, clients_of}, Lands.{list_of, with_list, has_room, landed_at}}
 use Rattle.frame_ports.specs.declared.limits.TheConstants.{BOX_FRAMES}
-use Rattle.pair_history.specs.Entries.{Frame, Land, DropOut}
-use Rattle.pair_history.specs.Landings.{landings}
+use Rattle.pair_history.specs.{Entries.{Frame, Land, DropOut}, Landings.landings}
 use Rattle.pair_core.specs.Lengths.{receivers, has_space, lengths_at, lengths_after, landing_by, landings_by, AreLengths}
 use Rattle.pair_history.proofs.LandingLaws.{AllClients, AllClients-targets, length-landed_at, length-set'}
 

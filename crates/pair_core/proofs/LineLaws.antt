@@ -1,13 +1,10 @@
 -- Laws of the lines.
 use Rattle.std.proofs.Common.{◌≡◌, ℕ, zero, suc, ◌+◌, ◌-◌, ◌<◌, List, [], ◌∷◌, ◌++◌, length, refl, sym, ap, ◌∙◌, arith, append_assoc}
-use Rattle.std.proofs.Common.{Result, Ok, Err, OnOk, OnErr}
-use Rattle.std.proofs.lemmas.List.{map-append}
+use Rattle.std.proofs.{Common.{Result, Ok, Err, OnOk, OnErr}, lemmas.List.map-append}
 use Rattle.std.specs.Prelude.{map, Option, None, Some, slice_get, slice_index_or}
 use Rattle.lossy_line.specs.Lines.{Packets}
 use Rattle.output_gate.specs.Epochs.{Epoch}
-use Rattle.pair_core.specs.declared.event.Packet.{Packet}
-use Rattle.pair_core.specs.Lines.{packet, packet_of, packets_from}
-use Rattle.pair_core.specs.LinesFields.{packets_of, KeepsAll}
+use Rattle.pair_core.specs.{declared.event.Packet.Packet, Lines.{packet, packet_of, packets_from}, LinesFields.{packets_of, KeepsAll}}
 use Rattle.pair_core.specs.Window.{NumberedFrom}
 
 -- the next packet, and those behind it

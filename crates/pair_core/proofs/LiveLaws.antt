@@ -1,43 +1,25 @@
 -- What going live adds to the history, as the loops over it want it; and what is true of the record after it.
-use Rattle.std.proofs.Common.{rules}
-use Rattle.std.proofs.Common.{◌≡◌, ℕ, zero, suc, ◌+◌, ◌-◌, ◌<◌, ◌≤◌, List, [], ◌∷◌, ◌++◌, length, drop, replicate, get_or}
-use Rattle.std.proofs.Common.{refl, sym, ap, ◌∙◌, arith, append_assoc, Bool, true, false, cond, Option, Some, None}
-use Rattle.std.specs.Prelude.{map, nat_le, filter, ◌&&◌}
-use Rattle.std.specs.List.Sorted.{IsPermutation, IsNonDecreasing}
-use Rattle.std.proofs.Math.Seq.{drop-cons}
+use Rattle.std.proofs.Common.{rules, ◌≡◌, ℕ, zero, suc, ◌+◌, ◌-◌, ◌<◌, ◌≤◌, List, [], ◌∷◌, ◌++◌, length, drop, replicate, get_or, refl, sym}
+use Rattle.std.proofs.{Common.{ap, ◌∙◌, arith, append_assoc, Bool, true, false, cond, Option, Some, None}, Math.Seq.drop-cons}
 use Rattle.std.proofs.lemmas.Bool.Decides.{nat_tests}
 use Rattle.std.proofs.lemmas.List.{append-nil, length-append, length-map, length-replicate, length-take-le, nil_from_length}
 use Rattle.std.proofs.lemmas.List.Sorted.{length_permutation}
-use Rattle.frame_ports.specs.Addresses.{addressed, targets_of}
-use Rattle.frame_ports.specs.Lands.{list_of}
-use Rattle.frame_ports.specs.Targets.{has_target, AreTargets}
+use Rattle.std.specs.{Prelude.{map, nat_le, filter, ◌&&◌}, List.Sorted.{IsPermutation, IsNonDecreasing}}
+use Rattle.frame_ports.specs.{Addresses.{addressed, targets_of}, Lands.list_of, Targets.{has_target, AreTargets}}
 use Rattle.frame_ports.specs.declared.limits.TheConstants.{NUMBER_LIMIT}
 use Rattle.output_gate.specs.Epochs.{Epoch, frames_of, frames_to}
-use Rattle.pair_history.specs.Entries.{Frame, Entry, Arrive, DropIn, DropOut}
-use Rattle.pair_history.specs.HistoryState.{HistoryState, out_of, start_state}
+use Rattle.pair_history.specs.{Entries.{Frame, Entry, Arrive, DropIn, DropOut}, HistoryState.{HistoryState, out_of, start_state}}
 use Rattle.pair_history.specs.Failures.{arrived_numbers, drops_of_owed_from}
-use Rattle.pair_history.proofs.AddressedLaws.{out_of-targets}
-use Rattle.pair_history.proofs.LandingLaws.{AllClients-targets}
-use Rattle.pair_history.proofs.OwedLaws.{owed_dropped}
-use Rattle.pair_history.proofs.SortedLaws.{rising-sorted}
-use Rattle.pair_history.proofs.TakenInLaws.{IsPermutation-rising}
-use Rattle.pair_core.specs.declared.epochs.Arrival.{Arrival}
-use Rattle.pair_core.specs.declared.epochs.RunningEpoch.{RunningEpoch}
-use Rattle.pair_core.specs.declared.event.Packet.{Packet}
-use Rattle.pair_core.specs.declared.event.Refusal.{Refusal}
-use Rattle.pair_core.specs.declared.event.Refusal.TheVariants.{Exhausted}
-use Rattle.pair_core.specs.declared.journal.Journal.TheInside.{Inside}
-use Rattle.pair_core.specs.declared.window.Window.{Window}
+use Rattle.pair_history.proofs.{AddressedLaws.out_of-targets, LandingLaws.AllClients-targets, OwedLaws.owed_dropped}
+use Rattle.pair_history.proofs.{SortedLaws.rising-sorted, TakenInLaws.IsPermutation-rising}
+use Rattle.pair_core.specs.{declared.epochs.Arrival.Arrival, declared.epochs.RunningEpoch.RunningEpoch, declared.event.Packet.Packet}
+use Rattle.pair_core.specs.{declared.event.Refusal.Refusal, declared.event.Refusal.TheVariants.Exhausted}
+use Rattle.pair_core.specs.{declared.journal.Journal.TheInside.Inside, declared.window.Window.Window}
 use Rattle.pair_core.specs.Arrivals.{steps_of, arrivals_of, epoch_entries, numbers_of, numbers_in}
-use Rattle.pair_core.specs.Journal.{Journal, joined, kept_entries}
-use Rattle.pair_core.specs.JournalFields.{epoch_of, stored, AreFields}
-use Rattle.pair_core.specs.Lengths.{receivers}
-use Rattle.pair_core.specs.Lines.{AreBelow}
-use Rattle.pair_core.specs.Protocol.{Record, first_refusal, live_entries, go_live_refusals, go_live_done}
-use Rattle.pair_core.specs.Record.{RecordState, owed_to, IsRecord}
-use Rattle.pair_core.specs.Window.{IsWindow, first_after, committed_count, committed_of}
-use Rattle.pair_core.proofs.LengthLaws.{length-receivers}
-use Rattle.pair_core.proofs.WindowLaws.{within, leaves, gone}
+use Rattle.pair_core.specs.{Journal.{Journal, joined, kept_entries}, JournalFields.{epoch_of, stored, AreFields}, Lengths.receivers}
+use Rattle.pair_core.specs.{Lines.AreBelow, Protocol.{Record, first_refusal, live_entries, go_live_refusals, go_live_done}}
+use Rattle.pair_core.specs.{Record.{RecordState, owed_to, IsRecord}, Window.{IsWindow, first_after, committed_count, committed_of}}
+use Rattle.pair_core.proofs.{LengthLaws.length-receivers, WindowLaws.{within, leaves, gone}}
 
 test_from : (a b : ℕ) → a ≤ b → nat_le a b ≡ true
 test_from a b h = grind (arith, nat_tests)

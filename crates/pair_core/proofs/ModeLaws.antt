@@ -1,9 +1,8 @@
 -- What follows from a mode that doesn't refuse an event.
 use Rattle.std.proofs.Common.{◌≡◌, refl, Bool, true, false, None}
-use Rattle.failover.specs.declared.mode.Mode.{Mode}
-use Rattle.failover.specs.declared.mode.Mode.TheVariants.{Filling, Alone, Stopped}
-use Rattle.pair_core.specs.Modes.{is_stopped, is_alone, is_filling, filled, primary_refusal, backup_refusal, stop_refusal}
-use Rattle.pair_core.specs.Modes.{live_refusal, protect_refusal}
+use Rattle.failover.specs.{declared.mode.Mode.Mode, declared.mode.Mode.TheVariants.{Filling, Alone, Stopped}}
+use Rattle.pair_core.specs.Modes.{is_stopped, is_alone, is_filling, filled, primary_refusal, backup_refusal, stop_refusal, live_refusal}
+use Rattle.pair_core.specs.Modes.{protect_refusal}
 
 pub clash : (t : Bool) → t ≡ true → t ≡ false → ⊥
 clash t e f = cc

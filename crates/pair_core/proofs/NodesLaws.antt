@@ -1,33 +1,19 @@
 -- What the two nodes keep along steps, arrivals and cuts.
-use Rattle.std.proofs.Common.{rules}
-use Rattle.std.proofs.Common.{◌≡◌, ℕ, zero, suc, ◌+◌, ◌*◌, ◌/◌, ◌<◌, ◌≤◌, List, [], ◌∷◌, ◌++◌, length, refl, sym, ap, ◌∙◌}
-use Rattle.std.proofs.Common.{subst, arith, append_assoc, Bool, true, false}
-use Rattle.std.specs.Prelude.{slice_range}
-use Rattle.std.proofs.Math.Bridge.{le_prop}
+use Rattle.std.proofs.Common.{rules, ◌≡◌, ℕ, zero, suc, ◌+◌, ◌*◌, ◌/◌, ◌<◌, ◌≤◌, List, [], ◌∷◌, ◌++◌, length, refl, sym, ap, ◌∙◌, subst}
+use Rattle.std.proofs.{Common.{arith, append_assoc, Bool, true, false}, Math.Bridge.le_prop}
 use Rattle.std.proofs.lemmas.List.{append-nil, length-append, length-replicate}
-use Rattle.guest_machine.specs.Dirty.{is_in}
-use Rattle.guest_machine.specs.declared.shapes.Shape.{Shape}
-use Rattle.guest_machine.specs.Guest.{Guest, State, boot_guest}
-use Rattle.guest_machine.specs.Step.{next, arrived}
+use Rattle.std.specs.Prelude.{slice_range}
+use Rattle.guest_machine.specs.{Dirty.is_in, declared.shapes.Shape.Shape, Guest.{Guest, State, boot_guest}, Step.{next, arrived}}
 use Rattle.guest_machine.specs.Runs.{after_steps, marked_in}
-use Rattle.guest_machine.proofs.ApartLemmas.{arrived-apart}
-use Rattle.guest_machine.proofs.ListedLemmas.{run-listed}
+use Rattle.guest_machine.proofs.{ApartLemmas.arrived-apart, ListedLemmas.run-listed}
 use Rattle.guest_machine.proofs.MemoryLemmas.{boot-kept, next-kept, arrived-kept, next-disk_bytes}
-use Rattle.epoch_snapshot.specs.Bases.{IsBase, IsCut}
-use Rattle.epoch_snapshot.specs.Checkpoints.{Change}
-use Rattle.epoch_snapshot.specs.Cuts.{sector_of}
-use Rattle.epoch_snapshot.specs.Images.{image_of}
-use Rattle.checkpoint_stream.specs.declared.place.Place.TheVariants.{Whole}
-use Rattle.checkpoint_stream.specs.ReadBack.{ReadsBack}
-use Rattle.checkpoint_stream.specs.Readings.{begun, fed}
-use Rattle.checkpoint_stream.specs.Sound.{change_in}
-use Rattle.pair_history.specs.Entries.{Frame}
-use Rattle.pair_history.specs.Moves.{Move, Steps, Arrives, guest_along, frames_along}
+use Rattle.epoch_snapshot.specs.{Bases.{IsBase, IsCut}, Checkpoints.Change, Cuts.sector_of, Images.image_of}
+use Rattle.checkpoint_stream.specs.{declared.place.Place.TheVariants.Whole, ReadBack.ReadsBack, Readings.{begun, fed}, Sound.change_in}
+use Rattle.pair_history.specs.{Entries.Frame, Moves.{Move, Steps, Arrives, guest_along, frames_along}}
 use Rattle.pair_history.proofs.Moves.{guest_along-append}
 use Rattle.pair_core.specs.Invariant.{all_moves, first_moves, epoch_frames, AreSealed, AreNodes, IsBacked}
-use Rattle.pair_core.specs.Nodes.{Node, Nodes, HasShape, node_of, machine_of, just_settled, start_nodes}
-use Rattle.pair_core.specs.Nodes.{after_run, with_arrival, with_sealed, first_text, later_texts, read_as}
-use Rattle.pair_core.specs.Texts.{IsText}
+use Rattle.pair_core.specs.Nodes.{Node, Nodes, HasShape, node_of, machine_of, just_settled, start_nodes, after_run, with_arrival}
+use Rattle.pair_core.specs.{Nodes.{with_sealed, first_text, later_texts, read_as}, Texts.IsText}
 
 -- Sizes
 

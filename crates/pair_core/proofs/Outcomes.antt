@@ -1,29 +1,19 @@
 -- What the protocol answers: what an event looks at is what the world has, and its table of refusals decides.
-use Rattle.std.proofs.Common.{rules}
-use Rattle.std.proofs.Common.{◌≡◌, ℕ, ◌≤◌, List, [], ◌∷◌, length, refl, sym, ap, ◌∙◌, arith, Bool, true, false, Option, None, Some}
-use Rattle.std.specs.Prelude.{slice_get, IfSome, nat_le, not}
+use Rattle.std.proofs.Common.{rules, ◌≡◌, ℕ, ◌≤◌, List, [], ◌∷◌, length, refl, sym, ap, ◌∙◌, arith, Bool, true, false, Option, None, Some}
 use Rattle.std.proofs.lemmas.Bool.Decides.{nat_tests}
+use Rattle.std.specs.Prelude.{slice_get, IfSome, nat_le, not}
 use Rattle.guest_machine.specs.Step.{next, sent}
-use Rattle.frame_ports.specs.Lands.{list_of}
-use Rattle.frame_ports.specs.Addresses.{IsFrame}
-use Rattle.frame_ports.specs.declared.limits.TheConstants.{INBOX_FRAMES, NUMBER_LIMIT}
-use Rattle.pair_history.specs.Entries.{Frame}
-use Rattle.pair_history.specs.HistoryState.{inbox_of}
-use Rattle.pair_core.specs.declared.event.Event.TheVariants.{Admit}
-use Rattle.pair_core.specs.declared.event.Refusal.{Refusal}
-use Rattle.pair_core.specs.declared.event.Refusal.TheVariants.{Full, BadFrame, NoClient, Stopped}
-use Rattle.pair_core.specs.declared.event.Refusal.TheVariants.{Exhausted}
-use Rattle.pair_core.specs.declared.event.Reply.TheVariants as replies
-use Rattle.pair_core.specs.Invariant.{Holds}
-use Rattle.pair_core.specs.Modes.{is_stopped}
-use Rattle.pair_core.specs.Pair.{Pair, shown_state, live_state, AfterRefusal}
-use Rattle.pair_core.specs.Protocol.{Record, Outcome, Row, allowed, first_refusal, or_else, unless, refused, exhausts}
-use Rattle.pair_core.specs.Answering.{MayWantMemory}
-use Rattle.pair_core.specs.Protocol.{is_among, is_bad_length, step_outcome, step_outcome_at, cut_refusals, cut_done, outbox_of}
-use Rattle.pair_core.specs.Protocol.{fail_backup_outcome_at, admit_outcome_at, admit_first, admit_refusals, admit_done}
-use Rattle.pair_core.specs.Protocol.{arrival_refusals}
-use Rattle.pair_core.specs.Protocol.{deliver_outcome_at, deliver_refusals, delivery_refused, deliver_done}
+use Rattle.frame_ports.specs.{Lands.list_of, Addresses.IsFrame, declared.limits.TheConstants.{INBOX_FRAMES, NUMBER_LIMIT}}
+use Rattle.pair_history.specs.{Entries.Frame, HistoryState.inbox_of}
+use Rattle.pair_core.specs.{declared.event.Event.TheVariants.Admit, declared.event.Refusal.Refusal}
+use Rattle.pair_core.specs.{declared.event.Refusal.TheVariants.{Full, BadFrame, NoClient, Stopped, Exhausted}, Invariant.Holds}
+use Rattle.pair_core.specs.{Modes.is_stopped, Pair.{Pair, shown_state, live_state, AfterRefusal}}
+use Rattle.pair_core.specs.Protocol.{Record, Outcome, Row, allowed, first_refusal, or_else, unless, refused, exhausts, is_among}
+use Rattle.pair_core.specs.Protocol.{is_bad_length, step_outcome, step_outcome_at, cut_refusals, cut_done, outbox_of}
+use Rattle.pair_core.specs.Protocol.{fail_backup_outcome_at, admit_outcome_at, admit_first, admit_refusals, admit_done, arrival_refusals}
+use Rattle.pair_core.specs.{Protocol.{deliver_outcome_at, deliver_refusals, delivery_refused, deliver_done}, Answering.MayWantMemory}
 use Rattle.pair_core.proofs.Consistent.{live_is, live_waiting, outbox_is}
+use Rattle.pair_core.specs.declared.event.Reply.TheVariants as replies
 
 -- a table decides
 pub stops : (r : Record) (rows : List Row) (done : Outcome) (o : Option Refusal) (why : Refusal) → o ≡ first_refusal rows → o ≡ Some why

@@ -1,35 +1,20 @@
 -- What the public calls say, from what each event does.
-use Rattle.std.proofs.Common.{◌≡◌, ℕ, List, [], ◌∷◌, ◌++◌, sym, ap, ◌∙◌, append_assoc, Bool, true, false, Option}
-use Rattle.std.proofs.Common.{refl, None, Some, inl, inr, Result, Ok, Err, OnErr}
-use Rattle.std.specs.Prelude.{map, slice_get, IfOk}
-use Rattle.std.specs.declared.alloc.AllocError.{AllocError}
+use Rattle.std.proofs.Common.{◌≡◌, ℕ, List, [], ◌∷◌, ◌++◌, sym, ap, ◌∙◌, append_assoc, Bool, true, false, Option, refl, None, Some, inl}
+use Rattle.std.proofs.Common.{inr, Result, Ok, Err, OnErr}
+use Rattle.std.specs.{Prelude.{map, slice_get, IfOk}, declared.alloc.AllocError.AllocError}
 use Rattle.guest_machine.specs.Step.{sent}
 use Rattle.frame_ports.specs.Lands.{list_of}
-use Rattle.pair_history.specs.Entries.{Frame, Entry, Arrive, Took, Begins}
-use Rattle.pair_history.specs.HistoryState.{HistoryState}
-use Rattle.pair_history.specs.Landings.{DropsAtFull, DropsNone}
+use Rattle.pair_history.specs.{Entries.{Frame, Entry, Arrive, Took, Begins}, HistoryState.HistoryState, Landings.{DropsAtFull, DropsNone}}
 use Rattle.pair_history.specs.Moves.{Move, entries_of}
 use Rattle.pair_history.proofs.Moves.{DropsNone-moves}
-use Rattle.pair_core.specs.declared.event.Event.{Event}
-use Rattle.pair_core.specs.declared.event.Event.TheVariants.{Step}
-use Rattle.pair_core.specs.declared.event.Refusal.{Refusal}
-use Rattle.pair_core.specs.declared.event.Refusal.TheVariants.{NoMemory}
-use Rattle.pair_core.specs.declared.event.Reply.{Reply}
-use Rattle.pair_core.specs.declared.event.Reply.TheVariants as replies
-use Rattle.pair_core.specs.Answering.{Answers, MayWantMemory}
-use Rattle.pair_core.specs.Drops.{DropsOnly, Drops}
-use Rattle.pair_core.specs.Invariant.{Holds}
-use Rattle.pair_core.specs.Journal.{first_of}
-use Rattle.pair_core.specs.Modes.{is_alone}
-use Rattle.pair_core.specs.Pair.{Pair, shown_state, live_state}
-use Rattle.pair_core.specs.Protocol.{Record, outcome, step_entries}
-use Rattle.pair_core.specs.Record.{IsRecord}
+use Rattle.pair_core.specs.{declared.event.Event.Event, declared.event.Event.TheVariants.Step, declared.event.Refusal.Refusal}
+use Rattle.pair_core.specs.{declared.event.Refusal.TheVariants.NoMemory, declared.event.Reply.Reply, Answering.{Answers, MayWantMemory}}
+use Rattle.pair_core.specs.{Drops.{DropsOnly, Drops}, Invariant.Holds, Journal.first_of, Modes.is_alone}
+use Rattle.pair_core.specs.{Pair.{Pair, shown_state, live_state}, Protocol.{Record, outcome, step_entries}, Record.IsRecord}
 use Rattle.pair_core.specs.Runs.{Change, Along}
-use Rattle.pair_core.proofs.AllLands.{step_drops, failure_drops}
-use Rattle.pair_core.proofs.ClientEvents.{ack_lands}
-use Rattle.pair_core.proofs.Ends.{Ends, answers_end, at_once}
-use Rattle.pair_core.proofs.LossOutcomes.{within}
-use Rattle.pair_core.proofs.RecordLaws.{below_at}
+use Rattle.pair_core.proofs.{AllLands.{step_drops, failure_drops}, ClientEvents.ack_lands, Ends.{Ends, answers_end, at_once}}
+use Rattle.pair_core.proofs.{LossOutcomes.within, RecordLaws.below_at}
+use Rattle.pair_core.specs.declared.event.Reply.TheVariants as replies
 
 -- Each event lets the history grow by entries that drop what it may drop.
 
@@ -99,8 +84,7 @@ Begins-trans a b c p q = (p.0 ++ q.0, q.1 ∙ ap (λ t. t ++ q.0) p.1 ∙ append
 pub Along-more : (Does : Change) (start : HistoryState) (events : List Event) (replies : List Reply) (old mid new : Record)
     (event : Event) (reply : Reply) → Along Does start old events replies mid → Does start mid event reply new
     → Along Does start old (events ++ event ∷ []) (replies ++ reply ∷ []) new
-Along-more Does start [] [] old mid new event reply run step =
-    (new, rw (← run) step, refl)
+Along-more Does start [] [] old mid new event reply run step = (new, rw (← run) step, refl)
 Along-more Does start [] (r ∷ replies) old mid new event reply run step = absurd run
 Along-more Does start (e ∷ events) [] old mid new event reply run step = absurd run
 Along-more Does start (e ∷ events) (r ∷ replies) old mid new event reply run step =

@@ -1,11 +1,8 @@
 -- Laws of the clients to whom frames go, as the loops over them want them.
-use Rattle.std.proofs.Common.{rules}
-use Rattle.std.proofs.Common.{◌≡◌, ℕ, zero, suc, ◌+◌, ◌-◌, ◌<◌, ◌≤◌, List, [], ◌∷◌, ◌++◌, length, drop, get_or, refl, sym, ap, ◌∙◌, arith}
-use Rattle.std.proofs.Common.{append_assoc, true, false, cond}
+use Rattle.std.proofs.Common.{rules, ◌≡◌, ℕ, zero, suc, ◌+◌, ◌-◌, ◌<◌, ◌≤◌, List, [], ◌∷◌, ◌++◌, length, drop, get_or, refl, sym, ap, ◌∙◌}
+use Rattle.std.proofs.{Common.{arith, append_assoc, true, false, cond}, lemmas.Bool.Decides.nat_tests}
 use Rattle.std.specs.Prelude.{nat_le, ◌&&◌}
-use Rattle.std.proofs.lemmas.Bool.Decides.{nat_tests}
-use Rattle.frame_ports.specs.Addresses.{addressed, clients_from, clients_of}
-use Rattle.frame_ports.specs.Targets.{has_target, AreTargets}
+use Rattle.frame_ports.specs.{Addresses.{addressed, clients_from, clients_of}, Targets.{has_target, AreTargets}}
 use Rattle.pair_history.specs.Entries.{Frame, Entry}
 use Rattle.pair_core.specs.Lengths.{receivers, landing_by, landings_by, lengths_at, lengths_after}
 use Rattle.pair_core.proofs.LengthLaws.{landings_by-append}

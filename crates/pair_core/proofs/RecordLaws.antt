@@ -1,30 +1,19 @@
 -- Each event leaves what is true of every record, and what the tables of refusals say.
-use Rattle.std.proofs.Common.{rules}
-use Rattle.std.proofs.Common.{◌≡◌, ℕ, zero, suc, ◌+◌, ◌-◌, ◌<◌, ◌≤◌, List, [], ◌∷◌, ◌++◌, length, get_or, refl, ap, ◌∙◌, arith}
-use Rattle.std.proofs.Common.{Bool, true, false, cond, Option, None, Some}
-use Rattle.std.specs.Prelude.{map, slice_get, IfSome, nat_le, ◌==◌, not}
-use Rattle.std.proofs.lemmas.Bool.{eq-eqb}
-use Rattle.std.proofs.lemmas.Bool.Decides.{nat_tests}
+use Rattle.std.proofs.Common.{rules, ◌≡◌, ℕ, zero, suc, ◌+◌, ◌-◌, ◌<◌, ◌≤◌, List, [], ◌∷◌, ◌++◌, length, get_or, refl, ap, ◌∙◌, arith, Bool}
+use Rattle.std.proofs.{Common.{true, false, cond, Option, None, Some}, lemmas.Bool.eq-eqb, lemmas.Bool.Decides.nat_tests}
 use Rattle.std.proofs.lemmas.List.{length-append}
-use Rattle.failover.specs.declared.mode.Mode.{Mode}
-use Rattle.failover.specs.declared.mode.Mode.TheVariants.{Paired, Filling, Alone, Stopped}
+use Rattle.std.specs.Prelude.{map, slice_get, IfSome, nat_le, ◌==◌, not}
+use Rattle.failover.specs.{declared.mode.Mode.Mode, declared.mode.Mode.TheVariants.{Paired, Filling, Alone, Stopped}}
 use Rattle.frame_ports.specs.declared.limits.TheConstants.{NUMBER_LIMIT}
 use Rattle.output_gate.specs.Epochs.{Epoch, frames_to, after_number}
 use Rattle.pair_history.specs.Entries.{Frame, Entry}
-use Rattle.pair_core.specs.declared.event.Packet.{Packet}
-use Rattle.pair_core.specs.declared.event.Refusal.TheVariants.{Exhausted}
-use Rattle.pair_core.specs.declared.window.Window.{Window}
-use Rattle.pair_core.specs.Journal.{all_entries, rest_of}
-use Rattle.pair_core.specs.Lengths.{receivers}
-use Rattle.pair_core.specs.Lines.{packet_of, packets_from, AreBelow}
+use Rattle.pair_core.specs.{declared.event.Packet.Packet, declared.event.Refusal.TheVariants.Exhausted, declared.window.Window.Window}
+use Rattle.pair_core.specs.{Journal.{all_entries, rest_of}, Lengths.receivers, Lines.{packet_of, packets_from, AreBelow}}
 use Rattle.pair_core.specs.Modes.{is_alone, is_filling, filled}
-use Rattle.pair_core.specs.Protocol.{Record, first_refusal, cut_refusals, ack_refusals, exhausts, cut_done, send_done}
-use Rattle.pair_core.specs.Protocol.{again_done, commit_done, ack_done}
-use Rattle.pair_core.specs.Record.{IsRecord, SuitsMode}
+use Rattle.pair_core.specs.Protocol.{Record, first_refusal, cut_refusals, ack_refusals, exhausts, cut_done, send_done, again_done}
+use Rattle.pair_core.specs.{Protocol.{commit_done, ack_done}, Record.{IsRecord, SuitsMode}}
 use Rattle.pair_core.specs.Window.{NumberedFrom, with_commit, with_acknowledged}
-use Rattle.pair_core.proofs.LengthLaws.{length-receivers}
-use Rattle.pair_core.proofs.ModeLaws.{clash, filled_alone}
-use Rattle.pair_core.proofs.LineLaws.{packets_from-numbered}
+use Rattle.pair_core.proofs.{LengthLaws.length-receivers, ModeLaws.{clash, filled_alone}, LineLaws.packets_from-numbered}
 use Rattle.pair_core.proofs.WindowLaws.{numbered_below, cut_window, commit_window, ack_window}
 
 -- Tables of refusals

@@ -1,22 +1,15 @@
 -- What a cut and a commit do to the guests that the image will be.
-use Rattle.std.proofs.Common.{rules}
-use Rattle.std.proofs.Common.{◌≡◌, ℕ, suc, ◌+◌, ◌-◌, ◌<◌, List, [], ◌∷◌, ◌++◌, length, refl, sym, ap, ◌∙◌, arith, append_assoc}
-use Rattle.std.proofs.Common.{Bool, true, false, Some}
-use Rattle.failover.specs.declared.mode.Mode.{Mode}
-use Rattle.failover.specs.declared.mode.Mode.TheVariants.{Paired, Filling, Alone, Stopped}
-use Rattle.guest_machine.specs.declared.shapes.Shape.{Shape}
-use Rattle.guest_machine.specs.Guest.{Guest}
+use Rattle.std.proofs.Common.{rules, ◌≡◌, ℕ, suc, ◌+◌, ◌-◌, ◌<◌, List, [], ◌∷◌, ◌++◌, length, refl, sym, ap, ◌∙◌, arith, append_assoc, Bool}
+use Rattle.std.proofs.Common.{true, false, Some}
+use Rattle.failover.specs.{declared.mode.Mode.Mode, declared.mode.Mode.TheVariants.{Paired, Filling, Alone, Stopped}}
+use Rattle.guest_machine.specs.{declared.shapes.Shape.Shape, Guest.Guest}
 use Rattle.backup_image.specs.Images.{empty_image}
-use Rattle.epoch_snapshot.specs.Checkpoints.{Change}
-use Rattle.epoch_snapshot.specs.Images.{image_of}
-use Rattle.pair_history.specs.Entries.{Entry}
-use Rattle.pair_history.specs.HistoryState.{HistoryState, at}
+use Rattle.epoch_snapshot.specs.{Checkpoints.Change, Images.image_of}
+use Rattle.pair_history.specs.{Entries.Entry, HistoryState.{HistoryState, at}}
 use Rattle.pair_history.proofs.States.{at-append}
 use Rattle.pair_core.specs.Journal.{joined, kept_entries, first_of, rest_of}
-use Rattle.pair_core.specs.Nodes.{Nodes, Fills, with_sealed, with_commit, with_protected, read_as}
-use Rattle.pair_core.specs.Modes.{is_alone, is_filling, filled}
-use Rattle.pair_core.specs.Pair.{Pair, HasBackup, ImageFollows, shown_state, live_state}
-use Rattle.pair_core.specs.Protocol.{cut_done, commit_done}
+use Rattle.pair_core.specs.{Nodes.{Nodes, Fills, with_sealed, with_commit, with_protected, read_as}, Modes.{is_alone, is_filling, filled}}
+use Rattle.pair_core.specs.{Pair.{Pair, HasBackup, ImageFollows, shown_state, live_state}, Protocol.{cut_done, commit_done}}
 use Rattle.pair_core.specs.Record.{IsRecord, SuitsMode}
 use Rattle.pair_core.specs.Replication.{guests_of, to_come, number_after, next_number, IsCut, IsCommit, IsProtected}
 use Rattle.pair_core.specs.Texts.{IsText, AreTexts}
@@ -71,8 +64,7 @@ module _ (w : Pair) (b : HasBackup w) where
       by_mode : (t : Bool) → is_filling w.protocol.mode ≡ t
           → to_come w.nodes ≡ guests_of w.nodes.image.shape (shown_state w).guest w.nodes.sealed
       by_mode false e = ap (λ (g : Guest). guests_of w.nodes.image.shape g w.nodes.sealed) (b.follows e).image
-      by_mode true e =
-          from-any (at (shown_state w) (first_of w.protocol.journal.sealed)).guest (shown_state w).guest w.nodes (b.filling e)
+      by_mode true e = from-any (at (shown_state w) (first_of w.protocol.journal.sealed)).guest (shown_state w).guest w.nodes (b.filling e)
 
   -- the image takes the next checkpoint to be committed next
   next-number : is_alone w.protocol.mode ≡ false → SuitsMode w.protocol.mode w.protocol.window

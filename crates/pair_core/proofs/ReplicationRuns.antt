@@ -1,16 +1,11 @@
 -- Along a run each guest to come keeps its place, until the checkpoint that makes it is committed.
-use Rattle.std.proofs.Common.{◌≡◌, ℕ, List, [], ◌∷◌, ◌++◌, length, refl, sym, ap, ◌∙◌, subst, arith}
-use Rattle.std.proofs.Common.{Some}
+use Rattle.std.proofs.Common.{◌≡◌, ℕ, List, [], ◌∷◌, ◌++◌, length, refl, sym, ap, ◌∙◌, subst, arith, Some}
 use Rattle.std.specs.Prelude.{slice_get}
 use Rattle.guest_machine.specs.Guest.{Guest}
-use Rattle.pair_core.specs.declared.event.Event.{Event}
-use Rattle.pair_core.specs.declared.event.Event.TheVariants.{Cut, BackupGet, Protect}
-use Rattle.pair_core.specs.declared.event.Reply.{Reply}
+use Rattle.pair_core.specs.{declared.event.Event.Event, declared.event.Event.TheVariants.{Cut, BackupGet, Protect}}
+use Rattle.pair_core.specs.{declared.event.Reply.Reply, Pair.Pair, Replication.{to_come, number_after, next_number, Awaits, Does, Leads}}
+use Rattle.pair_core.proofs.{Ends.answers_end, Generations.{Goes, goes_all, next-same}}
 use Rattle.pair_core.specs.declared.event.Reply.TheVariants as replies
-use Rattle.pair_core.specs.Pair.{Pair}
-use Rattle.pair_core.specs.Replication.{to_come, number_after, next_number, Awaits, Does, Leads}
-use Rattle.pair_core.proofs.Ends.{answers_end}
-use Rattle.pair_core.proofs.Generations.{Goes, goes_all, next-same}
 
 -- a run goes on by one event
 pub Leads-more : (events : List Event) (replies : List Reply) (old mid new : Pair) (event : Event) (reply : Reply)
@@ -46,8 +41,7 @@ module _ (generation number : ℕ) (g : Guest) where
   waits_along [] [] old new l p = subst (Awaits generation number g) (sym l) p
   waits_along [] (r ∷ replies) old new l p = absurd l
   waits_along (e ∷ events) [] old new l p = absurd l
-  waits_along (e ∷ events) (r ∷ replies) old new l p =
-      waits_along events replies l.0 new l.2 (waits_event e r old l.0 l.1 p)
+  waits_along (e ∷ events) (r ∷ replies) old new l p = waits_along events replies l.0 new l.2 (waits_event e r old l.0 l.1 p)
 
   pub comes : (k : ℕ) (old new : Pair) → Does old (BackupGet k) (replies.Committed generation number) new
       → Awaits generation number g old → new.nodes.image.guest ≡ g

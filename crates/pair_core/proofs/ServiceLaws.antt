@@ -1,28 +1,17 @@
 -- What one event is to the clients, from what the pair knows of it.
-use Rattle.std.proofs.Common.{◌≡◌, List, [], ◌∷◌, ◌++◌, refl, sym, ap, ◌∙◌, inl, inr}
-use Rattle.std.specs.Prelude.{All}
-use Rattle.std.proofs.lemmas.List.{append-nil, append_cancel_left}
+use Rattle.std.proofs.{Common.{◌≡◌, List, [], ◌∷◌, ◌++◌, refl, sym, ap, ◌∙◌, inl, inr}, lemmas.List.{append-nil, append_cancel_left}}
 use Rattle.std.proofs.lemmas.List.Elements.{All-head, All-tail}
+use Rattle.std.specs.Prelude.{All}
 use Rattle.guest_machine.specs.Guest.{Guest}
-use Rattle.pair_history.specs.Entries.{Entry}
-use Rattle.pair_history.specs.HistoryState.{HistoryState, after, at}
+use Rattle.pair_history.specs.{Entries.Entry, HistoryState.{HistoryState, after, at}}
 use Rattle.pair_history.proofs.States.{at-append, Legal-append}
-use Rattle.pair_core.specs.declared.event.Event.{Event}
-use Rattle.pair_core.specs.declared.event.Event.TheVariants.{GoLive}
-use Rattle.pair_core.specs.declared.event.Refusal.{Refusal}
-use Rattle.pair_core.specs.declared.event.Refusal.TheVariants.{NoMemory}
-use Rattle.pair_core.specs.declared.event.Reply.{Reply}
+use Rattle.pair_core.specs.{declared.event.Event.Event, declared.event.Event.TheVariants.GoLive, declared.event.Refusal.Refusal}
+use Rattle.pair_core.specs.{declared.event.Refusal.TheVariants.NoMemory, declared.event.Reply.Reply, Drops.Drops, Journal.kept_entries}
+use Rattle.pair_core.specs.{Modes.mode_refusal, Pair.{Pair, IsConsistent}}
+use Rattle.pair_core.specs.Protocol.{Record, Outcome, refused, first_refusal, shown_at, live_at, live_entries, go_live_refusals}
+use Rattle.pair_core.specs.{Protocol.go_live_done, Answering.Answers, Service.{moment, Resumes, Serves}}
+use Rattle.pair_core.proofs.{Ends.{by_table, answers_end}, Tells.{live_all, tells_all}}
 use Rattle.pair_core.specs.declared.event.Reply.TheVariants as replies
-use Rattle.pair_core.specs.Drops.{Drops}
-use Rattle.pair_core.specs.Journal.{kept_entries}
-use Rattle.pair_core.specs.Modes.{mode_refusal}
-use Rattle.pair_core.specs.Pair.{Pair, IsConsistent}
-use Rattle.pair_core.specs.Protocol.{Record, Outcome, refused, first_refusal, shown_at, live_at, live_entries}
-use Rattle.pair_core.specs.Answering.{Answers}
-use Rattle.pair_core.specs.Protocol.{go_live_refusals, go_live_done}
-use Rattle.pair_core.specs.Service.{moment, Resumes, Serves}
-use Rattle.pair_core.proofs.Ends.{by_table, answers_end}
-use Rattle.pair_core.proofs.Tells.{live_all, tells_all}
 
 -- drops leave the guest as it was
 abbrev Keeps : Entry → Type 0
@@ -30,8 +19,7 @@ Keeps e = (t : HistoryState) → (after t e).guest ≡ t.guest
 
 drops_guest : (s : HistoryState) (es : List Entry) → All Keeps es → (at s es).guest ≡ s.guest
 drops_guest s [] p = refl
-drops_guest s (e ∷ es) p =
-    drops_guest (after s e) es (All-tail Keeps e es p) ∙ All-head Keeps e es p s
+drops_guest s (e ∷ es) p = drops_guest (after s e) es (All-tail Keeps e es p) ∙ All-head Keeps e es p s
 
 -- A backup that goes live goes on with the guest of the history, as its reply says.
 module _ (start : HistoryState) (r : Record) (w : Pair) (live : w.nodes.live.guest ≡ (live_at start w.protocol).guest) where
@@ -75,8 +63,7 @@ pub serves : (old new : Pair) (event : Event) (reply : Reply) → new.start ≡ 
 serves old new event reply e before k d =
     let h = new.protocol.journal.history in
     let ahead = kept_entries new.protocol.journal in
-    let told =
-    answers_end old.start old.protocol _ (tells_all old.start old.protocol before.kept) event reply new.protocol d.answers in
+    let told = answers_end old.start old.protocol _ (tells_all old.start old.protocol before.kept) event reply new.protocol d.answers in
     let same : told.0 ≡ d.entries = append_cancel_left old.protocol.journal.history told.0 d.entries (sym told.1 ∙ d.grows) in
     let live : new.nodes.live.guest ≡ (live_at old.start new.protocol).guest =
     k.live ∙ ap (λ (s : HistoryState). (live_at s new.protocol).guest) e in

@@ -1,24 +1,20 @@
 -- What whole runs are to the clients, from what each of their events is.
 use Rattle.std.proofs.Common.{◌≡◌, ℕ, zero, suc, List, [], ◌∷◌, ◌++◌, refl, sym, ap, ◌∙◌, subst, append_assoc, Option, Some}
-use Rattle.std.specs.Prelude.{slice_get}
 use Rattle.std.proofs.lemmas.List.{append-nil}
+use Rattle.std.specs.Prelude.{slice_get}
 use Rattle.guest_machine.specs.Guest.{Guest}
-use Rattle.pair_history.specs.Entries.{Frame, Entry, Delivered, Took, Begins}
-use Rattle.pair_history.specs.HistoryState.{HistoryState, after, at, Legal, Allows}
-use Rattle.pair_core.specs.declared.event.Event.{Event}
-use Rattle.pair_core.specs.declared.event.Event.TheVariants.{Deliver, Take, GoLive}
-use Rattle.pair_core.specs.declared.event.Reply.{Reply}
-use Rattle.pair_core.specs.declared.event.Reply.TheVariants as replies
-use Rattle.pair_core.specs.Service.{Moment, Serves, HasServed, IsDelivery}
+use Rattle.pair_history.specs.{Entries.{Frame, Entry, Delivered, Took, Begins}, HistoryState.{HistoryState, after, at, Legal, Allows}}
+use Rattle.pair_core.specs.{declared.event.Event.Event, declared.event.Event.TheVariants.{Deliver, Take, GoLive}}
+use Rattle.pair_core.specs.{declared.event.Reply.Reply, Service.{Moment, Serves, HasServed, IsDelivery}}
 use Rattle.pair_core.proofs.PublicLaws.{Begins-trans}
+use Rattle.pair_core.specs.declared.event.Reply.TheVariants as replies
 
 -- a run goes on by one event
 pub HasServed-more : (start : HistoryState) (events : List Event) (replies : List Reply) (old mid new : Moment)
     (event : Event) (reply : Reply)
     → HasServed start old events replies mid → Serves start mid event reply new
     → HasServed start old (events ++ event ∷ []) (replies ++ reply ∷ []) new
-HasServed-more start [] [] old mid new event reply run one =
-    (new, rw (← run) one, refl)
+HasServed-more start [] [] old mid new event reply run one = (new, rw (← run) one, refl)
 HasServed-more start [] (r ∷ replies) old mid new event reply run one = absurd run
 HasServed-more start (e ∷ events) [] old mid new event reply run one = absurd run
 HasServed-more start (e ∷ events) (r ∷ replies) old mid new event reply run one =

@@ -1,28 +1,17 @@
 -- What the entries that an event adds tell of clients' calls.
-use Rattle.std.proofs.Common.{rules, arith}
-use Rattle.std.proofs.Common.{◌≡◌, ℕ, zero, suc, ◌+◌, List, [], ◌∷◌, ◌++◌, length, replicate, refl, subst, append_assoc, Bool, true, false}
-use Rattle.std.proofs.Common.{cond}
+use Rattle.std.proofs.Common.{rules, arith, ◌≡◌, ℕ, zero, suc, ◌+◌, List, [], ◌∷◌, ◌++◌, length, replicate, refl, subst, append_assoc, Bool}
+use Rattle.std.proofs.{Common.{true, false, cond}, lemmas.List.Elements.{All-nil, All-cons, All-head, All-tail, All-append, All-replicate}}
 use Rattle.std.specs.Prelude.{All, map, get_or}
-use Rattle.std.proofs.lemmas.List.Elements.{All-nil, All-cons, All-head, All-tail, All-append, All-replicate}
 use Rattle.guest_machine.specs.Step.{sent}
-use Rattle.frame_ports.specs.Addresses.{targets_of}
-use Rattle.frame_ports.specs.Lands.{list_of, has_room, landed_at}
-use Rattle.frame_ports.specs.declared.limits.TheConstants.{BOX_FRAMES}
-use Rattle.pair_history.specs.Entries.{Frame, Entry, Ran, Arrive, DropIn, Land, DropOut}
-use Rattle.pair_history.specs.Failures.{drops_of_owed_from}
-use Rattle.pair_history.specs.HistoryState.{HistoryState, out_of}
-use Rattle.pair_history.specs.Landings.{landings}
-use Rattle.pair_core.specs.declared.event.Event.{Event}
-use Rattle.pair_core.specs.declared.event.Event.TheVariants.{Deliver}
-use Rattle.pair_core.specs.declared.event.Refusal.{Refusal}
-use Rattle.pair_core.specs.declared.event.Refusal.TheVariants.{Full}
-use Rattle.pair_core.specs.declared.event.Reply.TheVariants as replies
-use Rattle.pair_core.specs.Journal.{Journal, joined, first_of, kept_entries}
-use Rattle.pair_core.specs.Modes.{is_alone}
-use Rattle.pair_core.specs.Pair.{is_of_guest}
-use Rattle.pair_core.specs.Protocol.{Record, live_at, shown_at, outbox_of, step_entries, all_held, let_go, live_entries}
+use Rattle.frame_ports.specs.{Addresses.targets_of, Lands.{list_of, has_room, landed_at}, declared.limits.TheConstants.BOX_FRAMES}
+use Rattle.pair_history.specs.{Entries.{Frame, Entry, Ran, Arrive, DropIn, Land, DropOut}, Failures.drops_of_owed_from}
+use Rattle.pair_history.specs.{HistoryState.{HistoryState, out_of}, Landings.landings}
+use Rattle.pair_core.specs.{declared.event.Event.Event, declared.event.Event.TheVariants.Deliver, declared.event.Refusal.Refusal}
+use Rattle.pair_core.specs.{declared.event.Refusal.TheVariants.Full, Journal.{Journal, joined, first_of, kept_entries}, Modes.is_alone}
+use Rattle.pair_core.specs.{Pair.is_of_guest, Protocol.{Record, live_at, shown_at, outbox_of, step_entries, all_held, let_go, live_entries}}
 use Rattle.pair_core.specs.Service.{is_call, Tells}
 use Rattle.pair_core.proofs.Ends.{Ends, ChangesNothing, at_once}
+use Rattle.pair_core.specs.declared.event.Reply.TheVariants as replies
 
 -- ENTRIES THAT TELL OF NO CALL
 

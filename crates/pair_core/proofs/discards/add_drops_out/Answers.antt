@@ -1,6 +1,4 @@
-use Rattle.std.proofs.Common.{rules}
-use Rattle.std.proofs.Common.{arith, append_assoc}
-use Rattle.std.proofs.lemmas.List.{length-append, length-replicate}
+use Rattle.std.proofs.{Common.{rules, arith, append_assoc}, lemmas.List.{length-append, length-replicate}}
 use Rattle.pair_core.proofs.LiveLaws.{drops_on, drops_on-first, drops_on-next, drops_on-length, length-drops}
 use Rattle.pair_core.proofs.discards.add_drops_out.Goals as goal
 

@@ -1,13 +1,10 @@
-use Rattle.std.proofs.Common.{rules}
-use Rattle.std.proofs.Common.{◌≡◌, ◌+◌, ◌≤◌, ◌++◌, length, ap, ◌∙◌, sym, arith, true, [], ◌∷◌}
-use Rattle.frame_ports.specs.Targets.{AreTargets, has_target}
-use Rattle.frame_ports.specs.Addresses.{clients_of}
+use Rattle.std.proofs.{Common.{rules, ◌≡◌, ◌+◌, ◌≤◌, ◌++◌, length, ap, ◌∙◌, sym, arith, true, [], ◌∷◌}, lemmas.List.length-append}
+use Rattle.frame_ports.specs.{Targets.{AreTargets, has_target}, Addresses.clients_of}
 use Rattle.pair_history.specs.Log.{Log}
 use Rattle.pair_core.specs.Lengths.{landing_by, landings_by, lengths_after}
-use Rattle.std.proofs.lemmas.List.{length-append}
 use Rattle.pair_core.proofs.Receivers.{from_on, next_yes, next_no, entries_more}
-use Rattle.pair_core.proofs.landings.add_frame.Goals as goal
 use Rattle.pair_core.proofs.landings.add_frame.Goals.{then-contains, else-contains, After-contains}
+use Rattle.pair_core.proofs.landings.add_frame.Goals as goal
 
 most : (c : After-contains) → c.clients-clients.result ≤ 16
 most c = let p = c.clients-clients.ensures.ports in let q = p.clients.1 in let e = c.clients-clients.ensures.count in omega arith

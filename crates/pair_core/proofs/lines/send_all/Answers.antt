@@ -1,5 +1,4 @@
-use Rattle.std.proofs.Common.{rules}
-use Rattle.std.proofs.Common.{arith}
+use Rattle.std.proofs.Common.{rules, arith}
 use Rattle.pair_core.proofs.LineLaws.{packets_from-more}
 use Rattle.pair_core.proofs.lines.send_all.Goals as goal
 

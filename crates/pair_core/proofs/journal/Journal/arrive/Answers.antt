@@ -1,11 +1,8 @@
-use Rattle.std.proofs.Common.{rules}
-use Rattle.std.proofs.Common.{◌≡◌, ◌++◌, ◌∷◌, [], arith}
-use Rattle.std.proofs.lemmas.List.{length-append}
+use Rattle.std.proofs.{Common.{rules, ◌≡◌, ◌++◌, ◌∷◌, [], arith}, lemmas.List.length-append}
 use Rattle.pair_history.specs.Entries.{Arrive}
 use Rattle.pair_core.specs.Arrivals.{epoch_entries}
-use Rattle.pair_core.proofs.JournalLaws.{epoch-arrives, length-all}
+use Rattle.pair_core.proofs.{JournalLaws.{epoch-arrives, length-all}, journal.Journal.arrive.Goals.After-unwrap}
 use Rattle.pair_core.proofs.journal.Journal.arrive.Goals as goal
-use Rattle.pair_core.proofs.journal.Journal.arrive.Goals.{After-unwrap}
 
 running_is : (c : After-unwrap) → epoch_entries c.push.new.self.items 0
     ≡ epoch_entries c.self.inside.running.arrivals.items c.self.inside.running.steps ++ Arrive c.args.number ∷ []

@@ -1,17 +1,10 @@
-use Rattle.std.proofs.Common.{rules}
-use Rattle.std.proofs.Common.{◌≡◌, ◌+◌, ◌<◌, ◌++◌, length, sym, ap, arith}
+use Rattle.std.proofs.{Common.{rules, ◌≡◌, ◌+◌, ◌<◌, ◌++◌, length, sym, ap, arith}, lemmas.List.{length-append, length-map}}
 use Rattle.std.specs.Prelude.{map}
-use Rattle.std.proofs.lemmas.List.{length-append, length-map}
-use Rattle.frame_ports.specs.Addresses.{targets_of}
-use Rattle.frame_ports.specs.declared.limits.TheConstants.{NUMBER_LIMIT}
-use Rattle.pair_core.specs.Arrivals.{epoch_entries}
-use Rattle.pair_core.specs.Journal.{Stored, joined}
-use Rattle.pair_core.specs.JournalFields.{stored, epoch_of}
-use Rattle.pair_core.specs.Protocol.{live_entries}
-use Rattle.pair_core.proofs.LengthLaws.{length-receivers}
-use Rattle.pair_core.proofs.LiveLaws.{as_many, live_history, length-live}
-use Rattle.pair_core.proofs.journal.Journal.go_live.Goals as goal
+use Rattle.frame_ports.specs.{Addresses.targets_of, declared.limits.TheConstants.NUMBER_LIMIT}
+use Rattle.pair_core.specs.{Arrivals.epoch_entries, Journal.{Stored, joined}, JournalFields.{stored, epoch_of}, Protocol.live_entries}
+use Rattle.pair_core.proofs.{LengthLaws.length-receivers, LiveLaws.{as_many, live_history, length-live}}
 use Rattle.pair_core.proofs.journal.Journal.go_live.Goals.{After-as_slice-2, After-add_drops_out}
+use Rattle.pair_core.proofs.journal.Journal.go_live.Goals as goal
 
 -- as many numbers as were counted
 numbers : (c : After-as_slice-2) → length c.as_slice-2.result.now ≡ c.taken_in-count.result

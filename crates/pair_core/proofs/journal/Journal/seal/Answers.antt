@@ -1,6 +1,4 @@
-use Rattle.std.proofs.Common.{rules}
-use Rattle.std.proofs.Common.{arith}
-use Rattle.std.proofs.lemmas.List.{length-append, map-append}
+use Rattle.std.proofs.{Common.{rules, arith}, lemmas.List.{length-append, map-append}}
 use Rattle.pair_core.proofs.JournalLaws.{joined-push}
 use Rattle.pair_core.proofs.journal.Journal.seal.Goals as goal
 

@@ -1,5 +1,4 @@
-use Rattle.std.proofs.Common.{rules}
-use Rattle.std.proofs.Common.{arith}
+use Rattle.std.proofs.Common.{rules, arith}
 use Rattle.pair_core.proofs.LiveLaws.{taken_in-count, taken_in-few}
 use Rattle.pair_core.proofs.journal.Journal.taken_in.Goals as goal
 

@@ -1,5 +1,4 @@
-use Rattle.std.proofs.Common.{rules, arith}
-use Rattle.std.proofs.Common.{[], ◌∷◌}
+use Rattle.std.proofs.Common.{rules, arith, [], ◌∷◌}
 use Rattle.pair_core.specs.Lines.{packet}
 use Rattle.pair_core.proofs.LineLaws.{packets_of-sent, keeps_all-sent}
 use Rattle.pair_core.proofs.lines.Lines.acknowledge.Goals as goal

@@ -1,12 +1,8 @@
-use Rattle.std.proofs.Common.{rules}
-use Rattle.std.proofs.Common.{◌∙◌, sym, ap, subst, arith, length}
+use Rattle.std.proofs.Common.{rules, ◌∙◌, sym, ap, subst, arith, length}
 use Rattle.frame_ports.specs.Addresses.{targets_of}
 use Rattle.pair_history.specs.Landings.{landings}
-use Rattle.pair_core.specs.Journal.{Journal, with_history}
-use Rattle.pair_core.specs.Record.{IsRecord}
-use Rattle.pair_core.specs.RecordFields.{record_state}
-use Rattle.pair_core.proofs.LengthLaws.{length-receivers}
-use Rattle.pair_core.proofs.RecordLaws.{passed, has_room_for, ack_record}
+use Rattle.pair_core.specs.{Journal.{Journal, with_history}, Record.IsRecord, RecordFields.record_state}
+use Rattle.pair_core.proofs.{LengthLaws.length-receivers, RecordLaws.{passed, has_room_for, ack_record}}
 use Rattle.pair_core.proofs.record.PairRecord.acknowledge.Goals as goal
 
 pub land-requires-clause-fits : goal.land-requires-clause-fits
@@ -26,7 +22,6 @@ invariant_of-self-2 c =
     subst IsRecord (λ i. record r {
       journal = sym journal i;
       window = sym c.acknowledge.ensures i;
-      pending =
-          sym c.ack-landed.ensures.gate i;
+      pending = sym c.ack-landed.ensures.gate i;
     })
     (ack_record r c.self.invariant boxes n below)

@@ -1,7 +1,5 @@
 use Rattle.std.proofs.Common.{◌∙◌, ap, sym, subst}
-use Rattle.pair_core.specs.Lines.{Lines, packet, with_back}
-use Rattle.pair_core.specs.Record.{IsRecord}
-use Rattle.pair_core.specs.RecordFields.{record_state}
+use Rattle.pair_core.specs.{Lines.{Lines, packet, with_back}, Record.IsRecord, RecordFields.record_state}
 use Rattle.pair_core.proofs.RecordLaws.{commit_record}
 use Rattle.pair_core.proofs.record.PairRecord.commit.Goals as goal
 

@@ -1,6 +1,5 @@
 use Rattle.std.proofs.Common.{sym, subst}
-use Rattle.pair_core.specs.Record.{IsRecord}
-use Rattle.pair_core.specs.RecordFields.{record_state}
+use Rattle.pair_core.specs.{Record.IsRecord, RecordFields.record_state}
 use Rattle.pair_core.proofs.RecordLaws.{rising, cut_record}
 use Rattle.pair_core.proofs.record.PairRecord.cut.Goals as goal
 

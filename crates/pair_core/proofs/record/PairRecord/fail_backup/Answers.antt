@@ -1,19 +1,13 @@
-use Rattle.std.proofs.Common.{rules}
-use Rattle.std.proofs.Common.{◌≡◌, ◌∙◌, ◌++◌, length, sym, ap, subst, arith}
-use Rattle.std.proofs.lemmas.List.{length-append}
-use Rattle.failover.specs.declared.mode.Mode.TheVariants as modes
+use Rattle.std.proofs.{Common.{rules, ◌≡◌, ◌∙◌, ◌++◌, length, sym, ap, subst, arith}, lemmas.List.length-append}
 use Rattle.output_gate.specs.Epochs.{epoch, frames_of, frames_to}
 use Rattle.pair_history.specs.Landings.{landings}
-use Rattle.pair_core.specs.Journal.{all_committed, with_history}
-use Rattle.pair_core.specs.Lengths.{receivers}
-use Rattle.pair_core.specs.Protocol.{all_held}
-use Rattle.pair_core.specs.Record.{IsRecord}
+use Rattle.pair_core.specs.{Journal.{all_committed, with_history}, Lengths.receivers, Protocol.all_held, Record.IsRecord}
 use Rattle.pair_core.specs.RecordFields.{record_state}
-use Rattle.pair_core.proofs.AloneLaws.{all_are, frames_of-push, fail_backup_record}
-use Rattle.pair_core.proofs.LengthLaws.{length-receivers}
+use Rattle.pair_core.proofs.{AloneLaws.{all_are, frames_of-push, fail_backup_record}, LengthLaws.length-receivers}
 use Rattle.pair_core.proofs.RecordLaws.{passed, has_room_for, rising}
-use Rattle.pair_core.proofs.record.PairRecord.fail_backup.Goals as goal
 use Rattle.pair_core.proofs.record.PairRecord.fail_backup.Goals.{After-held, After-none_pending-self-inside}
+use Rattle.failover.specs.declared.mode.Mode.TheVariants as modes
+use Rattle.pair_core.proofs.record.PairRecord.fail_backup.Goals as goal
 
 -- what lands: the held frames, and then the outbox
 held_is : (c : After-held) → c.held.result.now ≡ frames_of c.self.inside.gate ++ c.args.outbox.now
@@ -23,8 +17,7 @@ held_is c =
     ∙ all_are (record_state c.self.inside).protocol c.self.invariant c.args.outbox.now
 
 opened_is : (c : After-held) → frames_of c.hold.new.self ≡ frames_of c.self.inside.gate ++ c.args.outbox.now
-opened_is c =
-    ap frames_of c.hold.ensures ∙ frames_of-push c.self.inside.gate (epoch c.self.inside.window.to_cut c.args.outbox.now)
+opened_is c = ap frames_of c.hold.ensures ∙ frames_of-push c.self.inside.gate (epoch c.self.inside.window.to_cut c.args.outbox.now)
 
 count_is : (c : After-held) → length (receivers (length c.self.inside.ports.boxes) c.held.result.now) ≡ c.count_all-count.result
 count_is c = search (arith, rules, held_is, length-receivers)

@@ -1,9 +1,8 @@
-use Rattle.std.proofs.Common.{rules}
-use Rattle.std.proofs.Common.{◌≡◌, ◌+◌, arith}
+use Rattle.std.proofs.Common.{rules, ◌≡◌, ◌+◌, arith}
 use Rattle.pair_core.specs.RecordFields.{record_state}
 use Rattle.pair_core.proofs.LiveLaws.{live_count, live_table, live_refused, live_allowed}
-use Rattle.pair_core.proofs.record.PairRecord.go_live_refusal.Goals as goal
 use Rattle.pair_core.proofs.record.PairRecord.go_live_refusal.Goals.{After-len}
+use Rattle.pair_core.proofs.record.PairRecord.go_live_refusal.Goals as goal
 
 count : (c : After-len) → c.len.result + (c.taken_in.result + c.count_landings.result)
     ≡ live_count (record_state c.self.inside) c.committed_frames-owed.result.now

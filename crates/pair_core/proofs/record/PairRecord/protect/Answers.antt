@@ -1,8 +1,6 @@
 use Rattle.std.proofs.Common.{◌∙◌, ◌++◌, ◌∷◌, [], sym, ap, subst}
 use Rattle.output_gate.specs.Epochs.{epoch}
-use Rattle.pair_core.specs.Protocol.{protect_done}
-use Rattle.pair_core.specs.Record.{IsRecord}
-use Rattle.pair_core.specs.RecordFields.{record_state}
+use Rattle.pair_core.specs.{Protocol.protect_done, Record.IsRecord, RecordFields.record_state}
 use Rattle.pair_core.proofs.ProtectLaws.{protect_record}
 use Rattle.pair_core.proofs.record.PairRecord.protect.Goals as goal
 

@@ -1,9 +1,6 @@
-use Rattle.std.proofs.Common.{rules}
-use Rattle.std.proofs.Common.{◌≤◌, length, arith}
-use Rattle.std.proofs.lemmas.List.{length-append}
-use Rattle.pair_core.proofs.AloneLaws.{few_receivers}
+use Rattle.std.proofs.{Common.{rules, ◌≤◌, length, arith}, lemmas.List.length-append}
+use Rattle.pair_core.proofs.{AloneLaws.few_receivers, record.PairRecord.step_alone.Goals.After-outbox-sent}
 use Rattle.pair_core.proofs.record.PairRecord.step_alone.Goals as goal
-use Rattle.pair_core.proofs.record.PairRecord.step_alone.Goals.{After-outbox-sent}
 
 few_frames : (c : After-outbox-sent) → length c.outbox-sent.result.now ≤ 64
 few_frames c = search (arith, rules, length-append)

@@ -1,12 +1,8 @@
-use Rattle.std.proofs.Common.{rules, arith}
-use Rattle.std.proofs.Common.{◌∙◌, sym, subst, length}
+use Rattle.std.proofs.Common.{rules, arith, ◌∙◌, sym, subst, length}
+use Rattle.pair_core.specs.{Invariant.Holds, WorldFields.pair_of}
+use Rattle.pair_core.proofs.{Calls.on_err, AllLands.admitted_holds}
+use Rattle.pair_core.proofs.{Outcomes.{client_range, admit_empty, admit_stops, admit_goes, admit_wants}, RecordLaws.passed}
 use Rattle.pair_core.specs.declared.event.Reply.TheVariants as replies
-use Rattle.pair_core.specs.Invariant.{Holds}
-use Rattle.pair_core.specs.WorldFields.{pair_of}
-use Rattle.pair_core.proofs.Calls.{on_err}
-use Rattle.pair_core.proofs.AllLands.{admitted_holds}
-use Rattle.pair_core.proofs.Outcomes.{client_range, admit_empty, admit_stops, admit_goes, admit_wants}
-use Rattle.pair_core.proofs.RecordLaws.{passed}
 use Rattle.pair_core.proofs.world.World.admit.Goals as goal
 
 pub returns-then-inbox_len-eq0-clause-outcome : goal.returns-then-inbox_len-eq0-clause-outcome

@@ -1,9 +1,7 @@
 use Rattle.std.proofs.Common.{rules, arith}
-use Rattle.pair_core.proofs.PublicLaws.{answers_by_outcome}
-use Rattle.pair_core.proofs.ServiceLaws.{serves}
+use Rattle.pair_core.proofs.{PublicLaws.answers_by_outcome, ServiceLaws.serves, world.World.apply.Goals.After-answered}
 use Rattle.pair_core.specs.Answering.{Answers}
 use Rattle.pair_core.proofs.world.World.apply.Goals as goal
-use Rattle.pair_core.proofs.world.World.apply.Goals.{After-answered}
 
 answers : (c : After-answered)
     → Answers c.args.self.now.start c.args.self.now.protocol c.args.event c.answered.result c.act-outcome.new.self.protocol

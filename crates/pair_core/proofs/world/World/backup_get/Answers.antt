@@ -1,24 +1,12 @@
-use Rattle.std.proofs.Common.{rules}
-use Rattle.std.proofs.Common.{◌≡◌, ℕ, ◌<◌, ◌≤◌, ◌∙◌, sym, ap, subst, arith, false, Option, None}
+use Rattle.std.proofs.Common.{rules, ◌≡◌, ℕ, ◌<◌, ◌≤◌, ◌∙◌, sym, ap, subst, arith, false, Option, None}
 use Rattle.epoch_snapshot.specs.Checkpoints.{Change}
-use Rattle.pair_core.specs.declared.event.Packet.{Packet}
-use Rattle.pair_core.specs.declared.event.Refusal.{Refusal}
-use Rattle.pair_core.specs.Invariant.{Holds}
-use Rattle.pair_core.specs.declared.event.Event.TheVariants.{BackupGet}
-use Rattle.pair_core.specs.declared.event.Reply.{Reply}
-use Rattle.pair_core.specs.Nodes.{Nodes, first_text}
-use Rattle.pair_core.specs.Modes.{is_alone, mode_refusal}
-use Rattle.pair_core.specs.Pair.{Pair, shown_state}
-use Rattle.pair_core.proofs.ModeLaws.{backup_goes}
-use Rattle.pair_core.specs.Replication.{Replicates}
-use Rattle.pair_core.proofs.ReplicationLaws.{after_commit, filled-pairs, commit_replicates}
-use Rattle.pair_core.proofs.Consistent.{has_backup}
-use Rattle.pair_core.specs.Protocol.{Record, Outcome, first_refusal, backup_refusals, again_done}
-use Rattle.pair_core.specs.WorldFields.{pair_of}
-use Rattle.pair_core.proofs.Calls.{on_ok, after_call}
-use Rattle.pair_core.proofs.Events.{lines_hold, commit_holds, oldest_text}
-use Rattle.pair_core.proofs.NodesLaws.{reads-whole, reads-shape}
-use Rattle.pair_core.proofs.RecordLaws.{passed, generation_is, commit_record}
+use Rattle.pair_core.specs.{declared.event.Packet.Packet, declared.event.Refusal.Refusal, Invariant.Holds}
+use Rattle.pair_core.specs.{declared.event.Event.TheVariants.BackupGet, declared.event.Reply.Reply, Nodes.{Nodes, first_text}}
+use Rattle.pair_core.specs.{Modes.{is_alone, mode_refusal}, Pair.{Pair, shown_state}, Replication.Replicates}
+use Rattle.pair_core.specs.{Protocol.{Record, Outcome, first_refusal, backup_refusals, again_done}, WorldFields.pair_of}
+use Rattle.pair_core.proofs.{ModeLaws.backup_goes, ReplicationLaws.{after_commit, filled-pairs, commit_replicates}, Consistent.has_backup}
+use Rattle.pair_core.proofs.{Calls.{on_ok, after_call}, Events.{lines_hold, commit_holds, oldest_text}}
+use Rattle.pair_core.proofs.{NodesLaws.{reads-whole, reads-shape}, RecordLaws.{passed, generation_is, commit_record}}
 use Rattle.pair_core.proofs.world.World.backup_get.Goals as goal
 
 pub invariant_of-self : goal.invariant_of-self

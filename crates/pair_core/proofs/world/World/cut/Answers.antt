@@ -1,25 +1,12 @@
-use Rattle.std.proofs.Common.{rules, arith}
-use Rattle.std.proofs.Common.{◌≡◌, ◌∙◌, ap, sym, subst, false, None}
-use Rattle.pair_core.specs.declared.event.Event.TheVariants.{Cut}
-use Rattle.pair_core.specs.Invariant.{Holds}
+use Rattle.std.proofs.Common.{rules, arith, ◌≡◌, ◌∙◌, ap, sym, subst, false, None}
+use Rattle.pair_core.specs.{declared.event.Event.TheVariants.Cut, Invariant.Holds, Nodes.{Nodes, HasShape, machine_of, with_sealed}}
+use Rattle.pair_core.specs.{declared.event.Reply.Reply, Replication.Replicates, Texts.IsText, Modes.{is_alone, mode_refusal}, Pair.Pair}
+use Rattle.pair_core.specs.{Protocol.{Outcome, cut_refusals, cut_done}, WorldFields.pair_of}
 use Rattle.epoch_snapshot.specs.Bases.{IsBase}
 use Rattle.guest_machine.specs.Guest.{Guest}
-use Rattle.pair_core.specs.Nodes.{Nodes, HasShape, machine_of, with_sealed}
-use Rattle.pair_core.specs.declared.event.Reply.{Reply}
-use Rattle.pair_core.specs.Replication.{Replicates}
-use Rattle.pair_core.proofs.Consistent.{has_backup, live_is}
-use Rattle.pair_core.proofs.ReplicationLaws.{after_cut, cut_replicates}
-use Rattle.pair_core.specs.Texts.{IsText}
-use Rattle.pair_core.specs.Modes.{is_alone, mode_refusal}
-use Rattle.pair_core.specs.Pair.{Pair}
-use Rattle.pair_core.proofs.ModeLaws.{primary_goes}
-use Rattle.pair_core.specs.Protocol.{Outcome, cut_refusals, cut_done}
-use Rattle.pair_core.specs.WorldFields.{pair_of}
-use Rattle.pair_core.proofs.Events.{cut_holds}
-use Rattle.pair_core.proofs.Outcomes.{goes, cut_sight}
-use Rattle.pair_core.proofs.RecordLaws.{cut_record}
+use Rattle.pair_core.proofs.{Consistent.{has_backup, live_is}, ReplicationLaws.{after_cut, cut_replicates}, ModeLaws.primary_goes}
+use Rattle.pair_core.proofs.{Events.cut_holds, Outcomes.{goes, cut_sight}, RecordLaws.cut_record, world.World.cut.Goals.In_ok-reply}
 use Rattle.pair_core.proofs.world.World.cut.Goals as goal
-use Rattle.pair_core.proofs.world.World.cut.Goals.{In_ok-reply}
 
 -- no node is alone
 two : {w v : Pair} → w ≡ v → mode_refusal v.protocol.mode Cut ≡ None → is_alone w.protocol.mode ≡ false

@@ -1,18 +1,11 @@
-use Rattle.std.proofs.Common.{rules, arith}
-use Rattle.std.proofs.Common.{◌≡◌, ◌∙◌, List, refl, sym, ap, subst}
+use Rattle.std.proofs.Common.{rules, arith, ◌≡◌, ◌∙◌, List, refl, sym, ap, subst}
 use Rattle.failover.specs.declared.mode.Mode.TheVariants.{Alone}
 use Rattle.pair_history.specs.Entries.{Frame}
-use Rattle.pair_core.specs.Invariant.{Holds}
-use Rattle.pair_core.specs.Nodes.{left_alone}
-use Rattle.pair_core.specs.Protocol.{Outcome, first_refusal, fail_backup_refusals, fail_backup_done}
-use Rattle.pair_core.specs.Record.{ports_after_all}
-use Rattle.pair_core.specs.Window.{none_pending}
-use Rattle.pair_core.specs.WorldFields.{pair_of}
-use Rattle.pair_core.proofs.AllLands.{all_landed_holds}
-use Rattle.pair_core.proofs.Calls.{on_err}
-use Rattle.pair_core.proofs.Outcomes.{stops, goes, fail_backup_sight}
-use Rattle.pair_core.proofs.world.World.fail_backup.Goals as goal
+use Rattle.pair_core.specs.{Invariant.Holds, Nodes.left_alone, Protocol.{Outcome, first_refusal, fail_backup_refusals, fail_backup_done}}
+use Rattle.pair_core.specs.{Record.ports_after_all, Window.none_pending, WorldFields.pair_of}
+use Rattle.pair_core.proofs.{AllLands.all_landed_holds, Calls.on_err, Outcomes.{stops, goes, fail_backup_sight}}
 use Rattle.pair_core.proofs.world.World.fail_backup.Goals.{After-fail_backup_refusal}
+use Rattle.pair_core.proofs.world.World.fail_backup.Goals as goal
 
 -- the table of refusals, by the live machine's outbox
 table : (c : After-fail_backup_refusal) → c.fail_backup_refusal.result
@@ -47,8 +40,7 @@ invariant_of-self-2 c =
     let b = w.ports.boxes in
     let protocol = ap (λ (o : Outcome). o.1) c.in_ok-reply.ensures.ok
     ∙ ap (λ (fs : List Frame). (fail_backup_done b fs w.protocol).1) c.outbox-2.ensures.value in
-    let ports = c.in_ok-reply.ensures.ports
-    ∙ ap (λ (fs : List Frame). ports_after_all w.ports fs w.protocol) c.outbox-2.ensures.value in
+    let ports = c.in_ok-reply.ensures.ports ∙ ap (λ (fs : List Frame). ports_after_all w.ports fs w.protocol) c.outbox-2.ensures.value in
     subst Holds (λ i. record w { protocol = sym protocol i; ports = sym ports i; nodes = sym c.leave_alone.ensures i })
     (all_landed_holds w c.self.invariant Alone refl (none_pending w.protocol.window.to_cut) (left_alone w.nodes) refl refl)
 

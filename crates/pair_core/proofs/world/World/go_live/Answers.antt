@@ -1,11 +1,7 @@
 use Rattle.std.proofs.Common.{◌∙◌, ◌+◌, sym, ap, subst}
 use Rattle.frame_ports.specs.declared.limits.TheConstants.{NUMBER_LIMIT}
-use Rattle.pair_core.specs.Invariant.{Holds}
-use Rattle.pair_core.specs.Protocol.{Outcome}
-use Rattle.pair_core.specs.WorldFields.{pair_of}
-use Rattle.pair_core.proofs.GoneLive.{gone_live_holds}
-use Rattle.pair_core.proofs.ModeLaws.{live_goes, live_full}
-use Rattle.pair_core.proofs.RecordLaws.{passed, is_below, some_committed}
+use Rattle.pair_core.specs.{Invariant.Holds, Protocol.Outcome, WorldFields.pair_of}
+use Rattle.pair_core.proofs.{GoneLive.gone_live_holds, ModeLaws.{live_goes, live_full}, RecordLaws.{passed, is_below, some_committed}}
 use Rattle.pair_core.proofs.world.World.go_live.Goals as goal
 
 pub invariant_of-self-2 : goal.invariant_of-self-2

@@ -1,7 +1,5 @@
-use Rattle.std.proofs.Common.{rules}
-use Rattle.std.proofs.Common.{sym, subst, arith}
-use Rattle.pair_core.specs.Invariant.{Holds}
-use Rattle.pair_core.specs.WorldFields.{pair_of}
+use Rattle.std.proofs.Common.{rules, sym, subst, arith}
+use Rattle.pair_core.specs.{Invariant.Holds, WorldFields.pair_of}
 use Rattle.pair_core.proofs.StepRuns.{steps_hold, steps_answered}
 use Rattle.pair_core.proofs.world.World.make_steps.Goals as goal
 
@@ -11,8 +9,7 @@ invariant_of-self c =
     subst Holds (λ i. record w {
       protocol = (sym c.run.ensures i).protocol;
       ports = (sym c.run.ensures i).ports;
-      nodes =
-          sym c.run-made.ensures.made i;
+      nodes = sym c.run-made.ensures.made i;
     })
     (steps_hold c.run-made.result w c.self.invariant)
 

@@ -1,20 +1,11 @@
 use Rattle.std.proofs.Common.{◌∙◌, ◌+◌, ap, sym, subst}
 use Rattle.guest_machine.specs.Guest.{Guest}
 use Rattle.frame_ports.specs.declared.limits.TheConstants.{NUMBER_LIMIT}
-use Rattle.pair_core.specs.declared.event.Event.TheVariants.{Protect}
-use Rattle.pair_core.specs.Invariant.{Holds}
-use Rattle.pair_core.specs.Nodes.{Nodes, HasShape, with_protected}
-use Rattle.pair_core.specs.Protocol.{Outcome}
-use Rattle.pair_core.specs.Texts.{IsText}
-use Rattle.pair_core.specs.WorldFields.{pair_of}
-use Rattle.pair_core.proofs.ModeLaws.{protect_goes}
-use Rattle.pair_core.proofs.Protected.{protect_holds}
-use Rattle.pair_core.proofs.RecordLaws.{passed, is_below}
+use Rattle.pair_core.specs.{declared.event.Event.TheVariants.Protect, Invariant.Holds, Nodes.{Nodes, HasShape, with_protected}}
+use Rattle.pair_core.specs.{Protocol.Outcome, Texts.IsText, WorldFields.pair_of, declared.event.Reply.Reply, Replication.Replicates}
+use Rattle.pair_core.proofs.{ModeLaws.protect_goes, Protected.protect_holds, RecordLaws.{passed, is_below}}
+use Rattle.pair_core.proofs.{world.World.protect.Goals.In_ok-image, ReplicationLaws.protect_replicates}
 use Rattle.pair_core.proofs.world.World.protect.Goals as goal
-use Rattle.pair_core.proofs.world.World.protect.Goals.{In_ok-image}
-use Rattle.pair_core.specs.declared.event.Reply.{Reply}
-use Rattle.pair_core.specs.Replication.{Replicates}
-use Rattle.pair_core.proofs.ReplicationLaws.{protect_replicates}
 
 -- the text makes the live guest, whatever guest it is applied to
 makes : (c : In_ok-image) (before : Guest)

@@ -1,11 +1,6 @@
-use Rattle.std.proofs.Common.{rules, ◌≡◌, ◌+◌, ◌++◌, ◌∷◌, [], length, take, get_or, ◌∙◌, arith, ◌<◌}
-use Rattle.std.proofs.lemmas.List.{take_more}
-use Rattle.pair_core.specs.declared.event.Event.TheVariants.{Step}
-use Rattle.pair_core.specs.Answering.{Answers}
-use Rattle.pair_core.specs.Drops.{Drops}
-use Rattle.pair_core.proofs.ReplicationRuns.{Leads-more}
-use Rattle.pair_core.proofs.ServiceRuns.{HasServed-more}
-use Rattle.pair_core.proofs.PublicLaws.{Along-more, Begins-trans}
+use Rattle.std.proofs.{Common.{rules, ◌≡◌, ◌+◌, ◌++◌, ◌∷◌, [], length, take, get_or, ◌∙◌, arith, ◌<◌}, lemmas.List.take_more}
+use Rattle.pair_core.specs.{declared.event.Event.TheVariants.Step, Answering.Answers, Drops.Drops}
+use Rattle.pair_core.proofs.{ReplicationRuns.Leads-more, ServiceRuns.HasServed-more, PublicLaws.{Along-more, Begins-trans}}
 use Rattle.pair_core.proofs.world.World.run.Goals as goal
 
 pub loop-event-init : goal.loop-event-init

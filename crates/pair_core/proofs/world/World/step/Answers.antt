@@ -1,6 +1,5 @@
 use Rattle.std.proofs.Common.{rules, arith}
-use Rattle.pair_core.proofs.AloneRuns.{paired_answer, alone_answer}
-use Rattle.pair_core.proofs.StepRuns.{one-step-answered, refused_step}
+use Rattle.pair_core.proofs.{AloneRuns.{paired_answer, alone_answer}, StepRuns.{one-step-answered, refused_step}}
 use Rattle.pair_core.proofs.world.World.step.Goals as goal
 
 pub returns-then-is_alone-clause-answers : goal.returns-then-is_alone-clause-answers

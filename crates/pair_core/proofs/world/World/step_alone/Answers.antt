@@ -1,20 +1,11 @@
 use Rattle.std.proofs.Common.{◌≡◌, ◌∙◌, ℕ, zero, suc, ◌+◌, ◌-◌, ◌<◌, ◌≤◌, [], length, sym, ap, subst, arith, true, Result, Ok, Err, OnErr}
-use Rattle.std.specs.Prelude.{IfOk}
-use Rattle.std.specs.declared.alloc.AllocError.{AllocError}
+use Rattle.std.specs.{Prelude.IfOk, declared.alloc.AllocError.AllocError}
 use Rattle.guest_machine.specs.Runs.{sent_in}
-use Rattle.frame_ports.specs.Ports.{PortsState}
-use Rattle.frame_ports.specs.declared.limits.TheConstants.{NUMBER_LIMIT}
-use Rattle.pair_core.specs.declared.event.Reply.TheVariants as replies
-use Rattle.pair_core.specs.Invariant.{Holds}
-use Rattle.pair_core.specs.Journal.{all_entries}
-use Rattle.pair_core.specs.Modes.{is_alone}
-use Rattle.pair_core.specs.Nodes.{Housed, Nodes, after_run, with_sent_off}
-use Rattle.pair_core.specs.Pair.{Pair}
-use Rattle.pair_core.specs.Protocol.{Record}
-use Rattle.pair_core.specs.Record.{RecordState, IsLone}
-use Rattle.pair_core.specs.Runs.{steps_outcome}
-use Rattle.pair_core.specs.WorldFields.{pair_of}
+use Rattle.frame_ports.specs.{Ports.PortsState, declared.limits.TheConstants.NUMBER_LIMIT}
+use Rattle.pair_core.specs.{Invariant.Holds, Journal.all_entries, Modes.is_alone, Nodes.{Housed, Nodes, after_run, with_sent_off}}
+use Rattle.pair_core.specs.{Pair.Pair, Protocol.Record, Record.{RecordState, IsLone}, Runs.steps_outcome, WorldFields.pair_of}
 use Rattle.pair_core.proofs.AloneRuns.{after_alone, alone_holds, alone_answered}
+use Rattle.pair_core.specs.declared.event.Reply.TheVariants as replies
 use Rattle.pair_core.proofs.world.World.step_alone.Goals as goal
 
 -- the pair after a call that did all or nothing
