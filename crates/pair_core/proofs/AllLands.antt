@@ -1,32 +1,23 @@
 -- Where a node goes on alone: all that is kept goes to the history, and all that is on its way lands. So does what each of its steps sends.
 use Rattle.std.proofs.Common.{◌≡◌, ℕ, zero, suc, List, [], ◌∷◌, ◌++◌, length, take, drop, refl, sym, ap, ◌∙◌, subst, append_assoc, Bool}
-use Rattle.std.proofs.Common.{true, false, Some}
+use Rattle.std.proofs.{Common.{true, false, Some}, lemmas.List.append-nil}
 use Rattle.std.specs.Prelude.{slice_get, ◌≤◌}
-use Rattle.std.proofs.lemmas.List.{append-nil}
-use Rattle.frame_ports.specs.Addresses.{targets_of}
-use Rattle.frame_ports.specs.Lands.{list_of, lands}
+use Rattle.frame_ports.specs.{Addresses.targets_of, Lands.{list_of, lands}}
 use Rattle.failover.specs.declared.mode.Mode.{Mode}
 use Rattle.output_gate.specs.Epochs.{Epoch, frames_of}
 use Rattle.guest_machine.specs.Step.{sent}
-use Rattle.pair_history.specs.Entries.{Frame, Entry, Ran, Arrive}
-use Rattle.pair_history.specs.HistoryState.{HistoryState, after, at, Legal}
-use Rattle.pair_history.specs.Landings.{landings, DropsAreKnown, DropsAtFull, BoxesFit}
-use Rattle.pair_history.specs.Moves.{Move, Steps, Arrives, entries_of, left}
-use Rattle.pair_history.proofs.States.{at-append, Legal-append, DropsAreKnown-append, at_full-known}
-use Rattle.pair_history.proofs.Losses.{AreRising-left}
+use Rattle.pair_history.specs.{Entries.{Frame, Entry, Ran, Arrive}, HistoryState.{HistoryState, after, at, Legal}}
+use Rattle.pair_history.specs.{Landings.{landings, DropsAreKnown, DropsAtFull, BoxesFit}, Moves.{Move, Steps, Arrives, entries_of, left}}
+use Rattle.pair_history.proofs.{States.{at-append, Legal-append, DropsAreKnown-append, at_full-known}, Losses.AreRising-left}
 use Rattle.pair_history.proofs.Moves.{moved, Legal-moves, DropsAreKnown-moves}
 use Rattle.pair_history.proofs.LandingLaws.{length-lands, BoxesFit-lands, AllClients-targets, landings-land, AllLand, AllClients}
-use Rattle.pair_core.specs.declared.window.Window.{Window}
-use Rattle.pair_core.specs.Invariant.{frames_by_epoch, AreInboxes, AreNodes, AreClients, Holds}
+use Rattle.pair_core.specs.{declared.window.Window.Window, Invariant.{frames_by_epoch, AreNodes, AreClients, Holds}}
 use Rattle.pair_core.specs.Journal.{joined, kept_entries, all_entries, all_committed, with_history, with_running, with_moves}
-use Rattle.pair_core.specs.Modes.{is_alone}
-use Rattle.pair_core.specs.Nodes.{Node, Nodes, HasShape, with_arrival}
-use Rattle.pair_core.specs.Pair.{Pair, shown_state, live_state}
+use Rattle.pair_core.specs.{Modes.is_alone, Nodes.{Node, Nodes, HasShape, with_arrival}, Pair.{Pair, shown_state, live_state}}
 use Rattle.pair_core.specs.Protocol.{all_held, outbox_of, step_entries, admit_done}
 use Rattle.pair_core.specs.Record.{IsRecord, IsLone, ports_after_all, ports_after_admit}
 use Rattle.pair_core.specs.Window.{committed_of, uncommitted_of, committed_count}
-use Rattle.pair_core.proofs.Consistent.{kept_is, live_is_moved, outbox_is, owed_is, alone_is}
-use Rattle.pair_core.proofs.Events.{kept_moves, left_now, admit_holds}
+use Rattle.pair_core.proofs.{Consistent.{kept_is, live_is_moved, outbox_is, owed_is, alone_is}, Events.{kept_moves, admit_holds}}
 use Rattle.pair_core.proofs.ModeLaws.{clash}
 
 pub take-none : {A : Type 0} (n : ℕ) → take {A = A} n [] ≡ []
@@ -101,15 +92,14 @@ module _ (w : Pair) (h : Holds w) (mode : Mode) (lone : is_alone mode ≡ true) 
         frames = ap frames_by_epoch (drop-none (committed_count window));
         live = guest;
         outbox = ap (λ (n : Node). n.outbox) live;
-        shape = subst (λ (n : Node). HasShape x.image.shape n.guest) (sym live)
-            (subst (λ t. HasShape t w.nodes.live.guest) (sym shape) h.nodes.shape);
+        shape = rw live (subst (λ t. HasShape t w.nodes.live.guest) (sym shape) h.nodes.shape);
       } in
       let clients : AreClients now (left now.waiting []) (record w.ports { boxes = lands b ps }) =
       record {
         number = h.clients.number;
         rising = AreRising-left 1 w.ports.next s.waiting ms h.clients.rising;
         count = h.clients.count ∙ sym long;
-        inboxes = subst (λ (n : ℕ). AreInboxes n w.ports.inboxes (left_now w h)) (sym long) h.clients.inboxes;
+        inboxes = rw long h.clients.inboxes;
         boxes = refl;
         fit = BoxesFit-lands b ps h.clients.fit;
       } in
@@ -125,11 +115,8 @@ module _ (w : Pair) (h : Holds w) (mode : Mode) (lone : is_alone mode ≡ true) 
           running_are = refl;
           can = tt;
         };
-        nodes =
-            subst (λ (t : HistoryState). AreNodes (is_alone mode) w.protocol.generation window.to_commit t.guest [] []
-            (frames_by_epoch (uncommitted_of window [])) x) (sym shown) nodes;
-        clients = subst (λ (t : HistoryState). AreClients t (left t.waiting []) (record w.ports { boxes = lands b ps })) (sym shown)
-            clients;
+        nodes = rw shown nodes;
+        clients = rw shown clients;
         owed =
             ap (λ (t : HistoryState). t.out) shown
             ∙ ap (λ (es : List Epoch). targets_of (length (lands b ps)) (frames_of es)) (sym (take-none (committed_count window)));
@@ -223,14 +210,10 @@ module _ (w : Pair) (h : Holds w) where
       let ms = kept_moves w h in
       let es : List (List Frame) → List Frame → List Entry = λ b outbox. landings b (all_held b outbox r) in
       let land : DropsAtFull (live_state w) (es w.ports.boxes w.nodes.live.outbox) = (all_land w h).2 in
-      let seen : DropsAtFull (live_state w) (es s.boxes (outbox_of w.start r)) =
-      subst (λ (b : List (List Frame)). DropsAtFull (live_state w) (es b (outbox_of w.start r))) h.clients.boxes
-      (subst (λ (fs : List Frame). DropsAtFull (live_state w) (es w.ports.boxes fs)) (sym (outbox_is w h)) land) in
+      let seen : DropsAtFull (live_state w) (es s.boxes (outbox_of w.start r)) = rw (← h.clients.boxes) (rw (outbox_is w h) land) in
       let lives : live_state w ≡ at s (entries_of ms) =
       at-append w.start r.journal.history (kept_entries r.journal) ∙ ap (at s) (kept_is w h) in
-      subst (λ (kept : List Entry). DropsAtFull s (kept ++ es s.boxes (outbox_of w.start r))) (sym (kept_is w h))
-      (DropsAtFull-moves s ms (es s.boxes (outbox_of w.start r))
-      (subst (λ (t : HistoryState). DropsAtFull t (es s.boxes (outbox_of w.start r))) lives seen))
+      rw (kept_is w h) (DropsAtFull-moves s ms (es s.boxes (outbox_of w.start r)) (rw (← lives) seen))
 
   -- a step of a node that is alone
   pub step_drops : IsLone w.protocol
@@ -250,4 +233,4 @@ module _ (w : Pair) (h : Holds w) where
       let ps = targets_of n (sent s.guest) in
       let out : t.out ≡ ps ++ [] = ap (λ (x : List (ℕ × Frame)). x ++ ps) none ∙ sym (append-nil ps) in
       let land = landings-land t ps [] out (AllClients-targets n (sent s.guest)) (subst BoxesFit h.clients.boxes h.clients.fit) in
-      subst (λ (v : HistoryState). DropsAtFull s (step_entries true b (sent v.guest))) (sym lives) land.2
+      rw lives land.2

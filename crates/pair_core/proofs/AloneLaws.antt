@@ -1,23 +1,15 @@
 -- Laws of a node that is alone: what the gate held lands, followed by the outbox, and nothing is kept or pending.
-use Rattle.std.proofs.Common.{◌≡◌, ℕ, zero, suc, ◌+◌, ◌-◌, ◌*◌, ◌≤◌, List, [], ◌∷◌, ◌++◌, length, Bool, true, cond}
-use Rattle.std.proofs.Common.{refl, sym, ap, ◌∙◌, subst, arith, append_assoc, mul-le-mul_right}
-use Rattle.std.specs.Prelude.{nat_le}
-use Rattle.std.proofs.lemmas.Bool.Decides.{nat_tests}
+use Rattle.std.proofs.Common.{rules, ◌≡◌, ℕ, zero, suc, ◌+◌, ◌-◌, ◌*◌, ◌≤◌, List, [], ◌∷◌, ◌++◌, length, Bool, true, cond, refl, sym, ap}
+use Rattle.std.proofs.{Common.{◌∙◌, subst, arith, append_assoc, mul-le-mul_right}, lemmas.Bool.Decides.nat_tests}
 use Rattle.std.proofs.lemmas.List.{length-append, append-nil}
-use Rattle.guest_machine.specs.Guest.{Guest}
-use Rattle.guest_machine.specs.Runs.{sent_in}
-use Rattle.guest_machine.specs.Step.{next, sent}
+use Rattle.std.specs.Prelude.{nat_le}
+use Rattle.guest_machine.specs.{Guest.Guest, Runs.sent_in, Step.{next, sent}}
 use Rattle.frame_ports.proofs.AddressLaws.{length-targets_of}
 use Rattle.frame_ports.specs.Addresses.{clients_of}
 use Rattle.output_gate.specs.Epochs.{Epoch, epoch, frames_of, frames_to}
 use Rattle.pair_history.specs.Entries.{Frame}
-use Rattle.pair_core.specs.Lengths.{receivers}
-use Rattle.pair_core.specs.Protocol.{Record, all_held, fail_backup_done}
-use Rattle.pair_core.specs.Record.{IsRecord}
-use Rattle.pair_core.specs.Window.{NumberedFrom}
-use Rattle.pair_core.proofs.LengthLaws.{length-receivers}
-use Rattle.pair_core.proofs.RecordLaws.{AreBelow-more}
-use Rattle.pair_core.proofs.WindowLaws.{NumberedFrom-push}
+use Rattle.pair_core.specs.{Lengths.receivers, Protocol.{Record, all_held, fail_backup_done}, Record.IsRecord, Window.NumberedFrom}
+use Rattle.pair_core.proofs.{LengthLaws.length-receivers, RecordLaws.AreBelow-more, WindowLaws.NumberedFrom-push}
 
 none_of : (fs : List Frame) → length fs ≡ 0 → fs ≡ []
 none_of [] e = refl
@@ -72,21 +64,7 @@ module _ (r : Record) (h : IsRecord r) where
       ∙ frames_of-push r.pending e
 
   pub fail_backup_record : (boxes : List (List Frame)) (outbox : List Frame) → IsRecord (fail_backup_done boxes outbox r).1
-  fail_backup_record boxes outbox = record {
-    window = record {
-      numbers = tt;
-      count = omega arith;
-      committed = omega arith;
-      cut = omega arith;
-      few = omega arith;
-      last = h.window.last;
-    };
-    forward = h.forward;
-    back = AreBelow-more r.generation r.window.to_commit r.window.to_cut r.lines.back h.window.cut h.back;
-    sealed = omega arith;
-    alone = λ e. (refl, refl, refl);
-    suits = tt;
-  }
+  fail_backup_record boxes outbox = search (arith, rules, AreBelow-more)
 
 -- steps of which only the last sends send no more frames than it
 few_by_last : ((g : Guest) → length (sent g) ≤ 64) → (n : ℕ) (g : Guest) → sent_in n g ≡ [] → length (sent_in (suc n) g) ≤ 64
@@ -108,8 +86,4 @@ few_sent most (suc n) g quiet =
 
 -- 64 frames go to 64 times as many as there are clients, at most
 pub few_receivers : (n : ℕ) (fs : List Frame) → length fs ≤ 64 → length (receivers n fs) ≤ 64 * n
-few_receivers n fs few =
-    let e = length-receivers n fs in
-    let l = length-targets_of n fs in
-    let m : length fs * n ≤ 64 * n = mul-le-mul_right n few in
-    omega arith
+few_receivers n fs few = search (arith, rules, length-receivers, length-targets_of, mul-le-mul_right)

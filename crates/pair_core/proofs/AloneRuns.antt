@@ -1,36 +1,17 @@
 -- What the steps of a node that is alone leave, and what the protocol answers to them: what a step sends lands at once.
-use Rattle.std.proofs.Common.{◌≡◌, ℕ, zero, suc, ◌+◌, ◌-◌, ◌<◌, List, [], ◌∷◌, ◌++◌, length, replicate, refl, sym, ap, ◌∙◌, subst, arith}
-use Rattle.std.proofs.Common.{append_assoc, Bool, true, false, cond, inl, inr}
-use Rattle.std.specs.Prelude.{nat_lt}
-use Rattle.std.proofs.lemmas.List.{append-nil, length-append, length-replicate}
-use Rattle.guest_machine.specs.Guest.{Guest}
-use Rattle.guest_machine.specs.Step.{next, sent}
-use Rattle.guest_machine.specs.Runs.{after_steps, sent_in}
-use Rattle.frame_ports.specs.Addresses.{targets_of}
-use Rattle.frame_ports.specs.Lands.{lands}
-use Rattle.frame_ports.specs.declared.limits.TheConstants.{NUMBER_LIMIT}
-use Rattle.pair_history.specs.Entries.{Frame, Entry, Ran}
-use Rattle.pair_history.specs.HistoryState.{HistoryState}
-use Rattle.pair_history.specs.Landings.{landings}
-use Rattle.pair_core.specs.declared.event.Refusal.TheVariants.{Stopped, NoMemory, CutNeeded, Exhausted}
-use Rattle.pair_core.specs.declared.event.Event.TheVariants.{Step}
-use Rattle.pair_core.specs.declared.event.Reply.{Reply}
-use Rattle.pair_core.specs.declared.event.Reply.TheVariants as replies
-use Rattle.pair_core.specs.declared.limits.TheConstants.{STEP_ROOM, STEP_ENTRIES}
-use Rattle.pair_core.specs.Invariant.{Holds}
-use Rattle.pair_core.specs.Journal.{joined, all_entries, with_history, with_moves}
-use Rattle.pair_core.specs.Modes.{is_stopped, is_alone}
-use Rattle.pair_core.specs.Nodes.{after_run, with_sent_off}
-use Rattle.pair_core.specs.Pair.{Pair}
-use Rattle.pair_core.specs.Protocol.{Record, Outcome, live_at, shown_at, outbox_of, step_entries, step_done, step_outcome, step_room}
-use Rattle.pair_core.specs.Protocol.{first_refusal, or_else, refused, exhausts, Answers, MayWantMemory}
-use Rattle.pair_core.specs.Record.{IsLone}
+use Rattle.std.proofs.Common.{rules, ◌≡◌, ℕ, zero, suc, ◌+◌, ◌-◌, ◌<◌, List, [], ◌∷◌, ◌++◌, length, replicate, refl, sym, ap, ◌∙◌, subst}
+use Rattle.std.proofs.{Common.{arith, append_assoc, Bool, true, cond, inl, inr}, lemmas.List.{append-nil, length-append, length-replicate}}
+use Rattle.guest_machine.specs.{Guest.Guest, Step.{next, sent}, Runs.{after_steps, sent_in}}
+use Rattle.frame_ports.specs.{Addresses.targets_of, Lands.lands, declared.limits.TheConstants.NUMBER_LIMIT}
+use Rattle.pair_history.specs.{Entries.{Frame, Ran}, HistoryState.HistoryState, Landings.landings}
+use Rattle.pair_core.specs.{declared.event.Event.TheVariants.Step, declared.event.Reply.Reply, declared.limits.TheConstants.STEP_ENTRIES}
+use Rattle.pair_core.specs.{Invariant.Holds, Journal.{all_entries, with_history}, Modes.is_alone, Nodes.{after_run, with_sent_off}}
+use Rattle.pair_core.specs.{Pair.Pair, Protocol.{Record, Outcome, step_done, step_outcome, step_room}, Answering.Answers, Record.IsLone}
 use Rattle.pair_core.specs.Runs.{StepsAnswer, goes_on, steps_outcome}
-use Rattle.pair_core.proofs.AllLands.{at_once_holds}
-use Rattle.pair_core.proofs.Consistent.{live_is, alone_is}
-use Rattle.pair_core.proofs.ModeLaws.{alone_not_stopped}
+use Rattle.pair_core.proofs.{AllLands.at_once_holds, Consistent.{live_is, alone_is}, ModeLaws.alone_not_stopped}
 use Rattle.pair_core.proofs.StepRuns.{steps_hold, step_goes, no-steps, none-sent, no-steps-answered, more-answered, after_steps-last}
 use Rattle.pair_core.proofs.StepRuns.{replicate-last, one-step-answered}
+use Rattle.pair_core.specs.declared.event.Reply.TheVariants as replies
 
 sent_in-last : (n : ℕ) (g : Guest) → sent_in (suc n) g ≡ sent_in n g ++ sent (after_steps n g)
 unfolding sent_in after_steps
@@ -65,8 +46,7 @@ module _ (w : Pair) where
         let live = (after_run n w.nodes).live in
         let fs = sent_in n w.nodes.live.guest in
         let all : live.outbox ≡ fs = ap (λ (t : List Frame). t ++ fs) none in
-        subst (λ (x : List Frame). Holds (after_alone n x)) all
-        (at_once_holds w k lone (replicate n Ran) live w.ports.inboxes (steps_hold n w h))
+        rw (← all) (at_once_holds w k lone (replicate n Ran) live w.ports.inboxes (steps_hold n w h))
 
     -- quiet steps: none of them sends a frame
     abbrev quiet : ℕ → Pair
@@ -82,15 +62,7 @@ module _ (w : Pair) where
       g = after_steps n w.nodes.live.guest
 
       counted : length (all_entries (quiet n).protocol.journal) ≡ length (all_entries w.protocol.journal) + n
-      counted =
-          let j = w.protocol.journal in
-          let kept = joined j.sealed ++ j.running in
-          let e1 = length-append (j.history ++ (replicate n Ran ++ [])) kept in
-          let e2 = length-append j.history (replicate n Ran ++ []) in
-          let e3 = length-append (replicate n Ran) [] in
-          let e4 = length-replicate n Ran in
-          let e5 = length-append j.history kept in
-          omega arith
+      counted = search (arith, rules, length-append, length-replicate)
 
       step_next : step_done boxes (sent g) (next g).steps (quiet n).protocol ≡ step_outcome w.start (quiet n).protocol
       step_next =
@@ -100,23 +72,7 @@ module _ (w : Pair) where
 
       step_makes : (replies.Steps (after_steps (suc n) w.nodes.live.guest).steps, (after_alone (suc n) (sent g)).protocol)
           ≡ step_done boxes (sent g) (next g).steps (quiet n).protocol
-      step_makes =
-          let j = w.protocol.journal in
-          let es = landings boxes (targets_of (length boxes) (sent g)) in
-          let before = (quiet n).protocol.journal in
-          let history : j.history ++ (replicate (suc n) Ran ++ es) ≡ before.history ++ (Ran ∷ es) =
-          ap (λ (t : List Entry). j.history ++ (t ++ es)) (replicate-last n)
-          ∙ ap (λ (t : List Entry). j.history ++ t) (append_assoc (replicate n Ran) (Ran ∷ []) es)
-          ∙ sym (append_assoc j.history (replicate n Ran) (Ran ∷ es))
-          ∙ ap (λ (t : List Entry). (j.history ++ t) ++ (Ran ∷ es)) (sym (append-nil (replicate n Ran))) in
-          (λ i. (
-            replies.Steps (after_steps-last n w.nodes.live.guest i).steps,
-            record w.protocol { journal = record j { history = history i } },
-          ))
-          ∙ (λ i. (
-            replies.Steps (next g).steps,
-            record w.protocol { journal = with_moves (sym lone i) before (step_entries (sym lone i) boxes (sent g)) },
-          ))
+      step_makes = search (arith, rules, after_steps-last, append-nil, append_assoc, replicate-last)
 
       one_more : (replies.Steps g.steps, (quiet n).protocol) ≡ steps_outcome w.start w.protocol n
           → (replies.Steps (after_steps (suc n) w.nodes.live.guest).steps, (after_alone (suc n) (sent g)).protocol)
@@ -181,19 +137,6 @@ module _ (start : HistoryState) (r r' : Record) (m k : ℕ) (made : (replies.Ste
   steps_join (suc n) zero l e = absurd (omega arith)
   steps_join (suc n) (suc p) l e = steps_after n p (omega arith)
 
--- no row of a step's table is want of memory
-pub never_wants : (start : HistoryState) (r r' : Record) → refused r' NoMemory ≡ step_outcome start r → ⊥
-never_wants start r r' e =
-    by_rows (is_stopped r.mode) (nat_lt STEP_ROOM (length (outbox_of start r))) (exhausts r (step_room r.mode)) e
-  where
-    by_rows : (a b c : Bool) → refused r' NoMemory
-        ≡ or_else (first_refusal ((a, Stopped) ∷ (b, CutNeeded) ∷ (c, Exhausted) ∷ [])) (refused r)
-        (step_done (shown_at start r).boxes (sent (live_at start r).guest) (next (live_at start r).guest).steps r) → ⊥
-    by_rows true b c e = absurd (let clash = ap (λ (o : Outcome). o.0) e in cc)
-    by_rows false true c e = absurd (let clash = ap (λ (o : Outcome). o.0) e in cc)
-    by_rows false false true e = absurd (let clash = ap (λ (o : Outcome). o.0) e in cc)
-    by_rows false false false e = absurd (let clash = ap (λ (o : Outcome). o.0) e in cc)
-
 -- ONE STEP, as an event
 
 module _ (start : HistoryState) (old new : Record) where
@@ -206,15 +149,5 @@ module _ (start : HistoryState) (old new : Record) where
       let made = k.2 in
       let less = made.1 in
       let first : made.0 ≡ 0 = omega arith in
-      let stays : new ≡ old =
-      ap (λ (o : Outcome). o.1) (made.3 ∙ ap (steps_outcome start old) first ∙ no-steps-answered start old) in
-      inr (subst (λ (r : Record). MayWantMemory r.mode (step_outcome start r).0) stays made.4, k.1, stays)
-
-  pub not_wanting : (reply : Reply) → (reply ≡ replies.Refused NoMemory → ⊥) → Answers start old Step reply new
-      → (reply, new) ≡ step_outcome start old
-  not_wanting reply other (inl e) = e
-  not_wanting reply other (inr k) = absurd (other k.1)
-
-  pub wanting : Answers start old Step (replies.Refused NoMemory) new → MayWantMemory old.mode (step_outcome start old).0
-  wanting (inl e) = absurd (never_wants start old new e)
-  wanting (inr k) = k.0
+      let stays : new ≡ old = ap (λ (o : Outcome). o.1) (made.3 ∙ ap (steps_outcome start old) first ∙ no-steps-answered start old) in
+      inr (rw (← stays) made.4, k.1, stays)

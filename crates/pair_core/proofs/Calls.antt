@@ -1,13 +1,8 @@
 -- From what a call of the record ensures of its result, to the invariant of the world.
 use Rattle.std.proofs.Common.{◌≡◌, ◌∙◌, sym, ap, subst, Result, Ok, Err, OnErr}
-use Rattle.std.specs.Prelude.{IfOk, OnOk}
-use Rattle.std.specs.declared.alloc.AllocError.{AllocError}
+use Rattle.std.specs.{Prelude.{IfOk, OnOk}, declared.alloc.AllocError.AllocError}
 use Rattle.frame_ports.specs.Ports.{PortsState}
-use Rattle.pair_core.specs.declared.event.Reply.{Reply}
-use Rattle.pair_core.specs.Invariant.{Holds}
-use Rattle.pair_core.specs.Pair.{Pair}
-use Rattle.pair_core.specs.Protocol.{Record, Outcome}
-use Rattle.pair_core.specs.Record.{RecordState}
+use Rattle.pair_core.specs.{declared.event.Reply.Reply, Invariant.Holds, Pair.Pair, Protocol.{Record, Outcome}, Record.RecordState}
 
 -- on either result
 pub on_ok : {A : Type 0} (o : Result A AllocError) (P : Type 0) → P → OnOk o P

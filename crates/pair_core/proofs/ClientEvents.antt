@@ -1,31 +1,20 @@
 -- What clients and their lines do keeps the invariant: it goes into the history, before what is kept.
 use Rattle.std.proofs.Common.{◌≡◌, ℕ, ◌+◌, ◌-◌, ◌<◌, ◌≤◌, List, [], ◌∷◌, ◌++◌, length, drop, remove, refl, sym, ap, ◌∙◌, subst, arith, Bool}
-use Rattle.std.proofs.Common.{true, cond, Some}
-use Rattle.std.specs.Prelude.{slice_get, nat_lt, ◌==◌}
-use Rattle.std.proofs.lemmas.Bool.{eq-eqb, lt-ltb}
-use Rattle.std.proofs.lemmas.List.Edits.{length-remove}
+use Rattle.std.proofs.{Common.{true, cond, Some}, lemmas.Bool.{eq-eqb, lt-ltb}, lemmas.List.Edits.length-remove}
 use Rattle.std.proofs.lemmas.List.{append-nil, length-set}
-use Rattle.guest_machine.specs.Guest.{Guest}
-use Rattle.frame_ports.specs.Addresses.{IsFrame, targets_of}
-use Rattle.frame_ports.specs.Lands.{list_of, with_list, lands}
-use Rattle.frame_ports.specs.Ports.{PortsState, after_delivery}
+use Rattle.std.specs.Prelude.{slice_get, nat_lt, ◌==◌}
+use Rattle.frame_ports.specs.{Addresses.{IsFrame, targets_of}, Lands.{list_of, with_list, lands}, Ports.{PortsState, after_delivery}}
 use Rattle.frame_ports.specs.declared.limits.TheConstants.{INBOX_FRAMES, BOX_FRAMES}
 use Rattle.output_gate.specs.Epochs.{Epoch, frames_to, frames_of}
 use Rattle.pair_history.specs.Entries.{Frame, Entry, Delivered, Refused, DropIn, DropOut, Took}
 use Rattle.pair_history.specs.HistoryState.{HistoryState, Waiting, inbox_of, without_number, out_without, at, Legal, Allows}
-use Rattle.pair_history.specs.Landings.{landings, DropsAreKnown, BoxesFit}
-use Rattle.pair_history.specs.Moves.{left, AllCan}
+use Rattle.pair_history.specs.{Landings.{landings, DropsAreKnown, BoxesFit}, Moves.{left, AllCan}}
 use Rattle.pair_history.proofs.States.{at-append, Legal-append, DropsAreKnown-append, at_full-known, targets_of-append}
 use Rattle.pair_history.proofs.Waiting.{inbox_of-append, AreRising-push, AreRising-without, StandsAt, Leaves, leaves-at}
-use Rattle.pair_history.proofs.Losses.{AreRising-left, LeavesBefore, leaves-before}
-use Rattle.pair_history.proofs.Moves.{AllCan-more, left-more, left-shorter}
+use Rattle.pair_history.proofs.{Losses.{AreRising-left, LeavesBefore, leaves-before}, Moves.{AllCan-more, left-more, left-shorter}}
 use Rattle.pair_history.proofs.LandingLaws.{length-lands, BoxesFit-set, BoxesFit-at, BoxesFit-lands, AllClients-targets, landings-land}
 use Rattle.pair_history.proofs.LandingLaws.{AllLand, AllClients}
-use Rattle.pair_core.specs.declared.window.Window.{Window}
-use Rattle.pair_core.specs.Invariant.{frames_by_epoch, AreInboxes, AreNodes, AreClients, Holds}
-use Rattle.pair_core.specs.Journal.{with_history}
-use Rattle.pair_core.specs.Modes.{is_alone}
-use Rattle.pair_core.specs.Pair.{Pair, shown_state}
+use Rattle.pair_core.specs.{declared.window.Window.Window, Invariant.{AreClients, Holds}, Journal.with_history, Pair.{Pair, shown_state}}
 use Rattle.pair_core.specs.Protocol.{ack_done, deliver_done, take_done, loss_done, let_go}
 use Rattle.pair_core.specs.Record.{IsRecord, ports_after_ack, ports_after_take, ports_after_lose_in, ports_after_lose_out}
 use Rattle.pair_core.specs.Window.{committed_of, uncommitted_of}
@@ -62,30 +51,17 @@ module _ (w : Pair) (h : Holds w) (es : List Entry) (now : HistoryState)
           running_moves = h.journal.running_moves;
           sealed_are = h.journal.sealed_are;
           running_are = h.journal.running_are;
-          can = subst (λ (t : HistoryState). AllCan t.waiting ms) shown can;
+          can = rw shown at can;
         };
-        nodes =
-            subst (λ (n : ℕ). AreNodes (is_alone w.protocol.mode)
-            w.protocol.generation n (at w.start (history ++ es)).guest h.journal.sealed_moves h.journal.running_moves
-            (frames_by_epoch (uncommitted_of window pending)) w.nodes) (sym stays)
-            (subst (λ (us : List Epoch). AreNodes (is_alone w.protocol.mode)
-            w.protocol.generation w.protocol.window.to_commit (at w.start (history ++ es)).guest
-            h.journal.sealed_moves h.journal.running_moves (frames_by_epoch us) w.nodes) (sym same)
-            (subst (λ (g : Guest). AreNodes (is_alone w.protocol.mode)
-            w.protocol.generation w.protocol.window.to_commit g h.journal.sealed_moves h.journal.running_moves
-            (frames_by_epoch (uncommitted_of w.protocol.window w.protocol.pending)) w.nodes) (sym guest ∙ ap (λ t. t.guest) shown)
-            h.nodes));
-        clients = subst (λ (t : HistoryState). AreClients t (left t.waiting ms) ports) shown clients;
+        nodes = rw (← stays) at (rw (← same) at (rw (sym guest ∙ ap (λ t. t.guest) shown) at h.nodes));
+        clients = rw shown at clients;
         owed = ap (λ t. t.out) (sym shown) ∙ owed;
       }
 
 module _ (w : Pair) (h : Holds w) where
-  abbrev shown_now : HistoryState
-  shown_now = shown_state w
-
   -- a client of the ports is one of the history's
   high_there : (c : ℕ) → c ≤ length w.ports.boxes → c ≤ length (shown_state w).boxes
-  high_there c l = subst (λ (b : List (List Frame)). c ≤ length b) h.clients.boxes l
+  high_there c l = rw (← h.clients.boxes) l
 
   -- AckGet: what the gate held up to that checkpoint lands, or finds its client's box full
   pub ack_lands : (k : IsRecord w.protocol) (n : ℕ) (below : n < w.protocol.window.to_commit)
@@ -128,7 +104,7 @@ module _ (w : Pair) (h : Holds w) where
         number = h.clients.number;
         rising = h.clients.rising;
         count = h.clients.count ∙ sym long;
-        inboxes = subst (λ (x : ℕ). AreInboxes x w.ports.inboxes (left_now w h)) (sym long) h.clients.inboxes;
+        inboxes = rw long h.clients.inboxes;
         boxes = refl;
         fit = BoxesFit-lands b ps h.clients.fit;
       })
@@ -144,9 +120,7 @@ module _ (w : Pair) (h : Holds w) where
         let b = w.ports.boxes in
         let box = list_of b c in
         let entry = Took c (slice_get box 0) in
-        let allowed : Allows s entry =
-        subst (λ (x : List (List Frame)). Allows s (Took c (slice_get (list_of x c) 0))) (sym h.clients.boxes)
-        (answer s c (list_of s.boxes c) refl low (high_there c high)) in
+        let allowed : Allows s entry = rw h.clients.boxes (answer s c (list_of s.boxes c) refl low (high_there c high)) in
         let long : length (with_list b c (drop 1 box)) ≡ length b = length-set b (c - 1) (drop 1 box) in
         let now : HistoryState = record s { boxes = with_list b c (drop 1 box) } in
         history_holds w h (entry ∷ []) now
@@ -156,7 +130,7 @@ module _ (w : Pair) (h : Holds w) where
           number = h.clients.number;
           rising = h.clients.rising;
           count = h.clients.count ∙ sym long;
-          inboxes = subst (λ (x : ℕ). AreInboxes x w.ports.inboxes (left_now w h)) (sym long) h.clients.inboxes;
+          inboxes = rw long h.clients.inboxes;
           boxes = refl;
           fit = BoxesFit-set b (c - 1) (drop 1 box) h.clients.fit (shorter box (BoxesFit-at b (c - 1) h.clients.fit));
         })
@@ -194,10 +168,10 @@ module _ (w : Pair) (h : Holds w) where
           rising = AreRising-without n 1 p.next s.waiting h.clients.rising;
           count = length-set p.inboxes (c - 1) fewer ∙ h.clients.count;
           inboxes =
-              subst (AreInboxes (length p.boxes) (with_list p.inboxes c fewer)) (sym before.2)
-              (AreInboxes-with (length p.boxes) c p.inboxes fewer ws (without_number n ws) low high h.clients.count h.clients.inboxes
-              (ap (λ t. remove t place) mine ∙ sym (leaves.1 c ∙ ap (λ t. cond t (remove (inbox_of c ws) place) (inbox_of c ws)) same))
-              (λ d other. sym (leaves.1 d ∙ ap (λ t. cond t (remove (inbox_of c ws) place) (inbox_of d ws)) (apart d c other))));
+              rw before.2 (AreInboxes-with (length p.boxes) c p.inboxes fewer ws (without_number n ws) low high h.clients.count
+              h.clients.inboxes (ap (λ t. remove t place) mine ∙ sym (leaves.1 c ∙ ap (λ t. cond t (remove (inbox_of c ws) place) (inbox_of
+              c ws)) same)) (λ d other. sym (leaves.1 d ∙ ap (λ t. cond t (remove (inbox_of c ws) place) (inbox_of d ws)) (apart d c
+              other))));
           boxes = h.clients.boxes;
           fit = h.clients.fit;
         })
@@ -212,8 +186,7 @@ module _ (w : Pair) (h : Holds w) where
         let box = list_of b c in
         let fewer = remove box place in
         let same : s.boxes ≡ b = sym h.clients.boxes in
-        let boxed : place < length (list_of s.boxes c) =
-        subst (λ (x : List (List Frame)). place < length (list_of x c)) h.clients.boxes there in
+        let boxed : place < length (list_of s.boxes c) = rw (← h.clients.boxes) there in
         let test : nat_lt place (length (list_of s.boxes c)) ≡ true = lt-ltb place (length (list_of s.boxes c)) boxed in
         let long : length (with_list b c fewer) ≡ length b = length-set b (c - 1) fewer in
         let now : HistoryState = record s { boxes = with_list b c fewer } in
@@ -227,7 +200,7 @@ module _ (w : Pair) (h : Holds w) where
           number = h.clients.number;
           rising = h.clients.rising;
           count = h.clients.count ∙ sym long;
-          inboxes = subst (λ (x : ℕ). AreInboxes x w.ports.inboxes (left_now w h)) (sym long) h.clients.inboxes;
+          inboxes = rw long h.clients.inboxes;
           boxes = refl;
           fit =
               BoxesFit-set b (c - 1) fewer h.clients.fit
@@ -264,15 +237,11 @@ module _ (w : Pair) (h : Holds w) where
             rising = AreRising-push 1 p.next s.waiting x h.clients.rising refl;
             count = length-set p.inboxes (c - 1) longer ∙ h.clients.count;
             inboxes =
-                subst (AreInboxes (length p.boxes) (with_list p.inboxes c longer)) left_is
-                (AreInboxes-with (length p.boxes) c p.inboxes longer ws (ws ++ x ∷ []) low high h.clients.count h.clients.inboxes
-                (ap (λ t. t ++ (p.next, f) ∷ []) mine
-                ∙ ap (λ (t : Bool). inbox_of c ws ++ cond t ((p.next, f) ∷ []) []) (sym (eq-eqb c c refl))
-                ∙ sym (inbox_of-append c ws (x ∷ [])))
-                (λ d other.
-                sym (append-nil (inbox_of d ws))
-                ∙ ap (λ (t : Bool). inbox_of d ws ++ cond t ((p.next, f) ∷ []) []) (sym (apart c d (λ (e : c ≡ d). other (sym e))))
-                ∙ sym (inbox_of-append d ws (x ∷ []))));
+                rw (← left_is) (AreInboxes-with (length p.boxes) c p.inboxes longer ws (ws ++ x ∷ []) low high h.clients.count
+                h.clients.inboxes (ap (λ t. t ++ (p.next, f) ∷ []) mine ∙ ap (λ (t : Bool). inbox_of c ws ++ cond t ((p.next, f) ∷ []) [])
+                (sym (eq-eqb c c refl)) ∙ sym (inbox_of-append c ws (x ∷ []))) (λ d other. sym (append-nil (inbox_of d ws)) ∙ ap (λ (t :
+                Bool). inbox_of d ws ++ cond t ((p.next, f) ∷ []) []) (sym (apart c d (λ (e : c ≡ d). other (sym e)))) ∙ sym
+                (inbox_of-append d ws (x ∷ []))));
             boxes = h.clients.boxes;
             fit = h.clients.fit;
           })

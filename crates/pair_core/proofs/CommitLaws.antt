@@ -1,24 +1,16 @@
 -- What the two nodes keep along a commit: the image takes in the oldest sealed text, an empty one as well as one that follows.
-use Rattle.std.proofs.Common.{◌≡◌, ℕ, zero, suc, ◌+◌, ◌-◌, ◌≤◌, List, ◌∷◌, ◌++◌, refl, sym, ap, ◌∙◌, subst, arith, append_assoc}
-use Rattle.std.proofs.Common.{Bool, true, false, cond, Some, None, Result, Ok, Err}
+use Rattle.std.proofs.Common.{◌≡◌, ℕ, zero, suc, ◌+◌, ◌-◌, ◌≤◌, List, ◌∷◌, ◌++◌, refl, ap, ◌∙◌, subst, arith, append_assoc, Bool, true}
+use Rattle.std.proofs.{Common.{false, cond, Some, None, Result, Ok, Err}, lemmas.Bool.eq-eqb, lemmas.Bool.Decides.nat_tests}
 use Rattle.std.specs.Prelude.{nat_lt, not, ◌==◌}
-use Rattle.std.proofs.lemmas.Bool.{eq-eqb}
-use Rattle.std.proofs.lemmas.Bool.Decides.{nat_tests}
 use Rattle.guest_machine.specs.Guest.{Guest}
-use Rattle.epoch_snapshot.specs.Bases.{IsBase}
-use Rattle.epoch_snapshot.specs.Checkpoints.{Change}
-use Rattle.epoch_snapshot.specs.Images.{image_of}
-use Rattle.backup_image.specs.declared.errors.ImageError.{ImageError}
-use Rattle.backup_image.specs.declared.errors.ImageError.TheVariants.{Stale, Gap}
-use Rattle.backup_image.specs.declared.standing.Staged.{Staged}
-use Rattle.backup_image.specs.declared.standing.Staged.TheVariants.{New, Again}
+use Rattle.epoch_snapshot.specs.{Bases.IsBase, Checkpoints.Change, Images.image_of}
+use Rattle.backup_image.specs.{declared.errors.ImageError.ImageError, declared.errors.ImageError.TheVariants.{Stale, Gap}}
+use Rattle.backup_image.specs.{declared.standing.Staged.Staged, declared.standing.Staged.TheVariants.{New, Again}}
 use Rattle.backup_image.specs.Images.{ImageState, answer_at, stage_answer, staged_after, after_stage, committed}
-use Rattle.pair_history.specs.Entries.{Frame}
-use Rattle.pair_history.specs.Moves.{Move, guest_along, frames_along}
+use Rattle.pair_history.specs.{Entries.Frame, Moves.{Move, guest_along, frames_along}}
 use Rattle.pair_history.proofs.Moves.{guest_along-append}
 use Rattle.pair_core.specs.Invariant.{all_moves, epoch_frames, AreNodes, IsBacked}
-use Rattle.pair_core.specs.Nodes.{Nodes, machine_of, with_commit, first_text, later_texts, read_as}
-use Rattle.pair_core.specs.Texts.{IsText}
+use Rattle.pair_core.specs.{Nodes.{Nodes, machine_of, with_commit, first_text, later_texts, read_as}, Texts.IsText}
 use Rattle.pair_core.proofs.NodesLaws.{shape-moves, reads-as, first-sealed, later-sealed}
 
 -- the image that a new checkpoint makes
@@ -109,7 +101,4 @@ module _ (alone : Bool) (generation n : ℕ) (g : Guest) (ms : List Move) (mss :
       }
 
   pub nodes-commit : AreNodes alone generation (n + 1) (guest_along g ms) mss ran held (with_commit x)
-  nodes-commit =
-      subst (λ (i : ImageState). AreNodes alone generation (n + 1) (guest_along g ms) mss ran held
-      (record x { image = i; sealed = later_texts x.sealed }))
-      (sym (takes-in x.image change (is-new n refl))) taken
+  nodes-commit = rw (takes-in x.image change (is-new n refl)) taken

@@ -1,29 +1,19 @@
 -- What is kept true from event to event gives what contracts say.
-use Rattle.std.proofs.Common.{◌≡◌, ℕ, ◌+◌, true, false, List, [], ◌∷◌, ◌++◌, length, refl, sym, ap, ◌∙◌, subst, append_assoc}
+use Rattle.std.proofs.Common.{rules, arith, ◌≡◌, ℕ, ◌+◌, true, false, List, [], ◌∷◌, ◌++◌, length, refl, sym, ap, ◌∙◌, subst, append_assoc}
+use Rattle.std.proofs.{lemmas.List.{map-append, take-append-drop}, lemmas.List.Elements.{All-nil, All-cons}}
 use Rattle.std.specs.Prelude.{map, All}
-use Rattle.std.proofs.lemmas.List.{map-append, take-append-drop}
-use Rattle.std.proofs.lemmas.List.Elements.{All-nil, All-cons}
-use Rattle.guest_machine.specs.declared.shapes.Shape.{Shape}
-use Rattle.guest_machine.specs.Guest.{Guest}
-use Rattle.epoch_snapshot.specs.Bases.{IsBase}
+use Rattle.guest_machine.specs.{declared.shapes.Shape.Shape, Guest.Guest}
 use Rattle.frame_ports.specs.Addresses.{targets_of}
 use Rattle.output_gate.specs.Epochs.{Epoch, frames_of}
-use Rattle.pair_history.specs.Entries.{Frame, Entry, Ran, Arrive}
-use Rattle.pair_history.specs.HistoryState.{HistoryState, at, sent_along, Legal}
+use Rattle.pair_history.specs.{Entries.{Frame, Entry, Ran, Arrive}, HistoryState.{HistoryState, at}}
 use Rattle.pair_history.specs.Moves.{Move, Steps, Arrives, entry_of, entries_of, guest_along, frames_along, AllCan}
 use Rattle.pair_history.proofs.States.{at-append, targets_of-append}
 use Rattle.pair_history.proofs.Moves.{moved, at-moves, Legal-moves, sent_along-moves, frames_along-append, AllCan-front, AllCan-back}
-use Rattle.pair_core.specs.Invariant.{all_moves, first_moves, epoch_frames, frames_by_epoch, AreInboxes, AreSealed, Holds}
-use Rattle.pair_core.specs.Journal.{joined, first_of, kept_entries}
-use Rattle.pair_core.specs.Nodes.{Fills, machine_of}
-use Rattle.pair_core.specs.Modes.{is_alone}
-use Rattle.pair_core.specs.Pair.{Pair, shown_state, live_state, HasBackup, IsAlone, is_of_guest, IsConsistent}
-use Rattle.pair_core.specs.Protocol.{outbox_of}
-use Rattle.pair_core.specs.Record.{IsRecord, IsLone}
-use Rattle.pair_core.specs.Texts.{IsText, AreTexts}
-use Rattle.pair_core.specs.Window.{committed_count, committed_of, uncommitted_of}
-use Rattle.pair_core.proofs.Events.{frames_of-append, kept_moves, left_now}
-use Rattle.pair_core.proofs.RecordLaws.{some_committed, none_committed}
+use Rattle.pair_core.specs.Invariant.{all_moves, first_moves, epoch_frames, frames_by_epoch, AreSealed, Holds}
+use Rattle.pair_core.specs.{Journal.{joined, first_of, kept_entries}, Modes.is_alone}
+use Rattle.pair_core.specs.{Pair.{Pair, shown_state, live_state, HasBackup, IsAlone, is_of_guest, IsConsistent}, Protocol.outbox_of}
+use Rattle.pair_core.specs.{Record.{IsRecord, IsLone}, Texts.AreTexts, Window.{committed_count, committed_of, uncommitted_of}}
+use Rattle.pair_core.proofs.{Events.{frames_of-append, kept_moves, left_now}, RecordLaws.{some_committed, none_committed}}
 
 joined-entries : (mss : List (List Move)) → joined (map entries_of mss) ≡ entries_of (all_moves mss)
 joined-entries [] = refl
@@ -39,9 +29,9 @@ texts_are shape generation n s (ms ∷ mss) rest [] can h = absurd h
 texts_are shape generation n s (ms ∷ mss) rest (t ∷ texts) can h =
     let apart : AllCan s.waiting (ms ++ (all_moves mss ++ rest)) = subst (AllCan s.waiting) (append_assoc ms (all_moves mss) rest) can in
     let is : moved s ms ≡ at s (entries_of ms) = sym (at-moves s ms (AllCan-front s.waiting ms (all_moves mss ++ rest) apart)) in (
-      subst (λ (a : HistoryState). IsText shape generation n s.guest a.guest t) is h.0,
-      subst (λ (a : HistoryState). AreTexts shape generation (n + 1) a (map entries_of mss) texts) is
-          (texts_are shape generation (n + 1) (moved s ms) mss rest texts (AllCan-back s.waiting ms (all_moves mss ++ rest) apart) h.1),
+      rw (← is) h.0,
+      rw (← is) (texts_are shape generation (n + 1) (moved s ms) mss rest texts (AllCan-back s.waiting ms (all_moves mss ++ rest) apart)
+          h.1),
     )
 
 -- the guest does all moves
@@ -62,9 +52,7 @@ module _ (w : Pair) (h : Holds w) where
   sealed_entries = ap joined h.journal.sealed_are ∙ joined-entries h.journal.sealed_moves
 
   pub kept_is : kept_entries w.protocol.journal ≡ entries_of (kept_moves w h)
-  kept_is =
-      ap (λ t. t ++ w.protocol.journal.running) sealed_entries ∙ ap (λ t. entries_of sealed_moves ++ t) h.journal.running_are
-      ∙ sym (map-append entry_of sealed_moves h.journal.running_moves)
+  kept_is = search (arith, rules, map-append, sealed_entries)
 
   pub live_is_moved : live_state w ≡ moved (shown_state w) (kept_moves w h)
   live_is_moved = at-append w.start w.protocol.journal.history (kept_entries w.protocol.journal) ∙ ap (at (shown_state w)) kept_is
@@ -77,17 +65,10 @@ module _ (w : Pair) (h : Holds w) where
   live_waiting = ap (λ s. s.waiting) live_is_moved
 
   sealed_state : at w.start (w.protocol.journal.history ++ joined w.protocol.journal.sealed) ≡ moved (shown_state w) sealed_moves
-  sealed_state =
-      at-append w.start w.protocol.journal.history (joined w.protocol.journal.sealed) ∙ ap (at (shown_state w)) sealed_entries
-      ∙ at-moves (shown_state w) sealed_moves (AllCan-front (shown_state w).waiting sealed_moves h.journal.running_moves h.journal.can)
+  sealed_state = search (arith, rules, AllCan-front, at-append, at-moves, sealed_entries)
 
   pub outbox_is : outbox_of w.start w.protocol ≡ w.nodes.live.outbox
-  outbox_is =
-      ap (λ s. sent_along s w.protocol.journal.running) sealed_state
-      ∙ ap (sent_along (moved (shown_state w) sealed_moves)) h.journal.running_are
-      ∙ sent_along-moves (moved (shown_state w) sealed_moves)
-      h.journal.running_moves (AllCan-back (shown_state w).waiting sealed_moves h.journal.running_moves h.journal.can)
-      ∙ sym h.nodes.outbox
+  outbox_is = search (arith, rules, AllCan-back, moved, sealed_state, sent_along-moves)
 
   -- the frames sent along all that is kept
   kept_frames : frames_along (shown_state w).guest (kept_moves w h) ≡ frames_of (uncommitted_of w.protocol.window w.protocol.pending)
@@ -143,43 +124,11 @@ module _ (w : Pair) (h : Holds w) where
           ap (λ (t : HistoryState). t.guest) (at-moves s ms (AllCan-front s.waiting ms rest apart))
 
   pub has_backup : IsRecord w.protocol → is_alone w.protocol.mode ≡ false → HasBackup w
-  has_backup k two =
-      let b = h.nodes.backed two in
-      record {
-        base = subst (λ (s : HistoryState). IsBase (machine_of w.nodes.live) s.guest) (sym sealed_state) b.base;
-        follows = λ e.
-            let f = b.follows (some_committed w.protocol k two e) in
-            record { image = f.image; stands_at = f.stands_at };
-        filling = λ e.
-            subst (λ (g : Guest). Fills g w.nodes) (sym first_guest) (b.fills (none_committed w.protocol k e));
-        staged = b.staged;
-        sealed =
-            subst (λ (ess : List (List Entry)). AreTexts w.nodes.image.shape w.protocol.generation w.protocol.window.to_commit
-            (shown_state w) ess w.nodes.sealed) (sym h.journal.sealed_are)
-            (texts_are w.nodes.image.shape w.protocol.generation w.protocol.window.to_commit (shown_state w) h.journal.sealed_moves
-            h.journal.running_moves w.nodes.sealed h.journal.can b.sealed);
-      }
+  has_backup k two = search (arith, rules, first_guest, none_committed, sealed_state, some_committed, texts_are)
 
   pub alone_is : IsLone w.protocol → IsAlone w
-  alone_is k = record {
-    kept = λ i. joined (k.0 i) ++ k.1 i;
-    pending = k.2;
-    outbox = sym outbox_is ∙ ap (sent_along (at w.start (w.protocol.journal.history ++ joined w.protocol.journal.sealed))) k.1;
-  }
+  alone_is k = search (arith, rules, outbox_is)
 
   pub consistent : IsRecord w.protocol → IsConsistent w
-  consistent k = record {
-    legal = h.journal.legal;
-    drops = h.journal.drops;
-    goes_on = subst (Legal (shown_state w)) (sym kept_is) (Legal-moves (shown_state w) (kept_moves w h) h.journal.can);
-    live = sym live_is;
-    kept = subst (All IsOfGuest) (sym kept_is) (of_guest (kept_moves w h));
-    backup = has_backup k;
-    alone = λ e. alone_is (k.alone e);
-    outbox = sym outbox_is;
-    number = h.clients.number;
-    clients = h.clients.count;
-    inboxes = subst (AreInboxes (length w.ports.boxes) w.ports.inboxes) (sym live_waiting) h.clients.inboxes;
-    boxes = h.clients.boxes;
-    owed = owed_is;
-  }
+  consistent k =
+      search (arith, rules, Legal-moves, alone_is, has_backup, kept_is, kept_moves, live_is, live_waiting, of_guest, outbox_is, owed_is)

@@ -1,43 +1,30 @@
 -- Each event keeps the invariant: one lemma for each part that it touches, and the others pass on by name.
 use Rattle.std.proofs.Common.{◌≡◌, ◌≢◌, ℕ, zero, suc, ◌+◌, ◌-◌, ◌*◌, ◌<◌, ◌≤◌, List, [], ◌∷◌, ◌++◌, length, take, drop, remove, get_or}
-use Rattle.std.proofs.Common.{replicate, refl, sym, ap, ◌∙◌, subst, arith, append_assoc, true, false, cond, Some, ⊎_elim, Bool}
-use Rattle.std.specs.Prelude.{map, slice_get, ◌==◌}
-use Rattle.std.proofs.lemmas.Bool.{eq-eqb}
-use Rattle.std.proofs.lemmas.Bool.Decides.{nat_tests, eqb_tells}
+use Rattle.std.proofs.Common.{replicate, refl, sym, ap, ◌∙◌, subst, arith, append_assoc, true, false, cond, Some, ⊎_elim}
+use Rattle.std.proofs.{lemmas.Bool.eq-eqb, lemmas.Bool.Decides.{nat_tests, eqb_tells}}
 use Rattle.std.proofs.lemmas.List.{append-nil, length-map, length-replicate, length-set, map-append, get_or-set_same, get_or-set_other}
 use Rattle.std.proofs.lemmas.List.{drop-append-le, take-append-le}
-use Rattle.guest_machine.specs.declared.shapes.Shape.{Shape}
-use Rattle.guest_machine.specs.Guest.{Guest}
+use Rattle.std.specs.Prelude.{map, slice_get, ◌==◌}
+use Rattle.guest_machine.specs.{declared.shapes.Shape.Shape, Guest.Guest}
 use Rattle.epoch_snapshot.specs.Bases.{IsBase}
-use Rattle.frame_ports.specs.Addresses.{targets_of}
-use Rattle.frame_ports.specs.Lands.{list_of, with_list}
-use Rattle.frame_ports.specs.Ports.{empty_ports}
+use Rattle.frame_ports.specs.{Addresses.targets_of, Lands.{list_of, with_list}, Ports.empty_ports}
 use Rattle.failover.specs.declared.mode.Mode.{Mode}
 use Rattle.output_gate.specs.Epochs.{Epoch, frames_of}
-use Rattle.pair_history.specs.Entries.{Frame, Entry}
-use Rattle.pair_history.specs.HistoryState.{HistoryState, Waiting, inbox_of, without_number, at, Legal, start_state}
+use Rattle.pair_history.specs.{Entries.{Frame, Entry}, HistoryState.{Waiting, inbox_of, without_number, at, Legal, start_state}}
 use Rattle.pair_history.specs.Landings.{BoxesFit, DropsAreKnown}
-use Rattle.pair_history.specs.Moves.{Move, Arrives, entry_of, entries_of, guest_along, frames_along, left, AllCan, AreRising}
+use Rattle.pair_history.specs.Moves.{Move, Arrives, entry_of, entries_of, guest_along, frames_along, left, AllCan}
 use Rattle.pair_history.proofs.States.{at-append, Legal-append, targets_of-append, DropsAreKnown-append}
 use Rattle.pair_history.proofs.Waiting.{Leaves, StandsAt, leaves-at}
 use Rattle.pair_history.proofs.Moves.{guest_along-append, frames_along-append, left-append, AllCan-append, AllCan-front, AllCan-back, moved}
-use Rattle.pair_history.proofs.Moves.{at-moves, Legal-moves, DropsAreKnown-moves}
+use Rattle.pair_history.proofs.{Moves.{at-moves, Legal-moves, DropsAreKnown-moves}, Losses.AreRising-left}
 use Rattle.pair_core.specs.Invariant.{all_moves, epoch_frames, frames_by_epoch, AreInboxes, AreSealed, AreNodes, AreClients, Holds}
-use Rattle.pair_core.specs.Journal.{with_running, first_of, rest_of}
-use Rattle.pair_core.specs.Lines.{Lines}
-use Rattle.pair_core.specs.Modes.{is_alone, filled}
+use Rattle.pair_core.specs.{Journal.{with_running, first_of, rest_of}, Lines.Lines, Modes.{is_alone, filled}}
 use Rattle.pair_core.specs.Nodes.{Node, HasShape, machine_of, start_nodes, with_arrival, with_sealed, with_commit, first_text}
-use Rattle.pair_core.specs.Texts.{IsText}
-use Rattle.pair_core.specs.Pair.{Pair, shown_state}
-use Rattle.pair_core.specs.Protocol.{cut_done, commit_done}
-use Rattle.pair_core.specs.Record.{IsRecord, start_record, ports_after_admit}
-use Rattle.pair_core.specs.Window.{committed_of, uncommitted_of, committed_count}
+use Rattle.pair_core.specs.{Texts.IsText, Pair.{Pair, shown_state}, Protocol.{cut_done, commit_done}}
+use Rattle.pair_core.specs.{Record.{IsRecord, start_record, ports_after_admit}, Window.{committed_of, uncommitted_of, committed_count}}
 use Rattle.pair_core.proofs.ModeLaws.{filled_alone}
 use Rattle.pair_core.proofs.NodesLaws.{all_moves-push, shape-arrived, base-with_arrival, first-sealed, length-sealed, backed-live}
-use Rattle.pair_core.proofs.NodesLaws.{nodes-cut, nodes-start}
-use Rattle.pair_core.proofs.CommitLaws.{nodes-commit}
-use Rattle.pair_core.proofs.WindowLaws.{within}
-use Rattle.pair_history.proofs.Losses.{AreRising-left}
+use Rattle.pair_core.proofs.{NodesLaws.{nodes-cut, nodes-start}, CommitLaws.nodes-commit, WindowLaws.within}
 
 -- Lists of epochs
 
@@ -94,8 +81,7 @@ module _ (w : Pair) (h : Holds w) (ms : List Move) (es : List Entry) (live : Nod
           sealed_moves = h.journal.sealed_moves;
           running_moves = ran ++ ms;
           sealed_are = h.journal.sealed_are;
-          running_are =
-              ap (λ t. t ++ es) h.journal.running_are ∙ ap (λ t. entries_of ran ++ t) es_are ∙ sym (map-append entry_of ran ms);
+          running_are = ap (λ t. t ++ es) h.journal.running_are ∙ ap (λ t. entries_of ran ++ t) es_are ∙ sym (map-append entry_of ran ms);
           can = subst (AllCan s.waiting) regroup (AllCan-append s.waiting now ms h.journal.can can);
         };
         nodes = record {
@@ -112,7 +98,7 @@ module _ (w : Pair) (h : Holds w) (ms : List Move) (es : List Entry) (live : Nod
               ∙ ap (λ x. frames_along g ran ++ frames_along x ms) live_is ∙ sym (frames_along-append g ran ms);
           shape = shape w.nodes.image.shape h.nodes.shape;
         };
-        clients = subst (λ (v : List Waiting). AreClients s v (record w.ports { inboxes = inboxes })) left_is clients;
+        clients = rw (← left_is) clients;
         owed = h.owed;
       }
 
@@ -142,8 +128,7 @@ pub admit_holds : (w : Pair) (h : Holds w) (c n : ℕ) (f : Frame) → 1 ≤ c �
     → slice_get (list_of w.ports.inboxes c) 0 ≡ Some (n, f)
     → Holds (record w {
       protocol = record w.protocol { journal = with_running w.protocol.journal (entries_of (Arrives n f ∷ [])) };
-      ports =
-          ports_after_admit w.ports c;
+      ports = ports_after_admit w.ports c;
       nodes = with_arrival w.nodes f;
     })
 admit_holds w h c n f low high first =
@@ -206,13 +191,10 @@ module _ (w : Pair) (h : Holds w) (k : IsRecord w.protocol) (text : List ℕ)
           can = subst (AllCan s.waiting) same h.journal.can;
         };
         nodes =
-            subst (λ (held : List (List Frame)). AreNodes (is_alone w.protocol.mode)
-            w.protocol.generation w.protocol.window.to_commit s.guest
-            (mss ++ ran ∷ []) [] held (with_sealed w.nodes text)) frames
-            (nodes-cut (is_alone w.protocol.mode) w.protocol.generation w.protocol.window.to_commit s.guest mss ran
-            (frames_by_epoch (drop n pending)) w.nodes w.protocol.window.to_cut text h.nodes counted
-            (λ e. is_text (guest_along s.guest (all_moves mss)) (h.nodes.backed e).base h.nodes.shape));
-        clients = subst (λ (ms : List Move). AreClients s (left s.waiting ms) w.ports) same h.clients;
+            rw (← frames) (nodes-cut (is_alone w.protocol.mode) w.protocol.generation w.protocol.window.to_commit s.guest mss ran
+            (frames_by_epoch (drop n pending)) w.nodes w.protocol.window.to_cut text h.nodes counted (λ e. is_text (guest_along s.guest
+            (all_moves mss)) (h.nodes.backed e).base h.nodes.shape));
+        clients = rw (← same) h.clients;
         owed = h.owed ∙ ap (λ t. targets_of (length w.ports.boxes) (frames_of t)) (sym (take-append-le n pending (e ∷ []) enough));
       }
 
@@ -227,9 +209,7 @@ pub mode_holds : (w : Pair) → Holds w → (mode : Mode) → is_alone w.protoco
     → Holds (record w { protocol = record w.protocol { mode = mode } })
 mode_holds w h mode same = record {
   journal = h.journal;
-  nodes =
-      subst (λ (alone : Bool). AreNodes alone w.protocol.generation w.protocol.window.to_commit (shown_state w).guest h.journal.sealed_moves
-      h.journal.running_moves (frames_by_epoch (uncommitted_of w.protocol.window w.protocol.pending)) w.nodes) same h.nodes;
+  nodes = rw (← same) h.nodes;
   clients = h.clients;
   owed = h.owed;
 }
@@ -303,7 +283,7 @@ module _ (w : Pair) (h : Holds w) (k : IsRecord w.protocol) (two : is_alone w.pr
           running_moves = h.journal.running_moves;
           sealed_are = ap rest_of sealed_is;
           running_are = h.journal.running_are;
-          can = subst (λ (t : HistoryState). AllCan t.waiting rest) (sym shown) (AllCan-back s.waiting ms rest can);
+          can = rw shown (AllCan-back s.waiting ms rest can);
         };
         nodes =
             let n = r.window.to_commit in
@@ -312,14 +292,9 @@ module _ (w : Pair) (h : Holds w) (k : IsRecord w.protocol) (two : is_alone w.pr
             ap frames_by_epoch (sym (ap (λ m. drop m r.pending) one_more ∙ next.1)) in
             let alone = is_alone (filled r.mode) in
             let same = filled_alone r.mode in
-            let before =
-            subst (λ (a : Bool). AreNodes a r.generation n s.guest h.journal.sealed_moves h.journal.running_moves
-            (frames_by_epoch (uncommitted_of r.window r.pending)) w.nodes) (sym same) h.nodes in
+            let before = rw (← same) at h.nodes in
             let now : AreNodes alone r.generation n s.guest (ms ∷ mss) h.journal.running_moves (e.frames ∷ rest_held) w.nodes =
-            subst (λ (t : List (List Move)). AreNodes alone r.generation n s.guest t h.journal.running_moves (e.frames ∷ rest_held) w.nodes)
-            moves_are
-            (subst (λ (us : List Epoch). AreNodes alone r.generation n s.guest h.journal.sealed_moves h.journal.running_moves
-            (frames_by_epoch us) w.nodes) us_is before) in
+            rw moves_are at (rw us_is at before) in
             subst (λ (x : Guest). AreNodes alone r.generation (n + 1)
             x mss h.journal.running_moves (frames_by_epoch (drop ((n + 1) - r.window.to_acknowledge) r.pending)) (with_commit w.nodes))
             guest
@@ -328,9 +303,7 @@ module _ (w : Pair) (h : Holds w) (k : IsRecord w.protocol) (two : is_alone w.pr
             (nodes-commit alone r.generation n s.guest ms mss h.journal.running_moves e.frames rest_held w.nodes now (same ∙ two)));
         clients = record {
           number = h.clients.number ∙ sym (ap (λ t. t.number) shown);
-          rising =
-              subst (λ (t : HistoryState). AreRising 1 w.ports.next t.waiting) (sym shown)
-              (AreRising-left 1 w.ports.next s.waiting ms h.clients.rising);
+          rising = rw shown (AreRising-left 1 w.ports.next s.waiting ms h.clients.rising);
           count = h.clients.count;
           inboxes = subst (AreInboxes n w.ports.inboxes) left_is h.clients.inboxes;
           boxes = h.clients.boxes ∙ sym (ap (λ t. t.boxes) shown);

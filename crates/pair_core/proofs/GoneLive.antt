@@ -1,34 +1,17 @@
 -- Where the backup goes live: what was kept is discarded, and the guest is the history's.
-use Rattle.std.proofs.Common.{◌≡◌, ℕ, zero, suc, ◌+◌, ◌<◌, ◌≤◌, List, [], ◌∷◌, ◌++◌, length, replicate, refl, sym, ap, ◌∙◌, subst, arith}
-use Rattle.std.proofs.Common.{Bool, true, false, cond}
+use Rattle.std.proofs.Common.{rules, ◌≡◌, ℕ, zero, suc, ◌+◌, ◌<◌, ◌≤◌, List, [], ◌∷◌, ◌++◌, length, replicate, refl, sym, ap, ◌∙◌, subst}
+use Rattle.std.proofs.{Common.{arith, Bool, true, false, cond}, lemmas.Bool.Decides.nat_tests}
 use Rattle.std.specs.Prelude.{map, remove, nat_lt}
-use Rattle.std.proofs.lemmas.Bool.Decides.{nat_tests}
-use Rattle.frame_ports.specs.Addresses.{targets_of}
-use Rattle.frame_ports.specs.Lands.{list_of, with_list}
-use Rattle.frame_ports.specs.declared.limits.TheConstants.{NUMBER_LIMIT}
+use Rattle.frame_ports.specs.{Addresses.targets_of, Lands.{list_of, with_list}, declared.limits.TheConstants.NUMBER_LIMIT}
 use Rattle.output_gate.specs.Epochs.{Epoch, frames_of}
-use Rattle.pair_history.specs.Entries.{Frame, Entry, DropIn, DropOut}
-use Rattle.pair_history.specs.Failures.{arrived_numbers, rising, drops_of_owed_from, go_live_entries}
-use Rattle.pair_history.specs.HistoryState.{HistoryState, after, at, out_of, Legal}
-use Rattle.pair_history.specs.Landings.{DropsAreKnown}
-use Rattle.pair_history.specs.Moves.{left}
-use Rattle.pair_history.specs.Order.{AreGuests}
-use Rattle.pair_history.proofs.FailureLaws.{goes_live, AreGuests-moves}
-use Rattle.pair_history.proofs.LandingLaws.{AllClients, AllClients-targets}
-use Rattle.pair_history.proofs.Losses.{AreRising-left}
-use Rattle.pair_history.proofs.Moves.{Legal-moves}
-use Rattle.pair_history.proofs.States.{at-append, Legal-append, DropsAreKnown-append}
-use Rattle.pair_core.specs.Invariant.{frames_by_epoch, AreNodes, AreClients, Holds}
-use Rattle.pair_core.specs.Journal.{kept_entries}
-use Rattle.pair_core.specs.Modes.{is_alone}
-use Rattle.pair_core.specs.Nodes.{HasShape, gone_live}
-use Rattle.pair_core.specs.Pair.{Pair, shown_state}
-use Rattle.pair_core.specs.Protocol.{go_live_done}
-use Rattle.pair_core.specs.Record.{owed_to}
+use Rattle.pair_history.specs.{Entries.{Frame, Entry, DropIn, DropOut}, Failures.{drops_of_owed_from, go_live_entries}}
+use Rattle.pair_history.specs.{HistoryState.{HistoryState, after, at, out_of, Legal}, Landings.DropsAreKnown, Moves.left, Order.AreGuests}
+use Rattle.pair_history.proofs.{FailureLaws.{goes_live, AreGuests-moves}, LandingLaws.{AllClients, AllClients-targets}}
+use Rattle.pair_history.proofs.{Losses.AreRising-left, Moves.Legal-moves, States.{at-append, Legal-append, DropsAreKnown-append}}
+use Rattle.pair_core.specs.{Invariant.{frames_by_epoch, AreNodes, AreClients, Holds}, Journal.kept_entries, Modes.is_alone}
+use Rattle.pair_core.specs.{Nodes.{HasShape, gone_live}, Pair.{Pair, shown_state}, Protocol.go_live_done, Record.owed_to}
 use Rattle.pair_core.specs.Window.{committed_of, uncommitted_of, committed_count, none_pending}
-use Rattle.pair_core.proofs.AllLands.{take-none, drop-none}
-use Rattle.pair_core.proofs.Consistent.{kept_is, live_waiting}
-use Rattle.pair_core.proofs.Events.{kept_moves, left_now}
+use Rattle.pair_core.proofs.{AllLands.{take-none, drop-none}, Consistent.{kept_is, live_waiting}, Events.{kept_moves, left_now}}
 
 -- WHAT IT DROPS is what the kept entries took in, and what is next on its way to a client
 
@@ -60,9 +43,7 @@ module _ (b : List (List Frame)) where
       known-to first (length (out_of first out)) (drops_of_owed_from n (first + 1) b out) (known-from n (first + 1) out) t e
 
 go_live_known : (s : HistoryState) (kept : List Entry) → DropsAreKnown s (go_live_entries s kept)
-go_live_known s kept =
-    known-ins s.boxes (rising (arrived_numbers kept)) (drops_of_owed_from (length s.boxes) 1 s.boxes s.out)
-    (known-from s.boxes (length s.boxes) 1 s.out) s refl
+go_live_known s kept = search (arith, rules, known-from, known-ins)
 
 module _ (w : Pair) (h : Holds w) (two : is_alone w.protocol.mode ≡ false) (some : 1 ≤ w.protocol.window.to_commit) (steps : ℕ)
     (last : w.protocol.generation + 1 < NUMBER_LIMIT) where
@@ -82,8 +63,7 @@ module _ (w : Pair) (h : Holds w) (two : is_alone w.protocol.mode ≡ false) (so
       let guests : AreGuests kept = subst AreGuests (sym (kept_is w h)) (AreGuests-moves ms) in
       let fs = frames_of (committed_of r.window r.pending) in
       let all : AllClients (length s.boxes) s.out =
-      subst (λ (b : List (List Frame)). AllClients (length b) s.out) h.clients.boxes
-      (subst (AllClients (length w.ports.boxes)) (sym h.owed) (AllClients-targets (length w.ports.boxes) fs)) in
+      rw (← h.clients.boxes) (subst (AllClients (length w.ports.boxes)) (sym h.owed) (AllClients-targets (length w.ports.boxes) fs)) in
       let goes = goes_live s kept all guests legal in
       let waiting : (at s kept).waiting ≡ left_now w h =
       ap (λ (t : HistoryState). t.waiting) (sym (at-append w.start j.history kept)) ∙ live_waiting w h in
@@ -122,10 +102,8 @@ module _ (w : Pair) (h : Holds w) (two : is_alone w.protocol.mode ≡ false) (so
           running_are = refl;
           can = tt;
         };
-        nodes =
-            subst (λ (t : HistoryState). AreNodes true (r.generation + 1) r.window.to_commit t.guest [] []
-            (frames_by_epoch (uncommitted_of window [])) (gone_live w.nodes)) (sym shown) nodes;
-        clients = subst (λ (t : HistoryState). AreClients t (left t.waiting []) w.ports) (sym shown) clients;
+        nodes = rw shown nodes;
+        clients = rw shown clients;
         owed =
             ap (λ (t : HistoryState). t.out) shown
             ∙ ap (λ (es : List Epoch). targets_of (length w.ports.boxes) (frames_of es)) (sym (take-none (committed_count window)));

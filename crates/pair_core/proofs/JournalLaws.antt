@@ -1,9 +1,8 @@
 -- Laws of stored epochs, and of how many entries a journal has.
-use Rattle.std.proofs.Common.{◌≡◌, ℕ, ◌+◌, List, [], ◌∷◌, ◌++◌, length, sym, ap, ◌∙◌, append_assoc}
+use Rattle.std.proofs.Common.{rules, arith, ◌≡◌, ℕ, ◌+◌, List, [], ◌∷◌, ◌++◌, length, sym, ap, ◌∙◌, append_assoc}
 use Rattle.std.proofs.lemmas.List.{append-nil, length-append, replicate-append-replicate}
 use Rattle.pair_history.specs.Entries.{Entry, Ran, Arrive}
-use Rattle.pair_core.specs.declared.epochs.Arrival.{Arrival}
-use Rattle.pair_core.specs.Arrivals.{steps_of, arrival_of, arrivals_of, epoch_entries}
+use Rattle.pair_core.specs.{declared.epochs.Arrival.Arrival, Arrivals.{steps_of, arrival_of, arrivals_of, epoch_entries}}
 use Rattle.pair_core.specs.Journal.{Journal, joined, kept_entries, all_entries}
 
 -- an epoch goes on by steps, or by an arrival
@@ -19,10 +18,7 @@ arrivals_of-push (y ∷ arrivals) x = ap (λ t. arrival_of y ++ t) (arrivals_of-
 
 pub epoch-arrives : (arrivals : List Arrival) (n k : ℕ)
     → epoch_entries arrivals n ++ Arrive k ∷ [] ≡ epoch_entries (arrivals ++ record { steps = n; number = k } ∷ []) 0
-epoch-arrives arrivals n k =
-    append_assoc (arrivals_of arrivals) (steps_of n) (Arrive k ∷ [])
-    ∙ sym (append-nil (arrivals_of (arrivals ++ record { steps = n; number = k } ∷ []))
-    ∙ arrivals_of-push arrivals (record { steps = n; number = k }))
+epoch-arrives arrivals n k = search (arith, rules, append-nil, append_assoc, arrivals_of-push)
 
 pub joined-push : (ess : List (List Entry)) (es : List Entry) → joined (ess ++ es ∷ []) ≡ joined ess ++ es
 joined-push [] es = append-nil es

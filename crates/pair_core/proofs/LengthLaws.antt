@@ -1,14 +1,11 @@
 -- Landings by the lengths of the boxes are landings.
 use Rattle.std.proofs.Common.{◌≡◌, ℕ, zero, suc, ◌+◌, ◌-◌, ◌<◌, ◌≤◌, List, [], ◌∷◌, ◌++◌, length, get_or, set, refl, sym, ap, ◌∙◌, subst}
-use Rattle.std.proofs.Common.{arith, Bool, true, false, cond, inl, inr}
-use Rattle.std.specs.Prelude.{map, nat_lt}
-use Rattle.std.proofs.lemmas.List.{get_or-set_same, get_or-set_other}
+use Rattle.std.proofs.{Common.{arith, Bool, true, false, cond, inl, inr}, lemmas.List.{get_or-set_same, get_or-set_other}}
 use Rattle.std.proofs.lemmas.Bool.Decides.{eqb_tells}
-use Rattle.frame_ports.specs.Addresses.{targets_of, paired_with, clients_of}
-use Rattle.frame_ports.specs.Lands.{list_of, with_list, has_room, landed_at}
+use Rattle.std.specs.Prelude.{map, nat_lt}
+use Rattle.frame_ports.specs.{Addresses.{targets_of, paired_with, clients_of}, Lands.{list_of, with_list, has_room, landed_at}}
 use Rattle.frame_ports.specs.declared.limits.TheConstants.{BOX_FRAMES}
-use Rattle.pair_history.specs.Entries.{Frame, Land, DropOut}
-use Rattle.pair_history.specs.Landings.{landings}
+use Rattle.pair_history.specs.{Entries.{Frame, Land, DropOut}, Landings.landings}
 use Rattle.pair_core.specs.Lengths.{receivers, has_space, lengths_at, lengths_after, landing_by, landings_by, AreLengths}
 use Rattle.pair_history.proofs.LandingLaws.{AllClients, AllClients-targets, length-landed_at, length-set'}
 
@@ -79,10 +76,8 @@ module _ (lengths : List ℕ) (boxes : List (List Frame)) (are : AreLengths leng
       by_test : (t : Bool) → has_space lengths c ≡ t
           → AreLengths (cond (has_space lengths c) (set lengths (c - 1) (get_or lengths (c - 1) 0 + 1)) lengths)
           (cond t (with_list boxes c (list_of boxes c ++ f ∷ [])) boxes)
-      by_test true e = subst (λ (t : Bool). AreLengths (cond t (set lengths (c - 1) (get_or lengths (c - 1) 0 + 1)) lengths)
-          (with_list boxes c (list_of boxes c ++ f ∷ []))) (sym e) with_room
-      by_test false e = subst (λ (t : Bool). AreLengths (cond t (set lengths (c - 1) (get_or lengths (c - 1) 0 + 1)) lengths) boxes) (sym e)
-          are
+      by_test true e = rw e with_room
+      by_test false e = rw e are
 
 pub landings-by : (lengths : List ℕ) (boxes : List (List Frame)) (ps : List (ℕ × Frame)) → AreLengths lengths boxes
     → AllClients (length boxes) ps → landings_by lengths (map (λ p. p.0) ps) ≡ landings boxes ps
@@ -98,7 +93,7 @@ pub landings_by-targets : (n : ℕ) (lengths : List ℕ) (boxes : List (List Fra
     → length boxes ≡ n → landings_by lengths (receivers n fs) ≡ landings boxes (targets_of n fs)
 landings_by-targets n lengths boxes fs are e =
     ap (landings_by lengths) (sym (firsts-targets n fs))
-    ∙ landings-by lengths boxes (targets_of n fs) are (subst (λ m. AllClients m (targets_of n fs)) (sym e) (AllClients-targets n fs))
+    ∙ landings-by lengths boxes (targets_of n fs) are (rw e (AllClients-targets n fs))
 
 pub landings_by-append : (lengths : List ℕ) (cs ds : List ℕ)
     → landings_by lengths (cs ++ ds) ≡ landings_by lengths cs ++ landings_by (lengths_after lengths cs) ds

@@ -10,6 +10,7 @@ pub mod ProtectLaws
 pub mod AloneLaws
 pub mod NodesLaws
 pub mod CommitLaws
+pub mod Ends
 pub mod Events
 pub mod ClientEvents
 pub mod Consistent

@@ -1,13 +1,10 @@
 -- Laws of the lines.
-use Rattle.std.proofs.Common.{◌≡◌, ℕ, zero, suc, ◌+◌, ◌-◌, ◌<◌, List, [], ◌∷◌, ◌++◌, length, refl, sym, subst, ap, ◌∙◌, arith, append_assoc}
-use Rattle.std.proofs.Common.{Result, Ok, Err, OnOk, OnErr}
-use Rattle.std.proofs.lemmas.List.{map-append}
+use Rattle.std.proofs.Common.{◌≡◌, ℕ, zero, suc, ◌+◌, ◌-◌, ◌<◌, List, [], ◌∷◌, ◌++◌, length, refl, sym, ap, ◌∙◌, arith, append_assoc}
+use Rattle.std.proofs.{Common.{Result, Ok, Err, OnOk, OnErr}, lemmas.List.map-append}
 use Rattle.std.specs.Prelude.{map, Option, None, Some, slice_get, slice_index_or}
 use Rattle.lossy_line.specs.Lines.{Packets}
 use Rattle.output_gate.specs.Epochs.{Epoch}
-use Rattle.pair_core.specs.declared.event.Packet.{Packet}
-use Rattle.pair_core.specs.Lines.{packet, packet_of, packets_from}
-use Rattle.pair_core.specs.LinesFields.{packets_of, KeepsAll}
+use Rattle.pair_core.specs.{declared.event.Packet.Packet, Lines.{packet, packet_of, packets_from}, LinesFields.{packets_of, KeepsAll}}
 use Rattle.pair_core.specs.Window.{NumberedFrom}
 
 -- the next packet, and those behind it
@@ -63,4 +60,4 @@ keeps_all-sent os new ps h e = e ∙ ap (λ t. t ++ map Some ps) h ∙ sym (map-
 pub keeps_all-after : {T E : Type 0} (r : Result T E) (old new : Packets Packet) (ps : List Packet) → KeepsAll old.packets
     → OnOk r (new.packets ≡ old.packets ++ map Some ps) → OnErr r (new ≡ old) → KeepsAll new.packets
 keeps_all-after (Ok _) old new ps h ok err = keeps_all-sent old.packets new.packets ps h ok
-keeps_all-after (Err _) old new ps h ok err = subst (λ (l : Packets Packet). KeepsAll l.packets) (sym err) h
+keeps_all-after (Err _) old new ps h ok err = rw err h

@@ -1,42 +1,25 @@
 -- What going live adds to the history, as the loops over it want it; and what is true of the record after it.
-use Rattle.std.proofs.Common.{◌≡◌, ℕ, zero, suc, ◌+◌, ◌-◌, ◌<◌, ◌≤◌, List, [], ◌∷◌, ◌++◌, length, take, drop, replicate, get_or}
-use Rattle.std.proofs.Common.{refl, sym, ap, ◌∙◌, subst, arith, append_assoc, Bool, true, false, cond, Option, Some, None}
-use Rattle.std.specs.Prelude.{map, nat_le, filter, ◌&&◌}
-use Rattle.std.specs.List.Sorted.{IsPermutation, IsNonDecreasing}
-use Rattle.std.proofs.Math.Seq.{drop-cons}
+use Rattle.std.proofs.Common.{rules, ◌≡◌, ℕ, zero, suc, ◌+◌, ◌-◌, ◌<◌, ◌≤◌, List, [], ◌∷◌, ◌++◌, length, drop, replicate, get_or, refl, sym}
+use Rattle.std.proofs.{Common.{ap, ◌∙◌, arith, append_assoc, Bool, true, false, cond, Option, Some, None}, Math.Seq.drop-cons}
 use Rattle.std.proofs.lemmas.Bool.Decides.{nat_tests}
 use Rattle.std.proofs.lemmas.List.{append-nil, length-append, length-map, length-replicate, length-take-le, nil_from_length}
 use Rattle.std.proofs.lemmas.List.Sorted.{length_permutation}
-use Rattle.frame_ports.specs.Addresses.{addressed, targets_of}
-use Rattle.frame_ports.specs.Lands.{list_of}
-use Rattle.frame_ports.specs.Targets.{has_target, AreTargets}
+use Rattle.std.specs.{Prelude.{map, nat_le, filter, ◌&&◌}, List.Sorted.{IsPermutation, IsNonDecreasing}}
+use Rattle.frame_ports.specs.{Addresses.{addressed, targets_of}, Lands.list_of, Targets.{has_target, AreTargets}}
 use Rattle.frame_ports.specs.declared.limits.TheConstants.{NUMBER_LIMIT}
 use Rattle.output_gate.specs.Epochs.{Epoch, frames_of, frames_to}
-use Rattle.pair_history.specs.Entries.{Frame, Entry, Arrive, DropIn, DropOut}
-use Rattle.pair_history.specs.HistoryState.{HistoryState, out_of, start_state}
-use Rattle.pair_history.specs.Failures.{arrived_numbers, rising, drops_of_taken_in, drops_of_owed_from}
-use Rattle.pair_history.proofs.AddressedLaws.{out_of-targets}
-use Rattle.pair_history.proofs.LandingLaws.{AllClients-targets}
-use Rattle.pair_history.proofs.OwedLaws.{owed_dropped}
-use Rattle.pair_history.proofs.SortedLaws.{rising-sorted}
-use Rattle.pair_history.proofs.TakenInLaws.{IsPermutation-rising}
-use Rattle.pair_core.specs.declared.epochs.Arrival.{Arrival}
-use Rattle.pair_core.specs.declared.epochs.RunningEpoch.{RunningEpoch}
-use Rattle.pair_core.specs.declared.event.Packet.{Packet}
-use Rattle.pair_core.specs.declared.event.Refusal.{Refusal}
-use Rattle.pair_core.specs.declared.event.Refusal.TheVariants.{Exhausted}
-use Rattle.pair_core.specs.declared.journal.Journal.TheInside.{Inside}
-use Rattle.pair_core.specs.declared.window.Window.{Window}
+use Rattle.pair_history.specs.{Entries.{Frame, Entry, Arrive, DropIn, DropOut}, HistoryState.{HistoryState, out_of, start_state}}
+use Rattle.pair_history.specs.Failures.{arrived_numbers, drops_of_owed_from}
+use Rattle.pair_history.proofs.{AddressedLaws.out_of-targets, LandingLaws.AllClients-targets, OwedLaws.owed_dropped}
+use Rattle.pair_history.proofs.{SortedLaws.rising-sorted, TakenInLaws.IsPermutation-rising}
+use Rattle.pair_core.specs.{declared.epochs.Arrival.Arrival, declared.epochs.RunningEpoch.RunningEpoch, declared.event.Packet.Packet}
+use Rattle.pair_core.specs.{declared.event.Refusal.Refusal, declared.event.Refusal.TheVariants.Exhausted}
+use Rattle.pair_core.specs.{declared.journal.Journal.TheInside.Inside, declared.window.Window.Window}
 use Rattle.pair_core.specs.Arrivals.{steps_of, arrivals_of, epoch_entries, numbers_of, numbers_in}
-use Rattle.pair_core.specs.Journal.{Journal, joined, kept_entries}
-use Rattle.pair_core.specs.JournalFields.{epoch_of, stored, AreFields}
-use Rattle.pair_core.specs.Lengths.{receivers}
-use Rattle.pair_core.specs.Lines.{AreBelow}
-use Rattle.pair_core.specs.Protocol.{Record, first_refusal, live_entries, go_live_refusals, go_live_done}
-use Rattle.pair_core.specs.Record.{RecordState, owed_to, IsRecord}
-use Rattle.pair_core.specs.Window.{IsWindow, first_after, committed_count, committed_of}
-use Rattle.pair_core.proofs.LengthLaws.{length-receivers}
-use Rattle.pair_core.proofs.WindowLaws.{within, leaves, gone}
+use Rattle.pair_core.specs.{Journal.{Journal, joined, kept_entries}, JournalFields.{epoch_of, stored, AreFields}, Lengths.receivers}
+use Rattle.pair_core.specs.{Lines.AreBelow, Protocol.{Record, first_refusal, live_entries, go_live_refusals, go_live_done}}
+use Rattle.pair_core.specs.{Record.{RecordState, owed_to, IsRecord}, Window.{IsWindow, first_after, committed_count, committed_of}}
+use Rattle.pair_core.proofs.{LengthLaws.length-receivers, WindowLaws.{within, leaves, gone}}
 
 test_from : (a b : ℕ) → a ≤ b → nat_le a b ≡ true
 test_from a b h = grind (arith, nat_tests)
@@ -70,11 +53,7 @@ arrived-arrivals (a ∷ arrivals) =
     ∙ ap (λ ns. a.number ∷ ns) (arrived-arrivals arrivals)
 
 arrived-epoch : (arrivals : List Arrival) (k : ℕ) → arrived_numbers (epoch_entries arrivals k) ≡ numbers_of arrivals
-arrived-epoch arrivals k =
-    arrived-append (arrivals_of arrivals) (steps_of k)
-    ∙ ap (λ ns. arrived_numbers (arrivals_of arrivals) ++ ns) (arrived-steps k)
-    ∙ append-nil (arrived_numbers (arrivals_of arrivals))
-    ∙ arrived-arrivals arrivals
+arrived-epoch arrivals k = search (arith, rules, append-nil, arrived-append, arrived-arrivals, arrived-steps)
 
 arrived-joined : (es : List RunningEpoch) → arrived_numbers (joined (map epoch_of es)) ≡ numbers_in es
 arrived-joined [] = refl
@@ -85,18 +64,7 @@ arrived-joined (e ∷ es) =
 
 pub arrived-kept : (a : Inside)
     → arrived_numbers (kept_entries (stored a).journal) ≡ numbers_in a.sealed.items ++ numbers_of a.running.arrivals.items
-arrived-kept a =
-    arrived-append (joined (map epoch_of a.sealed.items)) (epoch_of a.running)
-    ∙ ap (λ ns. ns ++ arrived_numbers (epoch_of a.running)) (arrived-joined a.sealed.items)
-    ∙ ap (λ ns. numbers_in a.sealed.items ++ ns) (arrived-epoch a.running.arrivals.items a.running.steps)
-
-pub numbers_in-next : (es : List RunningEpoch) (i : ℕ) (e : RunningEpoch) → i < length es → e ≡ get_or es i e
-    → numbers_in (drop i es) ≡ numbers_of e.arrivals.items ++ numbers_in (drop (i + 1) es)
-numbers_in-next es i e l is =
-    let next : suc i ≡ i + 1 = omega arith in
-    ap numbers_in (drop-cons es i e l)
-    ∙ ap (λ (x : RunningEpoch). numbers_of x.arrivals.items ++ numbers_in (drop (suc i) es)) (sym is)
-    ∙ ap (λ j. numbers_of e.arrivals.items ++ numbers_in (drop j es)) next
+arrived-kept a = search (arith, rules, arrived-append, arrived-epoch, arrived-joined)
 
 -- The frames on their way to a client
 
@@ -126,28 +94,16 @@ drops_on n c boxes fs = drops_of_owed_from (n + 1 - c) c boxes (targets_of (leng
 
 pub drops_on-first : (n : ℕ) (boxes : List (List Frame)) (fs : List Frame) → n ≡ length boxes
     → drops_on n 1 boxes fs ≡ drops_of_owed_from (length boxes) 1 boxes (targets_of (length boxes) fs)
-drops_on-first n boxes fs e =
-    let k : n + 1 - 1 ≡ length boxes = omega arith in
-    ap (λ j. drops_of_owed_from j 1 boxes (targets_of (length boxes) fs)) k
+drops_on-first n boxes fs e = search (arith, rules)
 
 -- the next client's
 module _ (n c : ℕ) (boxes : List (List Frame)) (fs : List Frame) (k place : ℕ) (high : c ≤ n)
     (count : k ≡ length (out_of c (targets_of (length boxes) fs))) (box : place ≡ length (list_of boxes c)) where
   pub drops_on-next : drops_on n c boxes fs ≡ replicate k (DropOut c place) ++ drops_on n (c + 1) boxes fs
-  drops_on-next =
-      let out = targets_of (length boxes) fs in
-      let rest = drops_on n (c + 1) boxes fs in
-      let one : n + 1 - c ≡ suc (n + 1 - (c + 1)) = omega arith in
-      ap (λ j. drops_of_owed_from j c boxes out) one
-      ∙ ap (λ j. replicate j (DropOut c (length (list_of boxes c))) ++ rest) (sym count)
-      ∙ ap (λ j. replicate k (DropOut c j) ++ rest) (sym box)
+  drops_on-next = search (arith, rules)
 
   pub drops_on-length : length (drops_on n c boxes fs) ≡ k + length (drops_on n (c + 1) boxes fs)
-  drops_on-length =
-      let rest = drops_on n (c + 1) boxes fs in
-      ap length drops_on-next
-      ∙ length-append (replicate k (DropOut c place)) rest
-      ∙ ap (λ j. j + length rest) (length-replicate k (DropOut c place))
+  drops_on-length = search (arith, rules, drops_on-next, length-append, length-replicate)
 
 -- each frame on its way is dropped once
 pub length-drops : (boxes : List (List Frame)) (fs : List Frame)
@@ -170,16 +126,7 @@ pub length-live : (boxes : List (List Frame)) (fs : List Frame) (j : Journal)
     → length (live_entries boxes (targets_of (length boxes) fs) j)
     ≡ length (arrived_numbers (kept_entries j)) + length (receivers (length boxes) fs)
 length-live boxes fs j =
-    let ns = arrived_numbers (kept_entries j) in
-    let out = targets_of (length boxes) fs in
-    omega (
-      arith,
-      length-append (drops_of_taken_in (kept_entries j)) (drops_of_owed_from (length boxes) 1 boxes out),
-      length-map (rising ns) DropIn,
-      length_permutation ns (rising ns) (IsPermutation-rising ns),
-      length-drops boxes fs,
-      length-receivers (length boxes) fs,
-    )
+    search (arith, rules, IsPermutation-rising, length-append, length-drops, length-map, length-receivers, length_permutation)
 
 -- What the gate holds of committed checkpoints
 
@@ -197,9 +144,7 @@ committed_held w pending h some =
     ∙ ap frames_of (sym (append-nil t.gone) ∙ ap (λ es. t.gone ++ es) (sym (nil_from_length t.stay none)) ∙ sym t.split)
 
 pub none_committed : (w : Window) (pending : List Epoch) → w.to_commit ≤ w.to_acknowledge → frames_of (committed_of w pending) ≡ []
-none_committed w pending l =
-    let none : committed_count w ≡ 0 = omega arith in
-    ap (λ k. frames_of (take k pending)) none
+none_committed w pending l = search (arith, rules)
 
 -- The record
 
@@ -216,17 +161,7 @@ live_table s = first_refusal (go_live_refusals s.ports.boxes (owed_to s) s.proto
 module _ (s : RecordState) (fs : List Frame) (count : ℕ) (held : fs ≡ frames_of (committed_of s.protocol.window s.protocol.pending))
     (is : count ≡ live_count s fs) (next : s.protocol.generation + 1 < NUMBER_LIMIT) where
   live_row : live_table s ≡ cond (nat_le NUMBER_LIMIT count) (Some Exhausted) None
-  live_row =
-      let boxes = s.ports.boxes in
-      let r = s.protocol in
-      let all : length r.journal.history + length (live_entries boxes (owed_to s) r.journal) ≡ count =
-      ap (λ n. length r.journal.history + n) (length-live boxes (frames_of (committed_of r.window r.pending)) r.journal)
-      ∙ ap (live_count s) (sym held)
-      ∙ sym is in
-      let row : ℕ → Option Refusal = λ n. cond (nat_le NUMBER_LIMIT n) (Some Exhausted) None in
-      ap (λ (t : Bool). cond t (Some Exhausted) (row (length r.journal.history + length (live_entries boxes (owed_to s) r.journal))))
-      (test_below NUMBER_LIMIT (r.generation + 1) next)
-      ∙ ap row all
+  live_row = search (arith, rules, length-live, test_below)
 
   pub live_refused : NUMBER_LIMIT ≤ count → Some Exhausted ≡ live_table s
   live_refused h = sym (live_row ∙ ap (λ (t : Bool). cond t (Some Exhausted) None) (test_from NUMBER_LIMIT count h))
@@ -241,24 +176,7 @@ AreBelow-next g n m (p ∷ ps) h = (let l = h.0 in omega arith, λ e. let l = h.
 
 pub live_record : (r : Record) → IsRecord r → (boxes : List (List Frame)) (out : List (ℕ × Frame)) (steps : ℕ)
     → IsRecord (go_live_done boxes out steps r).1
-live_record r h boxes out steps =
-    let cut = h.window.cut in
-    let last = h.window.last in
-    record {
-      window = record {
-        numbers = tt;
-        count = omega arith;
-        committed = omega arith;
-        cut = omega arith;
-        few = omega arith;
-        last = omega arith;
-      };
-      forward = AreBelow-next r.generation r.window.to_cut r.window.to_commit r.lines.forward h.forward;
-      back = AreBelow-next r.generation r.window.to_commit r.window.to_commit r.lines.back h.back;
-      sealed = omega arith;
-      alone = λ e. (refl, refl, refl);
-      suits = tt;
-    }
+live_record r h boxes out steps = search (arith, rules, AreBelow-next)
 
 -- The journal
 
@@ -266,25 +184,16 @@ module _ (a : Inside) where
   -- the frames that the kept epochs took in, in number
   pub taken_in-count : length (numbers_in a.sealed.items) + length a.running.arrivals.items
       ≡ length (arrived_numbers (kept_entries (stored a).journal))
-  taken_in-count =
-      let l = ap length (arrived-kept a) in
-      let both = length-append (numbers_in a.sealed.items) (numbers_of a.running.arrivals.items) in
-      let one = length-map a.running.arrivals.items (λ (x : Arrival). x.number) in
-      omega arith
+  taken_in-count = search (arith, rules, arrived-kept, length-append, length-map)
 
   pub taken_in-few : AreFields a → length a.history.entries + length (arrived_numbers (kept_entries (stored a).journal)) < NUMBER_LIMIT
-  taken_in-few h =
-      let few = arrived-few (kept_entries (stored a).journal) in
-      let counted = h.counted in
-      let fits = h.fits in
-      omega arith
+  taken_in-few h = search (arith, rules, arrived-few)
 
   module _ (sealed : List RunningEpoch) (ns : List ℕ) (is : sealed ≡ a.sealed.items)
       (same : IsPermutation (numbers_in sealed ++ numbers_of a.running.arrivals.items) ns) where
     pub same_numbers : IsPermutation (arrived_numbers (kept_entries (stored a).journal)) ns
     same_numbers =
-        subst (λ (ms : List ℕ). IsPermutation ms ns)
-        (ap (λ (es : List RunningEpoch). numbers_in es ++ numbers_of a.running.arrivals.items) is ∙ sym (arrived-kept a)) same
+        rw (ap (λ (es : List RunningEpoch). numbers_in es ++ numbers_of a.running.arrivals.items) is ∙ sym (arrived-kept a)) at same
 
     pub as_many : length ns ≡ length (arrived_numbers (kept_entries (stored a).journal))
     as_many = length_permutation (arrived_numbers (kept_entries (stored a).journal)) ns same_numbers

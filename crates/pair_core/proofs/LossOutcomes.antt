@@ -1,20 +1,15 @@
 -- What the protocol answers to a loss that is asked for.
-use Rattle.std.proofs.Common.{◌≡◌, ℕ, zero, suc, ◌<◌, ◌≤◌, List, [], ◌∷◌, length, refl, sym, ap, ◌∙◌, subst, arith, Bool, true, false}
-use Rattle.std.proofs.Common.{Option, None, Some}
+use Rattle.std.proofs.Common.{◌≡◌, ℕ, zero, suc, ◌<◌, ◌≤◌, List, [], ◌∷◌, length, refl, sym, ap, ◌∙◌, arith, Bool, true, false, Option}
+use Rattle.std.proofs.Common.{None, Some}
 use Rattle.std.specs.Prelude.{slice_get, option_map, not}
 use Rattle.frame_ports.specs.Lands.{list_of}
-use Rattle.pair_history.specs.Entries.{Frame, Entry}
-use Rattle.pair_history.specs.HistoryState.{inbox_of}
-use Rattle.pair_core.specs.declared.event.Event.{Event}
-use Rattle.pair_core.specs.declared.event.Event.TheVariants.{LoseIn, LoseOut}
-use Rattle.pair_core.specs.declared.event.Refusal.{Refusal}
-use Rattle.pair_core.specs.declared.event.Refusal.TheVariants.{NoClient}
-use Rattle.pair_core.specs.declared.event.Reply.TheVariants as replies
-use Rattle.pair_core.specs.Invariant.{Holds}
-use Rattle.pair_core.specs.Pair.{Pair, live_state}
-use Rattle.pair_core.specs.Protocol.{Outcome, MayWantMemory, allowed, unless, refused, first_refusal, is_among, client_refusals}
-use Rattle.pair_core.specs.Protocol.{loss_refusals, loss_done, loss_of, lost_in, lose_in_outcome_at, lose_out_outcome_at}
+use Rattle.pair_history.specs.{Entries.{Frame, Entry}, HistoryState.inbox_of}
+use Rattle.pair_core.specs.{declared.event.Event.Event, declared.event.Event.TheVariants.{LoseIn, LoseOut}, declared.event.Refusal.Refusal}
+use Rattle.pair_core.specs.{declared.event.Refusal.TheVariants.NoClient, Invariant.Holds, Pair.{Pair, live_state}}
+use Rattle.pair_core.specs.Protocol.{allowed, unless, refused, first_refusal, is_among, client_refusals, loss_refusals, loss_done, loss_of}
+use Rattle.pair_core.specs.{Protocol.{lost_in, lose_in_outcome_at, lose_out_outcome_at}, Answering.MayWantMemory}
 use Rattle.pair_core.proofs.Outcomes.{stops, goes, client_range, inbox_is}
+use Rattle.pair_core.specs.declared.event.Reply.TheVariants as replies
 
 -- a place within a list, and one beyond it
 pub some_at : {A : Type 0} (xs : List A) (i : ℕ) → i < length xs → (x : A) × (slice_get xs i ≡ Some x)
@@ -80,4 +75,4 @@ module _ (w : Pair) (event : Event) (c : ℕ) (lost : Option Entry)
     loss_goes k = goes w.protocol (loss_refusals w.protocol) (loss_done w.protocol e) o row k ∙ loses (Some e) some
 
     pub loss_wants : o ≡ None → MayWantMemory w.protocol.mode (allowed w.start w.protocol event).0
-    loss_wants k = subst (λ (x : Outcome). MayWantMemory w.protocol.mode x.0) (loss_goes k) tt
+    loss_wants k = rw (← loss_goes k) tt

@@ -1,68 +1,43 @@
 -- What follows from a mode that doesn't refuse an event.
 use Rattle.std.proofs.Common.{◌≡◌, refl, Bool, true, false, None}
-use Rattle.failover.specs.declared.mode.Mode.{Mode}
-use Rattle.failover.specs.declared.mode.Mode.TheVariants.{Paired, Filling, Alone, Stopped}
-use Rattle.pair_core.specs.Modes.{is_stopped, is_alone, is_filling, filled, primary_refusal, backup_refusal, stop_refusal}
-use Rattle.pair_core.specs.Modes.{live_refusal, protect_refusal}
+use Rattle.failover.specs.{declared.mode.Mode.Mode, declared.mode.Mode.TheVariants.{Filling, Alone, Stopped}}
+use Rattle.pair_core.specs.Modes.{is_stopped, is_alone, is_filling, filled, primary_refusal, backup_refusal, stop_refusal, live_refusal}
+use Rattle.pair_core.specs.Modes.{protect_refusal}
 
 pub clash : (t : Bool) → t ≡ true → t ≡ false → ⊥
-clash true e f = cc
-clash false e f = cc
+clash t e f = cc
 
 pub primary_goes : (mode : Mode) → primary_refusal mode ≡ None → is_alone mode ≡ false
-primary_goes Paired e = refl
-primary_goes Filling e = refl
 primary_goes Alone e = absurd (cc)
-primary_goes Stopped e = refl
+primary_goes other e = refl
 
 pub backup_goes : (mode : Mode) → backup_refusal mode ≡ None → is_alone mode ≡ false
-backup_goes Paired e = refl
-backup_goes Filling e = refl
 backup_goes Alone e = absurd (cc)
-backup_goes Stopped e = refl
+backup_goes other e = refl
 
 pub stop_goes : (mode : Mode) → stop_refusal mode ≡ None → is_alone mode ≡ false
-stop_goes Paired e = refl
-stop_goes Filling e = refl
 stop_goes Alone e = absurd (cc)
-stop_goes Stopped e = refl
+stop_goes other e = refl
 
 pub live_goes : (mode : Mode) → live_refusal mode ≡ None → is_alone mode ≡ false
-live_goes Paired e = absurd (cc)
-live_goes Filling e = absurd (cc)
 live_goes Alone e = absurd (cc)
-live_goes Stopped e = refl
-
--- one that has stopped isn't alone, and the other way round
-pub stopped_not_alone : (mode : Mode) → is_stopped mode ≡ true → is_alone mode ≡ false
-stopped_not_alone Paired e = refl
-stopped_not_alone Filling e = refl
-stopped_not_alone Alone e = absurd (cc)
-stopped_not_alone Stopped e = refl
+live_goes other e = refl
 
 pub alone_not_stopped : (mode : Mode) → is_alone mode ≡ true → is_stopped mode ≡ false
-alone_not_stopped Paired e = refl
-alone_not_stopped Filling e = refl
-alone_not_stopped Alone e = refl
 alone_not_stopped Stopped e = absurd (cc)
+alone_not_stopped other e = refl
 
 -- a commit leaves no node alone, and ends no node's being alone
 pub filled_alone : (mode : Mode) → is_alone (filled mode) ≡ is_alone mode
-filled_alone Paired = refl
 filled_alone Filling = refl
-filled_alone Alone = refl
-filled_alone Stopped = refl
+filled_alone other = refl
 
 -- a backup goes live only once it took a full checkpoint
 pub live_full : (mode : Mode) → live_refusal mode ≡ None → is_filling mode ≡ false
-live_full Paired e = refl
 live_full Filling e = absurd (cc)
-live_full Alone e = refl
-live_full Stopped e = refl
+live_full other e = refl
 
 -- only a node that is alone gets a new backup
 pub protect_goes : (mode : Mode) → protect_refusal mode ≡ None → is_alone mode ≡ true
-protect_goes Paired e = absurd (cc)
-protect_goes Filling e = absurd (cc)
 protect_goes Alone e = refl
-protect_goes Stopped e = absurd (cc)
+protect_goes other e = absurd (cc)

@@ -1,32 +1,19 @@
 -- What the two nodes keep along steps, arrivals and cuts.
-use Rattle.std.proofs.Common.{◌≡◌, ℕ, zero, suc, ◌+◌, ◌-◌, ◌*◌, ◌/◌, ◌<◌, ◌≤◌, List, [], ◌∷◌, ◌++◌, length, replicate, refl, sym, ap, ◌∙◌}
-use Rattle.std.proofs.Common.{subst, arith, append_assoc, Bool, true, false, None}
-use Rattle.std.specs.Prelude.{slice_range, take, drop}
-use Rattle.std.proofs.Math.Bridge.{le_prop}
+use Rattle.std.proofs.Common.{rules, ◌≡◌, ℕ, zero, suc, ◌+◌, ◌*◌, ◌/◌, ◌<◌, ◌≤◌, List, [], ◌∷◌, ◌++◌, length, refl, sym, ap, ◌∙◌, subst}
+use Rattle.std.proofs.{Common.{arith, append_assoc, Bool, true, false}, Math.Bridge.le_prop}
 use Rattle.std.proofs.lemmas.List.{append-nil, length-append, length-replicate}
-use Rattle.guest_machine.specs.Dirty.{is_in}
-use Rattle.guest_machine.specs.declared.shapes.Shape.{Shape}
-use Rattle.guest_machine.specs.Guest.{Guest, State, sector_count, boot_guest}
-use Rattle.guest_machine.specs.Step.{next, arrived}
+use Rattle.std.specs.Prelude.{slice_range}
+use Rattle.guest_machine.specs.{Dirty.is_in, declared.shapes.Shape.Shape, Guest.{Guest, State, boot_guest}, Step.{next, arrived}}
 use Rattle.guest_machine.specs.Runs.{after_steps, marked_in}
-use Rattle.guest_machine.proofs.ApartLemmas.{arrived-apart}
-use Rattle.guest_machine.proofs.ListedLemmas.{run-listed}
+use Rattle.guest_machine.proofs.{ApartLemmas.arrived-apart, ListedLemmas.run-listed}
 use Rattle.guest_machine.proofs.MemoryLemmas.{boot-kept, next-kept, arrived-kept, next-disk_bytes}
-use Rattle.epoch_snapshot.specs.Bases.{IsBase, IsCut}
-use Rattle.epoch_snapshot.specs.Checkpoints.{Change}
-use Rattle.epoch_snapshot.specs.Cuts.{sector_of}
-use Rattle.epoch_snapshot.specs.Images.{image_of}
-use Rattle.checkpoint_stream.specs.declared.place.Place.TheVariants.{Whole}
-use Rattle.checkpoint_stream.specs.ReadBack.{ReadsBack}
-use Rattle.checkpoint_stream.specs.Readings.{begun, fed}
-use Rattle.checkpoint_stream.specs.Sound.{change_in}
-use Rattle.pair_history.specs.Entries.{Frame}
-use Rattle.pair_history.specs.Moves.{Move, Steps, Arrives, guest_along, frames_along}
+use Rattle.epoch_snapshot.specs.{Bases.{IsBase, IsCut}, Checkpoints.Change, Cuts.sector_of, Images.image_of}
+use Rattle.checkpoint_stream.specs.{declared.place.Place.TheVariants.Whole, ReadBack.ReadsBack, Readings.{begun, fed}, Sound.change_in}
+use Rattle.pair_history.specs.{Entries.Frame, Moves.{Move, Steps, Arrives, guest_along, frames_along}}
 use Rattle.pair_history.proofs.Moves.{guest_along-append}
 use Rattle.pair_core.specs.Invariant.{all_moves, first_moves, epoch_frames, AreSealed, AreNodes, IsBacked}
-use Rattle.pair_core.specs.Nodes.{Node, Nodes, HasShape, node_of, machine_of, just_settled, start_nodes}
-use Rattle.pair_core.specs.Nodes.{after_run, with_arrival, with_sealed, first_text, later_texts, read_as}
-use Rattle.pair_core.specs.Texts.{IsText}
+use Rattle.pair_core.specs.Nodes.{Node, Nodes, HasShape, node_of, machine_of, just_settled, start_nodes, after_run, with_arrival}
+use Rattle.pair_core.specs.{Nodes.{with_sealed, first_text, later_texts, read_as}, Texts.IsText}
 
 -- Sizes
 
@@ -58,21 +45,12 @@ shape-moves s g (Arrives n f ∷ ms) h = shape-moves s (arrived g f) ms (shape-a
 
 pub shape-boot : (s : Shape) (image : List ℕ) → length image ≤ 4096 * s.pages → HasShape s (boot_guest s.pages s.sectors image)
 unfolding boot_guest
-shape-boot s image fits = record {
-  records = boot-kept s.pages s.sectors image;
-  ram =
-      let free = 4096 * s.pages - length image in
-      let whole : length image + free ≡ 4096 * s.pages = omega arith in
-      length-append image (replicate free 0) ∙ ap (λ n. length image + n) (length-replicate free 0) ∙ whole;
-  sectors = length-replicate (512 * s.sectors) 0;
-}
+shape-boot s image fits = search (arith, rules, boot-kept, length-append, length-replicate)
 
 -- What the live machine was last settled at
 
 sector-slice : (bytes : List ℕ) (i : ℕ) → slice_range bytes (512 * i) (512 * i + 512) ≡ sector_of bytes i
-sector-slice bytes i =
-    let size : (512 * i + 512) - 512 * i ≡ 512 = omega arith in
-    ap (λ n. take n (drop (512 * i) bytes)) size
+sector-slice bytes i = search (arith, rules)
 
 unlisted : (a b : Bool) → (a ≡ true → b ≡ true) → b ≡ false → a ≡ false
 unlisted true b f e =
@@ -95,14 +73,7 @@ base-after_run n x b h =
     }
 
 pub base-with_arrival : (f : Frame) (x : Nodes) (b : Guest) → IsBase (machine_of x.live) b → IsBase (machine_of (with_arrival x f).live) b
-base-with_arrival f x b h =
-    let same = (arrived-apart x.live.guest f).1 in
-    record {
-      ram = h.ram;
-      size = h.size ∙ ap length (sym same);
-      sectors = λ i low none. h.sectors i (subst (λ (bytes : List ℕ). i < sector_count bytes) same low) none
-          ∙ ap (λ bytes. sector_of bytes i) (sym same);
-    }
+base-with_arrival f x b h = search (arith, rules, arrived-apart)
 
 pub base-settled : (g : Guest) → IsBase (machine_of (just_settled g)) g
 base-settled g = record { ram = refl; size = refl; sectors = λ i low none. refl }
@@ -142,14 +113,12 @@ made pages sectors a b c d = record { pages = pages; sectors = sectors; some_pag
 same-pages : (m n k : ℕ) (a : 1 ≤ m) (b : m ≤ 4096) (c : 1 ≤ k) (d : k ≤ 32768) → m ≡ n → (a' : 1 ≤ n) (b' : n ≤ 4096)
     → made m k a b c d ≡ made n k a' b' c d
 same-pages m n k a b c d e =
-    subst (λ (x : ℕ). (a' : 1 ≤ x) (b' : x ≤ 4096) → made m k a b c d ≡ made x k a' b' c d) e
-    (λ a' b'. λ i. made m k (le_prop {n = 1} {m = m} a a' i) (le_prop {n = m} {m = 4096} b b' i) c d)
+    rw (← e) (λ a' b'. λ i. made m k (le_prop {n = 1} {m = m} a a' i) (le_prop {n = m} {m = 4096} b b' i) c d)
 
 same-sectors : (m n k : ℕ) (a : 1 ≤ k) (b : k ≤ 4096) (c : 1 ≤ m) (d : m ≤ 32768) → m ≡ n → (c' : 1 ≤ n) (d' : n ≤ 32768)
     → made k m a b c d ≡ made k n a b c' d'
 same-sectors m n k a b c d e =
-    subst (λ (x : ℕ). (c' : 1 ≤ x) (d' : x ≤ 32768) → made k m a b c d ≡ made k x a b c' d') e
-    (λ c' d'. λ i. made k m a b (le_prop {n = 1} {m = m} c c' i) (le_prop {n = m} {m = 32768} d d' i))
+    rw (← e) (λ c' d'. λ i. made k m a b (le_prop {n = 1} {m = m} c c' i) (le_prop {n = m} {m = 32768} d d' i))
 
 same-shape : (s t : Shape) → s.pages ≡ t.pages → s.sectors ≡ t.sectors → s ≡ t
 same-shape s t p q =
@@ -159,23 +128,13 @@ same-shape s t p q =
 -- a machine's delta is of its shape
 cut-shape : (old listed : List ℕ) (m : State) (generation number : ℕ) (c : Change) (shape : Shape) → IsCut old listed m generation number c
     → HasShape shape m.guest → c.shape ≡ shape
-cut-shape old listed m generation number c shape cut sized =
-    let pages : c.shape.pages ≡ shape.pages = let p = cut.pages_size in let q = sized.ram in omega arith in
-    let sectors : c.shape.sectors ≡ shape.sectors = let p = cut.sectors_size in let q = sized.sectors in omega arith in
-    same-shape c.shape shape pages sectors
+cut-shape old listed m generation number c shape cut sized = search (arith, rules, same-shape)
 
 -- the text of a machine's delta makes the machine's guest of the one that the machine was last settled at
 pub delta-text : (old listed : List ℕ) (m : State) (generation number : ℕ) (c : Change) (shape : Shape) (text : List ℕ) (base : Guest)
     → IsCut old listed m generation number c → ReadsBack c text → image_of c base ≡ m.guest → HasShape shape m.guest
     → IsText shape generation number base m.guest text
-delta-text old listed m generation number c shape text base cut reads image sized = record {
-  change = c;
-  reads_back = reads;
-  of_shape = cut-shape old listed m generation number c shape cut sized;
-  of_generation = cut.generation;
-  of_number = cut.number;
-  image = image;
-}
+delta-text old listed m generation number c shape text base cut reads image sized = search (arith, rules, cut-shape)
 
 -- whichever pages count as written, it is the same base
 pub base-of : (m : State) (base : Guest) → IsBase (machine_of (node_of m)) base → IsBase m base
@@ -205,36 +164,21 @@ module _ (shape : Shape) (generation : ℕ) where
       → AreSealed shape generation n g (mss ++ ms ∷ []) (texts ++ text ∷ [])
   sealed-push n g [] [] ms m text h e t =
       let same : m ≡ n = omega arith in
-      (subst (λ (k : ℕ). IsText shape generation k g (guest_along g ms) text) same t, tt)
+      (rw (← same) t, tt)
   sealed-push n g [] (x ∷ texts) ms m text h e t = absurd h
   sealed-push n g (xs ∷ mss) [] ms m text h e t = absurd h
   sealed-push n g (xs ∷ mss) (x ∷ texts) ms m text h e t =
       let along = guest_along-append g xs (all_moves mss) in (
         h.0,
         sealed-push (n + 1) (guest_along g xs) mss texts ms m text h.1 (omega arith)
-            (subst (λ (b : Guest). IsText shape generation m b (guest_along b ms) text) along t),
+            (rw (← along) t),
       )
 
 -- The backup, whatever the live machine is, if it was last settled at the guest of the last cut
 
 pub backed-live : (generation n : ℕ) (g : Guest) (mss : List (List Move)) (x : Nodes) (live : Node) → IsBacked generation n g mss x
     → IsBase (machine_of live) (guest_along g (all_moves mss)) → IsBacked generation n g mss (record x { live = live })
-backed-live generation n g mss x live b base = record {
-  follows = λ l. record { image = (b.follows l).image; stands_at = (b.follows l).stands_at };
-  fills = λ e.
-      let f = b.fills e in
-      record { empty = f.empty; text = f.text; later = f.later; sealed = f.sealed; makes = f.makes };
-  staged = b.staged;
-  image_shape = b.image_shape;
-  sealed = b.sealed;
-  base = base;
-}
-
--- its image could go on, or a text is sealed that will fill it
-pub some-text : (generation n : ℕ) (g : Guest) (mss : List (List Move)) (x : Nodes) → IsBacked generation n g mss x
-    → x.image.stands_at ≡ None → 0 < length x.sealed
-some-text generation zero g mss x b e = let held = ap length (b.fills refl).sealed in omega arith
-some-text generation (suc n) g mss x b e = absurd (let at = (b.follows (omega arith)).stands_at in cc)
+backed-live generation n g mss x live b base = search (arith, rules)
 
 -- Cut
 
@@ -249,40 +193,18 @@ pub nodes-cut : (alone : Bool) (generation n : ℕ) (g : Guest) (mss : List (Lis
     → (alone ≡ false → IsText x.image.shape generation m (guest_along g (all_moves mss)) x.live.guest text)
     → AreNodes alone generation n g (mss ++ ran ∷ []) [] (held ++ x.live.outbox ∷ []) (with_sealed x text)
 nodes-cut alone generation n g mss ran held x m text h e t =
-    let all : all_moves mss ++ ran ≡ all_moves (mss ++ ran ∷ []) = sym (all_moves-push mss ran) in
-    let now : x.live.guest ≡ guest_along g (all_moves (mss ++ ran ∷ [])) = h.live ∙ ap (guest_along g) all in
-    let parted : x.live.guest ≡ guest_along (guest_along g (all_moves mss)) ran = h.live ∙ guest_along-append g (all_moves mss) ran in
-    record {
-      first_generation = h.first_generation;
-      last_generation = h.last_generation;
-      backed = λ two.
-          let b = h.backed two in
-          record {
-            follows = λ l. record { image = (b.follows l).image; stands_at = (b.follows l).stands_at };
-            fills = λ e.
-                let f = b.fills e in
-                let long = length-sealed x.image.shape generation n g mss x.sealed b.sealed in
-                let held = ap length f.sealed in
-                record {
-                  empty = f.empty;
-                  text = f.text;
-                  later = f.later ++ text ∷ [];
-                  sealed = ap (λ t. t ++ text ∷ []) f.sealed;
-                  makes = λ before. f.makes before ∙ ap (guest_along g) (first-push mss ran (omega arith));
-                };
-            staged = b.staged;
-            image_shape = b.image_shape;
-            sealed =
-                sealed-push x.image.shape generation n g mss x.sealed ran m text b.sealed e
-                (subst (λ (a : Guest). IsText x.image.shape generation m (guest_along g (all_moves mss)) a text) parted (t two));
-            base = subst (IsBase (machine_of (just_settled x.live.guest))) now (base-settled x.live.guest);
-          };
-      frames =
-          ap (λ t. t ++ x.live.outbox ∷ []) h.frames ∙ ap (λ t. epoch_frames g mss ++ t ∷ []) h.outbox ∙ sym (epoch_frames-push g mss ran);
-      live = now ∙ ap (guest_along g) (sym (append-nil (all_moves (mss ++ ran ∷ []))));
-      outbox = refl;
-      shape = h.shape;
-    }
+    search (
+      arith,
+      rules,
+      all_moves-push,
+      append-nil,
+      base-settled,
+      epoch_frames-push,
+      first-push,
+      guest_along-append,
+      length-sealed,
+      sealed-push,
+    )
 
 -- Where both nodes boot
 

@@ -1,29 +1,19 @@
 -- What the protocol answers: what an event looks at is what the world has, and its table of refusals decides.
-use Rattle.std.proofs.Common.{◌≡◌, ℕ, ◌≤◌, List, [], ◌∷◌, length, refl, sym, ap, ◌∙◌, subst, arith, Bool, true, false, Option, None, Some}
-use Rattle.std.specs.Prelude.{slice_get, IfSome, nat_le, not}
+use Rattle.std.proofs.Common.{rules, ◌≡◌, ℕ, ◌≤◌, List, [], ◌∷◌, length, refl, sym, ap, ◌∙◌, arith, Bool, true, false, Option, None, Some}
 use Rattle.std.proofs.lemmas.Bool.Decides.{nat_tests}
-use Rattle.guest_machine.specs.Guest.{Guest}
+use Rattle.std.specs.Prelude.{slice_get, IfSome, nat_le, not}
 use Rattle.guest_machine.specs.Step.{next, sent}
-use Rattle.frame_ports.specs.Lands.{list_of}
-use Rattle.frame_ports.specs.Addresses.{IsFrame}
-use Rattle.frame_ports.specs.declared.limits.TheConstants.{INBOX_FRAMES, NUMBER_LIMIT}
-use Rattle.pair_history.specs.Entries.{Frame}
-use Rattle.pair_history.specs.HistoryState.{inbox_of}
-use Rattle.pair_core.specs.declared.event.Event.TheVariants.{Admit}
-use Rattle.pair_core.specs.declared.event.Packet.{Packet}
-use Rattle.pair_core.specs.declared.event.Refusal.{Refusal}
-use Rattle.pair_core.specs.declared.event.Refusal.TheVariants.{Full, BadFrame, NoClient, Stopped, Behind, NotPaired}
-use Rattle.pair_core.specs.declared.event.Refusal.TheVariants.{AlreadyPaired, NoImage, Stale, Gap, NoMemory, CutNeeded, Exhausted}
-use Rattle.pair_core.specs.declared.event.Reply.TheVariants as replies
-use Rattle.pair_core.specs.Invariant.{Holds}
-use Rattle.pair_core.specs.Modes.{is_stopped}
-use Rattle.pair_core.specs.Pair.{Pair, shown_state, live_state, AfterRefusal}
-use Rattle.pair_core.specs.Protocol.{Record, Outcome, Row, MayWantMemory, allowed, first_refusal, or_else, unless, refused, exhausts}
-use Rattle.pair_core.specs.Protocol.{is_among, is_bad_length, step_outcome, step_outcome_at, cut_refusals, cut_done, outbox_of}
-use Rattle.pair_core.specs.Protocol.{fail_backup_outcome_at, ack_outcome_at, admit_outcome_at, admit_first, admit_refusals, admit_done}
-use Rattle.pair_core.specs.Protocol.{arrival_refusals}
-use Rattle.pair_core.specs.Protocol.{deliver_outcome_at, deliver_refusals, take_outcome_at, delivery_refused, deliver_done}
+use Rattle.frame_ports.specs.{Lands.list_of, Addresses.IsFrame, declared.limits.TheConstants.{INBOX_FRAMES, NUMBER_LIMIT}}
+use Rattle.pair_history.specs.{Entries.Frame, HistoryState.inbox_of}
+use Rattle.pair_core.specs.{declared.event.Event.TheVariants.Admit, declared.event.Refusal.Refusal}
+use Rattle.pair_core.specs.{declared.event.Refusal.TheVariants.{Full, BadFrame, NoClient, Stopped, Exhausted}, Invariant.Holds}
+use Rattle.pair_core.specs.{Modes.is_stopped, Pair.{Pair, shown_state, live_state, AfterRefusal}}
+use Rattle.pair_core.specs.Protocol.{Record, Outcome, Row, allowed, first_refusal, or_else, unless, refused, exhausts, is_among}
+use Rattle.pair_core.specs.Protocol.{is_bad_length, step_outcome, step_outcome_at, cut_refusals, cut_done, outbox_of}
+use Rattle.pair_core.specs.Protocol.{fail_backup_outcome_at, admit_outcome_at, admit_first, admit_refusals, admit_done, arrival_refusals}
+use Rattle.pair_core.specs.{Protocol.{deliver_outcome_at, deliver_refusals, delivery_refused, deliver_done}, Answering.MayWantMemory}
 use Rattle.pair_core.proofs.Consistent.{live_is, live_waiting, outbox_is}
+use Rattle.pair_core.specs.declared.event.Reply.TheVariants as replies
 
 -- a table decides
 pub stops : (r : Record) (rows : List Row) (done : Outcome) (o : Option Refusal) (why : Refusal) → o ≡ first_refusal rows → o ≡ Some why
@@ -75,13 +65,7 @@ full_rows false false false false false p = absurd (cc)
 module _ (w : Pair) (h : Holds w) where
   pub step_sight : step_outcome_at w.nodes.live.outbox w.ports.boxes (sent w.nodes.live.guest) (next w.nodes.live.guest).steps w.protocol
       ≡ step_outcome w.start w.protocol
-  step_sight =
-      let g = w.nodes.live.guest in
-      ap (λ (fs : List Frame). step_outcome_at fs w.ports.boxes (sent g) (next g).steps w.protocol) (sym (outbox_is w h))
-      ∙ ap (λ (b : List (List Frame)). step_outcome_at (outbox_of w.start w.protocol) b (sent g) (next g).steps w.protocol)
-      h.clients.boxes
-      ∙ ap (λ (g : Guest). step_outcome_at (outbox_of w.start w.protocol) (shown_state w).boxes (sent g) (next g).steps w.protocol)
-      (sym (live_is w h))
+  step_sight = search (arith, rules, live_is, outbox_is)
 
   pub cut_sight : unless w.protocol (cut_refusals w.protocol) (cut_done w.nodes.live.outbox w.protocol)
       ≡ unless w.protocol (cut_refusals w.protocol) (cut_done (outbox_of w.start w.protocol) w.protocol)
@@ -89,15 +73,7 @@ module _ (w : Pair) (h : Holds w) where
 
   pub fail_backup_sight : fail_backup_outcome_at w.ports.boxes w.nodes.live.outbox w.protocol
       ≡ fail_backup_outcome_at (shown_state w).boxes (outbox_of w.start w.protocol) w.protocol
-  fail_backup_sight =
-      ap (λ (fs : List Frame). fail_backup_outcome_at w.ports.boxes fs w.protocol) (sym (outbox_is w h))
-      ∙ ap (λ (b : List (List Frame)). fail_backup_outcome_at b (outbox_of w.start w.protocol) w.protocol) h.clients.boxes
-
-  pub ack_sight : (o : Option Packet) → ack_outcome_at w.ports.boxes w.protocol o ≡ ack_outcome_at (shown_state w).boxes w.protocol o
-  ack_sight o = ap (λ (b : List (List Frame)). ack_outcome_at b w.protocol o) h.clients.boxes
-
-  pub take_sight : (c : ℕ) → take_outcome_at w.ports.boxes w.protocol c ≡ take_outcome_at (shown_state w).boxes w.protocol c
-  take_sight c = ap (λ (b : List (List Frame)). take_outcome_at b w.protocol c) h.clients.boxes
+  fail_backup_sight = search (arith, rules, outbox_is)
 
   pub inbox_is : (c : ℕ) → 1 ≤ c → c ≤ length w.ports.boxes → list_of w.ports.inboxes c ≡ inbox_of c (live_state w).waiting
   inbox_is c low high = h.clients.inboxes c low high ∙ ap (inbox_of c) (sym (live_waiting w h))
@@ -153,12 +129,7 @@ module _ (w : Pair) (h : Holds w) where
     where
       admits : (o : Option (ℕ × Frame)) → slice_get (list_of w.ports.inboxes c) 0 ≡ o
           → admit_first w.protocol o ≡ allowed w.start w.protocol (Admit c)
-      admits o e =
-          ap (admit_first w.protocol) (sym e)
-          ∙ goes w.protocol (arrival_refusals (length w.ports.boxes) w.protocol c)
-          (admit_first w.protocol (slice_get (list_of w.ports.inboxes c) 0))
-          client is none
-          ∙ admit_sight c
+      admits o e = search (arith, rules, admit_sight, goes)
 
       pub admit_empty : length (list_of w.ports.inboxes c) ≡ 0 → (replies.Empty, w.protocol) ≡ allowed w.start w.protocol (Admit c)
       admit_empty e = admits None (no_first (list_of w.ports.inboxes c) e)
@@ -177,7 +148,7 @@ module _ (w : Pair) (h : Holds w) where
         pub admit_wants : o ≡ None → MayWantMemory w.protocol.mode (allowed w.start w.protocol (Admit c)).0
         admit_wants e =
             let first = some_first (list_of w.ports.inboxes c) some in
-            subst (λ (x : Outcome). MayWantMemory w.protocol.mode x.0) (admit_goes first.0.0 first.0.1 first.1 e) tt
+            rw (← admit_goes first.0.0 first.0.1 first.1 e) tt
 
   -- DELIVER, by its table
   module _ (c : ℕ) (bytes : List ℕ) (o : Option Refusal)
@@ -186,10 +157,7 @@ module _ (w : Pair) (h : Holds w) where
         → or_else x (delivery_refused w.protocol c (record { items = bytes }))
         (deliver_done w.protocol c (record { items = bytes }) w.ports.next)
         ≡ deliver_outcome_at (length (shown_state w).boxes) (inbox_of c (live_state w).waiting) (shown_state w).number w.protocol c bytes
-    by_table x e =
-        ap (λ (y : Option Refusal). or_else y (delivery_refused w.protocol c (record { items = bytes }))
-        (deliver_done w.protocol c (record { items = bytes }) w.ports.next)) (sym e ∙ row)
-        ∙ deliver_sight c bytes
+    by_table x e = search (arith, rules, deliver_sight)
 
     pub deliver_goes : o ≡ None → deliver_done w.protocol c (record { items = bytes }) w.ports.next
         ≡ deliver_outcome_at (length (shown_state w).boxes) (inbox_of c (live_state w).waiting) (shown_state w).number w.protocol c bytes
@@ -206,31 +174,9 @@ module _ (w : Pair) (h : Holds w) where
         other_refusal : (why : Refusal) → (why ≡ Full → ⊥)
             → refused w.protocol why ≡ delivery_refused w.protocol c (record { items = bytes }) why
         other_refusal Full n = absurd (n refl)
-        other_refusal BadFrame n = refl
-        other_refusal NoClient n = refl
-        other_refusal Stopped n = refl
-        other_refusal Behind n = refl
-        other_refusal NotPaired n = refl
-        other_refusal AlreadyPaired n = refl
-        other_refusal NoImage n = refl
-        other_refusal Stale n = refl
-        other_refusal Gap n = refl
-        other_refusal NoMemory n = refl
-        other_refusal CutNeeded n = refl
-        other_refusal Exhausted n = refl
+        other_refusal other n = refl
 
   -- a refusal that left all as it was
   pub after_none : (why : Refusal) → AfterRefusal why w w
   after_none Full = refl
-  after_none BadFrame = refl
-  after_none NoClient = refl
-  after_none Stopped = refl
-  after_none Behind = refl
-  after_none NotPaired = refl
-  after_none AlreadyPaired = refl
-  after_none NoImage = refl
-  after_none Stale = refl
-  after_none Gap = refl
-  after_none NoMemory = refl
-  after_none CutNeeded = refl
-  after_none Exhausted = refl
+  after_none other = refl

@@ -1,34 +1,22 @@
 -- Where a node that is alone gets a new backup: an empty epoch is sealed, whose text is the full checkpoint.
-use Rattle.std.proofs.Common.{◌≡◌, ℕ, ◌+◌, ◌<◌, List, [], ◌∷◌, ◌++◌, length, take, refl, sym, ap, ◌∙◌, subst, arith}
+use Rattle.std.proofs.Common.{rules, ◌≡◌, ℕ, ◌+◌, ◌<◌, List, [], ◌∷◌, ◌++◌, length, take, refl, sym, ap, ◌∙◌, subst, arith}
 use Rattle.std.proofs.lemmas.List.{append-nil}
 use Rattle.guest_machine.specs.Guest.{Guest}
-use Rattle.epoch_snapshot.specs.Bases.{IsBase}
-use Rattle.epoch_snapshot.specs.Images.{image_of}
-use Rattle.frame_ports.specs.Addresses.{targets_of}
-use Rattle.frame_ports.specs.declared.limits.TheConstants.{NUMBER_LIMIT}
+use Rattle.epoch_snapshot.specs.{Bases.IsBase, Images.image_of}
+use Rattle.frame_ports.specs.{Addresses.targets_of, declared.limits.TheConstants.NUMBER_LIMIT}
 use Rattle.output_gate.specs.Epochs.{Epoch, frames_of}
-use Rattle.pair_history.specs.HistoryState.{HistoryState, Waiting, at}
-use Rattle.pair_core.specs.Invariant.{AreClients, Holds}
-use Rattle.pair_core.specs.Journal.{joined}
-use Rattle.pair_core.specs.Nodes.{HasShape, machine_of, just_settled, with_protected}
-use Rattle.pair_core.specs.Pair.{Pair, shown_state, live_state}
-use Rattle.pair_core.specs.Protocol.{protect_done}
-use Rattle.pair_core.specs.Record.{IsLone}
-use Rattle.pair_core.specs.Texts.{IsText}
+use Rattle.pair_history.specs.HistoryState.{HistoryState, Waiting}
+use Rattle.pair_core.specs.{Invariant.{AreClients, Holds}, Nodes.{HasShape, machine_of, just_settled, with_protected}}
+use Rattle.pair_core.specs.{Pair.{Pair, shown_state, live_state}, Protocol.protect_done, Record.IsLone, Texts.IsText}
 use Rattle.pair_core.specs.Window.{committed_count}
-use Rattle.pair_core.proofs.AllLands.{take-none}
-use Rattle.pair_core.proofs.Consistent.{live_is, live_waiting}
-use Rattle.pair_core.proofs.Events.{left_now}
-use Rattle.pair_core.proofs.NodesLaws.{base-settled, reads-as}
+use Rattle.pair_core.proofs.{AllLands.take-none, Consistent.{live_is, live_waiting}, Events.left_now, NodesLaws.{base-settled, reads-as}}
 
 module _ (w : Pair) (h : Holds w) (k : IsLone w.protocol) (last : w.protocol.generation + 1 < NUMBER_LIMIT) (text : List ℕ)
     (is_text : (before : Guest) → HasShape w.nodes.image.shape w.nodes.live.guest
     → IsText w.nodes.image.shape (w.protocol.generation + 1) 0 before w.nodes.live.guest text) where
   -- nothing is kept
   lives : live_state w ≡ shown_state w
-  lives =
-      let j = w.protocol.journal in
-      ap (at w.start) ((λ i. j.history ++ (joined (k.0 i) ++ k.1 i)) ∙ append-nil j.history)
+  lives = search (arith, rules, append-nil)
 
   pub protect_holds : Holds (record w { protocol = (protect_done w.protocol).1; nodes = with_protected w.nodes text })
   protect_holds =

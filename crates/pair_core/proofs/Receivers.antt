@@ -1,10 +1,8 @@
 -- Laws of the clients to whom frames go, as the loops over them want them.
-use Rattle.std.proofs.Common.{◌≡◌, ℕ, zero, suc, ◌+◌, ◌-◌, ◌<◌, ◌≤◌, List, [], ◌∷◌, ◌++◌, length, drop, get_or, refl, sym, ap, ◌∙◌, arith}
-use Rattle.std.proofs.Common.{append_assoc, true, false, cond}
+use Rattle.std.proofs.Common.{rules, ◌≡◌, ℕ, zero, suc, ◌+◌, ◌-◌, ◌<◌, ◌≤◌, List, [], ◌∷◌, ◌++◌, length, drop, get_or, refl, sym, ap, ◌∙◌}
+use Rattle.std.proofs.{Common.{arith, append_assoc, true, false, cond}, lemmas.Bool.Decides.nat_tests}
 use Rattle.std.specs.Prelude.{nat_le, ◌&&◌}
-use Rattle.std.proofs.lemmas.Bool.Decides.{nat_tests}
-use Rattle.frame_ports.specs.Addresses.{addressed, clients_from, clients_of}
-use Rattle.frame_ports.specs.Targets.{has_target, AreTargets}
+use Rattle.frame_ports.specs.{Addresses.{addressed, clients_from, clients_of}, Targets.{has_target, AreTargets}}
 use Rattle.pair_history.specs.Entries.{Frame, Entry}
 use Rattle.pair_core.specs.Lengths.{receivers, landing_by, landings_by, lengths_at, lengths_after}
 use Rattle.pair_core.proofs.LengthLaws.{landings_by-append}
@@ -33,12 +31,6 @@ module _ (n c : ℕ) (bytes : List ℕ) (targets : ℕ) (are : AreTargets n byte
   pub next_no : has_target targets c ≡ false → from_on n c bytes ≡ from_on n (c + 1) bytes
   next_no e = next n c bytes high ∙ ap (λ t. cond t (c ∷ from_on n (c + 1) bytes) (from_on n (c + 1) bytes)) (sym is_addressed ∙ e)
 
-pub from_none : (n c : ℕ) (bytes : List ℕ) → n + 1 ≤ c → from_on n c bytes ≡ []
-from_none n c bytes h = let e : n + 1 - c ≡ 0 = omega arith in ap (λ k. clients_from k c bytes) e
-
-pub from_first : (n : ℕ) (bytes : List ℕ) → from_on n 1 bytes ≡ clients_of n bytes
-from_first n bytes = let e : n + 1 - 1 ≡ n = omega arith in ap (λ k. clients_from k 1 bytes) e
-
 -- the receivers of the frames from place i on
 behind : (n : ℕ) (fs : List Frame) (i : ℕ) (d : Frame) → i < length fs
     → receivers n (drop i fs) ≡ clients_of n (get_or fs i d).items ++ receivers n (drop (suc i) fs)
@@ -65,24 +57,13 @@ counted_more count total c rest now e h = let l = ap length e in omega arith
 pub entries_more : (old new : List Entry) (lengths after : List ℕ) (c : ℕ) (rest now : List ℕ) (total : List Entry) → now ≡ c ∷ rest
     → new ≡ old ++ landing_by lengths c ∷ [] → after ≡ lengths_at lengths c
     → old ++ landings_by lengths now ≡ total → new ++ landings_by after rest ≡ total
-entries_more old new lengths after c rest now total e n a h =
-    ap (λ t. t ++ landings_by after rest) n
-    ∙ append_assoc old (landing_by lengths c ∷ []) (landings_by after rest)
-    ∙ ap (λ t. old ++ landing_by lengths c ∷ landings_by t rest) a
-    ∙ ap (λ t. old ++ landings_by lengths t) (sym e)
-    ∙ h
+entries_more old new lengths after c rest now total e n a h = search (arith, rules, append_assoc)
 
 -- one frame more
 pub frames_more : (old new : List Entry) (lengths after : List ℕ) (cs rest now : List ℕ) (total : List Entry) → now ≡ cs ++ rest
     → new ≡ old ++ landings_by lengths cs → after ≡ lengths_after lengths cs
     → old ++ landings_by lengths now ≡ total → new ++ landings_by after rest ≡ total
-frames_more old new lengths after cs rest now total e n a h =
-    ap (λ t. t ++ landings_by after rest) n
-    ∙ append_assoc old (landings_by lengths cs) (landings_by after rest)
-    ∙ ap (λ t. old ++ (landings_by lengths cs ++ landings_by t rest)) a
-    ∙ ap (λ t. old ++ t) (sym (landings_by-append lengths cs rest))
-    ∙ ap (λ t. old ++ landings_by lengths t) (sym e)
-    ∙ h
+frames_more old new lengths after cs rest now total e n a h = search (arith, rules, append_assoc, landings_by-append)
 
 pub nil-append : (old : List Entry) (lengths now : List ℕ) (total : List Entry) → now ≡ [] → old ++ landings_by lengths now ≡ total
     → old ≡ total

@@ -1,29 +1,19 @@
 -- Each event leaves what is true of every record, and what the tables of refusals say.
-use Rattle.std.proofs.Common.{◌≡◌, ℕ, zero, suc, ◌+◌, ◌-◌, ◌<◌, ◌≤◌, List, [], ◌∷◌, ◌++◌, length, get_or, refl, sym, ap, ◌∙◌, subst, arith}
-use Rattle.std.proofs.Common.{Bool, true, false, cond, Option, None, Some}
-use Rattle.std.specs.Prelude.{map, slice_get, IfSome, nat_le, ◌==◌, not}
-use Rattle.std.proofs.lemmas.Bool.{eq-eqb}
-use Rattle.std.proofs.lemmas.Bool.Decides.{nat_tests}
+use Rattle.std.proofs.Common.{rules, ◌≡◌, ℕ, zero, suc, ◌+◌, ◌-◌, ◌<◌, ◌≤◌, List, [], ◌∷◌, ◌++◌, length, get_or, refl, ap, ◌∙◌, arith, Bool}
+use Rattle.std.proofs.{Common.{true, false, cond, Option, None, Some}, lemmas.Bool.eq-eqb, lemmas.Bool.Decides.nat_tests}
 use Rattle.std.proofs.lemmas.List.{length-append}
-use Rattle.failover.specs.declared.mode.Mode.{Mode}
-use Rattle.failover.specs.declared.mode.Mode.TheVariants.{Paired, Filling, Alone, Stopped}
+use Rattle.std.specs.Prelude.{map, slice_get, IfSome, nat_le, ◌==◌, not}
+use Rattle.failover.specs.{declared.mode.Mode.Mode, declared.mode.Mode.TheVariants.{Paired, Filling, Alone, Stopped}}
 use Rattle.frame_ports.specs.declared.limits.TheConstants.{NUMBER_LIMIT}
 use Rattle.output_gate.specs.Epochs.{Epoch, frames_to, after_number}
 use Rattle.pair_history.specs.Entries.{Frame, Entry}
-use Rattle.pair_core.specs.declared.event.Packet.{Packet}
-use Rattle.pair_core.specs.declared.event.Refusal.TheVariants.{Stale, Exhausted}
-use Rattle.pair_core.specs.declared.window.Window.{Window}
-use Rattle.pair_core.specs.Journal.{all_entries, rest_of}
-use Rattle.pair_core.specs.Lengths.{receivers}
-use Rattle.pair_core.specs.Lines.{packet, packet_of, packets_from, AreBelow}
-use Rattle.pair_core.specs.Modes.{is_alone, is_filling, filled, stop_refusal}
-use Rattle.pair_core.specs.Protocol.{Record, first_refusal, cut_refusals, ack_refusals, exhausts, let_go, cut_done, send_done}
-use Rattle.pair_core.specs.Protocol.{again_done, commit_done, ack_done, fail_primary_done}
-use Rattle.pair_core.specs.Record.{IsRecord, SuitsMode}
-use Rattle.pair_core.specs.Window.{NumberedFrom, with_cut, with_commit, with_acknowledged}
-use Rattle.pair_core.proofs.LengthLaws.{length-receivers}
-use Rattle.pair_core.proofs.ModeLaws.{clash, filled_alone}
-use Rattle.pair_core.proofs.LineLaws.{packets_from-numbered}
+use Rattle.pair_core.specs.{declared.event.Packet.Packet, declared.event.Refusal.TheVariants.Exhausted, declared.window.Window.Window}
+use Rattle.pair_core.specs.{Journal.{all_entries, rest_of}, Lengths.receivers, Lines.{packet_of, packets_from, AreBelow}}
+use Rattle.pair_core.specs.Modes.{is_alone, is_filling, filled}
+use Rattle.pair_core.specs.Protocol.{Record, first_refusal, cut_refusals, ack_refusals, exhausts, cut_done, send_done, again_done}
+use Rattle.pair_core.specs.{Protocol.{commit_done, ack_done}, Record.{IsRecord, SuitsMode}}
+use Rattle.pair_core.specs.Window.{NumberedFrom, with_commit, with_acknowledged}
+use Rattle.pair_core.proofs.{LengthLaws.length-receivers, ModeLaws.{clash, filled_alone}, LineLaws.packets_from-numbered}
 use Rattle.pair_core.proofs.WindowLaws.{numbered_below, cut_window, commit_window, ack_window}
 
 -- Tables of refusals
@@ -43,12 +33,7 @@ has_room_for r more e = is_below NUMBER_LIMIT (length (all_entries r.journal) + 
 pub ack_row : (boxes : List (List Frame)) (r : Record) (p : Packet) (count : ℕ) (fs : List Frame)
     → count ≡ length (receivers (length boxes) fs) → fs ≡ frames_to p.number r.pending → p.generation ≡ r.generation
     → first_refusal (ack_refusals boxes r p) ≡ cond (exhausts r count) (Some Exhausted) None
-ack_row boxes r p count fs is held same =
-    let n : count ≡ length (let_go boxes r p.number) = is ∙ ap (λ gs. length (receivers (length boxes) gs)) held
-    ∙ length-receivers (length boxes) (frames_to p.number r.pending) in
-    ap (λ t. cond (not t) (Some Stale) (cond (exhausts r (length (let_go boxes r p.number))) (Some Exhausted) None))
-    (eq-eqb p.generation r.generation same)
-    ∙ ap (λ k. cond (exhausts r k) (Some Exhausted) None) (sym n)
+ack_row boxes r p count fs is held same = search (arith, rules, eq-eqb, length-receivers)
 
 -- Lines
 
@@ -73,48 +58,30 @@ below_at g n [] k (Some p) h e = absurd (cc)
 below_at g n (q ∷ ps) zero None h e = tt
 below_at g n (q ∷ ps) zero (Some p) h e =
     let same : p ≡ q = cc in
-    subst (λ (x : Packet). x.generation ≡ g → x.number < n) (sym same) h.1
+    rw same h.1
 below_at g n (q ∷ ps) (suc k) o h e = below_at g n ps k o h.2 e
 
 -- The window that suits a mode: after a cut or an acknowledgement, after a commit, and once the primary stops
 
 suits_later : (mode : Mode) (w v : Window) → w.to_cut ≤ v.to_cut → v.to_commit ≡ w.to_commit → SuitsMode mode w → SuitsMode mode v
-suits_later Paired w v more same h = omega arith
 suits_later Filling w v more same h = (same ∙ h.0, let some = h.1 in omega arith)
 suits_later Alone w v more same h = tt
-suits_later Stopped w v more same h = omega arith
+suits_later other w v more same h = omega arith
 
 suits_committed : (mode : Mode) (w : Window) → SuitsMode (filled mode) (with_commit w)
-suits_committed Paired w = omega arith
-suits_committed Filling w = omega arith
 suits_committed Alone w = tt
-suits_committed Stopped w = omega arith
-
-suits_stopped : (mode : Mode) (w : Window) → stop_refusal mode ≡ None → SuitsMode mode w → SuitsMode Stopped w
-suits_stopped Paired w goes h = h
-suits_stopped Filling w goes h = absurd (cc)
-suits_stopped Alone w goes h = absurd (cc)
-suits_stopped Stopped w goes h = absurd (cc)
+suits_committed other w = omega arith
 
 -- and what it says of the numbers
 
-suits_cut : (mode : Mode) (w : Window) → is_alone mode ≡ false → w.to_commit ≤ w.to_cut → SuitsMode mode w → 1 ≤ w.to_cut
-suits_cut Paired w two cut h = omega arith
-suits_cut Filling w two cut h = h.1
-suits_cut Alone w two cut h = absurd (cc)
-suits_cut Stopped w two cut h = omega arith
-
 suits_full : (mode : Mode) (w : Window) → is_alone mode ≡ false → is_filling mode ≡ false → SuitsMode mode w → 1 ≤ w.to_commit
 suits_full Paired w two full h = h
-suits_full Filling w two full h = absurd (cc)
-suits_full Alone w two full h = absurd (cc)
 suits_full Stopped w two full h = h
+suits_full other w two full h = absurd (cc)
 
 suits_filling : (mode : Mode) (w : Window) → is_filling mode ≡ true → SuitsMode mode w → w.to_commit ≡ 0
-suits_filling Paired w new h = absurd (cc)
 suits_filling Filling w new h = h.0
-suits_filling Alone w new h = absurd (cc)
-suits_filling Stopped w new h = absurd (cc)
+suits_filling other w new h = absurd (cc)
 
 -- Events
 
@@ -127,18 +94,7 @@ module _ (r : Record) (h : IsRecord r) where
   rising = numbered_below r.window.to_acknowledge r.window.to_cut r.pending h.window.numbers (let e = h.window.count in omega arith)
 
   pub cut_record : (fs : List Frame) → is_alone r.mode ≡ false → first_refusal (cut_refusals r) ≡ None → IsRecord (cut_done fs r).1
-  cut_record fs two free =
-      let rows = passed _ _ _ free in
-      let few = is_below 4 (length r.pending) rows.0 in
-      let last = is_below NUMBER_LIMIT r.window.to_cut (passed _ _ _ rows.1).0 in
-      record {
-        window = cut_window r.window r.pending h.window (record { number = r.window.to_cut; frames = fs }) refl few last;
-        forward = AreBelow-more r.generation r.window.to_cut (r.window.to_cut + 1) r.lines.forward (omega arith) h.forward;
-        back = h.back;
-        sealed = let s = h.sealed in let e = length-append r.journal.sealed (r.journal.running ∷ []) in omega arith;
-        alone = λ e. absurd (clash (is_alone r.mode) e two);
-        suits = suits_later r.mode r.window (with_cut r.window) (omega arith) refl h.suits;
-      }
+  cut_record fs two free = search (arith, rules, AreBelow-more, clash, cut_window, is_below, length-append, passed, suits_later)
 
   pub sent_are : packets_from r.generation r.window.to_acknowledge (r.window.to_cut - r.window.to_acknowledge)
       ≡ map (packet_of r.generation) r.pending
@@ -161,36 +117,14 @@ module _ (r : Record) (h : IsRecord r) where
   }
 
   pub again_record : 0 < r.window.to_commit → IsRecord (again_done r).1
-  again_record some = record {
-    window = h.window;
-    forward = h.forward;
-    back =
-        AreBelow-append r.generation r.window.to_commit r.lines.back (packet r.generation (r.window.to_commit - 1) ∷ []) h.back
-        (omega arith, λ s. omega arith, tt);
-    sealed = h.sealed;
-    alone = h.alone;
-    suits = h.suits;
-  }
+  again_record some = search (arith, rules, AreBelow-append)
 
   pub some_sealed : r.window.to_commit < r.window.to_cut → 0 < length r.journal.sealed
   some_sealed more = let s = h.sealed in omega arith
 
   pub commit_record : r.window.to_commit < r.window.to_cut → IsRecord (commit_done r).1
-  commit_record more = record {
-    window = commit_window r.window r.pending h.window more;
-    forward = h.forward;
-    back =
-        AreBelow-append r.generation (r.window.to_commit + 1) r.lines.back (packet r.generation r.window.to_commit ∷ [])
-        (AreBelow-more r.generation r.window.to_commit (r.window.to_commit + 1) r.lines.back (omega arith) h.back)
-        (omega arith, λ s. omega arith, tt);
-    sealed = let s = h.sealed in let l = length-rest r.journal.sealed (some_sealed more) in omega arith;
-    alone =
-        λ e.
-        let none = ap length (h.alone (sym (filled_alone r.mode) ∙ e)).0 in
-        let some = some_sealed more in
-        absurd (omega arith);
-    suits = suits_committed r.mode r.window;
-  }
+  commit_record more =
+      search (arith, rules, AreBelow-append, AreBelow-more, commit_window, filled_alone, length-rest, some_sealed, suits_committed)
 
   pub ack_record : (boxes : List (List Frame)) (n : ℕ) → n < r.window.to_commit → IsRecord (ack_done boxes r n).1
   ack_record boxes n below = record {
@@ -201,21 +135,6 @@ module _ (r : Record) (h : IsRecord r) where
     alone = λ e. ((h.alone e).0, (h.alone e).1, ap (after_number n) (h.alone e).2);
     suits = suits_later r.mode r.window (with_acknowledged n r.window) (omega arith) refl h.suits;
   }
-
-  -- the primary stops in a pair alone
-  pub stop_record : stop_refusal r.mode ≡ None → IsRecord (fail_primary_done r).1
-  stop_record goes = record {
-    window = h.window;
-    forward = h.forward;
-    back = h.back;
-    sealed = h.sealed;
-    alone = λ e. absurd (cc);
-    suits = suits_stopped r.mode r.window goes h.suits;
-  }
-
-  -- in a pair some checkpoint was cut; and once the backup's first one is committed, some was committed
-  pub some_cut : is_alone r.mode ≡ false → 1 ≤ r.window.to_cut
-  some_cut two = suits_cut r.mode r.window two h.window.cut h.suits
 
   pub some_committed : is_alone r.mode ≡ false → is_filling r.mode ≡ false → 1 ≤ r.window.to_commit
   some_committed two full = suits_full r.mode r.window two full h.suits

@@ -1,21 +1,15 @@
 -- What a cut and a commit do to the guests that the image will be.
-use Rattle.std.proofs.Common.{◌≡◌, ℕ, suc, ◌+◌, ◌-◌, ◌<◌, List, [], ◌∷◌, ◌++◌, length, refl, sym, ap, ◌∙◌, arith, append_assoc}
-use Rattle.std.proofs.Common.{Bool, true, false, Some}
-use Rattle.failover.specs.declared.mode.Mode.{Mode}
-use Rattle.failover.specs.declared.mode.Mode.TheVariants.{Paired, Filling, Alone, Stopped}
-use Rattle.guest_machine.specs.declared.shapes.Shape.{Shape}
-use Rattle.guest_machine.specs.Guest.{Guest}
+use Rattle.std.proofs.Common.{rules, ◌≡◌, ℕ, suc, ◌+◌, ◌-◌, ◌<◌, List, [], ◌∷◌, ◌++◌, length, refl, sym, ap, ◌∙◌, arith, append_assoc, Bool}
+use Rattle.std.proofs.Common.{true, false, Some}
+use Rattle.failover.specs.{declared.mode.Mode.Mode, declared.mode.Mode.TheVariants.{Paired, Filling, Alone, Stopped}}
+use Rattle.guest_machine.specs.{declared.shapes.Shape.Shape, Guest.Guest}
 use Rattle.backup_image.specs.Images.{empty_image}
-use Rattle.epoch_snapshot.specs.Checkpoints.{Change}
-use Rattle.epoch_snapshot.specs.Images.{image_of}
-use Rattle.pair_history.specs.Entries.{Entry}
-use Rattle.pair_history.specs.HistoryState.{HistoryState, at}
+use Rattle.epoch_snapshot.specs.{Checkpoints.Change, Images.image_of}
+use Rattle.pair_history.specs.{Entries.Entry, HistoryState.{HistoryState, at}}
 use Rattle.pair_history.proofs.States.{at-append}
 use Rattle.pair_core.specs.Journal.{joined, kept_entries, first_of, rest_of}
-use Rattle.pair_core.specs.Nodes.{Nodes, Fills, with_sealed, with_commit, with_protected, read_as}
-use Rattle.pair_core.specs.Modes.{is_alone, is_filling, filled}
-use Rattle.pair_core.specs.Pair.{Pair, HasBackup, ImageFollows, shown_state, live_state}
-use Rattle.pair_core.specs.Protocol.{cut_done, commit_done}
+use Rattle.pair_core.specs.{Nodes.{Nodes, Fills, with_sealed, with_commit, with_protected, read_as}, Modes.{is_alone, is_filling, filled}}
+use Rattle.pair_core.specs.{Pair.{Pair, HasBackup, ImageFollows, shown_state, live_state}, Protocol.{cut_done, commit_done}}
 use Rattle.pair_core.specs.Record.{IsRecord, SuitsMode}
 use Rattle.pair_core.specs.Replication.{guests_of, to_come, number_after, next_number, IsCut, IsCommit, IsProtected}
 use Rattle.pair_core.specs.Texts.{IsText, AreTexts}
@@ -57,11 +51,7 @@ length-ends s (es ∷ ess) = ap suc (length-ends (at s es) ess)
 
 -- a full checkpoint makes its guest of whatever guest
 from-any : (g before : Guest) (x : Nodes) → Fills g x → to_come x ≡ guests_of x.image.shape before x.sealed
-from-any g before x f =
-    let shape = x.image.shape in
-    ap (guests_of shape x.image.guest) f.sealed
-    ∙ ap (λ (h : Guest). h ∷ guests_of shape h f.later) (f.makes x.image.guest ∙ sym (f.makes before))
-    ∙ ap (guests_of shape before) (sym f.sealed)
+from-any g before x f = search (arith, rules)
 
 module _ (w : Pair) (b : HasBackup w) where
   -- what the image will be are the guests at the ends of the sealed epochs
@@ -74,8 +64,7 @@ module _ (w : Pair) (b : HasBackup w) where
       by_mode : (t : Bool) → is_filling w.protocol.mode ≡ t
           → to_come w.nodes ≡ guests_of w.nodes.image.shape (shown_state w).guest w.nodes.sealed
       by_mode false e = ap (λ (g : Guest). guests_of w.nodes.image.shape g w.nodes.sealed) (b.follows e).image
-      by_mode true e =
-          from-any (at (shown_state w) (first_of w.protocol.journal.sealed)).guest (shown_state w).guest w.nodes (b.filling e)
+      by_mode true e = from-any (at (shown_state w) (first_of w.protocol.journal.sealed)).guest (shown_state w).guest w.nodes (b.filling e)
 
   -- the image takes the next checkpoint to be committed next
   next-number : is_alone w.protocol.mode ≡ false → SuitsMode w.protocol.mode w.protocol.window
@@ -92,16 +81,13 @@ module _ (w : Pair) (b : HasBackup w) where
 
 -- a commit makes a pair
 filled-follows : (mode : Mode) → is_filling (filled mode) ≡ false
-filled-follows Paired = refl
 filled-follows Filling = refl
-filled-follows Alone = refl
-filled-follows Stopped = refl
+filled-follows other = refl
 
 pub filled-pairs : (mode : Mode) → is_alone mode ≡ false → is_alone (filled mode) ≡ false
-filled-pairs Paired e = refl
-filled-pairs Filling e = refl
 filled-pairs Alone e = absurd (cc)
-filled-pairs Stopped e = refl
+filled-pairs Filling e = refl
+filled-pairs other e = refl
 
 -- CUT and COMMIT, from what holds of the backup before and after
 

@@ -1,33 +1,16 @@
 -- Along a run each guest to come keeps its place, until the checkpoint that makes it is committed.
-use Rattle.std.proofs.Common.{◌≡◌, ℕ, List, [], ◌∷◌, ◌++◌, length, refl, sym, ap, ◌∙◌, subst, arith}
-use Rattle.std.proofs.Common.{Some, Result, Ok, Err, OnErr}
-use Rattle.std.specs.Prelude.{slice_get, IfOk}
-use Rattle.std.specs.declared.alloc.AllocError.{AllocError}
+use Rattle.std.proofs.Common.{◌≡◌, ℕ, List, [], ◌∷◌, ◌++◌, length, refl, sym, ap, ◌∙◌, subst, arith, Some}
+use Rattle.std.specs.Prelude.{slice_get}
 use Rattle.guest_machine.specs.Guest.{Guest}
-use Rattle.pair_core.specs.declared.event.Event.{Event}
-use Rattle.pair_core.specs.declared.event.Event.TheVariants.{Cut, BackupGet, Protect}
-use Rattle.pair_core.specs.declared.event.Refusal.TheVariants.{NoMemory}
-use Rattle.pair_core.specs.declared.event.Reply.{Reply}
+use Rattle.pair_core.specs.{declared.event.Event.Event, declared.event.Event.TheVariants.{Cut, BackupGet, Protect}}
+use Rattle.pair_core.specs.{declared.event.Reply.Reply, Pair.Pair, Replication.{to_come, number_after, next_number, Awaits, Does, Leads}}
+use Rattle.pair_core.proofs.{Ends.answers_end, Generations.{Goes, goes_all, next-same}}
 use Rattle.pair_core.specs.declared.event.Reply.TheVariants as replies
-use Rattle.pair_core.specs.Modes.{is_alone}
-use Rattle.pair_core.specs.Pair.{Pair}
-use Rattle.pair_core.specs.Replication.{to_come, number_after, next_number, KeepsBackup, Awaits, Replicates, Does, Leads}
-use Rattle.pair_core.proofs.Generations.{Goes, answers_go, refused_keeps, stays_kept, next-same}
-
--- what an event did, as a reply
-pub replicates_by_outcome : (old new : Pair) (event : Event) (o : Result Reply AllocError) (reply : Reply)
-    → IfOk o (λ r. reply ≡ r) → OnErr o (reply ≡ replies.Refused NoMemory)
-    → IfOk o (λ r. Replicates event r old.nodes new.nodes) → OnErr o (new ≡ old) → Replicates event reply old.nodes new.nodes
-replicates_by_outcome old new event (Ok r) reply ok err done same =
-    subst (λ (x : Reply). Replicates event x old.nodes new.nodes) (sym ok) done
-replicates_by_outcome old new event (Err e) reply ok err done same =
-    subst (λ (x : Reply × Pair). Replicates event x.0 old.nodes x.1.nodes) (λ i. (sym err i, sym same i))
-    (subst (λ (A : Type 0). A) (sym (refused_keeps event NoMemory old.nodes old.nodes)) (refl, refl))
 
 -- a run goes on by one event
 pub Leads-more : (events : List Event) (replies : List Reply) (old mid new : Pair) (event : Event) (reply : Reply)
     → Leads old events replies mid → Does mid event reply new → Leads old (events ++ event ∷ []) (replies ++ reply ∷ []) new
-Leads-more [] [] old mid new event reply run step = (new, subst (λ (w : Pair). Does w event reply new) run step, refl)
+Leads-more [] [] old mid new event reply run step = (new, rw (← run) step, refl)
 Leads-more [] (r ∷ replies) old mid new event reply run step = absurd run
 Leads-more (e ∷ events) [] old mid new event reply run step = absurd run
 Leads-more (e ∷ events) (r ∷ replies) old mid new event reply run step =
@@ -36,7 +19,8 @@ Leads-more (e ∷ events) (r ∷ replies) old mid new event reply run step =
 -- what an event did to the generation and to the guests to come
 does : (old new : Pair) (event : Event) (reply : Reply) → Does old event reply new
     → Goes old.protocol old.nodes new.nodes event (reply, new.protocol)
-does old new event reply d = answers_go old.start old.protocol old.nodes new.nodes event reply new.protocol d.answers
+does old new event reply d =
+    (answers_end old.start old.protocol _ (goes_all old.start old.protocol old.nodes new.nodes) event reply new.protocol d.answers).2
 
 module _ (generation number : ℕ) (g : Guest) where
   pub waits_event : (event : Event) (reply : Reply) (old new : Pair) → Does old event reply new
@@ -52,24 +36,12 @@ module _ (generation number : ℕ) (g : Guest) where
             stays.1 number g (p.place stays.0 (omega arith));
       }
 
-  -- a call that is no event
-  pub waits_call : (old new : Pair) → KeepsBackup old.nodes new.nodes → new.protocol.mode ≡ old.protocol.mode
-      → new.protocol.generation ≡ old.protocol.generation → Awaits generation number g old → Awaits generation number g new
-  waits_call old new k mode same p =
-      let begun = p.begun in
-      record {
-        begun = omega arith;
-        place = λ two e.
-            stays_kept old.nodes new.nodes k number g (p.place (ap is_alone (sym mode) ∙ two) (sym same ∙ e));
-      }
-
   pub waits_along : (events : List Event) (replies : List Reply) (old new : Pair) → Leads old events replies new
       → Awaits generation number g old → Awaits generation number g new
   waits_along [] [] old new l p = subst (Awaits generation number g) (sym l) p
   waits_along [] (r ∷ replies) old new l p = absurd l
   waits_along (e ∷ events) [] old new l p = absurd l
-  waits_along (e ∷ events) (r ∷ replies) old new l p =
-      waits_along events replies l.0 new l.2 (waits_event e r old l.0 l.1 p)
+  waits_along (e ∷ events) (r ∷ replies) old new l p = waits_along events replies l.0 new l.2 (waits_event e r old l.0 l.1 p)
 
   pub comes : (k : ℕ) (old new : Pair) → Does old (BackupGet k) (replies.Committed generation number) new
       → Awaits generation number g old → new.nodes.image.guest ≡ g

@@ -1,16 +1,13 @@
 -- What whole runs are to the clients, from what each of their events is.
 use Rattle.std.proofs.Common.{◌≡◌, ℕ, zero, suc, List, [], ◌∷◌, ◌++◌, refl, sym, ap, ◌∙◌, subst, append_assoc, Option, Some}
-use Rattle.std.specs.Prelude.{slice_get}
 use Rattle.std.proofs.lemmas.List.{append-nil}
+use Rattle.std.specs.Prelude.{slice_get}
 use Rattle.guest_machine.specs.Guest.{Guest}
-use Rattle.pair_history.specs.Entries.{Frame, Entry, Delivered, Took, Begins}
-use Rattle.pair_history.specs.HistoryState.{HistoryState, after, at, Legal, Allows}
-use Rattle.pair_core.specs.declared.event.Event.{Event}
-use Rattle.pair_core.specs.declared.event.Event.TheVariants.{Deliver, Take, GoLive}
-use Rattle.pair_core.specs.declared.event.Reply.{Reply}
-use Rattle.pair_core.specs.declared.event.Reply.TheVariants as replies
-use Rattle.pair_core.specs.Service.{Moment, Serves, HasServed, IsDelivery}
+use Rattle.pair_history.specs.{Entries.{Frame, Entry, Delivered, Took, Begins}, HistoryState.{HistoryState, after, at, Legal, Allows}}
+use Rattle.pair_core.specs.{declared.event.Event.Event, declared.event.Event.TheVariants.{Deliver, Take, GoLive}}
+use Rattle.pair_core.specs.{declared.event.Reply.Reply, Service.{Moment, Serves, HasServed, IsDelivery}}
 use Rattle.pair_core.proofs.PublicLaws.{Begins-trans}
+use Rattle.pair_core.specs.declared.event.Reply.TheVariants as replies
 
 -- a backup that goes live has the history's guest
 pub resumed_is : (start : HistoryState) (old new : Moment) (generation steps : ℕ)
@@ -24,8 +21,7 @@ pub HasServed-more : (start : HistoryState) (events : List Event) (replies : Lis
     (event : Event) (reply : Reply)
     → HasServed start old events replies mid → Serves start mid event reply new
     → HasServed start old (events ++ event ∷ []) (replies ++ reply ∷ []) new
-HasServed-more start [] [] old mid new event reply run one =
-    (new, subst (λ (m : Moment). Serves start m event reply new) run one, refl)
+HasServed-more start [] [] old mid new event reply run one = (new, rw (← run) one, refl)
 HasServed-more start [] (r ∷ replies) old mid new event reply run one = absurd run
 HasServed-more start (e ∷ events) [] old mid new event reply run one = absurd run
 HasServed-more start (e ∷ events) (r ∷ replies) old mid new event reply run one =
@@ -63,8 +59,7 @@ happens start old new (x ∷ events) (r ∷ answers) run zero event reply e f =
       before = old;
       later = run.0;
       begins = Begins-same old.history;
-      one = subst (λ (y : Reply). Serves start old event y run.0) answer
-          (subst (λ (y : Event). Serves start old y r run.0) first run.1);
+      one = rw (← answer) (rw (← first) run.1);
       ends = served_grows start run.0 new events answers run.2;
     }
 happens start old new (x ∷ events) (r ∷ answers) run (suc k) event reply e f =

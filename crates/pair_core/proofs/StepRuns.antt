@@ -1,34 +1,21 @@
 -- What so many steps of the guest leave, and what the protocol answers to them.
-use Rattle.std.proofs.Common.{◌≡◌, ℕ, zero, suc, ◌+◌, ◌<◌, ◌≤◌, List, [], ◌∷◌, ◌++◌, length, replicate, refl, sym, ap, ◌∙◌, subst, arith}
-use Rattle.std.proofs.Common.{append_assoc, Bool, true, false, cond, Option, None, Some, Result, Ok, Err, OnErr}
+use Rattle.std.proofs.Common.{rules, ◌≡◌, ℕ, zero, suc, ◌+◌, ◌<◌, ◌≤◌, List, [], ◌∷◌, ◌++◌, length, replicate, refl, sym, ap, ◌∙◌, subst}
+use Rattle.std.proofs.Common.{arith, append_assoc, Bool, true, false, cond, Option, None, Some, Result, Ok, Err, OnErr}
+use Rattle.std.proofs.{lemmas.Bool.Decides.nat_tests, lemmas.List.{append-nil, length-append, length-replicate}}
 use Rattle.std.specs.Prelude.{nat_lt, nat_le}
-use Rattle.std.proofs.lemmas.Bool.Decides.{nat_tests}
-use Rattle.std.proofs.lemmas.List.{append-nil, length-append, length-replicate}
-use Rattle.guest_machine.specs.Guest.{Guest}
-use Rattle.guest_machine.specs.Step.{next, sent}
-use Rattle.guest_machine.specs.Runs.{after_steps, sent_in, marked_in, HaveRoom}
+use Rattle.guest_machine.specs.{Guest.Guest, Step.{next, sent}, Runs.{after_steps, sent_in, marked_in, HaveRoom}}
 use Rattle.frame_ports.specs.declared.limits.TheConstants.{NUMBER_LIMIT}
-use Rattle.pair_history.specs.Entries.{Frame, Ran}
-use Rattle.pair_history.specs.HistoryState.{HistoryState, Waiting}
+use Rattle.pair_history.specs.{Entries.{Frame, Ran}, HistoryState.{HistoryState, Waiting}}
 use Rattle.pair_history.specs.Moves.{Steps, entries_of, guest_along, frames_along, left, AllCan}
-use Rattle.pair_core.specs.declared.event.Refusal.{Refusal}
-use Rattle.pair_core.specs.declared.event.Refusal.TheVariants.{Stopped, CutNeeded, Exhausted}
-use Rattle.pair_core.specs.declared.event.Reply.TheVariants as replies
-use Rattle.pair_core.specs.Invariant.{AreClients, Holds}
-use Rattle.pair_core.specs.Journal.{all_entries, with_running, with_moves}
-use Rattle.pair_core.specs.declared.limits.TheConstants.{STEP_ENTRIES}
-use Rattle.pair_core.specs.Modes.{is_stopped, is_alone}
-use Rattle.pair_core.specs.Nodes.{after_run}
-use Rattle.pair_core.specs.Pair.{Pair, shown_state}
+use Rattle.pair_core.specs.{declared.event.Refusal.Refusal, declared.event.Refusal.TheVariants.{Stopped, CutNeeded, Exhausted}}
+use Rattle.pair_core.specs.{Invariant.Holds, Journal.{all_entries, with_running, with_moves}, declared.limits.TheConstants.STEP_ENTRIES}
+use Rattle.pair_core.specs.{Modes.{is_stopped, is_alone}, Nodes.after_run, Pair.Pair}
 use Rattle.pair_core.specs.Protocol.{Record, Outcome, first_refusal, or_else, refused, shown_at, live_at, step_refusals, step_done}
-use Rattle.pair_core.specs.Protocol.{step_outcome, step_reply, outbox_of}
-use Rattle.pair_core.specs.Protocol.{step_room, step_entries}
+use Rattle.pair_core.specs.{Protocol.{step_outcome, outbox_of, step_room, step_entries}, Answering.step_reply}
 use Rattle.pair_core.specs.Runs.{goes_on, steps_outcome, with_steps}
-use Rattle.pair_core.proofs.Consistent.{live_is}
-use Rattle.pair_core.proofs.Events.{left_now, moves_hold}
-use Rattle.pair_core.proofs.NodesLaws.{shape-after_steps, base-after_run}
-use Rattle.pair_core.proofs.JournalLaws.{length-all}
-use Rattle.pair_core.proofs.Outcomes.{goes, step_sight}
+use Rattle.pair_core.proofs.{Consistent.live_is, Events.{left_now, moves_hold}, NodesLaws.{shape-after_steps, base-after_run}}
+use Rattle.pair_core.proofs.{JournalLaws.length-all, Outcomes.{goes, step_sight}}
+use Rattle.pair_core.specs.declared.event.Reply.TheVariants as replies
 
 -- Runs of the guest alone
 
@@ -96,34 +83,19 @@ steps_hold n w h =
     (λ s k. shape-after_steps n s w.nodes.live.guest k)
     (λ b k. base-after_run n w.nodes b k)
     (can-steps n (left_now w h))
-    (subst (λ (ws : List Waiting). AreClients (shown_state w) ws w.ports) (sym (left-steps n (left_now w h))) h.clients)
+    (rw (left-steps n (left_now w h)) h.clients)
 
 pub replicate-last : (n : ℕ) → replicate (suc n) Ran ≡ replicate n Ran ++ Ran ∷ []
 replicate-last zero = refl
 replicate-last (suc n) = ap (λ t. Ran ∷ t) (replicate-last n)
 
 pub with_no_steps : (w : Pair) → with_steps 0 w ≡ w
-with_no_steps w = λ i. record w {
-  protocol = record w.protocol { journal = record w.protocol.journal { running = append-nil w.protocol.journal.running i } };
-  nodes = record w.nodes {
-    live = record w.nodes.live {
-      guest = no-steps w.nodes.live.guest i;
-      outbox = (ap (λ (t : List Frame). w.nodes.live.outbox ++ t) (none-sent w.nodes.live.guest) ∙ append-nil w.nodes.live.outbox) i;
-      dirty = none-marked w.nodes.live.guest w.nodes.live.dirty i;
-    };
-  };
-}
+with_no_steps w = search (arith, rules, append-nil, no-steps, none-marked, none-sent)
 
 -- each step is one entry more
 pub steps-counted : (n : ℕ) (w : Pair) → length (all_entries (with_steps n w).protocol.journal) ≡ length (all_entries w.protocol.journal)
     + n
-steps-counted n w =
-    let j = w.protocol.journal in
-    let e1 = length-all (with_running j (replicate n Ran)) in
-    let e2 = length-append j.running (replicate n Ran) in
-    let e3 = length-replicate n Ran in
-    let e4 = length-all j in
-    omega arith
+steps-counted n w = search (arith, rules, length-all, length-append, length-replicate)
 
 -- What is answered
 
@@ -190,8 +162,7 @@ steps_answered (suc n) w h two runs fits room =
       replies.Steps (after_steps-last n g i).steps,
       record w.protocol {
         journal = record w.protocol.journal {
-          running = (ap (λ t. ran ++ t) (replicate-last n)
-              ∙ sym (append_assoc ran (replicate n Ran) (Ran ∷ []))) i;
+          running = (ap (λ t. ran ++ t) (replicate-last n) ∙ sym (append_assoc ran (replicate n Ran) (Ran ∷ []))) i;
         };
       },
     ))
@@ -206,8 +177,7 @@ module _ (start : HistoryState) (r r' : Record) (n k : ℕ) (why : Refusal)
     (made : (replies.Steps k, r') ≡ steps_outcome start r n)
     (ends : refused r' why ≡ step_outcome start r') where
   after : (m : ℕ) → n ≡ m → refused r' why ≡ steps_outcome start r (suc m)
-  after m e =
-      ends ∙ ap (λ (o : Outcome). goes_on start o.0 o.1) (made ∙ ap (steps_outcome start r) e) ∙ sym (more-answered start r m)
+  after m e = ends ∙ ap (λ (o : Outcome). goes_on start o.0 o.1) (made ∙ ap (steps_outcome start r) e) ∙ sym (more-answered start r m)
 
   longer : (m : ℕ) → refused r' why ≡ steps_outcome start r m → refused r' why ≡ steps_outcome start r (suc m)
   longer m e = ap (λ (o : Outcome). goes_on start o.0 o.1) e ∙ sym (more-answered start r m)

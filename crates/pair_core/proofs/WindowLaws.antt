@@ -1,10 +1,8 @@
 -- Laws of the window of checkpoints.
 use Rattle.std.proofs.Common.{◌≡◌, ℕ, zero, suc, ◌+◌, ◌<◌, ◌≤◌, List, [], ◌∷◌, ◌++◌, length, take, drop, get_or, refl, sym, ap, ◌∙◌, subst}
-use Rattle.std.proofs.Common.{arith, Bool, true, false, cond}
+use Rattle.std.proofs.{Common.{arith, Bool, true, false, cond}, lemmas.Bool.Decides.nat_tests}
+use Rattle.std.proofs.{lemmas.List.{length-append, length-take-le, take-append-drop}, Math.Seq.{take-append_seam, drop-append_seam}}
 use Rattle.std.specs.Prelude.{nat_le}
-use Rattle.std.proofs.lemmas.Bool.Decides.{nat_tests}
-use Rattle.std.proofs.lemmas.List.{length-append, length-take-le, take-append-drop}
-use Rattle.std.proofs.Math.Seq.{take-append_seam, drop-append_seam}
 use Rattle.frame_ports.specs.declared.limits.TheConstants.{NUMBER_LIMIT}
 use Rattle.output_gate.specs.Epochs.{Epoch, frames_to, after_number, frames_of}
 use Rattle.pair_core.specs.declared.window.Window.{Window}
@@ -57,7 +55,7 @@ none n a waiting others l h =
       frames = (none_taken n a (waiting ++ others) l h).0;
       rest = (none_taken n a (waiting ++ others) l h).1;
       count = ap (λ t. cond t (n + 1) a + length waiting) off;
-      numbers = subst (λ (k : ℕ). NumberedFrom k (waiting ++ others)) (sym (ap (λ t. cond t (n + 1) a) off)) h;
+      numbers = rw (ap (λ t. cond t (n + 1) a) off) h;
     }
 
 is_from : (a n : ℕ) → nat_le a n ≡ true → a ≤ n
@@ -88,7 +86,7 @@ one_more n a e waiting others l h m =
           ∙ ap (λ t. e.frames ++ t) m.frames;
       rest = ap (λ t. cond t (after_number n (waiting ++ others)) (e ∷ after_number n (waiting ++ others))) on ∙ m.rest;
       count = let c = m.count in omega arith;
-      numbers = subst (λ (k : ℕ). NumberedFrom k (m.stay ++ others)) (there ∙ sym here) m.numbers;
+      numbers = rw (← (there ∙ sym here)) m.numbers;
     }
 
 pub taken : (n a : ℕ) (waiting others : List Epoch) → n < a + length waiting → NumberedFrom a (waiting ++ others) → Taken n a waiting others
@@ -180,7 +178,7 @@ module _ (w : Window) (pending : List Epoch) (h : IsWindow w pending) where
         let a = h.count in
         let b = h.few in
         record {
-          numbers = subst (NumberedFrom (first_after n w.to_acknowledge)) (sym left_over) leaves.numbers;
+          numbers = rw left_over leaves.numbers;
           count = omega arith;
           committed = omega arith;
           cut = h.cut;

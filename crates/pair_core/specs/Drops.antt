@@ -9,7 +9,8 @@ use Rattle.pair_core.specs.declared.event.Event.TheVariants.{Step, AckGet, LoseI
 use Rattle.pair_core.specs.declared.event.Reply.{Reply}
 use Rattle.pair_core.specs.declared.event.Reply.TheVariants.{Dropped, Live}
 use Rattle.pair_core.specs.Journal.{kept_entries}
-use Rattle.pair_core.specs.Protocol.{Record, Answers}
+use Rattle.pair_core.specs.Protocol.{Record}
+use Rattle.pair_core.specs.Answering.{Answers}
 
 -- What an event may drop, where the history and what the guest did ahead of it were so, and the history grows by these entries: a loss
 -- that was asked for drops that frame and no other; where frames land, which is at an acknowledgement, where the backup fails, and at a

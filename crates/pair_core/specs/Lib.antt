@@ -10,6 +10,7 @@ pub mod Texts
 pub mod NodesFields
 pub mod Modes
 pub mod Protocol
+pub mod Answering
 pub mod Record
 pub mod RecordFields
 pub mod Pair

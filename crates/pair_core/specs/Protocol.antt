@@ -3,8 +3,8 @@
 -- the record after it, and the only place that spells them. What it looks at beside the record (the frames that the guest sent
 -- along the running epoch, its step count, the clients' boxes and inboxes) is an argument, and `outcome` gives what the history
 -- says of it.
-use Rattle.std.specs.Prelude.{◌≡◌, ℕ, ◌+◌, ◌-◌, ◌<◌, ◌==◌, ◌&&◌, ◌||◌, not, nat_lt, nat_le, Bool, if◌then◌else◌, List, [], ◌∷◌, ◌++◌}
-use Rattle.std.specs.Prelude.{true, length, map, option_map, slice_get, Option, None, Some, Result, Ok, Err, ◌⊎◌}
+use Rattle.std.specs.Prelude.{ℕ, ◌+◌, ◌-◌, ◌==◌, ◌&&◌, ◌||◌, not, nat_lt, nat_le, Bool, if◌then◌else◌, List, [], ◌∷◌, ◌++◌}
+use Rattle.std.specs.Prelude.{length, map, option_map, slice_get, Option, None, Some}
 use Rattle.guest_machine.specs.Step.{next, sent}
 use Rattle.frame_ports.specs.Addresses.{targets_of}
 use Rattle.frame_ports.specs.Lands.{list_of, put_count}
@@ -22,7 +22,7 @@ use Rattle.pair_core.specs.declared.event.Event.TheVariants.{Step, Cut, Send, Ba
 use Rattle.pair_core.specs.declared.event.Event.TheVariants.{FailPrimary, FailBackup, GoLive, Protect}
 use Rattle.pair_core.specs.declared.event.Packet.{Packet}
 use Rattle.pair_core.specs.declared.event.Refusal.{Refusal}
-use Rattle.pair_core.specs.declared.event.Refusal.TheVariants.{Full, BadFrame, NoClient, Stopped, Behind, Stale, Gap, NoMemory, CutNeeded}
+use Rattle.pair_core.specs.declared.event.Refusal.TheVariants.{Full, BadFrame, NoClient, Stopped, Behind, Stale, Gap, CutNeeded}
 use Rattle.pair_core.specs.declared.event.Refusal.TheVariants.{Exhausted}
 use Rattle.pair_core.specs.declared.event.Reply.{Reply}
 use Rattle.pair_core.specs.declared.event.Reply.TheVariants as replies
@@ -389,27 +389,3 @@ allowed start r Protect = unless r (protect_refusals r) (protect_done r)
 
 abbrev pub outcome : HistoryState → Record → Event → Outcome
 outcome start r event = or_else (mode_refusal r.mode event) (refused r) (allowed start r event)
-
--- WANT OF MEMORY
-
--- An event that the protocol answers so in a mode may want memory first: it adds to the history, to a line, or to what is sealed or
--- kept. A step doesn't, unless a node is alone, where its frames may land; nor does an event that changes nothing.
-abbrev pub MayWantMemory : Mode → Reply → Type 0
-MayWantMemory mode (replies.Steps count) = is_alone mode ≡ true
-MayWantMemory mode (replies.Sent count) = 0 < count
-MayWantMemory mode replies.Lost = ⊥
-MayWantMemory mode replies.Empty = ⊥
-MayWantMemory mode replies.Stopped = ⊥
-MayWantMemory mode (replies.Refused why) = why ≡ Full
-MayWantMemory mode other = Unit {0}
-
--- From the record old an event may be answered reply and leave new: by the protocol, or for want of memory with nothing changed.
-abbrev pub Answers : HistoryState → Record → Event → Reply → Record → Type 0
-Answers start old event reply new =
-    ((reply, new) ≡ outcome start old event)
-    ⊎ (MayWantMemory old.mode (outcome start old event).0 × (reply ≡ replies.Refused NoMemory) × (new ≡ old))
-
--- what a step answers, as a reply
-abbrev pub step_reply : Result ℕ Refusal → Reply
-step_reply (Ok count) = replies.Steps count
-step_reply (Err why) = replies.Refused why

@@ -12,7 +12,7 @@ use Rattle.backup_image.specs.declared.standing.Standing.{Standing}
 use Rattle.pair_core.specs.Modes.{is_alone}
 use Rattle.pair_core.specs.Nodes.{Nodes, read_as}
 use Rattle.pair_core.specs.Pair.{Pair, IsConsistent}
-use Rattle.pair_core.specs.Protocol.{Answers}
+use Rattle.pair_core.specs.Answering.{Answers}
 
 -- the guests that these texts of checkpoints make, one after another, the first of them of the guest g (Remus, 2008: each checkpoint is
 -- applied to the image that the one before it made)

@@ -9,7 +9,8 @@ use Rattle.pair_history.specs.HistoryState.{HistoryState}
 use Rattle.pair_core.specs.Journal.{with_running}
 use Rattle.pair_core.specs.Modes.{is_alone}
 use Rattle.pair_core.specs.Nodes.{after_run}
-use Rattle.pair_core.specs.Protocol.{Record, Outcome, Answers, MayWantMemory, live_at, refused, step_outcome}
+use Rattle.pair_core.specs.Protocol.{Record, Outcome, live_at, refused, step_outcome}
+use Rattle.pair_core.specs.Answering.{Answers, MayWantMemory}
 use Rattle.pair_core.specs.Pair.{Pair}
 
 -- what one event, answered so, does to a record

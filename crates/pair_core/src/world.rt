@@ -44,7 +44,8 @@ impl World {
     ghost use Rattle.frame_ports.specs.declared.limits.TheConstants.{MAX_CLIENTS};
     ghost use Rattle.pair_history.specs.Entries.{Begins};
     ghost use Rattle.pair_history.specs.HistoryState.{start_state};
-    ghost use Rattle.pair_core.specs.Protocol.{Record, Answers, MayWantMemory, outcome, step_reply, step_outcome};
+    ghost use Rattle.pair_core.specs.Protocol.{Record, outcome, step_outcome};
+    ghost use Rattle.pair_core.specs.Answering.{Answers, MayWantMemory, step_reply};
     ghost use Rattle.pair_core.specs.Pair.{Pair, OnRefused, IsConsistent};
     ghost use Rattle.pair_core.specs.Record.{start_record};
     ghost use Rattle.pair_core.specs.Runs.{Along, Run, steps_outcome, with_steps};
@@ -254,7 +255,8 @@ impl World {
     ghost use Rattle.pair_core.specs.declared.event.Event.TheVariants as events;
     ghost use Rattle.pair_core.specs.Journal.{all_entries};
     ghost use Rattle.pair_core.specs.Modes.{is_stopped as stopped, is_alone as alone, mode_refusal};
-    ghost use Rattle.pair_core.specs.Protocol.{MayWantMemory, refused, allowed, step_outcome};
+    ghost use Rattle.pair_core.specs.Protocol.{refused, allowed, step_outcome};
+    ghost use Rattle.pair_core.specs.Answering.{MayWantMemory};
     ghost use Rattle.pair_core.specs.Pair.{Pair, OnRefused};
     ghost use Rattle.pair_core.specs.Replication.{KeepsBackup, Replicates};
     ghost use Rattle.pair_core.specs.Runs.{steps_outcome, with_steps};

@@ -8,7 +8,7 @@ use Rattle.pair_core.specs.declared.event.Event.TheVariants as events
 use Rattle.pair_core.specs.declared.event.Refusal.TheVariants.{NoMemory}
 use Rattle.pair_core.specs.declared.event.Reply.{Reply}
 use Rattle.pair_core.specs.Pair.{Pair, IsConsistent}
-use Rattle.pair_core.specs.Protocol.{Answers}
+use Rattle.pair_core.specs.Answering.{Answers}
 use Rattle.pair_core.specs.Runs.{StepsAnswer}
 use Rattle.pair_core.specs.Record.{start_record}
 use Rattle.pair_core.specs.Start.{shown}

@@ -1,7 +1,8 @@
 //! What clients and their lines do, at the world.
 ghost use Rattle.std.specs.Prelude.{◌≡◌, IfOk, OnErr};
 ghost use Rattle.pair_core.specs.declared.event.Event.TheVariants as events;
-ghost use Rattle.pair_core.specs.Protocol.{MayWantMemory, allowed};
+ghost use Rattle.pair_core.specs.Protocol.{allowed};
+ghost use Rattle.pair_core.specs.Answering.{MayWantMemory};
 ghost use Rattle.pair_core.specs.Pair.{OnRefused};
 ghost use Rattle.pair_core.specs.Replication.{KeepsBackup};
 

@@ -2,7 +2,8 @@
 ghost use Rattle.std.specs.Prelude.{◌≡◌, IfOk, OnErr, None};
 ghost use Rattle.pair_core.specs.declared.event.Event.TheVariants as events;
 ghost use Rattle.pair_core.specs.Modes.{mode_refusal};
-ghost use Rattle.pair_core.specs.Protocol.{MayWantMemory, allowed};
+ghost use Rattle.pair_core.specs.Protocol.{allowed};
+ghost use Rattle.pair_core.specs.Answering.{MayWantMemory};
 ghost use Rattle.pair_core.specs.Pair.{OnRefused};
 ghost use Rattle.pair_core.specs.Replication.{KeepsBackup, Replicates};
 

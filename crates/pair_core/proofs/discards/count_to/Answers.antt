@@ -1,9 +1,8 @@
 use Rattle.std.proofs.Common.{◌+◌, length, drop, sym, ap, ◌∙◌, arith, Bool, cond}
 use Rattle.frame_ports.specs.Addresses.{targets_of}
 use Rattle.pair_history.specs.HistoryState.{out_of}
-use Rattle.pair_core.proofs.LiveLaws.{to_next, is_addressed}
+use Rattle.pair_core.proofs.{LiveLaws.{to_next, is_addressed}, discards.count_to.Goals.{then-contains, else-contains}}
 use Rattle.pair_core.proofs.discards.count_to.Goals as goal
-use Rattle.pair_core.proofs.discards.count_to.Goals.{then-contains, else-contains}
 
 pub loop-frame-preserved : goal.loop-frame-preserved
 loop-frame-preserved c =

@@ -1,19 +1,16 @@
-use Rattle.std.proofs.Common.{◌≡◌, ◌+◌, ◌≤◌, ◌++◌, length, ap, ◌∙◌, sym, subst, arith, true, [], ◌∷◌}
-use Rattle.frame_ports.specs.Targets.{AreTargets, has_target}
-use Rattle.frame_ports.specs.Addresses.{clients_of}
+use Rattle.std.proofs.{Common.{rules, ◌≡◌, ◌+◌, ◌≤◌, ◌++◌, length, ap, ◌∙◌, sym, arith, true, [], ◌∷◌}, lemmas.List.length-append}
+use Rattle.frame_ports.specs.{Targets.{AreTargets, has_target}, Addresses.clients_of}
 use Rattle.pair_history.specs.Log.{Log}
 use Rattle.pair_core.specs.Lengths.{landing_by, landings_by, lengths_after}
-use Rattle.std.proofs.lemmas.List.{length-append}
 use Rattle.pair_core.proofs.Receivers.{from_on, next_yes, next_no, entries_more}
-use Rattle.pair_core.proofs.landings.add_frame.Goals as goal
 use Rattle.pair_core.proofs.landings.add_frame.Goals.{then-contains, else-contains, After-contains}
+use Rattle.pair_core.proofs.landings.add_frame.Goals as goal
 
 most : (c : After-contains) → c.clients-clients.result ≤ 16
 most c = let p = c.clients-clients.ensures.ports in let q = p.clients.1 in let e = c.clients-clients.ensures.count in omega arith
 
 are : (c : After-contains) → AreTargets c.clients-clients.result c.args.frame.now.items c.route-targets.result
-are c = subst (λ m. AreTargets m c.args.frame.now.items c.route-targets.result) (sym c.clients-clients.ensures.count)
-    c.route-targets.ensures
+are c = rw c.clients-clients.ensures.count c.route-targets.ensures
 
 next : (c : After-contains) → has_target c.route-targets.result c.loop-client.client ≡ true
     → from_on c.clients-clients.result c.loop-client.client c.args.frame.now.items ≡ c.loop-client.client
@@ -22,22 +19,10 @@ next c e = next_yes c.clients-clients.result c.loop-client.client c.args.frame.n
     c.loop-client.invariant.first (omega arith) (most c) e
 
 pub add_landing-requires-clause-room : goal.add_landing-requires-clause-room
-add_landing-requires-clause-room c =
-    let d = (goal.at.add_landing-requires-clause-room c).After-contains in
-    let one = ap length (next d (sym c.contains.ensures ∙ c.if-contains.true)) in
-    let i = c.loop-client.invariant.room in
-    let r = c.requires.room in
-    let e = ap (λ n. length (clients_of n c.args.frame.now.items)) c.clients-clients.ensures.count in
-    omega arith
+add_landing-requires-clause-room c = search (arith, rules, After-contains, next)
 
 pub add_landing-requires-clause-fits : goal.add_landing-requires-clause-fits
-add_landing-requires-clause-fits c =
-    let d = (goal.at.add_landing-requires-clause-fits c).After-contains in
-    let one = ap length (next d (sym c.contains.ensures ∙ c.if-contains.true)) in
-    let i = c.loop-client.invariant.size in
-    let r = c.requires.fits in
-    let e = ap (λ n. length (clients_of n c.args.frame.now.items)) c.clients-clients.ensures.count in
-    omega arith
+add_landing-requires-clause-fits c = search (arith, rules, After-contains, next)
 
 pub loop-client-preserved : goal.loop-client-preserved
 loop-client-preserved c =

@@ -1,8 +1,7 @@
-use Rattle.std.proofs.Common.{◌+◌, ◌++◌, length, drop, ap, ◌∙◌, sym, arith, refl}
+use Rattle.std.proofs.{Common.{rules, ◌+◌, ◌++◌, length, drop, ap, ◌∙◌, sym, arith}, lemmas.List.length-append}
 use Rattle.frame_ports.specs.Addresses.{clients_of}
 use Rattle.pair_history.specs.Entries.{Frame}
 use Rattle.pair_core.specs.Lengths.{receivers, landings_by}
-use Rattle.std.proofs.lemmas.List.{length-append}
 use Rattle.pair_core.proofs.LengthLaws.{landings_by-targets}
 use Rattle.pair_core.proofs.Receivers.{receivers-next, receivers-none, frames_more, nil-append, landings_length}
 use Rattle.pair_core.proofs.landings.add_landings.Goals as goal
@@ -38,11 +37,4 @@ loop-frame-preserved c =
     }
 
 pub returns : goal.returns
-returns c =
-    let n = length c.args.ports.now.boxes in
-    let fs = c.args.frames.now in
-    nil-append c.loop-frame.history.entries c.loop-frame.lengths (receivers n (drop c.loop-frame.frame-index fs))
-    (c.args.history.now.entries ++ landings_by c.box_lengths-lengths.result (receivers n fs))
-    (receivers-none n fs c.loop-frame.frame-index (omega arith)) c.loop-frame.invariant.entries
-    ∙ ap (λ t. c.args.history.now.entries ++ t)
-    (landings_by-targets n c.box_lengths-lengths.result c.args.ports.now.boxes fs c.box_lengths-lengths.ensures refl)
+returns c = search (arith, rules, landings_by-targets, nil-append, receivers-none)

@@ -1,6 +1,5 @@
-use Rattle.std.proofs.Common.{◌∙◌, ap, [], ◌∷◌}
-use Rattle.pair_core.specs.Lines.{Carried, packet, with_back}
-use Rattle.pair_core.specs.LinesFields.{carried}
+use Rattle.std.proofs.Common.{rules, arith, [], ◌∷◌}
+use Rattle.pair_core.specs.Lines.{packet}
 use Rattle.pair_core.proofs.LineLaws.{packets_of-sent, keeps_all-sent}
 use Rattle.pair_core.proofs.lines.Lines.acknowledge.Goals as goal
 
@@ -14,8 +13,4 @@ invariant_of-self c =
     }
 
 pub returns : goal.returns
-returns c =
-    let p = packet c.args.generation c.args.number in
-    let packets = rw c.unwrap.ensures at c.send.ensures.packets in
-    let sent = packets_of-sent c.self.inside.back.packets c.send.new.self.packets (p ∷ []) packets in
-    (λ i. record (carried c.self.inside).lines { back = sent i }) ∙ ap (λ (l : Carried). with_back l.lines p) c.self.view_is
+returns c = search (arith, rules, packets_of-sent)

@@ -1,10 +1,6 @@
-use Rattle.std.proofs.Common.{◌∙◌, ap}
-use Rattle.std.specs.Prelude.{slice_get}
-use Rattle.pair_core.specs.Lines.{Carried}
+use Rattle.std.proofs.Common.{rules, arith}
 use Rattle.pair_core.proofs.LineLaws.{packet-at}
 use Rattle.pair_core.proofs.lines.Lines.packet.Goals as goal
 
 pub returns : goal.returns
-returns c =
-    c.packet_at.ensures ∙ packet-at c.self.inside.forward.packets c.args.k c.self.invariant.forward
-    ∙ ap (λ (l : Carried). slice_get l.lines.forward c.args.k) c.self.view_is
+returns c = search (arith, rules, packet-at)

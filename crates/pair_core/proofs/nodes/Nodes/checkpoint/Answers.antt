@@ -1,9 +1,4 @@
-use Rattle.std.proofs.Common.{subst}
-use Rattle.guest_machine.specs.Guest.{Guest}
-use Rattle.epoch_snapshot.specs.Bases.{IsBase}
-use Rattle.pair_core.specs.Nodes.{Housed, HasShape, machine_of}
 use Rattle.pair_core.specs.NodesFields.{image_or}
-use Rattle.pair_core.specs.Texts.{IsText}
 use Rattle.pair_core.proofs.NodesLaws.{base-of, delta-text}
 use Rattle.pair_core.proofs.nodes.Nodes.checkpoint.Goals as goal
 
@@ -11,11 +6,6 @@ pub returns-clause-text : goal.returns-clause-text
 returns-clause-text c =
     let m = c.self.inside.live in
     let text = c.in-Ok-encode.text.items in
-    subst (λ (x : Housed). (base : Guest) → IsBase (machine_of x.nodes.live) base → HasShape x.nodes.image.shape x.nodes.live.guest
-    → IsText x.nodes.image.shape c.args.generation c.args.number base x.nodes.live.guest text)
-    c.self.view_is
-    (λ base is sized.
-    delta-text m.settled m.dirty m c.args.generation c.args.number c.in-Ok.checkpoint
-    (image_or c.self.inside.shape c.self.inside.image).shape text base
-    c.in-Ok.ensures.parts
-    c.in-Ok-encode.ensures.read (c.in-Ok.ensures.image base (base-of m base is)) sized)
+    rw (← c.self.view_is) (λ base is sized. delta-text m.settled m.dirty m c.args.generation c.args.number c.in-Ok.checkpoint (image_or
+    c.self.inside.shape c.self.inside.image).shape text base c.in-Ok.ensures.parts c.in-Ok-encode.ensures.read (c.in-Ok.ensures.image base
+    (base-of m base is)) sized)

@@ -1,9 +1,7 @@
-use Rattle.std.proofs.Common.{length, replicate, subst}
-use Rattle.guest_machine.specs.Guest.{Guest, sector_count}
+use Rattle.std.proofs.Common.{length, replicate}
+use Rattle.guest_machine.specs.Guest.{sector_count}
 use Rattle.epoch_snapshot.specs.Cuts.{used_sectors}
-use Rattle.pair_core.specs.Nodes.{Housed, HasShape}
 use Rattle.pair_core.specs.NodesFields.{image_or}
-use Rattle.pair_core.specs.Texts.{IsText}
 use Rattle.pair_core.proofs.NodesLaws.{delta-text}
 use Rattle.pair_core.proofs.nodes.Nodes.full_checkpoint.Goals as goal
 
@@ -11,10 +9,6 @@ pub returns-clause-text : goal.returns-clause-text
 returns-clause-text c =
     let m = c.self.inside.live in
     let text = c.in-Ok-encode.text.items in
-    subst (λ (x : Housed). (before : Guest) → HasShape x.nodes.image.shape x.nodes.live.guest
-    → IsText x.nodes.image.shape c.args.generation 0 before x.nodes.live.guest text)
-    c.self.view_is
-    (λ before sized.
-    delta-text (replicate (length m.guest.ram) 0) (used_sectors m.guest.sectors (sector_count m.guest.sectors)) m c.args.generation 0
-    c.in-Ok-cut_full.checkpoint (image_or c.self.inside.shape c.self.inside.image).shape text before
+    rw (← c.self.view_is) (λ before sized. delta-text (replicate (length m.guest.ram) 0) (used_sectors m.guest.sectors (sector_count
+    m.guest.sectors)) m c.args.generation 0 c.in-Ok-cut_full.checkpoint (image_or c.self.inside.shape c.self.inside.image).shape text before
     c.in-Ok-cut_full.ensures.parts c.in-Ok-encode.ensures.read (c.in-Ok-cut_full.ensures.image before) sized)

@@ -1,11 +1,6 @@
-use Rattle.std.proofs.Common.{◌≤◌, length, subst}
-use Rattle.guest_machine.specs.Runs.{sent_in}
-use Rattle.pair_core.specs.Nodes.{Housed}
+use Rattle.std.proofs.Common.{rules, arith}
 use Rattle.pair_core.proofs.AloneLaws.{few_sent}
 use Rattle.pair_core.proofs.nodes.Nodes.run_to_frame.Goals as goal
 
 pub returns-clause-few : goal.returns-clause-few
-returns-clause-few c =
-    let n = c.run_to_frame.result in
-    subst (λ (x : Housed). length (sent_in n x.nodes.live.guest) ≤ 64) c.self.view_is
-    (few_sent c.sent_frames.ensures.most n c.self.inside.live.guest c.run_to_frame.ensures.quiet)
+returns-clause-few c = search (arith, rules, few_sent)

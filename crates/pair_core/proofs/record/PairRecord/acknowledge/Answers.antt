@@ -1,34 +1,19 @@
-use Rattle.std.proofs.Common.{◌≡◌, ◌<◌, ◌∙◌, sym, ap, subst, arith, length, None}
+use Rattle.std.proofs.Common.{rules, ◌∙◌, sym, ap, subst, arith, length}
 use Rattle.frame_ports.specs.Addresses.{targets_of}
 use Rattle.pair_history.specs.Landings.{landings}
-use Rattle.output_gate.specs.Epochs.{frames_to}
-use Rattle.pair_core.specs.Journal.{Journal, all_entries, with_history}
-use Rattle.pair_core.specs.Lengths.{receivers}
-use Rattle.pair_core.specs.Protocol.{first_refusal, ack_refusals, let_go}
-use Rattle.pair_core.specs.Record.{RecordState, IsRecord}
-use Rattle.pair_core.specs.RecordFields.{record_state}
-use Rattle.pair_core.proofs.LengthLaws.{length-receivers}
-use Rattle.pair_core.proofs.RecordLaws.{passed, has_room_for, ack_record}
+use Rattle.pair_core.specs.{Journal.{Journal, with_history}, Record.IsRecord, RecordFields.record_state}
+use Rattle.pair_core.proofs.{LengthLaws.length-receivers, RecordLaws.{passed, has_room_for, ack_record}}
 use Rattle.pair_core.proofs.record.PairRecord.acknowledge.Goals as goal
 
 pub land-requires-clause-fits : goal.land-requires-clause-fits
-land-requires-clause-fits c =
-    let a = c.self.inside in
-    let r = (record_state a).protocol in
-    let free = subst (λ (s : RecordState). first_refusal (ack_refusals s.ports.boxes s.protocol c.args.packet) ≡ None) (sym c.self.view_is)
-    c.requires.free in
-    let room = has_room_for r (length (let_go a.ports.boxes r c.args.packet.number)) (passed _ _ _ (passed _ _ _ free).1).0 in
-    let e1 = ap (λ (j : Journal). length (all_entries j)) c.reserve.ensures.journal in
-    let e2 = ap (λ fs. length (receivers (length a.ports.boxes) fs)) c.held-2.ensures.held in
-    let e3 = length-receivers (length a.ports.boxes) (frames_to c.args.packet.number a.gate) in
-    omega arith
+land-requires-clause-fits c = search (arith, rules, has_room_for, length-receivers, passed)
 
 pub invariant_of-self-2 : goal.invariant_of-self-2
 invariant_of-self-2 c =
     let a = c.self.inside in
     let r = (record_state a).protocol in
     let n = c.args.packet.number in
-    let below = subst (λ (s : RecordState). n < s.protocol.window.to_commit) (sym c.self.view_is) c.requires.committed in
+    let below = rw (← c.self.view_is) at c.requires.committed in
     let boxes = a.ports.boxes in
     let journal =
     c.land.ensures ∙ ap (λ (j : Journal). with_history j (landings boxes (targets_of (length boxes) c.held-2.result.now)))
@@ -37,7 +22,6 @@ invariant_of-self-2 c =
     subst IsRecord (λ i. record r {
       journal = sym journal i;
       window = sym c.acknowledge.ensures i;
-      pending =
-          sym c.ack-landed.ensures.gate i;
+      pending = sym c.ack-landed.ensures.gate i;
     })
     (ack_record r c.self.invariant boxes n below)

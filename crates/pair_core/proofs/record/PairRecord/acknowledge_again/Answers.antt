@@ -1,14 +1,12 @@
-use Rattle.std.proofs.Common.{◌<◌, ◌-◌, ◌∙◌, ap, sym, subst}
-use Rattle.pair_core.specs.Lines.{Lines, packet, with_back}
-use Rattle.pair_core.specs.Record.{RecordState, IsRecord}
-use Rattle.pair_core.specs.RecordFields.{record_state}
+use Rattle.std.proofs.Common.{◌-◌, ◌∙◌, ap, sym, subst}
+use Rattle.pair_core.specs.{Lines.{Lines, packet, with_back}, Record.IsRecord, RecordFields.record_state}
 use Rattle.pair_core.proofs.RecordLaws.{again_record}
 use Rattle.pair_core.proofs.record.PairRecord.acknowledge_again.Goals as goal
 
 pub invariant_of-self-2 : goal.invariant_of-self-2
 invariant_of-self-2 c =
     let r = (record_state c.self.inside).protocol in
-    let some = subst (λ (s : RecordState). 0 < s.protocol.window.to_commit) (sym c.self.view_is) c.requires in
+    let some = rw (← c.self.view_is) at c.requires in
     let lines = c.acknowledge.ensures ∙ ap (λ (l : Lines). with_back l (packet r.generation (r.window.to_commit - 1)))
     c.reserve_acknowledgement.ensures.lines in
     subst IsRecord (λ i. record r { lines = sym lines i }) (again_record r c.self.invariant some)

@@ -1,9 +1,6 @@
 use Rattle.std.proofs.Common.{◌+◌, ◌∙◌, List, length, ap}
 use Rattle.pair_history.specs.Entries.{Frame}
-use Rattle.pair_core.specs.Lengths.{receivers}
-use Rattle.pair_core.specs.Protocol.{all_held}
-use Rattle.pair_core.specs.Record.{RecordState}
-use Rattle.pair_core.specs.RecordFields.{record_state}
+use Rattle.pair_core.specs.{Lengths.receivers, Protocol.all_held, Record.RecordState, RecordFields.record_state}
 use Rattle.pair_core.proofs.AloneLaws.{held_are, count-all}
 use Rattle.pair_core.proofs.record.PairRecord.count_all.Goals as goal
 

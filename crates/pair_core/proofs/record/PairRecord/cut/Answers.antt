@@ -1,8 +1,5 @@
-use Rattle.std.proofs.Common.{◌≡◌, sym, subst, false, None}
-use Rattle.pair_core.specs.Modes.{is_alone}
-use Rattle.pair_core.specs.Protocol.{first_refusal, cut_refusals}
-use Rattle.pair_core.specs.Record.{RecordState, IsRecord}
-use Rattle.pair_core.specs.RecordFields.{record_state}
+use Rattle.std.proofs.Common.{sym, subst}
+use Rattle.pair_core.specs.{Record.IsRecord, RecordFields.record_state}
 use Rattle.pair_core.proofs.RecordLaws.{rising, cut_record}
 use Rattle.pair_core.proofs.record.PairRecord.cut.Goals as goal
 
@@ -12,7 +9,7 @@ hold-requires-clause-above c = rising (record_state c.self.inside).protocol c.se
 pub invariant_of-self-2 : goal.invariant_of-self-2
 invariant_of-self-2 c =
     let r = (record_state c.self.inside).protocol in
-    let free = subst (λ (s : RecordState). first_refusal (cut_refusals s.protocol) ≡ None) (sym c.self.view_is) c.requires.free in
-    let two = subst (λ (s : RecordState). is_alone s.protocol.mode ≡ false) (sym c.self.view_is) c.requires.pair in
+    let free = rw (← c.self.view_is) at c.requires.free in
+    let two = rw (← c.self.view_is) at c.requires.pair in
     subst IsRecord (λ i. record r { journal = sym c.in_ok-seal.ensures.ok i; window = sym c.cut.ensures i; pending = sym c.hold.ensures i })
     (cut_record r c.self.invariant c.args.frames.now two free)

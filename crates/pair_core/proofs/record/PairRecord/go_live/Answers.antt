@@ -1,8 +1,6 @@
 use Rattle.std.proofs.Common.{◌∙◌, sym, ap, subst, length}
 use Rattle.frame_ports.specs.Addresses.{targets_of}
-use Rattle.pair_core.specs.Journal.{with_history, discarded}
-use Rattle.pair_core.specs.Protocol.{live_entries, go_live_done}
-use Rattle.pair_core.specs.Record.{IsRecord, owed_to}
+use Rattle.pair_core.specs.{Journal.{with_history, discarded}, Protocol.{live_entries, go_live_done}, Record.{IsRecord, owed_to}}
 use Rattle.pair_core.specs.RecordFields.{record_state}
 use Rattle.pair_core.proofs.LiveLaws.{live_record}
 use Rattle.pair_core.proofs.record.PairRecord.go_live.Goals as goal

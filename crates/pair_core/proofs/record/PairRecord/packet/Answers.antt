@@ -1,12 +1,8 @@
-use Rattle.std.proofs.Common.{◌≡◌, ◌<◌, subst}
-use Rattle.std.specs.Prelude.{IfSome}
-use Rattle.pair_core.specs.Record.{RecordState}
 use Rattle.pair_core.proofs.RecordLaws.{below_at}
 use Rattle.pair_core.proofs.record.PairRecord.packet.Goals as goal
 
 pub returns-clause-cut : goal.returns-clause-cut
 returns-clause-cut c =
     let a = c.self.inside in
-    subst (λ (s : RecordState). IfSome c.packet.result (λ p. p.generation ≡ s.protocol.generation → p.number < s.protocol.window.to_cut))
-    c.self.view_is
-    (below_at a.generation a.window.to_cut a.lines.lines.forward c.args.k c.packet.result c.self.invariant.forward c.packet.ensures)
+    rw (← c.self.view_is) (below_at a.generation a.window.to_cut a.lines.lines.forward c.args.k c.packet.result c.self.invariant.forward
+    c.packet.ensures)

@@ -1,9 +1,5 @@
-use Rattle.std.proofs.Common.{◌∙◌, sym, ap, subst, length}
-use Rattle.pair_core.specs.declared.event.Reply.TheVariants as replies
-use Rattle.pair_core.specs.Lines.{with_forward}
-use Rattle.pair_core.specs.Protocol.{send_done}
-use Rattle.pair_core.specs.Record.{RecordState, IsRecord}
-use Rattle.pair_core.specs.RecordFields.{record_state}
+use Rattle.std.proofs.Common.{rules, arith, ◌∙◌, sym, ap, subst}
+use Rattle.pair_core.specs.{Lines.with_forward, Record.IsRecord, RecordFields.record_state}
 use Rattle.pair_core.proofs.RecordLaws.{sent_are, send_record}
 use Rattle.pair_core.proofs.record.PairRecord.send.Goals as goal
 
@@ -14,8 +10,4 @@ invariant_of-self-2 c =
     subst IsRecord (λ i. record r { lines = sym lines i }) (send_record r c.self.invariant)
 
 pub returns-clause-ok : goal.returns-clause-ok
-returns-clause-ok c =
-    let r = (record_state c.self.inside).protocol in
-    let lines = c.in_ok-send.ensures.ok ∙ ap (with_forward r.lines) (sent_are r c.self.invariant) in
-    let count = c.pending-count.ensures ∙ sym (ap (λ (s : RecordState). length s.protocol.pending) c.self.view_is) in
-    (λ i. (replies.Sent (count i), record r { lines = lines i })) ∙ ap (λ (s : RecordState). send_done s.protocol) c.self.view_is
+returns-clause-ok c = search (arith, rules, sent_are)

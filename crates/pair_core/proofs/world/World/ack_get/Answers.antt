@@ -1,10 +1,6 @@
 use Rattle.std.proofs.Common.{◌∙◌, sym}
-use Rattle.pair_core.specs.Protocol.{ack_done}
-use Rattle.pair_core.specs.Record.{ports_after_ack}
-use Rattle.pair_core.specs.WorldFields.{pair_of}
-use Rattle.pair_core.proofs.Calls.{after_call}
-use Rattle.pair_core.proofs.ClientEvents.{ack_holds}
-use Rattle.pair_core.proofs.RecordLaws.{passed, generation_is}
+use Rattle.pair_core.specs.{Protocol.ack_done, Record.ports_after_ack, WorldFields.pair_of}
+use Rattle.pair_core.proofs.{Calls.after_call, ClientEvents.ack_holds, RecordLaws.{passed, generation_is}}
 use Rattle.pair_core.proofs.world.World.ack_get.Goals as goal
 
 pub invariant_of-self : goal.invariant_of-self

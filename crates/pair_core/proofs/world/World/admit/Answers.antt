@@ -1,39 +1,22 @@
-use Rattle.std.proofs.Common.{◌≡◌, ◌∙◌, sym, subst, length}
-use Rattle.pair_core.specs.declared.event.Event.TheVariants.{Admit}
+use Rattle.std.proofs.Common.{rules, arith, ◌∙◌, sym, subst, length}
+use Rattle.pair_core.specs.{Invariant.Holds, WorldFields.pair_of}
+use Rattle.pair_core.proofs.{Calls.on_err, AllLands.admitted_holds}
+use Rattle.pair_core.proofs.{Outcomes.{client_range, admit_empty, admit_stops, admit_goes, admit_wants}, RecordLaws.passed}
 use Rattle.pair_core.specs.declared.event.Reply.TheVariants as replies
-use Rattle.pair_core.specs.Invariant.{Holds}
-use Rattle.pair_core.specs.Pair.{Pair}
-use Rattle.pair_core.specs.Protocol.{MayWantMemory, allowed, refused, admit_done}
-use Rattle.pair_core.specs.WorldFields.{pair_of}
-use Rattle.pair_core.proofs.Calls.{on_err}
-use Rattle.pair_core.proofs.AllLands.{admitted_holds}
-use Rattle.pair_core.proofs.Outcomes.{client_range, admit_empty, admit_stops, admit_goes, admit_wants}
-use Rattle.pair_core.proofs.RecordLaws.{passed}
 use Rattle.pair_core.proofs.world.World.admit.Goals as goal
 
 pub returns-then-inbox_len-eq0-clause-outcome : goal.returns-then-inbox_len-eq0-clause-outcome
-returns-then-inbox_len-eq0-clause-outcome c =
-    let w = pair_of c.self.inside in
-    subst (λ (v : Pair). (replies.Empty, v.protocol) ≡ allowed v.start v.protocol (Admit c.args.client)) c.self.view_is
-    (admit_empty w c.self.invariant c.args.client c.arrival_refusal.result c.arrival_refusal.ensures c.in_default.is
-    (sym c.inbox_len.ensures ∙ c.if-inbox_len-eq0.true))
+returns-then-inbox_len-eq0-clause-outcome c = search (arith, rules, admit_empty)
 
 pub returns-in-Some-admit_refusal-clause-outcome : goal.returns-in-Some-admit_refusal-clause-outcome
 returns-in-Some-admit_refusal-clause-outcome c =
     let w = pair_of c.self.inside in
-    subst (λ (v : Pair). refused v.protocol c.in-Some-admit_refusal.why ≡ allowed v.start v.protocol (Admit c.args.client)) c.self.view_is
-    (admit_stops w c.self.invariant c.args.client c.arrival_refusal.result c.arrival_refusal.ensures c.in_default.is
-    (λ e. c.if-inbox_len-eq0.false (c.inbox_len.ensures ∙ e))
-    c.admit_refusal.result c.admit_refusal.ensures c.in-Some-admit_refusal.why c.in-Some-admit_refusal.is)
+    rw (← c.self.view_is) (admit_stops w c.self.invariant c.args.client c.arrival_refusal.result c.arrival_refusal.ensures c.in_default.is
+    (λ e. c.if-inbox_len-eq0.false (c.inbox_len.ensures ∙ e)) c.admit_refusal.result c.admit_refusal.ensures c.in-Some-admit_refusal.why
+    c.in-Some-admit_refusal.is)
 
 pub returns-in_err-number-clause-memory : goal.returns-in_err-number-clause-memory
-returns-in_err-number-clause-memory c =
-    let w = pair_of c.self.inside in
-    on_err c.from_residual.result _
-    (subst (λ (v : Pair). MayWantMemory v.protocol.mode (allowed v.start v.protocol (Admit c.args.client)).0) c.self.view_is
-    (admit_wants w c.self.invariant c.args.client c.arrival_refusal.result c.arrival_refusal.ensures c.in_default.is
-    (λ e. c.if-inbox_len-eq0.false (c.inbox_len.ensures ∙ e))
-    c.admit_refusal.result c.admit_refusal.ensures c.in_default-admit_refusal.is))
+returns-in_err-number-clause-memory c = search (arith, rules, admit_wants, on_err)
 
 pub invariant_of-self-2 : goal.invariant_of-self-2
 invariant_of-self-2 c =
@@ -48,8 +31,6 @@ pub returns-clause-outcome : goal.returns-clause-outcome
 returns-clause-outcome c =
     let w = pair_of c.self.inside in
     (λ i. (replies.Admitted c.in_ok-number.number, c.in_ok-number.ensures.protocol i))
-    ∙ subst (λ (v : Pair). admit_done w.protocol c.in_ok-number.number ≡ allowed v.start v.protocol (Admit c.args.client)) c.self.view_is
-    (admit_goes w c.self.invariant c.args.client c.arrival_refusal.result c.arrival_refusal.ensures c.in_default.is
-    (λ e. c.if-inbox_len-eq0.false (c.inbox_len.ensures ∙ e))
-    c.admit_refusal.result c.admit_refusal.ensures c.in_ok-number.number c.in_ok-number.frame c.in_ok-number.ensures.first
-    c.in_default-admit_refusal.is)
+    ∙ (rw (← c.self.view_is) (admit_goes w c.self.invariant c.args.client c.arrival_refusal.result c.arrival_refusal.ensures c.in_default.is
+    (λ e. c.if-inbox_len-eq0.false (c.inbox_len.ensures ∙ e)) c.admit_refusal.result c.admit_refusal.ensures c.in_ok-number.number
+    c.in_ok-number.frame c.in_ok-number.ensures.first c.in_default-admit_refusal.is))

@@ -1,25 +1,11 @@
-use Rattle.pair_core.proofs.PublicLaws.{answers_by_outcome, refused_by_outcome}
-use Rattle.pair_core.proofs.ReplicationRuns.{replicates_by_outcome}
-use Rattle.pair_core.proofs.ServiceLaws.{serves}
-use Rattle.pair_core.specs.Protocol.{Answers}
+use Rattle.std.proofs.Common.{rules, arith}
+use Rattle.pair_core.proofs.{PublicLaws.answers_by_outcome, ServiceLaws.serves, world.World.apply.Goals.After-answered}
+use Rattle.pair_core.specs.Answering.{Answers}
 use Rattle.pair_core.proofs.world.World.apply.Goals as goal
-use Rattle.pair_core.proofs.world.World.apply.Goals.{After-answered}
 
 answers : (c : After-answered)
     → Answers c.args.self.now.start c.args.self.now.protocol c.args.event c.answered.result c.act-outcome.new.self.protocol
-answers c =
-    answers_by_outcome c.args.self.now c.act-outcome.new.self c.args.event c.act-outcome.result c.answered.result c.answered.ensures.ok
-    c.answered.ensures.err
-    c.act-outcome.ensures.outcome c.act-outcome.ensures.memory c.act-outcome.ensures.err
-
-pub returns-clause-answers : goal.returns-clause-answers
-returns-clause-answers c = answers (goal.at.returns-clause-answers c).After-answered
-
-pub returns-clause-refused : goal.returns-clause-refused
-returns-clause-refused c =
-    refused_by_outcome c.args.self.now c.act-outcome.new.self c.args.event c.act-outcome.result c.answered.result c.answered.ensures.ok
-    c.answered.ensures.err
-    c.act-outcome.ensures.refused c.act-outcome.ensures.err
+answers c = search (arith, rules, answers_by_outcome)
 
 pub returns-clause-grows : goal.returns-clause-grows
 returns-clause-grows c =
@@ -29,15 +15,7 @@ returns-clause-grows c =
     (drops.entries, drops.grows)
 
 pub returns-clause-drops : goal.returns-clause-drops
-returns-clause-drops c =
-    c.keep_drops.ensures c.args.event c.answered.result c.act-outcome.new.self.protocol
-    (answers (goal.at.returns-clause-drops c).After-answered)
-
-pub returns-clause-replicates : goal.returns-clause-replicates
-returns-clause-replicates c =
-    replicates_by_outcome c.args.self.now c.act-outcome.new.self c.args.event c.act-outcome.result c.answered.result c.answered.ensures.ok
-    c.answered.ensures.err
-    c.act-outcome.ensures.replicates c.act-outcome.ensures.err
+returns-clause-drops c = search (arith, rules, After-answered, answers)
 
 pub returns-clause-serves : goal.returns-clause-serves
 returns-clause-serves c =

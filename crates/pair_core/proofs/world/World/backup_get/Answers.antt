@@ -1,23 +1,12 @@
-use Rattle.std.proofs.Common.{◌≡◌, ℕ, ◌<◌, ◌≤◌, ◌∙◌, sym, ap, subst, arith, false, Option, None}
+use Rattle.std.proofs.Common.{rules, ◌≡◌, ℕ, ◌<◌, ◌≤◌, ◌∙◌, sym, ap, subst, arith, false, Option, None}
 use Rattle.epoch_snapshot.specs.Checkpoints.{Change}
-use Rattle.pair_core.specs.declared.event.Packet.{Packet}
-use Rattle.pair_core.specs.declared.event.Refusal.{Refusal}
-use Rattle.pair_core.specs.Invariant.{Holds}
-use Rattle.pair_core.specs.declared.event.Event.TheVariants.{BackupGet}
-use Rattle.pair_core.specs.declared.event.Reply.{Reply}
-use Rattle.pair_core.specs.Nodes.{Nodes, first_text}
-use Rattle.pair_core.specs.Modes.{is_alone, mode_refusal}
-use Rattle.pair_core.specs.Pair.{Pair, shown_state}
-use Rattle.pair_core.proofs.ModeLaws.{backup_goes}
-use Rattle.pair_core.specs.Replication.{Replicates}
-use Rattle.pair_core.proofs.ReplicationLaws.{after_commit, filled-pairs, commit_replicates}
-use Rattle.pair_core.proofs.Consistent.{has_backup}
-use Rattle.pair_core.specs.Protocol.{Record, Outcome, first_refusal, backup_refusals, again_done}
-use Rattle.pair_core.specs.WorldFields.{pair_of}
-use Rattle.pair_core.proofs.Calls.{on_ok, after_call}
-use Rattle.pair_core.proofs.Events.{lines_hold, commit_holds, oldest_text}
-use Rattle.pair_core.proofs.NodesLaws.{reads-whole, reads-shape}
-use Rattle.pair_core.proofs.RecordLaws.{passed, generation_is, commit_record}
+use Rattle.pair_core.specs.{declared.event.Packet.Packet, declared.event.Refusal.Refusal, Invariant.Holds}
+use Rattle.pair_core.specs.{declared.event.Event.TheVariants.BackupGet, declared.event.Reply.Reply, Nodes.{Nodes, first_text}}
+use Rattle.pair_core.specs.{Modes.{is_alone, mode_refusal}, Pair.{Pair, shown_state}, Replication.Replicates}
+use Rattle.pair_core.specs.{Protocol.{Record, Outcome, first_refusal, backup_refusals, again_done}, WorldFields.pair_of}
+use Rattle.pair_core.proofs.{ModeLaws.backup_goes, ReplicationLaws.{after_commit, filled-pairs, commit_replicates}, Consistent.has_backup}
+use Rattle.pair_core.proofs.{Calls.{on_ok, after_call}, Events.{lines_hold, commit_holds, oldest_text}}
+use Rattle.pair_core.proofs.{NodesLaws.{reads-whole, reads-shape}, RecordLaws.{passed, generation_is, commit_record}}
 use Rattle.pair_core.proofs.world.World.backup_get.Goals as goal
 
 pub invariant_of-self : goal.invariant_of-self
@@ -30,15 +19,13 @@ invariant_of-self c =
 
 -- no node is alone
 two : (k : ℕ) {w v : Pair} → w ≡ v → mode_refusal v.protocol.mode (BackupGet k) ≡ None → is_alone w.protocol.mode ≡ false
-two k {w} same goes = backup_goes w.protocol.mode (subst (λ (v : Pair). mode_refusal v.protocol.mode (BackupGet k) ≡ None) (sym same) goes)
+two k {w} same goes = backup_goes w.protocol.mode (rw same goes)
 
 -- a packet that isn't refused, of no number that was committed, names the next checkpoint, which was cut
 names_next : (r : Record) (p : Packet) (n : ℕ) (o : Option Refusal) → o ≡ first_refusal (backup_refusals r p) → o ≡ None
     → (p.generation ≡ r.generation → p.number < r.window.to_cut) → n ≡ r.window.to_commit → n ≤ p.number
     → r.window.to_commit < r.window.to_cut
-names_next r p n o is none cut e least =
-    let below = cut (generation_is p.generation r.generation (passed _ _ _ (sym is ∙ none)).0) in
-    omega arith
+names_next r p n o is none cut e least = search (arith, rules, generation_is, passed)
 
 pub oldest-requires-clause-some : goal.oldest-requires-clause-some
 oldest-requires-clause-some c =
@@ -106,6 +93,8 @@ returns-clause-replicates c =
     let now = has_backup w h k alone in
     let then =
     has_backup (after_commit w) (commit_holds w h k alone more) (commit_record w.protocol k more) (filled-pairs w.protocol.mode alone) in
-    subst (λ (v : Pair). Replicates (BackupGet c.args.k) c.in_ok-reply.reply v.nodes c.commit-2.new.self.nodes) c.self.view_is
-    (subst (λ (o : Reply × Nodes). Replicates (BackupGet c.args.k) o.0 w.nodes o.1) (λ i. (sym reply i, sym c.commit-2.ensures i))
-    (commit_replicates w k alone now then more))
+    rw (← c.self.view_is) (subst (λ (o : Reply × Nodes). Replicates (BackupGet c.args.k) o.0 w.nodes o.1) (λ i. (
+      sym reply i,
+      sym
+          c.commit-2.ensures i,
+    )) (commit_replicates w k alone now then more))

@@ -1,65 +1,21 @@
-use Rattle.std.proofs.Common.{◌≡◌, ◌∙◌, ◌<◌, ℕ, List, length, ap, sym, subst, arith, false, None}
-use Rattle.frame_ports.specs.declared.limits.TheConstants.{NUMBER_LIMIT}
-use Rattle.pair_core.specs.declared.event.Event.TheVariants.{Cut}
-use Rattle.pair_core.specs.Invariant.{Holds}
+use Rattle.std.proofs.Common.{rules, arith, ◌≡◌, ◌∙◌, ap, sym, subst, false, None}
+use Rattle.pair_core.specs.{declared.event.Event.TheVariants.Cut, Invariant.Holds, Nodes.{Nodes, HasShape, machine_of, with_sealed}}
+use Rattle.pair_core.specs.{declared.event.Reply.Reply, Replication.Replicates, Texts.IsText, Modes.{is_alone, mode_refusal}, Pair.Pair}
+use Rattle.pair_core.specs.{Protocol.{Outcome, cut_refusals, cut_done}, WorldFields.pair_of}
 use Rattle.epoch_snapshot.specs.Bases.{IsBase}
 use Rattle.guest_machine.specs.Guest.{Guest}
-use Rattle.pair_core.specs.Nodes.{Nodes, HasShape, machine_of, with_sealed}
-use Rattle.pair_core.specs.declared.event.Reply.{Reply}
-use Rattle.pair_core.specs.Replication.{Replicates}
-use Rattle.pair_core.proofs.Consistent.{has_backup, live_is}
-use Rattle.pair_core.proofs.ReplicationLaws.{after_cut, cut_replicates}
-use Rattle.pair_core.specs.Texts.{IsText}
-use Rattle.pair_history.specs.Entries.{Frame}
-use Rattle.pair_core.specs.Modes.{is_alone, mode_refusal}
-use Rattle.pair_core.specs.Pair.{Pair, shown_state}
-use Rattle.pair_core.proofs.ModeLaws.{primary_goes}
-use Rattle.pair_core.specs.Protocol.{Outcome, allowed, cut_refusals, cut_done}
-use Rattle.pair_core.specs.WorldFields.{pair_of}
-use Rattle.pair_core.proofs.Events.{cut_holds}
-use Rattle.pair_core.proofs.NodesLaws.{some-text}
-use Rattle.pair_core.proofs.Outcomes.{goes, cut_sight}
-use Rattle.pair_core.proofs.RecordLaws.{passed, is_below, cut_record, some_cut}
+use Rattle.pair_core.proofs.{Consistent.{has_backup, live_is}, ReplicationLaws.{after_cut, cut_replicates}, ModeLaws.primary_goes}
+use Rattle.pair_core.proofs.{Events.cut_holds, Outcomes.{goes, cut_sight}, RecordLaws.cut_record, world.World.cut.Goals.In_ok-reply}
 use Rattle.pair_core.proofs.world.World.cut.Goals as goal
-use Rattle.pair_core.proofs.world.World.cut.Goals.{In_ok-reply}
 
 -- no node is alone
 two : {w v : Pair} → w ≡ v → mode_refusal v.protocol.mode Cut ≡ None → is_alone w.protocol.mode ≡ false
-two {w} same goes = primary_goes w.protocol.mode (subst (λ (v : Pair). mode_refusal v.protocol.mode Cut ≡ None) (sym same) goes)
-
--- the generation and the number are a checkpoint's
-pub checkpoint-requires-clause-first_generation : goal.checkpoint-requires-clause-first_generation
-checkpoint-requires-clause-first_generation c =
-    let is = c.generation.ensures in
-    let first = c.self.invariant.nodes.first_generation in
-    omega arith
-
-pub checkpoint-requires-clause-last_generation : goal.checkpoint-requires-clause-last_generation
-checkpoint-requires-clause-last_generation c =
-    let is = c.generation.ensures in
-    let last = c.self.invariant.nodes.last_generation in
-    omega arith
-
-pub checkpoint-requires-clause-first_number : goal.checkpoint-requires-clause-first_number
-checkpoint-requires-clause-first_number c =
-    let is = c.to_cut.ensures in
-    let some = some_cut (pair_of c.self.inside).protocol c.cut_refusal.ensures.record (two c.self.view_is c.requires) in
-    omega arith
-
-pub checkpoint-requires-clause-last_number : goal.checkpoint-requires-clause-last_number
-checkpoint-requires-clause-last_number c =
-    let is = c.to_cut.ensures in
-    let rows = passed _ _ _ (sym c.cut_refusal.ensures.refusal ∙ c.in_default.is) in
-    let last = is_below NUMBER_LIMIT (pair_of c.self.inside).protocol.window.to_cut (passed _ _ _ rows.1).0 in
-    omega arith
+two {w} same goes = primary_goes w.protocol.mode (rw same goes)
 
 -- what the record answered and left, by the live machine's outbox
 done : (c : In_ok-reply) → (c.in_ok-reply.reply, c.cut.new.self.protocol) ≡ cut_done (pair_of c.self.inside).nodes.live.outbox
     (pair_of c.self.inside).protocol
-done c =
-    c.in_ok-reply.ensures.ok
-    ∙ ap (λ (fs : List Frame). cut_done fs (pair_of c.self.inside).protocol)
-    (c.outbox.ensures.value ∙ ap (λ (x : Nodes). x.live.outbox) c.checkpoint.ensures.nodes)
+done c = search (arith, rules)
 
 -- the text makes the live guest of the one that the live machine was last settled at
 makes : (c : In_ok-reply) (base : Guest) → IsBase (machine_of (pair_of c.self.inside).nodes.live) base
@@ -69,17 +25,7 @@ makes : (c : In_ok-reply) (base : Guest) → IsBase (machine_of (pair_of c.self.
 makes c base is sized =
     let w = pair_of c.self.inside in
     let text = c.in_ok-text.text.items in
-    subst (λ (n : ℕ). IsText w.nodes.image.shape w.protocol.generation n base w.nodes.live.guest text) c.to_cut.ensures
-    (subst (λ (g : ℕ). IsText w.nodes.image.shape g c.to_cut.result base w.nodes.live.guest text) c.generation.ensures
-    (c.in_ok-text.ensures.text base is sized))
-
--- there is a backup
-pub seal-requires-clause-backup : goal.seal-requires-clause-backup
-seal-requires-clause-backup c =
-    let w = pair_of c.self.inside in
-    let backed = c.self.invariant.nodes.backed (two c.self.view_is c.requires) in
-    subst (λ (x : Nodes). x.image.stands_at ≡ None → 0 < length x.sealed) (sym c.checkpoint.ensures.nodes)
-    (some-text w.protocol.generation w.protocol.window.to_commit (shown_state w).guest c.self.invariant.journal.sealed_moves w.nodes backed)
+    rw (← c.to_cut.ensures) (rw (← c.generation.ensures) (c.in_ok-text.ensures.text base is sized))
 
 pub invariant_of-self-2 : goal.invariant_of-self-2
 invariant_of-self-2 c =
@@ -104,15 +50,11 @@ returns-clause-replicates c =
     let then =
     has_backup (after_cut w text) (cut_holds w h k text (makes (goal.at.returns-clause-replicates c).In_ok-reply))
     (cut_record w.protocol k w.nodes.live.outbox alone (sym c.cut_refusal.ensures.refusal ∙ c.in_default.is)) alone in
-    subst (λ (v : Pair). Replicates Cut c.in_ok-reply.reply v.nodes c.seal.new.self.nodes) c.self.view_is
-    (subst (λ (o : Reply × Nodes). Replicates Cut o.0 w.nodes o.1) (λ i. (sym reply i, sym nodes i))
-    (cut_replicates w k alone now text then (live_is w h)))
+    rw (← c.self.view_is) (subst (λ (o : Reply × Nodes). Replicates Cut o.0 w.nodes o.1) (λ i. (sym reply i, sym nodes i)) (cut_replicates w
+    k alone now text then (live_is w h)))
 
 pub returns-clause-outcome : goal.returns-clause-outcome
 returns-clause-outcome c =
     let w = pair_of c.self.inside in
-    subst (λ (v : Pair). (c.in_ok-reply.reply, c.cut.new.self.protocol) ≡ allowed v.start v.protocol Cut) c.self.view_is
-    (done (goal.at.returns-clause-outcome c).In_ok-reply
-    ∙ goes w.protocol (cut_refusals w.protocol) (cut_done w.nodes.live.outbox w.protocol)
-    c.cut_refusal.result c.cut_refusal.ensures.refusal c.in_default.is
-    ∙ cut_sight w c.self.invariant)
+    rw (← c.self.view_is) (done (goal.at.returns-clause-outcome c).In_ok-reply ∙ goes w.protocol (cut_refusals w.protocol) (cut_done
+    w.nodes.live.outbox w.protocol) c.cut_refusal.result c.cut_refusal.ensures.refusal c.in_default.is ∙ cut_sight w c.self.invariant)

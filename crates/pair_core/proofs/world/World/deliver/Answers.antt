@@ -1,15 +1,10 @@
-use Rattle.std.proofs.Common.{◌≡◌, ◌∙◌, refl, sym, ap, subst, length, Some}
+use Rattle.std.proofs.Common.{rules, arith, ◌≡◌, ◌∙◌, refl, sym, ap, subst, length, Some}
 use Rattle.frame_ports.specs.Ports.{after_delivery}
-use Rattle.pair_core.specs.declared.event.Event.TheVariants.{Deliver}
-use Rattle.pair_core.specs.declared.event.Refusal.TheVariants.{Full}
-use Rattle.pair_core.specs.Pair.{Pair, AfterRefusal}
-use Rattle.pair_core.specs.Protocol.{Outcome, MayWantMemory, allowed, refused, deliver_done, delivery_refused}
-use Rattle.pair_core.specs.WorldFields.{pair_of}
-use Rattle.pair_core.proofs.Calls.{on_ok, on_err, answered_so, after_call}
-use Rattle.pair_core.proofs.ClientEvents.{deliver_holds, full_holds}
+use Rattle.pair_core.specs.{declared.event.Event.TheVariants.Deliver, declared.event.Refusal.TheVariants.Full, Pair.{Pair, AfterRefusal}}
+use Rattle.pair_core.specs.{Protocol.{Outcome, allowed, deliver_done, delivery_refused}, WorldFields.pair_of}
+use Rattle.pair_core.proofs.{Calls.{on_ok, on_err, answered_so, after_call}, ClientEvents.{deliver_holds, full_holds}}
 use Rattle.pair_core.proofs.Outcomes.{client_range, frame_range, inbox_full, full_rows, deliver_goes, deliver_full, deliver_stops}
-use Rattle.pair_core.proofs.Outcomes.{after_none}
-use Rattle.pair_core.proofs.RecordLaws.{passed}
+use Rattle.pair_core.proofs.{Outcomes.after_none, RecordLaws.passed}
 use Rattle.pair_core.proofs.world.World.deliver.Goals as goal
 
 pub invariant_of-self : goal.invariant_of-self
@@ -51,16 +46,7 @@ returns-in_default-clause-outcome c =
     c.deliver.ensures.ok
 
 pub returns-in-Full-clause-outcome : goal.returns-in-Full-clause-outcome
-returns-in-Full-clause-outcome c =
-    let w = pair_of c.self.inside in
-    let bytes = c.args.bytes.now in
-    let Out : Pair → Outcome = λ v. allowed v.start v.protocol (Deliver c.args.client c.args.bytes) in
-    let done = delivery_refused w.protocol c.args.client (record { items = bytes }) Full in
-    answered_so c.refuse_delivery.result c.refuse_delivery.new.self.protocol done (Out c.args.self.now)
-    (subst (λ (v : Pair). done ≡ Out v) c.self.view_is
-    (deliver_full w c.self.invariant c.args.client bytes c.deliver_refusal.result c.deliver_refusal.ensures
-    (c.in-Some.is ∙ ap Some c.in-Full.is)))
-    c.refuse_delivery.ensures.ok
+returns-in-Full-clause-outcome c = search (arith, rules, answered_so, deliver_full)
 
 pub returns-in-Full-clause-memory : goal.returns-in-Full-clause-memory
 returns-in-Full-clause-memory c =
@@ -72,8 +58,7 @@ returns-in-Full-clause-memory c =
     deliver_full w c.self.invariant c.args.client bytes c.deliver_refusal.result c.deliver_refusal.ensures
     (c.in-Some.is ∙ ap Some c.in-Full.is) in
     on_err c.refuse_delivery.result _
-    (subst (λ (v : Pair). MayWantMemory v.protocol.mode (Out v).0) c.self.view_is
-    (subst (λ (o : Outcome). MayWantMemory w.protocol.mode o.0) goes refl))
+    (rw (← c.self.view_is) (rw (← goes) refl))
 
 pub returns-in_default-why : goal.returns-in_default-why
 returns-in_default-why c =
@@ -83,8 +68,7 @@ returns-in_default-why c =
     let why = c.in-Some.why in
     record {
       outcome =
-          subst (λ (v : Pair). refused v.protocol why ≡ Out v) c.self.view_is
-          (deliver_stops w c.self.invariant c.args.client bytes c.deliver_refusal.result c.deliver_refusal.ensures why
+          rw (← c.self.view_is) (deliver_stops w c.self.invariant c.args.client bytes c.deliver_refusal.result c.deliver_refusal.ensures why
           c.in_default-why.not-Full c.in-Some.is);
       start = refl;
       backup = (refl, refl);

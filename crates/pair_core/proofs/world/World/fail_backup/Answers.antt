@@ -1,38 +1,26 @@
-use Rattle.std.proofs.Common.{◌≡◌, ◌∙◌, List, refl, sym, ap, subst}
+use Rattle.std.proofs.Common.{rules, arith, ◌≡◌, ◌∙◌, List, refl, sym, ap, subst}
 use Rattle.failover.specs.declared.mode.Mode.TheVariants.{Alone}
 use Rattle.pair_history.specs.Entries.{Frame}
-use Rattle.pair_core.specs.declared.event.Event.TheVariants.{FailBackup}
-use Rattle.pair_core.specs.Invariant.{Holds}
-use Rattle.pair_core.specs.Nodes.{left_alone}
-use Rattle.pair_core.specs.Pair.{Pair}
-use Rattle.pair_core.specs.Protocol.{Outcome, MayWantMemory, allowed, refused, first_refusal, fail_backup_refusals, fail_backup_done}
-use Rattle.pair_core.specs.Record.{ports_after_all}
-use Rattle.pair_core.specs.Window.{none_pending}
-use Rattle.pair_core.specs.WorldFields.{pair_of}
-use Rattle.pair_core.proofs.AllLands.{all_landed_holds}
-use Rattle.pair_core.proofs.Calls.{on_err}
-use Rattle.pair_core.proofs.Outcomes.{stops, goes, fail_backup_sight}
-use Rattle.pair_core.proofs.world.World.fail_backup.Goals as goal
+use Rattle.pair_core.specs.{Invariant.Holds, Nodes.left_alone, Protocol.{Outcome, first_refusal, fail_backup_refusals, fail_backup_done}}
+use Rattle.pair_core.specs.{Record.ports_after_all, Window.none_pending, WorldFields.pair_of}
+use Rattle.pair_core.proofs.{AllLands.all_landed_holds, Calls.on_err, Outcomes.{stops, goes, fail_backup_sight}}
 use Rattle.pair_core.proofs.world.World.fail_backup.Goals.{After-fail_backup_refusal}
+use Rattle.pair_core.proofs.world.World.fail_backup.Goals as goal
 
 -- the table of refusals, by the live machine's outbox
 table : (c : After-fail_backup_refusal) → c.fail_backup_refusal.result
     ≡ first_refusal (fail_backup_refusals (pair_of c.self.inside).ports.boxes (pair_of c.self.inside).nodes.live.outbox
     (pair_of c.self.inside).protocol)
-table c =
-    let w = pair_of c.self.inside in
-    c.fail_backup_refusal.ensures.refusal
-    ∙ ap (λ (fs : List Frame). first_refusal (fail_backup_refusals w.ports.boxes fs w.protocol)) c.outbox.ensures.value
+table c = search (arith, rules)
 
 pub returns-in-Some-clause-outcome : goal.returns-in-Some-clause-outcome
 returns-in-Some-clause-outcome c =
     let w = pair_of c.self.inside in
     let b = w.ports.boxes in
     let outbox = w.nodes.live.outbox in
-    subst (λ (v : Pair). refused v.protocol c.in-Some.why ≡ allowed v.start v.protocol FailBackup) c.self.view_is
-    (stops w.protocol (fail_backup_refusals b outbox w.protocol) (fail_backup_done b outbox w.protocol) c.fail_backup_refusal.result
-    c.in-Some.why (table (goal.at.returns-in-Some-clause-outcome c).After-fail_backup_refusal) c.in-Some.is
-    ∙ fail_backup_sight w c.self.invariant)
+    rw (← c.self.view_is) (stops w.protocol (fail_backup_refusals b outbox w.protocol) (fail_backup_done b outbox w.protocol)
+    c.fail_backup_refusal.result c.in-Some.why (table (goal.at.returns-in-Some-clause-outcome c).After-fail_backup_refusal) c.in-Some.is ∙
+    fail_backup_sight w c.self.invariant)
 
 pub returns-in_err-reply-clause-memory : goal.returns-in_err-reply-clause-memory
 returns-in_err-reply-clause-memory c =
@@ -44,8 +32,7 @@ returns-in_err-reply-clause-memory c =
     (table (goal.at.returns-in_err-reply-clause-memory c).After-fail_backup_refusal) c.in_default.is
     ∙ fail_backup_sight w c.self.invariant in
     on_err c.from_residual.result _
-    (subst (λ (v : Pair). MayWantMemory v.protocol.mode (allowed v.start v.protocol FailBackup).0) c.self.view_is
-    (subst (λ (o : Outcome). MayWantMemory w.protocol.mode o.0) goes_on tt))
+    (rw (← c.self.view_is) (rw (← goes_on) tt))
 
 pub invariant_of-self-2 : goal.invariant_of-self-2
 invariant_of-self-2 c =
@@ -53,8 +40,7 @@ invariant_of-self-2 c =
     let b = w.ports.boxes in
     let protocol = ap (λ (o : Outcome). o.1) c.in_ok-reply.ensures.ok
     ∙ ap (λ (fs : List Frame). (fail_backup_done b fs w.protocol).1) c.outbox-2.ensures.value in
-    let ports = c.in_ok-reply.ensures.ports
-    ∙ ap (λ (fs : List Frame). ports_after_all w.ports fs w.protocol) c.outbox-2.ensures.value in
+    let ports = c.in_ok-reply.ensures.ports ∙ ap (λ (fs : List Frame). ports_after_all w.ports fs w.protocol) c.outbox-2.ensures.value in
     subst Holds (λ i. record w { protocol = sym protocol i; ports = sym ports i; nodes = sym c.leave_alone.ensures i })
     (all_landed_holds w c.self.invariant Alone refl (none_pending w.protocol.window.to_cut) (left_alone w.nodes) refl refl)
 
@@ -63,9 +49,6 @@ returns-clause-outcome c =
     let w = pair_of c.self.inside in
     let b = w.ports.boxes in
     let outbox = w.nodes.live.outbox in
-    subst (λ (v : Pair). (c.in_ok-reply.reply, c.fail_backup.new.self.protocol) ≡ allowed v.start v.protocol FailBackup) c.self.view_is
-    (c.in_ok-reply.ensures.ok
-    ∙ ap (λ (fs : List Frame). fail_backup_done b fs w.protocol) c.outbox-2.ensures.value
-    ∙ goes w.protocol (fail_backup_refusals b outbox w.protocol) (fail_backup_done b outbox w.protocol) c.fail_backup_refusal.result
-    (table (goal.at.returns-clause-outcome c).After-fail_backup_refusal) c.in_default.is
-    ∙ fail_backup_sight w c.self.invariant)
+    rw (← c.self.view_is) (c.in_ok-reply.ensures.ok ∙ ap (λ (fs : List Frame). fail_backup_done b fs w.protocol) c.outbox-2.ensures.value ∙
+    goes w.protocol (fail_backup_refusals b outbox w.protocol) (fail_backup_done b outbox w.protocol) c.fail_backup_refusal.result (table
+    (goal.at.returns-clause-outcome c).After-fail_backup_refusal) c.in_default.is ∙ fail_backup_sight w c.self.invariant)

@@ -1,20 +1,13 @@
-use Rattle.std.proofs.Common.{◌≡◌, ◌∙◌, ◌+◌, sym, ap, subst, None}
+use Rattle.std.proofs.Common.{◌∙◌, ◌+◌, sym, ap, subst}
 use Rattle.frame_ports.specs.declared.limits.TheConstants.{NUMBER_LIMIT}
-use Rattle.pair_core.specs.declared.event.Event.TheVariants.{GoLive}
-use Rattle.pair_core.specs.Invariant.{Holds}
-use Rattle.pair_core.specs.Modes.{mode_refusal}
-use Rattle.pair_core.specs.Pair.{Pair}
-use Rattle.pair_core.specs.Protocol.{Outcome}
-use Rattle.pair_core.specs.WorldFields.{pair_of}
-use Rattle.pair_core.proofs.GoneLive.{gone_live_holds}
-use Rattle.pair_core.proofs.ModeLaws.{live_goes, live_full}
-use Rattle.pair_core.proofs.RecordLaws.{passed, is_below, some_committed}
+use Rattle.pair_core.specs.{Invariant.Holds, Protocol.Outcome, WorldFields.pair_of}
+use Rattle.pair_core.proofs.{GoneLive.gone_live_holds, ModeLaws.{live_goes, live_full}, RecordLaws.{passed, is_below, some_committed}}
 use Rattle.pair_core.proofs.world.World.go_live.Goals as goal
 
 pub invariant_of-self-2 : goal.invariant_of-self-2
 invariant_of-self-2 c =
     let w = pair_of c.self.inside in
-    let goes = subst (λ (v : Pair). mode_refusal v.protocol.mode GoLive ≡ None) (sym c.self.view_is) c.requires in
+    let goes = rw (← c.self.view_is) at c.requires in
     let two = live_goes w.protocol.mode goes in
     let some = some_committed w.protocol c.keep.ensures two (live_full w.protocol.mode goes) in
     let rows = passed _ _ _ (sym c.go_live_refusal.ensures.refusal ∙ c.in_default.is) in

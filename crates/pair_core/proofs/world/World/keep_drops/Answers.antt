@@ -1,12 +1,6 @@
-use Rattle.std.proofs.Common.{subst}
-use Rattle.pair_core.specs.Drops.{Drops}
-use Rattle.pair_core.specs.Pair.{Pair}
-use Rattle.pair_core.specs.Protocol.{Answers}
 use Rattle.pair_core.specs.WorldFields.{pair_of}
 use Rattle.pair_core.proofs.PublicLaws.{answers_drop}
 use Rattle.pair_core.proofs.world.World.keep_drops.Goals as goal
 
 pub returns : goal.returns
-returns c event reply new =
-    subst (λ (v : Pair). Answers v.start v.protocol event reply new → Drops v.start v.protocol event reply new) c.self.view_is
-    (answers_drop (pair_of c.self.inside) c.self.invariant c.keep.ensures event reply new)
+returns c event reply new = rw (← c.self.view_is) (answers_drop (pair_of c.self.inside) c.self.invariant c.keep.ensures event reply new)

@@ -1,18 +1,12 @@
-use Rattle.std.proofs.Common.{◌≡◌, ◌∙◌, ◌<◌, ◌≤◌, ℕ, sym, ap, subst, arith, length}
+use Rattle.std.proofs.Common.{◌∙◌, ◌<◌, ◌≤◌, ℕ, sym, ap, subst, arith, length}
 use Rattle.std.specs.Prelude.{option_map}
 use Rattle.frame_ports.specs.Lands.{list_of}
 use Rattle.pair_history.specs.Entries.{Frame, Entry, DropIn}
-use Rattle.pair_core.specs.declared.event.Event.TheVariants.{LoseIn}
-use Rattle.pair_core.specs.declared.event.Reply.TheVariants as replies
-use Rattle.pair_core.specs.Invariant.{Holds}
-use Rattle.pair_core.specs.Pair.{Pair}
-use Rattle.pair_core.specs.Protocol.{MayWantMemory, allowed, refused, loss_done, lost_in}
-use Rattle.pair_core.specs.WorldFields.{pair_of}
-use Rattle.pair_core.proofs.Calls.{on_err}
-use Rattle.pair_core.proofs.ClientEvents.{lose_in_holds}
+use Rattle.pair_core.specs.{declared.event.Event.TheVariants.LoseIn, Invariant.Holds, Protocol.lost_in, WorldFields.pair_of}
+use Rattle.pair_core.proofs.{Calls.on_err, ClientEvents.lose_in_holds}
 use Rattle.pair_core.proofs.LossOutcomes.{some_at, none_at, numbered, lose_in_sight, loss_empty, loss_stops, loss_goes, loss_wants}
-use Rattle.pair_core.proofs.Outcomes.{client_range}
-use Rattle.pair_core.proofs.RecordLaws.{passed}
+use Rattle.pair_core.proofs.{Outcomes.client_range, RecordLaws.passed}
+use Rattle.pair_core.specs.declared.event.Reply.TheVariants as replies
 use Rattle.pair_core.proofs.world.World.lose_in.Goals as goal
 
 -- the entry of a frame
@@ -26,8 +20,7 @@ returns-then-place-inbox_len-clause-outcome c =
     let place = c.args.place in
     let inbox = list_of w.ports.inboxes client in
     let beyond : length inbox ≤ place = let l = c.inbox_len.ensures in let k = c.if-place-inbox_len.true in omega arith in
-    subst (λ (v : Pair). (replies.Empty, v.protocol) ≡ allowed v.start v.protocol (LoseIn client place)) c.self.view_is
-    (loss_empty w (LoseIn client place) client (lost_in inbox place) (lose_in_sight w c.self.invariant client place)
+    rw (← c.self.view_is) (loss_empty w (LoseIn client place) client (lost_in inbox place) (lose_in_sight w c.self.invariant client place)
     c.client_refusal.result c.client_refusal.ensures c.in_default.is (ap (option_map entry) (none_at inbox place beyond)))
 
 pub returns-in-Some-loss_refusal-clause-outcome : goal.returns-in-Some-loss_refusal-clause-outcome
@@ -38,8 +31,7 @@ returns-in-Some-loss_refusal-clause-outcome c =
     let inbox = list_of w.ports.inboxes client in
     let within : place < length inbox = let l = c.inbox_len.ensures in let k = c.if-place-inbox_len.false in omega arith in
     let there = some_at inbox place within in
-    subst (λ (v : Pair). refused v.protocol c.in-Some-loss_refusal.why ≡ allowed v.start v.protocol (LoseIn client place)) c.self.view_is
-    (loss_stops w (LoseIn client place) client (lost_in inbox place) (lose_in_sight w c.self.invariant client place)
+    rw (← c.self.view_is) (loss_stops w (LoseIn client place) client (lost_in inbox place) (lose_in_sight w c.self.invariant client place)
     c.client_refusal.result c.client_refusal.ensures c.in_default.is (DropIn there.0.0) (ap (option_map entry) there.1)
     c.loss_refusal.result c.loss_refusal.ensures c.in-Some-loss_refusal.why c.in-Some-loss_refusal.is)
 
@@ -52,8 +44,7 @@ returns-in_err-_number-clause-memory c =
     let within : place < length inbox = let l = c.inbox_len.ensures in let k = c.if-place-inbox_len.false in omega arith in
     let there = some_at inbox place within in
     on_err c.from_residual.result _
-    (subst (λ (v : Pair). MayWantMemory v.protocol.mode (allowed v.start v.protocol (LoseIn client place)).0) c.self.view_is
-    (loss_wants w (LoseIn client place) client (lost_in inbox place) (lose_in_sight w c.self.invariant client place)
+    (rw (← c.self.view_is) (loss_wants w (LoseIn client place) client (lost_in inbox place) (lose_in_sight w c.self.invariant client place)
     c.client_refusal.result c.client_refusal.ensures c.in_default.is (DropIn there.0.0) (ap (option_map entry) there.1)
     c.loss_refusal.result c.loss_refusal.ensures c.in_default-loss_refusal.is))
 
@@ -75,7 +66,6 @@ returns-clause-outcome c =
     let n = c.in_ok-_number._number in
     let frame = numbered _ n c.in_ok-_number.ensures.number in
     (λ i. (replies.Dropped, c.in_ok-_number.ensures.protocol i))
-    ∙ subst (λ (v : Pair). loss_done w.protocol (DropIn n) ≡ allowed v.start v.protocol (LoseIn client place)) c.self.view_is
-    (loss_goes w (LoseIn client place) client (lost_in inbox place) (lose_in_sight w c.self.invariant client place)
-    c.client_refusal.result c.client_refusal.ensures c.in_default.is (DropIn n) (ap (option_map entry) frame.1)
-    c.loss_refusal.result c.loss_refusal.ensures c.in_default-loss_refusal.is)
+    ∙ (rw (← c.self.view_is) (loss_goes w (LoseIn client place) client (lost_in inbox place) (lose_in_sight w c.self.invariant client place)
+    c.client_refusal.result c.client_refusal.ensures c.in_default.is (DropIn n) (ap (option_map entry) frame.1) c.loss_refusal.result
+    c.loss_refusal.ensures c.in_default-loss_refusal.is))

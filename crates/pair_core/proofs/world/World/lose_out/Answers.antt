@@ -1,17 +1,11 @@
-use Rattle.std.proofs.Common.{◌≡◌, ◌∙◌, ◌<◌, sym, ap, subst, arith, length}
+use Rattle.std.proofs.Common.{◌∙◌, ◌<◌, sym, ap, subst, arith, length}
 use Rattle.std.specs.Prelude.{option_map}
 use Rattle.frame_ports.specs.Lands.{list_of}
 use Rattle.pair_history.specs.Entries.{Frame, DropOut}
-use Rattle.pair_core.specs.declared.event.Event.TheVariants.{LoseOut}
-use Rattle.pair_core.specs.declared.event.Reply.TheVariants as replies
-use Rattle.pair_core.specs.Invariant.{Holds}
-use Rattle.pair_core.specs.Pair.{Pair}
-use Rattle.pair_core.specs.Protocol.{allowed, loss_done, lost_out}
-use Rattle.pair_core.specs.WorldFields.{pair_of}
-use Rattle.pair_core.proofs.ClientEvents.{lose_out_holds}
-use Rattle.pair_core.proofs.LossOutcomes.{some_at, lose_out_sight, loss_goes}
-use Rattle.pair_core.proofs.Outcomes.{client_range}
+use Rattle.pair_core.specs.{declared.event.Event.TheVariants.LoseOut, Invariant.Holds, Protocol.lost_out, WorldFields.pair_of}
+use Rattle.pair_core.proofs.{ClientEvents.lose_out_holds, LossOutcomes.{some_at, lose_out_sight, loss_goes}, Outcomes.client_range}
 use Rattle.pair_core.proofs.RecordLaws.{passed}
+use Rattle.pair_core.specs.declared.event.Reply.TheVariants as replies
 use Rattle.pair_core.proofs.world.World.lose_out.Goals as goal
 
 pub invariant_of-self-2 : goal.invariant_of-self-2
@@ -34,8 +28,6 @@ returns-clause-outcome c =
     let within : place < length box = let l = c.box_len.ensures in let k = c.if-place-box_len.false in omega arith in
     let there = some_at box place within in
     (λ i. (replies.Dropped, c.in_ok-lose_out.ensures.protocol i))
-    ∙ subst (λ (v : Pair). loss_done w.protocol (DropOut client place) ≡ allowed v.start v.protocol (LoseOut client place)) c.self.view_is
-    (loss_goes w (LoseOut client place) client (lost_out client box place) (lose_out_sight w c.self.invariant client place)
-    c.client_refusal.result c.client_refusal.ensures c.in_default.is (DropOut client place)
-    (ap (option_map (λ (f : Frame). DropOut client place)) there.1)
-    c.loss_refusal.result c.loss_refusal.ensures c.in_default-loss_refusal.is)
+    ∙ (rw (← c.self.view_is) (loss_goes w (LoseOut client place) client (lost_out client box place) (lose_out_sight w c.self.invariant
+    client place) c.client_refusal.result c.client_refusal.ensures c.in_default.is (DropOut client place) (ap (option_map (λ (f : Frame).
+    DropOut client place)) there.1) c.loss_refusal.result c.loss_refusal.ensures c.in_default-loss_refusal.is))

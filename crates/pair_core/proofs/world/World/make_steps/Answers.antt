@@ -1,13 +1,5 @@
-use Rattle.std.proofs.Common.{◌≡◌, false, ◌<◌, ◌+◌, ◌∙◌, length, sym, subst, arith}
-use Rattle.guest_machine.specs.Runs.{after_steps}
-use Rattle.frame_ports.specs.declared.limits.TheConstants.{NUMBER_LIMIT}
-use Rattle.pair_core.specs.declared.event.Reply.TheVariants as replies
-use Rattle.pair_core.specs.Invariant.{Holds}
-use Rattle.pair_core.specs.Journal.{all_entries}
-use Rattle.pair_core.specs.Modes.{is_stopped, is_alone}
-use Rattle.pair_core.specs.Pair.{Pair}
-use Rattle.pair_core.specs.Runs.{steps_outcome, with_steps}
-use Rattle.pair_core.specs.WorldFields.{pair_of}
+use Rattle.std.proofs.Common.{rules, sym, subst, arith}
+use Rattle.pair_core.specs.{Invariant.Holds, WorldFields.pair_of}
 use Rattle.pair_core.proofs.StepRuns.{steps_hold, steps_answered}
 use Rattle.pair_core.proofs.world.World.make_steps.Goals as goal
 
@@ -17,21 +9,9 @@ invariant_of-self c =
     subst Holds (λ i. record w {
       protocol = (sym c.run.ensures i).protocol;
       ports = (sym c.run.ensures i).ports;
-      nodes =
-          sym c.run-made.ensures.made i;
+      nodes = sym c.run-made.ensures.made i;
     })
     (steps_hold c.run-made.result w c.self.invariant)
 
 pub returns-clause-answered : goal.returns-clause-answered
-returns-clause-answered c =
-    let w = pair_of c.self.inside in
-    let n = c.run-made.result in
-    let left = c.steps_left-most.ensures.fits in
-    let most = c.run-made.ensures.most in
-    let two = subst (λ (v : Pair). is_alone v.protocol.mode ≡ false) (sym c.self.view_is) c.requires in
-    let runs : 0 < n → is_stopped w.protocol.mode ≡ false = λ l. c.steps_left-most.ensures.runs (omega arith) in
-    let fits : length (all_entries w.protocol.journal) + n < NUMBER_LIMIT = omega arith in
-    (λ i. (replies.Steps (c.run-made.ensures.made i).live.guest.steps, (c.run.ensures i).protocol))
-    ∙ subst (λ (v : Pair). (replies.Steps (after_steps n w.nodes.live.guest).steps, (with_steps n w).protocol)
-    ≡ steps_outcome v.start v.protocol n) c.self.view_is
-    (steps_answered n w c.self.invariant two runs fits c.run-made.ensures.room)
+returns-clause-answered c = search (arith, rules, steps_answered)

@@ -1,22 +1,11 @@
-use Rattle.std.proofs.Common.{◌≡◌, ◌∙◌, ◌+◌, ℕ, ap, sym, subst, None}
+use Rattle.std.proofs.Common.{◌∙◌, ◌+◌, ap, sym, subst}
 use Rattle.guest_machine.specs.Guest.{Guest}
 use Rattle.frame_ports.specs.declared.limits.TheConstants.{NUMBER_LIMIT}
-use Rattle.pair_core.specs.declared.event.Event.TheVariants.{Protect}
-use Rattle.pair_core.specs.Invariant.{Holds}
-use Rattle.pair_core.specs.Modes.{mode_refusal}
-use Rattle.pair_core.specs.Nodes.{Nodes, HasShape, with_protected}
-use Rattle.pair_core.specs.Pair.{Pair}
-use Rattle.pair_core.specs.Protocol.{Outcome}
-use Rattle.pair_core.specs.Texts.{IsText}
-use Rattle.pair_core.specs.WorldFields.{pair_of}
-use Rattle.pair_core.proofs.ModeLaws.{protect_goes}
-use Rattle.pair_core.proofs.Protected.{protect_holds}
-use Rattle.pair_core.proofs.RecordLaws.{passed, is_below}
+use Rattle.pair_core.specs.{declared.event.Event.TheVariants.Protect, Invariant.Holds, Nodes.{Nodes, HasShape, with_protected}}
+use Rattle.pair_core.specs.{Protocol.Outcome, Texts.IsText, WorldFields.pair_of, declared.event.Reply.Reply, Replication.Replicates}
+use Rattle.pair_core.proofs.{ModeLaws.protect_goes, Protected.protect_holds, RecordLaws.{passed, is_below}}
+use Rattle.pair_core.proofs.{world.World.protect.Goals.In_ok-image, ReplicationLaws.protect_replicates}
 use Rattle.pair_core.proofs.world.World.protect.Goals as goal
-use Rattle.pair_core.proofs.world.World.protect.Goals.{In_ok-image}
-use Rattle.pair_core.specs.declared.event.Reply.{Reply}
-use Rattle.pair_core.specs.Replication.{Replicates}
-use Rattle.pair_core.proofs.ReplicationLaws.{protect_replicates}
 
 -- the text makes the live guest, whatever guest it is applied to
 makes : (c : In_ok-image) (before : Guest)
@@ -25,14 +14,13 @@ makes : (c : In_ok-image) (before : Guest)
     (pair_of c.self.inside).nodes.live.guest c.in_ok-image.text.items
 makes c before sized =
     let x = (pair_of c.self.inside).nodes in
-    subst (λ (g : ℕ). IsText x.image.shape (g + 1) 0 before x.live.guest c.in_ok-image.text.items) c.generation-generation.ensures
-    (c.in_ok-image.ensures.text before sized)
+    rw (← c.generation-generation.ensures) (c.in_ok-image.ensures.text before sized)
 
 pub invariant_of-self-2 : goal.invariant_of-self-2
 invariant_of-self-2 c =
     let w = pair_of c.self.inside in
     let text = c.in_ok-image.text.items in
-    let goes = subst (λ (v : Pair). mode_refusal v.protocol.mode Protect ≡ None) (sym c.self.view_is) c.requires in
+    let goes = rw (← c.self.view_is) at c.requires in
     let lone = c.keep.ensures.alone (protect_goes w.protocol.mode goes) in
     let rows = passed _ _ _ (sym c.protect_refusal.ensures.refusal ∙ c.in_default.is) in
     let last = is_below NUMBER_LIMIT (w.protocol.generation + 1) rows.0 in
@@ -47,7 +35,6 @@ returns-clause-replicates c =
     let text = c.in_ok-image.text.items in
     let reply = ap (λ (o : Outcome). o.0) c.in_ok-reply.ensures.ok in
     let nodes = c.protect-2.ensures ∙ ap (λ (x : Nodes). with_protected x text) c.full_checkpoint.ensures.nodes in
-    subst (λ (v : Pair). Replicates Protect c.in_ok-reply.reply v.nodes c.protect-2.new.self.nodes) c.self.view_is
-    (subst (λ (o : Reply × Nodes). Replicates Protect o.0 w.nodes o.1) (λ i. (sym reply i, sym nodes i))
-    (protect_replicates w.nodes (c.generation-generation.result + 1) text
-    (λ (before : Guest). c.in_ok-image.ensures.text before c.self.invariant.nodes.shape)))
+    rw (← c.self.view_is) (subst (λ (o : Reply × Nodes). Replicates Protect o.0 w.nodes o.1) (λ i. (sym reply i, sym nodes i))
+    (protect_replicates w.nodes (c.generation-generation.result + 1) text (λ (before : Guest). c.in_ok-image.ensures.text before
+    c.self.invariant.nodes.shape)))

@@ -1,17 +1,6 @@
-use Rattle.std.proofs.Common.{rules, ◌≡◌, ◌+◌, ◌++◌, ◌∷◌, [], length, take, get_or, subst, ◌∙◌, sym, arith, List, ◌<◌}
-use Rattle.std.proofs.lemmas.List.{take_more}
-use Rattle.pair_core.specs.declared.event.Event.{Event}
-use Rattle.pair_core.specs.declared.event.Event.TheVariants.{Step}
-use Rattle.pair_core.specs.declared.event.Reply.{Reply}
-use Rattle.pair_history.specs.HistoryState.{HistoryState}
-use Rattle.pair_core.specs.Protocol.{Answers}
-use Rattle.pair_core.specs.Runs.{Along, Run}
-use Rattle.pair_core.specs.Drops.{Drops}
-use Rattle.pair_core.specs.Replication.{Does, Leads}
-use Rattle.pair_core.specs.Service.{HasServed, Serves, moment}
-use Rattle.pair_core.proofs.ReplicationRuns.{Leads-more}
-use Rattle.pair_core.proofs.ServiceRuns.{HasServed-more}
-use Rattle.pair_core.proofs.PublicLaws.{Along-more, Begins-trans}
+use Rattle.std.proofs.{Common.{rules, ◌≡◌, ◌+◌, ◌++◌, ◌∷◌, [], length, take, get_or, ◌∙◌, arith, ◌<◌}, lemmas.List.take_more}
+use Rattle.pair_core.specs.{declared.event.Event.TheVariants.Step, Answering.Answers, Drops.Drops}
+use Rattle.pair_core.proofs.{ReplicationRuns.Leads-more, ServiceRuns.HasServed-more, PublicLaws.{Along-more, Begins-trans}}
 use Rattle.pair_core.proofs.world.World.run.Goals as goal
 
 pub loop-event-init : goal.loop-event-init
@@ -31,64 +20,26 @@ pub loop-event-preserved : goal.loop-event-preserved
 loop-event-preserved c =
     let items = rw c.unwrap.ensures at c.push.ensures.items in
     let len = rw c.unwrap.ensures at c.push.ensures.len in
-    let v = c.loop-event.invariant in
-    let a = c.apply-reply.ensures.answers in
     let cap = c.push.ensures.capacity in
+    let v = c.loop-event.invariant in
+    let done = c.apply-reply.ensures in
     let i = c.loop-event.event-index in
     let events = c.args.events.now in
-    let start = c.args.self.now.start in
-    let old = c.args.self.now.protocol in
-    let new = c.apply-reply.new.self.protocol in
     let within : i < length events = omega arith in
     let more : take (i + 1) events ≡ take i events ++ get_or events i Step ∷ [] = take_more events i Step within in
-    let step : Answers start c.loop-event.self.protocol (get_or events i Step) c.apply-reply.result new =
-    subst (λ (s : HistoryState). Answers s c.loop-event.self.protocol (get_or events i Step) c.apply-reply.result new) v.start a in
-    let run : Run start old (take i events ++ get_or events i Step ∷ []) (c.loop-event.replies.items ++ c.apply-reply.result ∷ []) new =
-    Along-more Answers start (take i events) c.loop-event.replies.items old c.loop-event.self.protocol new (get_or events i Step)
-    c.apply-reply.result v.replies step in
-    let known : Drops start c.loop-event.self.protocol (get_or events i Step) c.apply-reply.result new =
-    subst (λ (s : HistoryState). Drops s c.loop-event.self.protocol (get_or events i Step) c.apply-reply.result new) v.start
-    c.apply-reply.ensures.drops in
-    let dropped : Along Drops start old (take i events ++ get_or events i Step ∷ [])
-    (c.loop-event.replies.items ++ c.apply-reply.result ∷ []) new =
-    Along-more Drops start (take i events) c.loop-event.replies.items old c.loop-event.self.protocol new (get_or events i Step)
-    c.apply-reply.result v.drops known in
-    let does : Does c.loop-event.self (get_or events i Step) c.apply-reply.result c.apply-reply.new.self = record {
-      start = c.apply-reply.ensures.start;
-      answers = a;
-      consistent = c.apply-reply.ensures.consistent;
-      replicates = c.apply-reply.ensures.replicates;
-    } in
-    let leads : Leads c.args.self.now (take i events ++ get_or events i Step ∷ []) (c.loop-event.replies.items ++ c.apply-reply.result ∷ [])
-    c.apply-reply.new.self =
-    Leads-more (take i events) c.loop-event.replies.items c.args.self.now c.loop-event.self c.apply-reply.new.self (get_or events i Step)
-    c.apply-reply.result v.leads does in
-    let serves : Serves start (moment c.loop-event.self) (get_or events i Step) c.apply-reply.result (moment c.apply-reply.new.self) =
-    subst (λ (s : HistoryState). Serves s (moment c.loop-event.self) (get_or events i Step) c.apply-reply.result
-    (moment c.apply-reply.new.self)) v.start c.apply-reply.ensures.serves in
-    let served : HasServed start (moment c.args.self.now) (take i events ++ get_or events i Step ∷ [])
-    (c.loop-event.replies.items ++ c.apply-reply.result ∷ []) (moment c.apply-reply.new.self) =
-    HasServed-more start (take i events) c.loop-event.replies.items (moment c.args.self.now) (moment c.loop-event.self)
-    (moment c.apply-reply.new.self) (get_or events i Step) c.apply-reply.result v.served serves in
     record {
-      served =
-          subst (λ (es : List Event). HasServed start (moment c.args.self.now) es c.push.new.self.items (moment c.apply-reply.new.self))
-          (sym more) (subst (λ (rs : List Reply). HasServed start (moment c.args.self.now) (take i events ++ get_or events i Step ∷ []) rs
-          (moment c.apply-reply.new.self)) (sym items) served);
-      leads =
-          subst (λ (es : List Event). Leads c.args.self.now es c.push.new.self.items c.apply-reply.new.self) (sym more)
-          (subst (λ (rs : List Reply). Leads c.args.self.now (take i events ++ get_or events i Step ∷ []) rs c.apply-reply.new.self)
-          (sym items)
-          leads);
-      drops = subst (λ (es : List Event). Along Drops start old es c.push.new.self.items new) (sym more)
-          (subst (λ (rs : List Reply). Along Drops start old (take i events ++ get_or events i Step ∷ []) rs new) (sym items) dropped);
-      replies =
-          subst (λ (es : List Event). Run start old es c.push.new.self.items new) (sym more)
-          (subst (λ (rs : List Reply). Run start old (take i events ++ get_or events i Step ∷ []) rs new) (sym items) run);
-      start = c.apply-reply.ensures.start ∙ v.start;
-      grows = Begins-trans c.args.self.now.protocol.journal.history c.loop-event.self.protocol.journal.history
-          c.apply-reply.new.self.protocol.journal.history v.grows c.apply-reply.ensures.grows;
-      consistent = c.apply-reply.ensures.consistent;
+      replies = rw (more, items) (Along-more Answers _ (take i events) _ _ _ _ (get_or events i Step) _ v.replies (rw v.start at done.answers));
+      drops = rw (more, items) (Along-more Drops _ (take i events) _ _ _ _ (get_or events i Step) _ v.drops (rw v.start at done.drops));
+      served = rw (more, items) (HasServed-more _ (take i events) _ _ _ _ (get_or events i Step) _ v.served (rw v.start at done.serves));
+      leads = rw (more, items) (Leads-more (take i events) _ _ _ _ (get_or events i Step) _ v.leads (record {
+        start = done.start;
+        answers = done.answers;
+        consistent = done.consistent;
+        replicates = done.replicates;
+      }));
+      start = done.start ∙ v.start;
+      grows = Begins-trans _ _ _ v.grows done.grows;
+      consistent = done.consistent;
       counted = let k = v.counted in omega arith;
       room = let k = v.room in omega arith;
     }

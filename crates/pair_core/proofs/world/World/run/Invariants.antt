@@ -1,11 +1,7 @@
 use Rattle.std.proofs.Common.{◌≡◌, ◌≤◌, length, take, vec_len}
 use Rattle.std.specs.Prelude.{vec_capacity}
 use Rattle.pair_history.specs.Entries.{Begins}
-use Rattle.pair_core.specs.Pair.{IsConsistent}
-use Rattle.pair_core.specs.Runs.{Along, Run}
-use Rattle.pair_core.specs.Drops.{Drops}
-use Rattle.pair_core.specs.Replication.{Leads}
-use Rattle.pair_core.specs.Service.{HasServed, moment}
+use Rattle.pair_core.specs.{Pair.IsConsistent, Runs.{Along, Run}, Drops.Drops, Replication.Leads, Service.{HasServed, moment}}
 use Rattle.pair_core.proofs.world.World.run.Given as goal
 
 abbrev pub invariant-loop-event : goal.invariant-loop-event

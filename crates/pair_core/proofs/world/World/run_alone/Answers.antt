@@ -1,63 +1,19 @@
-use Rattle.std.proofs.Common.{◌≡◌, ◌∙◌, ◌+◌, refl, sym, ap, subst, arith, cond, Bool, inl, inr}
-use Rattle.pair_history.specs.HistoryState.{HistoryState}
-use Rattle.pair_core.specs.declared.event.Reply.TheVariants as replies
-use Rattle.pair_core.specs.declared.limits.TheConstants.{STEP_ENTRIES}
+use Rattle.std.proofs.Common.{rules, ◌∙◌, ◌+◌, refl, ap, arith, inl}
 use Rattle.pair_core.specs.Modes.{is_alone}
-use Rattle.pair_core.specs.Pair.{Pair}
-use Rattle.pair_core.specs.Protocol.{MayWantMemory, refused, step_outcome, step_room}
-use Rattle.pair_core.specs.Runs.{steps_outcome}
-use Rattle.pair_core.proofs.AloneRuns.{steps_join}
-use Rattle.pair_core.proofs.StepRuns.{no-steps-answered, refusal_answered}
+use Rattle.pair_core.proofs.{AloneRuns.steps_join, StepRuns.{no-steps-answered, refusal_answered}}
 use Rattle.pair_core.proofs.world.World.run_alone.Goals as goal
 
 pub loop-made-init : goal.loop-made-init
-loop-made-init c =
-    let w = c.args.self.now in
-    let is = c.keep_consistent.ensures in
-    record {
-      most = omega arith;
-      alone = c.requires;
-      start = refl;
-      backup = (refl, refl);
-      answered = (λ i. (replies.Steps (is.live i).steps, w.protocol)) ∙ sym (no-steps-answered w.start w.protocol);
-      none = λ e. refl;
-    }
+loop-made-init c = search (arith, rules, no-steps-answered)
 
 pub returns-in-Some-clause-outcome : goal.returns-in-Some-clause-outcome
 returns-in-Some-clause-outcome c =
     let w = c.args.self.now in
     let v = c.loop-made.invariant in
     let r = c.loop-made.self.protocol in
-    let ends = subst (λ (s : HistoryState). refused r c.in-Some.why ≡ step_outcome s r) v.start c.in-Some.ensures.refused in
+    let ends = rw v.start at c.in-Some.ensures.refused in
     inl (refusal_answered w.start w.protocol r c.loop-made.made c.loop-made.self.nodes.live.guest.steps c.in-Some.why v.answered ends
     c.args.count c.loop-made-test.true)
-
-pub step_alone-requires-clause-room : goal.step_alone-requires-clause-room
-step_alone-requires-clause-room c =
-    let v = c.loop-made.invariant in
-    let room = c.in_default.ensures.none.2 in
-    let many : step_room c.loop-made.self.protocol.mode ≡ 1025 = ap (λ (b : Bool). cond b STEP_ENTRIES 1) v.alone in
-    omega arith
-
-pub returns-in_default-step_alone-clause-outcome : goal.returns-in_default-step_alone-clause-outcome
-returns-in_default-step_alone-clause-outcome c =
-    let w = c.args.self.now in
-    let v = c.loop-made.invariant in
-    let stays = c.in_default-step_alone.ensures.err in
-    let wants =
-    subst (λ (s : HistoryState). MayWantMemory c.loop-made.self.protocol.mode (step_outcome s c.loop-made.self.protocol).0) v.start
-    c.in_default-step_alone.ensures.wants in
-    inr (
-      c.requires,
-      refl,
-      (
-        c.loop-made.made,
-        c.loop-made-test.true,
-        c.loop-made.self.nodes.live.guest.steps,
-        (λ i. (replies.Steps c.loop-made.self.nodes.live.guest.steps, (stays i).protocol)) ∙ v.answered,
-        subst (λ (x : Pair). MayWantMemory x.protocol.mode (step_outcome w.start x.protocol).0) (sym stays) wants,
-      ),
-    )
 
 pub loop-made-preserved : goal.loop-made-preserved
 loop-made-preserved c =
@@ -68,8 +24,7 @@ loop-made-preserved c =
     let mid = c.loop-made.self in
     let new = c.step_alone.new.self in
     let kept = c.step_alone.ensures.backup in
-    let answered = subst (λ (s : HistoryState). (replies.Steps new.nodes.live.guest.steps, new.protocol) ≡ steps_outcome s mid.protocol n)
-    v.start made.answered in
+    let answered = rw v.start at made.answered in
     record {
       most = let a = made.most in let b = c.loop-made-test.true in omega arith;
       alone = ap is_alone c.step_alone.ensures.mode ∙ v.alone;
@@ -81,13 +36,3 @@ loop-made-preserved c =
           made.some refl;
       none = λ e. absurd (let some = made.some in omega arith);
     }
-
-pub returns-clause-outcome : goal.returns-clause-outcome
-returns-clause-outcome c =
-    let v = c.loop-made.invariant in
-    let most = v.most in
-    let done = c.loop-made-test.false in
-    let all : c.loop-made.made ≡ c.args.count = omega arith in
-    let steps = c.steps.ensures ∙ ap (λ (x : Pair). x.nodes.live.guest.steps) c.self.view_is in
-    inl ((λ i. (replies.Steps (steps i), c.loop-made.self.protocol)) ∙ v.answered
-    ∙ ap (steps_outcome c.args.self.now.start c.args.self.now.protocol) all)

@@ -1,7 +1,5 @@
-use Rattle.std.proofs.Common.{◌≡◌, ◌<◌, ap, subst, arith}
-use Rattle.pair_history.specs.HistoryState.{HistoryState}
+use Rattle.std.proofs.Common.{◌<◌, ap, arith}
 use Rattle.pair_core.specs.Pair.{Pair}
-use Rattle.pair_core.specs.Protocol.{refused, step_outcome}
 use Rattle.pair_core.proofs.StepRuns.{refusal_answered}
 use Rattle.pair_core.proofs.world.World.run_paired.Goals as goal
 
@@ -12,8 +10,6 @@ returns-clause-outcome c =
     let most = made.ensures.most in
     let other = c.if-made-count.false in
     let fewer : made.result < c.args.count = omega arith in
-    let ends =
-    subst (λ (s : HistoryState). refused r c.in-Some.why ≡ step_outcome s r) (ap (λ (v : Pair). v.start) made.ensures.made)
-    c.in-Some.ensures.refused in
+    let ends = rw (ap (λ (v : Pair). v.start) made.ensures.made) at c.in-Some.ensures.refused in
     refusal_answered c.args.self.now.start c.args.self.now.protocol r made.result made.new.self.nodes.live.guest.steps c.in-Some.why
     made.ensures.answered ends c.args.count fewer

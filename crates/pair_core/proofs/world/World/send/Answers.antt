@@ -1,7 +1,5 @@
-use Rattle.pair_core.specs.Protocol.{send_done}
-use Rattle.pair_core.specs.WorldFields.{pair_of}
-use Rattle.pair_core.proofs.Calls.{on_ok, after_call}
-use Rattle.pair_core.proofs.Events.{lines_hold}
+use Rattle.pair_core.specs.{Protocol.send_done, WorldFields.pair_of}
+use Rattle.pair_core.proofs.{Calls.{on_ok, after_call}, Events.lines_hold}
 use Rattle.pair_core.proofs.world.World.send.Goals as goal
 
 pub invariant_of-self : goal.invariant_of-self

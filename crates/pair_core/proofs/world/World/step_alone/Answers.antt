@@ -1,20 +1,11 @@
 use Rattle.std.proofs.Common.{◌≡◌, ◌∙◌, ℕ, zero, suc, ◌+◌, ◌-◌, ◌<◌, ◌≤◌, [], length, sym, ap, subst, arith, true, Result, Ok, Err, OnErr}
-use Rattle.std.specs.Prelude.{IfOk}
-use Rattle.std.specs.declared.alloc.AllocError.{AllocError}
+use Rattle.std.specs.{Prelude.IfOk, declared.alloc.AllocError.AllocError}
 use Rattle.guest_machine.specs.Runs.{sent_in}
-use Rattle.frame_ports.specs.Ports.{PortsState}
-use Rattle.frame_ports.specs.declared.limits.TheConstants.{NUMBER_LIMIT}
-use Rattle.pair_core.specs.declared.event.Reply.TheVariants as replies
-use Rattle.pair_core.specs.Invariant.{Holds}
-use Rattle.pair_core.specs.Journal.{all_entries}
-use Rattle.pair_core.specs.Modes.{is_alone}
-use Rattle.pair_core.specs.Nodes.{Housed, Nodes, after_run, with_sent_off}
-use Rattle.pair_core.specs.Pair.{Pair}
-use Rattle.pair_core.specs.Protocol.{Record}
-use Rattle.pair_core.specs.Record.{RecordState, IsLone}
-use Rattle.pair_core.specs.Runs.{steps_outcome}
-use Rattle.pair_core.specs.WorldFields.{pair_of}
+use Rattle.frame_ports.specs.{Ports.PortsState, declared.limits.TheConstants.NUMBER_LIMIT}
+use Rattle.pair_core.specs.{Invariant.Holds, Journal.all_entries, Modes.is_alone, Nodes.{Housed, Nodes, after_run, with_sent_off}}
+use Rattle.pair_core.specs.{Pair.Pair, Protocol.Record, Record.{RecordState, IsLone}, Runs.steps_outcome, WorldFields.pair_of}
 use Rattle.pair_core.proofs.AloneRuns.{after_alone, alone_holds, alone_answered}
+use Rattle.pair_core.specs.declared.event.Reply.TheVariants as replies
 use Rattle.pair_core.proofs.world.World.step_alone.Goals as goal
 
 -- the pair after a call that did all or nothing
@@ -52,7 +43,7 @@ by_count (suc n) used room some = some (omega arith)
 pub invariant_of-self : goal.invariant_of-self
 invariant_of-self c =
     let w = pair_of c.self.inside in
-    let lone = subst (λ (v : Pair). is_alone v.protocol.mode ≡ true) (sym c.self.view_is) c.requires.alone in
+    let lone = rw (← c.self.view_is) at c.requires.alone in
     after_all w c.self.invariant (c.keep.ensures.alone lone) lone c.step_alone.new.self.protocol c.step_alone.new.self.ports
     c.step_alone.new.nodes.nodes c.step_alone.result c.step_alone.ensures.protocol c.step_alone.ensures.ports c.step_alone.ensures.nodes
     (ap_err c.step_alone.result (λ (s : RecordState). s.protocol) _ _ c.step_alone.ensures.err)
@@ -63,14 +54,10 @@ pub returns-clause-answered : goal.returns-clause-answered
 returns-clause-answered c =
     let w = pair_of c.self.inside in
     let n = c.alone_steps_left-most.result in
-    let lone = subst (λ (v : Pair). is_alone v.protocol.mode ≡ true) (sym c.self.view_is) c.requires.alone in
-    let room = subst (λ (v : Pair). length (all_entries v.protocol.journal) + 1025 < NUMBER_LIMIT) (sym c.self.view_is) c.requires.room in
+    let lone = rw (← c.self.view_is) at c.requires.alone in
+    let room = rw (← c.self.view_is) at c.requires.room in
     let fits : length (all_entries w.protocol.journal) + (n + 1024) < NUMBER_LIMIT =
     by_count n (length (all_entries w.protocol.journal)) room c.alone_steps_left-most.ensures.fits in
-    subst (λ (v : Pair). IfOk c.step_alone.result (λ k. (
-      replies.Steps c.step_alone.new.nodes.nodes.live.guest.steps,
-      c.step_alone.new.self.protocol,
-    ) ≡ steps_outcome v.start v.protocol k)) c.self.view_is
-    (answered w c.self.invariant (c.keep.ensures.alone lone) lone c.step_alone.new.self.protocol c.step_alone.new.self.ports
-    c.step_alone.new.nodes.nodes c.step_alone.result n c.step_alone.ensures.protocol c.step_alone.ensures.nodes c.step_alone.ensures.quiet
-    c.step_alone.ensures.most fits)
+    rw (← c.self.view_is) (answered w c.self.invariant (c.keep.ensures.alone lone) lone c.step_alone.new.self.protocol
+    c.step_alone.new.self.ports c.step_alone.new.nodes.nodes c.step_alone.result n c.step_alone.ensures.protocol
+    c.step_alone.ensures.nodes c.step_alone.ensures.quiet c.step_alone.ensures.most fits)

@@ -1,19 +1,14 @@
-use Rattle.std.proofs.Common.{◌≡◌, ◌∙◌, List, ap, subst}
-use Rattle.std.specs.Prelude.{IfSome}
+use Rattle.std.proofs.Common.{◌∙◌, List, ap}
 use Rattle.guest_machine.specs.Step.{next, sent}
 use Rattle.pair_history.specs.Entries.{Frame}
-use Rattle.pair_core.specs.Pair.{Pair}
-use Rattle.pair_core.specs.Protocol.{first_refusal, refused, step_refusals, step_done, step_outcome}
-use Rattle.pair_core.specs.WorldFields.{pair_of}
+use Rattle.pair_core.specs.{Protocol.{first_refusal, step_refusals, step_done, step_outcome}, WorldFields.pair_of}
 use Rattle.pair_core.proofs.Outcomes.{all_stop, step_sight}
 use Rattle.pair_core.proofs.world.World.step_refusal.Goals as goal
 
 pub returns-clause-refused : goal.returns-clause-refused
 returns-clause-refused c =
     let w = pair_of c.self.inside in
-    subst (λ (v : Pair). IfSome c.step_refusal.result (λ why. refused v.protocol why ≡ step_outcome v.start v.protocol)) c.self.view_is
-    (all_stop w.protocol (step_refusals w.nodes.live.outbox w.protocol)
-    (step_done w.ports.boxes (sent w.nodes.live.guest) (next w.nodes.live.guest).steps w.protocol) (step_outcome w.start w.protocol)
-    c.step_refusal.result
-    (c.step_refusal.ensures ∙ ap (λ (fs : List Frame). first_refusal (step_refusals fs w.protocol)) c.outbox.ensures.value)
-    (step_sight w c.self.invariant))
+    rw (← c.self.view_is) (all_stop w.protocol (step_refusals w.nodes.live.outbox w.protocol) (step_done w.ports.boxes (sent
+    w.nodes.live.guest) (next w.nodes.live.guest).steps w.protocol) (step_outcome w.start w.protocol) c.step_refusal.result
+    (c.step_refusal.ensures ∙ ap (λ (fs : List Frame). first_refusal (step_refusals fs w.protocol)) c.outbox.ensures.value) (step_sight w
+    c.self.invariant))

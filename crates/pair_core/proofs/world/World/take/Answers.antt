@@ -1,11 +1,6 @@
 use Rattle.std.proofs.Common.{◌∙◌, sym, length}
-use Rattle.pair_core.specs.Protocol.{take_done}
-use Rattle.pair_core.specs.Record.{ports_after_take}
-use Rattle.pair_core.specs.WorldFields.{pair_of}
-use Rattle.pair_core.proofs.Calls.{after_call}
-use Rattle.pair_core.proofs.ClientEvents.{take_holds}
-use Rattle.pair_core.proofs.Outcomes.{client_range}
-use Rattle.pair_core.proofs.RecordLaws.{passed}
+use Rattle.pair_core.specs.{Protocol.take_done, Record.ports_after_take, WorldFields.pair_of}
+use Rattle.pair_core.proofs.{Calls.after_call, ClientEvents.take_holds, Outcomes.client_range, RecordLaws.passed}
 use Rattle.pair_core.proofs.world.World.take.Goals as goal
 
 pub invariant_of-self : goal.invariant_of-self
