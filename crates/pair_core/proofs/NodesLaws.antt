@@ -53,9 +53,7 @@ sector-slice : (bytes : List ℕ) (i : ℕ) → slice_range bytes (512 * i) (512
 sector-slice bytes i = search (arith, rules)
 
 unlisted : (a b : Bool) → (a ≡ true → b ≡ true) → b ≡ false → a ≡ false
-unlisted true b f e =
-    let t : b ≡ true = f refl in
-    absurd (cc)
+unlisted true b f e = search (arith, rules)
 unlisted false b f e = refl
 
 pub base-after_run : (n : ℕ) (x : Nodes) (b : Guest) → IsBase (machine_of x.live) b → IsBase (machine_of (after_run n x).live) b
@@ -87,10 +85,7 @@ all_moves-push (x ∷ mss) ms = ap (λ t. x ++ t) (all_moves-push mss ms) ∙ sy
 epoch_frames-push : (g : Guest) (mss : List (List Move)) (ms : List Move)
     → epoch_frames g (mss ++ ms ∷ []) ≡ epoch_frames g mss ++ frames_along (guest_along g (all_moves mss)) ms ∷ []
 epoch_frames-push g [] ms = refl
-epoch_frames-push g (x ∷ mss) ms =
-    ap (λ t. frames_along g x ∷ t) (epoch_frames-push (guest_along g x) mss ms)
-    ∙ ap (λ h. frames_along g x ∷ (epoch_frames (guest_along g x) mss ++ frames_along h ms ∷ []))
-    (sym (guest_along-append g x (all_moves mss)))
+epoch_frames-push g (x ∷ mss) ms = search (arith, rules, guest_along-append, epoch_frames-push (guest_along g x) mss ms)
 
 -- Texts
 

@@ -9,9 +9,8 @@ use Rattle.output_gate.specs.Epochs.{Epoch, frames_to, after_number}
 use Rattle.pair_history.specs.Entries.{Frame, Entry}
 use Rattle.pair_core.specs.{declared.event.Packet.Packet, declared.event.Refusal.TheVariants.Exhausted, declared.window.Window.Window}
 use Rattle.pair_core.specs.{Journal.{all_entries, rest_of}, Lengths.receivers, Lines.{packet_of, packets_from, AreBelow}}
-use Rattle.pair_core.specs.Modes.{is_alone, is_filling, filled}
-use Rattle.pair_core.specs.Protocol.{Record, first_refusal, cut_refusals, ack_refusals, exhausts, cut_done, send_done, again_done}
-use Rattle.pair_core.specs.{Protocol.{commit_done, ack_done}, Record.{IsRecord, SuitsMode}}
+use Rattle.pair_core.specs.Protocol.{commit_done, ack_done, Record, first_refusal, cut_refusals, ack_refusals, exhausts, cut_done}
+use Rattle.pair_core.specs.{Protocol.{send_done, again_done}, Record.{IsRecord, SuitsMode}, Modes.{is_alone, is_filling, filled}}
 use Rattle.pair_core.specs.Window.{NumberedFrom, with_commit, with_acknowledged}
 use Rattle.pair_core.proofs.{LengthLaws.length-receivers, ModeLaws.{clash, filled_alone}, LineLaws.packets_from-numbered}
 use Rattle.pair_core.proofs.WindowLaws.{numbered_below, cut_window, commit_window, ack_window}
@@ -56,9 +55,7 @@ pub below_at : (g n : ℕ) (ps : List Packet) (k : ℕ) (o : Option Packet) → 
 below_at g n [] k None h e = tt
 below_at g n [] k (Some p) h e = absurd (cc)
 below_at g n (q ∷ ps) zero None h e = tt
-below_at g n (q ∷ ps) zero (Some p) h e =
-    let same : p ≡ q = cc in
-    rw same h.1
+below_at g n (q ∷ ps) zero (Some p) h e = search (arith, rules)
 below_at g n (q ∷ ps) (suc k) o h e = below_at g n ps k o h.2 e
 
 -- The window that suits a mode: after a cut or an acknowledgement, after a commit, and once the primary stops
