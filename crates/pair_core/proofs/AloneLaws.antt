@@ -1,25 +1,21 @@
 -- Laws of a node that is alone: what the gate held lands, followed by the outbox, and nothing is kept or pending.
-use Rattle.std.proofs.Common.{rules, ◌≡◌, ℕ, zero, suc, ◌+◌, ◌-◌, ◌*◌, ◌≤◌, List, [], ◌∷◌, ◌++◌, length, true, refl, sym, ap, ◌∙◌, arith}
-use Rattle.std.proofs.{Common.{append_assoc, mul-le-mul_right}, lemmas.Bool.Decides.nat_tests, lemmas.List.{length-append, append-nil}}
-use Rattle.std.specs.Prelude.{nat_le}
+use Rattle.std.proofs.Common.{rules, ◌≡◌, ℕ, zero, suc, ◌+◌, ◌-◌, ◌*◌, ◌≤◌, List, [], ◌∷◌, ◌++◌, length, refl, sym, ap, ◌∙◌, arith}
+use Rattle.std.proofs.{Common.{append_assoc, mul-le-mul_right}, lemmas.List.{length-append, append-nil}}
 use Rattle.guest_machine.specs.{Guest.Guest, Runs.sent_in, Step.{next, sent}}
 use Rattle.frame_ports.proofs.AddressLaws.{length-targets_of}
 use Rattle.output_gate.specs.Epochs.{Epoch, epoch, frames_of, frames_to}
 use Rattle.pair_history.specs.Entries.{Frame}
 use Rattle.pair_core.specs.{Lengths.receivers, Protocol.{Record, all_held, fail_backup_done}, Record.IsRecord, Window.NumberedFrom}
-use Rattle.pair_core.proofs.{LengthLaws.length-receivers, RecordLaws.AreBelow-more, WindowLaws.NumberedFrom-push}
+use Rattle.pair_core.proofs.{LengthLaws.length-receivers, RecordLaws.AreBelow-more, WindowLaws.{NumberedFrom-push, test_from}}
 
 none_of : (fs : List Frame) → length fs ≡ 0 → fs ≡ []
 none_of [] e = refl
 none_of (f ∷ fs) e = absurd (omega arith)
 
-is_up_to : (a n : ℕ) → a ≤ n → nat_le a n ≡ true
-is_up_to a n h = grind (arith, nat_tests)
-
 -- the frames of all epochs, where none has a number above n
 pub frames_to-all : (n m : ℕ) (es : List Epoch) → NumberedFrom m es → m + length es ≤ n + 1 → frames_to n es ≡ frames_of es
 frames_to-all n m [] h l = refl
-frames_to-all n m (e ∷ es) h l = search (arith, rules, is_up_to, frames_to-all n (m + 1) es h.1 (omega arith))
+frames_to-all n m (e ∷ es) h l = search (arith, rules, test_from, frames_to-all n (m + 1) es h.1 (omega arith))
 
 pub frames_of-push : (es : List Epoch) (e : Epoch) → frames_of (es ++ e ∷ []) ≡ frames_of es ++ e.frames
 frames_of-push [] e = append-nil e.frames

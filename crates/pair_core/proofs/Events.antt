@@ -60,8 +60,7 @@ module _ (w : Pair) (h : Holds w) (ms : List Move) (es : List Entry) (live : Nod
     (clients : AreClients (shown_state w) (left (left_now w h) ms) (record w.ports { inboxes = inboxes })) where
   pub moves_hold : Holds (record w {
     protocol = record w.protocol { journal = with_running w.protocol.journal es };
-    ports =
-        record w.ports { inboxes = inboxes };
+    ports = record w.ports { inboxes = inboxes };
     nodes = record w.nodes { live = live };
   })
   moves_hold =

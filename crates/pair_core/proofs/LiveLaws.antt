@@ -1,7 +1,6 @@
 -- What going live adds to the history, as the loops over it want it; and what is true of the record after it.
 use Rattle.std.proofs.Common.{rules, ◌≡◌, ℕ, zero, suc, ◌+◌, ◌-◌, ◌<◌, ◌≤◌, List, [], ◌∷◌, ◌++◌, length, drop, replicate, get_or, refl, sym}
 use Rattle.std.proofs.{Common.{ap, ◌∙◌, arith, append_assoc, Bool, true, false, cond, Option, Some, None}, Math.Seq.drop-cons}
-use Rattle.std.proofs.lemmas.Bool.Decides.{nat_tests}
 use Rattle.std.proofs.lemmas.List.{append-nil, length-append, length-map, length-replicate, length-take-le, nil_from_length}
 use Rattle.std.proofs.lemmas.List.Sorted.{length_permutation}
 use Rattle.std.specs.{Prelude.{map, nat_le, filter, ◌&&◌}, List.Sorted.{IsPermutation, IsNonDecreasing}}
@@ -19,13 +18,7 @@ use Rattle.pair_core.specs.{Journal.{Journal, joined, kept_entries}, JournalFiel
 use Rattle.pair_core.specs.{Lines.AreBelow, Protocol.{Record, first_refusal, live_entries, go_live_refusals, go_live_done}}
 use Rattle.pair_core.specs.{Record.{RecordState, owed_to, IsRecord}, Window.{IsWindow, first_after, committed_count, committed_of}}
 use Rattle.pair_core.specs.Arrivals.{steps_of, arrivals_of, epoch_entries, numbers_of, numbers_in}
-use Rattle.pair_core.proofs.{LengthLaws.length-receivers, WindowLaws.{within, leaves, gone}}
-
-test_from : (a b : ℕ) → a ≤ b → nat_le a b ≡ true
-test_from a b h = grind (arith, nat_tests)
-
-test_below : (a b : ℕ) → b < a → nat_le a b ≡ false
-test_below a b h = grind (arith, nat_tests)
+use Rattle.pair_core.proofs.{LengthLaws.length-receivers, WindowLaws.{within, leaves, gone, test_from, test_below}}
 
 -- The numbers of the frames that arrived
 

@@ -107,13 +107,11 @@ made pages sectors a b c d = record { pages = pages; sectors = sectors; some_pag
 
 same-pages : (m n k : ℕ) (a : 1 ≤ m) (b : m ≤ 4096) (c : 1 ≤ k) (d : k ≤ 32768) → m ≡ n → (a' : 1 ≤ n) (b' : n ≤ 4096)
     → made m k a b c d ≡ made n k a' b' c d
-same-pages m n k a b c d e =
-    rw (← e) (λ a' b'. λ i. made m k (le_prop {n = 1} {m = m} a a' i) (le_prop {n = m} {m = 4096} b b' i) c d)
+same-pages m n k a b c d e = rw (← e) (λ a' b'. λ i. made m k (le_prop {n = 1} {m = m} a a' i) (le_prop {n = m} {m = 4096} b b' i) c d)
 
 same-sectors : (m n k : ℕ) (a : 1 ≤ k) (b : k ≤ 4096) (c : 1 ≤ m) (d : m ≤ 32768) → m ≡ n → (c' : 1 ≤ n) (d' : n ≤ 32768)
     → made k m a b c d ≡ made k n a b c' d'
-same-sectors m n k a b c d e =
-    rw (← e) (λ c' d'. λ i. made k m a b (le_prop {n = 1} {m = m} c c' i) (le_prop {n = m} {m = 32768} d d' i))
+same-sectors m n k a b c d e = rw (← e) (λ c' d'. λ i. made k m a b (le_prop {n = 1} {m = m} c c' i) (le_prop {n = m} {m = 32768} d d' i))
 
 same-shape : (s t : Shape) → s.pages ≡ t.pages → s.sectors ≡ t.sectors → s ≡ t
 same-shape s t p q =

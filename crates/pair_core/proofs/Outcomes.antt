@@ -46,9 +46,6 @@ client_range c count e = grind (arith, nat_tests)
 pub frame_range : (bytes : List ℕ) → is_bad_length (length bytes) ≡ false → IsFrame (record { items = bytes })
 frame_range bytes e = grind (arith, nat_tests)
 
-pub inbox_full : (n : ℕ) → nat_le INBOX_FRAMES n ≡ true → INBOX_FRAMES ≤ n
-inbox_full n e = grind (arith, nat_tests)
-
 -- of a full inbox the rows before don't apply
 pub full_rows : (a b c d e : Bool)
     → first_refusal ((a, NoClient) ∷ (b, BadFrame) ∷ (c, Exhausted) ∷ (d, Full) ∷ (e, Exhausted) ∷ []) ≡ Some Full
