@@ -14,7 +14,7 @@ use Rattle.pair_core.specs.Protocol.{step_outcome, outbox_of, step_room, step_en
 use Rattle.pair_core.specs.{Protocol.{shown_at, live_at, step_refusals, step_done}, Answering.step_reply}
 use Rattle.pair_core.specs.Runs.{goes_on, steps_outcome, with_steps}
 use Rattle.pair_core.proofs.{Consistent.live_is, Events.{left_now, moves_hold}, NodesLaws.{shape-after_steps, base-after_run}}
-use Rattle.pair_core.proofs.{JournalLaws.length-all, Outcomes.{goes, step_sight}}
+use Rattle.pair_core.proofs.{JournalLaws.length-all, Outcomes.{goes, step_sight}, WindowLaws.test_below}
 use Rattle.pair_core.specs.declared.event.Reply.TheVariants as replies
 
 -- Runs of the guest alone
@@ -117,14 +117,11 @@ none_applies : (r : Record) (outbox : List Frame) → is_stopped r.mode ≡ fals
     → length (all_entries r.journal) + step_room r.mode < NUMBER_LIMIT → first_refusal (step_refusals outbox r) ≡ None
 none_applies r outbox runs few room =
     λ i. cond (runs i) (Some Stopped) (cond (no_lt 192 (length outbox) few i) (Some CutNeeded)
-    (cond (no_le NUMBER_LIMIT (length (all_entries r.journal) + step_room r.mode) room i)
+    (cond (test_below NUMBER_LIMIT (length (all_entries r.journal) + step_room r.mode) room i)
     (Some Exhausted) None))
   where
     no_lt : (a b : ℕ) → b ≤ a → nat_lt a b ≡ false
     no_lt a b l = grind (arith, nat_tests)
-
-    no_le : (a b : ℕ) → b < a → nat_le a b ≡ false
-    no_le a b l = grind (arith, nat_tests)
 
 pub step_goes : (w : Pair) → Holds w → is_stopped w.protocol.mode ≡ false → length w.nodes.live.outbox ≤ 192
     → length (all_entries w.protocol.journal) + step_room w.protocol.mode < NUMBER_LIMIT

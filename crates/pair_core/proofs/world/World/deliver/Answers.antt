@@ -54,8 +54,7 @@ returns-in-Full-clause-memory c =
     let bytes = c.args.bytes.now in
     let Out : Pair → Outcome = λ v. allowed v.start v.protocol (Deliver c.args.client c.args.bytes) in
     let done = delivery_refused w.protocol c.args.client (record { items = bytes }) Full in
-    let goes =
-    deliver_full w c.self.invariant c.args.client bytes c.deliver_refusal.result c.deliver_refusal.ensures
+    let goes = deliver_full w c.self.invariant c.args.client bytes c.deliver_refusal.result c.deliver_refusal.ensures
     (c.in-Some.is ∙ ap Some c.in-Full.is) in
     on_err c.refuse_delivery.result _
     (rw (← c.self.view_is) (rw (← goes) refl))
