@@ -11,9 +11,9 @@ use Rattle.pair_history.specs.{Landings.{landings, DropsAreKnown, DropsAtFull, B
 use Rattle.pair_history.proofs.{States.{at-append, Legal-append, DropsAreKnown-append, at_full-known}, Losses.AreRising-left}
 use Rattle.pair_history.proofs.Moves.{moved, Legal-moves, DropsAreKnown-moves}
 use Rattle.pair_history.proofs.LandingLaws.{length-lands, BoxesFit-lands, AllClients-targets, landings-land, AllLand, AllClients}
-use Rattle.pair_core.specs.{declared.window.Window.Window, Invariant.{frames_by_epoch, AreNodes, AreClients, Holds}}
+use Rattle.pair_core.specs.{declared.window.Window.Window, Invariant.{frames_by_epoch, AreNodes, AreClients, Holds}, Modes.is_alone}
+use Rattle.pair_core.specs.{Nodes.{Node, Nodes, HasShape, with_arrival}, Pair.{Pair, shown_state, live_state}}
 use Rattle.pair_core.specs.Journal.{joined, kept_entries, all_entries, all_committed, with_history, with_running, with_moves}
-use Rattle.pair_core.specs.{Modes.is_alone, Nodes.{Node, Nodes, HasShape, with_arrival}, Pair.{Pair, shown_state, live_state}}
 use Rattle.pair_core.specs.Protocol.{all_held, outbox_of, step_entries, admit_done}
 use Rattle.pair_core.specs.Record.{IsRecord, IsLone, ports_after_all, ports_after_admit}
 use Rattle.pair_core.specs.Window.{committed_of, uncommitted_of, committed_count}

@@ -1,29 +1,21 @@
 -- Laws of a node that is alone: what the gate held lands, followed by the outbox, and nothing is kept or pending.
-use Rattle.std.proofs.Common.{rules, ◌≡◌, ℕ, zero, suc, ◌+◌, ◌-◌, ◌*◌, ◌≤◌, List, [], ◌∷◌, ◌++◌, length, Bool, true, cond, refl, sym, ap}
-use Rattle.std.proofs.{Common.{◌∙◌, subst, arith, append_assoc, mul-le-mul_right}, lemmas.Bool.Decides.nat_tests}
-use Rattle.std.proofs.lemmas.List.{length-append, append-nil}
-use Rattle.std.specs.Prelude.{nat_le}
+use Rattle.std.proofs.Common.{rules, ◌≡◌, ℕ, zero, suc, ◌+◌, ◌-◌, ◌*◌, ◌≤◌, List, [], ◌∷◌, ◌++◌, length, refl, sym, ap, ◌∙◌, arith}
+use Rattle.std.proofs.{Common.{append_assoc, mul-le-mul_right}, lemmas.List.{length-append, append-nil}}
 use Rattle.guest_machine.specs.{Guest.Guest, Runs.sent_in, Step.{next, sent}}
 use Rattle.frame_ports.proofs.AddressLaws.{length-targets_of}
-use Rattle.frame_ports.specs.Addresses.{clients_of}
 use Rattle.output_gate.specs.Epochs.{Epoch, epoch, frames_of, frames_to}
 use Rattle.pair_history.specs.Entries.{Frame}
 use Rattle.pair_core.specs.{Lengths.receivers, Protocol.{Record, all_held, fail_backup_done}, Record.IsRecord, Window.NumberedFrom}
-use Rattle.pair_core.proofs.{LengthLaws.length-receivers, RecordLaws.AreBelow-more, WindowLaws.NumberedFrom-push}
+use Rattle.pair_core.proofs.{LengthLaws.length-receivers, RecordLaws.AreBelow-more, WindowLaws.{NumberedFrom-push, test_from}}
 
 none_of : (fs : List Frame) → length fs ≡ 0 → fs ≡ []
 none_of [] e = refl
 none_of (f ∷ fs) e = absurd (omega arith)
 
-is_up_to : (a n : ℕ) → a ≤ n → nat_le a n ≡ true
-is_up_to a n h = grind (arith, nat_tests)
-
 -- the frames of all epochs, where none has a number above n
 pub frames_to-all : (n m : ℕ) (es : List Epoch) → NumberedFrom m es → m + length es ≤ n + 1 → frames_to n es ≡ frames_of es
 frames_to-all n m [] h l = refl
-frames_to-all n m (e ∷ es) h l =
-    ap (λ (t : Bool). cond t (e.frames ++ frames_to n es) (frames_to n es)) (is_up_to e.number n (let k = h.0 in omega arith))
-    ∙ ap (λ (t : List Frame). e.frames ++ t) (frames_to-all n (m + 1) es h.1 (omega arith))
+frames_to-all n m (e ∷ es) h l = search (arith, rules, test_from, frames_to-all n (m + 1) es h.1 (omega arith))
 
 pub frames_of-push : (es : List Epoch) (e : Epoch) → frames_of (es ++ e ∷ []) ≡ frames_of es ++ e.frames
 frames_of-push [] e = append-nil e.frames
@@ -32,9 +24,7 @@ frames_of-push (x ∷ es) e =
 
 receivers-append : (n : ℕ) (fs gs : List Frame) → receivers n (fs ++ gs) ≡ receivers n fs ++ receivers n gs
 receivers-append n [] gs = refl
-receivers-append n (f ∷ fs) gs =
-    ap (λ (t : List ℕ). clients_of n f.items ++ t) (receivers-append n fs gs)
-    ∙ sym (append_assoc (clients_of n f.items) (receivers n fs) (receivers n gs))
+receivers-append n (f ∷ fs) gs = search (arith, rules, append_assoc, receivers-append n fs gs)
 
 -- to how many clients all that is held goes, and then the outbox
 pub count-all : (boxes : List (List Frame)) (outbox : List Frame) (r : Record)
@@ -80,9 +70,7 @@ few_by_last most (suc n) g quiet =
 pub few_sent : ((g : Guest) → length (sent g) ≤ 64) → (n : ℕ) (g : Guest) → sent_in (n - 1) g ≡ [] → length (sent_in n g) ≤ 64
 unfolding sent_in
 few_sent most zero g quiet = omega arith
-few_sent most (suc n) g quiet =
-    let e : suc n - 1 ≡ n = omega arith in
-    few_by_last most n g (subst (λ (k : ℕ). sent_in k g ≡ []) e quiet)
+few_sent most (suc n) g quiet = search (arith, rules, few_by_last)
 
 -- 64 frames go to 64 times as many as there are clients, at most
 pub few_receivers : (n : ℕ) (fs : List Frame) → length fs ≤ 64 → length (receivers n fs) ≤ 64 * n

@@ -83,14 +83,7 @@ module _ (w : Pair) where
     -- so many quiet steps
     quiet_answered : (n : ℕ) → sent_in n w.nodes.live.guest ≡ [] → length (all_entries w.protocol.journal) + (n + 1024) < NUMBER_LIMIT
         → (replies.Steps (after_steps n w.nodes.live.guest).steps, (quiet n).protocol) ≡ steps_outcome w.start w.protocol n
-    quiet_answered zero e fits =
-        let j = w.protocol.journal in
-        (λ i. (
-          replies.Steps (no-steps w.nodes.live.guest i).steps,
-          record w.protocol { journal = record j { history = append-nil j.history i } },
-        ))
-        ∙ ap (λ (g : Guest). (replies.Steps g.steps, w.protocol)) (sym (live_is w h))
-        ∙ sym (no-steps-answered w.start w.protocol)
+    quiet_answered zero e fits = search (arith, rules, append-nil, live_is, no-steps, no-steps-answered)
     quiet_answered (suc n) e fits =
         let parts = both_empty (sent_in n w.nodes.live.guest) (sent (after_steps n w.nodes.live.guest))
         (sym (sent_in-last n w.nodes.live.guest) ∙ e) in
@@ -104,21 +97,8 @@ module _ (w : Pair) where
         → length (all_entries w.protocol.journal) + (n + 1024) < NUMBER_LIMIT
         → (replies.Steps (after_steps n w.nodes.live.guest).steps, (after_alone n (sent_in n w.nodes.live.guest)).protocol)
         ≡ steps_outcome w.start w.protocol n
-    alone_answered zero e fits =
-        subst
-        (λ (fs : List Frame). (replies.Steps (after_steps 0 w.nodes.live.guest).steps, (after_alone 0 fs).protocol)
-        ≡ steps_outcome w.start w.protocol 0) (sym (none-sent w.nodes.live.guest))
-        (quiet_answered 0 (none-sent w.nodes.live.guest) fits)
-    alone_answered (suc n) e fits =
-        let g = w.nodes.live.guest in
-        let same : suc n - 1 ≡ n = omega arith in
-        let silent : sent_in n g ≡ [] = sym (ap (λ (m : ℕ). sent_in m g) same) ∙ e in
-        let last : sent (after_steps n g) ≡ sent_in (suc n) g =
-        ap (λ (t : List Frame). t ++ sent (after_steps n g)) (sym silent) ∙ sym (sent_in-last n g) in
-        subst
-        (λ (fs : List Frame). (replies.Steps (after_steps (suc n) g).steps, (after_alone (suc n) fs).protocol)
-        ≡ steps_outcome w.start w.protocol (suc n)) last
-        (one_more n silent (omega arith) (quiet_answered n silent (omega arith)))
+    alone_answered zero e fits = search (arith, rules, none-sent, quiet_answered)
+    alone_answered (suc n) e fits = search (arith, rules, one_more, quiet_answered, sent_in-last)
 
 -- steps after steps
 module _ (start : HistoryState) (r r' : Record) (m k : ℕ) (made : (replies.Steps k, r') ≡ steps_outcome start r m) where

@@ -1,6 +1,6 @@
 -- What the two nodes keep along a commit: the image takes in the oldest sealed text, an empty one as well as one that follows.
-use Rattle.std.proofs.Common.{◌≡◌, ℕ, zero, suc, ◌+◌, ◌-◌, ◌≤◌, List, ◌∷◌, ◌++◌, refl, ap, ◌∙◌, subst, arith, append_assoc, Bool, true}
-use Rattle.std.proofs.{Common.{false, cond, Some, None, Result, Ok, Err}, lemmas.Bool.eq-eqb, lemmas.Bool.Decides.nat_tests}
+use Rattle.std.proofs.Common.{rules, ◌≡◌, ℕ, zero, suc, ◌+◌, ◌-◌, ◌≤◌, List, ◌∷◌, ◌++◌, refl, ap, ◌∙◌, subst, arith, append_assoc, Bool}
+use Rattle.std.proofs.{Common.{true, false, cond, Some, None, Result, Ok, Err}, lemmas.Bool.eq-eqb, lemmas.Bool.Decides.nat_tests}
 use Rattle.std.specs.Prelude.{nat_lt, not, ◌==◌}
 use Rattle.guest_machine.specs.Guest.{Guest}
 use Rattle.epoch_snapshot.specs.{Bases.IsBase, Checkpoints.Change, Images.image_of}
@@ -61,17 +61,11 @@ module _ (alone : Bool) (generation n : ℕ) (g : Guest) (ms : List Move) (mss :
   -- the first checkpoint fills the empty image, and each later one follows the one before it
   is-new : (m : ℕ) → n ≡ m → stage_answer x.image change ≡ Ok New
   is-new zero e = λ i. answer_at ((backed.fills e).empty i) (generation-is i) ((number-is ∙ e) i)
-  is-new (suc m) e =
-      let some : 1 ≤ n = omega arith in
-      (λ i. answer_at ((backed.follows some).stands_at i) (generation-is i) (number-is i)) ∙ next-is-new generation n some
+  is-new (suc m) e = search (arith, rules, backed, generation-is, next-is-new, number-is)
 
   makes : (m : ℕ) → n ≡ m → image_of change x.image.guest ≡ guest_along g ms
-  makes zero e =
-      let f = backed.fills e in
-      ap (λ t. image_of (read_as x.image.shape (first_text t)) x.image.guest) f.sealed ∙ f.makes x.image.guest
-  makes (suc m) e =
-      let some : 1 ≤ n = omega arith in
-      ap (image_of change) (backed.follows some).image ∙ ap (λ c. image_of c g) change-is ∙ text.image
+  makes zero e = search (arith, rules, backed)
+  makes (suc m) e = search (arith, rules, backed, change-is, text)
 
   abbrev after : Nodes
   after = record x { image = taken_in x.image change; sealed = later_texts x.sealed }

@@ -116,12 +116,7 @@ module _ (w : Pair) (h : Holds w) where
       by_moves : (mss : List (List Move)) → AllCan (shown_state w).waiting (all_moves mss ++ h.journal.running_moves)
           → (at (shown_state w) (first_of (map entries_of mss))).guest ≡ guest_along (shown_state w).guest (first_moves mss)
       by_moves [] can = refl
-      by_moves (ms ∷ mss) can =
-          let s = shown_state w in
-          let rest = all_moves mss ++ h.journal.running_moves in
-          let apart : AllCan s.waiting (ms ++ rest) =
-          subst (AllCan s.waiting) (append_assoc ms (all_moves mss) h.journal.running_moves) can in
-          ap (λ (t : HistoryState). t.guest) (at-moves s ms (AllCan-front s.waiting ms rest apart))
+      by_moves (ms ∷ mss) can = search (arith, rules, AllCan-front, append_assoc, at-moves)
 
   pub has_backup : IsRecord w.protocol → is_alone w.protocol.mode ≡ false → HasBackup w
   has_backup k two = search (arith, rules, first_guest, none_committed, sealed_state, some_committed, texts_are)

@@ -1,6 +1,6 @@
 -- Each event keeps the invariant: one lemma for each part that it touches, and the others pass on by name.
-use Rattle.std.proofs.Common.{◌≡◌, ◌≢◌, ℕ, zero, suc, ◌+◌, ◌-◌, ◌*◌, ◌<◌, ◌≤◌, List, [], ◌∷◌, ◌++◌, length, take, drop, remove, get_or}
-use Rattle.std.proofs.Common.{replicate, refl, sym, ap, ◌∙◌, subst, arith, append_assoc, true, false, cond, Some, ⊎_elim}
+use Rattle.std.proofs.Common.{rules, ◌≡◌, ◌≢◌, ℕ, zero, suc, ◌+◌, ◌-◌, ◌*◌, ◌<◌, ◌≤◌, List, [], ◌∷◌, ◌++◌, length, take, drop, remove}
+use Rattle.std.proofs.Common.{get_or, replicate, refl, sym, ap, ◌∙◌, subst, arith, append_assoc, true, false, cond, Some, ⊎_elim}
 use Rattle.std.proofs.{lemmas.Bool.eq-eqb, lemmas.Bool.Decides.{nat_tests, eqb_tells}}
 use Rattle.std.proofs.lemmas.List.{append-nil, length-map, length-replicate, length-set, map-append, get_or-set_same, get_or-set_other}
 use Rattle.std.proofs.lemmas.List.{drop-append-le, take-append-le}
@@ -18,10 +18,10 @@ use Rattle.pair_history.proofs.Waiting.{Leaves, StandsAt, leaves-at}
 use Rattle.pair_history.proofs.Moves.{guest_along-append, frames_along-append, left-append, AllCan-append, AllCan-front, AllCan-back, moved}
 use Rattle.pair_history.proofs.{Moves.{at-moves, Legal-moves, DropsAreKnown-moves}, Losses.AreRising-left}
 use Rattle.pair_core.specs.Invariant.{all_moves, epoch_frames, frames_by_epoch, AreInboxes, AreSealed, AreNodes, AreClients, Holds}
-use Rattle.pair_core.specs.{Journal.{with_running, first_of, rest_of}, Lines.Lines, Modes.{is_alone, filled}}
+use Rattle.pair_core.specs.{Journal.{with_running, first_of, rest_of}, Lines.Lines, Modes.{is_alone, filled}, Texts.IsText}
+use Rattle.pair_core.specs.{Pair.{Pair, shown_state}, Protocol.{cut_done, commit_done}, Record.{IsRecord, start_record, ports_after_admit}}
+use Rattle.pair_core.specs.Window.{committed_of, uncommitted_of, committed_count}
 use Rattle.pair_core.specs.Nodes.{Node, HasShape, machine_of, start_nodes, with_arrival, with_sealed, with_commit, first_text}
-use Rattle.pair_core.specs.{Texts.IsText, Pair.{Pair, shown_state}, Protocol.{cut_done, commit_done}}
-use Rattle.pair_core.specs.{Record.{IsRecord, start_record, ports_after_admit}, Window.{committed_of, uncommitted_of, committed_count}}
 use Rattle.pair_core.proofs.ModeLaws.{filled_alone}
 use Rattle.pair_core.proofs.NodesLaws.{all_moves-push, shape-arrived, base-with_arrival, first-sealed, length-sealed, backed-live}
 use Rattle.pair_core.proofs.{NodesLaws.{nodes-cut, nodes-start}, CommitLaws.nodes-commit, WindowLaws.within}
@@ -60,8 +60,7 @@ module _ (w : Pair) (h : Holds w) (ms : List Move) (es : List Entry) (live : Nod
     (clients : AreClients (shown_state w) (left (left_now w h) ms) (record w.ports { inboxes = inboxes })) where
   pub moves_hold : Holds (record w {
     protocol = record w.protocol { journal = with_running w.protocol.journal es };
-    ports =
-        record w.ports { inboxes = inboxes };
+    ports = record w.ports { inboxes = inboxes };
     nodes = record w.nodes { live = live };
   })
   moves_hold =
@@ -233,11 +232,7 @@ module _ (w : Pair) (h : Holds w) (k : IsRecord w.protocol) (two : is_alone w.pr
           (shown_state w).guest mss w.nodes.sealed
           → 0 < length mss → (after : Guest) × IsOldest after w.nodes.sealed
       by_moves [] s l = absurd (omega arith)
-      by_moves (ms ∷ mss) s l =
-          let n = w.protocol.window.to_commit in
-          let g = (shown_state w).guest in
-          let same = length-sealed w.nodes.image.shape w.protocol.generation n g (ms ∷ mss) w.nodes.sealed s in
-          (guest_along g ms, (omega arith, first-sealed w.nodes.image.shape w.protocol.generation n g ms mss w.nodes.sealed s))
+      by_moves (ms ∷ mss) s l = search (arith, rules, first-sealed, length-sealed)
 
 -- COMMIT: the oldest sealed epoch moves to the history, and the image takes its checkpoint in
 

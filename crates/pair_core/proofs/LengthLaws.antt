@@ -1,11 +1,11 @@
 -- Landings by the lengths of the boxes are landings.
-use Rattle.std.proofs.Common.{◌≡◌, ℕ, zero, suc, ◌+◌, ◌-◌, ◌<◌, ◌≤◌, List, [], ◌∷◌, ◌++◌, length, get_or, set, refl, sym, ap, ◌∙◌, subst}
-use Rattle.std.proofs.{Common.{arith, Bool, true, false, cond, inl, inr}, lemmas.List.{get_or-set_same, get_or-set_other}}
+use Rattle.std.proofs.Common.{rules, ◌≡◌, ℕ, zero, suc, ◌+◌, ◌-◌, ◌<◌, ◌≤◌, List, [], ◌∷◌, ◌++◌, length, get_or, set, refl, sym, ap, ◌∙◌}
+use Rattle.std.proofs.{Common.{subst, arith, Bool, true, false, cond, inl, inr}, lemmas.List.{get_or-set_same, get_or-set_other}}
 use Rattle.std.proofs.lemmas.Bool.Decides.{eqb_tells}
 use Rattle.std.specs.Prelude.{map, nat_lt}
 use Rattle.frame_ports.specs.{Addresses.{targets_of, paired_with, clients_of}, Lands.{list_of, with_list, has_room, landed_at}}
 use Rattle.frame_ports.specs.declared.limits.TheConstants.{BOX_FRAMES}
-use Rattle.pair_history.specs.{Entries.{Frame, Land, DropOut}, Landings.landings}
+use Rattle.pair_history.specs.{Entries.Frame, Landings.landings}
 use Rattle.pair_core.specs.Lengths.{receivers, has_space, lengths_at, lengths_after, landing_by, landings_by, AreLengths}
 use Rattle.pair_history.proofs.LandingLaws.{AllClients, AllClients-targets, length-landed_at, length-set'}
 
@@ -83,11 +83,17 @@ pub landings-by : (lengths : List ℕ) (boxes : List (List Frame)) (ps : List (�
     → AllClients (length boxes) ps → landings_by lengths (map (λ p. p.0) ps) ≡ landings boxes ps
 landings-by lengths boxes [] are h = refl
 landings-by lengths boxes (p ∷ ps) are h =
-    let e = space_is_room lengths boxes are p.0 p.1 h.0 h.1 in
-    ap (λ (t : Bool). cond t (Land p.0) (DropOut p.0 BOX_FRAMES) ∷ landings_by (lengths_at lengths p.0) (map (λ q. q.0) ps)) e
-    ∙ ap (λ t. cond (has_room boxes p.0) (Land p.0) (DropOut p.0 BOX_FRAMES) ∷ t)
-    (landings-by (lengths_at lengths p.0) (landed_at boxes p.0 p.1) ps (AreLengths-at lengths boxes are p.0 p.1 h.0 h.1)
-    (subst (λ n. AllClients n ps) (sym (length-landed_at boxes p.0 p.1)) h.2))
+    search (
+      arith,
+      rules,
+      AllClients,
+      AreLengths-at,
+      length-landed_at,
+      space_is_room,
+      landings-by (lengths_at lengths p.0) (landed_at boxes
+          p.0 p.1) ps (AreLengths-at lengths boxes are p.0 p.1 h.0 h.1) (subst (λ n. AllClients n ps) (sym (length-landed_at boxes p.0 p.1))
+          h.2),
+    )
 
 pub landings_by-targets : (n : ℕ) (lengths : List ℕ) (boxes : List (List Frame)) (fs : List Frame) → AreLengths lengths boxes
     → length boxes ≡ n → landings_by lengths (receivers n fs) ≡ landings boxes (targets_of n fs)

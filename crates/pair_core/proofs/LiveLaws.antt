@@ -1,7 +1,6 @@
 -- What going live adds to the history, as the loops over it want it; and what is true of the record after it.
 use Rattle.std.proofs.Common.{rules, ◌≡◌, ℕ, zero, suc, ◌+◌, ◌-◌, ◌<◌, ◌≤◌, List, [], ◌∷◌, ◌++◌, length, drop, replicate, get_or, refl, sym}
 use Rattle.std.proofs.{Common.{ap, ◌∙◌, arith, append_assoc, Bool, true, false, cond, Option, Some, None}, Math.Seq.drop-cons}
-use Rattle.std.proofs.lemmas.Bool.Decides.{nat_tests}
 use Rattle.std.proofs.lemmas.List.{append-nil, length-append, length-map, length-replicate, length-take-le, nil_from_length}
 use Rattle.std.proofs.lemmas.List.Sorted.{length_permutation}
 use Rattle.std.specs.{Prelude.{map, nat_le, filter, ◌&&◌}, List.Sorted.{IsPermutation, IsNonDecreasing}}
@@ -15,17 +14,11 @@ use Rattle.pair_history.proofs.{SortedLaws.rising-sorted, TakenInLaws.IsPermutat
 use Rattle.pair_core.specs.{declared.epochs.Arrival.Arrival, declared.epochs.RunningEpoch.RunningEpoch, declared.event.Packet.Packet}
 use Rattle.pair_core.specs.{declared.event.Refusal.Refusal, declared.event.Refusal.TheVariants.Exhausted}
 use Rattle.pair_core.specs.{declared.journal.Journal.TheInside.Inside, declared.window.Window.Window}
-use Rattle.pair_core.specs.Arrivals.{steps_of, arrivals_of, epoch_entries, numbers_of, numbers_in}
 use Rattle.pair_core.specs.{Journal.{Journal, joined, kept_entries}, JournalFields.{epoch_of, stored, AreFields}, Lengths.receivers}
 use Rattle.pair_core.specs.{Lines.AreBelow, Protocol.{Record, first_refusal, live_entries, go_live_refusals, go_live_done}}
 use Rattle.pair_core.specs.{Record.{RecordState, owed_to, IsRecord}, Window.{IsWindow, first_after, committed_count, committed_of}}
-use Rattle.pair_core.proofs.{LengthLaws.length-receivers, WindowLaws.{within, leaves, gone}}
-
-test_from : (a b : ℕ) → a ≤ b → nat_le a b ≡ true
-test_from a b h = grind (arith, nat_tests)
-
-test_below : (a b : ℕ) → b < a → nat_le a b ≡ false
-test_below a b h = grind (arith, nat_tests)
+use Rattle.pair_core.specs.Arrivals.{steps_of, arrivals_of, epoch_entries, numbers_of, numbers_in}
+use Rattle.pair_core.proofs.{LengthLaws.length-receivers, WindowLaws.{within, leaves, gone, test_from, test_below}}
 
 -- The numbers of the frames that arrived
 
@@ -45,22 +38,14 @@ arrived-steps (suc k) = arrived-steps k
 
 arrived-arrivals : (arrivals : List Arrival) → arrived_numbers (arrivals_of arrivals) ≡ numbers_of arrivals
 arrived-arrivals [] = refl
-arrived-arrivals (a ∷ arrivals) =
-    let one : arrived_numbers (steps_of a.steps ++ Arrive a.number ∷ []) ≡ a.number ∷ [] =
-    arrived-append (steps_of a.steps) (Arrive a.number ∷ []) ∙ ap (λ ns. ns ++ a.number ∷ []) (arrived-steps a.steps) in
-    arrived-append (steps_of a.steps ++ Arrive a.number ∷ []) (arrivals_of arrivals)
-    ∙ ap (λ ns. ns ++ arrived_numbers (arrivals_of arrivals)) one
-    ∙ ap (λ ns. a.number ∷ ns) (arrived-arrivals arrivals)
+arrived-arrivals (a ∷ arrivals) = search (arith, rules, arrived-append, arrived-steps, arrived-arrivals arrivals)
 
 arrived-epoch : (arrivals : List Arrival) (k : ℕ) → arrived_numbers (epoch_entries arrivals k) ≡ numbers_of arrivals
 arrived-epoch arrivals k = search (arith, rules, append-nil, arrived-append, arrived-arrivals, arrived-steps)
 
 arrived-joined : (es : List RunningEpoch) → arrived_numbers (joined (map epoch_of es)) ≡ numbers_in es
 arrived-joined [] = refl
-arrived-joined (e ∷ es) =
-    arrived-append (epoch_of e) (joined (map epoch_of es))
-    ∙ ap (λ ns. ns ++ arrived_numbers (joined (map epoch_of es))) (arrived-epoch e.arrivals.items e.steps)
-    ∙ ap (λ ns. numbers_of e.arrivals.items ++ ns) (arrived-joined es)
+arrived-joined (e ∷ es) = search (arith, rules, arrived-append, arrived-epoch, arrived-joined es)
 
 pub arrived-kept : (a : Inside)
     → arrived_numbers (kept_entries (stored a).journal) ≡ numbers_in a.sealed.items ++ numbers_of a.running.arrivals.items

@@ -1,13 +1,13 @@
 -- What the protocol answers to a loss that is asked for.
-use Rattle.std.proofs.Common.{◌≡◌, ℕ, zero, suc, ◌<◌, ◌≤◌, List, [], ◌∷◌, length, refl, sym, ap, ◌∙◌, arith, Bool, true, false, Option}
-use Rattle.std.proofs.Common.{None, Some}
+use Rattle.std.proofs.Common.{rules, ◌≡◌, ℕ, zero, suc, ◌<◌, ◌≤◌, List, [], ◌∷◌, length, refl, sym, ap, ◌∙◌, arith, Bool, true, false}
+use Rattle.std.proofs.Common.{Option, None, Some}
 use Rattle.std.specs.Prelude.{slice_get, option_map, not}
 use Rattle.frame_ports.specs.Lands.{list_of}
 use Rattle.pair_history.specs.{Entries.{Frame, Entry}, HistoryState.inbox_of}
 use Rattle.pair_core.specs.{declared.event.Event.Event, declared.event.Event.TheVariants.{LoseIn, LoseOut}, declared.event.Refusal.Refusal}
 use Rattle.pair_core.specs.{declared.event.Refusal.TheVariants.NoClient, Invariant.Holds, Pair.{Pair, live_state}}
-use Rattle.pair_core.specs.Protocol.{allowed, unless, refused, first_refusal, is_among, client_refusals, loss_refusals, loss_done, loss_of}
-use Rattle.pair_core.specs.{Protocol.{lost_in, lose_in_outcome_at, lose_out_outcome_at}, Answering.MayWantMemory}
+use Rattle.pair_core.specs.Protocol.{lost_in, lose_in_outcome_at, lose_out_outcome_at, allowed, unless, refused, first_refusal, is_among}
+use Rattle.pair_core.specs.{Protocol.{client_refusals, loss_refusals, loss_done, loss_of}, Answering.MayWantMemory}
 use Rattle.pair_core.proofs.Outcomes.{stops, goes, client_range, inbox_is}
 use Rattle.pair_core.specs.declared.event.Reply.TheVariants as replies
 
@@ -46,9 +46,7 @@ module _ (w : Pair) (h : Holds w) where
           → unless w.protocol ((t, NoClient) ∷ []) (loss_of w.protocol (lost_in (list_of w.ports.inboxes c) place))
           ≡ unless w.protocol ((t, NoClient) ∷ []) (loss_of w.protocol (lost_in (inbox_of c (live_state w).waiting) place))
       by_test true e = refl
-      by_test false e =
-          let range = client_range c (length w.ports.boxes) e in
-          ap (λ xs. loss_of w.protocol (lost_in xs place)) (inbox_is w h c range.0 range.1)
+      by_test false e = search (arith, rules, client_range, inbox_is)
 
   pub lose_out_sight : (c place : ℕ)
       → lose_out_outcome_at w.ports.boxes w.protocol c place ≡ allowed w.start w.protocol (LoseOut c place)

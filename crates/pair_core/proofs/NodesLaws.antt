@@ -53,9 +53,7 @@ sector-slice : (bytes : List ℕ) (i : ℕ) → slice_range bytes (512 * i) (512
 sector-slice bytes i = search (arith, rules)
 
 unlisted : (a b : Bool) → (a ≡ true → b ≡ true) → b ≡ false → a ≡ false
-unlisted true b f e =
-    let t : b ≡ true = f refl in
-    absurd (cc)
+unlisted true b f e = search (arith, rules)
 unlisted false b f e = refl
 
 pub base-after_run : (n : ℕ) (x : Nodes) (b : Guest) → IsBase (machine_of x.live) b → IsBase (machine_of (after_run n x).live) b
@@ -87,10 +85,7 @@ all_moves-push (x ∷ mss) ms = ap (λ t. x ++ t) (all_moves-push mss ms) ∙ sy
 epoch_frames-push : (g : Guest) (mss : List (List Move)) (ms : List Move)
     → epoch_frames g (mss ++ ms ∷ []) ≡ epoch_frames g mss ++ frames_along (guest_along g (all_moves mss)) ms ∷ []
 epoch_frames-push g [] ms = refl
-epoch_frames-push g (x ∷ mss) ms =
-    ap (λ t. frames_along g x ∷ t) (epoch_frames-push (guest_along g x) mss ms)
-    ∙ ap (λ h. frames_along g x ∷ (epoch_frames (guest_along g x) mss ++ frames_along h ms ∷ []))
-    (sym (guest_along-append g x (all_moves mss)))
+epoch_frames-push g (x ∷ mss) ms = search (arith, rules, guest_along-append, epoch_frames-push (guest_along g x) mss ms)
 
 -- Texts
 
@@ -112,13 +107,11 @@ made pages sectors a b c d = record { pages = pages; sectors = sectors; some_pag
 
 same-pages : (m n k : ℕ) (a : 1 ≤ m) (b : m ≤ 4096) (c : 1 ≤ k) (d : k ≤ 32768) → m ≡ n → (a' : 1 ≤ n) (b' : n ≤ 4096)
     → made m k a b c d ≡ made n k a' b' c d
-same-pages m n k a b c d e =
-    rw (← e) (λ a' b'. λ i. made m k (le_prop {n = 1} {m = m} a a' i) (le_prop {n = m} {m = 4096} b b' i) c d)
+same-pages m n k a b c d e = rw (← e) (λ a' b'. λ i. made m k (le_prop {n = 1} {m = m} a a' i) (le_prop {n = m} {m = 4096} b b' i) c d)
 
 same-sectors : (m n k : ℕ) (a : 1 ≤ k) (b : k ≤ 4096) (c : 1 ≤ m) (d : m ≤ 32768) → m ≡ n → (c' : 1 ≤ n) (d' : n ≤ 32768)
     → made k m a b c d ≡ made k n a b c' d'
-same-sectors m n k a b c d e =
-    rw (← e) (λ c' d'. λ i. made k m a b (le_prop {n = 1} {m = m} c c' i) (le_prop {n = m} {m = 32768} d d' i))
+same-sectors m n k a b c d e = rw (← e) (λ c' d'. λ i. made k m a b (le_prop {n = 1} {m = m} c c' i) (le_prop {n = m} {m = 32768} d d' i))
 
 same-shape : (s t : Shape) → s.pages ≡ t.pages → s.sectors ≡ t.sectors → s ≡ t
 same-shape s t p q =

@@ -8,10 +8,10 @@ use Rattle.pair_history.specs.{Entries.Frame, HistoryState.inbox_of}
 use Rattle.pair_core.specs.{declared.event.Event.TheVariants.Admit, declared.event.Refusal.Refusal}
 use Rattle.pair_core.specs.{declared.event.Refusal.TheVariants.{Full, BadFrame, NoClient, Stopped, Exhausted}, Invariant.Holds}
 use Rattle.pair_core.specs.{Modes.is_stopped, Pair.{Pair, shown_state, live_state, AfterRefusal}}
-use Rattle.pair_core.specs.Protocol.{Record, Outcome, Row, allowed, first_refusal, or_else, unless, refused, exhausts, is_among}
-use Rattle.pair_core.specs.Protocol.{is_bad_length, step_outcome, step_outcome_at, cut_refusals, cut_done, outbox_of}
-use Rattle.pair_core.specs.Protocol.{fail_backup_outcome_at, admit_outcome_at, admit_first, admit_refusals, admit_done, arrival_refusals}
-use Rattle.pair_core.specs.{Protocol.{deliver_outcome_at, deliver_refusals, delivery_refused, deliver_done}, Answering.MayWantMemory}
+use Rattle.pair_core.specs.Protocol.{deliver_outcome_at, deliver_refusals, delivery_refused, deliver_done, Record, Outcome, Row, allowed}
+use Rattle.pair_core.specs.Protocol.{first_refusal, or_else, unless, refused, exhausts, is_among, is_bad_length, step_outcome}
+use Rattle.pair_core.specs.Protocol.{step_outcome_at, cut_refusals, cut_done, outbox_of, fail_backup_outcome_at, admit_outcome_at}
+use Rattle.pair_core.specs.{Protocol.{admit_first, admit_refusals, admit_done, arrival_refusals}, Answering.MayWantMemory}
 use Rattle.pair_core.proofs.Consistent.{live_is, live_waiting, outbox_is}
 use Rattle.pair_core.specs.declared.event.Reply.TheVariants as replies
 
@@ -45,9 +45,6 @@ client_range c count e = grind (arith, nat_tests)
 -- a frame's length, likewise
 pub frame_range : (bytes : List ℕ) → is_bad_length (length bytes) ≡ false → IsFrame (record { items = bytes })
 frame_range bytes e = grind (arith, nat_tests)
-
-pub inbox_full : (n : ℕ) → nat_le INBOX_FRAMES n ≡ true → INBOX_FRAMES ≤ n
-inbox_full n e = grind (arith, nat_tests)
 
 -- of a full inbox the rows before don't apply
 pub full_rows : (a b c d e : Bool)

@@ -2,19 +2,18 @@
 use Rattle.std.proofs.Common.{rules, ◌≡◌, ℕ, zero, suc, ◌+◌, ◌-◌, ◌<◌, ◌≤◌, List, [], ◌∷◌, ◌++◌, length, get_or, refl, ap, ◌∙◌, arith, Bool}
 use Rattle.std.proofs.{Common.{true, false, cond, Option, None, Some}, lemmas.Bool.eq-eqb, lemmas.Bool.Decides.nat_tests}
 use Rattle.std.proofs.lemmas.List.{length-append}
-use Rattle.std.specs.Prelude.{map, slice_get, IfSome, nat_le, ◌==◌, not}
+use Rattle.std.specs.Prelude.{map, slice_get, IfSome, ◌==◌, not}
 use Rattle.failover.specs.{declared.mode.Mode.Mode, declared.mode.Mode.TheVariants.{Paired, Filling, Alone, Stopped}}
 use Rattle.frame_ports.specs.declared.limits.TheConstants.{NUMBER_LIMIT}
 use Rattle.output_gate.specs.Epochs.{Epoch, frames_to, after_number}
 use Rattle.pair_history.specs.Entries.{Frame, Entry}
 use Rattle.pair_core.specs.{declared.event.Packet.Packet, declared.event.Refusal.TheVariants.Exhausted, declared.window.Window.Window}
 use Rattle.pair_core.specs.{Journal.{all_entries, rest_of}, Lengths.receivers, Lines.{packet_of, packets_from, AreBelow}}
-use Rattle.pair_core.specs.Modes.{is_alone, is_filling, filled}
-use Rattle.pair_core.specs.Protocol.{Record, first_refusal, cut_refusals, ack_refusals, exhausts, cut_done, send_done, again_done}
-use Rattle.pair_core.specs.{Protocol.{commit_done, ack_done}, Record.{IsRecord, SuitsMode}}
+use Rattle.pair_core.specs.Protocol.{commit_done, ack_done, Record, first_refusal, cut_refusals, ack_refusals, exhausts, cut_done}
+use Rattle.pair_core.specs.{Protocol.{send_done, again_done}, Record.{IsRecord, SuitsMode}, Modes.{is_alone, is_filling, filled}}
 use Rattle.pair_core.specs.Window.{NumberedFrom, with_commit, with_acknowledged}
 use Rattle.pair_core.proofs.{LengthLaws.length-receivers, ModeLaws.{clash, filled_alone}, LineLaws.packets_from-numbered}
-use Rattle.pair_core.proofs.WindowLaws.{numbered_below, cut_window, commit_window, ack_window}
+use Rattle.pair_core.proofs.WindowLaws.{numbered_below, cut_window, commit_window, ack_window, is_below}
 
 -- Tables of refusals
 
@@ -22,9 +21,6 @@ use Rattle.pair_core.proofs.WindowLaws.{numbered_below, cut_window, commit_windo
 pub passed : {A : Type 0} (t : Bool) (x : A) (o : Option A) → cond t (Some x) o ≡ None → (t ≡ false) × (o ≡ None)
 passed true x o e = absurd (cc)
 passed false x o e = (refl, e)
-
-pub is_below : (a b : ℕ) → nat_le a b ≡ false → b < a
-is_below a b e = grind (arith, nat_tests)
 
 pub has_room_for : (r : Record) (more : ℕ) → exhausts r more ≡ false → length (all_entries r.journal) + more < NUMBER_LIMIT
 has_room_for r more e = is_below NUMBER_LIMIT (length (all_entries r.journal) + more) e
@@ -56,9 +52,7 @@ pub below_at : (g n : ℕ) (ps : List Packet) (k : ℕ) (o : Option Packet) → 
 below_at g n [] k None h e = tt
 below_at g n [] k (Some p) h e = absurd (cc)
 below_at g n (q ∷ ps) zero None h e = tt
-below_at g n (q ∷ ps) zero (Some p) h e =
-    let same : p ≡ q = cc in
-    rw same h.1
+below_at g n (q ∷ ps) zero (Some p) h e = search (arith, rules)
 below_at g n (q ∷ ps) (suc k) o h e = below_at g n ps k o h.2 e
 
 -- The window that suits a mode: after a cut or an acknowledgement, after a commit, and once the primary stops

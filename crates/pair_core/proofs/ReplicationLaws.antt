@@ -35,10 +35,7 @@ texts-make shape generation n s (es ∷ ess) (t ∷ texts) h =
 ends-push : (s : HistoryState) (ess : List (List Entry)) (es : List Entry)
     → ends s (ess ++ es ∷ []) ≡ ends s ess ++ (at s (joined ess ++ es)).guest ∷ []
 ends-push s [] es = refl
-ends-push s (x ∷ ess) es =
-    ap (λ t. (at s x).guest ∷ t) (ends-push (at s x) ess es)
-    ∙ ap (λ (t : HistoryState). (at s x).guest ∷ (ends (at s x) ess ++ t.guest ∷ []))
-    (sym (ap (at s) (append_assoc x (joined ess) es) ∙ at-append s x (joined ess ++ es)))
+ends-push s (x ∷ ess) es = search (arith, rules, append_assoc, at-append, ends-push (at s x) ess es)
 
 ends-first : (s : HistoryState) (ess : List (List Entry)) → 0 < length ess
     → ends s ess ≡ (at s (first_of ess)).guest ∷ ends (at s (first_of ess)) (rest_of ess)

@@ -8,8 +8,8 @@ use Rattle.pair_history.proofs.States.{at-append, Legal-append}
 use Rattle.pair_core.specs.{declared.event.Event.Event, declared.event.Event.TheVariants.GoLive, declared.event.Refusal.Refusal}
 use Rattle.pair_core.specs.{declared.event.Refusal.TheVariants.NoMemory, declared.event.Reply.Reply, Drops.Drops, Journal.kept_entries}
 use Rattle.pair_core.specs.{Modes.mode_refusal, Pair.{Pair, IsConsistent}}
-use Rattle.pair_core.specs.Protocol.{Record, Outcome, refused, first_refusal, shown_at, live_at, live_entries, go_live_refusals}
-use Rattle.pair_core.specs.{Protocol.go_live_done, Answering.Answers, Service.{moment, Resumes, Serves}}
+use Rattle.pair_core.specs.Protocol.{go_live_done, Record, Outcome, refused, first_refusal, shown_at, live_at, live_entries}
+use Rattle.pair_core.specs.{Protocol.go_live_refusals, Answering.Answers, Service.{moment, Resumes, Serves}}
 use Rattle.pair_core.proofs.{Ends.{by_table, answers_end}, Tells.{live_all, tells_all}}
 use Rattle.pair_core.specs.declared.event.Reply.TheVariants as replies
 

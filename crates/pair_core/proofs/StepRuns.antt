@@ -10,11 +10,11 @@ use Rattle.pair_history.specs.Moves.{Steps, entries_of, guest_along, frames_alon
 use Rattle.pair_core.specs.{declared.event.Refusal.Refusal, declared.event.Refusal.TheVariants.{Stopped, CutNeeded, Exhausted}}
 use Rattle.pair_core.specs.{Invariant.Holds, Journal.{all_entries, with_running, with_moves}, declared.limits.TheConstants.STEP_ENTRIES}
 use Rattle.pair_core.specs.{Modes.{is_stopped, is_alone}, Nodes.after_run, Pair.Pair}
-use Rattle.pair_core.specs.Protocol.{Record, Outcome, first_refusal, or_else, refused, shown_at, live_at, step_refusals, step_done}
-use Rattle.pair_core.specs.{Protocol.{step_outcome, outbox_of, step_room, step_entries}, Answering.step_reply}
+use Rattle.pair_core.specs.Protocol.{step_outcome, outbox_of, step_room, step_entries, Record, Outcome, first_refusal, or_else, refused}
+use Rattle.pair_core.specs.{Protocol.{shown_at, live_at, step_refusals, step_done}, Answering.step_reply}
 use Rattle.pair_core.specs.Runs.{goes_on, steps_outcome, with_steps}
 use Rattle.pair_core.proofs.{Consistent.live_is, Events.{left_now, moves_hold}, NodesLaws.{shape-after_steps, base-after_run}}
-use Rattle.pair_core.proofs.{JournalLaws.length-all, Outcomes.{goes, step_sight}}
+use Rattle.pair_core.proofs.{JournalLaws.length-all, Outcomes.{goes, step_sight}, WindowLaws.test_below}
 use Rattle.pair_core.specs.declared.event.Reply.TheVariants as replies
 
 -- Runs of the guest alone
@@ -40,9 +40,7 @@ after_steps-last (suc n) g = after_steps-last n (next g)
 room-last : (n : ℕ) (g : Guest) (o : List Frame) → HaveRoom (suc n) g o → length (o ++ sent_in n g) ≤ 192
 unfolding sent_in HaveRoom
 room-last zero g o room = subst (λ (x : List Frame). length x ≤ 192) (sym (append-nil o)) room.0
-room-last (suc n) g o room =
-    subst (λ (x : List Frame). length x ≤ 192) (append_assoc o (sent g) (sent_in n (next g)))
-    (room-last n (next g) (o ++ sent g) room.1)
+room-last (suc n) g o room = search (arith, rules, append_assoc, room-last n (next g) (o ++ sent g) room.1)
 
 room-before : (n : ℕ) (g : Guest) (o : List Frame) → HaveRoom (suc n) g o → HaveRoom n g o
 unfolding HaveRoom
@@ -119,14 +117,11 @@ none_applies : (r : Record) (outbox : List Frame) → is_stopped r.mode ≡ fals
     → length (all_entries r.journal) + step_room r.mode < NUMBER_LIMIT → first_refusal (step_refusals outbox r) ≡ None
 none_applies r outbox runs few room =
     λ i. cond (runs i) (Some Stopped) (cond (no_lt 192 (length outbox) few i) (Some CutNeeded)
-    (cond (no_le NUMBER_LIMIT (length (all_entries r.journal) + step_room r.mode) room i)
+    (cond (test_below NUMBER_LIMIT (length (all_entries r.journal) + step_room r.mode) room i)
     (Some Exhausted) None))
   where
     no_lt : (a b : ℕ) → b ≤ a → nat_lt a b ≡ false
     no_lt a b l = grind (arith, nat_tests)
-
-    no_le : (a b : ℕ) → b < a → nat_le a b ≡ false
-    no_le a b l = grind (arith, nat_tests)
 
 pub step_goes : (w : Pair) → Holds w → is_stopped w.protocol.mode ≡ false → length w.nodes.live.outbox ≤ 192
     → length (all_entries w.protocol.journal) + step_room w.protocol.mode < NUMBER_LIMIT
@@ -205,9 +200,7 @@ refused_stays start r r' why e = by_refusal (first_refusal (step_refusals (outbo
     by_refusal : (o : Option Refusal) → refused r' why ≡ or_else o (refused r)
         (step_done (shown_at start r).boxes (sent (live_at start r).guest) (next (live_at start r).guest).steps r) → r' ≡ r
     by_refusal (Some x) e = ap (λ (o : Outcome). o.1) e
-    by_refusal None e =
-        let clash : replies.Refused why ≡ replies.Steps (next (live_at start r).guest).steps = ap (λ (o : Outcome). o.0) e in
-        cc
+    by_refusal None e = search (arith, rules)
 
 none-made : (n : ℕ) (w : Pair) → (with_steps n w).protocol ≡ w.protocol → n ≡ 0
 none-made n w e =
@@ -219,7 +212,4 @@ pub refused_step :
     (w v : Pair) (answer : Result ℕ Refusal) → (step_reply answer, v.protocol) ≡ step_outcome w.start w.protocol
     → (n : ℕ) → v ≡ with_steps n w → OnErr answer (v ≡ w)
 refused_step w v (Ok k) e n is = tt
-refused_step w v (Err why) e n is =
-    let stays = refused_stays w.start w.protocol v.protocol why e in
-    let none = none-made n w (ap (λ (u : Pair). u.protocol) (sym is) ∙ stays) in
-    is ∙ ap (λ (k : ℕ). with_steps k w) none ∙ with_no_steps w
+refused_step w v (Err why) e n is = search (arith, rules, none-made, refused_stays, with_no_steps)

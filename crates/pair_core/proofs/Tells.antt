@@ -1,11 +1,11 @@
 -- What the entries that an event adds tell of clients' calls.
-use Rattle.std.proofs.Common.{rules, arith, ◌≡◌, ℕ, zero, suc, ◌+◌, List, [], ◌∷◌, ◌++◌, length, replicate, refl, subst, append_assoc, Bool}
-use Rattle.std.proofs.{Common.{true, false, cond}, lemmas.List.Elements.{All-nil, All-cons, All-head, All-tail, All-append, All-replicate}}
+use Rattle.std.proofs.Common.{rules, arith, ◌≡◌, ℕ, zero, suc, ◌+◌, List, [], ◌∷◌, ◌++◌, refl, subst, append_assoc, Bool, true, false, cond}
+use Rattle.std.proofs.lemmas.List.Elements.{All-nil, All-cons, All-head, All-tail, All-append, All-replicate}
 use Rattle.std.specs.Prelude.{All, map, get_or}
 use Rattle.guest_machine.specs.Step.{sent}
-use Rattle.frame_ports.specs.{Addresses.targets_of, Lands.{list_of, has_room, landed_at}, declared.limits.TheConstants.BOX_FRAMES}
+use Rattle.frame_ports.specs.{Lands.{has_room, landed_at}, declared.limits.TheConstants.BOX_FRAMES}
 use Rattle.pair_history.specs.{Entries.{Frame, Entry, Ran, Arrive, DropIn, Land, DropOut}, Failures.drops_of_owed_from}
-use Rattle.pair_history.specs.{HistoryState.{HistoryState, out_of}, Landings.landings}
+use Rattle.pair_history.specs.{HistoryState.HistoryState, Landings.landings}
 use Rattle.pair_core.specs.{declared.event.Event.Event, declared.event.Event.TheVariants.Deliver, declared.event.Refusal.Refusal}
 use Rattle.pair_core.specs.{declared.event.Refusal.TheVariants.Full, Journal.{Journal, joined, first_of, kept_entries}, Modes.is_alone}
 use Rattle.pair_core.specs.{Pair.is_of_guest, Protocol.{Record, live_at, shown_at, outbox_of, step_entries, all_held, let_go, live_entries}}
@@ -53,11 +53,7 @@ module _ (P : Entry → Type 0) (ins : (n : ℕ) → P (DropIn n)) (outs : (c pl
 
   all_out : (n first : ℕ) (boxes : List (List Frame)) (out : List (ℕ × Frame)) → All P (drops_of_owed_from n first boxes out)
   all_out zero first boxes out = All-nil P
-  all_out (suc n) first boxes out =
-      let place = length (list_of boxes first) in
-      let count = length (out_of first out) in
-      All-append P (replicate count (DropOut first place)) (drops_of_owed_from n (first + 1) boxes out)
-      (All-replicate P count (DropOut first place) (outs first place)) (all_out n (first + 1) boxes out)
+  all_out (suc n) first boxes out = search (arith, rules, All-append, All-replicate, all_out n (first + 1) boxes out)
 
   pub live_all : (boxes : List (List Frame)) (out : List (ℕ × Frame)) (j : Journal) → All P (live_entries boxes out j)
   live_all boxes out j = search (arith, rules, All-append, all_in, all_out)
@@ -113,9 +109,7 @@ module _ (start : HistoryState) (r : Record) (kept : All OfGuest (kept_entries r
       by_mode : (alone : Bool) → is_alone r.mode ≡ alone
           → All Quiet (at_once alone (step_entries true boxes (sent (live_at start r).guest)))
       by_mode false is = none
-      by_mode true is =
-          let ps = targets_of (length boxes) (sent (live_at start r).guest) in
-          All-cons Quiet Ran (landings boxes ps) refl (landings-quiet boxes ps)
+      by_mode true is = search (arith, rules, All-cons, landings-quiet)
 
       by_arrival : (c n : ℕ) (alone : Bool) → is_alone r.mode ≡ alone → All Quiet (at_once alone (Arrive n ∷ []))
       by_arrival c n false is = none

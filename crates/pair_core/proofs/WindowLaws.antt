@@ -29,10 +29,10 @@ pub record Taken (n a : ℕ) (waiting others : List Epoch) : Type 0 where
   pub count : cond (nat_le a n) (n + 1) a + length stay ≡ a + length waiting
   pub numbers : NumberedFrom (cond (nat_le a n) (n + 1) a) (stay ++ others)
 
-test_below : (a n : ℕ) → n < a → nat_le a n ≡ false
+pub test_below : (a n : ℕ) → n < a → nat_le a n ≡ false
 test_below a n h = grind (arith, nat_tests)
 
-test_from : (a n : ℕ) → a ≤ n → nat_le a n ≡ true
+pub test_from : (a n : ℕ) → a ≤ n → nat_le a n ≡ true
 test_from a n h = grind (arith, nat_tests)
 
 -- none is taken where n comes before the first
@@ -58,10 +58,10 @@ none n a waiting others l h =
       numbers = rw (ap (λ t. cond t (n + 1) a) off) h;
     }
 
-is_from : (a n : ℕ) → nat_le a n ≡ true → a ≤ n
+pub is_from : (a n : ℕ) → nat_le a n ≡ true → a ≤ n
 is_from a n h = grind (arith, nat_tests)
 
-is_below : (a n : ℕ) → nat_le a n ≡ false → n < a
+pub is_below : (a n : ℕ) → nat_le a n ≡ false → n < a
 is_below a n h = grind (arith, nat_tests)
 
 next_start : (a n : ℕ) → a ≤ n → cond (nat_le (a + 1) n) (n + 1) (a + 1) ≡ n + 1

@@ -15,8 +15,7 @@ invariant_of-self-2 c =
     let n = c.args.packet.number in
     let below = rw (← c.self.view_is) at c.requires.committed in
     let boxes = a.ports.boxes in
-    let journal =
-    c.land.ensures ∙ ap (λ (j : Journal). with_history j (landings boxes (targets_of (length boxes) c.held-2.result.now)))
+    let journal = c.land.ensures ∙ ap (λ (j : Journal). with_history j (landings boxes (targets_of (length boxes) c.held-2.result.now)))
     c.reserve.ensures.journal
     ∙ ap (λ fs. with_history r.journal (landings boxes (targets_of (length boxes) fs))) c.held-2.ensures.held in
     subst IsRecord (λ i. record r {

@@ -9,8 +9,7 @@ answers c = search (arith, rules, answers_by_outcome)
 
 pub returns-clause-grows : goal.returns-clause-grows
 returns-clause-grows c =
-    let drops =
-    c.keep_drops.ensures c.args.event c.answered.result c.act-outcome.new.self.protocol
+    let drops = c.keep_drops.ensures c.args.event c.answered.result c.act-outcome.new.self.protocol
     (answers (goal.at.returns-clause-grows c).After-answered) in
     (drops.entries, drops.grows)
 
@@ -19,8 +18,7 @@ returns-clause-drops c = search (arith, rules, After-answered, answers)
 
 pub returns-clause-serves : goal.returns-clause-serves
 returns-clause-serves c =
-    let drops =
-    c.keep_drops.ensures c.args.event c.answered.result c.act-outcome.new.self.protocol
+    let drops = c.keep_drops.ensures c.args.event c.answered.result c.act-outcome.new.self.protocol
     (answers (goal.at.returns-clause-serves c).After-answered) in
     serves c.args.self.now c.act-outcome.new.self c.args.event c.answered.result c.act-outcome.ensures.start c.keep_consistent.ensures
     c.keep_consistent-2.ensures drops

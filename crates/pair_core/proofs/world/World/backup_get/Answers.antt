@@ -30,19 +30,15 @@ names_next r p n o is none cut e least = search (arith, rules, generation_is, pa
 pub oldest-requires-clause-some : goal.oldest-requires-clause-some
 oldest-requires-clause-some c =
     let w = pair_of c.self.inside in
-    let more =
-    names_next w.protocol c.in-Some.packet c.to_commit.result c.backup_refusal.result c.backup_refusal.ensures.refusal
-    c.in_default-backup_refusal.is c.in-Some.ensures.cut
-    c.to_commit.ensures c.if-packet-to_commit.false in
+    let more = names_next w.protocol c.in-Some.packet _ _ c.backup_refusal.ensures.refusal c.in_default-backup_refusal.is
+    c.in-Some.ensures.cut c.to_commit.ensures c.if-packet-to_commit.false in
     (oldest_text w c.self.invariant c.backup_refusal.ensures.record (two c.args.k c.self.view_is c.requires) more).1.0
 
 pub oldest-requires-clause-whole : goal.oldest-requires-clause-whole
 oldest-requires-clause-whole c =
     let w = pair_of c.self.inside in
-    let more =
-    names_next w.protocol c.in-Some.packet c.to_commit.result c.backup_refusal.result c.backup_refusal.ensures.refusal
-    c.in_default-backup_refusal.is c.in-Some.ensures.cut
-    c.to_commit.ensures c.if-packet-to_commit.false in
+    let more = names_next w.protocol c.in-Some.packet _ _ c.backup_refusal.ensures.refusal c.in_default-backup_refusal.is
+    c.in-Some.ensures.cut c.to_commit.ensures c.if-packet-to_commit.false in
     let oldest = oldest_text w c.self.invariant c.backup_refusal.ensures.record (two c.args.k c.self.view_is c.requires) more in
     reads-whole w.nodes.image.shape w.protocol.generation w.protocol.window.to_commit (shown_state w).guest oldest.0
     (first_text w.nodes.sealed) oldest.1.1
@@ -50,19 +46,15 @@ oldest-requires-clause-whole c =
 pub commit-requires-2-clause-some : goal.commit-requires-2-clause-some
 commit-requires-2-clause-some c =
     let w = pair_of c.self.inside in
-    let more =
-    names_next w.protocol c.in-Some.packet c.to_commit.result c.backup_refusal.result c.backup_refusal.ensures.refusal
-    c.in_default-backup_refusal.is c.in-Some.ensures.cut
-    c.to_commit.ensures c.if-packet-to_commit.false in
+    let more = names_next w.protocol c.in-Some.packet _ _ c.backup_refusal.ensures.refusal c.in_default-backup_refusal.is
+    c.in-Some.ensures.cut c.to_commit.ensures c.if-packet-to_commit.false in
     (oldest_text w c.self.invariant c.backup_refusal.ensures.record (two c.args.k c.self.view_is c.requires) more).1.0
 
 pub commit-requires-2-clause-shape : goal.commit-requires-2-clause-shape
 commit-requires-2-clause-shape c =
     let w = pair_of c.self.inside in
-    let more =
-    names_next w.protocol c.in-Some.packet c.to_commit.result c.backup_refusal.result c.backup_refusal.ensures.refusal
-    c.in_default-backup_refusal.is c.in-Some.ensures.cut
-    c.to_commit.ensures c.if-packet-to_commit.false in
+    let more = names_next w.protocol c.in-Some.packet _ _ c.backup_refusal.ensures.refusal c.in_default-backup_refusal.is
+    c.in-Some.ensures.cut c.to_commit.ensures c.if-packet-to_commit.false in
     let oldest = oldest_text w c.self.invariant c.backup_refusal.ensures.record (two c.args.k c.self.view_is c.requires) more in
     ap (λ (checkpoint : Change). checkpoint.shape) c.in_ok-checkpoint.ensures
     ∙ reads-shape w.nodes.image.shape w.protocol.generation w.protocol.window.to_commit (shown_state w).guest oldest.0
@@ -72,10 +64,8 @@ pub invariant_of-self-2 : goal.invariant_of-self-2
 invariant_of-self-2 c =
     let w = pair_of c.self.inside in
     let protocol = ap (λ (o : Outcome). o.1) c.in_ok-reply.ensures.ok in
-    let more =
-    names_next w.protocol c.in-Some.packet c.to_commit.result c.backup_refusal.result c.backup_refusal.ensures.refusal
-    c.in_default-backup_refusal.is c.in-Some.ensures.cut
-    c.to_commit.ensures c.if-packet-to_commit.false in
+    let more = names_next w.protocol c.in-Some.packet _ _ c.backup_refusal.ensures.refusal c.in_default-backup_refusal.is
+    c.in-Some.ensures.cut c.to_commit.ensures c.if-packet-to_commit.false in
     subst Holds (λ i. record w { protocol = sym protocol i; ports = sym c.commit.ensures.ports i; nodes = sym c.commit-2.ensures i })
     (commit_holds w c.self.invariant c.backup_refusal.ensures.record (two c.args.k c.self.view_is c.requires) more)
 
@@ -86,10 +76,8 @@ returns-clause-replicates c =
     let h = c.self.invariant in
     let k = c.backup_refusal.ensures.record in
     let alone = two c.args.k c.self.view_is c.requires in
-    let more =
-    names_next w.protocol c.in-Some.packet c.to_commit.result c.backup_refusal.result c.backup_refusal.ensures.refusal
-    c.in_default-backup_refusal.is c.in-Some.ensures.cut
-    c.to_commit.ensures c.if-packet-to_commit.false in
+    let more = names_next w.protocol c.in-Some.packet _ _ c.backup_refusal.ensures.refusal c.in_default-backup_refusal.is
+    c.in-Some.ensures.cut c.to_commit.ensures c.if-packet-to_commit.false in
     let now = has_backup w h k alone in
     let then =
     has_backup (after_commit w) (commit_holds w h k alone more) (commit_record w.protocol k more) (filled-pairs w.protocol.mode alone) in

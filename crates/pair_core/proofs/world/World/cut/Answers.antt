@@ -47,8 +47,7 @@ returns-clause-replicates c =
     let k = c.cut_refusal.ensures.record in
     let alone = two c.self.view_is c.requires in
     let now = has_backup w h k alone in
-    let then =
-    has_backup (after_cut w text) (cut_holds w h k text (makes (goal.at.returns-clause-replicates c).In_ok-reply))
+    let then = has_backup (after_cut w text) (cut_holds w h k text (makes (goal.at.returns-clause-replicates c).In_ok-reply))
     (cut_record w.protocol k w.nodes.live.outbox alone (sym c.cut_refusal.ensures.refusal ∙ c.in_default.is)) alone in
     rw (← c.self.view_is) (subst (λ (o : Reply × Nodes). Replicates Cut o.0 w.nodes o.1) (λ i. (sym reply i, sym nodes i)) (cut_replicates w
     k alone now text then (live_is w h)))

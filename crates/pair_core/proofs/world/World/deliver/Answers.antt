@@ -3,8 +3,8 @@ use Rattle.frame_ports.specs.Ports.{after_delivery}
 use Rattle.pair_core.specs.{declared.event.Event.TheVariants.Deliver, declared.event.Refusal.TheVariants.Full, Pair.{Pair, AfterRefusal}}
 use Rattle.pair_core.specs.{Protocol.{Outcome, allowed, deliver_done, delivery_refused}, WorldFields.pair_of}
 use Rattle.pair_core.proofs.{Calls.{on_ok, on_err, answered_so, after_call}, ClientEvents.{deliver_holds, full_holds}}
-use Rattle.pair_core.proofs.Outcomes.{client_range, frame_range, inbox_full, full_rows, deliver_goes, deliver_full, deliver_stops}
-use Rattle.pair_core.proofs.{Outcomes.after_none, RecordLaws.passed}
+use Rattle.pair_core.proofs.Outcomes.{after_none, client_range, frame_range, full_rows, deliver_goes, deliver_full, deliver_stops}
+use Rattle.pair_core.proofs.{RecordLaws.passed, WindowLaws.is_from}
 use Rattle.pair_core.proofs.world.World.deliver.Goals as goal
 
 pub invariant_of-self : goal.invariant_of-self
@@ -32,7 +32,7 @@ invariant_of-self-in-Full c =
     after_call w c.self.invariant c.refuse_delivery.new.self c.refuse_delivery.result
     (delivery_refused w.protocol client (record { items = bytes }) Full) w.ports
     c.refuse_delivery.ensures.ok (on_ok c.refuse_delivery.result _ c.refuse_delivery.ensures.ports) c.refuse_delivery.ensures.err
-    (full_holds w c.self.invariant client range.0 range.1 bytes frame (inbox_full _ rows.2))
+    (full_holds w c.self.invariant client range.0 range.1 bytes frame (is_from _ _ rows.2))
 
 pub returns-in_default-clause-outcome : goal.returns-in_default-clause-outcome
 returns-in_default-clause-outcome c =
@@ -54,8 +54,7 @@ returns-in-Full-clause-memory c =
     let bytes = c.args.bytes.now in
     let Out : Pair → Outcome = λ v. allowed v.start v.protocol (Deliver c.args.client c.args.bytes) in
     let done = delivery_refused w.protocol c.args.client (record { items = bytes }) Full in
-    let goes =
-    deliver_full w c.self.invariant c.args.client bytes c.deliver_refusal.result c.deliver_refusal.ensures
+    let goes = deliver_full w c.self.invariant c.args.client bytes c.deliver_refusal.result c.deliver_refusal.ensures
     (c.in-Some.is ∙ ap Some c.in-Full.is) in
     on_err c.refuse_delivery.result _
     (rw (← c.self.view_is) (rw (← goes) refl))

@@ -1,7 +1,8 @@
 use Rattle.std.proofs.Common.{◌∙◌, ◌+◌, sym, ap, subst}
 use Rattle.frame_ports.specs.declared.limits.TheConstants.{NUMBER_LIMIT}
 use Rattle.pair_core.specs.{Invariant.Holds, Protocol.Outcome, WorldFields.pair_of}
-use Rattle.pair_core.proofs.{GoneLive.gone_live_holds, ModeLaws.{live_goes, live_full}, RecordLaws.{passed, is_below, some_committed}}
+use Rattle.pair_core.proofs.{GoneLive.gone_live_holds, ModeLaws.{live_goes, live_full}, RecordLaws.{passed, some_committed}}
+use Rattle.pair_core.proofs.WindowLaws.{is_below}
 use Rattle.pair_core.proofs.world.World.go_live.Goals as goal
 
 pub invariant_of-self-2 : goal.invariant_of-self-2
