@@ -1,0 +1,4 @@
+pub mod Start
+pub mod Prefixes
+pub mod Moves
+pub mod Members

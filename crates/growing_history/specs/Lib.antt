@@ -1,0 +1,5 @@
+pub mod Steps
+pub mod LogState
+pub mod Views
+pub mod Plays
+pub mod Calls

@@ -1,0 +1,12 @@
+//! The history of a pair, above a lock: one word counts the steps that the keeper of the history makes.
+#![tactic(auto)]
+
+mod boot;
+mod known;
+mod seats;
+mod what;
+
+pub use boot::{Clock, Opened};
+pub use known::{Known, Pair};
+pub use seats::{Badge, KeeperSeat, MemberSeat};
+pub use what::What;
