@@ -2,3 +2,4 @@ pub mod Start
 pub mod Prefixes
 pub mod Moves
 pub mod Members
+pub mod Examples

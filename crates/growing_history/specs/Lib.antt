@@ -3,3 +3,4 @@ pub mod LogState
 pub mod Views
 pub mod Plays
 pub mod Calls
+pub mod Examples

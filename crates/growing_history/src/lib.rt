@@ -8,5 +8,8 @@ mod what;
 
 pub use boot::{Clock, Opened};
 pub use known::{Known, Pair};
-pub use seats::{Badge, KeeperSeat, MemberSeat};
+pub use seats::{BackupSeat, Badge, ClientSeat, KeeperSeat, LineSeat, MemberSeat, RunnerSeat};
 pub use what::What;
+
+#[cfg(test)]
+mod tests;

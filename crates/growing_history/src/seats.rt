@@ -321,3 +321,15 @@ impl<P: Pair> MemberSeat<P> {
         self.seat = seat.into_badge();
     }
 }
+
+/// A client's seat, whose steps are what the client called.
+pub type ClientSeat<P> = MemberSeat<P>;
+
+/// A runner's seat, whose steps seal epochs, or say that the node ran alone.
+pub type RunnerSeat<P> = MemberSeat<P>;
+
+/// A backup's seat, whose steps commit epochs.
+pub type BackupSeat<P> = MemberSeat<P>;
+
+/// The line's seat, whose steps drop frames.
+pub type LineSeat<P> = MemberSeat<P>;
