@@ -3,3 +3,5 @@ pub mod Prefixes
 pub mod Moves
 pub mod Members
 pub mod Examples
+pub mod LogLaws
+pub mod OwnEntries

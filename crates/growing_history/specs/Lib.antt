@@ -1,5 +1,6 @@
 pub mod Steps
 pub mod LogState
+pub mod Entries
 pub mod Views
 pub mod Plays
 pub mod Calls

@@ -1,0 +1,42 @@
+//! What a legal list of steps says of the history.
+ghost use Rattle.std.specs.Prelude.{◌≡◌, ℕ, ◌≤◌, List, [], ◌∷◌, ◌++◌};
+ghost use Rattle.pair_history.specs.Entries as entries;
+ghost use Rattle.pair_history.specs.HistoryState.{HistoryState, at};
+ghost use Rattle.pair_history.specs.HistoryState as history;
+ghost use Rattle.growing_history.specs.Steps.{Step, Begins, steps_by};
+ghost use Rattle.growing_history.specs.LogState.{start_of, under_way, added, after, Needs, Legal, state_at, history_of, client_seat};
+ghost use Rattle.growing_history.specs.Entries.{own_entries, announced};
+
+/// A list of steps goes on by what the next step needs and does, and the history with it. A beginning of a legal list is legal, and
+/// its history begins that of the whole.
+pub fn steps_go_on()
+    ensures start { (h : HistoryState) → Legal h [] × (state_at h [] ≡ start_of h) × (history_of h [] ≡ []) }
+    ensures goes_on { (h : HistoryState) (xs : List Step) (x : Step) → Legal h xs → Needs (state_at h xs) x → Legal h (xs ++ x ∷ []) }
+    ensures needed { (h : HistoryState) (xs : List Step) (x : Step) → Legal h (xs ++ x ∷ []) → Needs (state_at h xs) x }
+    ensures begun { (h : HistoryState) (xs ys : List Step) → Begins xs ys → Legal h ys → Legal h xs }
+    ensures state { (h : HistoryState) (xs : List Step) (x : Step) → state_at h (xs ++ x ∷ []) ≡ after (state_at h xs) x.what }
+    ensures history { (h : HistoryState) (xs : List Step) (x : Step)
+        → history_of h (xs ++ x ∷ []) ≡ history_of h xs ++ added (state_at h xs) x.what }
+    ensures begins { (h : HistoryState) (xs ys : List Step) → Begins xs ys → entries.Begins (history_of h xs) (history_of h ys) }
+{}
+
+/// Unless a commit is marked, the history, and then what is under way, is one that a guest that never fails can have; and the state
+/// says where the history stands, marked or not.
+pub fn unmarked_histories_are_legal()
+    ensures legal { (h : HistoryState) (xs : List Step) → Legal h xs → (state_at h xs).marked ≡ 0
+        → history.Legal h (history_of h xs ++ under_way (state_at h xs)) }
+    ensures stands { (h : HistoryState) (xs : List Step) → (state_at h xs).history ≡ at h (history_of h xs) }
+    ensures marks { (h : HistoryState) (xs ys : List Step) → Begins xs ys → (state_at h xs).marked ≤ (state_at h ys).marked }
+{}
+
+/// A client's entries in the history are those that the steps of its seat announced, in that order, and no others.
+pub fn own_entries_are_announced()
+    ensures { (h : HistoryState) (xs : List Step) (c : ℕ) → 1 ≤ c → Legal h xs
+        → own_entries c (history_of h xs) ≡ announced (steps_by (client_seat c) xs) }
+{}
+
+/// The numbers of the live runner and of the backup rise or stay.
+pub fn live_numbers_rise()
+    ensures { (h : HistoryState) (xs ys : List Step) → Begins xs ys → Legal h ys
+        → ((state_at h xs).runner ≤ (state_at h ys).runner) × ((state_at h xs).backup ≤ (state_at h ys).backup) }
+{}
