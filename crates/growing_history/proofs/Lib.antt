@@ -5,3 +5,4 @@ pub mod Members
 pub mod Examples
 pub mod LogLaws
 pub mod OwnEntries
+pub mod CallLaws

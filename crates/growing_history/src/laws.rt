@@ -1,11 +1,12 @@
 //! What a legal list of steps says of the history.
 ghost use Rattle.std.specs.Prelude.{◌≡◌, ℕ, ◌≤◌, List, [], ◌∷◌, ◌++◌};
 ghost use Rattle.pair_history.specs.Entries as entries;
+ghost use Rattle.pair_history.specs.Entries.{Entry};
 ghost use Rattle.pair_history.specs.HistoryState.{HistoryState, at};
 ghost use Rattle.pair_history.specs.HistoryState as history;
-ghost use Rattle.growing_history.specs.Steps.{Step, Begins, steps_by};
+ghost use Rattle.growing_history.specs.Steps.{Added, Step, step, Begins, steps_by};
 ghost use Rattle.growing_history.specs.LogState.{start_of, under_way, added, after, Needs, Legal, state_at, history_of, client_seat};
-ghost use Rattle.growing_history.specs.Entries.{own_entries, announced};
+ghost use Rattle.growing_history.specs.Entries.{own_entries, announced, IsCall};
 
 /// A list of steps goes on by what the next step needs and does, and the history with it. A beginning of a legal list is legal, and
 /// its history begins that of the whole.
@@ -39,4 +40,16 @@ pub fn own_entries_are_announced()
 pub fn live_numbers_rise()
     ensures { (h : HistoryState) (xs ys : List Step) → Begins xs ys → Legal h ys
         → ((state_at h xs).runner ≤ (state_at h ys).runner) × ((state_at h xs).backup ≤ (state_at h ys).backup) }
+{}
+
+/// What a client's call makes of what the client has seen: the history that it had seen, what came between, and the call's entries;
+/// and its own entries grow by these. What it sees without a call leaves its own entries.
+pub fn a_call_is_a_point_of_one_history()
+    ensures call { (h : HistoryState) (c : ℕ) (old log : List Step) (es : List Entry) → 1 ≤ c → Begins old log
+        → Legal h (log ++ step (client_seat c) (Added es) ∷ [])
+        → steps_by (client_seat c) (log ++ step (client_seat c) (Added es) ∷ []) ≡ steps_by (client_seat c) old ++ step (client_seat c) (Added es) ∷ []
+        → IsCall h c old (log ++ step (client_seat c) (Added es) ∷ []) es }
+    ensures none { (h : HistoryState) (c : ℕ) (old now : List Step) → 1 ≤ c → Begins old now → Legal h now
+        → steps_by (client_seat c) now ≡ steps_by (client_seat c) old
+        → own_entries c (history_of h now) ≡ own_entries c (history_of h old) }
 {}

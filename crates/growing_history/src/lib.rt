@@ -8,9 +8,9 @@ mod seats;
 mod what;
 
 pub use boot::{Clock, Opened};
-pub use known::{Known, Pair};
+pub use known::Pair;
 pub use laws::{
-    live_numbers_rise, own_entries_are_announced, steps_go_on, unmarked_histories_are_legal,
+    a_call_is_a_point_of_one_history, live_numbers_rise, own_entries_are_announced, steps_go_on, unmarked_histories_are_legal,
 };
 pub use seats::{BackupSeat, Badge, ClientSeat, KeeperSeat, LineSeat, MemberSeat, RunnerSeat};
 pub use what::What;
