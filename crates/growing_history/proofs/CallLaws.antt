@@ -3,8 +3,8 @@ use Rattle.std.proofs.Common.{◌≡◌, ℕ, ◌≤◌, List, [], ◌∷◌, �
 use Rattle.std.proofs.lemmas.List.{append-nil}
 use Rattle.pair_history.specs.Entries.{Entry}
 use Rattle.pair_history.specs.HistoryState.{HistoryState}
-use Rattle.growing_history.specs.Steps.{What, Added, Step, step, Begins, steps_by}
-use Rattle.growing_history.specs.LogState.{Legal, state_at, history_of, client_seat}
+use Rattle.growing_history.specs.Steps.{Added, Step, step, Begins, steps_by}
+use Rattle.growing_history.specs.LogState.{Legal, history_of, client_seat}
 use Rattle.growing_history.specs.Entries.{own_entries, announced_in, announced, IsCall}
 use Rattle.growing_history.proofs.LogLaws.{begun, history-begins, history-snoc}
 use Rattle.growing_history.proofs.OwnEntries.{history-own}

@@ -1,5 +1,5 @@
 -- How a list of steps goes on, and the history with it.
-use Rattle.std.proofs.Common.{◌≡◌, ℕ, zero, suc, ◌+◌, ◌≤◌, List, [], ◌∷◌, ◌++◌, length, map, refl, sym, ap, ◌∙◌, subst, append_assoc, arith, le_refl, le_trans}
+use Rattle.std.proofs.Common.{◌≡◌, ℕ, zero, suc, ◌≤◌, List, [], ◌∷◌, ◌++◌, refl, sym, ap, ◌∙◌, subst, append_assoc, arith, le_refl, le_trans}
 use Rattle.std.proofs.lemmas.List.{append-nil}
 use Rattle.pair_history.specs.Entries.{Entry}
 use Rattle.pair_history.specs.Entries as entries

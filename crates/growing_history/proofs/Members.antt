@@ -1,10 +1,9 @@
 -- What the keeper's step makes of the keeper's seat and of the member's.
-use Rattle.std.proofs.Common.{◌≡◌, ℕ, ◌<◌, List, [], ◌∷◌, ◌++◌, refl, sym, ap, ◌∙◌, subst}
-use Rattle.std.specs.Prelude.{Some}
+use Rattle.std.proofs.Common.{◌≡◌, ℕ, ◌<◌, [], ◌∷◌, ◌++◌, sym, ap, ◌∙◌}
 use Rattle.pair_history.specs.HistoryState.{HistoryState}
-use Rattle.growing_history.specs.Steps.{What, Step, step, steps_by}
+use Rattle.growing_history.specs.Steps.{Step, steps_by}
 use Rattle.growing_history.specs.LogState.{Legal}
-use Rattle.growing_history.specs.Views.{View, only_view, IsKeeper, IsMember}
+use Rattle.growing_history.specs.Views.{View, IsKeeper, IsMember}
 use Rattle.growing_history.specs.Plays.{Meets, with_member, member_of, stepped}
 use Rattle.growing_history.proofs.Prefixes.{steps_by-own}
 

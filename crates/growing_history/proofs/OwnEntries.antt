@@ -1,5 +1,5 @@
 -- A client's entries in the history are those that its own steps announced.
-use Rattle.std.proofs.Common.{◌≡◌, ◌≢◌, ℕ, zero, suc, ◌+◌, ◌≤◌, ◌<◌, List, [], ◌∷◌, ◌++◌, length, map, take, drop, replicate, refl, sym, ap, ◌∙◌, subst, cond, eqb, arith}
+use Rattle.std.proofs.Common.{◌≡◌, ℕ, zero, suc, ◌+◌, ◌≤◌, List, [], ◌∷◌, ◌++◌, length, map, take, drop, replicate, refl, sym, ap, ◌∙◌, subst, cond, arith}
 use Rattle.std.proofs.Common.{Bool, true, false, eq-eqb, ne_eqb, append_assoc}
 use Rattle.std.specs.Prelude.{◌==◌, nat_lt}
 use Rattle.std.proofs.lemmas.List.{append-nil}
@@ -9,11 +9,11 @@ use Rattle.frame_ports.specs.Lands.{list_of, has_room, landed_at}
 use Rattle.frame_ports.specs.declared.limits.TheConstants.{BOX_FRAMES}
 use Rattle.pair_history.specs.Entries.{Frame, Entry, Ran, Arrive, Delivered, Refused, DropIn, Land, DropOut, Took}
 use Rattle.pair_history.specs.HistoryState.{HistoryState, at, out_of}
-use Rattle.pair_history.specs.Order.{IsGuests, AreGuests}
+use Rattle.pair_history.specs.Order.{AreGuests}
 use Rattle.pair_history.specs.Landings.{landings}
-use Rattle.pair_history.specs.Failures.{all_land, fail_backup_entries, go_live_entries, drops_of_owed_to, drops_of_owed_from, drops_of_owed, drops_of_taken_in, rising, arrived_numbers}
+use Rattle.pair_history.specs.Failures.{all_land, drops_of_owed_to, drops_of_owed_from, drops_of_owed, drops_of_taken_in, rising, arrived_numbers}
 use Rattle.growing_history.specs.Steps.{What, Added, Sealed, RanAlone, Committed, PrimaryFailed, BackupFailed, WentLive, Protected, Step, steps_by}
-use Rattle.growing_history.specs.LogState.{LogState, Epoch, start_of, entries_of, under_way, added, after, IsOwn, AreOwn, MayStep, Needs, client_seat, line_seat, LegalFrom, history_from, Legal, history_of}
+use Rattle.growing_history.specs.LogState.{LogState, Epoch, start_of, entries_of, under_way, added, after, IsOwn, AreOwn, MayStep, client_seat, LegalFrom, history_from, Legal, history_of}
 use Rattle.growing_history.specs.Entries.{is_of, own_entries, announced_in, announced}
 
 own-append : (c : ℕ) (xs ys : List Entry) → own_entries c (xs ++ ys) ≡ own_entries c xs ++ own_entries c ys

@@ -5,7 +5,7 @@ use Rattle.std.specs.Prelude.{◌==◌}
 use Rattle.std.proofs.lemmas.List.{append-nil}
 use mathlib.Core.Option.{some, some-injective, some-ne-none}
 use lib.ListN.{get_elem?}
-use Rattle.growing_history.specs.Steps.{What, Step, step, Begins, steps_by}
+use Rattle.growing_history.specs.Steps.{Step, Begins, steps_by}
 
 pub begins-self : (xs : List Step) → Begins xs xs
 begins-self xs = ([], sym (append-nil xs))

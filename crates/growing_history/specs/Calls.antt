@@ -1,6 +1,4 @@
 -- The step that a call stands for.
-use Rattle.std.specs.Prelude.{ℕ, List}
-use Rattle.std.specs.Borrow.{Bor}
 use Rattle.pair_history.specs.Log.{all_expanded}
 use Rattle.growing_history.specs.Steps as steps
 use Rattle.growing_history.specs.declared.what.What.{What}

@@ -1,14 +1,13 @@
 -- What the keeper's list of steps says of the pair: where its history stands, what is under way, and who is live.
-use Rattle.std.specs.Prelude.{◌≡◌, ℕ, zero, suc, ◌+◌, ◌<◌, ◌⊎◌, ◌==◌, nat_lt, if◌then◌else◌, nat_eq, List, [], ◌∷◌, ◌++◌, length, map, take, drop}
+use Rattle.std.specs.Prelude.{◌≡◌, ℕ, zero, suc, ◌+◌, ◌<◌, nat_lt, if◌then◌else◌, nat_eq, List, [], ◌∷◌, ◌++◌, length, map, take, drop}
 use Rattle.std.specs.Cmp.Lexicographic.{pointwise}
 use Rattle.frame_ports.specs.declared.limits.TheConstants.{BOX_FRAMES}
-use Rattle.pair_history.specs.Entries.{Entry, Ran, Arrive, Delivered, Refused, DropIn, Land, DropOut, Took}
-use Rattle.pair_history.specs.Entries as entries
+use Rattle.pair_history.specs.Entries.{Entry, Arrive, Delivered, Refused, DropIn, Land, DropOut, Took}
 use Rattle.pair_history.specs.HistoryState.{HistoryState, Waiting, inbox_of, at}
 use Rattle.pair_history.specs.HistoryState as history
 use Rattle.pair_history.specs.Order.{AreGuests}
 use Rattle.pair_history.specs.Failures.{arrived_numbers, all_land, go_live_entries, fail_backup_entries}
-use Rattle.growing_history.specs.Steps.{What, Added, Sealed, RanAlone, Committed, PrimaryFailed, BackupFailed, WentLive, Protected, Step, Begins}
+use Rattle.growing_history.specs.Steps.{What, Added, Sealed, RanAlone, Committed, PrimaryFailed, BackupFailed, WentLive, Protected, Step}
 
 pub data Mode : Type 0 where
   Paired : Mode

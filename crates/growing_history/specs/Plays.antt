@@ -1,8 +1,8 @@
 -- What each atomic step on the word tells the seat that makes it.
-use Rattle.std.specs.Prelude.{◌≡◌, ℕ, ◌+◌, ◌<◌, ◌≤◌, true, false, List, [], ◌∷◌, ◌++◌, length, Option, None, Some}
+use Rattle.std.specs.Prelude.{◌≡◌, ℕ, ◌+◌, ◌<◌, ◌≤◌, false, List, [], ◌∷◌, ◌++◌, length, Some}
 use Rattle.atomic_table.specs.Table as table
 use Rattle.pair_history.specs.HistoryState.{HistoryState}
-use Rattle.growing_history.specs.Steps.{What, Step, step, Begins, steps_by}
+use Rattle.growing_history.specs.Steps.{Step, Begins, steps_by}
 use Rattle.growing_history.specs.LogState.{Legal}
 use Rattle.growing_history.specs.Views.{View, keeper_view}
 

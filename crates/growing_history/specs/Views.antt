@@ -1,5 +1,5 @@
 -- What each seat knows, and the one fact about all of them and the word.
-use Rattle.std.specs.Prelude.{◌≡◌, ℕ, ◌+◌, ◌<◌, ◌≤◌, Bool, true, false, List, [], ◌∷◌, ◌++◌, length, Option, None, Some}
+use Rattle.std.specs.Prelude.{◌≡◌, ℕ, ◌<◌, ◌≤◌, Bool, true, false, List, [], ◌∷◌, length, Option, None, Some}
 use mathlib.Core.Option as plain
 use lib.ListN.{get_elem?}
 use Rattle.atomic_table.specs.Seated.{TableId}

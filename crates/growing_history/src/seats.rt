@@ -235,11 +235,12 @@ impl<P: Pair> KeeperSeat<P> {
         ensures before { Begins member.old.steps self.old.steps }
         ensures own { steps_by member.old.number member.new.steps ≡ steps_by member.old.number member.old.steps ++ step member.old.number (meaning what.now) ∷ [] }
     {
-        let seat = mem::replace(&mut member.seat, Resting::blank());
-        lend(clock, &mut self.seat, seat);
+        let lent = mem::replace(&mut member.seat, Resting::blank());
+        lend(clock, &mut self.seat, lent);
         count::<P, Brand>(clock, &mut self.seat, what);
         self.count += 1;
-        member.seat = take_back(clock, &mut self.seat);
+        let back = take_back(clock, &mut self.seat);
+        member.seat = back;
     }
 
     /// Shows a member the whole log. Nothing is done.

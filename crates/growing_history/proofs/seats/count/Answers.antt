@@ -1,4 +1,4 @@
-use Rattle.std.proofs.Common.{◌≡◌, ◌<◌, ◌++◌, [], ◌∷◌, List, arith, sym, ap, ◌∙◌, subst}
+use Rattle.std.proofs.Common.{◌++◌, [], ◌∷◌, arith, sym, ap, ◌∙◌, subst}
 use Rattle.growing_history.specs.Steps.{Step}
 use Rattle.growing_history.specs.LogState.{Legal}
 use Rattle.growing_history.proofs.Moves.{counts}

@@ -1,4 +1,4 @@
-use Rattle.std.proofs.Common.{◌≡◌, ◌<◌, arith, sym, ◌∙◌}
+use Rattle.std.proofs.Common.{arith, sym, ◌∙◌}
 use Rattle.growing_history.proofs.Moves.{hears}
 use Rattle.growing_history.proofs.seats.hear.Goals as goal
 

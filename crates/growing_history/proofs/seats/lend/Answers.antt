@@ -1,4 +1,4 @@
-use Rattle.std.proofs.Common.{◌≡◌, ◌<◌, arith, sym, ◌∙◌}
+use Rattle.std.proofs.Common.{arith, sym, ◌∙◌}
 use Rattle.growing_history.proofs.Moves.{takes_in}
 use Rattle.growing_history.proofs.seats.lend.Goals as goal
 

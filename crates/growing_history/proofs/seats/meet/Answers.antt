@@ -1,4 +1,4 @@
-use Rattle.std.proofs.Common.{◌≡◌, ◌<◌, arith, sym, ◌∙◌}
+use Rattle.std.proofs.Common.{arith, sym, ◌∙◌}
 use Rattle.growing_history.proofs.Moves.{meets}
 use Rattle.growing_history.proofs.seats.meet.Goals as goal
 

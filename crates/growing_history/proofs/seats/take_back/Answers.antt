@@ -1,4 +1,4 @@
-use Rattle.std.proofs.Common.{◌≡◌, ◌<◌, arith, sym, ◌∙◌}
+use Rattle.std.proofs.Common.{arith, sym, ◌∙◌}
 use Rattle.growing_history.proofs.Moves.{gives_back}
 use Rattle.growing_history.proofs.seats.take_back.Goals as goal
 
