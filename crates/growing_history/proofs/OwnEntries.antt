@@ -66,44 +66,44 @@ owed-none c (suc n) first boxes out =
     none-joined c (drops_of_owed_to first boxes out) (drops_of_owed_from n (first + 1) boxes out) (repeated-none c first (length (list_of boxes first)) (length (out_of first out))) (owed-none c n (first + 1) boxes out)
 
 -- a client's own entry is one of its seat's, and no other is
-own-is : (c by : ℕ) (e : Entry) → 1 ≤ c → IsOwn by e → is_of c e ≡ (by == client_seat c)
-own-is c by Ran p o = absurd o
-own-is c by (Arrive n) p o = absurd o
-own-is c by (Delivered d f n) p o = same c d by o
+own-is : (way : List Entry) (c by : ℕ) (e : Entry) → 1 ≤ c → IsOwn way by e → is_of c e ≡ (by == client_seat c)
+own-is way c by Ran p o = absurd o
+own-is way c by (Arrive n) p o = absurd o
+own-is way c by (Delivered d f n) p o = same c d by o
   where
     same : (c d by : ℕ) → by ≡ d + 3 → (d == c) ≡ (by == c + 3)
     same c d by is = dite (ℕ_discrete d c)
         (λ e. eq-eqb d c e ∙ sym (eq-eqb by (c + 3) (omega (arith, is, e))))
         (λ ne. ne_eqb d c ne ∙ sym (ne_eqb by (c + 3) (λ e. ne (omega (arith, is, e)))))
-own-is c by (Refused d f) p o = same c d by o
+own-is way c by (Refused d f) p o = same c d by o
   where
     same : (c d by : ℕ) → by ≡ d + 3 → (d == c) ≡ (by == c + 3)
     same c d by is = dite (ℕ_discrete d c)
         (λ e. eq-eqb d c e ∙ sym (eq-eqb by (c + 3) (omega (arith, is, e))))
         (λ ne. ne_eqb d c ne ∙ sym (ne_eqb by (c + 3) (λ e. ne (omega (arith, is, e)))))
-own-is c by (Took d answer) p o = same c d by o
+own-is way c by (Took d answer) p o = same c d by o
   where
     same : (c d by : ℕ) → by ≡ d + 3 → (d == c) ≡ (by == c + 3)
     same c d by is = dite (ℕ_discrete d c)
         (λ e. eq-eqb d c e ∙ sym (eq-eqb by (c + 3) (omega (arith, is, e))))
         (λ ne. ne_eqb d c ne ∙ sym (ne_eqb by (c + 3) (λ e. ne (omega (arith, is, e)))))
-own-is c by (DropIn n) p o = sym (ne_eqb by (c + 3) (λ e. omega (arith, o, e, p)))
-own-is c by (Land d) p o = sym (ne_eqb by (c + 3) (λ e. omega (arith, o, e, p)))
-own-is c by (DropOut d place) p o = by_test (nat_lt place BOX_FRAMES) o
+own-is way c by (DropIn n) p o = sym (ne_eqb by (c + 3) (λ e. omega (arith, o.0, e, p)))
+own-is way c by (Land d) p o = sym (ne_eqb by (c + 3) (λ e. omega (arith, o, e, p)))
+own-is way c by (DropOut d place) p o = by_test (nat_lt place BOX_FRAMES) o
   where
     by_test : (t : Bool) → by ≡ cond t 3 0 → false ≡ (by == c + 3)
     by_test true is = sym (ne_eqb by (c + 3) (λ e. omega (arith, is, e, p)))
     by_test false is = sym (ne_eqb by (c + 3) (λ e. omega (arith, is, e, p)))
 
-own-added : (c by : ℕ) (es : List Entry) → 1 ≤ c → AreOwn by es → own_entries c es ≡ cond (by == client_seat c) es []
-own-added c by es p o = by_test (by == client_seat c) refl
+own-added : (way : List Entry) (c by : ℕ) (es : List Entry) → 1 ≤ c → AreOwn way by es → own_entries c es ≡ cond (by == client_seat c) es []
+own-added way c by es p o = by_test (by == client_seat c) refl
   where
-    all : (es : List Entry) → AreOwn by es → (by == client_seat c) ≡ true → own_entries c es ≡ es
+    all : (es : List Entry) → AreOwn way by es → (by == client_seat c) ≡ true → own_entries c es ≡ es
     all [] o is = refl
-    all (e ∷ es) o is = ap (λ t. cond t (e ∷ own_entries c es) (own_entries c es)) (own-is c by e p o.0 ∙ is) ∙ ap (λ l. e ∷ l) (all es o.1 is)
-    none : (es : List Entry) → AreOwn by es → (by == client_seat c) ≡ false → own_entries c es ≡ []
+    all (e ∷ es) o is = ap (λ t. cond t (e ∷ own_entries c es) (own_entries c es)) (own-is way c by e p o.0 ∙ is) ∙ ap (λ l. e ∷ l) (all es o.1 is)
+    none : (es : List Entry) → AreOwn way by es → (by == client_seat c) ≡ false → own_entries c es ≡ []
     none [] o is = refl
-    none (e ∷ es) o is = ap (λ t. cond t (e ∷ own_entries c es) (own_entries c es)) (own-is c by e p o.0 ∙ is) ∙ none es o.1 is
+    none (e ∷ es) o is = ap (λ t. cond t (e ∷ own_entries c es) (own_entries c es)) (own-is way c by e p o.0 ∙ is) ∙ none es o.1 is
     by_test : (t : Bool) → (by == client_seat c) ≡ t → own_entries c es ≡ cond t es []
     by_test true is = all es o is
     by_test false is = none es o is
@@ -153,7 +153,7 @@ off_if false = refl
 -- one step
 added-own : (c : ℕ) (s : LogState) (by : ℕ) (w : What) → 1 ≤ c → MayStep s by w → AreGuests (entries_of s.sealed)
     → own_entries c (added s w) ≡ cond (by == client_seat c) (announced_in w) []
-added-own c s by (Added es) p m g = own-added c by es p m
+added-own c s by (Added es) p m g = own-added (under_way s) c by es p m
 added-own c s by (Sealed x zero epoch text) p m g = none-joined c epoch (all_land (at s.history epoch)) (guests-none c epoch m.4.0) (all_land-none c (at s.history epoch)) ∙ off_if (by == client_seat c)
 added-own c s by (Sealed x (suc n) epoch text) p m g = off_if (by == client_seat c)
 added-own c s by (RanAlone epoch) p m g = none-joined c epoch (all_land (at s.history epoch)) (guests-none c epoch m.2.0) (all_land-none c (at s.history epoch)) ∙ off_if (by == client_seat c)

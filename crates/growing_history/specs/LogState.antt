@@ -5,7 +5,7 @@ use Rattle.frame_ports.specs.declared.limits.TheConstants.{BOX_FRAMES}
 use Rattle.pair_history.specs.Entries.{Entry, Arrive, Delivered, Refused, DropIn, Land, DropOut, Took}
 use Rattle.pair_history.specs.HistoryState.{HistoryState, Waiting, inbox_of, at}
 use Rattle.pair_history.specs.HistoryState as history
-use Rattle.pair_history.specs.Order.{AreGuests}
+use Rattle.pair_history.specs.Order.{AreGuests, NoneTakes}
 use Rattle.pair_history.specs.Failures.{arrived_numbers, all_land, go_live_entries, fail_backup_entries}
 use Rattle.growing_history.specs.Steps.{What, Added, Sealed, RanAlone, Committed, PrimaryFailed, BackupFailed, WentLive, Protected, Step}
 
@@ -145,19 +145,20 @@ after s (WentLive r) = record s {
 }
 after s (Protected b) = record s { mode = Filling; generation = s.generation + 1; next = 0; backup = b }
 
--- whose entry it is: a client's own, a loss of the line's, or the keeper's for what lands or finds a full box
-abbrev pub IsOwn : ℕ → Entry → Type 0
-IsOwn by (Delivered c f n) = by ≡ client_seat c
-IsOwn by (Refused c f) = by ≡ client_seat c
-IsOwn by (Took c answer) = by ≡ client_seat c
-IsOwn by (Land c) = by ≡ 0
-IsOwn by (DropIn n) = by ≡ line_seat
-IsOwn by (DropOut c place) = by ≡ (if nat_lt place BOX_FRAMES then line_seat else 0)
-IsOwn by other = ⊥
+-- whose entry it is: a client's own, a loss of the line's, or the keeper's for what lands or finds a full box; the line loses no frame
+-- that arrives in what is under way
+abbrev pub IsOwn : List Entry → ℕ → Entry → Type 0
+IsOwn way by (Delivered c f n) = by ≡ client_seat c
+IsOwn way by (Refused c f) = by ≡ client_seat c
+IsOwn way by (Took c answer) = by ≡ client_seat c
+IsOwn way by (Land c) = by ≡ 0
+IsOwn way by (DropIn n) = (by ≡ line_seat) × NoneTakes n way
+IsOwn way by (DropOut c place) = by ≡ (if nat_lt place BOX_FRAMES then line_seat else 0)
+IsOwn way by other = ⊥
 
-abbrev pub AreOwn : ℕ → List Entry → Type 0
-AreOwn by [] = Unit {0}
-AreOwn by (e ∷ es) = IsOwn by e × AreOwn by es
+abbrev pub AreOwn : List Entry → ℕ → List Entry → Type 0
+AreOwn way by [] = Unit {0}
+AreOwn way by (e ∷ es) = IsOwn way by e × AreOwn way by es
 
 -- the runner's epoch: arrivals of what was handed out, in that order, and steps
 abbrev pub IsEpoch : LogState → List Entry → Type 0
@@ -167,6 +168,12 @@ abbrev pub HasBackup : Mode → Type 0
 HasBackup Paired = Unit {0}
 HasBackup Filling = Unit {0}
 HasBackup other = ⊥
+
+-- a full checkpoint is that of a filling pair
+abbrev pub MaySeal : ℕ → Mode → Type 0
+MaySeal zero Filling = Unit {0}
+MaySeal zero other = ⊥
+MaySeal (suc n) mode = HasBackup mode
 
 abbrev pub IsAlone : Mode → Type 0
 IsAlone Alone = Unit {0}
@@ -178,8 +185,8 @@ IsFirstSealed n (e ∷ es) = e.number ≡ n
 
 -- who may make a step, and when
 abbrev pub MayStep : LogState → ℕ → What → Type 0
-MayStep s by (Added es) = AreOwn by es
-MayStep s by (Sealed g n epoch text) = (by ≡ s.runner) × HasBackup s.mode × (g ≡ s.generation) × (n ≡ s.next) × IsEpoch s epoch
+MayStep s by (Added es) = AreOwn (under_way s) by es
+MayStep s by (Sealed g n epoch text) = (by ≡ s.runner) × MaySeal n s.mode × (g ≡ s.generation) × (n ≡ s.next) × IsEpoch s epoch
 MayStep s by (RanAlone epoch) = (by ≡ s.runner) × IsAlone s.mode × IsEpoch s epoch
 MayStep s by (Committed g n text) = (by ≡ s.backup) × (IsAlone s.mode → ⊥) × (g ≡ s.generation) × IsFirstSealed n s.sealed
 MayStep s by PrimaryFailed = (by ≡ 0) × (s.mode ≡ Paired)

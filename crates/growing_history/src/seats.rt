@@ -197,7 +197,9 @@ impl<P: Pair> KeeperSeat<P> {
 
     /// How many steps the keeper has made: what the word is.
     pub fn count(&self) -> u64
-        ensures { result ≡ length self.now.steps }
+        ensures count { result ≡ length self.now.steps }
+        // What is true of every keeper's seat.
+        ensures legal { Legal P.start self.now.steps }
     {
         self.count
     }
@@ -271,7 +273,10 @@ impl<P: Pair> KeeperSeat<P> {
 impl<P: Pair> MemberSeat<P> {
     /// The number under which its steps are made.
     pub fn number(&self) -> u64
-        ensures { result ≡ self.now.number }
+        ensures number { result ≡ self.now.number }
+        // What is true of every member's seat.
+        ensures numbered { 0 < self.now.number }
+        ensures legal { Legal P.start self.now.steps }
     {
         self.number
     }
