@@ -6,3 +6,4 @@ pub mod Examples
 pub mod LogLaws
 pub mod OwnEntries
 pub mod CallLaws
+pub mod Missed

@@ -9,7 +9,7 @@ use Rattle.growing_history.specs.Steps.{What, Added, Sealed, RanAlone, Committed
 use Rattle.growing_history.specs.LogState.{LogState, start_of, under_way, added, after, Needs, state_after, LegalFrom, history_from, Legal, state_at, history_of}
 
 -- of histories: the state at one, and a legal one, in two parts
-at-append : (h : HistoryState) (xs ys : List Entry) → at h (xs ++ ys) ≡ at (at h xs) ys
+pub at-append : (h : HistoryState) (xs ys : List Entry) → at h (xs ++ ys) ≡ at (at h xs) ys
 at-append h [] ys = refl
 at-append h (e ∷ xs) ys = at-append (history.after h e) xs ys
 
@@ -17,16 +17,16 @@ legal-joined : (h : HistoryState) (xs ys : List Entry) → history.Legal h xs �
 legal-joined h [] ys a b = b
 legal-joined h (e ∷ xs) ys a b = (a.0, legal-joined (history.after h e) xs ys a.1 b)
 
-legal-first : (h : HistoryState) (xs ys : List Entry) → history.Legal h (xs ++ ys) → history.Legal h xs
+pub legal-first : (h : HistoryState) (xs ys : List Entry) → history.Legal h (xs ++ ys) → history.Legal h xs
 legal-first h [] ys l = tt
 legal-first h (e ∷ xs) ys l = (l.0, legal-first (history.after h e) xs ys l.1)
 
-legal-second : (h : HistoryState) (xs ys : List Entry) → history.Legal h (xs ++ ys) → history.Legal (at h xs) ys
+pub legal-second : (h : HistoryState) (xs ys : List Entry) → history.Legal h (xs ++ ys) → history.Legal (at h xs) ys
 legal-second h [] ys l = l
 legal-second h (e ∷ xs) ys l = legal-second (history.after h e) xs ys l.1
 
 -- of lists of steps, from any state
-state-append : (s : LogState) (xs ys : List Step) → state_after s (xs ++ ys) ≡ state_after (state_after s xs) ys
+pub state-append : (s : LogState) (xs ys : List Step) → state_after s (xs ++ ys) ≡ state_after (state_after s xs) ys
 state-append s [] ys = refl
 state-append s (x ∷ xs) ys = state-append (after s x.what) xs ys
 
@@ -38,7 +38,7 @@ first : (s : LogState) (xs ys : List Step) → LegalFrom s (xs ++ ys) → LegalF
 first s [] ys l = tt
 first s (x ∷ xs) ys l = (l.0, first (after s x.what) xs ys l.1)
 
-second : (s : LogState) (xs ys : List Step) → LegalFrom s (xs ++ ys) → LegalFrom (state_after s xs) ys
+pub second : (s : LogState) (xs ys : List Step) → LegalFrom s (xs ++ ys) → LegalFrom (state_after s xs) ys
 second s [] ys l = l
 second s (x ∷ xs) ys l = second (after s x.what) xs ys l.1
 
@@ -49,7 +49,7 @@ history-append s (x ∷ xs) ys =
         ∙ sym (append_assoc (added s x.what) (history_from (after s x.what) xs) (history_from (state_after (after s x.what) xs) ys))
 
 -- the history's state is that of what was added
-moved : (s : LogState) (w : What) → (after s w).history ≡ at s.history (added s w)
+pub moved : (s : LogState) (w : What) → (after s w).history ≡ at s.history (added s w)
 moved s (Added es) = refl
 moved s (Sealed g zero epoch text) = refl
 moved s (Sealed g (suc n) epoch text) = refl
@@ -60,14 +60,14 @@ moved s BackupFailed = refl
 moved s (WentLive r) = refl
 moved s (Protected b) = refl
 
-stands : (s : LogState) (xs : List Step) → (state_after s xs).history ≡ at s.history (history_from s xs)
+pub stands : (s : LogState) (xs : List Step) → (state_after s xs).history ≡ at s.history (history_from s xs)
 stands s [] = refl
 stands s (x ∷ xs) =
     stands (after s x.what) xs
         ∙ (ap (λ h. at h (history_from (after s x.what) xs)) (moved s x.what) ∙ sym (at-append s.history (added s x.what) (history_from (after s x.what) xs)))
 
 -- a mark stays
-marked : (s : LogState) (w : What) → s.marked ≤ (after s w).marked
+pub marked : (s : LogState) (w : What) → s.marked ≤ (after s w).marked
 marked s (Added es) = le_refl s.marked
 marked s (Sealed g zero epoch text) = le_refl s.marked
 marked s (Sealed g (suc n) epoch text) = le_refl s.marked
@@ -78,12 +78,12 @@ marked s BackupFailed = le_refl s.marked
 marked s (WentLive r) = le_refl s.marked
 marked s (Protected b) = le_refl s.marked
 
-marks-stay : (s : LogState) (xs : List Step) → s.marked ≤ (state_after s xs).marked
+pub marks-stay : (s : LogState) (xs : List Step) → s.marked ≤ (state_after s xs).marked
 marks-stay s [] = le_refl s.marked
 marks-stay s (x ∷ xs) = le_trans (marked s x.what) (marks-stay (after s x.what) xs)
 
 -- who is live has a number that only rises
-numbers : (s : LogState) (by : ℕ) (w : What) → Needs s (record { by = by; what = w }) → (s.runner ≤ (after s w).runner) × (s.backup ≤ (after s w).backup)
+pub numbers : (s : LogState) (by : ℕ) (w : What) → Needs s (record { by = by; what = w }) → (s.runner ≤ (after s w).runner) × (s.backup ≤ (after s w).backup)
 numbers s by (Added es) n = (le_refl s.runner, le_refl s.backup)
 numbers s by (Sealed g zero epoch text) n = (le_refl s.runner, le_refl s.backup)
 numbers s by (Sealed g (suc k) epoch text) n = (le_refl s.runner, le_refl s.backup)
@@ -94,7 +94,7 @@ numbers s by BackupFailed n = (le_refl s.runner, le_refl s.backup)
 numbers s by (WentLive r) n = (omega (arith, n.may.2), le_refl s.backup)
 numbers s by (Protected b) n = (le_refl s.runner, omega (arith, n.may.3))
 
-numbers-rise : (s : LogState) (xs : List Step) → LegalFrom s xs → (s.runner ≤ (state_after s xs).runner) × (s.backup ≤ (state_after s xs).backup)
+pub numbers-rise : (s : LogState) (xs : List Step) → LegalFrom s xs → (s.runner ≤ (state_after s xs).runner) × (s.backup ≤ (state_after s xs).backup)
 numbers-rise s [] l = (le_refl s.runner, le_refl s.backup)
 numbers-rise s (x ∷ xs) l =
     let one = numbers s x.by x.what l.0 in
@@ -102,7 +102,7 @@ numbers-rise s (x ∷ xs) l =
     (le_trans one.0 rest.0, le_trans one.1 rest.1)
 
 -- Unless a commit is marked, what was added, and then what is under way, is a legal history.
-lawful : (s : LogState) (xs : List Step) → LegalFrom s xs → (state_after s xs).marked ≡ 0 → history.Legal s.history (under_way s)
+pub lawful : (s : LogState) (xs : List Step) → LegalFrom s xs → (state_after s xs).marked ≡ 0 → history.Legal s.history (under_way s)
     → history.Legal s.history (history_from s xs ++ under_way (state_after s xs))
 lawful s [] l none now = now
 lawful s (x ∷ xs) l none now =

@@ -133,7 +133,7 @@ rest-guests : (es : List Epoch) → AreGuests (entries_of es) → AreGuests (ent
 rest-guests [] g = tt
 rest-guests (e ∷ es) g = guests-second e.entries (entries_of es) g
 
-sealed-guests : (s : LogState) (by : ℕ) (w : What) → MayStep s by w → AreGuests (entries_of s.sealed) → AreGuests (entries_of (after s w).sealed)
+pub sealed-guests : (s : LogState) (by : ℕ) (w : What) → MayStep s by w → AreGuests (entries_of s.sealed) → AreGuests (entries_of (after s w).sealed)
 sealed-guests s by (Added es) m g = g
 sealed-guests s by (Sealed x zero epoch text) m g = tt
 sealed-guests s by (Sealed x (suc n) epoch text) m g =

@@ -1,5 +1,5 @@
 -- What the keeper's list of steps says of the pair: where its history stands, what is under way, and who is live.
-use Rattle.std.specs.Prelude.{◌≡◌, ℕ, zero, suc, ◌+◌, ◌<◌, nat_lt, if◌then◌else◌, nat_eq, List, [], ◌∷◌, ◌++◌, length, map, take, drop}
+use Rattle.std.specs.Prelude.{◌≡◌, ℕ, zero, suc, ◌+◌, ◌<◌, nat_lt, Bool, true, false, if◌then◌else◌, nat_eq, List, [], ◌∷◌, ◌++◌, length, map, take, drop}
 use Rattle.std.specs.Cmp.Lexicographic.{pointwise}
 use Rattle.frame_ports.specs.declared.limits.TheConstants.{BOX_FRAMES}
 use Rattle.pair_history.specs.Entries.{Entry, Arrive, Delivered, Refused, DropIn, Land, DropOut, Took}
@@ -72,6 +72,10 @@ entries_of (e ∷ es) = e.entries ++ entries_of es
 -- what is under way: the sealed epochs, and then the arrivals of what was handed out
 abbrev pub under_way : LogState → List Entry
 under_way s = entries_of s.sealed ++ map Arrive s.handed
+
+-- the history's state once what is sealed is committed: where the runner last settled
+abbrev pub sealed_state : LogState → HistoryState
+sealed_state s = at s.history (entries_of s.sealed)
 
 -- an epoch that isn't sealed: its entries, and then what is on its way lands
 abbrev pub and_all_land : HistoryState → List Entry → List Entry
@@ -174,6 +178,10 @@ abbrev pub MaySeal : ℕ → Mode → Type 0
 MaySeal zero Filling = Unit {0}
 MaySeal zero other = ⊥
 MaySeal (suc n) mode = HasBackup mode
+
+abbrev pub is_filling : Mode → Bool
+is_filling Filling = true
+is_filling other = false
 
 abbrev pub IsAlone : Mode → Type 0
 IsAlone Alone = Unit {0}

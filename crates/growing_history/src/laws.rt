@@ -1,12 +1,14 @@
 //! What a legal list of steps says of the history.
-ghost use Rattle.std.specs.Prelude.{◌≡◌, ℕ, ◌≤◌, List, [], ◌∷◌, ◌++◌};
+ghost use Rattle.std.specs.Prelude.{◌≡◌, ℕ, ◌≤◌, false, List, [], ◌∷◌, ◌++◌};
 ghost use Rattle.pair_history.specs.Entries as entries;
 ghost use Rattle.pair_history.specs.Entries.{Entry};
 ghost use Rattle.pair_history.specs.HistoryState.{HistoryState, at};
 ghost use Rattle.pair_history.specs.HistoryState as history;
 ghost use Rattle.growing_history.specs.Steps.{Added, Step, step, Begins, steps_by};
-ghost use Rattle.growing_history.specs.LogState.{start_of, under_way, added, after, Needs, Legal, state_at, history_of, client_seat};
+ghost use Rattle.growing_history.specs.LogState.{start_of, under_way, added, after, Needs, Legal, state_at, history_of, client_seat, sealed_state, IsAlone, is_filling};
 ghost use Rattle.growing_history.specs.Entries.{own_entries, announced, IsCall};
+
+use pair_history::client_entries_go_first;
 
 /// A list of steps goes on by what the next step needs and does, and the history with it. A beginning of a legal list is legal, and
 /// its history begins that of the whole.
@@ -53,3 +55,19 @@ pub fn a_call_is_a_point_of_one_history()
         → steps_by (client_seat c) now ≡ steps_by (client_seat c) old
         → own_entries c (history_of h now) ≡ own_entries c (history_of h old) }
 {}
+
+/// What a member that is live has missed since it last looked, where it made no step. A runner's sealed state has the guest that it
+/// had, unless a commit is marked, and what was handed out to it is still that. A backup whose pair isn't alone now wasn't alone then;
+/// it is filled now where it was filled then, and then the history has the guest that it had.
+pub fn live_members_miss_nothing()
+    ensures runner { (h : HistoryState) (old now : List Step) (n : ℕ) → Begins old now → Legal h now → steps_by n now ≡ steps_by n old
+        → (state_at h old).runner ≡ n → (state_at h now).runner ≡ n → (state_at h now).marked ≡ 0
+        → ((sealed_state (state_at h now)).guest ≡ (sealed_state (state_at h old)).guest) × ((state_at h now).handed ≡ (state_at h old).handed) }
+    ensures backup { (h : HistoryState) (old now : List Step) (n : ℕ) → Begins old now → Legal h now → steps_by n now ≡ steps_by n old
+        → (state_at h old).backup ≡ n → (state_at h now).backup ≡ n → (IsAlone (state_at h now).mode → ⊥)
+        → (IsAlone (state_at h old).mode → ⊥)
+            × (is_filling (state_at h now).mode ≡ is_filling (state_at h old).mode)
+            × (is_filling (state_at h old).mode ≡ false → (state_at h now).history.guest ≡ (state_at h old).history.guest) }
+{
+    client_entries_go_first();
+}
