@@ -24,9 +24,9 @@ call-is h c old log es p b l own =
       seen = (more.0, history-snoc h log x ∙ ap (λ xs. xs ++ es) more.1);
       mine = history-own h (log ++ x ∷ []) c p l
           ∙ (ap announced own
-              ∙ (announced-append (steps_by (client_seat c) old) (x ∷ [])
-                  ∙ (ap (λ xs. announced (steps_by (client_seat c) old) ++ xs) (append-nil es)
-                      ∙ ap (λ xs. xs ++ es) (sym (history-own h old c p before)))));
+          ∙ (announced-append (steps_by (client_seat c) old) (x ∷ [])
+          ∙ (ap (λ xs. announced (steps_by (client_seat c) old) ++ xs) (append-nil es)
+          ∙ ap (λ xs. xs ++ es) (sym (history-own h old c p before)))));
     }
 
 pub own-stays : (h : HistoryState) (c : ℕ) (old now : List Step) → 1 ≤ c → Begins old now → Legal h now → steps_by (client_seat c) now ≡ steps_by (client_seat c) old

@@ -21,10 +21,10 @@ pub first-legal : (start : HistoryState) (steps : List Step) (n : ℕ) → start
     → Legal start (steps ++ step n (Added (entries.Took 1 None ∷ [])) ∷ [])
 first-legal start steps n is none first =
     subst (λ (x : HistoryState × List Step × ℕ). Legal x.0 (x.1 ++ step x.2 (Added (entries.Took 1 None ∷ [])) ∷ []))
-        (λ i. (sym is i, sym none i, sym first i)) one-legal
+    (λ i. (sym is i, sym none i, sym first i)) one-legal
 
 pub second-legal : (start : HistoryState) (steps : List Step) (n : ℕ) → start ≡ two_clients → steps ≡ found_empty 1 ∷ [] → n ≡ 5
     → Legal start (steps ++ step n (Added (entries.Took 2 None ∷ [])) ∷ [])
 second-legal start steps n is one second =
     subst (λ (x : HistoryState × List Step × ℕ). Legal x.0 (x.1 ++ step x.2 (Added (entries.Took 2 None ∷ [])) ∷ []))
-        (λ i. (sym is i, sym one i, sym second i)) two-legal
+    (λ i. (sym is i, sym one i, sym second i)) two-legal

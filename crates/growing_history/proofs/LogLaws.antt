@@ -46,7 +46,7 @@ history-append : (s : LogState) (xs ys : List Step) → history_from s (xs ++ ys
 history-append s [] ys = refl
 history-append s (x ∷ xs) ys =
     ap (λ l. added s x.what ++ l) (history-append (after s x.what) xs ys)
-        ∙ sym (append_assoc (added s x.what) (history_from (after s x.what) xs) (history_from (state_after (after s x.what) xs) ys))
+    ∙ sym (append_assoc (added s x.what) (history_from (after s x.what) xs) (history_from (state_after (after s x.what) xs) ys))
 
 -- the history's state is that of what was added
 pub moved : (s : LogState) (w : What) → (after s w).history ≡ at s.history (added s w)
@@ -64,7 +64,7 @@ pub stands : (s : LogState) (xs : List Step) → (state_after s xs).history ≡ 
 stands s [] = refl
 stands s (x ∷ xs) =
     stands (after s x.what) xs
-        ∙ (ap (λ h. at h (history_from (after s x.what) xs)) (moved s x.what) ∙ sym (at-append s.history (added s x.what) (history_from (after s x.what) xs)))
+    ∙ (ap (λ h. at h (history_from (after s x.what) xs)) (moved s x.what) ∙ sym (at-append s.history (added s x.what) (history_from (after s x.what) xs)))
 
 -- a mark stays
 pub marked : (s : LogState) (w : What) → s.marked ≤ (after s w).marked
@@ -112,7 +112,7 @@ lawful s (x ∷ xs) l none now =
     let there : history.Legal s'.history (under_way s') = subst (λ h. history.Legal h (under_way s')) (sym (moved s x.what)) (legal-second s.history (added s x.what) (under_way s') here) in
     let rest = subst (λ h. history.Legal h (history_from s' xs ++ under_way (state_after s' xs))) (moved s x.what) (lawful s' xs l.1 none there) in
     subst (history.Legal s.history) (sym (append_assoc (added s x.what) (history_from s' xs) (under_way (state_after s' xs))))
-        (legal-joined s.history (added s x.what) (history_from s' xs ++ under_way (state_after s' xs)) (legal-first s.history (added s x.what) (under_way s') here) rest)
+    (legal-joined s.history (added s x.what) (history_from s' xs ++ under_way (state_after s' xs)) (legal-first s.history (added s x.what) (under_way s') here) rest)
 
 -- What the laws say of lists from the start.
 pub goes-on : (h : HistoryState) (xs : List Step) (x : Step) → Legal h xs → Needs (state_at h xs) x → Legal h (xs ++ x ∷ [])

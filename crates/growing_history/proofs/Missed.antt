@@ -74,7 +74,7 @@ far-guest go sealed more by [] h g o l k = refl
 far-guest go sealed more by (e ∷ es) h g o l k =
     let moves = go h sealed e g k (ready sealed more by e h g o.0 l.0) in
     far-guest go sealed more by es (history.after h e) g o.1 l.1 moves.0
-        ∙ (ap (λ (x : HistoryState). x.guest) moves.1 ∙ entry-guest (sealed ++ more) by e (at h sealed) o.0)
+    ∙ (ap (λ (x : HistoryState). x.guest) moves.1 ∙ entry-guest (sealed ++ more) by e (at h sealed) o.0)
 
 -- a commit moves the first sealed epoch to the history
 committed-state : (h : HistoryState) (es : List Epoch) → at (at h (entries_of (take 1 es))) (entries_of (drop 1 es)) ≡ at h (entries_of es)
@@ -166,7 +166,7 @@ backup-step s by (Protected b) n needs other is now paired = absurd (omega (arit
 backup-steps : (s : LogState) (xs : List Step) (n : ℕ) → LegalFrom s xs → steps_by n xs ≡ [] → s.backup ≡ n → (state_after s xs).backup ≡ n
     → (IsAlone (state_after s xs).mode → ⊥)
     → (IsAlone s.mode → ⊥) × (is_filling (state_after s xs).mode ≡ is_filling s.mode)
-        × (is_filling s.mode ≡ false → (state_after s xs).history.guest ≡ s.history.guest)
+    × (is_filling s.mode ≡ false → (state_after s xs).history.guest ≡ s.history.guest)
 backup-steps s [] n l others is now paired = (paired, refl, λ f. refl)
 backup-steps s (x ∷ xs) n l others is now paired =
     let t = after s x.what in
@@ -200,17 +200,17 @@ module _ (h : HistoryState) (old now : List Step) (n : ℕ) (b : Begins old now)
       let none' : (state_after s b.0).marked ≡ 0 = subst (λ (t : LogState). t.marked ≡ 0) same none in
       let unmarked : s.marked ≡ 0 = omega (arith, marks-stay s b.0, none') in
       let way : history.Legal s.history (under_way s) = subst (λ g. history.Legal g (under_way s)) (sym (stands (start_of h) old))
-          (legal-second h _ (under_way s) (lawful (start_of h) old before unmarked tt)) in
+      (legal-second h _ (under_way s) (lawful (start_of h) old before unmarked tt)) in
       subst (λ (t : LogState). ((sealed_state t).guest ≡ (sealed_state s).guest) × (t.handed ≡ s.handed)) (sym same)
-          (runner-steps go s b.0 n (second (start_of h) old b.0 whole) (guests-after (start_of h) old before tt) way none' between was
-              (subst (λ (t : LogState). t.runner ≡ n) same is))
+      (runner-steps go s b.0 n (second (start_of h) old b.0 whole) (guests-after (start_of h) old before tt) way none' between was
+      (subst (λ (t : LogState). t.runner ≡ n) same is))
 
   pub backup-misses-nothing : (state_at h old).backup ≡ n → (state_at h now).backup ≡ n → (IsAlone (state_at h now).mode → ⊥)
       → (IsAlone (state_at h old).mode → ⊥) × (is_filling (state_at h now).mode ≡ is_filling (state_at h old).mode)
-          × (is_filling (state_at h old).mode ≡ false → (state_at h now).history.guest ≡ (state_at h old).history.guest)
+      × (is_filling (state_at h old).mode ≡ false → (state_at h now).history.guest ≡ (state_at h old).history.guest)
   unfolding state_at
   backup-misses-nothing was is paired =
       let s = state_after (start_of h) old in
       subst (λ (t : LogState). (IsAlone s.mode → ⊥) × (is_filling t.mode ≡ is_filling s.mode) × (is_filling s.mode ≡ false → t.history.guest ≡ s.history.guest)) (sym same)
-          (backup-steps s b.0 n (second (start_of h) old b.0 whole) between was (subst (λ (t : LogState). t.backup ≡ n) same is)
-              (subst (λ (t : LogState). IsAlone t.mode → ⊥) same paired))
+      (backup-steps s b.0 n (second (start_of h) old b.0 whole) between was (subst (λ (t : LogState). t.backup ≡ n) same is)
+      (subst (λ (t : LogState). IsAlone t.mode → ⊥) same paired))

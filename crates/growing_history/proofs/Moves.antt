@@ -97,6 +97,7 @@ begins = record {
       keeps = λ k. (refl, refl, refl, refl);
       mine = λ p. absurd (omega (arith, p));
     }
+
     one : (place : ℕ) (v : View) → get_elem? (unopened ∷ []) place ≡ some v → Fits None [] 0 0 (λ n. 0) place v
     one zero v e = subst (Fits None [] 0 0 (λ n. 0) 0) (some-injective _ _ e) here
     one (suc place) v e = absurd (some-ne-none v (sym e))
@@ -125,9 +126,9 @@ module _ {S : Type 0} where
       let F : ℕ → View → Type 0 = Fits h.start h.log h.keeper (h.enrolled + 1) owns in
       let same : (m : ℕ) → m ≤ h.enrolled → owns m ≡ h.owner m = λ m le. owned_else h.owner n (length left) m (λ e. omega (arith, e, k.3, le)) in
       let other : (j : ℕ) (u : View) → j ≢ id → get_elem? s.views j ≡ some u → F j u = λ j u apart e.
-          let g = h.fits j u e in
-          still_fits h.start h.log h.log h.keeper h.enrolled (h.enrolled + 1) h.owner owns j u g
-              (λ q. absurd (apart ((g.keeps q).0 ∙ sym k.0))) (begins-self h.log) (omega arith) (λ p. same u.number (g.mine p).1) (λ p. refl) in
+      let g = h.fits j u e in
+      still_fits h.start h.log h.log h.keeper h.enrolled (h.enrolled + 1) h.owner owns j u g
+      (λ q. absurd (apart ((g.keeps q).0 ∙ sym k.0))) (begins-self h.log) (omega arith) (λ p. same u.number (g.mine p).1) (λ p. refl) in
       let mine : F id (one_more v) = record {
         steps = f.steps;
         told = f.told;
@@ -165,11 +166,11 @@ module _ {S : Type 0} where
       let owns = now_owned h.owner w.number id in
       let F : ℕ → View → Type 0 = Fits h.start h.log h.keeper h.enrolled owns in
       let rest : (j : ℕ) (u : View) → j ≢ other → j ≢ id → get_elem? s.views j ≡ some u → F j u = λ j u no yes e.
-          let o = h.fits j u e in
-          still_fits h.start h.log h.log h.keeper h.enrolled h.enrolled h.owner owns j u o
-              (λ q. (refl, refl)) (begins-self h.log) (omega arith)
-              (λ p. owned_else h.owner w.number id u.number (λ (same : u.number ≡ w.number). no (sym (o.mine p).0 ∙ (ap h.owner same ∙ (g.mine (subst (λ m. 0 < m) same p)).0))))
-              (λ p. refl) in
+      let o = h.fits j u e in
+      still_fits h.start h.log h.log h.keeper h.enrolled h.enrolled h.owner owns j u o
+      (λ q. (refl, refl)) (begins-self h.log) (omega arith)
+      (λ p. owned_else h.owner w.number id u.number (λ (same : u.number ≡ w.number). no (sym (o.mine p).0 ∙ (ap h.owner same ∙ (g.mine (subst (λ m. 0 < m) same p)).0))))
+      (λ p. refl) in
       let mine : F id both = record {
         steps = f.steps;
         told = g.steps;
@@ -192,9 +193,9 @@ module _ {S : Type 0} where
         owner = owns;
         fits = fits_set F (set s.views id both) other nobody
             (λ j u no e. ⊎_elim
-                (λ (x : (j ≡ id) × (both ≡ u)). subst (λ (y : ℕ × View). F y.0 y.1) (λ i. (sym x.0 i, x.1 i)) mine)
-                (λ (x : (j ≢ id) × (get_elem? s.views j ≡ some u)). rest j u no x.0 x.1)
-                (at_set s.views id j both u e))
+            (λ (x : (j ≡ id) × (both ≡ u)). subst (λ (y : ℕ × View). F y.0 y.1) (λ i. (sym x.0 i, x.1 i)) mine)
+            (λ (x : (j ≢ id) × (get_elem? s.views j ≡ some u)). rest j u no x.0 x.1)
+            (at_set s.views id j both u e))
             none;
         word = h.word;
         legal = h.legal;
@@ -210,11 +211,11 @@ module _ {S : Type 0} where
       let owns = now_owned h.owner v.number (length left) in
       let F : ℕ → View → Type 0 = Fits h.start h.log h.keeper h.enrolled owns in
       let other : (j : ℕ) (u : View) → j ≢ id → get_elem? s.views j ≡ some u → F j u = λ j u apart e.
-          let o = h.fits j u e in
-          still_fits h.start h.log h.log h.keeper h.enrolled h.enrolled h.owner owns j u o
-              (λ q. (refl, refl)) (begins-self h.log) (omega arith)
-              (λ p. owned_else h.owner v.number (length left) u.number (λ (same : u.number ≡ v.number). apart (sym (o.mine p).0 ∙ (ap h.owner same ∙ (f.mine (subst (λ m. 0 < m) same p)).0))))
-              (λ p. refl) in
+      let o = h.fits j u e in
+      still_fits h.start h.log h.log h.keeper h.enrolled h.enrolled h.owner owns j u o
+      (λ q. (refl, refl)) (begins-self h.log) (omega arith)
+      (λ p. owned_else h.owner v.number (length left) u.number (λ (same : u.number ≡ v.number). apart (sym (o.mine p).0 ∙ (ap h.owner same ∙ (f.mine (subst (λ m. 0 < m) same p)).0))))
+      (λ p. refl) in
       let mine : F id (without_member v) = record {
         steps = f.steps;
         told = begins-nil h.log;
@@ -309,14 +310,14 @@ module _ {S : Type 0} where
       let w = keeper_view start 0 [] [] in
       let F : ℕ → View → Type 0 = Fits (Some start) h.log h.keeper h.enrolled h.owner in
       let other : (j : ℕ) (u : View) → j ≢ id → get_elem? s.views j ≡ some u → F j u = λ j u apart e.
-          let o = h.fits j u e in
-          record {
-            steps = o.steps;
-            told = o.told;
-            starts = λ x q. absurd (none≢some x (sym none ∙ o.starts x q));
-            keeps = λ q. absurd (apart ((o.keeps q).0 ∙ sym k.0));
-            mine = o.mine;
-          } in
+      let o = h.fits j u e in
+      record {
+        steps = o.steps;
+        told = o.told;
+        starts = λ x q. absurd (none≢some x (sym none ∙ o.starts x q));
+        keeps = λ q. absurd (apart ((o.keeps q).0 ∙ sym k.0));
+        mine = o.mine;
+      } in
       let mine : F id w = record {
         steps = f.steps;
         told = f.told;
@@ -404,12 +405,12 @@ module _ {S : Type 0} where
       let same : length v.steps ≡ length h.log = ap length k.2 in
       let F : ℕ → View → Type 0 = Fits h.start log h.keeper h.enrolled h.owner in
       let other : (j : ℕ) (u : View) → j ≢ id → get_elem? s.views j ≡ some u → F j u = λ j u apart e.
-          let o = h.fits j u e in
-          still_fits h.start h.log log h.keeper h.enrolled h.enrolled h.owner h.owner j u o
-              (λ q. absurd (apart ((o.keeps q).0 ∙ sym k.0))) (begins-more h.log h.log (x ∷ []) (begins-self h.log)) (omega arith) (λ p. refl)
-              (λ p. steps_by-other u.number h.log x
-                  (λ (e' : x.by ≡ u.number). let n : v.number ≡ u.number = sym by ∙ e' in
-                      apart (sym (o.mine p).0 ∙ (ap h.owner (sym n) ∙ (f.mine (subst (λ m. 0 < m) (sym n) p)).0)))) in
+      let o = h.fits j u e in
+      still_fits h.start h.log log h.keeper h.enrolled h.enrolled h.owner h.owner j u o
+      (λ q. absurd (apart ((o.keeps q).0 ∙ sym k.0))) (begins-more h.log h.log (x ∷ []) (begins-self h.log)) (omega arith) (λ p. refl)
+      (λ p. steps_by-other u.number h.log x
+      (λ (e' : x.by ≡ u.number). let n : v.number ≡ u.number = sym by ∙ e' in
+      apart (sym (o.mine p).0 ∙ (ap h.owner (sym n) ∙ (f.mine (subst (λ m. 0 < m) (sym n) p)).0)))) in
       let mine : F id w = record {
         steps = ([], ap (λ l. l ++ x ∷ []) (sym k.2) ∙ sym (Rattle.std.proofs.lemmas.List.append-nil (v.steps ++ x ∷ [])));
         told = begins-more v.told h.log (x ∷ []) f.told;
@@ -418,7 +419,7 @@ module _ {S : Type 0} where
         mine = λ p. let was = f.mine p in (was.0, was.1, ap (λ l. l ++ x ∷ []) was.2 ∙ sym (steps_by-own v.number h.log x by));
       } in
       let risen : (slice_index s.words 0 + 1) % 2 ^ 64 ≡ length log =
-          let at_word : slice_index s.words 0 ≡ length h.log = word_is s.words (length h.log) h.word in omega arith in
+      let at_word : slice_index s.words 0 ≡ length h.log = word_is s.words (length h.log) h.word in omega arith in
       let after : Kept (set s.words 0 ((slice_index s.words 0 + 1) % 2 ^ 64)) (set s.views id w) = record {
         log = log;
         start = h.start;

@@ -101,9 +101,11 @@ own-added way c by es p o = by_test (by == client_seat c) refl
     all : (es : List Entry) → AreOwn way by es → (by == client_seat c) ≡ true → own_entries c es ≡ es
     all [] o is = refl
     all (e ∷ es) o is = ap (λ t. cond t (e ∷ own_entries c es) (own_entries c es)) (own-is way c by e p o.0 ∙ is) ∙ ap (λ l. e ∷ l) (all es o.1 is)
+
     none : (es : List Entry) → AreOwn way by es → (by == client_seat c) ≡ false → own_entries c es ≡ []
     none [] o is = refl
     none (e ∷ es) o is = ap (λ t. cond t (e ∷ own_entries c es) (own_entries c es)) (own-is way c by e p o.0 ∙ is) ∙ none es o.1 is
+
     by_test : (t : Bool) → (by == client_seat c) ≡ t → own_entries c es ≡ cond t es []
     by_test true is = all es o is
     by_test false is = none es o is
@@ -171,9 +173,9 @@ all-own : (c : ℕ) (s : LogState) (xs : List Step) → 1 ≤ c → LegalFrom s 
 all-own c s [] p l g = refl
 all-own c s (x ∷ xs) p l g =
     own-append c (added s x.what) (history_from (after s x.what) xs)
-        ∙ (ap (λ es. es ++ own_entries c (history_from (after s x.what) xs)) (added-own c s x.by x.what p l.0.may g)
-            ∙ (ap (λ es. cond (x.by == client_seat c) (announced_in x.what) [] ++ es) (all-own c (after s x.what) xs p l.1 (sealed-guests s x.by x.what l.0.may g))
-                ∙ by_test (x.by == client_seat c)))
+    ∙ (ap (λ es. es ++ own_entries c (history_from (after s x.what) xs)) (added-own c s x.by x.what p l.0.may g)
+    ∙ (ap (λ es. cond (x.by == client_seat c) (announced_in x.what) [] ++ es) (all-own c (after s x.what) xs p l.1 (sealed-guests s x.by x.what l.0.may g))
+    ∙ by_test (x.by == client_seat c)))
   where
     by_test : (t : Bool) → cond t (announced_in x.what) [] ++ announced (steps_by (client_seat c) xs)
         ≡ announced (cond t (x ∷ steps_by (client_seat c) xs) (steps_by (client_seat c) xs))

@@ -66,8 +66,8 @@ pub fn live_members_miss_nothing()
     ensures backup { (h : HistoryState) (old now : List Step) (n : ℕ) → Begins old now → Legal h now → steps_by n now ≡ steps_by n old
         → (state_at h old).backup ≡ n → (state_at h now).backup ≡ n → (IsAlone (state_at h now).mode → ⊥)
         → (IsAlone (state_at h old).mode → ⊥)
-            × (is_filling (state_at h now).mode ≡ is_filling (state_at h old).mode)
-            × (is_filling (state_at h old).mode ≡ false → (state_at h now).history.guest ≡ (state_at h old).history.guest) }
+        × (is_filling (state_at h now).mode ≡ is_filling (state_at h old).mode)
+        × (is_filling (state_at h old).mode ≡ false → (state_at h now).history.guest ≡ (state_at h old).history.guest) }
 {
     client_entries_go_first();
 }

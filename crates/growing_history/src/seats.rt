@@ -7,7 +7,9 @@ ghost use Rattle.growing_history.specs.Plays.{Meets, Looks, badge_of, heard, one
 ghost use Rattle.growing_history.specs.Calls.{meaning};
 
 use crate::boot::Clock;
-use crate::known::{Announced, Counting, Enrolling, Known, Lending, Looking, Meeting, Opening, Pair, Telling};
+use crate::known::{
+    Announced, Counting, Enrolling, Known, Lending, Looking, Meeting, Opening, Pair, Telling,
+};
 use crate::what::What;
 use atomic_table::{Badge as Resting, Seat};
 use std::marker::{Brand, Model, PhantomData};

@@ -52,11 +52,7 @@ fn enrolled<P: Pair>(clock: &Clock<P>, mut keeper: KeeperSeat<P>) -> Members<P>
 }
 
 /// The first client finds its box empty.
-fn call_first<P: Pair>(
-    clock: &Clock<P>,
-    keeper: &mut KeeperSeat<P>,
-    first: &mut ClientSeat<P>,
-)
+fn call_first<P: Pair>(clock: &Clock<P>, keeper: &mut KeeperSeat<P>, first: &mut ClientSeat<P>)
     requires start { P.start ≡ two_clients }
     requires keeper { keeper.old.steps ≡ [] }
     requires first { first.old.number ≡ 4 }
@@ -67,11 +63,7 @@ fn call_first<P: Pair>(
 }
 
 /// Then the second one does.
-fn call_second<P: Pair>(
-    clock: &Clock<P>,
-    keeper: &mut KeeperSeat<P>,
-    second: &mut ClientSeat<P>,
-)
+fn call_second<P: Pair>(clock: &Clock<P>, keeper: &mut KeeperSeat<P>, second: &mut ClientSeat<P>)
     requires start { P.start ≡ two_clients }
     requires keeper { keeper.old.steps ≡ found_empty 1 ∷ [] }
     requires second { second.old.number ≡ 5 }
@@ -94,7 +86,10 @@ fn in_one_thread<P: Pair, R: Abort>(rt: &R, opened: Opened) -> Result<(), Fail>
         mut second,
     } = enrolled(&clock, keeper);
     assert_eq!(rt; (keeper.count(), keeper.enrolled()), (0, 5));
-    assert_eq!(rt; (runner.number(), backup.number(), line.number()), (1, 2, 3));
+    assert_eq!(rt;
+        (runner.number(), backup.number(), line.number()),
+        (1, 2, 3)
+    );
     assert_eq!(rt; (first.number(), second.number()), (4, 5));
     call_first(&clock, &mut keeper, &mut first);
     assert_eq!(rt; first.look(&clock), 1);

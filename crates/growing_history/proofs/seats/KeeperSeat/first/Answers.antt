@@ -12,7 +12,7 @@ load-requires g c =
     let t = c.args.clock.now in
     let start = g.P.Pair.start in
     let Fine : View × List (ℕ × Unit {0}) → Type 0 = λ m.
-        Allows Rule t.table.shared.table_id.slots c.args.seat.id m 0 (λ n. n) (λ n w. Opens start m.0 n w.0 × (w.1 ≡ m.1)) in
+    Allows Rule t.table.shared.table_id.slots c.args.seat.id m 0 (λ n. n) (λ n w. Opens start m.0 n w.0 × (w.1 ≡ m.1)) in
     (r.word ∙ sym t.named, omega (arith, t.one_word), subst Fine (sym r.seat) (opens _ _ start [] (legal-nil start)))
 
 pub invariant_of-result : goal.invariant_of-result
