@@ -7,3 +7,4 @@ pub mod LogLaws
 pub mod OwnEntries
 pub mod CallLaws
 pub mod Missed
+pub mod TextLaws

@@ -30,11 +30,11 @@ pub state-append : (s : LogState) (xs ys : List Step) → state_after s (xs ++ y
 state-append s [] ys = refl
 state-append s (x ∷ xs) ys = state-append (after s x.what) xs ys
 
-joined : (s : LogState) (xs ys : List Step) → LegalFrom s xs → LegalFrom (state_after s xs) ys → LegalFrom s (xs ++ ys)
+pub joined : (s : LogState) (xs ys : List Step) → LegalFrom s xs → LegalFrom (state_after s xs) ys → LegalFrom s (xs ++ ys)
 joined s [] ys a b = b
 joined s (x ∷ xs) ys a b = (a.0, joined (after s x.what) xs ys a.1 b)
 
-first : (s : LogState) (xs ys : List Step) → LegalFrom s (xs ++ ys) → LegalFrom s xs
+pub first : (s : LogState) (xs ys : List Step) → LegalFrom s (xs ++ ys) → LegalFrom s xs
 first s [] ys l = tt
 first s (x ∷ xs) ys l = (l.0, first (after s x.what) xs ys l.1)
 

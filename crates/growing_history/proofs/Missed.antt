@@ -17,7 +17,7 @@ use Rattle.growing_history.proofs.LogLaws.{at-append, legal-first, legal-second,
 use Rattle.growing_history.proofs.OwnEntries.{sealed-guests}
 
 -- that what is ready can go before what the guest does
-abbrev GoesFirst : Type 0
+abbrev pub GoesFirst : Type 0
 GoesFirst = (s : HistoryState) (es : List Entry) (e : Entry) → AreGuests es → history.Legal s es → IsReady s es e
     → history.Legal (history.after s e) es × (at (history.after s e) es ≡ history.after (at s es) e)
 
@@ -68,7 +68,7 @@ ready sealed more by (DropOut c place) h g o a = a.1
 ready sealed more by (Took c answer) h g o a = tt
 
 -- entries of the clients' lines leave the guest of what is sealed
-far-guest : GoesFirst → (sealed more : List Entry) (by : ℕ) (es : List Entry) (h : HistoryState) → AreGuests sealed → AreOwn (sealed ++ more) by es
+pub far-guest : GoesFirst → (sealed more : List Entry) (by : ℕ) (es : List Entry) (h : HistoryState) → AreGuests sealed → AreOwn (sealed ++ more) by es
     → history.Legal h es → history.Legal h sealed → (at (at h es) sealed).guest ≡ (at h sealed).guest
 far-guest go sealed more by [] h g o l k = refl
 far-guest go sealed more by (e ∷ es) h g o l k =
@@ -121,7 +121,7 @@ none-between n xs more e =
     empty (x ∷ l) z = absurd (omega (arith, z))
 
 -- what is under way after a step is legal where it stood
-way-after : (s : LogState) (x : Step) → Needs s x → s.marked ≡ 0 → history.Legal (after s x.what).history (under_way (after s x.what))
+pub way-after : (s : LogState) (x : Step) → Needs s x → s.marked ≡ 0 → history.Legal (after s x.what).history (under_way (after s x.what))
 way-after s x needs none = subst (λ h. history.Legal h (under_way (after s x.what))) (sym (moved s x.what))
     (legal-second s.history (added s x.what) (under_way (after s x.what)) (needs.lawful none))
 
@@ -138,7 +138,7 @@ runner-steps go s (x ∷ xs) n l g way none others is now =
     let rest = runner-steps go t xs n l.1 (sealed-guests s x.by x.what l.0.may g) (way-after s x l.0 unmarked) none apart.1 there now in
     (rest.0 ∙ one.0, rest.1 ∙ one.1)
 
-guests-after : (s : LogState) (xs : List Step) → LegalFrom s xs → AreGuests (entries_of s.sealed) → AreGuests (entries_of (state_after s xs).sealed)
+pub guests-after : (s : LogState) (xs : List Step) → LegalFrom s xs → AreGuests (entries_of s.sealed) → AreGuests (entries_of (state_after s xs).sealed)
 guests-after s [] l g = g
 guests-after s (x ∷ xs) l g = guests-after (after s x.what) xs l.1 (sealed-guests s x.by x.what l.0.may g)
 

@@ -111,7 +111,7 @@ own-added way c by es p o = by_test (by == client_seat c) refl
     by_test false is = none es o is
 
 -- what is sealed is the guest's
-guests-append : (xs ys : List Entry) → AreGuests xs → AreGuests ys → AreGuests (xs ++ ys)
+pub guests-append : (xs ys : List Entry) → AreGuests xs → AreGuests ys → AreGuests (xs ++ ys)
 guests-append [] ys a b = b
 guests-append (e ∷ xs) ys a b = (a.0, guests-append xs ys a.1 b)
 
@@ -123,7 +123,7 @@ guests-first : (xs ys : List Entry) → AreGuests (xs ++ ys) → AreGuests xs
 guests-first [] ys g = tt
 guests-first (e ∷ xs) ys g = (g.0, guests-first xs ys g.1)
 
-entries-append : (xs ys : List Epoch) → entries_of (xs ++ ys) ≡ entries_of xs ++ entries_of ys
+pub entries-append : (xs ys : List Epoch) → entries_of (xs ++ ys) ≡ entries_of xs ++ entries_of ys
 entries-append [] ys = refl
 entries-append (e ∷ xs) ys = ap (λ l. e.entries ++ l) (entries-append xs ys) ∙ sym (append_assoc e.entries (entries_of xs) (entries_of ys))
 

@@ -1,6 +1,7 @@
 pub mod Steps
 pub mod LogState
 pub mod Entries
+pub mod SealedTexts
 pub mod Views
 pub mod Plays
 pub mod Calls

@@ -1,14 +1,21 @@
 //! What a legal list of steps says of the history.
 ghost use Rattle.std.specs.Prelude.{◌≡◌, ℕ, ◌≤◌, false, List, [], ◌∷◌, ◌++◌};
+ghost use Rattle.guest_machine.specs.Guest.{Guest};
 ghost use Rattle.pair_history.specs.Entries as entries;
 ghost use Rattle.pair_history.specs.Entries.{Entry};
 ghost use Rattle.pair_history.specs.HistoryState.{HistoryState, at};
 ghost use Rattle.pair_history.specs.HistoryState as history;
 ghost use Rattle.growing_history.specs.Steps.{Added, Step, step, Begins, steps_by};
 ghost use Rattle.growing_history.specs.LogState.{start_of, under_way, added, after, Needs, Legal, state_at, history_of, client_seat, sealed_state, IsAlone, is_filling};
+ghost use Rattle.growing_history.specs.SealedTexts.{IsMade, AreMade, MakeInTurn};
 ghost use Rattle.growing_history.specs.Entries.{own_entries, announced, IsCall};
 
 use pair_history::client_entries_go_first;
+
+/// What a text makes of a guest: of the text, the guest that it is read over, and the guest that it makes of that.
+pub trait Texts {
+    ghost reads: { List ℕ → Guest → Guest → Type 0 };
+}
 
 /// A list of steps goes on by what the next step needs and does, and the history with it. A beginning of a legal list is legal, and
 /// its history begins that of the whole.
@@ -68,6 +75,19 @@ pub fn live_members_miss_nothing()
         → (IsAlone (state_at h old).mode → ⊥)
         × (is_filling (state_at h now).mode ≡ is_filling (state_at h old).mode)
         × (is_filling (state_at h old).mode ≡ false → (state_at h now).history.guest ≡ (state_at h old).history.guest) }
+{
+    client_entries_go_first();
+}
+
+/// Where each text was sealed rightly (`AreMade`: unless a commit was marked before, it makes the guest of the sealed state after it
+/// of the one before it, a full one of any guest), those that are still to be committed make their guests in turn, from the guest of
+/// the history: so a backup that stands at the history, and reads the text that was sealed, stands at the history after its commit.
+pub fn sealed_texts_make_their_guests<T: Texts>()
+    ensures start { (h : HistoryState) → AreMade T.reads h [] }
+    ensures goes_on { (h : HistoryState) (xs : List Step) (x : Step) → AreMade T.reads h xs → IsMade T.reads (state_at h xs) x.what
+        → AreMade T.reads h (xs ++ x ∷ []) }
+    ensures in_turn { (h : HistoryState) (xs : List Step) → Legal h xs → AreMade T.reads h xs → (state_at h xs).marked ≡ 0
+        → MakeInTurn T.reads (state_at h xs).history [] (state_at h xs).sealed }
 {
     client_entries_go_first();
 }

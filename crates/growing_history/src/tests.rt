@@ -20,6 +20,18 @@ fn a_step_is_told_across_threads(rt: HostRuntime) -> Result<(), Fail> {
     in_two_threads::<Brand, _>(&rt, Opened::new(rt.alloc())?)
 }
 
+/// A format of which nobody says what its texts make.
+struct Unread;
+
+impl Texts for Unread {
+    ghost reads = { λ text from to. Unit {0} };
+}
+
+#[test]
+fn the_law_of_texts_holds_of_a_format() {
+    sealed_texts_make_their_guests::<Unread>();
+}
+
 /// The seats of a pair of two clients, as they are given out at its start.
 struct Members<P: Pair> {
     keeper: KeeperSeat<P>,
