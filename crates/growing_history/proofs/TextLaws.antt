@@ -1,5 +1,5 @@
 -- Where each text was sealed rightly, those that are still to be committed make their guests in turn.
-use Rattle.std.proofs.Common.{◌≡◌, ℕ, zero, suc, ◌+◌, ◌≤◌, List, [], ◌∷◌, ◌++◌, map, take, drop, refl, sym, ap, ◌∙◌, subst, append_assoc, arith}
+use Rattle.std.proofs.Common.{◌≡◌, ℕ, zero, suc, List, [], ◌∷◌, ◌++◌, map, take, drop, refl, sym, ap, ◌∙◌, subst, append_assoc, arith}
 use Rattle.std.proofs.lemmas.List.{append-nil}
 use Rattle.guest_machine.specs.Guest.{Guest}
 use Rattle.pair_history.specs.Entries.{Entry, Arrive}
@@ -7,9 +7,9 @@ use Rattle.pair_history.specs.HistoryState.{HistoryState, at}
 use Rattle.pair_history.specs.HistoryState as history
 use Rattle.pair_history.specs.Order.{AreGuests}
 use Rattle.growing_history.specs.Steps.{What, Added, Sealed, RanAlone, Committed, PrimaryFailed, BackupFailed, WentLive, Protected, Step}
-use Rattle.growing_history.specs.LogState.{LogState, Mode, Paired, Filling, Alone, Stopped, mode_filled, Epoch, start_of, entries_of, under_way, sealed_state, IsAlone, HasBackup, MaySeal, added, after, AreOwn, Needs, state_after, LegalFrom, Legal, state_at}
+use Rattle.growing_history.specs.LogState.{LogState, Mode, Paired, Filling, Alone, Stopped, mode_filled, Epoch, start_of, entries_of, under_way, IsAlone, HasBackup, MaySeal, after, AreOwn, Needs, state_after, LegalFrom, Legal, state_at}
 use Rattle.growing_history.specs.SealedTexts.{Reading, Makes, IsMade, AreMadeFrom, AreMade, MakeInTurn}
-use Rattle.growing_history.proofs.LogLaws.{at-append, legal-first, state-append, marked, marks-stay}
+use Rattle.growing_history.proofs.LogLaws.{at-append, legal-first, marked, marks-stay}
 use Rattle.growing_history.proofs.OwnEntries.{guests-append, entries-append, sealed-guests}
 use Rattle.growing_history.proofs.Missed.{GoesFirst, far-guest, way-after}
 
@@ -60,7 +60,7 @@ module _ (reads : Reading) where
       let rest = entries_of sealed ++ more in
       let next = before ++ e.entries in
       let apart : before ++ ((e.entries ++ entries_of sealed) ++ more) ≡ next ++ rest =
-          ap (λ l. before ++ l) (append_assoc e.entries (entries_of sealed) more) ∙ sym (append_assoc before e.entries rest) in
+      ap (λ l. before ++ l) (append_assoc e.entries (entries_of sealed) more) ∙ sym (append_assoc before e.entries rest) in
       let gn : AreGuests next = guests-append before e.entries gb (guests-front e.entries (entries_of sealed) gs) in
       let o' : AreOwn (next ++ rest) by es = subst (λ w. AreOwn w by es) apart o in
       let way' : history.Legal h (next ++ rest) = subst (history.Legal h) apart way in
@@ -73,6 +73,7 @@ module _ (reads : Reading) where
       guests-front : (xs ys : List Entry) → AreGuests (xs ++ ys) → AreGuests xs
       guests-front [] ys g = tt
       guests-front (x ∷ xs) ys g = (g.0, guests-front xs ys g.1)
+
       guests-back : (xs ys : List Entry) → AreGuests (xs ++ ys) → AreGuests ys
       guests-back [] ys g = g
       guests-back (x ∷ xs) ys g = guests-back xs ys g.1
@@ -110,7 +111,7 @@ module _ (reads : Reading) where
   turn-step go s by (Sealed x (suc n) epoch text) needs g way none empty made m =
       let e : Epoch = record { number = suc n; entries = epoch; text = text } in
       let all : entries_of (s.sealed ++ e ∷ []) ≡ entries_of s.sealed ++ epoch =
-          entries-append s.sealed (e ∷ []) ∙ ap (λ l. entries_of s.sealed ++ l) (append-nil epoch) in
+      entries-append s.sealed (e ∷ []) ∙ ap (λ l. entries_of s.sealed ++ l) (append-nil epoch) in
       turn-last s.history [] s.sealed e m (makes-same (suc n) text _ _ _ _ refl (ap (λ l. (at s.history l).guest) all) (made none))
   turn-step go s by (RanAlone epoch) needs g way none empty made m =
       subst (λ es. MakeInTurn reads (after s (RanAlone epoch)).history [] es) (sym (empty needs.may.1)) tt
@@ -134,7 +135,7 @@ module _ (reads : Reading) where
       let t = after s x.what in
       let unmarked : s.marked ≡ 0 = omega (arith, marked s x.what, marks-stay t xs, none) in
       turn-steps go t xs l.1 (sealed-guests s x.by x.what l.0.may g) (way-after s x l.0 unmarked) none (alone-empty s x.by x.what l.0 empty) made.1
-          (turn-step go s x.by x.what l.0 g way unmarked empty made.0 m)
+      (turn-step go s x.by x.what l.0 g way unmarked empty made.0 m)
 
   pub texts-in-turn : GoesFirst → (h : HistoryState) (xs : List Step) → Legal h xs → AreMade reads h xs → (state_at h xs).marked ≡ 0
       → MakeInTurn reads (state_at h xs).history [] (state_at h xs).sealed

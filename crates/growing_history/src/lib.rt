@@ -1,4 +1,9 @@
-//! The history of a pair, above a lock: one word counts the steps that the keeper of the history makes.
+//! The history of a pair, above a lock: one word counts the steps of the history's keeper, and every thread that holds a seat has
+//! seen a beginning of one growing list of steps, which is legal.
+//!
+//! The keeper's seat is to lie under the lock, beside what the pair is. Who calls brings a seat of its own: for the call's step it
+//! is joined into the keeper's, and then it has seen all, the step last. Who isn't under the lock can look, and tell others what it
+//! has seen. The specs say what a step needs and does, and which entries of the history it adds.
 #![tactic(auto)]
 
 mod boot;
