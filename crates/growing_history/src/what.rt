@@ -1,0 +1,29 @@
+//! What a step of the keeper is.
+use pair_history::Entry;
+
+/// What a step of the keeper is, as the call that makes it says it. Nothing is stored.
+pub enum What<'a> {
+    /// Entries of the clients' lines: what a client called, and what landed or was dropped.
+    Added(&'a [Entry]),
+    /// The live runner sealed an epoch, under this generation and number, with the text of its checkpoint.
+    Sealed {
+        generation: u64,
+        number: u64,
+        epoch: &'a [Entry],
+        text: &'a [u8],
+    },
+    /// The live node ran alone.
+    RanAlone(&'a [Entry]),
+    /// The backup committed the epoch of this generation and number, of which it read this text.
+    Committed {
+        generation: u64,
+        number: u64,
+        text: &'a [u8],
+    },
+    PrimaryFailed,
+    BackupFailed,
+    /// The backup went live, with a runner of this number.
+    WentLive(u64),
+    /// The live node got a backup of this number.
+    Protected(u64),
+}
