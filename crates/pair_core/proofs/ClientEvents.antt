@@ -237,11 +237,15 @@ module _ (w : Pair) (h : Holds w) where
             rising = AreRising-push 1 p.next s.waiting x h.clients.rising refl;
             count = length-set p.inboxes (c - 1) longer ∙ h.clients.count;
             inboxes =
-                rw (← left_is) (AreInboxes-with (length p.boxes) c p.inboxes longer ws (ws ++ x ∷ []) low high h.clients.count
-                h.clients.inboxes (ap (λ t. t ++ (p.next, f) ∷ []) mine ∙ ap (λ (t : Bool). inbox_of c ws ++ cond t ((p.next, f) ∷ []) [])
-                (sym (eq-eqb c c refl)) ∙ sym (inbox_of-append c ws (x ∷ []))) (λ d other. sym (append-nil (inbox_of d ws)) ∙ ap (λ (t :
-                Bool). inbox_of d ws ++ cond t ((p.next, f) ∷ []) []) (sym (apart c d (λ (e : c ≡ d). other (sym e)))) ∙ sym
-                (inbox_of-append d ws (x ∷ []))));
+                rw (← left_is)
+                (AreInboxes-with (length p.boxes) c p.inboxes longer ws (ws ++ x ∷ []) low high h.clients.count h.clients.inboxes
+                (ap (λ t. t ++ (p.next, f) ∷ []) mine
+                ∙ ap (λ (t : Bool). inbox_of c ws ++ cond t ((p.next, f) ∷ []) []) (sym (eq-eqb c c refl))
+                ∙ sym (inbox_of-append c ws (x ∷ [])))
+                (λ d other.
+                sym (append-nil (inbox_of d ws))
+                ∙ ap (λ (t : Bool). inbox_of d ws ++ cond t ((p.next, f) ∷ []) []) (sym (apart c d (λ (e : c ≡ d). other (sym e))))
+                ∙ sym (inbox_of-append d ws (x ∷ []))));
             boxes = h.clients.boxes;
             fit = h.clients.fit;
           })

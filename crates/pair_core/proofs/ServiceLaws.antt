@@ -35,10 +35,11 @@ module _ (start : HistoryState) (r : Record) (w : Pair) (live : w.nodes.live.gue
       let h = r.journal.history in
       rw (ap (λ (o : Outcome). o.0) e) (
         ap (λ (o : Outcome). kept_entries o.1.journal) e,
-        ap (λ (g : Guest). g.steps) live ∙ ap (λ (o :
-            Outcome). (live_at start o.1).guest.steps) e ∙ ap (λ (t : List Entry). (at start t).guest.steps) (append-nil (h ++ es)) ∙ ap (λ (t :
-            HistoryState). t.guest.steps) (at-append start h es) ∙ ap (λ (g : Guest). g.steps) (drops_guest s es (live_all Keeps (λ n t. refl)
-            (λ c place t. refl) s.boxes s.out r.journal)),
+        ap (λ (g : Guest). g.steps) live
+            ∙ ap (λ (o : Outcome). (live_at start o.1).guest.steps) e
+            ∙ ap (λ (t : List Entry). (at start t).guest.steps) (append-nil (h ++ es))
+            ∙ ap (λ (t : HistoryState). t.guest.steps) (at-append start h es)
+            ∙ ap (λ (g : Guest). g.steps) (drops_guest s es (live_all Keeps (λ n t. refl) (λ c place t. refl) s.boxes s.out r.journal)),
       )
 
   resumes_refused : (reply : Reply) (why : Refusal) → reply ≡ replies.Refused why → Resumes GoLive reply (moment w)

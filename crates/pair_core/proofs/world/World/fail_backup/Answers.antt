@@ -49,6 +49,9 @@ returns-clause-outcome c =
     let w = pair_of c.self.inside in
     let b = w.ports.boxes in
     let outbox = w.nodes.live.outbox in
-    rw (← c.self.view_is) (c.in_ok-reply.ensures.ok ∙ ap (λ (fs : List Frame). fail_backup_done b fs w.protocol) c.outbox-2.ensures.value ∙
-    goes w.protocol (fail_backup_refusals b outbox w.protocol) (fail_backup_done b outbox w.protocol) c.fail_backup_refusal.result (table
-    (goal.at.returns-clause-outcome c).After-fail_backup_refusal) c.in_default.is ∙ fail_backup_sight w c.self.invariant)
+    rw (← c.self.view_is)
+    (c.in_ok-reply.ensures.ok
+    ∙ ap (λ (fs : List Frame). fail_backup_done b fs w.protocol) c.outbox-2.ensures.value
+    ∙ goes w.protocol (fail_backup_refusals b outbox w.protocol) (fail_backup_done b outbox w.protocol) c.fail_backup_refusal.result
+    (table (goal.at.returns-clause-outcome c).After-fail_backup_refusal) c.in_default.is
+    ∙ fail_backup_sight w c.self.invariant)

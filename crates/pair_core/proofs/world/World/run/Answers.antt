@@ -28,7 +28,8 @@ loop-event-preserved c =
     let within : i < length events = omega arith in
     let more : take (i + 1) events ≡ take i events ++ get_or events i Step ∷ [] = take_more events i Step within in
     record {
-      replies = rw (more, items) (Along-more Answers _ (take i events) _ _ _ _ (get_or events i Step) _ v.replies (rw v.start at done.answers));
+      replies = rw (more, items) (Along-more Answers _ (take i events) _ _ _ _ (get_or events i Step) _
+          v.replies (rw v.start at done.answers));
       drops = rw (more, items) (Along-more Drops _ (take i events) _ _ _ _ (get_or events i Step) _ v.drops (rw v.start at done.drops));
       served = rw (more, items) (HasServed-more _ (take i events) _ _ _ _ (get_or events i Step) _ v.served (rw v.start at done.serves));
       leads = rw (more, items) (Leads-more (take i events) _ _ _ _ (get_or events i Step) _ v.leads (record {
