@@ -11,10 +11,13 @@ use Rattle.growing_history.proofs.OwnEntries.{history-own}
 
 announced-append : (xs ys : List Step) → announced (xs ++ ys) ≡ announced xs ++ announced ys
 announced-append [] ys = refl
-announced-append (x ∷ xs) ys = ap (λ l. announced_in x.what ++ l) (announced-append xs ys) ∙ sym (append_assoc (announced_in x.what) (announced xs) (announced ys))
+announced-append (x ∷ xs) ys = ap (λ l. announced_in x.what ++ l) (announced-append xs ys)
+    ∙ sym (append_assoc (announced_in x.what) (announced xs) (announced ys))
 
-pub call-is : (h : HistoryState) (c : ℕ) (old log : List Step) (es : List Entry) → 1 ≤ c → Begins old log → Legal h (log ++ step (client_seat c) (Added es) ∷ [])
-    → steps_by (client_seat c) (log ++ step (client_seat c) (Added es) ∷ []) ≡ steps_by (client_seat c) old ++ step (client_seat c) (Added es) ∷ []
+pub call-is : (h : HistoryState) (c : ℕ) (old log : List Step) (es : List Entry) → 1 ≤ c → Begins old log
+    → Legal h (log ++ step (client_seat c) (Added es) ∷ [])
+    → steps_by (client_seat c) (log ++ step (client_seat c) (Added es) ∷ []) ≡ steps_by (client_seat c) old ++ step (client_seat c)
+    (Added es) ∷ []
     → IsCall h c old (log ++ step (client_seat c) (Added es) ∷ []) es
 call-is h c old log es p b l own =
     let x = step (client_seat c) (Added es) in
@@ -29,6 +32,7 @@ call-is h c old log es p b l own =
           ∙ ap (λ xs. xs ++ es) (sym (history-own h old c p before)))));
     }
 
-pub own-stays : (h : HistoryState) (c : ℕ) (old now : List Step) → 1 ≤ c → Begins old now → Legal h now → steps_by (client_seat c) now ≡ steps_by (client_seat c) old
+pub own-stays : (h : HistoryState) (c : ℕ) (old now : List Step) → 1 ≤ c → Begins old now → Legal h now
+    → steps_by (client_seat c) now ≡ steps_by (client_seat c) old
     → own_entries c (history_of h now) ≡ own_entries c (history_of h old)
 own-stays h c old now p b l own = history-own h now c p l ∙ (ap announced own ∙ sym (history-own h old c p (begun h old now b l)))

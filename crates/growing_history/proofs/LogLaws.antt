@@ -1,12 +1,15 @@
 -- How a list of steps goes on, and the history with it.
-use Rattle.std.proofs.Common.{◌≡◌, ℕ, zero, suc, ◌≤◌, List, [], ◌∷◌, ◌++◌, refl, sym, ap, ◌∙◌, subst, append_assoc, arith, le_refl, le_trans}
+use Rattle.std.proofs.Common.{◌≡◌, ℕ, zero, suc, ◌≤◌, List, [], ◌∷◌, ◌++◌, refl, sym, ap, ◌∙◌, subst, append_assoc, arith, le_refl}
+use Rattle.std.proofs.Common.{le_trans}
 use Rattle.std.proofs.lemmas.List.{append-nil}
 use Rattle.pair_history.specs.Entries.{Entry}
 use Rattle.pair_history.specs.Entries as entries
 use Rattle.pair_history.specs.HistoryState.{HistoryState, at}
 use Rattle.pair_history.specs.HistoryState as history
-use Rattle.growing_history.specs.Steps.{What, Added, Sealed, RanAlone, Committed, PrimaryFailed, BackupFailed, WentLive, Protected, Step, Begins}
-use Rattle.growing_history.specs.LogState.{LogState, start_of, under_way, added, after, Needs, state_after, LegalFrom, history_from, Legal, state_at, history_of}
+use Rattle.growing_history.specs.Steps.{What, Added, Sealed, RanAlone, Committed, PrimaryFailed, BackupFailed, WentLive, Protected, Step}
+use Rattle.growing_history.specs.Steps.{Begins}
+use Rattle.growing_history.specs.LogState.{LogState, start_of, under_way, added, after, Needs, state_after, LegalFrom, history_from, Legal}
+use Rattle.growing_history.specs.LogState.{state_at, history_of}
 
 -- of histories: the state at one, and a legal one, in two parts
 pub at-append : (h : HistoryState) (xs ys : List Entry) → at h (xs ++ ys) ≡ at (at h xs) ys
@@ -64,7 +67,8 @@ pub stands : (s : LogState) (xs : List Step) → (state_after s xs).history ≡ 
 stands s [] = refl
 stands s (x ∷ xs) =
     stands (after s x.what) xs
-    ∙ (ap (λ h. at h (history_from (after s x.what) xs)) (moved s x.what) ∙ sym (at-append s.history (added s x.what) (history_from (after s x.what) xs)))
+    ∙ (ap (λ h. at h (history_from (after s x.what) xs)) (moved s x.what)
+    ∙ sym (at-append s.history (added s x.what) (history_from (after s x.what) xs)))
 
 -- a mark stays
 pub marked : (s : LogState) (w : What) → s.marked ≤ (after s w).marked
@@ -83,7 +87,8 @@ marks-stay s [] = le_refl s.marked
 marks-stay s (x ∷ xs) = le_trans (marked s x.what) (marks-stay (after s x.what) xs)
 
 -- who is live has a number that only rises
-pub numbers : (s : LogState) (by : ℕ) (w : What) → Needs s (record { by = by; what = w }) → (s.runner ≤ (after s w).runner) × (s.backup ≤ (after s w).backup)
+pub numbers : (s : LogState) (by : ℕ) (w : What) → Needs s (record { by = by; what = w }) → (s.runner ≤ (after s w).runner)
+    × (s.backup ≤ (after s w).backup)
 numbers s by (Added es) n = (le_refl s.runner, le_refl s.backup)
 numbers s by (Sealed g zero epoch text) n = (le_refl s.runner, le_refl s.backup)
 numbers s by (Sealed g (suc k) epoch text) n = (le_refl s.runner, le_refl s.backup)
@@ -94,7 +99,8 @@ numbers s by BackupFailed n = (le_refl s.runner, le_refl s.backup)
 numbers s by (WentLive r) n = (omega (arith, n.may.2), le_refl s.backup)
 numbers s by (Protected b) n = (le_refl s.runner, omega (arith, n.may.3))
 
-pub numbers-rise : (s : LogState) (xs : List Step) → LegalFrom s xs → (s.runner ≤ (state_after s xs).runner) × (s.backup ≤ (state_after s xs).backup)
+pub numbers-rise : (s : LogState) (xs : List Step) → LegalFrom s xs → (s.runner ≤ (state_after s xs).runner)
+    × (s.backup ≤ (state_after s xs).backup)
 numbers-rise s [] l = (le_refl s.runner, le_refl s.backup)
 numbers-rise s (x ∷ xs) l =
     let one = numbers s x.by x.what l.0 in
@@ -109,10 +115,13 @@ lawful s (x ∷ xs) l none now =
     let s' = after s x.what in
     let unmarked : s.marked ≡ 0 = omega (arith, marked s x.what, marks-stay s' xs, none) in
     let here = l.0.lawful unmarked in
-    let there : history.Legal s'.history (under_way s') = subst (λ h. history.Legal h (under_way s')) (sym (moved s x.what)) (legal-second s.history (added s x.what) (under_way s') here) in
-    let rest = subst (λ h. history.Legal h (history_from s' xs ++ under_way (state_after s' xs))) (moved s x.what) (lawful s' xs l.1 none there) in
+    let there : history.Legal s'.history (under_way s') = subst (λ h. history.Legal h (under_way s')) (sym (moved s x.what))
+    (legal-second s.history (added s x.what) (under_way s') here) in
+    let rest = subst (λ h. history.Legal h (history_from s' xs ++ under_way (state_after s' xs))) (moved s x.what)
+    (lawful s' xs l.1 none there) in
     subst (history.Legal s.history) (sym (append_assoc (added s x.what) (history_from s' xs) (under_way (state_after s' xs))))
-    (legal-joined s.history (added s x.what) (history_from s' xs ++ under_way (state_after s' xs)) (legal-first s.history (added s x.what) (under_way s') here) rest)
+    (legal-joined s.history (added s x.what) (history_from s' xs ++ under_way (state_after s' xs))
+    (legal-first s.history (added s x.what) (under_way s') here) rest)
 
 -- What the laws say of lists from the start.
 pub goes-on : (h : HistoryState) (xs : List Step) (x : Step) → Legal h xs → Needs (state_at h xs) x → Legal h (xs ++ x ∷ [])
@@ -139,19 +148,26 @@ pub history-nil : (h : HistoryState) → history_of h [] ≡ []
 unfolding history_of
 history-nil h = refl
 
-pub history-snoc : (h : HistoryState) (xs : List Step) (x : Step) → history_of h (xs ++ x ∷ []) ≡ history_of h xs ++ added (state_at h xs) x.what
+pub history-snoc : (h : HistoryState) (xs : List Step) (x : Step)
+    → history_of h (xs ++ x ∷ []) ≡ history_of h xs ++ added (state_at h xs) x.what
 unfolding history_of state_at
-history-snoc h xs x = history-append (start_of h) xs (x ∷ []) ∙ ap (λ l. history_from (start_of h) xs ++ l) (append-nil (added (state_after (start_of h) xs) x.what))
+history-snoc h xs x = history-append (start_of h) xs (x ∷ [])
+    ∙ ap (λ l. history_from (start_of h) xs ++ l) (append-nil (added (state_after (start_of h) xs) x.what))
 
 pub history-begins : (h : HistoryState) (xs ys : List Step) → Begins xs ys → entries.Begins (history_of h xs) (history_of h ys)
 unfolding history_of
-history-begins h xs ys b = (history_from (state_after (start_of h) xs) b.0, ap (history_from (start_of h)) b.1 ∙ history-append (start_of h) xs b.0)
+history-begins h xs ys b = (
+  history_from (state_after (start_of h) xs) b.0,
+  ap (history_from (start_of h)) b.1
+      ∙ history-append (start_of h) xs b.0,
+)
 
 pub history-stands : (h : HistoryState) (xs : List Step) → (state_at h xs).history ≡ at h (history_of h xs)
 unfolding history_of state_at
 history-stands h xs = stands (start_of h) xs
 
-pub history-lawful : (h : HistoryState) (xs : List Step) → Legal h xs → (state_at h xs).marked ≡ 0 → history.Legal h (history_of h xs ++ under_way (state_at h xs))
+pub history-lawful : (h : HistoryState) (xs : List Step) → Legal h xs → (state_at h xs).marked ≡ 0
+    → history.Legal h (history_of h xs ++ under_way (state_at h xs))
 unfolding Legal history_of state_at
 history-lawful h xs l none = lawful (start_of h) xs l none tt
 
@@ -161,11 +177,14 @@ unfolding Legal state_at
 live-rise h xs ys b l =
     let all : LegalFrom (start_of h) (xs ++ b.0) = subst (LegalFrom (start_of h)) b.1 l in
     let rise = numbers-rise (state_after (start_of h) xs) b.0 (second (start_of h) xs b.0 all) in
-    let same : state_after (start_of h) ys ≡ state_after (state_after (start_of h) xs) b.0 = ap (state_after (start_of h)) b.1 ∙ state-append (start_of h) xs b.0 in
-    subst (λ (t : LogState). ((state_after (start_of h) xs).runner ≤ t.runner) × ((state_after (start_of h) xs).backup ≤ t.backup)) (sym same) rise
+    let same : state_after (start_of h) ys ≡ state_after (state_after (start_of h) xs) b.0 = ap (state_after (start_of h)) b.1
+    ∙ state-append (start_of h) xs b.0 in
+    subst (λ (t : LogState). ((state_after (start_of h) xs).runner ≤ t.runner) × ((state_after (start_of h) xs).backup ≤ t.backup))
+    (sym same) rise
 
 pub marks-rise : (h : HistoryState) (xs ys : List Step) → Begins xs ys → (state_at h xs).marked ≤ (state_at h ys).marked
 unfolding state_at
 marks-rise h xs ys b =
-    let same : state_after (start_of h) ys ≡ state_after (state_after (start_of h) xs) b.0 = ap (state_after (start_of h)) b.1 ∙ state-append (start_of h) xs b.0 in
+    let same : state_after (start_of h) ys ≡ state_after (state_after (start_of h) xs) b.0 = ap (state_after (start_of h)) b.1
+    ∙ state-append (start_of h) xs b.0 in
     subst (λ (t : LogState). (state_after (start_of h) xs).marked ≤ t.marked) (sym same) (marks-stay (state_after (start_of h) xs) b.0)

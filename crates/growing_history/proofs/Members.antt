@@ -7,7 +7,8 @@ use Rattle.growing_history.specs.Views.{View, IsKeeper, IsMember}
 use Rattle.growing_history.specs.Plays.{Meets, with_member, member_of, stepped}
 use Rattle.growing_history.proofs.Prefixes.{steps_by-own}
 
-pub IsKeeper-stepped : (start : HistoryState) (v : View) (x : Step) → IsKeeper start v → Legal start (v.steps ++ x ∷ []) → IsKeeper start (stepped x v)
+pub IsKeeper-stepped : (start : HistoryState) (v : View) (x : Step) → IsKeeper start v → Legal start (v.steps ++ x ∷ [])
+    → IsKeeper start (stepped x v)
 IsKeeper-stepped start v x k legal = record { is = ap (stepped x) k.is; legal = legal }
 
 module _ (start : HistoryState) (v w : View) (x : Step) (found : ℕ) where

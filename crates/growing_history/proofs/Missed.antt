@@ -1,5 +1,6 @@
 -- What happens between two looks of a member that is live at both and made no step.
-use Rattle.std.proofs.Common.{◌≡◌, ◌≢◌, ℕ, zero, suc, ◌+◌, ◌≤◌, ◌<◌, List, [], ◌∷◌, ◌++◌, length, map, take, drop, Bool, true, false, refl, sym, ap, ◌∙◌, subst, cond, arith, length-append, eq-eqb}
+use Rattle.std.proofs.Common.{◌≡◌, ◌≢◌, ℕ, zero, suc, ◌+◌, ◌≤◌, ◌<◌, List, [], ◌∷◌, ◌++◌, length, map, take, drop, Bool, true, false, refl}
+use Rattle.std.proofs.Common.{sym, ap, ◌∙◌, subst, cond, arith, length-append, eq-eqb}
 use Rattle.std.specs.Prelude.{◌==◌}
 use Rattle.std.proofs.lemmas.List.{append-nil}
 use Rattle.frame_ports.specs.Lands.{has_room, landed_at}
@@ -10,10 +11,14 @@ use Rattle.pair_history.specs.HistoryState as history
 use Rattle.pair_history.specs.Order.{AreGuests, NoneTakes, IsReady}
 use Rattle.pair_history.specs.Landings.{landings}
 use Rattle.pair_history.specs.Failures.{all_land}
-use Rattle.growing_history.specs.Steps.{What, Added, Sealed, RanAlone, Committed, PrimaryFailed, BackupFailed, WentLive, Protected, Step, Begins, steps_by}
-use Rattle.growing_history.specs.LogState.{LogState, Mode, Paired, Filling, Alone, Stopped, Epoch, start_of, entries_of, under_way, sealed_state, is_filling, IsAlone, MaySeal, added, after, IsOwn, AreOwn, Needs, state_after, LegalFrom, Legal, state_at}
+use Rattle.growing_history.specs.Steps.{What, Added, Sealed, RanAlone, Committed, PrimaryFailed, BackupFailed, WentLive, Protected, Step}
+use Rattle.growing_history.specs.Steps.{Begins, steps_by}
+use Rattle.growing_history.specs.LogState.{LogState, Mode, Paired, Filling, Alone, Stopped, Epoch, start_of, entries_of, under_way}
+use Rattle.growing_history.specs.LogState.{sealed_state, is_filling, IsAlone, MaySeal, added, after, IsOwn, AreOwn, Needs, state_after}
+use Rattle.growing_history.specs.LogState.{LegalFrom, Legal, state_at}
 use Rattle.growing_history.proofs.Prefixes.{steps_by-append}
-use Rattle.growing_history.proofs.LogLaws.{at-append, legal-first, legal-second, state-append, second, stands, marked, marks-stay, numbers, numbers-rise, lawful, moved}
+use Rattle.growing_history.proofs.LogLaws.{at-append, legal-first, legal-second, state-append, second, stands, marked, marks-stay, numbers}
+use Rattle.growing_history.proofs.LogLaws.{numbers-rise, lawful, moved}
 use Rattle.growing_history.proofs.OwnEntries.{sealed-guests}
 
 -- that what is ready can go before what the guest does
@@ -57,7 +62,8 @@ takes-first n (Land d ∷ es) more g o = absurd g.0
 takes-first n (DropOut d place ∷ es) more g o = absurd g.0
 takes-first n (Took d answer ∷ es) more g o = absurd g.0
 
-ready : (sealed more : List Entry) (by : ℕ) (e : Entry) (h : HistoryState) → AreGuests sealed → IsOwn (sealed ++ more) by e → history.Allows h e → IsReady h sealed e
+ready : (sealed more : List Entry) (by : ℕ) (e : Entry) (h : HistoryState) → AreGuests sealed → IsOwn (sealed ++ more) by e
+    → history.Allows h e → IsReady h sealed e
 ready sealed more by Ran h g o a = absurd o
 ready sealed more by (Arrive n) h g o a = absurd o
 ready sealed more by (Delivered c f n) h g o a = tt
@@ -68,7 +74,8 @@ ready sealed more by (DropOut c place) h g o a = a.1
 ready sealed more by (Took c answer) h g o a = tt
 
 -- entries of the clients' lines leave the guest of what is sealed
-pub far-guest : GoesFirst → (sealed more : List Entry) (by : ℕ) (es : List Entry) (h : HistoryState) → AreGuests sealed → AreOwn (sealed ++ more) by es
+pub far-guest : GoesFirst → (sealed more : List Entry) (by : ℕ) (es : List Entry) (h : HistoryState) → AreGuests sealed
+    → AreOwn (sealed ++ more) by es
     → history.Legal h es → history.Legal h sealed → (at (at h es) sealed).guest ≡ (at h sealed).guest
 far-guest go sealed more by [] h g o l k = refl
 far-guest go sealed more by (e ∷ es) h g o l k =
@@ -82,17 +89,20 @@ committed-state h [] = refl
 committed-state h (e ∷ es) = ap (λ l. at (at h l) (entries_of es)) (append-nil e.entries) ∙ sym (at-append h e.entries (entries_of es))
 
 -- what one step of another leaves a live runner
-runner-step : GoesFirst → (s : LogState) (by : ℕ) (w : What) (n : ℕ) → Needs s (record { by = by; what = w }) → AreGuests (entries_of s.sealed)
+runner-step : GoesFirst → (s : LogState) (by : ℕ) (w : What) (n : ℕ) → Needs s (record { by = by; what = w })
+    → AreGuests (entries_of s.sealed)
     → history.Legal s.history (under_way s) → s.marked ≡ 0 → by ≢ n → s.runner ≡ n → (after s w).runner ≡ n
     → ((sealed_state (after s w)).guest ≡ (sealed_state s).guest) × ((after s w).handed ≡ s.handed)
 runner-step go s by (Added es) n needs g way none other is now = (
   far-guest go (entries_of s.sealed) (map Arrive s.handed) by es s.history g needs.may
-      (legal-first s.history es (under_way (after s (Added es))) (needs.lawful none)) (legal-first s.history (entries_of s.sealed) (map Arrive s.handed) way),
+      (legal-first s.history es (under_way (after s (Added es))) (needs.lawful none))
+      (legal-first s.history (entries_of s.sealed) (map Arrive s.handed) way),
   refl,
 )
 runner-step go s by (Sealed x k epoch text) n needs g way none other is now = absurd (other (needs.may.0 ∙ is))
 runner-step go s by (RanAlone epoch) n needs g way none other is now = absurd (other (needs.may.0 ∙ is))
-runner-step go s by (Committed x k text) n needs g way none other is now = (ap (λ (h : HistoryState). h.guest) (committed-state s.history s.sealed), refl)
+runner-step go s by (Committed x k text) n needs g way none other is now =
+    (ap (λ (h : HistoryState). h.guest) (committed-state s.history s.sealed), refl)
 runner-step go s by PrimaryFailed n needs g way none other is now = (refl, refl)
 runner-step go s by BackupFailed n needs g way none other is now =
     let far = sealed_state s in (
@@ -113,7 +123,8 @@ none-first n x xs e = by_test (x.by == n) refl e
 none-between : (n : ℕ) (xs more : List Step) → steps_by n (xs ++ more) ≡ steps_by n xs → steps_by n more ≡ []
 none-between n xs more e =
     let whole : steps_by n xs ++ steps_by n more ≡ steps_by n xs = sym (steps_by-append n xs more) ∙ e in
-    let lens : length (steps_by n xs) + length (steps_by n more) ≡ length (steps_by n xs) = sym (length-append (steps_by n xs) (steps_by n more)) ∙ ap length whole in
+    let lens : length (steps_by n xs) + length (steps_by n more) ≡ length (steps_by n xs) = sym
+    (length-append (steps_by n xs) (steps_by n more)) ∙ ap length whole in
     empty (steps_by n more) (omega (arith, lens))
   where
     empty : (l : List Step) → length l ≡ 0 → l ≡ []
@@ -126,7 +137,8 @@ way-after s x needs none = subst (λ h. history.Legal h (under_way (after s x.wh
     (legal-second s.history (added s x.what) (under_way (after s x.what)) (needs.lawful none))
 
 runner-steps : GoesFirst → (s : LogState) (xs : List Step) (n : ℕ) → LegalFrom s xs → AreGuests (entries_of s.sealed)
-    → history.Legal s.history (under_way s) → (state_after s xs).marked ≡ 0 → steps_by n xs ≡ [] → s.runner ≡ n → (state_after s xs).runner ≡ n
+    → history.Legal s.history (under_way s) → (state_after s xs).marked ≡ 0 → steps_by n xs ≡ [] → s.runner ≡ n
+    → (state_after s xs).runner ≡ n
     → ((sealed_state (state_after s xs)).guest ≡ (sealed_state s).guest) × ((state_after s xs).handed ≡ s.handed)
 runner-steps go s [] n l g way none others is now = (refl, refl)
 runner-steps go s (x ∷ xs) n l g way none others is now =
@@ -138,14 +150,17 @@ runner-steps go s (x ∷ xs) n l g way none others is now =
     let rest = runner-steps go t xs n l.1 (sealed-guests s x.by x.what l.0.may g) (way-after s x l.0 unmarked) none apart.1 there now in
     (rest.0 ∙ one.0, rest.1 ∙ one.1)
 
-pub guests-after : (s : LogState) (xs : List Step) → LegalFrom s xs → AreGuests (entries_of s.sealed) → AreGuests (entries_of (state_after s xs).sealed)
+pub guests-after : (s : LogState) (xs : List Step) → LegalFrom s xs → AreGuests (entries_of s.sealed)
+    → AreGuests (entries_of (state_after s xs).sealed)
 guests-after s [] l g = g
 guests-after s (x ∷ xs) l g = guests-after (after s x.what) xs l.1 (sealed-guests s x.by x.what l.0.may g)
 
 -- what one step of another leaves the backup
-backup-step : (s : LogState) (by : ℕ) (w : What) (n : ℕ) → Needs s (record { by = by; what = w }) → by ≢ n → s.backup ≡ n → (after s w).backup ≡ n
+backup-step : (s : LogState) (by : ℕ) (w : What) (n : ℕ) → Needs s (record { by = by; what = w }) → by ≢ n → s.backup ≡ n
+    → (after s w).backup ≡ n
     → (IsAlone (after s w).mode → ⊥)
-    → (IsAlone s.mode → ⊥) × (is_filling (after s w).mode ≡ is_filling s.mode) × (is_filling s.mode ≡ false → (after s w).history.guest ≡ s.history.guest)
+    → (IsAlone s.mode → ⊥) × (is_filling (after s w).mode ≡ is_filling s.mode)
+    × (is_filling s.mode ≡ false → (after s w).history.guest ≡ s.history.guest)
 backup-step s by (Added es) n needs other is now paired = (paired, refl, λ f. entries-guest (under_way s) by es s.history needs.may)
 backup-step s by (Sealed x zero epoch text) n needs other is now paired = (paired, refl, λ f. absurd (full s.mode needs.may.1 f))
   where
@@ -176,7 +191,8 @@ backup-steps s (x ∷ xs) n l others is now paired =
     let one = backup-step s x.by x.what n l.0 apart.0 is there rest.0 in
     (one.0, rest.1 ∙ one.1, λ f. rest.2 (one.1 ∙ f) ∙ one.2 f)
 
-module _ (h : HistoryState) (old now : List Step) (n : ℕ) (b : Begins old now) (l : Legal h now) (own : steps_by n now ≡ steps_by n old) where
+module _ (h : HistoryState) (old now : List Step) (n : ℕ) (b : Begins old now) (l : Legal h now)
+    (own : steps_by n now ≡ steps_by n old) where
   between : steps_by n b.0 ≡ []
   between = none-between n old b.0 (subst (λ xs. steps_by n xs ≡ steps_by n old) b.1 own)
 
@@ -192,7 +208,8 @@ module _ (h : HistoryState) (old now : List Step) (n : ℕ) (b : Begins old now)
   same = ap (state_after (start_of h)) b.1 ∙ state-append (start_of h) old b.0
 
   pub runner-misses-nothing : GoesFirst → (state_at h old).runner ≡ n → (state_at h now).runner ≡ n → (state_at h now).marked ≡ 0
-      → ((sealed_state (state_at h now)).guest ≡ (sealed_state (state_at h old)).guest) × ((state_at h now).handed ≡ (state_at h old).handed)
+      → ((sealed_state (state_at h now)).guest ≡ (sealed_state (state_at h old)).guest)
+      × ((state_at h now).handed ≡ (state_at h old).handed)
   unfolding state_at
   runner-misses-nothing go was is none =
       let s = state_after (start_of h) old in
@@ -211,6 +228,7 @@ module _ (h : HistoryState) (old now : List Step) (n : ℕ) (b : Begins old now)
   unfolding state_at
   backup-misses-nothing was is paired =
       let s = state_after (start_of h) old in
-      subst (λ (t : LogState). (IsAlone s.mode → ⊥) × (is_filling t.mode ≡ is_filling s.mode) × (is_filling s.mode ≡ false → t.history.guest ≡ s.history.guest)) (sym same)
+      subst (λ (t : LogState). (IsAlone s.mode → ⊥) × (is_filling t.mode ≡ is_filling s.mode)
+      × (is_filling s.mode ≡ false → t.history.guest ≡ s.history.guest)) (sym same)
       (backup-steps s b.0 n (second (start_of h) old b.0 whole) between was (subst (λ (t : LogState). t.backup ≡ n) same is)
       (subst (λ (t : LogState). IsAlone t.mode → ⊥) same paired))

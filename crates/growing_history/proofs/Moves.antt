@@ -1,5 +1,6 @@
 -- Each move of a seat keeps the rule.
-use Rattle.std.proofs.Common.{◌≡◌, ◌≢◌, ℕ, zero, suc, ◌+◌, ◌%◌, ◌^◌, ◌<◌, ◌≤◌, ⊎_elim, List, [], ◌∷◌, ◌++◌, length, set, refl, sym, ap, ◌∙◌, subst, cond, arith, eqb}
+use Rattle.std.proofs.Common.{◌≡◌, ◌≢◌, ℕ, zero, suc, ◌+◌, ◌%◌, ◌^◌, ◌<◌, ◌≤◌, ⊎_elim, List, [], ◌∷◌, ◌++◌, length, set, refl, sym, ap, ◌∙◌}
+use Rattle.std.proofs.Common.{subst, cond, arith, eqb}
 use Rattle.std.proofs.Common.{true, false, true≢false, eq-eqb, ne_eqb, length-append}
 use Rattle.std.specs.Prelude.{slice_index, Option, None, Some}
 use mathlib.Core.Option.{some, some-injective, some-ne-none}
@@ -10,8 +11,10 @@ use Rattle.pair_history.specs.HistoryState.{HistoryState}
 use Rattle.growing_history.specs.Steps.{Step, Begins, steps_by}
 use Rattle.growing_history.specs.LogState.{Legal}
 use Rattle.growing_history.specs.Views.{View, unopened, nobody, keeper_view, Fits, Kept, Rule}
-use Rattle.growing_history.specs.Plays.{Opens, one_more, newcomer, with_member, without_member, member_of, Meets, Met, stepped, Counted, saw, Looks, badge_of, heard}
-use Rattle.growing_history.proofs.Prefixes.{begins-self, begins-nil, begins-more, begins-through, steps_by-own, steps_by-other, at_snoc_place}
+use Rattle.growing_history.specs.Plays.{Opens, one_more, newcomer, with_member, without_member, member_of, Meets, Met, stepped, Counted}
+use Rattle.growing_history.specs.Plays.{saw, Looks, badge_of, heard}
+use Rattle.growing_history.proofs.Prefixes.{begins-self, begins-nil, begins-more, begins-through, steps_by-own, steps_by-other}
+use Rattle.growing_history.proofs.Prefixes.{at_snoc_place}
 
 off : false ≡ true → ⊥
 off e = true≢false (sym e)
@@ -103,7 +106,8 @@ begins = record {
     one (suc place) v e = absurd (some-ne-none v (sym e))
 
 -- what the rule tells of a seat joined into the keeper's
-told : (words : List ℕ) (views : List View) (h : Kept words views) (id : ℕ) (v : View) → v.keeps ≡ true → get_elem? views id ≡ some v → Meets v (slice_index words 0)
+told : (words : List ℕ) (views : List View) (h : Kept words views) (id : ℕ) (v : View) → v.keeps ≡ true → get_elem? views id ≡ some v
+    → Meets v (slice_index words 0)
 told words views h id v kept at =
     let f = h.fits id v at in
     let k = f.keeps kept in
@@ -113,6 +117,40 @@ told words views h id v kept at =
       told = subst (Begins v.told) (sym k.2) f.told;
       mine = λ p. (omega (arith, (f.mine p).1, k.3), (f.mine p).2 ∙ ap (steps_by v.number) (sym k.2));
     }
+
+-- the same log, over these views and with these owners
+same_log : {words now : List ℕ} {views others : List View} (h : Kept words views) (owner : ℕ → ℕ) → now ≡ length h.log ∷ []
+    → ((place : ℕ) (v : View) → get_elem? others place ≡ some v → Fits h.start h.log h.keeper h.enrolled owner place v) → Kept now others
+same_log h owner word fits = record {
+  log = h.log;
+  start = h.start;
+  keeper = h.keeper;
+  enrolled = h.enrolled;
+  owner = owner;
+  fits = fits;
+  word = word;
+  legal = h.legal;
+  fresh = h.fresh;
+}
+
+-- what is left of a seat that was joined into another
+nobody_fits : (start : Option HistoryState) (log : List Step) (keeper enrolled : ℕ) (owner : ℕ → ℕ) (place : ℕ)
+    → Fits start log keeper enrolled owner place nobody
+nobody_fits start log keeper enrolled owner place = record {
+  steps = begins-nil log;
+  told = begins-nil log;
+  starts = λ x e. absurd (none≢some x e);
+  keeps = λ q. absurd (off q);
+  mine = λ p. absurd (omega (arith, p));
+}
+
+-- the seat that is joined was there before
+was_there : (views : List View) (id other : ℕ) (both w : View) → other ≢ id → get_elem? (set views id both) other ≡ some w
+    → get_elem? views other ≡ some w
+was_there views id other both w apart there = ⊎_elim
+    (λ (x : (other ≡ id) × (both ≡ w)). absurd (apart x.0))
+    (λ (x : (other ≢ id) × (get_elem? views other ≡ some w)). x.1)
+    (at_set views id other both w there)
 
 module _ {S : Type 0} where
   -- the keeper gives out the next number
@@ -124,7 +162,8 @@ module _ {S : Type 0} where
       let n : ℕ = v.enrolled + 1 in
       let owns = now_owned h.owner n (length left) in
       let F : ℕ → View → Type 0 = Fits h.start h.log h.keeper (h.enrolled + 1) owns in
-      let same : (m : ℕ) → m ≤ h.enrolled → owns m ≡ h.owner m = λ m le. owned_else h.owner n (length left) m (λ e. omega (arith, e, k.3, le)) in
+      let same : (m : ℕ) → m ≤ h.enrolled
+      → owns m ≡ h.owner m = λ m le. owned_else h.owner n (length left) m (λ e. omega (arith, e, k.3, le)) in
       let other : (j : ℕ) (u : View) → j ≢ id → get_elem? s.views j ≡ some u → F j u = λ j u apart e.
       let g = h.fits j u e in
       still_fits h.start h.log h.log h.keeper h.enrolled (h.enrolled + 1) h.owner owns j u g
@@ -161,7 +200,7 @@ module _ {S : Type 0} where
       let f = h.fits id v at in
       let k = f.keeps kept in
       let both = with_member v w in
-      let was : get_elem? s.views other ≡ some w = ⊎_elim (λ (x : (other ≡ id) × (both ≡ w)). absurd (apart x.0)) (λ (x : (other ≢ id) × (get_elem? s.views other ≡ some w)). x.1) (at_set s.views id other both w there) in
+      let was = was_there s.views id other both w apart there in
       let g = h.fits other w was in
       let owns = now_owned h.owner w.number id in
       let F : ℕ → View → Type 0 = Fits h.start h.log h.keeper h.enrolled owns in
@@ -169,7 +208,8 @@ module _ {S : Type 0} where
       let o = h.fits j u e in
       still_fits h.start h.log h.log h.keeper h.enrolled h.enrolled h.owner owns j u o
       (λ q. (refl, refl)) (begins-self h.log) (omega arith)
-      (λ p. owned_else h.owner w.number id u.number (λ (same : u.number ≡ w.number). no (sym (o.mine p).0 ∙ (ap h.owner same ∙ (g.mine (subst (λ m. 0 < m) same p)).0))))
+      (λ p. owned_else h.owner w.number id u.number
+      (λ (same : u.number ≡ w.number). no (sym (o.mine p).0 ∙ (ap h.owner same ∙ (g.mine (subst (λ m. 0 < m) same p)).0))))
       (λ p. refl) in
       let mine : F id both = record {
         steps = f.steps;
@@ -178,29 +218,13 @@ module _ {S : Type 0} where
         keeps = f.keeps;
         mine = λ p. (owned_here h.owner w.number id, (g.mine p).1, (g.mine p).2);
       } in
-      let none : F other nobody = record {
-        steps = begins-nil h.log;
-        told = begins-nil h.log;
-        starts = λ x e. absurd (none≢some x e);
-        keeps = λ q. absurd (off q);
-        mine = λ p. absurd (omega (arith, p));
-      } in
-      record {
-        log = h.log;
-        start = h.start;
-        keeper = h.keeper;
-        enrolled = h.enrolled;
-        owner = owns;
-        fits = fits_set F (set s.views id both) other nobody
-            (λ j u no e. ⊎_elim
-            (λ (x : (j ≡ id) × (both ≡ u)). subst (λ (y : ℕ × View). F y.0 y.1) (λ i. (sym x.0 i, x.1 i)) mine)
-            (λ (x : (j ≢ id) × (get_elem? s.views j ≡ some u)). rest j u no x.0 x.1)
-            (at_set s.views id j both u e))
-            none;
-        word = h.word;
-        legal = h.legal;
-        fresh = h.fresh;
-      }
+      same_log h owns h.word
+      (fits_set F (set s.views id both) other nobody
+      (λ j u no e. ⊎_elim
+      (λ (x : (j ≡ id) × (both ≡ u)). subst (λ (y : ℕ × View). F y.0 y.1) (λ i. (sym x.0 i, x.1 i)) mine)
+      (λ (x : (j ≢ id) × (get_elem? s.views j ≡ some u)). rest j u no x.0 x.1)
+      (at_set s.views id j both u e))
+      (nobody_fits h.start h.log h.keeper h.enrolled owns other))
 
   -- and is split off again
   pub gives_back : (id : ℕ) (v : View) → v.keeps ≡ true → Splits (Rule {S = S}) id v (without_member v) (member_of v)
@@ -214,7 +238,8 @@ module _ {S : Type 0} where
       let o = h.fits j u e in
       still_fits h.start h.log h.log h.keeper h.enrolled h.enrolled h.owner owns j u o
       (λ q. (refl, refl)) (begins-self h.log) (omega arith)
-      (λ p. owned_else h.owner v.number (length left) u.number (λ (same : u.number ≡ v.number). apart (sym (o.mine p).0 ∙ (ap h.owner same ∙ (f.mine (subst (λ m. 0 < m) same p)).0))))
+      (λ p. owned_else h.owner v.number (length left) u.number
+      (λ (same : u.number ≡ v.number). apart (sym (o.mine p).0 ∙ (ap h.owner same ∙ (f.mine (subst (λ m. 0 < m) same p)).0))))
       (λ p. refl) in
       let mine : F id (without_member v) = record {
         steps = f.steps;
@@ -230,17 +255,8 @@ module _ {S : Type 0} where
         keeps = λ q. absurd (off q);
         mine = λ p. (owned_here h.owner v.number (length left), (f.mine p).1, (f.mine p).2);
       } in
-      record {
-        log = h.log;
-        start = h.start;
-        keeper = h.keeper;
-        enrolled = h.enrolled;
-        owner = owns;
-        fits = fits_more F left (member_of v) (fits_set F s.views id (without_member v) other mine) new;
-        word = h.word;
-        legal = h.legal;
-        fresh = h.fresh;
-      }
+      same_log h owns h.word
+      (fits_more F left (member_of v) (fits_set F s.views id (without_member v) other mine) new)
 
   -- a badge of a seat is split off
   pub tells : (id : ℕ) (v : View) → Splits (Rule {S = S}) id v v (badge_of v)
@@ -255,24 +271,15 @@ module _ {S : Type 0} where
         keeps = λ q. absurd (off q);
         mine = λ p. absurd (omega (arith, p));
       } in
-      record {
-        log = h.log;
-        start = h.start;
-        keeper = h.keeper;
-        enrolled = h.enrolled;
-        owner = h.owner;
-        fits = fits_more F left (badge_of v) (fits_set F s.views id v (λ j u apart e. h.fits j u e) f) new;
-        word = h.word;
-        legal = h.legal;
-        fresh = h.fresh;
-      }
+      same_log h h.owner h.word
+      (fits_more F left (badge_of v) (fits_set F s.views id v (λ j u apart e. h.fits j u e) f) new)
 
   -- a badge is joined into a seat
   pub hears : (id : ℕ) (v : View) (other : ℕ) (w : View) → Joins (Rule {S = S}) id v other w (heard v w) nobody
   hears id v other w s h at apart there =
       let f = h.fits id v at in
       let both = heard v w in
-      let was : get_elem? s.views other ≡ some w = ⊎_elim (λ (x : (other ≡ id) × (both ≡ w)). absurd (apart x.0)) (λ (x : (other ≢ id) × (get_elem? s.views other ≡ some w)). x.1) (at_set s.views id other both w there) in
+      let was = was_there s.views id other both w apart there in
       let F : ℕ → View → Type 0 = Fits h.start h.log h.keeper h.enrolled h.owner in
       let mine : F id both = record {
         steps = f.steps;
@@ -281,24 +288,9 @@ module _ {S : Type 0} where
         keeps = f.keeps;
         mine = f.mine;
       } in
-      let none : F other nobody = record {
-        steps = begins-nil h.log;
-        told = begins-nil h.log;
-        starts = λ x e. absurd (none≢some x e);
-        keeps = λ q. absurd (off q);
-        mine = λ p. absurd (omega (arith, p));
-      } in
-      record {
-        log = h.log;
-        start = h.start;
-        keeper = h.keeper;
-        enrolled = h.enrolled;
-        owner = h.owner;
-        fits = fits_set F (set s.views id both) other nobody (λ j u no e. fits_set F s.views id both (λ j u apart e. h.fits j u e) mine j u e) none;
-        word = h.word;
-        legal = h.legal;
-        fresh = h.fresh;
-      }
+      same_log h h.owner h.word
+      (fits_set F (set s.views id both) other nobody (λ j u no e. fits_set F s.views id both (λ j u apart e. h.fits j u e) mine j u e)
+      (nobody_fits h.start h.log h.keeper h.enrolled h.owner other))
 
   -- the first seat gets to know where the history starts
   pub opens : (id slots : ℕ) (h : HistoryState) (carried : List (ℕ × S)) → Legal h []
@@ -344,17 +336,9 @@ module _ {S : Type 0} where
   meets id slots v carried kept s h homes at bound =
       let f = h.fits id v at in
       let F : ℕ → View → Type 0 = Fits h.start h.log h.keeper h.enrolled h.owner in
-      let after : Kept (set s.words 0 (slice_index s.words 0)) (set s.views id v) = record {
-        log = h.log;
-        start = h.start;
-        keeper = h.keeper;
-        enrolled = h.enrolled;
-        owner = h.owner;
-        fits = fits_set F s.views id v (λ j u apart e. h.fits j u e) f;
-        word = word_left s.words (length h.log) h.word;
-        legal = h.legal;
-        fresh = h.fresh;
-      } in
+      let after : Kept (set s.words 0 (slice_index s.words 0)) (set s.views id v) = same_log h h.owner
+      (word_left s.words (length h.log) h.word)
+      (fits_set F s.views id v (λ j u apart e. h.fits j u e) f) in
       (v, keeps, tt, after, ((refl, told s.words s.views h id v kept at), refl))
 
   -- another seat looks
@@ -371,17 +355,9 @@ module _ {S : Type 0} where
         keeps = λ q. absurd (off (sym not ∙ q));
         mine = f.mine;
       } in
-      let after : Kept (set s.words 0 (slice_index s.words 0)) (set s.views id w) = record {
-        log = h.log;
-        start = h.start;
-        keeper = h.keeper;
-        enrolled = h.enrolled;
-        owner = h.owner;
-        fits = fits_set F s.views id w (λ j u apart e. h.fits j u e) mine;
-        word = word_left s.words (length h.log) h.word;
-        legal = h.legal;
-        fresh = h.fresh;
-      } in
+      let after : Kept (set s.words 0 (slice_index s.words 0)) (set s.views id w) = same_log h h.owner
+      (word_left s.words (length h.log) h.word)
+      (fits_set F s.views id w (λ j u apart e. h.fits j u e) mine) in
       let tells : Looks v (slice_index s.words 0) w = record {
         now = refl;
         word = word_is s.words (length h.log) h.word;
@@ -428,7 +404,8 @@ module _ {S : Type 0} where
         owner = h.owner;
         fits = fits_set F s.views id w other mine;
         word = word_set s.words (length h.log) ((slice_index s.words 0 + 1) % 2 ^ 64) h.word ∙ ap (λ (m : ℕ). m ∷ []) risen;
-        legal = λ y e. subst (λ (z : HistoryState). Legal z log) (some_is start y (sym starts ∙ (k.1 ∙ e))) (subst (λ l. Legal start (l ++ x ∷ [])) k.2 lawful);
+        legal = λ y e. subst (λ (z : HistoryState). Legal z log) (some_is start y (sym starts ∙ (k.1 ∙ e)))
+            (subst (λ l. Legal start (l ++ x ∷ [])) k.2 lawful);
         fresh = λ n lt. steps_by-other n h.log x (λ (e : x.by ≡ n). let m : v.number ≡ n = sym by ∙ e in
             absurd (omega (arith, m, lt, (f.mine (omega (arith, m, lt))).1))) ∙ h.fresh n lt;
       } in

@@ -1,5 +1,6 @@
 -- A client's entries in the history are those that its own steps announced.
-use Rattle.std.proofs.Common.{◌≡◌, ℕ, zero, suc, ◌+◌, ◌≤◌, List, [], ◌∷◌, ◌++◌, length, map, take, drop, replicate, refl, sym, ap, ◌∙◌, subst, cond, arith}
+use Rattle.std.proofs.Common.{◌≡◌, ℕ, zero, suc, ◌+◌, ◌≤◌, List, [], ◌∷◌, ◌++◌, length, map, take, drop, replicate, refl, sym, ap, ◌∙◌}
+use Rattle.std.proofs.Common.{subst, cond, arith}
 use Rattle.std.proofs.Common.{Bool, true, false, eq-eqb, ne_eqb, append_assoc}
 use Rattle.std.specs.Prelude.{◌==◌, nat_lt}
 use Rattle.std.proofs.lemmas.List.{append-nil}
@@ -11,9 +12,12 @@ use Rattle.pair_history.specs.Entries.{Frame, Entry, Ran, Arrive, Delivered, Ref
 use Rattle.pair_history.specs.HistoryState.{HistoryState, at, out_of}
 use Rattle.pair_history.specs.Order.{AreGuests}
 use Rattle.pair_history.specs.Landings.{landings}
-use Rattle.pair_history.specs.Failures.{all_land, drops_of_owed_to, drops_of_owed_from, drops_of_owed, drops_of_taken_in, rising, arrived_numbers}
-use Rattle.growing_history.specs.Steps.{What, Added, Sealed, RanAlone, Committed, PrimaryFailed, BackupFailed, WentLive, Protected, Step, steps_by}
-use Rattle.growing_history.specs.LogState.{LogState, Epoch, start_of, entries_of, under_way, added, after, IsOwn, AreOwn, MayStep, client_seat, LegalFrom, history_from, Legal, history_of}
+use Rattle.pair_history.specs.Failures.{all_land, drops_of_owed_to, drops_of_owed_from, drops_of_owed, drops_of_taken_in, rising}
+use Rattle.pair_history.specs.Failures.{arrived_numbers}
+use Rattle.growing_history.specs.Steps.{What, Added, Sealed, RanAlone, Committed, PrimaryFailed, BackupFailed, WentLive, Protected, Step}
+use Rattle.growing_history.specs.Steps.{steps_by}
+use Rattle.growing_history.specs.LogState.{LogState, Epoch, start_of, entries_of, under_way, added, after, IsOwn, AreOwn, MayStep}
+use Rattle.growing_history.specs.LogState.{client_seat, LegalFrom, history_from, Legal, history_of}
 use Rattle.growing_history.specs.Entries.{is_of, own_entries, announced_in, announced}
 
 own-append : (c : ℕ) (xs ys : List Entry) → own_entries c (xs ++ ys) ≡ own_entries c xs ++ own_entries c ys
@@ -21,7 +25,8 @@ own-append c [] ys = refl
 own-append c (e ∷ xs) ys = by_test (is_of c e) (own-append c xs ys)
   where
     by_test : (t : Bool) → own_entries c (xs ++ ys) ≡ own_entries c xs ++ own_entries c ys
-        → cond t (e ∷ own_entries c (xs ++ ys)) (own_entries c (xs ++ ys)) ≡ cond t (e ∷ own_entries c xs) (own_entries c xs) ++ own_entries c ys
+        → cond t (e ∷ own_entries c (xs ++ ys)) (own_entries c (xs ++ ys)) ≡ cond t (e ∷ own_entries c xs)
+        (own_entries c xs) ++ own_entries c ys
     by_test true is = ap (λ l. e ∷ l) is
     by_test false is = is
 
@@ -63,7 +68,8 @@ repeated-none c d place (suc k) = repeated-none c d place k
 owed-none : (c n first : ℕ) (boxes : List (List Frame)) (out : List (ℕ × Frame)) → own_entries c (drops_of_owed_from n first boxes out) ≡ []
 owed-none c zero first boxes out = refl
 owed-none c (suc n) first boxes out =
-    none-joined c (drops_of_owed_to first boxes out) (drops_of_owed_from n (first + 1) boxes out) (repeated-none c first (length (list_of boxes first)) (length (out_of first out))) (owed-none c n (first + 1) boxes out)
+    none-joined c (drops_of_owed_to first boxes out) (drops_of_owed_from n (first + 1) boxes out)
+    (repeated-none c first (length (list_of boxes first)) (length (out_of first out))) (owed-none c n (first + 1) boxes out)
 
 -- a client's own entry is one of its seat's, and no other is
 own-is : (way : List Entry) (c by : ℕ) (e : Entry) → 1 ≤ c → IsOwn way by e → is_of c e ≡ (by == client_seat c)
@@ -100,7 +106,8 @@ own-added way c by es p o = by_test (by == client_seat c) refl
   where
     all : (es : List Entry) → AreOwn way by es → (by == client_seat c) ≡ true → own_entries c es ≡ es
     all [] o is = refl
-    all (e ∷ es) o is = ap (λ t. cond t (e ∷ own_entries c es) (own_entries c es)) (own-is way c by e p o.0 ∙ is) ∙ ap (λ l. e ∷ l) (all es o.1 is)
+    all (e ∷ es) o is = ap (λ t. cond t (e ∷ own_entries c es) (own_entries c es)) (own-is way c by e p o.0 ∙ is)
+        ∙ ap (λ l. e ∷ l) (all es o.1 is)
 
     none : (es : List Entry) → AreOwn way by es → (by == client_seat c) ≡ false → own_entries c es ≡ []
     none [] o is = refl
@@ -135,12 +142,14 @@ rest-guests : (es : List Epoch) → AreGuests (entries_of es) → AreGuests (ent
 rest-guests [] g = tt
 rest-guests (e ∷ es) g = guests-second e.entries (entries_of es) g
 
-pub sealed-guests : (s : LogState) (by : ℕ) (w : What) → MayStep s by w → AreGuests (entries_of s.sealed) → AreGuests (entries_of (after s w).sealed)
+pub sealed-guests : (s : LogState) (by : ℕ) (w : What) → MayStep s by w → AreGuests (entries_of s.sealed)
+    → AreGuests (entries_of (after s w).sealed)
 sealed-guests s by (Added es) m g = g
 sealed-guests s by (Sealed x zero epoch text) m g = tt
 sealed-guests s by (Sealed x (suc n) epoch text) m g =
     let e : Epoch = record { number = suc n; entries = epoch; text = text } in
-    subst AreGuests (sym (entries-append s.sealed (e ∷ []))) (guests-append (entries_of s.sealed) (epoch ++ []) g (subst AreGuests (sym (append-nil epoch)) m.4.0))
+    subst AreGuests (sym (entries-append s.sealed (e ∷ [])))
+    (guests-append (entries_of s.sealed) (epoch ++ []) g (subst AreGuests (sym (append-nil epoch)) m.4.0))
 sealed-guests s by (RanAlone epoch) m g = g
 sealed-guests s by (Committed x n text) m g = rest-guests s.sealed g
 sealed-guests s by PrimaryFailed m g = g
@@ -156,15 +165,20 @@ off_if false = refl
 added-own : (c : ℕ) (s : LogState) (by : ℕ) (w : What) → 1 ≤ c → MayStep s by w → AreGuests (entries_of s.sealed)
     → own_entries c (added s w) ≡ cond (by == client_seat c) (announced_in w) []
 added-own c s by (Added es) p m g = own-added (under_way s) c by es p m
-added-own c s by (Sealed x zero epoch text) p m g = none-joined c epoch (all_land (at s.history epoch)) (guests-none c epoch m.4.0) (all_land-none c (at s.history epoch)) ∙ off_if (by == client_seat c)
+added-own c s by (Sealed x zero epoch text) p m g = none-joined c epoch (all_land (at s.history epoch)) (guests-none c epoch m.4.0)
+    (all_land-none c (at s.history epoch)) ∙ off_if (by == client_seat c)
 added-own c s by (Sealed x (suc n) epoch text) p m g = off_if (by == client_seat c)
-added-own c s by (RanAlone epoch) p m g = none-joined c epoch (all_land (at s.history epoch)) (guests-none c epoch m.2.0) (all_land-none c (at s.history epoch)) ∙ off_if (by == client_seat c)
-added-own c s by (Committed x n text) p m g = guests-none c (entries_of (take 1 s.sealed)) (first-guests s.sealed g) ∙ off_if (by == client_seat c)
+added-own c s by (RanAlone epoch) p m g = none-joined c epoch (all_land (at s.history epoch)) (guests-none c epoch m.2.0)
+    (all_land-none c (at s.history epoch)) ∙ off_if (by == client_seat c)
+added-own c s by (Committed x n text) p m g = guests-none c (entries_of (take 1 s.sealed)) (first-guests s.sealed g)
+    ∙ off_if (by == client_seat c)
 added-own c s by PrimaryFailed p m g = off_if (by == client_seat c)
 added-own c s by BackupFailed p m g =
-    none-joined c (entries_of s.sealed) (all_land (at s.history (entries_of s.sealed))) (guests-none c (entries_of s.sealed) g) (all_land-none c (at s.history (entries_of s.sealed))) ∙ off_if (by == client_seat c)
+    none-joined c (entries_of s.sealed) (all_land (at s.history (entries_of s.sealed))) (guests-none c (entries_of s.sealed) g)
+    (all_land-none c (at s.history (entries_of s.sealed))) ∙ off_if (by == client_seat c)
 added-own c s by (WentLive r) p m g =
-    none-joined c (drops_of_taken_in (under_way s)) (drops_of_owed s.history) (drops-none c (rising (arrived_numbers (under_way s)))) (owed-none c (length s.history.boxes) 1 s.history.boxes s.history.out) ∙ off_if (by == client_seat c)
+    none-joined c (drops_of_taken_in (under_way s)) (drops_of_owed s.history) (drops-none c (rising (arrived_numbers (under_way s))))
+    (owed-none c (length s.history.boxes) 1 s.history.boxes s.history.out) ∙ off_if (by == client_seat c)
 added-own c s by (Protected b) p m g = off_if (by == client_seat c)
 
 -- all steps
@@ -174,7 +188,8 @@ all-own c s [] p l g = refl
 all-own c s (x ∷ xs) p l g =
     own-append c (added s x.what) (history_from (after s x.what) xs)
     ∙ (ap (λ es. es ++ own_entries c (history_from (after s x.what) xs)) (added-own c s x.by x.what p l.0.may g)
-    ∙ (ap (λ es. cond (x.by == client_seat c) (announced_in x.what) [] ++ es) (all-own c (after s x.what) xs p l.1 (sealed-guests s x.by x.what l.0.may g))
+    ∙ (ap (λ es. cond (x.by == client_seat c) (announced_in x.what) [] ++ es)
+    (all-own c (after s x.what) xs p l.1 (sealed-guests s x.by x.what l.0.may g))
     ∙ by_test (x.by == client_seat c)))
   where
     by_test : (t : Bool) → cond t (announced_in x.what) [] ++ announced (steps_by (client_seat c) xs)
@@ -182,6 +197,7 @@ all-own c s (x ∷ xs) p l g =
     by_test true = refl
     by_test false = refl
 
-pub history-own : (h : HistoryState) (xs : List Step) (c : ℕ) → 1 ≤ c → Legal h xs → own_entries c (history_of h xs) ≡ announced (steps_by (client_seat c) xs)
+pub history-own : (h : HistoryState) (xs : List Step) (c : ℕ) → 1 ≤ c → Legal h xs
+    → own_entries c (history_of h xs) ≡ announced (steps_by (client_seat c) xs)
 unfolding Legal history_of
 history-own h xs c p l = all-own c (start_of h) xs p l tt

@@ -1,5 +1,6 @@
 -- Beginnings of a list of steps, and the steps of one number in it.
-use Rattle.std.proofs.Common.{◌≡◌, ◌≢◌, ℕ, zero, suc, ◌+◌, ◌<◌, ◌≤◌, ◌⊎◌, inl, inr, List, [], ◌∷◌, ◌++◌, length, refl, sym, ap, ◌∙◌, subst, cond, append_assoc, arith, eqb}
+use Rattle.std.proofs.Common.{◌≡◌, ◌≢◌, ℕ, zero, suc, ◌+◌, ◌<◌, ◌≤◌, ◌⊎◌, inl, inr, List, [], ◌∷◌, ◌++◌, length, refl, sym, ap, ◌∙◌, subst}
+use Rattle.std.proofs.Common.{cond, append_assoc, arith, eqb}
 use Rattle.std.proofs.Common.{Bool, true, false, eq-eqb, ne_eqb, length-append}
 use Rattle.std.specs.Prelude.{◌==◌}
 use Rattle.std.proofs.lemmas.List.{append-nil}
@@ -23,7 +24,8 @@ pub steps_by-append : (n : ℕ) (xs ys : List Step) → steps_by n (xs ++ ys) �
 steps_by-append n [] ys = refl
 steps_by-append n (x ∷ xs) ys = by_test (x.by == n) (steps_by-append n xs ys)
   where
-    by_test : (t : Bool) → steps_by n (xs ++ ys) ≡ steps_by n xs ++ steps_by n ys → cond t (x ∷ steps_by n (xs ++ ys)) (steps_by n (xs ++ ys)) ≡ cond t (x ∷ steps_by n xs) (steps_by n xs) ++ steps_by n ys
+    by_test : (t : Bool) → steps_by n (xs ++ ys) ≡ steps_by n xs ++ steps_by n ys
+        → cond t (x ∷ steps_by n (xs ++ ys)) (steps_by n (xs ++ ys)) ≡ cond t (x ∷ steps_by n xs) (steps_by n xs) ++ steps_by n ys
     by_test true e = ap (λ l. x ∷ l) e
     by_test false e = e
 

@@ -7,7 +7,9 @@ use Rattle.pair_history.specs.HistoryState.{HistoryState, at}
 use Rattle.pair_history.specs.HistoryState as history
 use Rattle.pair_history.specs.Order.{AreGuests}
 use Rattle.growing_history.specs.Steps.{What, Added, Sealed, RanAlone, Committed, PrimaryFailed, BackupFailed, WentLive, Protected, Step}
-use Rattle.growing_history.specs.LogState.{LogState, Mode, Paired, Filling, Alone, Stopped, mode_filled, Epoch, start_of, entries_of, under_way, IsAlone, HasBackup, MaySeal, after, AreOwn, Needs, state_after, LegalFrom, Legal, state_at}
+use Rattle.growing_history.specs.LogState.{LogState, Mode, Paired, Filling, Alone, Stopped, mode_filled, Epoch, start_of, entries_of}
+use Rattle.growing_history.specs.LogState.{under_way, IsAlone, HasBackup, MaySeal, after, AreOwn, Needs, state_after, LegalFrom, Legal}
+use Rattle.growing_history.specs.LogState.{state_at}
 use Rattle.growing_history.specs.SealedTexts.{Reading, Makes, IsMade, AreMadeFrom, AreMade, MakeInTurn}
 use Rattle.growing_history.proofs.LogLaws.{at-append, legal-first, marked, marks-stay}
 use Rattle.growing_history.proofs.OwnEntries.{guests-append, entries-append, sealed-guests}
@@ -52,7 +54,8 @@ module _ (reads : Reading) where
   makes-same (suc n) text a b c d p q m = subst (λ (x : Guest × Guest). reads text x.0 x.1) (λ i. (p i, q i)) m
 
   -- entries of the clients' lines leave it so
-  turn-added : GoesFirst → (by : ℕ) (es : List Entry) (h : HistoryState) (sealed : List Epoch) (before more : List Entry) → AreGuests before → AreGuests (entries_of sealed)
+  turn-added : GoesFirst → (by : ℕ) (es : List Entry) (h : HistoryState) (sealed : List Epoch) (before more : List Entry) → AreGuests before
+      → AreGuests (entries_of sealed)
       → AreOwn (before ++ (entries_of sealed ++ more)) by es → history.Legal h es → history.Legal h (before ++ (entries_of sealed ++ more))
       → MakeInTurn reads h before sealed → MakeInTurn reads (at h es) before sealed
   turn-added go by es h [] before more gb gs o l way m = tt
@@ -79,11 +82,13 @@ module _ (reads : Reading) where
       guests-back (x ∷ xs) ys g = guests-back xs ys g.1
 
   -- what comes before may go into the history's state
-  turn-shift : (h : HistoryState) (first before : List Entry) (sealed : List Epoch) → MakeInTurn reads h (first ++ before) sealed → MakeInTurn reads (at h first) before sealed
+  turn-shift : (h : HistoryState) (first before : List Entry) (sealed : List Epoch) → MakeInTurn reads h (first ++ before) sealed
+      → MakeInTurn reads (at h first) before sealed
   turn-shift h first before [] m = tt
   turn-shift h first before (e ∷ es) m = (
     makes-same e.number e.text _ _ _ _ (ap (λ (g : HistoryState). g.guest) (at-append h first before))
-        (ap (λ l. (at h l).guest) (append_assoc first before e.entries) ∙ ap (λ (g : HistoryState). g.guest) (at-append h first (before ++ e.entries))) m.0,
+        (ap (λ l. (at h l).guest) (append_assoc first before e.entries)
+        ∙ ap (λ (g : HistoryState). g.guest) (at-append h first (before ++ e.entries))) m.0,
     turn-shift h first (before ++ e.entries) es (subst (λ l. MakeInTurn reads h l es) (append_assoc first before e.entries) m.1),
   )
 
@@ -92,13 +97,15 @@ module _ (reads : Reading) where
       → Makes reads e.number e.text (at h (before ++ entries_of sealed)).guest (at h ((before ++ entries_of sealed) ++ e.entries)).guest
       → MakeInTurn reads h before (sealed ++ e ∷ [])
   turn-last h before [] e m n = (
-    makes-same e.number e.text _ _ _ _ (ap (λ l. (at h l).guest) (append-nil before)) (ap (λ l. (at h (l ++ e.entries)).guest) (append-nil before)) n,
+    makes-same e.number e.text _ _ _ _ (ap (λ l. (at h l).guest) (append-nil before))
+        (ap (λ l. (at h (l ++ e.entries)).guest) (append-nil before)) n,
     tt,
   )
   turn-last h before (x ∷ xs) e m n = (
     m.0,
     turn-last h (before ++ x.entries) xs e m.1
-        (subst (λ l. Makes reads e.number e.text (at h l).guest (at h (l ++ e.entries)).guest) (sym (append_assoc before x.entries (entries_of xs))) n),
+        (subst (λ l. Makes reads e.number e.text (at h l).guest (at h (l ++ e.entries)).guest)
+        (sym (append_assoc before x.entries (entries_of xs))) n),
   )
 
   -- one step
@@ -117,7 +124,8 @@ module _ (reads : Reading) where
       subst (λ es. MakeInTurn reads (after s (RanAlone epoch)).history [] es) (sym (empty needs.may.1)) tt
   turn-step go s by (Committed x n text) needs g way none empty made m = first_gone s.sealed m
     where
-      first_gone : (es : List Epoch) → MakeInTurn reads s.history [] es → MakeInTurn reads (at s.history (entries_of (take 1 es))) [] (drop 1 es)
+      first_gone : (es : List Epoch) → MakeInTurn reads s.history [] es
+          → MakeInTurn reads (at s.history (entries_of (take 1 es))) [] (drop 1 es)
       first_gone [] m = tt
       first_gone (e ∷ es) m = turn-shift s.history (e.entries ++ []) [] es
           (subst (λ l. MakeInTurn reads s.history l es) (sym (append-nil (e.entries ++ []) ∙ append-nil e.entries)) m.1)
@@ -134,7 +142,8 @@ module _ (reads : Reading) where
   turn-steps go s (x ∷ xs) l g way none empty made m =
       let t = after s x.what in
       let unmarked : s.marked ≡ 0 = omega (arith, marked s x.what, marks-stay t xs, none) in
-      turn-steps go t xs l.1 (sealed-guests s x.by x.what l.0.may g) (way-after s x l.0 unmarked) none (alone-empty s x.by x.what l.0 empty) made.1
+      turn-steps go t xs l.1 (sealed-guests s x.by x.what l.0.may g) (way-after s x l.0 unmarked) none
+      (alone-empty s x.by x.what l.0 empty) made.1
       (turn-step go s x.by x.what l.0 g way unmarked empty made.0 m)
 
   pub texts-in-turn : GoesFirst → (h : HistoryState) (xs : List Step) → Legal h xs → AreMade reads h xs → (state_at h xs).marked ≡ 0
@@ -142,7 +151,8 @@ module _ (reads : Reading) where
   unfolding Legal state_at AreMade
   texts-in-turn go h xs l made none = turn-steps go (start_of h) xs l tt tt none (λ a. absurd a) made tt
 
-  made-joined : (s : LogState) (xs : List Step) (x : Step) → AreMadeFrom reads s xs → IsMade reads (state_after s xs) x.what → AreMadeFrom reads s (xs ++ x ∷ [])
+  made-joined : (s : LogState) (xs : List Step) (x : Step) → AreMadeFrom reads s xs → IsMade reads (state_after s xs) x.what
+      → AreMadeFrom reads s (xs ++ x ∷ [])
   made-joined s [] x m n = (n, tt)
   made-joined s (y ∷ xs) x m n = (m.0, made-joined (after s y.what) xs x m.1 n)
 
@@ -150,6 +160,7 @@ module _ (reads : Reading) where
   unfolding AreMade
   made-nil h = tt
 
-  pub made-goes-on : (h : HistoryState) (xs : List Step) (x : Step) → AreMade reads h xs → IsMade reads (state_at h xs) x.what → AreMade reads h (xs ++ x ∷ [])
+  pub made-goes-on : (h : HistoryState) (xs : List Step) (x : Step) → AreMade reads h xs → IsMade reads (state_at h xs) x.what
+      → AreMade reads h (xs ++ x ∷ [])
   unfolding AreMade state_at
   made-goes-on h xs x m n = made-joined (start_of h) xs x m n

@@ -2,7 +2,8 @@
 use Rattle.pair_history.specs.Log.{all_expanded}
 use Rattle.growing_history.specs.Steps as steps
 use Rattle.growing_history.specs.declared.what.What.{What}
-use Rattle.growing_history.specs.declared.what.What.TheVariants.{Added, Sealed, RanAlone, Committed, PrimaryFailed, BackupFailed, WentLive, Protected}
+use Rattle.growing_history.specs.declared.what.What.TheVariants.{Added, Sealed, RanAlone, Committed, PrimaryFailed, BackupFailed, WentLive}
+use Rattle.growing_history.specs.declared.what.What.TheVariants.{Protected}
 
 abbrev pub meaning : What → steps.What
 meaning (Added es) = steps.Added (all_expanded es.now)

@@ -2,7 +2,8 @@
 use Rattle.std.specs.Prelude.{◌≡◌, ℕ, List, [], ◌∷◌, None, refl}
 use Rattle.pair_history.specs.Entries.{Frame, Delivered, DropIn, Took}
 use Rattle.pair_history.specs.HistoryState.{HistoryState, start_state}
-use Rattle.growing_history.specs.Steps.{What, Added, Sealed, Committed, PrimaryFailed, BackupFailed, WentLive, Protected, Step, step, steps_by}
+use Rattle.growing_history.specs.Steps.{What, Added, Sealed, Committed, PrimaryFailed, BackupFailed, WentLive, Protected, Step, step}
+use Rattle.growing_history.specs.Steps.{steps_by}
 use Rattle.growing_history.specs.LogState.{LogState, Paired, Filling, Stopped, start_of, after, added, client_seat}
 
 abbrev pub two_clients : HistoryState
@@ -51,5 +52,6 @@ pub a_waiting_frame_is_handed_out : (f : Frame) → (run (Added (Delivered 2 f 1
 a_waiting_frame_is_handed_out f = refl
 
 -- what was handed out and went with the primary is lost on its way, and nothing else is
-pub going_live_drops_it : (f : Frame) → added (run (Added (Delivered 2 f 1 ∷ []) ∷ Sealed 1 1 [] [] ∷ PrimaryFailed ∷ [])) (WentLive 6) ≡ DropIn 1 ∷ []
+pub going_live_drops_it : (f : Frame)
+    → added (run (Added (Delivered 2 f 1 ∷ []) ∷ Sealed 1 1 [] [] ∷ PrimaryFailed ∷ [])) (WentLive 6) ≡ DropIn 1 ∷ []
 going_live_drops_it f = refl

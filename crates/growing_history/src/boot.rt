@@ -21,7 +21,8 @@ impl Model for Opened {
 
     ghost view = { λ o. o.table.shared.table_id };
 
-    ghost invariant = { λ o. (o.table.shared.table_id.words ≡ 1) × (o.seat.table_id ≡ o.table.shared.table_id) × (o.seat.me ≡ (unopened, [])) };
+    ghost invariant = { λ o. (o.table.shared.table_id.words ≡ 1) × (o.seat.table_id ≡ o.table.shared.table_id)
+        × (o.seat.me ≡ (unopened, [])) };
 }
 
 /// The word of a pair, which counts the steps of its keeper. Threads share it.

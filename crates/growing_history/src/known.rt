@@ -4,7 +4,8 @@ ghost use Rattle.atomic_table.specs.Seated.{TableId};
 ghost use Rattle.pair_history.specs.HistoryState.{HistoryState};
 ghost use Rattle.growing_history.specs.Steps.{Step};
 ghost use Rattle.growing_history.specs.Views.{View, unopened, nobody, Rule};
-ghost use Rattle.growing_history.specs.Plays.{Opens, Met, Counted, Looks, one_more, newcomer, with_member, without_member, member_of, badge_of, heard};
+ghost use Rattle.growing_history.specs.Plays.{Opens, Met, Counted, Looks, one_more, newcomer, with_member, without_member, member_of};
+ghost use Rattle.growing_history.specs.Plays.{badge_of, heard};
 
 use atomic_table::{Join, Play, Split, TableRule};
 use std::marker::{Brand, Model, PhantomData};

@@ -6,7 +6,8 @@ ghost use Rattle.pair_history.specs.Entries.{Entry};
 ghost use Rattle.pair_history.specs.HistoryState.{HistoryState, at};
 ghost use Rattle.pair_history.specs.HistoryState as history;
 ghost use Rattle.growing_history.specs.Steps.{Added, Step, step, Begins, steps_by};
-ghost use Rattle.growing_history.specs.LogState.{start_of, under_way, added, after, Needs, Legal, state_at, history_of, client_seat, sealed_state, IsAlone, is_filling};
+ghost use Rattle.growing_history.specs.LogState.{start_of, under_way, added, after, Needs, Legal, state_at, history_of, client_seat};
+ghost use Rattle.growing_history.specs.LogState.{sealed_state, IsAlone, is_filling};
 ghost use Rattle.growing_history.specs.SealedTexts.{IsMade, AreMade, MakeInTurn};
 ghost use Rattle.growing_history.specs.Entries.{own_entries, announced, IsCall};
 
@@ -56,7 +57,8 @@ pub fn live_numbers_rise()
 pub fn a_call_is_a_point_of_one_history()
     ensures call { (h : HistoryState) (c : ℕ) (old log : List Step) (es : List Entry) → 1 ≤ c → Begins old log
         → Legal h (log ++ step (client_seat c) (Added es) ∷ [])
-        → steps_by (client_seat c) (log ++ step (client_seat c) (Added es) ∷ []) ≡ steps_by (client_seat c) old ++ step (client_seat c) (Added es) ∷ []
+        → steps_by (client_seat c) (log ++ step (client_seat c) (Added es) ∷ []) ≡ steps_by (client_seat c) old ++ step (client_seat c)
+        (Added es) ∷ []
         → IsCall h c old (log ++ step (client_seat c) (Added es) ∷ []) es }
     ensures none { (h : HistoryState) (c : ℕ) (old now : List Step) → 1 ≤ c → Begins old now → Legal h now
         → steps_by (client_seat c) now ≡ steps_by (client_seat c) old
@@ -69,7 +71,8 @@ pub fn a_call_is_a_point_of_one_history()
 pub fn live_members_miss_nothing()
     ensures runner { (h : HistoryState) (old now : List Step) (n : ℕ) → Begins old now → Legal h now → steps_by n now ≡ steps_by n old
         → (state_at h old).runner ≡ n → (state_at h now).runner ≡ n → (state_at h now).marked ≡ 0
-        → ((sealed_state (state_at h now)).guest ≡ (sealed_state (state_at h old)).guest) × ((state_at h now).handed ≡ (state_at h old).handed) }
+        → ((sealed_state (state_at h now)).guest ≡ (sealed_state (state_at h old)).guest)
+        × ((state_at h now).handed ≡ (state_at h old).handed) }
     ensures backup { (h : HistoryState) (old now : List Step) (n : ℕ) → Begins old now → Legal h now → steps_by n now ≡ steps_by n old
         → (state_at h old).backup ≡ n → (state_at h now).backup ≡ n → (IsAlone (state_at h now).mode → ⊥)
         → (IsAlone (state_at h old).mode → ⊥)

@@ -3,7 +3,8 @@ ghost use Rattle.std.specs.Prelude.{◌≡◌, ◌+◌, ◌^◌, ◌<◌, ◌++�
 ghost use Rattle.growing_history.specs.Steps.{step, Begins, steps_by};
 ghost use Rattle.growing_history.specs.LogState.{Legal};
 ghost use Rattle.growing_history.specs.Views.{View, unopened, only_view};
-ghost use Rattle.growing_history.specs.Plays.{Meets, Looks, badge_of, heard, one_more, newcomer, with_member, without_member, member_of, stepped};
+ghost use Rattle.growing_history.specs.Plays.{Meets, Looks, badge_of, heard, one_more, newcomer, with_member, without_member, member_of};
+ghost use Rattle.growing_history.specs.Plays.{stepped};
 ghost use Rattle.growing_history.specs.Calls.{meaning};
 
 use crate::boot::Clock;
@@ -237,7 +238,8 @@ impl<P: Pair> KeeperSeat<P> {
         ensures keeper { self.new ≡ record self.old { steps = self.old.steps ++ step member.old.number (meaning what.now) ∷ [] } }
         ensures member { member.new ≡ record { number = member.old.number; steps = self.new.steps } }
         ensures before { Begins member.old.steps self.old.steps }
-        ensures own { steps_by member.old.number member.new.steps ≡ steps_by member.old.number member.old.steps ++ step member.old.number (meaning what.now) ∷ [] }
+        ensures own { steps_by member.old.number member.new.steps ≡ steps_by member.old.number member.old.steps ++ step member.old.number
+            (meaning what.now) ∷ [] }
     {
         let lent = mem::replace(&mut member.seat, Resting::blank());
         lend(clock, &mut self.seat, lent);
