@@ -1,14 +1,14 @@
 #!/usr/bin/env bash
 # How many bytes a second a guest writes to the disk and reads from it in requests of 8 KiB, through `remus sim`, and what part that is
-# of copying as many bytes in memory (bench/baseline). guests/stream.c writes 64 MiB and then reads 64 MiB; the script is played RUNS
+# of copying as many bytes in memory (oracle/interpreter). guests/stream.c writes 64 MiB and then reads 64 MiB; the script is played RUNS
 # times (20 if left out), three times over, and the best time counts, of the processor and not of the clock. REMUS names another
 # program to measure in the place of the repository's own.
 set -eu
 cd "$(dirname "$0")/.."
 runs=${1:-20}
 program=${REMUS:-crates/remus/out/remus}
-baseline=bench/baseline/target/release/baseline
-# The steps until the guest is done (`baseline until`), and its requests.
+interpreter=oracle/interpreter/target/release/interpreter
+# The steps until the guest is done (`interpreter until`), and its requests.
 steps=581939
 requests=16384
 script=$(mktemp)
@@ -16,7 +16,7 @@ printed=$(mktemp)
 trap 'rm -f "$script" "$printed"' EXIT
 # Built before the clock starts.
 [ -n "${REMUS:-}" ] || ./remus sim /dev/null
-(cd bench/baseline && cargo build --release --quiet)
+(cd oracle/interpreter && cargo build --release --quiet)
 
 {
     printf 'boot 32 4096 1 words '
@@ -42,7 +42,7 @@ least() { awk -v a="$1" -v b="$2" 'BEGIN { print (a < b) ? a : b }'; }
 proved=1e9 plain=1e9
 for _ in 1 2 3; do
     proved=$(least "$proved" "$(seconds play)")
-    plain=$(least "$plain" "$(seconds "$baseline" copy 8192 $((runs * requests)))")
+    plain=$(least "$plain" "$(seconds "$interpreter" copy 8192 $((runs * requests)))")
 done
 # Byte i of each request is i modulo 251, so the last sector of 16 begins at 7680 = 150 modulo 251.
 case $(tail -n 1 "$printed") in

@@ -1,18 +1,19 @@
 #!/usr/bin/env bash
 # What a checkpoint costs: one epoch (change, cut, encode, read, stage and commit) in which 1, 64 or 4096 pages of 4096 change, one block of
-# each or all 64, beside the same in plain Rust (bench/baseline); an epoch of one block in machines of other sizes, beside that of the
-# smallest; and how many bytes a second `remus check-stream` reads of files of 100 MB and more. Processor time, the best of three; a run of
+# each or all 64, beside the same in plain Rust (oracle/interpreter); an epoch of one block in machines of other sizes, beside that of the
+# smallest; an epoch's text of one block and so many frames, encoded and read, beside
+# plain Rust; and how many bytes a second `remus check-stream` reads of files of 100 MB and more. Processor time, the best of three; a run of
 # no epochs, which only boots, is taken off. REMUS names another program to measure in the place of the repository's own.
 set -eu
 cd "$(dirname "$0")/.."
-epochs=$(bench/epochs/build.sh)
+epochs=$(tests/epochs/build.sh)
 program=${REMUS:-crates/remus/out/remus}
-baseline=bench/baseline/target/release/baseline
+interpreter=oracle/interpreter/target/release/interpreter
 folder=$(mktemp -d)
 trap 'rm -rf "$folder"' EXIT
 # Built before the clock starts.
 [ -n "${REMUS:-}" ] || ./remus sim /dev/null
-(cd bench/baseline && cargo build --release --quiet)
+(cd oracle/interpreter && cargo build --release --quiet)
 
 # The least seconds of processor time that a command takes in three runs, its output aside.
 seconds() {
@@ -26,15 +27,15 @@ for blocks in 1 64; do
     for pages in 1 64 4096; do
         rounds=$((400000 / (pages * blocks + 20) + 20))
         proved=$("$epochs" measure "$pages" "$blocks" "$rounds")
-        plain=$("$baseline" checkpoints "$pages" "$blocks" "$rounds")
+        plain=$("$interpreter" checkpoints "$pages" "$blocks" "$rounds")
         [ "$proved" = "$plain" ] || {
             echo "$pages pages, $blocks blocks: $proved bytes, and $plain in plain Rust" >&2
             exit 1
         }
         awk -v pages="$pages" -v blocks="$blocks" -v rounds="$rounds" -v bytes="$proved" \
             -v proved="$(seconds "$epochs" measure "$pages" "$blocks" "$rounds")" -v boot="$(seconds "$epochs" measure "$pages" "$blocks" 0)" \
-            -v plain="$(seconds "$baseline" checkpoints "$pages" "$blocks" "$rounds")" \
-            -v start="$(seconds "$baseline" checkpoints "$pages" "$blocks" 0)" 'BEGIN {
+            -v plain="$(seconds "$interpreter" checkpoints "$pages" "$blocks" "$rounds")" \
+            -v start="$(seconds "$interpreter" checkpoints "$pages" "$blocks" 0)" 'BEGIN {
             a = (proved - boot) / rounds
             b = (plain - start) / rounds
             printf "%4d pages, %2d blocks each, %8d bytes: %9.1f us an epoch, plain Rust %9.1f us, ratio %.2f\n",
@@ -58,9 +59,22 @@ for size in "4096 64" "16 32768"; do
     }'
 done
 
-# Streams of whole pages, of one block a page, of sectors, and of the beacon's checkpoint again and again.
+# Streams of whole pages, of one block a page, of sectors, of the beacon's checkpoint again and again, and of 256 long frames each.
 python3 bench/streams.py "$folder"
-for stream in pages:4096:32768 blocks:4096:32768 sectors:4096:32768 beacons:2:1; do
+for frames in 0x64 1x64 16x64 256x64 1x1514 16x1514 256x1514; do
+    rounds=$((40000000 / (${frames%x*} * ${frames#*x} + 1000)))
+    proved=$("$epochs" frames "$folder/$frames" 2 1 "$rounds")
+    plain=$("$interpreter" frames "$folder/$frames" "$rounds")
+    [ "$proved" = "$plain" ] || {
+        echo "$frames: $proved bytes, and $plain in plain Rust" >&2
+        exit 1
+    }
+    awk -v frames="$frames" -v rounds="$rounds" -v a="$(seconds "$epochs" frames "$folder/$frames" 2 1 "$rounds")" \
+        -v b="$(seconds "$interpreter" frames "$folder/$frames" "$rounds")" 'BEGIN {
+        printf "frames %8s: %9.2f us encoded and read, plain Rust %9.2f us, ratio %.2f\n", frames, a / rounds * 1e6, b / rounds * 1e6, a / b
+    }'
+done
+for stream in pages:4096:32768 blocks:4096:32768 sectors:4096:32768 beacons:2:1 frames:2:1; do
     IFS=: read -r name pages sectors <<<"$stream"
     file=$folder/$name
     awk -v name="$name" -v bytes="$(stat -c %s "$file")" -v s="$(seconds "$program" check-stream "$file" --pages "$pages" --sectors "$sectors")" \

@@ -99,7 +99,7 @@ print(f"arithmetic: alone {count / best['alone'] / 1e6:.0f} million steps a seco
 
 for mode, lines in modes.items():
     with tempfile.NamedTemporaryFile("w", suffix=".sim") as script:
-        script.write("\n".join(["boot 2 1 1 idle", *lines, "step 20000000"]) + "\n")
+        script.write("\n".join([f"boot 2 1 1 words {words}", *lines, "step 20000000"]) + "\n")
         script.flush()
         process, most = subprocess.Popen([PROGRAM, "sim", script.name], stdout=subprocess.DEVNULL), "nothing"
         while process.poll() is None:

@@ -1,17 +1,19 @@
 #!/usr/bin/env bash
-# How many guest steps a second `remus sim` does in three tight loops (bench/loops/*.s), and what part that is of what the
-# interpreter in plain Rust does (bench/baseline). Each runs COUNT steps (50000000 if left out) three times, in turn, and the
-# best time counts, of the processor and not of the clock. REMUS names another program to measure in the place of the repository's own.
+# How many guest steps a second `remus sim` does in three tight loops (bench/loops/*.s) and in guests/sha256.c, whose last jump leads back
+# to its start (bench/loops/sha256.words), and what part that is of what the interpreter in plain Rust does (oracle/interpreter). Each runs
+# COUNT steps (50000000 if left out) nine times, in turn, and the best time counts, of the processor and not of the clock. Where valgrind is
+# there, it also counts the processor's instructions that a step takes in either, which other work beside doesn't change. REMUS names
+# another program to measure in the place of the repository's own.
 set -eu
 cd "$(dirname "$0")/.."
 count=${1:-50000000}
 program=${REMUS:-crates/remus/out/remus}
-baseline=bench/baseline/target/release/baseline
+interpreter=oracle/interpreter/target/release/interpreter
 script=$(mktemp)
 trap 'rm -f "$script"' EXIT
 # Built before the clock starts.
 [ -n "${REMUS:-}" ] || ./remus sim /dev/null
-(cd bench/baseline && cargo build --release --quiet)
+(cd oracle/interpreter && cargo build --release --quiet)
 
 # The seconds of processor time that a command takes, its output aside.
 seconds() {
@@ -19,18 +21,39 @@ seconds() {
     { time "$@" >/dev/null; } 2>&1
 }
 
+# How many instructions a command takes.
+instructions() {
+    valgrind --tool=callgrind --callgrind-out-file=/dev/null "$@" 2>&1 >/dev/null | sed -n 's/.*Collected : //p'
+}
+
+# The script of so many steps of these words.
+script_of() { printf 'boot 64 1 1 words ' && cat "$1" && printf 'step %s\n' "$2"; }
+
+# The instructions that a step takes both programs, from runs of one million and of two.
+counted() {
+    command -v valgrind >/dev/null || return 0
+    local proved=() plain=()
+    for steps in 1000000 2000000; do
+        script_of "$1" "$steps" >"$script"
+        proved+=("$(instructions "$program" sim "$script")")
+        plain+=("$(instructions "$interpreter" run "$1" "$steps")")
+    done
+    awk -v a="${proved[0]}" -v b="${proved[1]}" -v c="${plain[0]}" -v d="${plain[1]}" \
+        'BEGIN { printf ", %.1f and %.1f instructions a step", (b - a) / 1e6, (d - c) / 1e6 }'
+}
+
 # The smaller of two numbers.
 least() { awk -v a="$1" -v b="$2" 'BEGIN { print (a < b) ? a : b }'; }
 
-for loop in arithmetic memory branches; do
+for loop in arithmetic memory branches sha256; do
     words=bench/loops/$loop.words
-    { printf 'boot 2 1 1 words ' && cat "$words" && printf 'step %s\n' "$count"; } >"$script"
+    script_of "$words" "$count" >"$script"
     proved=1e9 plain=1e9
-    for _ in 1 2 3; do
+    for _ in 1 2 3 4 5 6 7 8 9; do
         proved=$(least "$proved" "$(seconds "$program" sim "$script")")
-        plain=$(least "$plain" "$(seconds "$baseline" run "$words" "$count")")
+        plain=$(least "$plain" "$(seconds "$interpreter" run "$words" "$count")")
     done
-    awk -v name="$loop" -v n="$count" -v proved="$proved" -v plain="$plain" 'BEGIN {
-        printf "%-10s %6.1f million steps a second, baseline %6.1f, ratio %.2f\n",
-            name, n / proved / 1e6, n / plain / 1e6, plain / proved }'
+    awk -v name="$loop" -v n="$count" -v proved="$proved" -v plain="$plain" -v counted="$(counted "$words")" 'BEGIN {
+        printf "%-10s %6.1f million steps a second, plain Rust %6.1f, ratio %.2f%s\n",
+            name, n / proved / 1e6, n / plain / 1e6, plain / proved, counted }'
 done

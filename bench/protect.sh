@@ -1,6 +1,6 @@
 #!/usr/bin/env bash
 # What it takes that a node gets a new backup, in a machine of 4096 pages, of which none, 16 or all aren't zero, and on a disk of which no
-# sector or every one is written, beside the same in plain Rust (bench/baseline). First the full checkpoint, as bench/epochs cuts and encodes
+# sector or every one is written, beside the same in plain Rust (oracle/interpreter). First the full checkpoint, as tests/epochs cuts and encodes
 # it: all is compared with zeros, and what isn't zero is copied and encoded. Then the whole line `protect`, which makes the new backup's empty
 # machine besides; plain Rust writes as many zeros. There both take all large memory anew from the system (MALLOC_MMAP_THRESHOLD_), and
 # the backup fails after each, so that the next one can come. Processor time, the best of TIMES (3 if left out) runs each, in turn; a run of
@@ -8,14 +8,14 @@
 #
 # Beside each stands how many bytes the checkpoint has: 532, for each page that isn't zero 12 and 64 for each of its blocks that isn't, for
 # each such sector 516, and for the others none. REMUS names another program to measure in the place of the repository's own, and EPOCHS
-# another build of bench/epochs.
+# another build of tests/epochs.
 set -eu
 cd "$(dirname "$0")/.."
 program=${REMUS:-crates/remus/out/remus}
-epochs=${EPOCHS:-$(bench/epochs/build.sh)}
+epochs=${EPOCHS:-$(tests/epochs/build.sh)}
 # Built before the clock starts.
 [ -n "${REMUS:-}" ] || ./remus sim /dev/null
-(cd bench/baseline && cargo build --release --quiet)
+(cd oracle/interpreter && cargo build --release --quiet)
 exec python3 - "$program" "$epochs" "${1:-3}" <<'PYTHON'
 import os
 import resource
@@ -25,12 +25,11 @@ import sys
 import tempfile
 from pathlib import Path
 
-sys.path.insert(0, "guests")
-from checkpoints import Units, read_one
-from sender import addi, i_type, jump, s_type, upper
+from oracle.checkpoints import Units, read_one
+from oracle.sender import addi, i_type, jump, s_type, upper
 
 PROGRAM, EPOCHS, TIMES = sys.argv[1], sys.argv[2], int(sys.argv[3])
-BASELINE = "bench/baseline/target/release/baseline"
+INTERPRETER = "oracle/interpreter/target/release/interpreter"
 PAGES, BLOCK, PAGE = 4096, 64, 4096
 # So many bytes of checkpoints are made in one run, but no more rounds than that.
 BYTES, ROUNDS = 400_000_000, 100
@@ -78,11 +77,11 @@ def has_protected(printed, rounds):
 
 
 def plain(folder, steps, sectors, zeros, rounds):
-    return [BASELINE, "protect", str(PAGES), str(sectors), f"{folder}/words", str(steps), zeros, str(rounds)]
+    return [INTERPRETER, "protect", str(PAGES), str(sectors), f"{folder}/words", str(steps), zeros, str(rounds)]
 
 
 def size_of_full(image, steps, sectors):
-    """The bytes of the full checkpoint among those that bench/epochs cuts of a guest, and how many pages and sectors stand there."""
+    """The bytes of the full checkpoint among those that tests/epochs cuts of a guest, and how many pages and sectors stand there."""
     command = [EPOCHS, "cuts", str(image), str(PAGES), str(sectors), str(steps)]
     units = Units(subprocess.run(command, check=True, capture_output=True).stdout)
     while True:

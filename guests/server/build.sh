@@ -1,27 +1,49 @@
 #!/usr/bin/env bash
-# Makes ../words/server.words anew: fetches Debian's source package of lwIP, builds it with the sources beside this script, and writes
-# the image as words. Nothing of lwIP is kept here. It needs, on Debian: apt-get install gcc-riscv64-unknown-elf curl patch xz-utils.
-# The committed words are those of gcc 12.2.0 and binutils 2.40.
+# Fetches Debian's source package of lwIP, builds it with the sources beside this script, and says whether the images of ../words have the
+# words that come out: server.words, to which a thousand steps are a millisecond, and server_50000.words. With --write it writes them
+# there. `build.sh STEPS` prints the words of a server to which so many steps are one. Nothing of lwIP is kept here. It needs, on Debian:
+# apt-get install gcc-riscv64-unknown-elf dpkg-dev patch xz-utils. The committed words are those of gcc 12.2.0 and binutils 2.40.
 #
-# DEBIAN names another mirror, for when Debian no longer has this version: DEBIAN=http://archive.debian.org/debian, say.
-# LISTING names a folder for the program as it was linked, and its listing.
+# The source package comes through apt, from where this machine has its packages from. SOURCES names a folder that has its files already.
+# LISTING names a folder for the programs as they were linked, and their listings.
 set -eu
 here=$(dirname "$(readlink -f "$0")")
-# Without TLS, as apt does: what came is known by its hash.
-mirror=${DEBIAN:-http://deb.debian.org/debian}
 version=2.1.3+dfsg1
 revision=2
 room=$(mktemp -d)
 trap 'rm -rf "$room"' EXIT
 
-# fetch NAME SHA256: a file of the source package, if it is the one that was built from when the words were committed.
+# Fetches the source package's files by apt, whose lists of sources are made for this from those of packages.
 fetch() {
-    curl -sSfL -o "$room/$1" "$mirror/pool/main/l/lwip/$1"
-    echo "$2  $room/$1" | sha256sum --check --quiet
+    local list apt
+    mkdir -p "$room/apt/parts" "$room/apt/lists/partial"
+    for list in /etc/apt/sources.list /etc/apt/sources.list.d/*.list; do
+        [ ! -e "$list" ] || sed 's/^deb /deb-src /' "$list" >"$room/apt/parts/$(basename "$list" .list).list"
+    done
+    for list in /etc/apt/sources.list.d/*.sources; do
+        [ ! -e "$list" ] || sed 's/^Types:.*/Types: deb-src/' "$list" >"$room/apt/parts/$(basename "$list")"
+    done
+    apt="apt-get -q -o APT::Sandbox::User=root -o Dir::Etc::SourceList=/dev/null -o Dir::Etc::SourceParts=$room/apt/parts
+        -o Dir::State::Lists=$room/apt/lists"
+    # A place that has no sources spoils nothing.
+    $apt update >"$room/apt/said" 2>&1 || true
+    (cd "$room" && $apt source --download-only "lwip=$version-$revision") >>"$room/apt/said" 2>&1 || {
+        cat "$room/apt/said" >&2
+        echo "$0: apt doesn't have the sources of lwip $version-$revision; SOURCES=FOLDER names a folder that has them" >&2
+        exit 1
+    }
 }
 
-fetch "lwip_$version.orig.tar.xz" 0a8276d09fc4e97bbba2f953d74af2388fc2195ea156be9d7589e297a68fde24
-fetch "lwip_$version-$revision.debian.tar.xz" c5a48413d362cc757032cdd58f528f75eb64ee781ca46ca24f010b49b0e62a90
+# known NAME SHA256: whether a file of the source package is the one that was built from when the words were committed.
+known() { (cd "$room" && echo "$2  $1" | sha256sum --check --quiet); }
+
+if [ -n "${SOURCES:-}" ]; then
+    cp "$SOURCES"/lwip_* "$room"
+else
+    fetch
+fi
+known "lwip_$version.orig.tar.xz" 0a8276d09fc4e97bbba2f953d74af2388fc2195ea156be9d7589e297a68fde24
+known "lwip_$version-$revision.debian.tar.xz" c5a48413d362cc757032cdd58f528f75eb64ee781ca46ca24f010b49b0e62a90
 mkdir "$room/lwip"
 tar -xf "$room/lwip_$version.orig.tar.xz" -C "$room/lwip" --strip-components=1
 tar -xf "$room/lwip_$version-$revision.debian.tar.xz" -C "$room/lwip"
@@ -30,7 +52,7 @@ while read -r name; do
 done <"$room/lwip/debian/patches/series"
 
 cp -r "$here" "$room/server"
-cp "$here/../virtio.h" "$here/../start.s" "$room"
+cp -r "$here/../lib" "$room/lib"
 cd "$room"
 core="init def inet_chksum ip mem memp netif pbuf tcp tcp_in tcp_out timeouts
     ipv4/etharp ipv4/icmp ipv4/ip4 ipv4/ip4_addr"
@@ -40,16 +62,48 @@ for name in $core; do
 done
 sources="$sources lwip/src/netif/ethernet.c lwip/src/apps/http/httpd.c lwip/src/apps/http/fs.c"
 
-# The paths are the same in every folder, so that the words are; lwIP's files warn of nothing under -Wall alone.
-# shellcheck disable=SC2086
-riscv64-unknown-elf-gcc -march=rv64im_zicsr -mabi=lp64 -mcmodel=medany -mno-relax -mstrict-align -O2 -std=c11 -Wall \
-    -ffreestanding -nostdlib -static -fno-builtin -fno-tree-loop-distribute-patterns -fno-pic -fno-asynchronous-unwind-tables \
-    -ffunction-sections -fdata-sections -Wl,--gc-sections -Wl,--build-id=none -Wl,--no-warn-rwx-segments \
-    -Iserver -Iserver/libc -Ilwip/src/include -T server/server.ld -o server.elf start.s $sources
-riscv64-unknown-elf-objcopy -O binary -j .image server.elf server.bin
-od -An -v -tx4 -w4 --endian=little server.bin | tr -d ' ' | paste -sd' ' >"$here/../words/server.words"
-echo "server: $(wc -w <"$here/../words/server.words") words"
-if [ -n "${LISTING:-}" ]; then
-    cp server.elf "$LISTING"
-    riscv64-unknown-elf-objdump -d server.elf >"$LISTING/server.list"
-fi
+# compile NAME STEPS: NAME.words, of a server to which so many steps are a millisecond. The paths are the same in every folder, so that the
+# words are; lwIP's files warn of nothing under -Wall alone.
+compile() {
+    # shellcheck disable=SC2086
+    riscv64-unknown-elf-gcc -march=rv64im_zicsr -mabi=lp64 -mcmodel=medany -mno-relax -mstrict-align -O2 -std=c11 -Wall \
+        -ffreestanding -nostdlib -static -fno-builtin -fno-tree-loop-distribute-patterns -fno-pic -fno-asynchronous-unwind-tables \
+        -ffunction-sections -fdata-sections -Wl,--gc-sections -Wl,--build-id=none -Wl,--no-warn-rwx-segments \
+        -Wl,--defsym=pages=1024,--defsym=stack_bytes=16384 -T lib/guest.ld -DSTEPS_A_MILLISECOND="$2" -Iserver -Iserver/libc \
+        -Ilwip/src/include -o "$1.elf" lib/start.s $sources
+    riscv64-unknown-elf-objcopy -O binary -j .image "$1.elf" "$1.bin"
+    od -An -v -tx4 -w4 --endian=little "$1.bin" | tr -d ' ' | paste -sd' ' >"$1.words"
+    if [ -n "${LISTING:-}" ]; then
+        cp "$1.elf" "$LISTING"
+        riscv64-unknown-elf-objdump -d "$1.elf" >"$LISTING/$1.list"
+    fi
+}
+
+differ=0
+# keep NAME: takes the words that were compiled for ../words.
+keep() {
+    if [ "$write" = --write ]; then
+        cp "$1.words" "$here/../words/$1.words"
+        echo "words/$1.words: written, $(wc -w <"$1.words") words"
+    elif cmp -s "$1.words" "$here/../words/$1.words"; then
+        echo "words/$1.words: $(wc -w <"$1.words") words"
+    else
+        echo "words/$1.words: differs"
+        differ=1
+    fi
+}
+
+write=${1:-}
+case $write in
+"" | --write)
+    compile server 1000
+    compile server_50000 50000
+    keep server
+    keep server_50000
+    ;;
+*)
+    compile server "$write"
+    cat server.words
+    ;;
+esac
+exit "$differ"

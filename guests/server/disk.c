@@ -3,7 +3,7 @@
 #include "disk.h"
 
 #include "arch/cc.h"
-#include "../virtio.h"
+#include "../lib/virtio.h"
 
 #define BLOCK_DEVICE 2
 

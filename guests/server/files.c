@@ -1,5 +1,5 @@
-/* The files of lwIP's server (LWIP_HTTPD_CUSTOM_FILES): '/' is a page, '/count' a counter in a sector of the disk, and '/big' 200,000
-   bytes of the disk. */
+/* The files of lwIP's server (LWIP_HTTPD_CUSTOM_FILES): '/' is a page that loads itself again each second, '/count' a counter in a sector
+   of the disk, and '/big' 200,000 bytes of the disk. */
 #include "files.h"
 
 #include <string.h>
@@ -7,6 +7,8 @@
 #include "disk.h"
 #include "lwip/apps/fs.h"
 #include "lwip/def.h"
+#include "lwip/mem.h"
+#include "lwip/sys.h"
 
 /* The disk: sector 0 has the counter, and the bytes of '/big' stand from sector BIG_SECTOR on. */
 #define BIG_SECTOR 1
@@ -19,20 +21,22 @@
 /* The first bytes of sector 0 on a disk that was written: 'counter' and a zero. */
 #define WRITTEN 0x007265746e756f63
 
-/* The longest number, and the newline after it. */
-#define LONGEST 21
+/* The longest number, and the longest file that is made when it is asked for. */
+#define LONGEST 20
+#define LONGEST_TEXT 1024
 
 struct head {
     uint64_t written;
-    uint64_t count;
-    uint8_t rest[SECTOR - 16];
+    uint64_t count; /* How often '/count' was asked for. */
+    uint64_t pages; /* How often '/' was. */
+    uint8_t rest[SECTOR - 24];
 };
 
-static const char page[] =
-    "<!doctype html><title>A server that survives</title>\n"
-    "<p>This page comes from lwIP's own server.\n"
-    "<p><a href=/count>/count</a> says how often it was asked for.\n"
-    "<p><a href=/big>/big</a> has 200,000 bytes.\n";
+/* A file that is made when it is asked for, until it is closed. */
+struct text {
+    int length;
+    char bytes[LONGEST_TEXT];
+};
 
 static struct head head;
 static uint64_t sectors[AT_ONCE * SECTOR / 8];
@@ -62,57 +66,99 @@ int files_start(void) {
         write_big();
         /* Last, so that a disk that says that it was written has all the rest. */
         head.written = WRITTEN;
-        head.count = 0;
+        head.count = head.pages = 0;
         disk_write(0, &head, 1);
     }
     return 1;
 }
 
-/* The number and a newline. Answers how many bytes they are. */
-static int spell(char *text, uint64_t number) {
-    char digits[LONGEST];
+static void add(struct text *text, const char *more) {
+    while (*more != '\0' && text->length < LONGEST_TEXT)
+        text->bytes[text->length++] = *more++;
+}
+
+/* The number, in so many digits at least. */
+static void add_number(struct text *text, uint64_t number, int least) {
+    char digits[LONGEST + 1];
     int at = LONGEST;
-    digits[--at] = '\n';
+    digits[at] = '\0';
     do
         digits[--at] = (char)('0' + number % 10);
-    while (number /= 10);
-    memcpy(text, digits + at, (size_t)(LONGEST - at));
-    return LONGEST - at;
+    while (number /= 10, number != 0 || LONGEST - at < least);
+    add(text, digits + at);
+}
+
+static void add_time(struct text *text, uint32_t seconds) {
+    add_number(text, seconds / 3600, 1);
+    add(text, ":");
+    add_number(text, seconds / 60 % 60, 2);
+    add(text, ":");
+    add_number(text, seconds % 60, 2);
 }
 
 /* Counts once more. The sector is on the disk before the answer is made. */
-static uint64_t count_once(void) {
-    head.count++;
+static void count_once(uint64_t *count) {
+    ++*count;
     disk_write(0, &head, 1);
-    return head.count;
 }
 
-/* Opens what is in memory as a whole, or, where `data` is NULL, what `fs_read_custom` reads. */
-static int open(struct fs_file *file, const char *data, int length, uint64_t count) {
+static void make_page(struct text *text) {
+    count_once(&head.pages);
+    add(text, "<!doctype html><meta http-equiv=refresh content=1><title>A server that survives</title>\n"
+              "<body style='font:20px sans-serif;margin:2em'><h1>A server that survives</h1>\n"
+              "<p>This page was loaded <b>");
+    add_number(text, head.pages, 1);
+    add(text, "</b> times, and <a href=/count>/count</a> stands at <b>");
+    add_number(text, head.count, 1);
+    add(text, "</b>.\n<p>The server has been up for <b>");
+    add_time(text, sys_now() / 1000);
+    add(text, "</b>, and never went down.\n"
+              "<p>It is lwIP's own server, and <a href=/big>/big</a> has 200,000 bytes of its disk.\n");
+}
+
+/* With its own head: lwIP's would call it a file to be kept, since its name has no ending. */
+static void make_count(struct text *text) {
+    struct text body = {0};
+    count_once(&head.count);
+    add_number(&body, head.count, 1);
+    add(&body, "\n");
+    add(text, "HTTP/1.1 200 OK\r\nContent-Type: text/plain\r\nContent-Length: ");
+    add_number(text, (uint64_t)body.length, 1);
+    add(text, "\r\n\r\n");
+    add(text, body.bytes);
+}
+
+/* Opens what `fs_read_custom` reads: a text, or, where that is NULL, '/big'. */
+static int open(struct fs_file *file, struct text *text, u8_t flags) {
     memset(file, 0, sizeof *file);
-    file->data = data;
-    file->len = length;
-    file->index = data == NULL ? 0 : length;
-    /* For '/count', the number itself; for '/big', NULL. */
-    file->pextension = (void *)count;
-    file->flags = FS_FILE_FLAGS_HEADER_PERSISTENT;
+    file->len = text == NULL ? BIG_BYTES : text->length;
+    file->pextension = text;
+    file->flags = flags | FS_FILE_FLAGS_HEADER_PERSISTENT;
     return 1;
 }
 
-int fs_open_custom(struct fs_file *file, const char *name) {
-    char text[LONGEST];
-    if (strcmp(name, "/index.html") == 0)
-        return open(file, page, sizeof page - 1, 0);
-    if (strcmp(name, "/big") == 0)
-        return open(file, NULL, BIG_BYTES, 0);
-    if (strcmp(name, "/count") == 0) {
-        uint64_t count = count_once();
-        return open(file, NULL, spell(text, count), count);
-    }
-    return 0;
+/* Opens a file that is made now. Without memory for it there is no such file. */
+static int open_made(struct fs_file *file, void (*make)(struct text *), u8_t flags) {
+    struct text *text = mem_malloc(sizeof *text);
+    if (text == NULL)
+        return 0;
+    memset(text, 0, sizeof *text);
+    make(text);
+    return open(file, text, flags);
 }
 
-void fs_close_custom(struct fs_file *file) { LWIP_UNUSED_ARG(file); }
+int fs_open_custom(struct fs_file *file, const char *name) {
+    if (strcmp(name, "/index.html") == 0)
+        return open_made(file, make_page, 0);
+    if (strcmp(name, "/count") == 0)
+        return open_made(file, make_count, FS_FILE_FLAGS_HEADER_INCLUDED);
+    return strcmp(name, "/big") == 0 && open(file, NULL, 0);
+}
+
+void fs_close_custom(struct fs_file *file) {
+    if (file->pextension != NULL)
+        mem_free(file->pextension);
+}
 
 /* Reads from one place of '/big' as much as one request reads. Answers how many bytes. */
 static int read_big(char *to, int from, int most) {
@@ -124,15 +170,13 @@ static int read_big(char *to, int from, int most) {
 }
 
 int fs_read_custom(struct fs_file *file, char *buffer, int count) {
-    char text[LONGEST];
+    const struct text *text = file->pextension;
     int wanted = LWIP_MIN(count, file->len - file->index);
-    if (file->pextension == NULL) {
+    if (text != NULL)
+        memcpy(buffer, text->bytes + file->index, (size_t)wanted);
+    else
         for (int done = 0; done < wanted;)
             done += read_big(buffer + done, file->index + done, wanted - done);
-    } else {
-        spell(text, (uint64_t)file->pextension);
-        memcpy(buffer, text + file->index, (size_t)wanted);
-    }
     file->index += wanted;
     return wanted;
 }

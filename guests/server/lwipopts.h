@@ -17,18 +17,24 @@
 
 /* A word is aligned to 8 bytes here: pointers have as many. */
 #define MEM_ALIGNMENT 8
-#define MEM_SIZE (96 * 1024)
-#define MEMP_NUM_TCP_SEG 64
-#define PBUF_POOL_SIZE 32
+
+/* Places for 32 connections: each has the server's state and a buffer, a window of frames on their way with the segments that hold them,
+   and parts of frames that stand in no buffer. */
+#define CONNECTIONS 32
+#define MEMP_NUM_TCP_PCB CONNECTIONS
+#define MEMP_NUM_TCP_SEG (CONNECTIONS * TCP_SND_QUEUELEN)
+#define MEMP_NUM_PBUF (CONNECTIONS * 8)
+#define MEM_SIZE (CONNECTIONS * 96 * 1024)
+#define PBUF_POOL_SIZE 128
 
 /* The checksum that adds four bytes at a time. */
 #define LWIP_CHKSUM_ALGORITHM 3
 
-/* Whole frames, and sixteen of them on their way. */
+/* Whole frames, and 64 KB of them on their way. */
 #define TCP_MSS 1460
-#define TCP_WND (8 * TCP_MSS)
-#define TCP_SND_BUF (16 * TCP_MSS)
-#define TCP_SND_QUEUELEN 64
+#define TCP_WND (44 * TCP_MSS)
+#define TCP_SND_BUF (44 * TCP_MSS)
+#define TCP_SND_QUEUELEN 96
 
 /* The server: every file is opened and read by files.c, its headers are made as it is sent, and a client may ask again on the same
    connection. */
@@ -37,7 +43,11 @@
 #define LWIP_HTTPD_DYNAMIC_HEADERS 1
 #define LWIP_HTTPD_SUPPORT_11_KEEPALIVE 1
 #define HTTPD_FSDATA_FILE "no_pages.h"
-/* As much as the connection takes is read at once, and not two frames' worth. */
+/* So much of a file is read at once. */
+#define HTTPD_MAX_WRITE_LEN(connection) (16 * TCP_MSS)
 #define HTTPD_LIMIT_SENDING_TO_2MSS 0
+/* A connection on which nothing goes on for a minute is closed: one poll is two seconds. By default eight seconds would be enough, and
+   failures in a row can keep a client silent for longer. */
+#define HTTPD_MAX_RETRIES 30
 
 #endif

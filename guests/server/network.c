@@ -6,7 +6,7 @@
 #include "lwip/pbuf.h"
 #include "netif/ethernet.h"
 
-#include "../virtio.h"
+#include "../lib/virtio.h"
 
 #define NETWORK_DEVICE 1
 #define RECEIVE 0

@@ -12,9 +12,11 @@
 #include "lwip/timeouts.h"
 #include "netif/ethernet.h"
 
-/* The register that counts the machine's steps. A thousand of them are a millisecond to this server. */
+/* The register that counts the machine's steps. So many of them are a millisecond to this server (build.sh). */
 #define MTIME 0x0200bff8UL
+#ifndef STEPS_A_MILLISECOND
 #define STEPS_A_MILLISECOND 1000
+#endif
 
 void stop(void) {
     for (;;)

@@ -1,0 +1,207 @@
+//! Epochs of a checkpoint in plain Rust: pages change, and those that were written are compared with what they were, XORed, encoded,
+//! decoded and applied to a second memory. The bytes are those of docs/CHECKPOINT.md, with a head of zeros but for its counts.
+
+pub const PAGE: usize = 4096;
+pub const BLOCK: usize = 64;
+pub const SECTOR: usize = 512;
+const PAGES: usize = 4096;
+/// The bytes of the head, before the count of the page records.
+const HEAD: usize = 524;
+
+type Block = [u8; BLOCK];
+
+struct Memory {
+    bytes: Vec<u8>,
+    originals: Vec<u8>,
+    written: Vec<bool>,
+}
+
+/// The page records, their blocks, the sector records, and the frames.
+#[derive(Default)]
+pub struct Delta {
+    pub pages: Vec<(u32, u64)>,
+    pub blocks: Vec<Block>,
+    pub sectors: Vec<(u32, [u8; SECTOR])>,
+    pub frames: Vec<Vec<u8>>,
+}
+
+/// Runs so many epochs, in each of which so many blocks of so many pages change. Answers how many bytes their checkpoints had.
+pub fn run(pages: usize, blocks: usize, rounds: u64) -> u64 {
+    let mut live = Memory::new();
+    let mut image = vec![0; PAGES * PAGE];
+    let mut bytes = 0;
+    for _ in 0..rounds {
+        live.change(pages, blocks);
+        let text = encode(&live.cut());
+        live.settle();
+        bytes += text.len() as u64;
+        apply(
+            &mut image,
+            &decode(&text).expect("what was encoded is read back"),
+        );
+    }
+    assert!(image == live.bytes, "the image is the memory");
+    bytes
+}
+
+/// Encodes and reads a checkpoint so many times. Answers how many bytes its texts had.
+pub fn copy(text: &[u8], rounds: u64) -> u64 {
+    let mut delta = decode(text).expect("a checkpoint");
+    let mut bytes = 0;
+    for _ in 0..rounds {
+        let text = std::hint::black_box(encode(&delta));
+        bytes += text.len() as u64;
+        delta = decode(&text).expect("what was encoded is read back");
+    }
+    bytes
+}
+
+impl Memory {
+    fn new() -> Memory {
+        Memory {
+            bytes: vec![0; PAGES * PAGE],
+            originals: vec![0; PAGES * PAGE],
+            written: vec![false; PAGES],
+        }
+    }
+
+    fn change(&mut self, pages: usize, blocks: usize) {
+        for page in 0..pages {
+            for block in 0..blocks {
+                xor_into(
+                    &mut self.bytes[page * PAGE + block * BLOCK..][..BLOCK],
+                    &std::hint::black_box([1; BLOCK]),
+                );
+                self.written[page] = true;
+            }
+        }
+    }
+
+    fn cut(&self) -> Delta {
+        let mut delta = Delta::default();
+        for page in 0..PAGES {
+            if !self.written[page] {
+                continue;
+            }
+            let range = page * PAGE..(page + 1) * PAGE;
+            let (old, new) = (&self.originals[range.clone()], &self.bytes[range]);
+            let mut mask = 0;
+            for (i, (old, new)) in old
+                .chunks_exact(BLOCK)
+                .zip(new.chunks_exact(BLOCK))
+                .enumerate()
+            {
+                if old != new {
+                    mask |= 1u64 << i;
+                    let mut block: Block = new.try_into().expect("a block");
+                    xor_into(&mut block, old.try_into().expect("a block"));
+                    delta.blocks.push(block);
+                }
+            }
+            if mask != 0 {
+                delta.pages.push((page as u32, mask));
+            }
+        }
+        delta
+    }
+
+    fn settle(&mut self) {
+        for page in 0..PAGES {
+            if std::mem::take(&mut self.written[page]) {
+                let range = page * PAGE..(page + 1) * PAGE;
+                self.originals[range.clone()].copy_from_slice(&self.bytes[range]);
+            }
+        }
+    }
+}
+
+fn xor_into(bytes: &mut [u8], change: &Block) {
+    for (byte, change) in bytes.iter_mut().zip(change) {
+        *byte ^= change;
+    }
+}
+
+pub fn encode(delta: &Delta) -> Vec<u8> {
+    let mut text = Vec::with_capacity(
+        HEAD + 12
+            + 12 * delta.pages.len()
+            + BLOCK * delta.blocks.len()
+            + (4 + SECTOR) * delta.sectors.len()
+            + delta.frames.iter().map(|frame| 4 + frame.len()).sum::<usize>(),
+    );
+    text.resize(HEAD, 0);
+    text.extend_from_slice(&(delta.pages.len() as u32).to_le_bytes());
+    let mut blocks = delta.blocks.iter();
+    for (page, mask) in &delta.pages {
+        text.extend_from_slice(&page.to_le_bytes());
+        text.extend_from_slice(&mask.to_le_bytes());
+        for block in blocks.by_ref().take(mask.count_ones() as usize) {
+            text.extend_from_slice(block);
+        }
+    }
+    text.extend_from_slice(&(delta.sectors.len() as u32).to_le_bytes());
+    for (sector, bytes) in &delta.sectors {
+        text.extend_from_slice(&sector.to_le_bytes());
+        text.extend_from_slice(bytes);
+    }
+    text.extend_from_slice(&(delta.frames.len() as u32).to_le_bytes());
+    for frame in &delta.frames {
+        text.extend_from_slice(&(frame.len() as u32).to_le_bytes());
+        text.extend_from_slice(frame);
+    }
+    text
+}
+
+fn decode(text: &[u8]) -> Option<Delta> {
+    let mut delta = Delta::default();
+    let (count, mut rest) = text.get(HEAD..)?.split_first_chunk::<4>()?;
+    let mut from = 0;
+    for _ in 0..u32::from_le_bytes(*count) {
+        let (page, after) = rest.split_first_chunk::<4>()?;
+        let (mask, mut after) = after.split_first_chunk::<8>()?;
+        let (page, mask) = (u32::from_le_bytes(*page), u64::from_le_bytes(*mask));
+        if page < from || page as usize >= PAGES || mask == 0 {
+            return None;
+        }
+        from = page + 1;
+        delta.pages.push((page, mask));
+        for _ in 0..mask.count_ones() {
+            let (block, next) = after.split_first_chunk::<BLOCK>()?;
+            if block.iter().all(|byte| *byte == 0) {
+                return None;
+            }
+            delta.blocks.push(*block);
+            after = next;
+        }
+        rest = after;
+    }
+    let (sectors, rest) = rest.split_first_chunk::<4>()?;
+    let (count, mut rest) = rest.split_first_chunk::<4>()?;
+    if *sectors != [0; 4] || u32::from_le_bytes(*count) > 256 {
+        return None;
+    }
+    for _ in 0..u32::from_le_bytes(*count) {
+        let (length, after) = rest.split_first_chunk::<4>()?;
+        let length = u32::from_le_bytes(*length) as usize;
+        if !(14..=1514).contains(&length) {
+            return None;
+        }
+        let (frame, after) = after.split_at_checked(length)?;
+        delta.frames.push(frame.to_vec());
+        rest = after;
+    }
+    rest.is_empty().then_some(delta)
+}
+
+fn apply(image: &mut [u8], delta: &Delta) {
+    let mut blocks = delta.blocks.iter();
+    for (page, mask) in &delta.pages {
+        for i in (0..BLOCK).filter(|i| mask >> i & 1 == 1) {
+            let start = *page as usize * PAGE + i * BLOCK;
+            xor_into(
+                &mut image[start..start + BLOCK],
+                blocks.next().expect("a block for each bit"),
+            );
+        }
+    }
+}
