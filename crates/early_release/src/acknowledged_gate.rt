@@ -2,7 +2,7 @@
 ghost use Rattle.std.specs.Prelude.{◌≡◌, ◌<◌, ◌≤◌, [], ◌∷◌, ◌++◌, List, length, All};
 ghost use Rattle.frame_ports.specs.Addresses.{IsFrame};
 ghost use Rattle.output_gate.specs.Epochs.{Epoch, epoch, frames_to, after_number, ports_after};
-ghost use Rattle.output_gate.specs.declared.limits.TheConstants.{MAX_EPOCHS, MAX_FRAMES};
+ghost use Rattle.output_gate.specs.Limits.{max_epochs, max_frames};
 
 use frame_ports::Ports;
 use output_gate::{Frame, Landed};
@@ -15,9 +15,9 @@ pub(crate) trait AcknowledgedGate {
 
     /// Holds the frames of the epoch that the checkpoint `number` ends. Nothing lands.
     fn hold(&mut self, number: u64, frames: &[Frame], ports: &mut Ports) -> Landed
-        requires room { length (held self.old) < MAX_EPOCHS }
+        requires room { length (held self.old) < max_epochs }
         requires above { All (λ e. e.number < number) (held self.old) }
-        requires few { length frames.now ≤ MAX_FRAMES }
+        requires few { length frames.now ≤ max_frames }
         requires frames { All IsFrame frames.now }
         ensures held { held self.new ≡ held self.old ++ epoch number frames.now ∷ [] }
         ensures ports { ports.new ≡ ports.old };

@@ -2,7 +2,7 @@
 ghost use Rattle.std.specs.Prelude.{ℕ, ◌<◌, ◌≤◌, ◌++◌, List, length, All};
 ghost use Rattle.frame_ports.specs.Addresses.{IsFrame};
 ghost use Rattle.output_gate.specs.Epochs.{Epoch, frames_of};
-ghost use Rattle.output_gate.specs.declared.limits.TheConstants.{MAX_EPOCHS, MAX_FRAMES};
+ghost use Rattle.output_gate.specs.Limits.{max_epochs, max_frames};
 ghost use Rattle.early_release.specs.Weak.{OnlyLands};
 
 use frame_ports::Ports;
@@ -16,9 +16,9 @@ pub(crate) trait StartingGate {
 
     /// Holds the frames of the epoch that the checkpoint `number` ends.
     fn hold(&mut self, number: u64, frames: &[Frame], ports: &mut Ports) -> Landed
-        requires room { length (epochs self.old) < MAX_EPOCHS }
+        requires room { length (epochs self.old) < max_epochs }
         requires above { All (λ e. e.number < number) (epochs self.old) }
-        requires few { length frames.now ≤ MAX_FRAMES }
+        requires few { length frames.now ≤ max_frames }
         requires frames { All IsFrame frames.now }
         ensures { OnlyLands (frames_of (epochs self.old) ++ frames.now) ports.old ports.new };
 

@@ -30,7 +30,7 @@ use Rattle.std.proofs.lemmas.List.{get_or-set_same, get_or-set_other, length_pus
 use Rattle.std.proofs.lemmas.List.Elements.{All-set, All-push, All-head, All-tail}
 use Rattle.frame_ports.specs.Addresses.{IsFrame}
 use Rattle.frame_ports.specs.Ports.{PortsState, IsPorts, IsBox}
-use Rattle.frame_ports.specs.declared.limits.TheConstants.{BOX_FRAMES}
+use Rattle.frame_ports.specs.Limits.{box_frames}
 use Rattle.arrayvec.specs.ArrayVec.{ArrayVec}
 use Rattle.frame_ports.specs.Lands.{list_of, with_list, has_room, landed_at, lands, put_count, drop_count}
 
@@ -107,7 +107,7 @@ boxes-landed_at boxes c f frame inside all = by_room (has_room boxes c) refl
 
     by_room : (b : Bool) → has_room boxes c ≡ b → All IsBox (if b then with_list boxes c (list_of boxes c ++ f ∷ []) else boxes)
     by_room true room =
-        let lt : length (list_of boxes c) < BOX_FRAMES = ltb-true (length (list_of boxes c)) BOX_FRAMES room in
+        let lt : length (list_of boxes c) < box_frames = ltb-true (length (list_of boxes c)) box_frames room in
         All-set IsBox boxes (c - 1) (list_of boxes c ++ f ∷ [])
         (omega (arith, length_push (list_of boxes c) f), All-push IsFrame (list_of boxes c) f box.1 frame) all
     by_room false room = all

@@ -75,7 +75,7 @@ use Rattle.frame_ports.specs.Ports.{
   with_box,
 }
 use Rattle.frame_ports.specs.Fields.{rings_items, ports_state, AreFields}
-use Rattle.frame_ports.specs.declared.limits.TheConstants.{MAX_CLIENTS, INBOX_FRAMES, BOX_FRAMES, NUMBER_LIMIT}
+use Rattle.frame_ports.specs.Limits.{max_clients, inbox_frames, box_frames, number_limit}
 use Rattle.frame_ports.specs.declared.ports.Ports.TheInside.{Inside}
 
 module _ {X : Type 0} where
@@ -97,7 +97,7 @@ client_from_test s c h = grind arith
 module _ (p : Inside) (c : ℕ) where
   -- what an inbox and a box hold, and how much they can hold
   pub inbox_at : (r : Buffer (ℕ × ArrayVec ℕ)) → AreFields p → IsClient (ports_state p) c → r ≡ slice_index_or p.inboxes.items (c - 1) r →
-      (inbox_of (ports_state p) c ≡ r.items) × IsInbox r.items × (r.capacity ≡ INBOX_FRAMES)
+      (inbox_of (ports_state p) c ≡ r.items) × IsInbox r.items × (r.capacity ≡ inbox_frames)
   inbox_at r ok client read =
       let pairs : length p.inboxes.items ≡ length p.boxes.items =
       sym (length-map p.inboxes.items (λ (b : Buffer (ℕ × ArrayVec ℕ)). b.items)) ∙ ok.state.pairs
@@ -110,12 +110,12 @@ module _ (p : Inside) (c : ℕ) where
       let same : inbox_of (ports_state p) c ≡ r.items = list_of-ring p.inboxes.items c r inside read in (
         same,
         subst IsInbox same (ok.state.inboxes (c - 1) [] inside'),
-        at_ring (λ b. b.capacity ≡ INBOX_FRAMES) p.inboxes.items (c - 1) r
+        at_ring (λ b. b.capacity ≡ inbox_frames) p.inboxes.items (c - 1) r
             inside read ok.inboxes,
       )
 
   pub box_at : (r : Buffer (ArrayVec ℕ)) → AreFields p → IsClient (ports_state p) c → r ≡ slice_index_or p.boxes.items (c - 1) r →
-      (box_of (ports_state p) c ≡ r.items) × IsBox r.items × (r.capacity ≡ BOX_FRAMES)
+      (box_of (ports_state p) c ≡ r.items) × IsBox r.items × (r.capacity ≡ box_frames)
   box_at r ok client read =
       let count : length (rings_items p.boxes.items) ≡ length p.boxes.items =
       length-map p.boxes.items (λ (b : Buffer (ArrayVec ℕ)). b.items) in
@@ -124,7 +124,7 @@ module _ (p : Inside) (c : ℕ) where
       let same : box_of (ports_state p) c ≡ r.items = list_of-ring p.boxes.items c r inside read in (
         same,
         subst IsBox same (ok.state.boxes (c - 1) [] inside'),
-        at_ring (λ b. b.capacity ≡ BOX_FRAMES) p.boxes.items (c - 1) r inside
+        at_ring (λ b. b.capacity ≡ box_frames) p.boxes.items (c - 1) r inside
             read ok.boxes,
       )
 
@@ -148,8 +148,8 @@ module _ (p : Inside) (c : ℕ) where
       (map-set (λ (b : Buffer (ArrayVec ℕ)). b.items) p.boxes.items (c - 1) r)
 
   -- they are ports again
-  pub fields-inbox_put : (n : ℕ) (r : Buffer (ℕ × ArrayVec ℕ)) → AreFields p → (1 ≤ n) × (n ≤ NUMBER_LIMIT) → IsInbox r.items →
-      r.capacity ≡ INBOX_FRAMES → AreFields (inbox_put n r)
+  pub fields-inbox_put : (n : ℕ) (r : Buffer (ℕ × ArrayVec ℕ)) → AreFields p → (1 ≤ n) × (n ≤ number_limit) → IsInbox r.items →
+      r.capacity ≡ inbox_frames → AreFields (inbox_put n r)
   fields-inbox_put n r ok number inbox capacity = record {
     state = subst IsPorts (sym (state-inbox_put n r)) (record {
       next = number;
@@ -158,11 +158,11 @@ module _ (p : Inside) (c : ℕ) where
       inboxes = All-set IsInbox (rings_items p.inboxes.items) (c - 1) r.items inbox ok.state.inboxes;
       boxes = ok.state.boxes;
     });
-    inboxes = All-set (λ b. b.capacity ≡ INBOX_FRAMES) p.inboxes.items (c - 1) r capacity ok.inboxes;
+    inboxes = All-set (λ b. b.capacity ≡ inbox_frames) p.inboxes.items (c - 1) r capacity ok.inboxes;
     boxes = ok.boxes;
   }
 
-  pub fields-box_put : (r : Buffer (ArrayVec ℕ)) → AreFields p → IsBox r.items → r.capacity ≡ BOX_FRAMES → AreFields (box_put r)
+  pub fields-box_put : (r : Buffer (ArrayVec ℕ)) → AreFields p → IsBox r.items → r.capacity ≡ box_frames → AreFields (box_put r)
   fields-box_put r ok box capacity =
       let same = length-set (rings_items p.boxes.items) (c - 1) r.items in
       record {
@@ -174,7 +174,7 @@ module _ (p : Inside) (c : ℕ) where
           boxes = All-set IsBox (rings_items p.boxes.items) (c - 1) r.items box ok.state.boxes;
         });
         inboxes = ok.inboxes;
-        boxes = All-set (λ b. b.capacity ≡ BOX_FRAMES) p.boxes.items (c - 1) r capacity ok.boxes;
+        boxes = All-set (λ b. b.capacity ≡ box_frames) p.boxes.items (c - 1) r capacity ok.boxes;
       }
 
 -- parts of a list of frames
@@ -194,9 +194,9 @@ pub inbox-drop : (xs : List (ℕ × ArrayVec ℕ)) → IsInbox xs → IsInbox (d
 inbox-drop xs ok = (omega (arith, length-drop 1 xs, ok.0), All-drop (λ x. IsFrame x.1) 1 xs ok.1)
 
 pub inbox-remove : (xs : List (ℕ × ArrayVec ℕ)) (i : ℕ) → IsInbox xs → IsInbox (remove xs i)
-inbox-remove xs i ok = (length-remove-le xs i INBOX_FRAMES ok.0, All-remove (λ x. IsFrame x.1) xs i ok.1)
+inbox-remove xs i ok = (length-remove-le xs i inbox_frames ok.0, All-remove (λ x. IsFrame x.1) xs i ok.1)
 
-pub inbox-push : (xs : List (ℕ × ArrayVec ℕ)) (x : ℕ × ArrayVec ℕ) → length xs < INBOX_FRAMES → IsFrame x.1 → IsInbox xs →
+pub inbox-push : (xs : List (ℕ × ArrayVec ℕ)) (x : ℕ × ArrayVec ℕ) → length xs < inbox_frames → IsFrame x.1 → IsInbox xs →
     IsInbox (xs ++ x ∷ [])
 inbox-push xs x room frame ok = (omega (arith, length_push xs x), All-push (λ y. IsFrame y.1) xs x ok.1 frame)
 
@@ -204,9 +204,9 @@ pub box-drop : (xs : List (ArrayVec ℕ)) → IsBox xs → IsBox (drop 1 xs)
 box-drop xs ok = (omega (arith, length-drop 1 xs, ok.0), All-drop IsFrame 1 xs ok.1)
 
 pub box-remove : (xs : List (ArrayVec ℕ)) (i : ℕ) → IsBox xs → IsBox (remove xs i)
-box-remove xs i ok = (length-remove-le xs i BOX_FRAMES ok.0, All-remove IsFrame xs i ok.1)
+box-remove xs i ok = (length-remove-le xs i box_frames ok.0, All-remove IsFrame xs i ok.1)
 
-pub box-push : (xs : List (ArrayVec ℕ)) (f : ArrayVec ℕ) → length xs < BOX_FRAMES → IsFrame f → IsBox xs → IsBox (xs ++ f ∷ [])
+pub box-push : (xs : List (ArrayVec ℕ)) (f : ArrayVec ℕ) → length xs < box_frames → IsFrame f → IsBox xs → IsBox (xs ++ f ∷ [])
 box-push xs f room frame ok = (omega (arith, length_push xs f), All-push IsFrame xs f ok.1 frame)
 
 -- the ports after one ring became another, where contracts see them as s
@@ -215,13 +215,13 @@ module _ (p : Inside) (c : ℕ) (s : PortsState) (seen : ports_state p ≡ s) (o
   client' = subst (λ (t : PortsState). IsClient t c) (sym seen) client
 
   pub inbox_seen : (r : Buffer (ℕ × ArrayVec ℕ)) → r ≡ slice_index_or p.inboxes.items (c - 1) r → (inbox_of s c ≡ r.items) × IsInbox r.items
-      × (r.capacity ≡ INBOX_FRAMES)
+      × (r.capacity ≡ inbox_frames)
   inbox_seen r read =
       let at = inbox_at p c r ok client' read in
       (subst (λ (t : PortsState). inbox_of t c ≡ r.items) seen at.0, at.1, at.2)
 
   pub box_seen : (r : Buffer (ArrayVec ℕ)) → r ≡ slice_index_or p.boxes.items (c - 1) r →
-      (box_of s c ≡ r.items) × IsBox r.items × (r.capacity ≡ BOX_FRAMES)
+      (box_of s c ≡ r.items) × IsBox r.items × (r.capacity ≡ box_frames)
   box_seen r read =
       let at = box_at p c r ok client' read in
       (subst (λ (t : PortsState). box_of t c ≡ r.items) seen at.0, at.1, at.2)
@@ -239,7 +239,7 @@ module _ (p : Inside) (c : ℕ) (s : PortsState) (seen : ports_state p ≡ s) (o
       )
 
   pub inbox_changed : (n : ℕ) (f : List (ℕ × ArrayVec ℕ) → List (ℕ × ArrayVec ℕ)) (r r' : Buffer (ℕ × ArrayVec ℕ)) →
-      (1 ≤ n) × (n ≤ NUMBER_LIMIT) → r ≡ slice_index_or p.inboxes.items (c - 1) r → r' ≡ buffer (f r.items) r.capacity →
+      (1 ≤ n) × (n ≤ number_limit) → r ≡ slice_index_or p.inboxes.items (c - 1) r → r' ≡ buffer (f r.items) r.capacity →
       (IsInbox r.items → IsInbox (f r.items)) → AreFields (inbox_put p c n r')
       × (ports_state (inbox_put p c n r') ≡ record (with_inbox s c (f (inbox_of s c))) { next = n })
   inbox_changed n f r r' number read change keep =
@@ -269,7 +269,7 @@ module _ {X : Type 0} where
   rings_items-empty zero k = refl
   rings_items-empty (suc n) k = ap (λ (l : List (List X)). [] ∷ l) (rings_items-empty n k)
 
-pub ports-empty : (n : ℕ) → 1 ≤ n → n ≤ MAX_CLIENTS → IsPorts (empty_ports n)
+pub ports-empty : (n : ℕ) → 1 ≤ n → n ≤ max_clients → IsPorts (empty_ports n)
 ports-empty n some few =
     let nobox : List (ArrayVec ℕ) = [] in
     let noinbox : List (ℕ × ArrayVec ℕ) = [] in
@@ -281,24 +281,24 @@ ports-empty n some few =
       boxes = All-replicate IsBox n [] (lit≤ tt, All-nil IsFrame);
     }
 
-module _ (p : Inside) (n : ℕ) (next : p.next ≡ 1) (inboxes : p.inboxes.items ≡ replicate n (buffer [] INBOX_FRAMES))
-    (boxes : p.boxes.items ≡ replicate n (buffer [] BOX_FRAMES)) where
+module _ (p : Inside) (n : ℕ) (next : p.next ≡ 1) (inboxes : p.inboxes.items ≡ replicate n (buffer [] inbox_frames))
+    (boxes : p.boxes.items ≡ replicate n (buffer [] box_frames)) where
   pub state-empty : ports_state p ≡ empty_ports n
   state-empty =
       ap (λ (k : ℕ). let s : PortsState = record { next = k; inboxes = rings_items p.inboxes.items; boxes = rings_items p.boxes.items } in
       s) next
       ∙ ap (λ (l : List (List (ℕ × ArrayVec ℕ))). let s : PortsState = record { next = 1; inboxes = l; boxes = rings_items p.boxes.items }
-      in s) (ap (λ (l : List (Buffer (ℕ × ArrayVec ℕ))). rings_items l) inboxes ∙ rings_items-empty n INBOX_FRAMES)
+      in s) (ap (λ (l : List (Buffer (ℕ × ArrayVec ℕ))). rings_items l) inboxes ∙ rings_items-empty n inbox_frames)
       ∙ ap (λ (l : List (List (ArrayVec ℕ))). let s : PortsState = record { next = 1; inboxes = replicate n []; boxes = l } in s)
-      (ap (λ (l : List (Buffer (ArrayVec ℕ))). rings_items l) boxes ∙ rings_items-empty n BOX_FRAMES)
+      (ap (λ (l : List (Buffer (ArrayVec ℕ))). rings_items l) boxes ∙ rings_items-empty n box_frames)
 
-  pub fields-empty : 1 ≤ n → n ≤ MAX_CLIENTS → AreFields p
+  pub fields-empty : 1 ≤ n → n ≤ max_clients → AreFields p
   fields-empty some few = record {
     state = subst IsPorts (sym state-empty) (ports-empty n some few);
-    inboxes = All-same (λ b. b.capacity ≡ INBOX_FRAMES) p.inboxes.items (replicate n (buffer [] INBOX_FRAMES)) inboxes
-        (All-replicate (λ b. b.capacity ≡ INBOX_FRAMES) n (buffer [] INBOX_FRAMES) refl);
-    boxes = All-same (λ b. b.capacity ≡ BOX_FRAMES) p.boxes.items (replicate n (buffer [] BOX_FRAMES)) boxes
-        (All-replicate (λ b. b.capacity ≡ BOX_FRAMES) n (buffer [] BOX_FRAMES) refl);
+    inboxes = All-same (λ b. b.capacity ≡ inbox_frames) p.inboxes.items (replicate n (buffer [] inbox_frames)) inboxes
+        (All-replicate (λ b. b.capacity ≡ inbox_frames) n (buffer [] inbox_frames) refl);
+    boxes = All-same (λ b. b.capacity ≡ box_frames) p.boxes.items (replicate n (buffer [] box_frames)) boxes
+        (All-replicate (λ b. b.capacity ≡ box_frames) n (buffer [] box_frames) refl);
   }
 
 -- a fact that needs no answer, at an answer

@@ -2,11 +2,11 @@
 use Rattle.std.specs.Prelude.{ℕ, ◌+◌, ◌≤◌, zero, suc, Bool, ◌||◌, List, [], ◌∷◌, ◌++◌, length, map, nat_eq, if◌then◌else◌}
 use Rattle.std.specs.List.{starts_with}
 use Rattle.arrayvec.specs.ArrayVec.{ArrayVec}
-use Rattle.frame_ports.specs.declared.limits.TheConstants.{MIN_FRAME, MAX_FRAME}
+use Rattle.frame_ports.specs.Limits.{min_frame, max_frame}
 
 -- a frame has 14 to 1514 bytes: an Ethernet header of 14, and at most 1500 behind it
 abbrev pub IsFrame : ArrayVec ℕ → Type 0
-IsFrame f = (MIN_FRAME ≤ length f.items) × (length f.items ≤ MAX_FRAME)
+IsFrame f = (min_frame ≤ length f.items) × (length f.items ≤ max_frame)
 
 -- the address map's MAC address of client c: 02:00:00:00:01:cc
 abbrev pub client_address : ℕ → List ℕ

@@ -3,7 +3,7 @@ use Rattle.std.specs.Prelude.{◌≡◌, List, map, All}
 use Rattle.circular_buffer.specs.Buffer.{Buffer}
 use Rattle.frame_ports.specs.Ports.{PortsState, IsPorts}
 use Rattle.frame_ports.specs.declared.ports.Ports.TheInside.{Inside}
-use Rattle.frame_ports.specs.declared.limits.TheConstants.{INBOX_FRAMES, BOX_FRAMES}
+use Rattle.frame_ports.specs.Limits.{inbox_frames, box_frames}
 
 -- the items of each ring
 abbrev pub rings_items : {X : Type 0} → List (Buffer X) → List (List X)
@@ -15,5 +15,5 @@ ports_state p = record { next = p.next; inboxes = rings_items p.inboxes.items; b
 -- the rings have their size, so that no call but the first takes memory
 pub record AreFields (p : Inside) : Type 0 where
   pub state : IsPorts (ports_state p)
-  pub inboxes : All (λ r. r.capacity ≡ INBOX_FRAMES) p.inboxes.items
-  pub boxes : All (λ r. r.capacity ≡ BOX_FRAMES) p.boxes.items
+  pub inboxes : All (λ r. r.capacity ≡ inbox_frames) p.inboxes.items
+  pub boxes : All (λ r. r.capacity ≡ box_frames) p.boxes.items

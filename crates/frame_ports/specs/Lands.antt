@@ -1,7 +1,7 @@
 -- What a landing does to the boxes. The list at place c - 1 is the box of client c.
 use Rattle.std.specs.Prelude.{ℕ, ◌+◌, ◌-◌, Bool, List, [], ◌∷◌, ◌++◌, length, slice_index_or, slice_set, nat_lt, if◌then◌else◌}
 use Rattle.arrayvec.specs.ArrayVec.{ArrayVec}
-use Rattle.frame_ports.specs.declared.limits.TheConstants.{BOX_FRAMES}
+use Rattle.frame_ports.specs.Limits.{box_frames}
 
 module _ {X : Type 0} where
   -- the list of client c
@@ -14,7 +14,7 @@ module _ {X : Type 0} where
 
 -- client c's box has room for one more frame
 abbrev pub has_room : List (List (ArrayVec ℕ)) → ℕ → Bool
-has_room boxes c = nat_lt (length (list_of boxes c)) BOX_FRAMES
+has_room boxes c = nat_lt (length (list_of boxes c)) box_frames
 
 -- the boxes after a frame has landed for client c: it goes last in the box, and a full box drops it
 abbrev pub landed_at : List (List (ArrayVec ℕ)) → ℕ → ArrayVec ℕ → List (List (ArrayVec ℕ))

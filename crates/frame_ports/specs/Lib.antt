@@ -2,6 +2,7 @@ pub use Rattle.arrayvec.specs.ArrayVec
 pub mod Addresses
 pub mod Fields
 pub mod Lands
+pub mod Limits
 pub mod Ports
 pub mod Refusals
 pub mod Targets

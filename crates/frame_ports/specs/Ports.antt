@@ -26,7 +26,7 @@ use Rattle.frame_ports.specs.Addresses.{IsFrame}
 use Rattle.frame_ports.specs.Lands.{list_of, with_list}
 use Rattle.frame_ports.specs.declared.errors.PortError.{PortError}
 use Rattle.frame_ports.specs.declared.errors.PortError.TheVariants.{Full, BadFrame, NoClient, Exhausted}
-use Rattle.frame_ports.specs.declared.limits.TheConstants.{MIN_FRAME, MAX_FRAME, MAX_CLIENTS, INBOX_FRAMES, BOX_FRAMES, NUMBER_LIMIT}
+use Rattle.frame_ports.specs.Limits.{min_frame, max_frame, max_clients, inbox_frames, box_frames, number_limit}
 
 -- the number of the next frame that is delivered; for each client the frames that wait for the guest, with their
 -- numbers, and the frames that landed for it. Client c has the place c - 1 in both
@@ -56,15 +56,15 @@ with_box s c xs = record s { boxes = with_list s.boxes c xs }
 
 -- an inbox, and a box: at most 64 frames
 abbrev pub IsInbox : List (ℕ × ArrayVec ℕ) → Type 0
-IsInbox xs = (length xs ≤ INBOX_FRAMES) × All (λ x. IsFrame x.1) xs
+IsInbox xs = (length xs ≤ inbox_frames) × All (λ x. IsFrame x.1) xs
 
 abbrev pub IsBox : List (ArrayVec ℕ) → Type 0
-IsBox xs = (length xs ≤ BOX_FRAMES) × All IsFrame xs
+IsBox xs = (length xs ≤ box_frames) × All IsFrame xs
 
 -- what is true of all ports
 pub record IsPorts (s : PortsState) : Type 0 where
-  pub next : (1 ≤ s.next) × (s.next ≤ NUMBER_LIMIT)
-  pub clients : (1 ≤ length s.boxes) × (length s.boxes ≤ MAX_CLIENTS)
+  pub next : (1 ≤ s.next) × (s.next ≤ number_limit)
+  pub clients : (1 ≤ length s.boxes) × (length s.boxes ≤ max_clients)
   pub pairs : length s.inboxes ≡ length s.boxes
   pub inboxes : All IsInbox s.inboxes
   pub boxes : All IsBox s.boxes
@@ -77,10 +77,10 @@ empty_ports clients = record { next = 1; inboxes = replicate clients []; boxes =
 abbrev pub delivery : PortsState → ℕ → List ℕ → Result ℕ PortError
 delivery s c bytes =
     if not (is_client s c) then Err NoClient
-    else if nat_lt (length bytes) MIN_FRAME then Err BadFrame
-    else if nat_lt MAX_FRAME (length bytes) then Err BadFrame
-    else if nat_le INBOX_FRAMES (length (inbox_of s c)) then Err Full
-    else if nat_le NUMBER_LIMIT s.next then Err Exhausted
+    else if nat_lt (length bytes) min_frame then Err BadFrame
+    else if nat_lt max_frame (length bytes) then Err BadFrame
+    else if nat_le inbox_frames (length (inbox_of s c)) then Err Full
+    else if nat_le number_limit s.next then Err Exhausted
     else Ok s.next
 
 -- the ports after it

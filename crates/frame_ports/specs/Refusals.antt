@@ -7,12 +7,12 @@ abbrev pub number_of : PortError → ℕ
 number_of Full = 1
 number_of BadFrame = 2
 number_of NoClient = 3
-number_of NoMemory = 12
+number_of (NoMemory _) = 12
 number_of Exhausted = 14
 
 abbrev pub name_of : PortError → List ℕ
 name_of Full = codes "Full"
 name_of BadFrame = codes "BadFrame"
 name_of NoClient = codes "NoClient"
-name_of NoMemory = codes "NoMemory"
+name_of (NoMemory _) = codes "NoMemory"
 name_of Exhausted = codes "Exhausted"

@@ -1,9 +1,10 @@
 //! The refusals of the ports.
 ghost use Rattle.std.specs.Prelude.{◌≡◌};
+ghost use Rattle.memory_wanted.specs.Wanted.{wanted};
 ghost use Rattle.frame_ports.specs.Refusals.{number_of, name_of};
 ghost use Rattle.frame_ports.specs.declared.errors.PortError.TheVariants.{NoMemory};
 
-use std::alloc::AllocError;
+use memory_wanted::MemoryWanted;
 use thiserror::Error;
 
 /// Why a call of the ports is refused. Its `Display` text is its name.
@@ -20,17 +21,17 @@ pub enum PortError {
     NoClient,
     /// A growth was really refused.
     #[error("NoMemory")]
-    NoMemory,
+    NoMemory(MemoryWanted),
     /// The frame's number would reach 2^62.
     #[error("Exhausted")]
     Exhausted,
 }
 
-impl From<AllocError> for PortError {
-    ghost from_gives = { λ _ e. e ≡ NoMemory };
+impl From<MemoryWanted> for PortError {
+    ghost from_gives = { λ _ e. e ≡ NoMemory wanted };
 
-    fn from(_error: AllocError) -> PortError {
-        PortError::NoMemory
+    fn from(wanted: MemoryWanted) -> PortError {
+        PortError::NoMemory(wanted)
     }
 }
 
@@ -43,7 +44,7 @@ impl PortError {
             PortError::Full => 1,
             PortError::BadFrame => 2,
             PortError::NoClient => 3,
-            PortError::NoMemory => 12,
+            PortError::NoMemory(_) => 12,
             PortError::Exhausted => 14,
         }
     }
@@ -56,7 +57,7 @@ impl PortError {
             PortError::Full => "Full",
             PortError::BadFrame => "BadFrame",
             PortError::NoClient => "NoClient",
-            PortError::NoMemory => "NoMemory",
+            PortError::NoMemory(_) => "NoMemory",
             PortError::Exhausted => "Exhausted",
         }
     }

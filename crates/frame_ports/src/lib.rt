@@ -17,6 +17,7 @@ mod tests;
 pub use errors::PortError;
 pub use limits::{
     BOX_FRAMES, Frame, INBOX_FRAMES, MAX_CLIENTS, MAX_FRAME, MIN_FRAME, NUMBER_LIMIT,
+    limits_are_the_rules,
 };
 pub use ports::Ports;
 pub use targets::Targets;

@@ -1,4 +1,7 @@
 //! The limits of the ports.
+ghost use Rattle.std.specs.Prelude.{◌≡◌};
+ghost use Rattle.frame_ports.specs.Limits.{min_frame, max_frame, max_clients, inbox_frames, box_frames, number_limit};
+
 use arrayvec::ArrayVec;
 
 /// A network frame, without preamble and checksum: 14 to 1514 bytes, of which the first six are the address of
@@ -22,3 +25,13 @@ pub const BOX_FRAMES: usize = 64;
 
 /// Frame numbers are below this, 2^62.
 pub const NUMBER_LIMIT: u64 = 1 << 62;
+
+/// Each constant is the number that the rules name. Definitions and clauses cite those numbers, and never the constants.
+pub fn limits_are_the_rules()
+    ensures min_frame { MIN_FRAME ≡ min_frame }
+    ensures max_frame { MAX_FRAME ≡ max_frame }
+    ensures max_clients { MAX_CLIENTS ≡ max_clients }
+    ensures inbox_frames { INBOX_FRAMES ≡ inbox_frames }
+    ensures box_frames { BOX_FRAMES ≡ box_frames }
+    ensures number_limit { NUMBER_LIMIT ≡ number_limit }
+{}

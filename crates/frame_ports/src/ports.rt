@@ -20,6 +20,7 @@ ghost use Rattle.std.specs.Prelude.{
   slice_get,
   nat_lt,
 };
+ghost use Rattle.frame_ports.specs.Limits.{max_clients, inbox_frames, box_frames};
 ghost use Rattle.frame_ports.specs.Addresses.{IsFrame};
 ghost use Rattle.frame_ports.specs.Lands.{has_room, landed_at};
 ghost use Rattle.frame_ports.specs.Ports.{
@@ -37,6 +38,7 @@ ghost use Rattle.frame_ports.specs.Ports.{
 };
 ghost use Rattle.frame_ports.specs.Targets.{AreTargets};
 ghost use Rattle.frame_ports.specs.declared.errors.PortError.TheVariants.{NoMemory};
+ghost use Rattle.memory_wanted.specs.Wanted.{wanted};
 
 use crate::errors::PortError;
 use crate::limits::{
@@ -82,9 +84,9 @@ impl Ports {
     /// [`PortError::NoMemory`] if that room can't be had.
     pub fn new(alloc: Global, clients: u64) -> Result<Ports, PortError>
         requires some { 1 ≤ clients }
-        requires few { clients ≤ MAX_CLIENTS }
+        requires few { clients ≤ max_clients }
         ensures ok { IfOk result (λ p. p ≡ empty_ports clients) }
-        ensures err { IfErr result (λ e. e ≡ NoMemory) }
+        ensures err { IfErr result (λ e. e ≡ NoMemory wanted) }
     {
         let inboxes = rings(alloc, clients as usize, INBOX_FRAMES)?;
         let boxes = rings(alloc, clients as usize, BOX_FRAMES)?;
@@ -199,7 +201,7 @@ impl Ports {
     pub fn inbox_len(&self, client: u64) -> usize
         requires { IsClient self.now client }
         ensures len { result ≡ length (inbox_of self.now client) }
-        ensures bound { result ≤ INBOX_FRAMES }
+        ensures bound { result ≤ inbox_frames }
     {
         self.inboxes[(client - 1) as usize].len()
     }
@@ -208,7 +210,7 @@ impl Ports {
     pub fn box_len(&self, client: u64) -> usize
         requires { IsClient self.now client }
         ensures len { result ≡ length (box_of self.now client) }
-        ensures bound { result ≤ BOX_FRAMES }
+        ensures bound { result ≤ box_frames }
     {
         self.boxes[(client - 1) as usize].len()
     }

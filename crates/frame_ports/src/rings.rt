@@ -5,7 +5,8 @@ ghost use Rattle.circular_buffer.specs.Buffer.{buffer};
 use crate::limits::Frame;
 use arrayvec::ArrayVec;
 use circular_buffer::HeapCircularBuffer;
-use std::alloc::{AllocError, Global};
+use memory_wanted::{MemoryWanted, push, ring, with_capacity};
+use std::alloc::Global;
 
 /// The frame of these bytes, of which there are at most 1514.
 pub(crate) fn frame_of(bytes: &[u8]) -> Frame
@@ -64,12 +65,12 @@ pub(crate) fn rings<T: Drop>(
     alloc: Global,
     count: usize,
     capacity: usize,
-) -> Result<Vec<HeapCircularBuffer<T>>, AllocError>
+) -> Result<Vec<HeapCircularBuffer<T>>, MemoryWanted>
     ensures { IfOk result (λ v. v.items ≡ replicate count (buffer [] capacity)) }
 {
-    let mut rings = Vec::with_capacity(alloc, count)?;
+    let mut rings = with_capacity(alloc, count)?;
     for _ in 0..count {
-        rings.push(HeapCircularBuffer::with_capacity(alloc, capacity)?)?;
+        push(&mut rings, ring(alloc, capacity)?)?;
     }
     Ok(rings)
 }

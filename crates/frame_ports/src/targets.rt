@@ -1,5 +1,6 @@
 //! To whom one frame goes.
 ghost use Rattle.std.specs.Prelude.{◌≡◌, ℕ, ◌≤◌, nat_le};
+ghost use Rattle.frame_ports.specs.Limits.{max_clients};
 ghost use Rattle.frame_ports.specs.Targets.{has_target, AreTargets};
 
 use crate::limits::MAX_CLIENTS;
@@ -32,7 +33,7 @@ impl Targets {
     /// Of `clients` clients, those to whom a frame of these bytes is addressed: all of them if its first six
     /// bytes are 0xff, else the one that they name, if any. A frame shorter than an address goes nowhere.
     pub(crate) fn of_frame(clients: u64, bytes: &[u8]) -> Targets
-        requires { clients ≤ MAX_CLIENTS }
+        requires { clients ≤ max_clients }
         ensures { AreTargets clients bytes.now result }
     {
         if bytes.starts_with(&BROADCAST) {
@@ -52,8 +53,8 @@ impl Targets {
 
     /// The clients 1 to `clients`.
     fn all(clients: u64) -> Targets
-        requires { clients ≤ MAX_CLIENTS }
-        ensures { (c : ℕ) → 1 ≤ c → c ≤ MAX_CLIENTS → has_target result c ≡ nat_le c clients }
+        requires { clients ≤ max_clients }
+        ensures { (c : ℕ) → 1 ≤ c → c ≤ max_clients → has_target result c ≡ nat_le c clients }
     {
         Targets {
             bits: ((1u32 << clients) - 1) as u16,

@@ -1,6 +1,7 @@
 //! What no clause says: worked cases, and each call once with ample memory.
 use super::*;
 use arrayvec::ArrayVec;
+use memory_wanted::reserve;
 use std::alloc::Global;
 use std::test::Fail;
 
@@ -109,11 +110,14 @@ fn frames_go_where_their_address_says(rt: HostRuntime) -> Result<(), Fail> {
 
 #[test]
 fn refusals_are_those_of_the_table(rt: HostRuntime) -> Result<(), Fail> {
+    let Err(wanted) = reserve(&mut Vec::<u64>::new(rt.alloc()), usize::MAX) else {
+        return Err("no machine has that much".into());
+    };
     for (error, number, name) in [
         (PortError::Full, 1, "Full"),
         (PortError::BadFrame, 2, "BadFrame"),
         (PortError::NoClient, 3, "NoClient"),
-        (PortError::NoMemory, 12, "NoMemory"),
+        (PortError::NoMemory(wanted), 12, "NoMemory"),
         (PortError::Exhausted, 14, "Exhausted"),
     ] {
         assert_eq!(rt; error.number(), number);

@@ -4,7 +4,7 @@ use Rattle.lossy_line.specs.declared.errors.LineError.{LineError}
 use Rattle.lossy_line.specs.declared.errors.LineError.TheVariants.{NoMemory}
 
 abbrev pub number_of : LineError → ℕ
-number_of NoMemory = 12
+number_of (NoMemory _) = 12
 
 abbrev pub name_of : LineError → List ℕ
-name_of NoMemory = codes "NoMemory"
+name_of (NoMemory _) = codes "NoMemory"

@@ -1,9 +1,10 @@
 //! The refusal of the line.
 ghost use Rattle.std.specs.Prelude.{◌≡◌};
+ghost use Rattle.memory_wanted.specs.Wanted.{wanted};
 ghost use Rattle.lossy_line.specs.Refusals.{number_of, name_of};
 ghost use Rattle.lossy_line.specs.declared.errors.LineError.TheVariants.{NoMemory};
 
-use std::alloc::AllocError;
+use memory_wanted::MemoryWanted;
 use thiserror::Error;
 
 /// Why a packet can't be kept. Its `Display` text is its name.
@@ -11,14 +12,14 @@ use thiserror::Error;
 pub enum LineError {
     /// A growth was really refused.
     #[error("NoMemory")]
-    NoMemory,
+    NoMemory(MemoryWanted),
 }
 
-impl From<AllocError> for LineError {
-    ghost from_gives = { λ _ e. e ≡ NoMemory };
+impl From<MemoryWanted> for LineError {
+    ghost from_gives = { λ _ e. e ≡ NoMemory wanted };
 
-    fn from(_error: AllocError) -> LineError {
-        LineError::NoMemory
+    fn from(wanted: MemoryWanted) -> LineError {
+        LineError::NoMemory(wanted)
     }
 }
 
@@ -28,7 +29,7 @@ impl LineError {
         ensures { result ≡ number_of self.now }
     {
         match self {
-            LineError::NoMemory => 12,
+            LineError::NoMemory(_) => 12,
         }
     }
 
@@ -37,7 +38,7 @@ impl LineError {
         ensures { result.now ≡ name_of self.now }
     {
         match self {
-            LineError::NoMemory => "NoMemory",
+            LineError::NoMemory(_) => "NoMemory",
         }
     }
 }

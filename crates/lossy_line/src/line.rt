@@ -3,6 +3,7 @@ ghost use Rattle.std.specs.Prelude.{◌≡◌, ◌==◌, ◌+◌, ◌<◌, ◌�
 ghost use Rattle.std.specs.Prelude.{IfOk, OnOk, OnErr, IsOk, Some, None, option_copied};
 
 use crate::errors::LineError;
+use memory_wanted::reserve;
 use std::alloc::Global;
 use std::marker::Model;
 
@@ -60,7 +61,7 @@ impl<P: Drop> Line<P> {
         ensures enough { count ≤ self.old.room → IsOk result }
         ensures err { OnErr result (self.new ≡ self.old) }
     {
-        self.packets.reserve(count)?;
+        reserve(&mut self.packets, count)?;
         Ok(())
     }
 
@@ -78,7 +79,7 @@ impl<P: Drop> Line<P> {
         ensures err { OnErr result (self.new ≡ self.old) }
     {
         let number = self.len();
-        self.packets.reserve(1)?;
+        reserve(&mut self.packets, 1)?;
         match self.packets.push(Some(packet)) {
             Ok(()) => Ok(number),
             Err(_) => unreachable!(),

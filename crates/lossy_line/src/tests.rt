@@ -10,7 +10,7 @@ fn sent<P: Drop + Copy>(alloc: Global, packets: &[P]) -> Result<(Line<P>, Vec<u6
     for packet in packets {
         match line.send(*packet) {
             Ok(number) => numbers.push(number)?,
-            Err(LineError::NoMemory) => return Err(AllocError),
+            Err(LineError::NoMemory(_)) => return Err(AllocError),
         }
     }
     Ok((line, numbers))
@@ -68,14 +68,28 @@ fn room_for_as_many_sends_as_were_reserved(rt: HostRuntime) -> Result<(), Fail> 
 #[test]
 fn the_refusal_is_that_of_the_table(rt: HostRuntime) -> Result<(), Fail> {
     let mut line: Line<u64> = Line::new(rt.alloc());
-    let error = match line.reserve(usize::MAX) {
-        Ok(()) => LineError::NoMemory,
-        Err(error) => error,
+    let Err(error) = line.reserve(usize::MAX) else {
+        return Err("no machine has that much".into());
     };
     assert_eq!(rt; line.len(), 0);
     assert_eq!(rt; error.number(), 12);
     assert_eq!(rt; error.name(), "NoMemory");
     let text = format!(in rt.alloc(); "{error}")?;
     assert_eq!(rt; text.as_str(), "NoMemory");
+    Ok(())
+}
+
+#[test]
+fn four_packets_come_a_hundred_times_each_in_either_order(rt: HostRuntime) -> Result<(), Fail> {
+    let (line, _) = sent(rt.alloc(), &[70u8, 71, 72, 73])?;
+    let rising = [(0, 70), (1, 71), (2, 72), (3, 73)];
+    let reversed = [(3, 73), (2, 72), (1, 71), (0, 70)];
+    for order in [rising, reversed] {
+        for _ in 0..100u8 {
+            for (number, packet) in order {
+                assert_eq!(rt; line.get(number), Some(&packet), "packet {number}");
+            }
+        }
+    }
     Ok(())
 }

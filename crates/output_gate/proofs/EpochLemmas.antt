@@ -41,7 +41,7 @@ use Rattle.arrayvec.specs.ArrayVec.{ArrayVec}
 use Rattle.output_gate.specs.Epochs.{Epoch, epoch, frames_of, frames_to, after_number, IsEpoch, IsGate}
 use Rattle.output_gate.specs.Fields.{total, epochs_of}
 use Rattle.output_gate.specs.declared.marks.Mark.{Mark}
-use Rattle.output_gate.specs.declared.limits.TheConstants.{MAX_EPOCHS, MAX_FRAMES}
+use Rattle.output_gate.specs.Limits.{max_epochs, max_frames}
 use Rattle.output_gate.proofs.EpochLaws.{frames_to-none, after_number-none}
 
 -- of a list by pairs: its first element against the others, its rest, and what is left of it
@@ -143,7 +143,7 @@ after_number-reach n (m ∷ ms) fs rising =
         rising k d inside in let above = leb-false m.number n here in omega arith))
 
 -- a gate after one more epoch, and after the first ones have gone
-pub gate-push : (es : List Epoch) (e : Epoch) → IsGate es → length es < MAX_EPOCHS → All (λ d. d.number < e.number) es → IsEpoch e →
+pub gate-push : (es : List Epoch) (e : Epoch) → IsGate es → length es < max_epochs → All (λ d. d.number < e.number) es → IsEpoch e →
     IsGate (es ++ e ∷ [])
 gate-push es e ok room above new = record {
   few = omega (arith, length_push es e);
@@ -159,7 +159,7 @@ gate-drop k es ok = record {
 }
 
 -- the row holds at most 256 frames for each epoch
-pub length-frames_of : (es : List Epoch) → All IsEpoch es → length (frames_of es) ≤ length es * MAX_FRAMES
+pub length-frames_of : (es : List Epoch) → All IsEpoch es → length (frames_of es) ≤ length es * max_frames
 length-frames_of [] all = omega arith
 length-frames_of (e ∷ es) all =
     omega (

@@ -30,7 +30,7 @@ use Rattle.output_gate.specs.Epochs.{Epoch, epoch, frames_of, frames_to, after_n
 use Rattle.output_gate.specs.Fields.{total, epochs_of, epochs_held, AreFields}
 use Rattle.output_gate.specs.declared.gate.Gate.TheInside.{Inside}
 use Rattle.output_gate.specs.declared.marks.Mark.{Mark}
-use Rattle.output_gate.specs.declared.limits.TheConstants.{MAX_EPOCHS, MAX_FRAMES}
+use Rattle.output_gate.specs.Limits.{max_epochs, max_frames}
 use Rattle.output_gate.proofs.EpochLaws.{frames_of-frames}
 use Rattle.output_gate.proofs.EpochLemmas.{
   epochs_of-push,
@@ -85,10 +85,10 @@ module _ (g : Inside) (s : List Epoch) (seen : epochs_held g ≡ s) (ok : AreFie
         ∙ sym (drop-epochs_of k g.marks.items g.frames.items)
 
     -- what is left of the gate without them
-    pub rest_is : (h : Inside) → h.marks.items ≡ drop k g.marks.items → h.frames.items ≡ drop count g.frames.items →
-        epochs_held h ≡ after_number n s
-    rest_is h marks frames =
-        ap (λ (l : List Mark). epochs_of l h.frames.items) marks
+    pub rest_is : (left : List Mark) (fs : List (ArrayVec ℕ)) → left ≡ drop k g.marks.items → fs ≡ drop count g.frames.items →
+        epochs_of left fs ≡ after_number n s
+    rest_is left fs marks frames =
+        ap (λ (l : List Mark). epochs_of l fs) marks
         ∙ ap (epochs_of (drop k g.marks.items)) frames
         ∙ rest_seen
         ∙ ap (λ j. drop j (epochs_held g)) k_here
@@ -126,7 +126,7 @@ module _ (g : Inside) (s : List Epoch) (seen : epochs_held g ≡ s) (ok : AreFie
         ∙ epochs_of-push g.marks.items m g.frames.items fs ok.whole count
         ∙ ap (λ (l : List Epoch). l ++ epoch m.number fs ∷ []) seen
 
-    pub more_fields : length s < MAX_EPOCHS → All (λ e. e.number < m.number) s → length fs ≤ MAX_FRAMES → All IsFrame fs →
+    pub more_fields : length s < max_epochs → All (λ e. e.number < m.number) s → length fs ≤ max_frames → All IsFrame fs →
         vec_capacity g.marks ≤ vec_capacity h.marks → vec_capacity g.frames ≤ vec_capacity h.frames → AreFields h
     more_fields room above few all marks_room frames_room =
         let gate : IsGate s = subst IsGate seen ok.gate in

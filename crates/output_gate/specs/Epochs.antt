@@ -4,7 +4,7 @@ use Rattle.arrayvec.specs.ArrayVec.{ArrayVec}
 use Rattle.frame_ports.specs.Addresses.{IsFrame, targets_of}
 use Rattle.frame_ports.specs.Lands.{lands, put_count, drop_count}
 use Rattle.frame_ports.specs.Ports.{PortsState}
-use Rattle.output_gate.specs.declared.limits.TheConstants.{MAX_EPOCHS, MAX_FRAMES}
+use Rattle.output_gate.specs.Limits.{max_epochs, max_frames}
 
 -- the frames that the guest sent along one epoch, in the order sent, and the number of the checkpoint that ends it
 pub record Epoch : Type 0 where
@@ -31,11 +31,11 @@ after_number n (e ∷ es) = if nat_le e.number n then after_number n es else e �
 
 -- an epoch's outbox has at most 256 frames
 abbrev pub IsEpoch : Epoch → Type 0
-IsEpoch e = (length e.frames ≤ MAX_FRAMES) × All IsFrame e.frames
+IsEpoch e = (length e.frames ≤ max_frames) × All IsFrame e.frames
 
 -- what is true of every gate: at most 5 epochs, by rising number
 pub record IsGate (es : List Epoch) : Type 0 where
-  pub few : length es ≤ MAX_EPOCHS
+  pub few : length es ≤ max_epochs
   pub rising : AllPairs (λ a b. a.number < b.number) es
   pub epochs : All IsEpoch es
 

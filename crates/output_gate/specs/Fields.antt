@@ -4,7 +4,7 @@ use Rattle.arrayvec.specs.ArrayVec.{ArrayVec}
 use Rattle.output_gate.specs.Epochs.{Epoch, epoch, IsGate}
 use Rattle.output_gate.specs.declared.gate.Gate.TheInside.{Inside}
 use Rattle.output_gate.specs.declared.marks.Mark.{Mark}
-use Rattle.output_gate.specs.declared.limits.TheConstants.{MAX_EPOCHS, MAX_FRAMES}
+use Rattle.output_gate.specs.Limits.{max_epochs, max_frames}
 
 -- how many frames these epochs have
 abbrev pub total : List Mark → ℕ
@@ -22,5 +22,5 @@ epochs_held g = epochs_of g.marks.items g.frames.items
 pub record AreFields (g : Inside) : Type 0 where
   pub gate : IsGate (epochs_held g)
   pub whole : total g.marks.items ≡ length g.frames.items
-  pub marks : MAX_EPOCHS ≤ vec_capacity g.marks
-  pub frames : MAX_EPOCHS * MAX_FRAMES ≤ vec_capacity g.frames
+  pub marks : max_epochs ≤ vec_capacity g.marks
+  pub frames : max_epochs * max_frames ≤ vec_capacity g.frames

@@ -3,4 +3,5 @@ pub use Rattle.frame_ports.specs.Lands
 pub use Rattle.frame_ports.specs.Ports
 pub mod Epochs
 pub mod Fields
+pub mod Limits
 pub mod Refusals

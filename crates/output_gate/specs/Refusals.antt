@@ -4,7 +4,7 @@ use Rattle.output_gate.specs.declared.errors.GateError.{GateError}
 use Rattle.output_gate.specs.declared.errors.GateError.TheVariants.{NoMemory}
 
 abbrev pub number_of : GateError → ℕ
-number_of NoMemory = 12
+number_of (NoMemory _) = 12
 
 abbrev pub name_of : GateError → List ℕ
-name_of NoMemory = codes "NoMemory"
+name_of (NoMemory _) = codes "NoMemory"

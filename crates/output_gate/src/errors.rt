@@ -1,9 +1,10 @@
 //! The refusal of the gate.
 ghost use Rattle.std.specs.Prelude.{◌≡◌};
+ghost use Rattle.memory_wanted.specs.Wanted.{wanted};
 ghost use Rattle.output_gate.specs.Refusals.{number_of, name_of};
 ghost use Rattle.output_gate.specs.declared.errors.GateError.TheVariants.{NoMemory};
 
-use std::alloc::AllocError;
+use memory_wanted::MemoryWanted;
 use thiserror::Error;
 
 /// Why a gate can't be made. Its `Display` text is its name.
@@ -11,14 +12,14 @@ use thiserror::Error;
 pub enum GateError {
     /// A growth was really refused.
     #[error("NoMemory")]
-    NoMemory,
+    NoMemory(MemoryWanted),
 }
 
-impl From<AllocError> for GateError {
-    ghost from_gives = { λ _ e. e ≡ NoMemory };
+impl From<MemoryWanted> for GateError {
+    ghost from_gives = { λ _ e. e ≡ NoMemory wanted };
 
-    fn from(_error: AllocError) -> GateError {
-        GateError::NoMemory
+    fn from(wanted: MemoryWanted) -> GateError {
+        GateError::NoMemory(wanted)
     }
 }
 
@@ -28,7 +29,7 @@ impl GateError {
         ensures { result ≡ number_of self.now }
     {
         match self {
-            GateError::NoMemory => 12,
+            GateError::NoMemory(_) => 12,
         }
     }
 
@@ -37,7 +38,7 @@ impl GateError {
         ensures { result.now ≡ name_of self.now }
     {
         match self {
-            GateError::NoMemory => "NoMemory",
+            GateError::NoMemory(_) => "NoMemory",
         }
     }
 }

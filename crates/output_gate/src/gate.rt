@@ -2,7 +2,9 @@
 ghost use Rattle.std.specs.Prelude.{◌≡◌, ℕ, ◌<◌, ◌≤◌, [], ◌∷◌, ◌++◌, length, All, IfOk, IfErr};
 ghost use Rattle.frame_ports.specs.Addresses.{IsFrame};
 ghost use Rattle.output_gate.specs.Epochs.{epoch, frames_of, frames_to, after_number, IsGate, ports_after, landed_count, dropped_count};
+ghost use Rattle.output_gate.specs.Limits.{max_epochs, max_frames};
 ghost use Rattle.output_gate.specs.declared.errors.GateError.TheVariants.{NoMemory};
+ghost use Rattle.memory_wanted.specs.Wanted.{wanted};
 
 use crate::errors::GateError;
 use crate::landing::{Landed, land_all};
@@ -10,6 +12,7 @@ use crate::limits::{ALL_FRAMES, Frame, MAX_EPOCHS, MAX_FRAMES};
 use crate::marks::{Mark, epochs_to, frames_in};
 use crate::room::{drop_first, put_copies, put_last};
 use frame_ports::Ports;
+use memory_wanted::with_capacity;
 use std::alloc::Global;
 use std::marker::Model;
 
@@ -45,18 +48,18 @@ impl Gate {
     /// [`GateError::NoMemory`] if that room can't be had.
     pub fn new(alloc: Global) -> Result<Gate, GateError>
         ensures ok { IfOk result (λ g. g ≡ []) }
-        ensures err { IfErr result (λ e. e ≡ NoMemory) }
+        ensures err { IfErr result (λ e. e ≡ NoMemory wanted) }
     {
-        let frames = Vec::with_capacity(alloc, ALL_FRAMES)?;
-        let marks = Vec::with_capacity(alloc, MAX_EPOCHS)?;
+        let frames = with_capacity(alloc, ALL_FRAMES)?;
+        let marks = with_capacity(alloc, MAX_EPOCHS)?;
         Ok(Gate { frames, marks })
     }
 
     /// Holds the frames of the epoch that the checkpoint `number` ends, behind those held. Nothing lands.
     pub fn hold(&mut self, number: u64, frames: &[Frame])
-        requires room { length self.old < MAX_EPOCHS }
+        requires room { length self.old < max_epochs }
         requires above { All (λ e. e.number < number) self.old }
-        requires few { length frames.now ≤ MAX_FRAMES }
+        requires few { length frames.now ≤ max_frames }
         requires frames { All IsFrame frames.now }
         ensures { self.new ≡ self.old ++ epoch number frames.now ∷ [] }
     {

@@ -17,4 +17,4 @@ mod tests;
 pub use errors::GateError;
 pub use gate::Gate;
 pub use landing::Landed;
-pub use limits::{Frame, MAX_EPOCHS, MAX_FRAMES};
+pub use limits::{Frame, MAX_EPOCHS, MAX_FRAMES, limits_are_the_rules};

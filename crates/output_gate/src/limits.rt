@@ -1,4 +1,7 @@
 //! The limits of the gate.
+ghost use Rattle.std.specs.Prelude.{◌≡◌};
+ghost use Rattle.output_gate.specs.Limits.{max_epochs, max_frames};
+
 use arrayvec::ArrayVec;
 
 /// A network frame of 14 to 1514 bytes, as at the ports.
@@ -12,3 +15,9 @@ pub const MAX_FRAMES: usize = 256;
 
 /// How many frames a gate holds at most.
 pub(crate) const ALL_FRAMES: usize = MAX_EPOCHS * MAX_FRAMES;
+
+/// Each constant is the number that the rules name. Definitions and clauses cite those numbers, and never the constants.
+pub fn limits_are_the_rules()
+    ensures max_epochs { MAX_EPOCHS ≡ max_epochs }
+    ensures max_frames { MAX_FRAMES ≡ max_frames }
+{}

@@ -4,6 +4,7 @@ ghost use Rattle.frame_ports.specs.Addresses.{IsFrame};
 use super::*;
 use arrayvec::ArrayVec;
 use frame_ports::{PortError, Ports};
+use memory_wanted::reserve;
 use std::test::Fail;
 
 /// A frame of 14 bytes from the guest to `client`, whose last byte is `mark`.
@@ -100,7 +101,10 @@ fn a_full_box_drops_and_a_frame_for_no_client_doesnt_count(rt: HostRuntime) -> R
 
 #[test]
 fn the_refusal_is_that_of_the_table(rt: HostRuntime) -> Result<(), Fail> {
-    let error = GateError::NoMemory;
+    let Err(wanted) = reserve(&mut Vec::<u64>::new(rt.alloc()), usize::MAX) else {
+        return Err("no machine has that much".into());
+    };
+    let error = GateError::from(wanted);
     assert_eq!(rt; error.number(), 12);
     assert_eq!(rt; error.name(), "NoMemory");
     let text = format!(in rt.alloc(); "{error}")?;

@@ -2,7 +2,7 @@
 use Rattle.std.proofs.Common.{ℕ, ◌+◌, ◌<◌, length, sym, ◌∙◌, ap, ◌++◌, ◌∷◌, [], List, arith}
 use Rattle.frame_ports.specs.Addresses.{IsFrame}
 use Rattle.frame_ports.specs.Ports.{PortsState, with_inbox, inbox_of}
-use Rattle.frame_ports.specs.declared.limits.TheConstants.{INBOX_FRAMES}
+use Rattle.frame_ports.specs.Limits.{inbox_frames}
 use Rattle.frame_ports.proofs.PortsLemmas.{client_from_test, inbox_changed, inbox_seen, inbox-push}
 use Rattle.frame_ports.proofs.ports.Ports.deliver.Goals as goal
 
@@ -12,7 +12,7 @@ invariant_of-self c =
     let xs = c.index_mut-inbox.result.now.items in
     let at = inbox_seen c.self.inside c.args.client c.args.self.now c.self.view_is c.self.invariant client c.index_mut-inbox.result.now
     c.index_mut-inbox.ensures.value in
-    let room : length xs < INBOX_FRAMES = omega (arith, c.inbox_len.ensures.len, ap (λ l. length l) at.0) in
+    let room : length xs < inbox_frames = omega (arith, c.inbox_len.ensures.len, ap (λ l. length l) at.0) in
     let frame : IsFrame c.frame_of.result = (
       omega (arith, ap (λ l. length l) c.frame_of.ensures),
       omega (arith, ap (λ l. length l) c.frame_of.ensures),
@@ -28,7 +28,7 @@ returns-clause-delivered c =
     let xs = c.index_mut-inbox.result.now.items in
     let at = inbox_seen c.self.inside c.args.client c.args.self.now c.self.view_is c.self.invariant client c.index_mut-inbox.result.now
     c.index_mut-inbox.ensures.value in
-    let room : length xs < INBOX_FRAMES = omega (arith, c.inbox_len.ensures.len, ap (λ l. length l) at.0) in
+    let room : length xs < inbox_frames = omega (arith, c.inbox_len.ensures.len, ap (λ l. length l) at.0) in
     let frame : IsFrame c.frame_of.result = (
       omega (arith, ap (λ l. length l) c.frame_of.ensures),
       omega (arith, ap (λ l. length l) c.frame_of.ensures),

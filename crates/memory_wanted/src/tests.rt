@@ -1,0 +1,32 @@
+//! What no clause says: each call at a concrete type, with room and without.
+use super::*;
+use std::test::Fail;
+
+#[test]
+fn what_can_be_had_is_given(rt: HostRuntime) -> Result<(), Fail> {
+    let mut list: Vec<u64> = with_capacity(rt.alloc(), 2)?;
+    reserve(&mut list, 5)?;
+    push(&mut list, 7)?;
+    extend_from_slice(&mut list, &[8, 9])?;
+    resize(&mut list, 5, 1)?;
+    assert_eq!(rt; list.as_slice(), [7, 8, 9, 1, 1].as_slice());
+    let copy = from_slice(rt.alloc(), &list)?;
+    assert_eq!(rt; copy.as_slice(), list.as_slice());
+    let own = boxed(rt.alloc(), 6u64)?;
+    assert_eq!(rt; *own, 6);
+    let mut ring: HeapCircularBuffer<u64> = ring(rt.alloc(), 1)?;
+    assert!(rt; ring.try_push_back(3).is_ok());
+    assert!(rt; ring.try_push_back(4).is_err());
+    Ok(())
+}
+
+#[test]
+fn what_no_machine_has_is_refused(rt: HostRuntime) -> Result<(), Fail> {
+    let all: Result<Vec<u64>, MemoryWanted> = with_capacity(rt.alloc(), usize::MAX);
+    assert!(rt; all.is_err());
+    let mut list: Vec<u64> = Vec::new(rt.alloc());
+    assert!(rt; reserve(&mut list, usize::MAX).is_err());
+    assert!(rt; resize(&mut list, usize::MAX, 0).is_err());
+    assert_eq!(rt; list.len(), 0);
+    Ok(())
+}
