@@ -1,14 +1,14 @@
-//! The changes that may be refused.
+//! The changes of mode.
 
-/// What may happen to a generation of the pair.
+/// What may happen to a pair.
 #[derive(Clone, Copy, Debug, PartialEq, Eq)]
 pub enum Change {
-    /// The primary stops, and the backup may go live: [`Generation::stop`](crate::Generation::stop).
+    /// The primary stops, and the backup may go live.
     FailPrimary,
-    /// The backup stops, and the primary goes on: [`Generation::alone`](crate::Generation::alone).
+    /// The backup stops, and the primary goes on.
     FailBackup,
-    /// The backup goes live in the place of a stopped primary: [`Generation::go_live`](crate::Generation::go_live).
+    /// The backup goes live in the place of a stopped primary.
     GoLive,
-    /// A node that is alone gets a backup to fill: [`Generation::protect`](crate::Generation::protect).
+    /// A node that is alone gets a backup to fill.
     Protect,
 }

@@ -19,9 +19,6 @@ pub enum FailoverError {
     /// No backup holds a full checkpoint.
     #[error("NoImage")]
     NoImage,
-    /// The generation's number would reach 2^62.
-    #[error("Exhausted")]
-    Exhausted,
 }
 
 impl FailoverError {
@@ -34,7 +31,6 @@ impl FailoverError {
             FailoverError::NotPaired => 6,
             FailoverError::AlreadyPaired => 7,
             FailoverError::NoImage => 8,
-            FailoverError::Exhausted => 14,
         }
     }
 
@@ -47,7 +43,6 @@ impl FailoverError {
             FailoverError::NotPaired => "NotPaired",
             FailoverError::AlreadyPaired => "AlreadyPaired",
             FailoverError::NoImage => "NoImage",
-            FailoverError::Exhausted => "Exhausted",
         }
     }
 }

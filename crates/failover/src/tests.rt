@@ -3,90 +3,55 @@ use super::*;
 use std::process::Abort;
 use std::test::Fail;
 
-/// A generation that a test holds: its number, its mode as printed, and the numbers of the refusals of the four
-/// changes, in the order stop, alone, go_live, protect, 0 where it isn't refused.
-fn told(generation: &Generation) -> (u64, Mode, [u8; 4]) {
-    (
-        generation.number(),
-        generation.mode(),
-        [
-            refusal_number(generation.refusal(Change::FailPrimary)),
-            refusal_number(generation.refusal(Change::FailBackup)),
-            refusal_number(generation.refusal(Change::GoLive)),
-            refusal_number(generation.refusal(Change::Protect)),
-        ],
-    )
+/// The numbers of the refusals of the four changes in a mode: of the primary's stop, the backup's stop, going live and protecting, 0
+/// where it isn't refused.
+fn told(mode: Mode) -> [u8; 4] {
+    [
+        refusal_number(mode, Change::FailPrimary),
+        refusal_number(mode, Change::FailBackup),
+        refusal_number(mode, Change::GoLive),
+        refusal_number(mode, Change::Protect),
+    ]
 }
 
-fn refusal_number(refusal: Option<FailoverError>) -> u8 {
-    match refusal {
-        None => 0,
-        Some(error) => error.number(),
+fn refusal_number(mode: Mode, change: Change) -> u8 {
+    match mode.after(change) {
+        Ok(_) => 0,
+        Err(error) => error.number(),
     }
 }
 
-/// The generation after a change that isn't to be refused, or the one before it.
-fn made(rt: &impl Abort, answer: Result<Generation, (Generation, FailoverError)>) -> Generation {
-    match answer {
-        Ok(next) => next,
-        Err((same, error)) => {
+/// The mode and the generation's number after a change that isn't to be refused, or those before it.
+fn made(rt: &impl Abort, (mode, number): (Mode, u64), change: Change) -> (Mode, u64) {
+    match mode.after(change) {
+        Ok((next, raise)) => (next, number.wrapping_add(raise)),
+        Err(error) => {
             assert_eq!(rt; error.name(), "none");
-            same
-        }
-    }
-}
-
-/// The generation that a refused change hands back, and the number of the refusal.
-fn refused(
-    rt: &impl Abort,
-    answer: Result<Generation, (Generation, FailoverError)>,
-    number: u8,
-) -> Generation {
-    match answer {
-        Ok(next) => {
-            assert_eq!(rt; 0, number);
-            next
-        }
-        Err((same, error)) => {
-            assert_eq!(rt; error.number(), number);
-            same
+            (mode, number)
         }
     }
 }
 
 #[test]
-fn a_pair_fails_over_and_is_protected_again(rt: HostRuntime) -> Result<(), Fail> {
-    let pair = Generation::boot();
-    assert_eq!(rt; told(&pair), (1, Mode::Paired, [0, 0, 7, 7]));
-    let pair = refused(&rt, pair.go_live(), 7);
-    let pair = refused(&rt, pair.protect(), 7);
-    let stopped = made(&rt, pair.stop());
-    assert_eq!(rt; told(&stopped), (1, Mode::Stopped, [4, 4, 0, 4]));
-    let stopped = refused(&rt, stopped.stop(), 4);
-    let stopped = refused(&rt, stopped.alone(), 4);
-    let stopped = refused(&rt, stopped.protect(), 4);
-    let alone = made(&rt, stopped.go_live());
-    assert_eq!(rt; told(&alone), (2, Mode::Alone, [8, 6, 6, 0]));
-    let alone = refused(&rt, alone.stop(), 8);
-    let alone = refused(&rt, alone.alone(), 6);
-    let alone = refused(&rt, alone.go_live(), 6);
-    let filling = made(&rt, alone.protect());
-    assert_eq!(rt; told(&filling), (3, Mode::Filling, [8, 0, 7, 7]));
-    let filling = refused(&rt, filling.stop(), 8);
-    let alone = made(&rt, filling.alone());
-    assert_eq!(rt; told(&alone), (3, Mode::Alone, [8, 6, 6, 0]));
-    alone.end();
-    Ok(())
+fn a_pair_fails_over_and_is_protected_again(rt: HostRuntime) {
+    let pair = (Mode::Paired, 1);
+    let stopped = made(&rt, pair, Change::FailPrimary);
+    assert_eq!(rt; stopped, (Mode::Stopped, 1));
+    let alone = made(&rt, stopped, Change::GoLive);
+    assert_eq!(rt; alone, (Mode::Alone, 2));
+    let filling = made(&rt, alone, Change::Protect);
+    assert_eq!(rt; filling, (Mode::Filling, 3));
+    let again = made(&rt, filling, Change::FailBackup);
+    assert_eq!(rt; again, (Mode::Alone, 3));
+    assert_eq!(rt; made(&rt, pair, Change::FailBackup), (Mode::Alone, 1));
 }
 
 #[test]
-fn a_filled_pair_can_fail_over(rt: HostRuntime) -> Result<(), Fail> {
-    let pair = Generation::numbered(3, Mode::Filling).filled();
-    assert_eq!(rt; told(&pair), (3, Mode::Paired, [0, 0, 7, 7]));
-    let alone = made(&rt, pair.alone());
-    assert_eq!(rt; told(&alone), (3, Mode::Alone, [8, 6, 6, 0]));
-    alone.end();
-    Ok(())
+fn what_each_mode_refuses(rt: HostRuntime) {
+    assert_eq!(rt; told(Mode::Paired), [0, 0, 7, 7]);
+    assert_eq!(rt; told(Mode::Filling), [8, 0, 7, 7]);
+    assert_eq!(rt; told(Mode::Alone), [8, 6, 6, 0]);
+    assert_eq!(rt; told(Mode::Stopped), [4, 4, 0, 4]);
 }
 
 #[test]
@@ -109,7 +74,6 @@ fn the_refusals_are_those_of_the_table(rt: HostRuntime) -> Result<(), Fail> {
         (FailoverError::NotPaired, 6, "NotPaired"),
         (FailoverError::AlreadyPaired, 7, "AlreadyPaired"),
         (FailoverError::NoImage, 8, "NoImage"),
-        (FailoverError::Exhausted, 14, "Exhausted"),
     ];
     for (error, number, name) in errors {
         assert_eq!(rt; error.number(), number);
@@ -117,26 +81,5 @@ fn the_refusals_are_those_of_the_table(rt: HostRuntime) -> Result<(), Fail> {
         let text = format!(in rt.alloc(); "{error}")?;
         assert_eq!(rt; text.as_str(), name);
     }
-    Ok(())
-}
-
-#[test]
-fn the_last_number_is_2_to_the_62_less_1(rt: HostRuntime) -> Result<(), Fail> {
-    let stopped = Generation::numbered(NUMBER_LIMIT - 1, Mode::Stopped);
-    assert_eq!(rt;
-        told(&stopped),
-        (NUMBER_LIMIT - 1, Mode::Stopped, [4, 4, 14, 4])
-    );
-    refused(&rt, stopped.go_live(), 14).end();
-    let alone = Generation::numbered(NUMBER_LIMIT - 1, Mode::Alone);
-    assert_eq!(rt;
-        told(&alone),
-        (NUMBER_LIMIT - 1, Mode::Alone, [8, 6, 6, 14])
-    );
-    refused(&rt, alone.protect(), 14).end();
-    let alone = Generation::numbered(NUMBER_LIMIT - 2, Mode::Alone);
-    let filling = made(&rt, alone.protect());
-    assert_eq!(rt; filling.number(), NUMBER_LIMIT - 1);
-    filling.end();
     Ok(())
 }

@@ -9,7 +9,7 @@ use Rattle.std.proofs.lemmas.List.Elements.{All-head, All-tail}
 pub use Rattle.std.proofs.lemmas.List.{length-set as length-set'}
 use Rattle.frame_ports.specs.Addresses.{targets_of}
 use Rattle.frame_ports.specs.Lands.{list_of, has_room, landed_at, lands}
-use Rattle.frame_ports.specs.declared.limits.TheConstants.{BOX_FRAMES}
+use Rattle.frame_ports.specs.Limits.{box_frames}
 use Rattle.frame_ports.proofs.AddressLaws.{targets_of-clients}
 pub use Rattle.frame_ports.proofs.LandLaws.{length-landed_at, length-lands}
 use Rattle.pair_history.specs.Entries.{Frame, Entry, Land, DropOut}
@@ -19,12 +19,12 @@ pub use Rattle.pair_history.specs.Reached.{AllClients}
 
 -- boxes keep their number and their limit
 
-pub BoxesFit-set : (bs : List (List Frame)) (i : ℕ) (b : List Frame) → BoxesFit bs → length b ≤ BOX_FRAMES → BoxesFit (set bs i b)
+pub BoxesFit-set : (bs : List (List Frame)) (i : ℕ) (b : List Frame) → BoxesFit bs → length b ≤ box_frames → BoxesFit (set bs i b)
 BoxesFit-set [] i b h k = tt
 BoxesFit-set (x ∷ bs) zero b h k = (k, h.1)
 BoxesFit-set (x ∷ bs) (suc i) b h k = (h.0, BoxesFit-set bs i b h.1 k)
 
-pub BoxesFit-at : (bs : List (List Frame)) (i : ℕ) → BoxesFit bs → length (get_or bs i []) ≤ BOX_FRAMES
+pub BoxesFit-at : (bs : List (List Frame)) (i : ℕ) → BoxesFit bs → length (get_or bs i []) ≤ box_frames
 BoxesFit-at [] i h = omega arith
 BoxesFit-at (x ∷ bs) zero h = h.0
 BoxesFit-at (x ∷ bs) (suc i) h = BoxesFit-at bs i h.1
@@ -51,7 +51,7 @@ AllClients-targets n fs = AllClients-from n (targets_of n fs) (targets_of-client
 -- one frame lands, or is dropped at a full box
 module _ (s : HistoryState) (c : ℕ) (f : Frame) (qs : List (ℕ × Frame)) (first : s.out ≡ (c, f) ∷ qs) (low : 1 ≤ c)
     (high : c ≤ length s.boxes) (fit : BoxesFit s.boxes) where
-  abbrev Lands : Entry → Type 0
+  abbrev pub Lands : Entry → Type 0
   Lands e = Allows s e
       × (after s e ≡ record s { out = qs; boxes = landed_at s.boxes c f })
       × ((es : List Entry) → DropsAtFull (after s e) es → DropsAtFull s (e ∷ es))
@@ -62,11 +62,11 @@ module _ (s : HistoryState) (c : ℕ) (f : Frame) (qs : List (ℕ × Frame)) (fi
   rest : out_without c 0 s.out ≡ qs
   rest = rw first (grind (arith, nat_tests))
 
-  one_lands : (room : Bool) → has_room s.boxes c ≡ room → Lands (cond room (Land c) (DropOut c BOX_FRAMES))
+  pub one_lands : (room : Bool) → has_room s.boxes c ≡ room → Lands (cond room (Land c) (DropOut c box_frames))
   one_lands true e = (((low, high), rw front (omega arith), ltb-true _ _ e), rw (front, rest, e), λ es d. d)
   one_lands false e =
-      let most : length (list_of s.boxes c) ≤ BOX_FRAMES = BoxesFit-at s.boxes (c - 1) fit in
-      let is : length (list_of s.boxes c) ≡ BOX_FRAMES = grind (arith, nat_tests) in
+      let most : length (list_of s.boxes c) ≤ box_frames = BoxesFit-at s.boxes (c - 1) fit in
+      let is : length (list_of s.boxes c) ≡ box_frames = grind (arith, nat_tests) in
       (((low, high), omega (arith, ap length front)), grind (arith, nat_tests, rest), λ es d. ((refl, is), d))
 
 -- all of them do

@@ -15,3 +15,4 @@ pub mod ClientLists
 pub mod AccountLaws
 pub mod OrderLaws
 pub mod LogLaws
+pub mod LeavingLaws

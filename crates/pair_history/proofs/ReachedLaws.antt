@@ -7,7 +7,7 @@ use Rattle.std.proofs.lemmas.List.Edits.{length-remove}
 use Rattle.guest_machine.specs.Step.{sent}
 use Rattle.frame_ports.specs.Addresses.{targets_of}
 use Rattle.frame_ports.specs.Lands.{list_of, with_list}
-use Rattle.frame_ports.specs.declared.limits.TheConstants.{BOX_FRAMES}
+use Rattle.frame_ports.specs.Limits.{box_frames}
 use Rattle.pair_history.specs.Entries.{Frame, Entry, Ran, Arrive, Delivered, Refused, DropIn, Land, DropOut, Took}
 use Rattle.pair_history.specs.HistoryState.{HistoryState, out_of, out_without, at, after, Allows, Legal}
 use Rattle.pair_history.specs.Landings.{BoxesFit}
@@ -27,7 +27,7 @@ AllClients-without n c place (p ∷ ps) a = let more = λ (k : ℕ). AllClients-
 
 module _ (s : HistoryState) (h : IsReached s) where
   -- with one client's box in place, and some of what was on its way
-  boxed : (out : List (ℕ × Frame)) (c : ℕ) (fs : List Frame) → AllClients (length s.boxes) out → length fs ≤ BOX_FRAMES
+  boxed : (out : List (ℕ × Frame)) (c : ℕ) (fs : List Frame) → AllClients (length s.boxes) out → length fs ≤ box_frames
       → IsReached (record s { out = out; boxes = with_list s.boxes c fs })
   boxed out c fs a l = record { rising = h.rising; clients = rw length-set a; fit = BoxesFit-set s.boxes (c - 1) fs h.fit l }
 
@@ -43,7 +43,7 @@ module _ (s : HistoryState) (h : IsReached s) where
   one_reached (Land c) a =
       let box = list_of s.boxes c in
       let first = take 1 (out_of c s.out) in
-      let room : length box < BOX_FRAMES = a.2 in
+      let room : length box < box_frames = a.2 in
       boxed (out_without c 0 s.out) c (box ++ first) (AllClients-without (length s.boxes) c 0 s.out h.clients)
       (omega (arith, length-append box first, length-take 1 (out_of c s.out)))
   one_reached (DropOut c place) a =

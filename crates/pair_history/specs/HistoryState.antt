@@ -5,7 +5,7 @@ use Rattle.guest_machine.specs.Guest.{Guest, boot_guest}
 use Rattle.guest_machine.specs.Step.{next, sent, arrived}
 use Rattle.frame_ports.specs.Addresses.{IsFrame, targets_of}
 use Rattle.frame_ports.specs.Lands.{list_of, with_list}
-use Rattle.frame_ports.specs.declared.limits.TheConstants.{INBOX_FRAMES, BOX_FRAMES}
+use Rattle.frame_ports.specs.Limits.{inbox_frames, box_frames}
 use Rattle.pair_history.specs.Entries.{Frame, Entry, Ran, Arrive, Delivered, Refused, DropIn, Land, DropOut, Took}
 
 -- a frame that a client delivered and that hasn't arrived at the guest
@@ -69,9 +69,9 @@ abbrev pub Allows : HistoryState → Entry → Type 0
 Allows s Ran = Unit {0}
 Allows s (Arrive n) = IsFirst n s.waiting
 Allows s (Delivered c f n) = IsClient s c × IsFrame f × (n ≡ s.number)
-Allows s (Refused c f) = IsClient s c × IsFrame f × (INBOX_FRAMES ≤ length (inbox_of c s.waiting))
+Allows s (Refused c f) = IsClient s c × IsFrame f × (inbox_frames ≤ length (inbox_of c s.waiting))
 Allows s (DropIn n) = (f : Frame) × (frame_numbered n s.waiting ≡ Some f)
-Allows s (Land c) = IsClient s c × (0 < length (out_of c s.out)) × (length (list_of s.boxes c) < BOX_FRAMES)
+Allows s (Land c) = IsClient s c × (0 < length (out_of c s.out)) × (length (list_of s.boxes c) < box_frames)
 Allows s (DropOut c place) = IsClient s c × (place < length (list_of s.boxes c) + length (out_of c s.out))
 Allows s (Took c (Some f)) = IsClient s c × (slice_get (list_of s.boxes c) 0 ≡ Some f)
 Allows s (Took c None) = IsClient s c × (list_of s.boxes c ≡ [])

@@ -1,7 +1,7 @@
 -- What becomes of frames that are let go: each lands in its client's box, or is dropped at a full one.
 use Rattle.std.specs.Prelude.{◌≡◌, ℕ, ◌<◌, ◌≤◌, if◌then◌else◌, List, [], ◌∷◌, length}
 use Rattle.frame_ports.specs.Lands.{list_of, has_room, landed_at}
-use Rattle.frame_ports.specs.declared.limits.TheConstants.{BOX_FRAMES}
+use Rattle.frame_ports.specs.Limits.{box_frames}
 use Rattle.pair_history.specs.Entries.{Frame, Entry, DropIn, Land, DropOut}
 use Rattle.pair_history.specs.HistoryState.{HistoryState, after}
 
@@ -9,11 +9,11 @@ use Rattle.pair_history.specs.HistoryState.{HistoryState, after}
 abbrev pub landings : List (List Frame) → List (ℕ × Frame) → List Entry
 landings boxes [] = []
 landings boxes (p ∷ ps) =
-    (if has_room boxes p.0 then Land p.0 else DropOut p.0 BOX_FRAMES) ∷ landings (landed_at boxes p.0 p.1) ps
+    (if has_room boxes p.0 then Land p.0 else DropOut p.0 box_frames) ∷ landings (landed_at boxes p.0 p.1) ps
 
 -- the frame at that place is dropped since the client's box is full
 abbrev pub IsAtFull : HistoryState → ℕ → ℕ → Type 0
-IsAtFull s c place = (place ≡ BOX_FRAMES) × (length (list_of s.boxes c) ≡ BOX_FRAMES)
+IsAtFull s c place = (place ≡ box_frames) × (length (list_of s.boxes c) ≡ box_frames)
 
 -- it lies in the box: so a loss was asked for
 abbrev pub IsInBox : HistoryState → ℕ → ℕ → Type 0
@@ -42,4 +42,4 @@ DropsNone (other ∷ es) = DropsNone es
 -- no box holds more than it has room for
 abbrev pub BoxesFit : List (List Frame) → Type 0
 BoxesFit [] = Unit {0}
-BoxesFit (b ∷ bs) = (length b ≤ BOX_FRAMES) × BoxesFit bs
+BoxesFit (b ∷ bs) = (length b ≤ box_frames) × BoxesFit bs

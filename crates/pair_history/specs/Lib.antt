@@ -9,3 +9,4 @@ pub mod Fates
 pub mod Log
 pub mod LogFields
 pub mod Released
+pub mod Leaving

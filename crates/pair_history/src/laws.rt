@@ -7,6 +7,8 @@ ghost use Rattle.pair_history.specs.Order.{AreGuests, IsReady};
 ghost use Rattle.pair_history.specs.Released.{frames, Sent, goes_on, account, WasSent, IsSound};
 ghost use Rattle.pair_history.specs.Released.{sent_to, released, taken, dropped_count, IsFresh};
 ghost use Rattle.frame_ports.specs.Lands.{list_of};
+ghost use Rattle.pair_history.specs.Landings.{DropsAreKnown};
+ghost use Rattle.pair_history.specs.Leaving.{leaving, frames_left};
 
 /// Each frame that a history released to a client stands in that client's account with the step of the history that sent it.
 ///
@@ -43,4 +45,12 @@ pub fn released_frames_were_sent()
 pub fn client_entries_go_first()
     ensures { (s : HistoryState) (es : List Entry) (e : Entry) → AreGuests es → Legal s es → IsReady s es e
         → Legal (after s e) es × (at (after s e) es ≡ after (at s es) e) }
+{}
+
+/// What leaves for a client leaves in the order in which the guest sent it: what was sent to a client along a history is what left, and
+/// then what is still on its way. Each frame that left landed, or was dropped at a full box, or was given up.
+#[tactic(auto, using(crate::proofs::LeavingLaws::all_leave_in_order))]
+pub fn frames_leave_in_order()
+    ensures { (s : HistoryState) (es : List Entry) (c : ℕ) → IsFresh s → DropsAreKnown s es
+        → sent_to s es c ≡ frames_left (leaving s es c) ++ out_of c (at s es).out }
 {}

@@ -17,4 +17,4 @@ pub use failures::{
 pub use fates::{delivered_frames_have_one_fate, sent_frames_go_by_address};
 pub use frame_ports::Frame;
 pub use history::{Entry, History};
-pub use laws::{client_entries_go_first, released_frames_were_sent};
+pub use laws::{client_entries_go_first, frames_leave_in_order, released_frames_were_sent};
