@@ -1,3 +1,4 @@
+pub mod Limits
 pub mod Sectors
 pub mod Listed
 pub mod Dirty

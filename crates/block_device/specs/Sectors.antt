@@ -1,13 +1,14 @@
 -- The sectors of a disk, by the bytes of all of them, one sector after another.
 use Rattle.std.specs.Prelude.{ℕ, ◌+◌, ◌*◌, ◌/◌, if◌then◌else◌, List, length, Option, Some, None, nat_lt, slice_range}
+use Rattle.block_device.specs.Limits.{sector_bytes}
 
--- a sector has 512 bytes (virtio 1.1, 5.2.4: the capacity is in sectors of 512 bytes)
+-- how many sectors there are
 abbrev pub sector_count : List ℕ → ℕ
-sector_count bytes = length bytes / 512
+sector_count bytes = length bytes / sector_bytes
 
 -- the bytes of one sector
 abbrev pub sector_of : List ℕ → ℕ → List ℕ
-sector_of bytes i = slice_range bytes (512 * i) (512 * i + 512)
+sector_of bytes i = slice_range bytes (sector_bytes * i) (sector_bytes * i + sector_bytes)
 
 -- one sector; none past the last
 abbrev pub sector_in : List ℕ → ℕ → Option (List ℕ)

@@ -5,6 +5,7 @@ ghost use Rattle.virtio_mmio.specs.Transport.{loaded, store_answer, state_after_
 ghost use Rattle.block_device.specs.Contents.{capacity, sector_at, boot_contents, contents_with, unlisted, IsDisk};
 ghost use Rattle.block_device.specs.Dirty.{Rises};
 ghost use Rattle.block_device.specs.Disk.{disk_of, kind_of, disk_served};
+ghost use Rattle.block_device.specs.Limits.{most_sectors};
 
 use crate::errors::DiskError;
 use crate::storage::{SECTOR_BYTES, Storage};
@@ -43,7 +44,7 @@ impl Disk {
     /// `NoMemory` where memory is refused.
     pub fn boot(alloc: Global, sectors: u32) -> Result<Disk, DiskError>
         requires some { 1 ≤ sectors }
-        requires most { sectors ≤ 32768 }
+        requires most { sectors ≤ most_sectors }
         ensures disk { IfOk result (λ disk. disk ≡ disk_of boot_state (boot_contents sectors)) }
         ensures sectors { IfOk result (λ disk. capacity disk.contents ≡ sectors) }
         ensures err { OnErr result (result ≡ Err DiskError.NoMemory) }
@@ -60,7 +61,7 @@ impl Disk {
     pub fn sectors(&self) -> u32
         ensures value { result ≡ capacity self.now.contents }
         ensures least { 1 ≤ result }
-        ensures most { result ≤ 32768 }
+        ensures most { result ≤ most_sectors }
         ensures disk { IsDisk self.now.contents }
     {
         self.storage.sectors()

@@ -5,6 +5,7 @@ mod dirty;
 mod disk;
 mod errors;
 mod laws;
+mod limits;
 mod requests;
 mod storage;
 
@@ -14,6 +15,7 @@ pub use laws::{
     changed_sectors_are_listed, other_sectors, reading_back, serving_keeps_the_disk,
     the_list_plays_no_part, worked_lengths, worked_requests, written_sectors,
 };
+pub use limits::limits_are_the_rules;
 pub use storage::SECTOR_BYTES;
 
 #[cfg(test)]

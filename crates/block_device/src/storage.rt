@@ -5,6 +5,7 @@ ghost use Rattle.virtqueue.specs.Memory.{written};
 ghost use Rattle.virtqueue.specs.Parts.{readable_len, writable_len, readable_bytes, writable_places, put_at};
 ghost use Rattle.block_device.specs.Contents.{capacity, sector_at, boot_contents, in_capacity, bytes_at, contents_with, IsDisk};
 ghost use Rattle.block_device.specs.Dirty.{Rises};
+ghost use Rattle.block_device.specs.Limits.{most_sectors};
 
 use crate::dirty::SectorSet;
 use page_lanes::is_zero;
@@ -38,7 +39,7 @@ impl Storage {
     /// So many sectors, all bytes 0, none of them written.
     pub(crate) fn boot(alloc: Global, sectors: u32) -> Result<Storage, AllocError>
         requires some { 1 ≤ sectors }
-        requires most { sectors ≤ 32768 }
+        requires most { sectors ≤ most_sectors }
         ensures { IfOk result (λ storage. storage ≡ boot_contents sectors) }
     {
         let size = SECTOR_BYTES * sectors as usize;
@@ -52,7 +53,7 @@ impl Storage {
     pub(crate) fn sectors(&self) -> u32
         ensures value { result ≡ capacity self.now }
         ensures least { 1 ≤ result }
-        ensures most { result ≤ 32768 }
+        ensures most { result ≤ most_sectors }
         ensures disk { IsDisk self.now }
     {
         (self.bytes.len() / SECTOR_BYTES) as u32

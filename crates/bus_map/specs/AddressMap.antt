@@ -1,6 +1,7 @@
 -- The address map of the machine. It is this machine's own; the registers msip, mtimecmp and mtime stand where SiFive's
 -- core-local interruptor has them, and are named in the Privileged ISA.
 use Rattle.std.specs.Prelude.{ℕ, ◌-◌, ◌<◌, ◌==◌, nat_le, Bool, true, ◌&&◌, if◌then◌else◌, List, [], ◌∷◌}
+use Rattle.bus_map.specs.Limits.{ram_base}
 use Rattle.bus_map.specs.declared.parts.Place.{Place}
 use Rattle.bus_map.specs.declared.parts.Place.TheVariants.{Ram, Clint, Net, Block, Fault}
 use Rattle.bus_map.specs.declared.parts.TimerRegister.TheVariants.{Msip, Mtimecmp, Mtime}
@@ -29,7 +30,7 @@ address_map =
     ∷ row 0x0200bff8 0x0200bff8 (only 8) (λ _. Clint Mtime)
     ∷ row 0x10001000 0x10001fff any Net
     ∷ row 0x10002000 0x10002fff any Block
-    ∷ row 0x80000000 0xffffffffffffffff any Ram
+    ∷ row ram_base 0xffffffffffffffff any Ram
     ∷ []
 
 abbrev pub takes : Widths → ℕ → Bool

@@ -1,1 +1,2 @@
 pub mod AddressMap
+pub mod Limits

@@ -1,4 +1,5 @@
 //! The numbers of the CSRs, as an instruction names them.
+ghost use Rattle.std.specs.Prelude.{◌≡◌};
 
 /// Machine status: the interrupt enables.
 pub const MSTATUS: u16 = 0x300;
@@ -28,3 +29,13 @@ pub const MIMPID: u16 = 0xf13;
 pub const MHARTID: u16 = 0xf14;
 /// Where the configuration data lie: 0. Read-only.
 pub const MCONFIGPTR: u16 = 0xf15;
+
+/// The numbers of the read-only CSRs are those that the Privileged ISA lists ("CSR Listing"). A read tests them as a range, so no other
+/// promise names those inside it.
+pub fn numbers_are_as_listed()
+    ensures mvendorid { MVENDORID ≡ 0xf11 }
+    ensures marchid { MARCHID ≡ 0xf12 }
+    ensures mimpid { MIMPID ≡ 0xf13 }
+    ensures mhartid { MHARTID ≡ 0xf14 }
+    ensures mconfigptr { MCONFIGPTR ≡ 0xf15 }
+{}

@@ -1,5 +1,6 @@
 pub mod Errors
 pub mod Frames
+pub mod Limits
 pub mod Transmit
 pub mod Receive
 pub mod Worked

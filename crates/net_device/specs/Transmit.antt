@@ -6,11 +6,12 @@ use Rattle.virtqueue.specs.Parts.{all_readable, readable_bytes}
 use Rattle.virtio_mmio.specs.declared.kinds.DeviceKind.TheVariants.{Network}
 use Rattle.virtio_mmio.specs.declared.states.DeviceState.{DeviceState}
 use Rattle.virtio_mmio.specs.ServingLoop.{Act, Served as LoopServed, standing, served as loop_served}
+use Rattle.net_device.specs.Limits.{shortest_frame, longest_frame}
 
 -- the frame in a packet: its bytes behind 12 bytes of header (virtio 1.1, 5.1.6); one of under 14 or over 1514 bytes is lost
 abbrev pub frame_of : List ℕ → List (ArrayVec ℕ)
 frame_of bytes =
-    if nat_le 14 (length bytes) && nat_le (length bytes) 1514 then record { items = bytes } ∷ [] else []
+    if nat_le shortest_frame (length bytes) && nat_le (length bytes) longest_frame then record { items = bytes } ∷ [] else []
 
 abbrev pub frame_in : List ℕ → List (ArrayVec ℕ)
 frame_in packet = frame_of (drop 12 packet)

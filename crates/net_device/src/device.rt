@@ -5,6 +5,7 @@ ghost use Rattle.virtqueue.specs.Chains.{BuffersInside};
 ghost use Rattle.virtqueue.specs.Parts.{writable_len, writable_places, put_at};
 ghost use Rattle.virtio_mmio.specs.States.{boot_state, queue_at};
 ghost use Rattle.virtio_mmio.specs.declared.kinds.DeviceKind.TheVariants.{Network};
+ghost use Rattle.net_device.specs.Limits.{outbox_frames};
 ghost use Rattle.net_device.specs.Transmit.{served};
 ghost use Rattle.net_device.specs.Receive.{packet, put_into, received};
 
@@ -44,7 +45,7 @@ impl NetDevice {
     /// of service, and leaves the chains before it served. A frame of under 14 or over 1514 bytes is lost, and its chain used.
     pub fn transmit<R: GuestRam>(&mut self, ram: &mut R, outbox: &mut Outbox)
         requires network { self.old.transport.kind ≡ Network }
-        requires room { length outbox.old + 64 ≤ 256 }
+        requires room { length outbox.old + 64 ≤ outbox_frames }
         ensures memory { R.bytes ram.new ≡ (served (R.bytes ram.old) self.old.transport.state).ram }
         ensures device { self.new ≡ record {
           transport = record self.old.transport {

@@ -3,6 +3,7 @@ ghost use Rattle.std.specs.Prelude.{◌≡◌, ◌+◌, ◌<◌, ◌≤◌, [], 
 ghost use Rattle.virtqueue.specs.Chains.{BuffersInside};
 ghost use Rattle.virtqueue.specs.Parts.{readable_bytes, readable_len};
 ghost use Rattle.net_device.specs.Frames.{IsFrame};
+ghost use Rattle.net_device.specs.Limits.{shortest_frame, longest_frame, outbox_frames};
 
 use crate::errors::OutboxError;
 use arrayvec::ArrayVec;
@@ -26,12 +27,14 @@ impl Model for Outbox {
     ghost use Rattle.std.specs.Prelude.{List, ℕ, ◌≤◌, All, length, vec_capacity};
     ghost use Rattle.arrayvec.specs.ArrayVec.{ArrayVec};
     ghost use Rattle.net_device.specs.Frames.{IsFrame};
+    ghost use Rattle.net_device.specs.Limits.{outbox_frames};
 
     ghost Value = { List (ArrayVec ℕ) };
 
     ghost view = { λ o. o.frames.items };
 
-    ghost invariant = { λ o. (256 ≤ vec_capacity o.frames) × (length o.frames.items ≤ 256) × All IsFrame o.frames.items };
+    ghost invariant = { λ o. (outbox_frames ≤ vec_capacity o.frames) × (length o.frames.items ≤ outbox_frames)
+        × All IsFrame o.frames.items };
 }
 
 impl Outbox {
@@ -49,7 +52,7 @@ impl Outbox {
     #[inline]
     pub fn len(&self) -> usize
         ensures value { result ≡ length self.now }
-        ensures most { result ≤ 256 }
+        ensures most { result ≤ outbox_frames }
     {
         self.frames.len()
     }
@@ -58,16 +61,16 @@ impl Outbox {
     pub fn frames(&self) -> &[Frame]
         ensures value { result.now ≡ self.now }
         ensures frames { All IsFrame result.now }
-        ensures most { length result.now ≤ 256 }
+        ensures most { length result.now ≤ outbox_frames }
     {
         self.frames.as_slice()
     }
 
     /// Puts a frame of these bytes last. It takes no memory.
     pub fn push(&mut self, bytes: &[u8])
-        requires room { length self.old < 256 }
-        requires long { 14 ≤ length bytes.now }
-        requires short { length bytes.now ≤ 1514 }
+        requires room { length self.old < outbox_frames }
+        requires long { shortest_frame ≤ length bytes.now }
+        requires short { length bytes.now ≤ longest_frame }
         ensures { self.new ≡ self.old ++ record { items = bytes.now } ∷ [] }
     {
         let mut frame = Frame::new();
@@ -82,9 +85,9 @@ impl Outbox {
     /// Puts a frame last whose bytes are `len` of a chain's readable ones, joined in order, from the one at `at` on.
     /// They are copied once, from RAM to the frame's place.
     pub(crate) fn push_readable<R: GuestRam>(&mut self, ram: &R, chain: &Chain, at: u64, len: usize)
-        requires room { length self.old < 256 }
-        requires long { 14 ≤ len }
-        requires short { len ≤ 1514 }
+        requires room { length self.old < outbox_frames }
+        requires long { shortest_frame ≤ len }
+        requires short { len ≤ longest_frame }
         requires inside { BuffersInside (length (R.bytes ram.now)) chain.now.parts }
         requires fits { at + len ≤ readable_len chain.now.parts }
         ensures { self.new ≡ self.old ++ record { items = take len (drop at (readable_bytes (R.bytes ram.now) chain.now.parts)) } ∷ [] }
@@ -105,7 +108,7 @@ impl Outbox {
 /// Puts a frame of `len` zero bytes last.
 fn push_blank(frames: &mut Vec<Frame>, len: usize)
     requires room { length frames.old.items < vec_capacity frames.old }
-    requires short { len ≤ 1514 }
+    requires short { len ≤ longest_frame }
     ensures items { frames.new.items ≡ frames.old.items ++ record { items = replicate len 0 } ∷ [] }
     ensures capacity { vec_capacity frames.old ≤ vec_capacity frames.new }
 {
@@ -116,7 +119,7 @@ fn push_blank(frames: &mut Vec<Frame>, len: usize)
 
 /// A frame of `len` zero bytes.
 fn blank(len: usize) -> Frame
-    requires { len ≤ 1514 }
+    requires { len ≤ longest_frame }
     ensures { result ≡ record { items = replicate len 0 } }
 {
     let mut frame = Frame::from([0; 1514]);

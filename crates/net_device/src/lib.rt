@@ -9,6 +9,7 @@ mod device;
 mod errors;
 mod frames;
 mod laws;
+mod limits;
 mod sending;
 
 pub use device::NetDevice;
@@ -18,6 +19,7 @@ pub use laws::{
     earlier_chains_stay, kept_rules, packets_received, packets_sent, receive_breaks, sent_frames,
     transmit_breaks,
 };
+pub use limits::limits_are_the_rules;
 
 #[cfg(test)]
 mod tests;

@@ -1,5 +1,6 @@
 //! What the card does with a chain of its transmit queue.
 ghost use Rattle.std.specs.Prelude.{◌≡◌, ◌-◌, ◌≤◌, true, false, length};
+ghost use Rattle.net_device.specs.Limits.{outbox_frames};
 ghost use Rattle.net_device.specs.Transmit.{send};
 
 use crate::frames::Outbox;
@@ -23,7 +24,7 @@ fn has_frame(len: u64) -> bool
 }
 
 impl ChainHandler for Outbox {
-    ghost room = { λ frames. 256 - length frames };
+    ghost room = { λ frames. outbox_frames - length frames };
 
     ghost act = { send };
 

@@ -2,6 +2,7 @@
 use Rattle.std.specs.Prelude.{ℕ, ◌*◌, ◌==◌, Bool, not, List, take, drop, count_by, bit_xor}
 use Rattle.std.specs.List.{list_any}
 use Rattle.std.specs.Simd.Lanes.{zip2}
+use Rattle.page_lanes.specs.Limits.{block_size}
 
 -- the exclusive or of the two bytes at each position
 abbrev pub xored : List ℕ → List ℕ → List ℕ
@@ -21,4 +22,4 @@ differing xs ys = count_by (λ d. d) (differences xs ys)
 
 -- block i of a page: its bytes from 64 * i to 64 * i + 63
 abbrev pub block : ℕ → List ℕ → List ℕ
-block i page = take 64 (drop (64 * i) page)
+block i page = take block_size (drop (block_size * i) page)

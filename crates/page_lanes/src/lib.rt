@@ -8,11 +8,13 @@
 
 mod blocks;
 mod bytes;
+mod limits;
 mod pages;
 mod slices;
 #[cfg(test)]
 mod tests;
 
 pub use blocks::{BLOCK_SIZE, Block, xor_block_at, xor_blocks};
+pub use limits::limits_are_the_rules;
 pub use pages::{PAGE_SIZE, Page, mask};
 pub use slices::{count_differing, equal, is_zero, xor_into};

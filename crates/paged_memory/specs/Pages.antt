@@ -1,6 +1,7 @@
 -- A memory in pages of 4096 bytes, and which of them were written since it was last settled.
 use Rattle.std.specs.Prelude.{◌≡◌, ℕ, ◌+◌, ◌-◌, ◌*◌, ◌/◌, ◌%◌, ◌^◌, ◌≤◌, ◌==◌, Bool, true, false, if◌then◌else◌, List, ◌++◌}
 use Rattle.std.specs.Prelude.{length, replicate, take, drop, slice_range, slice_index_or, count_by}
+use Rattle.paged_memory.specs.Limits.{page_bytes, most_pages}
 
 -- the bytes, those at the last settle, a flag for each page, whether it was written since, and how many page copies were made
 -- since boot, modulo 2^64
@@ -12,7 +13,7 @@ pub record Paged : Type 0 where
 
 -- the bytes of a page
 abbrev pub page_of : List ℕ → ℕ → List ℕ
-page_of bytes page = slice_range bytes (4096 * page) (4096 * page + 4096)
+page_of bytes page = slice_range bytes (page_bytes * page) (page_bytes * page + page_bytes)
 
 -- a page that a memory has was written since the last settle
 abbrev pub is_written : List Bool → ℕ → Bool
@@ -24,9 +25,9 @@ pub record AreKept (bytes settled : List ℕ) (flags : List Bool) : Type 0 where
 
 -- what is true of each memory: it has 1 to 4096 whole pages, and what wasn't written is kept
 pub record IsPaged (m : Paged) : Type 0 where
-  pub whole : length m.bytes ≡ 4096 * length m.written
+  pub whole : length m.bytes ≡ page_bytes * length m.written
   pub least : 1 ≤ length m.written
-  pub most : length m.written ≤ 4096
+  pub most : length m.written ≤ most_pages
   pub settled : length m.settled ≡ length m.bytes
   pub kept : AreKept m.bytes m.settled m.written
 
@@ -36,11 +37,11 @@ flagged flags from end = take from flags ++ (replicate (end - from) true ++ drop
 
 -- the page that follows those that n bytes from a place on lie in; no bytes lie in none
 abbrev pub end_page : ℕ → ℕ → ℕ
-end_page at n = if n == 0 then at / 4096 else (at + n - 1) / 4096 + 1
+end_page at n = if n == 0 then at / page_bytes else (at + n - 1) / page_bytes + 1
 
 -- the flags after n bytes from a place on were written
 abbrev pub marked : List Bool → ℕ → ℕ → List Bool
-marked flags at n = flagged flags (at / 4096) (end_page at n)
+marked flags at n = flagged flags (at / page_bytes) (end_page at n)
 
 -- how many pages were written
 abbrev pub written_pages : List Bool → ℕ
@@ -56,7 +57,7 @@ with_written m at n bytes = record (with_flags m (marked m.written at n)) { byte
 
 -- a memory at boot: the image's bytes from the first place on, all else 0, and no page written
 abbrev pub boot_bytes : ℕ → List ℕ → List ℕ
-boot_bytes pages image = image ++ replicate (4096 * pages - length image) 0
+boot_bytes pages image = image ++ replicate (page_bytes * pages - length image) 0
 
 -- a memory that was just settled, after so many page copies
 abbrev pub settled_at : List ℕ → ℕ → ℕ → Paged

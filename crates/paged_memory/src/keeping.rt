@@ -1,5 +1,6 @@
 //! How pages are kept before they are first written.
 ghost use Rattle.std.specs.Prelude.{◌≡◌, ℕ, ◌+◌, ◌*◌, ◌%◌, ◌^◌, ◌<◌, ◌≤◌, false, true, length, replicate, slice_set, All, Contains};
+ghost use Rattle.paged_memory.specs.Limits.{page_bytes};
 ghost use Rattle.paged_memory.specs.Pages.{IsPaged, flagged, is_written, with_flags, with_written};
 
 use crate::memory::{Memory, PAGE_BYTES, put};
@@ -59,7 +60,7 @@ impl Memory {
     #[inline]
     pub(crate) fn keep_few(&mut self, at: usize, count: usize)
         requires some { 1 ≤ count }
-        requires few { count ≤ 4096 }
+        requires few { count ≤ page_bytes }
         requires within { at + count ≤ length self.old.bytes }
         ensures value { self.new ≡ with_written self.old at count self.old.bytes }
         ensures rules { IsPaged self.old }

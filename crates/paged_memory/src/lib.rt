@@ -8,9 +8,11 @@
 #![tactic(auto)]
 
 mod keeping;
+mod limits;
 mod memory;
 mod numbers;
 
+pub use limits::limits_are_the_rules;
 pub use memory::{Memory, PAGE_BYTES};
 pub use page_lanes::BLOCK_SIZE as BLOCK_BYTES;
 

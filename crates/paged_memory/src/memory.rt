@@ -1,6 +1,7 @@
 //! Memory in pages.
 ghost use Rattle.std.specs.Prelude.{◌≡◌, ◌+◌, ◌-◌, ◌*◌, ◌%◌, ◌^◌, ◌<◌, ◌≤◌, IfOk, false, length, replicate, take, drop, slice_index};
 ghost use Rattle.paged_memory.specs.Bytes.{with_bytes, with_xored};
+ghost use Rattle.paged_memory.specs.Limits.{page_bytes, most_pages};
 ghost use Rattle.paged_memory.specs.Pages.{IsPaged, page_of, is_written, written_pages, with_written, boot_bytes, settled_at};
 
 use crate::keeping::clear_flags;
@@ -45,8 +46,8 @@ impl Memory {
     /// Where memory is refused.
     pub fn boot(alloc: Global, pages: u32, image: &[u8]) -> Result<Memory, AllocError>
         requires some { 1 ≤ pages }
-        requires most { pages ≤ 4096 }
-        requires fits { length image.now ≤ 4096 * pages }
+        requires most { pages ≤ most_pages }
+        requires fits { length image.now ≤ page_bytes * pages }
         ensures { IfOk result (λ memory. memory ≡ settled_at (boot_bytes pages image.now) pages 0) }
     {
         let size = PAGE_BYTES * pages as usize;
@@ -71,8 +72,8 @@ impl Memory {
     #[inline]
     pub fn size(&self) -> usize
         ensures value { result ≡ length self.now.bytes }
-        ensures least { 4096 ≤ result }
-        ensures most { result ≤ 4096 * 4096 }
+        ensures least { page_bytes ≤ result }
+        ensures most { result ≤ page_bytes * most_pages }
         ensures rules { IsPaged self.now }
     {
         self.bytes.len()
@@ -83,8 +84,8 @@ impl Memory {
     pub fn pages(&self) -> u32
         ensures value { result ≡ length self.now.written }
         ensures least { 1 ≤ result }
-        ensures most { result ≤ 4096 }
-        ensures bytes { length self.now.bytes ≡ 4096 * result }
+        ensures most { result ≤ most_pages }
+        ensures bytes { length self.now.bytes ≡ page_bytes * result }
         ensures rules { IsPaged self.now }
     {
         self.written.len() as u32
@@ -147,7 +148,7 @@ impl Memory {
 
     /// The bytes of a page that the memory has, as the caller knows.
     pub fn page(&self, page: u32) -> &[u8; PAGE_BYTES]
-        requires { 4096 * page + 4096 ≤ length self.now.bytes }
+        requires { page_bytes * page + page_bytes ≤ length self.now.bytes }
         ensures { result.now ≡ page_of self.now.bytes page }
     {
         page_at(self.bytes.as_slice(), page)
@@ -156,7 +157,7 @@ impl Memory {
     /// Whether a page was written since the last settle, or since boot, also where its bytes are the same as then. The memory has
     /// it, as the caller knows.
     pub fn dirty(&self, page: u32) -> bool
-        requires { 4096 * page + 4096 ≤ length self.now.bytes }
+        requires { page_bytes * page + page_bytes ≤ length self.now.bytes }
         ensures value { result ≡ is_written self.now.written page }
         ensures same { result ≡ false → page_of self.now.bytes page ≡ page_of self.now.settled page }
     {
@@ -165,7 +166,7 @@ impl Memory {
 
     /// The bytes of a page at the last settle, or at boot. The memory has it, as the caller knows.
     pub fn original(&self, page: u32) -> &[u8; PAGE_BYTES]
-        requires { 4096 * page + 4096 ≤ length self.now.bytes }
+        requires { page_bytes * page + page_bytes ≤ length self.now.bytes }
         ensures value { result.now ≡ page_of self.now.settled page }
         ensures size { length self.now.settled ≡ length self.now.bytes }
     {
@@ -215,7 +216,7 @@ fn xor_at(bytes: &mut Vec<u8>, at: usize, block: &Block)
 
 /// The bytes of a page as an array.
 fn page_at(bytes: &[u8], page: u32) -> &[u8; PAGE_BYTES]
-    requires { 4096 * page + 4096 ≤ length bytes.now }
+    requires { page_bytes * page + page_bytes ≤ length bytes.now }
     ensures { result.now ≡ page_of bytes.now page }
 {
     let start = PAGE_BYTES * page as usize;

@@ -50,7 +50,7 @@ use borrow.Author.Tests.{leb-true}
 use Rattle.virtqueue.specs.declared.broken.Broken.{Broken}
 use Rattle.virtqueue.specs.declared.broken.Broken.TheVariants.{Misaligned, AreaOutside, TooMany}
 use Rattle.virtqueue.specs.declared.chains.Descriptor.{Descriptor}
-use Rattle.virtqueue.specs.declared.memory.TheConstants.{RAM_START}
+use Rattle.virtqueue.specs.Limits.{ram_start}
 use Rattle.virtqueue.specs.declared.rings.Queue.{Queue}
 use Rattle.virtqueue.specs.Memory.{written, place_of, is_inside}
 use Rattle.virtqueue.specs.Areas.{is_aligned, are_inside, waiting, available_of, AreasFit, IsSized}
@@ -63,10 +63,10 @@ both true b h = (refl, h)
 both false b h = let none : ⊥ = cc in absurd none
 
 -- bytes that lie inside RAM begin and end there
-ends_inside : (size address len : ℕ) → is_inside size address len ≡ true → (RAM_START ≤ address) × (address + len ≤ RAM_START + size)
+ends_inside : (size address len : ℕ) → is_inside size address len ≡ true → (ram_start ≤ address) × (address + len ≤ ram_start + size)
 ends_inside size address len h =
-    let ends = both (nat_le RAM_START address) (nat_le (address + len) (RAM_START + size)) h in
-    (leb-true RAM_START address ends.0, leb-true (address + len) (RAM_START + size) ends.1)
+    let ends = both (nat_le ram_start address) (nat_le (address + len) (ram_start + size)) h in
+    (leb-true ram_start address ends.0, leb-true (address + len) (ram_start + size) ends.1)
 
 -- ---- a chain's buffers
 
@@ -137,7 +137,7 @@ length_put_at bytes (p ∷ ps) [] = refl
 length_put_at bytes (p ∷ ps) (v ∷ vs) = length_put_at (slice_set bytes p v) ps vs ∙ length-set bytes p v
 
 -- the used entry lies in the used ring
-slot_inside : (device used num size : ℕ) → 0 < num → RAM_START ≤ device → device + (6 + 8 * num) ≤ RAM_START + size →
+slot_inside : (device used num size : ℕ) → 0 < num → ram_start ≤ device → device + (6 + 8 * num) ≤ ram_start + size →
     place_of device + 4 + 8 * (used % num) + 8 ≤ size
 slot_inside device used num size some from to = omega (arith, mod-lt used some)
 

@@ -41,7 +41,7 @@ use Rattle.std.proofs.lemmas.List.{take-append-drop, drop-append-le, drop_all, d
 use Rattle.std.proofs.lemmas.List.FromFn.{length-range_with_len}
 use borrow.Author.Tests.{leb-true}
 use Rattle.virtqueue.specs.declared.chains.Descriptor.{Descriptor}
-use Rattle.virtqueue.specs.declared.memory.TheConstants.{RAM_START}
+use Rattle.virtqueue.specs.Limits.{ram_start}
 use Rattle.virtqueue.specs.Memory.{place_of, is_inside, written}
 use Rattle.virtqueue.specs.Chains.{buffer_inside}
 use Rattle.virtqueue.specs.Parts.{writable_places, put_at}
@@ -98,10 +98,10 @@ drop_least (x ∷ xs) (suc n) (suc count) e = drop_least xs n count (omega arith
 place_fits : (size address len : ℕ) → 0 < len → IsTrue (buffer_inside size address len) → place_of address + len ≤ size
 place_fits size address len some h =
     let no : (len == 0) ≡ false = grind arith in
-    let both = split (nat_le RAM_START address) (nat_le (address + len) (RAM_START + size))
+    let both = split (nat_le ram_start address) (nat_le (address + len) (ram_start + size))
     (later (len == 0) (is_inside size address len) no h) in
-    let from : RAM_START ≤ address = leb-true RAM_START address both.0 in
-    let to : address + len ≤ RAM_START + size = leb-true (address + len) (RAM_START + size) both.1 in
+    let from : ram_start ≤ address = leb-true ram_start address both.0 in
+    let to : address + len ≤ ram_start + size = leb-true (address + len) (ram_start + size) both.1 in
     omega arith
   where
     later : (a b : Bool) → a ≡ false → IsTrue (a || b) → IsTrue b

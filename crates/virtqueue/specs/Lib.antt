@@ -1,3 +1,4 @@
+pub mod Limits
 pub mod Queues
 pub mod Memory
 pub mod Areas

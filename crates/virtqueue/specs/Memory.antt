@@ -1,6 +1,6 @@
 use Rattle.std.specs.Prelude.{ℕ, ◌+◌, ◌-◌, Bool, ◌&&◌, nat_le, List, ◌++◌, length, take, drop}
 use Rattle.std.specs.Int.{from_le_bytes, w16, w32, w64}
-use Rattle.virtqueue.specs.declared.memory.TheConstants.{RAM_START}
+use Rattle.virtqueue.specs.Limits.{ram_start}
 
 -- bytes with some of them, from a place on, replaced; all others stay
 abbrev pub written : List ℕ → ℕ → List ℕ → List ℕ
@@ -18,8 +18,8 @@ le64 bytes place = from_le_bytes w64 (take 8 (drop place bytes))
 
 -- some bytes from a guest address on lie wholly in RAM
 abbrev pub is_inside : ℕ → ℕ → ℕ → Bool
-is_inside size address len = nat_le RAM_START address && nat_le (address + len) (RAM_START + size)
+is_inside size address len = nat_le ram_start address && nat_le (address + len) (ram_start + size)
 
 -- the place in RAM of a guest address
 abbrev pub place_of : ℕ → ℕ
-place_of address = address - RAM_START
+place_of address = address - ram_start

@@ -1,6 +1,7 @@
 //! The chain of descriptors that the driver made available.
 
 ghost use Rattle.std.specs.Prelude.{◌≡◌, ◌+◌, ◌*◌, ◌<◌, ◌≤◌, length, false, IfOk, IfSome, OnOk};
+ghost use Rattle.virtqueue.specs.Limits.{most_descriptors};
 ghost use Rattle.virtqueue.specs.Memory.{place_of};
 ghost use Rattle.virtqueue.specs.Areas.{AreasFit, IsSized};
 ghost use Rattle.virtqueue.specs.Chains.{sound_entry, spelled_from, chain_of, next_chain_of, items_of, BuffersInside};
@@ -48,7 +49,7 @@ impl Chain {
     /// The chain's buffers, at most 64.
     pub fn parts(&self) -> &[Descriptor]
         ensures value { result.now ≡ self.now.parts }
-        ensures few { length result.now ≤ 64 }
+        ensures few { length result.now ≤ most_descriptors }
     {
         self.parts.as_slice()
     }

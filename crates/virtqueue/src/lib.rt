@@ -7,6 +7,7 @@
 mod broken;
 mod chains;
 mod laws;
+mod limits;
 mod memory;
 mod parts;
 mod plain_ram;
@@ -15,6 +16,7 @@ mod rings;
 pub use broken::Broken;
 pub use chains::{Chain, Descriptor};
 pub use laws::joined_lengths;
+pub use limits::limits_are_the_rules;
 pub use memory::{GuestRam, RAM_START};
 pub use plain_ram::PlainRam;
 pub use rings::Queue;

@@ -2,6 +2,7 @@
 
 ghost use Rattle.std.specs.Prelude.{◌≡◌, ◌≤◌, length, OnOk, IfOk, IsTrue};
 ghost use Rattle.virtqueue.specs.Queues.{boot_queue};
+ghost use Rattle.virtqueue.specs.Limits.{most_descriptors};
 ghost use Rattle.virtqueue.specs.Areas.{is_aligned, are_inside, available_of, AreasFit, IsSized};
 ghost use Rattle.virtqueue.specs.Used.{used_written, queue_after_use};
 
@@ -70,7 +71,7 @@ impl Queue {
     pub fn available<R: GuestRam>(&self, ram: &R) -> Result<u16, Broken>
         ensures value { result ≡ available_of self.now (R.bytes ram.now) }
         ensures areas { OnOk result (AreasFit self.now (length (R.bytes ram.now))) }
-        ensures few { IfOk result (λ n. n ≤ 64) }
+        ensures few { IfOk result (λ n. n ≤ most_descriptors) }
     {
         if !self.is_aligned() {
             return Err(Broken::Misaligned);
