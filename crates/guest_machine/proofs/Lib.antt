@@ -7,6 +7,10 @@ pub mod CountLemmas
 pub mod AlignedLemmas
 pub mod ApartLemmas
 pub mod RunLemmas
+pub mod QuietLemmas
+pub mod CsrLemmas
+pub mod KeptLemmas
+pub mod PlaceLemmas
 pub mod MemoryLemmas
 pub mod RegisterLemmas
 pub mod StateLemmas

@@ -6,6 +6,8 @@ pub mod Errors
 pub mod Examples
 pub mod Flags
 pub mod Guest
+pub mod KeptWords
+pub mod Limits
 pub mod MachineStates
 pub mod Parts
 pub mod Pending

@@ -24,7 +24,7 @@ fn read_csr(hart: &Hart, devices: &Devices, number: u16) -> Option<u64>
 }
 
 /// What an access writes over the old value.
-fn combine(op: CsrOp, old: u64, operand: u64) -> u64
+pub(crate) fn combine(op: CsrOp, old: u64, operand: u64) -> u64
     ensures { result ≡ combined op old operand }
 {
     match op {

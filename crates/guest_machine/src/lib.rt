@@ -16,18 +16,24 @@ mod devices;
 mod errors;
 mod hart;
 mod interrupts;
+mod kept_words;
+mod laps;
 mod laws;
 mod lending;
+mod limits;
 mod loads;
 mod machine;
 mod machine_state;
 mod places;
+mod prepared_words;
+mod quick_steps;
 mod ram;
 mod readers;
 mod shapes;
 mod snapshots;
 mod step;
 mod stores;
+mod stretches;
 
 pub use block_device::SECTOR_BYTES;
 pub use bus_map::RAM_BASE;
@@ -38,6 +44,7 @@ pub use laws::{
     early_frames_are_lost, frames_arrive, kept_disk, kept_memory, read_only_csrs_trap, sent_frames,
     timer_interrupts,
 };
+pub use limits::limits_are_the_rules;
 pub use machine::Machine;
 pub use machine_state::MachineState;
 pub use mtraps::CsrValues;

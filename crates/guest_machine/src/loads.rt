@@ -83,7 +83,7 @@ fn timer_value(hart: &Hart, register: TimerRegister) -> u64
 
 /// A loaded value as a register holds it: sign extended from its width, or filled with zeros.
 #[inline]
-fn extend(value: u64, width: Width, signed: bool) -> u64
+pub(crate) fn extend(value: u64, width: Width, signed: bool) -> u64
     ensures { result ≡ extended signed (width_bytes width) value }
 {
     let (sign, ones) = match width {

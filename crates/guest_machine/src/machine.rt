@@ -3,15 +3,19 @@ ghost use Rattle.std.specs.Prelude.{◌≡◌, ◌-◌, ◌*◌, ◌<◌, ◌≤
 ghost use Rattle.net_device.specs.Receive.{received};
 ghost use Rattle.guest_machine.specs.Flags.{KeepsFlags};
 ghost use Rattle.guest_machine.specs.Guest.{boot_guest};
+ghost use Rattle.guest_machine.specs.Limits.{stepping_frames};
 ghost use Rattle.guest_machine.specs.Runs.{after_steps, sent_in, marked_in, HaveRoom};
 ghost use Rattle.guest_machine.specs.Step.{next, sent, marked, arrived};
 
 use crate::devices::Devices;
 use crate::errors::MachineError;
 use crate::hart::Hart;
+use crate::laps::Looks;
+use crate::prepared_words::PreparedWords;
 use crate::ram::Ram;
 use crate::shapes::Shape;
 use crate::step::run_step;
+use crate::stretches::run_stretch;
 use bus_map::RAM_BASE;
 use mtraps::Csrs;
 use net_device::{Frame, Outbox};
@@ -31,6 +35,8 @@ pub struct Machine {
     pub(crate) ram: Ram,
     pub(crate) devices: Devices,
     pub(crate) outbox: Outbox,
+    words: PreparedWords,
+    looks: Looks,
 }
 
 impl Model for Machine {
@@ -71,6 +77,12 @@ impl Machine {
         let Ok(outbox) = Outbox::new(alloc) else {
             return Err(MachineError::NoMemory);
         };
+        let Ok(words) = PreparedWords::boot(alloc) else {
+            return Err(MachineError::NoMemory);
+        };
+        let Ok(looks) = Looks::boot(alloc) else {
+            return Err(MachineError::NoMemory);
+        };
         Ok(Machine {
             hart: Hart {
                 regs: Regs::new(),
@@ -83,6 +95,8 @@ impl Machine {
             ram: Ram { memory },
             devices,
             outbox,
+            words,
+            looks,
         })
     }
 
@@ -97,7 +111,7 @@ impl Machine {
         ensures dirty { OnOk result (self.new.dirty ≡ marked self.old.guest self.old.dirty) }
         ensures settled { self.new.settled ≡ self.old.settled }
         ensures flags { KeepsFlags self.old.written self.new.written }
-        ensures refused { IsErr result ↔ (192 < length self.old.outbox) }
+        ensures refused { IsErr result ↔ (stepping_frames < length self.old.outbox) }
         ensures err { OnErr result ((result ≡ Err MachineError.CutNeeded) × (self.new ≡ self.old)) }
     {
         if self.run(1) == 1 {
@@ -118,7 +132,7 @@ impl Machine {
         ensures flags { KeepsFlags self.old.written self.new.written }
         ensures room { HaveRoom result self.old.guest self.old.outbox }
         ensures unchanged { result ≡ 0 → self.new ≡ self.old }
-        ensures cut_needed { result < count → 192 < length self.new.outbox }
+        ensures cut_needed { result < count → stepping_frames < length self.new.outbox }
     {
         self.run_while(count, STEPPING_FRAMES)
     }
@@ -144,7 +158,7 @@ impl Machine {
     /// Steps of the guest, one by one: `count` of them, or fewer where one finds more than `limit` frames in the outbox.
     #[inline]
     fn run_while(&mut self, count: u64, limit: usize) -> u64
-        requires { limit ≤ 192 }
+        requires { limit ≤ stepping_frames }
         ensures most { result ≤ count }
         ensures guest { self.new.guest ≡ after_steps result self.old.guest }
         ensures outbox { self.new.outbox ≡ self.old.outbox ++ sent_in result self.old.guest }
@@ -158,13 +172,24 @@ impl Machine {
     {
         let mut made = 0;
         while made < count && self.outbox.len() <= limit {
-            run_step(
+            made += run_stretch(
                 &mut self.hart,
                 &mut self.ram,
-                &mut self.devices,
-                &mut self.outbox,
+                &self.devices,
+                &mut self.words,
+                &mut self.looks,
+                count - made,
             );
-            made += 1;
+            // What ended the stretch takes a step that may do anything.
+            if made < count {
+                run_step(
+                    &mut self.hart,
+                    &mut self.ram,
+                    &mut self.devices,
+                    &mut self.outbox,
+                );
+                made += 1;
+            }
         }
         made
     }

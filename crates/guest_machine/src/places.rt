@@ -1,5 +1,6 @@
 //! Where addresses lie in the guest's memory.
 ghost use Rattle.std.specs.Prelude.{◌≡◌, ◌≤◌, ◌^◌};
+ghost use Rattle.bus_map.specs.Limits.{ram_base};
 ghost use Rattle.guest_machine.specs.Places.{in_ram, ram_place};
 
 /// The address of the first byte of memory.
@@ -18,7 +19,7 @@ pub(crate) fn in_ram(size: usize, address: u64, n: u64) -> bool
 /// The place in memory of an address that isn't below it.
 #[inline]
 pub(crate) fn ram_place(address: u64) -> usize
-    requires { RAM_BASE ≤ address }
+    requires { ram_base ≤ address }
     ensures { result ≡ ram_place address }
 {
     (address - RAM_BASE) as usize

@@ -71,7 +71,7 @@ fn run_instruction(hart: &mut Hart, ram: &mut Ram, devices: &mut Devices, outbox
 
 /// What a word says to do; one that is no instruction is an exception.
 #[inline]
-fn plan_word(regs: &Regs, pc: u64, word: u32) -> Plan
+pub(crate) fn plan_word(regs: &Regs, pc: u64, word: u32) -> Plan
     ensures { result ≡ planned regs.now pc word (decoded word) }
 {
     match decode(word) {

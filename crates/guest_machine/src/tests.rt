@@ -3,7 +3,10 @@
 mod asserts;
 mod disk;
 mod disk_interrupts;
+mod hostile;
+mod images;
 mod interrupts;
+mod laps;
 mod loads;
 mod network;
 mod ping;

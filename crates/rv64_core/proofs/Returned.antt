@@ -1,4 +1,4 @@
--- Written by scripts/rows.py: each row's word is written as it was read.
+-- Written by tools/write_decoder_proofs: each row's word is written as it was read.
 use Rattle.std.proofs.Common.{◌≡◌, ℕ, ◌<◌, ◌^◌, Some, drop}
 use Rattle.rv64_core.specs.declared.instruction.Instr.{Instr}
 use Rattle.rv64_core.specs.Rows.{table, decoded}

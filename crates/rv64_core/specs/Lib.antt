@@ -4,6 +4,7 @@ pub mod Fields
 pub mod Formats
 pub mod Meaning
 pub mod Operations
+pub mod Prepared
 pub mod Registers
 pub mod Rows
 pub mod Widths

@@ -10,18 +10,22 @@ mod decoding;
 mod encoding;
 mod fields;
 mod instruction;
+mod kind;
 mod operations;
 mod planning;
 mod plans;
+mod prepared;
 mod register;
 mod width;
 
 pub use decoding::decode;
 pub use encoding::encode;
 pub use instruction::Instr;
+pub use kind::Kind;
 pub use operations::{Condition, CsrOp, Division, Multiplication, Operation, WordOperation};
 pub use planning::plan;
 pub use plans::Plan;
+pub use prepared::{Prepared, plan_prepared, prepare};
 pub use register::{Register, Regs};
 pub use width::Width;
 

@@ -129,7 +129,7 @@ fn by_instruction(regs: &Regs, pc: u64, instr: Instr) -> Plan
 
 /// A write of `value` to `rd` that goes on at the word behind this one.
 #[inline]
-fn write(pc: u64, rd: Register, value: u64) -> Plan
+pub(crate) fn write(pc: u64, rd: Register, value: u64) -> Plan
     ensures { result ≡ written pc rd value }
 {
     Plan::Next {
@@ -141,7 +141,7 @@ fn write(pc: u64, rd: Register, value: u64) -> Plan
 
 /// A jump to `target` that leaves `link` in `rd`, or the exception of a misaligned target, which writes no register.
 #[inline]
-fn jump(rd: Register, target: u64, link: u64) -> Plan
+pub(crate) fn jump(rd: Register, target: u64, link: u64) -> Plan
     ensures { result ≡ jumped rd target link }
 {
     if target % 4 == 0 {

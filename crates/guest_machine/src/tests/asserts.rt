@@ -26,7 +26,7 @@ pub(super) fn assert_lost(rt: &impl Abort, machine: &mut Machine, bytes: &[u8]) 
 }
 
 /// A frame of these bytes arrives. Says whether the guest has it.
-fn arrives(rt: &impl Abort, machine: &mut Machine, bytes: &[u8]) -> bool {
+pub(super) fn arrives(rt: &impl Abort, machine: &mut Machine, bytes: &[u8]) -> bool {
     let mut frame = Frame::new();
     assert!(rt; frame.try_extend_from_slice(bytes).is_ok());
     assert!(rt; frame.len() >= 14);

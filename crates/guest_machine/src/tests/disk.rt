@@ -12,7 +12,7 @@ use std::process::Abort;
 use std::test::Fail;
 
 /// The guest of one request: as the beacon, but for queue 0 of the disk, which has 4 descriptors. It notifies in step 23.
-const ONE_REQUEST: [u32; 24] = [
+pub(super) const ONE_REQUEST: [u32; 24] = [
     0x100022b7, 0x00100313, 0x0662a823, 0x00300393, 0x0672a823, 0x0262a223, 0x0262a023, 0x00b00393,
     0x0672a823, 0x0702a403, 0x0202a823, 0x00400393, 0x0272ac23, 0x800013b7, 0x0872a023, 0x04038393,
     0x0872a823, 0x04038393, 0x0a72a023, 0x0462a223, 0x00f00393, 0x0672a823, 0x0402a823, 0x0000006f,
@@ -26,7 +26,7 @@ const HEAD: usize = 0x1100;
 
 const STATUS: usize = 0x1110;
 
-const DATA: usize = 0x1200;
+pub(super) const DATA: usize = 0x1200;
 
 /// The head and the data, which the disk reads, and the status byte, which it writes.
 const CHAIN: [u32; 12] = [
@@ -42,7 +42,7 @@ const DATA_ADDRESS: usize = DESCRIPTOR + 16;
 
 const DATA_LEN: usize = DESCRIPTOR + 16 + 8;
 
-const DATA_FLAGS: usize = DESCRIPTOR + 16 + 12;
+pub(super) const DATA_FLAGS: usize = DESCRIPTOR + 16 + 12;
 
 const STATUS_LEN: usize = DESCRIPTOR + 32 + 8;
 
@@ -54,7 +54,7 @@ const TO_AVAILABLE: usize = 4 * 15;
 const TO_USED: usize = 4 * 17;
 
 /// Types of requests (virtio 1.1, 5.2.6).
-const READ: u32 = 0;
+pub(super) const READ: u32 = 0;
 
 pub(super) const WRITE: u32 = 1;
 
@@ -224,6 +224,7 @@ fn breaks(rt: &impl Abort, alloc: Global, changes: &[(usize, u32)]) -> Result<()
     assert_last_sector(rt, &machine, 0);
     assert_written(rt, &machine, &[]);
     assert_boot_card(rt, &machine);
+    assert_frames(rt, &machine, 0);
     Ok(())
 }
 

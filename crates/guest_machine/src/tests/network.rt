@@ -93,7 +93,7 @@ fn buffers_at_the_edge_are_whole(rt: HostRuntime) -> Result<(), Fail> {
 }
 
 /// A frame from client 1 to the guest: to 02:00:00:00:00:01, from 02:00:00:00:01:01, of type 88b5.
-const FROM_CLIENT: [u8; 14] = [2, 0, 0, 0, 0, 1, 2, 0, 0, 0, 1, 1, 0x88, 0xb5];
+pub(super) const FROM_CLIENT: [u8; 14] = [2, 0, 0, 0, 0, 1, 2, 0, 0, 0, 1, 1, 0x88, 0xb5];
 
 #[test]
 fn a_frame_is_lost_at_a_guest_with_no_queue(rt: HostRuntime) -> Result<(), Fail> {
@@ -110,7 +110,7 @@ fn a_frame_is_lost_at_a_guest_with_no_queue(rt: HostRuntime) -> Result<(), Fail>
 
 /// The beacon with a receive queue in the place of its transmit queue, whose one buffer the device may write: it has `len`
 /// bytes. Behind the setup the guest reads mip into x10.
-fn receiver(alloc: Global, len: u16) -> Result<Vec<u8>, AllocError> {
+pub(super) fn receiver(alloc: Global, len: u16) -> Result<Vec<u8>, AllocError> {
     let mut image = beacon(alloc)?;
     // SW x0, 0x30(x5): QueueSel 0; CSRRS x10, mip, x0; JAL x0, 0
     put_words(&mut image, 10, &[0x0202a823]);

@@ -1,5 +1,5 @@
 //! The guest of `guests/ping.c`, which its card's interrupts drive. The frames are those of `examples/ping.sim`, and the answers those
-//! of `examples/ping.expected`: Python's (`guests/examples.py`).
+//! of `examples/ping.expected`: Python's (`tools/write_examples`).
 
 use super::asserts::{
     assert_bytes, assert_card_interrupt, assert_card_status, assert_dirty, assert_frame,

@@ -1,5 +1,5 @@
 //! The words of the programs that are compiled from `guests/*.c`.
-// Written by guests/tests.py. Do not edit.
+// Written by tools/write_program_words. Do not edit.
 
 /// Sorts 100 numbers, and sums each times its place.
 pub(super) const SORT: [u32; 118] = [

@@ -1,5 +1,5 @@
 //! Programs that a stock compiler made of C, run until each jumps to itself. The answers are those of Python's `zlib`, `hashlib`
-//! and whole numbers (`guests/expected.py`), the step counts those of the interpreter in `bench/baseline`.
+//! and whole numbers (`oracle/guest_answers.py`), the step counts those of the interpreter in `oracle/interpreter`.
 
 use super::asserts::{assert_frame, assert_pc, assert_register, assert_run};
 use super::program_words::{CRC32, DISK, DIVISION, SHA256, SORT};

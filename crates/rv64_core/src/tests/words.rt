@@ -1,4 +1,4 @@
-//! The words of a walk over the opcode space, and what binutils' objdump says of each, as scripts/walk.py writes them.
+//! The words of a walk over the opcode space, and what binutils' objdump says of each, as tools/walk writes them.
 
 mod computations;
 mod illegal;

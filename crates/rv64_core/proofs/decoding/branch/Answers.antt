@@ -1,4 +1,4 @@
--- Written by scripts/rows.py: the row that each arm finds.
+-- Written by tools/write_decoder_proofs: the row that each arm finds.
 use Rattle.std.proofs.Common.{arith, sym}
 use Rattle.rv64_core.proofs.Found.{reads_beq, reads_bne, reads_blt, reads_bge, reads_bltu, reads_bgeu, none_branch}
 use Rattle.rv64_core.proofs.decoding.branch.Goals as goal

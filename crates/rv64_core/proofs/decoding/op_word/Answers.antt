@@ -1,4 +1,4 @@
--- Written by scripts/rows.py: the row that each arm finds.
+-- Written by tools/write_decoder_proofs: the row that each arm finds.
 use Rattle.std.proofs.Common.{arith, sym}
 use Rattle.rv64_core.proofs.Found.{
   reads_addw,

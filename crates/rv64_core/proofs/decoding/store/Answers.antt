@@ -1,4 +1,4 @@
--- Written by scripts/rows.py: the row that each arm finds.
+-- Written by tools/write_decoder_proofs: the row that each arm finds.
 use Rattle.std.proofs.Common.{arith, sym}
 use Rattle.rv64_core.proofs.Found.{reads_sb, reads_sh, reads_sw, reads_sd, none_store}
 use Rattle.rv64_core.proofs.decoding.store.Goals as goal

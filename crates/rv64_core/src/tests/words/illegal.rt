@@ -1,5 +1,5 @@
 //! Words in which binutils' objdump reads no instruction of the table.
-// Written by scripts/walk.py. Do not edit.
+// Written by tools/walk. Do not edit.
 
 /// Words that say no instruction of the table, ten to a line.
 pub static ILLEGAL: &str = "\

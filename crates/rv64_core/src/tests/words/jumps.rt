@@ -1,5 +1,5 @@
 //! Words of jumps and branches, and what binutils' objdump says of each.
-// Written by scripts/walk.py. Do not edit.
+// Written by tools/walk. Do not edit.
 
 /// Words with what they say: the mnemonic, and the operands as numbers.
 pub static JUMPS: &str = "\

@@ -1,11 +1,11 @@
-use Rattle.std.proofs.Common.{arith, subst, sym}
+use Rattle.std.proofs.Common.{◌+◌, arith, refl, subst, sym}
 use Rattle.guest_machine.specs.Aligned.{IsAligned}
 use Rattle.guest_machine.specs.Flags.{KeepsFlags}
 use Rattle.guest_machine.specs.Guest.{State}
 use Rattle.guest_machine.specs.Parts.{state_with}
-use Rattle.guest_machine.proofs.AlignedLemmas.{aligned-next}
+use Rattle.guest_machine.proofs.AlignedLemmas.{aligned-next, aligned_after}
 use Rattle.guest_machine.proofs.FlagLemmas.{keeps_same, keeps_on}
-use Rattle.guest_machine.proofs.RunLemmas.{IsRun, no_run, none_before, longer_run, few_before}
+use Rattle.guest_machine.proofs.RunLemmas.{IsRun, no_run, none_before, longer_run, few_before, run_then_quiet, few_before_quiet}
 use Rattle.guest_machine.proofs.machine.Machine.run_while.Goals as goal
 
 pub loop-made-init : goal.loop-made-init
@@ -24,13 +24,42 @@ loop-made-init c =
     }
 
 pub loop-made-preserved : goal.loop-made-preserved
-loop-made-preserved c = record {
-  most = omega arith;
-  run =
-      longer_run _ _ _ _ c.loop-made.invariant.run (omega arith) c.run_step.ensures.guest c.run_step.ensures.frames c.run_step.ensures.list
-      c.run_step.ensures.settled;
-  flags = keeps_on _ _ _ c.loop-made.invariant.flags c.run_step.ensures.flags;
-  before = few_before _ _ _ _ c.loop-made.invariant.run (omega arith);
-  unchanged = λ none. absurd (omega arith);
-  aligned = subst IsAligned (sym c.run_step.ensures.guest) (aligned-next _ c.loop-made.invariant.aligned);
-}
+loop-made-preserved c =
+    let quiet = c.run_stretch-made.ensures in
+    record {
+      most = omega arith;
+      run =
+          run_then_quiet c.loop-made.made c.run_stretch-made.result _ _ _ c.loop-made.invariant.run quiet.run (omega arith) refl refl
+          quiet.settled;
+      flags = keeps_on _ _ _ c.loop-made.invariant.flags quiet.flags;
+      before =
+          few_before_quiet c.args.limit c.loop-made.made c.run_stretch-made.result _ _ _ c.loop-made.invariant.run quiet.run (omega arith)
+          c.loop-made.invariant.before;
+      unchanged = λ none. absurd (omega (arith, none, c.if-made-count.false, c.loop-made-test.true));
+      aligned = subst IsAligned (sym quiet.run.guest) (aligned_after c.run_stretch-made.result _ c.loop-made.invariant.aligned);
+    }
+
+pub loop-made-preserved-then-made-count : goal.loop-made-preserved-then-made-count
+loop-made-preserved-then-made-count c =
+    let quiet = c.run_stretch-made.ensures in
+    let inside = c.loop-made.self-inside in
+    let stretched : State =
+    state_with c.run_stretch-made.new.hart c.run_stretch-made.new.ram.memory inside.devices inside.outbox
+    in
+    let run : IsRun (c.loop-made.made + c.run_stretch-made.result) c.args.self.now stretched =
+    run_then_quiet c.loop-made.made c.run_stretch-made.result _ _ _ c.loop-made.invariant.run quiet.run (omega arith) refl refl
+    quiet.settled
+    in
+    let aligned : IsAligned stretched.guest =
+    subst IsAligned (sym quiet.run.guest) (aligned_after c.run_stretch-made.result _ c.loop-made.invariant.aligned)
+    in
+    record {
+      most = omega arith;
+      run =
+          longer_run _ _ _ _ run (omega arith) c.run_step.ensures.guest c.run_step.ensures.frames c.run_step.ensures.list
+          c.run_step.ensures.settled;
+      flags = keeps_on _ _ _ (keeps_on _ _ _ c.loop-made.invariant.flags quiet.flags) c.run_step.ensures.flags;
+      before = few_before _ _ _ _ run (omega arith);
+      unchanged = λ none. absurd (omega arith);
+      aligned = subst IsAligned (sym c.run_step.ensures.guest) (aligned-next _ aligned);
+    }
