@@ -4,3 +4,4 @@ pub mod MaskLemmas
 pub mod PutLemmas
 pub mod RisingLemmas
 pub mod StageLemmas
+pub mod StreamLemmas

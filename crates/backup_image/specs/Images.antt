@@ -1,11 +1,11 @@
 -- The backup's image: a guest, the checkpoint that it was made by, and the one that is to come next.
-use Rattle.std.specs.Prelude.{ℕ, ◌+◌, ◌==◌, not, if◌then◌else◌, nat_lt, List, [], replicate, false, Option, Some, None, Result, Ok, Err}
+use Rattle.std.specs.Prelude.{ℕ, ◌+◌, ◌==◌, Bool, ◌&&◌, not, if◌then◌else◌, nat_lt, List, [], replicate, false, Option, Some, None, Result, Ok, Err}
 use Rattle.guest_machine.specs.declared.shapes.Shape.{Shape}
 use Rattle.guest_machine.specs.Guest.{Guest, State, boot_guest}
 use Rattle.epoch_snapshot.specs.Checkpoints.{Change}
 use Rattle.epoch_snapshot.specs.Images.{image_of}
 use Rattle.backup_image.specs.declared.errors.ImageError.{ImageError}
-use Rattle.backup_image.specs.declared.errors.ImageError.TheVariants.{NoImage, Stale, Gap}
+use Rattle.backup_image.specs.declared.errors.ImageError.TheVariants.{NoImage, Stale, Gap, OldVersion}
 use Rattle.backup_image.specs.declared.standing.Standing.{Standing}
 use Rattle.backup_image.specs.declared.standing.Staged.{Staged}
 use Rattle.backup_image.specs.declared.standing.Staged.TheVariants.{New, Again}
@@ -44,8 +44,12 @@ answer_at (Some at) generation number =
     else if number == at.number + 1 then Ok New
     else Ok Again
 
+-- a delta of version 1: it carries no frames, so what its guest sent could never be said. A full one stands for no epoch
+abbrev pub is_old_delta : Change → Bool
+is_old_delta c = c.version == 1 && not (c.number == 0)
+
 abbrev pub stage_answer : ImageState → Change → Result Staged ImageError
-stage_answer i c = answer_at i.stands_at c.generation c.number
+stage_answer i c = if is_old_delta c then Err OldVersion else answer_at i.stands_at c.generation c.number
 
 -- a new checkpoint takes the place of what was staged; otherwise that stays
 abbrev pub staged_after : Result Staged ImageError → Change → Option Change → Option Change

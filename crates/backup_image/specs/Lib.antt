@@ -1,3 +1,4 @@
 pub mod Images
 pub mod Invariant
 pub mod Refusals
+pub mod Streams

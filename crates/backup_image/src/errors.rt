@@ -19,6 +19,9 @@ pub enum ImageError {
     /// Memory was really refused.
     #[error("NoMemory")]
     NoMemory,
+    /// The checkpoint is a delta of version 1, which doesn't say what its guest sent.
+    #[error("OldVersion")]
+    OldVersion,
 }
 
 impl ImageError {
@@ -31,6 +34,7 @@ impl ImageError {
             ImageError::Stale => 9,
             ImageError::Gap => 10,
             ImageError::NoMemory => 12,
+            ImageError::OldVersion => 15,
         }
     }
 
@@ -43,6 +47,7 @@ impl ImageError {
             ImageError::Stale => "Stale",
             ImageError::Gap => "Gap",
             ImageError::NoMemory => "NoMemory",
+            ImageError::OldVersion => "OldVersion",
         }
     }
 }

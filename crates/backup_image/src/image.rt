@@ -75,11 +75,14 @@ impl Image {
         })
     }
 
-    /// What a checkpoint is for this image, by its generation and number.
+    /// What a checkpoint is for this image, by its version, generation and number.
     fn answer(&self, checkpoint: &Checkpoint) -> Result<Staged, ImageError>
         ensures { result ≡ stage_answer self.now checkpoint.now }
     {
         let number = checkpoint.number();
+        if checkpoint.version() == 1 && number != 0 {
+            return Err(ImageError::OldVersion);
+        }
         let Some(at) = self.standing else {
             return if number == 0 {
                 Ok(Staged::New)
@@ -102,8 +105,9 @@ impl Image {
     /// was staged; one that the image has in it already changes nothing. It takes no memory.
     ///
     /// # Errors
-    /// `NoImage` for a delta at an empty image; `Stale` for one of another generation; `Gap` for one beyond the next number.
+    /// `OldVersion` for a delta of version 1; `NoImage` for a delta at an empty image; `Stale` for one of another generation; `Gap` for one beyond the next number.
     /// Nothing changes then.
+    #[tactic(auto, using(crate::proofs::StageLemmas::new_next))]
     pub fn stage(&mut self, checkpoint: Checkpoint) -> Result<Staged, ImageError>
         requires { checkpoint.shape ≡ self.old.shape }
         ensures answer { result ≡ stage_answer self.old checkpoint }

@@ -1,12 +1,17 @@
 //! Laws of staging and committing, each the contract of a function that does nothing.
-ghost use Rattle.std.specs.Prelude.{◌≡◌, ◌≢◌, Some, Ok};
+ghost use Rattle.std.specs.Prelude.{◌≡◌, ◌≢◌, ◌<◌, ◌++◌, ℕ, List, false, length, Some, Ok};
 ghost use Rattle.guest_machine.specs.declared.shapes.Shape.{Shape};
 ghost use Rattle.guest_machine.specs.Guest.{Guest, State};
 ghost use Rattle.epoch_snapshot.specs.Bases.{IsBase};
 ghost use Rattle.epoch_snapshot.specs.Checkpoints.{Change};
 ghost use Rattle.epoch_snapshot.specs.Images.{image_of};
+ghost use Rattle.checkpoint_stream.specs.Readings.{Reading, begun, is_whole};
+ghost use Rattle.checkpoint_stream.specs.Text.{text};
 ghost use Rattle.backup_image.specs.declared.standing.Staged.TheVariants.{New};
+ghost use Rattle.backup_image.specs.Streams.{Call, BeginsWith, after_all, after_calls, follower, IsWritten, AreWritten, texts};
 ghost use Rattle.backup_image.specs.Images.{ImageState, stage_answer, after_stage, committed, settled_machine};
+
+use checkpoint_stream::{each_byte_is_needed, text_is_read_back};
 
 /// Whatever is staged, no page, sector or register of the image changes, nor where it stands. Where the checkpoint isn't a new one,
 /// nothing changes at all.
@@ -29,3 +34,23 @@ pub fn cuts_are_committed()
         → (committed (after_stage i c)).stands_at ≡ Some (record { generation = c.generation; number = c.number }) }
     ensures next { (shape : Shape) (g : Guest) → IsBase (settled_machine shape g) g }
 {}
+
+/// A stream that is stopped anywhere: of any bytes, fed in any pieces, and taken, staged and committed at any time, the image is the one
+/// after the whole checkpoints that the bytes which came begin with. One that stands whole and wasn't taken yet isn't counted: the law
+/// speaks of every moment at which none stands so.
+pub fn stopped_streams_leave_whole_checkpoints()
+    ensures stopped { (shape : Shape) (offset : ℕ) (i : ImageState) (calls : List Call)
+        → is_whole (after_calls (follower (begun shape offset) i) calls).reading.place ≡ false
+        → (cs : List Change) × BeginsWith (begun shape offset) cs (after_calls (follower (begun shape offset) i) calls).came
+        × ((after_calls (follower (begun shape offset) i) calls).image ≡ after_all i cs) }
+    // The bytes alone say which these are.
+    ensures one { (start : Reading) (bytes : List ℕ) (cs ds : List Change)
+        → BeginsWith start cs bytes → BeginsWith start ds bytes → cs ≡ ds }
+    // Of texts that were written one after another, the last one cut off before its end, they are all but that one.
+    ensures written { (shape : Shape) (offset : ℕ) (cs : List Change) (d : Change) (front rest : List ℕ)
+        → AreWritten shape cs → IsWritten shape d → text d ≡ front ++ rest → 0 < length rest
+        → BeginsWith (begun shape offset) cs (texts cs ++ front) }
+{
+    text_is_read_back();
+    each_byte_is_needed();
+}

@@ -13,8 +13,12 @@ mod standing;
 
 pub use errors::ImageError;
 pub use image::Image;
-pub use laws::{cuts_are_committed, staging_changes_no_guest};
+pub use laws::{
+    cuts_are_committed, staging_changes_no_guest, stopped_streams_leave_whole_checkpoints,
+};
 pub use standing::{Staged, Standing};
 
 #[cfg(test)]
 mod tests;
+#[cfg(test)]
+mod version_tests;

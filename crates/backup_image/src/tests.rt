@@ -1,5 +1,7 @@
 //! Two small guests at both nodes: what the backup's image is at each point.
 
+mod stops;
+
 use crate::{Image, ImageError, Staged, Standing};
 use checkpoint_stream::{Reader, encode};
 use epoch_snapshot::{Checkpoint, cut_delta, cut_full};
@@ -41,7 +43,7 @@ fn image(alloc: Global, words: &[u32]) -> Result<Vec<u8>, AllocError> {
     Ok(image)
 }
 
-fn beacon(alloc: Global) -> Result<Vec<u8>, AllocError> {
+pub(crate) fn beacon(alloc: Global) -> Result<Vec<u8>, AllocError> {
     let mut image = image(alloc, &BEACON)?;
     put(&mut image, 0x1000, &[0, 0x11, 0, 0x80, 0, 0, 0, 0, 26]);
     put(&mut image, 0x1042, &[1, 0]);
@@ -80,12 +82,17 @@ fn disk(alloc: Global) -> Result<Vec<u8>, AllocError> {
 
 /// A machine of two pages and of this many sectors, and its image, at boot.
 #[derive(Drop)]
-struct Nodes {
-    machine: Box<Machine>,
-    image: Box<Image>,
+pub(crate) struct Nodes {
+    pub(crate) machine: Box<Machine>,
+    pub(crate) image: Box<Image>,
 }
 
-fn boot(rt: &impl Abort, alloc: Global, sectors: u32, bytes: &[u8]) -> Result<Nodes, Fail> {
+pub(crate) fn boot(
+    rt: &impl Abort,
+    alloc: Global,
+    sectors: u32,
+    bytes: &[u8],
+) -> Result<Nodes, Fail> {
     assert!(rt; 1 <= sectors && sectors <= 32768);
     assert!(rt; bytes.len() <= 2 * PAGE_BYTES);
     let shape = Shape { pages: 2, sectors };
@@ -96,13 +103,17 @@ fn boot(rt: &impl Abort, alloc: Global, sectors: u32, bytes: &[u8]) -> Result<No
 }
 
 /// What an image answers to a checkpoint, which has its shape.
-fn stage(rt: &impl Abort, image: &mut Image, checkpoint: Checkpoint) -> Result<Staged, ImageError> {
+pub(crate) fn stage(
+    rt: &impl Abort,
+    image: &mut Image,
+    checkpoint: Checkpoint,
+) -> Result<Staged, ImageError> {
     assert!(rt; image.shape() == checkpoint.shape());
     image.stage(checkpoint)
 }
 
 /// An image stands there and has made so many steps, and a sector of it is full of this byte.
-fn assert_image(
+pub(crate) fn assert_image(
     rt: &impl Abort,
     image: &Image,
     standing: Option<Standing>,
@@ -118,7 +129,7 @@ fn assert_image(
     }
 }
 
-fn at(generation: u64, number: u64) -> Option<Standing> {
+pub(crate) fn at(generation: u64, number: u64) -> Option<Standing> {
     Some(Standing { generation, number })
 }
 
@@ -185,8 +196,8 @@ fn part_of_a_checkpoint_leaves_the_image(rt: HostRuntime) -> Result<(), Fail> {
     let mut nodes = boot(&rt, alloc, 1, bytes.as_slice())?;
     assert_eq!(rt; nodes.machine.run(22), 22);
     let text = encode(alloc, &cut_delta(alloc, &nodes.machine, 1, 1)?)?;
-    assert_eq!(rt; text.len(), 608);
-    for count in 0..609usize {
+    assert_eq!(rt; text.len(), 630);
+    for count in 0..631usize {
         let mut reader = Reader::new(alloc, nodes.image.shape());
         let part = text
             .as_slice()
@@ -197,7 +208,7 @@ fn part_of_a_checkpoint_leaves_the_image(rt: HostRuntime) -> Result<(), Fail> {
             assert!(rt; stage(&rt, &mut nodes.image, checkpoint) == Ok(Staged::New));
         }
         nodes.image.commit();
-        let whole = u64::from(count == 608);
+        let whole = u64::from(count == 630);
         assert_image(&rt, &nodes.image, at(1, whole), 22 * whole, 0, 0);
     }
     Ok(())
@@ -210,6 +221,7 @@ fn refusals_have_numbers_and_names(rt: HostRuntime) -> Result<(), Fail> {
         (ImageError::Stale, 9, "Stale"),
         (ImageError::Gap, 10, "Gap"),
         (ImageError::NoMemory, 12, "NoMemory"),
+        (ImageError::OldVersion, 15, "OldVersion"),
     ] {
         assert_eq!(rt; refusal.number(), number);
         assert_eq!(rt; refusal.name(), name);

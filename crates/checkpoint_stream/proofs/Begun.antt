@@ -3,9 +3,10 @@ use Rattle.std.proofs.Common.{◌≡◌, ℕ, ◌++◌, List, Bool, true, false,
 use Rattle.checkpoint_stream.specs.declared.rules.Row.{Row}
 use Rattle.checkpoint_stream.specs.declared.place.Place.{Place}
 use Rattle.checkpoint_stream.specs.declared.place.Place.TheVariants.{Head, PageCount, PageIndex, PageMask, Block, SectorCount}
-use Rattle.checkpoint_stream.specs.declared.place.Place.TheVariants.{SectorIndex, SectorBytes, Whole, Failed}
+use Rattle.checkpoint_stream.specs.declared.place.Place.TheVariants.{SectorIndex, SectorBytes, FrameCount, FrameLength, FrameBytes}
+use Rattle.checkpoint_stream.specs.declared.place.Place.TheVariants.{Whole, Failed}
 use Rattle.checkpoint_stream.specs.Readings.{Reading, is_closed, moved_if, kept_number, kept_mask}
-use Rattle.checkpoint_stream.specs.Readings.{kept_block, kept_sector, judged, judged_at}
+use Rattle.checkpoint_stream.specs.Readings.{kept_block, kept_sector, frame_judged, judged, judged_at}
 
 -- the reading with more of the unit that has begun
 abbrev pub with_more : Reading → List ℕ → Reading
@@ -39,6 +40,11 @@ unfolding kept_sector
 kept_sector-more false r xs left sector unit = refl
 kept_sector-more true r xs left sector unit = refl
 
+frame_judged-more : (r : Reading) (xs : List ℕ) (left len : ℕ) (unit : List ℕ) →
+    frame_judged (with_more r xs) left len unit ≡ frame_judged r left len unit
+unfolding frame_judged
+frame_judged-more r xs left len unit = refl
+
 judged_at-more : (p : Place) (r : Reading) (xs unit : List ℕ) → is_closed p ≡ false → judged_at p (with_more r xs) unit ≡ judged_at p r unit
 judged_at-more Head r xs unit going = kept_number-more _ r xs _ _
 judged_at-more PageCount r xs unit going = moved_if-more _ r xs _
@@ -48,6 +54,9 @@ judged_at-more (Block left page more) r xs unit going = kept_block-more _ r xs _
 judged_at-more SectorCount r xs unit going = moved_if-more _ r xs _
 judged_at-more (SectorIndex left from) r xs unit going = moved_if-more _ r xs _
 judged_at-more (SectorBytes left sector) r xs unit going = kept_sector-more _ r xs _ _ _
+judged_at-more FrameCount r xs unit going = moved_if-more _ r xs _
+judged_at-more (FrameLength left) r xs unit going = moved_if-more _ r xs _
+judged_at-more (FrameBytes left len) r xs unit going = frame_judged-more r xs left len unit
 judged_at-more Whole r xs unit going = cc
 judged_at-more (Failed at) r xs unit going = cc
 

@@ -1,5 +1,5 @@
 -- A reading that is whole and sound is that of a canonical checkpoint.
-use Rattle.std.proofs.Common.{◌≡◌, ℕ, suc, zero, ◌%◌, ◌^◌, ◌<◌, ◌≤◌, ◌==◌, ◌&&◌, ◌||◌, IsTrue, List, [], ◌∷◌, length, true}
+use Rattle.std.proofs.Common.{◌≡◌, ℕ, suc, zero, ◌%◌, ◌^◌, ◌<◌, ◌≤◌, ◌==◌, ◌&&◌, ◌||◌, IsTrue, List, [], ◌∷◌, length, Bool, if◌then◌else◌, true}
 use Rattle.std.proofs.Common.{false, refl, sym, subst, arith, nat_le, get_or, bit_and, lit<}
 use Rattle.std.proofs.lemmas.Bool.Decides.{nat_tests}
 use Rattle.std.proofs.lemmas.Nat.{and_le_r}
@@ -10,12 +10,13 @@ use Rattle.epoch_snapshot.specs.Checkpoints.{IsCanonical}
 use Rattle.checkpoint_stream.specs.declared.rules.Row.{Row}
 use Rattle.checkpoint_stream.specs.declared.place.Place.{Place}
 use Rattle.checkpoint_stream.specs.declared.place.Place.TheVariants.{Head, PageCount, PageIndex, PageMask, Block, SectorCount}
-use Rattle.checkpoint_stream.specs.declared.place.Place.TheVariants.{SectorIndex, SectorBytes, Whole, Failed}
+use Rattle.checkpoint_stream.specs.declared.place.Place.TheVariants.{SectorIndex, SectorBytes, FrameCount, FrameLength, FrameBytes}
+use Rattle.checkpoint_stream.specs.declared.place.Place.TheVariants.{Whole, Failed}
 use Rattle.checkpoint_stream.specs.HeadTable.{head_table, passes, number}
 use Rattle.checkpoint_stream.specs.declared.rules.Width.TheVariants.{Four}
 use Rattle.checkpoint_stream.specs.declared.rules.Rule.TheVariants.{Magic}
-use Rattle.checkpoint_stream.specs.Readings.{Reading, is_whole}
-use Rattle.checkpoint_stream.specs.Sound.{IsSound, IsHead, HasRecords, AllPass, StandsAt, change_in, state_from}
+use Rattle.checkpoint_stream.specs.Readings.{Reading, is_whole, is_full, has_frames}
+use Rattle.checkpoint_stream.specs.Sound.{IsSound, IsHead, HasRecords, HasFrames, AllPass, StandsAt, FramesAt, change_in, state_from, version_from}
 
 AllPass-at : (shape : Shape) (before : ℕ) (rows : List Row) (ns : List ℕ) (k : ℕ) (d : Row) → k < length ns → AllPass shape before rows ns →
     IsTrue (passes shape (get_or rows k d).rule (get_or (before ∷ ns) k 0) (get_or ns k 0))
@@ -110,12 +111,38 @@ number-within : (r : Reading) → IsHead r → r.known ≡ 80 → (0 ≤ get_or 
 unfolding passes head_table
 number-within r h known = within 0 _ 0x3fffffffffffffff (rule-at r 4 h known (lit< tt))
 
+version-within : (magic : ℕ) → (1 ≤ version_from magic) × (version_from magic ≤ 2)
+version-within magic =
+    elim (magic == 0x32434d52) as (λ (new : Bool). (1 ≤ (if new then 2 else 1)) × ((if new then 2 else 1) ≤ 2)) [
+      | true ↦ (omega arith, omega arith)
+      | false ↦ (omega arith, omega arith)
+    ]
+
+nothing : {X : Type 0} (xs : List X) → length xs ≡ 0 → xs ≡ []
+nothing [] e = refl
+nothing (x ∷ xs) e = absurd (omega (arith, e))
+
+-- a full one, and one of version 1, by the tests of a reading
+full-test : (r : Reading) → r.known ≡ 80 → get_or r.head 4 0 ≡ 0 → is_full r ≡ true
+full-test r known e = rw (known, e) refl
+
+old-carries : (r : Reading) → r.known ≡ 80 → version_from (get_or r.head 0 0) ≡ 1 → has_frames r ≡ false
+old-carries r known e =
+    rw known (by-version (get_or r.head 0 0 == 0x32434d52) (version_from (get_or r.head 0 0)) refl e)
+  where
+    by-version : (new : Bool) (version : ℕ) → version ≡ (if new then 2 else 1) → version ≡ 1 → new ≡ false
+    by-version true version e f = absurd (omega (arith, e, f))
+    by-version false version e f = refl
+
 pub canonical : (r : Reading) → IsSound r → r.place ≡ Whole → (r.known ≡ 80) × IsCanonical (change_in r)
 unfolding change_in
 canonical r h whole =
-    let records : HasRecords r r.shape.pages 0 r.shape.sectors = subst (λ (p : Place). StandsAt p r) whole h.place in (
+    let records : HasRecords r r.shape.pages 0 r.shape.sectors = subst (λ (p : Place). StandsAt p r) whole h.place in
+    let frames : HasFrames r 0 = subst (λ (p : Place). FramesAt p r) whole h.frames in (
       records.known,
       record {
+        first_version = (version-within (get_or r.head 0 0)).0;
+        last_version = (version-within (get_or r.head 0 0)).1;
         first_generation = (generation-within r h.head records.known).0;
         last_generation = omega (arith, (generation-within r h.head records.known).1);
         last_number = omega (arith, (number-within r h.head records.known).1);
@@ -126,6 +153,10 @@ canonical r h whole =
         blocks = records.blocks;
         sectors = records.sectors;
         full_sectors = records.full;
+        frames = frames.each;
+        frame_count = omega (arith, frames.count);
+        old_frames = λ e. nothing r.frames (omega (arith, frames.old (old-carries r records.known e)));
+        full_frames = λ e. nothing r.frames (omega (arith, frames.full (full-test r records.known e)));
       },
     )
 
@@ -138,5 +169,8 @@ whole-place (Block left page more) e = cc
 whole-place SectorCount e = cc
 whole-place (SectorIndex left from) e = cc
 whole-place (SectorBytes left sector) e = cc
+whole-place FrameCount e = cc
+whole-place (FrameLength left) e = cc
+whole-place (FrameBytes left len) e = cc
 whole-place Whole e = refl
 whole-place (Failed at) e = cc

@@ -5,9 +5,10 @@ use Rattle.std.proofs.lemmas.List.{append-nil}
 use Rattle.checkpoint_stream.specs.declared.rules.Row.{Row}
 use Rattle.checkpoint_stream.specs.declared.place.Place.{Place}
 use Rattle.checkpoint_stream.specs.declared.place.Place.TheVariants.{Head, PageCount, PageIndex, PageMask, Block, SectorCount}
-use Rattle.checkpoint_stream.specs.declared.place.Place.TheVariants.{SectorIndex, SectorBytes, Whole, Failed}
+use Rattle.checkpoint_stream.specs.declared.place.Place.TheVariants.{SectorIndex, SectorBytes, FrameCount, FrameLength, FrameBytes}
+use Rattle.checkpoint_stream.specs.declared.place.Place.TheVariants.{Whole, Failed}
 use Rattle.checkpoint_stream.specs.Taken.{Extends}
-use Rattle.checkpoint_stream.specs.Readings.{Reading, is_closed, moved_if, kept_number, kept_mask, kept_block, kept_sector, judged}
+use Rattle.checkpoint_stream.specs.Readings.{Reading, is_closed, moved_if, kept_number, kept_mask, kept_block, kept_sector, frame_judged, judged}
 use Rattle.checkpoint_stream.specs.Readings.{judged_at, fed_byte, fed, width_of}
 
 pub Extends-itself : (r : Reading) → Extends r r
@@ -16,6 +17,7 @@ Extends-itself r = record {
   pages = ([], sym (append-nil r.pages));
   blocks = ([], sym (append-nil r.blocks));
   sectors = ([], sym (append-nil r.sectors));
+  frames = ([], sym (append-nil r.frames));
 }
 
 -- one more at the end
@@ -24,33 +26,50 @@ pushed old more new x e = ap (λ l. l ++ x ∷ []) e ∙ append_assoc old more (
 
 kept_number-extends : (b : Bool) (a r : Reading) (row : Row) (n : ℕ) → Extends a r → Extends a (kept_number b r row n)
 unfolding kept_number
-kept_number-extends false a r row n e = record { shape = e.shape; pages = e.pages; blocks = e.blocks; sectors = e.sectors }
-kept_number-extends true a r row n e = record { shape = e.shape; pages = e.pages; blocks = e.blocks; sectors = e.sectors }
+kept_number-extends false a r row n e = record { shape = e.shape; pages = e.pages; blocks = e.blocks; sectors = e.sectors; frames = e.frames }
+kept_number-extends true a r row n e = record { shape = e.shape; pages = e.pages; blocks = e.blocks; sectors = e.sectors; frames = e.frames }
 
 moved_if-extends : (b : Bool) (a r : Reading) (p : Place) → Extends a r → Extends a (moved_if b r p)
 unfolding moved_if
-moved_if-extends false a r p e = record { shape = e.shape; pages = e.pages; blocks = e.blocks; sectors = e.sectors }
-moved_if-extends true a r p e = record { shape = e.shape; pages = e.pages; blocks = e.blocks; sectors = e.sectors }
+moved_if-extends false a r p e = record { shape = e.shape; pages = e.pages; blocks = e.blocks; sectors = e.sectors; frames = e.frames }
+moved_if-extends true a r p e = record { shape = e.shape; pages = e.pages; blocks = e.blocks; sectors = e.sectors; frames = e.frames }
 
 kept_mask-extends : (b : Bool) (a r : Reading) (left page mask : ℕ) → Extends a r → Extends a (kept_mask b r left page mask)
 unfolding kept_mask
-kept_mask-extends true a r left page mask e = record { shape = e.shape; pages = e.pages; blocks = e.blocks; sectors = e.sectors }
+kept_mask-extends true a r left page mask e = record { shape = e.shape; pages = e.pages; blocks = e.blocks; sectors = e.sectors; frames = e.frames }
 kept_mask-extends false a r left page mask e =
-    record { shape = e.shape; pages = (_, pushed a.pages e.pages.0 r.pages _ e.pages.1); blocks = e.blocks; sectors = e.sectors }
+    record { shape = e.shape; pages = (_, pushed a.pages e.pages.0 r.pages _ e.pages.1); blocks = e.blocks; sectors = e.sectors; frames = e.frames }
 
 kept_block-extends : (b : Bool) (a r : Reading) (left page more : ℕ) (unit : List ℕ) → Extends a r →
     Extends a (kept_block b r left page more unit)
 unfolding kept_block
-kept_block-extends true a r left page more unit e = record { shape = e.shape; pages = e.pages; blocks = e.blocks; sectors = e.sectors }
+kept_block-extends true a r left page more unit e = record { shape = e.shape; pages = e.pages; blocks = e.blocks; sectors = e.sectors; frames = e.frames }
 kept_block-extends false a r left page more unit e =
-    record { shape = e.shape; pages = e.pages; blocks = (_, pushed a.blocks e.blocks.0 r.blocks unit e.blocks.1); sectors = e.sectors }
+    record { shape = e.shape; pages = e.pages; blocks = (_, pushed a.blocks e.blocks.0 r.blocks unit e.blocks.1); sectors = e.sectors; frames = e.frames }
 
 kept_sector-extends : (b : Bool) (a r : Reading) (left sector : ℕ) (unit : List ℕ) → Extends a r →
     Extends a (kept_sector b r left sector unit)
 unfolding kept_sector
-kept_sector-extends true a r left sector unit e = record { shape = e.shape; pages = e.pages; blocks = e.blocks; sectors = e.sectors }
+kept_sector-extends true a r left sector unit e = record { shape = e.shape; pages = e.pages; blocks = e.blocks; sectors = e.sectors; frames = e.frames }
 kept_sector-extends false a r left sector unit e =
-    record { shape = e.shape; pages = e.pages; blocks = e.blocks; sectors = (_, pushed a.sectors e.sectors.0 r.sectors _ e.sectors.1) }
+    record {
+      shape = e.shape;
+      pages = e.pages;
+      blocks = e.blocks;
+      sectors = (_, pushed a.sectors e.sectors.0 r.sectors _ e.sectors.1);
+      frames = e.frames;
+    }
+
+frame_judged-extends : (a r : Reading) (left len : ℕ) (unit : List ℕ) → Extends a r → Extends a (frame_judged r left len unit)
+unfolding frame_judged
+frame_judged-extends a r left len unit e =
+    record {
+      shape = e.shape;
+      pages = e.pages;
+      blocks = e.blocks;
+      sectors = e.sectors;
+      frames = (_, pushed a.frames e.frames.0 r.frames _ e.frames.1);
+    }
 
 judged_at-extends : (p : Place) (a r : Reading) (unit : List ℕ) → Extends a r → Extends a (judged_at p r unit)
 judged_at-extends Head a r unit e = kept_number-extends _ a r _ _ e
@@ -61,6 +80,9 @@ judged_at-extends (Block left page more) a r unit e = kept_block-extends _ a r _
 judged_at-extends SectorCount a r unit e = moved_if-extends _ a r _ e
 judged_at-extends (SectorIndex left from) a r unit e = moved_if-extends _ a r _ e
 judged_at-extends (SectorBytes left sector) a r unit e = kept_sector-extends _ a r _ _ _ e
+judged_at-extends FrameCount a r unit e = moved_if-extends _ a r _ e
+judged_at-extends (FrameLength left) a r unit e = moved_if-extends _ a r _ e
+judged_at-extends (FrameBytes left len) a r unit e = frame_judged-extends a r left len unit e
 judged_at-extends Whole a r unit e = e
 judged_at-extends (Failed at) a r unit e = e
 
@@ -77,7 +99,7 @@ fed_byte-extends a r b e =
       | false ↦ elim (length r.partial + 1 == width_of r) as (λ (whole : Bool). Extends a (if whole
           then judged r (r.partial ++ b ∷ []) else record r { partial = r.partial ++ b ∷ [] })) [
             | true ↦ judged-extends a r _ e
-            | false ↦ record { shape = e.shape; pages = e.pages; blocks = e.blocks; sectors = e.sectors }
+            | false ↦ record { shape = e.shape; pages = e.pages; blocks = e.blocks; sectors = e.sectors; frames = e.frames }
           ]
     ]
 

@@ -9,7 +9,8 @@ use Rattle.epoch_snapshot.specs.Checkpoints.{block_count}
 use Rattle.checkpoint_stream.specs.declared.rules.Row.{Row}
 use Rattle.checkpoint_stream.specs.declared.rules.Width.TheVariants.{Four, Eight}
 use Rattle.checkpoint_stream.specs.HeadTable.{bytes_of}
-use Rattle.checkpoint_stream.specs.Text.{joined, number_units, page_units, page_record, sector_units}
+use Rattle.checkpoint_stream.specs.Text.{joined, number_units, page_units, page_record, sector_units, frame_units}
+use Rattle.arrayvec.specs.ArrayVec.{ArrayVec}
 use Rattle.checkpoint_stream.proofs.Spelling.{joined-append}
 
 number_units-none : (rows : List Row) → number_units rows [] ≡ []
@@ -120,3 +121,29 @@ no-pages ps blocks e = ap (λ (l : List PageChange). joined (page_units l blocks
 
 pub no-sectors : (ss : List SectorChange) → ss ≡ [] → joined (sector_units ss) ≡ []
 no-sectors ss e = ap (λ (l : List SectorChange). joined (sector_units l)) e ∙ sectors-nothing
+
+frame-at : (f : ArrayVec ℕ) (fs : List (ArrayVec ℕ)) →
+    joined (frame_units (f ∷ fs)) ≡ bytes_of Four (length f.items) ++ (f.items ++ joined (frame_units fs))
+unfolding joined frame_units
+frame-at f fs = refl
+
+frames-nothing : joined (frame_units []) ≡ []
+unfolding joined frame_units
+frames-nothing = refl
+
+pub frame_units-push : (fs : List (ArrayVec ℕ)) (f : ArrayVec ℕ) →
+    joined (frame_units (fs ++ f ∷ [])) ≡ joined (frame_units fs) ++ (bytes_of Four (length f.items) ++ f.items)
+frame_units-push [] f =
+    frame-at f [] ∙ ap (λ (l : List ℕ). bytes_of Four (length f.items) ++ (f.items ++ l)) frames-nothing
+    ∙ ap (λ (l : List ℕ). bytes_of Four (length f.items) ++ l) (append-nil f.items)
+    ∙ ap (λ (l : List ℕ). l ++ (bytes_of Four (length f.items) ++ f.items)) (sym frames-nothing)
+frame_units-push (x ∷ fs) f =
+    let rest : List ℕ = joined (frame_units fs) in
+    let last : List ℕ = bytes_of Four (length f.items) ++ f.items in
+    let grouped : bytes_of Four (length x.items) ++ (x.items ++ (rest ++ last))
+    ≡ (bytes_of Four (length x.items) ++ (x.items ++ rest)) ++ last = simp append_assoc in
+    frame-at x (fs ++ f ∷ []) ∙ ap (λ (l : List ℕ). bytes_of Four (length x.items) ++ (x.items ++ l)) (frame_units-push fs f)
+    ∙ grouped ∙ ap (λ (l : List ℕ). l ++ last) (sym (frame-at x fs))
+
+pub no-frames : (fs : List (ArrayVec ℕ)) → fs ≡ [] → joined (frame_units fs) ≡ []
+no-frames fs e = ap (λ (l : List (ArrayVec ℕ)). joined (frame_units l)) e ∙ frames-nothing

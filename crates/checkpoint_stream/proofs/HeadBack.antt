@@ -9,8 +9,8 @@ use Rattle.checkpoint_stream.specs.declared.rules.Width.TheVariants.{Four}
 use Rattle.checkpoint_stream.specs.declared.rules.Rule.TheVariants.{Magic}
 use Rattle.checkpoint_stream.specs.HeadTable.{head_table, passes, number}
 use Rattle.checkpoint_stream.specs.Readings.{Reading}
-use Rattle.checkpoint_stream.specs.Sound.{IsHead, change_in, queue_from, device_from}
-use Rattle.checkpoint_stream.specs.Text.{head_numbers, numbers_from, queue_numbers, device_numbers}
+use Rattle.checkpoint_stream.specs.Sound.{IsHead, change_in, version_from, queue_from, device_from}
+use Rattle.checkpoint_stream.specs.Text.{magic, head_numbers, numbers_from, queue_numbers, device_numbers}
 use Rattle.checkpoint_stream.proofs.Numbers.{limit_of}
 use Rattle.checkpoint_stream.proofs.Canonical.{rule-at}
 use Rattle.checkpoint_stream.proofs.StateRead.{numbers-back}
@@ -89,6 +89,19 @@ before-kept xs rest later a b c d e f g h i j k l m =
     ∙ ap (λ (n : ℕ). before_devices xs e f n d rest) k ∙ ap (λ (n : ℕ). before_devices xs e f g n rest) l
     ∙ ap (λ (r : List ℕ). before_devices xs e f g h r) m
 
+magic-back : (n : ℕ) → IsTrue (n == 0x31434d52 || n == 0x32434d52) → magic (version_from n) ≡ n
+magic-back n h = elim (n == 0x32434d52) as (λ (new : Bool). (n == 0x32434d52) ≡ new →
+    magic (if new then 2 else 1) ≡ n) [
+      | true ↦ λ (is : (n == 0x32434d52) ≡ true). sym (same is)
+      | false ↦ λ (is : (n == 0x32434d52) ≡ false). sym (other h is)
+    ] refl
+  where
+    same : (n == 0x32434d52) ≡ true → n ≡ 0x32434d52
+    same e = grind (arith, nat_tests)
+
+    other : IsTrue (n == 0x31434d52 || n == 0x32434d52) → (n == 0x32434d52) ≡ false → n ≡ 0x31434d52
+    other h e = grind (arith, nat_tests)
+
 pub head-kept : (r : Reading) → IsHead r → r.known ≡ 80 → Narrow head_table r.head → head_numbers (change_in r) ≡ r.head
 unfolding head_numbers change_in head_table passes
 head-kept r h known narrow =
@@ -96,7 +109,7 @@ head-kept r h known narrow =
     let count : 80 ≡ length xs = omega (arith, h.known, known) in
     let at : (k : ℕ) → k < 80 → slice_index xs k < limit_of (get_or head_table k (number Four Magic)).width
     = λ (k : ℕ) (lt : k < 80). Narrow-at head_table xs k (number Four Magic) (omega (arith, lt, count)) narrow in
-    before-kept xs _ _ _ _ _ _ _ _ _ _ (equal _ _ (rule-at r 0 h known (lit< tt))) (equal _ _ (rule-at r 1 h known (lit< tt)))
+    before-kept xs _ _ _ _ _ _ _ _ _ _ (magic-back _ (rule-at r 0 h known (lit< tt))) (equal _ _ (rule-at r 1 h known (lit< tt)))
     (equal _ _ (rule-at r 2 h known (lit< tt))) (low_half _ (at 45 (lit< tt)))
     (device-kept xs _ _ 47 (queue_from xs 53 ∷ queue_from xs 60 ∷ [])
     (at 47 (lit< tt)) (at 48 (lit< tt)) (at 49 (lit< tt)) (at 51 (lit< tt)) (at 52 (lit< tt))

@@ -6,7 +6,7 @@ use Rattle.virtio_mmio.specs.States.{queue_at}
 use Rattle.epoch_snapshot.specs.Checkpoints.{Change, IsCanonical}
 use Rattle.checkpoint_stream.specs.HeadTable.{head_table, passes}
 use Rattle.checkpoint_stream.specs.Sound.{AllPass}
-use Rattle.checkpoint_stream.specs.Text.{head_numbers}
+use Rattle.checkpoint_stream.specs.Text.{magic, head_numbers}
 use Rattle.checkpoint_stream.specs.Widths.{HasWidths}
 use Rattle.checkpoint_stream.proofs.Numbers.{AllFit}
 
@@ -36,10 +36,18 @@ ready-test : (ready : Bool) (n : ℕ) → (ready ≡ true → 0 < n) →
 ready-test false n h = refl
 ready-test true n h = sized-test n (h refl)
 
+magic-test : (version : ℕ) → IsTrue (magic version == 0x31434d52 || magic version == 0x32434d52)
+magic-test version =
+    elim (version == 1) as (λ (old : Bool). IsTrue ((if old then 0x31434d52 else 0x32434d52) == 0x31434d52
+    || (if old then 0x31434d52 else 0x32434d52) == 0x32434d52)) [
+      | true ↦ refl
+      | false ↦ refl
+    ]
+
 pub head-passes : (c : Change) → IsCanonical c → AllPass c.shape 0 head_table (head_numbers c)
 unfolding passes head_table head_numbers
 head-passes c h =
-    refl ⨾ eq-self c.shape.pages ⨾ eq-self c.shape.sectors ⨾
+    magic-test c.version ⨾ eq-self c.shape.pages ⨾ eq-self c.shape.sectors ⨾
     within-test 1 c.generation 0x3fffffffffffffff h.first_generation (omega (arith, h.last_generation)) ⨾
     within-test 0 c.number 0x3fffffffffffffff (omega arith) (omega (arith, h.last_number)) ⨾ refl ⨾ refl ⨾ refl ⨾ refl ⨾ refl ⨾ refl ⨾
     refl ⨾ refl ⨾ refl ⨾ refl ⨾ refl ⨾ refl ⨾ refl ⨾ refl ⨾ refl ⨾ refl ⨾ refl ⨾ refl ⨾ refl ⨾ refl ⨾ refl ⨾ refl ⨾ refl ⨾ refl ⨾
@@ -59,12 +67,18 @@ flag : (b : Bool) → (if b then 1 else 0) < 2 ^ 32
 flag true = lit< tt
 flag false = lit< tt
 
+magic-small : (version : ℕ) → magic version < 2 ^ 32
+magic-small version = elim (version == 1) as (λ (old : Bool). (if old then 0x31434d52 else 0x32434d52) < 2 ^ 32) [
+  | true ↦ lit< tt
+  | false ↦ lit< tt
+]
+
 pub head-fits : (c : Change) → IsCanonical c → HasWidths c → AllFit head_table (head_numbers c)
 unfolding head_table head_numbers
 head-fits c h w =
     let word : (i : ℕ) → i < 31 → get_or c.state.registers i 0 < 2 ^ 64
     = λ (i : ℕ) (lt : i < 31). w.registers i 0 (omega (arith, lt, w.state.count)) in
-    lit< tt ⨾ omega (arith, c.shape.most_pages) ⨾ omega (arith, c.shape.most_sectors) ⨾ omega (arith, h.last_generation)
+    magic-small c.version ⨾ omega (arith, c.shape.most_pages) ⨾ omega (arith, c.shape.most_sectors) ⨾ omega (arith, h.last_generation)
     ⨾ omega (arith, h.last_number) ⨾ w.state.steps ⨾
     word 0 (lit< tt) ⨾ word 1 (lit< tt) ⨾ word 2 (lit< tt) ⨾ word 3 (lit< tt) ⨾ word 4 (lit< tt) ⨾ word 5 (lit< tt) ⨾
     word 6 (lit< tt) ⨾ word 7 (lit< tt) ⨾ word 8 (lit< tt) ⨾ word 9 (lit< tt) ⨾ word 10 (lit< tt) ⨾ word 11 (lit< tt) ⨾

@@ -3,13 +3,15 @@ use Rattle.std.proofs.Common.{◌≡◌, ℕ, ◌<◌, List, [], ◌∷◌, ◌+
 use Rattle.guest_machine.specs.declared.shapes.Shape.{Shape}
 use Rattle.epoch_snapshot.specs.declared.changes.PageChange.{PageChange}
 use Rattle.epoch_snapshot.specs.declared.changes.SectorChange.{SectorChange}
+use Rattle.arrayvec.specs.ArrayVec.{ArrayVec}
 use Rattle.checkpoint_stream.specs.declared.place.Place.{Place}
 use Rattle.checkpoint_stream.specs.Readings.{Reading, is_closed, width_of, judged}
 use Rattle.checkpoint_stream.specs.Units.{judged_all, AreUnits}
 
 -- a reading at the start of a unit
-abbrev pub standing : Shape → Place → ℕ → List ℕ → ℕ → List PageChange → List (List ℕ) → List SectorChange → ℕ → Reading
-standing shape place known head before pages blocks sectors offset = record {
+abbrev pub framed : Shape → Place → ℕ → List ℕ → ℕ → List PageChange → List (List ℕ) → List SectorChange → List (ArrayVec ℕ) → ℕ →
+    Reading
+framed shape place known head before pages blocks sectors frames offset = record {
   shape = shape;
   offset = offset;
   place = place;
@@ -19,8 +21,13 @@ standing shape place known head before pages blocks sectors offset = record {
   pages = pages;
   blocks = blocks;
   sectors = sectors;
+  frames = frames;
   partial = [];
 }
+
+-- before the frames
+abbrev pub standing : Shape → Place → ℕ → List ℕ → ℕ → List PageChange → List (List ℕ) → List SectorChange → ℕ → Reading
+standing shape place known head before pages blocks sectors offset = framed shape place known head before pages blocks sectors [] offset
 
 -- from the one reading, at whatever offset, these are units, and with them it is the other, at some offset
 pub record Leads (from : ℕ → Reading) (units : List (List ℕ)) (to : ℕ → Reading) : Type 0 where

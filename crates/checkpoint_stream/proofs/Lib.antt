@@ -11,6 +11,7 @@ pub mod HeadRead
 pub mod RecordsRead
 pub mod RunLemmas
 pub mod SectorsRead
+pub mod FramesRead
 pub mod HeadFits
 pub mod StateRead
 pub mod TextRead
@@ -19,3 +20,4 @@ pub mod Fronts
 pub mod Spelled
 pub mod HeadBack
 pub mod ReadSpelled
+pub mod PlaceLemmas

@@ -10,17 +10,18 @@ use Rattle.checkpoint_stream.specs.declared.rules.Width.TheVariants.{Four}
 use Rattle.checkpoint_stream.specs.declared.rules.Rule.TheVariants.{Magic}
 use Rattle.checkpoint_stream.specs.declared.place.Place.{Place}
 use Rattle.checkpoint_stream.specs.declared.place.Place.TheVariants.{Head, PageCount, PageIndex, PageMask, Block, SectorCount}
-use Rattle.checkpoint_stream.specs.declared.place.Place.TheVariants.{SectorIndex, SectorBytes, Whole, Failed}
+use Rattle.checkpoint_stream.specs.declared.place.Place.TheVariants.{SectorIndex, SectorBytes, FrameCount, FrameLength, FrameBytes}
+use Rattle.checkpoint_stream.specs.declared.place.Place.TheVariants.{Whole, Failed}
 use Rattle.checkpoint_stream.specs.HeadTable.{head_table, row_at, number, number_of, bytes_of}
 use Rattle.checkpoint_stream.specs.Readings.{Reading, begun, is_closed, width_of, judged, judged_at, fed_byte, fed, taken}
-use Rattle.checkpoint_stream.specs.Readings.{moved_if, kept_number, kept_mask, kept_block, kept_sector}
+use Rattle.checkpoint_stream.specs.Readings.{moved_if, kept_number, kept_mask, kept_block, kept_sector, frame_judged, has_frames}
 use Rattle.checkpoint_stream.specs.Sound.{IsSound, IsHead, HasRecords, StandsAt, change_in}
-use Rattle.checkpoint_stream.specs.Text.{joined, number_units, page_units, sector_units, text, head_numbers}
+use Rattle.checkpoint_stream.specs.Text.{joined, number_units, page_units, sector_units, frame_units, units_of_frames, text, head_numbers}
 use Rattle.checkpoint_stream.proofs.Numbers.{IsByte, limit_of, number-small}
 use Rattle.checkpoint_stream.proofs.Feeding.{fed-closed, taken-closed}
-use Rattle.checkpoint_stream.proofs.Soundness.{judged-sound, fed_byte-sound, begun-sound}
+use Rattle.checkpoint_stream.proofs.Soundness.{fed_byte-sound, begun-sound}
 use Rattle.checkpoint_stream.proofs.Spelling.{text-spelled}
-use Rattle.checkpoint_stream.proofs.Spelled.{heads, pages_of, sectors_of, front, OpenAt, SpellsAt, IsWritten, judged_at-written}
+use Rattle.checkpoint_stream.proofs.Spelled.{heads, pages_of, sectors_of, records_of, ending_of, front, OpenAt, SpellsAt, IsWritten, judged_at-written}
 use Rattle.checkpoint_stream.proofs.HeadBack.{Narrow, Narrow-push, head-kept}
 
 length-head_table : length head_table ≡ 80
@@ -52,6 +53,10 @@ unfolding kept_sector
 kept_sector-kept true r left sector unit = record { head = refl; partial = refl }
 kept_sector-kept false r left sector unit = record { head = refl; partial = refl }
 
+frame_judged-kept : (r : Reading) (left len : ℕ) (unit : List ℕ) → IsKept r (frame_judged r left len unit)
+unfolding frame_judged
+frame_judged-kept r left len unit = record { head = refl; partial = refl }
+
 -- the head's numbers stay as wide as their rows
 record IsNarrow (r : Reading) : Type 0 where
   narrow : Narrow head_table r.head
@@ -81,6 +86,9 @@ judged_at-narrow (Block left page more) r unit going h s bytes n = still-narrow 
 judged_at-narrow SectorCount r unit going h s bytes n = still-narrow r _ (moved_if-kept _ r _) n
 judged_at-narrow (SectorIndex left from) r unit going h s bytes n = still-narrow r _ (moved_if-kept _ r _) n
 judged_at-narrow (SectorBytes left sector) r unit going h s bytes n = still-narrow r _ (kept_sector-kept _ r _ _ _) n
+judged_at-narrow FrameCount r unit going h s bytes n = still-narrow r _ (moved_if-kept _ r _) n
+judged_at-narrow (FrameLength left) r unit going h s bytes n = still-narrow r _ (moved_if-kept _ r _) n
+judged_at-narrow (FrameBytes left len) r unit going h s bytes n = still-narrow r _ (frame_judged-kept r _ _ _) n
 judged_at-narrow Whole r unit going h s bytes n = cc
 judged_at-narrow (Failed at) r unit going h s bytes n = cc
 
@@ -117,6 +125,9 @@ began-written (Block left page more) r partial units h = record {
 began-written SectorCount r partial units h = record { opens = h.opens; spells = h.spells }
 began-written (SectorIndex left from) r partial units h = record { opens = h.opens; spells = h.spells }
 began-written (SectorBytes left sector) r partial units h = record { opens = h.opens; spells = h.spells }
+began-written FrameCount r partial units h = record { opens = h.opens; spells = h.spells }
+began-written (FrameLength left) r partial units h = record { opens = h.opens; spells = h.spells }
+began-written (FrameBytes left len) r partial units h = record { opens = h.opens; spells = h.spells }
 began-written Whole r partial units h = record { opens = h.opens; spells = h.spells }
 began-written (Failed at) r partial units h = record { opens = h.opens; spells = h.spells }
 
@@ -129,6 +140,9 @@ spelled-front (Block left page more) r units going h = h
 spelled-front SectorCount r units going h = h
 spelled-front (SectorIndex left from) r units going h = h
 spelled-front (SectorBytes left sector) r units going h = h
+spelled-front FrameCount r units going h = h
+spelled-front (FrameLength left) r units going h = h
+spelled-front (FrameBytes left len) r units going h = h
 spelled-front Whole r units going h = cc
 spelled-front (Failed at) r units going h = cc
 
@@ -149,7 +163,7 @@ judged-spelled r done b h going small full sound =
       sound = sound;
       narrow = narrow.narrow;
       units = h.units ++ unit;
-      written = judged_at-written r.place r unit h.units going h.sound.head h.sound.place h.written.opens
+      written = judged_at-written r.place r unit h.units going h.sound.head h.sound.place h.sound.frames h.written.opens
           (spelled-front r.place r h.units going h.written.spells) bytes wide;
       all = regrouped h.units r.partial done b h.all ∙ sym (append-nil (h.units ++ unit))
           ∙ ap (λ (l : List ℕ). (h.units ++ unit) ++ l) (sym narrow.begun);
@@ -247,14 +261,31 @@ begun-spelled shape offset = record {
   closed = λ _. refl;
 }
 
+-- what follows the sector records, by the first number
+ending-text : (r : Reading) (carries : Bool) →
+    ending_of carries r ≡ joined (units_of_frames (if carries then 2 else 1) r.frames)
+unfolding joined
+ending-text r true = refl
+ending-text r false = refl
+
+carried : (r : Reading) → r.known ≡ 80 → has_frames r ≡ (get_or r.head 0 0 == 0x32434d52)
+carried r known = rw known refl
+
 whole-text : (r : Reading) → IsSound r → r.place ≡ Whole → Narrow head_table r.head → front Whole r ≡ text (change_in r)
 unfolding change_in
 whole-text r h whole n =
     let records : HasRecords r r.shape.pages 0 r.shape.sectors = subst (λ (p : Place). StandsAt p r) whole h.place in
-    append_assoc (heads r) (pages_of (length r.pages) r) (sectors_of (length r.sectors) r)
-    ∙ ap (λ (ns : List ℕ). joined (number_units head_table ns) ++ (pages_of (length r.pages) r ++ sectors_of (length r.sectors) r))
+    let carries : Bool = get_or r.head 0 0 == 0x32434d52 in
+    ap (λ (b : Bool). records_of r ++ ending_of b r) (carried r records.known)
+    ∙ grouped (heads r) (pages_of (length r.pages) r) (sectors_of (length r.sectors) r) (ending_of carries r)
+    ∙ ap (λ (l : List ℕ). heads r ++ (pages_of (length r.pages) r ++ (sectors_of (length r.sectors) r ++ l))) (ending-text r carries)
+    ∙ ap (λ (ns : List ℕ). joined (number_units head_table ns) ++ (pages_of (length r.pages) r
+    ++ (sectors_of (length r.sectors) r ++ joined (units_of_frames (if carries then 2 else 1) r.frames))))
     (sym (head-kept r h.head records.known n))
     ∙ sym (text-spelled (change_in r))
+  where
+    grouped : (a b c d : List ℕ) → ((a ++ b) ++ c) ++ d ≡ a ++ (b ++ (c ++ d))
+    grouped a b c d = simp append_assoc
 
 pub read-is-text : (shape : Shape) (offset : ℕ) (bytes : List ℕ) → All IsByte bytes → (fed (begun shape offset) bytes).place ≡ Whole →
     take (taken (begun shape offset) bytes) bytes ≡ text (change_in (fed (begun shape offset) bytes))

@@ -2,7 +2,7 @@
 use Rattle.std.proofs.Common.{◌≡◌, ◌≢◌, ℕ, suc, zero, ◌+◌, ◌-◌, ◌<◌, ◌≤◌, ◌%◌, ◌^◌, ◌==◌, ◌&&◌, List, [], ◌∷◌, ◌++◌}
 use Rattle.std.proofs.Common.{length, map, take, drop}
 use Rattle.std.proofs.Common.{IsTrue, not, Bool, true, false, refl, ◌∙◌, ap, arith, append_assoc, All, count_ones}
-use Rattle.std.proofs.Common.{nat_le, nat_lt, length-drop, length-append}
+use Rattle.std.proofs.Common.{nat_le, nat_lt, length-drop, length-append, slice_index, if◌then◌else◌}
 use Rattle.std.proofs.lemmas.List.{append-nil, take-append-drop}
 use Rattle.std.proofs.lemmas.List.Elements.{All-head, All-tail, All-take, All-drop}
 use Rattle.std.proofs.lemmas.List.Sums.{sum_by-cons}
@@ -17,7 +17,7 @@ use Rattle.epoch_snapshot.specs.Checkpoints.{block_count}
 use Rattle.checkpoint_stream.specs.declared.rules.Width.TheVariants.{Four, Eight}
 use Rattle.checkpoint_stream.specs.declared.place.Place.{Place}
 use Rattle.checkpoint_stream.specs.declared.place.Place.TheVariants.{PageCount, PageIndex, PageMask, Block, SectorCount}
-use Rattle.checkpoint_stream.specs.declared.place.Place.TheVariants.{SectorIndex, SectorBytes}
+use Rattle.checkpoint_stream.specs.declared.place.Place.TheVariants.{SectorIndex, SectorBytes, FrameCount, Whole}
 use Rattle.checkpoint_stream.specs.HeadTable.{bytes_of}
 use Rattle.checkpoint_stream.specs.Readings.{judged, moved_if, kept_mask, kept_block, pages_due, sectors_due, after_block}
 use Rattle.checkpoint_stream.specs.Text.{page_units}
@@ -44,7 +44,7 @@ pub Rises-end : (from end : ℕ) (is : List ℕ) → Rises from end is → from 
 Rises-end from end [] h = omega (arith, h)
 Rises-end from end (i ∷ is) h = omega (arith, h.0, Rises-end (i + 1) end is h.1)
 
-le-test : (m n : ℕ) → m ≤ n → nat_le m n ≡ true
+pub le-test : (m n : ℕ) → m ≤ n → nat_le m n ≡ true
 le-test m n h = grind (arith, nat_tests)
 
 inside-test : (from n end : ℕ) → from ≤ n → n < end → (nat_le from n && nat_lt n end) ≡ true
@@ -55,6 +55,10 @@ not-zero-test n h = grind (arith, nat_tests)
 
 pub not-true : {b : Bool} → IsTrue (not b) → b ≡ false
 not-true {b} h = grind arith
+
+-- what comes after the sector records, by the head
+abbrev pub end_of : List ℕ → Place
+end_of head = if slice_index head 0 == 0x32434d52 then FrameCount else Whole
 
 -- a count
 counted : (shape : Shape) (place : Place) (head : List ℕ) (before m n : ℕ) (pages : List PageChange) (blocks : List (List ℕ))
@@ -78,13 +82,13 @@ page_count-step shape head before n fits small =
 pub sector_count-step : (shape : Shape) (head : List ℕ) (before n : ℕ) (pages : List PageChange) (blocks : List (List ℕ)) →
     n ≤ shape.sectors → n < 2 ^ 32 →
     Leads (standing shape SectorCount 80 head before pages blocks []) (bytes_of Four n ∷ [])
-    (standing shape (sectors_due n 0) 80 head before pages blocks [])
+    (standing shape (sectors_due (end_of head) n 0) 80 head before pages blocks [])
 unfolding judged
 sector_count-step shape head before n pages blocks fits small =
     Leads-unit _ _ _ (λ o. refl) (λ o. refl) (some-bytes Four n) (λ o. length-bytes_of Four n)
     (λ o. (
       (o + 4) % 2 ^ 64,
-      counted shape SectorCount head before _ n pages blocks (λ (k : ℕ). sectors_due k 0) shape.sectors o
+      counted shape SectorCount head before _ n pages blocks (λ (k : ℕ). sectors_due (end_of head) k 0) shape.sectors o
           (number-back Four n small) fits,
     ))
 

@@ -45,4 +45,5 @@ Extends-both a b c e f = record {
   pages = (_, more-of a.pages b.pages c.pages e.pages.0 f.pages.0 e.pages.1 f.pages.1);
   blocks = (_, more-of a.blocks b.blocks c.blocks e.blocks.0 f.blocks.0 e.blocks.1 f.blocks.1);
   sectors = (_, more-of a.sectors b.sectors c.sectors e.sectors.0 f.sectors.0 e.sectors.1 f.sectors.1);
+  frames = (_, more-of a.frames b.frames c.frames e.frames.0 f.frames.0 e.frames.1 f.frames.1);
 }

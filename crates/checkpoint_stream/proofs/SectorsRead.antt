@@ -10,12 +10,12 @@ use Rattle.epoch_snapshot.specs.declared.changes.PageChange.{PageChange}
 use Rattle.epoch_snapshot.specs.declared.changes.SectorChange.{SectorChange}
 use Rattle.epoch_snapshot.specs.Blocks.{is_zero}
 use Rattle.checkpoint_stream.specs.declared.rules.Width.TheVariants.{Four}
-use Rattle.checkpoint_stream.specs.declared.place.Place.TheVariants.{SectorIndex, SectorBytes, Whole}
+use Rattle.checkpoint_stream.specs.declared.place.Place.TheVariants.{SectorIndex, SectorBytes}
 use Rattle.checkpoint_stream.specs.HeadTable.{bytes_of}
 use Rattle.checkpoint_stream.specs.Readings.{judged, kept_sector, sectors_due, is_full}
 use Rattle.checkpoint_stream.specs.Text.{sector_units}
 use Rattle.checkpoint_stream.proofs.Leading.{standing, Leads, Leads-append, Leads-unit, Leads-none}
-use Rattle.checkpoint_stream.proofs.RecordsRead.{Rises-end, IsSectorWide, sector_index-step, not-true}
+use Rattle.checkpoint_stream.proofs.RecordsRead.{end_of, Rises-end, IsSectorWide, sector_index-step, not-true}
 
 -- in a full checkpoint no sector is all zero
 abbrev pub HasSectorByte : SectorChange → Type 0
@@ -36,7 +36,7 @@ full-test shape head before left sector pages blocks sectors bytes o some =
 stored : (shape : Shape) (head : List ℕ) (before left sector : ℕ) (pages : List PageChange) (blocks : List (List ℕ))
     (sectors : List SectorChange) (bytes : List ℕ) (zeros : Bool) (o : ℕ) → zeros ≡ false →
     kept_sector zeros (standing shape (SectorBytes left sector) 80 head before pages blocks sectors o) left sector bytes
-    ≡ standing shape (sectors_due left (sector + 1)) 80 head before pages blocks
+    ≡ standing shape (sectors_due (end_of head) left (sector + 1)) 80 head before pages blocks
     (sectors ++ (record { sector = sector; bytes = bytes }) ∷ []) ((o + 512) % 2 ^ 64)
 unfolding kept_sector
 stored shape head before left sector pages blocks sectors bytes zeros o e = rw e refl
@@ -44,7 +44,7 @@ stored shape head before left sector pages blocks sectors bytes zeros o e = rw e
 sector-step : (shape : Shape) (head : List ℕ) (before left sector : ℕ) (pages : List PageChange) (blocks : List (List ℕ))
     (sectors : List SectorChange) (bytes : List ℕ) → (slice_index head 4 ≡ 0 → IsTrue (not (is_zero bytes))) → length bytes ≡ 512 →
     Leads (standing shape (SectorBytes left sector) 80 head before pages blocks sectors) (bytes ∷ [])
-    (standing shape (sectors_due left (sector + 1)) 80 head before pages blocks
+    (standing shape (sectors_due (end_of head) left (sector + 1)) 80 head before pages blocks
     (sectors ++ (record { sector = sector; bytes = bytes }) ∷ []))
 unfolding judged
 sector-step shape head before left sector pages blocks sectors bytes some wide =
@@ -73,8 +73,8 @@ pub record SectorsLeft (shape : Shape) (head : List ℕ) (from : ℕ) (sectors :
 
 pub sectors-lead : (shape : Shape) (head : List ℕ) (before from : ℕ) (pages : List PageChange) (blocks : List (List ℕ))
     (done ss : List SectorChange) → SectorsLeft shape head from ss →
-    Leads (standing shape (sectors_due (length ss) from) 80 head before pages blocks done) (sector_units ss)
-    (standing shape Whole 80 head before pages blocks (done ++ ss))
+    Leads (standing shape (sectors_due (end_of head) (length ss) from) 80 head before pages blocks done) (sector_units ss)
+    (standing shape (end_of head) 80 head before pages blocks (done ++ ss))
 sectors-lead shape head before from pages blocks done [] h = rw (sector_units-nil, append-nil done) (Leads-none _)
 sectors-lead shape head before from pages blocks done (s ∷ ss) h =
     let below : s.sector < shape.sectors = omega (arith, h.rises.0, Rises-end _ _ _ h.rises.1) in
@@ -82,7 +82,7 @@ sectors-lead shape head before from pages blocks done (s ∷ ss) h =
     (standing shape (SectorBytes (length ss) s.sector) 80 head before pages blocks done)
     = sector_index-step shape head before (length ss) from s.sector pages blocks done h.rises.0 below h.small in
     let bytes : Leads (standing shape (SectorBytes (length ss) s.sector) 80 head before pages blocks done) (s.bytes ∷ [])
-    (standing shape (sectors_due (length ss) (s.sector + 1)) 80 head before pages blocks (done ++ s ∷ []))
+    (standing shape (sectors_due (end_of head) (length ss) (s.sector + 1)) 80 head before pages blocks (done ++ s ∷ []))
     = sector-step shape head before (length ss) s.sector pages blocks done s.bytes
     (λ (e : slice_index head 4 ≡ 0). All-head HasSectorByte s ss (h.full e)) (All-head IsSectorWide s ss h.wide) in
     let left : SectorsLeft shape head (s.sector + 1) ss = record {
@@ -91,12 +91,12 @@ sectors-lead shape head before from pages blocks done (s ∷ ss) h =
       full = λ (e : slice_index head 4 ≡ 0). All-tail HasSectorByte s ss (h.full e);
       wide = All-tail IsSectorWide s ss h.wide;
     } in
-    let rest : Leads (standing shape (sectors_due (length ss) (s.sector + 1)) 80 head before pages blocks (done ++ s ∷ []))
-    (sector_units ss) (standing shape Whole 80 head before pages blocks ((done ++ s ∷ []) ++ ss))
+    let rest : Leads (standing shape (sectors_due (end_of head) (length ss) (s.sector + 1)) 80 head before pages blocks (done ++ s ∷ []))
+    (sector_units ss) (standing shape (end_of head) 80 head before pages blocks ((done ++ s ∷ []) ++ ss))
     = sectors-lead shape head before (s.sector + 1) pages blocks (done ++ s ∷ []) ss left in
     let all : Leads (standing shape (SectorIndex (length ss) from) 80 head before pages blocks done)
     ((bytes_of Four s.sector ∷ []) ++ ((s.bytes ∷ []) ++ sector_units ss))
-    (standing shape Whole 80 head before pages blocks ((done ++ s ∷ []) ++ ss))
+    (standing shape (end_of head) 80 head before pages blocks ((done ++ s ∷ []) ++ ss))
     = Leads-append _ _ _ _ _ index (Leads-append _ _ _ _ _ bytes rest) in
     let same : (done ++ s ∷ []) ++ ss ≡ done ++ s ∷ ss = append_assoc done (s ∷ []) ss in
     rw (sector_units-cons s ss, ← same) all

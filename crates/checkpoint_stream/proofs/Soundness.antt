@@ -15,14 +15,18 @@ use Rattle.epoch_snapshot.specs.Blocks.{is_zero}
 use Rattle.checkpoint_stream.specs.declared.rules.Row.{Row}
 use Rattle.checkpoint_stream.specs.declared.place.Place.{Place}
 use Rattle.checkpoint_stream.specs.declared.place.Place.TheVariants.{Head, PageCount, PageIndex, PageMask, Block, SectorCount}
-use Rattle.checkpoint_stream.specs.declared.place.Place.TheVariants.{SectorIndex, SectorBytes, Whole, Failed}
+use Rattle.checkpoint_stream.specs.declared.place.Place.TheVariants.{SectorIndex, SectorBytes, FrameCount, FrameLength, FrameBytes}
+use Rattle.checkpoint_stream.specs.declared.place.Place.TheVariants.{Whole, Failed}
 use Rattle.checkpoint_stream.specs.declared.rules.Width.TheVariants.{Four}
 use Rattle.checkpoint_stream.specs.HeadTable.{head_table, row_at, passes, number_of, number}
 use Rattle.checkpoint_stream.specs.declared.rules.Rule.TheVariants.{Magic}
 use Rattle.checkpoint_stream.specs.Readings.{Reading, is_full, failed, moved, pages_due, sectors_due, after_block, after_number, moved_if}
+use Rattle.checkpoint_stream.specs.Readings.{has_frames, most_frames, frames_due, frame_judged, width_at}
 use Rattle.checkpoint_stream.specs.Readings.{kept_number, kept_mask, kept_block, kept_sector, judged, judged_at, is_closed, fed_byte, fed}
 use Rattle.checkpoint_stream.specs.Readings.{begun, width_of}
-use Rattle.checkpoint_stream.specs.Sound.{IsSound, IsHead, HasNoRecords, HasRecords, StandsAt, AllPass, last_after}
+use Rattle.checkpoint_stream.specs.Sound.{IsSound, IsHead, HasNoRecords, HasRecords, StandsAt, HasFrames, FramesAt, AllPass, last_after}
+use Rattle.net_device.specs.Frames.{IsFrame}
+use Rattle.arrayvec.specs.ArrayVec.{ArrayVec}
 
 -- rising lists
 Rises-higher : (from end higher : ℕ) (is : List ℕ) → end ≤ higher → Rises from end is → Rises from higher is
@@ -48,13 +52,22 @@ last_after-push before (m ∷ ns) n = last_after-push m ns n
 
 -- what a place, an offset and records change of a reading leaves its head as it was
 keep-head : (r : Reading) (offset : ℕ) (place : Place) (pages : List PageChange) (blocks : List (List ℕ))
-    (sectors : List SectorChange) (partial : List ℕ) → IsHead r →
-    IsHead (record r { offset = offset; place = place; pages = pages; blocks = blocks; sectors = sectors; partial = partial })
-keep-head r offset place pages blocks sectors partial h = record { known = h.known; rows = h.rows; passes = h.passes; last = h.last }
+    (sectors : List SectorChange) (frames : List (ArrayVec ℕ)) (partial : List ℕ) → IsHead r →
+    IsHead (record r {
+      offset = offset;
+      place = place;
+      pages = pages;
+      blocks = blocks;
+      sectors = sectors;
+      frames = frames;
+      partial = partial;
+    })
+keep-head r offset place pages blocks sectors frames partial h = record { known = h.known; rows = h.rows; passes = h.passes; last = h.last }
 
-keep-records : (r : Reading) (offset : ℕ) (place : Place) (partial : List ℕ) (end due sector_end : ℕ) → HasRecords r end due sector_end →
-    HasRecords (record r { offset = offset; place = place; partial = partial }) end due sector_end
-keep-records r offset place partial end due sector_end h = record {
+keep-records : (r : Reading) (offset : ℕ) (place : Place) (frames : List (ArrayVec ℕ)) (partial : List ℕ) (end due sector_end : ℕ) →
+    HasRecords r end due sector_end →
+    HasRecords (record r { offset = offset; place = place; frames = frames; partial = partial }) end due sector_end
+keep-records r offset place frames partial end due sector_end h = record {
   known = h.known;
   pages = h.pages;
   page_end = h.page_end;
@@ -66,8 +79,13 @@ keep-records r offset place partial end due sector_end h = record {
   full = h.full;
 }
 
-failed-sound : (r : Reading) → IsHead r → IsSound (failed r)
-failed-sound r h = record { head = keep-head r _ _ _ _ _ _ h; place = tt }
+-- the head and the records of what was read
+record IsRead (r : Reading) : Type 0 where
+  head : IsHead r
+  place : StandsAt r.place r
+
+failed-read : (r : Reading) → IsHead r → IsRead (failed r)
+failed-read r h = record { head = keep-head r _ _ _ _ _ _ _ h; place = tt }
 
 both-true : (a b : Bool) → (a && b) ≡ true → (a ≡ true) × (b ≡ true)
 both-true true b e = (refl, e)
@@ -109,22 +127,22 @@ number-kept r n offset place h k p = record {
   last = sym (last_after-push 0 r.head n);
 }
 
-number-sound : (b : Bool) (r : Reading) (n : ℕ) → IsHead r → HasNoRecords r → r.known < 80 →
+number-read : (b : Bool) (r : Reading) (n : ℕ) → IsHead r → HasNoRecords r → r.known < 80 →
     passes r.shape (row_at r.known).rule r.before n ≡ b →
-    IsSound (kept_number b r (row_at r.known) n)
+    IsRead (kept_number b r (row_at r.known) n)
 unfolding kept_number
-number-sound false r n h none k p = failed-sound r h
-number-sound true r n h none k p = record {
+number-read false r n h none k p = failed-read r h
+number-read true r n h none k p = record {
   head = number-kept r n _ _ h k p;
   place = stands-after_number _ (r.known + 1) refl (omega arith)
       (record { pages = none.pages; blocks = none.blocks; sectors = none.sectors });
 }
 
-moved_if-sound : (b : Bool) (r : Reading) (place : Place) → IsHead r → (b ≡ true → StandsAt place (moved r 4 place)) →
-    IsSound (moved_if b r place)
+moved_if-read : (b : Bool) (r : Reading) (place : Place) → IsHead r → (b ≡ true → StandsAt place (moved r 4 place)) →
+    IsRead (moved_if b r place)
 unfolding moved_if
-moved_if-sound false r place h f = failed-sound r h
-moved_if-sound true r place h f = record { head = keep-head r _ _ _ _ _ _ h; place = f refl }
+moved_if-read false r place h f = failed-read r h
+moved_if-read true r place h f = record { head = keep-head r _ _ _ _ _ _ _ h; place = f refl }
 
 All-nothing : {X : Type 0} (P : X → Type 0) (xs : List X) → xs ≡ [] → All P xs
 All-nothing P xs e = λ k d h. absurd (omega (arith, h, ap length e))
@@ -175,9 +193,20 @@ stands-pages_due : (r : Reading) (left from : ℕ) → HasRecords r from 0 0 →
 stands-pages_due r zero from h = higher-pages r from r.shape.pages 0 0 h.page_end (omega arith) h
 stands-pages_due r (suc left) from h = h
 
-stands-sectors_due : (r : Reading) (left from : ℕ) → HasRecords r r.shape.pages 0 from → StandsAt (sectors_due left from) r
-stands-sectors_due r zero from h = higher-sectors r r.shape.pages 0 from r.shape.sectors h.sector_end (omega arith) h
-stands-sectors_due r (suc left) from h = h
+stands-end : (r : Reading) (carries : Bool) → HasRecords r r.shape.pages 0 r.shape.sectors →
+    StandsAt (if carries then FrameCount else Whole) r
+stands-end r true h = h
+stands-end r false h = h
+
+stands-sectors_due : (r : Reading) (carries : Bool) (left from : ℕ) → HasRecords r r.shape.pages 0 from →
+    StandsAt (sectors_due (if carries then FrameCount else Whole) left from) r
+stands-sectors_due r carries zero from h =
+    stands-end r carries (higher-sectors r r.shape.pages 0 from r.shape.sectors h.sector_end (omega arith) h)
+stands-sectors_due r carries (suc left) from h = h
+
+stands-frames_due : (r : Reading) (left : ℕ) → HasRecords r r.shape.pages 0 r.shape.sectors → StandsAt (frames_due left) r
+stands-frames_due r zero h = h
+stands-frames_due r (suc left) h = h
 
 mask-records : (r : Reading) (left page mask : ℕ) → page < r.shape.pages → HasRecords r page 0 0 → (mask == 0) ≡ false →
     HasRecords (moved (record r {
@@ -206,12 +235,12 @@ mask-records r left page mask top h is =
     }
 
 -- a mask
-mask-sound : (b : Bool) (r : Reading) (left page mask : ℕ) → IsHead r → page < r.shape.pages → HasRecords r page 0 0 →
-    (mask == 0) ≡ b → IsSound (kept_mask b r left page mask)
+mask-read : (b : Bool) (r : Reading) (left page mask : ℕ) → IsHead r → page < r.shape.pages → HasRecords r page 0 0 →
+    (mask == 0) ≡ b → IsRead (kept_mask b r left page mask)
 unfolding kept_mask
-mask-sound true r left page mask h top records is = failed-sound r h
-mask-sound false r left page mask h top records is = record {
-  head = keep-head r _ _ _ _ _ _ h;
+mask-read true r left page mask h top records is = failed-read r h
+mask-read false r left page mask h top records is = record {
+  head = keep-head r _ _ _ _ _ _ _ h;
   place =
       (top, mask-records r left page mask top records is);
 }
@@ -239,14 +268,14 @@ stands-after_block : (r : Reading) (left page more : ℕ) → page < r.shape.pag
 stands-after_block r left page zero top h = stands-pages_due r left (page + 1) h
 stands-after_block r left page (suc more) top h = (top, subst (λ (due : ℕ). HasRecords r (page + 1) due 0) (sym (add-one more)) h)
 
-block-sound : (b : Bool) (r : Reading) (left page more : ℕ) (block : List ℕ) → IsHead r → page < r.shape.pages →
+block-read : (b : Bool) (r : Reading) (left page more : ℕ) (block : List ℕ) → IsHead r → page < r.shape.pages →
     HasRecords r (page + 1) (more + 1) 0 →
-    is_zero block ≡ b → IsSound (kept_block b r left page more block)
+    is_zero block ≡ b → IsRead (kept_block b r left page more block)
 unfolding kept_block
-block-sound true r left page more block h top records is = failed-sound r h
-block-sound false r left page more block h top records is = record {
-  head = keep-head r _ _ _ _ _ _ h;
-  place = stands-after_block _ left page more top (keep-records _ _ _ _ _ _ _ (block-records r (page + 1) more 0 block is records));
+block-read true r left page more block h top records is = failed-read r h
+block-read false r left page more block h top records is = record {
+  head = keep-head r _ _ _ _ _ _ _ h;
+  place = stands-after_block _ left page more top (keep-records _ _ _ _ _ _ _ _ (block-records r (page + 1) more 0 block is records));
 }
 
 zero-when-full : (r : Reading) (bytes : List ℕ) → r.known ≡ 80 → get_or r.head 4 0 ≡ 0 → (is_full r && is_zero bytes) ≡ false →
@@ -270,39 +299,176 @@ sector-records r sector bytes top is h = record {
       (not-zero (zero-when-full r bytes h.known e is));
 }
 
-sector-sound : (b : Bool) (r : Reading) (left sector : ℕ) (bytes : List ℕ) → IsHead r → sector < r.shape.sectors →
+sector-read : (b : Bool) (r : Reading) (left sector : ℕ) (bytes : List ℕ) → IsHead r → sector < r.shape.sectors →
     HasRecords r r.shape.pages 0 sector →
-    (is_full r && is_zero bytes) ≡ b → IsSound (kept_sector b r left sector bytes)
+    (is_full r && is_zero bytes) ≡ b → IsRead (kept_sector b r left sector bytes)
 unfolding kept_sector
-sector-sound true r left sector bytes h top records is = failed-sound r h
-sector-sound false r left sector bytes h top records is = record {
-  head = keep-head r _ _ _ _ _ _ h;
-  place = stands-sectors_due _ left (sector + 1) (keep-records _ _ _ _ _ _ _ (sector-records r sector bytes top is records));
+sector-read true r left sector bytes h top records is = failed-read r h
+sector-read false r left sector bytes h top records is = record {
+  head = keep-head r _ _ _ _ _ _ _ h;
+  place = stands-sectors_due _ (has_frames r) left (sector + 1) (keep-records _ _ _ _ _ _ _ _ (sector-records r sector bytes top is records));
 }
 
-judged_at-sound : (p : Place) (r : Reading) (unit : List ℕ) → r.place ≡ p → IsHead r → StandsAt p r → IsSound (judged_at p r unit)
-judged_at-sound Head r unit at h s = number-sound _ r _ h s.1 s.0 refl
-judged_at-sound PageCount r unit at h s =
-    moved_if-sound _ r _ h (λ (e : nat_le (number_of Four unit) r.shape.pages ≡ true). stands-pages_due _ _ 0
-    (keep-records r _ _ _ 0 0 0 (no-records r s.0 s.1)))
-judged_at-sound (PageIndex left from) r unit at h s = moved_if-sound _ r _ h (λ e.
+-- a frame
+frame-read : (r : Reading) (left len : ℕ) (frame : List ℕ) → IsHead r → HasRecords r r.shape.pages 0 r.shape.sectors →
+    IsRead (frame_judged r left len frame)
+unfolding frame_judged
+frame-read r left len frame h records = record {
+  head = keep-head r _ _ _ _ _ _ _ h;
+  place = stands-frames_due _ left (keep-records r _ _ _ _ _ _ _ records);
+}
+
+judged_at-read : (p : Place) (r : Reading) (unit : List ℕ) → r.place ≡ p → IsHead r → StandsAt p r → IsRead (judged_at p r unit)
+judged_at-read Head r unit at h s = number-read _ r _ h s.1 s.0 refl
+judged_at-read PageCount r unit at h s =
+    moved_if-read _ r _ h (λ (e : nat_le (number_of Four unit) r.shape.pages ≡ true). stands-pages_due _ _ 0
+    (keep-records r _ _ _ _ 0 0 0 (no-records r s.0 s.1)))
+judged_at-read (PageIndex left from) r unit at h s = moved_if-read _ r _ h (λ e.
     let tests : (nat_le from (number_of Four unit) ≡ true) × (nat_lt (number_of Four unit) r.shape.pages ≡ true) = both-true _ _ e in
     let below : number_of Four unit < r.shape.pages = lt-true _ _ tests.1 in
-    (below, keep-records r _ _ _ _ 0 0 (higher-pages r from (number_of Four unit) 0 0 (le-true _ _ tests.0) (omega arith) s)))
-judged_at-sound (PageMask left page) r unit at h s = mask-sound _ r left page _ h s.0 s.1 refl
-judged_at-sound (Block left page more) r unit at h s = block-sound _ r left page more unit h s.0 s.1 refl
-judged_at-sound SectorCount r unit at h s = moved_if-sound _ r _ h (λ e. stands-sectors_due _ _ 0 (keep-records r _ _ _ _ 0 0 s))
-judged_at-sound (SectorIndex left from) r unit at h s = moved_if-sound _ r _ h (λ e.
+    (below, keep-records r _ _ _ _ _ 0 0 (higher-pages r from (number_of Four unit) 0 0 (le-true _ _ tests.0) (omega arith) s)))
+judged_at-read (PageMask left page) r unit at h s = mask-read _ r left page _ h s.0 s.1 refl
+judged_at-read (Block left page more) r unit at h s = block-read _ r left page more unit h s.0 s.1 refl
+judged_at-read SectorCount r unit at h s = moved_if-read _ r _ h (λ e. stands-sectors_due _ (has_frames r) _ 0 (keep-records r _ _ _ _ _ 0 0 s))
+judged_at-read (SectorIndex left from) r unit at h s = moved_if-read _ r _ h (λ e.
     let tests : (nat_le from (number_of Four unit) ≡ true) × (nat_lt (number_of Four unit) r.shape.sectors ≡ true) = both-true _ _ e in
     let below : number_of Four unit < r.shape.sectors = lt-true _ _ tests.1 in
-    (below, keep-records r _ _ _ _ 0 _ (higher-sectors r r.shape.pages 0 from (number_of Four unit) (le-true _ _ tests.0) (omega arith) s)))
-judged_at-sound (SectorBytes left sector) r unit at h s = sector-sound _ r left sector unit h s.0 s.1 refl
-judged_at-sound Whole r unit at h s = record { head = h; place = subst (λ (q : Place). StandsAt q r) (sym at) s }
-judged_at-sound (Failed x) r unit at h s = record { head = h; place = subst (λ (q : Place). StandsAt q r) (sym at) s }
+    (below, keep-records r _ _ _ _ _ 0 _ (higher-sectors r r.shape.pages 0 from (number_of Four unit) (le-true _ _ tests.0) (omega arith) s)))
+judged_at-read (SectorBytes left sector) r unit at h s = sector-read _ r left sector unit h s.0 s.1 refl
+judged_at-read FrameCount r unit at h s =
+    moved_if-read _ r _ h (λ e. stands-frames_due _ (number_of Four unit) (keep-records r _ _ _ _ _ _ _ s))
+judged_at-read (FrameLength left) r unit at h s = moved_if-read _ r _ h (λ e. keep-records r _ _ _ _ _ _ _ s)
+judged_at-read (FrameBytes left len) r unit at h s = frame-read r left len unit h s
+judged_at-read Whole r unit at h s = record { head = h; place = subst (λ (q : Place). StandsAt q r) (sym at) s }
+judged_at-read (Failed x) r unit at h s = record { head = h; place = subst (λ (q : Place). StandsAt q r) (sym at) s }
 
-pub judged-sound : (r : Reading) (unit : List ℕ) → IsSound r → IsSound (judged r unit)
+-- the frames that were read
+
+no-frames : (r : Reading) → r.frames ≡ [] → HasFrames r 0
+no-frames r none = record {
+  each = All-nothing IsFrame r.frames none;
+  count = omega (arith, ap length none);
+  full = λ _. omega (arith, ap length none);
+  old = λ _. omega (arith, ap length none);
+}
+
+keep-frames : (r : Reading) (offset : ℕ) (place : Place) (partial : List ℕ) (due : ℕ) → HasFrames r due →
+    HasFrames (record r { offset = offset; place = place; partial = partial }) due
+keep-frames r offset place partial due h = record { each = h.each; count = h.count; full = h.full; old = h.old }
+
+framed-after_number : (known : ℕ) (r : Reading) → r.frames ≡ [] → FramesAt (after_number known) r
+framed-after_number known r none = elim (known == 80) as (λ (b : Bool). FramesAt (if b then PageCount else Head) r) [
+  | true ↦ none
+  | false ↦ none
+]
+
+framed-pages_due : (r : Reading) (left from : ℕ) → r.frames ≡ [] → FramesAt (pages_due left from) r
+framed-pages_due r zero from none = none
+framed-pages_due r (suc left) from none = none
+
+framed-after_block : (r : Reading) (left page more : ℕ) → r.frames ≡ [] → FramesAt (after_block left page more) r
+framed-after_block r left page zero none = framed-pages_due r left (page + 1) none
+framed-after_block r left page (suc more) none = none
+
+framed-end : (r : Reading) (carries : Bool) → has_frames r ≡ carries → r.frames ≡ [] →
+    FramesAt (if carries then FrameCount else Whole) r
+framed-end r true is none = (is, none)
+framed-end r false is none = no-frames r none
+
+framed-sectors_due : (r : Reading) (carries : Bool) (left from : ℕ) → has_frames r ≡ carries → r.frames ≡ [] →
+    FramesAt (sectors_due (if carries then FrameCount else Whole) left from) r
+framed-sectors_due r carries zero from is none = framed-end r carries is none
+framed-sectors_due r carries (suc left) from is none = none
+
+framed-frames_due : (r : Reading) (left : ℕ) → HasFrames r left → FramesAt (frames_due left) r
+framed-frames_due r zero h = h
+framed-frames_due r (suc left) h = subst (HasFrames r) (sym (add-one left)) h
+
+number-framed : (b : Bool) (r : Reading) (row : Row) (n : ℕ) → r.frames ≡ [] →
+    FramesAt (kept_number b r row n).place (kept_number b r row n)
+unfolding kept_number
+number-framed false r row n none = tt
+number-framed true r row n none = framed-after_number (r.known + 1) _ none
+
+moved_if-framed : (b : Bool) (r : Reading) (place : Place) → (b ≡ true → FramesAt place (moved r 4 place)) →
+    FramesAt (moved_if b r place).place (moved_if b r place)
+unfolding moved_if
+moved_if-framed false r place f = tt
+moved_if-framed true r place f = f refl
+
+mask-framed : (b : Bool) (r : Reading) (left page mask : ℕ) → r.frames ≡ [] →
+    FramesAt (kept_mask b r left page mask).place (kept_mask b r left page mask)
+unfolding kept_mask
+mask-framed true r left page mask none = tt
+mask-framed false r left page mask none = none
+
+block-framed : (b : Bool) (r : Reading) (left page more : ℕ) (block : List ℕ) → r.frames ≡ [] →
+    FramesAt (kept_block b r left page more block).place (kept_block b r left page more block)
+unfolding kept_block
+block-framed true r left page more block none = tt
+block-framed false r left page more block none = framed-after_block _ left page more none
+
+sector-framed : (b : Bool) (r : Reading) (left sector : ℕ) (bytes : List ℕ) → r.frames ≡ [] →
+    FramesAt (kept_sector b r left sector bytes).place (kept_sector b r left sector bytes)
+unfolding kept_sector
+sector-framed true r left sector bytes none = tt
+sector-framed false r left sector bytes none = framed-sectors_due _ (has_frames r) left (sector + 1) refl none
+
+-- as many frames as a checkpoint may carry
+most : (full : Bool) (n : ℕ) → n ≤ (if full then 0 else 256) → (n ≤ 256) × (full ≡ true → n ≡ 0)
+most true n h = (omega (arith, h), λ _. omega (arith, h))
+most false n h = (h, λ (e : false ≡ true). cc)
+
+frame_count-framed : (r : Reading) (n : ℕ) → has_frames r ≡ true → r.frames ≡ [] → n ≤ most_frames r → HasFrames r n
+frame_count-framed r n carries none few =
+    let limit : (n ≤ 256) × (is_full r ≡ true → n ≡ 0) = most (is_full r) n few in
+    record {
+      each = All-nothing IsFrame r.frames none;
+      count = omega (arith, ap length none, limit.0);
+      full = λ (e : is_full r ≡ true). omega (arith, ap length none, limit.1 e);
+      old = λ (e : has_frames r ≡ false). absurd (other (sym carries ∙ e));
+    }
+  where
+    other : true ≡ false → ⊥
+    other e = cc
+
+frame-framed : (r : Reading) (left len : ℕ) (frame : List ℕ) → (14 ≤ len) × (len ≤ 1514) → HasFrames r (left + 1) → length frame ≡ len →
+    FramesAt (frame_judged r left len frame).place (frame_judged r left len frame)
+unfolding frame_judged
+frame-framed r left len frame within h wide =
+    framed-frames_due _ left (record {
+      each = All-push IsFrame r.frames _ h.each (omega (arith, within.0, wide), omega (arith, within.1, wide));
+      count = omega (arith, h.count, length-append r.frames ((record { items = frame }) ∷ []));
+      full = λ e. absurd (omega (arith, h.full e));
+      old = λ e. absurd (omega (arith, h.old e));
+    })
+
+judged_at-framed : (p : Place) (r : Reading) (unit : List ℕ) → r.place ≡ p → FramesAt p r → length unit ≡ width_at p r.known →
+    FramesAt (judged_at p r unit).place (judged_at p r unit)
+judged_at-framed Head r unit at s wide = number-framed _ r _ _ s
+judged_at-framed PageCount r unit at s wide = moved_if-framed _ r _ (λ e. framed-pages_due _ (number_of Four unit) 0 s)
+judged_at-framed (PageIndex left from) r unit at s wide = moved_if-framed _ r _ (λ e. s)
+judged_at-framed (PageMask left page) r unit at s wide = mask-framed _ r left page _ s
+judged_at-framed (Block left page more) r unit at s wide = block-framed _ r left page more unit s
+judged_at-framed SectorCount r unit at s wide =
+    moved_if-framed _ r _ (λ e. framed-sectors_due _ (has_frames r) (number_of Four unit) 0 refl s)
+judged_at-framed (SectorIndex left from) r unit at s wide = moved_if-framed _ r _ (λ e. s)
+judged_at-framed (SectorBytes left sector) r unit at s wide = sector-framed _ r left sector unit s
+judged_at-framed FrameCount r unit at s wide = moved_if-framed _ r _ (λ (e : nat_le (number_of Four unit) (most_frames r) ≡ true).
+    framed-frames_due _ (number_of Four unit)
+    (keep-frames r _ _ _ _ (frame_count-framed r (number_of Four unit) s.0 s.1 (le-true _ _ e))))
+judged_at-framed (FrameLength left) r unit at s wide = moved_if-framed _ r _ (λ e.
+    let tests : (nat_le 14 (number_of Four unit) ≡ true) × (nat_le (number_of Four unit) 1514 ≡ true) = both-true _ _ e in
+    ((le-true _ _ tests.0, le-true _ _ tests.1), keep-frames r _ _ _ _ s))
+judged_at-framed (FrameBytes left len) r unit at s wide = frame-framed r left len unit s.0 s.1 wide
+judged_at-framed Whole r unit at s wide = subst (λ (q : Place). FramesAt q r) (sym at) s
+judged_at-framed (Failed x) r unit at s wide = subst (λ (q : Place). FramesAt q r) (sym at) s
+
+judged-sound : (r : Reading) (unit : List ℕ) → length unit ≡ width_of r → IsSound r → IsSound (judged r unit)
 unfolding judged
-judged-sound r unit h = judged_at-sound r.place r unit refl h.head h.place
+judged-sound r unit wide h =
+    let read : IsRead (judged_at r.place r unit) = judged_at-read r.place r unit refl h.head h.place in
+    record { head = read.head; place = read.place; frames = judged_at-framed r.place r unit refl h.frames wide }
 
 -- the bytes of a unit that has begun change nothing of what was read
 began-stands : (r : Reading) (partial : List ℕ) → StandsAt r.place r → StandsAt r.place (record r { partial = partial })
@@ -311,14 +477,32 @@ began-stands r partial h = began r.place r partial h
     began : (p : Place) (r : Reading) (partial : List ℕ) → StandsAt p r → StandsAt p (record r { partial = partial })
     began Head r partial h = (h.0, record { pages = h.1.pages; blocks = h.1.blocks; sectors = h.1.sectors })
     began PageCount r partial h = (h.0, record { pages = h.1.pages; blocks = h.1.blocks; sectors = h.1.sectors })
-    began (PageIndex left from) r partial h = keep-records r _ _ _ _ _ _ h
-    began (PageMask left page) r partial h = (h.0, keep-records r _ _ _ _ _ _ h.1)
-    began (Block left page more) r partial h = (h.0, keep-records r _ _ _ _ _ _ h.1)
-    began SectorCount r partial h = keep-records r _ _ _ _ _ _ h
-    began (SectorIndex left from) r partial h = keep-records r _ _ _ _ _ _ h
-    began (SectorBytes left sector) r partial h = (h.0, keep-records r _ _ _ _ _ _ h.1)
-    began Whole r partial h = keep-records r _ _ _ _ _ _ h
+    began (PageIndex left from) r partial h = keep-records r _ _ _ _ _ _ _ h
+    began (PageMask left page) r partial h = (h.0, keep-records r _ _ _ _ _ _ _ h.1)
+    began (Block left page more) r partial h = (h.0, keep-records r _ _ _ _ _ _ _ h.1)
+    began SectorCount r partial h = keep-records r _ _ _ _ _ _ _ h
+    began (SectorIndex left from) r partial h = keep-records r _ _ _ _ _ _ _ h
+    began (SectorBytes left sector) r partial h = (h.0, keep-records r _ _ _ _ _ _ _ h.1)
+    began FrameCount r partial h = keep-records r _ _ _ _ _ _ _ h
+    began (FrameLength left) r partial h = keep-records r _ _ _ _ _ _ _ h
+    began (FrameBytes left len) r partial h = keep-records r _ _ _ _ _ _ _ h
+    began Whole r partial h = keep-records r _ _ _ _ _ _ _ h
     began (Failed x) r partial h = tt
+
+began-frames : (p : Place) (r : Reading) (partial : List ℕ) → FramesAt p r → FramesAt p (record r { partial = partial })
+began-frames Head r partial h = h
+began-frames PageCount r partial h = h
+began-frames (PageIndex left from) r partial h = h
+began-frames (PageMask left page) r partial h = h
+began-frames (Block left page more) r partial h = h
+began-frames SectorCount r partial h = h
+began-frames (SectorIndex left from) r partial h = h
+began-frames (SectorBytes left sector) r partial h = h
+began-frames FrameCount r partial h = h
+began-frames (FrameLength left) r partial h = keep-frames r _ _ _ _ h
+began-frames (FrameBytes left len) r partial h = (h.0, keep-frames r _ _ _ _ h.1)
+began-frames Whole r partial h = keep-frames r _ _ _ _ h
+began-frames (Failed x) r partial h = tt
 
 pub fed_byte-sound : (r : Reading) (b : ℕ) → IsSound r → IsSound (fed_byte r b)
 unfolding fed_byte
@@ -326,11 +510,16 @@ fed_byte-sound r b h =
     elim (is_closed r.place) as (λ (closed : Bool). IsSound (if closed then r else (if length r.partial + 1 == width_of r
     then judged r (r.partial ++ b ∷ []) else record r { partial = r.partial ++ b ∷ [] }))) [
       | true ↦ h
-      | false ↦ elim (length r.partial + 1 == width_of r) as (λ (whole : Bool). IsSound (if whole
-          then judged r (r.partial ++ b ∷ []) else record r { partial = r.partial ++ b ∷ [] })) [
-            | true ↦ judged-sound r _ h
-            | false ↦ record { head = keep-head r _ _ _ _ _ _ h.head; place = began-stands r _ h.place }
-          ]
+      | false ↦ elim (length r.partial + 1 == width_of r) as (λ (whole : Bool). (length r.partial + 1 == width_of r) ≡ whole →
+          IsSound (if whole then judged r (r.partial ++ b ∷ []) else record r { partial = r.partial ++ b ∷ [] })) [
+            | true ↦ λ (e : (length r.partial + 1 == width_of r) ≡ true).
+                judged-sound r _ (length-append r.partial (b ∷ []) ∙ eq-true _ _ e) h
+            | false ↦ λ (e : (length r.partial + 1 == width_of r) ≡ false). record {
+              head = keep-head r _ _ _ _ _ _ _ h.head;
+              place = began-stands r _ h.place;
+              frames = began-frames r.place r _ h.frames;
+            }
+          ] refl
     ]
 
 pub fed-sound : (r : Reading) (bytes : List ℕ) → IsSound r → IsSound (fed r bytes)
@@ -342,4 +531,5 @@ pub begun-sound : (shape : Shape) (offset : ℕ) → IsSound (begun shape offset
 begun-sound shape offset = record {
   head = record { known = refl; rows = omega arith; passes = tt; last = refl };
   place = (omega arith, record { pages = refl; blocks = refl; sectors = refl });
+  frames = refl;
 }

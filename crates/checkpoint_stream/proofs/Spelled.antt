@@ -14,15 +14,19 @@ use Rattle.checkpoint_stream.specs.declared.rules.Width.TheVariants.{Four, Eight
 use Rattle.checkpoint_stream.specs.declared.rules.Rule.TheVariants.{Magic}
 use Rattle.checkpoint_stream.specs.declared.place.Place.{Place}
 use Rattle.checkpoint_stream.specs.declared.place.Place.TheVariants.{Head, PageCount, PageIndex, PageMask, Block, SectorCount}
-use Rattle.checkpoint_stream.specs.declared.place.Place.TheVariants.{SectorIndex, SectorBytes, Whole, Failed}
+use Rattle.checkpoint_stream.specs.declared.place.Place.TheVariants.{SectorIndex, SectorBytes, FrameCount, FrameLength, FrameBytes}
+use Rattle.checkpoint_stream.specs.declared.place.Place.TheVariants.{Whole, Failed}
 use Rattle.checkpoint_stream.specs.HeadTable.{head_table, row_at, bytes_of, bytes_in, number_of, number, passes}
 use Rattle.checkpoint_stream.specs.Readings.{Reading, failed, moved, moved_if, kept_number, kept_mask, kept_block, kept_sector}
 use Rattle.checkpoint_stream.specs.Readings.{pages_due, sectors_due, after_block, after_number, is_full, is_closed, judged_at, width_at}
-use Rattle.checkpoint_stream.specs.Sound.{IsHead, HasRecords, StandsAt}
-use Rattle.checkpoint_stream.specs.Text.{joined, number_units, page_units, sector_units}
+use Rattle.checkpoint_stream.specs.Readings.{has_frames, after_sectors, frames_due, frame_judged}
+use Rattle.checkpoint_stream.specs.Sound.{IsHead, HasRecords, HasFrames, StandsAt, FramesAt}
+use Rattle.checkpoint_stream.specs.Text.{joined, number_units, page_units, sector_units, frame_units}
+use Rattle.arrayvec.specs.ArrayVec.{ArrayVec}
 use Rattle.checkpoint_stream.proofs.Numbers.{IsByte, bytes-back}
 use Rattle.checkpoint_stream.proofs.RecordsRead.{Rises-end}
 use Rattle.checkpoint_stream.proofs.Fronts.{number_units-push, last-spelled, block-spelled, sector_units-push, no-pages, no-sectors}
+use Rattle.checkpoint_stream.proofs.Fronts.{frame_units-push, no-frames}
 
 abbrev pub heads : Reading → List ℕ
 heads r = joined (number_units head_table r.head)
@@ -33,6 +37,17 @@ pages_of n r = bytes_of Four n ++ joined (page_units r.pages r.blocks)
 
 abbrev pub sectors_of : ℕ → Reading → List ℕ
 sectors_of n r = bytes_of Four n ++ joined (sector_units r.sectors)
+
+abbrev pub frames_of : ℕ → Reading → List ℕ
+frames_of n r = bytes_of Four n ++ joined (frame_units r.frames)
+
+-- the head and all records
+abbrev pub records_of : Reading → List ℕ
+records_of r = (heads r ++ pages_of (length r.pages) r) ++ sectors_of (length r.sectors) r
+
+-- and the frames, in version 2
+abbrev pub ending_of : Bool → Reading → List ℕ
+ending_of carries r = if carries then frames_of (length r.frames) r else []
 
 -- the text of what was read, up to the unit that comes next
 abbrev pub front : Place → Reading → List ℕ
@@ -45,7 +60,10 @@ front SectorCount r = heads r ++ pages_of (length r.pages) r
 front (SectorIndex left from) r = (heads r ++ pages_of (length r.pages) r) ++ sectors_of (length r.sectors + (left + 1)) r
 front (SectorBytes left sector) r =
     ((heads r ++ pages_of (length r.pages) r) ++ sectors_of (length r.sectors + (left + 1)) r) ++ bytes_of Four sector
-front Whole r = (heads r ++ pages_of (length r.pages) r) ++ sectors_of (length r.sectors) r
+front FrameCount r = records_of r
+front (FrameLength left) r = records_of r ++ frames_of (length r.frames + (left + 1)) r
+front (FrameBytes left len) r = (records_of r ++ frames_of (length r.frames + (left + 1)) r) ++ bytes_of Four len
+front Whole r = records_of r ++ ending_of (has_frames r) r
 front (Failed at) r = []
 
 -- the page whose blocks come, of which so many are still due after the next
@@ -120,12 +138,33 @@ pages_due-written r (suc left) from whole e =
     let same : length r.pages + suc left ≡ length r.pages + (left + 1) = omega arith in
     record { opens = tt; spells = e ∙ ap (λ (n : ℕ). heads r ++ pages_of n r) same }
 
+ends-written : (r : Reading) (carries : Bool) (whole : List ℕ) → has_frames r ≡ carries → whole ≡ records_of r →
+    IsWritten (if carries then FrameCount else Whole) r whole
+ends-written r true whole is e = record { opens = tt; spells = e }
+ends-written r false whole is e = record {
+  opens = tt;
+  spells = e ∙ sym (append-nil (records_of r)) ∙ ap (λ (b : Bool). records_of r ++ ending_of b r) (sym is);
+}
+
+frames_due-written : (r : Reading) (left : ℕ) (whole : List ℕ) → has_frames r ≡ true →
+    whole ≡ records_of r ++ frames_of (length r.frames + left) r → IsWritten (frames_due left) r whole
+frames_due-written r zero whole carries e =
+    let same : length r.frames + zero ≡ length r.frames = omega arith in
+    record {
+      opens = tt;
+      spells = e ∙ ap (λ (n : ℕ). records_of r ++ frames_of n r) same
+          ∙ ap (λ (b : Bool). records_of r ++ ending_of b r) (sym carries);
+    }
+frames_due-written r (suc left) whole carries e =
+    let same : length r.frames + suc left ≡ length r.frames + (left + 1) = omega arith in
+    record { opens = tt; spells = e ∙ ap (λ (n : ℕ). records_of r ++ frames_of n r) same }
+
 sectors_due-written : (r : Reading) (left from : ℕ) (whole : List ℕ) →
     whole ≡ (heads r ++ pages_of (length r.pages) r) ++ sectors_of (length r.sectors + left) r →
-    IsWritten (sectors_due left from) r whole
+    IsWritten (sectors_due (after_sectors r) left from) r whole
 sectors_due-written r zero from whole e =
     let same : length r.sectors + zero ≡ length r.sectors = omega arith in
-    record { opens = tt; spells = e ∙ ap (λ (n : ℕ). (heads r ++ pages_of (length r.pages) r) ++ sectors_of n r) same }
+    ends-written r (has_frames r) whole refl (e ∙ ap (λ (n : ℕ). (heads r ++ pages_of (length r.pages) r) ++ sectors_of n r) same)
 sectors_due-written r (suc left) from whole e =
     let same : length r.sectors + suc left ≡ length r.sectors + (left + 1) = omega arith in
     record { opens = tt; spells = e ∙ ap (λ (n : ℕ). (heads r ++ pages_of (length r.pages) r) ++ sectors_of n r) same }
@@ -140,6 +179,11 @@ sector_count-spelled : (r : Reading) (n : ℕ) → r.sectors ≡ [] → bytes_of
 sector_count-spelled r n none =
     let same : n ≡ length r.sectors + n = omega (arith, ap length none) in
     sym (append-nil (bytes_of Four n)) ∙ put-after _ _ _ _ (ap (bytes_of Four) same) (sym (no-sectors r.sectors none))
+
+frame_count-spelled : (r : Reading) (n : ℕ) → r.frames ≡ [] → bytes_of Four n ≡ frames_of (length r.frames + n) r
+frame_count-spelled r n none =
+    let same : n ≡ length r.frames + n = omega (arith, ap length none) in
+    sym (append-nil (bytes_of Four n)) ∙ put-after _ _ _ _ (ap (bytes_of Four) same) (sym (no-frames r.frames none))
 
 no-sectors-yet : (r : Reading) (page_limit due : ℕ) → HasRecords r page_limit due 0 → r.sectors ≡ []
 no-sectors-yet r page_limit due h =
@@ -284,28 +328,66 @@ sector-written false r left sector whole unit e =
     grouped : (a b c d : List ℕ) → ((a ++ b) ++ c) ++ d ≡ a ++ ((b ++ c) ++ d)
     grouped a b c d = simp append_assoc
 
-pub judged_at-written : (p : Place) (r : Reading) (unit whole : List ℕ) → is_closed p ≡ false → IsHead r → StandsAt p r → OpenAt p r →
+-- a frame
+frame-spelled : (r : Reading) (left : ℕ) (f : ArrayVec ℕ) →
+    bytes_of Four (length (r.frames ++ f ∷ []) + left) ++ joined (frame_units (r.frames ++ f ∷ []))
+    ≡ (frames_of (length r.frames + (left + 1)) r ++ bytes_of Four (length f.items)) ++ f.items
+frame-spelled r left f =
+    let counted : length (r.frames ++ f ∷ []) + left ≡ length r.frames + (left + 1) = omega (arith, length-append r.frames (f ∷ [])) in
+    put-after _ _ _ _ (ap (bytes_of Four) counted) (frame_units-push r.frames f)
+    ∙ grouped (bytes_of Four (length r.frames + (left + 1))) (joined (frame_units r.frames)) (bytes_of Four (length f.items)) f.items
+  where
+    grouped : (a b c d : List ℕ) → a ++ (b ++ (c ++ d)) ≡ ((a ++ b) ++ c) ++ d
+    grouped a b c d = simp append_assoc
+
+frame-written : (r : Reading) (left len : ℕ) (whole unit : List ℕ) → HasFrames r (left + 1) → length unit ≡ len →
+    whole ≡ (records_of r ++ frames_of (length r.frames + (left + 1)) r) ++ bytes_of Four len →
+    IsWritten (frame_judged r left len unit).place (frame_judged r left len unit) (whole ++ unit)
+unfolding frame_judged
+frame-written r left len whole unit h wide e =
+    frames_due-written _ left (whole ++ unit) (carried (has_frames r) refl)
+    (ap (λ (l : List ℕ). l ++ unit) (e ∙ ap (λ (n : ℕ). (records_of r ++ frames_of (length r.frames + (left + 1)) r) ++ bytes_of Four n)
+    (sym wide))
+    ∙ grouped (records_of r) (frames_of (length r.frames + (left + 1)) r) (bytes_of Four (length unit)) unit
+    ∙ ap (λ (l : List ℕ). records_of r ++ l) (sym (frame-spelled r left (record { items = unit }))))
+  where
+    grouped : (a b c d : List ℕ) → ((a ++ b) ++ c) ++ d ≡ a ++ ((b ++ c) ++ d)
+    grouped a b c d = simp append_assoc
+
+    carried : (b : Bool) → has_frames r ≡ b → has_frames r ≡ true
+    carried true is = is
+    carried false is = absurd (omega (arith, h.old is))
+
+pub judged_at-written : (p : Place) (r : Reading) (unit whole : List ℕ) → is_closed p ≡ false → IsHead r → StandsAt p r → FramesAt p r →
+    OpenAt p r →
     whole ≡ front p r → All IsByte unit → length unit ≡ width_at p r.known →
     IsWritten (judged_at p r unit).place (judged_at p r unit) (whole ++ unit)
-judged_at-written Head r unit whole going h s o e bytes wide =
+judged_at-written Head r unit whole going h s fr o e bytes wide =
     number-written _ r _ whole unit h s.0 e (bytes-back (row_at r.known).width unit wide bytes)
-judged_at-written PageCount r unit whole going h s o e bytes wide =
+judged_at-written PageCount r unit whole going h s fr o e bytes wide =
     moved_if-written _ r _ (whole ++ unit) (pages_due-written _ (number_of Four unit) 0 (whole ++ unit)
     (put-after _ _ _ _ e (sym (bytes-back Four unit wide bytes) ∙ page_count-spelled r (number_of Four unit) s.1.pages)))
-judged_at-written (PageIndex left from) r unit whole going h s o e bytes wide =
+judged_at-written (PageIndex left from) r unit whole going h s fr o e bytes wide =
     moved_if-written _ r _ (whole ++ unit)
     (record { opens = tt; spells = put-after _ _ _ _ e (sym (bytes-back Four unit wide bytes)) })
-judged_at-written (PageMask left page) r unit whole going h s o e bytes wide =
+judged_at-written (PageMask left page) r unit whole going h s fr o e bytes wide =
     mask-written _ r left page _ whole unit s.1 refl e (bytes-back Eight unit wide bytes)
-judged_at-written (Block left page more) r unit whole going h s o e bytes wide = block-written _ r left page more whole unit o e
-judged_at-written SectorCount r unit whole going h s o e bytes wide =
+judged_at-written (Block left page more) r unit whole going h s fr o e bytes wide = block-written _ r left page more whole unit o e
+judged_at-written SectorCount r unit whole going h s fr o e bytes wide =
     moved_if-written _ r _ (whole ++ unit) (sectors_due-written _ (number_of Four unit) 0 (whole ++ unit)
     (put-after _ _ _ _ e (sym (bytes-back Four unit wide bytes)
     ∙ sector_count-spelled r (number_of Four unit) (no-sectors-yet r r.shape.pages 0 s))))
-judged_at-written (SectorIndex left from) r unit whole going h s o e bytes wide =
+judged_at-written (SectorIndex left from) r unit whole going h s fr o e bytes wide =
     moved_if-written _ r _ (whole ++ unit)
     (record { opens = tt; spells = put-after _ _ _ _ e (sym (bytes-back Four unit wide bytes)) })
-judged_at-written (SectorBytes left sector) r unit whole going h s o e bytes wide =
+judged_at-written (SectorBytes left sector) r unit whole going h s fr o e bytes wide =
     sector-written _ r left sector whole unit e
-judged_at-written Whole r unit whole going h s o e bytes wide = cc
-judged_at-written (Failed at) r unit whole going h s o e bytes wide = cc
+judged_at-written FrameCount r unit whole going h s fr o e bytes wide =
+    moved_if-written _ r _ (whole ++ unit) (frames_due-written _ (number_of Four unit) (whole ++ unit) fr.0
+    (put-after _ _ _ _ e (sym (bytes-back Four unit wide bytes) ∙ frame_count-spelled r (number_of Four unit) fr.1)))
+judged_at-written (FrameLength left) r unit whole going h s fr o e bytes wide =
+    moved_if-written _ r _ (whole ++ unit)
+    (record { opens = tt; spells = put-after _ _ _ _ e (sym (bytes-back Four unit wide bytes)) })
+judged_at-written (FrameBytes left len) r unit whole going h s fr o e bytes wide = frame-written r left len whole unit fr.1 wide e
+judged_at-written Whole r unit whole going h s fr o e bytes wide = cc
+judged_at-written (Failed at) r unit whole going h s fr o e bytes wide = cc

@@ -12,7 +12,8 @@ use Rattle.epoch_snapshot.specs.Checkpoints.{Change, block_count}
 use Rattle.checkpoint_stream.specs.declared.rules.Row.{Row}
 use Rattle.checkpoint_stream.specs.declared.rules.Width.TheVariants.{Four, Eight}
 use Rattle.checkpoint_stream.specs.HeadTable.{bytes_of, head_table}
-use Rattle.checkpoint_stream.specs.Text.{text, units, head_numbers, joined, number_units, page_units, sector_units}
+use Rattle.checkpoint_stream.specs.Text.{text, units, units_of_frames, head_numbers, joined, number_units, page_units, sector_units, frame_units}
+use Rattle.arrayvec.specs.ArrayVec.{ArrayVec}
 
 -- one more element is put: its bytes stood at the front of what was to come
 pub advance : (out unit put rest before whole : List ℕ) → out ++ before ≡ whole → before ≡ unit ++ rest → put ≡ out ++ unit →
@@ -121,6 +122,12 @@ assembled start head count pages sectors_count sectors one two three four five e
     e5 ∙ ap (λ (l : List ℕ). l ++ sectors) (e4 ∙ ap (λ (l : List ℕ). l ++ sectors_count) (e3 ∙ ap (λ (l : List ℕ). l ++ pages)
     (e2 ∙ ap (λ (l : List ℕ). l ++ count) (e1 ∙ ap (λ (l : List ℕ). l ++ head) e0)))) ∙ simp append_assoc
 
+-- and the frames after them
+pub assembled-frames : (head pages sectors frames_count frames five six seven : List ℕ) → five ≡ head ++ (pages ++ sectors) →
+    six ≡ five ++ frames_count → seven ≡ six ++ frames → seven ≡ head ++ (pages ++ (sectors ++ (frames_count ++ frames)))
+assembled-frames head pages sectors frames_count frames five six seven e5 e6 e7 =
+    e7 ∙ ap (λ (l : List ℕ). l ++ frames) (e6 ∙ ap (λ (l : List ℕ). l ++ frames_count) e5) ∙ simp append_assoc
+
 -- what is true of each element of a list, element after element
 pub all-seen : {X : Type 0} (P : X → Type 0) (xs : List X) (i : ℕ) → length xs ≤ i → All P (take i xs) → All P xs
 all-seen P xs i h all = subst (All P) (take_all i xs h) all
@@ -134,13 +141,56 @@ both a b c d e f = ap (λ (l : List ℕ). l ++ c) e ∙ ap (λ (l : List ℕ). b
 
 pub text-spelled : (c : Change) →
     text c ≡ joined (number_units head_table (head_numbers c)) ++ ((bytes_of Four (length c.pages) ++ joined (page_units c.pages c.blocks))
-    ++ (bytes_of Four (length c.sectors) ++ joined (sector_units c.sectors)))
+    ++ ((bytes_of Four (length c.sectors) ++ joined (sector_units c.sectors)) ++ joined (units_of_frames c.version c.frames)))
 unfolding text units
 text-spelled c =
     joined-append (number_units head_table (head_numbers c)) _
     ∙ ap (λ (l : List ℕ). joined (number_units head_table (head_numbers c))
     ++ l) (joined-append (bytes_of Four (length c.pages) ∷ page_units c.pages c.blocks) _
-    ∙ both _ _ _ _ (joined-cons _ _) (joined-cons _ _))
+    ∙ both _ _ _ _ (joined-cons _ _) (joined-append (bytes_of Four (length c.sectors) ∷ sector_units c.sectors) _
+    ∙ ap (λ (l : List ℕ). l ++ joined (units_of_frames c.version c.frames)) (joined-cons _ _)))
+
+-- what follows the sector records in version 2
+pub frames-spelled : (version : ℕ) (fs : List (ArrayVec ℕ)) → version ≡ 2 →
+    joined (units_of_frames version fs) ≡ bytes_of Four (length fs) ++ joined (frame_units fs)
+frames-spelled version fs e = ap (λ (n : ℕ). joined (units_of_frames n fs)) e ∙ joined-cons _ _
+
+-- the parts of a checkpoint, put one after another, are its text
+pub encoded : (c : Change) (numbers : List ℕ) (pages : List PageChange) (blocks : List (List ℕ)) (sectors : List SectorChange)
+    (frames : List (ArrayVec ℕ)) (start one two three four five six seven : List ℕ) → numbers ≡ head_numbers c → pages ≡ c.pages →
+    blocks ≡ c.blocks → sectors ≡ c.sectors → frames ≡ c.frames → c.version ≡ 2 → start ≡ [] →
+    one ≡ start ++ joined (number_units head_table numbers) → two ≡ one ++ bytes_of Four (length pages) →
+    three ≡ two ++ joined (page_units pages blocks) → four ≡ three ++ bytes_of Four (length sectors) →
+    five ≡ four ++ joined (sector_units sectors) → six ≡ five ++ bytes_of Four (length frames) → seven ≡ six ++ joined (frame_units frames) →
+    seven ≡ text c
+encoded c numbers pages blocks sectors frames start one two three four five six seven n p b s f version e0 e1 e2 e3 e4 e5 e6 e7 =
+    assembled-frames (joined (number_units head_table numbers)) (bytes_of Four (length pages) ++ joined (page_units pages blocks))
+    (bytes_of Four (length sectors) ++ joined (sector_units sectors)) (bytes_of Four (length frames)) (joined (frame_units frames)) five six
+    seven
+    (assembled start (joined (number_units head_table numbers)) (bytes_of Four (length pages)) (joined (page_units pages blocks))
+    (bytes_of Four (length sectors)) (joined (sector_units sectors)) one two three four five e0 e1 e2 e3 e4 e5) e6 e7
+    ∙ (λ i. joined (number_units head_table (n i)) ++ ((bytes_of Four (length (p i)) ++ joined (page_units (p i) (b i)))
+    ++ ((bytes_of Four (length (s i)) ++ joined (sector_units (s i))) ++ (bytes_of Four (length (f i)) ++ joined (frame_units (f i))))))
+    ∙ ap (λ (l : List ℕ). joined (number_units head_table (head_numbers c)) ++ ((bytes_of Four (length c.pages)
+    ++ joined (page_units c.pages c.blocks)) ++ ((bytes_of Four (length c.sectors) ++ joined (sector_units c.sectors)) ++ l)))
+    (sym (frames-spelled c.version c.frames version))
+    ∙ sym (text-spelled c)
+
+frame-at : (f : ArrayVec ℕ) (fs : List (ArrayVec ℕ)) →
+    joined (frame_units (f ∷ fs)) ≡ bytes_of Four (length f.items) ++ (f.items ++ joined (frame_units fs))
+unfolding joined frame_units
+frame-at f fs = refl
+
+pub frame_units-drop : (fs : List (ArrayVec ℕ)) (i : ℕ) (d : ArrayVec ℕ) → i < length fs →
+    joined (frame_units (drop i fs)) ≡ (bytes_of Four (length (get_or fs i d).items) ++ (get_or fs i d).items)
+    ++ joined (frame_units (drop (i + 1) fs))
+frame_units-drop fs i d h =
+    rw (next fs i d h) (frame-at (get_or fs i d) (drop (i + 1) fs)
+    ∙ sym (append_assoc (bytes_of Four (length (get_or fs i d).items)) (get_or fs i d).items (joined (frame_units (drop (i + 1) fs)))))
+
+pub frame_units-done : (fs : List (ArrayVec ℕ)) (i : ℕ) → length fs ≤ i → joined (frame_units (drop i fs)) ≡ []
+unfolding joined frame_units
+frame_units-done fs i h = rw (drop_all i fs h) refl
 
 -- the bytes of blocks that lie one after another
 pub joined-flat : (us : List (List ℕ)) → flat_map (λ u. u) us ≡ joined us

@@ -11,20 +11,23 @@ use Rattle.checkpoint_stream.specs.declared.rules.Width.TheVariants.{Four}
 use Rattle.checkpoint_stream.specs.declared.place.Place.TheVariants.{Head, PageCount, SectorCount, Whole}
 use Rattle.checkpoint_stream.specs.HeadTable.{head_table, bytes_of}
 use Rattle.checkpoint_stream.specs.Readings.{Reading, begun, judged, pages_due, sectors_due}
-use Rattle.checkpoint_stream.specs.Sound.{change_in, last_after}
+use Rattle.checkpoint_stream.specs.Sound.{change_in, last_after, version_from}
 use Rattle.checkpoint_stream.specs.Taken.{Takes}
-use Rattle.checkpoint_stream.specs.Text.{head_numbers, numbers_from, number_units, page_units, sector_units, units, joined, text}
+use Rattle.checkpoint_stream.specs.Text.{magic, head_numbers, numbers_from, number_units, page_units, sector_units, units_of_frames, units, joined, text}
 use Rattle.checkpoint_stream.specs.Units.{judged_all, AreUnits}
 use Rattle.checkpoint_stream.specs.Widths.{HasWidths, StateFits}
 use Rattle.checkpoint_stream.specs.ReadBack.{ReadsBack}
 use Rattle.checkpoint_stream.proofs.Feeding.{Takes-nothing, Takes-append, Takes-unit}
-use Rattle.checkpoint_stream.proofs.Leading.{standing, Leads, Leads-append}
+use Rattle.checkpoint_stream.proofs.Leading.{standing, framed, Leads, Leads-append}
 use Rattle.checkpoint_stream.proofs.HeadRead.{numbers-lead}
 use Rattle.checkpoint_stream.proofs.HeadFits.{IsWord, head-passes, head-fits}
 use Rattle.checkpoint_stream.proofs.StateRead.{state-back, numbers-back}
-use Rattle.checkpoint_stream.proofs.RecordsRead.{FitsMask, IsBlockWide, IsSectorWide, Rises-end, PagesLeft}
+use Rattle.checkpoint_stream.proofs.RecordsRead.{end_of, FitsMask, IsBlockWide, IsSectorWide, Rises-end, PagesLeft}
 use Rattle.checkpoint_stream.proofs.RecordsRead.{page_count-step, sector_count-step, pages-lead}
 use Rattle.checkpoint_stream.proofs.SectorsRead.{SectorsLeft, sectors-lead}
+use Rattle.checkpoint_stream.proofs.FramesRead.{ending-lead}
+use Rattle.std.proofs.lemmas.Bool.Decides.{nat_tests}
+use Rattle.std.proofs.Common.{Bool, true, false, ◌==◌, if◌then◌else◌}
 
 -- units are taken whole, and read as these units
 pub units-taken : (r : Reading) (us : List (List ℕ)) → AreUnits r us → Takes r (joined us) (judged_all r us)
@@ -40,7 +43,7 @@ some-rows = lit< tt
 
 -- the reading that a whole checkpoint is
 abbrev pub whole : Change → ℕ → Reading
-whole c = standing c.shape Whole 80 (head_numbers c) (last_after 0 (head_numbers c)) c.pages c.blocks c.sectors
+whole c = framed c.shape Whole 80 (head_numbers c) (last_after 0 (head_numbers c)) c.pages c.blocks c.sectors c.frames
 
 page-count : (c : Change) → IsCanonical c → length c.pages ≤ c.shape.pages
 page-count c h = omega (arith, Rises-end 0 c.shape.pages _ h.pages, length-map c.pages (λ (p : PageChange). p.page))
@@ -80,18 +83,35 @@ units-lead c h w =
     (standing c.shape SectorCount 80 head before c.pages c.blocks [])
     = pages-lead c.shape head before 0 [] c.pages [] c.blocks (pages-left c h w) in
     let sector_counted : Leads (standing c.shape SectorCount 80 head before c.pages c.blocks [])
-    (bytes_of Four (length c.sectors) ∷ []) (standing c.shape (sectors_due (length c.sectors) 0) 80 head before c.pages c.blocks [])
+    (bytes_of Four (length c.sectors) ∷ []) (standing c.shape (sectors_due (end_of head) (length c.sectors) 0) 80 head before c.pages c.blocks [])
     = sector_count-step c.shape head before (length c.sectors) c.pages c.blocks (sector-count c h) sectors_small in
-    let sectors : Leads (standing c.shape (sectors_due (length c.sectors) 0) 80 head before c.pages c.blocks [])
-    (sector_units c.sectors) (whole c)
+    let sectors : Leads (standing c.shape (sectors_due (end_of head) (length c.sectors) 0) 80 head before c.pages c.blocks [])
+    (sector_units c.sectors) (standing c.shape (end_of head) 80 head before c.pages c.blocks c.sectors)
     = sectors-lead c.shape head before 0 c.pages c.blocks [] c.sectors (sectors-left c h w) in
+    let ending : Leads (standing c.shape (end_of head) 80 head before c.pages c.blocks c.sectors)
+    (units_of_frames c.version c.frames) (whole c)
+    = ending-lead c before (c.version == 1) h refl in
     Leads-append _ _ _ _ _ heads (Leads-append _ _ _ _ _ (Leads-append _ _ _ _ _ page_counted pages)
-    (Leads-append _ _ _ _ _ sector_counted sectors))
+    (Leads-append _ _ _ _ _ (Leads-append _ _ _ _ _ sector_counted sectors) ending))
+
+version-back : (version : ℕ) → 1 ≤ version → version ≤ 2 → version_from (magic version) ≡ version
+version-back version least last =
+    elim (version == 1) as (λ (old : Bool). (version == 1) ≡ old → version_from (if old then 0x31434d52 else 0x32434d52) ≡ version) [
+      | true ↦ λ (e : (version == 1) ≡ true). one version e
+      | false ↦ λ (e : (version == 1) ≡ false). two version least last e
+    ] refl
+  where
+    one : (n : ℕ) → (n == 1) ≡ true → 1 ≡ n
+    one n e = grind (arith, nat_tests)
+
+    two : (n : ℕ) → 1 ≤ n → n ≤ 2 → (n == 1) ≡ false → 2 ≡ n
+    two n h k e = grind (arith, nat_tests)
 
 pub whole-change : (c : Change) (o : ℕ) → IsCanonical c → HasWidths c → change_in (whole c o) ≡ c
 unfolding change_in head_numbers
 whole-change c o h w =
-    ap (λ (s : MachineState). change_of c.shape c.generation c.number s c.pages c.blocks c.sectors) (state-back c h w.state)
+    (λ i. change_of (version-back c.version h.first_version h.last_version i) c.shape c.generation c.number (state-back c h w.state i) c.pages
+    c.blocks c.sectors c.frames)
 
 -- the text is taken whole, and with it the reading is the checkpoint's
 pub text-taken : (c : Change) (o : ℕ) → IsCanonical c → HasWidths c →

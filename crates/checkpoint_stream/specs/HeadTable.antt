@@ -1,4 +1,4 @@
--- The head of a checkpoint, version 1: its numbers in turn, each little end first, with the bytes that it takes and what it may be. The
+-- The head of a checkpoint, the same in versions 1 and 2: its numbers in turn, each little end first, with the bytes that it takes and what it may be. The
 -- format is this project's own. What a CSR can hold, a device's status and a queue's size are rules of the machine (the Privileged ISA,
 -- "Control and Status Registers"; virtio 1.1, 2.1 and 2.6), and stand in its specs.
 use Rattle.std.specs.Prelude.{ℕ, ◌%◌, ◌==◌, Bool, true, ◌&&◌, ◌||◌, nat_le, List, [], ◌∷◌, bit_and, slice_index_or}
@@ -37,7 +37,7 @@ twenty_eight_registers rest =
 
 unfoldable pub head_table : List Row
 head_table =
-    -- "RMC1", the shape, the generation from 1 on, the number, both below 2^62, and the steps
+    -- "RMC1" or "RMC2", the shape, the generation from 1 on, the number, both below 2^62, and the steps
     number Four Magic ∷ number Four Pages ∷ number Four Sectors
     ∷ number Eight (Within 1 0x3fffffffffffffff) ∷ number Eight (Within 0 0x3fffffffffffffff) ∷ number Eight Any
     -- x1 to x31
@@ -53,7 +53,7 @@ head_table =
 -- whether a number may stand where its rule is this, after the number before it
 unfoldable pub passes : Shape → Rule → ℕ → ℕ → Bool
 passes shape Any before n = true
-passes shape Magic before n = n == 0x31434d52
+passes shape Magic before n = n == 0x31434d52 || n == 0x32434d52
 passes shape Pages before n = n == shape.pages
 passes shape Sectors before n = n == shape.sectors
 passes shape (Within least most) before n = nat_le least n && nat_le n most

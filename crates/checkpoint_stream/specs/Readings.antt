@@ -9,13 +9,14 @@ use Rattle.checkpoint_stream.specs.declared.rules.Row.{Row}
 use Rattle.checkpoint_stream.specs.declared.rules.Width.TheVariants.{Four, Eight}
 use Rattle.checkpoint_stream.specs.declared.place.Place.{Place}
 use Rattle.checkpoint_stream.specs.declared.place.Place.TheVariants.{Head, PageCount, PageIndex, PageMask, Block, SectorCount}
-use Rattle.checkpoint_stream.specs.declared.place.Place.TheVariants.{SectorIndex, SectorBytes, Whole, Failed}
+use Rattle.checkpoint_stream.specs.declared.place.Place.TheVariants.{SectorIndex, SectorBytes, FrameCount, FrameLength, FrameBytes}
+use Rattle.checkpoint_stream.specs.declared.place.Place.TheVariants.{Whole, Failed}
+use Rattle.arrayvec.specs.ArrayVec.{ArrayVec}
 use Rattle.checkpoint_stream.specs.HeadTable.{passes, number_of, bytes_in, row_at}
 
 -- the reader's shape; how many bytes its whole units had since it was made, modulo 2^64; the unit that comes next; and of the
--- checkpoint that is being read how many numbers of the head are known, these numbers with the last of them, the pages, blocks and
--- sectors, and the bytes of the unit
--- that has begun
+-- checkpoint that is being read how many numbers of the head are known, these numbers with the last of them, the pages, blocks,
+-- sectors and frames, and the bytes of the unit that has begun
 pub record Reading : Type 0 where
   pub shape : Shape
   pub offset : ℕ
@@ -26,6 +27,7 @@ pub record Reading : Type 0 where
   pub pages : List PageChange
   pub blocks : List (List ℕ)
   pub sectors : List SectorChange
+  pub frames : List (ArrayVec ℕ)
   pub partial : List ℕ
 
 -- at the first byte of a checkpoint
@@ -40,6 +42,7 @@ begun shape offset = record {
   pages = [];
   blocks = [];
   sectors = [];
+  frames = [];
   partial = [];
 }
 
@@ -64,6 +67,7 @@ width_at Head known = bytes_in (row_at known).width
 width_at (PageMask left page) known = 8
 width_at (Block left page more) known = 64
 width_at (SectorBytes left sector) known = 512
+width_at (FrameBytes left len) known = len
 width_at Whole known = 1
 width_at (Failed at) known = 1
 width_at _ known = 4
@@ -79,14 +83,18 @@ moved r width place = record r { offset = (r.offset + width) % 2 ^ 64; place = p
 abbrev pub failed : Reading → Reading
 failed r = record r { place = Failed r.offset; partial = [] }
 
--- what comes where this many page records, or sector records, are still due
+-- what comes where this many page records, sector records or frames are still due; where no sector records are, the place that follows them
 abbrev pub pages_due : ℕ → ℕ → Place
 pages_due zero from = SectorCount
 pages_due (suc left) from = PageIndex left from
 
-abbrev pub sectors_due : ℕ → ℕ → Place
-sectors_due zero from = Whole
-sectors_due (suc left) from = SectorIndex left from
+abbrev pub sectors_due : Place → ℕ → ℕ → Place
+sectors_due end zero from = end
+sectors_due end (suc left) from = SectorIndex left from
+
+abbrev pub frames_due : ℕ → Place
+frames_due zero = Whole
+frames_due (suc left) = FrameLength left
 
 abbrev pub after_block : ℕ → ℕ → ℕ → Place
 after_block left page zero = pages_due left (page + 1)
@@ -99,6 +107,18 @@ after_number known = if known == 80 then PageCount else Head
 -- the number of the checkpoint, the head's fifth, is 0
 abbrev pub is_full : Reading → Bool
 is_full r = nat_lt 4 r.known && slice_index r.head 4 == 0
+
+-- the checkpoint is of version 2: the head's first number is "RMC2"
+abbrev pub has_frames : Reading → Bool
+has_frames r = nat_lt 0 r.known && slice_index r.head 0 == 0x32434d52
+
+-- what comes after the sector records: nothing in version 1, the frames in version 2
+abbrev pub after_sectors : Reading → Place
+after_sectors r = if has_frames r then FrameCount else Whole
+
+-- how many frames there may be: as many as an outbox holds, and none in a full checkpoint
+abbrev pub most_frames : Reading → ℕ
+most_frames r = if is_full r then 0 else 256
 
 -- what each unit makes of the reading, by the place where it stands, where it keeps its rule and where it doesn't
 unfoldable pub kept_number : Bool → Reading → Row → ℕ → Reading
@@ -135,7 +155,7 @@ abbrev pub block_judged : Reading → ℕ → ℕ → ℕ → List ℕ → Readi
 block_judged r left page more block = kept_block (is_zero block) r left page more block
 
 abbrev pub sector_count_judged : Reading → ℕ → Reading
-sector_count_judged r n = moved_if (nat_le n r.shape.sectors) r (sectors_due n 0)
+sector_count_judged r n = moved_if (nat_le n r.shape.sectors) r (sectors_due (after_sectors r) n 0)
 
 abbrev pub sector_index_judged : Reading → ℕ → ℕ → ℕ → Reading
 sector_index_judged r left from n = moved_if (nat_le from n && nat_lt n r.shape.sectors) r (SectorBytes left n)
@@ -143,10 +163,22 @@ sector_index_judged r left from n = moved_if (nat_le from n && nat_lt n r.shape.
 unfoldable pub kept_sector : Bool → Reading → ℕ → ℕ → List ℕ → Reading
 kept_sector true r left sector bytes = failed r
 kept_sector false r left sector bytes =
-    moved (record r { sectors = r.sectors ++ (record { sector = sector; bytes = bytes }) ∷ [] }) 512 (sectors_due left (sector + 1))
+    moved (record r { sectors = r.sectors ++ (record { sector = sector; bytes = bytes }) ∷ [] }) 512
+    (sectors_due (after_sectors r) left (sector + 1))
 
 abbrev pub sector_judged : Reading → ℕ → ℕ → List ℕ → Reading
 sector_judged r left sector bytes = kept_sector (is_full r && is_zero bytes) r left sector bytes
+
+abbrev pub frame_count_judged : Reading → ℕ → Reading
+frame_count_judged r n = moved_if (nat_le n (most_frames r)) r (frames_due n)
+
+-- a frame has 14 to 1514 bytes
+abbrev pub frame_length_judged : Reading → ℕ → ℕ → Reading
+frame_length_judged r left n = moved_if (nat_le 14 n && nat_le n 1514) r (FrameBytes left n)
+
+-- whatever they are
+unfoldable pub frame_judged : Reading → ℕ → ℕ → List ℕ → Reading
+frame_judged r left len frame = moved (record r { frames = r.frames ++ (record { items = frame }) ∷ [] }) len (frames_due left)
 
 abbrev pub judged_at : Place → Reading → List ℕ → Reading
 judged_at Head r unit =
@@ -158,6 +190,9 @@ judged_at (Block left page more) r unit = block_judged r left page more unit
 judged_at SectorCount r unit = sector_count_judged r (number_of Four unit)
 judged_at (SectorIndex left from) r unit = sector_index_judged r left from (number_of Four unit)
 judged_at (SectorBytes left sector) r unit = sector_judged r left sector unit
+judged_at FrameCount r unit = frame_count_judged r (number_of Four unit)
+judged_at (FrameLength left) r unit = frame_length_judged r left (number_of Four unit)
+judged_at (FrameBytes left len) r unit = frame_judged r left len unit
 judged_at Whole r unit = r
 judged_at (Failed at) r unit = r
 

@@ -1,5 +1,5 @@
 -- What is true of each reading: what was read so far is the front of a canonical checkpoint.
-use Rattle.std.specs.Prelude.{◌≡◌, ◌≢◌, ℕ, ◌+◌, ◌%◌, ◌^◌, ◌<◌, ◌≤◌, ◌==◌, IsTrue, not, List, [], ◌∷◌, length, map, All, slice_index}
+use Rattle.std.specs.Prelude.{◌≡◌, ◌≢◌, ℕ, ◌+◌, ◌%◌, ◌^◌, ◌<◌, ◌≤◌, ◌==◌, if◌then◌else◌, true, false, IsTrue, not, List, [], ◌∷◌, length, map, All, slice_index}
 use Rattle.guest_machine.specs.Dirty.{Rises}
 use Rattle.guest_machine.specs.declared.shapes.Shape.{Shape}
 use Rattle.guest_machine.specs.declared.machine_state.MachineState.{MachineState}
@@ -11,10 +11,12 @@ use Rattle.epoch_snapshot.specs.Checkpoints.{Change, change_of, block_count}
 use Rattle.checkpoint_stream.specs.declared.rules.Row.{Row}
 use Rattle.checkpoint_stream.specs.declared.place.Place.{Place}
 use Rattle.checkpoint_stream.specs.declared.place.Place.TheVariants.{Head, PageCount, PageIndex, PageMask, Block, SectorCount}
-use Rattle.checkpoint_stream.specs.declared.place.Place.TheVariants.{SectorIndex, SectorBytes, Whole, Failed}
+use Rattle.checkpoint_stream.specs.declared.place.Place.TheVariants.{SectorIndex, SectorBytes, FrameCount, FrameLength, FrameBytes}
+use Rattle.checkpoint_stream.specs.declared.place.Place.TheVariants.{Whole, Failed}
+use Rattle.net_device.specs.Frames.{IsFrame}
 use Rattle.checkpoint_stream.specs.HeadTable.{head_table, passes}
 use Rattle.checkpoint_stream.specs.Text.{numbers_from}
-use Rattle.checkpoint_stream.specs.Readings.{Reading}
+use Rattle.checkpoint_stream.specs.Readings.{Reading, is_full, has_frames}
 
 -- a queue and a device, by the index of their first number in the head
 abbrev pub queue_from : List ℕ → ℕ → Queue
@@ -60,9 +62,14 @@ state_from xs = record {
   disk = device_from xs 67 (queue_from xs 73 ∷ boot_queue ∷ []);
 }
 
+-- the version that the first number says
+abbrev pub version_from : ℕ → ℕ
+version_from magic = if magic == 0x32434d52 then 2 else 1
+
 -- the checkpoint that was read
 unfoldable pub change_in : Reading → Change
-change_in r = change_of r.shape (slice_index r.head 3) (slice_index r.head 4) (state_from r.head) r.pages r.blocks r.sectors
+change_in r = change_of (version_from (slice_index r.head 0)) r.shape (slice_index r.head 3) (slice_index r.head 4) (state_from r.head)
+    r.pages r.blocks r.sectors r.frames
 
 -- the last of some numbers, or the one before them
 abbrev pub last_after : ℕ → List ℕ → ℕ
@@ -109,9 +116,29 @@ StandsAt (Block left page more) r = (page < r.shape.pages) × HasRecords r (page
 StandsAt SectorCount r = HasRecords r r.shape.pages 0 0
 StandsAt (SectorIndex left from) r = HasRecords r r.shape.pages 0 from
 StandsAt (SectorBytes left sector) r = (sector < r.shape.sectors) × HasRecords r r.shape.pages 0 sector
+StandsAt FrameCount r = HasRecords r r.shape.pages 0 r.shape.sectors
+StandsAt (FrameLength left) r = HasRecords r r.shape.pages 0 r.shape.sectors
+StandsAt (FrameBytes left len) r = HasRecords r r.shape.pages 0 r.shape.sectors
 StandsAt Whole r = HasRecords r r.shape.pages 0 r.shape.sectors
 StandsAt (Failed at) r = Unit {0}
+
+-- the frames that were read, where so many are still due
+pub record HasFrames (r : Reading) (due : ℕ) : Type 0 where
+  pub each : All IsFrame r.frames
+  pub count : length r.frames + due ≤ 256
+  pub full : is_full r ≡ true → length r.frames + due ≡ 0
+  pub old : has_frames r ≡ false → length r.frames + due ≡ 0
+
+-- by the unit that comes next
+abbrev pub FramesAt : Place → Reading → Type 0
+FramesAt FrameCount r = (has_frames r ≡ true) × (r.frames ≡ [])
+FramesAt (FrameLength left) r = HasFrames r (left + 1)
+FramesAt (FrameBytes left len) r = ((14 ≤ len) × (len ≤ 1514)) × HasFrames r (left + 1)
+FramesAt Whole r = HasFrames r 0
+FramesAt (Failed at) r = Unit {0}
+FramesAt _ r = r.frames ≡ []
 
 pub record IsSound (r : Reading) : Type 0 where
   pub head : IsHead r
   pub place : StandsAt r.place r
+  pub frames : FramesAt r.place r

@@ -1,8 +1,10 @@
 -- What bytes make of a reading, and how it goes back to where it was.
-use Rattle.std.specs.Prelude.{◌≡◌, ◌<◌, ◌≤◌, ℕ, List, ◌++◌, length, take}
+use Rattle.std.specs.Prelude.{◌≡◌, ◌<◌, ◌≤◌, ◌+◌, ℕ, Bool, true, false, List, [], ◌++◌, length, take}
 use Rattle.epoch_snapshot.specs.declared.changes.PageChange.{PageChange}
 use Rattle.epoch_snapshot.specs.declared.changes.SectorChange.{SectorChange}
-use Rattle.checkpoint_stream.specs.declared.place.Place.TheVariants.{Head}
+use Rattle.arrayvec.specs.ArrayVec.{ArrayVec}
+use Rattle.checkpoint_stream.specs.declared.place.Place.{Place}
+use Rattle.checkpoint_stream.specs.declared.place.Place.TheVariants.{Head, FrameLength, FrameBytes, Whole, Failed}
 use Rattle.checkpoint_stream.specs.declared.marks.Mark.{Mark}
 use Rattle.checkpoint_stream.specs.Readings.{Reading, fed, taken, width_at}
 
@@ -17,6 +19,29 @@ pub record Extends (old new : Reading) : Type 0 where
   pub pages : (more : List PageChange) × (new.pages ≡ old.pages ++ more)
   pub blocks : (more : List (List ℕ)) × (new.blocks ≡ old.blocks ++ more)
   pub sectors : (more : List SectorChange) × (new.sectors ≡ old.sectors ++ more)
+  pub frames : (more : List (ArrayVec ℕ)) × (new.frames ≡ old.frames ++ more)
+
+-- a frame comes next: its length, or its bytes
+abbrev pub is_at_frame : Place → Bool
+is_at_frame (FrameLength left) = true
+is_at_frame (FrameBytes left len) = true
+is_at_frame _ = false
+
+-- the places of the frames that are due are reserved: nothing that comes next takes memory
+abbrev pub has_room : Place → Bool
+has_room (FrameLength left) = true
+has_room (FrameBytes left len) = true
+has_room Whole = true
+has_room (Failed at) = true
+has_room _ = false
+
+-- how many bytes of the unit that has begun lie in the buffer, which are they of a frame, which has a place of its own; and the frames that
+-- are due have their places reserved
+abbrev pub HasPlaces : Place → ℕ → List ℕ → ℕ → ℕ → Type 0
+HasPlaces (FrameLength left) filled part frames places = (part ≡ []) × (frames + (left + 1) ≤ places)
+HasPlaces (FrameBytes left len) filled part frames places =
+    (filled ≡ 0) × (length part < len) × (len ≤ 1514) × (frames + (left + 1) ≤ places)
+HasPlaces _ filled part frames places = part ≡ []
 
 -- the reading that a mark keeps, of which a later one has the parts
 abbrev pub marked : Mark → Reading → Reading
@@ -30,6 +55,7 @@ marked m r = record {
   pages = take m.pages r.pages;
   blocks = take m.blocks r.blocks;
   sectors = take m.sectors r.sectors;
+  frames = take m.frames r.frames;
   partial = take m.filled m.buffer;
 }
 
@@ -39,3 +65,4 @@ pub record HasRoom (m : Mark) : Type 0 where
   pub head : m.place ≡ Head → m.known < 80
   pub filled : m.filled ≤ 512
   pub begun : m.filled < width_at m.place m.known
+  pub place : is_at_frame m.place ≡ false

@@ -1,12 +1,14 @@
--- The text of a checkpoint, version 1: its units in turn. The head's numbers by the table of the head; the count of the page records, and
--- each with its index, its mask and its blocks; the count of the sector records, and each with its index and its bytes.
-use Rattle.std.specs.Prelude.{ℕ, suc, zero, ◌+◌, List, [], ◌∷◌, ◌++◌, length, take, drop, if◌then◌else◌, slice_index, count_ones}
+-- The text of a checkpoint, of its version: its units in turn. The head's numbers by the table of the head; the count of the page records,
+-- and each with its index, its mask and its blocks; the count of the sector records, and each with its index and its bytes; and in version 2
+-- the count of the frames, and each with its length and its bytes.
+use Rattle.std.specs.Prelude.{ℕ, suc, zero, ◌+◌, ◌==◌, List, [], ◌∷◌, ◌++◌, length, take, drop, if◌then◌else◌, slice_index, count_ones}
 use Rattle.virtqueue.specs.declared.rings.Queue.{Queue}
 use Rattle.virtio_mmio.specs.declared.states.DeviceState.{DeviceState}
 use Rattle.virtio_mmio.specs.States.{queue_at}
 use Rattle.epoch_snapshot.specs.declared.changes.PageChange.{PageChange}
 use Rattle.epoch_snapshot.specs.declared.changes.SectorChange.{SectorChange}
 use Rattle.epoch_snapshot.specs.Checkpoints.{Change}
+use Rattle.arrayvec.specs.ArrayVec.{ArrayVec}
 use Rattle.checkpoint_stream.specs.declared.rules.Row.{Row}
 use Rattle.checkpoint_stream.specs.declared.rules.Width.TheVariants.{Four, Eight}
 use Rattle.checkpoint_stream.specs.HeadTable.{head_table, bytes_of}
@@ -25,10 +27,14 @@ abbrev pub numbers_from : List ℕ → ℕ → ℕ → List ℕ → List ℕ
 numbers_from xs i zero rest = rest
 numbers_from xs i (suc n) rest = slice_index xs i ∷ numbers_from xs (i + 1) n rest
 
+-- the first number, by the version: "RMC1" or "RMC2"
+abbrev pub magic : ℕ → ℕ
+magic version = if version == 1 then 0x31434d52 else 0x32434d52
+
 -- the numbers of the head, in the order of its table
 unfoldable pub head_numbers : Change → List ℕ
 head_numbers c =
-    0x31434d52 ∷ c.shape.pages ∷ c.shape.sectors ∷ c.generation ∷ c.number ∷ c.state.steps
+    magic c.version ∷ c.shape.pages ∷ c.shape.sectors ∷ c.generation ∷ c.number ∷ c.state.steps
     ∷ numbers_from c.state.registers 0 31 (c.state.pc
     ∷ c.state.csrs.mstatus ∷ c.state.csrs.mie ∷ c.state.csrs.mtvec ∷ c.state.csrs.mscratch
     ∷ c.state.csrs.mepc ∷ c.state.csrs.mcause ∷ c.state.csrs.mtval
@@ -55,11 +61,20 @@ unfoldable pub sector_units : List SectorChange → List (List ℕ)
 sector_units [] = []
 sector_units (s ∷ ss) = bytes_of Four s.sector ∷ s.bytes ∷ sector_units ss
 
+unfoldable pub frame_units : List (ArrayVec ℕ) → List (List ℕ)
+frame_units [] = []
+frame_units (f ∷ fs) = bytes_of Four (length f.items) ∷ f.items ∷ frame_units fs
+
+-- what follows the sector records
+abbrev pub units_of_frames : ℕ → List (ArrayVec ℕ) → List (List ℕ)
+units_of_frames version frames = if version == 1 then [] else bytes_of Four (length frames) ∷ frame_units frames
+
 -- all units of a checkpoint
 unfoldable pub units : Change → List (List ℕ)
 units c =
     number_units head_table (head_numbers c)
-    ++ ((bytes_of Four (length c.pages) ∷ page_units c.pages c.blocks) ++ (bytes_of Four (length c.sectors) ∷ sector_units c.sectors))
+    ++ ((bytes_of Four (length c.pages) ∷ page_units c.pages c.blocks)
+    ++ ((bytes_of Four (length c.sectors) ∷ sector_units c.sectors) ++ units_of_frames c.version c.frames))
 
 -- lists one after another
 unfoldable pub joined : List (List ℕ) → List ℕ

@@ -5,26 +5,27 @@ ghost use Rattle.epoch_snapshot.specs.Checkpoints.{block_count};
 ghost use Rattle.checkpoint_stream.specs.ReadBack.{ReadsBack};
 ghost use Rattle.checkpoint_stream.specs.Widths.{HasWidths};
 ghost use Rattle.checkpoint_stream.specs.HeadTable.{bytes_of, head_table};
-ghost use Rattle.checkpoint_stream.specs.Text.{head_numbers, number_units, page_units, sector_units, joined, text};
+ghost use Rattle.checkpoint_stream.specs.Text.{magic, head_numbers, number_units, page_units, sector_units, frame_units, joined, text};
 ghost use Rattle.checkpoint_stream.specs.declared.rules.Width.TheVariants.{Four, Eight};
 
 use crate::errors::StreamError;
-use crate::rules::{HEAD_NUMBERS, MAGIC_NUMBER, Width, head_row};
+use crate::rules::{HEAD_NUMBERS, NEW_MAGIC, OLD_MAGIC, Width, head_row};
 use crate::widths::{block_widths, state_widths};
 use epoch_snapshot::{BLOCK_BYTES, Block, Checkpoint, PageChange, SectorChange};
-use guest_machine::SECTOR_BYTES;
+use guest_machine::{Frame, SECTOR_BYTES};
 use std::alloc::{AllocError, Global};
 
-/// The bytes of a checkpoint without records: the head and the two counts.
-const LEAST_BYTES: usize = 532;
+/// The bytes of a checkpoint without records and frames: the head and the three counts.
+const LEAST_BYTES: usize = 536;
 
-/// The text of a checkpoint: its one spelling as bytes, in memory reserved once to its exact size.
+/// The text of a checkpoint of version 2, as the caller knows: its one spelling as bytes, in memory reserved once to its exact size.
 ///
 /// # Errors
 ///
 /// [`StreamError::NoMemory`] where that growth was really refused.
 #[tactic(auto, unfolding(crate::specs::Text::text, crate::specs::Text::units))]
 pub fn encode(alloc: Global, checkpoint: &Checkpoint) -> Result<Vec<u8>, StreamError>
+    requires { checkpoint.now.version ≡ 2 }
     ensures text { IfOk result (λ bytes. bytes.items ≡ text checkpoint.now) }
     ensures read { IfOk result (λ bytes. ReadsBack checkpoint.now bytes.items) }
     ensures widths { OnOk result (HasWidths checkpoint.now) }
@@ -32,22 +33,25 @@ pub fn encode(alloc: Global, checkpoint: &Checkpoint) -> Result<Vec<u8>, StreamE
     let pages = checkpoint.pages();
     let blocks = checkpoint.blocks();
     let sectors = checkpoint.sectors();
+    let frames = checkpoint.frames();
     let mut out = Vec::with_capacity(
         alloc,
-        size_of_text(pages.len(), blocks.len(), sectors.len()),
+        size_of_text(pages.len(), blocks.len(), sectors.len(), frames),
     )?;
     put_head(&mut out, &numbers(checkpoint))?;
     put(&mut out, Width::Four, pages.len() as u64)?;
     put_pages(&mut out, pages, blocks)?;
     put(&mut out, Width::Four, sectors.len() as u64)?;
     put_sectors(&mut out, sectors)?;
+    put(&mut out, Width::Four, frames.len() as u64)?;
+    put_frames(&mut out, frames)?;
     state_widths(*checkpoint.state());
     block_widths(blocks);
     Ok(out)
 }
 
-/// How many bytes a checkpoint has with so many pages, blocks and sectors.
-fn size_of_text(pages: usize, blocks: usize, sectors: usize) -> usize {
+/// How many bytes a checkpoint has with so many pages, blocks and sectors, and with these frames.
+fn size_of_text(pages: usize, blocks: usize, sectors: usize, frames: &[Frame]) -> usize {
     let of_pages = pages
         .saturating_mul(12)
         .saturating_add(blocks.saturating_mul(BLOCK_BYTES));
@@ -55,6 +59,16 @@ fn size_of_text(pages: usize, blocks: usize, sectors: usize) -> usize {
     LEAST_BYTES
         .saturating_add(of_pages)
         .saturating_add(of_sectors)
+        .saturating_add(size_of_frames(frames))
+}
+
+/// How many bytes frames take, each with its length.
+fn size_of_frames(frames: &[Frame]) -> usize {
+    let mut size = 0usize;
+    for frame in frames {
+        size = size.saturating_add(4).saturating_add(frame.len());
+    }
+    size
 }
 
 /// A number at the end, little end first.
@@ -137,6 +151,33 @@ fn put_sector(out: &mut Vec<u8>, sector: &SectorChange) -> Result<(), AllocError
     Ok(())
 }
 
+/// The frames at the end, each after its length.
+fn put_frames(out: &mut Vec<u8>, frames: &[Frame]) -> Result<(), AllocError>
+    ensures { OnOk result (out.new.items ≡ out.old.items ++ joined (frame_units frames.now)) }
+{
+    for frame in frames {
+        put_frame(out, frame)?;
+    }
+    Ok(())
+}
+
+/// A frame at the end, after its length.
+#[tactic(auto, using(std::proofs::Common::append_assoc))]
+fn put_frame(out: &mut Vec<u8>, frame: &Frame) -> Result<(), AllocError>
+    ensures { OnOk result (out.new.items ≡ out.old.items ++ (bytes_of Four (length frame.now.items) ++ frame.now.items)) }
+{
+    put(out, Width::Four, frame.len() as u64)?;
+    out.extend_from_slice(frame.as_slice())?;
+    Ok(())
+}
+
+/// The first number.
+fn magic(version: u32) -> u64
+    ensures { result ≡ magic version }
+{
+    if version == 1 { OLD_MAGIC } else { NEW_MAGIC }
+}
+
 /// The head's numbers.
 #[tactic(auto, unfolding(crate::specs::Text::head_numbers))]
 fn numbers(c: &Checkpoint) -> [u64; HEAD_NUMBERS]
@@ -149,7 +190,7 @@ fn numbers(c: &Checkpoint) -> [u64; HEAD_NUMBERS]
     let (first, second, third) = (&net.queues[0], &net.queues[1], &disk.queues[0]);
     #[rattlefmt::skip]
     let numbers = [
-        MAGIC_NUMBER, u64::from(shape.pages), u64::from(shape.sectors), c.generation(), c.number(), s.steps,
+        magic(c.version()), u64::from(shape.pages), u64::from(shape.sectors), c.generation(), c.number(), s.steps,
         x[0], x[1], x[2], x[3], x[4], x[5], x[6], x[7], x[8], x[9], x[10], x[11], x[12], x[13], x[14], x[15],
         x[16], x[17], x[18], x[19], x[20], x[21], x[22], x[23], x[24], x[25], x[26], x[27], x[28], x[29], x[30],
         s.pc, s.csrs.mstatus, s.csrs.mie, s.csrs.mtvec, s.csrs.mscratch, s.csrs.mepc, s.csrs.mcause, s.csrs.mtval,

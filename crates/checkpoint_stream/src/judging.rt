@@ -1,37 +1,41 @@
 //! What one more unit makes of what a reader has read.
 
-ghost use Rattle.std.specs.Prelude.{◌≡◌, ◌<◌, true, false, length, OnOk, OnErr};
-ghost use Rattle.checkpoint_stream.specs.Readings.{width_of, is_full, failed};
+ghost use Rattle.std.specs.Prelude.{◌≡◌, ◌≢◌, ℕ, ◌<◌, true, false, length, OnOk, OnErr};
+ghost use Rattle.checkpoint_stream.specs.Taken.{has_room, is_at_frame};
+ghost use Rattle.checkpoint_stream.specs.Readings.{width_of, is_full, after_sectors, failed};
 ghost use Rattle.checkpoint_stream.specs.Readings.{moved, moved_if, kept_number, kept_mask, kept_block, kept_sector, number_judged};
 ghost use Rattle.checkpoint_stream.specs.Readings.{mask_judged, block_judged, sector_judged, judged};
 ghost use Rattle.checkpoint_stream.specs.HeadTable.{row_at};
 ghost use Rattle.epoch_snapshot.specs.Blocks.{is_zero};
-ghost use Rattle.checkpoint_stream.specs.declared.place.Place.TheVariants.{Head};
+ghost use Rattle.checkpoint_stream.specs.declared.place.Place.TheVariants.{Head, FrameBytes};
 
 use crate::parts::Parts;
 use crate::place::{Place, after_block, after_number, pages_due, sectors_due};
-use crate::rules::{Row, Width, head_row, number_of, passes, u32_of};
+use crate::rules::{NEW_MAGIC, Row, Width, head_row, number_of, passes, u32_of};
 use epoch_snapshot::{BLOCK_BYTES, PageChange, SectorChange};
 use guest_machine::SECTOR_BYTES;
 use std::alloc::AllocError;
 
 impl Parts {
     /// The unit that comes next breaks its rule.
-    fn fail(&mut self)
+    pub(crate) fn fail(&mut self)
         ensures { self.new ≡ failed self.old }
     {
         self.place = Place::Failed { at: self.offset };
         self.filled = 0;
+        self.part.clear();
     }
 
     /// A unit of `width` bytes was taken whole, and `place` comes next.
     fn move_on(&mut self, width: u64, place: Place)
-        requires { place ≡ Head → self.old.known < 80 }
+        requires head { place ≡ Head → self.old.known < 80 }
+        requires early { is_at_frame place ≡ false }
         ensures { self.new ≡ moved self.old width place }
     {
         self.offset = self.offset.wrapping_add(width);
         self.place = place;
         self.filled = 0;
+        self.part.clear();
     }
 
     /// Keeps a number of the head.
@@ -46,6 +50,7 @@ impl Parts {
         self.offset = self.offset.wrapping_add(row.width.bytes() as u64);
         self.place = after_number(self.known);
         self.filled = 0;
+        self.part.clear();
     }
 
     /// Takes a number of the head.
@@ -64,7 +69,8 @@ impl Parts {
     #[tactic(auto, unfolding(crate::specs::Readings::moved_if))]
     /// Takes an index, or a count, and goes on to `place` where it keeps its rule.
     fn move_if(&mut self, keeps: bool, place: Place)
-        requires { place ≡ Head → self.old.known < 80 }
+        requires head { place ≡ Head → self.old.known < 80 }
+        requires early { is_at_frame place ≡ false }
         ensures { self.new ≡ moved_if keeps self.old place }
     {
         if keeps {
@@ -97,6 +103,7 @@ impl Parts {
         self.offset = self.offset.wrapping_add(8);
         self.place = Place::Block { left, page, more };
         self.filled = 0;
+        self.part.clear();
         Ok(())
     }
 
@@ -132,14 +139,27 @@ impl Parts {
         self.offset = self.offset.wrapping_add(64);
         self.place = after_block(left, page, more);
         self.filled = 0;
+        self.part.clear();
         Ok(())
     }
 
     /// Whether the checkpoint that is being read is a full one.
-    fn is_full(&self) -> bool
+    pub(crate) fn is_full(&self) -> bool
         ensures { result ≡ is_full self.now }
     {
         self.known > 4 && self.head[4] == 0
+    }
+
+    /// What comes after the sector records: the frames in version 2.
+    fn after_sectors(&self) -> Place
+        ensures value { result ≡ after_sectors self.now }
+        ensures early { is_at_frame result ≡ false }
+    {
+        if self.known > 0 && self.head[0] == NEW_MAGIC {
+            Place::FrameCount
+        } else {
+            Place::Whole
+        }
     }
 
     /// Takes the bytes of a sector.
@@ -166,17 +186,20 @@ impl Parts {
         bytes.copy_from_slice(unit);
         self.sectors.push(SectorChange { sector, bytes })?;
         self.offset = self.offset.wrapping_add(512);
-        self.place = sectors_due(left, u64::from(sector) + 1);
+        self.place = sectors_due(self.after_sectors(), left, u64::from(sector) + 1);
         self.filled = 0;
+        self.part.clear();
         Ok(())
     }
 
-    /// Takes the unit that comes next, which is whole.
+    /// Takes the unit that comes next, which is whole and isn't a frame's bytes.
     #[tactic(auto, unfolding(crate::specs::Readings::judged))]
     pub(crate) fn judge(&mut self, unit: &[u8]) -> Result<(), AllocError>
-        requires { length unit.now ≡ width_of self.old }
+        requires whole { length unit.now ≡ width_of self.old }
+        requires other { (left len : ℕ) → self.old.place ≢ FrameBytes left len }
         ensures ok { OnOk result (self.new ≡ judged self.old unit.now) }
         ensures err { OnErr result (self.new ≡ self.old) }
+        ensures no_room { OnErr result (has_room self.old.place ≡ false) }
     {
         match self.place {
             Place::Head => {
@@ -198,7 +221,10 @@ impl Parts {
             Place::Block { left, page, more } => return self.take_block(left, page, more, unit),
             Place::SectorCount => {
                 let n = u32_of(unit);
-                self.move_if(n <= self.shape.sectors, sectors_due(n, 0));
+                self.move_if(
+                    n <= self.shape.sectors,
+                    sectors_due(self.after_sectors(), n, 0),
+                );
             }
             Place::SectorIndex { left, from } => {
                 let sector = u32_of(unit);
@@ -206,6 +232,9 @@ impl Parts {
                 self.move_if(keeps, Place::SectorBytes { left, sector });
             }
             Place::SectorBytes { left, sector } => return self.take_sector(left, sector, unit),
+            Place::FrameCount => return self.take_frame_count(u32_of(unit)),
+            Place::FrameLength { left } => self.take_frame_length(left, u32_of(unit)),
+            Place::FrameBytes { .. } => unreachable!(),
             Place::Whole | Place::Failed { .. } => {}
         }
         Ok(())

@@ -6,6 +6,7 @@
 
 mod encoding;
 mod errors;
+mod frames;
 mod judging;
 mod laws;
 mod marks;
@@ -17,6 +18,8 @@ mod runs;
 mod states;
 #[cfg(test)]
 mod tests;
+#[cfg(test)]
+mod version_tests;
 mod widths;
 
 pub use encoding::encode;

@@ -4,7 +4,7 @@ use crate::place::Place;
 use crate::rules::HEAD_NUMBERS;
 use guest_machine::SECTOR_BYTES;
 
-/// All that a reader keeps but the lists of parts, and how long these are.
+/// All that a reader keeps but the lists of parts and the bytes of a frame that has begun, and how long the lists are.
 #[derive(Clone, Copy)]
 pub struct Mark {
     pub offset: u64,
@@ -15,6 +15,7 @@ pub struct Mark {
     pub pages: usize,
     pub blocks: usize,
     pub sectors: usize,
+    pub frames: usize,
     pub filled: usize,
     pub buffer: [u8; SECTOR_BYTES],
 }

@@ -1,18 +1,18 @@
 //! What a reader has read of a checkpoint.
 
-ghost use Rattle.std.specs.Prelude.{◌≡◌, ◌<◌, ◌≤◌, false, length, take, IfOk, OnOk, OnErr};
+ghost use Rattle.std.specs.Prelude.{◌≡◌, ◌≢◌, ℕ, ◌<◌, ◌≤◌, false, length, take, IfOk, OnOk, OnErr};
 ghost use Rattle.checkpoint_stream.specs.Readings.{Reading, fed, taken, failure_at, is_whole, begun, width_of, is_closed};
-ghost use Rattle.checkpoint_stream.specs.declared.place.Place.TheVariants.{Head};
-ghost use Rattle.checkpoint_stream.specs.Taken.{Takes, Extends, HasRoom, marked};
+ghost use Rattle.checkpoint_stream.specs.declared.place.Place.TheVariants.{Head, FrameBytes};
+ghost use Rattle.checkpoint_stream.specs.Taken.{Takes, Extends, HasRoom, has_room, is_at_frame, marked};
 ghost use Rattle.checkpoint_stream.specs.Sound.{change_in};
 ghost use Rattle.epoch_snapshot.specs.Checkpoints.{IsCanonical};
 
 use crate::marks::Mark;
 use crate::place::Place;
 use crate::rules::{HEAD_NUMBERS, head_row};
-use crate::states::state_from;
+use crate::states::{state_from, version_from};
 use epoch_snapshot::{Block, Checkpoint, PageChange, SectorChange};
-use guest_machine::{SECTOR_BYTES, Shape};
+use guest_machine::{Frame, SECTOR_BYTES, Shape};
 use std::alloc::{AllocError, Global};
 use std::marker::Model;
 use std::mem;
@@ -29,13 +29,17 @@ pub(crate) struct Parts {
     pub(crate) pages: Vec<PageChange>,
     pub(crate) blocks: Vec<Block>,
     pub(crate) sectors: Vec<SectorChange>,
+    pub(crate) frames: Vec<Frame>,
     pub(crate) filled: usize,
     pub(crate) buffer: [u8; SECTOR_BYTES],
+    /// The frame that has begun, whose bytes don't fit in the buffer.
+    pub(crate) part: Frame,
 }
 
 impl Model for Parts {
-    ghost use Rattle.std.specs.Prelude.{◌≡◌, ◌<◌, ◌≤◌, take};
+    ghost use Rattle.std.specs.Prelude.{◌≡◌, ◌<◌, ◌≤◌, ◌++◌, take, length, vec_capacity};
     ghost use Rattle.checkpoint_stream.specs.Readings.{Reading, width_at};
+    ghost use Rattle.checkpoint_stream.specs.Taken.{HasPlaces};
     ghost use Rattle.checkpoint_stream.specs.declared.place.Place.TheVariants.{Head};
 
     ghost Value = { Reading };
@@ -50,10 +54,12 @@ impl Model for Parts {
       pages = p.pages.items;
       blocks = p.blocks.items;
       sectors = p.sectors.items;
-      partial = take p.filled p.buffer;
+      frames = p.frames.items;
+      partial = take p.filled p.buffer ++ p.part.items;
     } };
 
-    ghost invariant = { λ p. (p.known ≤ 80) × (p.place ≡ Head → p.known < 80) × (p.filled ≤ 512) × (p.filled < width_at p.place p.known) };
+    ghost invariant = { λ p. (p.known ≤ 80) × (p.place ≡ Head → p.known < 80) × (p.filled ≤ 512) × (p.filled < width_at p.place p.known)
+        × HasPlaces p.place p.filled p.part.items (length p.frames.items) (vec_capacity p.frames) };
 }
 
 impl Parts {
@@ -71,13 +77,16 @@ impl Parts {
             pages: Vec::new(alloc),
             blocks: Vec::new(alloc),
             sectors: Vec::new(alloc),
+            frames: Vec::new(alloc),
             filled: 0,
             buffer: [0; SECTOR_BYTES],
+            part: Frame::new(),
         }
     }
 
-    /// How many bytes the unit has that comes next; 1 where none does.
+    /// How many bytes the unit has that comes next, which isn't a frame's; 1 where none does.
     fn width(&self) -> usize
+        requires { (left len : ℕ) → self.now.place ≢ FrameBytes left len }
         ensures value { result ≡ width_of self.now }
         ensures bound { result ≤ 512 }
     {
@@ -90,7 +99,10 @@ impl Parts {
             Place::PageCount
             | Place::PageIndex { .. }
             | Place::SectorCount
-            | Place::SectorIndex { .. } => 4,
+            | Place::SectorIndex { .. }
+            | Place::FrameCount
+            | Place::FrameLength { .. } => 4,
+            Place::FrameBytes { .. } => unreachable!(),
         }
     }
 
@@ -123,14 +135,17 @@ impl Parts {
         let pages = mem::replace(&mut self.pages, Vec::new(alloc));
         let blocks = mem::replace(&mut self.blocks, Vec::new(alloc));
         let sectors = mem::replace(&mut self.sectors, Vec::new(alloc));
+        let frames = mem::replace(&mut self.frames, Vec::new(alloc));
+        let version = version_from(self.head[0]);
         let state = state_from(&self.head);
         let (generation, number) = (self.head[3], self.head[4]);
         self.place = Place::Head;
         self.known = 0;
         self.before = 0;
         self.filled = 0;
+        self.part.clear();
         Checkpoint::from_parts(
-            self.shape, generation, number, state, pages, blocks, sectors,
+            version, self.shape, generation, number, state, pages, blocks, sectors, frames,
         )
     }
 
@@ -159,6 +174,7 @@ impl Parts {
         ensures read { OnOk result (self.new ≡ fed self.old piece.now) }
         ensures count { IfOk result (λ n. n ≡ taken self.old piece.now) }
         ensures err { OnErr result (Extends self.old self.new) }
+        ensures no_room { OnErr result (has_room self.old.place ≡ false) }
     {
         let mut at = self.take_numbers(piece);
         while at < piece.len() && !self.is_closed() {
@@ -175,10 +191,11 @@ impl Parts {
         matches!(self.place, Place::Whole | Place::Failed { .. })
     }
 
-    /// Where the reader stands.
+    /// Where the reader stands. From a frame on it never goes back.
     fn mark(&self) -> Mark
-        ensures room { HasRoom result }
-        ensures back { (later : Reading) → Extends self.now later → marked result later ≡ self.now }
+        ensures room { has_room self.now.place ≡ false → HasRoom result }
+        ensures back { has_room self.now.place ≡ false
+            → (later : Reading) → Extends self.now later → marked result later ≡ self.now }
     {
         Mark {
             offset: self.offset,
@@ -189,6 +206,7 @@ impl Parts {
             pages: self.pages.len(),
             blocks: self.blocks.len(),
             sectors: self.sectors.len(),
+            frames: self.frames.len(),
             filled: self.filled,
             buffer: self.buffer,
         }
@@ -207,8 +225,10 @@ impl Parts {
         self.pages.truncate(mark.pages);
         self.blocks.truncate(mark.blocks);
         self.sectors.truncate(mark.sectors);
+        self.frames.truncate(mark.frames);
         self.filled = mark.filled;
         self.buffer = mark.buffer;
+        self.part.clear();
     }
 
     /// Takes bytes of the unit that comes next, and the unit where they complete it. Answers how many: at least one.
@@ -218,7 +238,11 @@ impl Parts {
         ensures count { IfOk result (λ n. (0 < n) × (n ≤ length rest.now)) }
         ensures read { IfOk result (λ n. Takes self.old (take n rest.now) self.new) }
         ensures err { OnErr result (self.new ≡ self.old) }
+        ensures no_room { OnErr result (has_room self.old.place ≡ false) }
     {
+        if let Place::FrameBytes { left, len } = self.place {
+            return Ok(self.take_frame(left, len, rest));
+        }
         let width = self.width();
         if self.filled == 0 && width <= rest.len() {
             self.judge(&rest[..width])?;
@@ -233,9 +257,11 @@ impl Parts {
         requires some { 0 < length rest.now }
         requires width { width ≡ width_of self.old }
         requires bound { width ≤ 512 }
+        requires other { (left len : ℕ) → self.old.place ≢ FrameBytes left len }
         ensures count { IfOk result (λ n. (0 < n) × (n ≤ length rest.now)) }
         ensures read { IfOk result (λ n. Takes self.old (take n rest.now) self.new) }
         ensures err { OnErr result (self.new ≡ self.old) }
+        ensures no_room { OnErr result (has_room self.old.place ≡ false) }
     {
         let filled = self.filled;
         let taken = (width - filled).min(rest.len());

@@ -33,7 +33,7 @@ impl Width {
 pub enum Rule {
     /// Anything.
     Any,
-    /// The bytes `RMC1`.
+    /// The bytes `RMC1` or `RMC2`.
     Magic,
     /// As many pages as the reader's shape has.
     Pages,
@@ -60,8 +60,11 @@ pub struct Row {
     pub rule: Rule,
 }
 
-/// The bytes `RMC1` as a number, little end first.
-pub(crate) const MAGIC_NUMBER: u64 = 0x3143_4d52;
+/// The bytes `RMC1` as a number, little end first: version 1.
+pub(crate) const OLD_MAGIC: u64 = 0x3143_4d52;
+
+/// The bytes `RMC2` as a number: version 2.
+pub(crate) const NEW_MAGIC: u64 = 0x3243_4d52;
 
 /// How many numbers the head has.
 pub(crate) const HEAD_NUMBERS: usize = 80;
@@ -194,7 +197,7 @@ pub(crate) fn passes(shape: Shape, rule: Rule, before: u64, n: u64) -> bool
 {
     match rule {
         Rule::Any => true,
-        Rule::Magic => n == MAGIC_NUMBER,
+        Rule::Magic => n == OLD_MAGIC || n == NEW_MAGIC,
         Rule::Pages => n == u64::from(shape.pages),
         Rule::Sectors => n == u64::from(shape.sectors),
         Rule::Within { least, most } => least <= n && n <= most,

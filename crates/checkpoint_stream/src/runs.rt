@@ -1,8 +1,8 @@
 //! Units of one kind that are taken one after another: the head's numbers, and the blocks of a page.
 
-ghost use Rattle.std.specs.Prelude.{◌≡◌, ◌<◌, ◌≤◌, [], length, take, IfOk, IsTrue, OnErr};
+ghost use Rattle.std.specs.Prelude.{◌≡◌, ◌<◌, ◌≤◌, false, [], length, take, IfOk, IsTrue, OnErr};
 ghost use Rattle.checkpoint_stream.specs.declared.place.Place.TheVariants.{Head};
-ghost use Rattle.checkpoint_stream.specs.Taken.{Takes, Extends};
+ghost use Rattle.checkpoint_stream.specs.Taken.{Takes, Extends, has_room};
 
 use crate::parts::Parts;
 use crate::place::Place;
@@ -53,6 +53,7 @@ impl Parts {
         ensures count { IfOk result (λ n. n ≤ length rest.now) }
         ensures read { IfOk result (λ n. Takes self.old (take n rest.now) self.new) }
         ensures err { OnErr result (Extends self.old self.new) }
+        ensures no_room { OnErr result (has_room self.old.place ≡ false) }
     {
         let mut at = 0;
         while rest.len() - at >= BLOCK_BYTES && self.filled == 0 {

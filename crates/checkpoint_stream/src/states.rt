@@ -1,13 +1,20 @@
-//! The state that the head's numbers are.
+//! The version and the state that the head's numbers are.
 
 ghost use Rattle.std.specs.Prelude.{◌≡◌, ◌+◌, ◌≤◌, ◌%◌, ◌^◌};
-ghost use Rattle.checkpoint_stream.specs.Sound.{state_from, queue_from, device_from};
+ghost use Rattle.checkpoint_stream.specs.Sound.{version_from, state_from, queue_from, device_from};
 
-use crate::rules::HEAD_NUMBERS;
+use crate::rules::{HEAD_NUMBERS, NEW_MAGIC};
 use guest_machine::MachineState;
 use mtraps::CsrValues;
 use virtio_mmio::DeviceState;
 use virtqueue::Queue;
+
+/// The version that the first number says.
+pub(crate) fn version_from(magic: u64) -> u32
+    ensures { result ≡ version_from magic }
+{
+    if magic == NEW_MAGIC { 2 } else { 1 }
+}
 
 /// The state that these numbers are.
 pub(crate) fn state_from(h: &[u64; HEAD_NUMBERS]) -> MachineState

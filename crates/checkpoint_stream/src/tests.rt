@@ -1,13 +1,15 @@
-//! The bytes of the beacon's checkpoint, written by guests/checkpoints.py, and what becomes of them where one is set otherwise.
+//! The bytes of the beacon's checkpoint, written by oracle/checkpoints.py, and what becomes of them where one is set otherwise.
+
+mod hostile;
 
 use super::*;
 use guest_machine::Shape;
 use std::alloc::Global;
 use std::test::*;
 
-/// The checkpoint of the beacon after 22 steps, on 2 pages and 1 sector.
+/// The checkpoint of the beacon after 22 steps, on 2 pages and 1 sector, of version 1.
 #[rattlefmt::skip]
-static BEACON: [u8; 608] = [
+pub(crate) static BEACON: [u8; 608] = [
     0x52, 0x4d, 0x43, 0x31, 2, 0, 0, 0, 1, 0, 0, 0, 1, 0, 0, 0, 0, 0, 0, 0, 1, 0, 0, 0, 0, 0, 0, 0, 0x16, 0, 0, 0, 0,
     0, 0, 0, 0, 0, 0, 0, 0, 0, 0, 0, 0, 0, 0, 0, 0, 0, 0, 0, 0, 0, 0, 0, 0, 0, 0, 0, 0, 0, 0, 0, 0, 0, 0, 0, 0, 0x10,
     0, 0x10, 0, 0, 0, 0, 1, 0, 0, 0, 0, 0, 0, 0, 0xf, 0, 0, 0, 0, 0, 0, 0, 0xb, 0, 0, 0, 0, 0, 0, 0, 0, 0, 0, 0, 0,
@@ -28,7 +30,7 @@ static BEACON: [u8; 608] = [
 ];
 
 /// Bytes to be set in the beacon's checkpoint, and the offset of the unit that then breaks its rule.
-static MALFORMATIONS: [(usize, u8, u64); 14] = [
+pub(crate) static MALFORMATIONS: [(usize, u8, u64); 14] = [
     (0, 0, 0),
     (4, 3, 4),
     (12, 0, 12),
@@ -45,7 +47,7 @@ static MALFORMATIONS: [(usize, u8, u64); 14] = [
     (604, 2, 604),
 ];
 
-fn shape() -> Shape {
+pub(crate) fn shape() -> Shape {
     Shape {
         pages: 2,
         sectors: 1,
@@ -53,7 +55,7 @@ fn shape() -> Shape {
 }
 
 /// Feeds bytes in pieces of so many, over each checkpoint that comes whole. Answers how many came, and the offset of a malformation.
-fn read(alloc: Global, bytes: &[u8], size: usize) -> Result<(u64, Option<u64>), Fail> {
+pub(crate) fn read(alloc: Global, bytes: &[u8], size: usize) -> Result<(u64, Option<u64>), Fail> {
     let mut reader = Reader::new(alloc, shape());
     let mut found = 0u64;
     for piece in bytes.chunks(size.max(1)) {
@@ -81,7 +83,7 @@ fn read(alloc: Global, bytes: &[u8], size: usize) -> Result<(u64, Option<u64>), 
 }
 
 #[test]
-fn the_beacon_is_read_and_written(rt: HostRuntime) -> Result<(), Fail> {
+fn the_old_beacon_is_read(rt: HostRuntime) -> Result<(), Fail> {
     let mut reader = Reader::new(rt.alloc(), shape());
     let front = reader.feed(&BEACON[..607]).ok().ok_or("the front is read")?;
     assert_eq!(rt; front, 607);
@@ -98,6 +100,7 @@ fn the_beacon_is_read_and_written(rt: HostRuntime) -> Result<(), Fail> {
     assert_eq!(rt; more, 0);
     let checkpoint = reader.next().ok_or("a checkpoint stands")?;
     assert!(rt; reader.next().is_none());
+    assert_eq!(rt; checkpoint.version(), 1);
     assert_eq!(rt; checkpoint.generation(), 1);
     assert_eq!(rt; checkpoint.number(), 1);
     assert_eq!(rt; checkpoint.state().steps, 22);
@@ -106,10 +109,7 @@ fn the_beacon_is_read_and_written(rt: HostRuntime) -> Result<(), Fail> {
     assert_eq!(rt; checkpoint.pages().len(), 1);
     assert_eq!(rt; checkpoint.blocks().len(), 1);
     assert_eq!(rt; checkpoint.sectors().len(), 0);
-    let text = encode(rt.alloc(), &checkpoint)
-        .ok()
-        .ok_or("there is memory")?;
-    assert_eq!(rt; text.as_slice(), BEACON.as_slice());
+    assert_eq!(rt; checkpoint.frames().len(), 0);
     Ok(())
 }
 

@@ -1,8 +1,10 @@
 -- A cut is canonical, and its image is the machine's guest.
-use Rattle.std.proofs.Common.{◌≡◌, ℕ, ◌*◌, ◌^◌, ◌<◌, ◌≤◌, ◌==◌, cond, not, false, List, length, replicate, map, sym, ap, ◌∙◌, arith, subst}
+use Rattle.std.proofs.Common.{◌≡◌, ℕ, ◌*◌, ◌^◌, ◌<◌, ◌≤◌, ◌==◌, cond, not, false, List, [], length, replicate, map, sym, ap, ◌∙◌, arith, subst}
 use Rattle.std.specs.Prelude.{All, IsTrue}
 use Rattle.std.proofs.lemmas.List.{length-replicate}
 use Rattle.std.proofs.lemmas.Bool.{eq-eqb, ne_eqb}
+use Rattle.arrayvec.specs.ArrayVec.{ArrayVec}
+use Rattle.net_device.specs.Frames.{IsFrame}
 use Rattle.guest_machine.specs.Dirty.{Rises}
 use Rattle.guest_machine.specs.Guest.{Guest, sector_count}
 use Rattle.guest_machine.specs.MachineStates.{IsMachineState, state_of, with_state}
@@ -19,14 +21,18 @@ use Rattle.epoch_snapshot.proofs.CanonicalLemmas.{Rises-changed, masks-changed, 
 use Rattle.epoch_snapshot.proofs.SectorLemmas.{AgreesOff, AgreesOff-zero, with_sectors-changed, numbers-changed, Rises-used}
 
 -- what a cut keeps of a machine is canonical
-pub IsCanonical-cut : (old listed : List ℕ) (m : State) (generation number : ℕ) (c : Change) → IsCut old listed m generation number c →
+pub IsCanonical-cut : (old listed : List ℕ) (sent : List (ArrayVec ℕ)) (m : State) (generation number : ℕ) (c : Change) →
+    IsCut old listed sent m generation number c →
     1 ≤ generation → generation < 2 ^ 62 → number < 2 ^ 62 → IsMachineState c.state → Rises 0 c.shape.sectors listed →
-    (c.number ≡ 0 → All (λ (s : SectorChange). IsTrue (not (is_zero s.bytes))) (changed_sectors m.guest.sectors listed)) → IsCanonical c
-IsCanonical-cut old listed m generation number c cut least most below state rises full =
+    (c.number ≡ 0 → All (λ (s : SectorChange). IsTrue (not (is_zero s.bytes))) (changed_sectors m.guest.sectors listed)) →
+    All IsFrame sent → length sent ≤ 256 → (c.number ≡ 0 → sent ≡ []) → IsCanonical c
+IsCanonical-cut old listed sent m generation number c cut least most below state rises full frames few none =
     let new = m.guest.ram in
     let n = c.shape.pages in
     let blocks = cut.blocks ∙ ap (changed_blocks old new) cut.pages in
     record {
+      first_version = omega (arith, cut.version);
+      last_version = omega (arith, cut.version);
       first_generation = omega (arith, cut.generation);
       last_generation = omega (arith, cut.generation);
       last_number = omega (arith, cut.number);
@@ -39,16 +45,20 @@ IsCanonical-cut old listed m generation number c cut least most below state rise
           ∙ numbers-changed m.guest.sectors listed)) rises;
       full_sectors = λ z. subst (λ (ss : List SectorChange). All (λ (s : SectorChange). IsTrue (not (is_zero s.bytes))) ss)
           (sym cut.sectors) (full z);
+      frames = subst (All IsFrame) (sym cut.frames) frames;
+      frame_count = omega (arith, ap length cut.frames, few);
+      old_frames = λ one. absurd (omega (arith, one, cut.version));
+      full_frames = λ z. cut.frames ∙ none z;
     }
 
 -- the image of a cut over a base that it stands over
-image_over : (old listed : List ℕ) (m : State) (generation number : ℕ) (c : Change) (base : Guest) →
-    IsCut old listed m generation number c →
+image_over : (old listed : List ℕ) (sent : List (ArrayVec ℕ)) (m : State) (generation number : ℕ) (c : Change) (base : Guest) →
+    IsCut old listed sent m generation number c →
     length old ≡ length m.guest.ram → base_ram c base.ram ≡ old → length (base_sectors c base.sectors) ≡ length m.guest.sectors →
     Rises 0 c.shape.sectors listed → AgreesOff c.shape.sectors listed (base_sectors c base.sectors) m.guest.sectors →
     with_state m.guest (state_of m.guest) ≡ m.guest → image_of c base ≡ m.guest
 unfolding image_of
-image_over old listed m generation number c base cut same ram size rises agree whole =
+image_over old listed sent m generation number c base cut same ram size rises agree whole =
     let new = m.guest.ram in
     let memory : with_blocks (base_ram c base.ram) (block_numbers c.pages) c.blocks ≡ new
     = ap (λ r. with_blocks r (block_numbers c.pages) c.blocks) ram
@@ -67,7 +77,7 @@ count_is : (bytes : List ℕ) (n : ℕ) → length bytes ≡ 512 * n → sector_
 count_is bytes n e = omega (arith, e)
 
 -- a delta over its base
-pub image-delta : (m : State) (generation number : ℕ) (c : Change) (base : Guest) → IsCut m.settled m.dirty m generation number c →
+pub image-delta : (m : State) (generation number : ℕ) (c : Change) (base : Guest) → IsCut m.settled m.dirty m.outbox m generation number c →
     1 ≤ number →
     length m.settled ≡ length m.guest.ram → Rises 0 c.shape.sectors m.dirty → with_state m.guest (state_of m.guest) ≡ m.guest →
     IsBase m base → image_of c base ≡ m.guest
@@ -78,12 +88,12 @@ image-delta m generation number c base cut some same rises whole on =
     let disk : base_sectors c base.sectors ≡ base.sectors = ap (λ b. cond b (replicate {A = ℕ} (512 * c.shape.sectors) 0) base.sectors)
     delta in
     let count = count_is m.guest.sectors c.shape.sectors cut.sectors_size in
-    image_over m.settled m.dirty m generation number c base cut same (ram ∙ on.ram) (ap length disk ∙ on.size) rises
+    image_over m.settled m.dirty m.outbox m generation number c base cut same (ram ∙ on.ram) (ap length disk ∙ on.size) rises
     (λ i within off. ap (λ b. sector_of b i) disk ∙ on.sectors i (omega (arith, count)) off) whole
 
 -- a full one over any guest
 pub image-full : (m : State) (generation : ℕ) (c : Change) (base : Guest) →
-    IsCut (replicate (length m.guest.ram) 0) (used_sectors m.guest.sectors c.shape.sectors) m generation 0 c →
+    IsCut (replicate (length m.guest.ram) 0) (used_sectors m.guest.sectors c.shape.sectors) [] m generation 0 c →
     with_state m.guest (state_of m.guest) ≡ m.guest → image_of c base ≡ m.guest
 image-full m generation c base cut whole =
     let full = eq-eqb c.number 0 cut.number in
@@ -91,7 +101,7 @@ image-full m generation c base cut whole =
     = ap (λ b. cond b (replicate {A = ℕ} (4096 * c.shape.pages) 0) base.ram) full ∙ ap (λ n. replicate {A = ℕ} n 0) (sym cut.pages_size) in
     let disk : base_sectors c base.sectors ≡ replicate (512 * c.shape.sectors) 0 =
     ap (λ b. cond b (replicate {A = ℕ} (512 * c.shape.sectors) 0) base.sectors) full in
-    image_over (replicate (length m.guest.ram) 0) (used_sectors m.guest.sectors c.shape.sectors) m generation 0 c base cut
+    image_over (replicate (length m.guest.ram) 0) (used_sectors m.guest.sectors c.shape.sectors) [] m generation 0 c base cut
     (length-replicate (length m.guest.ram) 0) ram (ap length disk ∙ length-replicate (512 * c.shape.sectors) 0 ∙ sym cut.sectors_size)
     (Rises-used m.guest.sectors c.shape.sectors)
     (subst (λ (b : List ℕ). AgreesOff c.shape.sectors (used_sectors m.guest.sectors c.shape.sectors) b m.guest.sectors) (sym disk)

@@ -6,6 +6,7 @@ use Rattle.guest_machine.specs.MachineStates.{state_of}
 use Rattle.guest_machine.specs.Guest.{State}
 use Rattle.epoch_snapshot.specs.declared.memory.Over.{Over}
 use Rattle.epoch_snapshot.specs.declared.memory.Over.TheVariants.{Settled, Zero}
+use Rattle.arrayvec.specs.ArrayVec.{ArrayVec}
 use Rattle.epoch_snapshot.specs.Checkpoints.{Change}
 use Rattle.epoch_snapshot.specs.Cuts.{sector_of, changed_pages, changed_blocks, changed_sectors}
 
@@ -14,9 +15,10 @@ abbrev pub old_ram : Over → State → List ℕ
 old_ram Settled m = m.settled
 old_ram Zero m = replicate (length m.guest.ram) 0
 
--- a checkpoint of a machine records exactly the pages and blocks that differ from an old memory, and exactly these sectors;
--- g is its generation and n its number
-pub record IsCut (old : List ℕ) (listed : List ℕ) (m : State) (g n : ℕ) (c : Change) : Type 0 where
+-- a checkpoint of a machine, of version 2, records exactly the pages and blocks that differ from an old memory, exactly these sectors, and
+-- exactly these frames, in order; g is its generation and n its number
+pub record IsCut (old : List ℕ) (listed : List ℕ) (sent : List (ArrayVec ℕ)) (m : State) (g n : ℕ) (c : Change) : Type 0 where
+  pub version : c.version ≡ 2
   pub pages_size : length m.guest.ram ≡ 4096 * c.shape.pages
   pub sectors_size : length m.guest.sectors ≡ 512 * c.shape.sectors
   pub generation : c.generation ≡ g
@@ -25,6 +27,7 @@ pub record IsCut (old : List ℕ) (listed : List ℕ) (m : State) (g n : ℕ) (c
   pub pages : c.pages ≡ changed_pages old m.guest.ram c.shape.pages
   pub blocks : c.blocks ≡ changed_blocks old m.guest.ram c.pages
   pub sectors : c.sectors ≡ changed_sectors m.guest.sectors listed
+  pub frames : c.frames ≡ sent
 
 -- a guest that a machine's delta stands over: its memory is the machine's at the last settle, and its disk has as many bytes as
 -- the machine's, and the same ones at each sector that isn't listed as written

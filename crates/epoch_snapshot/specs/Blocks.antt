@@ -4,6 +4,7 @@ use Rattle.std.specs.List.{range_with_len, list_all, list_any}
 use Rattle.std.specs.Simd.Lanes.{zip2, mask_l}
 use Rattle.std.specs.Int.{bit_at}
 use Rattle.epoch_snapshot.specs.declared.changes.PageChange.{PageChange}
+use Rattle.epoch_snapshot.specs.Limits.{block_bytes}
 
 -- every byte is 0
 abbrev pub is_zero : List ℕ → Bool
@@ -28,7 +29,7 @@ differ xs ys = list_any (λ d. d) (zip2 (λ x y. not (x == y)) xs ys)
 
 -- a block of memory, by its number
 abbrev pub block_in : List ℕ → ℕ → List ℕ
-block_in ram n = take 64 (drop (64 * n) ram)
+block_in ram n = take block_bytes (drop (block_bytes * n) ram)
 
 -- a block differs in two memories
 abbrev pub block_differs : List ℕ → List ℕ → ℕ → Bool

@@ -1,5 +1,5 @@
--- What a checkpoint states of a machine.
-use Rattle.std.specs.Prelude.{◌≡◌, ◌≢◌, ℕ, ◌^◌, ◌<◌, ◌≤◌, IsTrue, not, List, length, map, All, count_ones}
+-- What a checkpoint states of a machine, and of what its guest sent.
+use Rattle.std.specs.Prelude.{◌≡◌, ◌≢◌, ℕ, ◌^◌, ◌<◌, ◌≤◌, IsTrue, not, List, [], length, map, All, count_ones}
 use Rattle.std.specs.List.{sum_by}
 use Rattle.guest_machine.specs.Dirty.{Rises}
 use Rattle.guest_machine.specs.declared.shapes.Shape.{Shape}
@@ -7,12 +7,15 @@ use Rattle.guest_machine.specs.declared.machine_state.MachineState.{MachineState
 use Rattle.guest_machine.specs.MachineStates.{IsMachineState}
 use Rattle.epoch_snapshot.specs.declared.changes.PageChange.{PageChange}
 use Rattle.epoch_snapshot.specs.declared.changes.SectorChange.{SectorChange}
+use Rattle.net_device.specs.Frames.{IsFrame}
+use Rattle.arrayvec.specs.ArrayVec.{ArrayVec}
 use Rattle.epoch_snapshot.specs.Blocks.{is_zero}
 
--- the machine's shape, the pair's generation and the checkpoint's number in it, where 0 is a full one; the machine's state; which
--- blocks of which pages change, and these blocks, the old XOR the new, page by page and in each from the lowest on; and the new
--- bytes of the sectors that change
+-- the version of the form that it is written in; the machine's shape, the pair's generation and the checkpoint's number in it, where 0 is
+-- a full one; the machine's state; which blocks of which pages change, and these blocks, the old XOR the new, page by page and in each from
+-- the lowest on; the new bytes of the sectors that change; and the frames that the guest sent since the checkpoint before, in order
 pub record Change : Type 0 where
+  pub version : ℕ
   pub shape : Shape
   pub generation : ℕ
   pub number : ℕ
@@ -20,9 +23,11 @@ pub record Change : Type 0 where
   pub pages : List PageChange
   pub blocks : List (List ℕ)
   pub sectors : List SectorChange
+  pub frames : List (ArrayVec ℕ)
 
-abbrev pub change_of : Shape → ℕ → ℕ → MachineState → List PageChange → List (List ℕ) → List SectorChange → Change
-change_of shape generation number state pages blocks sectors = record {
+abbrev pub change_of : ℕ → Shape → ℕ → ℕ → MachineState → List PageChange → List (List ℕ) → List SectorChange → List (ArrayVec ℕ) → Change
+change_of version shape generation number state pages blocks sectors frames = record {
+  version = version;
   shape = shape;
   generation = generation;
   number = number;
@@ -30,14 +35,18 @@ change_of shape generation number state pages blocks sectors = record {
   pages = pages;
   blocks = blocks;
   sectors = sectors;
+  frames = frames;
 }
 
 -- how many blocks pages change
 abbrev pub block_count : List PageChange → ℕ
 block_count pages = sum_by (λ p. count_ones p.mask) pages
 
--- what is true of each checkpoint, so that one change has one of them. Numbers stay below 2^62, as in all of the pair's protocol
+-- what is true of each checkpoint, so that one change has one of them. Numbers stay below 2^62, as in all of the pair's protocol. As many
+-- frames as an outbox holds belong to a delta of version 2; version 1 has none, and a full checkpoint stands for no epoch
 pub record IsCanonical (c : Change) : Type 0 where
+  pub first_version : 1 ≤ c.version
+  pub last_version : c.version ≤ 2
   pub first_generation : 1 ≤ c.generation
   pub last_generation : c.generation < 2 ^ 62
   pub last_number : c.number < 2 ^ 62
@@ -48,3 +57,7 @@ pub record IsCanonical (c : Change) : Type 0 where
   pub blocks : All (λ b. IsTrue (not (is_zero b))) c.blocks
   pub sectors : Rises 0 c.shape.sectors (map (λ s. s.sector) c.sectors)
   pub full_sectors : c.number ≡ 0 → All (λ s. IsTrue (not (is_zero s.bytes))) c.sectors
+  pub frames : All IsFrame c.frames
+  pub frame_count : length c.frames ≤ 256
+  pub old_frames : c.version ≡ 1 → c.frames ≡ []
+  pub full_frames : c.number ≡ 0 → c.frames ≡ []

@@ -3,4 +3,5 @@ pub mod Blocks
 pub mod Checkpoints
 pub mod Cuts
 pub mod Images
+pub mod Limits
 pub mod Refusals

@@ -2,16 +2,18 @@
 ghost use Rattle.std.specs.Prelude.{◌≡◌, ◌==◌, ◌↔◌, IsTrue};
 
 use crate::changes::{Block, PageChange, SectorChange};
-use guest_machine::{MachineState, Shape};
+use guest_machine::{Frame, MachineState, Shape};
 use std::marker::Model;
 
-/// What a cut keeps of a machine: of a delta, what changed since the last cut, and of a full one, all.
+/// What a cut keeps of a machine: of a delta, what changed since the last cut and what the guest sent since, and of a full one, all.
 ///
-/// It is canonical by its type. The generation is 1 to 2^62 - 1, the number below 2^62, and 0 says that it is full. The state meets
+/// It is canonical by its type. The version is 1 or 2. The generation is 1 to 2^62 - 1, the number below 2^62, and 0 says that it is full. The state meets
 /// the rules of a machine's state. The pages rise and are the machine's, and each changes at least one block; the blocks stand page
-/// by page, in each from the lowest on, and none is all zero. The sectors rise and are the disk's; in a full one none is all zero.
+/// by page, in each from the lowest on, and none is all zero. The sectors rise and are the disk's; in a full one none is all zero. There
+/// are at most 256 frames, each of 14 to 1514 bytes, and none in version 1 and in a full one.
 #[derive(Drop)]
 pub struct Checkpoint {
+    version: u32,
     shape: Shape,
     generation: u64,
     number: u64,
@@ -19,6 +21,7 @@ pub struct Checkpoint {
     pages: Vec<PageChange>,
     blocks: Vec<Block>,
     sectors: Vec<SectorChange>,
+    frames: Vec<Frame>,
 }
 
 impl Model for Checkpoint {
@@ -26,9 +29,11 @@ impl Model for Checkpoint {
 
     ghost Value = { Change };
 
-    ghost view = { λ c. change_of c.shape c.generation c.number c.state c.pages.items c.blocks.items c.sectors.items };
+    ghost view = { λ c. change_of c.version c.shape c.generation c.number c.state c.pages.items c.blocks.items c.sectors.items
+        c.frames.items };
 
-    ghost invariant = { λ c. IsCanonical (change_of c.shape c.generation c.number c.state c.pages.items c.blocks.items c.sectors.items) };
+    ghost invariant = { λ c. IsCanonical (change_of c.version c.shape c.generation c.number c.state c.pages.items c.blocks.items
+        c.sectors.items c.frames.items) };
 }
 
 impl Checkpoint {
@@ -36,6 +41,7 @@ impl Checkpoint {
 
     /// The checkpoint of these parts. They are a canonical one's, as the caller knows. It takes no memory.
     pub fn from_parts(
+        version: u32,
         shape: Shape,
         generation: u64,
         number: u64,
@@ -43,11 +49,13 @@ impl Checkpoint {
         pages: Vec<PageChange>,
         blocks: Vec<Block>,
         sectors: Vec<SectorChange>,
+        frames: Vec<Frame>,
     ) -> Checkpoint
-        requires { IsCanonical (change_of shape generation number state pages.items blocks.items sectors.items) }
-        ensures { result ≡ change_of shape generation number state pages.items blocks.items sectors.items }
+        requires { IsCanonical (change_of version shape generation number state pages.items blocks.items sectors.items frames.items) }
+        ensures { result ≡ change_of version shape generation number state pages.items blocks.items sectors.items frames.items }
     {
         Checkpoint {
+            version,
             shape,
             generation,
             number,
@@ -55,7 +63,16 @@ impl Checkpoint {
             pages,
             blocks,
             sectors,
+            frames,
         }
+    }
+
+    /// Which form it is written in: 2, or 1 where it was read of a stream of the older form, which carries no frames.
+    pub fn version(&self) -> u32
+        ensures value { result ≡ self.now.version }
+        ensures canonical { IsCanonical self.now }
+    {
+        self.version
     }
 
     /// How large the machine is.
@@ -118,5 +135,13 @@ impl Checkpoint {
         ensures canonical { IsCanonical self.now }
     {
         self.sectors.as_slice()
+    }
+
+    /// The frames that the guest sent since the checkpoint before, in order, those too that go to no client.
+    pub fn frames(&self) -> &[Frame]
+        ensures value { result.now ≡ self.now.frames }
+        ensures canonical { IsCanonical self.now }
+    {
+        self.frames.as_slice()
     }
 }

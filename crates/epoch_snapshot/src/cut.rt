@@ -1,5 +1,5 @@
 //! Cuts: the checkpoint of what a machine changed, and the one of all that it holds.
-ghost use Rattle.std.specs.Prelude.{◌≡◌, ◌^◌, ◌<◌, ◌≤◌, IfOk, OnErr, Err, length, replicate};
+ghost use Rattle.std.specs.Prelude.{◌≡◌, ◌^◌, ◌<◌, ◌≤◌, IfOk, OnErr, Err, [], length, replicate};
 ghost use Rattle.guest_machine.specs.Guest.{Guest, sector_count};
 ghost use Rattle.epoch_snapshot.specs.Bases.{IsBase, IsCut};
 ghost use Rattle.epoch_snapshot.specs.Cuts.{used_sectors};
@@ -7,13 +7,17 @@ ghost use Rattle.epoch_snapshot.specs.Images.{image_of};
 
 use crate::checkpoint::Checkpoint;
 use crate::errors::SnapshotError;
+use crate::frames::push_copies;
 use crate::memory::{Over, push_pages};
 use crate::sectors::{push_used, push_written};
 use guest_machine::Machine;
 use std::alloc::Global;
 
-/// The checkpoint of what the machine changed since its last settle: the pages and blocks that differ, and the sectors written
-/// since. Over each guest with the memory of that settle and the machine's other sectors it makes the machine's guest.
+/// The form in which cuts are written.
+const VERSION: u32 = 2;
+
+/// The checkpoint of what the machine changed since its last settle: the pages and blocks that differ, the sectors written since, and
+/// the frames in its outbox. It is of version 2. Over each guest with the memory of that settle and the machine's other sectors it makes the machine's guest.
 ///
 /// The generation and the number are 1 to 2^62 - 1, as the caller knows. The machine stays as it is; the caller settles it once
 /// the checkpoint is stored.
@@ -31,16 +35,19 @@ pub fn cut_delta(
     requires first_number { 1 ≤ number }
     requires last_number { number < 2 ^ 62 }
     ensures image { IfOk result (λ c. (base : Guest) → IsBase machine.now base → image_of c base ≡ machine.now.guest) }
-    ensures parts { IfOk result (IsCut machine.now.settled machine.now.dirty machine.now generation number) }
+    ensures parts { IfOk result (IsCut machine.now.settled machine.now.dirty machine.now.outbox machine.now generation number) }
     ensures err { OnErr result (result ≡ Err SnapshotError.NoMemory) }
 {
     let shape = machine.shape();
     let mut pages = Vec::new(alloc);
     let mut blocks = Vec::new(alloc);
     let mut sectors = Vec::with_capacity(alloc, machine.dirty_sectors().len())?;
+    let mut frames = Vec::with_capacity(alloc, machine.outbox().len())?;
     push_pages(machine, Over::Settled, shape.pages, &mut pages, &mut blocks)?;
     push_written(machine, &mut sectors);
+    push_copies(&mut frames, machine.outbox());
     Ok(Checkpoint::from_parts(
+        VERSION,
         shape,
         generation,
         number,
@@ -48,11 +55,12 @@ pub fn cut_delta(
         pages,
         blocks,
         sectors,
+        frames,
     ))
 }
 
 /// The checkpoint of all that the machine holds, number 0 of its generation: the pages and blocks that aren't all zero, and the
-/// sectors that aren't. It stands for itself: over any guest it makes the machine's.
+/// sectors that aren't. It is of version 2 and carries no frames. It stands for itself: over any guest it makes the machine's.
 ///
 /// The generation is 1 to 2^62 - 1, as the caller knows. The machine stays as it is.
 ///
@@ -67,16 +75,18 @@ pub fn cut_full(
     requires last_generation { generation < 2 ^ 62 }
     ensures image { IfOk result (λ c. (base : Guest) → image_of c base ≡ machine.now.guest) }
     ensures parts { IfOk result (IsCut (replicate (length machine.now.guest.ram) 0)
-        (used_sectors machine.now.guest.sectors (sector_count machine.now.guest.sectors)) machine.now generation 0) }
+        (used_sectors machine.now.guest.sectors (sector_count machine.now.guest.sectors)) [] machine.now generation 0) }
     ensures err { OnErr result (result ≡ Err SnapshotError.NoMemory) }
 {
     let shape = machine.shape();
     let mut pages = Vec::new(alloc);
     let mut blocks = Vec::new(alloc);
     let mut sectors = Vec::new(alloc);
+    let frames = Vec::new(alloc);
     push_pages(machine, Over::Zero, shape.pages, &mut pages, &mut blocks)?;
     push_used(machine, shape.sectors, &mut sectors)?;
     Ok(Checkpoint::from_parts(
+        VERSION,
         shape,
         generation,
         0,
@@ -84,5 +94,6 @@ pub fn cut_full(
         pages,
         blocks,
         sectors,
+        frames,
     ))
 }

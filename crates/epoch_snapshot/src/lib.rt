@@ -9,6 +9,8 @@ mod changes;
 mod checkpoint;
 mod cut;
 mod errors;
+mod frames;
+mod limits;
 mod memory;
 mod sectors;
 
@@ -16,6 +18,9 @@ pub use changes::{BLOCK_BYTES, Block, PageChange, SectorChange};
 pub use checkpoint::Checkpoint;
 pub use cut::{cut_delta, cut_full};
 pub use errors::SnapshotError;
+pub use limits::limits_are_the_rules;
 
+#[cfg(test)]
+mod frame_tests;
 #[cfg(test)]
 mod tests;

@@ -58,7 +58,7 @@ fn machine_after(
     Ok(machine)
 }
 
-fn beacon(rt: &impl Abort, alloc: Global) -> Result<Box<Machine>, Fail> {
+pub(crate) fn beacon(rt: &impl Abort, alloc: Global) -> Result<Box<Machine>, Fail> {
     let mut image = image(alloc, &BEACON)?;
     put(&mut image, 0x1000, &[0, 0x11, 0, 0x80, 0, 0, 0, 0, 26]);
     put(&mut image, 0x1042, &[1, 0]);

@@ -2,21 +2,17 @@ use Rattle.std.proofs.Common.{sym, ◌≡◌, subst}
 use Rattle.checkpoint_stream.specs.Text.{text}
 use Rattle.checkpoint_stream.specs.Widths.{HasWidths}
 use Rattle.checkpoint_stream.specs.ReadBack.{ReadsBack}
-use Rattle.checkpoint_stream.proofs.Spelling.{assembled, text-spelled}
+use Rattle.checkpoint_stream.proofs.Spelling.{encoded}
 use Rattle.checkpoint_stream.proofs.TextRead.{has-widths, reads-back}
 use Rattle.checkpoint_stream.proofs.encoding.encode.Goals as goal
 
 pub returns : goal.returns
 returns c =
-    let spelled : c.put_sectors.new.out.items ≡ text c.args.checkpoint.now = rw (
-      text-spelled c.args.checkpoint.now,
-      ← c.numbers.ensures,
-      ← c.pages-pages.ensures.value,
-      ← c.blocks-blocks.ensures.value,
-      ← c.sectors-sectors.ensures.value,
-    )
-    (assembled _ _ _ _ _ _ _ _ _ _ c.put_sectors.new.out.items c.in_ok-out.ensures.items c.in_ok-put_head.ensures.put c.in_ok-put.ensures
-    c.in_ok-put_pages.ensures.put c.in_ok-put-2.ensures c.in_ok-put_sectors.ensures.put) in
+    let spelled : c.put_frames.new.out.items ≡ text c.args.checkpoint.now
+    = encoded c.args.checkpoint.now _ _ _ _ _ _ _ _ _ _ _ _ c.put_frames.new.out.items c.numbers.ensures c.pages-pages.ensures.value
+    c.blocks-blocks.ensures.value c.sectors-sectors.ensures.value c.frames-frames.ensures.value c.requires c.in_ok-out.ensures.items
+    c.in_ok-put_head.ensures.put c.in_ok-put.ensures c.in_ok-put_pages.ensures.put c.in_ok-put-2.ensures c.in_ok-put_sectors.ensures.put
+    c.in_ok-put-3.ensures c.in_ok-put_frames.ensures in
     let widths : HasWidths c.args.checkpoint.now
     = has-widths c.args.checkpoint.now _ _ _ _ _ c.state.ensures.value c.numbers.ensures c.pages-pages.ensures.value
     c.blocks-blocks.ensures.value c.sectors-sectors.ensures.value c.state_widths.ensures c.in_ok-put_head.ensures.width

@@ -1,5 +1,7 @@
 -- The parts are a canonical cut's, and its image over any guest is the machine's.
-use Rattle.std.proofs.Common.{ℕ, length, replicate, refl, sym, ap, ◌∙◌, lit<}
+use Rattle.std.proofs.Common.{ℕ, [], arith, length, replicate, refl, sym, ap, ◌∙◌, lit<}
+use Rattle.std.proofs.lemmas.List.Elements.{All-nil}
+use Rattle.net_device.specs.Frames.{IsFrame}
 use Rattle.guest_machine.specs.MachineStates.{with_state}
 use Rattle.epoch_snapshot.specs.Bases.{IsCut}
 use Rattle.epoch_snapshot.specs.Checkpoints.{Change, change_of}
@@ -11,15 +13,16 @@ use Rattle.epoch_snapshot.proofs.cut.cut_full.Goals as goal
 
 -- what the checkpoint is made of
 abbrev made : goal.After-state → Change
-made c = change_of c.shape-shape.result c.args.generation 0 c.state.result c.push_pages.new.pages.items
-    c.push_pages.new.blocks.items c.push_used.new.list.items
+made c = change_of 2 c.shape-shape.result c.args.generation 0 c.state.result c.push_pages.new.pages.items
+    c.push_pages.new.blocks.items c.push_used.new.list.items c.new-frames.result.items
 
 is_cut : (c : goal.After-state) →
     IsCut (replicate (length c.args.machine.now.guest.ram) 0) (used_sectors c.args.machine.now.guest.sectors c.shape-shape.result.sectors)
-    c.args.machine.now c.args.generation 0 (made c)
+    [] c.args.machine.now c.args.generation 0 (made c)
 is_cut c =
     let old = replicate {A = ℕ} (length c.args.machine.now.guest.ram) 0 in
     record {
+      version = refl;
       pages_size = c.shape-shape.ensures.pages;
       sectors_size = c.shape-shape.ensures.sectors;
       generation = refl;
@@ -28,14 +31,16 @@ is_cut c =
       pages = c.in_ok-push_pages.ensures.pages;
       blocks = c.in_ok-push_pages.ensures.blocks ∙ ap (changed_blocks old c.args.machine.now.guest.ram) (sym c.in_ok-push_pages.ensures.pages);
       sectors = c.in_ok-push_used.ensures;
+      frames = c.new-frames.ensures.items;
     }
 
 pub from_parts-requires : goal.from_parts-requires
 from_parts-requires c =
     let m = c.args.machine.now in
-    IsCanonical-cut (replicate {A = ℕ} (length m.guest.ram) 0) (used_sectors m.guest.sectors c.shape-shape.result.sectors) m
+    IsCanonical-cut (replicate {A = ℕ} (length m.guest.ram) 0) (used_sectors m.guest.sectors c.shape-shape.result.sectors) [] m
     c.args.generation 0 (made c) (is_cut c) c.requires.first_generation c.requires.last_generation (lit< tt) c.state.ensures.rules
     (Rises-used m.guest.sectors c.shape-shape.result.sectors) (λ z. used-nonzero m.guest.sectors c.shape-shape.result.sectors)
+    (All-nil IsFrame) (omega arith) (λ z. refl)
 
 pub returns-clause-image : goal.returns-clause-image
 returns-clause-image c =

@@ -1,10 +1,11 @@
-use Rattle.std.proofs.Common.{rules, ◌≤◌, ◌+◌, length, take, sym, ◌∙◌, ap, subst}
+use Rattle.std.proofs.Common.{rules, ◌≡◌, false, ◌≤◌, ◌+◌, length, take, sym, ◌∙◌, ap, subst}
 use Rattle.std.proofs.lemmas.List.{length-take-le, take-append-drop}
 use Rattle.checkpoint_stream.specs.Readings.{fed, taken}
-use Rattle.checkpoint_stream.specs.Taken.{Takes, Extends}
+use Rattle.checkpoint_stream.specs.Taken.{Takes, Extends, has_room}
 use Rattle.checkpoint_stream.proofs.Extending.{Extends-itself, fed-extends}
 use Rattle.checkpoint_stream.proofs.Feeding.{Takes-more, count-inside, fed-done, taken-done}
 use Rattle.checkpoint_stream.proofs.RunLemmas.{Extends-both}
+use Rattle.checkpoint_stream.proofs.PlaceLemmas.{room-before}
 use Rattle.checkpoint_stream.proofs.parts.Parts.feed_on.Goals as goal
 
 pub loop-at-init : goal.loop-at-init
@@ -50,3 +51,17 @@ returns-else-not-is_closed-clause-count c =
     sym (length-take-le c.loop-at.at c.args.piece.now c.loop-at.invariant.inside)
     ∙ sym (taken-done c.args.self.now c.loop-at.self _ _ c.loop-at.invariant.read (sym c.is_closed.ensures ∙ c.if-not-is_closed.false))
     ∙ ap (taken c.args.self.now) (take-append-drop c.loop-at.at c.args.piece.now)
+
+pub returns-in_err-at-clause-no_room : goal.returns-in_err-at-clause-no_room
+returns-in_err-at-clause-no_room c =
+    let before : has_room c.args.self.now.place ≡ false
+    = room-before c.args.self.now c.loop-at.self _ c.loop-at.invariant.read.reading c.in_err-at.ensures.no_room in
+    search rules
+
+pub returns-in_err-at-2-clause-no_room : goal.returns-in_err-at-2-clause-no_room
+returns-in_err-at-2-clause-no_room c =
+    let here : has_room c.loop-at.self.place ≡ false
+    = room-before c.loop-at.self c.take.new.self _ c.in_ok-at.ensures.read.reading c.in_err-at-2.ensures.no_room in
+    let before : has_room c.args.self.now.place ≡ false
+    = room-before c.args.self.now c.loop-at.self _ c.loop-at.invariant.read.reading here in
+    search rules

@@ -1,13 +1,17 @@
-use Rattle.std.proofs.Common.{rules, ◌≡◌, ◌≤◌, ◌+◌, ◌-◌, ℕ, List, [], length, take, drop, refl, sym, ◌∙◌, ap, subst, arith, length-drop}
+use Rattle.std.proofs.Common.{rules, ◌≡◌, false, ◌≤◌, ◌+◌, ◌-◌, ℕ, List, [], length, take, drop, refl, sym, ◌∙◌, ap, subst, arith, length-drop}
 use Rattle.std.proofs.lemmas.List.{length-take-le}
 use Rattle.checkpoint_stream.specs.declared.place.Place.{Place}
-use Rattle.checkpoint_stream.specs.declared.place.Place.TheVariants.{Block}
-use Rattle.checkpoint_stream.specs.Readings.{is_closed, width_at, judged, block_judged}
-use Rattle.checkpoint_stream.specs.Taken.{Takes, Extends}
+use Rattle.checkpoint_stream.specs.declared.place.Place.TheVariants.{Block, FrameBytes}
+use Rattle.checkpoint_stream.specs.Readings.{Reading, is_closed, width_at, judged, block_judged}
+use Rattle.checkpoint_stream.specs.Taken.{Takes, Extends, has_room}
 use Rattle.checkpoint_stream.proofs.Feeding.{Takes-nothing, Takes-unit}
 use Rattle.checkpoint_stream.proofs.Extending.{Extends-itself, fed-extends}
 use Rattle.checkpoint_stream.proofs.RunLemmas.{judged-block, Takes-next}
+use Rattle.checkpoint_stream.proofs.PlaceLemmas.{part-nothing, room-before}
 use Rattle.checkpoint_stream.proofs.parts.Parts.take_blocks.Goals as goal
+
+not-bytes : {left page more other len : ℕ} → Block left page more ≡ FrameBytes other len → ⊥
+not-bytes e = cc
 
 pub loop-at-init : goal.loop-at-init
 loop-at-init c = record { inside = omega arith; extends = Extends-itself c.args.self.now; read = Takes-nothing c.args.self.now }
@@ -22,7 +26,11 @@ loop-at-preserved c =
     = length-take-le 64 (drop at c.args.rest.now) (omega (arith, inside, length-drop at c.args.rest.now)) in
     let count : at + 64 - at ≡ 64 = omega arith in
     let place : m.place ≡ Block c.in-Block.left c.in-Block.page c.in-Block.more = search rules in
-    let begun : m.partial ≡ [] = rw (← c.self.view_is, c.if-self-eq0.true) refl in
+    let inside_place : c.self.inside.place ≡ Block c.in-Block.left c.in-Block.page c.in-Block.more
+    = ap (λ (r : Reading). r.place) c.self.view_is ∙ place in
+    let part : c.self.inside.part.items ≡ []
+    = part-nothing c.self.inside.place _ c.self.inside.part.items _ _ (λ left len e. not-bytes (sym inside_place ∙ e)) c.self.invariant.4 in
+    let begun : m.partial ≡ [] = rw (← c.self.view_is, c.if-self-eq0.true) part in
     let is : c.take_block.new.self ≡ judged m unit
     = c.in_ok-take_block.ensures.ok
     ∙ ap (λ (n : ℕ). block_judged m c.in-Block.left c.in-Block.page c.in-Block.more (take n (drop at c.args.rest.now))) count
@@ -35,3 +43,10 @@ loop-at-preserved c =
       extends = subst (Extends c.args.self.now) taken.reading (fed-extends c.args.self.now m unit c.loop-at.invariant.extends);
       read = Takes-next c.args.self.now m c.take_block.new.self at 64 c.args.rest.now c.loop-at.invariant.read taken;
     }
+
+pub returns-in_err-take_block-clause-no_room : goal.returns-in_err-take_block-clause-no_room
+returns-in_err-take_block-clause-no_room c =
+    let place : c.loop-at.self.place ≡ Block c.in-Block.left c.in-Block.page c.in-Block.more = search rules in
+    let before : has_room c.args.self.now.place ≡ false
+    = room-before c.args.self.now c.loop-at.self _ c.loop-at.invariant.read.reading (ap has_room place) in
+    search rules

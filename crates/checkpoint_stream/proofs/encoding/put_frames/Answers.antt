@@ -1,0 +1,21 @@
+use Rattle.std.proofs.Common.{◌++◌, ◌+◌, ℕ, drop, length, sym, ◌∙◌, ap, arith}
+use Rattle.arrayvec.specs.ArrayVec.{ArrayVec}
+use Rattle.checkpoint_stream.specs.HeadTable.{bytes_of}
+use Rattle.checkpoint_stream.specs.declared.rules.Width.TheVariants.{Four}
+use Rattle.checkpoint_stream.specs.Text.{joined, frame_units}
+use Rattle.checkpoint_stream.proofs.Spelling.{advance, finish, frame_units-drop, frame_units-done}
+use Rattle.checkpoint_stream.proofs.encoding.put_frames.Goals as goal
+
+pub loop-frame-preserved : goal.loop-frame-preserved
+loop-frame-preserved c =
+    let fs = c.args.frames.now in
+    let i = c.loop-frame.frame-index in
+    let f = c.frame-item.result in
+    advance c.loop-frame.out.items _ c.put_frame.new.out.items _ _ _ c.loop-frame.invariant
+    (frame_units-drop fs i f (omega arith) ∙ ap (λ (g : ArrayVec ℕ). (bytes_of Four (length g.items) ++ g.items)
+    ++ joined (frame_units (drop (i + 1) fs))) (sym c.frame-item.is)) c.in_ok-put_frame.ensures
+
+pub returns : goal.returns
+returns c =
+    finish c.loop-frame.out.items _ _ c.loop-frame.invariant
+    (frame_units-done c.args.frames.now c.loop-frame.frame-index (omega arith))

@@ -1,0 +1,183 @@
+//! Streams cut in two at each place, and what comes after a malformation.
+
+use super::{BEACON, MALFORMATIONS, shape};
+use crate::{Reader, StreamError, encode};
+use guest_machine::Shape;
+use std::alloc::{AllocError, Global};
+use std::process::Abort;
+use std::test::Fail;
+
+/// What one more piece is answered by a reader that refused a stream at this offset: the same, and no checkpoint.
+fn assert_refuses(rt: &impl Abort, reader: &mut Reader, piece: &[u8], at: u64) {
+    let refused = matches!(reader.feed(piece), Err(StreamError::Malformed(same)) if same == at);
+    assert!(rt;
+        refused,
+        "malformed at {at}, and then {} bytes",
+        piece.len()
+    );
+    assert!(rt;
+        reader.next().is_none(),
+        "malformed at {at}, and then a checkpoint"
+    );
+}
+
+/// It answers so whatever comes: nothing, one byte, a good checkpoint; and again.
+fn assert_stays_refused(rt: &impl Abort, reader: &mut Reader, at: u64) {
+    for _ in 0..2u8 {
+        assert_refuses(rt, reader, &[], at);
+        assert_refuses(rt, reader, &BEACON[..1], at);
+        assert_refuses(rt, reader, &BEACON, at);
+    }
+}
+
+/// Feeds a piece. Answers whether the reader took all of it.
+fn takes(reader: &mut Reader, piece: &[u8]) -> bool {
+    matches!(reader.feed(piece), Ok(count) if count == piece.len())
+}
+
+/// A malformed checkpoint, cut in two at this place, is refused at this offset, and stays so.
+fn refuses_in_two(rt: &impl Abort, alloc: Global, bytes: &[u8], cut: usize, at: u64) {
+    let mut reader = Reader::new(alloc, shape());
+    let (front, back) = (
+        bytes.get(..cut).unwrap_or(&[]),
+        bytes.get(cut..).unwrap_or(&[]),
+    );
+    if takes(&mut reader, front) {
+        assert_refuses(rt, &mut reader, back, at);
+    }
+    assert_stays_refused(rt, &mut reader, at);
+}
+
+#[test]
+fn a_malformed_stream_is_refused_for_good_wherever_it_is_cut(rt: HostRuntime) {
+    for (place, value, wanted) in &MALFORMATIONS {
+        let mut bytes = BEACON;
+        if let Some(byte) = bytes.get_mut(*place) {
+            *byte = *value;
+        }
+        for cut in 0..609usize {
+            refuses_in_two(&rt, rt.alloc(), &bytes, cut, *wanted);
+        }
+    }
+}
+
+/// The checkpoint of the guest that writes sector 3, as examples/sector.stream has it.
+fn sector_stream(alloc: Global) -> Result<Vec<u8>, AllocError> {
+    let mut bytes = Vec::with_capacity(alloc, SECTOR_STREAM_BYTES)?;
+    for (place, part) in &SECTOR_STREAM {
+        bytes.resize(*place, 0)?;
+        bytes.extend_from_slice(part)?;
+    }
+    bytes.resize(SECTOR_STREAM_BYTES - 512, 0)?;
+    bytes.resize(SECTOR_STREAM_BYTES, 0xab)?;
+    Ok(bytes)
+}
+
+const SECTOR_STREAM_BYTES: usize = 1188;
+
+/// The bytes before the sector's that aren't 0, by their place.
+static SECTOR_STREAM: [(usize, &[u8]); 29] = [
+    (0x000, &[0x52, 0x4d, 0x43, 0x31, 2]),
+    (0x008, &[8]),
+    (0x00c, &[1]),
+    (0x014, &[1]),
+    (0x01c, &[0x17]),
+    (0x045, &[0x20, 0, 0x10]),
+    (0x04c, &[1]),
+    (0x054, &[0x0f]),
+    (0x05c, &[0x0b]),
+    (0x11c, &[0x5c, 0, 0, 0x80]),
+    (0x125, &[0x18]),
+    (0x160, &[0xff, 0xff, 0xff, 0xff, 0xff, 0xff, 0xff, 0xff]),
+    (0x1cc, &[0x0f]),
+    (0x1d4, &[1]),
+    (0x1dc, &[1]),
+    (0x1e4, &[1]),
+    (0x1e8, &[4]),
+    (0x1ec, &[1]),
+    (0x1f1, &[0x10, 0, 0x80]),
+    (0x1f8, &[0x40, 0x10, 0, 0x80]),
+    (0x200, &[0x80, 0x10, 0, 0x80]),
+    (0x208, &[1, 0, 1, 0, 1]),
+    (0x210, &[1]),
+    (0x214, &[0x14]),
+    (0x21e, &[1]),
+    (0x224, &[1]),
+    (0x26c, &[0xff]),
+    (0x29c, &[1]),
+    (0x2a0, &[3]),
+];
+
+/// The bytes of the checkpoint that stands whole in a reader.
+fn text_of_next(alloc: Global, reader: &mut Reader) -> Result<Vec<u8>, Fail> {
+    let checkpoint = reader.next().ok_or("a checkpoint stands")?;
+    if checkpoint.version() != 2 {
+        return Err("it is of version 2".into());
+    }
+    encode(alloc, &checkpoint).map_err(|_| "there is memory".into())
+}
+
+/// The same checkpoint in version 2: another first number, and no frames at the end.
+fn in_version_2(alloc: Global, text: &[u8]) -> Result<Vec<u8>, AllocError> {
+    let mut bytes = Vec::from_slice(alloc, text)?;
+    if let Some(number) = bytes.get_mut(3) {
+        *number = 0x32;
+    }
+    bytes.extend_from_slice(&[0; 4])?;
+    Ok(bytes)
+}
+
+/// A text that comes in two pieces, cut at this place, gives the checkpoint whose text it is.
+fn reads_in_two(
+    rt: &impl Abort,
+    alloc: Global,
+    shape: Shape,
+    text: &[u8],
+    cut: usize,
+) -> Result<(), Fail> {
+    let mut reader = Reader::new(alloc, shape);
+    assert!(rt;
+        takes(&mut reader, text.get(..cut).unwrap_or(&[])),
+        "the front, cut at {cut}"
+    );
+    assert!(rt;
+        takes(&mut reader, text.get(cut..).unwrap_or(&[])),
+        "the back, cut at {cut}"
+    );
+    let read = text_of_next(alloc, &mut reader)?;
+    assert!(rt; read.as_slice() == text, "cut at {cut}");
+    Ok(())
+}
+
+/// So does one that comes byte by byte.
+fn reads_by_bytes(rt: &impl Abort, alloc: Global, shape: Shape, text: &[u8]) -> Result<(), Fail> {
+    let mut reader = Reader::new(alloc, shape);
+    for byte in text.chunks(1) {
+        assert!(rt; reader.next().is_none());
+        assert!(rt; takes(&mut reader, byte));
+    }
+    let read = text_of_next(alloc, &mut reader)?;
+    assert!(rt; read.as_slice() == text);
+    Ok(())
+}
+
+fn reads_in_pieces(rt: &impl Abort, alloc: Global, shape: Shape, text: &[u8]) -> Result<(), Fail> {
+    reads_by_bytes(rt, alloc, shape, text)?;
+    for cut in 1..text.len() {
+        reads_in_two(rt, alloc, shape, text, cut)?;
+    }
+    Ok(())
+}
+
+#[test]
+fn a_text_in_pieces_is_the_checkpoint_of_the_whole(rt: HostRuntime) -> Result<(), Fail> {
+    let beacon = in_version_2(rt.alloc(), &BEACON)?;
+    reads_in_pieces(&rt, rt.alloc(), shape(), beacon.as_slice())?;
+    let sector = sector_stream(rt.alloc())?;
+    let text = in_version_2(rt.alloc(), sector.as_slice())?;
+    let eight = Shape {
+        pages: 2,
+        sectors: 8,
+    };
+    reads_in_pieces(&rt, rt.alloc(), eight, text.as_slice())
+}
