@@ -8,13 +8,13 @@ use Rattle.growing_history.specs.Examples.{two_clients, found_empty}
 
 one-legal : Legal two_clients (found_empty 1 ∷ [])
 unfolding Legal
-one-legal = (record { may = (refl, tt); lawful = λ e. (((omega arith, omega arith), refl), tt) }, tt)
+one-legal = (record { may = (refl, tt); known = λ e. (tt, tt); lawful = λ e. (((omega arith, omega arith), refl), tt) }, tt)
 
 two-legal : Legal two_clients (found_empty 1 ∷ found_empty 2 ∷ [])
 unfolding Legal
 two-legal = (
-  record { may = (refl, tt); lawful = λ e. (((omega arith, omega arith), refl), tt) },
-  (record { may = (refl, tt); lawful = λ e. (((omega arith, omega arith), refl), tt) }, tt),
+  record { may = (refl, tt); known = λ e. (tt, tt); lawful = λ e. (((omega arith, omega arith), refl), tt) },
+  (record { may = (refl, tt); known = λ e. (tt, tt); lawful = λ e. (((omega arith, omega arith), refl), tt) }, tt),
 )
 
 pub first-legal : (start : HistoryState) (steps : List Step) (n : ℕ) → start ≡ two_clients → steps ≡ [] → n ≡ 4

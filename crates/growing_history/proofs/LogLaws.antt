@@ -2,6 +2,7 @@
 use Rattle.std.proofs.Common.{◌≡◌, ℕ, zero, suc, ◌≤◌, List, [], ◌∷◌, ◌++◌, refl, sym, ap, ◌∙◌, subst, append_assoc, arith, le_refl}
 use Rattle.std.proofs.Common.{le_trans}
 use Rattle.std.proofs.lemmas.List.{append-nil}
+pub use Rattle.pair_history.proofs.States.{at-append, Legal-append}
 use Rattle.pair_history.specs.Entries.{Entry}
 use Rattle.pair_history.specs.Entries as entries
 use Rattle.pair_history.specs.HistoryState.{HistoryState, at}
@@ -11,15 +12,7 @@ use Rattle.growing_history.specs.Steps.{Begins}
 use Rattle.growing_history.specs.LogState.{LogState, start_of, under_way, added, after, Needs, state_after, LegalFrom, history_from, Legal}
 use Rattle.growing_history.specs.LogState.{state_at, history_of}
 
--- of histories: the state at one, and a legal one, in two parts
-pub at-append : (h : HistoryState) (xs ys : List Entry) → at h (xs ++ ys) ≡ at (at h xs) ys
-at-append h [] ys = refl
-at-append h (e ∷ xs) ys = at-append (history.after h e) xs ys
-
-legal-joined : (h : HistoryState) (xs ys : List Entry) → history.Legal h xs → history.Legal (at h xs) ys → history.Legal h (xs ++ ys)
-legal-joined h [] ys a b = b
-legal-joined h (e ∷ xs) ys a b = (a.0, legal-joined (history.after h e) xs ys a.1 b)
-
+-- of histories: a legal one, in two parts
 pub legal-first : (h : HistoryState) (xs ys : List Entry) → history.Legal h (xs ++ ys) → history.Legal h xs
 legal-first h [] ys l = tt
 legal-first h (e ∷ xs) ys l = (l.0, legal-first (history.after h e) xs ys l.1)
@@ -96,8 +89,8 @@ numbers s by (RanAlone epoch) n = (le_refl s.runner, le_refl s.backup)
 numbers s by (Committed g k text) n = (le_refl s.runner, le_refl s.backup)
 numbers s by PrimaryFailed n = (le_refl s.runner, le_refl s.backup)
 numbers s by BackupFailed n = (le_refl s.runner, le_refl s.backup)
-numbers s by (WentLive r) n = (omega (arith, n.may.2), le_refl s.backup)
-numbers s by (Protected b) n = (le_refl s.runner, omega (arith, n.may.3))
+numbers s by (WentLive r) n = (omega (arith, n.may.2.0), le_refl s.backup)
+numbers s by (Protected b) n = (le_refl s.runner, omega (arith, n.may.2.1))
 
 pub numbers-rise : (s : LogState) (xs : List Step) → LegalFrom s xs → (s.runner ≤ (state_after s xs).runner)
     × (s.backup ≤ (state_after s xs).backup)
@@ -107,6 +100,11 @@ numbers-rise s (x ∷ xs) l =
     let rest = numbers-rise (after s x.what) xs l.1 in
     (le_trans one.0 rest.0, le_trans one.1 rest.1)
 
+-- what is under way after a step is legal where it stood
+pub way-after : (s : LogState) (x : Step) → Needs s x → s.marked ≡ 0 → history.Legal (after s x.what).history (under_way (after s x.what))
+way-after s x needs none = subst (λ h. history.Legal h (under_way (after s x.what))) (sym (moved s x.what))
+    (legal-second s.history (added s x.what) (under_way (after s x.what)) (needs.lawful none))
+
 -- Unless a commit is marked, what was added, and then what is under way, is a legal history.
 pub lawful : (s : LogState) (xs : List Step) → LegalFrom s xs → (state_after s xs).marked ≡ 0 → history.Legal s.history (under_way s)
     → history.Legal s.history (history_from s xs ++ under_way (state_after s xs))
@@ -115,12 +113,11 @@ lawful s (x ∷ xs) l none now =
     let s' = after s x.what in
     let unmarked : s.marked ≡ 0 = omega (arith, marked s x.what, marks-stay s' xs, none) in
     let here = l.0.lawful unmarked in
-    let there : history.Legal s'.history (under_way s') = subst (λ h. history.Legal h (under_way s')) (sym (moved s x.what))
-    (legal-second s.history (added s x.what) (under_way s') here) in
+    let there = way-after s x l.0 unmarked in
     let rest = subst (λ h. history.Legal h (history_from s' xs ++ under_way (state_after s' xs))) (moved s x.what)
     (lawful s' xs l.1 none there) in
     subst (history.Legal s.history) (sym (append_assoc (added s x.what) (history_from s' xs) (under_way (state_after s' xs))))
-    (legal-joined s.history (added s x.what) (history_from s' xs ++ under_way (state_after s' xs))
+    (Legal-append s.history (added s x.what) (history_from s' xs ++ under_way (state_after s' xs))
     (legal-first s.history (added s x.what) (under_way s') here) rest)
 
 -- What the laws say of lists from the start.

@@ -7,7 +7,7 @@ use Rattle.std.proofs.lemmas.List.{append-nil}
 use mathlib.Core.Logic.{dite}
 use native.Mathlib.Decide.{ℕ_discrete}
 use Rattle.frame_ports.specs.Lands.{list_of, has_room, landed_at}
-use Rattle.frame_ports.specs.declared.limits.TheConstants.{BOX_FRAMES}
+use Rattle.frame_ports.specs.Limits.{box_frames}
 use Rattle.pair_history.specs.Entries.{Frame, Entry, Ran, Arrive, Delivered, Refused, DropIn, Land, DropOut, Took}
 use Rattle.pair_history.specs.HistoryState.{HistoryState, at, out_of}
 use Rattle.pair_history.specs.Order.{AreGuests}
@@ -18,6 +18,7 @@ use Rattle.growing_history.specs.Steps.{What, Added, Sealed, RanAlone, Committed
 use Rattle.growing_history.specs.Steps.{steps_by}
 use Rattle.growing_history.specs.LogState.{LogState, Epoch, start_of, entries_of, under_way, added, after, IsOwn, AreOwn, MayStep}
 use Rattle.growing_history.specs.LogState.{client_seat, LegalFrom, history_from, Legal, history_of}
+use Rattle.growing_history.proofs.Epochs.{guests-append, guests-first, guests-second}
 use Rattle.growing_history.specs.Entries.{is_of, own_entries, announced_in, announced}
 
 own-append : (c : ℕ) (xs ys : List Entry) → own_entries c (xs ++ ys) ≡ own_entries c xs ++ own_entries c ys
@@ -50,7 +51,7 @@ landings-none c boxes [] = refl
 landings-none c boxes (p ∷ ps) = by_test (has_room boxes p.0) (landings-none c (landed_at boxes p.0 p.1) ps)
   where
     by_test : (t : Bool) → own_entries c (landings (landed_at boxes p.0 p.1) ps) ≡ []
-        → own_entries c (cond t (Land p.0) (DropOut p.0 BOX_FRAMES) ∷ landings (landed_at boxes p.0 p.1) ps) ≡ []
+        → own_entries c (cond t (Land p.0) (DropOut p.0 box_frames) ∷ landings (landed_at boxes p.0 p.1) ps) ≡ []
     by_test true is = is
     by_test false is = is
 
@@ -72,64 +73,52 @@ owed-none c (suc n) first boxes out =
     (repeated-none c first (length (list_of boxes first)) (length (out_of first out))) (owed-none c n (first + 1) boxes out)
 
 -- a client's own entry is one of its seat's, and no other is
-own-is : (way : List Entry) (c by : ℕ) (e : Entry) → 1 ≤ c → IsOwn way by e → is_of c e ≡ (by == client_seat c)
-own-is way c by Ran p o = absurd o
-own-is way c by (Arrive n) p o = absurd o
-own-is way c by (Delivered d f n) p o = same c d by o
+own-is : (c by : ℕ) (e : Entry) → 1 ≤ c → IsOwn by e → is_of c e ≡ (by == client_seat c)
+own-is c by Ran p o = absurd o
+own-is c by (Arrive n) p o = absurd o
+own-is c by (Delivered d f n) p o = same c d by o
   where
     same : (c d by : ℕ) → by ≡ d + 3 → (d == c) ≡ (by == c + 3)
     same c d by is = dite (ℕ_discrete d c)
         (λ e. eq-eqb d c e ∙ sym (eq-eqb by (c + 3) (omega (arith, is, e))))
         (λ ne. ne_eqb d c ne ∙ sym (ne_eqb by (c + 3) (λ e. ne (omega (arith, is, e)))))
-own-is way c by (Refused d f) p o = same c d by o
+own-is c by (Refused d f) p o = same c d by o
   where
     same : (c d by : ℕ) → by ≡ d + 3 → (d == c) ≡ (by == c + 3)
     same c d by is = dite (ℕ_discrete d c)
         (λ e. eq-eqb d c e ∙ sym (eq-eqb by (c + 3) (omega (arith, is, e))))
         (λ ne. ne_eqb d c ne ∙ sym (ne_eqb by (c + 3) (λ e. ne (omega (arith, is, e)))))
-own-is way c by (Took d answer) p o = same c d by o
+own-is c by (Took d answer) p o = same c d by o
   where
     same : (c d by : ℕ) → by ≡ d + 3 → (d == c) ≡ (by == c + 3)
     same c d by is = dite (ℕ_discrete d c)
         (λ e. eq-eqb d c e ∙ sym (eq-eqb by (c + 3) (omega (arith, is, e))))
         (λ ne. ne_eqb d c ne ∙ sym (ne_eqb by (c + 3) (λ e. ne (omega (arith, is, e)))))
-own-is way c by (DropIn n) p o = sym (ne_eqb by (c + 3) (λ e. omega (arith, o.0, e, p)))
-own-is way c by (Land d) p o = sym (ne_eqb by (c + 3) (λ e. omega (arith, o, e, p)))
-own-is way c by (DropOut d place) p o = by_test (nat_lt place BOX_FRAMES) o
+own-is c by (DropIn n) p o = sym (ne_eqb by (c + 3) (λ e. omega (arith, o, e, p)))
+own-is c by (Land d) p o = sym (ne_eqb by (c + 3) (λ e. omega (arith, o, e, p)))
+own-is c by (DropOut d place) p o = by_test (nat_lt place box_frames) o
   where
     by_test : (t : Bool) → by ≡ cond t 3 0 → false ≡ (by == c + 3)
     by_test true is = sym (ne_eqb by (c + 3) (λ e. omega (arith, is, e, p)))
     by_test false is = sym (ne_eqb by (c + 3) (λ e. omega (arith, is, e, p)))
 
-own-added : (way : List Entry) (c by : ℕ) (es : List Entry) → 1 ≤ c → AreOwn way by es → own_entries c es ≡ cond (by == client_seat c) es []
-own-added way c by es p o = by_test (by == client_seat c) refl
+own-added : (c by : ℕ) (es : List Entry) → 1 ≤ c → AreOwn by es → own_entries c es ≡ cond (by == client_seat c) es []
+own-added c by es p o = by_test (by == client_seat c) refl
   where
-    all : (es : List Entry) → AreOwn way by es → (by == client_seat c) ≡ true → own_entries c es ≡ es
+    all : (es : List Entry) → AreOwn by es → (by == client_seat c) ≡ true → own_entries c es ≡ es
     all [] o is = refl
-    all (e ∷ es) o is = ap (λ t. cond t (e ∷ own_entries c es) (own_entries c es)) (own-is way c by e p o.0 ∙ is)
+    all (e ∷ es) o is = ap (λ t. cond t (e ∷ own_entries c es) (own_entries c es)) (own-is c by e p o.0 ∙ is)
         ∙ ap (λ l. e ∷ l) (all es o.1 is)
 
-    none : (es : List Entry) → AreOwn way by es → (by == client_seat c) ≡ false → own_entries c es ≡ []
+    none : (es : List Entry) → AreOwn by es → (by == client_seat c) ≡ false → own_entries c es ≡ []
     none [] o is = refl
-    none (e ∷ es) o is = ap (λ t. cond t (e ∷ own_entries c es) (own_entries c es)) (own-is way c by e p o.0 ∙ is) ∙ none es o.1 is
+    none (e ∷ es) o is = ap (λ t. cond t (e ∷ own_entries c es) (own_entries c es)) (own-is c by e p o.0 ∙ is) ∙ none es o.1 is
 
     by_test : (t : Bool) → (by == client_seat c) ≡ t → own_entries c es ≡ cond t es []
     by_test true is = all es o is
     by_test false is = none es o is
 
 -- what is sealed is the guest's
-pub guests-append : (xs ys : List Entry) → AreGuests xs → AreGuests ys → AreGuests (xs ++ ys)
-guests-append [] ys a b = b
-guests-append (e ∷ xs) ys a b = (a.0, guests-append xs ys a.1 b)
-
-guests-second : (xs ys : List Entry) → AreGuests (xs ++ ys) → AreGuests ys
-guests-second [] ys g = g
-guests-second (e ∷ xs) ys g = guests-second xs ys g.1
-
-guests-first : (xs ys : List Entry) → AreGuests (xs ++ ys) → AreGuests xs
-guests-first [] ys g = tt
-guests-first (e ∷ xs) ys g = (g.0, guests-first xs ys g.1)
-
 pub entries-append : (xs ys : List Epoch) → entries_of (xs ++ ys) ≡ entries_of xs ++ entries_of ys
 entries-append [] ys = refl
 entries-append (e ∷ xs) ys = ap (λ l. e.entries ++ l) (entries-append xs ys) ∙ sym (append_assoc e.entries (entries_of xs) (entries_of ys))
@@ -164,7 +153,7 @@ off_if false = refl
 -- one step
 added-own : (c : ℕ) (s : LogState) (by : ℕ) (w : What) → 1 ≤ c → MayStep s by w → AreGuests (entries_of s.sealed)
     → own_entries c (added s w) ≡ cond (by == client_seat c) (announced_in w) []
-added-own c s by (Added es) p m g = own-added (under_way s) c by es p m
+added-own c s by (Added es) p m g = own-added c by es p m
 added-own c s by (Sealed x zero epoch text) p m g = none-joined c epoch (all_land (at s.history epoch)) (guests-none c epoch m.4.0)
     (all_land-none c (at s.history epoch)) ∙ off_if (by == client_seat c)
 added-own c s by (Sealed x (suc n) epoch text) p m g = off_if (by == client_seat c)

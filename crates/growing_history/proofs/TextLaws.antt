@@ -7,13 +7,16 @@ use Rattle.pair_history.specs.HistoryState.{HistoryState, at}
 use Rattle.pair_history.specs.HistoryState as history
 use Rattle.pair_history.specs.Order.{AreGuests}
 use Rattle.growing_history.specs.Steps.{What, Added, Sealed, RanAlone, Committed, PrimaryFailed, BackupFailed, WentLive, Protected, Step}
-use Rattle.growing_history.specs.LogState.{LogState, Mode, Paired, Filling, Alone, Stopped, mode_filled, Epoch, start_of, entries_of}
-use Rattle.growing_history.specs.LogState.{under_way, IsAlone, HasBackup, MaySeal, after, AreOwn, Needs, state_after, LegalFrom, Legal}
+use Rattle.failover.specs.declared.mode.Mode.{Mode}
+use Rattle.failover.specs.declared.mode.Mode.TheVariants.{Paired, Filling, Alone, Stopped}
+use Rattle.growing_history.specs.LogState.{LogState, mode_filled, Epoch, start_of, entries_of, AreOwn, AreKnown}
+use Rattle.growing_history.specs.LogState.{under_way, IsAlone, HasBackup, MaySeal, after, Needs, state_after, LegalFrom, Legal}
 use Rattle.growing_history.specs.LogState.{state_at}
 use Rattle.growing_history.specs.SealedTexts.{Reading, Makes, IsMade, AreMadeFrom, AreMade, MakeInTurn}
-use Rattle.growing_history.proofs.LogLaws.{at-append, legal-first, marked, marks-stay}
-use Rattle.growing_history.proofs.OwnEntries.{guests-append, entries-append, sealed-guests}
-use Rattle.growing_history.proofs.Missed.{GoesFirst, far-guest, way-after}
+use Rattle.growing_history.proofs.LogLaws.{at-append, legal-first, marked, marks-stay, way-after}
+use Rattle.growing_history.proofs.Epochs.{guests-append, guests-first, guests-second, takes-first}
+use Rattle.growing_history.proofs.OwnEntries.{entries-append, sealed-guests}
+use Rattle.growing_history.proofs.LinesFirst.{GoesFirst, lines-guest}
 
 -- a node that is alone has nothing sealed
 no-alone : (m : Mode) → HasBackup m → IsAlone m → ⊥
@@ -55,31 +58,25 @@ module _ (reads : Reading) where
 
   -- entries of the clients' lines leave it so
   turn-added : GoesFirst → (by : ℕ) (es : List Entry) (h : HistoryState) (sealed : List Epoch) (before more : List Entry) → AreGuests before
-      → AreGuests (entries_of sealed)
-      → AreOwn (before ++ (entries_of sealed ++ more)) by es → history.Legal h es → history.Legal h (before ++ (entries_of sealed ++ more))
-      → MakeInTurn reads h before sealed → MakeInTurn reads (at h es) before sealed
-  turn-added go by es h [] before more gb gs o l way m = tt
-  turn-added go by es h (e ∷ sealed) before more gb gs o l way m =
+      → AreGuests (entries_of sealed) → AreOwn by es → AreKnown (before ++ (entries_of sealed ++ more)) h by es → history.Legal h es
+      → history.Legal h (before ++ (entries_of sealed ++ more)) → MakeInTurn reads h before sealed
+      → MakeInTurn reads (at h es) before sealed
+  turn-added go by es h [] before more gb gs o k l way m = tt
+  turn-added go by es h (e ∷ sealed) before more gb gs o k l way m =
       let rest = entries_of sealed ++ more in
       let next = before ++ e.entries in
-      let apart : before ++ ((e.entries ++ entries_of sealed) ++ more) ≡ next ++ rest =
+      let all = before ++ ((e.entries ++ entries_of sealed) ++ more) in
+      let apart : all ≡ next ++ rest =
       ap (λ l. before ++ l) (append_assoc e.entries (entries_of sealed) more) ∙ sym (append_assoc before e.entries rest) in
-      let gn : AreGuests next = guests-append before e.entries gb (guests-front e.entries (entries_of sealed) gs) in
-      let o' : AreOwn (next ++ rest) by es = subst (λ w. AreOwn w by es) apart o in
+      let gn : AreGuests next = guests-append before e.entries gb (guests-first e.entries (entries_of sealed) gs) in
+      let k' : AreKnown (next ++ rest) h by es = subst (λ w. AreKnown w h by es) apart k in
       let way' : history.Legal h (next ++ rest) = subst (history.Legal h) apart way in
-      let here = far-guest go before ((e.entries ++ entries_of sealed) ++ more) by es h gb o l (legal-first h before _ way) in
-      let there = far-guest go next rest by es h gn o' l (legal-first h next rest way') in (
+      let here = lines-guest all before (λ n. takes-first n before ((e.entries ++ entries_of sealed) ++ more)) go by es h gb o k l
+      (legal-first h before _ way) in
+      let there = lines-guest (next ++ rest) next (λ n. takes-first n next rest) go by es h gn o k' l (legal-first h next rest way') in (
         makes-same e.number e.text _ _ _ _ (sym here) (sym there) m.0,
-        turn-added go by es h sealed next more gn (guests-back e.entries (entries_of sealed) gs) o' l way' m.1,
+        turn-added go by es h sealed next more gn (guests-second e.entries (entries_of sealed) gs) o k' l way' m.1,
       )
-    where
-      guests-front : (xs ys : List Entry) → AreGuests (xs ++ ys) → AreGuests xs
-      guests-front [] ys g = tt
-      guests-front (x ∷ xs) ys g = (g.0, guests-front xs ys g.1)
-
-      guests-back : (xs ys : List Entry) → AreGuests (xs ++ ys) → AreGuests ys
-      guests-back [] ys g = g
-      guests-back (x ∷ xs) ys g = guests-back xs ys g.1
 
   -- what comes before may go into the history's state
   turn-shift : (h : HistoryState) (first before : List Entry) (sealed : List Epoch) → MakeInTurn reads h (first ++ before) sealed
@@ -113,7 +110,8 @@ module _ (reads : Reading) where
       → history.Legal s.history (under_way s) → s.marked ≡ 0 → (IsAlone s.mode → s.sealed ≡ []) → IsMade reads s w
       → MakeInTurn reads s.history [] s.sealed → MakeInTurn reads (after s w).history [] (after s w).sealed
   turn-step go s by (Added es) needs g way none empty made m =
-      turn-added go by es s.history s.sealed [] (map Arrive s.handed) tt g needs.may (legal-first s.history es _ (needs.lawful none)) way m
+      turn-added go by es s.history s.sealed [] (map Arrive s.handed) tt g needs.may (needs.known none)
+      (legal-first s.history es _ (needs.lawful none)) way m
   turn-step go s by (Sealed x zero epoch text) needs g way none empty made m = (made none, tt)
   turn-step go s by (Sealed x (suc n) epoch text) needs g way none empty made m =
       let e : Epoch = record { number = suc n; entries = epoch; text = text } in

@@ -1,10 +1,11 @@
 -- A pair of two clients, worked through by computing.
 use Rattle.std.specs.Prelude.{◌≡◌, ℕ, List, [], ◌∷◌, None, refl}
+use Rattle.failover.specs.declared.mode.Mode.TheVariants.{Paired, Filling, Stopped}
 use Rattle.pair_history.specs.Entries.{Frame, Delivered, DropIn, Took}
 use Rattle.pair_history.specs.HistoryState.{HistoryState, start_state}
 use Rattle.growing_history.specs.Steps.{What, Added, Sealed, Committed, PrimaryFailed, BackupFailed, WentLive, Protected, Step, step}
 use Rattle.growing_history.specs.Steps.{steps_by}
-use Rattle.growing_history.specs.LogState.{LogState, Paired, Filling, Stopped, start_of, after, added, client_seat}
+use Rattle.growing_history.specs.LogState.{LogState, start_of, after, added, client_seat}
 
 abbrev pub two_clients : HistoryState
 two_clients = start_state 1 1 [] 2

@@ -6,3 +6,5 @@ pub mod Views
 pub mod Plays
 pub mod Calls
 pub mod Examples
+pub mod Lives
+pub mod Service

@@ -2,19 +2,16 @@
 use Rattle.std.specs.Prelude.{◌≡◌, ℕ, zero, suc, ◌+◌, ◌<◌, nat_lt, Bool, true, false, if◌then◌else◌, nat_eq, List, [], ◌∷◌, ◌++◌, length}
 use Rattle.std.specs.Prelude.{map, take, drop}
 use Rattle.std.specs.Cmp.Lexicographic.{pointwise}
-use Rattle.frame_ports.specs.declared.limits.TheConstants.{BOX_FRAMES}
+use Rattle.failover.specs.declared.mode.Mode.{Mode}
+use Rattle.failover.specs.declared.mode.Mode.TheVariants.{Paired, Filling, Alone, Stopped}
+use Rattle.frame_ports.specs.Limits.{box_frames}
 use Rattle.pair_history.specs.Entries.{Entry, Arrive, Delivered, Refused, DropIn, Land, DropOut, Took}
 use Rattle.pair_history.specs.HistoryState.{HistoryState, Waiting, inbox_of, at}
 use Rattle.pair_history.specs.HistoryState as history
 use Rattle.pair_history.specs.Order.{AreGuests, NoneTakes}
+use Rattle.pair_history.specs.Landings.{IsAtFull}
 use Rattle.pair_history.specs.Failures.{arrived_numbers, all_land, go_live_entries, fail_backup_entries}
 use Rattle.growing_history.specs.Steps.{What, Added, Sealed, RanAlone, Committed, PrimaryFailed, BackupFailed, WentLive, Protected, Step}
-
-pub data Mode : Type 0 where
-  Paired : Mode
-  Filling : Mode
-  Alone : Mode
-  Stopped : Mode
 
 -- an epoch that was sealed and isn't committed
 pub record Epoch : Type 0 where
@@ -25,6 +22,7 @@ pub record Epoch : Type 0 where
 pub record LogState : Type 0 where
   -- where the history stands
   pub history : HistoryState
+  -- the pair's mode, as failover has it
   pub mode : Mode
   pub generation : ℕ
   -- the sealed epochs, by rising number
@@ -150,20 +148,34 @@ after s (WentLive r) = record s {
 }
 after s (Protected b) = record s { mode = Filling; generation = s.generation + 1; next = 0; backup = b }
 
--- whose entry it is: a client's own, a loss of the line's, or the keeper's for what lands or finds a full box; the line loses no frame
--- that arrives in what is under way
-abbrev pub IsOwn : List Entry → ℕ → Entry → Type 0
-IsOwn way by (Delivered c f n) = by ≡ client_seat c
-IsOwn way by (Refused c f) = by ≡ client_seat c
-IsOwn way by (Took c answer) = by ≡ client_seat c
-IsOwn way by (Land c) = by ≡ 0
-IsOwn way by (DropIn n) = (by ≡ line_seat) × NoneTakes n way
-IsOwn way by (DropOut c place) = by ≡ (if nat_lt place BOX_FRAMES then line_seat else 0)
-IsOwn way by other = ⊥
+-- whose entry it is: a client's own, a loss of the line's, or the keeper's for what lands or finds a full box
+abbrev pub IsOwn : ℕ → Entry → Type 0
+IsOwn by (Delivered c f n) = by ≡ client_seat c
+IsOwn by (Refused c f) = by ≡ client_seat c
+IsOwn by (Took c answer) = by ≡ client_seat c
+IsOwn by (Land c) = by ≡ 0
+IsOwn by (DropIn n) = by ≡ line_seat
+IsOwn by (DropOut c place) = by ≡ (if nat_lt place box_frames then line_seat else 0)
+IsOwn by other = ⊥
 
-abbrev pub AreOwn : List Entry → ℕ → List Entry → Type 0
-AreOwn way by [] = Unit {0}
-AreOwn way by (e ∷ es) = IsOwn way by e × AreOwn way by es
+abbrev pub AreOwn : ℕ → List Entry → Type 0
+AreOwn by [] = Unit {0}
+AreOwn by (e ∷ es) = IsOwn by e × AreOwn by es
+
+-- why a frame is dropped: the line loses none that arrives in what is under way, and the keeper drops none but the next one on its way to
+-- a client whose box is full
+abbrev pub IsKnown : List Entry → HistoryState → ℕ → Entry → Type 0
+IsKnown way s by (DropIn n) = NoneTakes n way
+IsKnown way s by (DropOut c place) = by ≡ 0 → IsAtFull s c place
+IsKnown way s by other = Unit {0}
+
+abbrev pub AreKnown : List Entry → HistoryState → ℕ → List Entry → Type 0
+AreKnown way s by [] = Unit {0}
+AreKnown way s by (e ∷ es) = IsKnown way s by e × AreKnown way (history.after s e) by es
+
+abbrev pub DropsKnown : LogState → ℕ → What → Type 0
+DropsKnown s by (Added es) = AreKnown (under_way s) s.history by es
+DropsKnown s by other = Unit {0}
 
 -- the runner's epoch: arrivals of what was handed out, in that order, and steps
 abbrev pub IsEpoch : LogState → List Entry → Type 0
@@ -173,6 +185,14 @@ abbrev pub HasBackup : Mode → Type 0
 HasBackup Paired = Unit {0}
 HasBackup Filling = Unit {0}
 HasBackup other = ⊥
+
+-- the greatest number of a seat of a client or of the line
+abbrev pub last_seat : LogState → ℕ
+last_seat s = client_seat (length s.history.boxes)
+
+-- a number for who goes live or is protected: above those of who was live or protected before, of the clients and of the line
+abbrev pub IsNew : LogState → ℕ → Type 0
+IsNew s n = (s.runner < n) × (s.backup < n) × (last_seat s < n)
 
 -- a full checkpoint is that of a filling pair
 abbrev pub MaySeal : ℕ → Mode → Type 0
@@ -194,19 +214,20 @@ IsFirstSealed n (e ∷ es) = e.number ≡ n
 
 -- who may make a step, and when
 abbrev pub MayStep : LogState → ℕ → What → Type 0
-MayStep s by (Added es) = AreOwn (under_way s) by es
+MayStep s by (Added es) = AreOwn by es
 MayStep s by (Sealed g n epoch text) = (by ≡ s.runner) × MaySeal n s.mode × (g ≡ s.generation) × (n ≡ s.next) × IsEpoch s epoch
 MayStep s by (RanAlone epoch) = (by ≡ s.runner) × IsAlone s.mode × IsEpoch s epoch
 MayStep s by (Committed g n text) = (by ≡ s.backup) × (IsAlone s.mode → ⊥) × (g ≡ s.generation) × IsFirstSealed n s.sealed
 MayStep s by PrimaryFailed = (by ≡ 0) × (s.mode ≡ Paired)
 MayStep s by BackupFailed = (by ≡ 0) × HasBackup s.mode
-MayStep s by (WentLive r) = (by ≡ 0) × (s.mode ≡ Stopped) × (s.runner < r) × (s.backup < r)
-MayStep s by (Protected b) = (by ≡ 0) × IsAlone s.mode × (s.runner < b) × (s.backup < b)
+MayStep s by (WentLive r) = (by ≡ 0) × (s.mode ≡ Stopped) × IsNew s r
+MayStep s by (Protected b) = (by ≡ 0) × IsAlone s.mode × IsNew s b
 
--- What a step needs. Unless a commit is marked, the history with what the step adds to it, and then what is under way after it, is
--- one that a guest that never fails can have.
+-- What a step needs. Unless a commit is marked, it drops frames for a known reason, and the history with what the step adds to it, and
+-- then what is under way after it, is one that a guest that never fails can have.
 pub record Needs (s : LogState) (x : Step) : Type 0 where
   pub may : MayStep s x.by x.what
+  pub known : s.marked ≡ 0 → DropsKnown s x.by x.what
   pub lawful : s.marked ≡ 0 → history.Legal s.history (added s x.what ++ under_way (after s x.what))
 
 -- the state that steps lead to

@@ -15,12 +15,14 @@ mod what;
 pub use boot::{Clock, Opened};
 pub use known::Pair;
 pub use laws::{
-    Texts, a_call_is_a_point_of_one_history, live_members_miss_nothing, live_numbers_rise,
+    Texts, a_call_is_a_point_of_one_history, a_whole_life_is_legal,
+    clients_have_one_guest_that_never_fails, failures_follow_the_table,
+    handed_out_frames_can_arrive, live_members_miss_nothing, live_numbers_rise,
     own_entries_are_announced, sealed_texts_make_their_guests, steps_go_on,
     unmarked_histories_are_legal,
 };
 pub use seats::{BackupSeat, Badge, ClientSeat, KeeperSeat, LineSeat, MemberSeat, RunnerSeat};
-pub use what::What;
+pub use what::{Tells, What};
 
 #[cfg(test)]
 mod tests;

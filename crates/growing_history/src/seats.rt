@@ -5,13 +5,12 @@ ghost use Rattle.growing_history.specs.LogState.{Legal};
 ghost use Rattle.growing_history.specs.Views.{View, unopened, only_view};
 ghost use Rattle.growing_history.specs.Plays.{Meets, Looks, badge_of, heard, one_more, newcomer, with_member, without_member, member_of};
 ghost use Rattle.growing_history.specs.Plays.{stepped};
-ghost use Rattle.growing_history.specs.Calls.{meaning};
 
 use crate::boot::Clock;
 use crate::known::{
     Announced, Counting, Enrolling, Known, Lending, Looking, Meeting, Opening, Pair, Telling,
 };
-use crate::what::What;
+use crate::what::Tells;
 use atomic_table::{Badge as Resting, Seat};
 use std::marker::{Brand, Model, PhantomData};
 use std::mem;
@@ -134,15 +133,15 @@ fn meet<P: Pair>(clock: &Clock<P>, keeper: &mut Seat<(), Known>)
 }
 
 /// The keeper makes the step that the call says. The code has no use for what it is.
-fn count<P: Pair, S: Announced>(clock: &Clock<P>, keeper: &mut Seat<(), Known>, _what: &What<'_>)
+fn count<P: Pair, S: Announced, W: Tells>(clock: &Clock<P>, keeper: &mut Seat<(), Known>, _what: &W)
     requires word { keeper.old.table_id ≡ P.word }
     requires keeper { (keeper.old.me.0.keeps ≡ true) × (keeper.old.me.1 ≡ []) }
-    requires step { S.step ≡ step keeper.old.me.0.number (meaning _what.now) }
+    requires step { S.step ≡ step keeper.old.me.0.number (W.what _what.now) }
     requires room { length keeper.old.me.0.steps < 2 ^ 62 }
     requires start { keeper.old.me.0.start ≡ Some P.start }
-    requires legal { Legal P.start (keeper.old.me.0.steps ++ step keeper.old.me.0.number (meaning _what.now) ∷ []) }
+    requires legal { Legal P.start (keeper.old.me.0.steps ++ step keeper.old.me.0.number (W.what _what.now) ∷ []) }
     ensures word { keeper.new.table_id ≡ P.word }
-    ensures keeper { keeper.new.me ≡ (stepped (step keeper.old.me.0.number (meaning _what.now)) keeper.old.me.0, []) }
+    ensures keeper { keeper.new.me ≡ (stepped (step keeper.old.me.0.number (W.what _what.now)) keeper.old.me.0, []) }
     ensures meets { Meets keeper.old.me.0 (length keeper.old.me.0.steps) }
 {
     clock.table.shared.fetch_add::<Counting<S>>(keeper, 0, 1);
@@ -216,7 +215,7 @@ impl<P: Pair> KeeperSeat<P> {
 
     /// Gives out the next number, to a member that has seen the whole log and made no step.
     pub fn enroll(&mut self, clock: &Clock<P>) -> MemberSeat<P>
-        requires room { self.old.enrolled < 2 ^ 62 }
+        requires room { self.old.enrolled < 2 ^ 63 }
         ensures keeper { self.new ≡ record self.old { enrolled = self.old.enrolled + 1 } }
         ensures member { result ≡ record { number = self.old.enrolled + 1; steps = self.old.steps } }
     {
@@ -232,18 +231,18 @@ impl<P: Pair> KeeperSeat<P> {
     }
 
     /// Makes a step for a member, who has then seen the whole log, and the step last in it.
-    pub fn step(&mut self, clock: &Clock<P>, member: &mut MemberSeat<P>, what: &What<'_>)
+    pub fn step<W: Tells>(&mut self, clock: &Clock<P>, member: &mut MemberSeat<P>, what: &W)
         requires room { length self.old.steps < 2 ^ 62 }
-        requires legal { Legal P.start (self.old.steps ++ step member.old.number (meaning what.now) ∷ []) }
-        ensures keeper { self.new ≡ record self.old { steps = self.old.steps ++ step member.old.number (meaning what.now) ∷ [] } }
+        requires legal { Legal P.start (self.old.steps ++ step member.old.number (W.what what.now) ∷ []) }
+        ensures keeper { self.new ≡ record self.old { steps = self.old.steps ++ step member.old.number (W.what what.now) ∷ [] } }
         ensures member { member.new ≡ record { number = member.old.number; steps = self.new.steps } }
         ensures before { Begins member.old.steps self.old.steps }
         ensures own { steps_by member.old.number member.new.steps ≡ steps_by member.old.number member.old.steps ++ step member.old.number
-            (meaning what.now) ∷ [] }
+            (W.what what.now) ∷ [] }
     {
         let lent = mem::replace(&mut member.seat, Resting::blank());
         lend(clock, &mut self.seat, lent);
-        count::<P, Brand>(clock, &mut self.seat, what);
+        count::<P, Brand, W>(clock, &mut self.seat, what);
         self.count += 1;
         let back = take_back(clock, &mut self.seat);
         member.seat = back;
@@ -264,12 +263,12 @@ impl<P: Pair> KeeperSeat<P> {
     }
 
     /// Makes a step that is no member's.
-    pub fn step_alone(&mut self, clock: &Clock<P>, what: &What<'_>)
+    pub fn step_alone<W: Tells>(&mut self, clock: &Clock<P>, what: &W)
         requires room { length self.old.steps < 2 ^ 62 }
-        requires legal { Legal P.start (self.old.steps ++ step 0 (meaning what.now) ∷ []) }
-        ensures { self.new ≡ record self.old { steps = self.old.steps ++ step 0 (meaning what.now) ∷ [] } }
+        requires legal { Legal P.start (self.old.steps ++ step 0 (W.what what.now) ∷ []) }
+        ensures { self.new ≡ record self.old { steps = self.old.steps ++ step 0 (W.what what.now) ∷ [] } }
     {
-        count::<P, Brand>(clock, &mut self.seat, what);
+        count::<P, Brand, W>(clock, &mut self.seat, what);
         self.count += 1;
     }
 }

@@ -1,6 +1,7 @@
 //! What no clause says: that the word counts, that the calls succeed where there is memory, and that seats cross threads.
-ghost use Rattle.std.specs.Prelude.{◌≡◌, [], ◌∷◌, ◌++◌};
-ghost use Rattle.growing_history.specs.Steps.{Begins};
+ghost use Rattle.std.specs.Prelude.{◌≡◌, [], ◌∷◌, ◌++◌, None};
+ghost use Rattle.pair_history.specs.Entries as entries;
+ghost use Rattle.growing_history.specs.Steps.{Added, Begins};
 ghost use Rattle.growing_history.specs.Examples.{two_clients, found_empty};
 
 use super::*;
@@ -74,7 +75,16 @@ fn call_first<P: Pair>(clock: &Clock<P>, keeper: &mut KeeperSeat<P>, first: &mut
     keeper.step(clock, first, &What::Added(&[Entry::Took(1, None)]));
 }
 
-/// Then the second one does.
+/// That a client finds its box empty, told without a list of entries.
+struct FoundEmpty {
+    client: u64,
+}
+
+impl Tells for FoundEmpty {
+    ghost what = { λ call. Added (entries.Took call.client None ∷ []) };
+}
+
+/// Then the second one does, which a type of its own announces.
 fn call_second<P: Pair>(clock: &Clock<P>, keeper: &mut KeeperSeat<P>, second: &mut ClientSeat<P>)
     requires start { P.start ≡ two_clients }
     requires keeper { keeper.old.steps ≡ found_empty 1 ∷ [] }
@@ -82,7 +92,7 @@ fn call_second<P: Pair>(clock: &Clock<P>, keeper: &mut KeeperSeat<P>, second: &m
     ensures keeper { keeper.new.steps ≡ found_empty 1 ∷ found_empty 2 ∷ [] }
     ensures second { second.new ≡ record { number = 5; steps = found_empty 1 ∷ found_empty 2 ∷ [] } }
 {
-    keeper.step(clock, second, &What::Added(&[Entry::Took(2, None)]));
+    keeper.step(clock, second, &FoundEmpty { client: 2 });
 }
 
 fn in_one_thread<P: Pair, R: Abort>(rt: &R, opened: Opened) -> Result<(), Fail>

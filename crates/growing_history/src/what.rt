@@ -1,5 +1,13 @@
 //! What a step of the keeper is.
+ghost use Rattle.growing_history.specs.Steps as steps;
+
 use pair_history::Entry;
+
+/// What stands for a step of the keeper. A crate above has its own, which lend what it keeps (an epoch, a text, a checkpoint that was
+/// read), so that nothing is copied to be announced.
+pub trait Tells {
+    ghost what: { Self → steps.What };
+}
 
 /// What a step of the keeper is, as the call that makes it says it. Nothing is stored.
 pub enum What<'a> {
@@ -26,4 +34,10 @@ pub enum What<'a> {
     WentLive(u64),
     /// The live node got a backup of this number.
     Protected(u64),
+}
+
+impl Tells for What<'_> {
+    ghost use Rattle.growing_history.specs.Calls.{meaning};
+
+    ghost what = { meaning };
 }

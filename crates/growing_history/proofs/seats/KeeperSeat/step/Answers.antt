@@ -3,7 +3,6 @@ use Rattle.growing_history.specs.Steps.{What, Step, step, steps_by}
 use Rattle.growing_history.specs.LogState.{Legal}
 use Rattle.growing_history.specs.Views.{View, Member, Keeper, only_view, IsMember}
 use Rattle.growing_history.specs.Plays.{Meets, with_member, member_of, stepped}
-use Rattle.growing_history.specs.Calls.{meaning}
 use Rattle.growing_history.proofs.Members.{own_steps, IsMember-stepped}
 use Rattle.growing_history.proofs.seats.KeeperSeat.step.Goals as goal
 
@@ -12,7 +11,7 @@ invariant_of-member g c =
     let start = g.P.Pair.start in
     let v = c.self.inside.seat.me.0 in
     let w = only_view c.member.inside.seat.views in
-    let said : What = meaning c.args.what.now in
+    let said : What = g.W.Tells.what c.args.what.now in
     let joined : c.lend.new.keeper.me.0 ≡ with_member v w =
     ap (λ m. m.0) c.lend.ensures.keeper ∙ ap (λ b. with_member v (only_view b.views)) c.replace-lent.ensures.value in
     let views : c.take_back-back.result.views ≡ member_of (stepped (step w.number said) (with_member v w)) ∷ [] =
@@ -34,7 +33,7 @@ pub returns-clause-own : goal.returns-clause-own
 returns-clause-own g c =
     let v = c.self.inside.seat.me.0 in
     let w = only_view c.member.inside.seat.views in
-    let said : What = meaning c.args.what.now in
+    let said : What = g.W.Tells.what c.args.what.now in
     let x = step w.number said in
     let joined : c.lend.new.keeper.me.0 ≡ with_member v w =
     ap (λ m. m.0) c.lend.ensures.keeper ∙ ap (λ b. with_member v (only_view b.views)) c.replace-lent.ensures.value in
