@@ -2,9 +2,9 @@
 use Rattle.std.proofs.Common.{rules, ◌≡◌, ℕ, zero, suc, ◌+◌, ◌-◌, ◌<◌, List, [], ◌∷◌, ◌++◌, length, replicate, refl, sym, ap, ◌∙◌, subst}
 use Rattle.std.proofs.{Common.{arith, append_assoc, Bool, true, cond, inl, inr}, lemmas.List.{append-nil, length-append, length-replicate}}
 use Rattle.guest_machine.specs.{Guest.Guest, Step.{next, sent}, Runs.{after_steps, sent_in}}
-use Rattle.frame_ports.specs.{Addresses.targets_of, Lands.lands, declared.limits.TheConstants.NUMBER_LIMIT}
+use Rattle.frame_ports.specs.{Addresses.targets_of, Lands.lands, Limits.number_limit}
 use Rattle.pair_history.specs.{Entries.{Frame, Ran}, HistoryState.HistoryState, Landings.landings}
-use Rattle.pair_core.specs.{declared.event.Event.TheVariants.Step, declared.event.Reply.Reply, declared.limits.TheConstants.STEP_ENTRIES}
+use Rattle.pair_core.specs.{declared.event.Event.TheVariants.Step, declared.event.Reply.Reply, Limits.lone_step_entries}
 use Rattle.pair_core.specs.{Invariant.Holds, Journal.{all_entries, with_history}, Modes.is_alone, Nodes.{after_run, with_sent_off}}
 use Rattle.pair_core.specs.{Pair.Pair, Protocol.{Record, Outcome, step_done, step_outcome, step_room}, Answering.Answers, Record.IsLone}
 use Rattle.pair_core.specs.Runs.{StepsAnswer, goes_on, steps_outcome}
@@ -57,7 +57,7 @@ module _ (w : Pair) where
 
     -- one more step, after quiet ones
     module _ (n : ℕ) (silent : sent_in n w.nodes.live.guest ≡ [])
-        (fits : length (all_entries w.protocol.journal) + (n + 1025) < NUMBER_LIMIT) where
+        (fits : length (all_entries w.protocol.journal) + (n + 1025) < number_limit) where
       abbrev g : Guest
       g = after_steps n w.nodes.live.guest
 
@@ -67,7 +67,7 @@ module _ (w : Pair) where
       step_next : step_done boxes (sent g) (next g).steps (quiet n).protocol ≡ step_outcome w.start (quiet n).protocol
       step_next =
           let c = counted in
-          let room : step_room w.protocol.mode ≡ 1025 = ap (λ (b : Bool). cond b STEP_ENTRIES 1) lone in
+          let room : step_room w.protocol.mode ≡ 1025 = ap (λ (b : Bool). cond b lone_step_entries 1) lone in
           step_goes (quiet n) (quiet-holds n silent) (alone_not_stopped w.protocol.mode lone) (omega arith) (omega arith)
 
       step_makes : (replies.Steps (after_steps (suc n) w.nodes.live.guest).steps, (after_alone (suc n) (sent g)).protocol)
@@ -81,7 +81,7 @@ module _ (w : Pair) where
           step_makes ∙ step_next ∙ ap (λ (o : Outcome). goes_on w.start o.0 o.1) before ∙ sym (more-answered w.start w.protocol n)
 
     -- so many quiet steps
-    quiet_answered : (n : ℕ) → sent_in n w.nodes.live.guest ≡ [] → length (all_entries w.protocol.journal) + (n + 1024) < NUMBER_LIMIT
+    quiet_answered : (n : ℕ) → sent_in n w.nodes.live.guest ≡ [] → length (all_entries w.protocol.journal) + (n + 1024) < number_limit
         → (replies.Steps (after_steps n w.nodes.live.guest).steps, (quiet n).protocol) ≡ steps_outcome w.start w.protocol n
     quiet_answered zero e fits = search (arith, rules, append-nil, live_is, no-steps, no-steps-answered)
     quiet_answered (suc n) e fits =
@@ -94,7 +94,7 @@ module _ (w : Pair) where
 
     -- so many steps of which only the last sends frames
     pub alone_answered : (n : ℕ) → sent_in (n - 1) w.nodes.live.guest ≡ []
-        → length (all_entries w.protocol.journal) + (n + 1024) < NUMBER_LIMIT
+        → length (all_entries w.protocol.journal) + (n + 1024) < number_limit
         → (replies.Steps (after_steps n w.nodes.live.guest).steps, (after_alone n (sent_in n w.nodes.live.guest)).protocol)
         ≡ steps_outcome w.start w.protocol n
     alone_answered zero e fits = search (arith, rules, none-sent, quiet_answered)

@@ -13,6 +13,10 @@ pub on_err : {A : Type 0} (o : Result A AllocError) (P : Type 0) → P → OnErr
 on_err (Ok x) P p = tt
 on_err (Err e) P p = p
 
+pub on_err_so : {A : Type 0} (o : Result A AllocError) (P Q : Type 0) → (P → Q) → OnErr o P → OnErr o Q
+on_err_so (Ok x) P Q f p = tt
+on_err_so (Err e) P Q f p = f p
+
 -- it is answered and leaves what the protocol says
 pub answered_so : (o : Result Reply AllocError) (r : Record) (done out : Outcome) → done ≡ out → IfOk o (λ reply. (reply, r) ≡ done)
     → IfOk o (λ reply. (reply, r) ≡ out)

@@ -4,7 +4,7 @@ use Rattle.std.proofs.{Common.{true, cond, Some}, lemmas.Bool.{eq-eqb, lt-ltb}, 
 use Rattle.std.proofs.lemmas.List.{append-nil, length-set}
 use Rattle.std.specs.Prelude.{slice_get, nat_lt, ◌==◌}
 use Rattle.frame_ports.specs.{Addresses.{IsFrame, targets_of}, Lands.{list_of, with_list, lands}, Ports.{PortsState, after_delivery}}
-use Rattle.frame_ports.specs.declared.limits.TheConstants.{INBOX_FRAMES, BOX_FRAMES}
+use Rattle.frame_ports.specs.Limits.{inbox_frames, box_frames}
 use Rattle.output_gate.specs.Epochs.{Epoch, frames_to, frames_of}
 use Rattle.pair_history.specs.Entries.{Frame, Entry, Delivered, Refused, DropIn, DropOut, Took}
 use Rattle.pair_history.specs.HistoryState.{HistoryState, Waiting, inbox_of, without_number, out_without, at, Legal, Allows}
@@ -13,7 +13,8 @@ use Rattle.pair_history.proofs.States.{at-append, Legal-append, DropsAreKnown-ap
 use Rattle.pair_history.proofs.Waiting.{inbox_of-append, AreRising-push, AreRising-without, StandsAt, Leaves, leaves-at}
 use Rattle.pair_history.proofs.{Losses.{AreRising-left, LeavesBefore, leaves-before}, Moves.{AllCan-more, left-more, left-shorter}}
 use Rattle.pair_history.proofs.LandingLaws.{length-lands, BoxesFit-set, BoxesFit-at, BoxesFit-lands, AllClients-targets, landings-land}
-use Rattle.pair_history.proofs.LandingLaws.{AllLand, AllClients}
+use Rattle.pair_history.specs.Leaving.{LeaveInOrder}
+use Rattle.pair_history.proofs.{LandingLaws.{AllLand, AllClients}, LeavingLaws.landings-leave}
 use Rattle.pair_core.specs.{declared.window.Window.Window, Invariant.{AreClients, Holds}, Journal.with_history, Pair.{Pair, shown_state}}
 use Rattle.pair_core.specs.Protocol.{ack_done, deliver_done, take_done, loss_done, let_go}
 use Rattle.pair_core.specs.Record.{IsRecord, ports_after_ack, ports_after_take, ports_after_lose_in, ports_after_lose_out}
@@ -63,27 +64,41 @@ module _ (w : Pair) (h : Holds w) where
   high_there : (c : ℕ) → c ≤ length w.ports.boxes → c ≤ length (shown_state w).boxes
   high_there c l = rw (← h.clients.boxes) l
 
-  -- AckGet: what the gate held up to that checkpoint lands, or finds its client's box full
-  pub ack_lands : (k : IsRecord w.protocol) (n : ℕ) (below : n < w.protocol.window.to_commit)
-      → AllLand (shown_state w) (let_go w.ports.boxes w.protocol n)
-      (targets_of (length w.ports.boxes) (frames_of (leaves w.protocol.window w.protocol.pending k.window n below).stay))
-      (landings w.ports.boxes (let_go w.ports.boxes w.protocol n))
-  ack_lands k n below =
-      let r = w.protocol in
-      let s = shown_state w in
-      let b = w.ports.boxes in
-      let m = length b in
-      let t = leaves r.window r.pending k.window n below in
-      let ps = let_go b r n in
-      let qs = targets_of m (frames_of t.stay) in
-      let out : s.out ≡ ps ++ qs =
-      h.owed ∙ ap (λ x. targets_of m (frames_of x)) t.split ∙ ap (targets_of m) (frames_of-append t.gone t.stay)
-      ∙ targets_of-append m (frames_of t.gone) (frames_of t.stay)
-      ∙ ap (λ x. targets_of m x ++ qs) (sym (gone r.window r.pending k.window n below)) in
-      let all = AllClients-targets m (frames_to n r.pending) in
-      subst (λ (x : List (List Frame)). AllLand s ps qs (landings x ps)) (sym h.clients.boxes)
-      (landings-land s ps qs out (subst (λ (x : List (List Frame)). AllClients (length x) ps) h.clients.boxes all)
-      (subst BoxesFit h.clients.boxes h.clients.fit))
+  -- AckGet: what the gate held up to that checkpoint is the front of what the history owes
+  module _ (k : IsRecord w.protocol) (n : ℕ) (below : n < w.protocol.window.to_commit) where
+    abbrev owed_after : List (ℕ × Frame)
+    owed_after = targets_of (length w.ports.boxes) (frames_of (leaves w.protocol.window w.protocol.pending k.window n below).stay)
+
+    owed_first : (shown_state w).out ≡ let_go w.ports.boxes w.protocol n ++ owed_after
+    owed_first =
+        let r = w.protocol in
+        let m = length w.ports.boxes in
+        let t = leaves r.window r.pending k.window n below in
+        h.owed ∙ ap (λ x. targets_of m (frames_of x)) t.split ∙ ap (targets_of m) (frames_of-append t.gone t.stay)
+        ∙ targets_of-append m (frames_of t.gone) (frames_of t.stay)
+        ∙ ap (λ x. targets_of m x ++ owed_after) (sym (gone r.window r.pending k.window n below))
+
+    all_clients : AllClients (length (shown_state w).boxes) (let_go w.ports.boxes w.protocol n)
+    all_clients =
+        subst (λ (x : List (List Frame)). AllClients (length x) (let_go w.ports.boxes w.protocol n)) h.clients.boxes
+        (AllClients-targets (length w.ports.boxes) (frames_to n w.protocol.pending))
+
+    -- it lands, or finds its client's box full
+    pub ack_lands : AllLand (shown_state w) (let_go w.ports.boxes w.protocol n) owed_after
+        (landings w.ports.boxes (let_go w.ports.boxes w.protocol n))
+    ack_lands =
+        let s = shown_state w in
+        let ps = let_go w.ports.boxes w.protocol n in
+        subst (λ (x : List (List Frame)). AllLand s ps owed_after (landings x ps)) (sym h.clients.boxes)
+        (landings-land s ps owed_after owed_first all_clients (subst BoxesFit h.clients.boxes h.clients.fit))
+
+    -- and leaves in order
+    pub ack_leaves : LeaveInOrder (shown_state w) (landings w.ports.boxes (let_go w.ports.boxes w.protocol n)) (let_go w.ports.boxes w.protocol n)
+    ack_leaves =
+        let s = shown_state w in
+        let ps = let_go w.ports.boxes w.protocol n in
+        subst (λ (x : List (List Frame)). LeaveInOrder s (landings x ps) ps) (sym h.clients.boxes)
+        (landings-leave s ps owed_after owed_first all_clients (subst BoxesFit h.clients.boxes h.clients.fit))
 
   pub ack_holds : IsRecord w.protocol → (n : ℕ) → n < w.protocol.window.to_commit
       → Holds (record w { protocol = (ack_done w.ports.boxes w.protocol n).1; ports = ports_after_ack w.ports w.protocol n })
@@ -142,7 +157,7 @@ module _ (w : Pair) (h : Holds w) where
         answer s c [] e l k = ((l, k), e)
         answer s c (f ∷ fs) e l k = ((l, k), ap (λ b. slice_get b 0) e)
 
-        shorter : (xs : List Frame) → length xs ≤ BOX_FRAMES → length (drop 1 xs) ≤ BOX_FRAMES
+        shorter : (xs : List Frame) → length xs ≤ box_frames → length (drop 1 xs) ≤ box_frames
         shorter [] l = l
         shorter (x ∷ xs) l = omega arith
 
@@ -252,13 +267,13 @@ module _ (w : Pair) (h : Holds w) where
           w.protocol.window w.protocol.pending refl refl h.owed
 
       -- Deliver at a full inbox: that is recorded, and that is all
-      pub full_holds : INBOX_FRAMES ≤ length (list_of w.ports.inboxes c)
+      pub full_holds : inbox_frames ≤ length (list_of w.ports.inboxes c)
           → Holds (record w { protocol = record w.protocol { journal = with_history w.protocol.journal (Refused c the_frame ∷ []) } })
       full_holds full =
           let s = shown_state w in
           let mine = ap length (h.clients.inboxes c low high) in
           let fewer = left-shorter c s.waiting (kept_moves w h) in
-          let many : INBOX_FRAMES ≤ length (inbox_of c s.waiting) = omega arith in
+          let many : inbox_frames ≤ length (inbox_of c s.waiting) = omega arith in
           history_holds w h (Refused c the_frame ∷ []) s refl refl (((low, high_there c high), frame, many), tt) tt h.journal.can w.ports
           h.clients
           w.protocol.window w.protocol.pending refl refl h.owed

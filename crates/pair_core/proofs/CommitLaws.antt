@@ -1,12 +1,12 @@
 -- What the two nodes keep along a commit: the image takes in the oldest sealed text, an empty one as well as one that follows.
 use Rattle.std.proofs.Common.{rules, ◌≡◌, ℕ, zero, suc, ◌+◌, ◌-◌, ◌≤◌, List, ◌∷◌, ◌++◌, refl, ap, ◌∙◌, subst, arith, append_assoc, Bool}
 use Rattle.std.proofs.{Common.{true, false, cond, Some, None, Result, Ok, Err}, lemmas.Bool.eq-eqb, lemmas.Bool.Decides.nat_tests}
-use Rattle.std.specs.Prelude.{nat_lt, not, ◌==◌}
+use Rattle.std.specs.Prelude.{nat_lt, not, ◌==◌, ◌&&◌}
 use Rattle.guest_machine.specs.Guest.{Guest}
 use Rattle.epoch_snapshot.specs.{Bases.IsBase, Checkpoints.Change, Images.image_of}
-use Rattle.backup_image.specs.{declared.errors.ImageError.ImageError, declared.errors.ImageError.TheVariants.{Stale, Gap}}
+use Rattle.backup_image.specs.{declared.errors.ImageError.ImageError, declared.errors.ImageError.TheVariants.{Stale, Gap, OldVersion}}
 use Rattle.backup_image.specs.{declared.standing.Staged.Staged, declared.standing.Staged.TheVariants.{New, Again}}
-use Rattle.backup_image.specs.Images.{ImageState, answer_at, stage_answer, staged_after, after_stage, committed}
+use Rattle.backup_image.specs.Images.{ImageState, answer_at, is_old_delta, stage_answer, staged_after, after_stage, committed}
 use Rattle.pair_history.specs.{Entries.Frame, Moves.{Move, guest_along, frames_along}}
 use Rattle.pair_history.proofs.Moves.{guest_along-append}
 use Rattle.pair_core.specs.Invariant.{all_moves, epoch_frames, AreNodes, IsBacked}
@@ -58,10 +58,20 @@ module _ (alone : Bool) (generation n : ℕ) (g : Guest) (ms : List Move) (mss :
   number-is : change.number ≡ n
   number-is = ap (λ (c : Change). c.number) change-is ∙ text.of_number
 
+  version-is : change.version ≡ 2
+  version-is = ap (λ (c : Change). c.version) change-is ∙ text.of_version
+
+  -- no delta of version 1
+  new-version : is_old_delta change ≡ false
+  new-version = ap (λ v. (v == 1) && not (change.number == 0)) version-is
+
   -- the first checkpoint fills the empty image, and each later one follows the one before it
+  is-next : (m : ℕ) → n ≡ m → answer_at x.image.stands_at change.generation change.number ≡ Ok New
+  is-next zero e = λ i. answer_at ((backed.fills e).empty i) (generation-is i) ((number-is ∙ e) i)
+  is-next (suc m) e = search (arith, rules, backed, generation-is, next-is-new, number-is)
+
   is-new : (m : ℕ) → n ≡ m → stage_answer x.image change ≡ Ok New
-  is-new zero e = λ i. answer_at ((backed.fills e).empty i) (generation-is i) ((number-is ∙ e) i)
-  is-new (suc m) e = search (arith, rules, backed, generation-is, next-is-new, number-is)
+  is-new m e = ap (λ old. cond old (Err OldVersion) (answer_at x.image.stands_at change.generation change.number)) new-version ∙ is-next m e
 
   makes : (m : ℕ) → n ≡ m → image_of change x.image.guest ≡ guest_along g ms
   makes zero e = search (arith, rules, backed)

@@ -12,12 +12,13 @@ use Rattle.pair_core.specs.declared.event.Event.TheVariants.{Step, Cut, Send, Ba
 use Rattle.pair_core.specs.{declared.event.Event.TheVariants.{FailPrimary, FailBackup, GoLive, Protect}, declared.event.Packet.Packet}
 use Rattle.pair_core.specs.{declared.event.Refusal.Refusal, declared.event.Refusal.TheVariants.{Full, NoMemory}, declared.event.Reply.Reply}
 use Rattle.pair_core.specs.{Answering.Answers, Journal.{first_of, kept_entries, with_moves}}
-use Rattle.pair_core.specs.Modes.{is_alone, mode_refusal, backup_refusal, stop_refusal}
+use Rattle.pair_core.specs.Modes.{is_alone, mode_refusal, backup_refusal, change_refusal}
 use Rattle.pair_core.specs.Protocol.{Record, Outcome, allowed, outcome, or_else, refused, shown_at, live_at, outbox_of, step_done}
 use Rattle.pair_core.specs.Protocol.{step_entries, cut_done, send_done, again_done, commit_done, backup_outcome, let_go, ack_done}
 use Rattle.pair_core.specs.Protocol.{ack_outcome_at, admit_first, admit_done, delivery_refused, deliver_done, take_done, loss_of, loss_done}
 use Rattle.pair_core.specs.Protocol.{fail_primary_done, all_held, fail_backup_done, live_entries, go_live_done, protect_done}
 use Rattle.pair_core.proofs.RecordLaws.{passed, generation_is}
+use Rattle.failover.specs.declared.change.Change.TheVariants as changes
 use Rattle.pair_history.specs.Entries as entries
 use Rattle.pair_core.specs.declared.event.Reply.TheVariants as replies
 
@@ -73,7 +74,7 @@ module _ (start : HistoryState) (r : Record) where
         → P (LoseIn c place) (DropIn x.0 ∷ []) (loss_done r (DropIn x.0))
     pub lose_out : (c place : ℕ) (f : Frame) → slice_get (list_of boxes c) place ≡ Some f
         → P (LoseOut c place) (DropOut c place ∷ []) (loss_done r (DropOut c place))
-    pub fail_primary : stop_refusal r.mode ≡ None → P FailPrimary [] (fail_primary_done r)
+    pub fail_primary : change_refusal changes.FailPrimary r.mode ≡ None → P FailPrimary [] (fail_primary_done r)
     pub fail_backup : P FailBackup (kept_entries r.journal ++ landings boxes (all_held boxes (outbox_of start r) r))
         (fail_backup_done boxes (outbox_of start r) r)
     pub go_live : P GoLive (live_entries boxes (shown_at start r).out r.journal)
@@ -162,7 +163,7 @@ module _ (start : HistoryState) (r : Record) where
     allowed_end Protect goes = by_rows Protect (λ why. tt) _ _ (λ none. stays Protect (protect_done r) refl e.protect)
 
     -- a mode refuses no delivery
-    outcome_ends : (event : Event) → Ended event (outcome start r event)
+    pub outcome_ends : (event : Event) → Ended event (outcome start r event)
     outcome_ends (Deliver c bytes) = allowed_end (Deliver c bytes) refl
     outcome_ends other =
         by_table (Ended other) (mode_refusal r.mode other) (refused r) (allowed start r other)

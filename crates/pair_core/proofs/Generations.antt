@@ -22,7 +22,7 @@ Stands number g x = (j : ℕ) → next_number x + j ≡ number → slice_get (to
 abbrev pub Stays : Nodes → Nodes → Type 0
 Stays x y = (number : ℕ) (g : Guest) → Stands number g x → Stands number g y
 
-place-more : {A : Type 0} (xs ys : List A) (j : ℕ) (a : A) → slice_get xs j ≡ Some a → slice_get (xs ++ ys) j ≡ Some a
+pub place-more : {A : Type 0} (xs ys : List A) (j : ℕ) (a : A) → slice_get xs j ≡ Some a → slice_get (xs ++ ys) j ≡ Some a
 place-more [] ys j a e = absurd (cc)
 place-more (x ∷ xs) ys zero a e = e
 place-more (x ∷ xs) ys (suc j) a e = place-more xs ys j a e

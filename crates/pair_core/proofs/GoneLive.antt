@@ -2,7 +2,7 @@
 use Rattle.std.proofs.Common.{rules, ◌≡◌, ℕ, zero, suc, ◌+◌, ◌<◌, ◌≤◌, List, [], ◌∷◌, ◌++◌, length, replicate, refl, sym, ap, ◌∙◌, subst}
 use Rattle.std.proofs.{Common.{arith, Bool, true, false, cond}, lemmas.Bool.Decides.nat_tests}
 use Rattle.std.specs.Prelude.{map, remove, nat_lt}
-use Rattle.frame_ports.specs.{Addresses.targets_of, Lands.{list_of, with_list}, declared.limits.TheConstants.NUMBER_LIMIT}
+use Rattle.frame_ports.specs.{Addresses.targets_of, Lands.{list_of, with_list}, Limits.number_limit}
 use Rattle.output_gate.specs.Epochs.{Epoch, frames_of}
 use Rattle.pair_history.specs.{Entries.{Frame, Entry, DropIn, DropOut}, Failures.{drops_of_owed_from, go_live_entries}}
 use Rattle.pair_history.specs.{HistoryState.{HistoryState, after, at, out_of, Legal}, Landings.DropsAreKnown, Moves.left, Order.AreGuests}
@@ -46,7 +46,7 @@ go_live_known : (s : HistoryState) (kept : List Entry) → DropsAreKnown s (go_l
 go_live_known s kept = search (arith, rules, known-from, known-ins)
 
 module _ (w : Pair) (h : Holds w) (two : is_alone w.protocol.mode ≡ false) (some : 1 ≤ w.protocol.window.to_commit) (steps : ℕ)
-    (last : w.protocol.generation + 1 < NUMBER_LIMIT) where
+    (last : w.protocol.generation + 1 < number_limit) where
   -- the pair once the backup has gone live, where these are the boxes, and these frames were on their way
   abbrev live_with : List (List Frame) → List (ℕ × Frame) → Pair
   live_with b out = record w { protocol = (go_live_done b out steps w.protocol).1; nodes = gone_live w.nodes }

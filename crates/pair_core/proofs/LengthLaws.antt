@@ -4,7 +4,7 @@ use Rattle.std.proofs.{Common.{subst, arith, Bool, true, false, cond, inl, inr},
 use Rattle.std.proofs.lemmas.Bool.Decides.{eqb_tells}
 use Rattle.std.specs.Prelude.{map, nat_lt}
 use Rattle.frame_ports.specs.{Addresses.{targets_of, paired_with, clients_of}, Lands.{list_of, with_list, has_room, landed_at}}
-use Rattle.frame_ports.specs.declared.limits.TheConstants.{BOX_FRAMES}
+use Rattle.frame_ports.specs.Limits.{box_frames}
 use Rattle.pair_history.specs.{Entries.Frame, Landings.landings}
 use Rattle.pair_core.specs.Lengths.{receivers, has_space, lengths_at, lengths_after, landing_by, landings_by, AreLengths}
 use Rattle.pair_history.proofs.LandingLaws.{AllClients, AllClients-targets, length-landed_at, length-set'}
@@ -41,7 +41,7 @@ module _ (lengths : List ℕ) (boxes : List (List Frame)) (are : AreLengths leng
   here = are.each (c - 1) (omega arith)
 
   pub space_is_room : has_space lengths c ≡ has_room boxes c
-  space_is_room = ap (λ k. nat_lt k BOX_FRAMES) here
+  space_is_room = ap (λ k. nat_lt k box_frames) here
 
   with_room : AreLengths (set lengths (c - 1) (get_or lengths (c - 1) 0 + 1)) (with_list boxes c (list_of boxes c ++ f ∷ []))
   with_room = record {

@@ -11,6 +11,7 @@ pub mod AloneLaws
 pub mod NodesLaws
 pub mod CommitLaws
 pub mod Ends
+pub mod ModeRows
 pub mod Events
 pub mod ClientEvents
 pub mod Consistent
@@ -20,6 +21,7 @@ pub mod Protected
 pub mod ReplicationLaws
 pub mod Generations
 pub mod ReplicationRuns
+pub mod EpochRuns
 pub mod Outcomes
 pub mod LossOutcomes
 pub mod StepRuns
@@ -27,6 +29,11 @@ pub mod AloneRuns
 pub mod PublicLaws
 pub mod LostWhy
 pub mod Tells
+pub mod CallLaws
+pub mod EntersLaws
 pub mod ServiceLaws
 pub mod ServiceRuns
+pub mod EntersRuns
+pub mod StepsServed
+pub mod AckLaws
 pub mod Calls

@@ -5,7 +5,7 @@ use Rattle.std.proofs.lemmas.List.{append-nil, length-append, length-map, length
 use Rattle.std.proofs.lemmas.List.Sorted.{length_permutation}
 use Rattle.std.specs.{Prelude.{map, nat_le, filter, ◌&&◌}, List.Sorted.{IsPermutation, IsNonDecreasing}}
 use Rattle.frame_ports.specs.{Addresses.{addressed, targets_of}, Lands.list_of, Targets.{has_target, AreTargets}}
-use Rattle.frame_ports.specs.declared.limits.TheConstants.{NUMBER_LIMIT}
+use Rattle.frame_ports.specs.Limits.{number_limit}
 use Rattle.output_gate.specs.Epochs.{Epoch, frames_of, frames_to}
 use Rattle.pair_history.specs.{Entries.{Frame, Entry, Arrive, DropIn, DropOut}, HistoryState.{HistoryState, out_of, start_state}}
 use Rattle.pair_history.specs.Failures.{arrived_numbers, drops_of_owed_from}
@@ -144,15 +144,15 @@ live_table s = first_refusal (go_live_refusals s.ports.boxes (owed_to s) s.proto
 
 -- the table of refusals, where there is a next generation
 module _ (s : RecordState) (fs : List Frame) (count : ℕ) (held : fs ≡ frames_of (committed_of s.protocol.window s.protocol.pending))
-    (is : count ≡ live_count s fs) (next : s.protocol.generation + 1 < NUMBER_LIMIT) where
-  live_row : live_table s ≡ cond (nat_le NUMBER_LIMIT count) (Some Exhausted) None
+    (is : count ≡ live_count s fs) (next : s.protocol.generation + 1 < number_limit) where
+  live_row : live_table s ≡ cond (nat_le number_limit count) (Some Exhausted) None
   live_row = search (arith, rules, length-live, test_below)
 
-  pub live_refused : NUMBER_LIMIT ≤ count → Some Exhausted ≡ live_table s
-  live_refused h = sym (live_row ∙ ap (λ (t : Bool). cond t (Some Exhausted) None) (test_from NUMBER_LIMIT count h))
+  pub live_refused : number_limit ≤ count → Some Exhausted ≡ live_table s
+  live_refused h = sym (live_row ∙ ap (λ (t : Bool). cond t (Some Exhausted) None) (test_from number_limit count h))
 
-  pub live_allowed : count < NUMBER_LIMIT → None ≡ live_table s
-  live_allowed h = sym (live_row ∙ ap (λ (t : Bool). cond t (Some Exhausted) None) (test_below NUMBER_LIMIT count h))
+  pub live_allowed : count < number_limit → None ≡ live_table s
+  live_allowed h = sym (live_row ∙ ap (λ (t : Bool). cond t (Some Exhausted) None) (test_below number_limit count h))
 
 -- in the next generation every packet is of an earlier one
 pub AreBelow-next : (g n m : ℕ) (ps : List Packet) → AreBelow g n ps → AreBelow (g + 1) m ps
@@ -171,7 +171,7 @@ module _ (a : Inside) where
       ≡ length (arrived_numbers (kept_entries (stored a).journal))
   taken_in-count = search (arith, rules, arrived-kept, length-append, length-map)
 
-  pub taken_in-few : AreFields a → length a.history.entries + length (arrived_numbers (kept_entries (stored a).journal)) < NUMBER_LIMIT
+  pub taken_in-few : AreFields a → length a.history.entries + length (arrived_numbers (kept_entries (stored a).journal)) < number_limit
   taken_in-few h = search (arith, rules, arrived-few)
 
   module _ (sealed : List RunningEpoch) (ns : List ℕ) (is : sealed ≡ a.sealed.items)

@@ -72,5 +72,5 @@ module _ (w : Pair) (event : Event) (c : ℕ) (lost : Option Entry)
     pub loss_goes : o ≡ None → loss_done w.protocol e ≡ allowed w.start w.protocol event
     loss_goes k = goes w.protocol (loss_refusals w.protocol) (loss_done w.protocol e) o row k ∙ loses (Some e) some
 
-    pub loss_wants : o ≡ None → MayWantMemory w.protocol.mode (allowed w.start w.protocol event).0
+    pub loss_wants : o ≡ None → MayWantMemory w.protocol (allowed w.start w.protocol event)
     loss_wants k = rw (← loss_goes k) tt

@@ -1,8 +1,8 @@
 -- What follows from a mode that doesn't refuse an event.
 use Rattle.std.proofs.Common.{◌≡◌, refl, Bool, true, false, None}
 use Rattle.failover.specs.{declared.mode.Mode.Mode, declared.mode.Mode.TheVariants.{Filling, Alone, Stopped}}
-use Rattle.pair_core.specs.Modes.{is_stopped, is_alone, is_filling, filled, primary_refusal, backup_refusal, stop_refusal, live_refusal}
-use Rattle.pair_core.specs.Modes.{protect_refusal}
+use Rattle.failover.specs.declared.change.Change.TheVariants.{FailPrimary, GoLive, Protect}
+use Rattle.pair_core.specs.Modes.{is_stopped, is_alone, is_filling, filled, primary_refusal, backup_refusal, change_refusal}
 
 pub clash : (t : Bool) → t ≡ true → t ≡ false → ⊥
 clash t e f = cc
@@ -15,11 +15,11 @@ pub backup_goes : (mode : Mode) → backup_refusal mode ≡ None → is_alone mo
 backup_goes Alone e = absurd (cc)
 backup_goes other e = refl
 
-pub stop_goes : (mode : Mode) → stop_refusal mode ≡ None → is_alone mode ≡ false
+pub stop_goes : (mode : Mode) → change_refusal FailPrimary mode ≡ None → is_alone mode ≡ false
 stop_goes Alone e = absurd (cc)
 stop_goes other e = refl
 
-pub live_goes : (mode : Mode) → live_refusal mode ≡ None → is_alone mode ≡ false
+pub live_goes : (mode : Mode) → change_refusal GoLive mode ≡ None → is_alone mode ≡ false
 live_goes Alone e = absurd (cc)
 live_goes other e = refl
 
@@ -33,11 +33,11 @@ filled_alone Filling = refl
 filled_alone other = refl
 
 -- a backup goes live only once it took a full checkpoint
-pub live_full : (mode : Mode) → live_refusal mode ≡ None → is_filling mode ≡ false
+pub live_full : (mode : Mode) → change_refusal GoLive mode ≡ None → is_filling mode ≡ false
 live_full Filling e = absurd (cc)
 live_full other e = refl
 
 -- only a node that is alone gets a new backup
-pub protect_goes : (mode : Mode) → protect_refusal mode ≡ None → is_alone mode ≡ true
+pub protect_goes : (mode : Mode) → change_refusal Protect mode ≡ None → is_alone mode ≡ true
 protect_goes Alone e = refl
 protect_goes other e = absurd (cc)

@@ -119,15 +119,16 @@ same-shape s t p q =
     ∙ same-sectors s.sectors t.sectors t.pages t.some_pages t.most_pages s.some_sectors s.most_sectors q t.some_sectors t.most_sectors
 
 -- a machine's delta is of its shape
-cut-shape : (old listed : List ℕ) (m : State) (generation number : ℕ) (c : Change) (shape : Shape) → IsCut old listed m generation number c
+cut-shape : (old listed : List ℕ) (sent : List Frame) (m : State) (generation number : ℕ) (c : Change) (shape : Shape)
+    → IsCut old listed sent m generation number c
     → HasShape shape m.guest → c.shape ≡ shape
-cut-shape old listed m generation number c shape cut sized = search (arith, rules, same-shape)
+cut-shape old listed sent m generation number c shape cut sized = search (arith, rules, same-shape)
 
 -- the text of a machine's delta makes the machine's guest of the one that the machine was last settled at
-pub delta-text : (old listed : List ℕ) (m : State) (generation number : ℕ) (c : Change) (shape : Shape) (text : List ℕ) (base : Guest)
-    → IsCut old listed m generation number c → ReadsBack c text → image_of c base ≡ m.guest → HasShape shape m.guest
+pub delta-text : (old listed : List ℕ) (sent : List Frame) (m : State) (generation number : ℕ) (c : Change) (shape : Shape)
+    (text : List ℕ) (base : Guest) → IsCut old listed sent m generation number c → ReadsBack c text → image_of c base ≡ m.guest → HasShape shape m.guest
     → IsText shape generation number base m.guest text
-delta-text old listed m generation number c shape text base cut reads image sized = search (arith, rules, cut-shape)
+delta-text old listed sent m generation number c shape text base cut reads image sized = search (arith, rules, cut-shape)
 
 -- whichever pages count as written, it is the same base
 pub base-of : (m : State) (base : Guest) → IsBase (machine_of (node_of m)) base → IsBase m base

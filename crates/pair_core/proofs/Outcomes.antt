@@ -3,7 +3,7 @@ use Rattle.std.proofs.Common.{rules, ◌≡◌, ℕ, ◌≤◌, List, [], ◌∷
 use Rattle.std.proofs.lemmas.Bool.Decides.{nat_tests}
 use Rattle.std.specs.Prelude.{slice_get, IfSome, nat_le, not}
 use Rattle.guest_machine.specs.Step.{next, sent}
-use Rattle.frame_ports.specs.{Lands.list_of, Addresses.IsFrame, declared.limits.TheConstants.{INBOX_FRAMES, NUMBER_LIMIT}}
+use Rattle.frame_ports.specs.{Lands.list_of, Addresses.IsFrame, Limits.{inbox_frames, number_limit}}
 use Rattle.pair_history.specs.{Entries.Frame, HistoryState.inbox_of}
 use Rattle.pair_core.specs.{declared.event.Event.TheVariants.Admit, declared.event.Refusal.Refusal}
 use Rattle.pair_core.specs.{declared.event.Refusal.TheVariants.{Full, BadFrame, NoClient, Stopped, Exhausted}, Invariant.Holds}
@@ -98,7 +98,7 @@ module _ (w : Pair) (h : Holds w) where
   abbrev at_rows : ℕ → List ℕ → Bool → List (ℕ × Frame) → Outcome
   at_rows c bytes t inbox =
       or_else (first_refusal ((t, NoClient) ∷ (is_bad_length (length bytes), BadFrame) ∷ (exhausts w.protocol 1, Exhausted)
-      ∷ (nat_le INBOX_FRAMES (length inbox), Full) ∷ (nat_le NUMBER_LIMIT (shown_state w).number, Exhausted) ∷ []))
+      ∷ (nat_le inbox_frames (length inbox), Full) ∷ (nat_le number_limit (shown_state w).number, Exhausted) ∷ []))
       (delivery_refused w.protocol c (record { items = bytes }))
       (deliver_done w.protocol c (record { items = bytes }) (shown_state w).number)
 
@@ -142,7 +142,7 @@ module _ (w : Pair) (h : Holds w) where
             → admit_done w.protocol n ≡ allowed w.start w.protocol (Admit c)
         admit_goes n f first e = goes w.protocol (admit_refusals w.protocol) (admit_done w.protocol n) o row e ∙ admits (Some (n, f)) first
 
-        pub admit_wants : o ≡ None → MayWantMemory w.protocol.mode (allowed w.start w.protocol (Admit c)).0
+        pub admit_wants : o ≡ None → MayWantMemory w.protocol (allowed w.start w.protocol (Admit c))
         admit_wants e =
             let first = some_first (list_of w.ports.inboxes c) some in
             rw (← admit_goes first.0.0 first.0.1 first.1 e) tt

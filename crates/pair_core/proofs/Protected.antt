@@ -3,7 +3,7 @@ use Rattle.std.proofs.Common.{rules, ◌≡◌, ℕ, ◌+◌, ◌<◌, List, [],
 use Rattle.std.proofs.lemmas.List.{append-nil}
 use Rattle.guest_machine.specs.Guest.{Guest}
 use Rattle.epoch_snapshot.specs.{Bases.IsBase, Images.image_of}
-use Rattle.frame_ports.specs.{Addresses.targets_of, declared.limits.TheConstants.NUMBER_LIMIT}
+use Rattle.frame_ports.specs.{Addresses.targets_of, Limits.number_limit}
 use Rattle.output_gate.specs.Epochs.{Epoch, frames_of}
 use Rattle.pair_history.specs.HistoryState.{HistoryState, Waiting}
 use Rattle.pair_core.specs.{Invariant.{AreClients, Holds}, Nodes.{HasShape, machine_of, just_settled, with_protected}}
@@ -11,7 +11,7 @@ use Rattle.pair_core.specs.{Pair.{Pair, shown_state, live_state}, Protocol.prote
 use Rattle.pair_core.specs.Window.{committed_count}
 use Rattle.pair_core.proofs.{AllLands.take-none, Consistent.{live_is, live_waiting}, Events.left_now, NodesLaws.{base-settled, reads-as}}
 
-module _ (w : Pair) (h : Holds w) (k : IsLone w.protocol) (last : w.protocol.generation + 1 < NUMBER_LIMIT) (text : List ℕ)
+module _ (w : Pair) (h : Holds w) (k : IsLone w.protocol) (last : w.protocol.generation + 1 < number_limit) (text : List ℕ)
     (is_text : (before : Guest) → HasShape w.nodes.image.shape w.nodes.live.guest
     → IsText w.nodes.image.shape (w.protocol.generation + 1) 0 before w.nodes.live.guest text) where
   -- nothing is kept

@@ -1,18 +1,19 @@
 -- What the public calls say, from what each event does.
 use Rattle.std.proofs.Common.{◌≡◌, ℕ, List, [], ◌∷◌, ◌++◌, sym, ap, ◌∙◌, append_assoc, Bool, true, false, Option, refl, None, Some, inl}
-use Rattle.std.proofs.Common.{inr, Result, Ok, Err, OnErr}
-use Rattle.std.specs.{Prelude.{map, slice_get, IfOk}, declared.alloc.AllocError.AllocError}
+use Rattle.std.proofs.{Common.{inr, Result, Ok, Err, OnErr, subst, arith, ◌<◌, length}, lemmas.Bool.Decides.nat_tests}
+use Rattle.std.proofs.{lemmas.List.append_cancel_left, lemmas.List.Elements.{All-nil, All-cons}}
+use Rattle.std.specs.{Prelude.{map, slice_get, IfOk, All}, declared.alloc.AllocError.AllocError}
 use Rattle.guest_machine.specs.Step.{sent}
 use Rattle.frame_ports.specs.Lands.{list_of}
-use Rattle.pair_history.specs.{Entries.{Frame, Entry, Arrive, Took, Begins}, HistoryState.HistoryState, Landings.{DropsAtFull, DropsNone}}
-use Rattle.pair_history.specs.Moves.{Move, entries_of}
-use Rattle.pair_history.proofs.Moves.{DropsNone-moves}
-use Rattle.pair_core.specs.{declared.event.Event.Event, declared.event.Event.TheVariants.Step, declared.event.Refusal.Refusal}
+use Rattle.pair_history.specs.{Entries.{Frame, Entry, Ran, Arrive, DropOut, Took, Begins}, HistoryState.HistoryState, Landings.{DropsAtFull, DropsNone}}
+use Rattle.pair_history.specs.{Leaving.{LeaveInOrder, NotGivenUp, leaves_by, frames_left}, Moves.{Move, Steps, Arrives, entries_of}}
+use Rattle.pair_history.proofs.{LeavingLaws.{TakesNone, none_leave}, Moves.DropsNone-moves}
+use Rattle.pair_core.specs.{declared.event.Event.Event, declared.event.Event.TheVariants.{Step, FailBackup, GoLive}, declared.event.Refusal.Refusal}
 use Rattle.pair_core.specs.{declared.event.Refusal.TheVariants.NoMemory, declared.event.Reply.Reply, Answering.{Answers, MayWantMemory}}
-use Rattle.pair_core.specs.{Drops.{DropsOnly, Drops}, Invariant.Holds, Journal.first_of, Modes.is_alone}
+use Rattle.pair_core.specs.{Drops.{DropsOnly, LetsOut, Drops}, Invariant.Holds, Journal.first_of, Modes.is_alone}
 use Rattle.pair_core.specs.{Pair.{Pair, shown_state, live_state}, Protocol.{Record, outcome, step_entries}, Record.IsRecord}
 use Rattle.pair_core.specs.Runs.{Change, Along}
-use Rattle.pair_core.proofs.{AllLands.{step_drops, failure_drops}, ClientEvents.ack_lands, Ends.{Ends, answers_end, at_once}}
+use Rattle.pair_core.proofs.{AllLands.{step_drops, failure_drops}, ClientEvents.{ack_lands, ack_leaves}, Ends.{Ends, answers_end, at_once}}
 use Rattle.pair_core.proofs.{LossOutcomes.within, RecordLaws.below_at}
 use Rattle.pair_core.specs.declared.event.Reply.TheVariants as replies
 
@@ -71,11 +72,82 @@ module _ (w : Pair) (h : Holds w) (k : IsRecord w.protocol) where
       by_frame c None = tt
       by_frame c (Some f) = tt
 
+  -- WHAT LEAVES
+
+  abbrev s : HistoryState
+  s = shown_state w
+
+  none_out : LeaveInOrder s [] []
+  none_out c = (refl, All-nil NotGivenUp)
+
+  refused-lets : (event : Event) (why : Refusal) → LetsOut w.start w.protocol event (replies.Refused why) []
+  refused-lets Step why = λ two. none_out
+  refused-lets FailBackup why = tt
+  refused-lets GoLive why = tt
+  refused-lets other why = none_out
+
+  -- what the guest did lets nothing out
+  guests-none : (ms : List Move) → All TakesNone (entries_of ms)
+  guests-none [] = All-nil TakesNone
+  guests-none (Steps ∷ ms) = All-cons TakesNone Ran (entries_of ms) (λ c s. refl) (guests-none ms)
+  guests-none (Arrives n f ∷ ms) = All-cons TakesNone (Arrive n) (entries_of ms) (λ c s. refl) (guests-none ms)
+
+  epoch-none : (mss : List (List Move)) (ess : List (List Entry)) → ess ≡ map entries_of mss → LeaveInOrder s (first_of ess) []
+  epoch-none [] ess e = rw e none_out
+  epoch-none (ms ∷ mss) ess e = rw e (none_leave s (entries_of ms) (guests-none ms))
+
+  -- nor does a frame that lay in the box
+  boxed-none : (c place d : ℕ) → place < length (list_of boxes c) → leaves_by d s (DropOut c place) ≡ []
+  boxed-none c place d l = grind (arith, nat_tests)
+
+  boxed-out : (c place : ℕ) → place < length (list_of boxes c) → LeaveInOrder s (DropOut c place ∷ []) []
+  boxed-out c place l d =
+      let none = boxed-none c place d l in
+      (ap (λ x. frames_left (x ++ [])) none, subst (λ x. All NotGivenUp (x ++ [])) (sym none) (All-nil NotGivenUp))
+
+  lets_all : Ends w.start w.protocol (λ event es o. LetsOut w.start w.protocol event o.0 es)
+  lets_all = record {
+    refuses = λ event why plain. refused-lets event why;
+    step = step-lets;
+    cut = none_out;
+    send = none_out;
+    lost = λ k. (none_out, none_out);
+    again = λ k. none_out;
+    commit = λ n goes. epoch-none h.journal.sealed_moves w.protocol.journal.sealed h.journal.sealed_are;
+    acknowledge = λ n p is same.
+        let r = w.protocol in
+        let below = below_at r.generation r.window.to_commit r.lines.back n (Some p) k.back (sym is) same in
+        rw (← h.clients.boxes) (ack_leaves w h k p.number below);
+    empty = λ c place. (none_out, none_out, none_out);
+    admit = admit-lets;
+    full = λ c bytes d. (refl, All-nil NotGivenUp);
+    deliver = λ c bytes d. (refl, All-nil NotGivenUp);
+    take = λ c d. (refl, All-nil NotGivenUp);
+    lose_in = λ c place x is d. (refl, All-nil NotGivenUp);
+    lose_out = λ c place f is. boxed-out c place (within (list_of boxes c) place f is);
+    fail_primary = λ goes. none_out;
+    fail_backup = tt;
+    go_live = tt;
+    protect = none_out;
+  }
+    where
+      step-lets : (alone : Bool) → is_alone w.protocol.mode ≡ alone
+          → is_alone w.protocol.mode ≡ false → LeaveInOrder s (at_once alone (step_entries true boxes (sent (live_state w).guest))) []
+      step-lets false is two = none_out
+      step-lets true is two = absurd (cc)
+
+      admit-lets : (c n : ℕ) (alone : Bool) → is_alone w.protocol.mode ≡ alone → LeaveInOrder s (at_once alone (Arrive n ∷ [])) []
+      admit-lets c n false is = none_out
+      admit-lets c n true is = λ d. (refl, All-nil NotGivenUp)
+
   pub answers_drop : (event : Event) (reply : Reply) (new : Record) → Answers w.start w.protocol event reply new
       → Drops w.start w.protocol event reply new
   answers_drop event reply new a =
       let grown = answers_end w.start w.protocol _ drops_all event reply new a in
-      record { answers = a; entries = grown.0; grows = grown.1; only = grown.2 }
+      let out = answers_end w.start w.protocol _ lets_all event reply new a in
+      let same : out.0 ≡ grown.0 = append_cancel_left w.protocol.journal.history out.0 grown.0 (sym out.1 ∙ grown.1) in
+      let lets = subst (λ es. LetsOut w.start w.protocol event reply es) same out.2 in
+      record { answers = a; entries = grown.0; grows = grown.1; only = grown.2; lets = lets }
 
 pub Begins-trans : (a b c : List Entry) → Begins a b → Begins b c → Begins a c
 Begins-trans a b c p q = (p.0 ++ q.0, q.1 ∙ ap (λ t. t ++ q.0) p.1 ∙ append_assoc a p.0 q.0)
@@ -96,13 +168,13 @@ module _ (old new : Pair) (event : Event) (o : Result Reply AllocError) (reply :
     (ok : IfOk o (λ r. reply ≡ r))
     (err : OnErr o (reply ≡ replies.Refused NoMemory)) where
   pub answers_by_outcome : IfOk o (λ r. (r, new.protocol) ≡ outcome old.start old.protocol event)
-      → OnErr o (MayWantMemory old.protocol.mode (outcome old.start old.protocol event).0) → OnErr o (new ≡ old)
+      → OnErr o (MayWantMemory old.protocol (outcome old.start old.protocol event)) → OnErr o (new ≡ old)
       → Answers old.start old.protocol event reply new.protocol
   answers_by_outcome = by_result o ok err
     where
       by_result : (o : Result Reply AllocError) → IfOk o (λ r. reply ≡ r) → OnErr o (reply ≡ replies.Refused NoMemory)
           → IfOk o (λ r. (r, new.protocol) ≡ outcome old.start old.protocol event)
-          → OnErr o (MayWantMemory old.protocol.mode (outcome old.start old.protocol event).0) → OnErr o (new ≡ old)
+          → OnErr o (MayWantMemory old.protocol (outcome old.start old.protocol event)) → OnErr o (new ≡ old)
           → Answers old.start old.protocol event reply new.protocol
       by_result (Ok r) k e d m f = inl (ap (λ (x : Reply). (x, new.protocol)) k ∙ d)
       by_result (Err x) k e d m f = inr (m, e, ap (λ (w : Pair). w.protocol) f)

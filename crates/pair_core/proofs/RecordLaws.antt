@@ -1,10 +1,10 @@
 -- Each event leaves what is true of every record, and what the tables of refusals say.
 use Rattle.std.proofs.Common.{rules, ◌≡◌, ℕ, zero, suc, ◌+◌, ◌-◌, ◌<◌, ◌≤◌, List, [], ◌∷◌, ◌++◌, length, get_or, refl, ap, ◌∙◌, arith, Bool}
-use Rattle.std.proofs.{Common.{true, false, cond, Option, None, Some}, lemmas.Bool.eq-eqb, lemmas.Bool.Decides.nat_tests}
+use Rattle.std.proofs.{Common.{true, false, cond, Option, None, Some, subst, sym}, lemmas.Bool.eq-eqb, lemmas.Bool.Decides.nat_tests}
 use Rattle.std.proofs.lemmas.List.{length-append}
 use Rattle.std.specs.Prelude.{map, slice_get, IfSome, ◌==◌, not}
 use Rattle.failover.specs.{declared.mode.Mode.Mode, declared.mode.Mode.TheVariants.{Paired, Filling, Alone, Stopped}}
-use Rattle.frame_ports.specs.declared.limits.TheConstants.{NUMBER_LIMIT}
+use Rattle.frame_ports.specs.Limits.{number_limit}
 use Rattle.output_gate.specs.Epochs.{Epoch, frames_to, after_number}
 use Rattle.pair_history.specs.Entries.{Frame, Entry}
 use Rattle.pair_core.specs.{declared.event.Packet.Packet, declared.event.Refusal.TheVariants.Exhausted, declared.window.Window.Window}
@@ -22,8 +22,8 @@ pub passed : {A : Type 0} (t : Bool) (x : A) (o : Option A) → cond t (Some x) 
 passed true x o e = absurd (cc)
 passed false x o e = (refl, e)
 
-pub has_room_for : (r : Record) (more : ℕ) → exhausts r more ≡ false → length (all_entries r.journal) + more < NUMBER_LIMIT
-has_room_for r more e = is_below NUMBER_LIMIT (length (all_entries r.journal) + more) e
+pub has_room_for : (r : Record) (more : ℕ) → exhausts r more ≡ false → length (all_entries r.journal) + more < number_limit
+has_room_for r more e = is_below number_limit (length (all_entries r.journal) + more) e
 
 -- an acknowledgement of this generation, for whose landings so many entries come
 pub ack_row : (boxes : List (List Frame)) (r : Record) (p : Packet) (count : ℕ) (fs : List Frame)
@@ -135,6 +135,10 @@ module _ (r : Record) (h : IsRecord r) where
 
   pub none_committed : is_filling r.mode ≡ true → r.window.to_commit ≡ 0
   none_committed new = suits_filling r.mode r.window new h.suits
+
+-- what is the same record is one too
+pub same_record : (r q : Record) → q ≡ r → IsRecord r → IsRecord q
+same_record r q e h = subst IsRecord (sym e) h
 
 -- a packet of the current generation
 pub generation_is : (a b : ℕ) → not (a == b) ≡ false → a ≡ b

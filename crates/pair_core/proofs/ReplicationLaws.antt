@@ -42,7 +42,7 @@ ends-first : (s : HistoryState) (ess : List (List Entry)) → 0 < length ess
 ends-first s [] l = absurd (omega arith)
 ends-first s (es ∷ ess) l = refl
 
-length-ends : (s : HistoryState) (ess : List (List Entry)) → length (ends s ess) ≡ length ess
+pub length-ends : (s : HistoryState) (ess : List (List Entry)) → length (ends s ess) ≡ length ess
 length-ends s [] = refl
 length-ends s (es ∷ ess) = ap suc (length-ends (at s es) ess)
 
@@ -52,7 +52,7 @@ from-any g before x f = search (arith, rules)
 
 module _ (w : Pair) (b : HasBackup w) where
   -- what the image will be are the guests at the ends of the sealed epochs
-  to_come-ends : to_come w.nodes ≡ ends (shown_state w) w.protocol.journal.sealed
+  pub to_come-ends : to_come w.nodes ≡ ends (shown_state w) w.protocol.journal.sealed
   to_come-ends =
       by_mode (is_filling w.protocol.mode) refl
       ∙ texts-make w.nodes.image.shape w.protocol.generation w.protocol.window.to_commit (shown_state w) w.protocol.journal.sealed

@@ -17,7 +17,7 @@ Leads-more (e ∷ events) (r ∷ replies) old mid new event reply run step =
     (run.0, run.1, Leads-more events replies run.0 mid new event reply run.2 step)
 
 -- what an event did to the generation and to the guests to come
-does : (old new : Pair) (event : Event) (reply : Reply) → Does old event reply new
+pub does : (old new : Pair) (event : Event) (reply : Reply) → Does old event reply new
     → Goes old.protocol old.nodes new.nodes event (reply, new.protocol)
 does old new event reply d =
     (answers_end old.start old.protocol _ (goes_all old.start old.protocol old.nodes new.nodes) event reply new.protocol d.answers).2
@@ -55,7 +55,7 @@ module _ (generation number : ℕ) (g : Guest) where
 
 -- from a cut on its guest is awaited, and from a new backup on that of its full checkpoint
 
-place-last : {A : Type 0} (xs : List A) (a : A) → slice_get (xs ++ a ∷ []) (length xs) ≡ Some a
+pub place-last : {A : Type 0} (xs : List A) (a : A) → slice_get (xs ++ a ∷ []) (length xs) ≡ Some a
 place-last [] a = refl
 place-last (x ∷ xs) a = place-last xs a
 

@@ -1,16 +1,16 @@
 -- What one event is to the clients, from what the pair knows of it.
-use Rattle.std.proofs.{Common.{◌≡◌, List, [], ◌∷◌, ◌++◌, refl, sym, ap, ◌∙◌, inl, inr}, lemmas.List.{append-nil, append_cancel_left}}
+use Rattle.std.proofs.{Common.{◌≡◌, List, [], ◌∷◌, ◌++◌, refl, sym, ap, ◌∙◌, inl, inr, subst, true}, lemmas.List.{append-nil, append_cancel_left}}
 use Rattle.std.proofs.lemmas.List.Elements.{All-head, All-tail}
 use Rattle.std.specs.Prelude.{All}
 use Rattle.guest_machine.specs.Guest.{Guest}
-use Rattle.pair_history.specs.{Entries.Entry, HistoryState.{HistoryState, after, at}}
+use Rattle.pair_history.specs.{Entries.Entry, HistoryState.{HistoryState, after, at, Legal}}
 use Rattle.pair_history.proofs.States.{at-append, Legal-append}
 use Rattle.pair_core.specs.{declared.event.Event.Event, declared.event.Event.TheVariants.GoLive, declared.event.Refusal.Refusal}
-use Rattle.pair_core.specs.{declared.event.Refusal.TheVariants.NoMemory, declared.event.Reply.Reply, Drops.Drops, Journal.kept_entries}
-use Rattle.pair_core.specs.{Modes.mode_refusal, Pair.{Pair, IsConsistent}}
+use Rattle.pair_core.specs.{declared.event.Refusal.TheVariants.NoMemory, declared.event.Reply.Reply, Drops.Drops, Journal.{kept_entries, all_entries}}
+use Rattle.pair_core.specs.{Calls.Moment, Modes.{is_alone, mode_refusal}, Pair.{Pair, IsConsistent}}
 use Rattle.pair_core.specs.Protocol.{go_live_done, Record, Outcome, refused, first_refusal, shown_at, live_at, live_entries}
-use Rattle.pair_core.specs.{Protocol.go_live_refusals, Answering.Answers, Service.{moment, Resumes, Serves}}
-use Rattle.pair_core.proofs.{Ends.{by_table, answers_end}, Tells.{live_all, tells_all}}
+use Rattle.pair_core.specs.{Protocol.go_live_refusals, Answering.Answers, Service.{moment, Resumes, Enters, Tells, Serves, guest_entries}}
+use Rattle.pair_core.proofs.{CallLaws.answers_call, EntersLaws.enters_all, Ends.{by_table, answers_end}, Tells.{OfGuest, live_all, tells_all}}
 use Rattle.pair_core.specs.declared.event.Reply.TheVariants as replies
 
 -- drops leave the guest as it was
@@ -21,15 +21,19 @@ drops_guest : (s : HistoryState) (es : List Entry) → All Keeps es → (at s es
 drops_guest s [] p = refl
 drops_guest s (e ∷ es) p = drops_guest (after s e) es (All-tail Keeps e es p) ∙ All-head Keeps e es p s
 
+-- a moment, as a record says it
+abbrev pub moment_of : Record → Guest → Moment
+moment_of r g = record { history = r.journal.history; ahead = kept_entries r.journal; guest = g }
+
 -- A backup that goes live goes on with the guest of the history, as its reply says.
-module _ (start : HistoryState) (r : Record) (w : Pair) (live : w.nodes.live.guest ≡ (live_at start w.protocol).guest) where
+module _ (start : HistoryState) (r new : Record) (g : Guest) (live : g ≡ (live_at start new).guest) where
   abbrev s : HistoryState
   s = shown_at start r
 
   abbrev done : Outcome
   done = go_live_done s.boxes s.out s.guest.steps r
 
-  resumes_done : (reply : Reply) → (reply, w.protocol) ≡ done → Resumes GoLive reply (moment w)
+  resumes_done : (reply : Reply) → (reply, new) ≡ done → Resumes GoLive reply (moment_of new g)
   resumes_done reply e =
       let es = live_entries s.boxes s.out r.journal in
       let h = r.journal.history in
@@ -42,39 +46,53 @@ module _ (start : HistoryState) (r : Record) (w : Pair) (live : w.nodes.live.gue
             ∙ ap (λ (g : Guest). g.steps) (drops_guest s es (live_all Keeps (λ n t. refl) (λ c place t. refl) s.boxes s.out r.journal)),
       )
 
-  resumes_refused : (reply : Reply) (why : Refusal) → reply ≡ replies.Refused why → Resumes GoLive reply (moment w)
+  resumes_refused : (reply : Reply) (why : Refusal) → reply ≡ replies.Refused why → Resumes GoLive reply (moment_of new g)
   resumes_refused reply why e = rw e tt
 
-  answers_resume : (event : Event) (reply : Reply) → Answers start r event reply w.protocol → Resumes event reply (moment w)
+  answers_resume : (event : Event) (reply : Reply) → Answers start r event reply new → Resumes event reply (moment_of new g)
   answers_resume GoLive reply (inl e) =
       by_table Leaves (mode_refusal r.mode GoLive) (refused r) _ stopped
       (λ goes. by_table Leaves (first_refusal (go_live_refusals s.boxes s.out r)) (refused r) done stopped (λ none. resumes_done reply)) e
     where
       Leaves : Outcome → Type 0
-      Leaves o = (reply, w.protocol) ≡ o → Resumes GoLive reply (moment w)
+      Leaves o = (reply, new) ≡ o → Resumes GoLive reply (moment_of new g)
 
       stopped : (why : Refusal) → Leaves (refused r why)
       stopped why e = resumes_refused reply why (ap (λ (o : Outcome). o.0) e)
   answers_resume GoLive reply (inr e) = resumes_refused reply NoMemory e.1
   answers_resume other reply a = tt
 
+-- One event serves the clients, as the records before and after it say.
+pub serves_at : (start : HistoryState) (r new : Record) (g g' : Guest) (event : Event) (reply : Reply) → Drops start r event reply new
+    → All OfGuest (kept_entries r.journal) → (is_alone r.mode ≡ true → kept_entries r.journal ≡ [])
+    → Legal start (all_entries new.journal) → All OfGuest (kept_entries new.journal) → g' ≡ (live_at start new).guest
+    → Serves start (moment_of r g) event reply (moment_of new g')
+serves_at start r new g g' event reply d kept lone legal moves live =
+    let told = answers_end start r _ (tells_all start r kept) event reply new d.answers in
+    let entered = answers_end start r _ (enters_all start r kept lone) event reply new d.answers in
+    let h = r.journal.history in
+    let same : told.0 ≡ d.entries = append_cancel_left h told.0 d.entries (sym told.1 ∙ d.grows) in
+    let alike : entered.0 ≡ d.entries = append_cancel_left h entered.0 d.entries (sym entered.1 ∙ d.grows) in
+    record {
+      added = d.entries;
+      grows = d.grows;
+      legal = legal;
+      moves = moves;
+      enters = subst (λ es. Enters event reply (kept_entries r.journal) (guest_entries es) (kept_entries new.journal)) alike entered.2;
+      guest = live;
+      resumes = answers_resume start r new g' live event reply d.answers;
+      answered = answers_call start r g event reply new d.answers;
+      tells = subst (λ es. Tells event reply es) same told.2;
+      loses = d.only;
+    }
+
 -- One event serves the clients.
 pub serves : (old new : Pair) (event : Event) (reply : Reply) → new.start ≡ old.start → IsConsistent old → IsConsistent new
     → Drops old.start old.protocol event reply new.protocol → Serves old.start (moment old) event reply (moment new)
 serves old new event reply e before k d =
     let h = new.protocol.journal.history in
-    let ahead = kept_entries new.protocol.journal in
-    let told = answers_end old.start old.protocol _ (tells_all old.start old.protocol before.kept) event reply new.protocol d.answers in
-    let same : told.0 ≡ d.entries = append_cancel_left old.protocol.journal.history told.0 d.entries (sym told.1 ∙ d.grows) in
+    let legal : Legal old.start (all_entries new.protocol.journal) = rw (← e) (Legal-append new.start h (kept_entries new.protocol.journal) k.legal k.goes_on) in
     let live : new.nodes.live.guest ≡ (live_at old.start new.protocol).guest =
     k.live ∙ ap (λ (s : HistoryState). (live_at s new.protocol).guest) e in
-    record {
-      added = d.entries;
-      grows = d.grows;
-      legal = rw (← e) (Legal-append new.start h ahead k.legal k.goes_on);
-      moves = k.kept;
-      guest = live;
-      resumes = answers_resume old.start old.protocol new live event reply d.answers;
-      tells = rw (← same) told.2;
-      loses = d.only;
-    }
+    serves_at old.start old.protocol new.protocol old.nodes.live.guest new.nodes.live.guest event reply d before.kept
+    (λ a. (before.alone a).kept) legal k.kept live

@@ -1,20 +1,13 @@
 -- What whole runs are to the clients, from what each of their events is.
 use Rattle.std.proofs.Common.{◌≡◌, ℕ, zero, suc, List, [], ◌∷◌, ◌++◌, refl, sym, ap, ◌∙◌, subst, append_assoc, Option, Some}
 use Rattle.std.proofs.lemmas.List.{append-nil}
-use Rattle.std.specs.Prelude.{slice_get}
-use Rattle.guest_machine.specs.Guest.{Guest}
-use Rattle.pair_history.specs.{Entries.{Frame, Entry, Delivered, Took, Begins}, HistoryState.{HistoryState, after, at, Legal, Allows}}
-use Rattle.pair_core.specs.{declared.event.Event.Event, declared.event.Event.TheVariants.{Deliver, Take, GoLive}}
-use Rattle.pair_core.specs.{declared.event.Reply.Reply, Service.{Moment, Serves, HasServed, IsDelivery}}
+use Rattle.std.specs.Prelude.{slice_get, drop}
+use Rattle.pair_history.specs.{Entries.{Frame, Entry, Delivered, Refused, Took, Begins}, HistoryState.{HistoryState, after, at, Legal}}
+use Rattle.pair_core.specs.{Calls.Moment, declared.event.Event.Event, declared.event.Event.TheVariants.{Deliver, Take, GoLive}}
+use Rattle.pair_core.specs.{declared.event.Refusal.TheVariants.Full, declared.event.Reply.Reply}
+use Rattle.pair_core.specs.Service.{Serves, HasServed, IsDelivery, Point, IsTold, IsResumed}
 use Rattle.pair_core.proofs.PublicLaws.{Begins-trans}
 use Rattle.pair_core.specs.declared.event.Reply.TheVariants as replies
-
--- a backup that goes live has the history's guest
-pub resumed_is : (start : HistoryState) (old new : Moment) (generation steps : ℕ)
-    → Serves start old GoLive (replies.Live generation steps) new → new.guest ≡ (at start new.history).guest
-resumed_is start old new generation steps h =
-    h.guest ∙ ap (λ (t : List Entry). (at start (new.history ++ t)).guest) h.resumes.0
-    ∙ ap (λ (t : List Entry). (at start t).guest) (append-nil new.history)
 
 -- a run goes on by one event
 pub HasServed-more : (start : HistoryState) (events : List Event) (replies : List Reply) (old mid new : Moment)
@@ -39,89 +32,66 @@ served_grows start old new (e ∷ events) [] run = absurd run
 served_grows start old new (e ∷ events) (r ∷ answers) run =
     Begins-trans old.history run.0.history new.history (run.1.added, run.1.grows) (served_grows start run.0 new events answers run.2)
 
--- an event of a run, answered so, leads from the moment before to the one after
-record Happens (start : HistoryState) (old : Moment) (event : Event) (reply : Reply) (new : Moment) : Type 0 where
-  before : Moment
-  later : Moment
-  begins : Begins old.history before.history
-  one : Serves start before event reply later
-  ends : Begins later.history new.history
-
-happens : (start : HistoryState) (old new : Moment) (events : List Event) (answers : List Reply) → HasServed start old events answers new
+-- an event of a run, answered so, has its point there
+pub point : (start : HistoryState) (old new : Moment) (events : List Event) (answers : List Reply) → HasServed start old events answers new
     → (k : ℕ) (event : Event) (reply : Reply) → slice_get events k ≡ Some event → slice_get answers k ≡ Some reply
-    → Happens start old event reply new
-happens start old new [] answers run k event reply e f = absurd (cc)
-happens start old new (x ∷ events) [] run k event reply e f = absurd run
-happens start old new (x ∷ events) (r ∷ answers) run zero event reply e f =
+    → Point start old events answers new k event reply
+point start old new [] answers run k event reply e f = absurd (cc)
+point start old new (x ∷ events) [] run k event reply e f = absurd run
+point start old new (x ∷ events) (r ∷ answers) run zero event reply e f =
     let first : x ≡ event = cc in
     let answer : r ≡ reply = cc in
-    record {
-      before = old;
-      later = run.0;
-      begins = Begins-same old.history;
-      one = rw (← answer) (rw (← first) run.1);
-      ends = served_grows start run.0 new events answers run.2;
-    }
-happens start old new (x ∷ events) (r ∷ answers) run (suc k) event reply e f =
-    let there = happens start run.0 new events answers run.2 k event reply e f in
-    record {
-      before = there.before;
-      later = there.later;
-      begins = Begins-trans old.history run.0.history there.before.history (run.1.added, run.1.grows) there.begins;
-      one = there.one;
-      ends = there.ends;
-    }
+    record { before = old; done = run.0; up_to = refl; here = rw (← answer) (rw (← first) run.1); from = run.2 }
+point start old new (x ∷ events) (r ∷ answers) run (suc k) event reply e f =
+    let there = point start run.0 new events answers run.2 k event reply e f in
+    record { before = there.before; done = there.done; up_to = (run.0, run.1, there.up_to); here = there.here; from = there.from }
 
 Legal-back : (s : HistoryState) (es fs : List Entry) → Legal s (es ++ fs) → Legal (at s es) fs
 Legal-back s [] fs p = p
 Legal-back s (e ∷ es) fs p = Legal-back (after s e) es fs p.1
 
--- the entry that tells of a call stands in the history, in a state that allows it
-abbrev IsTold : HistoryState → Moment → Moment → Entry → Type 0
-IsTold start old new x =
-    (before later : List Entry) × (new.history ≡ before ++ x ∷ later) × Begins old.history before × Allows (at start before) x
+module _ (start : HistoryState) (old new : Moment) (events : List Event) (answers : List Reply) where
+  -- the entry that tells of a call stands where the call was made, in a state that allows it
+  told : (k : ℕ) (event : Event) (reply : Reply) (x : Entry) → (p : Point start old events answers new k event reply)
+      → p.here.added ≡ x ∷ [] → IsTold start p.before p.done new x
+  told k event reply x p e =
+      let es = p.before.history in
+      let ahead = p.done.ahead in
+      let grows : p.done.history ≡ es ++ x ∷ [] = p.here.grows ∙ ap (λ t. es ++ t) e in
+      let legal : Legal start (es ++ x ∷ ahead) =
+      subst (Legal start) (ap (λ t. t ++ ahead) grows ∙ append_assoc es (x ∷ []) ahead) p.here.legal in
+      record {
+        told = grows;
+        allowed = (Legal-back start es (x ∷ ahead) legal).0;
+        stays = served_grows start p.done new (drop (suc k) events) (drop (suc k) answers) p.from;
+      }
 
-told : (start : HistoryState) (old new : Moment) (event : Event) (reply : Reply) (x : Entry) → (h : Happens start old event reply new)
-    → h.one.added ≡ x ∷ [] → IsTold start old new x
-told start old new event reply x h e =
-    let es = h.before.history in
-    let more = h.ends.0 in
-    let ahead = h.later.ahead in
-    let grows : h.later.history ≡ es ++ x ∷ [] = h.one.grows ∙ ap (λ t. es ++ t) e in
-    let legal : Legal start (es ++ x ∷ ahead) =
-    subst (Legal start) (ap (λ t. t ++ ahead) grows ∙ append_assoc es (x ∷ []) ahead) h.one.legal in
-    (es, more, h.ends.1 ∙ ap (λ t. t ++ more) grows ∙ append_assoc es (x ∷ []) more, h.begins, (Legal-back start es (x ∷ ahead) legal).0)
+  pub told_take : (k c : ℕ) (frame : Option Frame) → (p : Point start old events answers new k (Take c) (replies.Took frame))
+      → IsTold start p.before p.done new (Took c frame)
+  told_take k c frame p = told k (Take c) (replies.Took frame) (Took c frame) p p.here.tells
 
-module _ (start : HistoryState) (old new : Moment) (events : List Event) (answers : List Reply)
-    (run : HasServed start old events answers new) where
-  pub served_take : (k c : ℕ) (frame : Option Frame) → slice_get events k ≡ Some (Take c) → slice_get answers k ≡ Some (replies.Took frame)
-      → IsTold start old new (Took c frame)
-  served_take k c frame e f =
-      let h = happens start old new events answers run k (Take c) (replies.Took frame) e f in
-      told start old new (Take c) (replies.Took frame) (Took c frame) h h.one.tells
+  pub told_deliver : (k c n : ℕ) (bytes : List ℕ) (event : Event) → IsDelivery c bytes event
+      → (p : Point start old events answers new k event (replies.Delivered n))
+      → IsTold start p.before p.done new (Delivered c (record { items = bytes }) n)
+  told_deliver k c n bytes (Deliver client frame) is p =
+      told k (Deliver client frame) (replies.Delivered n) (Delivered c (record { items = bytes }) n) p
+      (p.here.tells ∙ (λ i. Delivered (is.0 i) (record { items = is.1 i }) n ∷ []))
+  told_deliver k c n bytes other is p = absurd is
 
-  pub served_deliver : (k c n : ℕ) (bytes : List ℕ) (event : Event) → slice_get events k ≡ Some event → IsDelivery c bytes event
-      → slice_get answers k ≡ Some (replies.Delivered n) → IsTold start old new (Delivered c (record { items = bytes }) n)
-  served_deliver k c n bytes (Deliver client frame) e is f =
-      let h = happens start old new events answers run k (Deliver client frame) (replies.Delivered n) e f in
-      told start old new (Deliver client frame) (replies.Delivered n) (Delivered c (record { items = bytes }) n) h
-      (h.one.tells ∙ (λ i. Delivered (is.0 i) (record { items = is.1 i }) n ∷ []))
-  served_deliver k c n bytes other e is f = absurd is
+  pub told_full : (k c : ℕ) (bytes : List ℕ) (event : Event) → IsDelivery c bytes event
+      → (p : Point start old events answers new k event (replies.Refused Full))
+      → IsTold start p.before p.done new (Refused c (record { items = bytes }))
+  told_full k c bytes (Deliver client frame) is p =
+      told k (Deliver client frame) (replies.Refused Full) (Refused c (record { items = bytes })) p
+      (p.here.tells ∙ (λ i. Refused (is.0 i) (record { items = is.1 i }) ∷ []))
+  told_full k c bytes other is p = absurd is
 
-  pub served_resume : (k generation steps : ℕ) → slice_get events k ≡ Some GoLive
-      → slice_get answers k ≡ Some (replies.Live generation steps)
-      → (before later : List Entry) × (new.history ≡ before ++ later) × Begins old.history before × ((at start before).guest.steps ≡ steps)
-  served_resume k generation steps e f =
-      let h = happens start old new events answers run k GoLive (replies.Live generation steps) e f in
-      let es = h.later.history in (
-        es,
-        h.ends.0,
-        h.ends.1,
-        Begins-trans old.history h.before.history es h.begins (h.one.added, h.one.grows),
-        sym (
-            ap (λ (g : Guest). g.steps) h.one.guest
-            ∙ ap (λ (t : List Entry). (at start (es ++ t)).guest.steps) h.one.resumes.0
-            ∙ ap (λ (t : List Entry). (at start t).guest.steps) (append-nil es)
-            )
-            ∙ h.one.resumes.1,
-      )
+  pub told_resume : (k generation steps : ℕ) → (p : Point start old events answers new k GoLive (replies.Live generation steps))
+      → IsResumed start p.done new steps
+  told_resume k generation steps p = record {
+    guest =
+        p.here.guest ∙ ap (λ (t : List Entry). (at start (p.done.history ++ t)).guest) p.here.resumes.0
+        ∙ ap (λ (t : List Entry). (at start t).guest) (append-nil p.done.history);
+    steps = p.here.resumes.1;
+    stays = served_grows start p.done new (drop (suc k) events) (drop (suc k) answers) p.from;
+  }

@@ -2,13 +2,13 @@
 use Rattle.std.proofs.Common.{rules, ◌≡◌, ℕ, zero, suc, ◌+◌, ◌<◌, ◌≤◌, List, [], ◌∷◌, ◌++◌, length, replicate, refl, sym, ap, ◌∙◌, subst}
 use Rattle.std.proofs.Common.{arith, append_assoc, Bool, true, false, cond, Option, None, Some, Result, Ok, Err, OnErr}
 use Rattle.std.proofs.{lemmas.Bool.Decides.nat_tests, lemmas.List.{append-nil, length-append, length-replicate}}
-use Rattle.std.specs.Prelude.{nat_lt, nat_le}
+use Rattle.std.specs.Prelude.{nat_lt}
 use Rattle.guest_machine.specs.{Guest.Guest, Step.{next, sent}, Runs.{after_steps, sent_in, marked_in, HaveRoom}}
-use Rattle.frame_ports.specs.declared.limits.TheConstants.{NUMBER_LIMIT}
+use Rattle.frame_ports.specs.Limits.{number_limit}
 use Rattle.pair_history.specs.{Entries.{Frame, Ran}, HistoryState.{HistoryState, Waiting}}
 use Rattle.pair_history.specs.Moves.{Steps, entries_of, guest_along, frames_along, left, AllCan}
 use Rattle.pair_core.specs.{declared.event.Refusal.Refusal, declared.event.Refusal.TheVariants.{Stopped, CutNeeded, Exhausted}}
-use Rattle.pair_core.specs.{Invariant.Holds, Journal.{all_entries, with_running, with_moves}, declared.limits.TheConstants.STEP_ENTRIES}
+use Rattle.pair_core.specs.{Invariant.Holds, Journal.{all_entries, with_running, with_moves}, Limits.lone_step_entries}
 use Rattle.pair_core.specs.{Modes.{is_stopped, is_alone}, Nodes.after_run, Pair.Pair}
 use Rattle.pair_core.specs.Protocol.{step_outcome, outbox_of, step_room, step_entries, Record, Outcome, first_refusal, or_else, refused}
 use Rattle.pair_core.specs.{Protocol.{shown_at, live_at, step_refusals, step_done}, Answering.step_reply}
@@ -114,17 +114,17 @@ one-step-answered start r = refl
 
 -- where the guest runs, and the outbox and the history have room, no row applies
 none_applies : (r : Record) (outbox : List Frame) → is_stopped r.mode ≡ false → length outbox ≤ 192
-    → length (all_entries r.journal) + step_room r.mode < NUMBER_LIMIT → first_refusal (step_refusals outbox r) ≡ None
+    → length (all_entries r.journal) + step_room r.mode < number_limit → first_refusal (step_refusals outbox r) ≡ None
 none_applies r outbox runs few room =
     λ i. cond (runs i) (Some Stopped) (cond (no_lt 192 (length outbox) few i) (Some CutNeeded)
-    (cond (test_below NUMBER_LIMIT (length (all_entries r.journal) + step_room r.mode) room i)
+    (cond (test_below number_limit (length (all_entries r.journal) + step_room r.mode) room i)
     (Some Exhausted) None))
   where
     no_lt : (a b : ℕ) → b ≤ a → nat_lt a b ≡ false
     no_lt a b l = grind (arith, nat_tests)
 
 pub step_goes : (w : Pair) → Holds w → is_stopped w.protocol.mode ≡ false → length w.nodes.live.outbox ≤ 192
-    → length (all_entries w.protocol.journal) + step_room w.protocol.mode < NUMBER_LIMIT
+    → length (all_entries w.protocol.journal) + step_room w.protocol.mode < number_limit
     → step_done w.ports.boxes (sent w.nodes.live.guest) (next w.nodes.live.guest).steps w.protocol ≡ step_outcome w.start w.protocol
 step_goes w h runs few room =
     let g = w.nodes.live.guest in
@@ -140,7 +140,7 @@ step_kept boxes fs steps r two =
 
 pub steps_answered :
     (n : ℕ) (w : Pair) → Holds w → is_alone w.protocol.mode ≡ false → (0 < n → is_stopped w.protocol.mode ≡ false)
-    → length (all_entries w.protocol.journal) + n < NUMBER_LIMIT
+    → length (all_entries w.protocol.journal) + n < number_limit
     → HaveRoom n w.nodes.live.guest w.nodes.live.outbox
     → (replies.Steps (after_steps n w.nodes.live.guest).steps, (with_steps n w).protocol) ≡ steps_outcome w.start w.protocol n
 steps_answered zero w h two runs fits room =
@@ -163,7 +163,7 @@ steps_answered (suc n) w h two runs fits room =
     ))
     ∙ step_kept w.ports.boxes (sent (after_steps n g)) (next (after_steps n g)).steps v.protocol two
     ∙ step_goes v (steps_hold n w h) (runs (omega arith)) (room-last n g w.nodes.live.outbox room)
-    (let one : step_room w.protocol.mode ≡ 1 = ap (λ (b : Bool). cond b STEP_ENTRIES 1) two in omega arith)
+    (let one : step_room w.protocol.mode ≡ 1 = ap (λ (b : Bool). cond b lone_step_entries 1) two in omega arith)
     ∙ ap (λ (o : Outcome). goes_on w.start o.0 o.1) before
     ∙ sym (more-answered w.start w.protocol n)
 
@@ -194,7 +194,7 @@ module _ (start : HistoryState) (r r' : Record) (n k : ℕ) (why : Refusal)
 
 -- A refused step changes nothing
 
-refused_stays : (start : HistoryState) (r r' : Record) (why : Refusal) → refused r' why ≡ step_outcome start r → r' ≡ r
+pub refused_stays : (start : HistoryState) (r r' : Record) (why : Refusal) → refused r' why ≡ step_outcome start r → r' ≡ r
 refused_stays start r r' why e = by_refusal (first_refusal (step_refusals (outbox_of start r) r)) e
   where
     by_refusal : (o : Option Refusal) → refused r' why ≡ or_else o (refused r)

@@ -3,7 +3,7 @@ use Rattle.std.proofs.Common.{rules, arith, ◌≡◌, ℕ, zero, suc, ◌+◌, 
 use Rattle.std.proofs.lemmas.List.Elements.{All-nil, All-cons, All-head, All-tail, All-append, All-replicate}
 use Rattle.std.specs.Prelude.{All, map, get_or}
 use Rattle.guest_machine.specs.Step.{sent}
-use Rattle.frame_ports.specs.{Lands.{has_room, landed_at}, declared.limits.TheConstants.BOX_FRAMES}
+use Rattle.frame_ports.specs.{Lands.{has_room, landed_at}, Limits.box_frames}
 use Rattle.pair_history.specs.{Entries.{Frame, Entry, Ran, Arrive, DropIn, Land, DropOut}, Failures.drops_of_owed_from}
 use Rattle.pair_history.specs.{HistoryState.HistoryState, Landings.landings}
 use Rattle.pair_core.specs.{declared.event.Event.Event, declared.event.Event.TheVariants.Deliver, declared.event.Refusal.Refusal}
@@ -18,7 +18,7 @@ use Rattle.pair_core.specs.declared.event.Reply.TheVariants as replies
 abbrev Quiet : Entry → Type 0
 Quiet e = is_call e ≡ false
 
-abbrev OfGuest : Entry → Type 0
+abbrev pub OfGuest : Entry → Type 0
 OfGuest e = is_of_guest e ≡ true
 
 none : All Quiet []
@@ -39,9 +39,9 @@ landings-quiet boxes [] = none
 landings-quiet boxes (p ∷ ps) =
     let room = has_room boxes p.0 in
     let rest = landed_at boxes p.0 p.1 in
-    All-cons Quiet (cond room (Land p.0) (DropOut p.0 BOX_FRAMES)) (landings rest ps) (by_room room) (landings-quiet rest ps)
+    All-cons Quiet (cond room (Land p.0) (DropOut p.0 box_frames)) (landings rest ps) (by_room room) (landings-quiet rest ps)
   where
-    by_room : (t : Bool) → Quiet (cond t (Land p.0) (DropOut p.0 BOX_FRAMES))
+    by_room : (t : Bool) → Quiet (cond t (Land p.0) (DropOut p.0 box_frames))
     by_room true = refl
     by_room false = refl
 
@@ -63,7 +63,7 @@ All-front P [] fs p = All-nil P
 All-front P (e ∷ es) fs p = All-cons P e es (All-head P e (es ++ fs) p) (All-front P es fs (All-tail P e (es ++ fs) p))
 
 -- the oldest sealed epoch is the front of what is kept
-first_of-guest : (ess : List (List Entry)) (running : List Entry) → All OfGuest (joined ess ++ running) → All OfGuest (first_of ess)
+pub first_of-guest : (ess : List (List Entry)) (running : List Entry) → All OfGuest (joined ess ++ running) → All OfGuest (first_of ess)
 first_of-guest [] running p = All-nil OfGuest
 first_of-guest (es ∷ ess) running p =
     All-front OfGuest es (joined ess ++ running) (subst (All OfGuest) (append_assoc es (joined ess) running) p)

@@ -3,7 +3,7 @@ use Rattle.std.proofs.Common.{◌≡◌, ℕ, zero, suc, ◌+◌, ◌<◌, ◌�
 use Rattle.std.proofs.{Common.{arith, Bool, true, false, cond}, lemmas.Bool.Decides.nat_tests}
 use Rattle.std.proofs.{lemmas.List.{length-append, length-take-le, take-append-drop}, Math.Seq.{take-append_seam, drop-append_seam}}
 use Rattle.std.specs.Prelude.{nat_le}
-use Rattle.frame_ports.specs.declared.limits.TheConstants.{NUMBER_LIMIT}
+use Rattle.frame_ports.specs.Limits.{number_limit}
 use Rattle.output_gate.specs.Epochs.{Epoch, frames_to, after_number, frames_of}
 use Rattle.pair_core.specs.declared.window.Window.{Window}
 use Rattle.pair_core.specs.Window.{NumberedFrom, IsWindow, with_cut, with_commit, with_acknowledged, first_after, committed_count}
@@ -105,7 +105,7 @@ module _ (w : Window) (pending : List Epoch) (h : IsWindow w pending) where
   pub within : committed_count w ≤ length pending
   within = let a = h.count in let b = h.cut in let c = h.committed in omega arith
 
-  pub cut_window : (e : Epoch) → e.number ≡ w.to_cut → length pending < 4 → w.to_cut < NUMBER_LIMIT
+  pub cut_window : (e : Epoch) → e.number ≡ w.to_cut → length pending < 4 → w.to_cut < number_limit
       → IsWindow (with_cut w) (pending ++ e ∷ [])
   cut_window e number few last =
       let long : length (pending ++ e ∷ []) ≡ length pending + 1 = length-append pending (e ∷ []) in

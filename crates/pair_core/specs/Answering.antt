@@ -1,6 +1,5 @@
 -- How events may be answered: as the protocol says, or for want of memory.
-use Rattle.std.specs.Prelude.{◌≡◌, ℕ, ◌<◌, true, Result, Ok, Err, ◌⊎◌}
-use Rattle.failover.specs.declared.mode.Mode.{Mode}
+use Rattle.std.specs.Prelude.{◌≡◌, ℕ, ◌<◌, true, Result, Ok, Err, ◌⊎◌, length}
 use Rattle.pair_history.specs.HistoryState.{HistoryState}
 use Rattle.pair_core.specs.declared.event.Event.{Event}
 use Rattle.pair_core.specs.declared.event.Refusal.{Refusal}
@@ -8,24 +7,33 @@ use Rattle.pair_core.specs.declared.event.Refusal.TheVariants.{Full, NoMemory}
 use Rattle.pair_core.specs.declared.event.Reply.{Reply}
 use Rattle.pair_core.specs.declared.event.Reply.TheVariants as replies
 use Rattle.pair_core.specs.Modes.{is_alone}
-use Rattle.pair_core.specs.Protocol.{Record, outcome}
+use Rattle.pair_core.specs.Protocol.{Record, Outcome, outcome}
 
--- An event that the protocol answers so in a mode may want memory first: it adds to the history, to a line, or to what is sealed or
--- kept. A step doesn't, unless a node is alone, where its frames may land; nor does an event that changes nothing.
-abbrev pub MayWantMemory : Mode → Reply → Type 0
-MayWantMemory mode (replies.Steps count) = is_alone mode ≡ true
-MayWantMemory mode (replies.Sent count) = 0 < count
-MayWantMemory mode replies.Lost = ⊥
-MayWantMemory mode replies.Empty = ⊥
-MayWantMemory mode replies.Stopped = ⊥
-MayWantMemory mode (replies.Refused why) = why ≡ Full
-MayWantMemory mode other = Unit {0}
+-- the history has more entries than it had
+abbrev pub AddsEntries : Record → Record → Type 0
+AddsEntries old new = length old.journal.history < length new.journal.history
+
+-- An event that the protocol answers so, leaving that record, may want memory first: it adds to the history, to a line, or to what is
+-- sealed or kept. A step doesn't, unless a node is alone, where its frames may land; nor does an acknowledgement by which no frame
+-- leaves, or an event that changes nothing.
+abbrev pub MayWant : Record → Reply → Record → Type 0
+MayWant old (replies.Steps count) new = is_alone old.mode ≡ true
+MayWant old (replies.Sent count) new = 0 < count
+MayWant old (replies.Acked generation number landed) new = AddsEntries old new
+MayWant old replies.Lost new = ⊥
+MayWant old replies.Empty new = ⊥
+MayWant old replies.Stopped new = ⊥
+MayWant old (replies.Refused why) new = why ≡ Full
+MayWant old other new = Unit {0}
+
+abbrev pub MayWantMemory : Record → Outcome → Type 0
+MayWantMemory old o = MayWant old o.0 o.1
 
 -- From the record old an event may be answered reply and leave new: by the protocol, or for want of memory with nothing changed.
 abbrev pub Answers : HistoryState → Record → Event → Reply → Record → Type 0
 Answers start old event reply new =
     ((reply, new) ≡ outcome start old event)
-    ⊎ (MayWantMemory old.mode (outcome start old event).0 × (reply ≡ replies.Refused NoMemory) × (new ≡ old))
+    ⊎ (MayWantMemory old (outcome start old event) × (reply ≡ replies.Refused NoMemory) × (new ≡ old))
 
 -- what a step answers, as a reply
 abbrev pub step_reply : Result ℕ Refusal → Reply

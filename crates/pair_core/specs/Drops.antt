@@ -1,15 +1,17 @@
 -- Why a frame was dropped.
-use Rattle.std.specs.Prelude.{◌≡◌, ◌⊎◌, ℕ, List, [], ◌∷◌, ◌++◌, Some, slice_get}
+use Rattle.std.specs.Prelude.{◌≡◌, ◌⊎◌, false, ℕ, List, [], ◌∷◌, ◌++◌, Some, slice_get}
 use Rattle.pair_history.specs.Entries.{Frame, Entry, DropIn, DropOut}
 use Rattle.pair_history.specs.HistoryState.{HistoryState, inbox_of, at}
 use Rattle.pair_history.specs.Landings.{IsInBox, DropsAtFull, DropsNone}
 use Rattle.pair_history.specs.Failures.{go_live_entries, arrived_numbers, rising}
+use Rattle.pair_history.specs.Leaving.{LeaveInOrder}
 use Rattle.pair_core.specs.declared.event.Event.{Event}
 use Rattle.pair_core.specs.declared.event.Event.TheVariants.{Step, AckGet, LoseIn, LoseOut, FailBackup, GoLive}
 use Rattle.pair_core.specs.declared.event.Reply.{Reply}
-use Rattle.pair_core.specs.declared.event.Reply.TheVariants.{Dropped, Live}
+use Rattle.pair_core.specs.declared.event.Reply.TheVariants.{Acked, Dropped, Live}
 use Rattle.pair_core.specs.Journal.{kept_entries}
-use Rattle.pair_core.specs.Protocol.{Record}
+use Rattle.pair_core.specs.Modes.{is_alone}
+use Rattle.pair_core.specs.Protocol.{Record, shown_at, let_go}
 use Rattle.pair_core.specs.Answering.{Answers}
 
 -- What an event may drop, where the history and what the guest did ahead of it were so, and the history grows by these entries: a loss
@@ -30,12 +32,22 @@ Loses start history ahead event reply es = DropsNone es
 abbrev pub DropsOnly : HistoryState → Record → Event → Reply → List Entry → Type 0
 DropsOnly start old event reply es = Loses start old.journal.history (kept_entries old.journal) event reply es
 
--- An event, answered so, makes the history grow by entries that drop what it may drop.
+-- What leaves for clients where an event adds these entries: at an acknowledgement the frames of the checkpoints up to its number, in the
+-- order in which they were sent, and none is given up. While there is a backup nothing else lets a frame leave.
+abbrev pub LetsOut : HistoryState → Record → Event → Reply → List Entry → Type 0
+LetsOut start r (AckGet k) (Acked generation number landed) es = LeaveInOrder (shown_at start r) es (let_go (shown_at start r).boxes r number)
+LetsOut start r Step reply es = is_alone r.mode ≡ false → LeaveInOrder (shown_at start r) es []
+LetsOut start r FailBackup reply es = Unit {0}
+LetsOut start r GoLive reply es = Unit {0}
+LetsOut start r event reply es = LeaveInOrder (shown_at start r) es []
+
+-- An event, answered so, makes the history grow by entries that drop what it may drop, and let out what it may let out.
 pub record Drops (start : HistoryState) (old : Record) (event : Event) (reply : Reply) (new : Record) : Type 0 where
   pub answers : Answers start old event reply new
   pub entries : List Entry
   pub grows : new.journal.history ≡ old.journal.history ++ entries
   pub only : DropsOnly start old event reply entries
+  pub lets : LetsOut start old event reply entries
 
 -- Why frames that clients delivered, of these numbers, were dropped: none was; or a loss was asked for, of that one frame; or the backup
 -- went live, and the epochs that had taken them in were never committed.

@@ -7,7 +7,7 @@ use Rattle.epoch_snapshot.specs.Bases.{IsBase}
 use Rattle.frame_ports.specs.Addresses.{targets_of}
 use Rattle.frame_ports.specs.Lands.{list_of}
 use Rattle.frame_ports.specs.Ports.{PortsState}
-use Rattle.frame_ports.specs.declared.limits.TheConstants.{NUMBER_LIMIT}
+use Rattle.frame_ports.specs.Limits.{number_limit}
 use Rattle.output_gate.specs.Epochs.{Epoch, frames_of}
 use Rattle.pair_history.specs.Entries.{Frame}
 use Rattle.pair_history.specs.HistoryState.{HistoryState, Waiting, inbox_of, at, Legal}
@@ -82,7 +82,7 @@ pub record IsBacked (generation n : ℕ) (g : Guest) (sealed_moves : List (List 
 pub record AreNodes (alone : Bool) (generation n : ℕ) (g : Guest) (sealed_moves : List (List Move)) (running_moves : List Move)
     (held : List (List Frame)) (x : Nodes) : Type 0 where
   pub first_generation : 1 ≤ generation
-  pub last_generation : generation < NUMBER_LIMIT
+  pub last_generation : generation < number_limit
   pub backed : alone ≡ false → IsBacked generation n g sealed_moves x
   pub frames : held ≡ epoch_frames g sealed_moves
   pub live : x.live.guest ≡ guest_along g (all_moves sealed_moves ++ running_moves)

@@ -1,6 +1,6 @@
 -- How the fields of a stored journal stand for what contracts see.
 use Rattle.std.specs.Prelude.{◌≡◌, ◌+◌, ◌-◌, ◌<◌, List, length, map, vec_len, vec_capacity}
-use Rattle.frame_ports.specs.declared.limits.TheConstants.{NUMBER_LIMIT}
+use Rattle.frame_ports.specs.Limits.{number_limit}
 use Rattle.pair_history.specs.Entries.{Entry}
 use Rattle.pair_core.specs.declared.epochs.RunningEpoch.{RunningEpoch}
 use Rattle.pair_core.specs.declared.journal.Journal.TheInside.{Inside}
@@ -20,4 +20,4 @@ stored a = record {
 -- the kept entries are counted, and with the history's they have numbers
 pub record AreFields (a : Inside) : Type 0 where
   pub counted : a.kept ≡ length (kept_entries (stored a).journal)
-  pub fits : length a.history.entries + a.kept < NUMBER_LIMIT
+  pub fits : length a.history.entries + a.kept < number_limit

@@ -2,7 +2,7 @@
 use Rattle.std.specs.Prelude.{◌≡◌, ℕ, ◌+◌, ◌-◌, ◌<◌, ◌≤◌, nat_lt, Bool, if◌then◌else◌, List, [], ◌∷◌, ◌++◌, length, slice_index}
 use Rattle.std.specs.Prelude.{slice_index_or, slice_set}
 use Rattle.frame_ports.specs.Addresses.{clients_of}
-use Rattle.frame_ports.specs.declared.limits.TheConstants.{BOX_FRAMES}
+use Rattle.frame_ports.specs.Limits.{box_frames}
 use Rattle.pair_history.specs.Entries.{Frame, Entry, Land, DropOut}
 
 -- the clients to whom the frames go, each frame's rising
@@ -12,7 +12,7 @@ receivers count (f ∷ fs) = clients_of count f.items ++ receivers count fs
 
 -- whether the box of client c, whose length stands at place c - 1, has room
 abbrev pub has_space : List ℕ → ℕ → Bool
-has_space lengths c = nat_lt (slice_index lengths (c - 1)) BOX_FRAMES
+has_space lengths c = nat_lt (slice_index lengths (c - 1)) box_frames
 
 -- the lengths once a frame has landed for client c
 abbrev pub lengths_at : List ℕ → ℕ → List ℕ
@@ -23,7 +23,7 @@ lengths_after lengths [] = lengths
 lengths_after lengths (c ∷ cs) = lengths_after (lengths_at lengths c) cs
 
 abbrev pub landing_by : List ℕ → ℕ → Entry
-landing_by lengths c = if has_space lengths c then Land c else DropOut c BOX_FRAMES
+landing_by lengths c = if has_space lengths c then Land c else DropOut c box_frames
 
 abbrev pub landings_by : List ℕ → List ℕ → List Entry
 landings_by lengths [] = []

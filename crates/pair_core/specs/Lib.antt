@@ -10,6 +10,7 @@ pub mod Texts
 pub mod NodesFields
 pub mod Modes
 pub mod Protocol
+pub mod ModeChanges
 pub mod Answering
 pub mod Record
 pub mod RecordFields
@@ -18,12 +19,16 @@ pub mod Invariant
 pub mod Start
 pub mod Runs
 pub mod Drops
+pub mod Acknowledged
 pub mod Replication
+pub mod Calls
 pub mod Service
 pub mod WorldFields
 pub mod Lengths
+pub mod Limits
 pub mod Refusals
 -- what public clauses cite of lower crates
 pub use Rattle.pair_history.specs.Entries
 pub use Rattle.pair_history.specs.HistoryState
+pub use Rattle.failover.specs.Changes
 pub use Rattle.failover.specs.Words

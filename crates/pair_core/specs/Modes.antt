@@ -1,5 +1,11 @@
 -- The modes of a pair, and which events each of them refuses whatever else holds.
-use Rattle.std.specs.Prelude.{Bool, true, false, Option, None, Some}
+use Rattle.std.specs.Prelude.{ℕ, Bool, true, false, Option, None, Some, Result, Ok, Err}
+use Rattle.failover.specs.Changes.{row}
+use Rattle.failover.specs.declared.change.Change.{Change}
+use Rattle.failover.specs.declared.change.Change.TheVariants as changes
+use Rattle.failover.specs.declared.errors.FailoverError.{FailoverError}
+use Rattle.failover.specs.declared.errors.FailoverError.TheVariants.{Stopped as HasStopped, NotPaired as HasNoPair}
+use Rattle.failover.specs.declared.errors.FailoverError.TheVariants.{AlreadyPaired as HasPair, NoImage as HasNoImage}
 use Rattle.failover.specs.declared.mode.Mode.{Mode}
 use Rattle.failover.specs.declared.mode.Mode.TheVariants as modes
 use Rattle.pair_core.specs.declared.event.Event.{Event}
@@ -49,36 +55,30 @@ backup_refusal modes.Filling = None
 backup_refusal modes.Alone = Some NotPaired
 backup_refusal modes.Stopped = None
 
--- the primary's stop, where it has stopped, and where no backup could go on
-abbrev pub stop_refusal : Mode → Option Refusal
-stop_refusal modes.Paired = None
-stop_refusal modes.Filling = Some NoImage
-stop_refusal modes.Alone = Some NoImage
-stop_refusal modes.Stopped = Some Stopped
+-- a refusal of failover's is the pair's of the same name
+abbrev pub named : FailoverError → Refusal
+named HasStopped = Stopped
+named HasNoPair = NotPaired
+named HasPair = AlreadyPaired
+named HasNoImage = NoImage
 
--- that the backup goes live, where the primary hasn't stopped
-abbrev pub live_refusal : Mode → Option Refusal
-live_refusal modes.Paired = Some AlreadyPaired
-live_refusal modes.Filling = Some AlreadyPaired
-live_refusal modes.Alone = Some NotPaired
-live_refusal modes.Stopped = None
+-- why a change of mode is refused, by failover's state table
+abbrev pub refusal_in : Result (Mode × ℕ) FailoverError → Option Refusal
+refusal_in (Ok to) = None
+refusal_in (Err why) = Some (named why)
 
--- that a node gets a new backup, where it has one, and where the primary has stopped
-abbrev pub protect_refusal : Mode → Option Refusal
-protect_refusal modes.Paired = Some AlreadyPaired
-protect_refusal modes.Filling = Some AlreadyPaired
-protect_refusal modes.Alone = None
-protect_refusal modes.Stopped = Some Stopped
+abbrev pub change_refusal : Change → Mode → Option Refusal
+change_refusal change mode = refusal_in (row change mode)
 
--- Why an event is refused in a mode. A step, and a frame's arrival, are refused where the primary has stopped, each in its own place of
--- its table of refusals; what clients and their lines do is not refused by any mode.
+-- Why an event is refused in a mode: a change of mode by its row. A step, and a frame's arrival, are refused where the primary has
+-- stopped, each in its own place of its table of refusals; what clients and their lines do is not refused by any mode.
 abbrev pub mode_refusal : Mode → Event → Option Refusal
 mode_refusal mode Cut = primary_refusal mode
 mode_refusal mode Send = primary_refusal mode
 mode_refusal mode (BackupGet k) = backup_refusal mode
 mode_refusal mode (AckGet k) = primary_refusal mode
-mode_refusal mode FailPrimary = stop_refusal mode
-mode_refusal mode FailBackup = primary_refusal mode
-mode_refusal mode GoLive = live_refusal mode
-mode_refusal mode Protect = protect_refusal mode
+mode_refusal mode FailPrimary = change_refusal changes.FailPrimary mode
+mode_refusal mode FailBackup = change_refusal changes.FailBackup mode
+mode_refusal mode GoLive = change_refusal changes.GoLive mode
+mode_refusal mode Protect = change_refusal changes.Protect mode
 mode_refusal mode other = None

@@ -7,7 +7,7 @@ use Rattle.frame_ports.specs.Ports.{PortsState}
 use Rattle.output_gate.specs.Epochs.{frames_of}
 use Rattle.pair_history.specs.Entries.{Entry, Ran, Arrive}
 use Rattle.pair_history.specs.HistoryState.{HistoryState, inbox_of, at, Legal}
-use Rattle.pair_history.specs.Landings.{DropsAreKnown}
+use Rattle.pair_history.specs.Landings.{DropsAreKnown, BoxesFit}
 use Rattle.pair_core.specs.declared.event.Refusal.{Refusal}
 use Rattle.pair_core.specs.declared.event.Refusal.TheVariants.{Full}
 use Rattle.pair_core.specs.declared.event.Reply.{Reply}
@@ -17,6 +17,7 @@ use Rattle.pair_core.specs.Modes.{is_alone, is_filling}
 use Rattle.pair_core.specs.Nodes.{Nodes, Fills, machine_of}
 use Rattle.pair_core.specs.Protocol.{Record, outbox_of, shown_at, live_at}
 use Rattle.pair_core.specs.Texts.{AreTexts}
+use Rattle.pair_core.specs.Window.{IsWindow}
 
 pub record Pair : Type 0 where
   -- the state that the history starts from
@@ -76,6 +77,8 @@ pub record IsConsistent (w : Pair) : Type 0 where
   pub drops : DropsAreKnown w.start w.protocol.journal.history
   pub goes_on : Legal (shown_state w) (kept_entries w.protocol.journal)
   pub kept : All (λ e. is_of_guest e ≡ true) (kept_entries w.protocol.journal)
+  -- what is pending are the checkpoints from the next to be acknowledged to the last cut
+  pub window : IsWindow w.protocol.window w.protocol.pending
   -- the live machine is the guest of the history followed by what is kept
   pub live : w.nodes.live.guest ≡ (live_state w).guest
   -- there is a backup, unless a node is alone
@@ -87,8 +90,9 @@ pub record IsConsistent (w : Pair) : Type 0 where
   pub number : w.ports.next ≡ (shown_state w).number
   pub clients : length w.ports.inboxes ≡ length w.ports.boxes
   pub inboxes : (c : ℕ) → 1 ≤ c → c ≤ length w.ports.boxes → list_of w.ports.inboxes c ≡ inbox_of c (live_state w).waiting
-  -- the boxes are the history's
+  -- the boxes are the history's, and none holds more than it has room for
   pub boxes : w.ports.boxes ≡ (shown_state w).boxes
+  pub fit : BoxesFit w.ports.boxes
   -- what the gate holds, with the outbox, is what is still on its way to each client
   pub owed : targets_of (length w.ports.boxes) (frames_of w.protocol.pending ++ w.nodes.live.outbox) ≡ (live_state w).out
 
@@ -97,8 +101,9 @@ abbrev pub AfterRefusal : Refusal → Pair → Pair → Type 0
 AfterRefusal Full old new = new ≡ record old { protocol = new.protocol }
 AfterRefusal _ old new = new ≡ old
 
--- the same of a reply, if it is a refusal
+-- The same of a reply, if it is a refusal. A packet that isn't there, and a frame that isn't there, change nothing either.
 abbrev pub OnRefused : Reply → Pair → Pair → Type 0
 OnRefused (replies.Refused why) old new = AfterRefusal why old new
+OnRefused replies.Lost old new = new ≡ old
 OnRefused replies.Empty old new = new ≡ old
 OnRefused _ old new = Unit {0}

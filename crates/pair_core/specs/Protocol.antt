@@ -8,7 +8,7 @@ use Rattle.std.specs.Prelude.{length, map, option_map, slice_get, Option, None, 
 use Rattle.guest_machine.specs.Step.{next, sent}
 use Rattle.frame_ports.specs.Addresses.{targets_of}
 use Rattle.frame_ports.specs.Lands.{list_of, put_count}
-use Rattle.frame_ports.specs.declared.limits.TheConstants.{MIN_FRAME, MAX_FRAME, INBOX_FRAMES, NUMBER_LIMIT}
+use Rattle.frame_ports.specs.Limits.{min_frame, max_frame, inbox_frames, number_limit}
 use Rattle.output_gate.specs.Epochs.{Epoch, frames_of, frames_to, after_number}
 use Rattle.failover.specs.declared.mode.Mode.{Mode}
 use Rattle.failover.specs.declared.mode.Mode.TheVariants as modes
@@ -26,7 +26,7 @@ use Rattle.pair_core.specs.declared.event.Refusal.TheVariants.{Full, BadFrame, N
 use Rattle.pair_core.specs.declared.event.Refusal.TheVariants.{Exhausted}
 use Rattle.pair_core.specs.declared.event.Reply.{Reply}
 use Rattle.pair_core.specs.declared.event.Reply.TheVariants as replies
-use Rattle.pair_core.specs.declared.limits.TheConstants.{MOST_PENDING, STEP_ROOM, STEP_ENTRIES}
+use Rattle.pair_core.specs.Limits.{most_pending, stepping_frames, lone_step_entries}
 use Rattle.pair_core.specs.declared.window.Window.{Window}
 use Rattle.pair_core.specs.Journal.{Journal, joined, kept_entries, all_entries, with_history, with_moves, sealed_off, committed}
 use Rattle.pair_core.specs.Journal.{all_committed, discarded}
@@ -72,7 +72,7 @@ unless r rows done = or_else (first_refusal rows) (refused r) done
 
 -- that many more entries would be too many for the history
 abbrev pub exhausts : Record → ℕ → Bool
-exhausts r more = nat_le NUMBER_LIMIT (length (all_entries r.journal) + more)
+exhausts r more = nat_le number_limit (length (all_entries r.journal) + more)
 
 -- whether that many clients have one of this number
 abbrev pub is_among : ℕ → ℕ → Bool
@@ -82,11 +82,11 @@ is_among c count = nat_le 1 c && nat_le c count
 
 -- how many entries a step counts as, whatever it sends: where a node is alone its 64 frames may land for 16 clients each
 abbrev pub step_room : Mode → ℕ
-step_room mode = if is_alone mode then STEP_ENTRIES else 1
+step_room mode = if is_alone mode then lone_step_entries else 1
 
 abbrev pub step_refusals : List Frame → Record → List Row
 step_refusals outbox r =
-    (is_stopped r.mode, Stopped) ∷ (nat_lt STEP_ROOM (length outbox), CutNeeded) ∷ (exhausts r (step_room r.mode), Exhausted) ∷ []
+    (is_stopped r.mode, Stopped) ∷ (nat_lt stepping_frames (length outbox), CutNeeded) ∷ (exhausts r (step_room r.mode), Exhausted) ∷ []
 
 -- The guest makes one step, its `steps`th, in which it sends these frames. Where a node is alone they land at once.
 abbrev pub step_entries : Bool → List (List Frame) → List Frame → List Entry
@@ -104,7 +104,7 @@ step_outcome_at outbox boxes sent steps r = unless r (step_refusals outbox r) (s
 -- CUT
 
 abbrev pub cut_refusals : Record → List Row
-cut_refusals r = (nat_le MOST_PENDING (length r.pending), Behind) ∷ (nat_le NUMBER_LIMIT r.window.to_cut, Exhausted) ∷ []
+cut_refusals r = (nat_le most_pending (length r.pending), Behind) ∷ (nat_le number_limit r.window.to_cut, Exhausted) ∷ []
 
 -- the running epoch, along which the guest sent these frames, is sealed, and its checkpoint is pending under the next number
 abbrev pub cut_done : List Frame → Record → Outcome
@@ -206,15 +206,15 @@ admit_outcome_at count inbox r c = unless r (arrival_refusals count r c) (admit_
 
 -- whether so many bytes are no frame
 abbrev pub is_bad_length : ℕ → Bool
-is_bad_length n = nat_lt n MIN_FRAME || nat_lt MAX_FRAME n
+is_bad_length n = nat_lt n min_frame || nat_lt max_frame n
 
 abbrev pub deliver_refusals : ℕ → List (ℕ × Frame) → ℕ → Record → ℕ → List ℕ → List Row
 deliver_refusals count inbox number r c bytes =
     (not (is_among c count), NoClient)
     ∷ (is_bad_length (length bytes), BadFrame)
     ∷ (exhausts r 1, Exhausted)
-    ∷ (nat_le INBOX_FRAMES (length inbox), Full)
-    ∷ (nat_le NUMBER_LIMIT number, Exhausted)
+    ∷ (nat_le inbox_frames (length inbox), Full)
+    ∷ (nat_le number_limit number, Exhausted)
     ∷ []
 
 -- a full inbox: that is recorded, and that is all. The other refusals change nothing
@@ -311,8 +311,8 @@ live_entries boxes out j = drops_of_taken_in (kept_entries j) ++ drops_of_owed_f
 
 abbrev pub go_live_refusals : List (List Frame) → List (ℕ × Frame) → Record → List Row
 go_live_refusals boxes out r =
-    (nat_le NUMBER_LIMIT (r.generation + 1), Exhausted)
-    ∷ (nat_le NUMBER_LIMIT (length r.journal.history + length (live_entries boxes out r.journal)), Exhausted)
+    (nat_le number_limit (r.generation + 1), Exhausted)
+    ∷ (nat_le number_limit (length r.journal.history + length (live_entries boxes out r.journal)), Exhausted)
     ∷ []
 
 abbrev pub go_live_done : List (List Frame) → List (ℕ × Frame) → ℕ → Record → Outcome
@@ -333,7 +333,7 @@ go_live_outcome_at boxes out steps r = unless r (go_live_refusals boxes out r) (
 -- PROTECT: a node that is alone gets a new backup, in the next generation
 
 abbrev pub protect_refusals : Record → List Row
-protect_refusals r = (nat_le NUMBER_LIMIT (r.generation + 1), Exhausted) ∷ []
+protect_refusals r = (nat_le number_limit (r.generation + 1), Exhausted) ∷ []
 
 -- its full checkpoint, which no frame waits for, is pending under number 0; from now on what the guest does and sends is kept
 abbrev pub protect_done : Record → Outcome

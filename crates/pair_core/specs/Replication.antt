@@ -13,6 +13,7 @@ use Rattle.pair_core.specs.Modes.{is_alone}
 use Rattle.pair_core.specs.Nodes.{Nodes, read_as}
 use Rattle.pair_core.specs.Pair.{Pair, IsConsistent}
 use Rattle.pair_core.specs.Answering.{Answers}
+use Rattle.pair_core.specs.Drops.{Drops}
 
 -- the guests that these texts of checkpoints make, one after another, the first of them of the guest g (Remus, 2008: each checkpoint is
 -- applied to the image that the one before it made)
@@ -92,6 +93,7 @@ pub record Does (old : Pair) (event : Event) (reply : Reply) (new : Pair) : Type
   pub start : new.start ≡ old.start
   pub answers : Answers old.start old.protocol event reply new.protocol
   pub consistent : IsConsistent new
+  pub drops : Drops old.start old.protocol event reply new.protocol
   pub replicates : Replicates event reply old.nodes new.nodes
 
 -- These events, one after another, answered so, lead from the pair old to new.

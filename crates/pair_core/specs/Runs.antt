@@ -49,7 +49,7 @@ StepsAnswer start old count reply new =
     ((reply, new) ≡ steps_outcome start old count)
     ⊎ ((is_alone old.mode ≡ true) × (reply ≡ replies.Refused NoMemory)
     × ((made : ℕ) × (made < count) × (steps : ℕ) × ((replies.Steps steps, new) ≡ steps_outcome start old made)
-    × MayWantMemory new.mode (step_outcome start new).0))
+    × MayWantMemory new (step_outcome start new)))
 
 -- the pair after n steps of its live guest
 abbrev pub with_steps : ℕ → Pair → Pair

@@ -1,24 +1,19 @@
 -- What a run is to its clients: one guest that never fails, behind a line that may lose frames. It is told by the history, the state at
 -- it, replies and guests, and by nothing else of a pair.
-use Rattle.std.specs.Prelude.{◌≡◌, ℕ, Bool, true, false, All, List, [], ◌∷◌, ◌++◌}
-use Rattle.guest_machine.specs.Guest.{Guest}
-use Rattle.pair_history.specs.Entries.{Entry, Delivered, Refused, Took}
-use Rattle.pair_history.specs.HistoryState.{HistoryState, Legal, at}
+use Rattle.std.specs.Prelude.{◌≡◌, ◌⊎◌, ℕ, suc, ◌<◌, Bool, true, false, All, List, [], ◌∷◌, ◌++◌, length, take, drop, replicate}
+use Rattle.std.specs.List.{filter}
+use Rattle.pair_history.specs.Entries.{Entry, Ran, Arrive, Delivered, Refused, Took, Begins}
+use Rattle.pair_history.specs.HistoryState.{HistoryState, Legal, Allows, at}
 use Rattle.pair_core.specs.declared.event.Event.{Event}
-use Rattle.pair_core.specs.declared.event.Event.TheVariants.{Deliver, Take, GoLive}
+use Rattle.pair_core.specs.declared.event.Event.TheVariants.{Step, BackupGet, Admit, Deliver, Take, FailBackup, GoLive}
 use Rattle.pair_core.specs.declared.event.Refusal.{Refusal}
 use Rattle.pair_core.specs.declared.event.Refusal.TheVariants.{Full}
 use Rattle.pair_core.specs.declared.event.Reply.{Reply}
 use Rattle.pair_core.specs.declared.event.Reply.TheVariants as replies
+use Rattle.pair_core.specs.Calls.{Moment, AnswersCall}
 use Rattle.pair_core.specs.Drops.{Loses}
 use Rattle.pair_core.specs.Journal.{kept_entries}
 use Rattle.pair_core.specs.Pair.{Pair, is_of_guest}
-
--- A moment of a run: the history, what the guest did that the history doesn't have yet, and the guest.
-pub record Moment : Type 0 where
-  pub history : List Entry
-  pub ahead : List Entry
-  pub guest : Guest
 
 -- a pair's: its live guest, where the primary has stopped the one that it stopped with
 abbrev pub moment : Pair → Moment
@@ -54,6 +49,26 @@ abbrev pub Resumes : Event → Reply → Moment → Type 0
 Resumes GoLive (replies.Live generation steps) new = (new.ahead ≡ []) × (new.guest.steps ≡ steps)
 Resumes event reply new = Unit {0}
 
+-- what the guest did, of some entries: its steps, and the arrivals of frames
+abbrev pub guest_entries : List Entry → List Entry
+guest_entries es = filter is_of_guest es
+
+-- the guest does one thing more: ahead of the history, or, where a node is alone, in it at once
+abbrev pub OneMore : Entry → List Entry → List Entry → List Entry → Type 0
+OneMore e old entered new =
+    ((entered ≡ []) × (new ≡ old ++ e ∷ [])) ⊎ ((old ≡ []) × (entered ≡ e ∷ []) × (new ≡ []))
+
+-- Which of the guest's entries an event lets into the history, where these were ahead of it before and those are after it: what is
+-- committed, in the order in which it was done; all, where the backup fails; what a node that is alone does, at once; and no others.
+-- Where a backup goes live, what was ahead is given up.
+abbrev pub Enters : Event → Reply → List Entry → List Entry → List Entry → Type 0
+Enters Step (replies.Steps count) old entered new = OneMore Ran old entered new
+Enters (Admit c) (replies.Admitted n) old entered new = OneMore (Arrive n) old entered new
+Enters (BackupGet k) (replies.Committed generation number) old entered new = entered ++ new ≡ old
+Enters FailBackup (replies.Alone generation landed) old entered new = (entered ≡ old) × (new ≡ [])
+Enters GoLive (replies.Live generation steps) old entered new = (entered ≡ []) × (new ≡ [])
+Enters event reply old entered new = (entered ≡ []) × (new ≡ old)
+
 -- One event, answered so, leads from a moment to the next.
 pub record Serves (start : HistoryState) (old : Moment) (event : Event) (reply : Reply) (new : Moment) : Type 0 where
   pub added : List Entry
@@ -62,9 +77,13 @@ pub record Serves (start : HistoryState) (old : Moment) (event : Event) (reply :
   -- it is one of a guest that never fails, and goes on by what that guest does
   pub legal : Legal start (new.history ++ new.ahead)
   pub moves : All (λ e. is_of_guest e ≡ true) new.ahead
+  -- what the guest did enters it when it is committed, and no other entries of the guest do
+  pub enters : Enters event reply old.ahead (guest_entries added) new.ahead
   -- the guest is the one of both, memory, disk and devices; a resumed guest is the history's
   pub guest : new.guest ≡ (at start (new.history ++ new.ahead)).guest
   pub resumes : Resumes event reply new
+  -- a client's call is answered in one of its own ways, and told as it was answered
+  pub answered : AnswersCall start old event reply
   pub tells : Tells event reply added
   -- and what they drop, the event may drop
   pub loses : Loses start old.history old.ahead event reply added
@@ -76,3 +95,63 @@ HasServed start old (event ∷ events) (reply ∷ replies) new =
     (mid : Moment) × Serves start old event reply mid × HasServed start mid events replies new
 HasServed start old [] (reply ∷ replies) new = ⊥
 HasServed start old (event ∷ events) [] new = ⊥
+
+-- Along these events, answered so, these of the guest's entries enter the history, event by event, where old were ahead of it before the
+-- run and new are after it.
+abbrev pub EnterAlong : List Event → List Reply → List Entry → List Entry → List Entry → Type 0
+EnterAlong [] [] old entered new = (entered ≡ []) × (new ≡ old)
+EnterAlong (event ∷ events) (reply ∷ replies) old entered new =
+    (first : List Entry) × (mid : List Entry) × (later : List Entry)
+    × Enters event reply old first mid × EnterAlong events replies mid later new × (entered ≡ first ++ later)
+EnterAlong [] (reply ∷ replies) old entered new = ⊥
+EnterAlong (event ∷ events) [] old entered new = ⊥
+
+-- What a run adds to the history: of what the guest did, that which entered along it, and nothing else of the guest.
+pub record HasEntered (old : Moment) (events : List Event) (answers : List Reply) (new : Moment) : Type 0 where
+  pub added : List Entry
+  pub grows : new.history ≡ old.history ++ added
+  pub enters : EnterAlong events answers old.ahead (guest_entries added) new.ahead
+
+-- The point of a run at which event k happened, answered so: the moments before and after it, the run up to it, the event, and the run
+-- from it on.
+pub record Point (start : HistoryState) (old : Moment) (events : List Event) (answers : List Reply) (new : Moment)
+    (k : ℕ) (event : Event) (reply : Reply) : Type 0 where
+  pub before : Moment
+  pub done : Moment
+  pub up_to : HasServed start old (take k events) (take k answers) before
+  pub here : Serves start before event reply done
+  pub from : HasServed start done (drop (suc k) events) (drop (suc k) answers) new
+
+-- The call between two moments is told by this entry, right there in the history, in a state that allows it; and the history of the end
+-- still begins so.
+pub record IsTold (start : HistoryState) (before done end : Moment) (e : Entry) : Type 0 where
+  pub told : done.history ≡ before.history ++ e ∷ []
+  pub allowed : Allows (at start before.history) e
+  pub stays : Begins done.history end.history
+
+-- The guest that goes live between these moments is the history's, whole, after so many steps; and the history of the end still begins
+-- so.
+pub record IsResumed (start : HistoryState) (done end : Moment) (count : ℕ) : Type 0 where
+  pub guest : done.guest ≡ (at start done.history).guest
+  pub steps : done.guest.steps ≡ count
+  pub stays : Begins done.history end.history
+
+-- the reply of a step that was made
+abbrev pub is_step : Reply → Bool
+is_step (replies.Steps count) = true
+is_step other = false
+
+-- So many steps were wanted, that many were made, and the answer to all is this: all were made, and it is the guest's step count; or the
+-- step after these was refused so.
+abbrev pub EndsSteps : HistoryState → ℕ → ℕ → Moment → Reply → Moment → Type 0
+EndsSteps start wanted made mid (replies.Steps count) new = (made ≡ wanted) × (new ≡ mid) × (new.guest.steps ≡ count)
+EndsSteps start wanted made mid (replies.Refused why) new = (made < wanted) × Serves start mid Step (replies.Refused why) new
+EndsSteps start wanted made mid other new = ⊥
+
+-- So many steps in one call, answered so, are as many events, one after another, up to the first that is refused.
+pub record ServesSteps (start : HistoryState) (old : Moment) (wanted : ℕ) (reply : Reply) (new : Moment) : Type 0 where
+  pub made : List Reply
+  pub are_steps : All (λ r. is_step r ≡ true) made
+  pub mid : Moment
+  pub run : HasServed start old (replicate (length made) Step) made mid
+  pub ends : EndsSteps start wanted (length made) mid reply new

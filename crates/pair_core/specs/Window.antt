@@ -1,8 +1,8 @@
 -- The window of checkpoints: those from the next to be acknowledged to the last cut are pending.
 use Rattle.std.specs.Prelude.{◌≡◌, ℕ, ◌+◌, ◌-◌, ◌≤◌, nat_le, if◌then◌else◌, List, [], ◌∷◌, length, take, drop}
-use Rattle.frame_ports.specs.declared.limits.TheConstants.{NUMBER_LIMIT}
+use Rattle.frame_ports.specs.Limits.{number_limit}
 use Rattle.output_gate.specs.Epochs.{Epoch}
-use Rattle.pair_core.specs.declared.limits.TheConstants.{MOST_PENDING}
+use Rattle.pair_core.specs.Limits.{most_pending}
 use Rattle.pair_core.specs.declared.window.Window.{Window}
 
 -- the boot image counts as checkpoint 0, committed and acknowledged
@@ -51,5 +51,5 @@ pub record IsWindow (w : Window) (pending : List Epoch) : Type 0 where
   pub count : w.to_acknowledge + length pending ≡ w.to_cut
   pub committed : w.to_acknowledge ≤ w.to_commit
   pub cut : w.to_commit ≤ w.to_cut
-  pub few : length pending ≤ MOST_PENDING
-  pub last : w.to_cut ≤ NUMBER_LIMIT
+  pub few : length pending ≤ most_pending
+  pub last : w.to_cut ≤ number_limit

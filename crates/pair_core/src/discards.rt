@@ -3,7 +3,7 @@
 ghost use Rattle.std.specs.Prelude.{◌≡◌, ◌+◌, ◌^◌, ◌≤◌, ◌<◌, ◌++◌, length, map, replicate, IfOk, OnOk};
 ghost use Rattle.std.specs.List.Sorted.{IsNonDecreasing, IsPermutation};
 ghost use Rattle.frame_ports.specs.Addresses.{targets_of};
-ghost use Rattle.frame_ports.specs.declared.limits.TheConstants.{MAX_CLIENTS};
+ghost use Rattle.frame_ports.specs.Limits.{max_clients};
 ghost use Rattle.pair_history.specs.Entries.{DropIn, DropOut};
 ghost use Rattle.pair_history.specs.Failures.{drops_of_owed_from};
 ghost use Rattle.pair_history.specs.HistoryState.{out_of};
@@ -87,7 +87,7 @@ pub(crate) fn add_drops_in(history: &mut History, numbers: &[u64])
 fn count_to(ports: &Ports, frames: &[Frame], client: u64) -> u64
     requires low { 1 ≤ client }
     requires high { client ≤ length ports.now.boxes }
-    requires few { client ≤ MAX_CLIENTS }
+    requires few { client ≤ max_clients }
     ensures { result ≡ length (out_of client (targets_of (length ports.now.boxes) frames.now)) }
 {
     let mut count = 0;

@@ -1,7 +1,7 @@
 //! The journal: the history, the sealed epochs that no commit has covered yet, and the one that runs.
 ghost use Rattle.std.specs.Prelude.{◌≡◌, ◌+◌, ◌-◌, ◌*◌, ◌^◌, ◌≤◌, ◌<◌, ◌++◌, ◌∷◌, [], length, replicate, OnOk, OnErr, IfOk};
 ghost use Rattle.frame_ports.specs.Addresses.{targets_of};
-ghost use Rattle.frame_ports.specs.declared.limits.TheConstants.{NUMBER_LIMIT};
+ghost use Rattle.frame_ports.specs.Limits.{number_limit};
 ghost use Rattle.pair_history.specs.Entries.{Ran, Arrive};
 ghost use Rattle.pair_history.specs.Failures.{arrived_numbers};
 ghost use Rattle.pair_history.specs.Landings.{landings};
@@ -64,14 +64,14 @@ impl Journal {
 
     /// How many more entries have numbers.
     pub(crate) fn entries_left(&self) -> u64
-        ensures { length (all_entries self.now.journal) + (result + 1) ≡ NUMBER_LIMIT }
+        ensures { length (all_entries self.now.journal) + (result + 1) ≡ number_limit }
     {
         NUMBER_LIMIT - 1 - (self.history.len() + self.kept)
     }
 
     /// The guest made so many steps.
     pub(crate) fn run(&mut self, steps: u64)
-        requires fits { length (all_entries self.old.journal) + steps < NUMBER_LIMIT }
+        requires fits { length (all_entries self.old.journal) + steps < number_limit }
         ensures { self.new.journal ≡ with_running self.old.journal (replicate steps Ran) }
     {
         self.running.steps += steps;
@@ -91,7 +91,7 @@ impl Journal {
     /// The frame of this number arrived at the guest.
     pub(crate) fn arrive(&mut self, number: u64)
         requires room { 0 < self.old.arrival_room }
-        requires fits { length (all_entries self.old.journal) + 1 < NUMBER_LIMIT }
+        requires fits { length (all_entries self.old.journal) + 1 < number_limit }
         ensures { self.new.journal ≡ with_running self.old.journal (Arrive number ∷ []) }
     {
         let steps = self.running.steps;
@@ -155,6 +155,7 @@ impl Journal {
     pub(crate) fn reserve(&mut self, additional: usize) -> Result<(), AllocError>
         ensures journal { self.new.journal ≡ self.old.journal }
         ensures room { OnOk result (additional ≤ self.new.room) }
+        ensures full { OnErr result (self.old.room < additional) }
     {
         self.history.reserve(additional)
     }
@@ -162,7 +163,7 @@ impl Journal {
     /// Adds an entry of a client's to the history, in the room that was reserved.
     pub(crate) fn add(&mut self, entry: Entry)
         requires room { 0 < self.old.room }
-        requires fits { length (all_entries self.old.journal) + length (expanded entry) < NUMBER_LIMIT }
+        requires fits { length (all_entries self.old.journal) + length (expanded entry) < number_limit }
         ensures { self.new.journal ≡ with_history self.old.journal (expanded entry) }
     {
         self.history.add(entry);
@@ -171,7 +172,7 @@ impl Journal {
     /// Adds what becomes of the frames once they land in these ports, in the room that was reserved.
     pub(crate) fn land(&mut self, ports: &Ports, frames: &[Frame])
         requires room { length (receivers (length ports.now.boxes) frames.now) ≤ self.old.room }
-        requires fits { length (all_entries self.old.journal) + length (receivers (length ports.now.boxes) frames.now) < NUMBER_LIMIT }
+        requires fits { length (all_entries self.old.journal) + length (receivers (length ports.now.boxes) frames.now) < number_limit }
         ensures { self.new.journal
             ≡ with_history self.old.journal (landings ports.now.boxes (targets_of (length ports.now.boxes) frames.now)) }
     {
@@ -183,7 +184,7 @@ impl Journal {
     pub(crate) fn run_alone(&mut self, steps: u64, ports: &Ports, frames: &[Frame])
         requires room { length (receivers (length ports.now.boxes) frames.now) < self.old.room }
         requires fits { length (all_entries self.old.journal) + (steps + length (receivers (length ports.now.boxes) frames.now))
-            < NUMBER_LIMIT }
+            < number_limit }
         ensures { self.new.journal
             ≡ with_history self.old.journal
             (replicate steps Ran ++ landings ports.now.boxes (targets_of (length ports.now.boxes) frames.now)) }
@@ -195,7 +196,7 @@ impl Journal {
     /// How many frames the kept epochs took in.
     pub(crate) fn taken_in(&self) -> u64
         ensures count { result ≡ length (arrived_numbers (kept_entries self.now.journal)) }
-        ensures fits { length self.now.journal.history + result < NUMBER_LIMIT }
+        ensures fits { length self.now.journal.history + result < number_limit }
     {
         count_arrivals(self.sealed.as_slice()) + self.running.arrivals.len() as u64
     }
@@ -205,7 +206,7 @@ impl Journal {
     pub(crate) fn go_live(&mut self, ports: &Ports, owed: &[Frame]) -> Result<(), AllocError>
         requires few { length owed.now ≤ 2 ^ 58 }
         requires fits { length self.old.journal.history
-            + length (live_entries ports.now.boxes (targets_of (length ports.now.boxes) owed.now) self.old.journal) < NUMBER_LIMIT }
+            + length (live_entries ports.now.boxes (targets_of (length ports.now.boxes) owed.now) self.old.journal) < number_limit }
         ensures ok { OnOk result (self.new.journal
             ≡ with_history (discarded self.old.journal)
             (live_entries ports.now.boxes (targets_of (length ports.now.boxes) owed.now) self.old.journal)) }

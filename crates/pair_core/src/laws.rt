@@ -1,17 +1,26 @@
 //! What follows from what events do, over whole runs: the backup's image after a commit is the guest of the machine at the cut.
-ghost use Rattle.std.specs.Prelude.{◌≡◌, ◌++◌, ◌∷◌, ℕ, List, Option, Some, slice_get};
+ghost use Rattle.std.specs.Prelude.{◌≡◌, ◌++◌, All, length, ℕ, List, Option, Some, slice_get};
 ghost use Rattle.guest_machine.specs.Guest.{Guest};
 ghost use Rattle.pair_core.specs.declared.event.Event.{Event};
 ghost use Rattle.pair_core.specs.declared.event.Event.TheVariants.{Cut, BackupGet, Deliver, GoLive, Protect, Take};
+ghost use Rattle.pair_core.specs.declared.event.Refusal.TheVariants.{Full};
 ghost use Rattle.pair_core.specs.declared.event.Reply.{Reply};
 ghost use Rattle.pair_core.specs.declared.event.Reply.TheVariants as replies;
-ghost use Rattle.pair_core.specs.Pair.{Pair};
+ghost use Rattle.pair_core.specs.Acknowledged.{greatest_acked, AreOrdinary};
+ghost use Rattle.pair_core.specs.Journal.{all_entries};
+ghost use Rattle.pair_core.specs.Record.{start_record};
+ghost use Rattle.pair_core.specs.Pair.{Pair, IsConsistent};
+ghost use Rattle.pair_history.specs.Leaving.{leaving, frames_left, NotGivenUp};
+ghost use Rattle.pair_history.specs.Released.{sent_to, IsFresh};
+ghost use Rattle.frame_ports.specs.Addresses.{targets_of};
+ghost use Rattle.output_gate.specs.Epochs.{frames_of};
 ghost use Rattle.pair_history.specs.Failures.{dropped_numbers};
-ghost use Rattle.pair_history.specs.Entries.{Entry, Frame, Delivered, Took, Begins};
-ghost use Rattle.pair_history.specs.HistoryState.{HistoryState, Allows, at};
+ghost use Rattle.pair_history.specs.Entries.{Frame, Delivered, Refused, Took, Begins};
+ghost use Rattle.pair_history.specs.HistoryState.{HistoryState, out_of};
 ghost use Rattle.pair_core.specs.Drops.{Drops, WhyLost};
 ghost use Rattle.pair_core.specs.Protocol.{Record};
-ghost use Rattle.pair_core.specs.Service.{Moment, Serves, HasServed, IsDelivery};
+ghost use Rattle.pair_core.specs.Calls.{Moment};
+ghost use Rattle.pair_core.specs.Service.{HasServed, HasEntered, IsDelivery, Point, IsTold, IsResumed};
 ghost use Rattle.pair_core.specs.Replication.{KeepsBackup, Awaits, Does, Leads};
 
 /// The image after a commit is the guest that the live machine was at the cut of that checkpoint: memory, disk and devices.
@@ -67,30 +76,76 @@ pub fn what_is_delivered_is_lost_for_a_reason()
 /// lossy line, at a point of one growing history; what was released stays in it; and a resumed guest is that history's guest, its disk
 /// included.
 ///
-/// [`World::run`](crate::World::run) gives `HasServed` of every list of events (clause `served`), and each `Serves` in it says of one event
-/// that the history and what the guest did ahead of it are a legal run, that the guest is the one of that run, what was told to the client
-/// that called, what was lost and why, and where a backup went live that its guest is the history's. These clauses say what that means for
-/// a single call: the history of the end has an entry that tells of the call, and the state before that entry is one that allows it.
+/// [`World::run`](crate::World::run) gives `HasServed` of every list of events (clause `served`). Clause `point` says that the run up to a
+/// call, the call itself and the run from it on are three such runs in a row; the others, what the history says right there: the entry that
+/// tells of the call is the one that it added, in a state that allows it, and stays.
 pub fn clients_have_one_guest_that_never_fails()
     ensures grows { (start : HistoryState) (old new : Moment) (events : List Event) (answers : List Reply)
         → HasServed start old events answers new → Begins old.history new.history }
+    ensures point { (start : HistoryState) (old new : Moment) (events : List Event) (answers : List Reply)
+        → HasServed start old events answers new
+        → (k : ℕ) (event : Event) (reply : Reply) → slice_get events k ≡ Some event → slice_get answers k ≡ Some reply
+        → Point start old events answers new k event reply }
     ensures take { (start : HistoryState) (old new : Moment) (events : List Event) (answers : List Reply)
-        → HasServed start old events answers new
-        → (k c : ℕ) (frame : Option Frame) → slice_get events k ≡ Some (Take c) → slice_get answers k ≡ Some (replies.Took frame)
-        → (before later : List Entry) × (new.history ≡ before ++ Took c frame ∷ later) × Begins old.history before
-        × Allows (at start before) (Took c frame) }
+        → (k c : ℕ) (frame : Option Frame) → (p : Point start old events answers new k (Take c) (replies.Took frame))
+        → IsTold start p.before p.done new (Took c frame) }
     ensures deliver { (start : HistoryState) (old new : Moment) (events : List Event) (answers : List Reply)
-        → HasServed start old events answers new
-        → (k c n : ℕ) (bytes : List ℕ) (event : Event) → slice_get events k ≡ Some event → IsDelivery c bytes event
-        → slice_get answers k ≡ Some (replies.Delivered n)
-        → (before later : List Entry) × (new.history ≡ before ++ Delivered c (record { items = bytes }) n ∷ later)
-        × Begins old.history before × Allows (at start before) (Delivered c (record { items = bytes }) n) }
+        → (k c n : ℕ) (bytes : List ℕ) (event : Event) → IsDelivery c bytes event
+        → (p : Point start old events answers new k event (replies.Delivered n))
+        → IsTold start p.before p.done new (Delivered c (record { items = bytes }) n) }
+    // A frame that was refused since 64 frames of the client waited.
+    ensures full { (start : HistoryState) (old new : Moment) (events : List Event) (answers : List Reply)
+        → (k c : ℕ) (bytes : List ℕ) (event : Event) → IsDelivery c bytes event
+        → (p : Point start old events answers new k event (replies.Refused Full))
+        → IsTold start p.before p.done new (Refused c (record { items = bytes })) }
+    // The guest that goes live, its memory, disk and devices, is the history's.
     ensures resume { (start : HistoryState) (old new : Moment) (events : List Event) (answers : List Reply)
-        → HasServed start old events answers new
-        → (k generation steps : ℕ) → slice_get events k ≡ Some GoLive → slice_get answers k ≡ Some (replies.Live generation steps)
-        → (before later : List Entry) × (new.history ≡ before ++ later) × Begins old.history before
-        × ((at start before).guest.steps ≡ steps) }
-    // At that moment the guest, its memory, disk and devices, is the history's.
-    ensures resumed { (start : HistoryState) (old new : Moment) (generation steps : ℕ)
-        → Serves start old GoLive (replies.Live generation steps) new → new.guest ≡ (at start new.history).guest }
+        → (k generation steps : ℕ) → (p : Point start old events answers new k GoLive (replies.Live generation steps))
+        → IsResumed start p.done new steps }
+{}
+
+/// What acknowledgements have let out, exactly: after any run from boot in which no node failed, with `m` the greatest number that was
+/// acknowledged so far, what left for a client is what the guest had sent to it up to `Cut(1, m)`, in order; each frame of it landed, or was
+/// dropped at a full box.
+///
+/// The pair `cut` is the one before the cut that was answered `Cut(1, m)`, any events came before and after it, and `late` is the pair then.
+/// Of any pair, also after failures: what left for a client, and then what the gate and the outbox hold for it, is in order all that the
+/// guest sent to it along the history and what is kept (`accounted`). What a backup that went live didn't owe any more left as given up.
+pub fn acknowledged_frames_have_left()
+    ensures since_boot { (c m : ℕ) (boot cut now late : Pair) (before then : List Event) (told answers : List Reply)
+        → IsConsistent boot → boot.protocol ≡ start_record → IsFresh boot.start
+        → Leads boot before told cut → AreOrdinary before
+        → Does cut Cut (replies.Cut 1 m) now
+        → Leads now then answers late → AreOrdinary then
+        → greatest_acked (told ++ answers) ≡ m
+        → (frames_left (leaving late.start late.protocol.journal.history c) ≡ sent_to cut.start (all_entries cut.protocol.journal) c)
+        × All NotGivenUp (leaving late.start late.protocol.journal.history c) }
+    ensures accounted { (c : ℕ) (w : Pair) → IsConsistent w → IsFresh w.start
+        → sent_to w.start (all_entries w.protocol.journal) c
+        ≡ frames_left (leaving w.start w.protocol.journal.history c)
+        ++ out_of c (targets_of (length w.ports.boxes) (frames_of w.protocol.pending ++ w.nodes.live.outbox)) }
+{}
+
+/// What the guest did enters the history epoch by epoch, when the backup commits the epoch's checkpoint; all of it where the backup fails;
+/// and then at once, as long as a node is alone. Nothing else of the guest enters. So along a run from the start the guest's steps and
+/// arrivals in the history are those of committed epochs and of nodes alone, in the order in which they were made.
+///
+/// [`World::run`](crate::World::run) gives `HasServed` of every list of events (clause `served`), and `Leads` (clause `leads`).
+pub fn committed_epochs_enter_the_history()
+    // Of every run, event by event: what each one lets in is the row of `Enters` for it.
+    ensures run { (start : HistoryState) (old new : Moment) (events : List Event) (answers : List Reply)
+        → HasServed start old events answers new → HasEntered old events answers new }
+    // The epoch that ran at a cut enters the history whole, when the checkpoint of that cut is committed: any events came between.
+    ensures epoch { (cut next late done : Pair) (generation number k : ℕ) (events : List Event) (answers : List Reply)
+        → Does cut Cut (replies.Cut generation number) next
+        → Leads next events answers late
+        → Does late (BackupGet k) (replies.Committed generation number) done
+        → done.protocol.journal.history ≡ late.protocol.journal.history ++ cut.protocol.journal.running }
+    // With the full checkpoint of a new backup none does: a node alone keeps nothing.
+    ensures full { (alone next late done : Pair) (generation k : ℕ) (events : List Event) (answers : List Reply)
+        → IsConsistent alone
+        → Does alone Protect (replies.Protecting generation) next
+        → Leads next events answers late
+        → Does late (BackupGet k) (replies.Committed generation 0) done
+        → done.protocol.journal.history ≡ late.protocol.journal.history }
 {}

@@ -14,6 +14,7 @@ mod landings;
 mod laws;
 mod limits;
 mod lines;
+mod mode_laws;
 mod modes;
 mod nodes;
 mod record;
@@ -26,8 +27,11 @@ pub use event::{Event, Packet, Refusal, Reply, Show};
 pub use failover::Mode;
 pub use guest_machine::{SECTOR_BYTES, Shape};
 pub use laws::{
-    clients_have_one_guest_that_never_fails, committed_guests_are_those_cut,
-    cut_guests_are_awaited, what_is_delivered_is_lost_for_a_reason,
+    acknowledged_frames_have_left, clients_have_one_guest_that_never_fails,
+    committed_epochs_enter_the_history, committed_guests_are_those_cut, cut_guests_are_awaited,
+    what_is_delivered_is_lost_for_a_reason,
 };
+pub use limits::limits_are_the_rules;
+pub use mode_laws::modes_change_by_failovers_table;
 pub use pair_history::{Entry, Frame, History, released_frames_were_sent};
 pub use world::World;

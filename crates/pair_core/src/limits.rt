@@ -1,5 +1,7 @@
 //! The limits of the pair. Those of frames, clients, inboxes, boxes and numbers are `frame_ports`'s, those of the outbox and of
 //! memory and disk `guest_machine`'s, that of held epochs `output_gate`'s.
+ghost use Rattle.std.specs.Prelude.{◌≡◌};
+ghost use Rattle.pair_core.specs.Limits.{most_pending, step_frames, stepping_frames, lone_step_entries, first_generation, full_checkpoint};
 
 /// How many checkpoints may be pending.
 pub(crate) const MOST_PENDING: u64 = 4;
@@ -18,3 +20,13 @@ pub(crate) const FIRST_GENERATION: u64 = 1;
 
 /// The number of a generation's full checkpoint.
 pub(crate) const FULL_CHECKPOINT: u64 = 0;
+
+/// Each constant is the number that the rules name. Definitions and clauses cite those numbers, and never the constants.
+pub fn limits_are_the_rules()
+    ensures most_pending { MOST_PENDING ≡ most_pending }
+    ensures step_frames { STEP_FRAMES ≡ step_frames }
+    ensures stepping_frames { STEP_ROOM ≡ stepping_frames }
+    ensures lone_step_entries { STEP_ENTRIES ≡ lone_step_entries }
+    ensures first_generation { FIRST_GENERATION ≡ first_generation }
+    ensures full_checkpoint { FULL_CHECKPOINT ≡ full_checkpoint }
+{}

@@ -5,7 +5,7 @@ ghost use Rattle.pair_core.specs.Protocol.{step_room as step_entries};
 
 use crate::event::{Event, Refusal};
 use crate::limits::STEP_ENTRIES;
-use failover::Mode;
+use failover::{Change, FailoverError, Mode};
 
 /// Whether the primary has stopped, and the backup hasn't gone live.
 pub(crate) fn is_stopped(mode: Mode) -> bool
@@ -59,36 +59,25 @@ fn backup_refusal(mode: Mode) -> Option<Refusal>
     }
 }
 
-/// Why the primary's stop is refused.
-fn stop_refusal(mode: Mode) -> Option<Refusal>
-    ensures { result ≡ modes.stop_refusal mode }
+/// The pair's refusal of the same name.
+fn named(error: FailoverError) -> Refusal
+    ensures { result ≡ modes.named error }
 {
-    match mode {
-        Mode::Paired => None,
-        Mode::Filling | Mode::Alone => Some(Refusal::NoImage),
-        Mode::Stopped => Some(Refusal::Stopped),
+    match error {
+        FailoverError::Stopped => Refusal::Stopped,
+        FailoverError::NotPaired => Refusal::NotPaired,
+        FailoverError::AlreadyPaired => Refusal::AlreadyPaired,
+        FailoverError::NoImage => Refusal::NoImage,
     }
 }
 
-/// Why the backup can't go live.
-fn live_refusal(mode: Mode) -> Option<Refusal>
-    ensures { result ≡ modes.live_refusal mode }
+/// Why a change of mode is refused.
+fn change_refusal(change: Change, mode: Mode) -> Option<Refusal>
+    ensures { result ≡ modes.change_refusal change mode }
 {
-    match mode {
-        Mode::Paired | Mode::Filling => Some(Refusal::AlreadyPaired),
-        Mode::Alone => Some(Refusal::NotPaired),
-        Mode::Stopped => None,
-    }
-}
-
-/// Why a node can't get a new backup.
-fn protect_refusal(mode: Mode) -> Option<Refusal>
-    ensures { result ≡ modes.protect_refusal mode }
-{
-    match mode {
-        Mode::Paired | Mode::Filling => Some(Refusal::AlreadyPaired),
-        Mode::Alone => None,
-        Mode::Stopped => Some(Refusal::Stopped),
+    match mode.after(change) {
+        Ok(_) => None,
+        Err(error) => Some(named(error)),
     }
 }
 
@@ -97,11 +86,12 @@ pub(crate) fn mode_refusal(mode: Mode, event: Event<'_>) -> Option<Refusal>
     ensures { result ≡ modes.mode_refusal mode event.entry }
 {
     match event {
-        Event::Cut | Event::Send | Event::AckGet(_) | Event::FailBackup => primary_refusal(mode),
+        Event::Cut | Event::Send | Event::AckGet(_) => primary_refusal(mode),
         Event::BackupGet(_) => backup_refusal(mode),
-        Event::FailPrimary => stop_refusal(mode),
-        Event::GoLive => live_refusal(mode),
-        Event::Protect => protect_refusal(mode),
+        Event::FailPrimary => change_refusal(Change::FailPrimary, mode),
+        Event::FailBackup => change_refusal(Change::FailBackup, mode),
+        Event::GoLive => change_refusal(Change::GoLive, mode),
+        Event::Protect => change_refusal(Change::Protect, mode),
         Event::Step
         | Event::Admit(_)
         | Event::Deliver(_, _)

@@ -3,12 +3,13 @@ ghost use Rattle.std.specs.Prelude.{◌≡◌, ℕ, ◌+◌, ◌-◌, ◌*◌, �
 ghost use Rattle.std.specs.Prelude.{None, Some, false, slice_get};
 ghost use Rattle.frame_ports.specs.Addresses.{IsFrame};
 ghost use Rattle.frame_ports.specs.Ports.{empty_ports};
-ghost use Rattle.frame_ports.specs.declared.limits.TheConstants.{MAX_CLIENTS, NUMBER_LIMIT};
+ghost use Rattle.frame_ports.specs.Limits.{max_clients, number_limit};
 ghost use Rattle.pair_history.specs.Entries.{Ran};
 ghost use Rattle.pair_core.specs.Journal.{all_entries, with_running};
-ghost use Rattle.pair_core.specs.Modes.{is_stopped as stopped, is_alone as alone, stop_refusal};
+ghost use Rattle.pair_core.specs.Modes.{is_stopped as stopped, is_alone as alone, change_refusal};
+ghost use Rattle.failover.specs.declared.change.Change.TheVariants as changes;
 ghost use Rattle.pair_core.specs.Protocol.{exhausts, is_among, first_refusal, step_refusals, cut_refusals, cut_done, send_done};
-ghost use Rattle.pair_core.specs.Protocol.{backup_refusals, again_done, commit_done, ack_refusals, ack_done, fail_primary_done};
+ghost use Rattle.pair_core.specs.Protocol.{backup_refusals, again_done, commit_done, ack_refusals, ack_done, let_go, fail_primary_done};
 ghost use Rattle.pair_core.specs.Record.{IsRecord, start_record, ports_after_ack};
 
 mod alone;
@@ -63,7 +64,7 @@ impl PairRecord {
     /// A record of so many clients in which nothing happened yet.
     pub(crate) fn new(alloc: Global, clients: u64) -> Result<PairRecord, AllocError>
         requires some { 1 ≤ clients }
-        requires few { clients ≤ MAX_CLIENTS }
+        requires few { clients ≤ max_clients }
         ensures protocol { IfOk result (λ r. r.protocol ≡ start_record) }
         ensures ports { IfOk result (λ r. r.ports ≡ empty_ports clients) }
     {
@@ -94,7 +95,7 @@ impl PairRecord {
 
     /// The primary stops.
     pub(crate) fn fail_primary(&mut self) -> Reply
-        requires { stop_refusal self.old.protocol.mode ≡ None }
+        requires { change_refusal changes.FailPrimary self.old.protocol.mode ≡ None }
         ensures protocol { (result, self.new.protocol) ≡ fail_primary_done self.old.protocol }
         ensures ports { self.new.ports ≡ self.old.ports }
     {
@@ -148,9 +149,9 @@ impl PairRecord {
     pub(crate) fn steps_left(&self, count: u64) -> u64
         ensures most { result ≤ count }
         ensures runs { 0 < result → stopped self.now.protocol.mode ≡ false }
-        ensures fits { length (all_entries self.now.protocol.journal) + result < NUMBER_LIMIT }
+        ensures fits { length (all_entries self.now.protocol.journal) + result < number_limit }
         ensures fewer { result < count → stopped self.now.protocol.mode ≡ false
-            → NUMBER_LIMIT ≤ length (all_entries self.now.protocol.journal) + result + 1 }
+            → number_limit ≤ length (all_entries self.now.protocol.journal) + result + 1 }
     {
         let left = self.journal.entries_left();
         if is_stopped(self.mode) {
@@ -192,7 +193,7 @@ impl PairRecord {
     /// The guest made so many steps.
     pub(crate) fn run(&mut self, steps: u64)
         requires pair { alone self.old.protocol.mode ≡ false }
-        requires fits { length (all_entries self.old.protocol.journal) + steps < NUMBER_LIMIT }
+        requires fits { length (all_entries self.old.protocol.journal) + steps < number_limit }
         ensures { self.new
             ≡ record self.old {
               protocol = record self.old.protocol {
@@ -343,6 +344,7 @@ impl PairRecord {
         ensures ok { IfOk result (λ reply. (reply, self.new.protocol) ≡ ack_done self.old.ports.boxes self.old.protocol packet.number) }
         ensures ports { OnOk result (self.new.ports ≡ ports_after_ack self.old.ports self.old.protocol packet.number) }
         ensures err { OnErr result (self.new ≡ self.old) }
+        ensures some { OnErr result (0 < length (let_go self.old.ports.boxes self.old.protocol packet.number)) }
     {
         let number = packet.number;
         let count = count_landings(&self.ports, self.gate.held(number));

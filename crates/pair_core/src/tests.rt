@@ -1,6 +1,7 @@
 //! Whole runs with the expected replies of the beacon's worked example, and what no clause says: that calls succeed
 //! where there is memory.
 mod failures;
+mod late_packets;
 mod protection;
 mod texts;
 

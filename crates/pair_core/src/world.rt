@@ -41,7 +41,7 @@ impl Model for World {
 impl World {
     ghost use Rattle.std.specs.Prelude.{option_map};
     ghost use Rattle.guest_machine.specs.Guest.{sector_in};
-    ghost use Rattle.frame_ports.specs.declared.limits.TheConstants.{MAX_CLIENTS};
+    ghost use Rattle.frame_ports.specs.Limits.{max_clients};
     ghost use Rattle.pair_history.specs.Entries.{Begins};
     ghost use Rattle.pair_history.specs.HistoryState.{start_state};
     ghost use Rattle.pair_core.specs.Protocol.{Record, outcome, step_outcome};
@@ -64,7 +64,7 @@ impl World {
     /// [`Refusal::NoMemory`] where memory was asked for and refused.
     pub fn boot(alloc: Global, shape: Shape, clients: u64, image: &[u8]) -> Result<World, Refusal>
         requires some { 1 ≤ clients }
-        requires few { clients ≤ MAX_CLIENTS }
+        requires few { clients ≤ max_clients }
         requires fits { length image.now ≤ 4096 * shape.pages }
         ensures start { IfOk result (λ w. w.start ≡ start_state shape.pages shape.sectors image.now clients) }
         ensures protocol { IfOk result (λ w. w.protocol ≡ start_record) }
@@ -124,7 +124,7 @@ impl World {
         ensures start { self.new.start ≡ self.old.start }
         ensures replicates { IfOk result (λ reply. Replicates event.entry reply self.old.nodes self.new.nodes) }
         ensures refused { IfOk result (λ reply. OnRefused reply self.old self.new) }
-        ensures memory { OnErr result (MayWantMemory self.old.protocol.mode (outcome self.old.start self.old.protocol event.entry).0) }
+        ensures memory { OnErr result (MayWantMemory self.old.protocol (outcome self.old.start self.old.protocol event.entry)) }
         ensures err { OnErr result (self.new ≡ self.old) }
     {
         if let Some(why) = mode_refusal(self.record.mode(), event) {
@@ -251,7 +251,7 @@ fn answered(outcome: Result<Reply, AllocError>) -> Reply
 }
 
 impl World {
-    ghost use Rattle.frame_ports.specs.declared.limits.TheConstants.{NUMBER_LIMIT};
+    ghost use Rattle.frame_ports.specs.Limits.{number_limit};
     ghost use Rattle.pair_core.specs.declared.event.Event.TheVariants as events;
     ghost use Rattle.pair_core.specs.Journal.{all_entries};
     ghost use Rattle.pair_core.specs.Modes.{is_stopped as stopped, is_alone as alone, mode_refusal};
@@ -268,7 +268,7 @@ impl World {
         ensures start { self.new.start ≡ self.old.start }
         ensures replicates { IfOk result (λ reply. Replicates events.Cut reply self.old.nodes self.new.nodes) }
         ensures refused { IfOk result (λ reply. OnRefused reply self.old self.new) }
-        ensures memory { OnErr result (MayWantMemory self.old.protocol.mode (allowed self.old.start self.old.protocol events.Cut).0) }
+        ensures memory { OnErr result (MayWantMemory self.old.protocol (allowed self.old.start self.old.protocol events.Cut)) }
         ensures err { OnErr result (self.new ≡ self.old) }
     {
         if let Some(why) = self.record.cut_refusal() {
@@ -289,7 +289,7 @@ impl World {
         ensures start { self.new.start ≡ self.old.start }
         ensures backup { KeepsBackup self.old.nodes self.new.nodes }
         ensures refused { IfOk result (λ reply. OnRefused reply self.old self.new) }
-        ensures memory { OnErr result (MayWantMemory self.old.protocol.mode (allowed self.old.start self.old.protocol events.Send).0) }
+        ensures memory { OnErr result (MayWantMemory self.old.protocol (allowed self.old.start self.old.protocol events.Send)) }
         ensures err { OnErr result (self.new ≡ self.old) }
     {
         self.record.send()
@@ -303,8 +303,8 @@ impl World {
         ensures start { self.new.start ≡ self.old.start }
         ensures replicates { IfOk result (λ reply. Replicates (events.BackupGet k) reply self.old.nodes self.new.nodes) }
         ensures refused { IfOk result (λ reply. OnRefused reply self.old self.new) }
-        ensures memory { OnErr result (MayWantMemory self.old.protocol.mode
-            (allowed self.old.start self.old.protocol (events.BackupGet k)).0) }
+        ensures memory { OnErr result (MayWantMemory self.old.protocol
+            (allowed self.old.start self.old.protocol (events.BackupGet k))) }
         ensures err { OnErr result (self.new ≡ self.old) }
     {
         let Some(packet) = self.record.packet(k) else {
@@ -329,7 +329,7 @@ impl World {
         ensures start { self.new.start ≡ self.old.start }
         ensures backup { KeepsBackup self.old.nodes self.new.nodes }
         ensures refused { IfOk result (λ reply. OnRefused reply self.old self.new) }
-        ensures memory { OnErr result (MayWantMemory self.old.protocol.mode (allowed self.old.start self.old.protocol (events.AckGet k)).0) }
+        ensures memory { OnErr result (MayWantMemory self.old.protocol (allowed self.old.start self.old.protocol (events.AckGet k))) }
         ensures err { OnErr result (self.new ≡ self.old) }
     {
         let Some(packet) = self.record.acknowledgement(k) else {

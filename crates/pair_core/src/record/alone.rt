@@ -3,7 +3,7 @@ ghost use Rattle.std.specs.Prelude.{◌≡◌, ◌+◌, ◌-◌, ◌<◌, ◌≤
 ghost use Rattle.guest_machine.specs.Runs.{sent_in};
 ghost use Rattle.frame_ports.specs.Addresses.{IsFrame, targets_of};
 ghost use Rattle.frame_ports.specs.Lands.{lands};
-ghost use Rattle.frame_ports.specs.declared.limits.TheConstants.{NUMBER_LIMIT};
+ghost use Rattle.frame_ports.specs.Limits.{number_limit};
 ghost use Rattle.pair_history.specs.Entries.{Ran};
 ghost use Rattle.pair_history.specs.Landings.{landings};
 ghost use Rattle.pair_core.specs.Journal.{all_entries, with_history};
@@ -75,7 +75,7 @@ impl PairRecord {
     pub(crate) fn step_alone(&mut self, nodes: &mut Nodes, most: u64) -> Result<u64, AllocError>
         requires alone { is_alone self.old.protocol.mode ≡ true }
         requires outbox { nodes.old.nodes.live.outbox ≡ [] }
-        requires fits { length (all_entries self.old.protocol.journal) + (most + 1024) < NUMBER_LIMIT }
+        requires fits { length (all_entries self.old.protocol.journal) + (most + 1024) < number_limit }
         ensures most { IfOk result (λ n. n ≤ most) }
         ensures some { IfOk result (λ n. 0 < most → 0 < n) }
         // Only the last of them sends.
@@ -105,8 +105,8 @@ impl PairRecord {
     /// How many of these steps a node that is alone may begin, where none but the last sends a frame.
     pub(crate) fn alone_steps_left(&self, count: u64) -> u64
         ensures most { result ≤ count }
-        ensures fits { 0 < result → length (all_entries self.now.protocol.journal) + (result + 1024) < NUMBER_LIMIT }
-        ensures fewer { result < count → NUMBER_LIMIT ≤ length (all_entries self.now.protocol.journal) + (result + 1025) }
+        ensures fits { 0 < result → length (all_entries self.now.protocol.journal) + (result + 1024) < number_limit }
+        ensures fewer { result < count → number_limit ≤ length (all_entries self.now.protocol.journal) + (result + 1025) }
     {
         let left = self.journal.entries_left();
         count.min(left.saturating_sub(STEP_ENTRIES - 1))

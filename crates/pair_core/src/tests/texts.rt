@@ -17,11 +17,11 @@ fn beacon_nodes(alloc: Global) -> Result<Box<Nodes>, Fail> {
 }
 
 #[test]
-fn the_beacons_checkpoint_on_its_way_has_608_bytes(rt: HostRuntime) -> Result<(), Fail> {
+fn the_beacons_checkpoint_on_its_way_has_630_bytes(rt: HostRuntime) -> Result<(), Fail> {
     let mut nodes = beacon_nodes(rt.alloc())?;
     let made = nodes.run(22);
     let text = nodes.checkpoint(1, 1)?;
-    assert_eq!(rt; (made, text.len()), (22, 608));
+    assert_eq!(rt; (made, text.len()), (22, 630));
     Ok(())
 }
 

@@ -18,8 +18,8 @@ impl World {
         ensures start { self.new.start ≡ self.old.start }
         ensures backup { KeepsBackup self.old.nodes self.new.nodes }
         ensures refused { IfOk result (λ reply. OnRefused reply self.old self.new) }
-        ensures memory { OnErr result (MayWantMemory self.old.protocol.mode
-            (allowed self.old.start self.old.protocol (events.Admit client)).0) }
+        ensures memory { OnErr result (MayWantMemory self.old.protocol
+            (allowed self.old.start self.old.protocol (events.Admit client))) }
         ensures err { OnErr result (self.new ≡ self.old) }
     {
         if let Some(why) = self.record.arrival_refusal(client) {
@@ -44,8 +44,8 @@ impl World {
         ensures start { self.new.start ≡ self.old.start }
         ensures backup { KeepsBackup self.old.nodes self.new.nodes }
         ensures refused { IfOk result (λ reply. OnRefused reply self.old self.new) }
-        ensures memory { OnErr result (MayWantMemory self.old.protocol.mode
-            (allowed self.old.start self.old.protocol (events.Deliver client bytes.entry)).0) }
+        ensures memory { OnErr result (MayWantMemory self.old.protocol
+            (allowed self.old.start self.old.protocol (events.Deliver client bytes.entry))) }
         ensures err { OnErr result (self.new ≡ self.old) }
     {
         let Some(why) = self.record.deliver_refusal(client, bytes) else {
@@ -64,8 +64,8 @@ impl World {
         ensures start { self.new.start ≡ self.old.start }
         ensures backup { KeepsBackup self.old.nodes self.new.nodes }
         ensures refused { IfOk result (λ reply. OnRefused reply self.old self.new) }
-        ensures memory { OnErr result (MayWantMemory self.old.protocol.mode
-            (allowed self.old.start self.old.protocol (events.Take client)).0) }
+        ensures memory { OnErr result (MayWantMemory self.old.protocol
+            (allowed self.old.start self.old.protocol (events.Take client))) }
         ensures err { OnErr result (self.new ≡ self.old) }
     {
         if let Some(why) = self.record.take_refusal(client) {

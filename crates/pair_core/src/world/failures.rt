@@ -30,8 +30,8 @@ impl World {
         ensures start { self.new.start ≡ self.old.start }
         ensures replicates { IfOk result (λ reply. Replicates events.FailBackup reply self.old.nodes self.new.nodes) }
         ensures refused { IfOk result (λ reply. OnRefused reply self.old self.new) }
-        ensures memory { OnErr result (MayWantMemory self.old.protocol.mode
-            (allowed self.old.start self.old.protocol events.FailBackup).0) }
+        ensures memory { OnErr result (MayWantMemory self.old.protocol
+            (allowed self.old.start self.old.protocol events.FailBackup)) }
         ensures err { OnErr result (self.new ≡ self.old) }
     {
         if let Some(why) = self.record.fail_backup_refusal(self.nodes.outbox()) {
@@ -49,7 +49,7 @@ impl World {
         ensures start { self.new.start ≡ self.old.start }
         ensures replicates { IfOk result (λ reply. Replicates events.GoLive reply self.old.nodes self.new.nodes) }
         ensures refused { IfOk result (λ reply. OnRefused reply self.old self.new) }
-        ensures memory { OnErr result (MayWantMemory self.old.protocol.mode (allowed self.old.start self.old.protocol events.GoLive).0) }
+        ensures memory { OnErr result (MayWantMemory self.old.protocol (allowed self.old.start self.old.protocol events.GoLive)) }
         ensures err { OnErr result (self.new ≡ self.old) }
     {
         self.record.keep();
@@ -68,7 +68,7 @@ impl World {
         ensures start { self.new.start ≡ self.old.start }
         ensures replicates { IfOk result (λ reply. Replicates events.Protect reply self.old.nodes self.new.nodes) }
         ensures refused { IfOk result (λ reply. OnRefused reply self.old self.new) }
-        ensures memory { OnErr result (MayWantMemory self.old.protocol.mode (allowed self.old.start self.old.protocol events.Protect).0) }
+        ensures memory { OnErr result (MayWantMemory self.old.protocol (allowed self.old.start self.old.protocol events.Protect)) }
         ensures err { OnErr result (self.new ≡ self.old) }
     {
         self.record.keep();

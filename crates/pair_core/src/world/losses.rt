@@ -18,8 +18,8 @@ impl World {
         ensures start { self.new.start ≡ self.old.start }
         ensures backup { KeepsBackup self.old.nodes self.new.nodes }
         ensures refused { IfOk result (λ reply. OnRefused reply self.old self.new) }
-        ensures memory { OnErr result (MayWantMemory self.old.protocol.mode
-            (allowed self.old.start self.old.protocol (events.LoseIn client place)).0) }
+        ensures memory { OnErr result (MayWantMemory self.old.protocol
+            (allowed self.old.start self.old.protocol (events.LoseIn client place))) }
         ensures err { OnErr result (self.new ≡ self.old) }
     {
         if let Some(why) = self.record.client_refusal(client) {
@@ -42,8 +42,8 @@ impl World {
         ensures start { self.new.start ≡ self.old.start }
         ensures backup { KeepsBackup self.old.nodes self.new.nodes }
         ensures refused { IfOk result (λ reply. OnRefused reply self.old self.new) }
-        ensures memory { OnErr result (MayWantMemory self.old.protocol.mode
-            (allowed self.old.start self.old.protocol (events.LoseOut client place)).0) }
+        ensures memory { OnErr result (MayWantMemory self.old.protocol
+            (allowed self.old.start self.old.protocol (events.LoseOut client place))) }
         ensures err { OnErr result (self.new ≡ self.old) }
     {
         if let Some(why) = self.record.client_refusal(client) {

@@ -1,14 +1,17 @@
 //! The guest's steps, at the world.
 ghost use Rattle.std.specs.Prelude.{◌≡◌, ℕ, ◌+◌, ◌≤◌, ◌<◌, length, IfOk, IfSome, IfNone, OnErr, true, false};
-ghost use Rattle.frame_ports.specs.declared.limits.TheConstants.{NUMBER_LIMIT};
+ghost use Rattle.frame_ports.specs.Limits.{number_limit};
 ghost use Rattle.pair_core.specs.declared.event.Event.TheVariants as events;
 ghost use Rattle.pair_core.specs.Journal.{all_entries};
 ghost use Rattle.pair_core.specs.Modes as modes;
 ghost use Rattle.pair_core.specs.Protocol.{allowed, refused, step_outcome, step_room};
 ghost use Rattle.pair_core.specs.Answering.{Answers, MayWantMemory, step_reply};
 ghost use Rattle.pair_core.specs.Pair.{Pair, OnRefused, IsConsistent};
+ghost use Rattle.pair_core.specs.Drops.{Drops};
 ghost use Rattle.pair_core.specs.Replication.{KeepsBackup};
 ghost use Rattle.pair_core.specs.Runs.{StepsAnswer, steps_outcome, with_steps};
+ghost use Rattle.pair_core.specs.Service.{Serves, ServesSteps, moment};
+ghost use Rattle.pair_history.specs.Entries.{Begins};
 
 use super::World;
 use crate::event::{Refusal, Reply};
@@ -29,8 +32,13 @@ impl World {
         ensures start { self.new.start ≡ self.old.start }
         ensures backup { KeepsBackup self.old.nodes self.new.nodes }
         ensures refused { OnErr result (self.new ≡ self.old) }
+        ensures grows { Begins self.old.protocol.journal.history self.new.protocol.journal.history }
         ensures consistent { IsConsistent self.new }
+        ensures drops { Drops self.old.start self.old.protocol events.Step (step_reply result) self.new.protocol }
+        ensures serves { Serves self.old.start (moment self.old) events.Step (step_reply result) (moment self.new) }
     {
+        self.keep_consistent();
+        self.keep_drops();
         if is_alone(self.record.mode()) {
             let answer = self.run_alone(1);
             self.keep_consistent();
@@ -52,12 +60,16 @@ impl World {
         ensures start { self.new.start ≡ self.old.start }
         ensures backup { KeepsBackup self.old.nodes self.new.nodes }
         ensures consistent { IsConsistent self.new }
+        // To the clients they are as many steps, one after another, up to the first that is refused.
+        ensures served { ServesSteps self.old.start (moment self.old) count (step_reply result) (moment self.new) }
     {
-        let answer = if is_alone(self.record.mode()) {
-            self.run_alone(count)
-        } else {
-            self.run_paired(count)
-        };
+        self.keep_consistent();
+        if is_alone(self.record.mode()) {
+            let answer = self.run_alone(count);
+            self.keep_consistent();
+            return answer;
+        }
+        let answer = self.run_paired(count);
         self.keep_consistent();
         answer
     }
@@ -68,7 +80,7 @@ impl World {
         ensures start { self.new.start ≡ self.old.start }
         ensures backup { KeepsBackup self.old.nodes self.new.nodes }
         ensures refused { IfOk result (λ reply. OnRefused reply self.old self.new) }
-        ensures memory { OnErr result (MayWantMemory self.old.protocol.mode (step_outcome self.old.start self.old.protocol).0) }
+        ensures memory { OnErr result (MayWantMemory self.old.protocol (step_outcome self.old.start self.old.protocol)) }
         ensures err { OnErr result (self.new ≡ self.old) }
     {
         match self.step() {
@@ -102,7 +114,7 @@ impl World {
         ensures answered { (Reply.Steps self.new.nodes.live.guest.steps, self.new.protocol)
             ≡ steps_outcome self.old.start self.old.protocol result }
         ensures ended { result < count → modes.is_stopped self.new.protocol.mode ≡ false → length self.new.nodes.live.outbox ≤ 192
-            → NUMBER_LIMIT ≤ length (all_entries self.new.protocol.journal) + 1 }
+            → number_limit ≤ length (all_entries self.new.protocol.journal) + 1 }
     {
         let most = self.record.steps_left(count);
         let made = self.nodes.run(most);
@@ -114,7 +126,7 @@ impl World {
     fn step_refusal(&self) -> Option<Refusal>
         ensures refused { IfSome result (λ why. refused self.now.protocol why ≡ step_outcome self.now.start self.now.protocol) }
         ensures none { IfNone result ((modes.is_stopped self.now.protocol.mode ≡ false) × (length self.now.nodes.live.outbox ≤ 192)
-            × (length (all_entries self.now.protocol.journal) + step_room self.now.protocol.mode < NUMBER_LIMIT)) }
+            × (length (all_entries self.now.protocol.journal) + step_room self.now.protocol.mode < number_limit)) }
     {
         self.record.step_refusal(self.nodes.outbox())
     }
@@ -145,7 +157,7 @@ impl World {
     fn step_alone(&mut self, count: u64) -> Result<u64, AllocError>
         requires alone { modes.is_alone self.old.protocol.mode ≡ true }
         requires some { 0 < count }
-        requires room { length (all_entries self.old.protocol.journal) + 1025 < NUMBER_LIMIT }
+        requires room { length (all_entries self.old.protocol.journal) + 1025 < number_limit }
         ensures most { IfOk result (λ n. n ≤ count) }
         ensures some { IfOk result (λ n. 0 < n) }
         ensures answered { IfOk result (λ n. (Reply.Steps self.new.nodes.live.guest.steps, self.new.protocol)
@@ -153,7 +165,7 @@ impl World {
         ensures start { self.new.start ≡ self.old.start }
         ensures mode { self.new.protocol.mode ≡ self.old.protocol.mode }
         ensures backup { KeepsBackup self.old.nodes self.new.nodes }
-        ensures wants { OnErr result (MayWantMemory self.old.protocol.mode (step_outcome self.old.start self.old.protocol).0) }
+        ensures wants { OnErr result (MayWantMemory self.old.protocol (step_outcome self.old.start self.old.protocol)) }
         ensures err { OnErr result (self.new ≡ self.old) }
     {
         self.record.keep();

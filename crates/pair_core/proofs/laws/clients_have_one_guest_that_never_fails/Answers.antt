@@ -1,17 +1,20 @@
-use Rattle.pair_core.proofs.ServiceRuns.{served_grows, served_take, served_deliver, served_resume, resumed_is}
+use Rattle.pair_core.proofs.ServiceRuns.{served_grows, point, told_take, told_deliver, told_full, told_resume}
 use Rattle.pair_core.proofs.laws.clients_have_one_guest_that_never_fails.Goals as goal
 
 pub returns-clause-grows : goal.returns-clause-grows
 returns-clause-grows c = served_grows
 
+pub returns-clause-point : goal.returns-clause-point
+returns-clause-point c = point
+
 pub returns-clause-take : goal.returns-clause-take
-returns-clause-take c = served_take
+returns-clause-take c = told_take
 
 pub returns-clause-deliver : goal.returns-clause-deliver
-returns-clause-deliver c = served_deliver
+returns-clause-deliver c = told_deliver
+
+pub returns-clause-full : goal.returns-clause-full
+returns-clause-full c = told_full
 
 pub returns-clause-resume : goal.returns-clause-resume
-returns-clause-resume c = served_resume
-
-pub returns-clause-resumed : goal.returns-clause-resumed
-returns-clause-resumed c = resumed_is
+returns-clause-resume c = told_resume

@@ -1,6 +1,6 @@
 use Rattle.std.proofs.{Common.{rules, ◌≡◌, ◌+◌, ◌<◌, ◌++◌, length, sym, ap, arith}, lemmas.List.{length-append, length-map}}
 use Rattle.std.specs.Prelude.{map}
-use Rattle.frame_ports.specs.{Addresses.targets_of, declared.limits.TheConstants.NUMBER_LIMIT}
+use Rattle.frame_ports.specs.{Addresses.targets_of, Limits.number_limit}
 use Rattle.pair_core.specs.{Arrivals.epoch_entries, Journal.{Stored, joined}, JournalFields.{stored, epoch_of}, Protocol.live_entries}
 use Rattle.pair_core.proofs.{LengthLaws.length-receivers, LiveLaws.{as_many, live_history, length-live}}
 use Rattle.pair_core.proofs.journal.Journal.go_live.Goals.{After-as_slice-2, After-add_drops_out}
@@ -12,7 +12,7 @@ numbers c = search (arith, rules, as_many)
 
 -- so many entries are added
 added : (c : After-as_slice-2) → length c.self.inside.history.entries
-    + (c.taken_in-count.result + length (targets_of (length c.args.ports.now.boxes) c.args.owed.now)) < NUMBER_LIMIT
+    + (c.taken_in-count.result + length (targets_of (length c.args.ports.now.boxes) c.args.owed.now)) < number_limit
 added c =
     let boxes = c.args.ports.now.boxes in
     let fs = c.args.owed.now in

@@ -1,4 +1,4 @@
-use Rattle.std.proofs.Common.{length, replicate}
+use Rattle.std.proofs.Common.{[], length, replicate}
 use Rattle.guest_machine.specs.Guest.{sector_count}
 use Rattle.epoch_snapshot.specs.Cuts.{used_sectors}
 use Rattle.pair_core.specs.NodesFields.{image_or}
@@ -10,5 +10,5 @@ returns-clause-text c =
     let m = c.self.inside.live in
     let text = c.in-Ok-encode.text.items in
     rw (← c.self.view_is) (λ before sized. delta-text (replicate (length m.guest.ram) 0) (used_sectors m.guest.sectors (sector_count
-    m.guest.sectors)) m c.args.generation 0 c.in-Ok-cut_full.checkpoint (image_or c.self.inside.shape c.self.inside.image).shape text before
+    m.guest.sectors)) [] m c.args.generation 0 c.in-Ok-cut_full.checkpoint (image_or c.self.inside.shape c.self.inside.image).shape text before
     c.in-Ok-cut_full.ensures.parts c.in-Ok-encode.ensures.read (c.in-Ok-cut_full.ensures.image before) sized)

@@ -1,8 +1,6 @@
-use Rattle.std.proofs.Common.{rules, ◌∙◌, sym, ap, subst, arith, length}
-use Rattle.frame_ports.specs.Addresses.{targets_of}
-use Rattle.pair_history.specs.Landings.{landings}
-use Rattle.pair_core.specs.{Journal.{Journal, with_history}, Record.IsRecord, RecordFields.record_state}
-use Rattle.pair_core.proofs.{LengthLaws.length-receivers, RecordLaws.{passed, has_room_for, ack_record}}
+use Rattle.std.proofs.Common.{rules, arith}
+use Rattle.pair_core.specs.{Protocol.ack_done, RecordFields.record_state}
+use Rattle.pair_core.proofs.{LengthLaws.length-receivers, RecordLaws.{passed, has_room_for, ack_record, same_record}}
 use Rattle.pair_core.proofs.record.PairRecord.acknowledge.Goals as goal
 
 pub land-requires-clause-fits : goal.land-requires-clause-fits
@@ -10,17 +8,11 @@ land-requires-clause-fits c = search (arith, rules, has_room_for, length-receive
 
 pub invariant_of-self-2 : goal.invariant_of-self-2
 invariant_of-self-2 c =
-    let a = c.self.inside in
-    let r = (record_state a).protocol in
+    let s = record_state c.self.inside in
     let n = c.args.packet.number in
     let below = rw (← c.self.view_is) at c.requires.committed in
-    let boxes = a.ports.boxes in
-    let journal = c.land.ensures ∙ ap (λ (j : Journal). with_history j (landings boxes (targets_of (length boxes) c.held-2.result.now)))
-    c.reserve.ensures.journal
-    ∙ ap (λ fs. with_history r.journal (landings boxes (targets_of (length boxes) fs))) c.held-2.ensures.held in
-    subst IsRecord (λ i. record r {
-      journal = sym journal i;
-      window = sym c.acknowledge.ensures i;
-      pending = sym c.ack-landed.ensures.gate i;
-    })
-    (ack_record r c.self.invariant boxes n below)
+    same_record (ack_done s.ports.boxes s.protocol n).1 _ (search (arith, rules))
+    (ack_record s.protocol c.self.invariant s.ports.boxes n below)
+
+pub returns-in_err-reserve-clause-some : goal.returns-in_err-reserve-clause-some
+returns-in_err-reserve-clause-some c = search (arith, rules, length-receivers)

@@ -1,6 +1,6 @@
-use Rattle.std.proofs.Common.{sym, subst}
-use Rattle.pair_core.specs.{Record.IsRecord, RecordFields.record_state}
-use Rattle.pair_core.proofs.RecordLaws.{rising, cut_record}
+use Rattle.std.proofs.Common.{rules, arith}
+use Rattle.pair_core.specs.{Protocol.cut_done, RecordFields.record_state}
+use Rattle.pair_core.proofs.RecordLaws.{rising, cut_record, same_record}
 use Rattle.pair_core.proofs.record.PairRecord.cut.Goals as goal
 
 pub hold-requires-clause-above : goal.hold-requires-clause-above
@@ -11,5 +11,4 @@ invariant_of-self-2 c =
     let r = (record_state c.self.inside).protocol in
     let free = rw (← c.self.view_is) at c.requires.free in
     let two = rw (← c.self.view_is) at c.requires.pair in
-    subst IsRecord (λ i. record r { journal = sym c.in_ok-seal.ensures.ok i; window = sym c.cut.ensures i; pending = sym c.hold.ensures i })
-    (cut_record r c.self.invariant c.args.frames.now two free)
+    same_record (cut_done c.args.frames.now r).1 _ (search (arith, rules)) (cut_record r c.self.invariant c.args.frames.now two free)

@@ -1,6 +1,10 @@
-use Rattle.std.proofs.Common.{◌∙◌, sym}
-use Rattle.pair_core.specs.{Protocol.ack_done, Record.ports_after_ack, WorldFields.pair_of}
-use Rattle.pair_core.proofs.{Calls.after_call, ClientEvents.ack_holds, RecordLaws.{passed, generation_is}}
+use Rattle.std.proofs.{Common.{arith, ◌≡◌, ◌<◌, ◌∙◌, refl, sym, ap, length, None, Some}, lemmas.List.length-append}
+use Rattle.std.specs.Prelude.{slice_get}
+use Rattle.pair_history.specs.Landings.{landings}
+use Rattle.pair_core.specs.{Answering.AddsEntries, Pair.shown_state, Protocol.{ack_done, ack_outcome_at, ack_refusals, let_go}}
+use Rattle.pair_core.specs.{Record.ports_after_ack, WorldFields.pair_of}
+use Rattle.pair_core.proofs.{Calls.{after_call, on_err_so}, ClientEvents.ack_holds, LengthLaws.length-landings, Outcomes.goes}
+use Rattle.pair_core.proofs.RecordLaws.{passed, generation_is}
 use Rattle.pair_core.proofs.world.World.ack_get.Goals as goal
 
 pub invariant_of-self : goal.invariant_of-self
@@ -13,3 +17,20 @@ invariant_of-self c =
     (ports_after_ack w.ports w.protocol p.number)
     c.acknowledge.ensures.ok c.acknowledge.ensures.ports c.acknowledge.ensures.err
     (ack_holds w c.self.invariant c.ack_refusal.ensures.record p.number (c.in-Some.ensures.committed same))
+
+-- it adds an entry for each frame that leaves
+pub returns-clause-memory : goal.returns-clause-memory
+returns-clause-memory c =
+    let w = pair_of c.self.inside in
+    let r = w.protocol in
+    let b = w.ports.boxes in
+    let p = c.in-Some.packet in
+    let leaving = let_go b r p.number in
+    let there : slice_get r.lines.back c.args.k ≡ Some p = sym c.acknowledgement.ensures.packet ∙ c.in-Some.is in
+    let goes_on =
+    goes r (ack_refusals b r p) (ack_done b r p.number) None (sym c.in_default-ack_refusal.is ∙ c.ack_refusal.ensures.refusal) refl
+    ∙ ap (λ bs. ack_outcome_at bs r (Some p)) c.self.invariant.clients.boxes
+    ∙ ap (ack_outcome_at (shown_state w).boxes r) (sym there) in
+    let adds : 0 < length leaving → AddsEntries r (ack_done b r p.number).1 =
+    λ some. omega (arith, length-append r.journal.history (landings b leaving), length-landings b leaving) in
+    rw (← c.self.view_is) (rw (← goes_on) (on_err_so c.acknowledge.result (0 < length leaving) _ adds c.acknowledge.ensures.some))

@@ -1,5 +1,5 @@
 use Rattle.std.proofs.Common.{◌∙◌, ◌+◌, sym, ap, subst}
-use Rattle.frame_ports.specs.declared.limits.TheConstants.{NUMBER_LIMIT}
+use Rattle.frame_ports.specs.Limits.{number_limit}
 use Rattle.pair_core.specs.{Invariant.Holds, Protocol.Outcome, WorldFields.pair_of}
 use Rattle.pair_core.proofs.{GoneLive.gone_live_holds, ModeLaws.{live_goes, live_full}, RecordLaws.{passed, some_committed}}
 use Rattle.pair_core.proofs.WindowLaws.{is_below}
@@ -12,7 +12,7 @@ invariant_of-self-2 c =
     let two = live_goes w.protocol.mode goes in
     let some = some_committed w.protocol c.keep.ensures two (live_full w.protocol.mode goes) in
     let rows = passed _ _ _ (sym c.go_live_refusal.ensures.refusal ∙ c.in_default.is) in
-    let last = is_below NUMBER_LIMIT (w.protocol.generation + 1) rows.0 in
+    let last = is_below number_limit (w.protocol.generation + 1) rows.0 in
     let protocol = ap (λ (o : Outcome). o.1) c.in_ok-reply.ensures.ok in
     subst Holds (λ i. record w { protocol = sym protocol i; ports = sym c.go_live.ensures.ports i; nodes = sym c.go_live-2.ensures i })
     (gone_live_holds w c.self.invariant two some c.image_steps.result last)

@@ -1,6 +1,6 @@
 use Rattle.std.proofs.Common.{◌∙◌, ◌+◌, ap, sym, subst}
 use Rattle.guest_machine.specs.Guest.{Guest}
-use Rattle.frame_ports.specs.declared.limits.TheConstants.{NUMBER_LIMIT}
+use Rattle.frame_ports.specs.Limits.{number_limit}
 use Rattle.pair_core.specs.{declared.event.Event.TheVariants.Protect, Invariant.Holds, Nodes.{Nodes, HasShape, with_protected}}
 use Rattle.pair_core.specs.{Protocol.Outcome, Texts.IsText, WorldFields.pair_of, declared.event.Reply.Reply, Replication.Replicates}
 use Rattle.pair_core.proofs.{ModeLaws.protect_goes, Protected.protect_holds, RecordLaws.passed, world.World.protect.Goals.In_ok-image}
@@ -23,7 +23,7 @@ invariant_of-self-2 c =
     let goes = rw (← c.self.view_is) at c.requires in
     let lone = c.keep.ensures.alone (protect_goes w.protocol.mode goes) in
     let rows = passed _ _ _ (sym c.protect_refusal.ensures.refusal ∙ c.in_default.is) in
-    let last = is_below NUMBER_LIMIT (w.protocol.generation + 1) rows.0 in
+    let last = is_below number_limit (w.protocol.generation + 1) rows.0 in
     let protocol = ap (λ (o : Outcome). o.1) c.in_ok-reply.ensures.ok in
     let nodes = c.protect-2.ensures ∙ ap (λ (x : Nodes). with_protected x text) c.full_checkpoint.ensures.nodes in
     subst Holds (λ i. record w { protocol = sym protocol i; ports = sym c.protect.ensures.ports i; nodes = sym nodes i })

@@ -36,6 +36,7 @@ loop-event-preserved c =
         start = done.start;
         answers = done.answers;
         consistent = done.consistent;
+        drops = done.drops;
         replicates = done.replicates;
       }));
       start = done.start ∙ v.start;

@@ -1,7 +1,7 @@
 use Rattle.std.proofs.Common.{◌≡◌, ◌∙◌, ℕ, zero, suc, ◌+◌, ◌-◌, ◌<◌, ◌≤◌, [], length, sym, ap, subst, arith, true, Result, Ok, Err, OnErr}
 use Rattle.std.specs.{Prelude.IfOk, declared.alloc.AllocError.AllocError}
 use Rattle.guest_machine.specs.Runs.{sent_in}
-use Rattle.frame_ports.specs.{Ports.PortsState, declared.limits.TheConstants.NUMBER_LIMIT}
+use Rattle.frame_ports.specs.{Ports.PortsState, Limits.number_limit}
 use Rattle.pair_core.specs.{Invariant.Holds, Journal.all_entries, Modes.is_alone, Nodes.{Housed, Nodes, after_run, with_sent_off}}
 use Rattle.pair_core.specs.{Pair.Pair, Protocol.Record, Record.{RecordState, IsLone}, Runs.steps_outcome, WorldFields.pair_of}
 use Rattle.pair_core.proofs.AloneRuns.{after_alone, alone_holds, alone_answered}
@@ -25,7 +25,7 @@ module _ (w : Pair) (h : Holds w) (k : IsLone w.protocol) (lone : is_alone w.pro
       → IfOk o (λ n. protocol ≡ (after_alone w n (sent_in n w.nodes.live.guest)).protocol)
       → IfOk o (λ n. nodes ≡ with_sent_off (after_run n w.nodes))
       → IfOk o (λ n. sent_in (n - 1) w.nodes.live.guest ≡ []) → IfOk o (λ n. n ≤ most)
-      → length (all_entries w.protocol.journal) + (most + 1024) < NUMBER_LIMIT
+      → length (all_entries w.protocol.journal) + (most + 1024) < number_limit
       → IfOk o (λ n. (replies.Steps nodes.live.guest.steps, protocol) ≡ steps_outcome w.start w.protocol n)
   answered (Ok n) most p x quiet least fits =
       (λ i. (replies.Steps (x i).live.guest.steps, p i)) ∙ alone_answered w h k lone n quiet (omega arith)
@@ -36,7 +36,7 @@ ap_err : {A B : Type 0} (o : Result ℕ AllocError) (f : A → B) (x y : A) → 
 ap_err (Ok n) f x y e = tt
 ap_err (Err error) f x y e = ap f e
 
-by_count : (n used : ℕ) → used + 1025 < NUMBER_LIMIT → (0 < n → used + (n + 1024) < NUMBER_LIMIT) → used + (n + 1024) < NUMBER_LIMIT
+by_count : (n used : ℕ) → used + 1025 < number_limit → (0 < n → used + (n + 1024) < number_limit) → used + (n + 1024) < number_limit
 by_count zero used room some = omega arith
 by_count (suc n) used room some = some (omega arith)
 
@@ -56,7 +56,7 @@ returns-clause-answered c =
     let n = c.alone_steps_left-most.result in
     let lone = rw (← c.self.view_is) at c.requires.alone in
     let room = rw (← c.self.view_is) at c.requires.room in
-    let fits : length (all_entries w.protocol.journal) + (n + 1024) < NUMBER_LIMIT =
+    let fits : length (all_entries w.protocol.journal) + (n + 1024) < number_limit =
     by_count n (length (all_entries w.protocol.journal)) room c.alone_steps_left-most.ensures.fits in
     rw (← c.self.view_is) (answered w c.self.invariant (c.keep.ensures.alone lone) lone c.step_alone.new.self.protocol
     c.step_alone.new.self.ports c.step_alone.new.nodes.nodes c.step_alone.result n c.step_alone.ensures.protocol

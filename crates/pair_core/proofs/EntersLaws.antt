@@ -1,0 +1,119 @@
+-- What the guest did enters the history when it is committed, and nothing else of the guest does.
+use Rattle.std.proofs.Common.{◌≡◌, ℕ, List, [], ◌∷◌, ◌++◌, refl, sym, ap, ◌∙◌, append_assoc, Bool, true, false, cond, inl, inr}
+use Rattle.std.proofs.{lemmas.List.append-nil, lemmas.List.Elements.{All-nil, All-cons, All-head, All-tail, filter-append}}
+use Rattle.std.specs.{Prelude.All}
+use Rattle.guest_machine.specs.Step.{next, sent}
+use Rattle.frame_ports.specs.{Lands.{has_room, landed_at}, Limits.box_frames}
+use Rattle.pair_history.specs.{Entries.{Frame, Entry, Ran, Arrive, Land, DropOut}, HistoryState.HistoryState, Landings.landings}
+use Rattle.pair_core.specs.{declared.event.Event.Event, declared.event.Event.TheVariants.{Step, Admit}}
+use Rattle.pair_core.specs.declared.event.Refusal.{Refusal}
+use Rattle.pair_core.specs.{Journal.{joined, first_of, rest_of, kept_entries, sealed_off, with_moves}, Modes.is_alone}
+use Rattle.pair_core.specs.{Pair.is_of_guest, Protocol.{Record, live_at, shown_at, outbox_of, step_entries, all_held, let_go, live_entries}}
+use Rattle.pair_core.specs.Service.{Enters, guest_entries}
+use Rattle.pair_core.proofs.{Ends.{Ends, at_once}, JournalLaws.joined-push, Tells.{OfGuest, first_of-guest, live_all}}
+use Rattle.pair_core.specs.declared.event.Reply.TheVariants as replies
+
+abbrev NotOfGuest : Entry → Type 0
+NotOfGuest e = is_of_guest e ≡ false
+
+-- all of them, or none
+
+guest-all : (es : List Entry) → All OfGuest es → guest_entries es ≡ es
+guest-all [] p = refl
+guest-all (e ∷ es) p =
+    (λ i. cond (All-head OfGuest e es p i) (e ∷ guest_entries es) (guest_entries es))
+    ∙ ap (λ t. e ∷ t) (guest-all es (All-tail OfGuest e es p))
+
+guest-none : (es : List Entry) → All NotOfGuest es → guest_entries es ≡ []
+guest-none [] p = refl
+guest-none (e ∷ es) p =
+    (λ i. cond (All-head NotOfGuest e es p i) (e ∷ guest_entries es) (guest_entries es))
+    ∙ guest-none es (All-tail NotOfGuest e es p)
+
+landings-none : (boxes : List (List Frame)) (ps : List (ℕ × Frame)) → All NotOfGuest (landings boxes ps)
+landings-none boxes [] = All-nil NotOfGuest
+landings-none boxes (p ∷ ps) =
+    let room = has_room boxes p.0 in
+    let rest = landed_at boxes p.0 p.1 in
+    All-cons NotOfGuest (cond room (Land p.0) (DropOut p.0 box_frames)) (landings rest ps) (by_room room) (landings-none rest ps)
+  where
+    by_room : (t : Bool) → NotOfGuest (cond t (Land p.0) (DropOut p.0 box_frames))
+    by_room true = refl
+    by_room false = refl
+
+landed-none : (boxes : List (List Frame)) (ps : List (ℕ × Frame)) → guest_entries (landings boxes ps) ≡ []
+landed-none boxes ps = guest-none (landings boxes ps) (landings-none boxes ps)
+
+module _ (start : HistoryState) (r : Record) (kept : All OfGuest (kept_entries r.journal))
+    (lone : is_alone r.mode ≡ true → kept_entries r.journal ≡ []) where
+  abbrev boxes : List (List Frame)
+  boxes = (shown_at start r).boxes
+
+  abbrev ahead : List Entry
+  ahead = kept_entries r.journal
+
+  refused-enters : (event : Event) (why : Refusal) → Enters event (replies.Refused why) ahead [] ahead
+  refused-enters Step why = (refl, refl)
+  refused-enters other why = (refl, refl)
+
+  -- the epoch that is committed was the first of what was ahead
+  committed-enters : (ess : List (List Entry)) (running : List Entry)
+      → first_of ess ++ (joined (rest_of ess) ++ running) ≡ joined ess ++ running
+  committed-enters [] running = refl
+  committed-enters (es ∷ ess) running = sym (append_assoc es (joined ess) running)
+
+  sealed-stays : kept_entries (sealed_off r.journal) ≡ ahead
+  sealed-stays = append-nil (joined (r.journal.sealed ++ r.journal.running ∷ [])) ∙ joined-push r.journal.sealed r.journal.running
+
+  runs-on : (es : List Entry) → joined r.journal.sealed ++ (r.journal.running ++ es) ≡ ahead ++ es
+  runs-on es = sym (append_assoc (joined r.journal.sealed) r.journal.running es)
+
+  pub enters_all : Ends start r (λ event es o. Enters event o.0 ahead (guest_entries es) (kept_entries o.1.journal))
+  enters_all = record {
+    refuses = λ event why plain. refused-enters event why;
+    step = step-enters;
+    cut = (refl, sealed-stays);
+    send = (refl, refl);
+    lost = λ k. ((refl, refl), (refl, refl));
+    again = λ k. (refl, refl);
+    commit = λ k goes.
+        let sealed = r.journal.sealed in
+        ap (λ t. t ++ (joined (rest_of sealed) ++ r.journal.running))
+        (guest-all (first_of sealed) (first_of-guest sealed r.journal.running kept))
+        ∙ committed-enters sealed r.journal.running;
+    acknowledge = λ k p is same. (landed-none boxes (let_go boxes r p.number), refl);
+    empty = λ c place. ((refl, refl), (refl, refl), (refl, refl));
+    admit = admit-enters;
+    full = λ c bytes. (refl, refl);
+    deliver = λ c bytes. (refl, refl);
+    take = λ c. (refl, refl);
+    lose_in = λ c place x is. (refl, refl);
+    lose_out = λ c place f is. (refl, refl);
+    fail_primary = λ goes. (refl, refl);
+    fail_backup =
+        let held = all_held boxes (outbox_of start r) r in (
+          filter-append is_of_guest ahead (landings boxes held)
+              ∙ (λ i. guest-all ahead kept i ++ landed-none boxes held i)
+              ∙ append-nil ahead,
+          refl,
+        );
+    go_live = (
+      guest-none (live_entries boxes (shown_at start r).out r.journal)
+          (live_all NotOfGuest (λ n. refl) (λ c place. refl) boxes (shown_at start r).out r.journal),
+      refl,
+    );
+    protect = (refl, sealed-stays);
+  }
+    where
+      step-enters : (alone : Bool) → is_alone r.mode ≡ alone
+          → Enters Step (replies.Steps (next (live_at start r).guest).steps) ahead
+          (guest_entries (at_once alone (step_entries true boxes (sent (live_at start r).guest))))
+          (kept_entries (with_moves (is_alone r.mode) r.journal (step_entries (is_alone r.mode) boxes (sent (live_at start r).guest))))
+      step-enters false is = rw is (inl (refl, runs-on (Ran ∷ [])))
+      step-enters true is = rw is (inr (lone is, ap (λ t. Ran ∷ t) (landed-none boxes _), lone is))
+
+      admit-enters : (c n : ℕ) (alone : Bool) → is_alone r.mode ≡ alone
+          → Enters (Admit c) (replies.Admitted n) ahead (guest_entries (at_once alone (Arrive n ∷ [])))
+          (kept_entries (with_moves (is_alone r.mode) r.journal (Arrive n ∷ [])))
+      admit-enters c n false is = rw is (inl (refl, runs-on (Arrive n ∷ [])))
+      admit-enters c n true is = rw is (inr (lone is, refl, lone is))
