@@ -161,3 +161,11 @@ pub boot_read : (text : List ℕ) (head : Found) (read : Option Guest) (guest : 
 boot_read text head read guest h found is =
     boot_of text head.0 head.1 head.2 head.3 (named_guest guest) (head_of-read text head h)
     (guest_found head.0 head.3 read guest found is)
+
+-- a head with a guest is a boot line
+pub boot_spelled : (text : List ℕ) (head : Found) (guest : NamedGuest) → head_of text ≡ Some head → IsGuest head.0 head.3 guest
+    → (line : BootLine) × IsBoot text line
+boot_spelled text head guest h named = (
+  record { pages = head.0; sectors = head.1; clients = head.2; guest = guest },
+  boot_of text head.0 head.1 head.2 head.3 guest (head_of-read text head h) named,
+)

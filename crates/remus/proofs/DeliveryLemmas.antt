@@ -1,13 +1,13 @@
 -- A delivery is read from the left, and has one reading.
-use Rattle.std.proofs.Common.{◌≡◌, ◌≢◌, ◌<◌, ℕ, true, false, List, [], ◌++◌, length, Option, Some, None, Result, Ok, Err, sym, ap}
-use Rattle.std.proofs.Common.{subst, arith, ◌∙◌, ◌⊎◌, inl, inr, IfOk, IfSome, Bor, codes}
+use Rattle.std.proofs.Common.{◌≡◌, ◌<◌, ◌%◌, ℕ, true, false, List, [], ◌∷◌, ◌++◌, length, Option, Some, None, Result, Ok, refl, sym, ap}
+use Rattle.std.proofs.Common.{subst, arith, ◌∙◌, Bor, codes}
+use Rattle.std.proofs.lemmas.List.Sums.{AllPass-from_list_all, list_all-from_AllPass}
 use Rattle.std.specs.Option.{option_map}
-use Rattle.hex.specs.Hex.{decode_of, IsBytes}
+use Rattle.hex.specs.Hex.{decode_of, is_hex_digit, IsBytes}
 use Rattle.hex.specs.declared.error.FromHexError.{FromHexError}
-use Rattle.hex.specs.declared.error.FromHexError.TheVariants.{OutOfMemory}
-use Rattle.hex.proofs.HexLemmas.{decode_of-encode_lower, decode_of-ok}
-use Rattle.std.specs.Char.{is_ascii_uppercase}
-use Rattle.std.specs.List.{list_any}
+use Rattle.hex.proofs.HexLemmas.{decode_of-digits, decode_of-encode_lower, decode_of-ok}
+use Rattle.std.specs.Char.{is_ascii_hexdigit, is_ascii_uppercase}
+use Rattle.std.specs.List.{list_all, list_any}
 use Rattle.remus.proofs.DigitLemmas.{lower-again, none_in_upper_case}
 use Rattle.remus.specs.Fields.{text_after, operand_of}
 use Rattle.remus.specs.Delivery.{IsHex, IsDelivery, delivery_head}
@@ -45,18 +45,6 @@ decoded-same digits found bytes e h =
 pub decoded-bytes : (digits found : List ℕ) → decode_of digits ≡ Ok found → IsBytes found
 decoded-bytes digits found e = (decode_of-ok digits found e).3
 
--- digits in upper case write no bytes
-pub capitals-write-none : (digits bytes : List ℕ) → list_any is_ascii_uppercase digits ≡ true → IsHex digits bytes → ⊥
-capitals-write-none digits bytes some h =
-    let none = ap (list_any is_ascii_uppercase) h.shape ∙ none_in_upper_case bytes h.below in
-    cc (sym some ∙ none)
-
--- no bytes are no delivery
-pub none-are-none : (digits found bytes : List ℕ) → decode_of digits ≡ Ok found → length found ≡ 0 → IsHex digits bytes → ⊥
-none-are-none digits found bytes decoded none h =
-    let is : length bytes ≡ 0 = sym (ap length (decoded-same digits found bytes decoded h)) ∙ none in
-    absurd (omega (arith, is, h.some))
-
 -- what was found is spelled as it stood there
 pub found-written : (digits found : List ℕ) → decode_of digits ≡ Ok found → list_any is_ascii_uppercase digits ≡ false → 0 < length found
     → IsHex digits found
@@ -66,25 +54,41 @@ found-written digits found decoded low some = record {
   below = decoded-bytes digits found decoded;
 }
 
--- digits that can't be decoded write no bytes
-pub undecoded-write-none : (digits bytes : List ℕ) (e : FromHexError) → (e ≡ OutOfMemory) ⊎ (decode_of digits ≡ Err e) → e ≢ OutOfMemory
-    → IsHex digits bytes → ⊥
-undecoded-write-none digits bytes e (inl memory) apart h = apart memory
-undecoded-write-none digits bytes e (inr err) apart h =
-    let both : ◌≡◌ {A = Result (List ℕ) FromHexError} (Err e) (Ok bytes) = sym err ∙ hex-decodes digits bytes h in
-    cc
+-- a hex digit is one to std as it is to hex
+same_digit : (c : ℕ) → is_ascii_hexdigit c ≡ is_hex_digit c
+same_digit c = grind arith
 
--- so nothing is found, and there was nothing to find
-pub unread-finds : {V E : Type 0} (items : V → List ℕ) (digits : List ℕ) (e : FromHexError) (r : Result (Option V) E)
-    → IfOk r (λ found. (found ≡ None) × (e ≢ OutOfMemory)) → IfOk r (λ found. IfSome found (λ v. IsHex digits (items v)))
-unread-finds items digits e (Ok found) h = subst (λ o. IfSome o (λ v. IsHex digits (items v))) (sym h.0) tt
-unread-finds items digits e (Err x) h = tt
+same_digits : (digits : List ℕ) → list_all is_ascii_hexdigit digits ≡ list_all is_hex_digit digits
+same_digits [] = refl
+same_digits (c ∷ digits) = rw (same_digit c, same_digits digits) refl
 
-pub unread-only : {V E : Type 0} (items : V → List ℕ) (digits bytes : List ℕ) (e : FromHexError) (r : Result (Option V) E)
-    → (e ≡ OutOfMemory) ⊎ (decode_of digits ≡ Err e) → IfOk r (λ found. (found ≡ None) × (e ≢ OutOfMemory)) → IsHex digits bytes
-    → IfOk r (λ found. option_map items found ≡ Some bytes)
-unread-only items digits bytes e (Ok found) why h hex = absurd (undecoded-write-none digits bytes e why h.1 hex)
-unread-only items digits bytes e (Err x) why h hex = tt
+-- digits that write bytes, at least one: two for each, none in upper case
+pub record AreLowerHex (digits : List ℕ) : Type 0 where
+  pub some : 0 < length digits
+  pub even : length digits % 2 ≡ 0
+  pub low : list_any is_ascii_uppercase digits ≡ false
+  pub all : list_all is_ascii_hexdigit digits ≡ true
+
+pub they-write : (digits : List ℕ) → AreLowerHex digits → (bytes : List ℕ) × IsHex digits bytes
+they-write digits h =
+    let passed = AllPass-from_list_all is_hex_digit digits (sym (same_digits digits) ∙ h.all) in
+    let decoded = decode_of-digits digits h.even passed in
+    let facts = decode_of-ok digits decoded.0 decoded.1 in
+    (decoded.0, found-written digits decoded.0 decoded.1 h.low (omega (arith, h.some, facts.2)))
+
+pub they-are : (digits bytes : List ℕ) → IsHex digits bytes → AreLowerHex digits
+they-are digits bytes h =
+    let facts = decode_of-ok digits bytes (hex-decodes digits bytes h) in
+    record {
+      some = omega (arith, h.some, facts.2);
+      even = facts.0;
+      low = ap (list_any is_ascii_uppercase) h.shape ∙ none_in_upper_case bytes h.below;
+      all = same_digits digits ∙ list_all-from_AllPass is_hex_digit digits facts.1;
+    }
+
+-- what they decode to is what they write
+pub decoded-written : (digits found bytes : List ℕ) → decode_of digits ≡ Ok found → IsHex digits bytes → IsHex digits found
+decoded-written digits found bytes e h = subst (λ bs. IsHex digits bs) (sym (decoded-same digits found bytes e h)) h
 
 -- ---- the client's number and the digits
 

@@ -2,6 +2,7 @@ mod OptionLemmas
 pub mod FieldLemmas
 pub mod CommandLemmas
 pub mod WordsLemmas
+mod GuestLemmas
 pub mod BootLemmas
 pub mod ImageLemmas
 pub mod DeliveryLemmas
@@ -10,5 +11,7 @@ pub mod DiskLemmas
 mod MeaningLemmas
 mod LineLemmas
 mod ScriptLemmas
+mod RunLemmas
+mod LiveLemmas
 mod ReplyLemmas
 mod ListingLemmas

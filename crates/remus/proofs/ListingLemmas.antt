@@ -12,7 +12,8 @@ use Rattle.checkpoint_stream.specs.declared.errors.StreamError.{StreamError}
 use Rattle.checkpoint_stream.specs.declared.errors.StreamError.TheVariants.{Malformed, NoMemory}
 use Rattle.checkpoint_stream.specs.declared.place.Place.{Place}
 use Rattle.checkpoint_stream.specs.declared.place.Place.TheVariants.{Head, PageCount, PageIndex, PageMask, Block, SectorCount}
-use Rattle.checkpoint_stream.specs.declared.place.Place.TheVariants.{SectorIndex, SectorBytes, Whole, Failed}
+use Rattle.checkpoint_stream.specs.declared.place.Place.TheVariants.{SectorIndex, SectorBytes, FrameCount, FrameLength, FrameBytes}
+use Rattle.checkpoint_stream.specs.declared.place.Place.TheVariants.{Whole, Failed}
 use Rattle.checkpoint_stream.specs.Readings.{Reading, fed, taken, is_closed, is_whole, failure_at}
 use Rattle.checkpoint_stream.specs.Sound.{change_in}
 use Rattle.remus.proofs.MeaningLemmas.{none-not-some, false-not-true}
@@ -50,6 +51,9 @@ still-open (Block left page more) whole failed = refl
 still-open SectorCount whole failed = refl
 still-open (SectorIndex left from) whole failed = refl
 still-open (SectorBytes left sector) whole failed = refl
+still-open FrameCount whole failed = refl
+still-open (FrameLength left) whole failed = refl
+still-open (FrameBytes left len) whole failed = refl
 still-open Whole whole failed = absurd (true-not-false whole)
 still-open (Failed at) whole failed = absurd (none-not-some at (sym failed))
 
@@ -72,6 +76,9 @@ module _ (len : ℕ) (r : Reading) (b : ℕ) (bs : List ℕ)
   listed-at SectorCount e = is-inside len r b bs (ap is_closed e)
   listed-at (SectorIndex left from) e = is-inside len r b bs (ap is_closed e)
   listed-at (SectorBytes left sector) e = is-inside len r b bs (ap is_closed e)
+  listed-at FrameCount e = is-inside len r b bs (ap is_closed e)
+  listed-at (FrameLength left) e = is-inside len r b bs (ap is_closed e)
+  listed-at (FrameBytes left m) e = is-inside len r b bs (ap is_closed e)
   listed-at (Failed at) e = (0, end_line len (stopped (Malformed at)), stopped (Malformed at), (ap failure_at e, refl))
   listed-at Whole e =
       let rest = more e in

@@ -1,5 +1,5 @@
 -- What two options that are the same tell, and the parts of a pair.
-use Rattle.std.proofs.Common.{◌≡◌, Option, Some, None, refl, ap}
+use Rattle.std.proofs.Common.{◌≡◌, Option, Some, None, Result, Ok, Err, IfNone, OnErr, refl, ap}
 use Rattle.std.specs.Option.{option_and_then}
 
 pub some_same : {A : Type 0} {x y : A} → Some x ≡ Some y → x ≡ y
@@ -13,3 +13,12 @@ pub and_then_some : {A B : Type 0} (f : A → Option B) (o : Option A) (y : B) �
     → (x : A) × (o ≡ Some x) × (f x ≡ Some y)
 and_then_some f (Some x) y h = (x, refl, h)
 and_then_some f None y h = cc
+
+-- what holds anyway holds where there is none, or an error
+pub if-none : {A X : Type 0} (o : Option A) → X → IfNone o X
+if-none None x = x
+if-none (Some a) x = tt
+
+pub on-err : {A E X : Type 0} (r : Result A E) → X → OnErr r X
+on-err (Ok a) x = tt
+on-err (Err e) x = x

@@ -1,9 +1,10 @@
 -- The boot line, `boot PAGES SECTORS CLIENTS GUEST`, in fields that are parted by one space.
-use Rattle.std.specs.Prelude.{◌≡◌, ℕ, ◌≤◌, ◌∷◌, [], List, Some, IsSome, codes}
+use Rattle.std.specs.Prelude.{◌≡◌, ℕ, ◌≤◌, ◌∷◌, [], List, Some, codes}
 use Rattle.std.specs.List.{join_with_byte}
 use Rattle.pair_core.specs.HistoryState.{HistoryState, start_state}
-use Rattle.remus.specs.Fields.{text_after, number_of}
+use Rattle.remus.specs.Fields.{number_of}
 use Rattle.remus.specs.Guests.{NamedGuest, NamesGuest, GuestFits, guest_image, named_guest}
+use Rattle.remus.specs.Limits.{most_pages, most_sectors, most_clients}
 use Rattle.remus.specs.declared.boot.Boot.{Boot}
 
 -- what a boot line says
@@ -15,9 +16,9 @@ pub record BootLine : Type 0 where
 
 -- 1 to 4096 pages, 1 to 32768 sectors, 1 to 16 clients, and a guest that fits in the pages
 pub record IsInLimits (line : BootLine) : Type 0 where
-  pub pages : (1 ≤ line.pages) × (line.pages ≤ 4096)
-  pub sectors : (1 ≤ line.sectors) × (line.sectors ≤ 32768)
-  pub clients : (1 ≤ line.clients) × (line.clients ≤ 16)
+  pub pages : (1 ≤ line.pages) × (line.pages ≤ most_pages)
+  pub sectors : (1 ≤ line.sectors) × (line.sectors ≤ most_sectors)
+  pub clients : (1 ≤ line.clients) × (line.clients ≤ most_clients)
   pub guest : GuestFits line.pages line.guest
 
 -- a text spells a boot line: each field writes its part, and the line is in the limits
@@ -32,10 +33,6 @@ pub record IsBoot (text : List ℕ) (line : BootLine) : Type 0 where
   pub clients_written : number_of clients ≡ Some line.clients
   pub guest_named : NamesGuest guest line.guest
   pub limits : IsInLimits line
-
--- the line begins as a boot line does
-abbrev pub BeginsBoot : List ℕ → Type 0
-BeginsBoot text = IsSome (text_after (codes "boot ") text)
 
 -- the program's boot line, whose words lie in a `Vec`
 abbrev pub boot_line : Boot → BootLine

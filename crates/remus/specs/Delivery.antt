@@ -1,5 +1,5 @@
 -- The line of a client's frame: `deliver CLIENT HEX`, in fields that are parted by one space.
-use Rattle.std.specs.Prelude.{◌≡◌, ℕ, ◌<◌, ◌∷◌, [], List, Option, Some, IsSome, codes, length, option_and_then}
+use Rattle.std.specs.Prelude.{◌≡◌, ℕ, ◌<◌, ◌∷◌, [], List, Option, Some, codes, length, option_and_then}
 use Rattle.std.specs.List.{join_with_byte}
 use Rattle.hex.specs.Hex.{encode_lower, IsBytes}
 use Rattle.remus.specs.Fields.{text_after, number_of, operand_of}
@@ -18,10 +18,6 @@ pub record IsDelivery (text : List ℕ) (client : ℕ) (bytes : List ℕ) : Type
   pub shape : text ≡ join_with_byte 32 (codes "deliver" ∷ number ∷ digits ∷ [])
   pub client_written : number_of number ≡ Some client
   pub bytes_written : IsHex digits bytes
-
--- the line begins as a delivery does
-abbrev pub BeginsDelivery : List ℕ → Type 0
-BeginsDelivery text = IsSome (text_after (codes "deliver ") text)
 
 -- the client's number and what stands after it, read from the left
 abbrev pub delivery_head : List ℕ → Option (ℕ × List ℕ)

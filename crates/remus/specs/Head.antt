@@ -1,12 +1,14 @@
 -- What stands before the guest in a boot line, read from the left: for the program's own steps. What a line is says `Boot`.
 use Rattle.std.specs.Prelude.{ℕ, List, Option, Some, None, codes, Bool, nat_le, ◌&&◌, if◌then◌else◌, option_and_then}
 use Rattle.remus.specs.Fields.{text_after, operand_of}
+use Rattle.remus.specs.Limits.{most_pages, most_sectors, most_clients}
 use Rattle.remus.specs.declared.boot.Head.{Head}
 
 -- whether all three are in their ranges
 abbrev pub in_limits : ℕ → ℕ → ℕ → Bool
 in_limits pages sectors clients =
-    nat_le 1 pages && nat_le pages 4096 && (nat_le 1 sectors && nat_le sectors 32768) && (nat_le 1 clients && nat_le clients 16)
+    nat_le 1 pages && nat_le pages most_pages && (nat_le 1 sectors && nat_le sectors most_sectors)
+    && (nat_le 1 clients && nat_le clients most_clients)
 
 -- the number of clients and the guest's text, after pages and sectors
 abbrev pub clients_of : ℕ → ℕ → ℕ × List ℕ → Option (ℕ × ℕ × ℕ × List ℕ)

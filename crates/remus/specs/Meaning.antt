@@ -1,24 +1,23 @@
 -- What a script means: what each of its lines prints, and how it ends (README, "Run it").
-use Rattle.std.specs.Prelude.{◌≡◌, ℕ, ◌+◌, ◌==◌, ◌⊎◌, Bool, true, false, Result, Ok, Err, List, [], ◌∷◌, ◌++◌, Option, Some, None, codes}
-use Rattle.std.specs.Prelude.{decimal}
+use Rattle.std.specs.Prelude.{◌≡◌, ℕ, ◌+◌, ◌==◌, ◌⊎◌, Bool, true, false, List, [], ◌∷◌, ◌++◌, Some, None, codes, decimal}
 use Rattle.std.specs.List.{slice_split}
-use Rattle.std.specs.Io.KnownBytes.{Appends, Keeps}
 use Rattle.pair_core.specs.declared.event.Event.{Event}
 use Rattle.pair_core.specs.declared.event.Event.TheVariants as events
 use Rattle.pair_core.specs.declared.event.Refusal.TheVariants.{NoMemory}
 use Rattle.pair_core.specs.declared.event.Reply.{Reply}
 use Rattle.pair_core.specs.Pair.{Pair, IsConsistent}
-use Rattle.pair_core.specs.Answering.{Answers}
+use Rattle.pair_core.specs.Replication.{Does, KeepsBackup}
 use Rattle.pair_core.specs.Runs.{StepsAnswer}
+use Rattle.pair_core.specs.Service.{Serves, ServesSteps, moment}
 use Rattle.pair_core.specs.Record.{start_record}
 use Rattle.pair_core.specs.Start.{shown}
 use Rattle.remus.specs.declared.script.Command.TheVariants.{Step, Cut, Send, Backup, Ack, Admit, Take, LoseIn, LoseOut, FailPrimary}
 use Rattle.remus.specs.declared.script.Command.TheVariants.{FailBackup, GoLive, Protect, Sector, Show}
-use Rattle.remus.specs.Boot.{BootLine, IsBoot, BeginsBoot, booted_state}
+use Rattle.remus.specs.Boot.{BootLine, IsBoot, booted_state}
 use Rattle.remus.specs.Command.{IsCommand}
-use Rattle.remus.specs.Delivery.{IsDelivery, BeginsDelivery}
+use Rattle.remus.specs.Delivery.{IsDelivery}
 use Rattle.remus.specs.Lines.{Line, order, delivery}
-use Rattle.remus.specs.Output.{AppendsFront}
+use Rattle.remus.specs.Streams.{Writing, Writes, WritesFront}
 use Rattle.remus.specs.Printed.{line, named_sector, reply_line, refusal_line, sector_line, show_line}
 
 -- ---- lines
@@ -56,20 +55,23 @@ AsksFor (order Protect) event = event ≡ events.Protect
 AsksFor (delivery client bytes) (events.Deliver to lent) = (to ≡ client) × (lent.now ≡ bytes)
 AsksFor line event = ⊥
 
--- The pair old answers the event as the pair protocol says, becomes new, and the reply is printed.
+-- The pair old answers the event as the pair protocol says and becomes new, its image as that event makes it. To its clients the event is
+-- one of a guest that never fails. The reply is printed.
 pub record Happens (old : Pair) (event : Event) (printed : List ℕ) (new : Pair) : Type 0 where
   pub reply : Reply
-  pub answers : Answers old.start old.protocol event reply new.protocol
-  pub start : new.start ≡ old.start
-  pub consistent : IsConsistent new
+  pub does : Does old event reply new
+  pub serves : Serves old.start (moment old) event reply (moment new)
   pub is_printed : printed ≡ reply_line reply
 
--- The guest makes so many steps, or as many as it can before a refusal, and the last reply is printed.
+-- The guest makes so many steps, or as many as it can before a refusal, each of which is an event to the clients, and the image stays. The
+-- last reply is printed.
 pub record Steps (old : Pair) (count : ℕ) (printed : List ℕ) (new : Pair) : Type 0 where
   pub reply : Reply
   pub outcome : StepsAnswer old.start old.protocol count reply new.protocol
   pub start : new.start ≡ old.start
+  pub backup : KeepsBackup old.nodes new.nodes
   pub consistent : IsConsistent new
+  pub serves : ServesSteps old.start (moment old) count reply (moment new)
   pub is_printed : printed ≡ reply_line reply
 
 -- A line is answered so.
@@ -85,72 +87,63 @@ abbrev pub IsBeyond : Pair → Line → Type 0
 IsBeyond w (order (Sector sector)) = named_sector w sector ≡ None
 IsBeyond w line = ⊥
 
--- What becomes of a line, whether or not there is memory to print the answer: true says that there is an answer.
-abbrev pub IsDone : {E : Type 0} → Pair → Line → Result Bool E → List ℕ → Pair → Type 0
-IsDone old line (Ok true) printed new = IsAnswered old line printed new
-IsDone old line (Ok false) printed new = IsBeyond old line × (new ≡ old)
-IsDone old line (Err e) printed new = (all : List ℕ) × IsAnswered old line all new
-
 -- The pair of a boot line, at its start.
 pub record IsReady (line : BootLine) (w : Pair) : Type 0 where
   pub start : w.start ≡ booted_state line
   pub protocol : w.protocol ≡ start_record
   pub consistent : IsConsistent w
 
--- ---- a script
+-- ---- a line of a script
 
 -- before the boot line, and after it
 pub data Stage : Type 0 where
   unbooted : Stage
   playing : Pair → Stage
 
--- how the playing of a script ends: with its last line; with a bad line of that number; with a refused boot line; or where a
--- write fails
+-- A line that prints this, and after which the script goes on.
+pub data GoesOn (stage : Stage) (text printed : List ℕ) (next : Stage) : Type 0 where
+  -- an empty line, or a comment
+  is_silence : is_silent text ≡ true → printed ≡ [] → next ≡ stage → GoesOn stage text printed next
+  -- the boot line
+  boots : (line : BootLine) (new : Pair) → stage ≡ unbooted → IsBoot text line → IsReady line new
+      → printed ≡ codes "booted\n" → next ≡ playing new → GoesOn stage text printed next
+  -- a line after it
+  answers : (line : Line) (old new : Pair) → stage ≡ playing old → IsLine text line → IsAnswered old line printed new
+      → next ≡ playing new → GoesOn stage text printed next
+  -- a delivery whose bytes find no memory, which does nothing
+  finds_no_memory : (w : Pair) (client : ℕ) (bytes : List ℕ) → stage ≡ playing w → IsDelivery text client bytes
+      → printed ≡ refusal_line NoMemory → next ≡ stage → GoesOn stage text printed next
+
+-- The line isn't silent, and has no known form, or asks for a sector beyond the disk.
+pub data IsBad (stage : Stage) (text : List ℕ) : Type 0 where
+  no_boot_line : is_silent text ≡ false → stage ≡ unbooted → ((line : BootLine) → IsBoot text line → ⊥) → IsBad stage text
+  no_line : (w : Pair) → is_silent text ≡ false → stage ≡ playing w → ((line : Line) → IsLine text line → ⊥) → IsBad stage text
+  beyond : (w : Pair) (line : Line) → is_silent text ≡ false → stage ≡ playing w → IsLine text line → IsBeyond w line → IsBad stage text
+
+-- It is the boot line, and there is no memory for what it asks for.
+pub record IsRefused (stage : Stage) (text : List ℕ) : Type 0 where
+  pub waits : stage ≡ unbooted
+  pub line : BootLine
+  pub spelled : IsBoot text line
+
+-- ---- a script
+
+-- how a script ends: with its last line, with a bad line of that number, or with a boot line that is refused
 pub data Ending : Type 0 where
   finished : Ending
   bad : ℕ → Ending
   refused : Ending
-  cut_short : Ending
 
--- A line that isn't silent prints this, and the script goes on. A delivery whose bytes find no memory is answered so, and does
--- nothing.
-abbrev pub GoesOn : Stage → List ℕ → List ℕ → Stage → Type 0
-GoesOn unbooted text printed unbooted = ⊥
-GoesOn unbooted text printed (playing new) = (line : BootLine) × IsBoot text line × IsReady line new × (printed ≡ codes "booted\n")
-GoesOn (playing old) text printed unbooted = ⊥
-GoesOn (playing old) text printed (playing new) =
-    ((line : Line) × IsLine text line × IsAnswered old line printed new)
-    ⊎ (BeginsDelivery text × (printed ≡ refusal_line NoMemory) × (new ≡ old))
-
--- The line has no known form, or asks for a sector beyond the disk.
-abbrev pub IsBad : Stage → List ℕ → Type 0
-IsBad unbooted text = (line : BootLine) → IsBoot text line → ⊥
-IsBad (playing w) text = ((line : Line) → IsLine text line → ⊥) ⊎ ((line : Line) × IsLine text line × IsBeyond w line)
-
--- The line of this number, which isn't silent, prints this and ends the script.
-abbrev pub Ends : Stage → ℕ → List ℕ → List ℕ → Ending → Type 0
-Ends stage number text printed (bad n) = (n ≡ number) × (printed ≡ []) × IsBad stage text
-Ends unbooted number text printed refused = BeginsBoot text × (printed ≡ refusal_line NoMemory)
-Ends stage number text printed ending = ⊥
-
--- A write failed while this was printed: out is a beginning of it.
-abbrev pub IsCutShort : List ℕ → List ℕ → Ending → Type 0
-IsCutShort printed out ending = (rest : List ℕ) × (printed ≡ out ++ rest) × (ending ≡ cut_short)
-
--- A write failed before this line.
-abbrev pub IsCutBefore : List ℕ → Ending → Type 0
-IsCutBefore out ending = (out ≡ []) × (ending ≡ cut_short)
-
--- From this stage on the lines, of which the first has this number, print out and end so.
-abbrev pub Means : Stage → ℕ → List (List ℕ) → List ℕ → Ending → Type 0
-Means stage number [] out ending = ((out ≡ []) × (ending ≡ finished)) ⊎ IsCutBefore out ending
-Means stage number (text ∷ texts) out ending =
-    IsCutBefore out ending
-    ⊎ (((is_silent text ≡ true) × Means stage (number + 1) texts out ending)
-    ⊎ (((is_silent text ≡ false) × (first : List ℕ) × (next : Stage) × GoesOn stage text first next
-    × (((rest : List ℕ) × (out ≡ first ++ rest) × Means next (number + 1) texts rest ending) ⊎ IsCutShort first out ending))
-    ⊎ ((is_silent text ≡ false) × (last : List ℕ) × (how : Ending) × Ends stage number text last how
-    × (((out ≡ last) × (ending ≡ how)) ⊎ IsCutShort last out ending))))
+-- From this stage on these lines, of which the first has this number, print `out` and end so.
+pub data Means : Stage → ℕ → List (List ℕ) → List ℕ → Ending → Type 0 where
+  ends : (stage : Stage) (number : ℕ) → Means stage number [] [] finished
+  goes_on : (stage next : Stage) (number : ℕ) (text first rest : List ℕ) (texts : List (List ℕ)) (ending : Ending)
+      → GoesOn stage text first next → Means next (number + 1) texts rest ending
+      → Means stage number (text ∷ texts) (first ++ rest) ending
+  ends_badly : (stage : Stage) (number : ℕ) (text : List ℕ) (texts : List (List ℕ)) → IsBad stage text
+      → Means stage number (text ∷ texts) [] (bad number)
+  ends_refused : (stage : Stage) (number : ℕ) (text : List ℕ) (texts : List (List ℕ)) → IsRefused stage text
+      → Means stage number (text ∷ texts) (refusal_line NoMemory) refused
 
 -- ---- the program
 
@@ -164,13 +157,24 @@ abbrev pub bad_line : ℕ → List ℕ
 bad_line number = codes "remus: line " ++ decimal number ++ codes ": bad\n"
 
 -- what standard error gets: of a bad line the message, or a beginning of it where that write fails; otherwise nothing
-abbrev pub IsTold : Ending → Option (List ℕ) → Option (List ℕ) → Type 0
-IsTold (bad number) old new = AppendsFront old new (bad_line number)
-IsTold ending old new = Keeps old new
+abbrev pub IsTold : Ending → Writing → Writing → Type 0
+IsTold (bad number) old new = Writes old new (bad_line number) ⊎ WritesFront old new (bad_line number)
+IsTold ending old new = new ≡ old
 
--- A script is played: what standard output and standard error get, and the exit status, are what the script means.
-abbrev pub IsPlayed : List ℕ → Option (List ℕ) → Option (List ℕ) → Option (List ℕ) → Option (List ℕ) → ℕ → Type 0
-IsPlayed source out out' err err' status =
-    (text : List ℕ) × (ending : Ending)
-    × Means unbooted 1 (lines_of source) text ending
-    × Appends out out' text × IsTold ending err err' × (status ≡ status_of ending)
+-- A write to standard output failed, which got a beginning of what the first lines of a script mean.
+pub record IsCut (source : List ℕ) (out out' : Writing) : Type 0 where
+  pub first : List (List ℕ)
+  pub rest : List (List ℕ)
+  pub text : List ℕ
+  pub ending : Ending
+  pub lines : lines_of source ≡ first ++ rest
+  pub means : Means unbooted 1 first text ending
+  pub front : WritesFront out out' text
+
+-- What standard output and standard error get of a script, and the exit status.
+pub data IsPlayed (source : List ℕ) (out out' err err' : Writing) (status : ℕ) : Type 0 where
+  -- it is played, and standard output gets what it means
+  whole : (text : List ℕ) (ending : Ending) → Means unbooted 1 (lines_of source) text ending → Writes out out' text
+      → IsTold ending err err' → status ≡ status_of ending → IsPlayed source out out' err err' status
+  -- a write to standard output fails
+  cut_short : IsCut source out out' → err' ≡ err → status ≡ 1 → IsPlayed source out out' err err' status

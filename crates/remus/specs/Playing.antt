@@ -1,50 +1,58 @@
 -- A script that is being played.
-use Rattle.std.specs.Prelude.{◌≡◌, ℕ, ◌+◌, ◌⊎◌, List, [], length, Option, Some, None, Result, Ok, Err}
+use Rattle.std.specs.Prelude.{◌≡◌, ◌⊎◌, ℕ, ◌+◌, Bool, true, false, List, [], length, Option, Some, None, Result, Ok, Err, Box}
 use Rattle.std.specs.Io.KnownBytes.{Appends}
 use Rattle.pair_core.specs.Pair.{Pair}
-use Rattle.remus.specs.declared.player.Player.{Player}
-use Rattle.remus.specs.declared.player.Stop.{Stop}
-use Rattle.remus.specs.declared.player.Stop.TheVariants as stops
-use Rattle.remus.specs.Meaning.{Stage, unbooted, playing, Ending, finished, bad, refused, cut_short, GoesOn, Ends, IsAnswered, IsBeyond}
-use Rattle.remus.specs.Meaning.{Means, lines_of}
+use Rattle.pair_core.specs.declared.event.Refusal.TheVariants.{NoMemory}
+use Rattle.remus.specs.declared.player.Turn.{Turn}
+use Rattle.remus.specs.declared.player.Turn.TheVariants as turns
+use Rattle.remus.specs.declared.sim.Stop.{Stop}
+use Rattle.remus.specs.declared.sim.Stop.TheVariants as stops
 use Rattle.remus.specs.Lines.{Line}
-use Rattle.remus.specs.Output.{AppendsFront}
+use Rattle.remus.specs.Meaning.{IsAnswered, IsBeyond, Stage, unbooted, playing, GoesOn, IsBad, IsRefused}
+use Rattle.remus.specs.Meaning.{Ending, finished, bad, refused, Means, lines_of, bad_line, IsCut}
+use Rattle.remus.specs.Printed.{refusal_line}
+use Rattle.remus.specs.Streams.{Writing, Writes, WritesFront}
 
-abbrev pub stage_of : Option Player → Stage
+abbrev pub stage_of : {Z : Type 0} → Option (Box Pair Z) → Stage
 stage_of None = unbooted
-stage_of (Some player) = playing player.world.value
+stage_of (Some world) = playing world.value
 
--- how a script ended
-abbrev pub ending_of : {T : Type 0} → Result T Stop → Ending
-ending_of (Ok value) = finished
-ending_of (Err (stops.Bad number)) = bad number
-ending_of (Err stops.Refused) = refused
-ending_of (Err stops.Failed) = cut_short
+-- A line that was read is answered; or it asks for a sector beyond the disk, and does nothing.
+abbrev pub IsDone : Pair → Line → Bool → List ℕ → Pair → Type 0
+IsDone old line true printed new = IsAnswered old line printed new
+IsDone old line false printed new = IsBeyond old line × (printed ≡ []) × (new ≡ old)
 
--- What became of one line that isn't silent: it was done and printed, and `next` says the stage after it; or it ended the script; or
--- a write failed, after which what was printed of it is a beginning of what it prints.
-abbrev pub IsLineDone : {T : Type 0} → Stage → ℕ → List ℕ → Result T Stop → (T → Stage) → Option (List ℕ) → Option (List ℕ) → Type 0
-IsLineDone stage number text (Ok value) next out out' = (first : List ℕ) × GoesOn stage text first (next value) × Appends out out' first
-IsLineDone stage number text (Err stops.Failed) next out out' =
-    Appends out out' []
-    ⊎ (((first : List ℕ) × (after : Stage) × GoesOn stage text first after × AppendsFront out out' first)
-    ⊎ ((last : List ℕ) × (how : Ending) × Ends stage number text last how × AppendsFront out out' last))
-IsLineDone stage number text (Err stops.Refused) next out out' =
-    (last : List ℕ) × Ends stage number text last refused × Appends out out' last
-IsLineDone stage number text (Err (stops.Bad n)) next out out' =
-    (last : List ℕ) × Ends stage number text last (bad n) × Appends out out' last
+-- What became of a line.
+abbrev pub IsStep : Stage → List ℕ → Turn → List ℕ → Stage → Type 0
+IsStep old text turns.Booted printed new = GoesOn old text printed new
+IsStep old text turns.Played printed new = GoesOn old text printed new
+IsStep old text turns.Bad printed new = IsBad old text × (printed ≡ []) × (new ≡ old)
+IsStep old text turns.Refused printed new = IsRefused old text × (printed ≡ refusal_line NoMemory) × (new ≡ old)
 
--- What became of a line that was read, in the same way.
-abbrev pub IsLineAnswered : Pair → ℕ → Line → Result Unit Stop → Pair → Option (List ℕ) → Option (List ℕ) → Type 0
-IsLineAnswered old number line (Ok done) new out out' = (first : List ℕ) × IsAnswered old line first new × Appends out out' first
-IsLineAnswered old number line (Err stops.Failed) new out out' =
-    (first : List ℕ) × IsAnswered old line first new × AppendsFront out out' first
-IsLineAnswered old number line (Err stops.Refused) new out out' = ⊥
-IsLineAnswered old number line (Err (stops.Bad n)) new out out' = (n ≡ number) × IsBeyond old line × (new ≡ old) × Appends out out' []
+-- The script means what was printed, and ends so.
+abbrev pub HasMeant : List ℕ → Ending → Writing → Writing → Type 0
+HasMeant source ending out out' = (text : List ℕ) × Means unbooted 1 (lines_of source) text ending × Appends out.bytes out'.bytes text
 
--- A script was played up to its end or until something ended it, and this was printed.
-abbrev pub IsPlayedTo : List ℕ → Result Unit Stop → Option (List ℕ) → Option (List ℕ) → Type 0
-IsPlayedTo source result out out' = (text : List ℕ) × Means unbooted 1 (lines_of source) text (ending_of result) × Appends out out' text
+-- It was played up to its end, or until something ended it; or a write failed.
+abbrev pub IsPlayedTo : List ℕ → Result Unit Stop → Writing → Writing → Type 0
+IsPlayedTo source (Ok done) out out' = HasMeant source finished out out'
+IsPlayedTo source (Err (stops.Bad number)) out out' = HasMeant source (bad number) out out'
+IsPlayedTo source (Err stops.Refused) out out' = HasMeant source refused out out'
+IsPlayedTo source (Err stops.Unwritten) out out' = IsCut source out out'
+
+-- why a script ends with a line of this number, if it does
+abbrev pub stop_of : Turn → ℕ → Option Stop
+stop_of turns.Booted number = None
+stop_of turns.Played number = None
+stop_of turns.Bad number = Some (stops.Bad number)
+stop_of turns.Refused number = Some stops.Refused
+
+-- what standard error gets at the end of a script, and the exit status
+abbrev pub IsEnded : Result Unit Stop → Writing → Writing → ℕ → Type 0
+IsEnded (Ok done) old new status = (new ≡ old) × (status ≡ 0)
+IsEnded (Err (stops.Bad number)) old new status = (Writes old new (bad_line number) ⊎ WritesFront old new (bad_line number)) × (status ≡ 1)
+IsEnded (Err stops.Refused) old new status = (new ≡ old) × (status ≡ 1)
+IsEnded (Err stops.Unwritten) old new status = (new ≡ old) × (status ≡ 1)
 
 -- the lines that are left to play, none once the last one was read
 abbrev pub lines_left : Option (List ℕ) → List (List ℕ)

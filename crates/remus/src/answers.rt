@@ -1,25 +1,24 @@
 //! What a line after the boot line does to the pair, and what is printed of it.
 
-ghost use Rattle.std.specs.Prelude.{◌≡◌, ℕ, List, [], Ok, OnOk, OnErr, true, option_map};
+ghost use Rattle.std.specs.Prelude.{◌≡◌, [], true, option_map};
 ghost use Rattle.pair_core.specs.Pair.{IsConsistent};
+ghost use Rattle.pair_core.specs.Replication.{KeepsBackup};
 ghost use Rattle.pair_core.specs.Runs.{StepsAnswer};
+ghost use Rattle.pair_core.specs.Service.{ServesSteps, moment};
 ghost use Rattle.remus.specs.Lines.{line_of, order};
-ghost use Rattle.remus.specs.Meaning.{Happens, IsDone};
+ghost use Rattle.remus.specs.Meaning.{Happens};
+ghost use Rattle.remus.specs.Playing.{IsDone};
 ghost use Rattle.remus.specs.Printed.{named_sector};
 
 use crate::lines::Line;
 use crate::replies::{write_reply, write_sector, write_show};
 use crate::script::Command;
+use crate::text::Text;
 use pair_core::{Event, Reply, SECTOR_BYTES, World};
-use std::io;
 
 /// Does what a line says, and prints the answer into `text`, which is emptied first. Says whether there is one: a line that
 /// asks for a sector beyond the disk has none, and does nothing.
-///
-/// # Errors
-///
-/// Where there is no memory for what is printed. The line is done then.
-pub fn answer(world: &mut World, line: &Line, text: &mut Vec<u8>) -> io::Result<bool>
+pub fn answer(world: &mut World, line: &Line, text: &mut Text) -> bool
     ensures { IsDone world.old (line_of line.now) result text.new.items world.new }
 {
     text.clear();
@@ -33,7 +32,7 @@ pub fn answer(world: &mut World, line: &Line, text: &mut Vec<u8>) -> io::Result<
 }
 
 /// Does what a command says, and prints the answer.
-fn obey(world: &mut World, command: Command, text: &mut Vec<u8>) -> io::Result<bool>
+fn obey(world: &mut World, command: Command, text: &mut Text) -> bool
     requires { text.old.items ≡ [] }
     ensures { IsDone world.old (order command) result text.new.items world.new }
 {
@@ -57,31 +56,33 @@ fn obey(world: &mut World, command: Command, text: &mut Vec<u8>) -> io::Result<b
 }
 
 /// An event happens to the pair, and its reply is printed.
-fn happen(world: &mut World, event: Event<'_>, text: &mut Vec<u8>) -> io::Result<bool>
+fn happen(world: &mut World, event: Event<'_>, text: &mut Text) -> bool
     requires { text.old.items ≡ [] }
-    ensures ok { OnOk result ((result ≡ Ok true) × Happens world.old event.entry text.new.items world.new) }
-    ensures err { OnErr result ((all : List ℕ) × Happens world.old event.entry all world.new) }
+    ensures answered { result ≡ true }
+    ensures happens { Happens world.old event.entry text.new.items world.new }
 {
     let reply = world.apply(event);
-    write_reply(text, &reply)?;
-    Ok(true)
+    write_reply(text, &reply);
+    true
 }
 
 /// The guest makes so many steps, and the last reply is printed.
-fn step(world: &mut World, count: u64, text: &mut Vec<u8>) -> io::Result<bool>
+fn step(world: &mut World, count: u64, text: &mut Text) -> bool
     requires { text.old.items ≡ [] }
     ensures { IsDone world.old (order (Command.Step count)) result text.new.items world.new }
 {
     let reply = run_steps(world, count);
-    write_reply(text, &reply)?;
-    Ok(true)
+    write_reply(text, &reply);
+    true
 }
 
 /// The last of `count` steps' replies, or the first refusal.
 fn run_steps(world: &mut World, count: u64) -> Reply
     ensures outcome { StepsAnswer world.old.start world.old.protocol count result world.new.protocol }
     ensures start { world.new.start ≡ world.old.start }
+    ensures backup { KeepsBackup world.old.nodes world.new.nodes }
     ensures consistent { IsConsistent world.new }
+    ensures serves { ServesSteps world.old.start (moment world.old) count result (moment world.new) }
 {
     match world.run_steps(count) {
         Ok(steps) => Reply::Steps(steps),
@@ -90,24 +91,24 @@ fn run_steps(world: &mut World, count: u64) -> Reply
 }
 
 /// Prints the state of the pair.
-fn print_show(world: &World, text: &mut Vec<u8>) -> io::Result<bool>
+fn print_show(world: &World, text: &mut Text) -> bool
     requires { text.old.items ≡ [] }
     ensures { IsDone world.now (order Command.Show) result text.new.items world.now }
 {
-    write_show(text, &world.show())?;
-    Ok(true)
+    write_show(text, &world.show());
+    true
 }
 
 /// Prints a sector of the disk, if the disk has it.
-fn print_sector(world: &World, sector: u64, text: &mut Vec<u8>) -> io::Result<bool>
+fn print_sector(world: &World, sector: u64, text: &mut Text) -> bool
     requires { text.old.items ≡ [] }
     ensures { IsDone world.now (order (Command.Sector sector)) result text.new.items world.now }
 {
     let Some(bytes) = sector_of(world, sector) else {
-        return Ok(false);
+        return false;
     };
-    write_sector(text, sector, bytes)?;
-    Ok(true)
+    write_sector(text, sector, bytes);
+    true
 }
 
 /// The bytes of the sector that a number names.

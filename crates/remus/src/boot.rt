@@ -1,21 +1,14 @@
 //! The boot line of a script: the size of the machine, the number of clients, and the guest.
 
-ghost use Rattle.std.specs.Prelude.{◌≡◌, ◌⊎◌, ℕ, ◌*◌, ◌^◌, ◌<◌, ◌≤◌, List, Some, None, Ok, IfOk, IfSome, IsTrue, option_map, length};
+ghost use Rattle.std.specs.Prelude.{◌≡◌, ℕ, ◌^◌, ◌<◌, ◌≤◌, ◌++◌, List, Some, IfOk, IfSome, IfNone, IsTrue, OnErr, option_map, length};
 ghost use Rattle.remus.specs.Guests.{word_field, IsWords, IsDisk, IsGuest, NamedGuest, named_guest, words_image};
-ghost use Rattle.remus.specs.Boot.{IsBoot, BeginsBoot, BootLine, boot_line, IsInLimits};
+ghost use Rattle.remus.specs.Boot.{IsBoot, BootLine, boot_line, IsInLimits};
 ghost use Rattle.remus.specs.Head.{in_limits, head_of, head_view};
+ghost use Rattle.remus.specs.Limits.{most_pages, most_sectors};
 
 use crate::fields::{after, hex_bytes, operand};
+use crate::limits::{MOST_CLIENTS, MOST_PAGES, MOST_SECTORS};
 use std::alloc::{AllocError, Global};
-
-/// Pages of RAM, at most.
-const MOST_PAGES: u64 = 4096;
-
-/// Sectors of the disk, at most.
-const MOST_SECTORS: u64 = 32768;
-
-/// Clients, at most.
-const MOST_CLIENTS: u64 = 16;
 
 /// The pages that a guest with a driver needs: its program lies in the first, and its rings in the second.
 const DRIVER_PAGES: u32 = 2;
@@ -70,7 +63,7 @@ struct Head<'a> {
 ///
 /// # Errors
 ///
-/// [`AllocError`] where there is no memory for the guest's words.
+/// [`AllocError`] where the text is a boot line, and there is no memory for its guest's words.
 pub fn read_boot(alloc: Global, text: &[u8]) -> Result<Option<Boot>, AllocError>
     // What is read is spelled so.
     ensures found { IfOk result (λ found. IfSome found (λ boot. IsBoot text.now (boot_line boot))) }
@@ -78,8 +71,8 @@ pub fn read_boot(alloc: Global, text: &[u8]) -> Result<Option<Boot>, AllocError>
     ensures limits { IfOk result (λ found. IfSome found (λ boot. IsInLimits (boot_line boot))) }
     // What is spelled so is read so, unless memory runs out.
     ensures only { (line : BootLine) → IsBoot text.now line → IfOk result (λ found. option_map boot_line found ≡ Some line) }
-    // Only a line that begins as a boot line is read, and memory is asked for only there.
-    ensures begins { (result ≡ Ok None) ⊎ BeginsBoot text.now }
+    // Memory is asked for only for the words of a line that is a boot line.
+    ensures err { OnErr result ((line : BootLine) × IsBoot text.now line) }
 {
     let Some(head) = read_head(text) else {
         return Ok(None);
@@ -117,11 +110,11 @@ fn read_head(text: &[u8]) -> Option<Head<'_>>
 /// Whether a machine and its clients may be so many.
 fn are_in_limits(pages: u64, sectors: u64, clients: u64) -> bool
     ensures value { result ≡ in_limits pages sectors clients }
-    ensures small { IsTrue result → (pages ≤ 4096) × (sectors ≤ 32768) }
+    ensures small { IsTrue result → (pages ≤ most_pages) × (sectors ≤ most_sectors) }
 {
     1 <= pages
-        && pages <= MOST_PAGES
-        && (1 <= sectors && sectors <= MOST_SECTORS)
+        && pages <= u64::from(MOST_PAGES)
+        && (1 <= sectors && sectors <= u64::from(MOST_SECTORS))
         && (1 <= clients && clients <= MOST_CLIENTS)
 }
 
@@ -129,6 +122,7 @@ fn are_in_limits(pages: u64, sectors: u64, clients: u64) -> bool
 fn read_guest(alloc: Global, pages: u32, text: &[u8]) -> Result<Option<Guest>, AllocError>
     ensures found { IfOk result (λ found. IfSome found (λ guest. IsGuest pages text.now (named_guest guest))) }
     ensures only { (guest : NamedGuest) → IsGuest pages text.now guest → IfOk result (λ found. option_map named_guest found ≡ Some guest) }
+    ensures err { OnErr result ((guest : NamedGuest) × IsGuest pages text.now guest) }
 {
     if text == b"idle".as_slice() {
         return Ok(Some(Guest::Idle));
@@ -142,13 +136,13 @@ fn read_guest(alloc: Global, pages: u32, text: &[u8]) -> Result<Option<Guest>, A
     let Some(fields) = after(text, b"words") else {
         return Ok(None);
     };
-    let Some(words) = read_words(alloc, fields)? else {
+    let Some(count) = count_words(fields) else {
         return Ok(None);
     };
-    if words.len() as u64 > PAGE_WORDS * u64::from(pages) {
+    if count as u64 > PAGE_WORDS * u64::from(pages) {
         return Ok(None);
     }
-    Ok(Some(Guest::Words(words)))
+    Ok(Some(Guest::Words(read_words(alloc, fields, count)?)))
 }
 
 /// The sector and the byte of a text that names the guest `disk`.
@@ -161,27 +155,48 @@ fn read_disk(text: &[u8]) -> Option<(u64, u8)>
     Some((sector, byte))
 }
 
-/// The words of a text, each a space and eight digits.
-fn read_words(alloc: Global, text: &[u8]) -> Result<Option<Vec<u32>>, AllocError>
-    ensures found { IfOk result (λ found. IfSome found (λ words. IsWords text.now words.items)) }
-    ensures only { (ws : List ℕ) → IsWords text.now ws → IfOk result (λ found. option_map (λ words. words.items) found ≡ Some ws) }
+/// How many words a text spells, each as a space and eight digits; none where it spells no word, or is something else.
+fn count_words(text: &[u8]) -> Option<usize>
+    ensures some { IfSome result (λ count. (ws : List ℕ) × IsWords text.now ws × (length ws ≡ count)) }
+    ensures none { IfNone result ((ws : List ℕ) → IsWords text.now ws → ⊥) }
 {
-    let mut words = Vec::with_capacity(alloc, text.len() / FIELD_BYTES)?;
+    let mut count = 0;
     let mut rest = text;
-    while let Some((field, others)) = rest.split_first_chunk::<FIELD_BYTES>() {
-        let Some(word) = read_word(field.as_slice()) else {
-            return Ok(None);
-        };
+    while !rest.is_empty() {
+        let (_, others) = first_word(rest)?;
+        count += 1;
+        rest = others;
+    }
+    if count == 0 {
+        return None;
+    }
+    Some(count)
+}
+
+/// The words that a text spells, so many.
+fn read_words(alloc: Global, text: &[u8], count: usize) -> Result<Vec<u32>, AllocError>
+    ensures { (ws : List ℕ) → IsWords text.now ws → IfOk result (λ words. words.items ≡ ws) }
+{
+    let mut words = Vec::with_capacity(alloc, count)?;
+    let mut rest = text;
+    while let Some((word, others)) = first_word(rest) {
         words.push(word)?;
         rest = others;
     }
-    if !rest.is_empty() {
-        return Ok(None);
-    }
-    if words.is_empty() {
-        return Ok(None);
-    }
-    Ok(Some(words))
+    Ok(words)
+}
+
+/// The first word of a text, a space and eight digits, and what stands after it.
+fn first_word(text: &[u8]) -> Option<(u32, &[u8])>
+    ensures found { IfSome result (λ found. text.now ≡ word_field found.0 ++ found.1.now) }
+    ensures only { (w : ℕ) (others : List ℕ) → w < 2 ^ 32 → text.now ≡ word_field w ++ others
+        → option_map {U = ℕ × List ℕ} (λ found. (found.0, found.1.now)) result ≡ Some (w, others) }
+    ensures small { IfSome result (λ found. found.0 < 2 ^ 32) }
+    ensures shorter { IfSome result (λ found. length found.1.now < length text.now) }
+{
+    let (field, others) = text.split_first_chunk::<FIELD_BYTES>()?;
+    let word = read_word(field.as_slice())?;
+    Some((word, others))
 }
 
 /// A word from its field, a space and eight digits.

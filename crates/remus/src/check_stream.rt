@@ -116,7 +116,7 @@ fn spell_next<'a>(
     Ok(Some(&rest[count..]))
 }
 
-/// Prints which checkpoint it is, and how many records it has.
+/// Prints which checkpoint it is, how many records it has, and how many frames where it is of version 2.
 fn write_checkpoint_line<W: Write>(out: &mut W, checkpoint: &Checkpoint) -> Result<()>
     ensures { OnOk result (Appends (W.contents out.old) (W.contents out.new) (checkpoint_line checkpoint.now)) }
 {
@@ -124,16 +124,25 @@ fn write_checkpoint_line<W: Write>(out: &mut W, checkpoint: &Checkpoint) -> Resu
     let number = checkpoint.number();
     let pages = checkpoint.pages().len();
     let sectors = checkpoint.sectors().len();
-    if number == 0 {
-        writeln!(
+    let frames = checkpoint.frames().len();
+    let is_old = checkpoint.version() == 1;
+    match (number == 0, is_old) {
+        (true, true) => writeln!(
             out,
             "full {generation} {number} pages {pages} sectors {sectors}"
-        )
-    } else {
-        writeln!(
+        ),
+        (false, true) => writeln!(
             out,
             "delta {generation} {number} pages {pages} sectors {sectors}"
-        )
+        ),
+        (true, false) => writeln!(
+            out,
+            "full {generation} {number} pages {pages} sectors {sectors} frames {frames}"
+        ),
+        (false, false) => writeln!(
+            out,
+            "delta {generation} {number} pages {pages} sectors {sectors} frames {frames}"
+        ),
     }
 }
 

@@ -1,7 +1,8 @@
-//! The command line: `remus sim FILE`, and `remus check-stream FILE --pages P --sectors S`.
+//! The command line: `remus sim FILE`, `remus check-stream FILE --pages P --sectors S`, and `remus live`.
 
 ghost use Rattle.std.specs.Prelude.{◌<◌, ◌≤◌, IfSome, length};
 
+use crate::limits::{MOST_PAGES, MOST_SECTORS};
 use clap::{Arg, ArgMatches, Command, Error};
 use pair_core::Shape;
 use std::alloc::Global;
@@ -13,6 +14,8 @@ pub enum Invocation<'a> {
     Sim(&'a str),
     /// To list the checkpoints of this file, of a machine of this shape.
     CheckStream(&'a str, Shape),
+    /// To play lines as they come.
+    Live,
 }
 
 /// What the words of the command line ask for. `None`: a FILE is empty, or a number isn't one whole number in its range.
@@ -29,15 +32,16 @@ pub fn read<'a>(alloc: Global, words: &'a [String]) -> Result<Option<Invocation<
     let command = Command::new(alloc, "remus")
         .subcommand_required(true)
         .subcommand(sim)?
-        .subcommand(check_stream)?;
+        .subcommand(check_stream)?
+        .subcommand(Command::new(alloc, "live"))?;
     let matches = command.try_get_matches_from(words)?;
     if let Some(sim) = matches.subcommand_matches("sim") {
         return Ok(file_of(sim).map(Invocation::Sim));
     }
-    let Some(check) = matches.subcommand_matches("check-stream") else {
-        return Ok(None);
-    };
-    Ok(check_stream_of(check))
+    if let Some(check) = matches.subcommand_matches("check-stream") {
+        return Ok(check_stream_of(check));
+    }
+    Ok(matches.subcommand_matches("live").map(|_| Invocation::Live))
 }
 
 /// The argument FILE of a subcommand.
@@ -59,12 +63,6 @@ fn check_stream_of<'a>(matches: &ArgMatches<'a>) -> Option<Invocation<'a>> {
     let sectors = number_of(matches, "sectors", MOST_SECTORS)?;
     Some(Invocation::CheckStream(file, Shape { pages, sectors }))
 }
-
-/// The most pages that a machine has.
-const MOST_PAGES: u32 = 4096;
-
-/// The most sectors that a disk has.
-const MOST_SECTORS: u32 = 32768;
 
 /// The value of an option: one whole number from 1 to `most`.
 fn number_of(matches: &ArgMatches<'_>, option: &str, most: u32) -> Option<u32>

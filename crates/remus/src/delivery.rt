@@ -1,10 +1,11 @@
 //! The line of a client's frame: `deliver CLIENT HEX`.
 
-ghost use Rattle.std.specs.Prelude.{◌≡◌, ◌≢◌, ℕ, List, Some, None, IfOk, IfSome, OnErr, option_map};
-ghost use Rattle.remus.specs.Delivery.{IsHex, IsDelivery, BeginsDelivery, delivery_head, delivery_view};
+ghost use Rattle.std.specs.Prelude.{◌≡◌, ℕ, List, Some, IfOk, IfSome, IsFalse, IsTrue, OnErr, option_map};
+ghost use Rattle.std.specs.Char.{is_ascii_hexdigit};
+ghost use Rattle.std.specs.List.{list_all};
+ghost use Rattle.remus.specs.Delivery.{IsHex, IsDelivery, delivery_head, delivery_view};
 
 use crate::fields::{after, has_upper_case, operand};
-use hex::FromHexError;
 use std::alloc::{AllocError, Global};
 
 /// What such a line says.
@@ -20,15 +21,15 @@ pub struct Delivery {
 ///
 /// # Errors
 ///
-/// [`AllocError`] where there is no memory for the bytes.
+/// [`AllocError`] where the line is a delivery, and there is no memory for its bytes.
 pub fn read_delivery(alloc: Global, text: &[u8]) -> Result<Option<Delivery>, AllocError>
     // What is read is spelled so.
     ensures found { IfOk result (λ found. IfSome found (λ delivery. IsDelivery text.now delivery.client delivery.bytes.items)) }
     // What is spelled so is read so, unless memory runs out.
     ensures only { (client : ℕ) (bytes : List ℕ) → IsDelivery text.now client bytes
         → IfOk result (λ found. option_map delivery_view found ≡ Some (client, bytes)) }
-    // Memory is asked for only where the line begins as a delivery.
-    ensures err { OnErr result (BeginsDelivery text.now) }
+    // Memory is asked for only for the bytes of a line that is a delivery.
+    ensures err { OnErr result ((client : ℕ) × (bytes : List ℕ) × IsDelivery text.now client bytes) }
 {
     let Some((client, digits)) = read_head(text) else {
         return Ok(None);
@@ -50,26 +51,32 @@ fn read_head(text: &[u8]) -> Option<(u64, &[u8])>
 fn read_bytes(alloc: Global, digits: &[u8]) -> Result<Option<Vec<u8>>, AllocError>
     ensures found { IfOk result (λ found. IfSome found (λ bytes. IsHex digits.now bytes.items)) }
     ensures only { (bytes : List ℕ) → IsHex digits.now bytes → IfOk result (λ found. option_map (λ v. v.items) found ≡ Some bytes) }
+    // Memory is asked for only where they write some.
+    ensures err { OnErr result ((bytes : List ℕ) × IsHex digits.now bytes) }
 {
-    if has_upper_case(digits) {
+    if !are_lower_hex(digits) {
         return Ok(None);
     }
-    let bytes = match hex::decode(alloc, digits) {
-        Ok(bytes) => bytes,
-        Err(error) => return undecoded(error),
-    };
-    if bytes.is_empty() {
-        return Ok(None);
+    match hex::decode(alloc, digits) {
+        Ok(bytes) => Ok(Some(bytes)),
+        Err(_) => Err(AllocError),
     }
-    Ok(Some(bytes))
 }
 
-/// What there is where digits can't be decoded: nothing, unless it was for want of memory.
-fn undecoded(error: FromHexError) -> Result<Option<Vec<u8>>, AllocError>
-    ensures { IfOk result (λ found. (found ≡ None) × (error ≢ FromHexError.OutOfMemory)) }
+/// Whether digits write bytes, at least one: two for each, in lower case.
+fn are_lower_hex(digits: &[u8]) -> bool
+    ensures some { IsTrue result → (bytes : List ℕ) × IsHex digits.now bytes }
+    ensures none { IsFalse result → (bytes : List ℕ) → IsHex digits.now bytes → ⊥ }
 {
-    match error {
-        FromHexError::OutOfMemory => Err(AllocError),
-        _ => Ok(None),
+    if has_upper_case(digits) {
+        return false;
     }
+    !digits.is_empty() && digits.len() % 2 == 0 && are_hex_digits(digits)
+}
+
+/// Whether all are hex digits, in lower case or upper case.
+fn are_hex_digits(text: &[u8]) -> bool
+    ensures { result ≡ list_all is_ascii_hexdigit text.now }
+{
+    text.iter().all(|c| c.is_ascii_hexdigit())
 }

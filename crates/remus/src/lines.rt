@@ -1,7 +1,7 @@
 //! The lines after the boot line.
 
-ghost use Rattle.std.specs.Prelude.{◌≡◌, IfOk, IfSome, IfNone, OnErr};
-ghost use Rattle.remus.specs.Delivery.{BeginsDelivery};
+ghost use Rattle.std.specs.Prelude.{◌≡◌, ℕ, List, IfOk, IfSome, IfNone, OnErr};
+ghost use Rattle.remus.specs.Delivery.{IsDelivery};
 ghost use Rattle.remus.specs.Lines.{line_of, Line as SpelledLine};
 ghost use Rattle.remus.specs.Meaning.{IsLine};
 
@@ -22,7 +22,7 @@ pub enum Line {
 ///
 /// # Errors
 ///
-/// [`AllocError`] where there is no memory for a frame's bytes.
+/// [`AllocError`] where the text spells a delivery, and there is no memory for its bytes.
 pub fn read_line(alloc: Global, text: &[u8]) -> Result<Option<Line>, AllocError>
     // What is read is spelled so.
     ensures found { IfOk result (λ found. IfSome found (λ line. IsLine text.now (line_of line))) }
@@ -31,7 +31,8 @@ pub fn read_line(alloc: Global, text: &[u8]) -> Result<Option<Line>, AllocError>
         (other : SpelledLine) → IsLine text.now other → other ≡ line_of line)) }
     // Where nothing is read, nothing is spelled.
     ensures none { IfOk result (λ found. IfNone found ((line : SpelledLine) → IsLine text.now line → ⊥)) }
-    ensures err { OnErr result (BeginsDelivery text.now) }
+    // Memory is asked for only for the bytes of a line that is a delivery.
+    ensures err { OnErr result ((client : ℕ) × (bytes : List ℕ) × IsDelivery text.now client bytes) }
 {
     if let Some(command) = read_command(text) {
         return Ok(Some(Line::Order(command)));

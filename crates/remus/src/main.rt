@@ -7,20 +7,26 @@ mod check_stream;
 mod command_line;
 mod delivery;
 mod fields;
+mod laws;
+mod limits;
 mod lines;
+mod live;
 mod output;
 mod player;
 mod replies;
 mod script;
 mod sim;
+mod streams;
 #[cfg(test)]
 mod tests;
+mod text;
 
 use command_line::Invocation;
 use pair_core::Shape;
 use std::io::BufWriter;
 use std::process::ExitCode;
 use std::{env, fs, io};
+use streams::{CheckedReader, CheckedWriter};
 
 /// The exit status of a refusal.
 const REFUSED: u8 = 1;
@@ -35,7 +41,7 @@ fn main(rt: HostRuntime) -> ExitCode {
     }
 }
 
-/// Answers the exit status.
+/// Does what the command line asks for. Answers the exit status.
 fn run(rt: &HostRuntime) -> io::Result<u8> {
     let Ok(words) = arguments(rt) else {
         return refuse_command_line(rt);
@@ -43,6 +49,7 @@ fn run(rt: &HostRuntime) -> io::Result<u8> {
     match command_line::read(rt.alloc(), words.as_slice()) {
         Ok(Some(Invocation::Sim(file))) => play_script(rt, file),
         Ok(Some(Invocation::CheckStream(file, shape))) => list_stream(rt, file, shape),
+        Ok(Some(Invocation::Live)) => Ok(play_lines(rt)),
         _ => refuse_command_line(rt),
     }
 }
@@ -53,9 +60,19 @@ fn play_script(rt: &HostRuntime, file: &str) -> io::Result<u8> {
     let Ok(source) = fs::read(rt, file) else {
         return refuse_file(rt, file);
     };
-    let mut out = BufWriter::new(alloc, rt.stdout())?;
-    let mut err = rt.stderr();
+    let Ok(out) = BufWriter::new(alloc, rt.stdout()) else {
+        return refuse_memory(rt);
+    };
+    let mut out = CheckedWriter::new(out);
+    let mut err = CheckedWriter::new(rt.stderr());
     Ok(sim::sim(alloc, source.as_slice(), &mut out, &mut err))
+}
+
+/// Plays the lines of standard input as they come. Answers the exit status. Nothing stands between an answer and standard output.
+fn play_lines(rt: &HostRuntime) -> u8 {
+    let mut input = CheckedReader::new(rt.stdin());
+    let mut out = CheckedWriter::new(rt.stdout());
+    live::live(rt.alloc(), &mut input, &mut out)
 }
 
 /// Lists the checkpoints of this file. Answers the exit status.
@@ -64,7 +81,9 @@ fn list_stream(rt: &HostRuntime, file: &str, shape: Shape) -> io::Result<u8> {
     let Ok(source) = fs::read(rt, file) else {
         return refuse_file(rt, file);
     };
-    let mut out = BufWriter::new(alloc, rt.stdout())?;
+    let Ok(mut out) = BufWriter::new(alloc, rt.stdout()) else {
+        return refuse_memory(rt);
+    };
     let mut err = rt.stderr();
     Ok(check_stream::check_stream(alloc, source.as_slice(), shape, &mut out, &mut err))
 }
@@ -72,6 +91,12 @@ fn list_stream(rt: &HostRuntime, file: &str, shape: Shape) -> io::Result<u8> {
 /// Answers the status of a file that can't be read, and says that it can't.
 fn refuse_file(rt: &HostRuntime, file: &str) -> io::Result<u8> {
     eprintln!(rt; "remus: cannot read {file}")?;
+    Ok(REFUSED)
+}
+
+/// Answers the status where there is no memory to begin with, and prints the refusal.
+fn refuse_memory(rt: &HostRuntime) -> io::Result<u8> {
+    println!(rt; "refused 12 NoMemory")?;
     Ok(REFUSED)
 }
 

@@ -1,177 +1,129 @@
-//! A script that is being played, line by line.
+//! A pair that is played line by line.
 
-ghost use Rattle.std.specs.Prelude.{◌≡◌, ◌*◌, ◌≤◌, IfOk, IfErr, IfSome, IfNone, OnErr, length};
-ghost use Rattle.std.specs.Io.KnownBytes.{Keeps};
-ghost use Rattle.remus.specs.Boot.{BootLine, IsBoot, BeginsBoot, IsInLimits, boot_line};
+ghost use Rattle.std.specs.Prelude.{◌≡◌, ◌*◌, ◌≤◌, IfOk, IfSome, IfNone, OnErr, [], false, length};
+ghost use Rattle.remus.specs.Boot.{BootLine, IsBoot, IsInLimits, boot_line};
 ghost use Rattle.remus.specs.Guests.{guest_image, named_guest};
-ghost use Rattle.remus.specs.Lines.{line_of};
-ghost use Rattle.remus.specs.Meaning.{IsReady, playing, unbooted};
-ghost use Rattle.remus.specs.Playing.{IsLineDone, IsLineAnswered};
-ghost use Rattle.remus.specs.declared.player.Stop.TheVariants.{Failed};
+ghost use Rattle.remus.specs.Meaning.{IsReady, is_silent, unbooted, playing};
+ghost use Rattle.remus.specs.Playing.{IsStep, stage_of};
 
 use crate::answers::answer;
 use crate::boot::{Boot, Guest, image_of, read_boot};
-use crate::lines::{Line, read_line};
-use crate::output::put;
-use crate::script::Command;
+use crate::lines::read_line;
+use crate::replies::write_refusal;
+use crate::text::{Text, add};
 use guest_kit::{beacon, disk_once, idle};
 use pair_core::{Refusal, Shape, World};
 use std::alloc::{AllocError, Global};
-use std::io;
-use std::io::Write;
 
-/// The guest may make fewer steps than these, some thousandth of a second's, before what was printed is written out.
-const STEPS_UNSHOWN: u64 = 100_000;
-
-/// Bytes that the longest line takes, that of a frame of 1514 bytes, and more.
-const LINE_BYTES: usize = 4096;
-
-/// What is printed where there is no memory.
-const NO_MEMORY: &[u8] = b"refused 12 NoMemory\n";
-
-/// Why a script ends early.
-#[derive(Debug, Drop)]
-pub enum Stop {
-    /// The line of this number has no known form.
-    Bad(u64),
-    /// The boot line was refused.
+/// What became of a line.
+#[derive(Clone, Copy, Debug, PartialEq, Eq)]
+pub enum Turn {
+    /// It was the boot line, and the pair is booted.
+    Booted,
+    /// It was played, or is one that prints nothing.
+    Played,
+    /// It is bad: it has no known form, or asks for a sector beyond the disk. Nothing changes.
+    Bad,
+    /// It is the boot line, and there is no memory for what it asks for. There is no pair yet.
     Refused,
-    /// A write failed.
-    Failed,
 }
 
-impl From<io::Error> for Stop {
-    ghost from_gives = { λ _ stop. stop ≡ Failed };
-
-    fn from(_: io::Error) -> Stop {
-        Stop::Failed
-    }
-}
-
-/// A script that is being played.
+/// A pair that is played line by line, from before its boot line on.
 #[derive(Drop)]
 pub struct Player {
-    /// The pair that its boot line asked for. It stands in a box, so that no other function holds a large value.
-    pub world: Box<World>,
-    /// A place for what a line prints.
-    pub text: Vec<u8>,
-    /// How many steps its lines asked for since what was printed was last written out.
-    pub unshown: u64,
+    /// The pair, once it is booted. It stands in a box, so that no function holds a large value.
+    pub world: Option<Box<World>>,
+    /// What the last line printed.
+    pub text: Text,
 }
 
 impl Player {
-    /// Boots the pair that the boot line asks for, and shows `booted` or prints the refusal.
-    ///
-    /// # Errors
-    ///
-    /// A bad line, or one that is refused for want of memory; that of the writer.
-    pub fn boot<O: Write>(
-        alloc: Global,
-        text: &[u8],
-        number: u64,
-        out: &mut O,
-    ) -> Result<Player, Stop>
-        ensures { IsLineDone unbooted number text.now result (λ player. playing player.world.value)
-            (O.contents out.old) (O.contents out.new) }
+    /// One that waits for its boot line.
+    pub fn new() -> Player
+        ensures { stage_of result.world ≡ unbooted }
     {
-        match booted(alloc, text) {
-            Ok(Some(player)) => {
-                put(out, b"booted\n")?;
-                out.flush()?;
-                Ok(player)
-            }
-            Ok(None) => Err(Stop::Bad(number)),
-            Err(AllocError) => {
-                put(out, NO_MEMORY)?;
-                Err(Stop::Refused)
-            }
+        Player {
+            world: None,
+            text: Text::new(),
         }
     }
 
-    /// Does what a line after the boot line says, and prints the answer.
-    ///
-    /// # Errors
-    ///
-    /// A bad line; that of the writer.
-    pub fn play_line<O: Write>(
-        &mut self,
-        alloc: Global,
-        text: &[u8],
-        number: u64,
-        out: &mut O,
-    ) -> Result<(), Stop>
-        ensures { IsLineDone (playing self.old.world.value) number text.now result (λ _. playing self.new.world.value)
-            (O.contents out.old) (O.contents out.new) }
+    /// Plays one line. What it prints is the text.
+    pub fn step(&mut self, alloc: Global, line: &[u8]) -> Turn
+        ensures { IsStep (stage_of self.old.world) line.now result self.new.text.items (stage_of self.new.world) }
     {
-        match read_line(alloc, text) {
-            Ok(Some(line)) => {
-                self.show_before(&line, out)?;
-                let done = do_line(&mut self.world, &mut self.text, &line, number, out);
-                drop(line);
-                done
-            }
-            Ok(None) => Err(Stop::Bad(number)),
-            Err(AllocError) => {
-                put(out, NO_MEMORY)?;
-                Ok(())
-            }
+        self.text.clear();
+        if is_silent(line) {
+            return Turn::Played;
+        }
+        match &mut self.world {
+            Some(world) => play(alloc, world, line, &mut self.text),
+            None => self.boot(alloc, line),
         }
     }
 
-    /// Writes out what was printed, before the guest makes so many steps that it would go unshown for too long.
-    fn show_before<O: Write>(&mut self, line: &Line, out: &mut O) -> Result<(), Stop>
-        ensures world { self.new.world ≡ self.old.world }
-        ensures written { Keeps (O.contents out.old) (O.contents out.new) }
-        ensures err { IfErr result (λ stop. stop ≡ Failed) }
+    /// Boots the pair that the boot line asks for.
+    fn boot(&mut self, alloc: Global, line: &[u8]) -> Turn
+        requires loud { is_silent line.now ≡ false }
+        requires unbooted { stage_of self.old.world ≡ unbooted }
+        requires empty { self.old.text.items ≡ [] }
+        ensures { IsStep unbooted line.now result self.new.text.items (stage_of self.new.world) }
     {
-        let Line::Order(Command::Step(count)) = line else {
-            return Ok(());
-        };
-        let steps = self.unshown.saturating_add(*count);
-        if steps < STEPS_UNSHOWN {
-            self.unshown = steps;
-            return Ok(());
+        match booted(alloc, line) {
+            Ok(Some(world)) => {
+                self.world = Some(world);
+                add(&mut self.text, b"booted\n");
+                Turn::Booted
+            }
+            Ok(None) => Turn::Bad,
+            Err(AllocError) => {
+                write_refusal(&mut self.text, Refusal::NoMemory);
+                Turn::Refused
+            }
         }
-        self.unshown = 0;
-        out.flush()?;
-        Ok(())
     }
 }
 
-/// Does what a line says, and prints the answer.
-fn do_line<O: Write>(
-    world: &mut Box<World>,
-    text: &mut Vec<u8>,
-    line: &Line,
-    number: u64,
-    out: &mut O,
-) -> Result<(), Stop>
-    ensures { IsLineAnswered world.old.value number (line_of line.now) result world.new.value (O.contents out.old) (O.contents out.new) }
+/// Plays a line after the boot line, and prints the answer into an empty text.
+fn play(alloc: Global, world: &mut Box<World>, line: &[u8], text: &mut Text) -> Turn
+    requires loud { is_silent line.now ≡ false }
+    requires empty { text.old.items ≡ [] }
+    ensures { IsStep (playing world.old.value) line.now result text.new.items (playing world.new.value) }
 {
-    if !answer(world.as_mut(), line, text)? {
-        return Err(Stop::Bad(number));
+    match read_line(alloc, line) {
+        Ok(Some(line)) => {
+            if answer(world.as_mut(), &line, text) {
+                Turn::Played
+            } else {
+                Turn::Bad
+            }
+        }
+        Ok(None) => Turn::Bad,
+        Err(AllocError) => {
+            write_refusal(text, Refusal::NoMemory);
+            Turn::Played
+        }
     }
-    put(out, text.as_slice())?;
-    Ok(())
 }
 
-/// A script whose boot line is this text; none where the text is no boot line.
-fn booted(alloc: Global, text: &[u8]) -> Result<Option<Player>, AllocError>
-    ensures some { IfOk result (λ found. IfSome found (λ player. (line : BootLine)
-        × IsBoot text.now line × IsReady line player.world.value)) }
+/// Whether a line prints nothing: it is empty, or a comment.
+fn is_silent(line: &[u8]) -> bool
+    ensures { result ≡ is_silent line.now }
+{
+    matches!(line, [] | [b'#', ..])
+}
+
+/// The pair at its start that this boot line asks for; none where the text is no boot line.
+fn booted(alloc: Global, text: &[u8]) -> Result<Option<Box<World>>, AllocError>
+    ensures some { IfOk result (λ found. IfSome found (λ world. (line : BootLine)
+        × IsBoot text.now line × IsReady line world.value)) }
     ensures none { IfOk result (λ found. IfNone found ((line : BootLine) → IsBoot text.now line → ⊥)) }
-    ensures err { OnErr result (BeginsBoot text.now) }
+    ensures err { OnErr result ((line : BootLine) × IsBoot text.now line) }
 {
     let Some(boot) = read_boot(alloc, text)? else {
         return Ok(None);
     };
-    let world = start(alloc, &boot)?;
-    let text = Vec::with_capacity(alloc, LINE_BYTES)?;
-    Ok(Some(Player {
-        world,
-        text,
-        unshown: 0,
-    }))
+    Ok(Some(start(alloc, &boot)?))
 }
 
 /// The pair that a boot line asks for, at its start.

@@ -3,10 +3,12 @@
 mod bad_lines;
 mod command_lines;
 mod failures;
+mod live;
 mod protection;
 mod writers;
 
 use super::sim::sim;
+use super::streams::CheckedWriter;
 use std::alloc::Global;
 use std::process::Abort;
 use std::test::Fail;
@@ -23,11 +25,15 @@ fn plays(
     printed: &str,
     complaint: &str,
 ) {
-    let mut out = Vec::new(alloc);
-    let mut err = Vec::new(alloc);
+    let mut out = CheckedWriter::new(Vec::new(alloc));
+    let mut err = CheckedWriter::new(Vec::new(alloc));
     let answer = sim(alloc, script, &mut out, &mut err);
-    assert_eq!(rt; str::from_utf8(out.as_slice()), Ok(printed), "printed");
-    assert_eq!(rt; str::from_utf8(err.as_slice()), Ok(complaint), "said");
+    assert_eq!(rt;
+        str::from_utf8(out.inner.as_slice()),
+        Ok(printed),
+        "printed"
+    );
+    assert_eq!(rt; str::from_utf8(err.inner.as_slice()), Ok(complaint), "said");
     assert_eq!(rt; answer, status, "status");
 }
 

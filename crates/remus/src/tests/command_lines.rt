@@ -13,6 +13,7 @@ fn names(rt: &HostRuntime, words: &[&str], file: &str) -> Result<bool, Fail> {
         Ok(Some(Invocation::CheckStream(found, shape))) => {
             found == file && shape.pages == 4096 && shape.sectors == 7
         }
+        Ok(Some(Invocation::Live)) => file.is_empty(),
         Ok(None) => false,
         Err(_) => false,
     };
@@ -23,6 +24,7 @@ fn names(rt: &HostRuntime, words: &[&str], file: &str) -> Result<bool, Fail> {
 fn command_lines(rt: HostRuntime) -> Result<(), Fail> {
     assert!(rt; names(&rt, &["remus", "sim", "a.sim"], "a.sim")?);
     assert!(rt; names(&rt, &["remus", "sim", "--", "-a"], "-a")?);
+    assert!(rt; names(&rt, &["remus", "live"], "")?);
     let asked = [
         "remus",
         "check-stream",
@@ -33,7 +35,7 @@ fn command_lines(rt: HostRuntime) -> Result<(), Fail> {
         "7",
     ];
     assert!(rt; names(&rt, &asked, "a")?);
-    let bad: [&[&str]; 14] = [
+    let bad: [&[&str]; 15] = [
         &["remus", "check-stream", "a"],
         &[
             "remus",
@@ -66,6 +68,7 @@ fn command_lines(rt: HostRuntime) -> Result<(), Fail> {
         &["remus", "sim"],
         &["remus", "sim", ""],
         &["remus", "sim", "a", "b"],
+        &["remus", "live", "a"],
         &["remus", "--help"],
         &["remus", "help"],
         &["remus", "sim", "--help"],

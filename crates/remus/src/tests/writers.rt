@@ -1,5 +1,6 @@
 //! Writers that fail, and when answers are written out.
 use crate::sim::sim;
+use crate::streams::CheckedWriter;
 use std::alloc::Global;
 use std::io::{ErrorKind, Result as IoResult, Write};
 use std::process::Abort;
@@ -25,8 +26,8 @@ impl Write for Short {
 #[test]
 fn a_write_that_fails_gives_status_1(rt: HostRuntime) {
     for room in 0..21usize {
-        let mut out = Short(room);
-        let mut err = Vec::new(rt.alloc());
+        let mut out = CheckedWriter::new(Short(room));
+        let mut err = CheckedWriter::new(Vec::new(rt.alloc()));
         let status = sim(
             rt.alloc(),
             b"boot 2 1 1 idle\ncut\ntake 1\n",
@@ -35,12 +36,12 @@ fn a_write_that_fails_gives_status_1(rt: HostRuntime) {
         );
         // `booted`, `cut 1 1` and `none`, each with its newline, are 20 bytes.
         assert_eq!(rt; status, if room < 20 { 1 } else { 0 }, "room for {room}");
-        assert_eq!(rt; err.len(), 0);
+        assert_eq!(rt; err.inner.len(), 0);
     }
     // `booted` and the sector's line, each with its newline, are 1041 bytes.
     for room in [7usize, 15, 16, 1039, 1040, 1041] {
-        let mut out = Short(room);
-        let mut err = Vec::new(rt.alloc());
+        let mut out = CheckedWriter::new(Short(room));
+        let mut err = CheckedWriter::new(Vec::new(rt.alloc()));
         let status = sim(
             rt.alloc(),
             b"boot 2 1 1 idle\nsector 0\n",
@@ -48,10 +49,11 @@ fn a_write_that_fails_gives_status_1(rt: HostRuntime) {
             &mut err,
         );
         assert_eq!(rt; status, if room < 1041 { 1 } else { 0 }, "room for {room}");
-        assert_eq!(rt; err.len(), 0);
+        assert_eq!(rt; err.inner.len(), 0);
     }
-    let mut out = Vec::new(rt.alloc());
-    assert_eq!(rt; sim(rt.alloc(), b"cut", &mut out, &mut Short(0)), 1);
+    let mut out = CheckedWriter::new(Vec::new(rt.alloc()));
+    let mut err = CheckedWriter::new(Short(0));
+    assert_eq!(rt; sim(rt.alloc(), b"cut", &mut out, &mut err), 1);
 }
 
 /// A writer that counts bytes, and notes the count at each flush. The flush of the number `fails`, from 0, fails.
@@ -81,14 +83,14 @@ impl Write for Flushed {
 /// Plays a script whose answers are written out at these counts of bytes, and says the status where one fails.
 fn flushes(rt: &impl Abort, alloc: Global, script: &[u8], at: &[usize]) {
     for fails in 0..at.len() + 1 {
-        let mut out = Flushed {
+        let mut out = CheckedWriter::new(Flushed {
             bytes: 0,
             at: Vec::new(alloc),
             fails,
-        };
-        let mut err = Vec::new(alloc);
+        });
+        let mut err = CheckedWriter::new(Vec::new(alloc));
         let status = sim(alloc, script, &mut out, &mut err);
-        assert_eq!(rt; out.at.as_slice(), &at[..fails]);
+        assert_eq!(rt; out.inner.at.as_slice(), &at[..fails]);
         assert_eq!(rt; status, if fails < at.len() { 1 } else { 0 });
     }
 }

@@ -3,7 +3,7 @@ use Rattle.std.proofs.Common.{refl, subst, sym}
 use Rattle.pair_core.specs.declared.event.Event.TheVariants as events
 use Rattle.remus.specs.declared.lines.Line.{Line as ReadLine}
 use Rattle.remus.specs.Lines.{delivery, line_of}
-use Rattle.remus.specs.Meaning.{IsDone}
+use Rattle.remus.specs.Playing.{IsDone}
 use Rattle.remus.proofs.MeaningLemmas.{happened}
 use Rattle.remus.proofs.answers.answer.Goals as goal
 
@@ -13,4 +13,4 @@ returns-in-Delivery c =
     subst (λ (line : ReadLine). IsDone c.args.world.now (line_of line) c.happen.result c.happen.new.text.items c.happen.new.world)
     (sym c.in-Delivery.is)
     (happened c.args.world.now (delivery d.client d.bytes.items) c.happen.new.text.items c.happen.new.world c.happen.result
-    (events.Deliver d.client c.as_slice.result) (refl, c.as_slice.ensures.value) c.happen.ensures.ok c.happen.ensures.err)
+    (events.Deliver d.client c.as_slice.result) (refl, c.as_slice.ensures.value) c.happen.ensures.answered c.happen.ensures.happens)

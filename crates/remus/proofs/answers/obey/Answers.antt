@@ -2,7 +2,7 @@
 use Rattle.std.proofs.Common.{refl, subst, sym}
 use Rattle.pair_core.specs.declared.event.Event.TheVariants as events
 use Rattle.remus.specs.Lines.{order}
-use Rattle.remus.specs.Meaning.{IsDone}
+use Rattle.remus.specs.Playing.{IsDone}
 use Rattle.remus.specs.declared.script.Command.{Command}
 use Rattle.remus.specs.declared.script.Command.TheVariants.{Cut, Send, Backup, Ack, Admit, Take, LoseIn, LoseOut}
 use Rattle.remus.specs.declared.script.Command.TheVariants.{FailPrimary, FailBackup, GoLive, Protect}
@@ -15,7 +15,7 @@ returns-in-Cut c =
     subst (λ (command : Command). IsDone c.args.world.now (order command) done.result done.new.text.items done.new.world)
     (sym c.in-Cut.is)
     (happened c.args.world.now (order Cut) done.new.text.items done.new.world done.result
-    events.Cut refl done.ensures.ok done.ensures.err)
+    events.Cut refl done.ensures.answered done.ensures.happens)
 
 pub returns-in-Send : goal.returns-in-Send
 returns-in-Send c =
@@ -23,7 +23,7 @@ returns-in-Send c =
     subst (λ (command : Command). IsDone c.args.world.now (order command) done.result done.new.text.items done.new.world)
     (sym c.in-Send.is)
     (happened c.args.world.now (order Send) done.new.text.items done.new.world done.result
-    events.Send refl done.ensures.ok done.ensures.err)
+    events.Send refl done.ensures.answered done.ensures.happens)
 
 pub returns-in-Backup : goal.returns-in-Backup
 returns-in-Backup c =
@@ -32,7 +32,7 @@ returns-in-Backup c =
     subst (λ (command : Command). IsDone c.args.world.now (order command) done.result done.new.text.items done.new.world)
     (sym c.in-Backup.is)
     (happened c.args.world.now (order (Backup packet)) done.new.text.items done.new.world done.result
-    (events.BackupGet packet) refl done.ensures.ok done.ensures.err)
+    (events.BackupGet packet) refl done.ensures.answered done.ensures.happens)
 
 pub returns-in-Ack : goal.returns-in-Ack
 returns-in-Ack c =
@@ -41,7 +41,7 @@ returns-in-Ack c =
     subst (λ (command : Command). IsDone c.args.world.now (order command) done.result done.new.text.items done.new.world)
     (sym c.in-Ack.is)
     (happened c.args.world.now (order (Ack packet)) done.new.text.items done.new.world done.result
-    (events.AckGet packet) refl done.ensures.ok done.ensures.err)
+    (events.AckGet packet) refl done.ensures.answered done.ensures.happens)
 
 pub returns-in-Admit : goal.returns-in-Admit
 returns-in-Admit c =
@@ -50,7 +50,7 @@ returns-in-Admit c =
     subst (λ (command : Command). IsDone c.args.world.now (order command) done.result done.new.text.items done.new.world)
     (sym c.in-Admit.is)
     (happened c.args.world.now (order (Admit client)) done.new.text.items done.new.world done.result
-    (events.Admit client) refl done.ensures.ok done.ensures.err)
+    (events.Admit client) refl done.ensures.answered done.ensures.happens)
 
 pub returns-in-Take : goal.returns-in-Take
 returns-in-Take c =
@@ -59,7 +59,7 @@ returns-in-Take c =
     subst (λ (command : Command). IsDone c.args.world.now (order command) done.result done.new.text.items done.new.world)
     (sym c.in-Take.is)
     (happened c.args.world.now (order (Take client)) done.new.text.items done.new.world done.result
-    (events.Take client) refl done.ensures.ok done.ensures.err)
+    (events.Take client) refl done.ensures.answered done.ensures.happens)
 
 pub returns-in-LoseIn : goal.returns-in-LoseIn
 returns-in-LoseIn c =
@@ -69,7 +69,7 @@ returns-in-LoseIn c =
     subst (λ (command : Command). IsDone c.args.world.now (order command) done.result done.new.text.items done.new.world)
     (sym c.in-LoseIn.is)
     (happened c.args.world.now (order (LoseIn client place)) done.new.text.items done.new.world done.result
-    (events.LoseIn client place) refl done.ensures.ok done.ensures.err)
+    (events.LoseIn client place) refl done.ensures.answered done.ensures.happens)
 
 pub returns-in-LoseOut : goal.returns-in-LoseOut
 returns-in-LoseOut c =
@@ -79,7 +79,7 @@ returns-in-LoseOut c =
     subst (λ (command : Command). IsDone c.args.world.now (order command) done.result done.new.text.items done.new.world)
     (sym c.in-LoseOut.is)
     (happened c.args.world.now (order (LoseOut client place)) done.new.text.items done.new.world done.result
-    (events.LoseOut client place) refl done.ensures.ok done.ensures.err)
+    (events.LoseOut client place) refl done.ensures.answered done.ensures.happens)
 
 pub returns-in-FailPrimary : goal.returns-in-FailPrimary
 returns-in-FailPrimary c =
@@ -87,7 +87,7 @@ returns-in-FailPrimary c =
     subst (λ (command : Command). IsDone c.args.world.now (order command) done.result done.new.text.items done.new.world)
     (sym c.in-FailPrimary.is)
     (happened c.args.world.now (order FailPrimary) done.new.text.items done.new.world done.result
-    events.FailPrimary refl done.ensures.ok done.ensures.err)
+    events.FailPrimary refl done.ensures.answered done.ensures.happens)
 
 pub returns-in-FailBackup : goal.returns-in-FailBackup
 returns-in-FailBackup c =
@@ -95,7 +95,7 @@ returns-in-FailBackup c =
     subst (λ (command : Command). IsDone c.args.world.now (order command) done.result done.new.text.items done.new.world)
     (sym c.in-FailBackup.is)
     (happened c.args.world.now (order FailBackup) done.new.text.items done.new.world done.result
-    events.FailBackup refl done.ensures.ok done.ensures.err)
+    events.FailBackup refl done.ensures.answered done.ensures.happens)
 
 pub returns-in-GoLive : goal.returns-in-GoLive
 returns-in-GoLive c =
@@ -103,7 +103,7 @@ returns-in-GoLive c =
     subst (λ (command : Command). IsDone c.args.world.now (order command) done.result done.new.text.items done.new.world)
     (sym c.in-GoLive.is)
     (happened c.args.world.now (order GoLive) done.new.text.items done.new.world done.result
-    events.GoLive refl done.ensures.ok done.ensures.err)
+    events.GoLive refl done.ensures.answered done.ensures.happens)
 
 pub returns-in-Protect : goal.returns-in-Protect
 returns-in-Protect c =
@@ -111,4 +111,4 @@ returns-in-Protect c =
     subst (λ (command : Command). IsDone c.args.world.now (order command) done.result done.new.text.items done.new.world)
     (sym c.in-Protect.is)
     (happened c.args.world.now (order Protect) done.new.text.items done.new.world done.result
-    events.Protect refl done.ensures.ok done.ensures.err)
+    events.Protect refl done.ensures.answered done.ensures.happens)

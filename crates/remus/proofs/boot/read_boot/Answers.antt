@@ -1,6 +1,7 @@
 use Rattle.std.proofs.Common.{sym}
 use Rattle.remus.specs.Head.{head_view}
-use Rattle.remus.proofs.BootLemmas.{no_boot, guest_again, boot_read, same_line, no_guest}
+use Rattle.remus.proofs.BootLemmas.{no_boot, guest_again, boot_read, boot_spelled, same_line, no_guest}
+use Rattle.remus.proofs.OptionLemmas.{on-err}
 use Rattle.remus.proofs.boot.read_boot.Goals as goal
 
 pub returns-in_default-clause-only : goal.returns-in_default-clause-only
@@ -26,3 +27,9 @@ returns-clause-only c line h =
     let again = guest_again c.args.text.now (head_view c.in-Some.head) line c.in-Some.ensures h in
     same_line c.in-Some.head.pages c.in-Some.head.sectors c.in-Some.head.clients c.in_ok-guest.field-0 c.in-Some-2.guest line
     c.in-Some-2.is (c.in_ok-guest.ensures.only line.guest again.3) again.0 again.1 again.2
+
+pub returns-in_err-guest-clause-err : goal.returns-in_err-guest-clause-err
+returns-in_err-guest-clause-err c =
+    let named = c.in_err-guest.ensures.err in
+    on-err c.from_residual.result
+    (boot_spelled c.args.text.now (head_view c.in-Some.head) named.0 (sym c.in-Some.ensures) named.1)

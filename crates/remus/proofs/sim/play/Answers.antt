@@ -1,73 +1,98 @@
-use Rattle.std.proofs.Common.{◌≡◌, ◌++◌, ◌+◌, List, ℕ, Option, Bor, Some, [], ◌∷◌, subst, sym, ap, ◌∙◌, append-nil, append_assoc}
-use Rattle.std.proofs.Common.{arith, refl, inl}
-use Rattle.std.proofs.KnownBytes.{Appends-trans}
-use Rattle.remus.specs.Meaning.{Ending, Means, unbooted, finished, lines_of}
-use Rattle.remus.specs.Playing.{stage_of, ending_of, lines_left, most_lines}
-use Rattle.remus.proofs.ScriptLemmas.{after-first, fewer, err-is, goes-on, ends}
+use Rattle.std.proofs.Common.{◌≡◌, ◌++◌, ◌+◌, List, ℕ, Option, Bor, Some, [], ◌∷◌, subst, sym, ap, ◌∙◌, append-nil, arith, refl}
+use Rattle.std.specs.Io.KnownBytes.{Appends}
+use Rattle.std.proofs.KnownBytes.{Appends-nil, Appends-trans}
+use Rattle.remus.specs.Meaning.{Stage, Means, unbooted, finished, ends, lines_of}
+use Rattle.remus.specs.Playing.{stage_of, lines_left, most_lines}
+use Rattle.remus.specs.Streams.{WritesFront}
+use Rattle.remus.proofs.ScriptLemmas.{ArePlayed, after-first, fewer, one-more, still-on, cut-before, cut-inside, line-ends, played-cut}
 use Rattle.remus.proofs.LineLemmas.{texts}
 use Rattle.remus.proofs.sim.play.Goals as goal
 
-pub loop-left-preserved-in-Continue-1 : goal.loop-left-preserved-in-Continue-1
-loop-left-preserved-in-Continue-1 g c =
-    let before = c.loop-left.invariant in
+pub loop-left-init : goal.loop-left-init
+loop-left-init g c = (
+  omega arith,
+  (
+    [],
+    [],
+    Appends-nil (g.O.Sink.written c.args.out.now).bytes,
+    record {
+      lines = refl;
+      means = λ more rest ending m.
+          subst (λ (s : Stage). Means s 1 more rest ending) c.new-player.ensures m;
+    },
+  ),
+)
+
+pub returns-in_err-show_before : goal.returns-in_err-show_before
+returns-in_err-show_before g c =
+    let before = c.loop-left.invariant.1 in
+    played-cut c.args.source.now _ _ c.from_residual.result c.from_residual.ensures.1
+    (cut-before c.args.source.now before.0 _ before.1 _ _ before.3 _ _ _ before.2 c.in_err-show_before.ensures)
+
+pub returns-in_err-print : goal.returns-in_err-print
+returns-in_err-print g c =
+    let before = c.loop-left.invariant.1 in
     let text = c.in-Some.text.now in
-    let line = c.first_line.result.0.now in
-    let rest' = lines_left (texts c.first_line.result.1) in
-    let number = c.loop-left.number + 1 in
+    let split =
+    ap (λ o. lines_left (texts o)) c.in-Some.is
+    ∙ after-first text c.first_line.result.0.now c.first_line.result.1 c.first_line.ensures.lines in
+    let shown = Appends-trans _ _ _ before.1 [] before.2 c.in_ok-show_before.ensures in
+    let all = subst (Appends _ _) (append-nil before.1) shown in
+    played-cut c.args.source.now _ _ c.from_residual-in_err-print.result c.from_residual-in_err-print.ensures.1
+    (cut-inside c.args.source.now before.0 _ before.1 _ _ before.3 (g.O.Sink.written c.args.out.now)
+    (g.O.Sink.written c.show_before.new.out) (g.O.Sink.written c.print.new.out) all c.first_line.result.0.now _ split _ c.step-turn.result _
+    c.step-turn.ensures (subst (λ (bytes : List ℕ). WritesFront (g.O.Sink.written c.show_before.new.out)
+    (g.O.Sink.written c.print.new.out) bytes) c.as_slice.ensures.value c.in_err-print.ensures))
+
+pub returns-in_err-stop_after : goal.returns-in_err-stop_after
+returns-in_err-stop_after g c =
+    let before = c.loop-left.invariant.1 in
+    let text = c.in-Some.text.now in
+    let split =
+    ap (λ o. lines_left (texts o)) c.in-Some.is
+    ∙ after-first text c.first_line.result.0.now c.first_line.result.1 c.first_line.ensures.lines in
+    let shown = Appends-trans _ _ _ before.1 [] before.2 c.in_ok-show_before.ensures in
+    let all = subst (Appends _ _) (append-nil before.1) shown in
+    line-ends c.args.source.now before.0 _ before.1 _ _ before.3 (g.O.Sink.written c.args.out.now)
+    (g.O.Sink.written c.show_before.new.out) (g.O.Sink.written c.print.new.out) all c.first_line.result.0.now _ split _ c.step-turn.result _
+    c.step-turn.ensures (subst (λ (bytes : List ℕ). Appends (g.O.Sink.written c.show_before.new.out).bytes
+    (g.O.Sink.written c.print.new.out).bytes bytes) c.as_slice.ensures.value c.in_ok-print.ensures)
+    c.in_err-stop_after.field-0.0 c.in_err-stop_after.ensures.err c.from_residual-in_err-stop_after.result
+    c.from_residual-in_err-stop_after.ensures.1
+
+pub loop-left-preserved : goal.loop-left-preserved
+loop-left-preserved g c =
+    let before = c.loop-left.invariant.1 in
+    let text = c.in-Some.text.now in
     let few = fewer text c.first_line.result.1 c.first_line.ensures.shorter in
-    let left : texts c.loop-left.left ≡ Some text = ap texts c.in-Some.is in
-    let most : most_lines (texts c.loop-left.left) ≡ most_lines (Some text) = ap most_lines left in
-    let same : lines_left (texts c.loop-left.left) ≡ lines_of text = ap lines_left left in
-    let split = same ∙ after-first text line c.first_line.result.1 c.first_line.ensures.lines in
-    let printed = before.1.0 in
-    let done = c.in_ok-play_line.ensures in
-    let first = done.0 in
-    let count = before.0 in (
+    let most : most_lines (texts c.loop-left.left) ≡ most_lines (Some text) = ap (λ o. most_lines (texts o)) c.in-Some.is in
+    let count = c.loop-left.invariant.0 in
+    let split =
+    ap (λ o. lines_left (texts o)) c.in-Some.is
+    ∙ after-first text c.first_line.result.0.now c.first_line.result.1 c.first_line.ensures.lines in
+    let shown = Appends-trans _ _ _ before.1 [] before.2 c.in_ok-show_before.ensures in
+    let all = subst (Appends _ _) (append-nil before.1) shown in
+    let printed =
+    subst (λ (bytes : List ℕ). Appends (g.O.Sink.written c.show_before.new.out).bytes (g.O.Sink.written c.print.new.out).bytes bytes)
+    c.as_slice.ensures.value c.in_ok-print.ensures in (
       omega arith,
       (
-        printed ++ first,
-        Appends-trans _ _ _ printed first before.1.1 done.2,
-        λ rest ending m.
-            subst (λ (t : List ℕ). Means unbooted 1 (lines_of c.args.source.now) t ending) (sym (append_assoc printed first rest))
-            (before.1.2 (first ++ rest) ending
-            (subst (λ (ls : List (List ℕ)). Means (stage_of c.loop-left.player) number ls (first ++ rest) ending) (sym split)
-            (goes-on (stage_of c.loop-left.player) number line rest'
-            (sym c.is_silent.ensures ∙ c.if-not-is_silent.true) (stage_of c.play_line.new.player) first rest ending done.1 m))),
+        before.0 ++ c.first_line.result.0.now ∷ [],
+        before.1 ++ c.step-turn.new.self.text.items,
+        Appends-trans _ _ _ before.1 c.step-turn.new.self.text.items all printed,
+        one-more c.args.source.now before.0 _ before.1 _ _ before.3 c.first_line.result.0.now _ split c.step-turn.new.self.text.items _
+            (still-on _ _ (c.loop-left.number + 1) _ _ c.step-turn.result c.step-turn.ensures c.in_ok-stop_after.ensures.ok),
       ),
-    )
-
-pub returns-in_err-play_line : goal.returns-in_err-play_line
-returns-in_err-play_line g c =
-    let before = c.loop-left.invariant in
-    let text = c.in-Some.text.now in
-    let line = c.first_line.result.0.now in
-    let rest' = lines_left (texts c.first_line.result.1) in
-    let number = c.loop-left.number + 1 in
-    let left : texts c.loop-left.left ≡ Some text = ap texts c.in-Some.is in
-    let same : lines_left (texts c.loop-left.left) ≡ lines_of text = ap lines_left left in
-    let split = same ∙ after-first text line c.first_line.result.1 c.first_line.ensures.lines in
-    let printed = before.1.0 in
-    let ended =
-    ends (stage_of c.loop-left.player) number line rest'
-    (sym c.is_silent.ensures ∙ c.if-not-is_silent.true) _ _ _ c.in_err-play_line.field-0.0 c.in_err-play_line.ensures in (
-      printed ++ ended.0,
-      before.1.2 ended.0 (ending_of c.from_residual.result)
-          (subst (λ (ls : List (List ℕ)). Means (stage_of c.loop-left.player) number ls ended.0 (ending_of c.from_residual.result))
-          (sym split)
-          (subst (λ (ending : Ending). Means (stage_of c.loop-left.player) number (line ∷ rest') ended.0 ending)
-          (sym (err-is c.from_residual.result c.in_err-play_line.field-0.0 c.from_residual.ensures.1)) ended.1)),
-      Appends-trans _ _ _ printed ended.0 before.1.1 ended.2,
     )
 
 pub returns : goal.returns
 returns g c =
-    let before = c.loop-left.invariant in
-    let printed = before.1.0 in
-    let none : lines_left (texts c.loop-left.left) ≡ [] = ap (λ (o : Option (Bor (List ℕ))). lines_left (texts o)) c.in_default.is in (
-      printed,
-      subst (λ (t : List ℕ). Means unbooted 1 (lines_of c.args.source.now) t finished) (append-nil printed)
-          (before.1.2 [] finished
-          (subst (λ (ls : List (List ℕ)). Means (stage_of c.loop-left.player) (c.loop-left.number + 1) ls [] finished) (sym none)
-          (inl (refl, refl)))),
-      before.1.1,
+    let before = c.loop-left.invariant.1 in
+    let none : lines_left (texts c.loop-left.left) ≡ [] = ap (λ o. lines_left (texts o)) c.in_default.is in (
+      before.1,
+      subst (λ (t : List ℕ). Means unbooted 1 (lines_of c.args.source.now) t finished) (append-nil before.1)
+          (subst (λ (ls : List (List ℕ)). Means unbooted 1 ls (before.1 ++ []) finished)
+          (sym (before.3.lines ∙ ap (λ ls. before.0 ++ ls) none))
+          (before.3.means [] [] finished (ends _ _))),
+      before.2,
     )
