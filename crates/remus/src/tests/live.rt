@@ -9,20 +9,21 @@ use std::process::Abort;
 #[derive(Drop)]
 struct Pieces<'a> {
     pieces: &'a [&'a [u8]],
+    next: usize,
     fails: bool,
 }
 
 impl<'a> Read for Pieces<'a> {
     fn read(&mut self, buf: &mut [u8]) -> IoResult<usize> {
-        let Some((first, rest)) = self.pieces.split_first() else {
+        let Some(piece) = self.pieces.get(self.next) else {
             if self.fails {
                 return Err(std::io::Error::from(ErrorKind::BrokenPipe));
             }
             return Ok(0);
         };
-        self.pieces = rest;
-        let mut piece = *first;
-        piece.read(buf)
+        self.next += 1;
+        let mut left = *piece;
+        left.read(buf)
     }
 }
 
@@ -46,7 +47,11 @@ impl Write for Short {
 
 /// Plays these pieces, and compares the status and all that is printed.
 fn answers(rt: &impl Abort, alloc: Global, pieces: &[&[u8]], fails: bool, printed: &str) {
-    let mut input = CheckedReader::new(Pieces { pieces, fails });
+    let mut input = CheckedReader::new(Pieces {
+        pieces,
+        next: 0,
+        fails,
+    });
     let mut out = CheckedWriter::new(Vec::new(alloc));
     let status = live(alloc, &mut input, &mut out);
     assert_eq!(rt;
@@ -96,6 +101,7 @@ fn a_failed_write_gives_status_1(rt: HostRuntime) {
         let pieces: [&[u8]; 1] = [b"boot 2 1 1 idle\ncut\n"];
         let mut input = CheckedReader::new(Pieces {
             pieces: &pieces,
+            next: 0,
             fails: false,
         });
         let mut out = CheckedWriter::new(Short(room));
