@@ -9,7 +9,7 @@ use Rattle.pair_core.specs.{declared.event.Reply.Reply}
 use Rattle.pair_core.specs.Journal.{Journal, joined, first_of, rest_of, with_moves}
 use Rattle.pair_core.specs.{Modes.is_alone, Nodes.Nodes, Pair.{Pair, HasBackup, IsConsistent}, Protocol.{Record, Outcome, refused}}
 use Rattle.pair_core.specs.Replication.{to_come, number_after, next_number, KeepsBackup, Replicates, Does, Leads}
-use Rattle.pair_core.proofs.{Ends.{Ends, answers_end}, Generations.{place-more, next-same, refused_keeps}}
+use Rattle.pair_core.proofs.{AlongLaws.along-keeps, Ends.{Ends, answers_end}, Generations.{place-more, next-same, refused_keeps}}
 use Rattle.pair_core.proofs.{ModeRows.mode_left, ReplicationLaws.{to_come-ends, length-ends}, ReplicationRuns.{does, place-last}}
 use Rattle.failover.specs.declared.change.Change.TheVariants as changes
 use Rattle.pair_core.specs.declared.event.Reply.TheVariants as replies
@@ -136,10 +136,7 @@ module _ (generation number : ℕ) (es : List Entry) where
 
   waits_along : (events : List Event) (replies : List Reply) (old new : Pair) → Leads old events replies new
       → Awaits generation number es old → Awaits generation number es new
-  waits_along [] [] old new l p = subst (Awaits generation number es) (sym l) p
-  waits_along [] (r ∷ replies) old new l p = absurd l
-  waits_along (e ∷ events) [] old new l p = absurd l
-  waits_along (e ∷ events) (r ∷ replies) old new l p = waits_along events replies l.0 new l.2 (waits_event e r old l.0 l.1 p)
+  waits_along = along-keeps Does (Awaits generation number es) waits_event
 
   enters : (k : ℕ) (old new : Pair) → Does old (BackupGet k) (replies.Committed generation number) new
       → Awaits generation number es old → new.protocol.journal.history ≡ old.protocol.journal.history ++ es

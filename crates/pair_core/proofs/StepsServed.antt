@@ -16,7 +16,7 @@ use Rattle.pair_core.specs.{Journal.{joined, kept_entries, all_entries, with_mov
 use Rattle.pair_core.specs.Protocol.{Record, Outcome, first_refusal, refused, shown_at, live_at, step_refusals, outbox_of, step_entries}
 use Rattle.pair_core.specs.Protocol.{step_done, step_outcome}
 use Rattle.pair_core.specs.{Runs.{StepsAnswer, goes_on, steps_outcome}, Service.{moment, Serves, HasServed, is_step, ServesSteps}}
-use Rattle.pair_core.proofs.{Ends.{by_table}, ServiceLaws.serves_at, ServiceRuns.HasServed-more}
+use Rattle.pair_core.proofs.{AlongLaws.along-more, Ends.{by_table}, ServiceLaws.serves_at}
 use Rattle.pair_core.proofs.{StepRuns.{no-steps-answered, more-answered, refused_stays}, Tells.OfGuest}
 use Rattle.pair_core.specs.declared.event.Reply.TheVariants as replies
 
@@ -189,7 +189,7 @@ module _ (start : HistoryState) where
         run =
             subst (λ es. HasServed start (moment_at r) es (before.made ++ replies.Steps k ∷ []) (moment_at new))
             (replicate-append-replicate n 1 Step ∙ ap (λ c. replicate c Step) (more refl))
-            (HasServed-more start (replicate n Step) before.made (moment_at r) (moment_at mid) (moment_at new) Step (replies.Steps k)
+            (along-more (Serves start) (replicate n Step) before.made (moment_at r) (moment_at mid) (moment_at new) Step (replies.Steps k)
             before.run one.serves);
         good = one.good;
         steps = one.count;

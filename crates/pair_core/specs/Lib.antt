@@ -12,6 +12,7 @@ pub mod Modes
 pub mod Protocol
 pub mod ModeChanges
 pub mod Answering
+pub mod Along
 pub mod Record
 pub mod RecordFields
 pub mod Pair
