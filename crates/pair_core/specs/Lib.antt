@@ -9,6 +9,11 @@ pub mod Nodes
 pub mod Texts
 pub mod NodesFields
 pub mod Modes
+pub mod Tables
+pub mod GuestActs
+pub mod BackupActs
+pub mod ClientActs
+pub mod FailureActs
 pub mod Protocol
 pub mod ModeChanges
 pub mod Answering
