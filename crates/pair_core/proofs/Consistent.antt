@@ -1,6 +1,6 @@
 -- What is kept true from event to event gives what contracts say.
-use Rattle.std.proofs.Common.{rules, arith, ◌≡◌, ℕ, ◌+◌, ◌≤◌, true, false, List, [], ◌∷◌, ◌++◌, length, refl, sym, ap, ◌∙◌, subst, append_assoc}
-use Rattle.std.proofs.{lemmas.List.{map-append, take-append-drop}, lemmas.List.Elements.{All-nil, All-cons}}
+use Rattle.std.proofs.Common.{rules, arith, ◌≡◌, ℕ, ◌+◌, ◌≤◌, true, false, List, [], ◌∷◌, ◌++◌, length, refl, sym, ap, ◌∙◌, subst}
+use Rattle.std.proofs.{Common.append_assoc, lemmas.List.{map-append, take-append-drop}, lemmas.List.Elements.{All-nil, All-cons}}
 use Rattle.std.specs.Prelude.{map, All}
 use Rattle.failover.specs.declared.mode.{Mode.Mode, Mode.TheVariants.{Filling, Alone}}
 use Rattle.guest_machine.specs.{declared.shapes.Shape.Shape, Guest.Guest}
@@ -12,7 +12,8 @@ use Rattle.pair_history.proofs.States.{at-append, targets_of-append}
 use Rattle.pair_history.proofs.Moves.{moved, at-moves, Legal-moves, sent_along-moves, frames_along-append, AllCan-front, AllCan-back}
 use Rattle.pair_core.specs.Invariant.{all_moves, first_moves, epoch_frames, frames_by_epoch, AreSealed, IsBacked, Holds}
 use Rattle.pair_core.specs.{Journal.{joined, first_of, kept_entries}, Modes.is_alone}
-use Rattle.pair_core.specs.{Pair.{Pair, shown_state, live_state, HasBackup, ImageFollows, IsAlone, InMode, is_of_guest, IsConsistent}, Protocol.outbox_of}
+use Rattle.pair_core.specs.Pair.{Pair, shown_state, live_state, HasBackup, ImageFollows, IsAlone, InMode, is_of_guest, IsConsistent}
+use Rattle.pair_core.specs.Protocol.{outbox_of}
 use Rattle.pair_core.specs.{Record.{IsRecord, IsLone, SuitsMode}, Texts.AreTexts, Window.{committed_count, committed_of, uncommitted_of}}
 use Rattle.pair_core.proofs.Events.{frames_of-append, kept_moves, left_now}
 

@@ -10,7 +10,8 @@ use Rattle.pair_core.specs.Journal.{Journal, joined, first_of, rest_of, with_mov
 use Rattle.pair_core.specs.{Modes.is_alone, Nodes.Nodes, Pair.{Pair, IsConsistent}, Protocol.{Record, Outcome, refused}}
 use Rattle.pair_core.specs.Replication.{to_come, number_after, next_number, KeepsBackup, Replicates, Does, Leads}
 use Rattle.pair_core.proofs.{AlongLaws.along-keeps, Ends.{Ends, answers_end}, Generations.{place-more, next-same, refused_keeps}}
-use Rattle.pair_core.proofs.{ModeLaws.lone, ModeRows.mode_left, ReplicationLaws.{to_come-ends, length-ends}, ReplicationRuns.{does, place-last}}
+use Rattle.pair_core.proofs.{ModeLaws.lone, ModeRows.mode_left, ReplicationLaws.{to_come-ends, length-ends}}
+use Rattle.pair_core.proofs.ReplicationRuns.{does, place-last}
 use Rattle.failover.specs.declared.change.Change.TheVariants as changes
 use Rattle.pair_core.specs.declared.event.Reply.TheVariants as replies
 

@@ -16,7 +16,8 @@ pub use Rattle.pair_core.specs.BackupActs.{send_done, on_send, backup_refusals, 
 pub use Rattle.pair_core.specs.BackupActs.{on_backup_get, let_go, ack_refusals, ack_done, ack_outcome, on_ack_get}
 pub use Rattle.pair_core.specs.ClientActs.{client_refusals, admit_refusals, arrival_refusals, admit_done, admit_first, on_admit}
 pub use Rattle.pair_core.specs.ClientActs.{is_bad_length, deliver_refusals, delivery_refused, deliver_done, on_deliver, take_refusals}
-pub use Rattle.pair_core.specs.ClientActs.{take_done, on_take, loss_refusals, loss_done, loss_of, lost_in, lost_out, on_lose_in, on_lose_out}
+pub use Rattle.pair_core.specs.ClientActs.{take_done, on_take, loss_refusals, loss_done, loss_of, lost_in, lost_out, on_lose_in}
+pub use Rattle.pair_core.specs.ClientActs.{on_lose_out}
 pub use Rattle.pair_core.specs.FailureActs.{fail_primary_done, on_fail_primary, all_held, fail_backup_refusals, fail_backup_done}
 pub use Rattle.pair_core.specs.FailureActs.{on_fail_backup, live_entries, go_live_refusals, go_live_done, on_go_live, protect_refusals}
 pub use Rattle.pair_core.specs.FailureActs.{protect_done, on_protect}

@@ -291,8 +291,8 @@ lines-served start old new [] at plays = ap moment plays
 lines-served start old new (line ∷ lines) at plays =
     let first = subst (λ (s : HistoryState). HasServed s (moment old) line.events line.replies (moment plays.0)) at
     (line-served old plays.0 line plays.1) in
-    along-append (Serves start) line.events line.replies (events_of lines) (replies_of lines) (moment old) (moment plays.0) (moment new) first
-    (lines-served start plays.0 new lines (start-kept old plays.0 line plays.1 ∙ at) plays.2)
+    along-append (Serves start) line.events line.replies (events_of lines) (replies_of lines) (moment old) (moment plays.0) (moment new)
+    first (lines-served start plays.0 new lines (start-kept old plays.0 line plays.1 ∙ at) plays.2)
 
 -- ---- a whole script
 
