@@ -16,7 +16,7 @@ use Rattle.pair_core.specs.{declared.event.Reply.Reply, Drops.{LetsOut}}
 use Rattle.pair_core.specs.{Journal.{kept_entries, all_entries}, Modes.{is_alone, filled}, Pair.{Pair, shown_state, IsConsistent}}
 use Rattle.pair_core.specs.Protocol.{Record, Outcome, refused, shown_at, outbox_of}
 use Rattle.pair_core.specs.{Record.start_record, Replication.{Does, Leads}, Window.{NumberedFrom, IsWindow, first_after}}
-use Rattle.pair_core.proofs.{AloneLaws.frames_to-all, Ends.{Ends, answers_end}, Tells.OfGuest}
+use Rattle.pair_core.proofs.{AloneLaws.frames_to-all, AlongLaws.along-keeps, Ends.{Ends, answers_end}, Tells.OfGuest}
 use Rattle.pair_core.specs.declared.event.Reply.TheVariants as replies
 
 -- NUMBERS of what is pending
@@ -220,10 +220,8 @@ to-itself m fs =
     rw low (append-nil fs)
 
 start-along : (events : List Event) (answers : List Reply) (old new : Pair) → Leads old events answers new → new.start ≡ old.start
-start-along [] [] old new l = ap (λ (w : Pair). w.start) l
-start-along [] (r ∷ answers) old new l = absurd l
-start-along (e ∷ events) [] old new l = absurd l
-start-along (e ∷ events) (r ∷ answers) old new l = start-along events answers l.0 new l.2 ∙ l.1.start
+start-along events answers old new l =
+    along-keeps Does (λ w. w.start ≡ old.start) (λ event reply v w one same. one.start ∙ same) events answers old new l refl
 
 -- WHAT IS HELD AND WHAT LEFT, of a pair
 

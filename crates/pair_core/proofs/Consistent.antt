@@ -1,7 +1,8 @@
 -- What is kept true from event to event gives what contracts say.
-use Rattle.std.proofs.Common.{rules, arith, ◌≡◌, ℕ, ◌+◌, true, false, List, [], ◌∷◌, ◌++◌, length, refl, sym, ap, ◌∙◌, subst, append_assoc}
-use Rattle.std.proofs.{lemmas.List.{map-append, take-append-drop}, lemmas.List.Elements.{All-nil, All-cons}}
+use Rattle.std.proofs.Common.{rules, arith, ◌≡◌, ℕ, ◌+◌, ◌≤◌, true, false, List, [], ◌∷◌, ◌++◌, length, refl, sym, ap, ◌∙◌, subst}
+use Rattle.std.proofs.{Common.append_assoc, lemmas.List.{map-append, take-append-drop}, lemmas.List.Elements.{All-nil, All-cons}}
 use Rattle.std.specs.Prelude.{map, All}
+use Rattle.failover.specs.declared.mode.{Mode.Mode, Mode.TheVariants.{Filling, Alone}}
 use Rattle.guest_machine.specs.{declared.shapes.Shape.Shape, Guest.Guest}
 use Rattle.frame_ports.specs.Addresses.{targets_of}
 use Rattle.output_gate.specs.Epochs.{Epoch, frames_of}
@@ -9,11 +10,12 @@ use Rattle.pair_history.specs.{Entries.{Frame, Entry, Ran, Arrive}, HistoryState
 use Rattle.pair_history.specs.Moves.{Move, Steps, Arrives, entry_of, entries_of, guest_along, frames_along, AllCan}
 use Rattle.pair_history.proofs.States.{at-append, targets_of-append}
 use Rattle.pair_history.proofs.Moves.{moved, at-moves, Legal-moves, sent_along-moves, frames_along-append, AllCan-front, AllCan-back}
-use Rattle.pair_core.specs.Invariant.{all_moves, first_moves, epoch_frames, frames_by_epoch, AreSealed, Holds}
+use Rattle.pair_core.specs.Invariant.{all_moves, first_moves, epoch_frames, frames_by_epoch, AreSealed, IsBacked, Holds}
 use Rattle.pair_core.specs.{Journal.{joined, first_of, kept_entries}, Modes.is_alone}
-use Rattle.pair_core.specs.{Pair.{Pair, shown_state, live_state, HasBackup, IsAlone, is_of_guest, IsConsistent}, Protocol.outbox_of}
-use Rattle.pair_core.specs.{Record.{IsRecord, IsLone}, Texts.AreTexts, Window.{committed_count, committed_of, uncommitted_of}}
-use Rattle.pair_core.proofs.{Events.{frames_of-append, kept_moves, left_now}, RecordLaws.{some_committed, none_committed}}
+use Rattle.pair_core.specs.Pair.{Pair, shown_state, live_state, HasBackup, ImageFollows, IsAlone, InMode, is_of_guest, IsConsistent}
+use Rattle.pair_core.specs.Protocol.{outbox_of}
+use Rattle.pair_core.specs.{Record.{IsRecord, IsLone, SuitsMode}, Texts.AreTexts, Window.{committed_count, committed_of, uncommitted_of}}
+use Rattle.pair_core.proofs.Events.{frames_of-append, kept_moves, left_now}
 
 joined-entries : (mss : List (List Move)) → joined (map entries_of mss) ≡ entries_of (all_moves mss)
 joined-entries [] = refl
@@ -118,12 +120,27 @@ module _ (w : Pair) (h : Holds w) where
       by_moves [] can = refl
       by_moves (ms ∷ mss) can = search (arith, rules, AllCan-front, append_assoc, at-moves)
 
-  pub has_backup : IsRecord w.protocol → is_alone w.protocol.mode ≡ false → HasBackup w
-  has_backup k two = search (arith, rules, first_guest, none_committed, sealed_state, some_committed, texts_are)
+  abbrev Backed : Type 0
+  Backed = IsBacked w.protocol.generation w.protocol.window.to_commit (shown_state w).guest h.journal.sealed_moves w.nodes
+
+  has_backup : Backed → HasBackup w
+  has_backup b = search (arith, rules, sealed_state, texts_are)
+
+  follows : Backed → 1 ≤ w.protocol.window.to_commit → ImageFollows w
+  follows b some = let f = b.follows some in record { image = f.image; stands_at = f.stands_at }
 
   pub alone_is : IsLone w.protocol → IsAlone w
   alone_is k = search (arith, rules, outbox_is)
 
+  pub in_mode : IsRecord w.protocol → InMode w.protocol.mode w
+  in_mode k = by_mode w.protocol.mode h.nodes.backed k.suits k.alone
+    where
+      by_mode : (mode : Mode) → (is_alone mode ≡ false → Backed) → SuitsMode mode w.protocol.window
+          → (is_alone mode ≡ true → IsLone w.protocol) → InMode mode w
+      by_mode Filling b s l = (has_backup (b refl), rw first_guest ((b refl).fills s.0))
+      by_mode Alone b s l = alone_is (l refl)
+      by_mode other b s l = (has_backup (b refl), follows (b refl) s)
+
   pub consistent : IsRecord w.protocol → IsConsistent w
   consistent k =
-      search (arith, rules, Legal-moves, alone_is, has_backup, kept_is, kept_moves, live_is, live_waiting, of_guest, outbox_is, owed_is)
+      search (arith, rules, Legal-moves, in_mode, kept_is, kept_moves, live_is, live_waiting, of_guest, outbox_is, owed_is)

@@ -15,7 +15,7 @@ use Rattle.pair_core.specs.{Answering.Answers, Journal.{first_of, kept_entries, 
 use Rattle.pair_core.specs.Modes.{is_alone, mode_refusal, backup_refusal, change_refusal}
 use Rattle.pair_core.specs.Protocol.{Record, Outcome, allowed, outcome, or_else, refused, shown_at, live_at, outbox_of, step_done}
 use Rattle.pair_core.specs.Protocol.{step_entries, cut_done, send_done, again_done, commit_done, backup_outcome, let_go, ack_done}
-use Rattle.pair_core.specs.Protocol.{ack_outcome_at, admit_first, admit_done, delivery_refused, deliver_done, take_done, loss_of, loss_done}
+use Rattle.pair_core.specs.Protocol.{ack_outcome, admit_first, admit_done, delivery_refused, deliver_done, take_done, loss_of, loss_done}
 use Rattle.pair_core.specs.Protocol.{fail_primary_done, all_held, fail_backup_done, live_entries, go_live_done, protect_done}
 use Rattle.pair_core.proofs.RecordLaws.{passed, generation_is}
 use Rattle.failover.specs.declared.change.Change.TheVariants as changes
@@ -120,7 +120,7 @@ module _ (start : HistoryState) (r : Record) where
         by_packet (Some p) = by_rows (BackupGet k) (λ why. tt) _ _ (λ none. by_test (nat_lt p.number r.window.to_commit))
     allowed_end (AckGet k) goes = by_packet (slice_get r.lines.back k) refl
       where
-        by_packet : (o : Option Packet) → slice_get r.lines.back k ≡ o → Ended (AckGet k) (ack_outcome_at boxes r o)
+        by_packet : (o : Option Packet) → slice_get r.lines.back k ≡ o → Ended (AckGet k) (ack_outcome boxes r o)
         by_packet None is = stays (AckGet k) (replies.Lost, r) refl (e.lost k).1
         by_packet (Some p) is =
             by_rows (AckGet k) (λ why. tt) _ _ (λ none. (

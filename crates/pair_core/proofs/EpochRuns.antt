@@ -7,10 +7,11 @@ use Rattle.pair_history.specs.{Entries.Entry, HistoryState.HistoryState}
 use Rattle.pair_core.specs.{declared.event.Event.Event, declared.event.Event.TheVariants.{Cut, BackupGet, Protect}}
 use Rattle.pair_core.specs.{declared.event.Reply.Reply}
 use Rattle.pair_core.specs.Journal.{Journal, joined, first_of, rest_of, with_moves}
-use Rattle.pair_core.specs.{Modes.is_alone, Nodes.Nodes, Pair.{Pair, HasBackup, IsConsistent}, Protocol.{Record, Outcome, refused}}
+use Rattle.pair_core.specs.{Modes.is_alone, Nodes.Nodes, Pair.{Pair, IsConsistent}, Protocol.{Record, Outcome, refused}}
 use Rattle.pair_core.specs.Replication.{to_come, number_after, next_number, KeepsBackup, Replicates, Does, Leads}
-use Rattle.pair_core.proofs.{Ends.{Ends, answers_end}, Generations.{place-more, next-same, refused_keeps}}
-use Rattle.pair_core.proofs.{ModeRows.mode_left, ReplicationLaws.{to_come-ends, length-ends}, ReplicationRuns.{does, place-last}}
+use Rattle.pair_core.proofs.{AlongLaws.along-keeps, Ends.{Ends, answers_end}, Generations.{place-more, next-same, refused_keeps}}
+use Rattle.pair_core.proofs.{ModeLaws.lone, ModeRows.mode_left, ReplicationLaws.{to_come-ends, length-ends}}
+use Rattle.pair_core.proofs.ReplicationRuns.{does, place-last}
 use Rattle.failover.specs.declared.change.Change.TheVariants as changes
 use Rattle.pair_core.specs.declared.event.Reply.TheVariants as replies
 
@@ -136,10 +137,7 @@ module _ (generation number : ℕ) (es : List Entry) where
 
   waits_along : (events : List Event) (replies : List Reply) (old new : Pair) → Leads old events replies new
       → Awaits generation number es old → Awaits generation number es new
-  waits_along [] [] old new l p = subst (Awaits generation number es) (sym l) p
-  waits_along [] (r ∷ replies) old new l p = absurd l
-  waits_along (e ∷ events) [] old new l p = absurd l
-  waits_along (e ∷ events) (r ∷ replies) old new l p = waits_along events replies l.0 new l.2 (waits_event e r old l.0 l.1 p)
+  waits_along = along-keeps Does (Awaits generation number es) waits_event
 
   enters : (k : ℕ) (old new : Pair) → Does old (BackupGet k) (replies.Committed generation number) new
       → Awaits generation number es old → new.protocol.journal.history ≡ old.protocol.journal.history ++ es
@@ -152,8 +150,8 @@ module _ (generation number : ℕ) (es : List Entry) where
       kept.1 ∙ ap (λ (t : List Entry). old.protocol.journal.history ++ t) (kept.2.tells ∙ first)
 
 -- as many epochs are sealed as guests are to come
-as-many : (w : Pair) → HasBackup w → length (to_come w.nodes) ≡ length w.protocol.journal.sealed
-as-many w b = ap length (to_come-ends w b) ∙ length-ends _ w.protocol.journal.sealed
+as-many : (w : Pair) → is_alone w.protocol.mode ≡ false → IsConsistent w → length (to_come w.nodes) ≡ length w.protocol.journal.sealed
+as-many w two k = ap length (to_come-ends w w.protocol.mode two k.mode) ∙ length-ends _ w.protocol.journal.sealed
 
 -- the epoch that was sealed last stands last
 last-stands : (n number : ℕ) (ess fss : List (List Entry)) (es : List Entry) → fss ≡ ess ++ es ∷ [] → n + length fss ≡ number + 1
@@ -176,7 +174,7 @@ waits_once_cut generation number old new d =
     record {
       begun = omega arith;
       place = λ two e.
-          let many = as-many new (d.consistent.backup two) in
+          let many = as-many new two d.consistent in
           last-stands (next_number new.nodes) number old.protocol.journal.sealed new.protocol.journal.sealed old.protocol.journal.running
           sealed (omega arith);
     }
@@ -192,7 +190,7 @@ waits_once_protected generation old new d =
     record {
       begun = omega arith;
       place = λ two e.
-          let many = as-many new (d.consistent.backup two) in
+          let many = as-many new two d.consistent in
           last-stands (next_number new.nodes) 0 old.protocol.journal.sealed new.protocol.journal.sealed old.protocol.journal.running
           sealed (omega arith);
     }
@@ -221,7 +219,7 @@ none-ran : (old new : Pair) (generation : ℕ) → IsConsistent old → Does old
 none-ran old new generation k d =
     let by_row = mode_left old.start old.protocol Protect (replies.Protecting generation) new.protocol d.answers in
     let j = old.protocol.journal in
-    none-follow (joined j.sealed) j.running (k.alone (was-alone old.protocol.mode _ by_row.1)).kept
+    none-follow (joined j.sealed) j.running (lone old.protocol.mode old (was-alone old.protocol.mode _ by_row.1) k.mode).kept
 
 pub full_enters : (alone next late done : Pair) (generation k : ℕ) (events : List Event) (answers : List Reply)
     → IsConsistent alone → Does alone Protect (replies.Protecting generation) next → Leads next events answers late

@@ -1,4 +1,5 @@
 pub mod ModeLaws
+pub mod AlongLaws
 pub mod LengthLaws
 pub mod Receivers
 pub mod LineLaws
@@ -33,7 +34,6 @@ pub mod CallLaws
 pub mod EntersLaws
 pub mod ServiceLaws
 pub mod ServiceRuns
-pub mod EntersRuns
 pub mod StepsServed
 pub mod AckLaws
 pub mod Calls

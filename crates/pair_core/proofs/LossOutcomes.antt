@@ -6,9 +6,9 @@ use Rattle.frame_ports.specs.Lands.{list_of}
 use Rattle.pair_history.specs.{Entries.{Frame, Entry}, HistoryState.inbox_of}
 use Rattle.pair_core.specs.{declared.event.Event.Event, declared.event.Event.TheVariants.{LoseIn, LoseOut}, declared.event.Refusal.Refusal}
 use Rattle.pair_core.specs.{declared.event.Refusal.TheVariants.NoClient, Invariant.Holds, Pair.{Pair, live_state}}
-use Rattle.pair_core.specs.Protocol.{lost_in, lose_in_outcome_at, lose_out_outcome_at, allowed, unless, refused, first_refusal, is_among}
+use Rattle.pair_core.specs.Protocol.{lost_in, on_lose_in, on_lose_out, sight, allowed, unless, refused, first_refusal, is_among}
 use Rattle.pair_core.specs.{Protocol.{client_refusals, loss_refusals, loss_done, loss_of}, Answering.MayWantMemory}
-use Rattle.pair_core.proofs.Outcomes.{stops, goes, client_range, inbox_is}
+use Rattle.pair_core.proofs.Outcomes.{seen, stops, goes, client_range, inbox_is}
 use Rattle.pair_core.specs.declared.event.Reply.TheVariants as replies
 
 -- a place within a list, and one beyond it
@@ -35,12 +35,10 @@ numbered (Some x) n e = let is : x.0 ≡ n = cc in (x.1, λ i. Some (is i, x.1))
 -- what it looks at
 
 module _ (w : Pair) (h : Holds w) where
-  pub lose_in_sight : (c place : ℕ)
-      → lose_in_outcome_at (length w.ports.boxes) (list_of w.ports.inboxes c) w.protocol c place
-      ≡ allowed w.start w.protocol (LoseIn c place)
+  pub lose_in_sight : (c place : ℕ) → on_lose_in (seen w) w.protocol c place ≡ allowed w.start w.protocol (LoseIn c place)
   lose_in_sight c place =
       by_test (not (is_among c (length w.ports.boxes))) refl
-      ∙ ap (λ (b : List (List Frame)). lose_in_outcome_at (length b) (inbox_of c (live_state w).waiting) w.protocol c place) h.clients.boxes
+      ∙ ap (λ (b : List (List Frame)). on_lose_in (record (sight w.start w.protocol) { boxes = b }) w.protocol c place) h.clients.boxes
     where
       by_test : (t : Bool) → not (is_among c (length w.ports.boxes)) ≡ t
           → unless w.protocol ((t, NoClient) ∷ []) (loss_of w.protocol (lost_in (list_of w.ports.inboxes c) place))
@@ -48,9 +46,9 @@ module _ (w : Pair) (h : Holds w) where
       by_test true e = refl
       by_test false e = search (arith, rules, client_range, inbox_is)
 
-  pub lose_out_sight : (c place : ℕ)
-      → lose_out_outcome_at w.ports.boxes w.protocol c place ≡ allowed w.start w.protocol (LoseOut c place)
-  lose_out_sight c place = ap (λ (b : List (List Frame)). lose_out_outcome_at b w.protocol c place) h.clients.boxes
+  pub lose_out_sight : (c place : ℕ) → on_lose_out (seen w) w.protocol c place ≡ allowed w.start w.protocol (LoseOut c place)
+  lose_out_sight c place =
+      ap (λ (b : List (List Frame)). on_lose_out (record (sight w.start w.protocol) { boxes = b }) w.protocol c place) h.clients.boxes
 
 -- step by step: the client, the place, the table
 module _ (w : Pair) (event : Event) (c : ℕ) (lost : Option Entry)

@@ -3,6 +3,7 @@ use Rattle.std.proofs.Common.{◌≡◌, refl, Bool, true, false, None}
 use Rattle.failover.specs.{declared.mode.Mode.Mode, declared.mode.Mode.TheVariants.{Filling, Alone, Stopped}}
 use Rattle.failover.specs.declared.change.Change.TheVariants.{FailPrimary, GoLive, Protect}
 use Rattle.pair_core.specs.Modes.{is_stopped, is_alone, is_filling, filled, primary_refusal, backup_refusal, change_refusal}
+use Rattle.pair_core.specs.Pair.{Pair, IsAlone, InMode}
 
 pub clash : (t : Bool) → t ≡ true → t ≡ false → ⊥
 clash t e f = cc
@@ -26,6 +27,11 @@ live_goes other e = refl
 pub alone_not_stopped : (mode : Mode) → is_alone mode ≡ true → is_stopped mode ≡ false
 alone_not_stopped Stopped e = absurd (cc)
 alone_not_stopped other e = refl
+
+-- where a node is alone
+pub lone : (mode : Mode) (w : Pair) → is_alone mode ≡ true → InMode mode w → IsAlone w
+lone Alone w e m = m
+lone other w e m = absurd (cc)
 
 -- a commit leaves no node alone, and ends no node's being alone
 pub filled_alone : (mode : Mode) → is_alone (filled mode) ≡ is_alone mode

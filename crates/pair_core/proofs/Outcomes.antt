@@ -5,13 +5,13 @@ use Rattle.std.specs.Prelude.{slice_get, IfSome, nat_le, not}
 use Rattle.guest_machine.specs.Step.{next, sent}
 use Rattle.frame_ports.specs.{Lands.list_of, Addresses.IsFrame, Limits.{inbox_frames, number_limit}}
 use Rattle.pair_history.specs.{Entries.Frame, HistoryState.inbox_of}
-use Rattle.pair_core.specs.{declared.event.Event.TheVariants.Admit, declared.event.Refusal.Refusal}
+use Rattle.pair_core.specs.{declared.event.Event.TheVariants.{Cut, Admit, FailBackup}, declared.event.Refusal.Refusal}
 use Rattle.pair_core.specs.{declared.event.Refusal.TheVariants.{Full, BadFrame, NoClient, Stopped, Exhausted}, Invariant.Holds}
 use Rattle.pair_core.specs.{Modes.is_stopped, Pair.{Pair, shown_state, live_state, AfterRefusal}}
-use Rattle.pair_core.specs.Protocol.{deliver_outcome_at, deliver_refusals, delivery_refused, deliver_done, Record, Outcome, Row, allowed}
-use Rattle.pair_core.specs.Protocol.{first_refusal, or_else, unless, refused, exhausts, is_among, is_bad_length, step_outcome}
-use Rattle.pair_core.specs.Protocol.{step_outcome_at, cut_refusals, cut_done, outbox_of, fail_backup_outcome_at, admit_outcome_at}
-use Rattle.pair_core.specs.{Protocol.{admit_first, admit_refusals, admit_done, arrival_refusals}, Answering.MayWantMemory}
+use Rattle.pair_core.specs.Protocol.{Record, Sight, Outcome, Row, first_refusal, or_else, unless, refused, exhausts, is_among, sight}
+use Rattle.pair_core.specs.Protocol.{allowed, on_step, step_outcome, cut_refusals, cut_done, on_cut, on_fail_backup, admit_refusals}
+use Rattle.pair_core.specs.Protocol.{arrival_refusals, admit_first, admit_done, on_admit, is_bad_length, deliver_refusals}
+use Rattle.pair_core.specs.{Protocol.{delivery_refused, deliver_done, on_deliver}, Answering.MayWantMemory, Record.owed_to}
 use Rattle.pair_core.proofs.Consistent.{live_is, live_waiting, outbox_is}
 use Rattle.pair_core.specs.declared.event.Reply.TheVariants as replies
 
@@ -57,31 +57,38 @@ full_rows false false false true e p = (refl, refl, refl)
 full_rows false false false false true p = absurd (cc)
 full_rows false false false false false p = absurd (cc)
 
--- WHAT AN EVENT LOOKS AT
+-- WHAT AN EVENT LOOKS AT, as the machines and the ports of a pair say it
+
+abbrev pub seen : Pair → Sight
+seen w = record {
+  outbox = w.nodes.live.outbox;
+  sent = sent w.nodes.live.guest;
+  steps = (next w.nodes.live.guest).steps;
+  resumed = w.nodes.image.guest.steps;
+  boxes = w.ports.boxes;
+  owed = owed_to (record { protocol = w.protocol; ports = w.ports });
+  inbox = λ c. list_of w.ports.inboxes c;
+  number = w.ports.next;
+}
 
 module _ (w : Pair) (h : Holds w) where
-  pub step_sight : step_outcome_at w.nodes.live.outbox w.ports.boxes (sent w.nodes.live.guest) (next w.nodes.live.guest).steps w.protocol
-      ≡ step_outcome w.start w.protocol
+  pub step_sight : on_step (seen w) w.protocol ≡ step_outcome w.start w.protocol
   step_sight = search (arith, rules, live_is, outbox_is)
 
-  pub cut_sight : unless w.protocol (cut_refusals w.protocol) (cut_done w.nodes.live.outbox w.protocol)
-      ≡ unless w.protocol (cut_refusals w.protocol) (cut_done (outbox_of w.start w.protocol) w.protocol)
+  pub cut_sight : on_cut (seen w) w.protocol ≡ allowed w.start w.protocol Cut
   cut_sight = ap (λ (fs : List Frame). unless w.protocol (cut_refusals w.protocol) (cut_done fs w.protocol)) (sym (outbox_is w h))
 
-  pub fail_backup_sight : fail_backup_outcome_at w.ports.boxes w.nodes.live.outbox w.protocol
-      ≡ fail_backup_outcome_at (shown_state w).boxes (outbox_of w.start w.protocol) w.protocol
+  pub fail_backup_sight : on_fail_backup (seen w) w.protocol ≡ allowed w.start w.protocol FailBackup
   fail_backup_sight = search (arith, rules, outbox_is)
 
   pub inbox_is : (c : ℕ) → 1 ≤ c → c ≤ length w.ports.boxes → list_of w.ports.inboxes c ≡ inbox_of c (live_state w).waiting
   inbox_is c low high = h.clients.inboxes c low high ∙ ap (inbox_of c) (sym (live_waiting w h))
 
   -- where no client has the number, what would wait of it doesn't count
-  pub admit_sight : (c : ℕ)
-      → admit_outcome_at (length w.ports.boxes) (list_of w.ports.inboxes c) w.protocol c
-      ≡ admit_outcome_at (length (shown_state w).boxes) (inbox_of c (live_state w).waiting) w.protocol c
+  pub admit_sight : (c : ℕ) → on_admit (seen w) w.protocol c ≡ allowed w.start w.protocol (Admit c)
   admit_sight c =
       by_test (not (is_among c (length w.ports.boxes))) refl
-      ∙ ap (λ (b : List (List Frame)). admit_outcome_at (length b) (inbox_of c (live_state w).waiting) w.protocol c) h.clients.boxes
+      ∙ ap (λ (b : List (List Frame)). on_admit (record (sight w.start w.protocol) { boxes = b }) w.protocol c) h.clients.boxes
     where
       rows : Bool → List Row
       rows t = (t, NoClient) ∷ (is_stopped w.protocol.mode, Stopped) ∷ []
@@ -103,15 +110,11 @@ module _ (w : Pair) (h : Holds w) where
       (deliver_done w.protocol c (record { items = bytes }) (shown_state w).number)
 
   pub deliver_sight : (c : ℕ) (bytes : List ℕ)
-      → deliver_outcome_at (length w.ports.boxes) (list_of w.ports.inboxes c) w.ports.next w.protocol c bytes
-      ≡ deliver_outcome_at (length (shown_state w).boxes) (inbox_of c (live_state w).waiting) (shown_state w).number w.protocol c bytes
+      → on_deliver (seen w) w.protocol c bytes ≡ on_deliver (sight w.start w.protocol) w.protocol c bytes
   deliver_sight c bytes =
-      ap (λ (n : ℕ). deliver_outcome_at (length w.ports.boxes) (list_of w.ports.inboxes c) n w.protocol c bytes) h.clients.number
+      ap (λ (n : ℕ). on_deliver (record (seen w) { number = n }) w.protocol c bytes) h.clients.number
       ∙ by_test (not (is_among c (length w.ports.boxes))) refl
-      ∙ ap
-      (λ (b : List (List Frame)). deliver_outcome_at (length b) (inbox_of c (live_state w).waiting)
-      (shown_state w).number w.protocol c bytes)
-      h.clients.boxes
+      ∙ ap (λ (b : List (List Frame)). on_deliver (record (sight w.start w.protocol) { boxes = b }) w.protocol c bytes) h.clients.boxes
     where
       by_test : (t : Bool) → not (is_among c (length w.ports.boxes)) ≡ t
           → at_rows c bytes t (list_of w.ports.inboxes c) ≡ at_rows c bytes t (inbox_of c (live_state w).waiting)
@@ -153,19 +156,19 @@ module _ (w : Pair) (h : Holds w) where
     by_table : (x : Option Refusal) → o ≡ x
         → or_else x (delivery_refused w.protocol c (record { items = bytes }))
         (deliver_done w.protocol c (record { items = bytes }) w.ports.next)
-        ≡ deliver_outcome_at (length (shown_state w).boxes) (inbox_of c (live_state w).waiting) (shown_state w).number w.protocol c bytes
+        ≡ on_deliver (sight w.start w.protocol) w.protocol c bytes
     by_table x e = search (arith, rules, deliver_sight)
 
     pub deliver_goes : o ≡ None → deliver_done w.protocol c (record { items = bytes }) w.ports.next
-        ≡ deliver_outcome_at (length (shown_state w).boxes) (inbox_of c (live_state w).waiting) (shown_state w).number w.protocol c bytes
+        ≡ on_deliver (sight w.start w.protocol) w.protocol c bytes
     deliver_goes = by_table None
 
     pub deliver_full : o ≡ Some Full → delivery_refused w.protocol c (record { items = bytes }) Full
-        ≡ deliver_outcome_at (length (shown_state w).boxes) (inbox_of c (live_state w).waiting) (shown_state w).number w.protocol c bytes
+        ≡ on_deliver (sight w.start w.protocol) w.protocol c bytes
     deliver_full = by_table (Some Full)
 
     pub deliver_stops : (why : Refusal) → (why ≡ Full → ⊥) → o ≡ Some why → refused w.protocol why
-        ≡ deliver_outcome_at (length (shown_state w).boxes) (inbox_of c (live_state w).waiting) (shown_state w).number w.protocol c bytes
+        ≡ on_deliver (sight w.start w.protocol) w.protocol c bytes
     deliver_stops why other e = other_refusal why other ∙ by_table (Some why) e
       where
         other_refusal : (why : Refusal) → (why ≡ Full → ⊥)

@@ -12,7 +12,6 @@ use Rattle.pair_core.specs.{declared.event.Event.Event, declared.event.Event.The
 use Rattle.pair_core.specs.{declared.event.Refusal.TheVariants.NoMemory, declared.event.Reply.Reply, Answering.{Answers, MayWantMemory}}
 use Rattle.pair_core.specs.{Drops.{DropsOnly, LetsOut, Drops}, Invariant.Holds, Journal.first_of, Modes.is_alone}
 use Rattle.pair_core.specs.{Pair.{Pair, shown_state, live_state}, Protocol.{Record, outcome, step_entries}, Record.IsRecord}
-use Rattle.pair_core.specs.Runs.{Change, Along}
 use Rattle.pair_core.proofs.{AllLands.{step_drops, failure_drops}, ClientEvents.{ack_lands, ack_leaves}, Ends.{Ends, answers_end, at_once}}
 use Rattle.pair_core.proofs.{LossOutcomes.within, RecordLaws.below_at}
 use Rattle.pair_core.specs.declared.event.Reply.TheVariants as replies
@@ -151,16 +150,6 @@ module _ (w : Pair) (h : Holds w) (k : IsRecord w.protocol) where
 
 pub Begins-trans : (a b c : List Entry) → Begins a b → Begins b c → Begins a c
 Begins-trans a b c p q = (p.0 ++ q.0, q.1 ∙ ap (λ t. t ++ q.0) p.1 ∙ append_assoc a p.0 q.0)
-
--- a run goes on by one event
-pub Along-more : (Does : Change) (start : HistoryState) (events : List Event) (replies : List Reply) (old mid new : Record)
-    (event : Event) (reply : Reply) → Along Does start old events replies mid → Does start mid event reply new
-    → Along Does start old (events ++ event ∷ []) (replies ++ reply ∷ []) new
-Along-more Does start [] [] old mid new event reply run step = (new, rw (← run) step, refl)
-Along-more Does start [] (r ∷ replies) old mid new event reply run step = absurd run
-Along-more Does start (e ∷ events) [] old mid new event reply run step = absurd run
-Along-more Does start (e ∷ events) (r ∷ replies) old mid new event reply run step =
-    (run.0, run.1, Along-more Does start events replies run.0 mid new event reply run.2 step)
 
 -- what an event did, as a reply
 

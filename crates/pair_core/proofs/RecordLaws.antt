@@ -73,10 +73,6 @@ suits_full Paired w two full h = h
 suits_full Stopped w two full h = h
 suits_full other w two full h = absurd (cc)
 
-suits_filling : (mode : Mode) (w : Window) → is_filling mode ≡ true → SuitsMode mode w → w.to_commit ≡ 0
-suits_filling Filling w new h = h.0
-suits_filling other w new h = absurd (cc)
-
 -- Events
 
 length-rest : (ess : List (List Entry)) → 0 < length ess → suc (length (rest_of ess)) ≡ length ess
@@ -132,9 +128,6 @@ module _ (r : Record) (h : IsRecord r) where
 
   pub some_committed : is_alone r.mode ≡ false → is_filling r.mode ≡ false → 1 ≤ r.window.to_commit
   some_committed two full = suits_full r.mode r.window two full h.suits
-
-  pub none_committed : is_filling r.mode ≡ true → r.window.to_commit ≡ 0
-  none_committed new = suits_filling r.mode r.window new h.suits
 
 -- what is the same record is one too
 pub same_record : (r q : Record) → q ≡ r → IsRecord r → IsRecord q

@@ -1,15 +1,15 @@
 -- What a cut and a commit do to the guests that the image will be.
-use Rattle.std.proofs.Common.{rules, ◌≡◌, ℕ, suc, ◌+◌, ◌-◌, ◌<◌, List, [], ◌∷◌, ◌++◌, length, refl, sym, ap, ◌∙◌, arith, append_assoc, Bool}
-use Rattle.std.proofs.Common.{true, false, Some}
-use Rattle.failover.specs.{declared.mode.Mode.Mode, declared.mode.Mode.TheVariants.{Paired, Filling, Alone, Stopped}}
+use Rattle.std.proofs.Common.{rules, ◌≡◌, ℕ, suc, ◌+◌, ◌-◌, ◌<◌, List, [], ◌∷◌, ◌++◌, length, refl, sym, ap, ◌∙◌, arith, false, Some}
+use Rattle.std.proofs.Common.{append_assoc}
+use Rattle.failover.specs.{declared.mode.Mode.Mode, declared.mode.Mode.TheVariants.{Filling, Alone}}
 use Rattle.guest_machine.specs.{declared.shapes.Shape.Shape, Guest.Guest}
 use Rattle.backup_image.specs.Images.{empty_image}
 use Rattle.epoch_snapshot.specs.{Checkpoints.Change, Images.image_of}
 use Rattle.pair_history.specs.{Entries.Entry, HistoryState.{HistoryState, at}}
 use Rattle.pair_history.proofs.States.{at-append}
 use Rattle.pair_core.specs.Journal.{joined, kept_entries, first_of, rest_of}
-use Rattle.pair_core.specs.{Nodes.{Nodes, Fills, with_sealed, with_commit, with_protected, read_as}, Modes.{is_alone, is_filling, filled}}
-use Rattle.pair_core.specs.{Pair.{Pair, HasBackup, ImageFollows, shown_state, live_state}, Protocol.{cut_done, commit_done}}
+use Rattle.pair_core.specs.{Nodes.{Nodes, Fills, with_sealed, with_commit, with_protected, read_as}, Modes.{is_alone, filled}}
+use Rattle.pair_core.specs.{Pair.{Pair, HasBackup, ImageFollows, InMode, shown_state, live_state}, Protocol.{cut_done, commit_done}}
 use Rattle.pair_core.specs.Record.{IsRecord, SuitsMode}
 use Rattle.pair_core.specs.Replication.{guests_of, to_come, number_after, next_number, IsCut, IsCommit, IsProtected}
 use Rattle.pair_core.specs.Texts.{IsText, AreTexts}
@@ -50,36 +50,35 @@ length-ends s (es ∷ ess) = ap suc (length-ends (at s es) ess)
 from-any : (g before : Guest) (x : Nodes) → Fills g x → to_come x ≡ guests_of x.image.shape before x.sealed
 from-any g before x f = search (arith, rules)
 
-module _ (w : Pair) (b : HasBackup w) where
+module _ (w : Pair) where
   -- what the image will be are the guests at the ends of the sealed epochs
-  pub to_come-ends : to_come w.nodes ≡ ends (shown_state w) w.protocol.journal.sealed
-  to_come-ends =
-      by_mode (is_filling w.protocol.mode) refl
-      ∙ texts-make w.nodes.image.shape w.protocol.generation w.protocol.window.to_commit (shown_state w) w.protocol.journal.sealed
-      w.nodes.sealed b.sealed
+  pub to_come-ends : (mode : Mode) → is_alone mode ≡ false → InMode mode w
+      → to_come w.nodes ≡ ends (shown_state w) w.protocol.journal.sealed
+  to_come-ends mode two m = by_mode mode two m
     where
-      by_mode : (t : Bool) → is_filling w.protocol.mode ≡ t
-          → to_come w.nodes ≡ guests_of w.nodes.image.shape (shown_state w).guest w.nodes.sealed
-      by_mode false e = ap (λ (g : Guest). guests_of w.nodes.image.shape g w.nodes.sealed) (b.follows e).image
-      by_mode true e = from-any (at (shown_state w) (first_of w.protocol.journal.sealed)).guest (shown_state w).guest w.nodes (b.filling e)
+      along : HasBackup w → guests_of w.nodes.image.shape (shown_state w).guest w.nodes.sealed
+          ≡ ends (shown_state w) w.protocol.journal.sealed
+      along b =
+          texts-make w.nodes.image.shape w.protocol.generation w.protocol.window.to_commit (shown_state w) w.protocol.journal.sealed
+          w.nodes.sealed b.sealed
+
+      by_mode : (mode : Mode) → is_alone mode ≡ false → InMode mode w → to_come w.nodes ≡ ends (shown_state w) w.protocol.journal.sealed
+      by_mode Filling two m =
+          from-any (at (shown_state w) (first_of w.protocol.journal.sealed)).guest (shown_state w).guest w.nodes m.1 ∙ along m.0
+      by_mode Alone two m = absurd (cc)
+      by_mode other two m = ap (λ (g : Guest). guests_of w.nodes.image.shape g w.nodes.sealed) m.1.image ∙ along m.0
 
   -- the image takes the next checkpoint to be committed next
-  next-number : is_alone w.protocol.mode ≡ false → SuitsMode w.protocol.mode w.protocol.window
+  next-number : (mode : Mode) → is_alone mode ≡ false → InMode mode w → SuitsMode mode w.protocol.window
       → next_number w.nodes ≡ w.protocol.window.to_commit
-  next-number = by_mode w.protocol.mode b.follows b.filling
-    where
-      by_mode : (mode : Mode) → (is_filling mode ≡ false → ImageFollows w)
-          → (is_filling mode ≡ true → Fills (at (shown_state w) (first_of w.protocol.journal.sealed)).guest w.nodes)
-          → is_alone mode ≡ false → SuitsMode mode w.protocol.window → next_number w.nodes ≡ w.protocol.window.to_commit
-      by_mode Filling follows fills two s = ap number_after (fills refl).empty ∙ sym s.0
-      by_mode Paired follows fills two s = ap number_after (follows refl).stands_at ∙ omega arith
-      by_mode Stopped follows fills two s = ap number_after (follows refl).stands_at ∙ omega arith
-      by_mode Alone follows fills two s = absurd (cc)
+  next-number Filling two m s = ap number_after m.1.empty ∙ sym s.0
+  next-number Alone two m s = absurd (cc)
+  next-number other two m s = ap number_after m.1.stands_at ∙ omega arith
 
--- a commit makes a pair
-filled-follows : (mode : Mode) → is_filling (filled mode) ≡ false
-filled-follows Filling = refl
-filled-follows other = refl
+  -- a commit makes a pair
+  filled-follows : (mode : Mode) → is_alone mode ≡ false → InMode (filled mode) w → ImageFollows w
+  filled-follows Alone two m = absurd (cc)
+  filled-follows other two m = m.1
 
 pub filled-pairs : (mode : Mode) → is_alone mode ≡ false → is_alone (filled mode) ≡ false
 filled-pairs Alone e = absurd (cc)
@@ -94,18 +93,19 @@ after_cut w text = record w { protocol = (cut_done w.nodes.live.outbox w.protoco
 abbrev pub after_commit : Pair → Pair
 after_commit w = record w { protocol = (commit_done w.protocol).1; nodes = with_commit w.nodes }
 
-module _ (w : Pair) (k : IsRecord w.protocol) (two : is_alone w.protocol.mode ≡ false) (now : HasBackup w) where
-  pub cut_replicates : (text : List ℕ) → HasBackup (after_cut w text) → (live_state w).guest ≡ w.nodes.live.guest
+module _ (w : Pair) (k : IsRecord w.protocol) (two : is_alone w.protocol.mode ≡ false) (now : InMode w.protocol.mode w) where
+  pub cut_replicates : (text : List ℕ) → InMode w.protocol.mode (after_cut w text) → (live_state w).guest ≡ w.nodes.live.guest
       → IsCut w.protocol.window.to_cut w.nodes (with_sealed w.nodes text)
   cut_replicates text then live =
       let j = w.protocol.journal in
       let s = shown_state w in
-      let old : to_come w.nodes ≡ ends s j.sealed = to_come-ends w now in
-      let new : to_come (with_sealed w.nodes text) ≡ ends s (j.sealed ++ j.running ∷ []) = to_come-ends (after_cut w text) then in
+      let old : to_come w.nodes ≡ ends s j.sealed = to_come-ends w w.protocol.mode two now in
+      let new : to_come (with_sealed w.nodes text) ≡ ends s (j.sealed ++ j.running ∷ []) =
+      to_come-ends (after_cut w text) w.protocol.mode two then in
       let is : (at s (joined j.sealed ++ j.running)).guest ≡ w.nodes.live.guest =
       ap (λ (t : HistoryState). t.guest) (sym (at-append w.start j.history (kept_entries j))) ∙ live in
       let counted = k.sealed in
-      let next = next-number w now two k.suits in
+      let next = next-number w w.protocol.mode two now k.suits in
       let long : length (to_come w.nodes) ≡ length j.sealed = ap length old ∙ length-ends s j.sealed in
       record {
         last = new ∙ ends-push s j.sealed j.running ∙ (λ i. sym old i ++ is i ∷ []);
@@ -114,13 +114,14 @@ module _ (w : Pair) (k : IsRecord w.protocol) (two : is_alone w.protocol.mode �
         place = omega arith;
       }
 
-  pub commit_replicates : HasBackup (after_commit w) → w.protocol.window.to_commit < w.protocol.window.to_cut
+  pub commit_replicates : InMode (filled w.protocol.mode) (after_commit w) → w.protocol.window.to_commit < w.protocol.window.to_cut
       → IsCommit w.protocol.generation w.protocol.window.to_commit w.nodes (with_commit w.nodes)
   commit_replicates then more =
       let j = w.protocol.journal in
       let s = shown_state w in
       let n = w.protocol.window.to_commit in
-      let follows = then.follows (filled-follows w.protocol.mode) in
+      let follows = filled-follows (after_commit w) w.protocol.mode two then in
+      let ended = to_come-ends (after_commit w) (filled w.protocol.mode) (filled-pairs w.protocol.mode two) then in
       let counted = k.sealed in
       let shown : shown_state (after_commit w) ≡ at s (first_of j.sealed) = at-append w.start j.history (first_of j.sealed) in
       let first : ends s j.sealed ≡ (at s (first_of j.sealed)).guest ∷ ends (at s (first_of j.sealed)) (rest_of j.sealed) =
@@ -128,11 +129,11 @@ module _ (w : Pair) (k : IsRecord w.protocol) (two : is_alone w.protocol.mode �
       let number : n + 1 - 1 ≡ n = omega arith in
       record {
         first =
-            to_come-ends w now ∙ first
+            to_come-ends w w.protocol.mode two now ∙ first
             ∙ (λ i. (sym shown i).guest ∷ ends (sym shown i) (rest_of j.sealed))
-            ∙ (λ i. sym follows.image i ∷ sym (to_come-ends (after_commit w) then) i);
+            ∙ (λ i. sym follows.image i ∷ sym ended i);
         live = refl;
-        before = next-number w now two k.suits;
+        before = next-number w w.protocol.mode two now k.suits;
         stands = follows.stands_at ∙ ap (λ (m : ℕ). Some (record { generation = w.protocol.generation; number = m })) number;
       }
 

@@ -1,20 +1,11 @@
 -- Along a run each guest to come keeps its place, until the checkpoint that makes it is committed.
-use Rattle.std.proofs.Common.{◌≡◌, ℕ, List, [], ◌∷◌, ◌++◌, length, refl, sym, ap, ◌∙◌, subst, arith, Some}
+use Rattle.std.proofs.Common.{◌≡◌, ℕ, List, [], ◌∷◌, ◌++◌, length, refl, sym, ap, ◌∙◌, arith, Some}
 use Rattle.std.specs.Prelude.{slice_get}
 use Rattle.guest_machine.specs.Guest.{Guest}
 use Rattle.pair_core.specs.{declared.event.Event.Event, declared.event.Event.TheVariants.{Cut, BackupGet, Protect}}
 use Rattle.pair_core.specs.{declared.event.Reply.Reply, Pair.Pair, Replication.{to_come, number_after, next_number, Awaits, Does, Leads}}
-use Rattle.pair_core.proofs.{Ends.answers_end, Generations.{Goes, goes_all, next-same}}
+use Rattle.pair_core.proofs.{AlongLaws.along-keeps, Ends.answers_end, Generations.{Goes, goes_all, next-same}}
 use Rattle.pair_core.specs.declared.event.Reply.TheVariants as replies
-
--- a run goes on by one event
-pub Leads-more : (events : List Event) (replies : List Reply) (old mid new : Pair) (event : Event) (reply : Reply)
-    → Leads old events replies mid → Does mid event reply new → Leads old (events ++ event ∷ []) (replies ++ reply ∷ []) new
-Leads-more [] [] old mid new event reply run step = (new, rw (← run) step, refl)
-Leads-more [] (r ∷ replies) old mid new event reply run step = absurd run
-Leads-more (e ∷ events) [] old mid new event reply run step = absurd run
-Leads-more (e ∷ events) (r ∷ replies) old mid new event reply run step =
-    (run.0, run.1, Leads-more events replies run.0 mid new event reply run.2 step)
 
 -- what an event did to the generation and to the guests to come
 pub does : (old new : Pair) (event : Event) (reply : Reply) → Does old event reply new
@@ -38,10 +29,7 @@ module _ (generation number : ℕ) (g : Guest) where
 
   pub waits_along : (events : List Event) (replies : List Reply) (old new : Pair) → Leads old events replies new
       → Awaits generation number g old → Awaits generation number g new
-  waits_along [] [] old new l p = subst (Awaits generation number g) (sym l) p
-  waits_along [] (r ∷ replies) old new l p = absurd l
-  waits_along (e ∷ events) [] old new l p = absurd l
-  waits_along (e ∷ events) (r ∷ replies) old new l p = waits_along events replies l.0 new l.2 (waits_event e r old l.0 l.1 p)
+  waits_along = along-keeps Does (Awaits generation number g) waits_event
 
   pub comes : (k : ℕ) (old new : Pair) → Does old (BackupGet k) (replies.Committed generation number) new
       → Awaits generation number g old → new.nodes.image.guest ≡ g

@@ -10,7 +10,8 @@ use Rattle.pair_core.specs.{declared.event.Refusal.TheVariants.NoMemory, declare
 use Rattle.pair_core.specs.{Calls.Moment, Modes.{is_alone, mode_refusal}, Pair.{Pair, IsConsistent}}
 use Rattle.pair_core.specs.Protocol.{go_live_done, Record, Outcome, refused, first_refusal, shown_at, live_at, live_entries}
 use Rattle.pair_core.specs.{Protocol.go_live_refusals, Answering.Answers, Service.{moment, Resumes, Enters, Tells, Serves, guest_entries}}
-use Rattle.pair_core.proofs.{CallLaws.answers_call, EntersLaws.enters_all, Ends.{by_table, answers_end}, Tells.{OfGuest, live_all, tells_all}}
+use Rattle.pair_core.proofs.{CallLaws.answers_call, EntersLaws.enters_all, Ends.{by_table, answers_end}, ModeLaws.lone}
+use Rattle.pair_core.proofs.Tells.{OfGuest, live_all, tells_all}
 use Rattle.pair_core.specs.declared.event.Reply.TheVariants as replies
 
 -- drops leave the guest as it was
@@ -95,4 +96,4 @@ serves old new event reply e before k d =
     let live : new.nodes.live.guest ≡ (live_at old.start new.protocol).guest =
     k.live ∙ ap (λ (s : HistoryState). (live_at s new.protocol).guest) e in
     serves_at old.start old.protocol new.protocol old.nodes.live.guest new.nodes.live.guest event reply d before.kept
-    (λ a. (before.alone a).kept) legal k.kept live
+    (λ a. (lone old.protocol.mode old a before.mode).kept) legal k.kept live

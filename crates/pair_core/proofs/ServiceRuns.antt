@@ -1,50 +1,28 @@
 -- What whole runs are to the clients, from what each of their events is.
-use Rattle.std.proofs.Common.{◌≡◌, ℕ, zero, suc, List, [], ◌∷◌, ◌++◌, refl, sym, ap, ◌∙◌, subst, append_assoc, Option, Some}
+use Rattle.std.proofs.Common.{◌≡◌, ℕ, suc, List, [], ◌∷◌, ◌++◌, sym, ap, ◌∙◌, subst, append_assoc, Option}
 use Rattle.std.proofs.lemmas.List.{append-nil}
-use Rattle.std.specs.Prelude.{slice_get, drop}
+use Rattle.std.specs.Prelude.{drop}
 use Rattle.pair_history.specs.{Entries.{Frame, Entry, Delivered, Refused, Took, Begins}, HistoryState.{HistoryState, after, at, Legal}}
 use Rattle.pair_core.specs.{Calls.Moment, declared.event.Event.Event, declared.event.Event.TheVariants.{Deliver, Take, GoLive}}
 use Rattle.pair_core.specs.{declared.event.Refusal.TheVariants.Full, declared.event.Reply.Reply}
-use Rattle.pair_core.specs.Service.{Serves, HasServed, IsDelivery, Point, IsTold, IsResumed}
-use Rattle.pair_core.proofs.PublicLaws.{Begins-trans}
+use Rattle.pair_core.specs.Service.{Serves, HasServed, LetsIn, HasEntered, IsDelivery, Point, IsTold, IsResumed}
+use Rattle.pair_core.proofs.{AlongLaws.{along-keeps, along-tells}, PublicLaws.Begins-trans}
 use Rattle.pair_core.specs.declared.event.Reply.TheVariants as replies
-
--- a run goes on by one event
-pub HasServed-more : (start : HistoryState) (events : List Event) (replies : List Reply) (old mid new : Moment)
-    (event : Event) (reply : Reply)
-    → HasServed start old events replies mid → Serves start mid event reply new
-    → HasServed start old (events ++ event ∷ []) (replies ++ reply ∷ []) new
-HasServed-more start [] [] old mid new event reply run one = (new, rw (← run) one, refl)
-HasServed-more start [] (r ∷ replies) old mid new event reply run one = absurd run
-HasServed-more start (e ∷ events) [] old mid new event reply run one = absurd run
-HasServed-more start (e ∷ events) (r ∷ replies) old mid new event reply run one =
-    (run.0, run.1, HasServed-more start events replies run.0 mid new event reply run.2 one)
-
-Begins-same : (es : List Entry) → Begins es es
-Begins-same es = ([], sym (append-nil es))
 
 -- the history only grows
 pub served_grows : (start : HistoryState) (old new : Moment) (events : List Event) (answers : List Reply)
     → HasServed start old events answers new → Begins old.history new.history
-served_grows start old new [] [] run = ([], ap (λ (m : Moment). m.history) run ∙ sym (append-nil old.history))
-served_grows start old new [] (r ∷ answers) run = absurd run
-served_grows start old new (e ∷ events) [] run = absurd run
-served_grows start old new (e ∷ events) (r ∷ answers) run =
-    Begins-trans old.history run.0.history new.history (run.1.added, run.1.grows) (served_grows start run.0 new events answers run.2)
+served_grows start old new events answers run =
+    along-keeps (Serves start) (λ m. Begins old.history m.history)
+    (λ event reply m n one begins. Begins-trans old.history m.history n.history begins (one.added, one.grows))
+    events answers old new run ([], sym (append-nil old.history))
 
--- an event of a run, answered so, has its point there
-pub point : (start : HistoryState) (old new : Moment) (events : List Event) (answers : List Reply) → HasServed start old events answers new
-    → (k : ℕ) (event : Event) (reply : Reply) → slice_get events k ≡ Some event → slice_get answers k ≡ Some reply
-    → Point start old events answers new k event reply
-point start old new [] answers run k event reply e f = absurd (cc)
-point start old new (x ∷ events) [] run k event reply e f = absurd run
-point start old new (x ∷ events) (r ∷ answers) run zero event reply e f =
-    let first : x ≡ event = cc in
-    let answer : r ≡ reply = cc in
-    record { before = old; done = run.0; up_to = refl; here = rw (← answer) (rw (← first) run.1); from = run.2 }
-point start old new (x ∷ events) (r ∷ answers) run (suc k) event reply e f =
-    let there = point start run.0 new events answers run.2 k event reply e f in
-    record { before = there.before; done = there.done; up_to = (run.0, run.1, there.up_to); here = there.here; from = there.from }
+-- what enters it along a run is what each event lets in
+pub has_entered : (start : HistoryState) (old new : Moment) (events : List Event) (answers : List Reply)
+    → HasServed start old events answers new → HasEntered old events answers new
+has_entered start old new events answers run =
+    along-tells (Serves start) LetsIn
+    (λ event reply m n one. record { added = one.added; grows = one.grows; enters = one.enters }) events answers old new run
 
 Legal-back : (s : HistoryState) (es fs : List Entry) → Legal s (es ++ fs) → Legal (at s es) fs
 Legal-back s [] fs p = p

@@ -16,7 +16,7 @@ use Rattle.pair_core.specs.{Journal.{joined, kept_entries, all_entries, with_mov
 use Rattle.pair_core.specs.Protocol.{Record, Outcome, first_refusal, refused, shown_at, live_at, step_refusals, outbox_of, step_entries}
 use Rattle.pair_core.specs.Protocol.{step_done, step_outcome}
 use Rattle.pair_core.specs.{Runs.{StepsAnswer, goes_on, steps_outcome}, Service.{moment, Serves, HasServed, is_step, ServesSteps}}
-use Rattle.pair_core.proofs.{Ends.{by_table}, ServiceLaws.serves_at, ServiceRuns.HasServed-more}
+use Rattle.pair_core.proofs.{AlongLaws.along-more, Ends.{by_table}, ModeLaws.lone, ServiceLaws.serves_at}
 use Rattle.pair_core.proofs.{StepRuns.{no-steps-answered, more-answered, refused_stays}, Tells.OfGuest}
 use Rattle.pair_core.specs.declared.event.Reply.TheVariants as replies
 
@@ -189,7 +189,7 @@ module _ (start : HistoryState) where
         run =
             subst (λ es. HasServed start (moment_at r) es (before.made ++ replies.Steps k ∷ []) (moment_at new))
             (replicate-append-replicate n 1 Step ∙ ap (λ c. replicate c Step) (more refl))
-            (HasServed-more start (replicate n Step) before.made (moment_at r) (moment_at mid) (moment_at new) Step (replies.Steps k)
+            (along-more (Serves start) (replicate n Step) before.made (moment_at r) (moment_at mid) (moment_at new) Step (replies.Steps k)
             before.run one.serves);
         good = one.good;
         steps = one.count;
@@ -282,13 +282,14 @@ module _ (w v : Pair) (count : ℕ) (reply : Reply) (start : v.start ≡ w.start
     moves = old.kept;
     fit = subst BoxesFit old.boxes old.fit;
     lone = λ a.
-        let none = (old.alone a).kept in
+        let is = lone w.protocol.mode w a old.mode in
+        let none = is.kept in
         let n = length w.ports.boxes in (
           none,
           ap (λ (s : HistoryState). s.out) (sym (ap (at w.start) (ap (λ t. w.protocol.journal.history ++ t) none
               ∙ append-nil w.protocol.journal.history)))
               ∙ sym old.owed
-              ∙ (λ i. targets_of n (frames_of ((old.alone a).pending i) ++ (old.alone a).outbox i)),
+              ∙ (λ i. targets_of n (frames_of (is.pending i) ++ is.outbox i)),
         );
   }
 

@@ -9,9 +9,15 @@ pub mod Nodes
 pub mod Texts
 pub mod NodesFields
 pub mod Modes
+pub mod Tables
+pub mod GuestActs
+pub mod BackupActs
+pub mod ClientActs
+pub mod FailureActs
 pub mod Protocol
 pub mod ModeChanges
 pub mod Answering
+pub mod Along
 pub mod Record
 pub mod RecordFields
 pub mod Pair

@@ -1,6 +1,8 @@
 -- What contracts see of the whole pair, and how its parts stand to the history.
 use Rattle.std.specs.Prelude.{◌≡◌, ℕ, ◌-◌, ◌≤◌, [], ◌++◌, length, All, Bool, true, false, Some, None}
 use Rattle.epoch_snapshot.specs.Bases.{IsBase}
+use Rattle.failover.specs.declared.mode.Mode.{Mode}
+use Rattle.failover.specs.declared.mode.Mode.TheVariants.{Paired, Filling, Alone, Stopped}
 use Rattle.frame_ports.specs.Addresses.{targets_of}
 use Rattle.frame_ports.specs.Lands.{list_of}
 use Rattle.frame_ports.specs.Ports.{PortsState}
@@ -13,7 +15,6 @@ use Rattle.pair_core.specs.declared.event.Refusal.TheVariants.{Full}
 use Rattle.pair_core.specs.declared.event.Reply.{Reply}
 use Rattle.pair_core.specs.declared.event.Reply.TheVariants as replies
 use Rattle.pair_core.specs.Journal.{joined, first_of, kept_entries}
-use Rattle.pair_core.specs.Modes.{is_alone, is_filling}
 use Rattle.pair_core.specs.Nodes.{Nodes, Fills, machine_of}
 use Rattle.pair_core.specs.Protocol.{Record, outbox_of, shown_at, live_at}
 use Rattle.pair_core.specs.Texts.{AreTexts}
@@ -44,13 +45,14 @@ pub record ImageFollows (w : Pair) : Type 0 where
   pub image : w.nodes.image.guest ≡ (shown_state w).guest
   pub stands_at : w.nodes.image.stands_at ≡ Some (record { generation = w.protocol.generation; number = w.protocol.window.to_commit - 1 })
 
--- What holds of the backup, where there is one.
+-- A new backup's image is empty, until it takes in the full checkpoint, which makes the guest of its epoch's end.
+abbrev pub ImageFills : Pair → Type 0
+ImageFills w = Fills (at (shown_state w) (first_of w.protocol.journal.sealed)).guest w.nodes
+
+-- What holds besides where there is a backup.
 pub record HasBackup (w : Pair) : Type 0 where
   -- the live machine was last settled at the guest of the last cut
   pub base : IsBase (machine_of w.nodes.live) (cut_state w).guest
-  pub follows : is_filling w.protocol.mode ≡ false → ImageFollows w
-  -- a new backup's image is empty, until it takes in the full checkpoint, which makes the guest of its epoch's end
-  pub filling : is_filling w.protocol.mode ≡ true → Fills (at (shown_state w) (first_of w.protocol.journal.sealed)).guest w.nodes
   -- nothing is staged
   pub staged : w.nodes.image.staged ≡ None
   -- each sealed text reads back as the checkpoint of its number, which makes the guest of its epoch's end of the one of the epoch before
@@ -62,6 +64,13 @@ pub record IsAlone (w : Pair) : Type 0 where
   pub kept : kept_entries w.protocol.journal ≡ []
   pub pending : w.protocol.pending ≡ []
   pub outbox : w.nodes.live.outbox ≡ []
+
+-- What holds in each mode. The backup of a pair could go on from its image, and it still could where the primary has stopped.
+abbrev pub InMode : Mode → Pair → Type 0
+InMode Paired w = HasBackup w × ImageFollows w
+InMode Filling w = HasBackup w × ImageFills w
+InMode Alone w = IsAlone w
+InMode Stopped w = HasBackup w × ImageFollows w
 
 -- whether the guest did it: a step, or a frame's arrival
 abbrev pub is_of_guest : Entry → Bool
@@ -82,8 +91,7 @@ pub record IsConsistent (w : Pair) : Type 0 where
   -- the live machine is the guest of the history followed by what is kept
   pub live : w.nodes.live.guest ≡ (live_state w).guest
   -- there is a backup, unless a node is alone
-  pub backup : is_alone w.protocol.mode ≡ false → HasBackup w
-  pub alone : is_alone w.protocol.mode ≡ true → IsAlone w
+  pub mode : InMode w.protocol.mode w
   -- the outbox is all that the guest sent along the epoch that runs, also what goes nowhere
   pub outbox : w.nodes.live.outbox ≡ outbox_of w.start w.protocol
   -- each client's inbox is what waits of it after all that is kept, and numbers go on from the history's

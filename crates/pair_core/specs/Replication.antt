@@ -12,6 +12,7 @@ use Rattle.backup_image.specs.declared.standing.Standing.{Standing}
 use Rattle.pair_core.specs.Modes.{is_alone}
 use Rattle.pair_core.specs.Nodes.{Nodes, read_as}
 use Rattle.pair_core.specs.Pair.{Pair, IsConsistent}
+use Rattle.pair_core.specs.Along.{Along}
 use Rattle.pair_core.specs.Answering.{Answers}
 use Rattle.pair_core.specs.Drops.{Drops}
 
@@ -98,7 +99,4 @@ pub record Does (old : Pair) (event : Event) (reply : Reply) (new : Pair) : Type
 
 -- These events, one after another, answered so, lead from the pair old to new.
 abbrev pub Leads : Pair → List Event → List Reply → Pair → Type 0
-Leads old [] [] new = new ≡ old
-Leads old (event ∷ events) (reply ∷ replies) new = (mid : Pair) × Does old event reply mid × Leads mid events replies new
-Leads old [] (reply ∷ replies) new = ⊥
-Leads old (event ∷ events) [] new = ⊥
+Leads old events replies new = Along Does old events replies new

@@ -1,5 +1,5 @@
 -- Whole runs: of events, and of the guest's steps.
-use Rattle.std.specs.Prelude.{◌≡◌, ℕ, zero, suc, ◌<◌, ◌⊎◌, true, List, [], ◌∷◌, replicate}
+use Rattle.std.specs.Prelude.{◌≡◌, ℕ, zero, suc, ◌<◌, ◌⊎◌, true, List, replicate}
 use Rattle.pair_core.specs.declared.event.Event.{Event}
 use Rattle.pair_core.specs.declared.event.Refusal.TheVariants.{NoMemory}
 use Rattle.pair_core.specs.declared.event.Reply.{Reply}
@@ -10,24 +10,13 @@ use Rattle.pair_core.specs.Journal.{with_running}
 use Rattle.pair_core.specs.Modes.{is_alone}
 use Rattle.pair_core.specs.Nodes.{after_run}
 use Rattle.pair_core.specs.Protocol.{Record, Outcome, live_at, refused, step_outcome}
+use Rattle.pair_core.specs.Along.{Along}
 use Rattle.pair_core.specs.Answering.{Answers, MayWantMemory}
 use Rattle.pair_core.specs.Pair.{Pair}
 
--- what one event, answered so, does to a record
-abbrev pub Change : Type 1
-Change = HistoryState → Record → Event → Reply → Record → Type 0
-
--- These events, one after another, answered so, lead from the record old to new by such changes.
-abbrev pub Along : Change → HistoryState → Record → List Event → List Reply → Record → Type 0
-Along Does start old [] [] new = new ≡ old
-Along Does start old (event ∷ events) (reply ∷ replies) new =
-    (mid : Record) × Does start old event reply mid × Along Does start mid events replies new
-Along Does start old [] (reply ∷ replies) new = ⊥
-Along Does start old (event ∷ events) [] new = ⊥
-
--- They may be answered so, and lead from old to new.
+-- These events, one after another, may be answered so, and lead from the record old to new.
 abbrev pub Run : HistoryState → Record → List Event → List Reply → Record → Type 0
-Run start old events replies new = Along Answers start old events replies new
+Run start old events replies new = Along (Answers start) old events replies new
 
 -- one more of several steps, after the answer of those before: a refusal ends them
 abbrev pub goes_on : HistoryState → Reply → Record → Outcome

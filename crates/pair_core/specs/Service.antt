@@ -1,6 +1,6 @@
 -- What a run is to its clients: one guest that never fails, behind a line that may lose frames. It is told by the history, the state at
 -- it, replies and guests, and by nothing else of a pair.
-use Rattle.std.specs.Prelude.{◌≡◌, ◌⊎◌, ℕ, suc, ◌<◌, Bool, true, false, All, List, [], ◌∷◌, ◌++◌, length, take, drop, replicate}
+use Rattle.std.specs.Prelude.{◌≡◌, ◌⊎◌, ℕ, ◌<◌, Bool, true, false, All, List, [], ◌∷◌, ◌++◌, length, replicate}
 use Rattle.std.specs.List.{filter}
 use Rattle.pair_history.specs.Entries.{Entry, Ran, Arrive, Delivered, Refused, Took, Begins}
 use Rattle.pair_history.specs.HistoryState.{HistoryState, Legal, Allows, at}
@@ -10,6 +10,7 @@ use Rattle.pair_core.specs.declared.event.Refusal.{Refusal}
 use Rattle.pair_core.specs.declared.event.Refusal.TheVariants.{Full}
 use Rattle.pair_core.specs.declared.event.Reply.{Reply}
 use Rattle.pair_core.specs.declared.event.Reply.TheVariants as replies
+use Rattle.pair_core.specs.Along.{Along, PointAlong}
 use Rattle.pair_core.specs.Calls.{Moment, AnswersCall}
 use Rattle.pair_core.specs.Drops.{Loses}
 use Rattle.pair_core.specs.Journal.{kept_entries}
@@ -90,37 +91,21 @@ pub record Serves (start : HistoryState) (old : Moment) (event : Event) (reply :
 
 -- These events, one after another, answered so, lead from the moment old to new.
 abbrev pub HasServed : HistoryState → Moment → List Event → List Reply → Moment → Type 0
-HasServed start old [] [] new = new ≡ old
-HasServed start old (event ∷ events) (reply ∷ replies) new =
-    (mid : Moment) × Serves start old event reply mid × HasServed start mid events replies new
-HasServed start old [] (reply ∷ replies) new = ⊥
-HasServed start old (event ∷ events) [] new = ⊥
+HasServed start old events replies new = Along (Serves start) old events replies new
 
--- Along these events, answered so, these of the guest's entries enter the history, event by event, where old were ahead of it before the
--- run and new are after it.
-abbrev pub EnterAlong : List Event → List Reply → List Entry → List Entry → List Entry → Type 0
-EnterAlong [] [] old entered new = (entered ≡ []) × (new ≡ old)
-EnterAlong (event ∷ events) (reply ∷ replies) old entered new =
-    (first : List Entry) × (mid : List Entry) × (later : List Entry)
-    × Enters event reply old first mid × EnterAlong events replies mid later new × (entered ≡ first ++ later)
-EnterAlong [] (reply ∷ replies) old entered new = ⊥
-EnterAlong (event ∷ events) [] old entered new = ⊥
-
--- What a run adds to the history: of what the guest did, that which entered along it, and nothing else of the guest.
-pub record HasEntered (old : Moment) (events : List Event) (answers : List Reply) (new : Moment) : Type 0 where
+-- What an event adds to the history: of what the guest did, that which it lets in, and nothing else of the guest.
+pub record LetsIn (old : Moment) (event : Event) (reply : Reply) (new : Moment) : Type 0 where
   pub added : List Entry
   pub grows : new.history ≡ old.history ++ added
-  pub enters : EnterAlong events answers old.ahead (guest_entries added) new.ahead
+  pub enters : Enters event reply old.ahead (guest_entries added) new.ahead
 
--- The point of a run at which event k happened, answered so: the moments before and after it, the run up to it, the event, and the run
--- from it on.
-pub record Point (start : HistoryState) (old : Moment) (events : List Event) (answers : List Reply) (new : Moment)
-    (k : ℕ) (event : Event) (reply : Reply) : Type 0 where
-  pub before : Moment
-  pub done : Moment
-  pub up_to : HasServed start old (take k events) (take k answers) before
-  pub here : Serves start before event reply done
-  pub from : HasServed start done (drop (suc k) events) (drop (suc k) answers) new
+-- the same of a run, event by event
+abbrev pub HasEntered : Moment → List Event → List Reply → Moment → Type 0
+HasEntered old events replies new = Along LetsIn old events replies new
+
+-- the point of a run at which event k happened, answered so
+abbrev pub Point : HistoryState → Moment → List Event → List Reply → Moment → ℕ → Event → Reply → Type 0
+Point start old events replies new k event reply = PointAlong (Serves start) old events replies new k event reply
 
 -- The call between two moments is told by this entry, right there in the history, in a state that allows it; and the history of the end
 -- still begins so.

@@ -132,7 +132,7 @@ pub fn acknowledged_frames_have_left()
 ///
 /// [`World::run`](crate::World::run) gives `HasServed` of every list of events (clause `served`), and `Leads` (clause `leads`).
 pub fn committed_epochs_enter_the_history()
-    // Of every run, event by event: what each one lets in is the row of `Enters` for it.
+    // Of every run, event by event: what each one lets in (`LetsIn`) is the row of `Enters` for it.
     ensures run { (start : HistoryState) (old new : Moment) (events : List Event) (answers : List Reply)
         → HasServed start old events answers new → HasEntered old events answers new }
     // The epoch that ran at a cut enters the history whole, when the checkpoint of that cut is committed: any events came between.

@@ -48,7 +48,8 @@ impl World {
     ghost use Rattle.pair_core.specs.Answering.{Answers, MayWantMemory, step_reply};
     ghost use Rattle.pair_core.specs.Pair.{Pair, OnRefused, IsConsistent};
     ghost use Rattle.pair_core.specs.Record.{start_record};
-    ghost use Rattle.pair_core.specs.Runs.{Along, Run, steps_outcome, with_steps};
+    ghost use Rattle.pair_core.specs.Along.{Along};
+    ghost use Rattle.pair_core.specs.Runs.{Run, steps_outcome, with_steps};
     ghost use Rattle.pair_core.specs.Drops.{Drops};
     ghost use Rattle.pair_core.specs.Replication.{KeepsBackup, Replicates, Leads};
     ghost use Rattle.pair_core.specs.declared.event.Event.{Event};
@@ -174,7 +175,7 @@ impl World {
         ensures grows { Begins self.old.protocol.journal.history self.new.protocol.journal.history }
         ensures consistent { IsConsistent self.new }
         // Why a frame was dropped, event by event.
-        ensures drops { IfOk result (λ replies. Along Drops self.old.start self.old.protocol events.now replies.items self.new.protocol) }
+        ensures drops { IfOk result (λ replies. Along (Drops self.old.start) self.old.protocol events.now replies.items self.new.protocol) }
         // What the run is to its clients: see `clients_have_one_guest_that_never_fails`.
         ensures served { IfOk result (λ replies. HasServed self.old.start (moment self.old) events.now replies.items (moment self.new)) }
         // What the image is after each commit: see `committed_guests_are_those_cut`.

@@ -14,6 +14,7 @@ use Rattle.pair_core.specs.HistoryState.{HistoryState}
 use Rattle.pair_core.specs.Calls.{Moment}
 use Rattle.pair_core.specs.Pair.{Pair}
 use Rattle.pair_core.specs.Service.{Serves, HasServed, ServesSteps, is_step, moment}
+use Rattle.pair_core.proofs.AlongLaws.{along-append, along-more}
 use Rattle.remus.specs.declared.script.Command.TheVariants.{Step, Cut, Send, Backup, Ack, Admit, Take, LoseIn, LoseOut, FailPrimary}
 use Rattle.remus.specs.declared.script.Command.TheVariants.{FailBackup, GoLive, Protect, Sector, Show}
 use Rattle.remus.specs.Boot.{BootLine, IsBoot}
@@ -29,13 +30,6 @@ use Rattle.remus.specs.Scripts as scripts
 -- ---- runs, one after another
 
 module _ (start : HistoryState) where
-  pub one-then : (es : List Event) (rs : List Reply) (es' : List Event) (rs' : List Reply) (old mid new : Moment)
-      → HasServed start old es rs mid → HasServed start mid es' rs' new → HasServed start old (es ++ es') (rs ++ rs') new
-  one-then [] [] es' rs' old mid new a b = subst (λ (m : Moment). HasServed start m es' rs' new) a b
-  one-then [] (r ∷ rs) es' rs' old mid new a b = absurd a
-  one-then (e ∷ es) [] es' rs' old mid new a b = absurd a
-  one-then (e ∷ es) (r ∷ rs) es' rs' old mid new a b = (a.0, a.1, one-then es rs es' rs' a.0 mid new a.2 b)
-
   -- a step that was made says its count, and nothing else depends on that
   counted-so : (old new : Moment) (reply : Reply) (count : ℕ) → is_step reply ≡ true → Serves start old events.Step reply new
       → Serves start old events.Step (replies.Steps count) new
@@ -104,8 +98,7 @@ module _ (start : HistoryState) (old new : Moment) (wanted : ℕ) (some : 1 ≤ 
     made = made;
     are = record { each = are; most = fewer; all = λ is. cc is };
     served = subst (λ (es : List Event). HasServed start old es (made ++ replies.Refused why ∷ []) new) (sym (one-more-step (length made)))
-        (one-then start (replicate (length made) events.Step) made (events.Step ∷ []) (replies.Refused why ∷ []) old mid new run
-        (new, last, refl));
+        (along-more (Serves start) (replicate (length made) events.Step) made old mid new events.Step (replies.Refused why) run last);
   }
 
   pub steps-served : (reply : Reply) → ServesSteps start old wanted reply new → Ended start old wanted reply new
@@ -298,8 +291,8 @@ lines-served start old new [] at plays = ap moment plays
 lines-served start old new (line ∷ lines) at plays =
     let first = subst (λ (s : HistoryState). HasServed s (moment old) line.events line.replies (moment plays.0)) at
     (line-served old plays.0 line plays.1) in
-    one-then start line.events line.replies (events_of lines) (replies_of lines) (moment old) (moment plays.0) (moment new) first
-    (lines-served start plays.0 new lines (start-kept old plays.0 line plays.1 ∙ at) plays.2)
+    along-append (Serves start) line.events line.replies (events_of lines) (replies_of lines) (moment old) (moment plays.0) (moment new)
+    first (lines-served start plays.0 new lines (start-kept old plays.0 line plays.1 ∙ at) plays.2)
 
 -- ---- a whole script
 

@@ -1,11 +1,12 @@
-use Rattle.pair_core.proofs.ServiceRuns.{served_grows, point, told_take, told_deliver, told_full, told_resume}
+use Rattle.pair_core.specs.Service.{Serves}
+use Rattle.pair_core.proofs.{AlongLaws.along-point, ServiceRuns.{served_grows, told_take, told_deliver, told_full, told_resume}}
 use Rattle.pair_core.proofs.laws.clients_have_one_guest_that_never_fails.Goals as goal
 
 pub returns-clause-grows : goal.returns-clause-grows
 returns-clause-grows c = served_grows
 
 pub returns-clause-point : goal.returns-clause-point
-returns-clause-point c = point
+returns-clause-point c start = along-point (Serves start)
 
 pub returns-clause-take : goal.returns-clause-take
 returns-clause-take c = told_take

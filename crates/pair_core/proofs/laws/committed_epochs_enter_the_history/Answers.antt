@@ -1,4 +1,4 @@
-use Rattle.pair_core.proofs.{EntersRuns.has_entered, EpochRuns.{cut_enters, full_enters}}
+use Rattle.pair_core.proofs.{EpochRuns.{cut_enters, full_enters}, ServiceRuns.has_entered}
 use Rattle.pair_core.proofs.laws.committed_epochs_enter_the_history.Goals as goal
 
 pub returns-clause-run : goal.returns-clause-run

@@ -4,7 +4,7 @@ use Rattle.pair_core.specs.{declared.event.Packet.Packet, declared.event.Refusal
 use Rattle.pair_core.specs.{declared.event.Event.TheVariants.BackupGet, declared.event.Reply.Reply, Nodes.{Nodes, first_text}}
 use Rattle.pair_core.specs.{Modes.{is_alone, mode_refusal}, Pair.{Pair, shown_state}, Replication.Replicates}
 use Rattle.pair_core.specs.{Protocol.{Record, Outcome, first_refusal, backup_refusals, again_done}, WorldFields.pair_of}
-use Rattle.pair_core.proofs.{ModeLaws.backup_goes, ReplicationLaws.{after_commit, filled-pairs, commit_replicates}, Consistent.has_backup}
+use Rattle.pair_core.proofs.{ModeLaws.backup_goes, ReplicationLaws.{after_commit, commit_replicates}, Consistent.in_mode}
 use Rattle.pair_core.proofs.{Calls.{on_ok, after_call}, Events.{lines_hold, commit_holds, oldest_text}}
 use Rattle.pair_core.proofs.{NodesLaws.{reads-whole, reads-shape}, RecordLaws.{passed, generation_is, commit_record}}
 use Rattle.pair_core.proofs.world.World.backup_get.Goals as goal
@@ -78,9 +78,8 @@ returns-clause-replicates c =
     let alone = two c.args.k c.self.view_is c.requires in
     let more = names_next w.protocol c.in-Some.packet _ _ c.backup_refusal.ensures.refusal c.in_default-backup_refusal.is
     c.in-Some.ensures.cut c.to_commit.ensures c.if-packet-to_commit.false in
-    let now = has_backup w h k alone in
-    let then =
-    has_backup (after_commit w) (commit_holds w h k alone more) (commit_record w.protocol k more) (filled-pairs w.protocol.mode alone) in
+    let now = in_mode w h k in
+    let then = in_mode (after_commit w) (commit_holds w h k alone more) (commit_record w.protocol k more) in
     rw (← c.self.view_is) (subst (λ (o : Reply × Nodes). Replicates (BackupGet c.args.k) o.0 w.nodes o.1) (λ i. (
       sym reply i,
       sym

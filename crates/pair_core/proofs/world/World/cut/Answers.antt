@@ -4,7 +4,7 @@ use Rattle.pair_core.specs.{declared.event.Reply.Reply, Replication.Replicates, 
 use Rattle.pair_core.specs.{Protocol.{Outcome, cut_refusals, cut_done}, WorldFields.pair_of}
 use Rattle.epoch_snapshot.specs.Bases.{IsBase}
 use Rattle.guest_machine.specs.Guest.{Guest}
-use Rattle.pair_core.proofs.{Consistent.{has_backup, live_is}, ReplicationLaws.{after_cut, cut_replicates}, ModeLaws.primary_goes}
+use Rattle.pair_core.proofs.{Consistent.{in_mode, live_is}, ReplicationLaws.{after_cut, cut_replicates}, ModeLaws.primary_goes}
 use Rattle.pair_core.proofs.{Events.cut_holds, Outcomes.{goes, cut_sight}, RecordLaws.cut_record, world.World.cut.Goals.In_ok-reply}
 use Rattle.pair_core.proofs.world.World.cut.Goals as goal
 
@@ -46,9 +46,9 @@ returns-clause-replicates c =
     let h = c.self.invariant in
     let k = c.cut_refusal.ensures.record in
     let alone = two c.self.view_is c.requires in
-    let now = has_backup w h k alone in
-    let then = has_backup (after_cut w text) (cut_holds w h k text (makes (goal.at.returns-clause-replicates c).In_ok-reply))
-    (cut_record w.protocol k w.nodes.live.outbox alone (sym c.cut_refusal.ensures.refusal ∙ c.in_default.is)) alone in
+    let now = in_mode w h k in
+    let then = in_mode (after_cut w text) (cut_holds w h k text (makes (goal.at.returns-clause-replicates c).In_ok-reply))
+    (cut_record w.protocol k w.nodes.live.outbox alone (sym c.cut_refusal.ensures.refusal ∙ c.in_default.is)) in
     rw (← c.self.view_is) (subst (λ (o : Reply × Nodes). Replicates Cut o.0 w.nodes o.1) (λ i. (sym reply i, sym nodes i)) (cut_replicates w
     k alone now text then (live_is w h)))
 

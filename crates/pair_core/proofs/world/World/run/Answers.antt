@@ -1,6 +1,6 @@
 use Rattle.std.proofs.{Common.{rules, ◌≡◌, ◌+◌, ◌++◌, ◌∷◌, [], length, take, get_or, ◌∙◌, arith, ◌<◌}, lemmas.List.take_more}
-use Rattle.pair_core.specs.{declared.event.Event.TheVariants.Step, Answering.Answers, Drops.Drops}
-use Rattle.pair_core.proofs.{ReplicationRuns.Leads-more, ServiceRuns.HasServed-more, PublicLaws.{Along-more, Begins-trans}}
+use Rattle.pair_core.specs.{declared.event.Event.TheVariants.Step, Answering.Answers, Drops.Drops, Replication.Does, Service.Serves}
+use Rattle.pair_core.proofs.{AlongLaws.along-more, PublicLaws.Begins-trans}
 use Rattle.pair_core.proofs.world.World.run.Goals as goal
 
 pub loop-event-init : goal.loop-event-init
@@ -24,15 +24,18 @@ loop-event-preserved c =
     let v = c.loop-event.invariant in
     let done = c.apply-reply.ensures in
     let i = c.loop-event.event-index in
+    let start = c.args.self.now.start in
     let events = c.args.events.now in
     let within : i < length events = omega arith in
     let more : take (i + 1) events ≡ take i events ++ get_or events i Step ∷ [] = take_more events i Step within in
     record {
-      replies = rw (more, items) (Along-more Answers _ (take i events) _ _ _ _ (get_or events i Step) _
+      replies = rw (more, items) (along-more (Answers start) (take i events) _ _ _ _ (get_or events i Step) _
           v.replies (rw v.start at done.answers));
-      drops = rw (more, items) (Along-more Drops _ (take i events) _ _ _ _ (get_or events i Step) _ v.drops (rw v.start at done.drops));
-      served = rw (more, items) (HasServed-more _ (take i events) _ _ _ _ (get_or events i Step) _ v.served (rw v.start at done.serves));
-      leads = rw (more, items) (Leads-more (take i events) _ _ _ _ (get_or events i Step) _ v.leads (record {
+      drops = rw (more, items) (along-more (Drops start) (take i events) _ _ _ _ (get_or events i Step) _
+          v.drops (rw v.start at done.drops));
+      served = rw (more, items) (along-more (Serves start) (take i events) _ _ _ _ (get_or events i Step) _
+          v.served (rw v.start at done.serves));
+      leads = rw (more, items) (along-more Does (take i events) _ _ _ _ (get_or events i Step) _ v.leads (record {
         start = done.start;
         answers = done.answers;
         consistent = done.consistent;
