@@ -15,7 +15,7 @@ if [ ! -x "$program" ] || [ -n "$(find "$root"/crates/*/src "$here" -newer "$pro
     cp "$here/main.rattle" "$build/crates/history/src/main.rt"
     {
         cat "$root/crates.txt"
-        echo 'history: guest_kit pair_core'
+        echo 'history: guest_kit memory_wanted pair_core'
     } >"$build/crates.txt"
     # An empty script, to build it.
     if ! (cd "$build/crates/history" && rt run -- /dev/null) >"$build/log" 2>&1; then

@@ -7,12 +7,12 @@ abbrev pub number_of : ImageError → ℕ
 number_of NoImage = 8
 number_of Stale = 9
 number_of Gap = 10
-number_of NoMemory = 12
+number_of (NoMemory _) = 12
 number_of OldVersion = 15
 
 abbrev pub name_of : ImageError → List ℕ
 name_of NoImage = codes "NoImage"
 name_of Stale = codes "Stale"
 name_of Gap = codes "Gap"
-name_of NoMemory = codes "NoMemory"
+name_of (NoMemory _) = codes "NoMemory"
 name_of OldVersion = codes "OldVersion"

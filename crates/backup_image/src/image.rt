@@ -1,13 +1,14 @@
 //! The backup's image.
 ghost use Rattle.std.specs.Prelude.{◌≡◌, ◌↔◌, ◌+◌, ◌*◌, ◌<◌, ◌≤◌, length, replicate, slice_range, IfOk, IfErr, OnErr, IsErr, Some};
 ghost use Rattle.std.specs.Prelude.{None, Err};
+ghost use Rattle.memory_wanted.specs.Wanted.{wanted};
 ghost use Rattle.backup_image.specs.Images.{booted, empty_image, stage_answer, after_stage, committed, settled_machine};
 
 use crate::apply::apply;
 use crate::errors::ImageError;
 use crate::standing::{Staged, Standing};
 use epoch_snapshot::Checkpoint;
-use guest_machine::{Machine, SECTOR_BYTES, Shape};
+use guest_machine::{Machine, MachineError, SECTOR_BYTES, Shape};
 use std::alloc::Global;
 use std::marker::Model;
 
@@ -40,10 +41,11 @@ impl Image {
     pub fn boot(alloc: Global, shape: Shape, image: &[u8]) -> Result<Image, ImageError>
         requires { length image.now ≤ 4096 * shape.pages }
         ensures ok { IfOk result (λ i. i ≡ booted shape image.now) }
-        ensures err { OnErr result (result ≡ Err ImageError.NoMemory) }
+        ensures err { OnErr result (result ≡ Err (ImageError.NoMemory wanted)) }
     {
-        let Ok(machine) = Machine::boot(alloc, shape, image) else {
-            return Err(ImageError::NoMemory);
+        let machine = match Machine::boot(alloc, shape, image) {
+            Ok(machine) => machine,
+            Err(error) => return Err(refusal_of(error)),
         };
         Ok(Image {
             shape,
@@ -62,10 +64,11 @@ impl Image {
     /// `NoMemory` where memory is refused.
     pub fn empty(alloc: Global, shape: Shape) -> Result<Image, ImageError>
         ensures ok { IfOk result (λ i. i ≡ empty_image shape) }
-        ensures err { OnErr result (result ≡ Err ImageError.NoMemory) }
+        ensures err { OnErr result (result ≡ Err (ImageError.NoMemory wanted)) }
     {
-        let Ok(machine) = Machine::boot(alloc, shape, &[]) else {
-            return Err(ImageError::NoMemory);
+        let machine = match Machine::boot(alloc, shape, &[]) {
+            Ok(machine) => machine,
+            Err(error) => return Err(refusal_of(error)),
         };
         Ok(Image {
             shape,
@@ -181,5 +184,16 @@ impl Image {
             return Err((self, ImageError::NoImage));
         }
         Ok(self.machine)
+    }
+}
+
+/// The refusal of an image whose machine wasn't booted.
+fn refusal_of(error: MachineError) -> ImageError
+    requires { error ≡ MachineError.NoMemory wanted }
+    ensures { result ≡ ImageError.NoMemory wanted }
+{
+    match error {
+        MachineError::NoMemory(wanted) => ImageError::NoMemory(wanted),
+        MachineError::CutNeeded => unreachable!(),
     }
 }

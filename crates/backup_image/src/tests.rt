@@ -6,6 +6,7 @@ use crate::{Image, ImageError, Staged, Standing};
 use checkpoint_stream::{Reader, encode};
 use epoch_snapshot::{Checkpoint, cut_delta, cut_full};
 use guest_machine::{Machine, PAGE_BYTES, Shape};
+use memory_wanted::reserve;
 use std::alloc::{AllocError, Global};
 use std::process::Abort;
 use std::test::Fail;
@@ -216,11 +217,14 @@ fn part_of_a_checkpoint_leaves_the_image(rt: HostRuntime) -> Result<(), Fail> {
 
 #[test]
 fn refusals_have_numbers_and_names(rt: HostRuntime) -> Result<(), Fail> {
+    let Err(wanted) = reserve(&mut Vec::<u64>::new(rt.alloc()), usize::MAX) else {
+        return Err("no machine has that much".into());
+    };
     for (refusal, number, name) in [
         (ImageError::NoImage, 8, "NoImage"),
         (ImageError::Stale, 9, "Stale"),
         (ImageError::Gap, 10, "Gap"),
-        (ImageError::NoMemory, 12, "NoMemory"),
+        (ImageError::from(wanted), 12, "NoMemory"),
         (ImageError::OldVersion, 15, "OldVersion"),
     ] {
         assert_eq!(rt; refusal.number(), number);

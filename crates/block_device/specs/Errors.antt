@@ -4,7 +4,7 @@ use Rattle.block_device.specs.declared.errors.DiskError.{DiskError}
 use Rattle.block_device.specs.declared.errors.DiskError.TheVariants.{NoMemory}
 
 abbrev pub error_number : DiskError → ℕ
-error_number NoMemory = 12
+error_number (NoMemory _) = 12
 
 abbrev pub error_name : DiskError → List ℕ
-error_name NoMemory = codes "NoMemory"
+error_name (NoMemory _) = codes "NoMemory"

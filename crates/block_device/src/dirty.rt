@@ -30,7 +30,8 @@ ghost use Rattle.std.specs.List.{range_with_len};
 ghost use Rattle.std.specs.List.Sorted.{IsNonDecreasing};
 ghost use Rattle.block_device.specs.Dirty.{Rises, with_written, is_in, bit_of, no_sectors};
 
-use std::alloc::{AllocError, Global};
+use memory_wanted::{MemoryWanted, resize, with_capacity};
+use std::alloc::Global;
 use std::marker::Model;
 
 /// How many sectors have their bits in one word.
@@ -59,13 +60,13 @@ impl Model for SectorSet {
 
 impl SectorSet {
     /// The empty set of a disk with so many sectors.
-    pub(crate) fn boot(alloc: Global, sectors: u32) -> Result<SectorSet, AllocError>
+    pub(crate) fn boot(alloc: Global, sectors: u32) -> Result<SectorSet, MemoryWanted>
         ensures { IfOk result (λ set. set ≡ no_sectors sectors) }
     {
         let words = sectors.div_ceil(WORD_BITS) as usize;
-        let mut bits = Vec::with_capacity(alloc, words)?;
-        bits.resize(words, 0)?;
-        let list = Vec::with_capacity(alloc, sectors as usize)?;
+        let mut bits = with_capacity(alloc, words)?;
+        resize(&mut bits, words, 0)?;
+        let list = with_capacity(alloc, sectors as usize)?;
         Ok(SectorSet {
             sectors,
             bits,

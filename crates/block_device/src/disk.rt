@@ -1,5 +1,6 @@
 //! The disk: a block device's registers over its sectors.
 ghost use Rattle.std.specs.Prelude.{◌≡◌, ◌+◌, ◌*◌, ◌<◌, ◌≤◌, ◌↔◌, All, IfOk, IsTrue, OnErr, Err, [], length};
+ghost use Rattle.memory_wanted.specs.Wanted.{wanted};
 ghost use Rattle.virtio_mmio.specs.States.{boot_state, IsDeviceRecord};
 ghost use Rattle.virtio_mmio.specs.Transport.{loaded, store_answer, state_after_store};
 ghost use Rattle.block_device.specs.Contents.{capacity, sector_at, boot_contents, contents_with, unlisted, IsDisk};
@@ -47,7 +48,7 @@ impl Disk {
         requires most { sectors ≤ most_sectors }
         ensures disk { IfOk result (λ disk. disk ≡ disk_of boot_state (boot_contents sectors)) }
         ensures sectors { IfOk result (λ disk. capacity disk.contents ≡ sectors) }
-        ensures err { OnErr result (result ≡ Err DiskError.NoMemory) }
+        ensures err { OnErr result (result ≡ Err (DiskError.NoMemory wanted)) }
     {
         let storage = Storage::boot(alloc, sectors)?;
         let capacity = u64::from(storage.sectors());

@@ -8,8 +8,9 @@ ghost use Rattle.block_device.specs.Dirty.{Rises};
 ghost use Rattle.block_device.specs.Limits.{most_sectors};
 
 use crate::dirty::SectorSet;
+use memory_wanted::{MemoryWanted, resize, with_capacity};
 use page_lanes::is_zero;
-use std::alloc::{AllocError, Global};
+use std::alloc::Global;
 use std::marker::Model;
 use virtqueue::{Chain, GuestRam, Queue};
 
@@ -37,14 +38,14 @@ impl Model for Storage {
 
 impl Storage {
     /// So many sectors, all bytes 0, none of them written.
-    pub(crate) fn boot(alloc: Global, sectors: u32) -> Result<Storage, AllocError>
+    pub(crate) fn boot(alloc: Global, sectors: u32) -> Result<Storage, MemoryWanted>
         requires some { 1 ≤ sectors }
         requires most { sectors ≤ most_sectors }
         ensures { IfOk result (λ storage. storage ≡ boot_contents sectors) }
     {
         let size = SECTOR_BYTES * sectors as usize;
-        let mut bytes = Vec::with_capacity(alloc, size)?;
-        bytes.resize(size, 0)?;
+        let mut bytes = with_capacity(alloc, size)?;
+        resize(&mut bytes, size, 0)?;
         let dirty = SectorSet::boot(alloc, sectors)?;
         Ok(Storage { bytes, dirty })
     }

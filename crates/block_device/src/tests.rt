@@ -5,6 +5,7 @@ ghost use Rattle.std.specs.Prelude.{◌<◌};
 
 use crate::disk::Disk;
 use crate::errors::DiskError;
+use memory_wanted::reserve;
 use std::alloc::Global;
 use std::test::Fail;
 use virtio_mmio::{Action, DeviceState};
@@ -210,11 +211,13 @@ fn registers_are_a_block_devices(rt: HostRuntime) -> Result<(), Fail> {
 
 #[test]
 fn a_refusal_has_its_number_and_name(rt: HostRuntime) -> Result<(), Fail> {
-    assert_eq!(rt; DiskError::NoMemory.number(), 12);
-    assert_eq!(rt; DiskError::NoMemory.name(), "NoMemory");
-    assert_eq!(rt;
-        format!(in rt.alloc(); "{}", DiskError::NoMemory)?.as_str(),
-        "NoMemory"
-    );
+    let Err(wanted) = reserve(&mut Vec::<u64>::new(rt.alloc()), usize::MAX) else {
+        return Err("no machine has that much".into());
+    };
+    let error = DiskError::from(wanted);
+    assert_eq!(rt; error.number(), 12);
+    assert_eq!(rt; error.name(), "NoMemory");
+    let text = format!(in rt.alloc(); "{error}")?;
+    assert_eq!(rt; text.as_str(), "NoMemory");
     Ok(())
 }

@@ -10,4 +10,4 @@ abbrev pub Answers : Reading → List ℕ → Result ℕ StreamError → Reading
 Answers old piece (Ok count) new =
     (new ≡ fed old piece) × (count ≡ taken old piece) × (failure_at new.place ≡ None)
 Answers old piece (Err (Malformed offset)) new = (new ≡ fed old piece) × (failure_at new.place ≡ Some offset)
-Answers old piece (Err NoMemory) new = new ≡ old
+Answers old piece (Err (NoMemory _)) new = new ≡ old

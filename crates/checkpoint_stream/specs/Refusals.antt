@@ -5,8 +5,8 @@ use Rattle.checkpoint_stream.specs.declared.errors.StreamError.TheVariants.{Malf
 
 abbrev pub number_of : StreamError → ℕ
 number_of (Malformed offset) = 11
-number_of NoMemory = 12
+number_of (NoMemory _) = 12
 
 abbrev pub name_of : StreamError → List ℕ
 name_of (Malformed offset) = codes "Malformed"
-name_of NoMemory = codes "NoMemory"
+name_of (NoMemory _) = codes "NoMemory"

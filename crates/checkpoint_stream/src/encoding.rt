@@ -1,6 +1,7 @@
 //! A checkpoint as its text.
 
-ghost use Rattle.std.specs.Prelude.{◌≡◌, ◌<◌, ◌≤◌, ◌^◌, ◌++◌, length, All, IfOk, OnOk};
+ghost use Rattle.std.specs.Prelude.{◌≡◌, ◌<◌, ◌≤◌, ◌^◌, ◌++◌, length, All, IfOk, OnOk, OnErr, Err};
+ghost use Rattle.memory_wanted.specs.Wanted.{wanted};
 ghost use Rattle.epoch_snapshot.specs.Checkpoints.{block_count};
 ghost use Rattle.checkpoint_stream.specs.ReadBack.{ReadsBack};
 ghost use Rattle.checkpoint_stream.specs.Widths.{HasWidths};
@@ -13,7 +14,8 @@ use crate::rules::{HEAD_NUMBERS, NEW_MAGIC, OLD_MAGIC, Width, head_row};
 use crate::widths::{block_widths, state_widths};
 use epoch_snapshot::{BLOCK_BYTES, Block, Checkpoint, PageChange, SectorChange};
 use guest_machine::{Frame, SECTOR_BYTES};
-use std::alloc::{AllocError, Global};
+use memory_wanted::{MemoryWanted, extend_from_slice, with_capacity};
+use std::alloc::Global;
 
 /// The bytes of a checkpoint without records and frames: the head and the three counts.
 const LEAST_BYTES: usize = 536;
@@ -29,12 +31,13 @@ pub fn encode(alloc: Global, checkpoint: &Checkpoint) -> Result<Vec<u8>, StreamE
     ensures text { IfOk result (λ bytes. bytes.items ≡ text checkpoint.now) }
     ensures read { IfOk result (λ bytes. ReadsBack checkpoint.now bytes.items) }
     ensures widths { OnOk result (HasWidths checkpoint.now) }
+    ensures err { OnErr result (result ≡ Err (StreamError.NoMemory wanted)) }
 {
     let pages = checkpoint.pages();
     let blocks = checkpoint.blocks();
     let sectors = checkpoint.sectors();
     let frames = checkpoint.frames();
-    let mut out = Vec::with_capacity(
+    let mut out = with_capacity(
         alloc,
         size_of_text(pages.len(), blocks.len(), sectors.len(), frames),
     )?;
@@ -73,19 +76,19 @@ fn size_of_frames(frames: &[Frame]) -> usize {
 
 /// A number at the end, little end first.
 #[tactic(auto, unfolding(crate::specs::HeadTable::bytes_of))]
-fn put(out: &mut Vec<u8>, width: Width, n: u64) -> Result<(), AllocError>
+fn put(out: &mut Vec<u8>, width: Width, n: u64) -> Result<(), MemoryWanted>
     ensures { OnOk result (out.new.items ≡ out.old.items ++ bytes_of width n) }
 {
     let bytes = n.to_le_bytes();
     match width {
-        Width::Two => out.extend_from_slice(&[bytes[0], bytes[1]]),
-        Width::Four => out.extend_from_slice(&[bytes[0], bytes[1], bytes[2], bytes[3]]),
-        Width::Eight => out.extend_from_slice(&bytes),
+        Width::Two => extend_from_slice(out, &[bytes[0], bytes[1]]),
+        Width::Four => extend_from_slice(out, &[bytes[0], bytes[1], bytes[2], bytes[3]]),
+        Width::Eight => extend_from_slice(out, &bytes),
     }
 }
 
 /// The head's numbers at the end.
-fn put_head(out: &mut Vec<u8>, head: &[u64; HEAD_NUMBERS]) -> Result<(), AllocError>
+fn put_head(out: &mut Vec<u8>, head: &[u64; HEAD_NUMBERS]) -> Result<(), MemoryWanted>
     ensures put { OnOk result (out.new.items ≡ out.old.items ++ joined (number_units head_table head.now)) }
     ensures width { OnOk result (All (λ n. n < 2 ^ 64) head.now) }
 {
@@ -96,7 +99,7 @@ fn put_head(out: &mut Vec<u8>, head: &[u64; HEAD_NUMBERS]) -> Result<(), AllocEr
 }
 
 /// The page records at the end, with their blocks.
-fn put_pages(out: &mut Vec<u8>, pages: &[PageChange], blocks: &[Block]) -> Result<(), AllocError>
+fn put_pages(out: &mut Vec<u8>, pages: &[PageChange], blocks: &[Block]) -> Result<(), MemoryWanted>
     requires { block_count pages.now ≤ length blocks.now }
     ensures put { OnOk result (out.new.items ≡ out.old.items ++ joined (page_units pages.now blocks.now)) }
     ensures width { OnOk result (All (λ p. p.mask < 2 ^ 64) pages.now) }
@@ -112,7 +115,7 @@ fn put_pages(out: &mut Vec<u8>, pages: &[PageChange], blocks: &[Block]) -> Resul
 
 /// A page record at the end.
 #[tactic(auto, using(std::proofs::Common::append_assoc))]
-fn put_page(out: &mut Vec<u8>, page: &PageChange, blocks: &[Block]) -> Result<(), AllocError>
+fn put_page(out: &mut Vec<u8>, page: &PageChange, blocks: &[Block]) -> Result<(), MemoryWanted>
     ensures put { OnOk result (out.new.items
         ≡ out.old.items ++ (bytes_of Four page.now.page ++ bytes_of Eight page.now.mask ++ joined blocks.now)) }
     ensures width { OnOk result (page.now.mask < 2 ^ 64) }
@@ -123,14 +126,14 @@ fn put_page(out: &mut Vec<u8>, page: &PageChange, blocks: &[Block]) -> Result<()
 }
 
 /// Blocks at the end.
-fn put_blocks(out: &mut Vec<u8>, blocks: &[Block]) -> Result<(), AllocError>
+fn put_blocks(out: &mut Vec<u8>, blocks: &[Block]) -> Result<(), MemoryWanted>
     ensures { OnOk result (out.new.items ≡ out.old.items ++ joined blocks.now) }
 {
-    out.extend_from_slice(blocks.as_flattened())
+    extend_from_slice(out, blocks.as_flattened())
 }
 
 /// The sector records at the end.
-fn put_sectors(out: &mut Vec<u8>, sectors: &[SectorChange]) -> Result<(), AllocError>
+fn put_sectors(out: &mut Vec<u8>, sectors: &[SectorChange]) -> Result<(), MemoryWanted>
     ensures put { OnOk result (out.new.items ≡ out.old.items ++ joined (sector_units sectors.now)) }
     ensures width { OnOk result (All (λ s. length s.bytes ≡ 512) sectors.now) }
 {
@@ -142,17 +145,17 @@ fn put_sectors(out: &mut Vec<u8>, sectors: &[SectorChange]) -> Result<(), AllocE
 
 /// A sector record at the end.
 #[tactic(auto, using(std::proofs::Common::append_assoc))]
-fn put_sector(out: &mut Vec<u8>, sector: &SectorChange) -> Result<(), AllocError>
+fn put_sector(out: &mut Vec<u8>, sector: &SectorChange) -> Result<(), MemoryWanted>
     ensures put { OnOk result (out.new.items ≡ out.old.items ++ (bytes_of Four sector.now.sector ++ sector.now.bytes)) }
     ensures width { OnOk result (length sector.now.bytes ≡ 512) }
 {
     put(out, Width::Four, u64::from(sector.sector))?;
-    out.extend_from_slice(&sector.bytes)?;
+    extend_from_slice(out, &sector.bytes)?;
     Ok(())
 }
 
 /// The frames at the end, each after its length.
-fn put_frames(out: &mut Vec<u8>, frames: &[Frame]) -> Result<(), AllocError>
+fn put_frames(out: &mut Vec<u8>, frames: &[Frame]) -> Result<(), MemoryWanted>
     ensures { OnOk result (out.new.items ≡ out.old.items ++ joined (frame_units frames.now)) }
 {
     for frame in frames {
@@ -163,11 +166,11 @@ fn put_frames(out: &mut Vec<u8>, frames: &[Frame]) -> Result<(), AllocError>
 
 /// A frame at the end, after its length.
 #[tactic(auto, using(std::proofs::Common::append_assoc))]
-fn put_frame(out: &mut Vec<u8>, frame: &Frame) -> Result<(), AllocError>
+fn put_frame(out: &mut Vec<u8>, frame: &Frame) -> Result<(), MemoryWanted>
     ensures { OnOk result (out.new.items ≡ out.old.items ++ (bytes_of Four (length frame.now.items) ++ frame.now.items)) }
 {
     put(out, Width::Four, frame.len() as u64)?;
-    out.extend_from_slice(frame.as_slice())?;
+    extend_from_slice(out, frame.as_slice())?;
     Ok(())
 }
 

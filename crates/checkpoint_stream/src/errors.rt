@@ -1,9 +1,10 @@
 //! The refusals of the stream.
 ghost use Rattle.std.specs.Prelude.{◌≡◌};
+ghost use Rattle.memory_wanted.specs.Wanted.{wanted};
 ghost use Rattle.checkpoint_stream.specs.Refusals.{number_of, name_of};
 ghost use Rattle.checkpoint_stream.specs.declared.errors.StreamError.TheVariants.{NoMemory};
 
-use std::alloc::AllocError;
+use memory_wanted::MemoryWanted;
 use thiserror::Error;
 
 /// Why a checkpoint can't be written or read. Its `Display` text is its name, and where the bytes are malformed the offset.
@@ -14,14 +15,14 @@ pub enum StreamError {
     Malformed(u64),
     /// A growth was really refused.
     #[error("NoMemory")]
-    NoMemory,
+    NoMemory(MemoryWanted),
 }
 
-impl From<AllocError> for StreamError {
-    ghost from_gives = { λ _ e. e ≡ NoMemory };
+impl From<MemoryWanted> for StreamError {
+    ghost from_gives = { λ _ e. e ≡ NoMemory wanted };
 
-    fn from(_error: AllocError) -> StreamError {
-        StreamError::NoMemory
+    fn from(wanted: MemoryWanted) -> StreamError {
+        StreamError::NoMemory(wanted)
     }
 }
 
@@ -32,7 +33,7 @@ impl StreamError {
     {
         match self {
             StreamError::Malformed(_) => 11,
-            StreamError::NoMemory => 12,
+            StreamError::NoMemory(_) => 12,
         }
     }
 
@@ -42,7 +43,7 @@ impl StreamError {
     {
         match self {
             StreamError::Malformed(_) => "Malformed",
-            StreamError::NoMemory => "NoMemory",
+            StreamError::NoMemory(_) => "NoMemory",
         }
     }
 }

@@ -9,7 +9,7 @@ ghost use Rattle.checkpoint_stream.specs.declared.place.Place.TheVariants.{Frame
 use crate::parts::Parts;
 use crate::place::{Place, frames_due};
 use guest_machine::Frame;
-use std::alloc::AllocError;
+use memory_wanted::{MemoryWanted, reserve};
 use std::mem;
 
 /// How many frames a delta carries at most: as many as an outbox holds.
@@ -30,7 +30,7 @@ impl Parts {
 
     /// Takes how many frames there are, and reserves their places.
     #[tactic(auto, unfolding(crate::specs::Readings::moved_if))]
-    pub(crate) fn take_frame_count(&mut self, n: u32) -> Result<(), AllocError>
+    pub(crate) fn take_frame_count(&mut self, n: u32) -> Result<(), MemoryWanted>
         requires { self.old.place ≡ FrameCount }
         ensures ok { OnOk result (self.new ≡ frame_count_judged self.old n) }
         ensures err { OnErr result (self.new ≡ self.old) }
@@ -39,7 +39,7 @@ impl Parts {
             self.fail();
             return Ok(());
         }
-        self.frames.reserve(n as usize)?;
+        reserve(&mut self.frames, n as usize)?;
         self.offset = self.offset.wrapping_add(4);
         self.place = frames_due(n);
         self.filled = 0;

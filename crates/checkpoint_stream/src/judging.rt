@@ -14,7 +14,7 @@ use crate::place::{Place, after_block, after_number, pages_due, sectors_due};
 use crate::rules::{NEW_MAGIC, Row, Width, head_row, number_of, passes, u32_of};
 use epoch_snapshot::{BLOCK_BYTES, PageChange, SectorChange};
 use guest_machine::SECTOR_BYTES;
-use std::alloc::AllocError;
+use memory_wanted::{MemoryWanted, push};
 
 impl Parts {
     /// The unit that comes next breaks its rule.
@@ -81,7 +81,7 @@ impl Parts {
     }
 
     /// Takes the mask of a page.
-    fn take_mask(&mut self, left: u32, page: u32, mask: u64) -> Result<(), AllocError>
+    fn take_mask(&mut self, left: u32, page: u32, mask: u64) -> Result<(), MemoryWanted>
         ensures ok { OnOk result (self.new ≡ mask_judged self.old left page mask) }
         ensures err { OnErr result (self.new ≡ self.old) }
     {
@@ -94,11 +94,11 @@ impl Parts {
 
     /// Keeps the mask of a page.
     #[tactic(auto, unfolding(crate::specs::Readings::kept_mask))]
-    fn keep_mask(&mut self, left: u32, page: u32, mask: u64) -> Result<(), AllocError>
+    fn keep_mask(&mut self, left: u32, page: u32, mask: u64) -> Result<(), MemoryWanted>
         ensures ok { OnOk result (self.new ≡ kept_mask false self.old left page mask) }
         ensures err { OnErr result (self.new ≡ self.old) }
     {
-        self.pages.push(PageChange { page, mask })?;
+        push(&mut self.pages, PageChange { page, mask })?;
         let more = mask.count_ones().saturating_sub(1);
         self.offset = self.offset.wrapping_add(8);
         self.place = Place::Block { left, page, more };
@@ -114,7 +114,7 @@ impl Parts {
         page: u32,
         more: u32,
         unit: &[u8],
-    ) -> Result<(), AllocError>
+    ) -> Result<(), MemoryWanted>
         requires { length unit.now ≡ 64 }
         ensures ok { OnOk result (self.new ≡ block_judged self.old left page more unit.now) }
         ensures err { OnErr result (self.new ≡ self.old) }
@@ -128,14 +128,20 @@ impl Parts {
 
     /// Keeps a block.
     #[tactic(auto, unfolding(crate::specs::Readings::kept_block))]
-    fn keep_block(&mut self, left: u32, page: u32, more: u32, unit: &[u8]) -> Result<(), AllocError>
+    fn keep_block(
+        &mut self,
+        left: u32,
+        page: u32,
+        more: u32,
+        unit: &[u8],
+    ) -> Result<(), MemoryWanted>
         requires { length unit.now ≡ 64 }
         ensures ok { OnOk result (self.new ≡ kept_block false self.old left page more unit.now) }
         ensures err { OnErr result (self.new ≡ self.old) }
     {
         let mut block = [0; BLOCK_BYTES];
         block.copy_from_slice(unit);
-        self.blocks.push(block)?;
+        push(&mut self.blocks, block)?;
         self.offset = self.offset.wrapping_add(64);
         self.place = after_block(left, page, more);
         self.filled = 0;
@@ -163,7 +169,7 @@ impl Parts {
     }
 
     /// Takes the bytes of a sector.
-    fn take_sector(&mut self, left: u32, sector: u32, unit: &[u8]) -> Result<(), AllocError>
+    fn take_sector(&mut self, left: u32, sector: u32, unit: &[u8]) -> Result<(), MemoryWanted>
         requires { length unit.now ≡ 512 }
         ensures ok { OnOk result (self.new ≡ sector_judged self.old left sector unit.now) }
         ensures err { OnErr result (self.new ≡ self.old) }
@@ -177,14 +183,14 @@ impl Parts {
 
     /// Keeps the bytes of a sector.
     #[tactic(auto, unfolding(crate::specs::Readings::kept_sector))]
-    fn keep_sector(&mut self, left: u32, sector: u32, unit: &[u8]) -> Result<(), AllocError>
+    fn keep_sector(&mut self, left: u32, sector: u32, unit: &[u8]) -> Result<(), MemoryWanted>
         requires { length unit.now ≡ 512 }
         ensures ok { OnOk result (self.new ≡ kept_sector false self.old left sector unit.now) }
         ensures err { OnErr result (self.new ≡ self.old) }
     {
         let mut bytes = [0; SECTOR_BYTES];
         bytes.copy_from_slice(unit);
-        self.sectors.push(SectorChange { sector, bytes })?;
+        push(&mut self.sectors, SectorChange { sector, bytes })?;
         self.offset = self.offset.wrapping_add(512);
         self.place = sectors_due(self.after_sectors(), left, u64::from(sector) + 1);
         self.filled = 0;
@@ -194,7 +200,7 @@ impl Parts {
 
     /// Takes the unit that comes next, which is whole and isn't a frame's bytes.
     #[tactic(auto, unfolding(crate::specs::Readings::judged))]
-    pub(crate) fn judge(&mut self, unit: &[u8]) -> Result<(), AllocError>
+    pub(crate) fn judge(&mut self, unit: &[u8]) -> Result<(), MemoryWanted>
         requires whole { length unit.now ≡ width_of self.old }
         requires other { (left len : ℕ) → self.old.place ≢ FrameBytes left len }
         ensures ok { OnOk result (self.new ≡ judged self.old unit.now) }

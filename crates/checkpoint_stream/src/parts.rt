@@ -13,7 +13,8 @@ use crate::rules::{HEAD_NUMBERS, head_row};
 use crate::states::{state_from, version_from};
 use epoch_snapshot::{Block, Checkpoint, PageChange, SectorChange};
 use guest_machine::{Frame, SECTOR_BYTES, Shape};
-use std::alloc::{AllocError, Global};
+use memory_wanted::MemoryWanted;
+use std::alloc::Global;
 use std::marker::Model;
 use std::mem;
 
@@ -154,7 +155,7 @@ impl Parts {
     /// # Errors
     ///
     /// A growth was really refused. Nothing changed.
-    pub(crate) fn feed(&mut self, piece: &[u8]) -> Result<usize, AllocError>
+    pub(crate) fn feed(&mut self, piece: &[u8]) -> Result<usize, MemoryWanted>
         ensures read { OnOk result (self.new ≡ fed self.old piece.now) }
         ensures count { IfOk result (λ n. n ≡ taken self.old piece.now) }
         ensures err { OnErr result (self.new ≡ self.old) }
@@ -170,7 +171,7 @@ impl Parts {
     }
 
     /// Takes bytes up to the end of the checkpoint. After an error some may have been taken.
-    fn feed_on(&mut self, piece: &[u8]) -> Result<usize, AllocError>
+    fn feed_on(&mut self, piece: &[u8]) -> Result<usize, MemoryWanted>
         ensures read { OnOk result (self.new ≡ fed self.old piece.now) }
         ensures count { IfOk result (λ n. n ≡ taken self.old piece.now) }
         ensures err { OnErr result (Extends self.old self.new) }
@@ -232,7 +233,7 @@ impl Parts {
     }
 
     /// Takes bytes of the unit that comes next, and the unit where they complete it. Answers how many: at least one.
-    fn take(&mut self, rest: &[u8]) -> Result<usize, AllocError>
+    fn take(&mut self, rest: &[u8]) -> Result<usize, MemoryWanted>
         requires going { is_closed self.old.place ≡ false }
         requires some { 0 < length rest.now }
         ensures count { IfOk result (λ n. (0 < n) × (n ≤ length rest.now)) }
@@ -252,7 +253,7 @@ impl Parts {
     }
 
     /// Takes bytes of the unit that comes next, which has begun or which they don't complete. Answers how many.
-    fn take_part(&mut self, rest: &[u8], width: usize) -> Result<usize, AllocError>
+    fn take_part(&mut self, rest: &[u8], width: usize) -> Result<usize, MemoryWanted>
         requires going { is_closed self.old.place ≡ false }
         requires some { 0 < length rest.now }
         requires width { width ≡ width_of self.old }

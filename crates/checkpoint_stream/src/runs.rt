@@ -8,7 +8,7 @@ use crate::parts::Parts;
 use crate::place::Place;
 use crate::rules::{head_row, number_of};
 use epoch_snapshot::BLOCK_BYTES;
-use std::alloc::AllocError;
+use memory_wanted::MemoryWanted;
 
 /// The bytes of the widest number.
 const WIDEST: usize = 8;
@@ -49,7 +49,7 @@ impl Parts {
     }
 
     /// Takes the blocks of a page that come next and are whole. Answers how many bytes. After an error some may have been taken.
-    pub(crate) fn take_blocks(&mut self, rest: &[u8]) -> Result<usize, AllocError>
+    pub(crate) fn take_blocks(&mut self, rest: &[u8]) -> Result<usize, MemoryWanted>
         ensures count { IfOk result (λ n. n ≤ length rest.now) }
         ensures read { IfOk result (λ n. Takes self.old (take n rest.now) self.new) }
         ensures err { OnErr result (Extends self.old self.new) }

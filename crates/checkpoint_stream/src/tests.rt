@@ -4,6 +4,7 @@ mod hostile;
 
 use super::*;
 use guest_machine::Shape;
+use memory_wanted::reserve;
 use std::alloc::Global;
 use std::test::*;
 
@@ -72,7 +73,7 @@ pub(crate) fn read(alloc: Global, bytes: &[u8], size: usize) -> Result<(u64, Opt
                         Err("the refusal stays".into())
                     };
                 }
-                Err(StreamError::NoMemory) => return Err("there is memory".into()),
+                Err(StreamError::NoMemory(_)) => return Err("there is memory".into()),
             }
             if reader.next().is_some() {
                 found = found.saturating_add(1);
@@ -146,9 +147,14 @@ fn a_stream_comes_in_any_pieces(rt: HostRuntime) -> Result<(), Fail> {
 }
 
 #[test]
-fn refusals_have_numbers_and_names(rt: HostRuntime) {
+fn refusals_have_numbers_and_names(rt: HostRuntime) -> Result<(), Fail> {
+    let Err(wanted) = reserve(&mut Vec::<u64>::new(rt.alloc()), usize::MAX) else {
+        return Err("no machine has that much".into());
+    };
+    let refused = StreamError::from(wanted);
     assert_eq!(rt; StreamError::Malformed(7).number(), 11);
     assert_eq!(rt; StreamError::Malformed(7).name(), "Malformed");
-    assert_eq!(rt; StreamError::NoMemory.number(), 12);
-    assert_eq!(rt; StreamError::NoMemory.name(), "NoMemory");
+    assert_eq!(rt; refused.number(), 12);
+    assert_eq!(rt; refused.name(), "NoMemory");
+    Ok(())
 }

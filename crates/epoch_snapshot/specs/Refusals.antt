@@ -4,7 +4,7 @@ use Rattle.epoch_snapshot.specs.declared.errors.SnapshotError.{SnapshotError}
 use Rattle.epoch_snapshot.specs.declared.errors.SnapshotError.TheVariants.{NoMemory}
 
 abbrev pub number_of : SnapshotError → ℕ
-number_of NoMemory = 12
+number_of (NoMemory _) = 12
 
 abbrev pub name_of : SnapshotError → List ℕ
-name_of NoMemory = codes "NoMemory"
+name_of (NoMemory _) = codes "NoMemory"

@@ -1,5 +1,6 @@
 //! Cuts: the checkpoint of what a machine changed, and the one of all that it holds.
 ghost use Rattle.std.specs.Prelude.{◌≡◌, ◌^◌, ◌<◌, ◌≤◌, IfOk, OnErr, Err, [], length, replicate};
+ghost use Rattle.memory_wanted.specs.Wanted.{wanted};
 ghost use Rattle.guest_machine.specs.Guest.{Guest, sector_count};
 ghost use Rattle.epoch_snapshot.specs.Bases.{IsBase, IsCut};
 ghost use Rattle.epoch_snapshot.specs.Cuts.{used_sectors};
@@ -11,6 +12,7 @@ use crate::frames::push_copies;
 use crate::memory::{Over, push_pages};
 use crate::sectors::{push_used, push_written};
 use guest_machine::Machine;
+use memory_wanted::with_capacity;
 use std::alloc::Global;
 
 /// The form in which cuts are written.
@@ -36,13 +38,13 @@ pub fn cut_delta(
     requires last_number { number < 2 ^ 62 }
     ensures image { IfOk result (λ c. (base : Guest) → IsBase machine.now base → image_of c base ≡ machine.now.guest) }
     ensures parts { IfOk result (IsCut machine.now.settled machine.now.dirty machine.now.outbox machine.now generation number) }
-    ensures err { OnErr result (result ≡ Err SnapshotError.NoMemory) }
+    ensures err { OnErr result (result ≡ Err (SnapshotError.NoMemory wanted)) }
 {
     let shape = machine.shape();
     let mut pages = Vec::new(alloc);
     let mut blocks = Vec::new(alloc);
-    let mut sectors = Vec::with_capacity(alloc, machine.dirty_sectors().len())?;
-    let mut frames = Vec::with_capacity(alloc, machine.outbox().len())?;
+    let mut sectors = with_capacity(alloc, machine.dirty_sectors().len())?;
+    let mut frames = with_capacity(alloc, machine.outbox().len())?;
     push_pages(machine, Over::Settled, shape.pages, &mut pages, &mut blocks)?;
     push_written(machine, &mut sectors);
     push_copies(&mut frames, machine.outbox());
@@ -76,7 +78,7 @@ pub fn cut_full(
     ensures image { IfOk result (λ c. (base : Guest) → image_of c base ≡ machine.now.guest) }
     ensures parts { IfOk result (IsCut (replicate (length machine.now.guest.ram) 0)
         (used_sectors machine.now.guest.sectors (sector_count machine.now.guest.sectors)) [] machine.now generation 0) }
-    ensures err { OnErr result (result ≡ Err SnapshotError.NoMemory) }
+    ensures err { OnErr result (result ≡ Err (SnapshotError.NoMemory wanted)) }
 {
     let shape = machine.shape();
     let mut pages = Vec::new(alloc);

@@ -6,8 +6,8 @@ ghost use Rattle.epoch_snapshot.specs.Bases.{old_ram};
 
 use crate::changes::{BLOCK_BYTES, Block, PageChange};
 use guest_machine::Machine;
+use memory_wanted::{MemoryWanted, push, reserve};
 use page_lanes::{Page, mask, xor_blocks};
-use std::alloc::AllocError;
 
 /// How many pages are passed over in one go where none of them was written.
 const GROUP_PAGES: u32 = 256;
@@ -157,14 +157,14 @@ fn push_page(
     change: PageChange,
     pages: &mut Vec<PageChange>,
     blocks: &mut Vec<Block>,
-) -> Result<(), AllocError>
+) -> Result<(), MemoryWanted>
     requires { 4096 * change.page + 4096 ≤ length machine.now.guest.ram }
     ensures pages { OnOk result (pages.new.items ≡ pages.old.items ++ change ∷ []) }
     ensures blocks { OnOk result (blocks.new.items
         ≡ blocks.old.items ++ changed_blocks (old_ram over machine.now) machine.now.guest.ram (change ∷ [])) }
 {
-    pages.push(change)?;
-    blocks.reserve(change.mask.count_ones() as usize)?;
+    push(pages, change)?;
+    reserve(blocks, change.mask.count_ones() as usize)?;
     push_page_blocks(
         old_page(machine, over, change.page),
         machine.page(change.page),
@@ -182,7 +182,7 @@ pub(crate) fn push_pages(
     count: u32,
     pages: &mut Vec<PageChange>,
     blocks: &mut Vec<Block>,
-) -> Result<(), AllocError>
+) -> Result<(), MemoryWanted>
     requires size { 4096 * count ≤ length machine.now.guest.ram }
     requires no_pages { pages.old.items ≡ [] }
     requires no_blocks { blocks.old.items ≡ [] }

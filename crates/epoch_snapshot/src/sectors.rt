@@ -4,7 +4,7 @@ ghost use Rattle.epoch_snapshot.specs.Cuts.{sector_change, changed_sectors, used
 
 use crate::changes::SectorChange;
 use guest_machine::Machine;
-use std::alloc::AllocError;
+use memory_wanted::{MemoryWanted, push};
 
 /// A sector with its bytes.
 fn record(machine: &Machine, sector: u32) -> SectorChange
@@ -33,14 +33,14 @@ pub(crate) fn push_used(
     machine: &Machine,
     count: u32,
     list: &mut Vec<SectorChange>,
-) -> Result<(), AllocError>
+) -> Result<(), MemoryWanted>
     requires size { 512 * count ≤ length machine.now.guest.sectors }
     requires empty { list.old.items ≡ [] }
     ensures { OnOk result (list.new.items ≡ changed_sectors machine.now.guest.sectors (used_sectors machine.now.guest.sectors count)) }
 {
     for sector in 0..count {
         if !machine.blank(sector) {
-            list.push(record(machine, sector))?;
+            push(list, record(machine, sector))?;
         }
     }
     Ok(())

@@ -2,6 +2,7 @@
 
 use crate::{Checkpoint, SnapshotError, cut_delta, cut_full};
 use guest_machine::{Machine, PAGE_BYTES, Shape};
+use memory_wanted::reserve;
 use std::alloc::{AllocError, Global};
 use std::process::Abort;
 use std::test::Fail;
@@ -178,7 +179,10 @@ fn full_checkpoint_of_the_disk_guest(rt: HostRuntime) -> Result<(), Fail> {
 
 #[test]
 fn refusal_has_its_number_and_name(rt: HostRuntime) -> Result<(), Fail> {
-    let refused = SnapshotError::NoMemory;
+    let Err(wanted) = reserve(&mut Vec::<u64>::new(rt.alloc()), usize::MAX) else {
+        return Err("no machine has that much".into());
+    };
+    let refused = SnapshotError::from(wanted);
     assert_eq!(rt; refused.number(), 12);
     assert_eq!(rt; refused.name(), "NoMemory");
     assert_eq!(rt; format!(in rt.alloc(); "{refused}")?.as_str(), "NoMemory");

@@ -12,7 +12,8 @@ use crate::virtio::{
     QUEUE_DESC, QUEUE_DEVICE, QUEUE_DRIVER, QUEUE_NOTIFY, QUEUE_NUM, QUEUE_READY, QUEUE_SEL,
     STATUS,
 };
-use std::alloc::{AllocError, Global};
+use memory_wanted::MemoryWanted;
+use std::alloc::Global;
 
 /// Where the descriptors of the queue lie.
 const DESCRIPTORS: u64 = 0x8000_1000;
@@ -33,7 +34,7 @@ const HEADER_AND_FRAME: &[u8; 26] =
 ///
 /// The only error is out of memory.
 #[tactic(auto, unfolding(crate::specs::Image::image_of))]
-pub fn beacon(alloc: Global) -> Result<Vec<u8>, AllocError>
+pub fn beacon(alloc: Global) -> Result<Vec<u8>, MemoryWanted>
     ensures image { IfOk result (λ image. image.items ≡ image_of beacon_program) }
     ensures size { IfOk result (λ image. vec_len image ≡ 0x111a) }
 {

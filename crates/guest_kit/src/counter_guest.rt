@@ -7,7 +7,8 @@ ghost use Rattle.guest_kit.specs.Counter.{counter_program, counter_words};
 use crate::assembler::Reg::{X0, X5, X6, X7, X8};
 use crate::assembler::{addi, auipc, csrrs, csrrsi, csrrw, jal, ld, lui, mret, sd};
 use crate::image::push_words;
-use std::alloc::{AllocError, Global};
+use memory_wanted::MemoryWanted;
+use std::alloc::Global;
 
 /// `mtimecmp`, a register of the timer.
 const MTIMECMP: u64 = 0x0200_4000;
@@ -37,7 +38,7 @@ const TO_HANDLER: u64 = 40;
 ///
 /// The only error is out of memory.
 #[tactic(auto, unfolding(crate::specs::Image::image_of))]
-pub fn counter(alloc: Global) -> Result<Vec<u8>, AllocError>
+pub fn counter(alloc: Global) -> Result<Vec<u8>, MemoryWanted>
     ensures image { IfOk result (λ image. image.items ≡ image_of counter_program) }
     ensures size { IfOk result (λ image. vec_len image ≡ 80) }
 {

@@ -12,7 +12,8 @@ use crate::virtio::{
     QUEUE_DESC, QUEUE_DEVICE, QUEUE_DRIVER, QUEUE_NOTIFY, QUEUE_NUM, QUEUE_READY, QUEUE_SEL,
     STATUS, WRITE,
 };
-use std::alloc::{AllocError, Global};
+use memory_wanted::MemoryWanted;
+use std::alloc::Global;
 
 /// Where the descriptors of the queue lie.
 const DESCRIPTORS: u64 = 0x8000_1000;
@@ -39,7 +40,7 @@ const UNSERVED: u8 = 0xff;
 ///
 /// The only error is out of memory.
 #[tactic(auto, unfolding(crate::specs::Image::image_of))]
-pub fn disk_once(alloc: Global, sector: u64, byte: u8) -> Result<Vec<u8>, AllocError>
+pub fn disk_once(alloc: Global, sector: u64, byte: u8) -> Result<Vec<u8>, MemoryWanted>
     ensures image { IfOk result (λ image. image.items ≡ image_of (disk_program sector byte)) }
     ensures size { IfOk result (λ image. vec_len image ≡ 0x1400) }
 {

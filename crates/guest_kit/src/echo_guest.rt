@@ -14,7 +14,8 @@ use crate::virtio::{
     INTERRUPT_ACK, INTERRUPT_STATUS, NETWORK, QUEUE_DESC, QUEUE_DEVICE, QUEUE_DRIVER, QUEUE_NOTIFY,
     QUEUE_NUM, QUEUE_READY, QUEUE_SEL, STATUS, WRITE,
 };
-use std::alloc::{AllocError, Global};
+use memory_wanted::MemoryWanted;
+use std::alloc::Global;
 
 /// Where the receiving queue's descriptors lie, at the start of a page; its available ring lies 64 bytes behind them, and its
 /// used ring as far again. The sending queue's lie 256 bytes behind these.
@@ -61,7 +62,7 @@ const NONE_AVAILABLE: [u8; 4] = [1, 0, 0, 0];
 ///
 /// The only error is out of memory.
 #[tactic(auto, unfolding(crate::specs::Image::image_of))]
-pub fn echo(alloc: Global) -> Result<Vec<u8>, AllocError>
+pub fn echo(alloc: Global) -> Result<Vec<u8>, MemoryWanted>
     ensures image { IfOk result (λ image. image.items ≡ image_of echo_program) }
     ensures size { IfOk result (λ image. vec_len image ≡ 0x1144) }
 {
@@ -110,7 +111,7 @@ pub fn echo(alloc: Global) -> Result<Vec<u8>, AllocError>
 
 /// Puts the instructions behind an image. `x5` holds the first register of the device, `x6` the number 1, `x8` how many frames
 /// were sent back, `x9` the address of the rings, and `x10` that of the buffers.
-fn push_instructions(image: &mut Vec<u8>) -> Result<(), AllocError>
+fn push_instructions(image: &mut Vec<u8>) -> Result<(), MemoryWanted>
     ensures items { OnOk result (image.new.items ≡ image.old.items ++ word_bytes echo_words) }
     ensures len { OnOk result (vec_len image.new ≡ vec_len image.old + 312) }
 {

@@ -7,13 +7,14 @@ ghost use Rattle.guest_kit.specs.Idle.{idle_program};
 use crate::assembler::Reg::X0;
 use crate::assembler::jal;
 use crate::image::push_words;
-use std::alloc::{AllocError, Global};
+use memory_wanted::MemoryWanted;
+use std::alloc::Global;
 
 /// The image of the guest that jumps to itself for ever, in one word at the start of RAM.
 ///
 /// The only error is out of memory.
 #[tactic(auto, unfolding(crate::specs::Image::image_of))]
-pub fn idle(alloc: Global) -> Result<Vec<u8>, AllocError>
+pub fn idle(alloc: Global) -> Result<Vec<u8>, MemoryWanted>
     ensures image { IfOk result (λ image. image.items ≡ image_of idle_program) }
     ensures size { IfOk result (λ image. vec_len image ≡ 4) }
 {

@@ -4,32 +4,32 @@ ghost use Rattle.std.specs.Prelude.{◌≡◌, ◌+◌, ◌-◌, ◌*◌, ◌^�
 ghost use Rattle.guest_kit.specs.Image.{word_bytes, with_part};
 ghost use Rattle.guest_kit.specs.Rings.{descriptor};
 
-use std::alloc::AllocError;
+use memory_wanted::{MemoryWanted, extend_from_slice, resize};
 
 /// The first address of RAM, where an image begins.
 const RAM: u64 = 0x8000_0000;
 
 /// Puts words behind an image, each with its low byte first.
-pub(crate) fn push_words(image: &mut Vec<u8>, words: &[u32]) -> Result<(), AllocError>
+pub(crate) fn push_words(image: &mut Vec<u8>, words: &[u32]) -> Result<(), MemoryWanted>
     ensures items { OnOk result (image.new.items ≡ image.old.items ++ word_bytes words.now) }
     ensures len { OnOk result (vec_len image.new ≡ vec_len image.old + 4 * length words.now) }
 {
     for word in words {
-        image.extend_from_slice(&word.to_le_bytes())?;
+        extend_from_slice(image, &word.to_le_bytes())?;
     }
     Ok(())
 }
 
 /// Puts bytes behind an image, at their address, with zeros up to there.
 #[tactic(auto, unfolding(crate::specs::Image::with_part))]
-pub(crate) fn place(image: &mut Vec<u8>, address: u64, bytes: &[u8]) -> Result<(), AllocError>
+pub(crate) fn place(image: &mut Vec<u8>, address: u64, bytes: &[u8]) -> Result<(), MemoryWanted>
     requires behind { RAM + vec_len image.old ≤ address }
     requires near { address < RAM + 2 ^ 32 }
     ensures items { OnOk result (image.new.items ≡ with_part image.old.items (record { address = address; bytes = bytes.now })) }
     ensures len { OnOk result (RAM + vec_len image.new ≡ address + length bytes.now) }
 {
-    image.resize((address - RAM) as usize, 0)?;
-    image.extend_from_slice(bytes)?;
+    resize(image, (address - RAM) as usize, 0)?;
+    extend_from_slice(image, bytes)?;
     Ok(())
 }
 

@@ -4,9 +4,9 @@ use Rattle.guest_machine.specs.declared.errors.MachineError.{MachineError}
 use Rattle.guest_machine.specs.declared.errors.MachineError.TheVariants.{NoMemory, CutNeeded}
 
 abbrev pub error_number : MachineError → ℕ
-error_number NoMemory = 12
+error_number (NoMemory _) = 12
 error_number CutNeeded = 13
 
 abbrev pub error_name : MachineError → List ℕ
-error_name NoMemory = codes "NoMemory"
+error_name (NoMemory _) = codes "NoMemory"
 error_name CutNeeded = codes "CutNeeded"

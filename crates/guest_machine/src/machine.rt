@@ -1,5 +1,6 @@
 //! A machine: the guest and the frames that it sent.
 ghost use Rattle.std.specs.Prelude.{◌≡◌, ◌-◌, ◌*◌, ◌<◌, ◌≤◌, ◌↔◌, [], ◌++◌, false, length, replicate, IsErr, IfOk, OnOk, OnErr, Err};
+ghost use Rattle.memory_wanted.specs.Wanted.{wanted};
 ghost use Rattle.net_device.specs.Receive.{received};
 ghost use Rattle.guest_machine.specs.Flags.{KeepsFlags};
 ghost use Rattle.guest_machine.specs.Guest.{boot_guest};
@@ -66,23 +67,13 @@ impl Machine {
         ensures dirty { IfOk result (λ machine. machine.dirty ≡ []) }
         ensures settled { IfOk result (λ machine. machine.settled ≡ machine.guest.ram) }
         ensures written { IfOk result (λ machine. machine.written ≡ replicate shape.pages false) }
-        ensures err { OnErr result (result ≡ Err MachineError.NoMemory) }
+        ensures err { OnErr result (result ≡ Err (MachineError.NoMemory wanted)) }
     {
-        let Ok(memory) = Memory::boot(alloc, shape.pages, image) else {
-            return Err(MachineError::NoMemory);
-        };
-        let Ok(devices) = Devices::boot(alloc, shape.sectors) else {
-            return Err(MachineError::NoMemory);
-        };
-        let Ok(outbox) = Outbox::new(alloc) else {
-            return Err(MachineError::NoMemory);
-        };
-        let Ok(words) = PreparedWords::boot(alloc) else {
-            return Err(MachineError::NoMemory);
-        };
-        let Ok(looks) = Looks::boot(alloc) else {
-            return Err(MachineError::NoMemory);
-        };
+        let memory = Memory::boot(alloc, shape.pages, image)?;
+        let devices = Devices::boot(alloc, shape.sectors)?;
+        let outbox = Outbox::new(alloc)?;
+        let words = PreparedWords::boot(alloc)?;
+        let looks = Looks::boot(alloc)?;
         Ok(Machine {
             hart: Hart {
                 regs: Regs::new(),

@@ -4,7 +4,7 @@ use Rattle.net_device.specs.declared.errors.OutboxError.{OutboxError}
 use Rattle.net_device.specs.declared.errors.OutboxError.TheVariants.{NoMemory}
 
 abbrev pub error_number : OutboxError → ℕ
-error_number NoMemory = 12
+error_number (NoMemory _) = 12
 
 abbrev pub error_name : OutboxError → List ℕ
-error_name NoMemory = codes "NoMemory"
+error_name (NoMemory _) = codes "NoMemory"

@@ -7,6 +7,7 @@ ghost use Rattle.net_device.specs.Limits.{shortest_frame, longest_frame, outbox_
 
 use crate::errors::OutboxError;
 use arrayvec::ArrayVec;
+use memory_wanted::with_capacity;
 use std::alloc::Global;
 use std::marker::Model;
 use virtqueue::{Chain, GuestRam, Queue};
@@ -42,9 +43,7 @@ impl Outbox {
     pub fn new(alloc: Global) -> Result<Outbox, OutboxError>
         ensures { IfOk result (λ outbox. outbox ≡ []) }
     {
-        let Ok(frames) = Vec::with_capacity(alloc, OUTBOX_FRAMES) else {
-            return Err(OutboxError::NoMemory);
-        };
+        let frames = with_capacity(alloc, OUTBOX_FRAMES)?;
         Ok(Outbox { frames })
     }
 

@@ -7,6 +7,7 @@ ghost use Rattle.virtio_mmio.specs.declared.kinds.DeviceKind.TheVariants.{Networ
 use crate::device::NetDevice;
 use crate::errors::OutboxError;
 use crate::frames::{Frame, Outbox};
+use memory_wanted::reserve;
 use std::test::Fail;
 use virtqueue::{GuestRam, PlainRam};
 
@@ -162,12 +163,13 @@ fn an_outbox_keeps_frames_in_order(rt: HostRuntime) -> Result<(), Fail> {
 
 #[test]
 fn a_refusal_has_its_number_and_name(rt: HostRuntime) -> Result<(), Fail> {
-    let alloc = rt.alloc();
-    assert_eq!(rt; OutboxError::NoMemory.number(), 12);
-    assert_eq!(rt; OutboxError::NoMemory.name(), "NoMemory");
-    assert_eq!(rt;
-        format!(in alloc; "{}", OutboxError::NoMemory)?.as_str(),
-        "NoMemory"
-    );
+    let Err(wanted) = reserve(&mut Vec::<u64>::new(rt.alloc()), usize::MAX) else {
+        return Err("no machine has that much".into());
+    };
+    let error = OutboxError::from(wanted);
+    assert_eq!(rt; error.number(), 12);
+    assert_eq!(rt; error.name(), "NoMemory");
+    let text = format!(in rt.alloc(); "{error}")?;
+    assert_eq!(rt; text.as_str(), "NoMemory");
     Ok(())
 }

@@ -5,8 +5,9 @@ ghost use Rattle.paged_memory.specs.Limits.{page_bytes, most_pages};
 ghost use Rattle.paged_memory.specs.Pages.{IsPaged, page_of, is_written, written_pages, with_written, boot_bytes, settled_at};
 
 use crate::keeping::clear_flags;
+use memory_wanted::{MemoryWanted, extend_from_slice, resize, with_capacity};
 use page_lanes::{BLOCK_SIZE, Block, xor_block_at};
-use std::alloc::{AllocError, Global};
+use std::alloc::Global;
 use std::marker::Model;
 
 /// Bytes in a page.
@@ -44,21 +45,21 @@ impl Memory {
     ///
     /// # Errors
     /// Where memory is refused.
-    pub fn boot(alloc: Global, pages: u32, image: &[u8]) -> Result<Memory, AllocError>
+    pub fn boot(alloc: Global, pages: u32, image: &[u8]) -> Result<Memory, MemoryWanted>
         requires some { 1 ≤ pages }
         requires most { pages ≤ most_pages }
         requires fits { length image.now ≤ page_bytes * pages }
         ensures { IfOk result (λ memory. memory ≡ settled_at (boot_bytes pages image.now) pages 0) }
     {
         let size = PAGE_BYTES * pages as usize;
-        let mut bytes = Vec::with_capacity(alloc, size)?;
-        bytes.extend_from_slice(image)?;
-        bytes.resize(size, 0)?;
-        let mut originals = Vec::with_capacity(alloc, size)?;
-        originals.resize(size, 0)?;
-        let mut written = Vec::with_capacity(alloc, pages as usize)?;
-        written.resize(pages as usize, false)?;
-        let dirty = Vec::with_capacity(alloc, pages as usize)?;
+        let mut bytes = with_capacity(alloc, size)?;
+        extend_from_slice(&mut bytes, image)?;
+        resize(&mut bytes, size, 0)?;
+        let mut originals = with_capacity(alloc, size)?;
+        resize(&mut originals, size, 0)?;
+        let mut written = with_capacity(alloc, pages as usize)?;
+        resize(&mut written, pages as usize, false)?;
+        let dirty = with_capacity(alloc, pages as usize)?;
         Ok(Memory {
             bytes,
             originals,

@@ -5,6 +5,7 @@ use Rattle.std.specs.Prelude.{◌^◌, ◌||◌, ◌&&◌, nat_le, nat_lt, not, 
 use Rattle.guest_machine.specs.Guest.{Guest}
 use Rattle.frame_ports.specs.{Lands.list_of}
 use Rattle.pair_history.specs.{Entries.{Frame, Entry}, HistoryState.{HistoryState, inbox_of}}
+use Rattle.memory_wanted.specs.Wanted.{wanted}
 use Rattle.pair_core.specs.declared.event.Event.{Event}
 use Rattle.pair_core.specs.declared.event.Event.TheVariants.{Deliver, Take, LoseIn, LoseOut}
 use Rattle.pair_core.specs.declared.event.Refusal.TheVariants.{Full, BadFrame, NoClient, NoMemory, Exhausted}
@@ -71,7 +72,7 @@ module _ (start : HistoryState) (r : Record) (g : Guest) where
 
   -- the protocol leads to that outcome, and the reply is its own, or tells of want of memory
   abbrev Ways : Outcome → Reply → Type 0
-  Ways o reply = (reply ≡ o.0) ⊎ (MayWantMemory r o × (reply ≡ replies.Refused NoMemory))
+  Ways o reply = (reply ≡ o.0) ⊎ (MayWantMemory r o × (reply ≡ replies.Refused (NoMemory wanted)))
 
   take_ways : (c : ℕ) (reply : Reply) → Ways (outcome start r (Take c)) reply → AnswersTake start m c reply
   take_ways c reply k = by_tests (is_among c clients) (exhausts r 1) refl refl k

@@ -1,30 +1,31 @@
 -- From what a call of the record ensures of its result, to the invariant of the world.
 use Rattle.std.proofs.Common.{◌≡◌, ◌∙◌, sym, ap, subst, Result, Ok, Err, OnErr}
-use Rattle.std.specs.{Prelude.{IfOk, OnOk}, declared.alloc.AllocError.AllocError}
+use Rattle.std.specs.Prelude.{IfOk, OnOk}
+use Rattle.memory_wanted.specs.declared.MemoryWanted.{MemoryWanted}
 use Rattle.frame_ports.specs.Ports.{PortsState}
 use Rattle.pair_core.specs.{declared.event.Reply.Reply, Invariant.Holds, Pair.Pair, Protocol.{Record, Outcome}, Record.RecordState}
 
 -- on either result
-pub on_ok : {A : Type 0} (o : Result A AllocError) (P : Type 0) → P → OnOk o P
+pub on_ok : {A : Type 0} (o : Result A MemoryWanted) (P : Type 0) → P → OnOk o P
 on_ok (Ok x) P p = p
 on_ok (Err e) P p = tt
 
-pub on_err : {A : Type 0} (o : Result A AllocError) (P : Type 0) → P → OnErr o P
+pub on_err : {A : Type 0} (o : Result A MemoryWanted) (P : Type 0) → P → OnErr o P
 on_err (Ok x) P p = tt
 on_err (Err e) P p = p
 
-pub on_err_so : {A : Type 0} (o : Result A AllocError) (P Q : Type 0) → (P → Q) → OnErr o P → OnErr o Q
+pub on_err_so : {A : Type 0} (o : Result A MemoryWanted) (P Q : Type 0) → (P → Q) → OnErr o P → OnErr o Q
 on_err_so (Ok x) P Q f p = tt
 on_err_so (Err e) P Q f p = f p
 
 -- it is answered and leaves what the protocol says
-pub answered_so : (o : Result Reply AllocError) (r : Record) (done out : Outcome) → done ≡ out → IfOk o (λ reply. (reply, r) ≡ done)
+pub answered_so : (o : Result Reply MemoryWanted) (r : Record) (done out : Outcome) → done ≡ out → IfOk o (λ reply. (reply, r) ≡ done)
     → IfOk o (λ reply. (reply, r) ≡ out)
 answered_so (Ok x) r done out e k = k ∙ e
 answered_so (Err x) r done out e k = tt
 
 -- the invariant after a call that did all or nothing
-pub after_call : (w : Pair) → Holds w → (s : RecordState) (o : Result Reply AllocError) (done : Outcome) (ports : PortsState)
+pub after_call : (w : Pair) → Holds w → (s : RecordState) (o : Result Reply MemoryWanted) (done : Outcome) (ports : PortsState)
     → IfOk o (λ reply. (reply, s.protocol) ≡ done) → OnOk o (s.ports ≡ ports)
     → OnErr o (s ≡ record { protocol = w.protocol; ports = w.ports })
     → Holds (record w { protocol = done.1; ports = ports }) → Holds (record w { protocol = s.protocol; ports = s.ports })

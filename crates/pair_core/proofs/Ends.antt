@@ -7,6 +7,7 @@ use Rattle.guest_machine.specs.Step.{next, sent}
 use Rattle.frame_ports.specs.Lands.{list_of}
 use Rattle.pair_history.specs.{Entries.{Frame, Entry, Arrive, Delivered, DropIn, DropOut, Took}, HistoryState.{HistoryState, inbox_of}}
 use Rattle.pair_history.specs.Landings.{landings}
+use Rattle.memory_wanted.specs.Wanted.{wanted}
 use Rattle.pair_core.specs.declared.event.Event.{Event}
 use Rattle.pair_core.specs.declared.event.Event.TheVariants.{Step, Cut, Send, BackupGet, AckGet, Admit, Deliver, Take, LoseIn, LoseOut}
 use Rattle.pair_core.specs.{declared.event.Event.TheVariants.{FailPrimary, FailBackup, GoLive, Protect}, declared.event.Packet.Packet}
@@ -169,9 +170,9 @@ module _ (start : HistoryState) (r : Record) where
         by_table (Ended other) (mode_refusal r.mode other) (refused r) (allowed start r other)
         (λ why. stays other (refused r why) refl (e.refuses other why tt)) (allowed_end other)
 
-    wants_memory : (event : Event) → Ended event (refused r NoMemory)
-    wants_memory (Deliver c bytes) = stays (Deliver c bytes) (refused r NoMemory) refl (e.refuses (Deliver c bytes) NoMemory tt)
-    wants_memory other = stays other (refused r NoMemory) refl (e.refuses other NoMemory tt)
+    wants_memory : (event : Event) → Ended event (refused r (NoMemory wanted))
+    wants_memory (Deliver c bytes) = stays (Deliver c bytes) (refused r (NoMemory wanted)) refl (e.refuses (Deliver c bytes) (NoMemory wanted) tt)
+    wants_memory other = stays other (refused r (NoMemory wanted)) refl (e.refuses other (NoMemory wanted) tt)
 
     pub answers_end : (event : Event) (reply : Reply) (new : Record) → Answers start r event reply new → Ended event (reply, new)
     answers_end event reply new (inl is) = subst (Ended event) (sym is) (outcome_ends event)

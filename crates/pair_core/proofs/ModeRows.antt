@@ -3,6 +3,7 @@ use Rattle.std.proofs.Common.{◌≡◌, refl, sym, subst, arith, List, [], Opti
 use Rattle.failover.specs.declared.mode.Mode.TheVariants.{Paired, Filling, Alone, Stopped}
 use Rattle.failover.specs.{Changes.row, declared.change.Change.Change, declared.mode.Mode.Mode}
 use Rattle.pair_history.specs.{Entries.Entry, HistoryState.HistoryState}
+use Rattle.memory_wanted.specs.Wanted.{wanted}
 use Rattle.pair_core.specs.declared.event.Event.{Event}
 use Rattle.pair_core.specs.declared.event.Event.TheVariants.{FailPrimary, FailBackup, GoLive, Protect}
 use Rattle.pair_core.specs.{declared.event.Refusal.Refusal, declared.event.Refusal.TheVariants.NoMemory, declared.event.Reply.Reply}
@@ -113,4 +114,4 @@ module _ (start : HistoryState) (r : Record) where
 
   pub mode_left : (event : Event) (reply : Reply) (new : Record) → Answers start r event reply new → LeavesMode event r reply new
   mode_left event reply new (inl is) = subst (Left event) (sym is) (event_left event)
-  mode_left event reply new (inr is) = subst (Left event) (λ i. (sym is.1 i, sym is.2 i)) (refuses event NoMemory)
+  mode_left event reply new (inr is) = subst (Left event) (λ i. (sym is.1 i, sym is.2 i)) (refuses event (NoMemory wanted))

@@ -2,7 +2,8 @@
 use Rattle.std.proofs.Common.{◌≡◌, ℕ, List, [], ◌∷◌, ◌++◌, sym, ap, ◌∙◌, append_assoc, Bool, true, false, Option, refl, None, Some, inl}
 use Rattle.std.proofs.{Common.{inr, Result, Ok, Err, OnErr, subst, arith, ◌<◌, length}, lemmas.Bool.Decides.nat_tests}
 use Rattle.std.proofs.{lemmas.List.append_cancel_left, lemmas.List.Elements.{All-nil, All-cons}}
-use Rattle.std.specs.{Prelude.{map, slice_get, IfOk, All}, declared.alloc.AllocError.AllocError}
+use Rattle.std.specs.Prelude.{map, slice_get, IfOk, All}
+use Rattle.memory_wanted.specs.{Wanted.wanted, declared.MemoryWanted.MemoryWanted}
 use Rattle.guest_machine.specs.Step.{sent}
 use Rattle.frame_ports.specs.Lands.{list_of}
 use Rattle.pair_history.specs.{Entries.{Frame, Entry, Ran, Arrive, DropOut, Took, Begins}, HistoryState.HistoryState, Landings.{DropsAtFull, DropsNone}}
@@ -153,15 +154,15 @@ Begins-trans a b c p q = (p.0 ++ q.0, q.1 ∙ ap (λ t. t ++ q.0) p.1 ∙ append
 
 -- what an event did, as a reply
 
-module _ (old new : Pair) (event : Event) (o : Result Reply AllocError) (reply : Reply)
+module _ (old new : Pair) (event : Event) (o : Result Reply MemoryWanted) (reply : Reply)
     (ok : IfOk o (λ r. reply ≡ r))
-    (err : OnErr o (reply ≡ replies.Refused NoMemory)) where
+    (err : OnErr o (reply ≡ replies.Refused (NoMemory wanted))) where
   pub answers_by_outcome : IfOk o (λ r. (r, new.protocol) ≡ outcome old.start old.protocol event)
       → OnErr o (MayWantMemory old.protocol (outcome old.start old.protocol event)) → OnErr o (new ≡ old)
       → Answers old.start old.protocol event reply new.protocol
   answers_by_outcome = by_result o ok err
     where
-      by_result : (o : Result Reply AllocError) → IfOk o (λ r. reply ≡ r) → OnErr o (reply ≡ replies.Refused NoMemory)
+      by_result : (o : Result Reply MemoryWanted) → IfOk o (λ r. reply ≡ r) → OnErr o (reply ≡ replies.Refused (NoMemory wanted))
           → IfOk o (λ r. (r, new.protocol) ≡ outcome old.start old.protocol event)
           → OnErr o (MayWantMemory old.protocol (outcome old.start old.protocol event)) → OnErr o (new ≡ old)
           → Answers old.start old.protocol event reply new.protocol

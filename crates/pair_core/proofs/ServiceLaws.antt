@@ -5,6 +5,7 @@ use Rattle.std.specs.Prelude.{All}
 use Rattle.guest_machine.specs.Guest.{Guest}
 use Rattle.pair_history.specs.{Entries.Entry, HistoryState.{HistoryState, after, at, Legal}}
 use Rattle.pair_history.proofs.States.{at-append, Legal-append}
+use Rattle.memory_wanted.specs.Wanted.{wanted}
 use Rattle.pair_core.specs.{declared.event.Event.Event, declared.event.Event.TheVariants.GoLive, declared.event.Refusal.Refusal}
 use Rattle.pair_core.specs.{declared.event.Refusal.TheVariants.NoMemory, declared.event.Reply.Reply, Drops.Drops, Journal.{kept_entries, all_entries}}
 use Rattle.pair_core.specs.{Calls.Moment, Modes.{is_alone, mode_refusal}, Pair.{Pair, IsConsistent}}
@@ -60,7 +61,7 @@ module _ (start : HistoryState) (r new : Record) (g : Guest) (live : g ≡ (live
 
       stopped : (why : Refusal) → Leaves (refused r why)
       stopped why e = resumes_refused reply why (ap (λ (o : Outcome). o.0) e)
-  answers_resume GoLive reply (inr e) = resumes_refused reply NoMemory e.1
+  answers_resume GoLive reply (inr e) = resumes_refused reply (NoMemory wanted) e.1
   answers_resume other reply a = tt
 
 -- One event serves the clients, as the records before and after it say.

@@ -9,6 +9,7 @@ use Rattle.output_gate.specs.Epochs.{frames_of}
 use Rattle.pair_history.specs.{Entries.{Ran}, HistoryState.{HistoryState, after, at, Legal}}
 use Rattle.pair_history.specs.{Landings.{landings, BoxesFit}, Leaving.{LeaveInOrder, NotGivenUp}}
 use Rattle.pair_history.proofs.{States.{at-append, Legal-append}, LandingLaws.{BoxesFit-lands, AllClients-targets, landings-land, AllLand}}
+use Rattle.memory_wanted.specs.Wanted.{wanted}
 use Rattle.pair_core.specs.{Answering.{Answers}, Calls.Moment, Drops.Drops}
 use Rattle.pair_core.specs.{declared.event.Event.TheVariants.Step, declared.event.Refusal.{Refusal, TheVariants.NoMemory}}
 use Rattle.pair_core.specs.declared.event.Reply.{Reply}
@@ -354,4 +355,4 @@ module _ (w v : Pair) (count : ℕ) (reply : Reply) (start : v.start ≡ w.start
   serves_steps (inr k) =
       let made = k.2 in
       let a = all_made w.start w.protocol good made.0 made.2 v.protocol made.3 in
-      rw k.1 (early made.0 made.2 NoMemory made.1 a (one_refused w.start v.protocol a.good NoMemory (inr (made.4, refl, refl))))
+      rw k.1 (early made.0 made.2 (NoMemory wanted) made.1 a (one_refused w.start v.protocol a.good (NoMemory wanted) (inr (made.4, refl, refl))))

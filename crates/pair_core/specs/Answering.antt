@@ -1,5 +1,6 @@
 -- How events may be answered: as the protocol says, or for want of memory.
 use Rattle.std.specs.Prelude.{◌≡◌, ℕ, ◌<◌, true, Result, Ok, Err, ◌⊎◌, length}
+use Rattle.memory_wanted.specs.Wanted.{wanted}
 use Rattle.pair_history.specs.HistoryState.{HistoryState}
 use Rattle.pair_core.specs.declared.event.Event.{Event}
 use Rattle.pair_core.specs.declared.event.Refusal.{Refusal}
@@ -33,7 +34,7 @@ MayWantMemory old o = MayWant old o.0 o.1
 abbrev pub Answers : HistoryState → Record → Event → Reply → Record → Type 0
 Answers start old event reply new =
     ((reply, new) ≡ outcome start old event)
-    ⊎ (MayWantMemory old (outcome start old event) × (reply ≡ replies.Refused NoMemory) × (new ≡ old))
+    ⊎ (MayWantMemory old (outcome start old event) × (reply ≡ replies.Refused (NoMemory wanted)) × (new ≡ old))
 
 -- what a step answers, as a reply
 abbrev pub step_reply : Result ℕ Refusal → Reply

@@ -42,7 +42,7 @@ abbrev pub AnswersTake : HistoryState → Moment → ℕ → Reply → Type 0
 AnswersTake start m c (replies.Took frame) = IsClient (shown_then start m) c × HasPlace m
 AnswersTake start m c (replies.Refused NoClient) = IsNobody (shown_then start m) c
 AnswersTake start m c (replies.Refused Exhausted) = IsClient (shown_then start m) c × IsExhausted m
-AnswersTake start m c (replies.Refused NoMemory) = IsClient (shown_then start m) c × HasPlace m
+AnswersTake start m c (replies.Refused (NoMemory _)) = IsClient (shown_then start m) c × HasPlace m
 AnswersTake start m c other = ⊥
 
 -- how many frames of client c wait for the guest
@@ -66,7 +66,7 @@ AnswersDelivery start m c bytes (replies.Refused Full) = Offers start m c bytes 
 AnswersDelivery start m c bytes (replies.Refused Exhausted) =
     Offers start m c bytes
     × (IsExhausted m ⊎ ((waiting_then start m c < inbox_frames) × (number_limit ≤ (shown_then start m).number)))
-AnswersDelivery start m c bytes (replies.Refused NoMemory) =
+AnswersDelivery start m c bytes (replies.Refused (NoMemory _)) =
     Offers start m c bytes × HasPlace m
     × ((inbox_frames ≤ waiting_then start m c) ⊎ ((shown_then start m).number < number_limit))
 AnswersDelivery start m c bytes other = ⊥
@@ -77,7 +77,7 @@ AnswersLoss start m c frames place replies.Dropped = IsClient (shown_then start 
 AnswersLoss start m c frames place replies.Empty = IsClient (shown_then start m) c × (frames ≤ place)
 AnswersLoss start m c frames place (replies.Refused NoClient) = IsNobody (shown_then start m) c
 AnswersLoss start m c frames place (replies.Refused Exhausted) = IsClient (shown_then start m) c × IsExhausted m × (place < frames)
-AnswersLoss start m c frames place (replies.Refused NoMemory) = IsClient (shown_then start m) c × HasPlace m × (place < frames)
+AnswersLoss start m c frames place (replies.Refused (NoMemory _)) = IsClient (shown_then start m) c × HasPlace m × (place < frames)
 AnswersLoss start m c frames place other = ⊥
 
 -- What clients and their lines ask for is answered in its own ways only.

@@ -15,7 +15,7 @@ number_of AlreadyPaired = 7
 number_of NoImage = 8
 number_of Stale = 9
 number_of Gap = 10
-number_of NoMemory = 12
+number_of (NoMemory _) = 12
 number_of CutNeeded = 13
 number_of Exhausted = 14
 
@@ -30,6 +30,6 @@ name_of AlreadyPaired = codes "AlreadyPaired"
 name_of NoImage = codes "NoImage"
 name_of Stale = codes "Stale"
 name_of Gap = codes "Gap"
-name_of NoMemory = codes "NoMemory"
+name_of (NoMemory _) = codes "NoMemory"
 name_of CutNeeded = codes "CutNeeded"
 name_of Exhausted = codes "Exhausted"

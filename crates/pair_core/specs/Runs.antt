@@ -1,6 +1,7 @@
 -- Whole runs: of events, and of the guest's steps.
 use Rattle.std.specs.Prelude.{◌≡◌, ℕ, zero, suc, ◌<◌, ◌⊎◌, true, List, replicate}
 use Rattle.pair_core.specs.declared.event.Event.{Event}
+use Rattle.memory_wanted.specs.Wanted.{wanted}
 use Rattle.pair_core.specs.declared.event.Refusal.TheVariants.{NoMemory}
 use Rattle.pair_core.specs.declared.event.Reply.{Reply}
 use Rattle.pair_core.specs.declared.event.Reply.TheVariants as replies
@@ -36,7 +37,7 @@ steps_outcome start r (suc n) =
 abbrev pub StepsAnswer : HistoryState → Record → ℕ → Reply → Record → Type 0
 StepsAnswer start old count reply new =
     ((reply, new) ≡ steps_outcome start old count)
-    ⊎ ((is_alone old.mode ≡ true) × (reply ≡ replies.Refused NoMemory)
+    ⊎ ((is_alone old.mode ≡ true) × (reply ≡ replies.Refused (NoMemory wanted))
     × ((made : ℕ) × (made < count) × (steps : ℕ) × ((replies.Steps steps, new) ≡ steps_outcome start old made)
     × MayWantMemory new (step_outcome start new)))
 

@@ -11,8 +11,9 @@ ghost use Rattle.pair_core.specs.Arrivals.{numbers_of, numbers_in};
 
 use crate::epochs::{Arrival, RunningEpoch};
 use frame_ports::Ports;
+use memory_wanted::{MemoryWanted, push, with_capacity};
 use pair_history::{Entry, Frame, History};
-use std::alloc::{AllocError, Global};
+use std::alloc::Global;
 
 /// How many frames arrived in these epochs.
 pub(crate) fn count_arrivals(epochs: &[RunningEpoch]) -> u64
@@ -27,17 +28,17 @@ pub(crate) fn count_arrivals(epochs: &[RunningEpoch]) -> u64
 }
 
 /// Adds the numbers of these arrivals to a list.
-fn push_numbers(numbers: &mut Vec<u64>, arrivals: &[Arrival]) -> Result<(), AllocError>
+fn push_numbers(numbers: &mut Vec<u64>, arrivals: &[Arrival]) -> Result<(), MemoryWanted>
     ensures { OnOk result (numbers.new.items ≡ numbers.old.items ++ numbers_of arrivals.now) }
 {
     for arrival in arrivals {
-        numbers.push(arrival.number)?;
+        push(numbers, arrival.number)?;
     }
     Ok(())
 }
 
 /// Adds the numbers of the frames that arrived in these epochs to a list.
-fn push_all_numbers(numbers: &mut Vec<u64>, epochs: &[RunningEpoch]) -> Result<(), AllocError>
+fn push_all_numbers(numbers: &mut Vec<u64>, epochs: &[RunningEpoch]) -> Result<(), MemoryWanted>
     ensures { OnOk result (numbers.new.items ≡ numbers.old.items ++ numbers_in epochs.now) }
 {
     for epoch in epochs {
@@ -60,11 +61,11 @@ pub(crate) fn sorted_numbers(
     count: usize,
     sealed: &[RunningEpoch],
     running: &RunningEpoch,
-) -> Result<Vec<u64>, AllocError>
+) -> Result<Vec<u64>, MemoryWanted>
     ensures same { IfOk result (λ ns. IsPermutation (numbers_in sealed.now ++ numbers_of running.now.arrivals.items) ns.items) }
     ensures sorted { IfOk result (λ ns. IsNonDecreasing ns.items) }
 {
-    let mut numbers = Vec::with_capacity(alloc, count)?;
+    let mut numbers = with_capacity(alloc, count)?;
     push_all_numbers(&mut numbers, sealed)?;
     push_numbers(&mut numbers, running.arrivals.as_slice())?;
     sort(&mut numbers);

@@ -1,5 +1,5 @@
 //! An epoch of the guest as it is stored: its arrivals, each with the steps before it, and the steps after the last.
-ghost use Rattle.std.specs.Prelude.{◌≡◌, ◌+◌, ◌*◌, ◌^◌, ◌≤◌, ◌<◌, ◌++◌, [], length, map, IfSome};
+ghost use Rattle.std.specs.Prelude.{◌≡◌, ◌+◌, ◌*◌, ◌^◌, ◌≤◌, ◌<◌, ◌++◌, [], length, map};
 ghost use Rattle.pair_core.specs.Arrivals.{arrival_of, epoch_entries};
 ghost use Rattle.pair_core.specs.Journal.{joined};
 ghost use Rattle.pair_core.specs.JournalFields.{epoch_of};
@@ -75,13 +75,13 @@ pub(crate) fn add_epochs(history: &mut History, epochs: &[RunningEpoch])
     }
 }
 
-/// The places that these epochs take in the history, and so many more; none if that is no number.
-pub(crate) fn places_with(epochs: &[RunningEpoch], more: usize) -> Option<usize>
-    ensures { IfSome result (λ n. n ≡ places_of epochs.now + more) }
+/// The places that these epochs take in the history, and so many more, or a number that no list has room for.
+pub(crate) fn places_with(epochs: &[RunningEpoch], more: usize) -> usize
+    ensures { result < 2 ^ 63 → result ≡ places_of epochs.now + more }
 {
     let mut places = more;
     for epoch in epochs {
-        places = places.checked_add(2 * epoch.arrivals.len() + 1)?;
+        places = places.saturating_add(2 * epoch.arrivals.len() + 1);
     }
-    Some(places)
+    places
 }

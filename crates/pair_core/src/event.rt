@@ -1,9 +1,10 @@
 ghost use Rattle.std.specs.Prelude.{◌≡◌};
+ghost use Rattle.memory_wanted.specs.Wanted.{wanted};
 ghost use Rattle.pair_core.specs.declared.event.Refusal.TheVariants.{NoMemory};
 
 use failover::Mode;
+use memory_wanted::MemoryWanted;
 use pair_history::Frame;
-use std::alloc::AllocError;
 use std::fmt;
 use thiserror::Error;
 
@@ -41,7 +42,7 @@ pub enum Event<'a> {
 }
 
 /// Why an event was refused. Nothing changed, but that the history tells of a refusal [`Refusal::Full`].
-#[derive(Clone, Copy, Debug, PartialEq, Eq, Error)]
+#[derive(Debug, Drop, PartialEq, Eq, Error)]
 pub enum Refusal {
     /// The client's inbox holds 64 frames.
     #[error("Full")]
@@ -75,7 +76,7 @@ pub enum Refusal {
     Gap,
     /// A growth was refused.
     #[error("NoMemory")]
-    NoMemory,
+    NoMemory(MemoryWanted),
     /// Fewer than 64 places of the outbox are free.
     #[error("CutNeeded")]
     CutNeeded,
@@ -88,8 +89,8 @@ impl Refusal {
     ghost use Rattle.pair_core.specs.Refusals.{number_of, name_of};
 
     /// The number of the refusal, in the project's table of refusals.
-    pub fn number(self) -> u8
-        ensures { result ≡ number_of self }
+    pub fn number(&self) -> u8
+        ensures { result ≡ number_of self.now }
     {
         match self {
             Refusal::Full => 1,
@@ -102,15 +103,15 @@ impl Refusal {
             Refusal::NoImage => 8,
             Refusal::Stale => 9,
             Refusal::Gap => 10,
-            Refusal::NoMemory => 12,
+            Refusal::NoMemory(_) => 12,
             Refusal::CutNeeded => 13,
             Refusal::Exhausted => 14,
         }
     }
 
     /// Its name in that table, which is also what `Display` prints.
-    pub fn name(self) -> &'static str
-        ensures { result.now ≡ name_of self }
+    pub fn name(&self) -> &'static str
+        ensures { result.now ≡ name_of self.now }
     {
         match self {
             Refusal::Full => "Full",
@@ -123,18 +124,18 @@ impl Refusal {
             Refusal::NoImage => "NoImage",
             Refusal::Stale => "Stale",
             Refusal::Gap => "Gap",
-            Refusal::NoMemory => "NoMemory",
+            Refusal::NoMemory(_) => "NoMemory",
             Refusal::CutNeeded => "CutNeeded",
             Refusal::Exhausted => "Exhausted",
         }
     }
 }
 
-impl From<AllocError> for Refusal {
-    ghost from_gives = { λ _ e. e ≡ NoMemory };
+impl From<MemoryWanted> for Refusal {
+    ghost from_gives = { λ _ e. e ≡ NoMemory wanted };
 
-    fn from(_error: AllocError) -> Refusal {
-        Refusal::NoMemory
+    fn from(wanted: MemoryWanted) -> Refusal {
+        Refusal::NoMemory(wanted)
     }
 }
 

@@ -1,17 +1,15 @@
 //! Frames on the heap, for the history.
 ghost use Rattle.std.specs.Prelude.{◌≡◌, ◌≤◌, [], length, IfOk};
 
+use memory_wanted::{MemoryWanted, boxed};
 use pair_history::Frame;
-use std::alloc::{AllocError, Global};
+use std::alloc::Global;
 
 /// A place on the heap for one frame, with no byte in it yet.
-pub(crate) fn place_for_frame(alloc: Global) -> Result<Box<Frame>, AllocError>
+pub(crate) fn place_for_frame(alloc: Global) -> Result<Box<Frame>, MemoryWanted>
     ensures { IfOk result (λ place. place.value.items ≡ []) }
 {
-    match Box::new(alloc, Frame::new()) {
-        Ok(place) => Ok(place),
-        Err(_) => Err(AllocError),
-    }
+    boxed(alloc, Frame::new())
 }
 
 /// Puts the bytes of a frame into its place.

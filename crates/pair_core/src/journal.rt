@@ -15,8 +15,9 @@ use crate::discards::{add_drops_in, add_drops_out, count_arrivals, sorted_number
 use crate::epochs::{Arrival, RunningEpoch, add_epoch, add_epochs, places_with};
 use crate::landings::{add_landings, count_landings};
 use frame_ports::{NUMBER_LIMIT, Ports};
+use memory_wanted::{MemoryWanted, reserve};
 use pair_history::{Entry, Frame, History};
-use std::alloc::{AllocError, Global};
+use std::alloc::Global;
 use std::marker::Model;
 
 /// The history and what it doesn't have yet. Contracts see it as a `Stored` journal of the specs.
@@ -79,12 +80,12 @@ impl Journal {
     }
 
     /// Makes room for one more arrival, in the running epoch and in the history.
-    pub(crate) fn reserve_arrival(&mut self) -> Result<(), AllocError>
+    pub(crate) fn reserve_arrival(&mut self) -> Result<(), MemoryWanted>
         ensures journal { self.new.journal ≡ self.old.journal }
         ensures arrival_room { OnOk result (0 < self.new.arrival_room) }
         ensures room { OnOk result (0 < self.new.room) }
     {
-        self.running.arrivals.reserve(1)?;
+        reserve(&mut self.running.arrivals, 1)?;
         self.history.reserve(1)
     }
 
@@ -104,18 +105,18 @@ impl Journal {
     }
 
     /// The running epoch is sealed, and the next one begins.
-    pub(crate) fn seal(&mut self) -> Result<(), AllocError>
+    pub(crate) fn seal(&mut self) -> Result<(), MemoryWanted>
         ensures ok { OnOk result (self.new.journal ≡ sealed_off self.old.journal) }
         ensures err { OnErr result (self.new.journal ≡ self.old.journal) }
     {
-        self.sealed.reserve(1)?;
+        reserve(&mut self.sealed, 1)?;
         let epoch = std::mem::replace(&mut self.running, RunningEpoch::new(self.alloc));
         self.sealed.push(epoch).unwrap();
         Ok(())
     }
 
     /// The oldest sealed epoch moves to the history.
-    pub(crate) fn commit(&mut self) -> Result<(), AllocError>
+    pub(crate) fn commit(&mut self) -> Result<(), MemoryWanted>
         requires { 0 < length self.old.journal.sealed }
         ensures ok { OnOk result (self.new.journal ≡ committed self.old.journal) }
         ensures err { OnErr result (self.new.journal ≡ self.old.journal) }
@@ -130,18 +131,13 @@ impl Journal {
     }
 
     /// All that is kept moves to the history, where so many more stored entries have room then.
-    pub(crate) fn commit_all(&mut self, more: usize) -> Result<(), AllocError>
+    pub(crate) fn commit_all(&mut self, more: usize) -> Result<(), MemoryWanted>
         ensures ok { OnOk result (self.new.journal ≡ all_committed self.old.journal) }
         ensures room { OnOk result (more ≤ self.new.room) }
         ensures err { OnErr result (self.new.journal ≡ self.old.journal) }
     {
         let last = self.running.arrivals.as_slice();
-        let Some(places) = places_with(self.sealed.as_slice(), 2 * last.len() + 1) else {
-            return Err(AllocError);
-        };
-        let Some(places) = places.checked_add(more) else {
-            return Err(AllocError);
-        };
+        let places = places_with(self.sealed.as_slice(), 2 * last.len() + 1).saturating_add(more);
         self.history.reserve(places)?;
         add_epochs(&mut self.history, self.sealed.as_slice());
         add_epoch(&mut self.history, last, self.running.steps);
@@ -152,7 +148,7 @@ impl Journal {
     }
 
     /// Makes room for so many more stored entries in the history.
-    pub(crate) fn reserve(&mut self, additional: usize) -> Result<(), AllocError>
+    pub(crate) fn reserve(&mut self, additional: usize) -> Result<(), MemoryWanted>
         ensures journal { self.new.journal ≡ self.old.journal }
         ensures room { OnOk result (additional ≤ self.new.room) }
         ensures full { OnErr result (self.old.room < additional) }
@@ -203,7 +199,7 @@ impl Journal {
 
     /// What is kept is discarded: the frames that it took in are dropped, and then these, which are on their way to the clients of these
     /// ports.
-    pub(crate) fn go_live(&mut self, ports: &Ports, owed: &[Frame]) -> Result<(), AllocError>
+    pub(crate) fn go_live(&mut self, ports: &Ports, owed: &[Frame]) -> Result<(), MemoryWanted>
         requires few { length owed.now ≤ 2 ^ 58 }
         requires fits { length self.old.journal.history
             + length (live_entries ports.now.boxes (targets_of (length ports.now.boxes) owed.now) self.old.journal) < number_limit }

@@ -3,8 +3,9 @@ ghost use Rattle.std.specs.Prelude.{◌≡◌, ◌+◌, ◌-◌, ◌^◌, ◌≤
 ghost use Rattle.pair_core.specs.Lines.{packet, packets_from, no_packets, with_forward, with_back};
 
 use crate::event::Packet;
-use lossy_line::Line;
-use std::alloc::{AllocError, Global};
+use lossy_line::{Line, LineError};
+use memory_wanted::MemoryWanted;
+use std::alloc::Global;
 use std::marker::Model;
 
 /// What was sent to the backup, and what was sent back. Contracts see them as `Carried` lines of the specs.
@@ -39,15 +40,15 @@ fn send_all(
     generation: u64,
     first: u64,
     end: u64,
-) -> Result<(), AllocError>
+) -> Result<(), MemoryWanted>
     requires { first ≤ end }
     ensures ok { OnOk result (line.new.packets ≡ line.old.packets ++ map Some (packets_from generation first (end - first))) }
     ensures err { OnErr result (line.new ≡ line.old) }
     ensures none { OnErr result (first < end) }
 {
-    let Ok(()) = line.reserve((end - first) as usize) else {
-        return Err(AllocError);
-    };
+    if let Err(LineError::NoMemory(wanted)) = line.reserve((end - first) as usize) {
+        return Err(wanted);
+    }
     for number in first..end {
         line.send(Packet { generation, number }).unwrap();
     }
@@ -80,7 +81,7 @@ impl Lines {
     }
 
     /// Sends the backup one packet for each of these numbers, rising.
-    pub(crate) fn send(&mut self, generation: u64, first: u64, end: u64) -> Result<(), AllocError>
+    pub(crate) fn send(&mut self, generation: u64, first: u64, end: u64) -> Result<(), MemoryWanted>
         requires { first ≤ end }
         ensures ok { OnOk result (self.new.lines ≡ with_forward self.old.lines (packets_from generation first (end - first))) }
         ensures err { OnErr result (self.new.lines ≡ self.old.lines) }
@@ -90,14 +91,14 @@ impl Lines {
     }
 
     /// Makes room for one more packet on the line back.
-    pub(crate) fn reserve_acknowledgement(&mut self) -> Result<(), AllocError>
+    pub(crate) fn reserve_acknowledgement(&mut self) -> Result<(), MemoryWanted>
         ensures lines { self.new.lines ≡ self.old.lines }
         ensures room { OnOk result (0 < self.new.room) }
     {
-        let Ok(()) = self.back.reserve(1) else {
-            return Err(AllocError);
-        };
-        Ok(())
+        match self.back.reserve(1) {
+            Ok(()) => Ok(()),
+            Err(LineError::NoMemory(wanted)) => Err(wanted),
+        }
     }
 
     /// Sends one packet back, in the room that was reserved.

@@ -15,12 +15,13 @@ ghost use Rattle.pair_core.specs.Nodes.{first_text, read_as};
 ghost use Rattle.pair_core.specs.Texts.{IsText};
 ghost use Rattle.backup_image.specs.Images.{empty_image};
 
-use backup_image::Image;
+use backup_image::{Image, ImageError};
 use checkpoint_stream::{Reader, StreamError, encode};
-use epoch_snapshot::{Checkpoint, cut_delta, cut_full};
-use guest_machine::{Machine, SECTOR_BYTES, Shape, sent_frames};
+use epoch_snapshot::{Checkpoint, SnapshotError, cut_delta, cut_full};
+use guest_machine::{Machine, MachineError, SECTOR_BYTES, Shape, sent_frames};
+use memory_wanted::{MemoryWanted, reserve};
 use pair_history::Frame;
-use std::alloc::{AllocError, Global};
+use std::alloc::Global;
 use std::marker::Model;
 
 /// What both nodes hold. Contracts see it as `Housed` nodes of the specs.
@@ -50,15 +51,19 @@ impl Model for Nodes {
 
 impl Nodes {
     /// Both nodes boot from this image.
-    pub(crate) fn boot(alloc: Global, shape: Shape, image: &[u8]) -> Result<Nodes, AllocError>
+    pub(crate) fn boot(alloc: Global, shape: Shape, image: &[u8]) -> Result<Nodes, MemoryWanted>
         requires { length image.now ≤ 4096 * shape.pages }
         ensures { IfOk result (λ n. n.nodes ≡ start_nodes shape image.now) }
     {
-        let Ok(live) = Machine::boot(alloc, shape, image) else {
-            return Err(AllocError);
+        let live = match Machine::boot(alloc, shape, image) {
+            Ok(live) => live,
+            Err(MachineError::NoMemory(wanted)) => return Err(wanted),
+            Err(MachineError::CutNeeded) => unreachable!(),
         };
-        let Ok(image) = Image::boot(alloc, shape, image) else {
-            return Err(AllocError);
+        let image = match Image::boot(alloc, shape, image) {
+            Ok(image) => image,
+            Err(ImageError::NoMemory(wanted)) => return Err(wanted),
+            Err(_) => unreachable!(),
         };
         Ok(Nodes {
             alloc,
@@ -159,7 +164,11 @@ impl Nodes {
     }
 
     /// The text of the live machine's checkpoint, of this generation and number, and room for it among the sealed ones.
-    pub(crate) fn checkpoint(&mut self, generation: u64, number: u64) -> Result<Vec<u8>, AllocError>
+    pub(crate) fn checkpoint(
+        &mut self,
+        generation: u64,
+        number: u64,
+    ) -> Result<Vec<u8>, MemoryWanted>
         requires first_generation { 1 ≤ generation }
         requires last_generation { generation < 2 ^ 62 }
         requires first_number { 1 ≤ number }
@@ -172,12 +181,15 @@ impl Nodes {
             → HasShape self.old.nodes.image.shape self.old.nodes.live.guest
             → IsText self.old.nodes.image.shape generation number base self.old.nodes.live.guest text.items) }
     {
-        self.sealed.reserve(1)?;
-        let Ok(checkpoint) = cut_delta(self.alloc, &self.live, generation, number) else {
-            return Err(AllocError);
+        reserve(&mut self.sealed, 1)?;
+        let checkpoint = match cut_delta(self.alloc, &self.live, generation, number) {
+            Ok(checkpoint) => checkpoint,
+            Err(SnapshotError::NoMemory(wanted)) => return Err(wanted),
         };
-        let Ok(text) = encode(self.alloc, &checkpoint) else {
-            return Err(AllocError);
+        let text = match encode(self.alloc, &checkpoint) {
+            Ok(text) => text,
+            Err(StreamError::NoMemory(wanted)) => return Err(wanted),
+            Err(StreamError::Malformed(_)) => unreachable!(),
         };
         Ok(text)
     }
@@ -197,7 +209,7 @@ impl Nodes {
     pub(crate) fn full_checkpoint(
         &mut self,
         generation: u64,
-    ) -> Result<(Image, Vec<u8>), AllocError>
+    ) -> Result<(Image, Vec<u8>), MemoryWanted>
         requires first_generation { 1 ≤ generation }
         requires last_generation { generation < 2 ^ 62 }
         ensures nodes { self.new.nodes ≡ self.old.nodes }
@@ -208,15 +220,20 @@ impl Nodes {
             → HasShape self.old.nodes.image.shape self.old.nodes.live.guest
             → IsText self.old.nodes.image.shape generation 0 before self.old.nodes.live.guest made.1.items) }
     {
-        self.sealed.reserve(1)?;
-        let Ok(image) = Image::empty(self.alloc, self.shape) else {
-            return Err(AllocError);
+        reserve(&mut self.sealed, 1)?;
+        let image = match Image::empty(self.alloc, self.shape) {
+            Ok(image) => image,
+            Err(ImageError::NoMemory(wanted)) => return Err(wanted),
+            Err(_) => unreachable!(),
         };
-        let Ok(checkpoint) = cut_full(self.alloc, &self.live, generation) else {
-            return Err(AllocError);
+        let checkpoint = match cut_full(self.alloc, &self.live, generation) {
+            Ok(checkpoint) => checkpoint,
+            Err(SnapshotError::NoMemory(wanted)) => return Err(wanted),
         };
-        let Ok(text) = encode(self.alloc, &checkpoint) else {
-            return Err(AllocError);
+        let text = match encode(self.alloc, &checkpoint) {
+            Ok(text) => text,
+            Err(StreamError::NoMemory(wanted)) => return Err(wanted),
+            Err(StreamError::Malformed(_)) => unreachable!(),
         };
         Ok((image, text))
     }
@@ -234,7 +251,7 @@ impl Nodes {
     }
 
     /// The oldest sealed checkpoint, read from its text as a link carries it. That the text is a whole one the caller knows.
-    pub(crate) fn oldest(&self) -> Result<Checkpoint, AllocError>
+    pub(crate) fn oldest(&self) -> Result<Checkpoint, MemoryWanted>
         requires some { 0 < length self.now.nodes.sealed }
         requires whole { (fed (begun self.now.nodes.image.shape 0) (first_text self.now.nodes.sealed)).place ≡ Whole }
         ensures { IfOk result (λ checkpoint. checkpoint ≡ read_as self.now.nodes.image.shape (first_text self.now.nodes.sealed)) }
@@ -242,7 +259,7 @@ impl Nodes {
         let mut reader = Reader::new(self.alloc, self.shape);
         match reader.feed(self.sealed[0].as_slice()) {
             Ok(_) => {}
-            Err(StreamError::NoMemory) => return Err(AllocError),
+            Err(StreamError::NoMemory(wanted)) => return Err(wanted),
             Err(StreamError::Malformed(_)) => unreachable!(),
         }
         match reader.next() {

@@ -25,10 +25,11 @@ use crate::lines::Lines;
 use crate::modes::{filled, is_stopped, step_room};
 use crate::window::Window;
 use failover::Mode;
-use frame_ports::{NUMBER_LIMIT, Ports};
-use output_gate::Gate;
+use frame_ports::{NUMBER_LIMIT, PortError, Ports};
+use memory_wanted::MemoryWanted;
+use output_gate::{Gate, GateError};
 use pair_history::{Frame, History};
-use std::alloc::{AllocError, Global};
+use std::alloc::Global;
 use std::marker::Model;
 
 /// The mode and the generation, the journal, the window of checkpoints, the lines, the gate and the clients' ports: no machine, page
@@ -62,17 +63,20 @@ impl Model for PairRecord {
 
 impl PairRecord {
     /// A record of so many clients in which nothing happened yet.
-    pub(crate) fn new(alloc: Global, clients: u64) -> Result<PairRecord, AllocError>
+    pub(crate) fn new(alloc: Global, clients: u64) -> Result<PairRecord, MemoryWanted>
         requires some { 1 ≤ clients }
         requires few { clients ≤ max_clients }
         ensures protocol { IfOk result (λ r. r.protocol ≡ start_record) }
         ensures ports { IfOk result (λ r. r.ports ≡ empty_ports clients) }
     {
-        let Ok(ports) = Ports::new(alloc, clients) else {
-            return Err(AllocError);
+        let ports = match Ports::new(alloc, clients) {
+            Ok(ports) => ports,
+            Err(PortError::NoMemory(wanted)) => return Err(wanted),
+            Err(_) => unreachable!(),
         };
-        let Ok(gate) = Gate::new(alloc) else {
-            return Err(AllocError);
+        let gate = match Gate::new(alloc) {
+            Ok(gate) => gate,
+            Err(GateError::NoMemory(wanted)) => return Err(wanted),
         };
         Ok(PairRecord {
             alloc,
@@ -220,7 +224,7 @@ impl PairRecord {
     }
 
     /// The running epoch, along which the guest sent these frames, is sealed, and they go to the gate.
-    pub(crate) fn cut(&mut self, frames: &[Frame]) -> Result<Reply, AllocError>
+    pub(crate) fn cut(&mut self, frames: &[Frame]) -> Result<Reply, MemoryWanted>
         requires pair { alone self.old.protocol.mode ≡ false }
         requires free { first_refusal (cut_refusals self.old.protocol) ≡ None }
         requires few { length frames.now ≤ 256 }
@@ -240,7 +244,7 @@ impl PairRecord {
     }
 
     /// One packet for each pending checkpoint is sent.
-    pub(crate) fn send(&mut self) -> Result<Reply, AllocError>
+    pub(crate) fn send(&mut self) -> Result<Reply, MemoryWanted>
         ensures ok { IfOk result (λ reply. (reply, self.new.protocol) ≡ send_done self.old.protocol) }
         ensures ports { self.new.ports ≡ self.old.ports }
         ensures err { OnErr result (self.new ≡ self.old) }
@@ -279,7 +283,7 @@ impl PairRecord {
     }
 
     /// The acknowledgement of the last committed checkpoint is sent once more.
-    pub(crate) fn acknowledge_again(&mut self) -> Result<Reply, AllocError>
+    pub(crate) fn acknowledge_again(&mut self) -> Result<Reply, MemoryWanted>
         requires { 0 < self.old.protocol.window.to_commit }
         ensures ok { IfOk result (λ reply. (reply, self.new.protocol) ≡ again_done self.old.protocol) }
         ensures ports { self.new.ports ≡ self.old.ports }
@@ -295,7 +299,7 @@ impl PairRecord {
     }
 
     /// The next checkpoint is committed and acknowledged: its epoch moves to the history.
-    pub(crate) fn commit(&mut self) -> Result<Reply, AllocError>
+    pub(crate) fn commit(&mut self) -> Result<Reply, MemoryWanted>
         requires { self.old.protocol.window.to_commit < self.old.protocol.window.to_cut }
         ensures ok { IfOk result (λ reply. (reply, self.new.protocol) ≡ commit_done self.old.protocol) }
         ensures ports { self.new.ports ≡ self.old.ports }
@@ -338,7 +342,7 @@ impl PairRecord {
     }
 
     /// The checkpoints up to this packet's are no longer pending, and their frames land.
-    pub(crate) fn acknowledge(&mut self, packet: Packet) -> Result<Reply, AllocError>
+    pub(crate) fn acknowledge(&mut self, packet: Packet) -> Result<Reply, MemoryWanted>
         requires free { first_refusal (ack_refusals self.old.ports.boxes self.old.protocol packet) ≡ None }
         requires committed { packet.number < self.old.protocol.window.to_commit }
         ensures ok { IfOk result (λ reply. (reply, self.new.protocol) ≡ ack_done self.old.ports.boxes self.old.protocol packet.number) }

@@ -61,7 +61,7 @@ fn fill(image: &mut Vec<u8>, end: usize) -> Result<(), Fail> {
 fn pair(alloc: Global, image: &[u8]) -> Result<Box<World>, Fail> {
     let (pages, sectors) = SHAPE;
     if image.len() > 4096 * 2 {
-        return Err(Refusal::NoMemory.into());
+        return Err("the image is larger than the guest".into());
     }
     let world = World::boot(alloc, Shape { pages, sectors }, 2, image)?;
     Ok(Box::new(alloc, world)?)

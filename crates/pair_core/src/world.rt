@@ -1,5 +1,6 @@
 //! The pair as one value, and what each event does to it.
 ghost use Rattle.std.specs.Prelude.{◌≡◌, ℕ, ◌+◌, ◌*◌, ◌≤◌, ◌<◌, length, IfOk, IfErr, IfSome, IfNone, OnErr, None, true, false};
+ghost use Rattle.memory_wanted.specs.Wanted.{wanted};
 
 mod clients;
 mod failures;
@@ -11,8 +12,9 @@ use crate::modes::{is_stopped, mode_refusal};
 use crate::nodes::Nodes;
 use crate::record::PairRecord;
 use guest_machine::{SECTOR_BYTES, Shape};
+use memory_wanted::{MemoryWanted, from_slice, with_capacity};
 use pair_history::History;
-use std::alloc::{AllocError, Global};
+use std::alloc::Global;
 use std::marker::Model;
 
 /// A protected pair: its record, and the machines of its two nodes. Contracts see it as a `Pair` of the specs.
@@ -70,13 +72,11 @@ impl World {
         ensures start { IfOk result (λ w. w.start ≡ start_state shape.pages shape.sectors image.now clients) }
         ensures protocol { IfOk result (λ w. w.protocol ≡ start_record) }
         ensures consistent { IfOk result IsConsistent }
-        ensures err { IfErr result (λ e. e ≡ Refusal.NoMemory) }
+        ensures err { IfErr result (λ e. e ≡ Refusal.NoMemory wanted) }
     {
-        let boot_image = Vec::from_slice(alloc, image)?;
+        let boot_image = from_slice(alloc, image)?;
         let nodes = Nodes::boot(alloc, shape, image)?;
-        let Ok(record) = PairRecord::new(alloc, clients) else {
-            return Err(Refusal::NoMemory);
-        };
+        let record = PairRecord::new(alloc, clients)?;
         let world = World {
             alloc,
             boot_image,
@@ -120,7 +120,7 @@ impl World {
     }
 
     /// Does one event, or finds no memory for it.
-    fn act(&mut self, event: Event<'_>) -> Result<Reply, AllocError>
+    fn act(&mut self, event: Event<'_>) -> Result<Reply, MemoryWanted>
         ensures outcome { IfOk result (λ reply. (reply, self.new.protocol) ≡ outcome self.old.start self.old.protocol event.entry) }
         ensures start { self.new.start ≡ self.old.start }
         ensures replicates { IfOk result (λ reply. Replicates event.entry reply self.old.nodes self.new.nodes) }
@@ -180,10 +180,10 @@ impl World {
         ensures served { IfOk result (λ replies. HasServed self.old.start (moment self.old) events.now replies.items (moment self.new)) }
         // What the image is after each commit: see `committed_guests_are_those_cut`.
         ensures leads { IfOk result (λ replies. Leads self.old events.now replies.items self.new) }
-        ensures err { IfErr result (λ e. (e ≡ Refusal.NoMemory) × (self.new ≡ self.old)) }
+        ensures err { IfErr result (λ e. (e ≡ Refusal.NoMemory wanted) × (self.new ≡ self.old)) }
     {
         self.keep_consistent();
-        let mut replies = Vec::with_capacity(self.alloc, events.len())?;
+        let mut replies = with_capacity(self.alloc, events.len())?;
         for event in events {
             let reply = self.apply(*event);
             replies.push(reply).unwrap();
@@ -241,13 +241,13 @@ impl World {
 }
 
 /// Want of memory is a refusal like the others.
-fn answered(outcome: Result<Reply, AllocError>) -> Reply
+fn answered(outcome: Result<Reply, MemoryWanted>) -> Reply
     ensures ok { IfOk outcome (λ reply. result ≡ reply) }
-    ensures err { OnErr outcome (result ≡ Reply.Refused Refusal.NoMemory) }
+    ensures err { OnErr outcome (result ≡ Reply.Refused (Refusal.NoMemory wanted)) }
 {
     match outcome {
         Ok(reply) => reply,
-        Err(_) => Reply::Refused(Refusal::NoMemory),
+        Err(wanted) => Reply::Refused(Refusal::NoMemory(wanted)),
     }
 }
 
@@ -263,7 +263,7 @@ impl World {
     ghost use Rattle.pair_core.specs.Runs.{steps_outcome, with_steps};
 
     /// The running epoch ends: its checkpoint is sealed as a text, and its frames go to the gate.
-    fn cut(&mut self) -> Result<Reply, AllocError>
+    fn cut(&mut self) -> Result<Reply, MemoryWanted>
         requires { mode_refusal self.old.protocol.mode events.Cut ≡ None }
         ensures outcome { IfOk result (λ reply. (reply, self.new.protocol) ≡ allowed self.old.start self.old.protocol events.Cut) }
         ensures start { self.new.start ≡ self.old.start }
@@ -284,7 +284,7 @@ impl World {
     }
 
     /// One packet for each pending checkpoint is sent.
-    fn send(&mut self) -> Result<Reply, AllocError>
+    fn send(&mut self) -> Result<Reply, MemoryWanted>
         requires { mode_refusal self.old.protocol.mode events.Send ≡ None }
         ensures outcome { IfOk result (λ reply. (reply, self.new.protocol) ≡ allowed self.old.start self.old.protocol events.Send) }
         ensures start { self.new.start ≡ self.old.start }
@@ -297,7 +297,7 @@ impl World {
     }
 
     /// The backup gets a packet.
-    fn backup_get(&mut self, k: u64) -> Result<Reply, AllocError>
+    fn backup_get(&mut self, k: u64) -> Result<Reply, MemoryWanted>
         requires { mode_refusal self.old.protocol.mode (events.BackupGet k) ≡ None }
         ensures outcome { IfOk result (λ reply. (reply, self.new.protocol)
             ≡ allowed self.old.start self.old.protocol (events.BackupGet k)) }
@@ -324,7 +324,7 @@ impl World {
     }
 
     /// The primary gets an acknowledgement.
-    fn ack_get(&mut self, k: u64) -> Result<Reply, AllocError>
+    fn ack_get(&mut self, k: u64) -> Result<Reply, MemoryWanted>
         requires { mode_refusal self.old.protocol.mode (events.AckGet k) ≡ None }
         ensures outcome { IfOk result (λ reply. (reply, self.new.protocol) ≡ allowed self.old.start self.old.protocol (events.AckGet k)) }
         ensures start { self.new.start ≡ self.old.start }

@@ -3,7 +3,8 @@ ghost use Rattle.pair_history.specs.Entries.{Ran};
 ghost use Rattle.pair_history.specs.Log.{all_expanded};
 
 use frame_ports::Frame;
-use std::alloc::{AllocError, Global};
+use memory_wanted::{MemoryWanted, reserve};
+use std::alloc::Global;
 use std::marker::Model;
 
 /// One entry of the history, or a number of steps that came one after another.
@@ -61,13 +62,15 @@ impl History {
     }
 
     /// Makes room for so many more stored entries, or is refused for want of memory.
-    pub fn reserve(&mut self, additional: usize) -> Result<(), AllocError>
+    pub fn reserve(&mut self, additional: usize) -> Result<(), MemoryWanted>
         ensures entries { self.new.entries ≡ self.old.entries }
         ensures room { OnOk result (additional ≤ self.new.room) }
         // It is refused only where that room was missing.
         ensures full { OnErr result (self.old.room < additional) }
+        // No list has more places than that.
+        ensures most { OnOk result (additional < 2 ^ 63) }
     {
-        self.entries.reserve(additional)
+        reserve(&mut self.entries, additional)
     }
 
     /// Adds an entry at the end, in the room that was reserved.

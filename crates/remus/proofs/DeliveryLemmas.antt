@@ -1,11 +1,12 @@
 -- A delivery is read from the left, and has one reading.
-use Rattle.std.proofs.Common.{◌≡◌, ◌<◌, ◌%◌, ℕ, true, false, List, [], ◌∷◌, ◌++◌, length, Option, Some, None, Result, Ok, refl, sym, ap}
+use Rattle.std.proofs.Common.{◌≡◌, ◌<◌, ◌*◌, ◌/◌, ◌%◌, ℕ, true, false, List, [], ◌∷◌, ◌++◌, length, Option, Some, None, Result, Ok, Err, refl, sym, ap}
 use Rattle.std.proofs.Common.{subst, arith, ◌∙◌, Bor, codes}
 use Rattle.std.proofs.lemmas.List.Sums.{AllPass-from_list_all, list_all-from_AllPass}
 use Rattle.std.specs.Option.{option_map}
-use Rattle.hex.specs.Hex.{decode_of, is_hex_digit, IsBytes}
+use Rattle.std.specs.Result.{MatchResult}
+use Rattle.hex.specs.Hex.{decode_of, decode_sized, is_hex_digit, IsBytes}
 use Rattle.hex.specs.declared.error.FromHexError.{FromHexError}
-use Rattle.hex.proofs.HexLemmas.{decode_of-digits, decode_of-encode_lower, decode_of-ok}
+use Rattle.hex.proofs.HexLemmas.{decode_of-digits, decode_of-encode_lower, decode_of-ok, decode_sized-twice}
 use Rattle.std.specs.Char.{is_ascii_hexdigit, is_ascii_uppercase}
 use Rattle.std.specs.List.{list_all, list_any}
 use Rattle.remus.proofs.DigitLemmas.{lower-again, none_in_upper_case}
@@ -89,6 +90,19 @@ they-are digits bytes h =
 -- what they decode to is what they write
 pub decoded-written : (digits found bytes : List ℕ) → decode_of digits ≡ Ok found → IsHex digits bytes → IsHex digits found
 decoded-written digits found bytes e h = subst (λ bs. IsHex digits bs) (sym (decoded-same digits found bytes e h)) h
+
+-- they decode into as many places
+pub decoded-into : (digits out : List ℕ) (n : ℕ) (r : Result Unit FromHexError) → length digits ≡ 2 * n → (bytes : List ℕ) × IsHex digits bytes
+    → MatchResult (decode_sized digits n) (λ found. (r ≡ Ok tt) × (out ≡ found)) (λ e. r ≡ Err e) → (r ≡ Ok tt) × (decode_of digits ≡ Ok out)
+decoded-into digits out n r room hex done =
+    let decoded = hex-decodes digits hex.0 hex.1 in
+    let put = subst (λ d. MatchResult d (λ found. (r ≡ Ok tt) × (out ≡ found)) (λ e. r ≡ Err e)) (decode_sized-twice digits n room ∙ decoded)
+    done in
+    (put.0, decoded ∙ ap (λ bs. Ok bs) (sym put.1))
+
+-- half as many places as digits
+pub half : (digits : List ℕ) → (bytes : List ℕ) × IsHex digits bytes → length digits ≡ 2 * (length digits / 2)
+half digits hex = let even = (they-are digits hex.0 hex.1).even in omega arith
 
 -- ---- the client's number and the digits
 

@@ -7,6 +7,7 @@ use Rattle.std.specs.Io.KnownBytes.{Appends}
 use Rattle.std.proofs.KnownBytes.{Appends-trans}
 use Rattle.std.proofs.lemmas.Bool.Decides.{nat_tests}
 use Rattle.remus.specs.Output.{AppendsFront}
+use Rattle.memory_wanted.specs.Wanted.{wanted}
 use Rattle.checkpoint_stream.specs.Answers.{Answers}
 use Rattle.checkpoint_stream.specs.declared.errors.StreamError.{StreamError}
 use Rattle.checkpoint_stream.specs.declared.errors.StreamError.TheVariants.{Malformed, NoMemory}
@@ -102,15 +103,15 @@ refused-last len r new bytes printed (Malformed at) h e = record {
   ends = ap (λ (x : Reading). failure_at x.place) (sym h.0) ∙ h.1;
   is_printed = e;
 }
-refused-last len r new bytes printed NoMemory h e = record { end = stopped NoMemory; more = λ p. cc; ends = tt; is_printed = e }
+refused-last len r new bytes printed (NoMemory w) h e = record { end = stopped (NoMemory w); more = λ p. cc; ends = tt; is_printed = e }
 
-pub no_memory_line : codes "refused 12 NoMemory\n" ≡ stream_refusal_line NoMemory
+pub no_memory_line : codes "refused 12 NoMemory\n" ≡ stream_refusal_line (NoMemory wanted)
 unfolding digits
 no_memory_line = refl
 
 -- where there is no memory for a line, that is the last line
 pub no_memory-last : (len : ℕ) (r : Reading) (bytes : List ℕ) → IsLast len r bytes (codes "refused 12 NoMemory\n")
-no_memory-last len r bytes = record { end = stopped NoMemory; more = λ p. cc; ends = tt; is_printed = no_memory_line }
+no_memory-last len r bytes = record { end = stopped (NoMemory wanted); more = λ p. cc; ends = tt; is_printed = no_memory_line }
 
 -- a write failed while a line was printed
 abbrev pub IsCut : ℕ → Reading → List ℕ → Option (List ℕ) → Option (List ℕ) → Type 0

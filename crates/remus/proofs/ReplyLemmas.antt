@@ -13,6 +13,7 @@ use Rattle.std.proofs.Math.Seq.{take-append_seam}
 use Rattle.std.proofs.lemmas.Str.Parse.{IsNumeralModel, numerals_by_value, tells_all_ascii_digits}
 use Rattle.hex.specs.Hex.{encode_lower, decode_of, IsBytes}
 use Rattle.hex.proofs.HexLemmas.{decode_of-encode_lower}
+use Rattle.memory_wanted.specs.Wanted.{wanted}
 use Rattle.pair_core.specs.Refusals.{number_of, name_of}
 use Rattle.pair_core.specs.declared.event.Refusal.{Refusal}
 use Rattle.pair_core.specs.declared.event.Refusal.TheVariants.{Full, BadFrame, NoClient, Stopped, Behind, NotPaired, AlreadyPaired}
@@ -77,7 +78,7 @@ refusal_of n =
     cond (n == 1) (Some Full) (cond (n == 2) (Some BadFrame)
     (cond (n == 3) (Some NoClient) (cond (n == 4) (Some Stopped) (cond (n == 5) (Some Behind)
     (cond (n == 6) (Some NotPaired) (cond (n == 7) (Some AlreadyPaired) (cond (n == 8) (Some NoImage) (cond (n == 9) (Some Stale)
-    (cond (n == 10) (Some Gap) (cond (n == 12) (Some NoMemory)
+    (cond (n == 10) (Some Gap) (cond (n == 12) (Some (NoMemory wanted))
     (cond (n == 13) (Some CutNeeded) (cond (n == 14) (Some Exhausted) None))))))))))))
 
 abbrev refused : List ℕ → Option Reply
@@ -135,7 +136,7 @@ refusal-back AlreadyPaired = refl
 refusal-back NoImage = refl
 refusal-back Stale = refl
 refusal-back Gap = refl
-refusal-back NoMemory = refl
+refusal-back (NoMemory w) = refl
 refusal-back CutNeeded = refl
 refusal-back Exhausted = refl
 
@@ -150,7 +151,7 @@ small AlreadyPaired = omega arith
 small NoImage = omega arith
 small Stale = omega arith
 small Gap = omega arith
-small NoMemory = omega arith
+small (NoMemory w) = omega arith
 small CutNeeded = omega arith
 small Exhausted = omega arith
 

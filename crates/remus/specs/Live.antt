@@ -1,6 +1,7 @@
 -- What a live session prints: each line is answered as it comes (docs/LIVE.md, "Its lines and answers").
 use Rattle.std.specs.Prelude.{◌≡◌, ℕ, ◌≤◌, ◌<◌, true, false, List, [], ◌∷◌, ◌++◌, length, codes}
 use Rattle.std.specs.Io.KnownBytes.{Appends, Consumes, IsAtEnd}
+use Rattle.memory_wanted.specs.Wanted.{wanted}
 use Rattle.pair_core.specs.declared.event.Refusal.TheVariants.{NoMemory}
 use Rattle.remus.specs.Limits.{most_line_bytes}
 use Rattle.remus.specs.Meaning.{Stage, unbooted, GoesOn, IsBad, IsRefused, lines_of}
@@ -13,7 +14,7 @@ bad_answer = codes "bad\n"
 
 -- what a line prints for which there is no memory
 abbrev pub memory_answer : List ℕ
-memory_answer = refusal_line NoMemory
+memory_answer = refusal_line (NoMemory wanted)
 
 -- The answer to one line, and the stage after it.
 pub data IsReply (stage : Stage) (line printed : List ℕ) (next : Stage) : Type 0 where

@@ -1,6 +1,7 @@
 -- What a script means: what each of its lines prints, and how it ends (README, "Run it").
 use Rattle.std.specs.Prelude.{◌≡◌, ℕ, ◌+◌, ◌==◌, ◌⊎◌, Bool, true, false, List, [], ◌∷◌, ◌++◌, Some, None, codes, decimal}
 use Rattle.std.specs.List.{slice_split}
+use Rattle.memory_wanted.specs.Wanted.{wanted}
 use Rattle.pair_core.specs.declared.event.Event.{Event}
 use Rattle.pair_core.specs.declared.event.Event.TheVariants as events
 use Rattle.pair_core.specs.declared.event.Refusal.TheVariants.{NoMemory}
@@ -112,7 +113,7 @@ pub data GoesOn (stage : Stage) (text printed : List ℕ) (next : Stage) : Type 
       → next ≡ playing new → GoesOn stage text printed next
   -- a delivery whose bytes find no memory, which does nothing
   finds_no_memory : (w : Pair) (client : ℕ) (bytes : List ℕ) → stage ≡ playing w → IsDelivery text client bytes
-      → printed ≡ refusal_line NoMemory → next ≡ stage → GoesOn stage text printed next
+      → printed ≡ refusal_line (NoMemory wanted) → next ≡ stage → GoesOn stage text printed next
 
 -- The line isn't silent, and has no known form, or asks for a sector beyond the disk.
 pub data IsBad (stage : Stage) (text : List ℕ) : Type 0 where
@@ -143,7 +144,7 @@ pub data Means : Stage → ℕ → List (List ℕ) → List ℕ → Ending → T
   ends_badly : (stage : Stage) (number : ℕ) (text : List ℕ) (texts : List (List ℕ)) → IsBad stage text
       → Means stage number (text ∷ texts) [] (bad number)
   ends_refused : (stage : Stage) (number : ℕ) (text : List ℕ) (texts : List (List ℕ)) → IsRefused stage text
-      → Means stage number (text ∷ texts) (refusal_line NoMemory) refused
+      → Means stage number (text ∷ texts) (refusal_line (NoMemory wanted)) refused
 
 -- ---- the program
 

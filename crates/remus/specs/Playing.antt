@@ -1,6 +1,7 @@
 -- A script that is being played.
 use Rattle.std.specs.Prelude.{◌≡◌, ◌⊎◌, ℕ, ◌+◌, Bool, true, false, List, [], length, Option, Some, None, Result, Ok, Err, Box}
 use Rattle.std.specs.Io.KnownBytes.{Appends}
+use Rattle.memory_wanted.specs.Wanted.{wanted}
 use Rattle.pair_core.specs.Pair.{Pair}
 use Rattle.pair_core.specs.declared.event.Refusal.TheVariants.{NoMemory}
 use Rattle.remus.specs.declared.player.Turn.{Turn}
@@ -27,7 +28,7 @@ abbrev pub IsStep : Stage → List ℕ → Turn → List ℕ → Stage → Type 
 IsStep old text turns.Booted printed new = GoesOn old text printed new
 IsStep old text turns.Played printed new = GoesOn old text printed new
 IsStep old text turns.Bad printed new = IsBad old text × (printed ≡ []) × (new ≡ old)
-IsStep old text turns.Refused printed new = IsRefused old text × (printed ≡ refusal_line NoMemory) × (new ≡ old)
+IsStep old text turns.Refused printed new = IsRefused old text × (printed ≡ refusal_line (NoMemory wanted)) × (new ≡ old)
 
 -- The script means what was printed, and ends so.
 abbrev pub HasMeant : List ℕ → Ending → Writing → Writing → Type 0

@@ -1,6 +1,7 @@
 -- What a script is to its clients: one run of a pair, of which it prints the answers.
 use Rattle.std.specs.Prelude.{◌≡◌, ℕ, suc, ◌+◌, ◌<◌, true, List, [], ◌∷◌, ◌++◌, Some, codes, length, map, replicate}
 use Rattle.std.specs.List.{flat_map, AllByRecursion}
+use Rattle.memory_wanted.specs.Wanted.{wanted}
 use Rattle.pair_core.specs.declared.event.Event.{Event}
 use Rattle.pair_core.specs.declared.event.Event.TheVariants.{Step as GuestStep}
 use Rattle.pair_core.specs.declared.event.Refusal.TheVariants.{NoMemory}
@@ -57,7 +58,7 @@ pub data Plays (old : Pair) (line : Played) (new : Pair) : Type 0 where
   reads : (sector : ℕ) (bytes : List ℕ) → IsLine line.text (order (Sector sector)) → named_sector old sector ≡ Some bytes
       → OnlyPrints line (sector_line sector bytes) → new ≡ old → Plays old line new
   -- a delivery whose bytes find no memory
-  finds_no_memory : (client : ℕ) (bytes : List ℕ) → IsDelivery line.text client bytes → OnlyPrints line (refusal_line NoMemory)
+  finds_no_memory : (client : ℕ) (bytes : List ℕ) → IsDelivery line.text client bytes → OnlyPrints line (refusal_line (NoMemory wanted))
       → new ≡ old → Plays old line new
 
 -- These lines, one after another, lead from the pair old to new.
@@ -82,7 +83,7 @@ abbrev pub Ends : Stage → List (List ℕ) → List ℕ → Ending → Type 0
 Ends stage left printed finished = (left ≡ []) × (printed ≡ [])
 Ends stage left printed (bad number) = (text : List ℕ) × (rest : List (List ℕ)) × (left ≡ text ∷ rest) × IsBad stage text × (printed ≡ [])
 Ends stage left printed refused =
-    (text : List ℕ) × (rest : List (List ℕ)) × (left ≡ text ∷ rest) × IsRefused stage text × (printed ≡ refusal_line NoMemory)
+    (text : List ℕ) × (rest : List (List ℕ)) × (left ≡ text ∷ rest) × IsRefused stage text × (printed ≡ refusal_line (NoMemory wanted))
 
 abbrev pub AreSilent : List (List ℕ) → Type 0
 AreSilent texts = AllByRecursion (λ text. is_silent text ≡ true) texts

@@ -15,7 +15,7 @@ use Rattle.remus.specs.Streams.{Writing, WritesFront, IsPut}
 abbrev pub IsKept : List ℕ → List ℕ → Fate → Type 0
 IsKept text bytes fates.Kept = (bytes ≡ text) × (length text ≤ most_line_bytes)
 IsKept text bytes fates.TooLong = most_line_bytes < length text
-IsKept text bytes fates.NoMemory = 0 < length text
+IsKept text bytes (fates.NoMemory _) = 0 < length text
 
 -- so much of a line has come
 abbrev pub Holds : OpenLine → List ℕ → Type 0

@@ -23,4 +23,4 @@ short_line len = line (codes "short" ∷ codes "at" ∷ decimal len ∷ [])
 abbrev pub stream_refusal_line : StreamError → List ℕ
 stream_refusal_line (Malformed offset) =
     line (codes "refused" ∷ decimal (number_of (Malformed offset)) ∷ name_of (Malformed offset) ∷ decimal offset ∷ [])
-stream_refusal_line NoMemory = line (codes "refused" ∷ decimal (number_of NoMemory) ∷ name_of NoMemory ∷ [])
+stream_refusal_line (NoMemory w) = line (codes "refused" ∷ decimal (number_of (NoMemory w)) ∷ name_of (NoMemory w) ∷ [])

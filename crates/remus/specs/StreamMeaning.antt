@@ -24,7 +24,7 @@ abbrev pub EndsFile : Reading → List ℕ → FileEnd → Type 0
 EndsFile r bytes complete = bytes ≡ []
 EndsFile r bytes inside = (bytes ≢ []) × (is_closed (fed r bytes).place ≡ false)
 EndsFile r bytes (stopped (Malformed offset)) = failure_at (fed r bytes).place ≡ Some offset
-EndsFile r bytes (stopped NoMemory) = Unit {0}
+EndsFile r bytes (stopped (NoMemory _)) = Unit {0}
 
 -- what the end of a file of so many bytes prints
 abbrev pub end_line : ℕ → FileEnd → List ℕ

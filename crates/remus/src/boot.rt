@@ -8,7 +8,8 @@ ghost use Rattle.remus.specs.Limits.{most_pages, most_sectors};
 
 use crate::fields::{after, hex_bytes, operand};
 use crate::limits::{MOST_CLIENTS, MOST_PAGES, MOST_SECTORS};
-use std::alloc::{AllocError, Global};
+use memory_wanted::{MemoryWanted, extend_from_slice, push, with_capacity};
+use std::alloc::Global;
 
 /// The pages that a guest with a driver needs: its program lies in the first, and its rings in the second.
 const DRIVER_PAGES: u32 = 2;
@@ -63,8 +64,8 @@ struct Head<'a> {
 ///
 /// # Errors
 ///
-/// [`AllocError`] where the text is a boot line, and there is no memory for its guest's words.
-pub fn read_boot(alloc: Global, text: &[u8]) -> Result<Option<Boot>, AllocError>
+/// [`MemoryWanted`] where the text is a boot line, and there is no memory for its guest's words.
+pub fn read_boot(alloc: Global, text: &[u8]) -> Result<Option<Boot>, MemoryWanted>
     // What is read is spelled so.
     ensures found { IfOk result (λ found. IfSome found (λ boot. IsBoot text.now (boot_line boot))) }
     // It is in the limits.
@@ -119,7 +120,7 @@ fn are_in_limits(pages: u64, sectors: u64, clients: u64) -> bool
 }
 
 /// The guest that a text names, in a machine of so many pages, where it fits.
-fn read_guest(alloc: Global, pages: u32, text: &[u8]) -> Result<Option<Guest>, AllocError>
+fn read_guest(alloc: Global, pages: u32, text: &[u8]) -> Result<Option<Guest>, MemoryWanted>
     ensures found { IfOk result (λ found. IfSome found (λ guest. IsGuest pages text.now (named_guest guest))) }
     ensures only { (guest : NamedGuest) → IsGuest pages text.now guest → IfOk result (λ found. option_map named_guest found ≡ Some guest) }
     ensures err { OnErr result ((guest : NamedGuest) × IsGuest pages text.now guest) }
@@ -174,13 +175,13 @@ fn count_words(text: &[u8]) -> Option<usize>
 }
 
 /// The words that a text spells, so many.
-fn read_words(alloc: Global, text: &[u8], count: usize) -> Result<Vec<u32>, AllocError>
+fn read_words(alloc: Global, text: &[u8], count: usize) -> Result<Vec<u32>, MemoryWanted>
     ensures { (ws : List ℕ) → IsWords text.now ws → IfOk result (λ words. words.items ≡ ws) }
 {
-    let mut words = Vec::with_capacity(alloc, count)?;
+    let mut words = with_capacity(alloc, count)?;
     let mut rest = text;
     while let Some((word, others)) = first_word(rest) {
-        words.push(word)?;
+        push(&mut words, word)?;
         rest = others;
     }
     Ok(words)
@@ -212,13 +213,13 @@ fn read_word(field: &[u8]) -> Option<u32>
 ///
 /// # Errors
 ///
-/// [`AllocError`] where there is no memory for it.
-pub fn image_of(alloc: Global, words: &[u32]) -> Result<Vec<u8>, AllocError>
+/// [`MemoryWanted`] where there is no memory for it.
+pub fn image_of(alloc: Global, words: &[u32]) -> Result<Vec<u8>, MemoryWanted>
     ensures { IfOk result (λ image. image.items ≡ words_image words.now) }
 {
     let mut image = Vec::new(alloc);
     for word in words {
-        image.extend_from_slice(word.to_le_bytes().as_slice())?;
+        extend_from_slice(&mut image, word.to_le_bytes().as_slice())?;
     }
     Ok(image)
 }

@@ -161,6 +161,6 @@ fn write_stream_refusal<W: Write>(out: &mut W, error: &StreamError) -> Result<()
     let name = error.name();
     match error {
         StreamError::Malformed(offset) => writeln!(out, "refused {number} {name} {offset}"),
-        StreamError::NoMemory => writeln!(out, "refused {number} {name}"),
+        StreamError::NoMemory(_) => writeln!(out, "refused {number} {name}"),
     }
 }

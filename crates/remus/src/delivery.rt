@@ -1,12 +1,14 @@
 //! The line of a client's frame: `deliver CLIENT HEX`.
 
-ghost use Rattle.std.specs.Prelude.{◌≡◌, ℕ, List, Some, IfOk, IfSome, IsFalse, IsTrue, OnErr, option_map};
+ghost use Rattle.std.specs.Prelude.{◌≡◌, ℕ, ◌*◌, List, Some, Ok, length, IfOk, IfSome, IsFalse, IsTrue, OnErr, option_map};
 ghost use Rattle.std.specs.Char.{is_ascii_hexdigit};
 ghost use Rattle.std.specs.List.{list_all};
+ghost use Rattle.hex.specs.Hex.{decode_of};
 ghost use Rattle.remus.specs.Delivery.{IsHex, IsDelivery, delivery_head, delivery_view};
 
 use crate::fields::{after, has_upper_case, operand};
-use std::alloc::{AllocError, Global};
+use memory_wanted::{MemoryWanted, resize, with_capacity};
+use std::alloc::Global;
 
 /// What such a line says.
 #[derive(Debug, Drop)]
@@ -21,8 +23,8 @@ pub struct Delivery {
 ///
 /// # Errors
 ///
-/// [`AllocError`] where the line is a delivery, and there is no memory for its bytes.
-pub fn read_delivery(alloc: Global, text: &[u8]) -> Result<Option<Delivery>, AllocError>
+/// [`MemoryWanted`] where the line is a delivery, and there is no memory for its bytes.
+pub fn read_delivery(alloc: Global, text: &[u8]) -> Result<Option<Delivery>, MemoryWanted>
     // What is read is spelled so.
     ensures found { IfOk result (λ found. IfSome found (λ delivery. IsDelivery text.now delivery.client delivery.bytes.items)) }
     // What is spelled so is read so, unless memory runs out.
@@ -48,7 +50,7 @@ fn read_head(text: &[u8]) -> Option<(u64, &[u8])>
 }
 
 /// The bytes that digits write, at least one.
-fn read_bytes(alloc: Global, digits: &[u8]) -> Result<Option<Vec<u8>>, AllocError>
+fn read_bytes(alloc: Global, digits: &[u8]) -> Result<Option<Vec<u8>>, MemoryWanted>
     ensures found { IfOk result (λ found. IfSome found (λ bytes. IsHex digits.now bytes.items)) }
     ensures only { (bytes : List ℕ) → IsHex digits.now bytes → IfOk result (λ found. option_map (λ v. v.items) found ≡ Some bytes) }
     // Memory is asked for only where they write some.
@@ -57,9 +59,21 @@ fn read_bytes(alloc: Global, digits: &[u8]) -> Result<Option<Vec<u8>>, AllocErro
     if !are_lower_hex(digits) {
         return Ok(None);
     }
-    match hex::decode(alloc, digits) {
-        Ok(bytes) => Ok(Some(bytes)),
-        Err(_) => Err(AllocError),
+    let mut bytes = with_capacity(alloc, digits.len() / 2)?;
+    resize(&mut bytes, digits.len() / 2, 0)?;
+    put_decoded(digits, bytes.as_mut_slice());
+    Ok(Some(bytes))
+}
+
+/// Puts the bytes that digits write into as many places.
+fn put_decoded(digits: &[u8], bytes: &mut [u8])
+    requires room { length digits.now ≡ 2 * length bytes.old }
+    requires hex { (written : List ℕ) × IsHex digits.now written }
+    ensures value { decode_of digits.now ≡ Ok bytes.new }
+    ensures size { length bytes.new ≡ length bytes.old }
+{
+    if hex::decode_to_slice(digits, bytes).is_err() {
+        unreachable!();
     }
 }
 

@@ -7,7 +7,8 @@ ghost use Rattle.remus.specs.Meaning.{IsLine};
 
 use crate::delivery::{Delivery, read_delivery};
 use crate::script::{Command, read_command};
-use std::alloc::{AllocError, Global};
+use memory_wanted::MemoryWanted;
+use std::alloc::Global;
 
 /// A line after the boot line.
 #[derive(Debug, Drop)]
@@ -22,8 +23,8 @@ pub enum Line {
 ///
 /// # Errors
 ///
-/// [`AllocError`] where the text spells a delivery, and there is no memory for its bytes.
-pub fn read_line(alloc: Global, text: &[u8]) -> Result<Option<Line>, AllocError>
+/// [`MemoryWanted`] where the text spells a delivery, and there is no memory for its bytes.
+pub fn read_line(alloc: Global, text: &[u8]) -> Result<Option<Line>, MemoryWanted>
     // What is read is spelled so.
     ensures found { IfOk result (λ found. IfSome found (λ line. IsLine text.now (line_of line))) }
     // Whatever the text spells is what was read.

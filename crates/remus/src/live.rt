@@ -13,8 +13,10 @@ use crate::replies::write_refusal;
 use crate::sim::first_line;
 use crate::streams::{Failed, Sink, Source};
 use crate::text::add;
+use memory_wanted::{MemoryWanted, extend_from_slice};
 use pair_core::Refusal;
-use std::alloc::{AllocError, Global};
+use std::alloc::Global;
+use std::mem;
 
 /// Bytes that are read at once, at most.
 const PIECE_BYTES: usize = 8192;
@@ -101,21 +103,22 @@ impl Session {
     fn answer<O: Sink>(&mut self, out: &mut O) -> Result<(), Failed>
         ensures { IsAnswered self.old self.new (O.written out.old) (O.written out.new) result }
     {
-        reply(self.alloc, &mut self.player, &self.line);
-        self.line = OpenLine::new(self.alloc);
+        let line = mem::replace(&mut self.line, OpenLine::new(self.alloc));
+        reply(self.alloc, &mut self.player, line);
         out.put(self.player.text.as_slice())?;
         out.show()
     }
 }
 
 /// Plays a line. The answer is the player's text.
-fn reply(alloc: Global, player: &mut Player, line: &OpenLine)
-    ensures { (text : List ℕ) → Holds line.now text
+fn reply(alloc: Global, player: &mut Player, line: OpenLine)
+    ensures { (text : List ℕ) → Holds line text
         → IsReply (stage_of player.old.world) text player.new.text.items (stage_of player.new.world) }
 {
-    match line.fate {
+    let OpenLine { bytes, fate } = line;
+    match fate {
         Fate::Kept => {
-            if let Turn::Bad = player.step(alloc, line.bytes.as_slice()) {
+            if let Turn::Bad = player.step(alloc, bytes.as_slice()) {
                 add(&mut player.text, BAD);
             }
         }
@@ -123,22 +126,22 @@ fn reply(alloc: Global, player: &mut Player, line: &OpenLine)
             player.text.clear();
             add(&mut player.text, BAD);
         }
-        Fate::NoMemory => {
+        Fate::NoMemory(wanted) => {
             player.text.clear();
-            write_refusal(&mut player.text, Refusal::NoMemory);
+            write_refusal(&mut player.text, &Refusal::NoMemory(wanted));
         }
     }
 }
 
 /// What became of the bytes of a line.
-#[derive(Clone, Copy, Debug, PartialEq, Eq)]
+#[derive(Debug, Drop, PartialEq, Eq)]
 enum Fate {
     /// They are kept.
     Kept,
     /// They are more than a line may have, and are read past.
     TooLong,
     /// There is no memory to keep them in, and they are read past.
-    NoMemory,
+    NoMemory(MemoryWanted),
 }
 
 /// A line of which the newline hasn't come.
@@ -181,9 +184,9 @@ fn keep(line: &mut Vec<u8>, bytes: &[u8]) -> Fate
     if bytes.len() > MOST_LINE_BYTES.saturating_sub(line.len()) {
         return Fate::TooLong;
     }
-    match line.extend_from_slice(bytes) {
+    match extend_from_slice(line, bytes) {
         Ok(()) => Fate::Kept,
-        Err(AllocError) => Fate::NoMemory,
+        Err(wanted) => Fate::NoMemory(wanted),
     }
 }
 

@@ -12,8 +12,9 @@ use crate::lines::read_line;
 use crate::replies::write_refusal;
 use crate::text::{Text, add};
 use guest_kit::{beacon, disk_once, idle};
+use memory_wanted::{MemoryWanted, boxed};
 use pair_core::{Refusal, Shape, World};
-use std::alloc::{AllocError, Global};
+use std::alloc::Global;
 
 /// What became of a line.
 #[derive(Clone, Copy, Debug, PartialEq, Eq)]
@@ -76,8 +77,8 @@ impl Player {
                 Turn::Booted
             }
             Ok(None) => Turn::Bad,
-            Err(AllocError) => {
-                write_refusal(&mut self.text, Refusal::NoMemory);
+            Err(wanted) => {
+                write_refusal(&mut self.text, &Refusal::NoMemory(wanted));
                 Turn::Refused
             }
         }
@@ -99,8 +100,8 @@ fn play(alloc: Global, world: &mut Box<World>, line: &[u8], text: &mut Text) -> 
             }
         }
         Ok(None) => Turn::Bad,
-        Err(AllocError) => {
-            write_refusal(text, Refusal::NoMemory);
+        Err(wanted) => {
+            write_refusal(text, &Refusal::NoMemory(wanted));
             Turn::Played
         }
     }
@@ -114,7 +115,7 @@ fn is_silent(line: &[u8]) -> bool
 }
 
 /// The pair at its start that this boot line asks for; none where the text is no boot line.
-fn booted(alloc: Global, text: &[u8]) -> Result<Option<Box<World>>, AllocError>
+fn booted(alloc: Global, text: &[u8]) -> Result<Option<Box<World>>, MemoryWanted>
     ensures some { IfOk result (λ found. IfSome found (λ world. (line : BootLine)
         × IsBoot text.now line × IsReady line world.value)) }
     ensures none { IfOk result (λ found. IfNone found ((line : BootLine) → IsBoot text.now line → ⊥)) }
@@ -127,7 +128,7 @@ fn booted(alloc: Global, text: &[u8]) -> Result<Option<Box<World>>, AllocError>
 }
 
 /// The pair that a boot line asks for, at its start.
-fn start(alloc: Global, boot: &Boot) -> Result<Box<World>, AllocError>
+fn start(alloc: Global, boot: &Boot) -> Result<Box<World>, MemoryWanted>
     requires { IsInLimits (boot_line boot.now) }
     ensures { IfOk result (λ w. IsReady (boot_line boot.now) w.value) }
 {
@@ -136,14 +137,15 @@ fn start(alloc: Global, boot: &Boot) -> Result<Box<World>, AllocError>
         sectors: boot.sectors,
     };
     let image = image(alloc, boot)?;
-    let Ok(world) = World::boot(alloc, shape, boot.clients, image.as_slice()) else {
-        return Err(AllocError);
-    };
-    Box::new(alloc, world).map_err(AllocError::from)
+    match World::boot(alloc, shape, boot.clients, image.as_slice()) {
+        Ok(world) => boxed(alloc, world),
+        Err(Refusal::NoMemory(wanted)) => Err(wanted),
+        Err(_) => unreachable!(),
+    }
 }
 
 /// The bytes of a guest's program.
-fn image(alloc: Global, boot: &Boot) -> Result<Vec<u8>, AllocError>
+fn image(alloc: Global, boot: &Boot) -> Result<Vec<u8>, MemoryWanted>
     requires { IsInLimits (boot_line boot.now) }
     ensures fits { IfOk result (λ image. length image.items ≤ 4096 * boot.now.pages) }
     ensures bytes { IfOk result (λ image. image.items ≡ guest_image (named_guest boot.now.guest)) }

@@ -52,14 +52,14 @@ pub fn write_reply(text: &mut Text, reply: &Reply)
             write_generation(text, "live", *generation, "steps", *steps)
         }
         Reply::Protecting(generation) => write_number(text, "protecting", *generation),
-        Reply::Refused(refusal) => write_refusal(text, *refusal),
+        Reply::Refused(refusal) => write_refusal(text, refusal),
     }
 }
 
 /// Prints `refused NO NAME`.
-pub fn write_refusal(text: &mut Text, refusal: Refusal)
+pub fn write_refusal(text: &mut Text, refusal: &Refusal)
     requires { text.old.items ≡ [] }
-    ensures { text.new.items ≡ refusal_line refusal }
+    ensures { text.new.items ≡ refusal_line refusal.now }
 {
     let name = refusal.name();
     add(text, b"refused");

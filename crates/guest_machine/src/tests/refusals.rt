@@ -5,6 +5,7 @@ use super::asserts::{
 };
 use super::{AVAILABLE, USED, beacon, boot, put, put_words};
 use crate::MachineError;
+use memory_wanted::reserve;
 use std::alloc::Global;
 use std::process::Abort;
 use std::test::Fail;
@@ -92,6 +93,9 @@ fn assert_name(
 
 #[test]
 fn refusals_have_their_numbers_and_names(rt: HostRuntime) -> Result<(), Fail> {
-    assert_name(&rt, rt.alloc(), MachineError::NoMemory, 12, "NoMemory")?;
+    let Err(wanted) = reserve(&mut Vec::<u64>::new(rt.alloc()), usize::MAX) else {
+        return Err("no machine has that much".into());
+    };
+    assert_name(&rt, rt.alloc(), MachineError::from(wanted), 12, "NoMemory")?;
     assert_name(&rt, rt.alloc(), MachineError::CutNeeded, 13, "CutNeeded")
 }

@@ -19,8 +19,8 @@ use crate::limits::{STEP_ENTRIES, STEP_FRAMES};
 use crate::nodes::Nodes;
 use crate::window::Window;
 use failover::Mode;
+use memory_wanted::MemoryWanted;
 use pair_history::Frame;
-use std::alloc::AllocError;
 
 impl PairRecord {
     /// To how many clients all frames go that the gate holds, and then those of the outbox.
@@ -46,7 +46,7 @@ impl PairRecord {
 
     /// The backup stops: all that was kept goes to the history, the pending checkpoints are given up, and what the gate held, and then the
     /// outbox, lands.
-    pub(crate) fn fail_backup(&mut self, outbox: &[Frame]) -> Result<Reply, AllocError>
+    pub(crate) fn fail_backup(&mut self, outbox: &[Frame]) -> Result<Reply, MemoryWanted>
         requires free { first_refusal (fail_backup_refusals self.old.ports.boxes outbox.now self.old.protocol) ≡ None }
         requires pair { is_alone self.old.protocol.mode ≡ false }
         requires few { length outbox.now ≤ 256 }
@@ -72,7 +72,7 @@ impl PairRecord {
 
     /// Where a node is alone: its guest makes steps, `most` at most and none after one that sent a frame, and what it sent lands. All
     /// that they may add to the history has room before the first of them is made.
-    pub(crate) fn step_alone(&mut self, nodes: &mut Nodes, most: u64) -> Result<u64, AllocError>
+    pub(crate) fn step_alone(&mut self, nodes: &mut Nodes, most: u64) -> Result<u64, MemoryWanted>
         requires alone { is_alone self.old.protocol.mode ≡ true }
         requires outbox { nodes.old.nodes.live.outbox ≡ [] }
         requires fits { length (all_entries self.old.protocol.journal) + (most + 1024) < number_limit }

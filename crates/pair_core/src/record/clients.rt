@@ -14,8 +14,8 @@ use crate::event::{Refusal, Reply};
 use crate::frames::{fill, place_for_frame};
 use crate::modes::{is_alone, is_stopped};
 use frame_ports::{INBOX_FRAMES, MAX_FRAME, MIN_FRAME, NUMBER_LIMIT};
+use memory_wanted::MemoryWanted;
 use pair_history::{Entry, Frame};
-use std::alloc::AllocError;
 
 impl PairRecord {
     /// Why an event of this client's is refused whatever it is.
@@ -62,7 +62,7 @@ impl PairRecord {
     }
 
     /// The first frame of this client's inbox leaves it for the guest, with its number.
-    pub(crate) fn admit(&mut self, client: u64) -> Result<(u64, Frame), AllocError>
+    pub(crate) fn admit(&mut self, client: u64) -> Result<(u64, Frame), MemoryWanted>
         requires free { first_refusal (admit_refusals self.old.protocol) ≡ None }
         requires client { IsClient self.old.ports client }
         requires some { 0 < length (inbox_of self.old.ports client) }
@@ -106,7 +106,11 @@ impl PairRecord {
     }
 
     /// A delivery to a full inbox is recorded, and that is all.
-    pub(crate) fn refuse_delivery(&mut self, client: u64, bytes: &[u8]) -> Result<Reply, AllocError>
+    pub(crate) fn refuse_delivery(
+        &mut self,
+        client: u64,
+        bytes: &[u8],
+    ) -> Result<Reply, MemoryWanted>
         requires { first_refusal (deliver_refusals (length self.old.ports.boxes) (inbox_of self.old.ports client) self.old.ports.next
             self.old.protocol client bytes.now) ≡ Some Refusal.Full }
         ensures ok { IfOk result (λ reply. (reply, self.new.protocol)
@@ -122,7 +126,7 @@ impl PairRecord {
     }
 
     /// The client delivers a frame of these bytes, which waits for the guest.
-    pub(crate) fn deliver(&mut self, client: u64, bytes: &[u8]) -> Result<Reply, AllocError>
+    pub(crate) fn deliver(&mut self, client: u64, bytes: &[u8]) -> Result<Reply, MemoryWanted>
         requires { first_refusal (deliver_refusals (length self.old.ports.boxes) (inbox_of self.old.ports client) self.old.ports.next
             self.old.protocol client bytes.now) ≡ None }
         ensures ok { IfOk result (λ reply. (reply, self.new.protocol)
@@ -154,7 +158,7 @@ impl PairRecord {
     }
 
     /// The client takes the first frame of its box, or finds none.
-    pub(crate) fn take(&mut self, client: u64) -> Result<Reply, AllocError>
+    pub(crate) fn take(&mut self, client: u64) -> Result<Reply, MemoryWanted>
         requires { first_refusal (take_refusals (length self.old.ports.boxes) self.old.protocol client) ≡ None }
         ensures ok { IfOk result (λ reply. (reply, self.new.protocol) ≡ take_done self.old.ports.boxes self.old.protocol client) }
         ensures ports { OnOk result (self.new.ports ≡ ports_after_take self.old.ports client) }
@@ -189,7 +193,7 @@ impl PairRecord {
     }
 
     /// The frame at this place of the client's inbox is dropped. Answers its number.
-    pub(crate) fn lose_in(&mut self, client: u64, place: u64) -> Result<u64, AllocError>
+    pub(crate) fn lose_in(&mut self, client: u64, place: u64) -> Result<u64, MemoryWanted>
         requires free { first_refusal (loss_refusals self.old.protocol) ≡ None }
         requires client { IsClient self.old.ports client }
         requires there { place < length (inbox_of self.old.ports client) }
@@ -207,7 +211,7 @@ impl PairRecord {
     }
 
     /// The frame at this place of the client's box is dropped.
-    pub(crate) fn lose_out(&mut self, client: u64, place: u64) -> Result<(), AllocError>
+    pub(crate) fn lose_out(&mut self, client: u64, place: u64) -> Result<(), MemoryWanted>
         requires free { first_refusal (loss_refusals self.old.protocol) ≡ None }
         requires client { IsClient self.old.ports client }
         requires there { place < length (box_of self.old.ports client) }

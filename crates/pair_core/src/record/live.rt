@@ -13,9 +13,9 @@ use crate::landings::count_landings;
 use crate::window::Window;
 use failover::Mode;
 use frame_ports::NUMBER_LIMIT;
+use memory_wanted::MemoryWanted;
 use output_gate::Gate;
 use pair_history::Frame;
-use std::alloc::AllocError;
 
 /// What the gate holds of committed checkpoints, where this is the window of those that it holds.
 fn committed_frames(window: Window, gate: &Gate) -> &[Frame]
@@ -49,7 +49,7 @@ impl PairRecord {
 
     /// The backup goes live from a guest that has made so many steps: what was kept is discarded, with the frames that it took in, and
     /// what the gate held of committed checkpoints is dropped.
-    pub(crate) fn go_live(&mut self, steps: u64) -> Result<Reply, AllocError>
+    pub(crate) fn go_live(&mut self, steps: u64) -> Result<Reply, MemoryWanted>
         requires free { first_refusal (go_live_refusals self.old.ports.boxes (owed_to self.old) self.old.protocol) ≡ None }
         requires pair { is_alone self.old.protocol.mode ≡ false }
         ensures ok { IfOk result (λ reply. (reply, self.new.protocol)

@@ -9,7 +9,7 @@ use crate::limits::FULL_CHECKPOINT;
 use crate::window::Window;
 use failover::Mode;
 use frame_ports::NUMBER_LIMIT;
-use std::alloc::AllocError;
+use memory_wanted::MemoryWanted;
 
 impl PairRecord {
     /// Why a node can't get a new backup.
@@ -24,7 +24,7 @@ impl PairRecord {
     }
 
     /// The node that is alone gets a new backup, in the next generation: its full checkpoint, which no frame waits for, is pending.
-    pub(crate) fn protect(&mut self) -> Result<Reply, AllocError>
+    pub(crate) fn protect(&mut self) -> Result<Reply, MemoryWanted>
         requires free { first_refusal (protect_refusals self.old.protocol) ≡ None }
         requires alone { is_alone self.old.protocol.mode ≡ true }
         ensures ok { IfOk result (λ reply. (reply, self.new.protocol) ≡ protect_done self.old.protocol) }

@@ -1,6 +1,7 @@
 //! What is answered where a node fails, and after it: what the backup goes on from, and what lands.
 use super::{FRAME, answers, beacon_pair, idle_pair, is_filled, paired, writer_pair};
 use crate::{Event, Mode, Refusal, Show};
+use memory_wanted::reserve;
 use std::fmt::Write;
 use std::test::Fail;
 
@@ -201,7 +202,7 @@ fn a_stopped_primary_does_nothing(rt: HostRuntime) -> Result<(), Fail> {
     assert!(rt; answers(rt.alloc(), &mut world, &events, wanted)?);
     assert_eq!(rt;
         [world.step(), world.run_steps(5)],
-        [Err(Refusal::Stopped); 2]
+        [Err(Refusal::Stopped), Err(Refusal::Stopped)]
     );
     assert_eq!(rt; world.show(), stopped(1, 0, 0));
     Ok(())
@@ -301,6 +302,9 @@ fn many_steps_of_a_node_alone_are_made_in_one_call(rt: HostRuntime) -> Result<()
 
 #[test]
 fn refusals_print_their_names(rt: HostRuntime) -> Result<(), Fail> {
+    let Err(wanted) = reserve(&mut Vec::<u64>::new(rt.alloc()), usize::MAX) else {
+        return Err("no machine has that much".into());
+    };
     let mut text = String::new(rt.alloc());
     for refusal in [
         Refusal::Full,
@@ -313,7 +317,7 @@ fn refusals_print_their_names(rt: HostRuntime) -> Result<(), Fail> {
         Refusal::NoImage,
         Refusal::Stale,
         Refusal::Gap,
-        Refusal::NoMemory,
+        Refusal::from(wanted),
         Refusal::CutNeeded,
         Refusal::Exhausted,
     ] {

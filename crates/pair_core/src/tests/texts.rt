@@ -10,7 +10,7 @@ fn beacon_nodes(alloc: Global) -> Result<Box<Nodes>, Fail> {
     let image = beacon(alloc)?;
     let (pages, sectors) = SHAPE;
     if image.len() > 4096 * 2 {
-        return Err(Refusal::NoMemory.into());
+        return Err("the image is larger than the guest".into());
     }
     let nodes = Nodes::boot(alloc, Shape { pages, sectors }, image.as_slice())?;
     Ok(Box::new(alloc, nodes)?)

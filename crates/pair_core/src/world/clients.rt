@@ -8,11 +8,11 @@ ghost use Rattle.pair_core.specs.Replication.{KeepsBackup};
 
 use super::World;
 use crate::event::{Refusal, Reply};
-use std::alloc::AllocError;
+use memory_wanted::MemoryWanted;
 
 impl World {
     /// The first frame of a client's inbox arrives at the guest.
-    pub(super) fn admit(&mut self, client: u64) -> Result<Reply, AllocError>
+    pub(super) fn admit(&mut self, client: u64) -> Result<Reply, MemoryWanted>
         ensures outcome { IfOk result (λ reply. (reply, self.new.protocol)
             ≡ allowed self.old.start self.old.protocol (events.Admit client)) }
         ensures start { self.new.start ≡ self.old.start }
@@ -38,7 +38,7 @@ impl World {
     }
 
     /// A client delivers a frame of these bytes.
-    pub(super) fn deliver(&mut self, client: u64, bytes: &[u8]) -> Result<Reply, AllocError>
+    pub(super) fn deliver(&mut self, client: u64, bytes: &[u8]) -> Result<Reply, MemoryWanted>
         ensures outcome { IfOk result (λ reply. (reply, self.new.protocol)
             ≡ allowed self.old.start self.old.protocol (events.Deliver client bytes.entry)) }
         ensures start { self.new.start ≡ self.old.start }
@@ -58,7 +58,7 @@ impl World {
     }
 
     /// A client takes the first frame of its box.
-    pub(super) fn take(&mut self, client: u64) -> Result<Reply, AllocError>
+    pub(super) fn take(&mut self, client: u64) -> Result<Reply, MemoryWanted>
         ensures outcome { IfOk result (λ reply. (reply, self.new.protocol)
             ≡ allowed self.old.start self.old.protocol (events.Take client)) }
         ensures start { self.new.start ≡ self.old.start }

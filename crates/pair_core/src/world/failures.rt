@@ -9,7 +9,7 @@ ghost use Rattle.pair_core.specs.Replication.{KeepsBackup, Replicates};
 
 use super::World;
 use crate::event::Reply;
-use std::alloc::AllocError;
+use memory_wanted::MemoryWanted;
 
 impl World {
     /// The primary stops.
@@ -24,7 +24,7 @@ impl World {
     }
 
     /// The backup stops, and the primary goes on alone.
-    pub(super) fn fail_backup(&mut self) -> Result<Reply, AllocError>
+    pub(super) fn fail_backup(&mut self) -> Result<Reply, MemoryWanted>
         requires { mode_refusal self.old.protocol.mode events.FailBackup ≡ None }
         ensures outcome { IfOk result (λ reply. (reply, self.new.protocol) ≡ allowed self.old.start self.old.protocol events.FailBackup) }
         ensures start { self.new.start ≡ self.old.start }
@@ -43,7 +43,7 @@ impl World {
     }
 
     /// The backup goes live in the place of the stopped primary.
-    pub(super) fn go_live(&mut self) -> Result<Reply, AllocError>
+    pub(super) fn go_live(&mut self) -> Result<Reply, MemoryWanted>
         requires { mode_refusal self.old.protocol.mode events.GoLive ≡ None }
         ensures outcome { IfOk result (λ reply. (reply, self.new.protocol) ≡ allowed self.old.start self.old.protocol events.GoLive) }
         ensures start { self.new.start ≡ self.old.start }
@@ -62,7 +62,7 @@ impl World {
     }
 
     /// The node that is alone gets a new backup.
-    pub(super) fn protect(&mut self) -> Result<Reply, AllocError>
+    pub(super) fn protect(&mut self) -> Result<Reply, MemoryWanted>
         requires { mode_refusal self.old.protocol.mode events.Protect ≡ None }
         ensures outcome { IfOk result (λ reply. (reply, self.new.protocol) ≡ allowed self.old.start self.old.protocol events.Protect) }
         ensures start { self.new.start ≡ self.old.start }

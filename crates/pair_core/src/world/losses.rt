@@ -8,11 +8,11 @@ ghost use Rattle.pair_core.specs.Replication.{KeepsBackup};
 
 use super::World;
 use crate::event::Reply;
-use std::alloc::AllocError;
+use memory_wanted::MemoryWanted;
 
 impl World {
     /// The line drops a frame of a client's inbox.
-    pub(super) fn lose_in(&mut self, client: u64, place: u64) -> Result<Reply, AllocError>
+    pub(super) fn lose_in(&mut self, client: u64, place: u64) -> Result<Reply, MemoryWanted>
         ensures outcome { IfOk result (λ reply. (reply, self.new.protocol)
             ≡ allowed self.old.start self.old.protocol (events.LoseIn client place)) }
         ensures start { self.new.start ≡ self.old.start }
@@ -36,7 +36,7 @@ impl World {
     }
 
     /// The line drops a frame of a client's box.
-    pub(super) fn lose_out(&mut self, client: u64, place: u64) -> Result<Reply, AllocError>
+    pub(super) fn lose_out(&mut self, client: u64, place: u64) -> Result<Reply, MemoryWanted>
         ensures outcome { IfOk result (λ reply. (reply, self.new.protocol)
             ≡ allowed self.old.start self.old.protocol (events.LoseOut client place)) }
         ensures start { self.new.start ≡ self.old.start }

@@ -16,7 +16,7 @@ ghost use Rattle.pair_history.specs.Entries.{Begins};
 use super::World;
 use crate::event::{Refusal, Reply};
 use crate::modes::is_alone;
-use std::alloc::AllocError;
+use memory_wanted::MemoryWanted;
 
 impl World {
     /// The guest makes one step, as [`World::apply`] of [`Event::Step`](crate::Event::Step) does, and answers the guest's step count. This
@@ -75,7 +75,7 @@ impl World {
     }
 
     /// One step, as a reply.
-    pub(super) fn stepped(&mut self) -> Result<Reply, AllocError>
+    pub(super) fn stepped(&mut self) -> Result<Reply, MemoryWanted>
         ensures outcome { IfOk result (λ reply. (reply, self.new.protocol) ≡ step_outcome self.old.start self.old.protocol) }
         ensures start { self.new.start ≡ self.old.start }
         ensures backup { KeepsBackup self.old.nodes self.new.nodes }
@@ -85,7 +85,7 @@ impl World {
     {
         match self.step() {
             Ok(count) => Ok(Reply::Steps(count)),
-            Err(Refusal::NoMemory) => Err(AllocError),
+            Err(Refusal::NoMemory(wanted)) => Err(wanted),
             Err(refusal) => Ok(Reply::Refused(refusal)),
         }
     }
@@ -145,16 +145,14 @@ impl World {
             if let Some(why) = self.step_refusal() {
                 return Err(why);
             }
-            let Ok(steps) = self.step_alone(count - made) else {
-                return Err(Refusal::NoMemory);
-            };
+            let steps = self.step_alone(count - made)?;
             made += steps;
         }
         Ok(self.nodes.steps())
     }
 
     /// Some of these steps of a node that is alone, of which none is refused: none follows one that sent a frame.
-    fn step_alone(&mut self, count: u64) -> Result<u64, AllocError>
+    fn step_alone(&mut self, count: u64) -> Result<u64, MemoryWanted>
         requires alone { modes.is_alone self.old.protocol.mode ≡ true }
         requires some { 0 < count }
         requires room { length (all_entries self.old.protocol.journal) + 1025 < number_limit }

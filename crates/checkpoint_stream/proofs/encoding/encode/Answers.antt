@@ -22,4 +22,5 @@ returns c =
       read = subst (ReadsBack c.args.checkpoint.now) (sym spelled)
           (reads-back c.args.checkpoint.now c.pages-pages.ensures.canonical widths);
       widths = widths;
+      err = tt;
     }

@@ -1,6 +1,7 @@
 -- each line is printed after those before it, and what is left still prints something where a write fails
 use Rattle.std.proofs.Common.{List, ℕ, [], ◌++◌, length, Option, None, Bor, subst, refl, ap}
 use Rattle.std.proofs.KnownBytes.{Appends-nil, Appends-trans}
+use Rattle.memory_wanted.specs.Wanted.{wanted}
 use Rattle.checkpoint_stream.specs.declared.errors.StreamError.TheVariants.{NoMemory}
 use Rattle.checkpoint_stream.specs.Readings.{Reading, begun, is_closed}
 use Rattle.remus.specs.StreamMeaning.{complete, stopped}
@@ -18,7 +19,7 @@ returns-in_err-put g c =
     (_, None, start, no_memory-last _ start bytes, c.in_err-put.ensures.err))
 
 pub returns-in_default : goal.returns-in_default
-returns-in_default g c = (_, stopped NoMemory, (0, (tt, no_memory_line)), c.in_ok-put.ensures.ok, refl)
+returns-in_default g c = (_, stopped (NoMemory wanted), (0, (tt, no_memory_line)), c.in_ok-put.ensures.ok, refl)
 
 pub returns-in_err-left : goal.returns-in_err-left
 returns-in_err-left g c =

@@ -9,8 +9,8 @@ invariant_of-world c =
     let image = c.in_ok-boot_image.ensures.items in
     subst Holds (λ i. record {
       start = start_state c.args.shape.pages c.args.shape.sectors (sym image i) c.args.clients;
-      protocol = sym c.in-Ok.ensures.protocol i;
-      ports = sym c.in-Ok.ensures.ports i;
+      protocol = sym c.in_ok-record.ensures.protocol i;
+      ports = sym c.in_ok-record.ensures.ports i;
       nodes = sym c.in_ok-nodes.ensures i;
     })
     (start_holds c.args.shape c.args.image.now c.args.clients c.requires.fits)

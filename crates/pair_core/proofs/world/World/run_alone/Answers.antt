@@ -19,8 +19,8 @@ pub loop-made-preserved : goal.loop-made-preserved
 loop-made-preserved c =
     let w = c.args.self.now in
     let v = c.loop-made.invariant in
-    let n = c.in-Ok.steps in
-    let made = c.in-Ok.ensures in
+    let n = c.in_ok-steps.steps in
+    let made = c.in_ok-steps.ensures in
     let mid = c.loop-made.self in
     let new = c.step_alone.new.self in
     let kept = c.step_alone.ensures.backup in

@@ -1,5 +1,6 @@
 use Rattle.std.proofs.Common.{◌≡◌, ◌∙◌, ℕ, zero, suc, ◌+◌, ◌-◌, ◌<◌, ◌≤◌, [], length, sym, ap, subst, arith, true, Result, Ok, Err, OnErr}
-use Rattle.std.specs.{Prelude.IfOk, declared.alloc.AllocError.AllocError}
+use Rattle.std.specs.Prelude.{IfOk}
+use Rattle.memory_wanted.specs.declared.MemoryWanted.{MemoryWanted}
 use Rattle.guest_machine.specs.Runs.{sent_in}
 use Rattle.frame_ports.specs.{Ports.PortsState, Limits.number_limit}
 use Rattle.pair_core.specs.{Invariant.Holds, Journal.all_entries, Modes.is_alone, Nodes.{Housed, Nodes, after_run, with_sent_off}}
@@ -11,7 +12,7 @@ use Rattle.pair_core.proofs.world.World.step_alone.Goals as goal
 -- the pair after a call that did all or nothing
 module _ (w : Pair) (h : Holds w) (k : IsLone w.protocol) (lone : is_alone w.protocol.mode ≡ true) (protocol : Record) (ports : PortsState)
     (nodes : Nodes) where
-  after_all : (o : Result ℕ AllocError)
+  after_all : (o : Result ℕ MemoryWanted)
       → IfOk o (λ n. protocol ≡ (after_alone w n (sent_in n w.nodes.live.guest)).protocol)
       → IfOk o (λ n. ports ≡ (after_alone w n (sent_in n w.nodes.live.guest)).ports)
       → IfOk o (λ n. nodes ≡ with_sent_off (after_run n w.nodes))
@@ -21,7 +22,7 @@ module _ (w : Pair) (h : Holds w) (k : IsLone w.protocol) (lone : is_alone w.pro
       subst Holds (λ i. record w { protocol = sym p i; ports = sym q i; nodes = sym x i }) (alone_holds w h k lone n)
   after_all (Err error) p q x e f g = subst Holds (λ i. record w { protocol = sym e i; ports = sym f i; nodes = sym g i }) h
 
-  answered : (o : Result ℕ AllocError) (most : ℕ)
+  answered : (o : Result ℕ MemoryWanted) (most : ℕ)
       → IfOk o (λ n. protocol ≡ (after_alone w n (sent_in n w.nodes.live.guest)).protocol)
       → IfOk o (λ n. nodes ≡ with_sent_off (after_run n w.nodes))
       → IfOk o (λ n. sent_in (n - 1) w.nodes.live.guest ≡ []) → IfOk o (λ n. n ≤ most)
@@ -32,7 +33,7 @@ module _ (w : Pair) (h : Holds w) (k : IsLone w.protocol) (lone : is_alone w.pro
   answered (Err error) most p x quiet least fits = tt
 
 -- what is so of both sides where the call did nothing
-ap_err : {A B : Type 0} (o : Result ℕ AllocError) (f : A → B) (x y : A) → OnErr o (x ≡ y) → OnErr o (f x ≡ f y)
+ap_err : {A B : Type 0} (o : Result ℕ MemoryWanted) (f : A → B) (x y : A) → OnErr o (x ≡ y) → OnErr o (f x ≡ f y)
 ap_err (Ok n) f x y e = tt
 ap_err (Err error) f x y e = ap f e
 
