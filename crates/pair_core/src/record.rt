@@ -38,7 +38,6 @@ use std::marker::Model;
 /// itself asks that none does.
 #[derive(Drop)]
 pub struct PairRecord {
-    alloc: Global,
     mode: Mode,
     generation: u64,
     journal: Journal,
@@ -75,7 +74,6 @@ impl PairRecord {
             return Err(AllocError);
         };
         Ok(PairRecord {
-            alloc,
             mode: Mode::Paired,
             generation: FIRST_GENERATION,
             journal: Journal::new(alloc),
