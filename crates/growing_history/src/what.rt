@@ -12,16 +12,16 @@ pub trait Tells {
 /// What a step of the keeper is, as the call that makes it says it. Nothing is stored.
 pub enum What<'a> {
     /// Entries of the clients' lines: what a client called, and what landed or was dropped.
-    Added(&'a [Entry]),
+    Added(&'a [Entry<'a>]),
     /// The live runner sealed an epoch, under this generation and number, with the text of its checkpoint.
     Sealed {
         generation: u64,
         number: u64,
-        epoch: &'a [Entry],
+        epoch: &'a [Entry<'a>],
         text: &'a [u8],
     },
     /// The live node ran alone.
-    RanAlone(&'a [Entry]),
+    RanAlone(&'a [Entry<'a>]),
     /// The backup committed the epoch of this generation and number, of which it read this text.
     Committed {
         generation: u64,

@@ -60,9 +60,10 @@ discarded j = record j { sealed = []; running = [] }
 abbrev pub with_moves : Bool → Journal → List Entry → Journal
 with_moves at_once j es = if at_once then with_history j es else with_running j es
 
--- What contracts see of a stored journal: the journal, and how many more stored entries its history, and how many more arrivals
--- its running epoch, take without memory.
+-- What contracts see of a stored journal: the journal, and how many more stored entries, with how many bytes of frames, its history,
+-- and how many more arrivals its running epoch, take without memory.
 pub record Stored : Type 0 where
   pub journal : Journal
   pub room : ℕ
+  pub byte_room : ℕ
   pub arrival_room : ℕ

@@ -14,6 +14,7 @@ abbrev pub stored : Inside → Stored
 stored a = record {
   journal = record { history = a.history.entries; sealed = map epoch_of a.sealed.items; running = epoch_of a.running };
   room = a.history.room;
+  byte_room = a.history.byte_room;
   arrival_room = vec_capacity a.running.arrivals - vec_len a.running.arrivals;
 }
 

@@ -1,11 +1,11 @@
 //! The journal: the history, the sealed epochs that no commit has covered yet, and the one that runs.
-ghost use Rattle.std.specs.Prelude.{◌≡◌, ◌+◌, ◌-◌, ◌*◌, ◌^◌, ◌≤◌, ◌<◌, ◌++◌, ◌∷◌, [], length, replicate, OnOk, OnErr, IfOk};
+ghost use Rattle.std.specs.Prelude.{◌≡◌, ◌+◌, ◌-◌, ◌*◌, ◌^◌, ◌≤◌, ◌<◌, ◌++◌, ◌∷◌, [], length, replicate, OnOk, OnErr, IfOk, ◌⊎◌};
 ghost use Rattle.frame_ports.specs.Addresses.{targets_of};
 ghost use Rattle.frame_ports.specs.Limits.{number_limit};
 ghost use Rattle.pair_history.specs.Entries.{Ran, Arrive};
 ghost use Rattle.pair_history.specs.Failures.{arrived_numbers};
 ghost use Rattle.pair_history.specs.Landings.{landings};
-ghost use Rattle.pair_history.specs.Log.{expanded};
+ghost use Rattle.pair_history.specs.Log.{expanded, frame_bytes};
 ghost use Rattle.pair_core.specs.Journal.{all_entries, kept_entries, empty_journal, with_history, with_running, sealed_off, committed};
 ghost use Rattle.pair_core.specs.Journal.{all_committed, discarded};
 ghost use Rattle.pair_core.specs.Lengths.{receivers};
@@ -156,11 +156,22 @@ impl Journal {
         self.history.reserve(additional)
     }
 
+    /// Makes room for one more stored entry in the history, with a frame of so many bytes.
+    pub(crate) fn reserve_frame(&mut self, bytes: usize) -> Result<(), MemoryWanted>
+        ensures journal { self.new.journal ≡ self.old.journal }
+        ensures room { OnOk result (0 < self.new.room) }
+        ensures byte_room { OnOk result (bytes ≤ self.new.byte_room) }
+        ensures full { OnErr result ((self.old.room < 1) ⊎ (self.old.byte_room < bytes)) }
+    {
+        self.history.reserve_frame(bytes)
+    }
+
     /// Adds an entry of a client's to the history, in the room that was reserved.
     pub(crate) fn add(&mut self, entry: Entry)
         requires room { 0 < self.old.room }
+        requires byte_room { length (frame_bytes entry) ≤ self.old.byte_room }
         requires fits { length (all_entries self.old.journal) + length (expanded entry) < number_limit }
-        ensures { self.new.journal ≡ with_history self.old.journal (expanded entry) }
+        ensures { self.new.journal ≡ with_history self.old.journal (expanded entry.entry) }
     {
         self.history.add(entry);
     }

@@ -8,7 +8,6 @@
 mod discards;
 mod epochs;
 mod event;
-mod frames;
 mod journal;
 mod landings;
 mod laws;

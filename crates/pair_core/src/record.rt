@@ -39,7 +39,6 @@ use std::marker::Model;
 /// itself asks that none does.
 #[derive(Drop)]
 pub struct PairRecord {
-    alloc: Global,
     mode: Mode,
     generation: u64,
     journal: Journal,
@@ -79,7 +78,6 @@ impl PairRecord {
             Err(GateError::NoMemory(wanted)) => return Err(wanted),
         };
         Ok(PairRecord {
-            alloc,
             mode: Mode::Paired,
             generation: FIRST_GENERATION,
             journal: Journal::new(alloc),

@@ -8,5 +8,8 @@ pub mod Failures
 pub mod Fates
 pub mod Log
 pub mod LogFields
+pub mod Packed
+pub mod Unread
+pub mod UnreadFields
 pub mod Released
 pub mod Leaving

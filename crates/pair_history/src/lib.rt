@@ -8,6 +8,7 @@ mod failures;
 mod fates;
 mod history;
 mod laws;
+mod stored;
 #[cfg(test)]
 mod tests;
 
@@ -18,3 +19,4 @@ pub use fates::{delivered_frames_have_one_fate, sent_frames_go_by_address};
 pub use frame_ports::Frame;
 pub use history::{Entry, History};
 pub use laws::{client_entries_go_first, frames_leave_in_order, released_frames_were_sent};
+pub use stored::Entries;

@@ -1,9 +1,9 @@
 //! What clients do, at the pair's record.
-ghost use Rattle.std.specs.Prelude.{◌≡◌, ◌<◌, ◌∷◌, [], length, IfOk, OnOk, OnErr, None, Some, slice_get, option_map};
+ghost use Rattle.std.specs.Prelude.{◌≡◌, ◌<◌, ◌≤◌, ◌∷◌, [], length, IfOk, OnOk, OnErr, None, Some, slice_get, option_map};
 ghost use Rattle.frame_ports.specs.Addresses.{IsFrame};
 ghost use Rattle.frame_ports.specs.Ports.{IsClient, inbox_of, box_of, after_delivery};
 ghost use Rattle.pair_history.specs.Entries.{DropIn, DropOut, Took};
-ghost use Rattle.pair_history.specs.Log.{expanded};
+ghost use Rattle.pair_history.specs.Log.{expanded, frame_bytes};
 ghost use Rattle.pair_core.specs.Protocol.{first_refusal, client_refusals, arrival_refusals, admit_refusals, admit_done};
 ghost use Rattle.pair_core.specs.Protocol.{deliver_refusals, delivery_refused, deliver_done, take_refusals, take_done};
 ghost use Rattle.pair_core.specs.Protocol.{loss_refusals, loss_done};
@@ -11,7 +11,6 @@ ghost use Rattle.pair_core.specs.Record.{ports_after_admit, ports_after_take, po
 
 use super::PairRecord;
 use crate::event::{Refusal, Reply};
-use crate::frames::{fill, place_for_frame};
 use crate::modes::{is_alone, is_stopped};
 use frame_ports::{INBOX_FRAMES, MAX_FRAME, MIN_FRAME, NUMBER_LIMIT};
 use memory_wanted::MemoryWanted;
@@ -118,10 +117,8 @@ impl PairRecord {
         ensures ports { self.new.ports ≡ self.old.ports }
         ensures err { OnErr result (self.new ≡ self.old) }
     {
-        let mut place = place_for_frame(self.alloc)?;
-        self.journal.reserve(1)?;
-        fill(&mut place, bytes);
-        self.journal.add(Entry::Refused(client, place));
+        self.journal.reserve_frame(bytes.len())?;
+        self.journal.add(Entry::Refused(client, bytes));
         Ok(Reply::Refused(Refusal::Full))
     }
 
@@ -134,13 +131,11 @@ impl PairRecord {
         ensures ports { OnOk result (self.new.ports ≡ after_delivery self.old.ports client bytes.now) }
         ensures err { OnErr result (self.new ≡ self.old) }
     {
-        let mut place = place_for_frame(self.alloc)?;
-        self.journal.reserve(1)?;
-        fill(&mut place, bytes);
+        self.journal.reserve_frame(bytes.len())?;
         let Ok(number) = self.ports.deliver(client, bytes) else {
             unreachable!();
         };
-        self.journal.add(Entry::Delivered(client, place, number));
+        self.journal.add(Entry::Delivered(client, bytes, number));
         Ok(Reply::Delivered(number))
     }
 
@@ -164,12 +159,11 @@ impl PairRecord {
         ensures ports { OnOk result (self.new.ports ≡ ports_after_take self.old.ports client) }
         ensures err { OnErr result (self.new ≡ self.old) }
     {
-        let mut place = place_for_frame(self.alloc)?;
-        self.journal.reserve(1)?;
+        self.journal.reserve_frame(MAX_FRAME)?;
         let Ok(taken) = self.ports.take(client) else {
             unreachable!();
         };
-        self.journal.add(took(client, &taken, place));
+        self.journal.add(took(client, &taken));
         Ok(Reply::Took(taken))
     }
 
@@ -228,16 +222,13 @@ impl PairRecord {
     }
 }
 
-/// The entry of a client that takes this frame, which is put into its place, or finds none.
-fn took(client: u64, taken: &Option<Frame>, mut place: Box<Frame>) -> Entry
-    requires { place.value.items ≡ [] }
-    ensures { expanded result ≡ Took client taken.now ∷ [] }
+/// The entry of a client that takes this frame, or finds none.
+fn took(client: u64, taken: &Option<Frame>) -> Entry<'_>
+    ensures entry { expanded result ≡ Took client taken.now ∷ [] }
+    ensures bytes { length (frame_bytes result) ≤ 1514 }
 {
     match taken {
-        Some(frame) => {
-            fill(&mut place, frame.as_slice());
-            Entry::Took(client, Some(place))
-        }
+        Some(frame) => Entry::Took(client, Some(frame.as_slice())),
         None => Entry::Took(client, None),
     }
 }

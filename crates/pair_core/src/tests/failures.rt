@@ -280,7 +280,7 @@ fn many_steps_alone_are_few_stored_entries(rt: HostRuntime) -> Result<(), Fail> 
     assert!(rt; world.run_steps(100_000) == Ok(100_200));
     assert_eq!(rt; world.show(), alone(1, 100_200, 100_200));
     let history = world.history();
-    assert_eq!(rt; (history.len(), history.entries().len()), (100_200, 1));
+    assert_eq!(rt; (history.len(), history.entries().count()), (100_200, 1));
     Ok(())
 }
 
