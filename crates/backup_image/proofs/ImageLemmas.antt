@@ -14,7 +14,7 @@ use Rattle.backup_image.specs.declared.standing.Standing.{Standing}
 use Rattle.backup_image.specs.declared.standing.Staged.{Staged}
 use Rattle.backup_image.specs.declared.standing.Staged.TheVariants.{New, Again}
 use Rattle.backup_image.specs.Images.{answer_at, settled_machine}
-use Rattle.backup_image.specs.Invariant.{IsImage}
+use Rattle.backup_image.specs.internal.Invariant.{IsImage}
 
 pub some≢none : {X : Type 0} (x : X) (o : Option X) → o ≡ Some x → o ≡ None → ⊥
 some≢none x o e f = true≢false (sym (ap is_some e) ∙ ap is_some f)

@@ -1,5 +1,6 @@
 -- The backup's image: a guest, the checkpoint that it was made by, and the one that is to come next.
-use Rattle.std.specs.Prelude.{ℕ, ◌+◌, ◌==◌, Bool, ◌&&◌, not, if◌then◌else◌, nat_lt, List, [], replicate, false, Option, Some, None, Result, Ok, Err}
+use Rattle.std.specs.Prelude.{ℕ, ◌+◌, ◌==◌, Bool, ◌&&◌, not, if◌then◌else◌, nat_lt, List, [], replicate, false, Option, Some, None, Result}
+use Rattle.std.specs.Prelude.{Ok, Err}
 use Rattle.guest_machine.specs.declared.shapes.Shape.{Shape}
 use Rattle.guest_machine.specs.Guest.{Guest, State, boot_guest}
 use Rattle.epoch_snapshot.specs.Checkpoints.{Change}

@@ -1,4 +1,4 @@
+pub mod internal
 pub mod Images
-pub mod Invariant
 pub mod Refusals
 pub mod Streams

@@ -24,7 +24,7 @@ pub struct Image {
 
 impl Model for Image {
     ghost use Rattle.backup_image.specs.Images.{ImageState};
-    ghost use Rattle.backup_image.specs.Invariant.{IsImage, state_of};
+    ghost use Rattle.backup_image.specs.internal.Invariant.{IsImage, state_of};
 
     ghost Value = { ImageState };
 
@@ -108,8 +108,8 @@ impl Image {
     /// was staged; one that the image has in it already changes nothing. It takes no memory.
     ///
     /// # Errors
-    /// `OldVersion` for a delta of version 1; `NoImage` for a delta at an empty image; `Stale` for one of another generation; `Gap` for one beyond the next number.
-    /// Nothing changes then.
+    /// `OldVersion` for a delta of version 1; `NoImage` for a delta at an empty image; `Stale` for one of another generation; `Gap` for one
+    /// beyond the next number. Nothing changes then.
     #[tactic(auto, using(crate::proofs::StageLemmas::new_next))]
     pub fn stage(&mut self, checkpoint: Checkpoint) -> Result<Staged, ImageError>
         requires { checkpoint.shape ≡ self.old.shape }

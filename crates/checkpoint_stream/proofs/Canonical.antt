@@ -1,5 +1,6 @@
 -- A reading that is whole and sound is that of a canonical checkpoint.
-use Rattle.std.proofs.Common.{◌≡◌, ℕ, suc, zero, ◌%◌, ◌^◌, ◌<◌, ◌≤◌, ◌==◌, ◌&&◌, ◌||◌, IsTrue, List, [], ◌∷◌, length, Bool, if◌then◌else◌, true}
+use Rattle.std.proofs.Common.{◌≡◌, ℕ, suc, zero, ◌%◌, ◌^◌, ◌<◌, ◌≤◌, ◌==◌, ◌&&◌, ◌||◌, IsTrue, List, [], ◌∷◌, length, Bool, if◌then◌else◌}
+use Rattle.std.proofs.Common.{true}
 use Rattle.std.proofs.Common.{false, refl, sym, subst, arith, nat_le, get_or, bit_and, lit<}
 use Rattle.std.proofs.lemmas.Bool.Decides.{nat_tests}
 use Rattle.std.proofs.lemmas.Nat.{and_le_r}
@@ -16,7 +17,8 @@ use Rattle.checkpoint_stream.specs.HeadTable.{head_table, passes, number}
 use Rattle.checkpoint_stream.specs.declared.rules.Width.TheVariants.{Four}
 use Rattle.checkpoint_stream.specs.declared.rules.Rule.TheVariants.{Magic}
 use Rattle.checkpoint_stream.specs.Readings.{Reading, is_whole, is_full, has_frames}
-use Rattle.checkpoint_stream.specs.Sound.{IsSound, IsHead, HasRecords, HasFrames, AllPass, StandsAt, FramesAt, change_in, state_from, version_from}
+use Rattle.checkpoint_stream.specs.Sound.{IsSound, IsHead, HasRecords, HasFrames, AllPass, StandsAt, FramesAt, change_in, state_from}
+use Rattle.checkpoint_stream.specs.Sound.{version_from}
 
 AllPass-at : (shape : Shape) (before : ℕ) (rows : List Row) (ns : List ℕ) (k : ℕ) (d : Row) → k < length ns → AllPass shape before rows ns →
     IsTrue (passes shape (get_or rows k d).rule (get_or (before ∷ ns) k 0) (get_or ns k 0))

@@ -8,7 +8,8 @@ use Rattle.checkpoint_stream.specs.declared.place.Place.TheVariants.{Head, PageC
 use Rattle.checkpoint_stream.specs.declared.place.Place.TheVariants.{SectorIndex, SectorBytes, FrameCount, FrameLength, FrameBytes}
 use Rattle.checkpoint_stream.specs.declared.place.Place.TheVariants.{Whole, Failed}
 use Rattle.checkpoint_stream.specs.Taken.{Extends}
-use Rattle.checkpoint_stream.specs.Readings.{Reading, is_closed, moved_if, kept_number, kept_mask, kept_block, kept_sector, frame_judged, judged}
+use Rattle.checkpoint_stream.specs.Readings.{Reading, is_closed, moved_if, kept_number, kept_mask, kept_block, kept_sector, frame_judged}
+use Rattle.checkpoint_stream.specs.Readings.{judged}
 use Rattle.checkpoint_stream.specs.Readings.{judged_at, fed_byte, fed, width_of}
 
 pub Extends-itself : (r : Reading) → Extends r r

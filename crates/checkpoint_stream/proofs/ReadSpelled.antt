@@ -21,7 +21,8 @@ use Rattle.checkpoint_stream.proofs.Numbers.{IsByte, limit_of, number-small}
 use Rattle.checkpoint_stream.proofs.Feeding.{fed-closed, taken-closed}
 use Rattle.checkpoint_stream.proofs.Soundness.{fed_byte-sound, begun-sound}
 use Rattle.checkpoint_stream.proofs.Spelling.{text-spelled}
-use Rattle.checkpoint_stream.proofs.Spelled.{heads, pages_of, sectors_of, records_of, ending_of, front, OpenAt, SpellsAt, IsWritten, judged_at-written}
+use Rattle.checkpoint_stream.proofs.Spelled.{heads, pages_of, sectors_of, records_of, ending_of, front, OpenAt, SpellsAt, IsWritten}
+use Rattle.checkpoint_stream.proofs.Spelled.{judged_at-written}
 use Rattle.checkpoint_stream.proofs.HeadBack.{Narrow, Narrow-push, head-kept}
 
 length-head_table : length head_table ≡ 80

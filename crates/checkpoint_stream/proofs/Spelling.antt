@@ -12,7 +12,8 @@ use Rattle.epoch_snapshot.specs.Checkpoints.{Change, block_count}
 use Rattle.checkpoint_stream.specs.declared.rules.Row.{Row}
 use Rattle.checkpoint_stream.specs.declared.rules.Width.TheVariants.{Four, Eight}
 use Rattle.checkpoint_stream.specs.HeadTable.{bytes_of, head_table}
-use Rattle.checkpoint_stream.specs.Text.{text, units, units_of_frames, head_numbers, joined, number_units, page_units, sector_units, frame_units}
+use Rattle.checkpoint_stream.specs.Text.{text, units, units_of_frames, head_numbers, joined, number_units, page_units, sector_units}
+use Rattle.checkpoint_stream.specs.Text.{frame_units}
 use Rattle.arrayvec.specs.ArrayVec.{ArrayVec}
 
 -- one more element is put: its bytes stood at the front of what was to come

@@ -13,7 +13,8 @@ use Rattle.checkpoint_stream.specs.HeadTable.{head_table, bytes_of}
 use Rattle.checkpoint_stream.specs.Readings.{Reading, begun, judged, pages_due, sectors_due}
 use Rattle.checkpoint_stream.specs.Sound.{change_in, last_after, version_from}
 use Rattle.checkpoint_stream.specs.Taken.{Takes}
-use Rattle.checkpoint_stream.specs.Text.{magic, head_numbers, numbers_from, number_units, page_units, sector_units, units_of_frames, units, joined, text}
+use Rattle.checkpoint_stream.specs.Text.{magic, head_numbers, numbers_from, number_units, page_units, sector_units, units_of_frames, units}
+use Rattle.checkpoint_stream.specs.Text.{joined, text}
 use Rattle.checkpoint_stream.specs.Units.{judged_all, AreUnits}
 use Rattle.checkpoint_stream.specs.Widths.{HasWidths, StateFits}
 use Rattle.checkpoint_stream.specs.ReadBack.{ReadsBack}

@@ -1,6 +1,6 @@
--- The head of a checkpoint, the same in versions 1 and 2: its numbers in turn, each little end first, with the bytes that it takes and what it may be. The
--- format is this project's own. What a CSR can hold, a device's status and a queue's size are rules of the machine (the Privileged ISA,
--- "Control and Status Registers"; virtio 1.1, 2.1 and 2.6), and stand in its specs.
+-- The head of a checkpoint, the same in versions 1 and 2: its numbers in turn, each little end first, with the bytes that it takes and what
+-- it may be. The format is this project's own. What a CSR can hold, a device's status and a queue's size are rules of the machine (the
+-- Privileged ISA, "Control and Status Registers"; virtio 1.1, 2.1 and 2.6), and stand in its specs.
 use Rattle.std.specs.Prelude.{ℕ, ◌%◌, ◌==◌, Bool, true, ◌&&◌, ◌||◌, nat_le, List, [], ◌∷◌, bit_and, slice_index_or}
 use Rattle.std.specs.Int.{w16, w32, w64, from_le_bytes, to_le_bytes}
 use Rattle.mtraps.specs.CsrTable.{legal_value}

@@ -1,5 +1,6 @@
 -- What is true of each reading: what was read so far is the front of a canonical checkpoint.
-use Rattle.std.specs.Prelude.{◌≡◌, ◌≢◌, ℕ, ◌+◌, ◌%◌, ◌^◌, ◌<◌, ◌≤◌, ◌==◌, if◌then◌else◌, true, false, IsTrue, not, List, [], ◌∷◌, length, map, All, slice_index}
+use Rattle.std.specs.Prelude.{◌≡◌, ◌≢◌, ℕ, ◌+◌, ◌%◌, ◌^◌, ◌<◌, ◌≤◌, ◌==◌, if◌then◌else◌, true, false, IsTrue, not, List, [], ◌∷◌, length}
+use Rattle.std.specs.Prelude.{map, All, slice_index}
 use Rattle.guest_machine.specs.Dirty.{Rises}
 use Rattle.guest_machine.specs.declared.shapes.Shape.{Shape}
 use Rattle.guest_machine.specs.declared.machine_state.MachineState.{MachineState}

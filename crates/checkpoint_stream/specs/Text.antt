@@ -1,6 +1,6 @@
 -- The text of a checkpoint, of its version: its units in turn. The head's numbers by the table of the head; the count of the page records,
--- and each with its index, its mask and its blocks; the count of the sector records, and each with its index and its bytes; and in version 2
--- the count of the frames, and each with its length and its bytes.
+-- and each with its index, its mask and its blocks; the count of the sector records, and each with its index and its bytes; and in version
+-- 2 the count of the frames, and each with its length and its bytes.
 use Rattle.std.specs.Prelude.{ℕ, suc, zero, ◌+◌, ◌==◌, List, [], ◌∷◌, ◌++◌, length, take, drop, if◌then◌else◌, slice_index, count_ones}
 use Rattle.virtqueue.specs.declared.rings.Queue.{Queue}
 use Rattle.virtio_mmio.specs.declared.states.DeviceState.{DeviceState}

@@ -1,5 +1,6 @@
 -- A cut is canonical, and its image is the machine's guest.
-use Rattle.std.proofs.Common.{◌≡◌, ℕ, ◌*◌, ◌^◌, ◌<◌, ◌≤◌, ◌==◌, cond, not, false, List, [], length, replicate, map, sym, ap, ◌∙◌, arith, subst}
+use Rattle.std.proofs.Common.{◌≡◌, ℕ, ◌*◌, ◌^◌, ◌<◌, ◌≤◌, ◌==◌, cond, not, false, List, [], length, replicate, map, sym, ap, ◌∙◌, arith}
+use Rattle.std.proofs.Common.{subst}
 use Rattle.std.specs.Prelude.{All, IsTrue}
 use Rattle.std.proofs.lemmas.List.{length-replicate}
 use Rattle.std.proofs.lemmas.Bool.{eq-eqb, ne_eqb}

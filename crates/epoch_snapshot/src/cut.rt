@@ -19,7 +19,8 @@ use std::alloc::Global;
 const VERSION: u32 = 2;
 
 /// The checkpoint of what the machine changed since its last settle: the pages and blocks that differ, the sectors written since, and
-/// the frames in its outbox. It is of version 2. Over each guest with the memory of that settle and the machine's other sectors it makes the machine's guest.
+/// the frames in its outbox. It is of version 2. Over each guest with the memory of that settle and the machine's other sectors it makes
+/// the machine's guest.
 ///
 /// The generation and the number are 1 to 2^62 - 1, as the caller knows. The machine stays as it is; the caller settles it once
 /// the checkpoint is stored.

@@ -74,7 +74,7 @@ use Rattle.frame_ports.specs.Ports.{
   with_inbox,
   with_box,
 }
-use Rattle.frame_ports.specs.Fields.{rings_items, ports_state, AreFields}
+use Rattle.frame_ports.specs.internal.Fields.{rings_items, ports_state, AreFields}
 use Rattle.frame_ports.specs.Limits.{max_clients, inbox_frames, box_frames, number_limit}
 use Rattle.frame_ports.specs.declared.ports.Ports.TheInside.{Inside}
 

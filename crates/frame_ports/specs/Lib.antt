@@ -1,6 +1,6 @@
+pub mod internal
 pub use Rattle.arrayvec.specs.ArrayVec
 pub mod Addresses
-pub mod Fields
 pub mod Lands
 pub mod Limits
 pub mod Ports

@@ -69,7 +69,7 @@ impl Model for Ports {
 
     ghost Value = { PortsState };
 
-    ghost use Rattle.frame_ports.specs.Fields.{ports_state, AreFields};
+    ghost use Rattle.frame_ports.specs.internal.Fields.{ports_state, AreFields};
 
     ghost view = { ports_state };
 

@@ -7,7 +7,7 @@ use native.Mathlib.Decide.{ℕ_discrete}
 use Rattle.pair_history.specs.Entries.{Frame, Arrive}
 use Rattle.pair_history.specs.HistoryState.{HistoryState, Waiting, inbox_of, frame_numbered, without_number, IsFirst, IsClient, at}
 use Rattle.pair_history.specs.HistoryState as history
-use Rattle.pair_history.specs.Moves.{AreRising}
+use Rattle.pair_history.specs.internal.Moves.{AreRising}
 use Rattle.pair_history.specs.Reached.{IsReached}
 use Rattle.pair_history.proofs.Waiting.{AreRising-without, StandsAt, leaves-at}
 use Rattle.pair_history.proofs.TakenInLaws.{without_numbers}

@@ -1,3 +1,4 @@
+pub mod internal
 pub mod Aligned
 pub mod Beacon
 pub mod Blocks
@@ -11,7 +12,6 @@ pub mod Limits
 pub mod MachineStates
 pub mod Parts
 pub mod Pending
-pub mod Places
 pub mod Runs
 pub mod Step
 -- what public clauses cite of lower crates

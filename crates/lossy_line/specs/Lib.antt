@@ -1,3 +1,3 @@
-pub mod Fields
+pub mod internal
 pub mod Lines
 pub mod Refusals

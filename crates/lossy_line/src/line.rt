@@ -20,7 +20,7 @@ impl<P: Drop> Model for Line<P> {
 
     ghost coded = { packets_code P.code };
 
-    ghost use Rattle.lossy_line.specs.Fields.{packets_kept};
+    ghost use Rattle.lossy_line.specs.internal.Fields.{packets_kept};
 
     ghost view = { λ l. packets_kept l.packets };
 }

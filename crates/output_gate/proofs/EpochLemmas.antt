@@ -39,7 +39,7 @@ use Rattle.std.proofs.lemmas.List.Sums.{sum_by-cons}
 use Rattle.std.specs.List.{AllPairs, prefix_len}
 use Rattle.arrayvec.specs.ArrayVec.{ArrayVec}
 use Rattle.output_gate.specs.Epochs.{Epoch, epoch, frames_of, frames_to, after_number, IsEpoch, IsGate}
-use Rattle.output_gate.specs.Fields.{total, epochs_of}
+use Rattle.output_gate.specs.internal.Fields.{total, epochs_of}
 use Rattle.output_gate.specs.declared.marks.Mark.{Mark}
 use Rattle.output_gate.specs.Limits.{max_epochs, max_frames}
 use Rattle.output_gate.proofs.EpochLaws.{frames_to-none, after_number-none}

@@ -27,7 +27,7 @@ use Rattle.std.proofs.lemmas.List.Sums.{sum_by-take-drop, sum_by-append, sum_by-
 use Rattle.arrayvec.specs.ArrayVec.{ArrayVec}
 use Rattle.frame_ports.specs.Addresses.{IsFrame}
 use Rattle.output_gate.specs.Epochs.{Epoch, epoch, frames_of, frames_to, after_number, IsGate}
-use Rattle.output_gate.specs.Fields.{total, epochs_of, epochs_held, AreFields}
+use Rattle.output_gate.specs.internal.Fields.{total, epochs_of, epochs_held, AreFields}
 use Rattle.output_gate.specs.declared.gate.Gate.TheInside.{Inside}
 use Rattle.output_gate.specs.declared.marks.Mark.{Mark}
 use Rattle.output_gate.specs.Limits.{max_epochs, max_frames}

@@ -33,7 +33,7 @@ impl Model for Gate {
 
     ghost Value = { List Epoch };
 
-    ghost use Rattle.output_gate.specs.Fields.{epochs_held, AreFields};
+    ghost use Rattle.output_gate.specs.internal.Fields.{epochs_held, AreFields};
 
     ghost view = { epochs_held };
 

@@ -1,7 +1,7 @@
 //! The marks of the held epochs: where each ends in the row of held frames.
 ghost use Rattle.std.specs.Prelude.{◌≡◌, ◌^◌, ◌<◌, length, nat_le};
 ghost use Rattle.std.specs.List.{prefix_len};
-ghost use Rattle.output_gate.specs.Fields.{total};
+ghost use Rattle.output_gate.specs.internal.Fields.{total};
 
 /// One held epoch.
 #[derive(Clone, Copy, Debug, PartialEq, Eq)]

@@ -13,7 +13,8 @@ use Rattle.pair_core.specs.declared.event.Reply.{Reply}
 use Rattle.pair_core.specs.{Answering.{Answers, MayWantMemory}, Calls.{Moment, AnswersCall, AnswersTake, AnswersDelivery, AnswersLoss}}
 use Rattle.pair_core.specs.{Journal.kept_entries}
 use Rattle.pair_core.specs.Protocol.{Record, Outcome, unless, or_else, first_refusal, exhausts, is_among, is_bad_length}
-use Rattle.pair_core.specs.Protocol.{Row, shown_at, live_at, take_done, deliver_done, delivery_refused, lost_in, lost_out, loss_of, loss_done, outcome}
+use Rattle.pair_core.specs.Protocol.{Row, shown_at, live_at, take_done, deliver_done, delivery_refused, lost_in, lost_out, loss_of}
+use Rattle.pair_core.specs.Protocol.{loss_done, outcome}
 use Rattle.pair_core.specs.declared.event.Reply.TheVariants as replies
 
 -- what the tests say

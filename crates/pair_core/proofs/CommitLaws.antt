@@ -9,7 +9,7 @@ use Rattle.backup_image.specs.{declared.standing.Staged.Staged, declared.standin
 use Rattle.backup_image.specs.Images.{ImageState, answer_at, is_old_delta, stage_answer, staged_after, after_stage, committed}
 use Rattle.pair_history.specs.{Entries.Frame, Moves.{Move, guest_along, frames_along}}
 use Rattle.pair_history.proofs.Moves.{guest_along-append}
-use Rattle.pair_core.specs.Invariant.{all_moves, epoch_frames, AreNodes, IsBacked}
+use Rattle.pair_core.specs.internal.Invariant.{all_moves, epoch_frames, AreNodes, IsBacked}
 use Rattle.pair_core.specs.{Nodes.{Nodes, machine_of, with_commit, first_text, later_texts, read_as}, Texts.IsText}
 use Rattle.pair_core.proofs.NodesLaws.{shape-moves, reads-as, first-sealed, later-sealed}
 

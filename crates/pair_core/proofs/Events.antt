@@ -12,12 +12,12 @@ use Rattle.failover.specs.declared.mode.Mode.{Mode}
 use Rattle.output_gate.specs.Epochs.{Epoch, frames_of}
 use Rattle.pair_history.specs.{Entries.{Frame, Entry}, HistoryState.{Waiting, inbox_of, without_number, at, Legal, start_state}}
 use Rattle.pair_history.specs.Landings.{BoxesFit, DropsAreKnown}
-use Rattle.pair_history.specs.Moves.{Move, Arrives, entry_of, entries_of, guest_along, frames_along, left, AllCan}
+use Rattle.pair_history.specs.internal.Moves.{Move, Arrives, entry_of, entries_of, guest_along, frames_along, left, AllCan}
 use Rattle.pair_history.proofs.States.{at-append, Legal-append, targets_of-append, DropsAreKnown-append}
 use Rattle.pair_history.proofs.Waiting.{Leaves, StandsAt, leaves-at}
 use Rattle.pair_history.proofs.Moves.{guest_along-append, frames_along-append, left-append, AllCan-append, AllCan-front, AllCan-back, moved}
 use Rattle.pair_history.proofs.{Moves.{at-moves, Legal-moves, DropsAreKnown-moves}, Losses.AreRising-left}
-use Rattle.pair_core.specs.Invariant.{all_moves, epoch_frames, frames_by_epoch, AreInboxes, AreSealed, AreNodes, AreClients, Holds}
+use Rattle.pair_core.specs.internal.Invariant.{all_moves, epoch_frames, frames_by_epoch, AreInboxes, AreSealed, AreNodes, AreClients, Holds}
 use Rattle.pair_core.specs.{Journal.{with_running, first_of, rest_of}, Lines.Lines, Modes.{is_alone, filled}, Texts.IsText}
 use Rattle.pair_core.specs.{Pair.{Pair, shown_state}, Protocol.{cut_done, commit_done}, Record.{IsRecord, start_record, ports_after_admit}}
 use Rattle.pair_core.specs.Window.{committed_of, uncommitted_of, committed_count}

@@ -6,7 +6,7 @@ use Rattle.std.specs.Prelude.{map, nat_lt}
 use Rattle.frame_ports.specs.{Addresses.{targets_of, paired_with, clients_of}, Lands.{list_of, with_list, has_room, landed_at}}
 use Rattle.frame_ports.specs.Limits.{box_frames}
 use Rattle.pair_history.specs.{Entries.Frame, Landings.landings}
-use Rattle.pair_core.specs.Lengths.{receivers, has_space, lengths_at, lengths_after, landing_by, landings_by, AreLengths}
+use Rattle.pair_core.specs.internal.Lengths.{receivers, has_space, lengths_at, lengths_after, landing_by, landings_by, AreLengths}
 use Rattle.pair_history.proofs.LandingLaws.{AllClients, AllClients-targets, length-landed_at, length-set'}
 
 -- the clients of frames are those of their targets

@@ -17,7 +17,7 @@ use Rattle.pair_core.specs.{declared.journal.Journal.TheInside.Inside, declared.
 use Rattle.pair_core.specs.{Journal.{Journal, joined, kept_entries}, JournalFields.{epoch_of, stored, AreFields}, Lengths.receivers}
 use Rattle.pair_core.specs.{Lines.AreBelow, Protocol.{Record, first_refusal, live_entries, go_live_refusals, go_live_done}}
 use Rattle.pair_core.specs.{Record.{RecordState, owed_to, IsRecord}, Window.{IsWindow, first_after, committed_count, committed_of}}
-use Rattle.pair_core.specs.Arrivals.{steps_of, arrivals_of, epoch_entries, numbers_of, numbers_in}
+use Rattle.pair_core.specs.internal.Arrivals.{steps_of, arrivals_of, epoch_entries, numbers_of, numbers_in}
 use Rattle.pair_core.proofs.{LengthLaws.length-receivers, WindowLaws.{within, leaves, gone, test_from, test_below}}
 
 -- The numbers of the frames that arrived

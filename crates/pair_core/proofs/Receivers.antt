@@ -4,7 +4,7 @@ use Rattle.std.proofs.{Common.{arith, append_assoc, true, false, cond}, lemmas.B
 use Rattle.std.specs.Prelude.{nat_le, ◌&&◌}
 use Rattle.frame_ports.specs.{Addresses.{addressed, clients_from, clients_of}, Targets.{has_target, AreTargets}}
 use Rattle.pair_history.specs.Entries.{Frame, Entry}
-use Rattle.pair_core.specs.Lengths.{receivers, landing_by, landings_by, lengths_at, lengths_after}
+use Rattle.pair_core.specs.internal.Lengths.{receivers, landing_by, landings_by, lengths_at, lengths_after}
 use Rattle.pair_core.proofs.LengthLaws.{landings_by-append}
 
 -- the clients from c on, of n

@@ -1,13 +1,9 @@
+pub mod internal
 pub mod Journal
-pub mod JournalFields
-pub mod Arrivals
-pub mod Places
 pub mod Window
 pub mod Lines
-pub mod LinesFields
 pub mod Nodes
 pub mod Texts
-pub mod NodesFields
 pub mod Modes
 pub mod Tables
 pub mod GuestActs
@@ -19,9 +15,7 @@ pub mod ModeChanges
 pub mod Answering
 pub mod Along
 pub mod Record
-pub mod RecordFields
 pub mod Pair
-pub mod Invariant
 pub mod Start
 pub mod Runs
 pub mod Drops
@@ -29,8 +23,6 @@ pub mod Acknowledged
 pub mod Replication
 pub mod Calls
 pub mod Service
-pub mod WorldFields
-pub mod Lengths
 pub mod Limits
 pub mod Refusals
 -- what public clauses cite of lower crates

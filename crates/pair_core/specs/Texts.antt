@@ -8,8 +8,8 @@ use Rattle.checkpoint_stream.specs.ReadBack.{ReadsBack}
 use Rattle.pair_history.specs.Entries.{Entry}
 use Rattle.pair_history.specs.HistoryState.{HistoryState, at}
 
--- these bytes read back as a checkpoint of version 2, of this shape, generation and number, which makes the guest after of the guest before (Remus,
--- 2008: a checkpoint carries what the epoch changed)
+-- these bytes read back as a checkpoint of version 2, of this shape, generation and number, which makes the guest after of the guest before
+-- (Remus, 2008: a checkpoint carries what the epoch changed)
 pub record IsText (shape : Shape) (generation number : ℕ) (before after : Guest) (text : List ℕ) : Type 0 where
   pub change : Change
   pub reads_back : ReadsBack change text

@@ -7,7 +7,7 @@ ghost use Rattle.frame_ports.specs.Limits.{max_clients};
 ghost use Rattle.pair_history.specs.Entries.{DropIn, DropOut};
 ghost use Rattle.pair_history.specs.Failures.{drops_of_owed_from};
 ghost use Rattle.pair_history.specs.HistoryState.{out_of};
-ghost use Rattle.pair_core.specs.Arrivals.{numbers_of, numbers_in};
+ghost use Rattle.pair_core.specs.internal.Arrivals.{numbers_of, numbers_in};
 
 use crate::epochs::{Arrival, RunningEpoch};
 use frame_ports::Ports;

@@ -1,9 +1,9 @@
 //! An epoch of the guest as it is stored: its arrivals, each with the steps before it, and the steps after the last.
 ghost use Rattle.std.specs.Prelude.{◌≡◌, ◌+◌, ◌*◌, ◌^◌, ◌≤◌, ◌<◌, ◌++◌, [], length, map};
-ghost use Rattle.pair_core.specs.Arrivals.{arrival_of, epoch_entries};
+ghost use Rattle.pair_core.specs.internal.Arrivals.{arrival_of, epoch_entries};
 ghost use Rattle.pair_core.specs.Journal.{joined};
-ghost use Rattle.pair_core.specs.JournalFields.{epoch_of};
-ghost use Rattle.pair_core.specs.Places.{places_of};
+ghost use Rattle.pair_core.specs.internal.JournalFields.{epoch_of};
+ghost use Rattle.pair_core.specs.internal.Places.{places_of};
 
 use pair_history::{Entry, History};
 use std::alloc::Global;

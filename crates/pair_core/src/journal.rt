@@ -8,7 +8,7 @@ ghost use Rattle.pair_history.specs.Landings.{landings};
 ghost use Rattle.pair_history.specs.Log.{expanded, frame_bytes};
 ghost use Rattle.pair_core.specs.Journal.{all_entries, kept_entries, empty_journal, with_history, with_running, sealed_off, committed};
 ghost use Rattle.pair_core.specs.Journal.{all_committed, discarded};
-ghost use Rattle.pair_core.specs.Lengths.{receivers};
+ghost use Rattle.pair_core.specs.internal.Lengths.{receivers};
 ghost use Rattle.pair_core.specs.Protocol.{live_entries};
 
 use crate::discards::{add_drops_in, add_drops_out, count_arrivals, sorted_numbers};
@@ -35,7 +35,7 @@ impl Model for Journal {
 
     ghost Value = { Stored };
 
-    ghost use Rattle.pair_core.specs.JournalFields.{stored, AreFields};
+    ghost use Rattle.pair_core.specs.internal.JournalFields.{stored, AreFields};
 
     ghost view = { stored };
 

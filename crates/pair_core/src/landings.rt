@@ -3,7 +3,7 @@
 ghost use Rattle.std.specs.Prelude.{◌≡◌, ℕ, ◌+◌, ◌-◌, ◌*◌, ◌^◌, ◌≤◌, ◌<◌, ◌++◌, [], ◌∷◌, length, IsTrue, ◌↔◌};
 ghost use Rattle.frame_ports.specs.Addresses.{clients_of, targets_of};
 ghost use Rattle.pair_history.specs.Landings.{landings};
-ghost use Rattle.pair_core.specs.Lengths.{receivers, landing_by, landings_by, lengths_at, lengths_after, AreLengths};
+ghost use Rattle.pair_core.specs.internal.Lengths.{receivers, landing_by, landings_by, lengths_at, lengths_after, AreLengths};
 
 use frame_ports::{BOX_FRAMES, MAX_CLIENTS, Ports};
 use pair_history::{Entry, Frame, History};

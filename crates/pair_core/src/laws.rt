@@ -105,12 +105,13 @@ pub fn clients_have_one_guest_that_never_fails()
 {}
 
 /// What acknowledgements have let out, exactly: after any run from boot in which no node failed, with `m` the greatest number that was
-/// acknowledged so far, what left for a client is what the guest had sent to it up to `Cut(1, m)`, in order; each frame of it landed, or was
-/// dropped at a full box.
+/// acknowledged so far, what left for a client is what the guest had sent to it up to `Cut(1, m)`, in order; each frame of it landed, or
+/// was dropped at a full box.
 ///
-/// The pair `cut` is the one before the cut that was answered `Cut(1, m)`, any events came before and after it, and `late` is the pair then.
-/// Of any pair, also after failures: what left for a client, and then what the gate and the outbox hold for it, is in order all that the
-/// guest sent to it along the history and what is kept (`accounted`). What a backup that went live didn't owe any more left as given up.
+/// The pair `cut` is the one before the cut that was answered `Cut(1, m)`, any events came before and after it, and `late` is the pair
+/// then. Of any pair, also after failures: what left for a client, and then what the gate and the outbox hold for it, is in order all that
+/// the guest sent to it along the history and what is kept (`accounted`). What a backup that went live didn't owe any more left as given
+/// up.
 pub fn acknowledged_frames_have_left()
     ensures since_boot { (c m : ℕ) (boot cut now late : Pair) (before then : List Event) (told answers : List Reply)
         → IsConsistent boot → boot.protocol ≡ start_record → IsFresh boot.start

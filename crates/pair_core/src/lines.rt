@@ -20,7 +20,7 @@ impl Model for Lines {
 
     ghost Value = { Carried };
 
-    ghost use Rattle.pair_core.specs.LinesFields.{carried, AreFields};
+    ghost use Rattle.pair_core.specs.internal.LinesFields.{carried, AreFields};
 
     ghost view = { carried };
 

@@ -42,7 +42,7 @@ impl Model for Nodes {
 
     ghost Value = { Housed };
 
-    ghost use Rattle.pair_core.specs.NodesFields.{housed, AreFields};
+    ghost use Rattle.pair_core.specs.internal.NodesFields.{housed, AreFields};
 
     ghost view = { housed };
 

@@ -53,7 +53,7 @@ impl Model for PairRecord {
 
     ghost Value = { RecordState };
 
-    ghost use Rattle.pair_core.specs.RecordFields.{record_state, AreFields};
+    ghost use Rattle.pair_core.specs.internal.RecordFields.{record_state, AreFields};
 
     ghost view = { record_state };
 

@@ -33,7 +33,7 @@ impl Model for World {
 
     ghost Value = { Pair };
 
-    ghost use Rattle.pair_core.specs.WorldFields.{pair_of, AreFields};
+    ghost use Rattle.pair_core.specs.internal.WorldFields.{pair_of, AreFields};
 
     ghost view = { pair_of };
 

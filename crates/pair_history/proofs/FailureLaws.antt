@@ -14,7 +14,7 @@ use Rattle.frame_ports.specs.Lands.{list_of, landed_at, lands}
 use Rattle.pair_history.specs.Entries.{Frame, Entry, Ran, Arrive, DropIn, DropOut}
 use Rattle.pair_history.specs.HistoryState.{HistoryState, at, after, Legal, IsClient, out_of, out_without}
 use Rattle.pair_history.specs.Landings.{landings}
-use Rattle.pair_history.specs.Moves.{Move, Steps, Arrives, entries_of}
+use Rattle.pair_history.specs.internal.Moves.{Move, Steps, Arrives, entries_of}
 use Rattle.pair_history.specs.Order.{AreGuests}
 use Rattle.pair_history.specs.Reached.{AllClients, IsReached}
 use Rattle.pair_history.specs.Released.{Effect, DropsOnWay, Nothing, effect_on, Account, booked, goes_on, is_drop, dropped_count}

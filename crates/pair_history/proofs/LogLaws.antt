@@ -5,7 +5,7 @@ use Rattle.std.proofs.Math.Seq.{take-length}
 use Rattle.pair_history.specs.Entries as whole
 use Rattle.pair_history.specs.declared.stored.StoredEntry.{StoredEntry}
 use Rattle.pair_history.specs.declared.stored.StoredEntry.TheVariants.{Ran}
-use Rattle.pair_history.specs.Packed.{width, with_bytes, widths, unpacked}
+use Rattle.pair_history.specs.internal.Packed.{width, with_bytes, widths, unpacked}
 use Rattle.pair_history.proofs.States.{append-nil}
 
 pub widths-push : (es : List StoredEntry) (e : StoredEntry) → widths (es ++ e ∷ []) ≡ widths es + width e

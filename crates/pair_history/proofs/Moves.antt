@@ -8,8 +8,9 @@ use Rattle.pair_history.specs.Entries.{Ran, Arrive}
 use Rattle.pair_history.specs.HistoryState.{HistoryState, Waiting, inbox_of, with_arrived, without_number, at, after, Legal}
 use Rattle.pair_history.specs.HistoryState.{sent_along}
 use Rattle.pair_history.specs.Landings.{DropsAreKnown, DropsNone}
-use Rattle.pair_history.specs.Moves.{Move, Steps, Arrives, entry_of, entries_of, guest_moved, frames_by, guest_along, frames_along, left_by}
-use Rattle.pair_history.specs.Moves.{left, CanMove, AllCan}
+use Rattle.pair_history.specs.internal.Moves.{Move, Steps, Arrives, entry_of, entries_of, guest_moved, frames_by, guest_along, frames_along}
+use Rattle.pair_history.specs.internal.Moves.{left_by}
+use Rattle.pair_history.specs.internal.Moves.{left, CanMove, AllCan}
 use Rattle.pair_history.proofs.States.{append-nil, targets_of-append}
 use Rattle.pair_history.proofs.Waiting.{IsFirst-more, frame_numbered-more, shorter}
 

@@ -5,7 +5,7 @@ use Rattle.std.proofs.lemmas.Bool.Decides.{nat_tests}
 use Rattle.pair_history.specs.Entries.{Entry, Ran, Arrive, DropIn}
 use Rattle.pair_history.specs.HistoryState.{HistoryState, Waiting, without_number, at, after, Legal}
 use Rattle.pair_history.specs.Order.{AreGuests}
-use Rattle.pair_history.specs.Moves.{AreRising}
+use Rattle.pair_history.specs.internal.Moves.{AreRising}
 use Rattle.pair_history.specs.Failures.{arrived_numbers, put_rising, rising, drops_of_taken_in}
 use Rattle.pair_history.proofs.Waiting.{Waits, first-waits, AreRising-without, found-without, without-swaps, gone}
 use Rattle.pair_history.proofs.SortedLaws.{Climb, Climb-rising}

@@ -5,7 +5,7 @@ use Rattle.std.specs.Prelude.{slice_get, ◌==◌}
 use Rattle.std.proofs.lemmas.Bool.Decides.{nat_tests}
 use Rattle.pair_history.specs.Entries.{Frame}
 use Rattle.pair_history.specs.HistoryState.{Waiting, inbox_of, frame_numbered, without_number, IsFirst}
-use Rattle.pair_history.specs.Moves.{AreRising}
+use Rattle.pair_history.specs.internal.Moves.{AreRising}
 
 -- Frames that are delivered later stand behind.
 

@@ -1,15 +1,12 @@
+pub mod internal
 pub mod Entries
 pub mod HistoryState
 pub mod Order
 pub mod Landings
-pub mod Moves
 pub mod Reached
 pub mod Failures
 pub mod Fates
 pub mod Log
-pub mod LogFields
-pub mod Packed
 pub mod Unread
-pub mod UnreadFields
 pub mod Released
 pub mod Leaving

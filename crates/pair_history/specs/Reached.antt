@@ -3,7 +3,7 @@ use Rattle.std.specs.Prelude.{ℕ, ◌≤◌, List, [], ◌∷◌, length}
 use Rattle.pair_history.specs.Entries.{Frame}
 use Rattle.pair_history.specs.HistoryState.{HistoryState}
 use Rattle.pair_history.specs.Landings.{BoxesFit}
-use Rattle.pair_history.specs.Moves.{AreRising}
+use Rattle.pair_history.specs.internal.Moves.{AreRising}
 
 -- each frame is for one of that many clients
 abbrev pub AllClients : ℕ → List (ℕ × Frame) → Type 0

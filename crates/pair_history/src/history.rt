@@ -1,7 +1,7 @@
 ghost use Rattle.std.specs.Prelude.{◌≡◌, ℕ, ◌+◌, ◌^◌, ◌<◌, ◌≤◌, ◌++◌, List, [], length, replicate, vec_len, vec_capacity};
 ghost use Rattle.std.specs.Prelude.{OnOk, OnErr, IsTrue, ◌↔◌, ◌⊎◌};
 ghost use Rattle.pair_history.specs.Entries.{Ran};
-ghost use Rattle.pair_history.specs.Packed.{unpacked, widths};
+ghost use Rattle.pair_history.specs.internal.Packed.{unpacked, widths};
 
 use crate::stored::{Entries, StoredEntry, stored};
 use memory_wanted::{MemoryWanted, reserve};
@@ -44,7 +44,7 @@ impl Model for History {
 
     ghost Value = { Log };
 
-    ghost use Rattle.pair_history.specs.LogFields.{log_of, AreFields};
+    ghost use Rattle.pair_history.specs.internal.LogFields.{log_of, AreFields};
 
     ghost view = { log_of };
 

@@ -1,7 +1,7 @@
 //! Entries as they are stored: each takes a place of its own, and the bytes of their frames lie one after another beside them.
 ghost use Rattle.std.specs.Prelude.{◌≡◌, length};
 ghost use Rattle.pair_history.specs.Log.{expanded, frame_bytes};
-ghost use Rattle.pair_history.specs.Packed.{width, with_bytes, unpacked, widths};
+ghost use Rattle.pair_history.specs.internal.Packed.{width, with_bytes, unpacked, widths};
 
 use crate::history::Entry;
 use std::marker::Model;
@@ -86,7 +86,7 @@ impl<'a> Model for Entries<'a> {
 
     ghost Value = { Unread };
 
-    ghost use Rattle.pair_history.specs.UnreadFields.{unread, AreFields};
+    ghost use Rattle.pair_history.specs.internal.UnreadFields.{unread, AreFields};
 
     ghost view = { unread };
 

@@ -1,5 +1,6 @@
 -- A delivery is read from the left, and has one reading.
-use Rattle.std.proofs.Common.{◌≡◌, ◌<◌, ◌*◌, ◌/◌, ◌%◌, ℕ, true, false, List, [], ◌∷◌, ◌++◌, length, Option, Some, None, Result, Ok, Err, refl, sym, ap}
+use Rattle.std.proofs.Common.{◌≡◌, ◌<◌, ◌*◌, ◌/◌, ◌%◌, ℕ, true, false, List, [], ◌∷◌, ◌++◌, length, Option, Some, None, Result, Ok, Err}
+use Rattle.std.proofs.Common.{refl, sym, ap}
 use Rattle.std.proofs.Common.{subst, arith, ◌∙◌, Bor, codes}
 use Rattle.std.proofs.lemmas.List.Sums.{AllPass-from_list_all, list_all-from_AllPass}
 use Rattle.std.specs.Option.{option_map}
@@ -10,7 +11,7 @@ use Rattle.hex.proofs.HexLemmas.{decode_of-digits, decode_of-encode_lower, decod
 use Rattle.std.specs.Char.{is_ascii_hexdigit, is_ascii_uppercase}
 use Rattle.std.specs.List.{list_all, list_any}
 use Rattle.remus.proofs.DigitLemmas.{lower-again, none_in_upper_case}
-use Rattle.remus.specs.Fields.{text_after, operand_of}
+use Rattle.remus.specs.internal.Fields.{text_after, operand_of}
 use Rattle.remus.specs.Delivery.{IsHex, IsDelivery, delivery_head}
 use Rattle.remus.proofs.FieldLemmas.{text_after-some, operand_of-spelled, operand_of-read}
 use Rattle.remus.proofs.OptionLemmas.{and_then_some}

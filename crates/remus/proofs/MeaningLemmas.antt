@@ -10,7 +10,7 @@ use Rattle.remus.specs.Lines.{Line, order, delivery}
 use Rattle.remus.specs.declared.player.Turn.{Turn}
 use Rattle.remus.specs.declared.player.Turn.TheVariants as turns
 use Rattle.remus.specs.Output.{AppendsFront}
-use Rattle.remus.specs.Playing.{IsDone, IsStep}
+use Rattle.remus.specs.internal.Playing.{IsDone, IsStep}
 use Rattle.remus.specs.Meaning.{AsksFor, Happens, IsAnswered, IsLine, playing, is_silent, answers, beyond}
 
 abbrev pub turn_of : Bool → Turn

@@ -13,7 +13,7 @@ use Rattle.remus.specs.declared.player.Turn.{Turn}
 use Rattle.remus.specs.declared.player.Turn.TheVariants as turns
 use Rattle.remus.specs.Meaning.{Stage, unbooted, Ending, finished, bad, refused, Means, lines_of, GoesOn, ends, goes_on, ends_badly}
 use Rattle.remus.specs.Meaning.{ends_refused, IsCut, IsPlayed, whole, cut_short}
-use Rattle.remus.specs.Playing.{lines_left, most_lines, HasMeant, IsEnded, IsPlayedTo, IsStep, stop_of}
+use Rattle.remus.specs.internal.Playing.{lines_left, most_lines, HasMeant, IsEnded, IsPlayedTo, IsStep, stop_of}
 use Rattle.remus.proofs.LineLemmas.{texts}
 use Rattle.remus.proofs.MeaningLemmas.{false-not-true}
 use Rattle.remus.proofs.OptionLemmas.{some_same}

@@ -1,8 +1,7 @@
-pub mod Fields
+pub mod internal
 pub mod Command
 pub mod Guests
 pub mod Boot
-pub mod Head
 pub mod Limits
 pub mod Printed
 pub mod Delivery
@@ -11,7 +10,6 @@ pub mod Streams
 pub mod Lines
 pub mod Meaning
 pub mod Scripts
-pub mod Playing
 pub mod Live
 pub mod Serving
 pub mod StreamLines

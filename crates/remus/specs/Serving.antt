@@ -8,7 +8,7 @@ use Rattle.remus.specs.declared.live.Session.{Session}
 use Rattle.remus.specs.Limits.{most_line_bytes}
 use Rattle.remus.specs.Live.{IsReply, Replies}
 use Rattle.remus.specs.Meaning.{Stage, unbooted, lines_of}
-use Rattle.remus.specs.Playing.{stage_of}
+use Rattle.remus.specs.internal.Playing.{stage_of}
 use Rattle.remus.specs.Streams.{Writing, WritesFront, IsPut}
 
 -- These are the bytes of a line, or what became of them.

@@ -7,7 +7,7 @@ ghost use Rattle.pair_core.specs.Runs.{StepsAnswer};
 ghost use Rattle.pair_core.specs.Service.{ServesSteps, moment};
 ghost use Rattle.remus.specs.Lines.{line_of, order};
 ghost use Rattle.remus.specs.Meaning.{Happens};
-ghost use Rattle.remus.specs.Playing.{IsDone};
+ghost use Rattle.remus.specs.internal.Playing.{IsDone};
 ghost use Rattle.remus.specs.Printed.{named_sector};
 
 use crate::lines::Line;

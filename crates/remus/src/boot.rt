@@ -3,7 +3,7 @@
 ghost use Rattle.std.specs.Prelude.{◌≡◌, ℕ, ◌^◌, ◌<◌, ◌≤◌, ◌++◌, List, Some, IfOk, IfSome, IfNone, IsTrue, OnErr, option_map, length};
 ghost use Rattle.remus.specs.Guests.{word_field, IsWords, IsDisk, IsGuest, NamedGuest, named_guest, words_image};
 ghost use Rattle.remus.specs.Boot.{IsBoot, BootLine, boot_line, IsInLimits};
-ghost use Rattle.remus.specs.Head.{in_limits, head_of, head_view};
+ghost use Rattle.remus.specs.internal.Head.{in_limits, head_of, head_view};
 ghost use Rattle.remus.specs.Limits.{most_pages, most_sectors};
 
 use crate::fields::{after, hex_bytes, operand};

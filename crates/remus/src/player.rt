@@ -4,7 +4,7 @@ ghost use Rattle.std.specs.Prelude.{◌≡◌, ◌*◌, ◌≤◌, IfOk, IfSome,
 ghost use Rattle.remus.specs.Boot.{BootLine, IsBoot, IsInLimits, boot_line};
 ghost use Rattle.remus.specs.Guests.{guest_image, named_guest};
 ghost use Rattle.remus.specs.Meaning.{IsReady, is_silent, unbooted, playing};
-ghost use Rattle.remus.specs.Playing.{IsStep, stage_of};
+ghost use Rattle.remus.specs.internal.Playing.{IsStep, stage_of};
 
 use crate::answers::answer;
 use crate::boot::{Boot, Guest, image_of, read_boot};

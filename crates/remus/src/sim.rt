@@ -3,7 +3,7 @@
 ghost use Rattle.std.specs.Prelude.{◌≡◌, ◌∷◌, [], Some, None, IfSome, IfErr, OnOk, MatchOption, ◌<◌, ◌==◌, length, position};
 ghost use Rattle.remus.specs.Meaning.{lines_of, bad_line, IsPlayed};
 ghost use Rattle.remus.specs.Streams.{IsPrinted, IsPut};
-ghost use Rattle.remus.specs.Playing.{IsEnded, IsPlayedTo, stop_of};
+ghost use Rattle.remus.specs.internal.Playing.{IsEnded, IsPlayedTo, stop_of};
 ghost use Rattle.remus.specs.declared.sim.Stop.TheVariants.{Unwritten};
 
 use crate::fields::numbered;

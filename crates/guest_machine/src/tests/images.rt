@@ -118,9 +118,9 @@ static ROWS: [(u32, u32); 94] = [
     (0xffffffff, 0x04612823), // SW x6, 0x50(x2): notify the card
 ];
 
-/// How each image begins whose words decode: the disk is set up with its rings at 0x80001000 and the card with its queue 1 at 0x80001400, as
-/// the beacon sets up its card. Then the trap handler is what follows, which points x1 at memory, x2 and x3 at both devices, and x4 and x5 at
-/// the timer, and enables each interrupt in mie.
+/// How each image begins whose words decode: the disk is set up with its rings at 0x80001000 and the card with its queue 1 at 0x80001400,
+/// as the beacon sets up its card. Then the trap handler is what follows, which points x1 at memory, x2 and x3 at both devices, and x4 and
+/// x5 at the timer, and enables each interrupt in mie.
 #[rattlefmt::skip]
 static START: [u32; 55] = [
     0x100022b7, 0x00100313, 0x0662a823, 0x00300393, 0x0672a823, 0x0262a223, 0x0262a023, 0x00b00393,

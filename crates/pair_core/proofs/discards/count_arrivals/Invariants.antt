@@ -1,5 +1,5 @@
 use Rattle.std.proofs.Common.{◌≡◌, ◌+◌, length, drop}
-use Rattle.pair_core.specs.Arrivals.{numbers_in}
+use Rattle.pair_core.specs.internal.Arrivals.{numbers_in}
 use Rattle.pair_core.proofs.discards.count_arrivals.Given as goal
 
 abbrev pub invariant-loop-epoch : goal.invariant-loop-epoch

@@ -1,5 +1,5 @@
 use Rattle.std.proofs.Common.{◌≡◌, ◌++◌, drop}
-use Rattle.pair_core.specs.Arrivals.{numbers_in}
+use Rattle.pair_core.specs.internal.Arrivals.{numbers_in}
 use Rattle.pair_core.proofs.discards.push_all_numbers.Given as goal
 
 abbrev pub invariant-loop-epoch : goal.invariant-loop-epoch

@@ -1,5 +1,5 @@
 use Rattle.std.proofs.Common.{◌≡◌, ◌++◌, drop}
-use Rattle.pair_core.specs.Arrivals.{numbers_of}
+use Rattle.pair_core.specs.internal.Arrivals.{numbers_of}
 use Rattle.pair_core.proofs.discards.push_numbers.Given as goal
 
 abbrev pub invariant-loop-arrival : goal.invariant-loop-arrival

@@ -1,5 +1,5 @@
 use Rattle.std.proofs.Common.{◌≡◌, ◌+◌, ◌*◌, ◌≤◌, ◌++◌, length, drop}
-use Rattle.pair_core.specs.Arrivals.{epoch_entries}
+use Rattle.pair_core.specs.internal.Arrivals.{epoch_entries}
 use Rattle.pair_core.proofs.epochs.add_epoch.Given as goal
 
 abbrev pub invariant-loop-arrival : goal.invariant-loop-arrival

@@ -1,6 +1,6 @@
 use Rattle.std.proofs.Common.{rules, arith, ◌≡◌, ◌+◌, ◌-◌, ◌*◌, ◌^◌, ◌<◌, ℕ, min, length}
 use Rattle.std.proofs.lemmas.List.{at_drop_more}
-use Rattle.pair_core.specs.Places.{places_of}
+use Rattle.pair_core.specs.internal.Places.{places_of}
 use Rattle.pair_core.proofs.epochs.places_with.Goals as goal
 
 -- a sum that a list has room for is none that was cut

@@ -1,5 +1,5 @@
 use Rattle.std.proofs.Common.{◌≡◌, ◌+◌, ◌<◌, ◌^◌, drop}
-use Rattle.pair_core.specs.Places.{places_of}
+use Rattle.pair_core.specs.internal.Places.{places_of}
 use Rattle.pair_core.proofs.epochs.places_with.Given as goal
 
 abbrev pub invariant-loop-epoch : goal.invariant-loop-epoch

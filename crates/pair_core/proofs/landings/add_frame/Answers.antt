@@ -1,7 +1,7 @@
 use Rattle.std.proofs.{Common.{rules, ◌≡◌, ◌+◌, ◌≤◌, ◌++◌, length, ap, ◌∙◌, sym, arith, true, [], ◌∷◌}, lemmas.List.length-append}
 use Rattle.frame_ports.specs.{Targets.{AreTargets, has_target}, Addresses.clients_of}
 use Rattle.pair_history.specs.Log.{Log}
-use Rattle.pair_core.specs.Lengths.{landing_by, landings_by, lengths_after}
+use Rattle.pair_core.specs.internal.Lengths.{landing_by, landings_by, lengths_after}
 use Rattle.pair_core.proofs.Receivers.{from_on, next_yes, next_no, entries_more}
 use Rattle.pair_core.proofs.landings.add_frame.Goals.{then-contains, else-contains, After-contains}
 use Rattle.pair_core.proofs.landings.add_frame.Goals as goal

@@ -1,6 +1,6 @@
 use Rattle.std.proofs.Common.{◌≡◌, ◌+◌, ◌≤◌, ◌++◌, length}
 use Rattle.frame_ports.specs.Addresses.{clients_of}
-use Rattle.pair_core.specs.Lengths.{landings_by, lengths_after}
+use Rattle.pair_core.specs.internal.Lengths.{landings_by, lengths_after}
 use Rattle.pair_core.proofs.Receivers.{from_on}
 use Rattle.pair_core.proofs.landings.add_frame.Given as goal
 

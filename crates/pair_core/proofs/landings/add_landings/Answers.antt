@@ -1,7 +1,7 @@
 use Rattle.std.proofs.{Common.{rules, ◌+◌, ◌++◌, length, drop, ap, ◌∙◌, sym, arith}, lemmas.List.length-append}
 use Rattle.frame_ports.specs.Addresses.{clients_of}
 use Rattle.pair_history.specs.Entries.{Frame}
-use Rattle.pair_core.specs.Lengths.{receivers, landings_by}
+use Rattle.pair_core.specs.internal.Lengths.{receivers, landings_by}
 use Rattle.pair_core.proofs.LengthLaws.{landings_by-targets}
 use Rattle.pair_core.proofs.Receivers.{receivers-next, receivers-none, frames_more, nil-append, landings_length}
 use Rattle.pair_core.proofs.landings.add_landings.Goals as goal

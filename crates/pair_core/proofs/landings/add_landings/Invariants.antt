@@ -1,5 +1,5 @@
 use Rattle.std.proofs.Common.{◌≡◌, ◌+◌, ◌≤◌, ◌++◌, length, drop}
-use Rattle.pair_core.specs.Lengths.{receivers, landings_by}
+use Rattle.pair_core.specs.internal.Lengths.{receivers, landings_by}
 use Rattle.pair_core.proofs.landings.add_landings.Given as goal
 
 abbrev pub invariant-loop-frame : goal.invariant-loop-frame

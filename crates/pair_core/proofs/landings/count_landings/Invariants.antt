@@ -1,5 +1,5 @@
 use Rattle.std.proofs.Common.{◌≡◌, ◌+◌, ◌*◌, ◌≤◌, length, drop}
-use Rattle.pair_core.specs.Lengths.{receivers}
+use Rattle.pair_core.specs.internal.Lengths.{receivers}
 use Rattle.pair_core.proofs.landings.count_landings.Given as goal
 
 abbrev pub invariant-loop-frame : goal.invariant-loop-frame

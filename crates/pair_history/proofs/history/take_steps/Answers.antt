@@ -1,6 +1,6 @@
 use Rattle.std.proofs.Common.{◌∷◌, ◌++◌, [], ◌∙◌, ap, arith}
 use Rattle.pair_history.specs.declared.stored.StoredEntry.TheVariants.{Ran}
-use Rattle.pair_history.specs.Packed.{unpacked, widths}
+use Rattle.pair_history.specs.internal.Packed.{unpacked, widths}
 use Rattle.pair_history.proofs.LogLaws.{unpacked-ran, widths-push}
 use Rattle.pair_history.proofs.history.take_steps.Goals as goal
 

@@ -3,7 +3,7 @@ use Rattle.std.proofs.Common.{refl, subst, sym}
 use Rattle.pair_core.specs.declared.event.Event.TheVariants as events
 use Rattle.remus.specs.declared.lines.Line.{Line as ReadLine}
 use Rattle.remus.specs.Lines.{delivery, line_of}
-use Rattle.remus.specs.Playing.{IsDone}
+use Rattle.remus.specs.internal.Playing.{IsDone}
 use Rattle.remus.proofs.MeaningLemmas.{happened}
 use Rattle.remus.proofs.answers.answer.Goals as goal
 

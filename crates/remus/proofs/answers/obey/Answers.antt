@@ -2,7 +2,7 @@
 use Rattle.std.proofs.Common.{refl, subst, sym}
 use Rattle.pair_core.specs.declared.event.Event.TheVariants as events
 use Rattle.remus.specs.Lines.{order}
-use Rattle.remus.specs.Playing.{IsDone}
+use Rattle.remus.specs.internal.Playing.{IsDone}
 use Rattle.remus.specs.declared.script.Command.{Command}
 use Rattle.remus.specs.declared.script.Command.TheVariants.{Cut, Send, Backup, Ack, Admit, Take, LoseIn, LoseOut}
 use Rattle.remus.specs.declared.script.Command.TheVariants.{FailPrimary, FailBackup, GoLive, Protect}

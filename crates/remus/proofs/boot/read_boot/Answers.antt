@@ -1,5 +1,5 @@
 use Rattle.std.proofs.Common.{sym}
-use Rattle.remus.specs.Head.{head_view}
+use Rattle.remus.specs.internal.Head.{head_view}
 use Rattle.remus.proofs.BootLemmas.{no_boot, guest_again, boot_read, boot_spelled, same_line, no_guest}
 use Rattle.remus.proofs.OptionLemmas.{on-err}
 use Rattle.remus.proofs.boot.read_boot.Goals as goal

@@ -3,7 +3,7 @@ use Rattle.pair_core.specs.Pair.{Pair}
 use Rattle.remus.specs.declared.lines.Line.{Line}
 use Rattle.remus.specs.Lines.{line_of, Line as SpelledLine}
 use Rattle.remus.specs.Meaning.{IsLine, playing, no_line, finds_no_memory}
-use Rattle.remus.specs.Playing.{IsDone, IsStep}
+use Rattle.remus.specs.internal.Playing.{IsDone, IsStep}
 use Rattle.remus.proofs.MeaningLemmas.{some-at, line-read, turn_of}
 use Rattle.remus.proofs.player.play.Goals as goal
 

@@ -2,7 +2,7 @@ use Rattle.std.proofs.Common.{◌≡◌, ◌++◌, ◌+◌, List, ℕ, Option, B
 use Rattle.std.specs.Io.KnownBytes.{Appends}
 use Rattle.std.proofs.KnownBytes.{Appends-nil, Appends-trans}
 use Rattle.remus.specs.Meaning.{Stage, Means, unbooted, finished, ends, lines_of}
-use Rattle.remus.specs.Playing.{stage_of, lines_left, most_lines}
+use Rattle.remus.specs.internal.Playing.{stage_of, lines_left, most_lines}
 use Rattle.remus.specs.Streams.{WritesFront}
 use Rattle.remus.proofs.ScriptLemmas.{ArePlayed, after-first, fewer, one-more, still-on, cut-before, cut-inside, line-ends, played-cut}
 use Rattle.remus.proofs.LineLemmas.{texts}

@@ -1,7 +1,7 @@
 -- the lines so far were played, and what they mean is printed
 use Rattle.std.proofs.Common.{◌≤◌, ◌+◌, ℕ, List, length}
 use Rattle.std.specs.Io.KnownBytes.{Appends}
-use Rattle.remus.specs.Playing.{stage_of, lines_left, most_lines}
+use Rattle.remus.specs.internal.Playing.{stage_of, lines_left, most_lines}
 use Rattle.remus.proofs.LineLemmas.{texts}
 use Rattle.remus.proofs.ScriptLemmas.{ArePlayed}
 use Rattle.remus.proofs.sim.play.Given as goal

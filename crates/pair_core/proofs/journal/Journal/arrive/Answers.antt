@@ -1,6 +1,6 @@
 use Rattle.std.proofs.{Common.{rules, ◌≡◌, ◌++◌, ◌∷◌, [], arith}, lemmas.List.length-append}
 use Rattle.pair_history.specs.Entries.{Arrive}
-use Rattle.pair_core.specs.Arrivals.{epoch_entries}
+use Rattle.pair_core.specs.internal.Arrivals.{epoch_entries}
 use Rattle.pair_core.proofs.{JournalLaws.{epoch-arrives, length-all}, journal.Journal.arrive.Goals.After-unwrap}
 use Rattle.pair_core.proofs.journal.Journal.arrive.Goals as goal
 

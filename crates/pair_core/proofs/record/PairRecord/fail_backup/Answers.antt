@@ -2,7 +2,7 @@ use Rattle.std.proofs.{Common.{rules, ◌≡◌, ◌∙◌, ◌++◌, length, sy
 use Rattle.output_gate.specs.Epochs.{epoch, frames_of, frames_to}
 use Rattle.pair_history.specs.Landings.{landings}
 use Rattle.pair_core.specs.{Journal.{all_committed, with_history}, Lengths.receivers, Protocol.all_held, Record.IsRecord}
-use Rattle.pair_core.specs.RecordFields.{record_state}
+use Rattle.pair_core.specs.internal.RecordFields.{record_state}
 use Rattle.pair_core.proofs.{AloneLaws.{all_are, frames_of-push, fail_backup_record}, LengthLaws.length-receivers}
 use Rattle.pair_core.proofs.RecordLaws.{passed, has_room_for, rising}
 use Rattle.pair_core.proofs.record.PairRecord.fail_backup.Goals.{After-held, After-none_pending-self-inside}

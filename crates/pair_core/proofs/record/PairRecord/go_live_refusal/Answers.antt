@@ -1,5 +1,5 @@
 use Rattle.std.proofs.Common.{rules, ◌≡◌, ◌+◌, arith}
-use Rattle.pair_core.specs.RecordFields.{record_state}
+use Rattle.pair_core.specs.internal.RecordFields.{record_state}
 use Rattle.pair_core.proofs.LiveLaws.{live_count, live_table, live_refused, live_allowed}
 use Rattle.pair_core.proofs.record.PairRecord.go_live_refusal.Goals.{After-len}
 use Rattle.pair_core.proofs.record.PairRecord.go_live_refusal.Goals as goal

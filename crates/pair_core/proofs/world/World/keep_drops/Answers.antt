@@ -1,4 +1,4 @@
-use Rattle.pair_core.specs.WorldFields.{pair_of}
+use Rattle.pair_core.specs.internal.WorldFields.{pair_of}
 use Rattle.pair_core.proofs.PublicLaws.{answers_drop}
 use Rattle.pair_core.proofs.world.World.keep_drops.Goals as goal
 

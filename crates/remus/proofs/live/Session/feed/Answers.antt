@@ -1,6 +1,6 @@
 use Rattle.std.proofs.Common.{ℕ, List, [], ◌++◌, Option, Some, Bor, append-nil, append_assoc, subst, sym, ap, ◌∙◌, refl}
 use Rattle.std.proofs.KnownBytes.{Appends-nil, Appends-trans}
-use Rattle.remus.specs.Playing.{stage_of, lines_left}
+use Rattle.remus.specs.internal.Playing.{stage_of, lines_left}
 use Rattle.remus.specs.declared.live.Session.{Session}
 use Rattle.remus.proofs.LineLemmas.{texts}
 use Rattle.remus.proofs.ScriptLemmas.{after-first}

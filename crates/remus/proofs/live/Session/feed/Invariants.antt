@@ -1,7 +1,7 @@
 -- the first lines were answered, and what is left of the piece goes on from there
 use Rattle.std.proofs.Common.{ℕ, List, ◌++◌}
 use Rattle.std.specs.Io.KnownBytes.{Appends}
-use Rattle.remus.specs.Playing.{most_lines}
+use Rattle.remus.specs.internal.Playing.{most_lines}
 use Rattle.remus.specs.Serving.{HasAnswered}
 use Rattle.remus.proofs.LineLemmas.{texts}
 use Rattle.remus.proofs.LiveLemmas.{IsUnderWay}

@@ -4,7 +4,7 @@ use Rattle.frame_ports.specs.Limits.{number_limit}
 use Rattle.pair_history.specs.Entries.{Entry}
 use Rattle.pair_core.specs.declared.epochs.RunningEpoch.{RunningEpoch}
 use Rattle.pair_core.specs.declared.journal.Journal.TheInside.{Inside}
-use Rattle.pair_core.specs.Arrivals.{epoch_entries}
+use Rattle.pair_core.specs.internal.Arrivals.{epoch_entries}
 use Rattle.pair_core.specs.Journal.{Stored, kept_entries}
 
 abbrev pub epoch_of : RunningEpoch → List Entry

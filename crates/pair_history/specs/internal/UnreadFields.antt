@@ -1,6 +1,6 @@
 -- How the fields of what is left to read stand for what contracts see.
 use Rattle.std.specs.Prelude.{◌≡◌, length}
-use Rattle.pair_history.specs.Packed.{unpacked, widths}
+use Rattle.pair_history.specs.internal.Packed.{unpacked, widths}
 use Rattle.pair_history.specs.Unread.{Unread}
 use Rattle.pair_history.specs.declared.stored.Entries.TheInside.{Inside}
 

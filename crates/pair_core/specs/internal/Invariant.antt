@@ -12,7 +12,7 @@ use Rattle.output_gate.specs.Epochs.{Epoch, frames_of}
 use Rattle.pair_history.specs.Entries.{Frame}
 use Rattle.pair_history.specs.HistoryState.{HistoryState, Waiting, inbox_of, at, Legal}
 use Rattle.pair_history.specs.Landings.{DropsAreKnown, BoxesFit}
-use Rattle.pair_history.specs.Moves.{Move, entries_of, guest_along, frames_along, left, AllCan, AreRising}
+use Rattle.pair_history.specs.internal.Moves.{Move, entries_of, guest_along, frames_along, left, AllCan, AreRising}
 use Rattle.pair_core.specs.Journal.{Journal}
 use Rattle.pair_core.specs.Modes.{is_alone}
 use Rattle.pair_core.specs.Nodes.{Nodes, HasShape, Fills, machine_of}

@@ -1,7 +1,7 @@
 -- How the fields of a stored history stand for what contracts see.
 use Rattle.std.specs.Prelude.{◌≡◌, ◌-◌, length, vec_len, vec_capacity}
 use Rattle.pair_history.specs.Log.{Log}
-use Rattle.pair_history.specs.Packed.{unpacked, widths}
+use Rattle.pair_history.specs.internal.Packed.{unpacked, widths}
 use Rattle.pair_history.specs.declared.history.History.TheInside.{Inside}
 
 abbrev pub log_of : Inside → Log

@@ -1,0 +1,5 @@
+-- what only private functions and proofs cite
+pub mod LogFields
+pub mod Moves
+pub mod Packed
+pub mod UnreadFields

@@ -1,0 +1,4 @@
+-- what only private functions and proofs cite
+pub mod Fields
+pub mod Head
+pub mod Playing
