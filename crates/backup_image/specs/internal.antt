@@ -1,2 +1,2 @@
--- what only private functions and proofs cite
+-- what only models, private functions and proofs cite
 pub mod Invariant

@@ -1,4 +1,4 @@
-pub mod internal
+pub mod Places
 pub mod Aligned
 pub mod Beacon
 pub mod Blocks

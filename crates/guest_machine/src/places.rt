@@ -1,7 +1,7 @@
 //! Where addresses lie in the guest's memory.
 ghost use Rattle.std.specs.Prelude.{◌≡◌, ◌≤◌, ◌^◌};
 ghost use Rattle.bus_map.specs.Limits.{ram_base};
-ghost use Rattle.guest_machine.specs.internal.Places.{in_ram, ram_place};
+ghost use Rattle.guest_machine.specs.Places.{in_ram, ram_place};
 
 /// The address of the first byte of memory.
 pub(crate) const RAM_BASE: u64 = bus_map::RAM_BASE;

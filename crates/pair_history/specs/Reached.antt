@@ -1,9 +1,13 @@
 -- What is so of every state that a legal history leads to, from where a pair starts.
-use Rattle.std.specs.Prelude.{ℕ, ◌≤◌, List, [], ◌∷◌, length}
+use Rattle.std.specs.Prelude.{ℕ, ◌+◌, ◌≤◌, List, [], ◌∷◌, length}
 use Rattle.pair_history.specs.Entries.{Frame}
-use Rattle.pair_history.specs.HistoryState.{HistoryState}
+use Rattle.pair_history.specs.HistoryState.{HistoryState, Waiting}
 use Rattle.pair_history.specs.Landings.{BoxesFit}
-use Rattle.pair_history.specs.internal.Moves.{AreRising}
+
+-- the numbers of what waits rise, from the first number to below the end
+abbrev pub AreRising : ℕ → ℕ → List Waiting → Type 0
+AreRising first end [] = first ≤ end
+AreRising first end (x ∷ xs) = (first ≤ x.number) × AreRising (x.number + 1) end xs
 
 -- each frame is for one of that many clients
 abbrev pub AllClients : ℕ → List (ℕ × Frame) → Type 0

@@ -1,4 +1,4 @@
--- what only private functions and proofs cite
+-- what only models, private functions and proofs cite
 pub mod LogFields
 pub mod Moves
 pub mod Packed

@@ -3,7 +3,7 @@ use Rattle.std.proofs.Common.{◌≡◌, ◌≤◌, ℕ, Bool, true, false, cond
 use Rattle.std.proofs.Common.{subst, arith, ◌∙◌, codes}
 use Rattle.std.specs.Option.{option_map}
 use Rattle.std.specs.List.{join_with_byte}
-use Rattle.remus.specs.internal.Fields.{text_after, number_of, operand_of}
+use Rattle.remus.specs.Fields.{text_after, number_of, operand_of}
 use Rattle.remus.specs.Guests.{IsGuest, NamedGuest, named_guest}
 use Rattle.remus.specs.Boot.{IsBoot, BootLine, boot_line}
 use Rattle.remus.specs.internal.Head.{in_limits, head_of}

@@ -4,7 +4,7 @@ use Rattle.std.proofs.Common.{nat_eq, codes}
 use Rattle.std.specs.Option.{option_map, option_map_or, option_and_then}
 use Rattle.std.specs.Str.{bytes_eq}
 use Rattle.std.proofs.lemmas.Slice.Eq.{bytes_eq-Decides}
-use Rattle.remus.specs.internal.Fields.{text_after, number_of, numbered_by, operand_of, with_second, numbers_by}
+use Rattle.remus.specs.Fields.{text_after, number_of, numbered_by, operand_of, with_second, numbers_by}
 use Rattle.remus.specs.Command.{IsNumbered, HasNumbers, IsCommand, command_of}
 use Rattle.remus.specs.declared.script.Command.{Command}
 use Rattle.remus.specs.declared.script.Command.TheVariants.{Step, Cut, Send, Backup, Ack, Admit, Take, LoseIn, LoseOut, FailPrimary}

@@ -11,7 +11,7 @@ use Rattle.hex.proofs.HexLemmas.{decode_of-digits, decode_of-encode_lower, decod
 use Rattle.std.specs.Char.{is_ascii_hexdigit, is_ascii_uppercase}
 use Rattle.std.specs.List.{list_all, list_any}
 use Rattle.remus.proofs.DigitLemmas.{lower-again, none_in_upper_case}
-use Rattle.remus.specs.internal.Fields.{text_after, operand_of}
+use Rattle.remus.specs.Fields.{text_after, operand_of}
 use Rattle.remus.specs.Delivery.{IsHex, IsDelivery, delivery_head}
 use Rattle.remus.proofs.FieldLemmas.{text_after-some, operand_of-spelled, operand_of-read}
 use Rattle.remus.proofs.OptionLemmas.{and_then_some}

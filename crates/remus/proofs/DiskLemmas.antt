@@ -2,7 +2,7 @@
 use Rattle.std.proofs.Common.{◌≡◌, ◌<◌, ◌^◌, ℕ, zero, suc, List, [], ◌∷◌, ◌++◌, length, slice_index_or, Option, Some, None, refl, sym}
 use Rattle.std.proofs.Common.{ap, arith, ◌∙◌, codes}
 use Rattle.hex.specs.Hex.{encode_lower, IsBytes}
-use Rattle.remus.specs.internal.Fields.{text_after, operand_of}
+use Rattle.remus.specs.Fields.{text_after, operand_of}
 use Rattle.remus.specs.Guests.{IsDisk}
 use Rattle.remus.proofs.FieldLemmas.{text_after-some, operand_of-spelled, operand_of-read}
 use Rattle.remus.proofs.OptionLemmas.{some_same, pair_parts}

@@ -14,7 +14,7 @@ use Rattle.std.specs.Str.Parse.{digits_value, ParsesUnsigned}
 use Rattle.std.proofs.lemmas.Str.Parse.{IsNumeralModel, numerals_by_value, tells_all_ascii_digits, parse_plain}
 use Rattle.std.proofs.lemmas.Str.Ascii.{IsAscii-nil, IsAscii-cons}
 use Rattle.std.proofs.lemmas.Bool.{and_parts, and_from}
-use Rattle.remus.specs.internal.Fields.{text_after, number_of, number_in, operand_of, parted}
+use Rattle.remus.specs.Fields.{text_after, number_of, number_in, operand_of, parted}
 use Rattle.remus.proofs.OptionLemmas.{some_same, pair_parts}
 
 -- a front is found again

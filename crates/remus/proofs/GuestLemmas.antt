@@ -1,7 +1,7 @@
 -- The guest whose words a text spells.
 use Rattle.std.proofs.Common.{◌≡◌, ◌<◌, ◌≤◌, ◌*◌, ℕ, List, ◌++◌, length, Some, None, refl, sym, ap, arith, ◌∙◌, codes}
 use Rattle.std.specs.List.{flat_map}
-use Rattle.remus.specs.internal.Fields.{text_after}
+use Rattle.remus.specs.Fields.{text_after}
 use Rattle.remus.specs.Guests.{word_field, IsGuest, IsWords, NamedGuest, beacon, disk, idle, words}
 use Rattle.remus.proofs.FieldLemmas.{text_after-some}
 use Rattle.remus.proofs.OptionLemmas.{some_same}

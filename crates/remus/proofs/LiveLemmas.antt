@@ -17,7 +17,7 @@ use Rattle.remus.specs.declared.player.Turn.TheVariants as turns
 use Rattle.remus.specs.Meaning.{GoesOn, IsBad, IsRefused}
 use Rattle.remus.specs.Meaning.{Stage, unbooted, lines_of, Ending, finished, Means, ends, goes_on, ends_badly, ends_refused}
 use Rattle.remus.specs.internal.Playing.{stage_of, IsStep}
-use Rattle.remus.specs.Serving.{HasAnswered, IsCutShort, Holds, IsAnswered, IsFed, status_of}
+use Rattle.remus.specs.internal.Serving.{HasAnswered, IsCutShort, Holds, IsAnswered, IsFed, status_of}
 use Rattle.remus.specs.Output.{AppendsFront}
 use Rattle.remus.specs.Streams.{Reading, Writing, Writes, WritesFront, IsPut}
 use Rattle.remus.specs.declared.live.Session.{Session}

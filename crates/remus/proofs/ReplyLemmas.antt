@@ -22,7 +22,7 @@ use Rattle.pair_core.specs.declared.event.Reply.{Reply}
 use Rattle.pair_core.specs.declared.event.Reply.TheVariants.{Steps, Cut, Sent, Committed, Again, Lost, Acked, Admitted, Empty}
 use Rattle.pair_core.specs.declared.event.Reply.TheVariants.{Delivered, Took, Dropped, Alone, Live, Protecting, Refused}
 use Rattle.pair_core.specs.declared.event.Reply.TheVariants.{Stopped as HasStopped}
-use Rattle.remus.specs.internal.Fields.{text_after}
+use Rattle.remus.specs.Fields.{text_after}
 use Rattle.remus.specs.Printed.{reply_line, IsPlain}
 use Rattle.remus.proofs.OptionLemmas.{some_same}
 

@@ -2,7 +2,7 @@
 use Rattle.std.specs.Prelude.{◌≡◌, ℕ, ◌≤◌, ◌∷◌, [], List, Some, codes}
 use Rattle.std.specs.List.{join_with_byte}
 use Rattle.pair_core.specs.HistoryState.{HistoryState, start_state}
-use Rattle.remus.specs.internal.Fields.{number_of}
+use Rattle.remus.specs.Fields.{number_of}
 use Rattle.remus.specs.Guests.{NamedGuest, NamesGuest, GuestFits, guest_image, named_guest}
 use Rattle.remus.specs.Limits.{most_pages, most_sectors, most_clients}
 use Rattle.remus.specs.declared.boot.Boot.{Boot}

@@ -2,7 +2,7 @@
 use Rattle.std.specs.Prelude.{◌≡◌, ℕ, ◌<◌, ◌∷◌, [], List, Option, Some, codes, length, option_and_then}
 use Rattle.std.specs.List.{join_with_byte}
 use Rattle.hex.specs.Hex.{encode_lower, IsBytes}
-use Rattle.remus.specs.internal.Fields.{text_after, number_of, operand_of}
+use Rattle.remus.specs.Fields.{text_after, number_of, operand_of}
 use Rattle.remus.specs.declared.delivery.Delivery.{Delivery}
 
 -- the digits write these bytes, at least one, each as two hex digits in lower case

@@ -7,7 +7,7 @@ use Rattle.guest_kit.specs.Image.{image_of}
 use Rattle.guest_kit.specs.Idle.{idle_program}
 use Rattle.guest_kit.specs.Beacon.{beacon_program}
 use Rattle.guest_kit.specs.Disk.{disk_program}
-use Rattle.remus.specs.internal.Fields.{number_of}
+use Rattle.remus.specs.Fields.{number_of}
 use Rattle.remus.specs.declared.boot.Guest.{Guest}
 use Rattle.remus.specs.declared.boot.Guest.TheVariants as guests
 

@@ -1,4 +1,5 @@
 pub mod internal
+pub mod Fields
 pub mod Command
 pub mod Guests
 pub mod Boot
@@ -11,7 +12,6 @@ pub mod Lines
 pub mod Meaning
 pub mod Scripts
 pub mod Live
-pub mod Serving
 pub mod StreamLines
 pub mod StreamMeaning
 pub mod Listing

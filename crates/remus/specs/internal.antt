@@ -1,4 +1,4 @@
--- what only private functions and proofs cite
-pub mod Fields
+-- what only models, private functions and proofs cite
 pub mod Head
 pub mod Playing
+pub mod Serving

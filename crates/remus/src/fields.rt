@@ -4,7 +4,7 @@ ghost use Rattle.std.specs.Prelude.{◌≡◌, ◌==◌, ℕ, List, length, None
 ghost use Rattle.std.specs.Char.{is_ascii_uppercase};
 ghost use Rattle.std.specs.List.{list_any};
 ghost use Rattle.hex.specs.Hex.{encode_lower, IsBytes};
-ghost use Rattle.remus.specs.internal.Fields.{text_after, number_of, numbered_by, numbers_by, operand_of, parted};
+ghost use Rattle.remus.specs.Fields.{text_after, number_of, numbered_by, numbers_by, operand_of, parted};
 
 use hex::FromHex;
 

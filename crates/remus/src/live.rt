@@ -5,7 +5,7 @@ ghost use Rattle.remus.specs.Limits.{most_line_bytes};
 ghost use Rattle.remus.specs.Live.{IsLive, IsReply, Replies, LeavesOut, IsShort};
 ghost use Rattle.remus.specs.Meaning.{Stage, Means, finished, unbooted};
 ghost use Rattle.remus.specs.internal.Playing.{stage_of};
-ghost use Rattle.remus.specs.Serving.{IsFed, IsKept, Holds, IsAnswered, status_of};
+ghost use Rattle.remus.specs.internal.Serving.{IsFed, IsKept, Holds, IsAnswered, status_of};
 
 use crate::limits::MOST_LINE_BYTES;
 use crate::player::{Player, Turn};

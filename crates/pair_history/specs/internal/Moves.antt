@@ -1,9 +1,10 @@
 -- The guest's own entries, each with the frame that arrives: what an epoch is made of.
-use Rattle.std.specs.Prelude.{◌≡◌, ℕ, ◌+◌, ◌≤◌, List, [], ◌∷◌, ◌++◌, map, Some}
+use Rattle.std.specs.Prelude.{◌≡◌, ℕ, List, [], ◌∷◌, ◌++◌, map, Some}
 use Rattle.guest_machine.specs.Guest.{Guest}
 use Rattle.guest_machine.specs.Step.{next, sent, arrived}
 use Rattle.pair_history.specs.Entries.{Frame, Entry, Ran, Arrive}
 use Rattle.pair_history.specs.HistoryState.{Waiting, frame_numbered, without_number, IsFirst}
+pub use Rattle.pair_history.specs.Reached.{AreRising}
 
 -- What an epoch keeps: the guest's steps, and the frames that arrived at it.
 pub data Move : Type 0 where
@@ -51,8 +52,3 @@ CanMove ws (Arrives n f) = IsFirst n ws × (frame_numbered n ws ≡ Some f)
 abbrev pub AllCan : List Waiting → List Move → Type 0
 AllCan ws [] = Unit {0}
 AllCan ws (m ∷ ms) = CanMove ws m × AllCan (left_by ws m) ms
-
--- the numbers of what waits rise, from the first number to below the end
-abbrev pub AreRising : ℕ → ℕ → List Waiting → Type 0
-AreRising first end [] = first ≤ end
-AreRising first end (x ∷ xs) = (first ≤ x.number) × AreRising (x.number + 1) end xs

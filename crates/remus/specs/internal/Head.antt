@@ -1,6 +1,6 @@
 -- What stands before the guest in a boot line, read from the left: for the program's own steps. What a line is says `Boot`.
 use Rattle.std.specs.Prelude.{ℕ, List, Option, Some, None, codes, Bool, nat_le, ◌&&◌, if◌then◌else◌, option_and_then}
-use Rattle.remus.specs.internal.Fields.{text_after, operand_of}
+use Rattle.remus.specs.Fields.{text_after, operand_of}
 use Rattle.remus.specs.Limits.{most_pages, most_sectors, most_clients}
 use Rattle.remus.specs.declared.boot.Head.{Head}
 

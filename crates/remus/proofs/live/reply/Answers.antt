@@ -1,5 +1,5 @@
 use Rattle.std.proofs.Common.{subst, ◌∙◌}
-use Rattle.remus.specs.Serving.{IsKept}
+use Rattle.remus.specs.internal.Serving.{IsKept}
 use Rattle.remus.proofs.LiveLemmas.{reply-of, bad-reply}
 use Rattle.remus.proofs.live.reply.Goals as goal
 

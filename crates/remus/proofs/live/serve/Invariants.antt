@@ -1,7 +1,7 @@
 -- the lines that have come were answered
 use Rattle.std.proofs.Common.{ℕ, List}
 use Rattle.std.specs.Io.KnownBytes.{Appends, Consumes}
-use Rattle.remus.specs.Serving.{HasAnswered}
+use Rattle.remus.specs.internal.Serving.{HasAnswered}
 use Rattle.remus.proofs.live.serve.Given as goal
 
 abbrev pub invariant-loop-session : goal.invariant-loop-session

@@ -1,6 +1,6 @@
 use Rattle.std.proofs.Common.{ℕ, List, [], sym, subst}
 use Rattle.remus.specs.Streams.{Writes, WritesFront}
-use Rattle.remus.specs.Serving.{Holds}
+use Rattle.remus.specs.internal.Serving.{Holds}
 use Rattle.remus.proofs.LiveLemmas.{put-shown, put-failed}
 use Rattle.remus.proofs.live.Session.answer.Goals as goal
 

@@ -2,7 +2,7 @@
 use Rattle.std.proofs.Common.{ℕ, List, ◌++◌}
 use Rattle.std.specs.Io.KnownBytes.{Appends}
 use Rattle.remus.specs.internal.Playing.{most_lines}
-use Rattle.remus.specs.Serving.{HasAnswered}
+use Rattle.remus.specs.internal.Serving.{HasAnswered}
 use Rattle.remus.proofs.LineLemmas.{texts}
 use Rattle.remus.proofs.LiveLemmas.{IsUnderWay}
 use Rattle.remus.proofs.live.Session.feed.Given as goal

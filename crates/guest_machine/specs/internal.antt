@@ -1,2 +1,0 @@
--- what only private functions and proofs cite
-pub mod Places
