@@ -7,11 +7,11 @@ use Rattle.failover.specs.declared.mode.Mode.{Mode}
 use Rattle.output_gate.specs.Epochs.{Epoch, frames_of}
 use Rattle.guest_machine.specs.Step.{sent}
 use Rattle.pair_history.specs.{Entries.{Frame, Entry, Ran, Arrive}, HistoryState.{HistoryState, after, at, Legal}}
-use Rattle.pair_history.specs.{Landings.{landings, DropsAreKnown, DropsAtFull, BoxesFit}, Moves.{Move, Steps, Arrives, entries_of, left}}
+use Rattle.pair_history.specs.{Landings.{landings, DropsAreKnown, DropsAtFull, BoxesFit}, internal.Moves.{Move, Steps, Arrives, entries_of, left}}
 use Rattle.pair_history.proofs.{States.{at-append, Legal-append, DropsAreKnown-append, at_full-known}, Losses.AreRising-left}
 use Rattle.pair_history.proofs.Moves.{moved, Legal-moves, DropsAreKnown-moves}
 use Rattle.pair_history.proofs.LandingLaws.{length-lands, BoxesFit-lands, AllClients-targets, landings-land, AllLand, AllClients}
-use Rattle.pair_core.specs.{declared.window.Window.Window, Invariant.{frames_by_epoch, AreNodes, AreClients, Holds}, Modes.is_alone}
+use Rattle.pair_core.specs.{declared.window.Window.Window, internal.Invariant.{frames_by_epoch, AreNodes, AreClients, Holds}, Modes.is_alone}
 use Rattle.pair_core.specs.{Nodes.{Node, Nodes, HasShape, with_arrival}, Pair.{Pair, shown_state, live_state}}
 use Rattle.pair_core.specs.Journal.{joined, kept_entries, all_entries, all_committed, with_history, with_running, with_moves}
 use Rattle.pair_core.specs.Protocol.{all_held, outbox_of, step_entries, admit_done}

@@ -5,7 +5,7 @@ use Rattle.guest_machine.specs.{Guest.Guest, Runs.sent_in, Step.{next, sent}}
 use Rattle.frame_ports.proofs.AddressLaws.{length-targets_of}
 use Rattle.output_gate.specs.Epochs.{Epoch, epoch, frames_of, frames_to}
 use Rattle.pair_history.specs.Entries.{Frame}
-use Rattle.pair_core.specs.{Lengths.receivers, Protocol.{Record, all_held, fail_backup_done}, Record.IsRecord, Window.NumberedFrom}
+use Rattle.pair_core.specs.{internal.Lengths.receivers, Protocol.{Record, all_held, fail_backup_done}, Record.IsRecord, Window.NumberedFrom}
 use Rattle.pair_core.proofs.{LengthLaws.length-receivers, RecordLaws.AreBelow-more, WindowLaws.{NumberedFrom-push, test_from}}
 
 none_of : (fs : List Frame) → length fs ≡ 0 → fs ≡ []

@@ -5,7 +5,7 @@ use Rattle.guest_machine.specs.{Guest.Guest, Step.{next, sent}, Runs.{after_step
 use Rattle.frame_ports.specs.{Addresses.targets_of, Lands.lands, Limits.number_limit}
 use Rattle.pair_history.specs.{Entries.{Frame, Ran}, HistoryState.HistoryState, Landings.landings}
 use Rattle.pair_core.specs.{declared.event.Event.TheVariants.Step, declared.event.Reply.Reply, Limits.lone_step_entries}
-use Rattle.pair_core.specs.{Invariant.Holds, Journal.{all_entries, with_history}, Modes.is_alone, Nodes.{after_run, with_sent_off}}
+use Rattle.pair_core.specs.{internal.Invariant.Holds, Journal.{all_entries, with_history}, Modes.is_alone, Nodes.{after_run, with_sent_off}}
 use Rattle.pair_core.specs.{Pair.Pair, Protocol.{Record, Outcome, step_done, step_outcome, step_room}, Answering.Answers, Record.IsLone}
 use Rattle.pair_core.specs.Runs.{StepsAnswer, goes_on, steps_outcome}
 use Rattle.pair_core.proofs.{AllLands.at_once_holds, Consistent.{live_is, alone_is}, ModeLaws.alone_not_stopped}

@@ -3,7 +3,7 @@ use Rattle.std.proofs.Common.{◌≡◌, ◌∙◌, sym, ap, subst, Result, Ok, 
 use Rattle.std.specs.Prelude.{IfOk, OnOk}
 use Rattle.memory_wanted.specs.declared.MemoryWanted.{MemoryWanted}
 use Rattle.frame_ports.specs.Ports.{PortsState}
-use Rattle.pair_core.specs.{declared.event.Reply.Reply, Invariant.Holds, Pair.Pair, Protocol.{Record, Outcome}, Record.RecordState}
+use Rattle.pair_core.specs.{declared.event.Reply.Reply, internal.Invariant.Holds, Pair.Pair, Protocol.{Record, Outcome}, Record.RecordState}
 
 -- on either result
 pub on_ok : {A : Type 0} (o : Result A MemoryWanted) (P : Type 0) → P → OnOk o P

@@ -8,14 +8,14 @@ use Rattle.frame_ports.specs.Limits.{inbox_frames, box_frames}
 use Rattle.output_gate.specs.Epochs.{Epoch, frames_to, frames_of}
 use Rattle.pair_history.specs.Entries.{Frame, Entry, Delivered, Refused, DropIn, DropOut, Took}
 use Rattle.pair_history.specs.HistoryState.{HistoryState, Waiting, inbox_of, without_number, out_without, at, Legal, Allows}
-use Rattle.pair_history.specs.{Landings.{landings, DropsAreKnown, BoxesFit}, Moves.{left, AllCan}}
+use Rattle.pair_history.specs.{Landings.{landings, DropsAreKnown, BoxesFit}, internal.Moves.{left, AllCan}}
 use Rattle.pair_history.proofs.States.{at-append, Legal-append, DropsAreKnown-append, at_full-known, targets_of-append}
 use Rattle.pair_history.proofs.Waiting.{inbox_of-append, AreRising-push, AreRising-without, StandsAt, Leaves, leaves-at}
 use Rattle.pair_history.proofs.{Losses.{AreRising-left, LeavesBefore, leaves-before}, Moves.{AllCan-more, left-more, left-shorter}}
 use Rattle.pair_history.proofs.LandingLaws.{length-lands, BoxesFit-set, BoxesFit-at, BoxesFit-lands, AllClients-targets, landings-land}
 use Rattle.pair_history.specs.Leaving.{LeaveInOrder}
 use Rattle.pair_history.proofs.{LandingLaws.{AllLand, AllClients}, LeavingLaws.landings-leave}
-use Rattle.pair_core.specs.{declared.window.Window.Window, Invariant.{AreClients, Holds}, Journal.with_history, Pair.{Pair, shown_state}}
+use Rattle.pair_core.specs.{declared.window.Window.Window, internal.Invariant.{AreClients, Holds}, Journal.with_history, Pair.{Pair, shown_state}}
 use Rattle.pair_core.specs.Protocol.{ack_done, deliver_done, take_done, loss_done, let_go}
 use Rattle.pair_core.specs.Record.{IsRecord, ports_after_ack, ports_after_take, ports_after_lose_in, ports_after_lose_out}
 use Rattle.pair_core.specs.Window.{committed_of, uncommitted_of}

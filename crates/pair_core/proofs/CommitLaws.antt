@@ -7,7 +7,7 @@ use Rattle.epoch_snapshot.specs.{Bases.IsBase, Checkpoints.Change, Images.image_
 use Rattle.backup_image.specs.{declared.errors.ImageError.ImageError, declared.errors.ImageError.TheVariants.{Stale, Gap, OldVersion}}
 use Rattle.backup_image.specs.{declared.standing.Staged.Staged, declared.standing.Staged.TheVariants.{New, Again}}
 use Rattle.backup_image.specs.Images.{ImageState, answer_at, is_old_delta, stage_answer, staged_after, after_stage, committed}
-use Rattle.pair_history.specs.{Entries.Frame, Moves.{Move, guest_along, frames_along}}
+use Rattle.pair_history.specs.{Entries.Frame, internal.Moves.{Move, guest_along, frames_along}}
 use Rattle.pair_history.proofs.Moves.{guest_along-append}
 use Rattle.pair_core.specs.internal.Invariant.{all_moves, epoch_frames, AreNodes, IsBacked}
 use Rattle.pair_core.specs.{Nodes.{Nodes, machine_of, with_commit, first_text, later_texts, read_as}, Texts.IsText}

@@ -5,10 +5,10 @@ use Rattle.std.specs.Prelude.{map, remove, nat_lt}
 use Rattle.frame_ports.specs.{Addresses.targets_of, Lands.{list_of, with_list}, Limits.number_limit}
 use Rattle.output_gate.specs.Epochs.{Epoch, frames_of}
 use Rattle.pair_history.specs.{Entries.{Frame, Entry, DropIn, DropOut}, Failures.{drops_of_owed_from, go_live_entries}}
-use Rattle.pair_history.specs.{HistoryState.{HistoryState, after, at, out_of, Legal}, Landings.DropsAreKnown, Moves.left, Order.AreGuests}
+use Rattle.pair_history.specs.{HistoryState.{HistoryState, after, at, out_of, Legal}, Landings.DropsAreKnown, internal.Moves.left, Order.AreGuests}
 use Rattle.pair_history.proofs.{FailureLaws.{goes_live, AreGuests-moves}, LandingLaws.{AllClients, AllClients-targets}}
 use Rattle.pair_history.proofs.{Losses.AreRising-left, Moves.Legal-moves, States.{at-append, Legal-append, DropsAreKnown-append}}
-use Rattle.pair_core.specs.{Invariant.{frames_by_epoch, AreNodes, AreClients, Holds}, Journal.kept_entries, Modes.is_alone}
+use Rattle.pair_core.specs.{internal.Invariant.{frames_by_epoch, AreNodes, AreClients, Holds}, Journal.kept_entries, Modes.is_alone}
 use Rattle.pair_core.specs.{Nodes.{HasShape, gone_live}, Pair.{Pair, shown_state}, Protocol.go_live_done, Record.owed_to}
 use Rattle.pair_core.specs.Window.{committed_of, uncommitted_of, committed_count, none_pending}
 use Rattle.pair_core.proofs.{AllLands.{take-none, drop-none}, Consistent.{kept_is, live_waiting}, Events.{kept_moves, left_now}}

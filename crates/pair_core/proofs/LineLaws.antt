@@ -4,7 +4,7 @@ use Rattle.std.proofs.{Common.{Result, Ok, Err, OnOk, OnErr}, lemmas.List.map-ap
 use Rattle.std.specs.Prelude.{map, Option, None, Some, slice_get, slice_index_or}
 use Rattle.lossy_line.specs.Lines.{Packets}
 use Rattle.output_gate.specs.Epochs.{Epoch}
-use Rattle.pair_core.specs.{declared.event.Packet.Packet, Lines.{packet, packet_of, packets_from}, LinesFields.{packets_of, KeepsAll}}
+use Rattle.pair_core.specs.{declared.event.Packet.Packet, Lines.{packet, packet_of, packets_from}, internal.LinesFields.{packets_of, KeepsAll}}
 use Rattle.pair_core.specs.Window.{NumberedFrom}
 
 -- the next packet, and those behind it

@@ -14,7 +14,7 @@ use Rattle.pair_history.proofs.{SortedLaws.rising-sorted, TakenInLaws.IsPermutat
 use Rattle.pair_core.specs.{declared.epochs.Arrival.Arrival, declared.epochs.RunningEpoch.RunningEpoch, declared.event.Packet.Packet}
 use Rattle.pair_core.specs.{declared.event.Refusal.Refusal, declared.event.Refusal.TheVariants.Exhausted}
 use Rattle.pair_core.specs.{declared.journal.Journal.TheInside.Inside, declared.window.Window.Window}
-use Rattle.pair_core.specs.{Journal.{Journal, joined, kept_entries}, JournalFields.{epoch_of, stored, AreFields}, Lengths.receivers}
+use Rattle.pair_core.specs.{Journal.{Journal, joined, kept_entries}, internal.JournalFields.{epoch_of, stored, AreFields}, internal.Lengths.receivers}
 use Rattle.pair_core.specs.{Lines.AreBelow, Protocol.{Record, first_refusal, live_entries, go_live_refusals, go_live_done}}
 use Rattle.pair_core.specs.{Record.{RecordState, owed_to, IsRecord}, Window.{IsWindow, first_after, committed_count, committed_of}}
 use Rattle.pair_core.specs.internal.Arrivals.{steps_of, arrivals_of, epoch_entries, numbers_of, numbers_in}

@@ -5,7 +5,7 @@ use Rattle.std.specs.Prelude.{slice_get, option_map, not}
 use Rattle.frame_ports.specs.Lands.{list_of}
 use Rattle.pair_history.specs.{Entries.{Frame, Entry}, HistoryState.inbox_of}
 use Rattle.pair_core.specs.{declared.event.Event.Event, declared.event.Event.TheVariants.{LoseIn, LoseOut}, declared.event.Refusal.Refusal}
-use Rattle.pair_core.specs.{declared.event.Refusal.TheVariants.NoClient, Invariant.Holds, Pair.{Pair, live_state}}
+use Rattle.pair_core.specs.{declared.event.Refusal.TheVariants.NoClient, internal.Invariant.Holds, Pair.{Pair, live_state}}
 use Rattle.pair_core.specs.Protocol.{lost_in, on_lose_in, on_lose_out, sight, allowed, unless, refused, first_refusal, is_among}
 use Rattle.pair_core.specs.{Protocol.{client_refusals, loss_refusals, loss_done, loss_of}, Answering.MayWantMemory}
 use Rattle.pair_core.proofs.Outcomes.{seen, stops, goes, client_range, inbox_is}

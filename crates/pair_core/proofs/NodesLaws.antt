@@ -9,7 +9,7 @@ use Rattle.guest_machine.proofs.{ApartLemmas.arrived-apart, ListedLemmas.run-lis
 use Rattle.guest_machine.proofs.MemoryLemmas.{boot-kept, next-kept, arrived-kept, next-disk_bytes}
 use Rattle.epoch_snapshot.specs.{Bases.{IsBase, IsCut}, Checkpoints.Change, Cuts.sector_of, Images.image_of}
 use Rattle.checkpoint_stream.specs.{declared.place.Place.TheVariants.Whole, ReadBack.ReadsBack, Readings.{begun, fed}, Sound.change_in}
-use Rattle.pair_history.specs.{Entries.Frame, Moves.{Move, Steps, Arrives, guest_along, frames_along}}
+use Rattle.pair_history.specs.{Entries.Frame, internal.Moves.{Move, Steps, Arrives, guest_along, frames_along}}
 use Rattle.pair_history.proofs.Moves.{guest_along-append}
 use Rattle.pair_core.specs.internal.Invariant.{all_moves, first_moves, epoch_frames, AreSealed, AreNodes, IsBacked}
 use Rattle.pair_core.specs.Nodes.{Node, Nodes, HasShape, node_of, machine_of, just_settled, start_nodes, after_run, with_arrival}

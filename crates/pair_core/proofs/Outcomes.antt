@@ -6,7 +6,7 @@ use Rattle.guest_machine.specs.Step.{next, sent}
 use Rattle.frame_ports.specs.{Lands.list_of, Addresses.IsFrame, Limits.{inbox_frames, number_limit}}
 use Rattle.pair_history.specs.{Entries.Frame, HistoryState.inbox_of}
 use Rattle.pair_core.specs.{declared.event.Event.TheVariants.{Cut, Admit, FailBackup}, declared.event.Refusal.Refusal}
-use Rattle.pair_core.specs.{declared.event.Refusal.TheVariants.{Full, BadFrame, NoClient, Stopped, Exhausted}, Invariant.Holds}
+use Rattle.pair_core.specs.{declared.event.Refusal.TheVariants.{Full, BadFrame, NoClient, Stopped, Exhausted}, internal.Invariant.Holds}
 use Rattle.pair_core.specs.{Modes.is_stopped, Pair.{Pair, shown_state, live_state, AfterRefusal}}
 use Rattle.pair_core.specs.Protocol.{Record, Sight, Outcome, Row, first_refusal, or_else, unless, refused, exhausts, is_among, sight}
 use Rattle.pair_core.specs.Protocol.{allowed, on_step, step_outcome, cut_refusals, cut_done, on_cut, on_fail_backup, admit_refusals}

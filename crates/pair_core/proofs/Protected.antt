@@ -6,7 +6,7 @@ use Rattle.epoch_snapshot.specs.{Bases.IsBase, Images.image_of}
 use Rattle.frame_ports.specs.{Addresses.targets_of, Limits.number_limit}
 use Rattle.output_gate.specs.Epochs.{Epoch, frames_of}
 use Rattle.pair_history.specs.HistoryState.{HistoryState, Waiting}
-use Rattle.pair_core.specs.{Invariant.{AreClients, Holds}, Nodes.{HasShape, machine_of, just_settled, with_protected}}
+use Rattle.pair_core.specs.{internal.Invariant.{AreClients, Holds}, Nodes.{HasShape, machine_of, just_settled, with_protected}}
 use Rattle.pair_core.specs.{Pair.{Pair, shown_state, live_state}, Protocol.protect_done, Record.IsLone, Texts.IsText}
 use Rattle.pair_core.specs.Window.{committed_count}
 use Rattle.pair_core.proofs.{AllLands.take-none, Consistent.{live_is, live_waiting}, Events.left_now, NodesLaws.{base-settled, reads-as}}

@@ -7,11 +7,11 @@ use Rattle.memory_wanted.specs.{Wanted.wanted, declared.MemoryWanted.MemoryWante
 use Rattle.guest_machine.specs.Step.{sent}
 use Rattle.frame_ports.specs.Lands.{list_of}
 use Rattle.pair_history.specs.{Entries.{Frame, Entry, Ran, Arrive, DropOut, Took, Begins}, HistoryState.HistoryState, Landings.{DropsAtFull, DropsNone}}
-use Rattle.pair_history.specs.{Leaving.{LeaveInOrder, NotGivenUp, leaves_by, frames_left}, Moves.{Move, Steps, Arrives, entries_of}}
+use Rattle.pair_history.specs.{Leaving.{LeaveInOrder, NotGivenUp, leaves_by, frames_left}, internal.Moves.{Move, Steps, Arrives, entries_of}}
 use Rattle.pair_history.proofs.{LeavingLaws.{TakesNone, none_leave}, Moves.DropsNone-moves}
 use Rattle.pair_core.specs.{declared.event.Event.Event, declared.event.Event.TheVariants.{Step, FailBackup, GoLive}, declared.event.Refusal.Refusal}
 use Rattle.pair_core.specs.{declared.event.Refusal.TheVariants.NoMemory, declared.event.Reply.Reply, Answering.{Answers, MayWantMemory}}
-use Rattle.pair_core.specs.{Drops.{DropsOnly, LetsOut, Drops}, Invariant.Holds, Journal.first_of, Modes.is_alone}
+use Rattle.pair_core.specs.{Drops.{DropsOnly, LetsOut, Drops}, internal.Invariant.Holds, Journal.first_of, Modes.is_alone}
 use Rattle.pair_core.specs.{Pair.{Pair, shown_state, live_state}, Protocol.{Record, outcome, step_entries}, Record.IsRecord}
 use Rattle.pair_core.proofs.{AllLands.{step_drops, failure_drops}, ClientEvents.{ack_lands, ack_leaves}, Ends.{Ends, answers_end, at_once}}
 use Rattle.pair_core.proofs.{LossOutcomes.within, RecordLaws.below_at}

@@ -8,7 +8,7 @@ use Rattle.frame_ports.specs.Limits.{number_limit}
 use Rattle.output_gate.specs.Epochs.{Epoch, frames_to, after_number}
 use Rattle.pair_history.specs.Entries.{Frame, Entry}
 use Rattle.pair_core.specs.{declared.event.Packet.Packet, declared.event.Refusal.TheVariants.Exhausted, declared.window.Window.Window}
-use Rattle.pair_core.specs.{Journal.{all_entries, rest_of}, Lengths.receivers, Lines.{packet_of, packets_from, AreBelow}}
+use Rattle.pair_core.specs.{Journal.{all_entries, rest_of}, internal.Lengths.receivers, Lines.{packet_of, packets_from, AreBelow}}
 use Rattle.pair_core.specs.Protocol.{commit_done, ack_done, Record, first_refusal, cut_refusals, ack_refusals, exhausts, cut_done}
 use Rattle.pair_core.specs.{Protocol.{send_done, again_done}, Record.{IsRecord, SuitsMode}, Modes.{is_alone, is_filling, filled}}
 use Rattle.pair_core.specs.Window.{NumberedFrom, with_commit, with_acknowledged}

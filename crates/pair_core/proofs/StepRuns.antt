@@ -8,7 +8,7 @@ use Rattle.frame_ports.specs.Limits.{number_limit}
 use Rattle.pair_history.specs.{Entries.{Frame, Ran}, HistoryState.{HistoryState, Waiting}}
 use Rattle.pair_history.specs.internal.Moves.{Steps, entries_of, guest_along, frames_along, left, AllCan}
 use Rattle.pair_core.specs.{declared.event.Refusal.Refusal, declared.event.Refusal.TheVariants.{Stopped, CutNeeded, Exhausted}}
-use Rattle.pair_core.specs.{Invariant.Holds, Journal.{all_entries, with_running, with_moves}, Limits.lone_step_entries}
+use Rattle.pair_core.specs.{internal.Invariant.Holds, Journal.{all_entries, with_running, with_moves}, Limits.lone_step_entries}
 use Rattle.pair_core.specs.{Modes.{is_stopped, is_alone}, Nodes.after_run, Pair.Pair}
 use Rattle.pair_core.specs.Protocol.{step_outcome, outbox_of, step_room, step_entries, Record, Outcome, first_refusal, or_else, refused}
 use Rattle.pair_core.specs.{Protocol.{shown_at, live_at, step_refusals, step_done}, Answering.step_reply}

@@ -35,7 +35,8 @@ DropsOnly start old event reply es = Loses start old.journal.history (kept_entri
 -- What leaves for clients where an event adds these entries: at an acknowledgement the frames of the checkpoints up to its number, in the
 -- order in which they were sent, and none is given up. While there is a backup nothing else lets a frame leave.
 abbrev pub LetsOut : HistoryState → Record → Event → Reply → List Entry → Type 0
-LetsOut start r (AckGet k) (Acked generation number landed) es = LeaveInOrder (shown_at start r) es (let_go (shown_at start r).boxes r number)
+LetsOut start r (AckGet k) (Acked generation number landed) es =
+    LeaveInOrder (shown_at start r) es (let_go (shown_at start r).boxes r number)
 LetsOut start r Step reply es = is_alone r.mode ≡ false → LeaveInOrder (shown_at start r) es []
 LetsOut start r FailBackup reply es = Unit {0}
 LetsOut start r GoLive reply es = Unit {0}

@@ -1,6 +1,6 @@
 use Rattle.std.proofs.Common.{◌≡◌, ◌+◌, ◌≤◌, ◌++◌, drop}
 use Rattle.std.specs.Prelude.{map}
-use Rattle.pair_core.specs.{Journal.joined, JournalFields.epoch_of, Places.places_of}
+use Rattle.pair_core.specs.{Journal.joined, internal.JournalFields.epoch_of, internal.Places.places_of}
 use Rattle.pair_core.proofs.epochs.add_epochs.Given as goal
 
 abbrev pub invariant-loop-epoch : goal.invariant-loop-epoch

@@ -1,7 +1,7 @@
 use Rattle.std.proofs.{Common.{rules, ◌≡◌, ◌+◌, ◌<◌, ◌++◌, length, sym, ap, arith}, lemmas.List.{length-append, length-map}}
 use Rattle.std.specs.Prelude.{map}
 use Rattle.frame_ports.specs.{Addresses.targets_of, Limits.number_limit}
-use Rattle.pair_core.specs.{Arrivals.epoch_entries, Journal.{Stored, joined}, JournalFields.{stored, epoch_of}, Protocol.live_entries}
+use Rattle.pair_core.specs.{internal.Arrivals.epoch_entries, Journal.{Stored, joined}, internal.JournalFields.{stored, epoch_of}, Protocol.live_entries}
 use Rattle.pair_core.proofs.{LengthLaws.length-receivers, LiveLaws.{as_many, live_history, length-live}}
 use Rattle.pair_core.proofs.journal.Journal.go_live.Goals.{After-as_slice-2, After-add_drops_out}
 use Rattle.pair_core.proofs.journal.Journal.go_live.Goals as goal

@@ -1,5 +1,5 @@
 use Rattle.std.proofs.Common.{ℕ, subst, arith}
-use Rattle.pair_core.specs.{NodesFields.image_or, Texts.IsText}
+use Rattle.pair_core.specs.{internal.NodesFields.image_or, Texts.IsText}
 use Rattle.pair_core.proofs.NodesLaws.{base-of, delta-text}
 use Rattle.pair_core.proofs.nodes.Nodes.checkpoint.Goals as goal
 

@@ -1,6 +1,6 @@
 use Rattle.std.proofs.Common.{◌∙◌, sym, ap, cond, length, Some, None}
 use Rattle.output_gate.specs.Epochs.{frames_to}
-use Rattle.pair_core.specs.{declared.event.Refusal.TheVariants.Exhausted, Lengths.receivers, Record.RecordState}
+use Rattle.pair_core.specs.{declared.event.Refusal.TheVariants.Exhausted, internal.Lengths.receivers, Record.RecordState}
 use Rattle.pair_core.proofs.RecordLaws.{ack_row}
 use Rattle.pair_core.proofs.record.PairRecord.ack_refusal.Goals as goal
 

@@ -1,5 +1,5 @@
 use Rattle.std.proofs.Common.{rules, arith}
-use Rattle.pair_core.specs.{Protocol.ack_done, RecordFields.record_state}
+use Rattle.pair_core.specs.{Protocol.ack_done, internal.RecordFields.record_state}
 use Rattle.pair_core.proofs.{LengthLaws.length-receivers, RecordLaws.{passed, has_room_for, ack_record, same_record}}
 use Rattle.pair_core.proofs.record.PairRecord.acknowledge.Goals as goal
 

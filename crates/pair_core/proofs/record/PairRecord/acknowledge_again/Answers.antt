@@ -1,5 +1,5 @@
 use Rattle.std.proofs.Common.{◌-◌, ◌∙◌, ap, sym, subst}
-use Rattle.pair_core.specs.{Lines.{Lines, packet, with_back}, Record.IsRecord, RecordFields.record_state}
+use Rattle.pair_core.specs.{Lines.{Lines, packet, with_back}, Record.IsRecord, internal.RecordFields.record_state}
 use Rattle.pair_core.proofs.RecordLaws.{again_record}
 use Rattle.pair_core.proofs.record.PairRecord.acknowledge_again.Goals as goal
 

@@ -1,6 +1,6 @@
 use Rattle.std.proofs.Common.{◌+◌, ◌∙◌, List, length, ap}
 use Rattle.pair_history.specs.Entries.{Frame}
-use Rattle.pair_core.specs.{Lengths.receivers, Protocol.all_held, Record.RecordState, RecordFields.record_state}
+use Rattle.pair_core.specs.{internal.Lengths.receivers, Protocol.all_held, Record.RecordState, internal.RecordFields.record_state}
 use Rattle.pair_core.proofs.AloneLaws.{held_are, count-all}
 use Rattle.pair_core.proofs.record.PairRecord.count_all.Goals as goal
 

@@ -1,5 +1,5 @@
 use Rattle.std.proofs.Common.{rules, arith}
-use Rattle.pair_core.specs.{Protocol.cut_done, RecordFields.record_state}
+use Rattle.pair_core.specs.{Protocol.cut_done, internal.RecordFields.record_state}
 use Rattle.pair_core.proofs.RecordLaws.{rising, cut_record, same_record}
 use Rattle.pair_core.proofs.record.PairRecord.cut.Goals as goal
 

@@ -1,7 +1,7 @@
 use Rattle.std.proofs.{Common.{rules, ◌≡◌, ◌∙◌, ◌++◌, length, sym, ap, subst, arith}, lemmas.List.length-append}
 use Rattle.output_gate.specs.Epochs.{epoch, frames_of, frames_to}
 use Rattle.pair_history.specs.Landings.{landings}
-use Rattle.pair_core.specs.{Journal.{all_committed, with_history}, Lengths.receivers, Protocol.all_held, Record.IsRecord}
+use Rattle.pair_core.specs.{Journal.{all_committed, with_history}, internal.Lengths.receivers, Protocol.all_held, Record.IsRecord}
 use Rattle.pair_core.specs.internal.RecordFields.{record_state}
 use Rattle.pair_core.proofs.{AloneLaws.{all_are, frames_of-push, fail_backup_record}, LengthLaws.length-receivers}
 use Rattle.pair_core.proofs.RecordLaws.{passed, has_room_for, rising}

@@ -1,5 +1,5 @@
 use Rattle.std.proofs.Common.{rules, arith}
-use Rattle.pair_core.specs.{Protocol.go_live_done, Record.owed_to, RecordFields.record_state}
+use Rattle.pair_core.specs.{Protocol.go_live_done, Record.owed_to, internal.RecordFields.record_state}
 use Rattle.pair_core.proofs.{LiveLaws.live_record, RecordLaws.same_record}
 use Rattle.pair_core.proofs.record.PairRecord.go_live.Goals as goal
 

@@ -1,5 +1,5 @@
 use Rattle.std.proofs.Common.{rules, arith, ◌≡◌, []}
-use Rattle.pair_core.specs.{Protocol.protect_done, RecordFields.record_state}
+use Rattle.pair_core.specs.{Protocol.protect_done, internal.RecordFields.record_state}
 use Rattle.pair_core.proofs.{ProtectLaws.protect_record, RecordLaws.same_record}
 use Rattle.pair_core.proofs.record.PairRecord.protect.Goals as goal
 

@@ -1,5 +1,5 @@
 use Rattle.std.proofs.Common.{rules, arith, ◌∙◌, sym, ap, subst}
-use Rattle.pair_core.specs.{Lines.with_forward, Record.IsRecord, RecordFields.record_state}
+use Rattle.pair_core.specs.{Lines.with_forward, Record.IsRecord, internal.RecordFields.record_state}
 use Rattle.pair_core.proofs.RecordLaws.{sent_are, send_record}
 use Rattle.pair_core.proofs.record.PairRecord.send.Goals as goal
 

@@ -2,7 +2,7 @@ use Rattle.std.proofs.{Common.{arith, ◌≡◌, ◌<◌, ◌∙◌, refl, sym, 
 use Rattle.std.specs.Prelude.{slice_get}
 use Rattle.pair_history.specs.Landings.{landings}
 use Rattle.pair_core.specs.{Answering.AddsEntries, Pair.shown_state, Protocol.{ack_done, ack_outcome, ack_refusals, let_go}}
-use Rattle.pair_core.specs.{Record.ports_after_ack, WorldFields.pair_of}
+use Rattle.pair_core.specs.{Record.ports_after_ack, internal.WorldFields.pair_of}
 use Rattle.pair_core.proofs.{Calls.{after_call, on_err_so}, ClientEvents.ack_holds, LengthLaws.length-landings, Outcomes.goes}
 use Rattle.pair_core.proofs.RecordLaws.{passed, generation_is}
 use Rattle.pair_core.proofs.world.World.ack_get.Goals as goal

@@ -1,5 +1,5 @@
 use Rattle.std.proofs.Common.{rules, arith, ◌∙◌, sym, subst, length}
-use Rattle.pair_core.specs.{Invariant.Holds, WorldFields.pair_of}
+use Rattle.pair_core.specs.{internal.Invariant.Holds, internal.WorldFields.pair_of}
 use Rattle.pair_core.proofs.{Calls.on_err, AllLands.admitted_holds}
 use Rattle.pair_core.proofs.{Outcomes.{client_range, admit_empty, admit_stops, admit_goes, admit_wants}, RecordLaws.passed}
 use Rattle.pair_core.specs.declared.event.Reply.TheVariants as replies

@@ -1,7 +1,7 @@
 use Rattle.std.proofs.Common.{rules, arith, ◌≡◌, ◌∙◌, ap, sym, subst, false, None}
-use Rattle.pair_core.specs.{declared.event.Event.TheVariants.Cut, Invariant.Holds, Nodes.{Nodes, HasShape, machine_of, with_sealed}}
+use Rattle.pair_core.specs.{declared.event.Event.TheVariants.Cut, internal.Invariant.Holds, Nodes.{Nodes, HasShape, machine_of, with_sealed}}
 use Rattle.pair_core.specs.{declared.event.Reply.Reply, Replication.Replicates, Texts.IsText, Modes.{is_alone, mode_refusal}, Pair.Pair}
-use Rattle.pair_core.specs.{Protocol.{Outcome, cut_refusals, cut_done}, WorldFields.pair_of}
+use Rattle.pair_core.specs.{Protocol.{Outcome, cut_refusals, cut_done}, internal.WorldFields.pair_of}
 use Rattle.epoch_snapshot.specs.Bases.{IsBase}
 use Rattle.guest_machine.specs.Guest.{Guest}
 use Rattle.pair_core.proofs.{Consistent.{in_mode, live_is}, ReplicationLaws.{after_cut, cut_replicates}, ModeLaws.primary_goes}

@@ -1,6 +1,6 @@
 use Rattle.std.proofs.Common.{sym, ap, subst}
 use Rattle.failover.specs.declared.mode.Mode.TheVariants.{Stopped}
-use Rattle.pair_core.specs.{Invariant.Holds, Protocol.Outcome, WorldFields.pair_of}
+use Rattle.pair_core.specs.{internal.Invariant.Holds, Protocol.Outcome, internal.WorldFields.pair_of}
 use Rattle.pair_core.proofs.{Events.mode_holds, ModeLaws.stop_goes}
 use Rattle.pair_core.proofs.world.World.fail_primary.Goals as goal
 

@@ -1,6 +1,6 @@
 use Rattle.std.proofs.Common.{◌∙◌, ◌+◌, sym, ap, subst}
 use Rattle.frame_ports.specs.Limits.{number_limit}
-use Rattle.pair_core.specs.{Invariant.Holds, Protocol.Outcome, WorldFields.pair_of}
+use Rattle.pair_core.specs.{internal.Invariant.Holds, Protocol.Outcome, internal.WorldFields.pair_of}
 use Rattle.pair_core.proofs.{GoneLive.gone_live_holds, ModeLaws.{live_goes, live_full}, RecordLaws.{passed, some_committed}}
 use Rattle.pair_core.proofs.WindowLaws.{is_below}
 use Rattle.pair_core.proofs.world.World.go_live.Goals as goal

@@ -1,5 +1,5 @@
 use Rattle.std.proofs.Common.{subst}
-use Rattle.pair_core.specs.{Pair.IsConsistent, WorldFields.pair_of}
+use Rattle.pair_core.specs.{Pair.IsConsistent, internal.WorldFields.pair_of}
 use Rattle.pair_core.proofs.Consistent.{consistent}
 use Rattle.pair_core.proofs.world.World.keep_consistent.Goals as goal
 

@@ -1,8 +1,9 @@
 use Rattle.std.proofs.Common.{◌∙◌, ◌+◌, ap, sym, subst}
 use Rattle.guest_machine.specs.Guest.{Guest}
 use Rattle.frame_ports.specs.Limits.{number_limit}
-use Rattle.pair_core.specs.{declared.event.Event.TheVariants.Protect, Invariant.Holds, Nodes.{Nodes, HasShape, with_protected}}
-use Rattle.pair_core.specs.{Protocol.Outcome, Texts.IsText, WorldFields.pair_of, declared.event.Reply.Reply, Replication.Replicates}
+use Rattle.pair_core.specs.{declared.event.Event.TheVariants.Protect, internal.Invariant.Holds, Nodes.{Nodes, HasShape, with_protected}}
+use Rattle.pair_core.specs.{Protocol.Outcome, Texts.IsText, internal.WorldFields.pair_of, declared.event.Reply.Reply}
+use Rattle.pair_core.specs.{Replication.Replicates}
 use Rattle.pair_core.proofs.{ModeLaws.protect_goes, Protected.protect_holds, RecordLaws.passed, world.World.protect.Goals.In_ok-image}
 use Rattle.pair_core.proofs.{ReplicationLaws.protect_replicates, WindowLaws.is_below}
 use Rattle.pair_core.proofs.world.World.protect.Goals as goal

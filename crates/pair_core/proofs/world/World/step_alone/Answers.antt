@@ -3,8 +3,8 @@ use Rattle.std.specs.Prelude.{IfOk}
 use Rattle.memory_wanted.specs.declared.MemoryWanted.{MemoryWanted}
 use Rattle.guest_machine.specs.Runs.{sent_in}
 use Rattle.frame_ports.specs.{Ports.PortsState, Limits.number_limit}
-use Rattle.pair_core.specs.{Invariant.Holds, Journal.all_entries, Modes.is_alone, Nodes.{Housed, Nodes, after_run, with_sent_off}}
-use Rattle.pair_core.specs.{Pair.Pair, Protocol.Record, Record.{RecordState, IsLone}, Runs.steps_outcome, WorldFields.pair_of}
+use Rattle.pair_core.specs.{internal.Invariant.Holds, Journal.all_entries, Modes.is_alone, Nodes.{Housed, Nodes, after_run, with_sent_off}}
+use Rattle.pair_core.specs.{Pair.Pair, Protocol.Record, Record.{RecordState, IsLone}, Runs.steps_outcome, internal.WorldFields.pair_of}
 use Rattle.pair_core.proofs.AloneRuns.{after_alone, alone_holds, alone_answered}
 use Rattle.pair_core.specs.declared.event.Reply.TheVariants as replies
 use Rattle.pair_core.proofs.world.World.step_alone.Goals as goal

@@ -1,5 +1,5 @@
 use Rattle.std.proofs.Common.{◌∙◌, sym, length}
-use Rattle.pair_core.specs.{Protocol.take_done, Record.ports_after_take, WorldFields.pair_of}
+use Rattle.pair_core.specs.{Protocol.take_done, Record.ports_after_take, internal.WorldFields.pair_of}
 use Rattle.pair_core.proofs.{Calls.after_call, ClientEvents.take_holds, Outcomes.client_range, RecordLaws.passed}
 use Rattle.pair_core.proofs.world.World.take.Goals as goal
 
