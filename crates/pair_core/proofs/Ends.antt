@@ -171,7 +171,8 @@ module _ (start : HistoryState) (r : Record) where
         (λ why. stays other (refused r why) refl (e.refuses other why tt)) (allowed_end other)
 
     wants_memory : (event : Event) → Ended event (refused r (NoMemory wanted))
-    wants_memory (Deliver c bytes) = stays (Deliver c bytes) (refused r (NoMemory wanted)) refl (e.refuses (Deliver c bytes) (NoMemory wanted) tt)
+    wants_memory (Deliver c bytes) =
+        stays (Deliver c bytes) (refused r (NoMemory wanted)) refl (e.refuses (Deliver c bytes) (NoMemory wanted) tt)
     wants_memory other = stays other (refused r (NoMemory wanted)) refl (e.refuses other (NoMemory wanted) tt)
 
     pub answers_end : (event : Event) (reply : Reply) (new : Record) → Answers start r event reply new → Ended event (reply, new)

@@ -355,4 +355,5 @@ module _ (w v : Pair) (count : ℕ) (reply : Reply) (start : v.start ≡ w.start
   serves_steps (inr k) =
       let made = k.2 in
       let a = all_made w.start w.protocol good made.0 made.2 v.protocol made.3 in
-      rw k.1 (early made.0 made.2 (NoMemory wanted) made.1 a (one_refused w.start v.protocol a.good (NoMemory wanted) (inr (made.4, refl, refl))))
+      rw k.1 (early made.0 made.2 (NoMemory wanted) made.1 a
+      (one_refused w.start v.protocol a.good (NoMemory wanted) (inr (made.4, refl, refl))))

@@ -1,6 +1,6 @@
 -- A delivery is read from the left, and has one reading.
-use Rattle.std.proofs.Common.{◌≡◌, ◌<◌, ◌*◌, ◌/◌, ◌%◌, ℕ, true, false, List, [], ◌∷◌, ◌++◌, length, Option, Some, None, Result, Ok, Err}
-use Rattle.std.proofs.Common.{refl, sym, ap}
+use Rattle.std.proofs.Common.{◌≡◌, ◌<◌, ◌*◌, ◌/◌, ◌%◌, ℕ, true, false, List, [], ◌∷◌, ◌++◌, length, Option, Some, None}
+use Rattle.std.proofs.Common.{Result, Ok, Err, refl, sym, ap}
 use Rattle.std.proofs.Common.{subst, arith, ◌∙◌, Bor, codes}
 use Rattle.std.proofs.lemmas.List.Sums.{AllPass-from_list_all, list_all-from_AllPass}
 use Rattle.std.specs.Option.{option_map}
@@ -93,12 +93,14 @@ pub decoded-written : (digits found bytes : List ℕ) → decode_of digits ≡ O
 decoded-written digits found bytes e h = subst (λ bs. IsHex digits bs) (sym (decoded-same digits found bytes e h)) h
 
 -- they decode into as many places
-pub decoded-into : (digits out : List ℕ) (n : ℕ) (r : Result Unit FromHexError) → length digits ≡ 2 * n → (bytes : List ℕ) × IsHex digits bytes
-    → MatchResult (decode_sized digits n) (λ found. (r ≡ Ok tt) × (out ≡ found)) (λ e. r ≡ Err e) → (r ≡ Ok tt) × (decode_of digits ≡ Ok out)
+pub decoded-into : (digits out : List ℕ) (n : ℕ) (r : Result Unit FromHexError) → length digits ≡ 2 * n
+    → (bytes : List ℕ) × IsHex digits bytes
+    → MatchResult (decode_sized digits n) (λ found. (r ≡ Ok tt) × (out ≡ found)) (λ e. r ≡ Err e)
+    → (r ≡ Ok tt) × (decode_of digits ≡ Ok out)
 decoded-into digits out n r room hex done =
     let decoded = hex-decodes digits hex.0 hex.1 in
-    let put = subst (λ d. MatchResult d (λ found. (r ≡ Ok tt) × (out ≡ found)) (λ e. r ≡ Err e)) (decode_sized-twice digits n room ∙ decoded)
-    done in
+    let sized = decode_sized-twice digits n room ∙ decoded in
+    let put = subst (λ d. MatchResult d (λ found. (r ≡ Ok tt) × (out ≡ found)) (λ e. r ≡ Err e)) sized done in
     (put.0, decoded ∙ ap (λ bs. Ok bs) (sym put.1))
 
 -- half as many places as digits
