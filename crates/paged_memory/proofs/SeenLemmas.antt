@@ -5,7 +5,7 @@ use Rattle.std.proofs.Math.ListN.{set}
 use Rattle.std.proofs.Math.Nat.{mod-eq_of_lt, mod-add-div', add-mul-mod_self_right}
 use Rattle.std.proofs.lemmas.List.{set-get_or}
 use Rattle.byteorder.specs.Endian.{little_bytes}
-use Rattle.paged_memory.specs.Bytes.{with_bytes, with_number}
+use Rattle.paged_memory.specs.Bytes.{with_number}
 use Rattle.paged_memory.specs.Pages.{Paged, IsPaged, page_of, is_written, written_pages, flagged, marked, with_flags, with_written}
 use Rattle.paged_memory.specs.Pages.{settled_at}
 use Rattle.paged_memory.specs.Stored.{settled_bytes, seen, IsStored}
@@ -15,81 +15,85 @@ use Rattle.paged_memory.proofs.PageLemmas.{length_marked}
 use Rattle.paged_memory.proofs.StoredLemmas.{settled_by_keep, settled_by_write, settled_afresh, stored_by_write, one_page_more}
 
 -- a page is kept
-pub seen_by_keep : (m : Paged) (b o p : List ℕ) (w : List Bool) (d : List ℕ) (capacity copies page : ℕ) →
-    IsStored b o w d capacity copies → seen b o w copies ≡ m → page < length w → is_written w page ≡ false →
-    p ≡ with_bytes o (4096 * page) (page_of b page) →
-    seen b p (set w page true) ((copies + 1) % 2 ^ 64)
+pub seen_by_keep : (m : Paged) (b o x : List ℕ) (w : List Bool) (p q d : List ℕ) (space capacity copies page : ℕ) →
+    IsStored b o w p d space capacity copies → seen b o w p copies ≡ m → page < length w → is_written w page ≡ false →
+    x ≡ o ++ page_of b page → q ≡ set p page (length d) →
+    seen b x (set w page true) q ((copies + 1) % 2 ^ 64)
     ≡ record m { written = set m.written page true; copies = (m.copies + 1) % 2 ^ 64 }
-seen_by_keep m b o p w d capacity copies page is view here none kept =
+seen_by_keep m b o x w p q d space capacity copies page is view here none kept put =
     let with_settled : List ℕ → Paged =
     λ xs. record { bytes = b; settled = xs; written = set w page true; copies = (copies + 1) % 2 ^ 64 } in
     let next : Paged → Paged = λ q. record q { written = set q.written page true; copies = (q.copies + 1) % 2 ^ 64 } in
-    ap with_settled (settled_by_keep b o p w page is.whole is.region here none kept) ∙ ap next view
+    ap (λ (xs : List ℕ). seen b x (set w page true) xs ((copies + 1) % 2 ^ 64)) put
+    ∙ ap with_settled (settled_by_keep b o x w p (length d) page is.whole is.kept is.numbered is.placed here none kept) ∙ ap next view
 
 -- bytes are written to pages that were kept
-pub record AfterWrite (m : Paged) (c o : List ℕ) (w : List Bool) (d : List ℕ) (capacity copies at n : ℕ) (after : List ℕ) : Type 0 where
-  pub stored : IsStored c o w d capacity copies
-  pub value : seen c o w copies ≡ with_written m at n after
-  pub size : length after ≡ length m.bytes
-  pub pages : length (marked m.written at n) ≡ length m.written
+pub record AfterWrite (m : Paged) (c o : List ℕ) (w : List Bool) (p d : List ℕ) (space capacity copies at n : ℕ) (after : List ℕ) : Type 0
+  where
+    pub stored : IsStored c o w p d space capacity copies
+    pub value : seen c o w p copies ≡ with_written m at n after
+    pub size : length after ≡ length m.bytes
+    pub pages : length (marked m.written at n) ≡ length m.written
 
-pub after_write : (m : Paged) (b c o new : List ℕ) (w : List Bool) (d : List ℕ) (capacity copies at n : ℕ) → length new ≡ n →
-    at + n ≤ length m.bytes → IsPaged m → IsStored b o w d capacity copies → seen b o w copies ≡ with_written m at n m.bytes →
+pub after_write : (m : Paged) (b c o new : List ℕ) (w : List Bool) (p d : List ℕ) (space capacity copies at n : ℕ) → length new ≡ n →
+    at + n ≤ length m.bytes → IsPaged m → IsStored b o w p d space capacity copies → seen b o w p copies ≡ with_written m at n m.bytes →
     c ≡ take at b ++ (new ++ drop (at + n) b) →
-    AfterWrite m c o w d capacity copies at n (take at m.bytes ++ (new ++ drop (at + n) m.bytes))
-after_write m b c o new w d capacity copies at n long fits rules is view put =
+    AfterWrite m c o w p d space capacity copies at n (take at m.bytes ++ (new ++ drop (at + n) m.bytes))
+after_write m b c o new w p d space capacity copies at n long fits rules is view put =
     let same : b ≡ m.bytes = ap (λ (q : Paged). q.bytes) view in
     let flags : w ≡ marked m.written at n = ap (λ (q : Paged). q.written) view in
     let whole : length m.bytes ≡ 4096 * length m.written = rules.whole in
     let inside : at + n ≤ length b = omega (arith, ap length same) in
     let with_settled : List ℕ → Paged = λ xs. record { bytes = c; settled = xs; written = w; copies = copies } in
-    let with_now : List ℕ → Paged = λ xs. record { bytes = xs; settled = settled_bytes b o w; written = w; copies = copies } in
+    let with_now : List ℕ → Paged = λ xs. record { bytes = xs; settled = settled_bytes b o w p; written = w; copies = copies } in
     let next : Paged → Paged = λ q. record q { bytes = take at q.bytes ++ (new ++ drop (at + n) q.bytes) } in
     record {
-      stored = stored_by_write b c o w d capacity copies (ap length put ∙ length_overwritten b new at n inside long) is;
-      value = ap with_settled (settled_by_write b c o new m.written w at n long inside (ap length same ∙ whole) put flags)
+      stored = stored_by_write b c o w p d space capacity copies (ap length put ∙ length_overwritten b new at n inside long) is;
+      value = ap with_settled (settled_by_write b c o new m.written w p at n long inside (ap length same ∙ whole) put flags)
           ∙ ap with_now put ∙ ap next view;
       size = length_overwritten m.bytes new at n fits long;
       pages = length_marked m.written at n (omega arith);
     }
 
 -- the same of a number
-pub after_number : (m : Paged) (b c o : List ℕ) (w : List Bool) (d : List ℕ) (capacity copies at n value : ℕ) →
-    length (little_bytes n value) ≡ n → at + n ≤ length m.bytes → IsPaged m → IsStored b o w d capacity copies →
-    seen b o w copies ≡ with_written m at n m.bytes → c ≡ with_number b at n value →
-    AfterWrite m c o w d capacity copies at n (with_number m.bytes at n value)
+pub after_number : (m : Paged) (b c o : List ℕ) (w : List Bool) (p d : List ℕ) (space capacity copies at n value : ℕ) →
+    length (little_bytes n value) ≡ n → at + n ≤ length m.bytes → IsPaged m → IsStored b o w p d space capacity copies →
+    seen b o w p copies ≡ with_written m at n m.bytes → c ≡ with_number b at n value →
+    AfterWrite m c o w p d space capacity copies at n (with_number m.bytes at n value)
 unfolding with_number
-after_number m b c o w d capacity copies at n value long fits rules is view put =
-    after_write m b c o (little_bytes n value) w d capacity copies at n long fits rules is view put
+after_number m b c o w p d space capacity copies at n value long fits rules is view put =
+    after_write m b c o (little_bytes n value) w p d space capacity copies at n long fits rules is view put
 
 -- the memory is settled
-pub seen_by_settle : (m : Paged) (b o : List ℕ) (w v : List Bool) (d : List ℕ) (capacity copies : ℕ) → IsStored b o w d capacity copies →
-    seen b o w copies ≡ m → v ≡ replicate (length w) false → seen b o v copies ≡ settled_at m.bytes (length m.written) m.copies
-seen_by_settle m b o w v d capacity copies is view none =
+pub seen_by_settle : (m : Paged) (b o x : List ℕ) (w v : List Bool) (p d : List ℕ) (space capacity copies : ℕ) →
+    IsStored b o w p d space capacity copies → seen b o w p copies ≡ m → v ≡ replicate (length w) false →
+    seen b x v p copies ≡ settled_at m.bytes (length m.written) m.copies
+seen_by_settle m b o x w v p d space capacity copies is view none =
     let with_settled : List ℕ → Paged = λ xs. record { bytes = b; settled = xs; written = v; copies = copies } in
     let with_none : List Bool → Paged = λ fs. record { bytes = b; settled = b; written = fs; copies = copies } in
     let next : Paged → Paged = λ q. settled_at q.bytes (length q.written) q.copies in
-    ap with_settled (settled_afresh b o v (length w) is.whole none) ∙ ap with_none none ∙ ap next view
+    ap with_settled (settled_afresh b x v p (length w) is.whole none) ∙ ap with_none none ∙ ap next view
 
 -- bytes are put into a memory of which no page counts as written, and it stays so
-pub seen_unmarked : (m : Paged) (b c o : List ℕ) (w : List Bool) (d : List ℕ) (capacity copies : ℕ) (put : List ℕ → List ℕ) →
-    IsStored b o w d capacity copies → seen b o w copies ≡ m → m.written ≡ replicate (length m.written) false → c ≡ put b →
-    length c ≡ length b → seen c o w copies ≡ settled_at (put m.bytes) (length m.written) m.copies
-seen_unmarked m b c o w d capacity copies put is view clear after long =
+pub seen_unmarked : (m : Paged) (b c o : List ℕ) (w : List Bool) (p d : List ℕ) (space capacity copies : ℕ) (put : List ℕ → List ℕ) →
+    IsStored b o w p d space capacity copies → seen b o w p copies ≡ m → m.written ≡ replicate (length m.written) false → c ≡ put b →
+    length c ≡ length b → seen c o w p copies ≡ settled_at (put m.bytes) (length m.written) m.copies
+seen_unmarked m b c o w p d space capacity copies put is view clear after long =
     let flags : w ≡ m.written = ap (λ (q : Paged). q.written) view in
     let none : w ≡ replicate (length w) false = flags ∙ clear ∙ ap (λ (fs : List Bool). replicate (length fs) false) (sym flags) in
     let next : Paged → Paged = λ q. settled_at (put q.bytes) (length q.written) q.copies in
-    seen_by_settle (seen c o w copies) c o w w d capacity copies (stored_by_write b c o w d capacity copies long is) refl none
+    seen_by_settle (seen c o w p copies) c o o w w p d space capacity copies (stored_by_write b c o w p d space capacity copies long is)
+    refl none
     ∙ ap (λ (xs : List ℕ). settled_at xs (length w) copies) after
     ∙ ap next view
 
 -- the memory at boot
-pub seen_at_boot : (b o bytes : List ℕ) (w : List Bool) (n : ℕ) → length b ≡ 4096 * n → b ≡ bytes → w ≡ replicate n false →
-    seen b o w 0 ≡ settled_at bytes n 0
-seen_at_boot b o bytes w n whole is none =
+pub seen_at_boot : (b o bytes : List ℕ) (w : List Bool) (p : List ℕ) (n : ℕ) → length b ≡ 4096 * n → b ≡ bytes → w ≡ replicate n false →
+    seen b o w p 0 ≡ settled_at bytes n 0
+seen_at_boot b o bytes w p n whole is none =
     let with_settled : List ℕ → Paged = λ xs. record { bytes = b; settled = xs; written = w; copies = 0 } in
     let with_none : List Bool → Paged = λ fs. record { bytes = b; settled = b; written = fs; copies = 0 } in
-    ap with_settled (settled_afresh b o w n whole none) ∙ ap with_none none ∙ ap (λ (xs : List ℕ). settled_at xs n 0) is
+    ap with_settled (settled_afresh b o w p n whole none) ∙ ap with_none none ∙ ap (λ (xs : List ℕ). settled_at xs n 0) is
 
 -- ---- the flags of a range of pages, and the count of copies
 

@@ -1,19 +1,19 @@
 -- What is seen of a memory's parts: the bytes at the last settle, and the rules.
-use Rattle.std.proofs.Common.{◌≡◌, ℕ, zero, suc, ◌+◌, ◌-◌, ◌*◌, ◌/◌, ◌^◌, ◌<◌, ◌≤◌, ◌++◌, inl, inr, Bool, true, false, if◌then◌else◌, cond}
-use Rattle.std.proofs.Common.{List, [], ◌∷◌, length, replicate, take, drop, get_or, All, Contains, refl, sym, ap, ◌∙◌, subst, zero-add}
-use Rattle.std.proofs.Common.{add-zero, arith}
+use Rattle.std.proofs.Common.{◌≡◌, ℕ, zero, suc, ◌+◌, ◌-◌, ◌*◌, ◌/◌, ◌%◌, ◌^◌, ◌<◌, ◌≤◌, ◌++◌, inl, inr, Bool, true, false}
+use Rattle.std.proofs.Common.{if◌then◌else◌, cond, List, [], ◌∷◌, length, replicate, take, drop, get_or, All, Contains, refl, sym, ap}
+use Rattle.std.proofs.Common.{◌∙◌, subst, zero-add, add-zero, arith}
 use Rattle.std.proofs.Math.ListN.{set}
-use Rattle.std.proofs.lemmas.Bool.{cases_eq, cases_lt}
+use Rattle.std.proofs.lemmas.Bool.{cases_eq}
 use Rattle.std.proofs.lemmas.List.{ext_get_or, get_or_append_left, get_or-append_right, length-take-le, length-set}
-use Rattle.std.proofs.lemmas.List.{length-replicate, length_push, get_or-drop, get_or-take, get_or-replicate, get_or-set_other}
+use Rattle.std.proofs.lemmas.List.{length-replicate, length_push, length-append, get_or-drop, get_or-take}
+use Rattle.std.proofs.lemmas.List.{get_or-replicate, get_or-set_other}
 use Rattle.std.proofs.lemmas.Grind.{get_or-set_at}
 use Rattle.std.proofs.lemmas.List.Elements.{Contains-append_left, Contains-push, All-push, All-nil}
 use Rattle.std.proofs.lemmas.List.Sums.{count_by-le-length, sum_by-set}
 use Rattle.std.proofs.lemmas.List.Folds.{sum_by-replicate}
 use Rattle.std.proofs.lemmas.List.FromFn.{get_or-map-range_with_len, length-map-range_with_len}
-use Rattle.paged_memory.specs.Bytes.{with_bytes}
 use Rattle.paged_memory.specs.Pages.{IsPaged, page_of, is_written, written_pages, flagged, marked}
-use Rattle.paged_memory.specs.Stored.{settled_bytes, seen, IsStored}
+use Rattle.paged_memory.specs.Stored.{original_byte, settled_bytes, seen, IsStored}
 use Rattle.paged_memory.proofs.BytesLemmas.{length_overwritten}
 use Rattle.paged_memory.proofs.FlagLemmas.{no_new_flag, marked_some}
 use Rattle.paged_memory.proofs.PageLemmas.{nothing_written, length-page}
@@ -23,12 +23,6 @@ use Rattle.paged_memory.proofs.PageLemmas.{nothing_written, length-page}
 put_before : (xs new : List ℕ) (at n i : ℕ) → at ≤ length xs → i < at → get_or (take at xs ++ (new ++ drop (at + n) xs)) i 0 ≡ get_or xs i 0
 put_before xs new at n i within below =
     get_or_append_left (take at xs) (new ++ drop (at + n) xs) 0 i (omega (arith, length-take-le at xs within)) ∙ get_or-take at xs i 0 below
-
-put_inside : (xs new : List ℕ) (at n i : ℕ) → length new ≡ n → at ≤ length xs → at ≤ i → i < at + n →
-    get_or (take at xs ++ (new ++ drop (at + n) xs)) i 0 ≡ get_or new (i - at) 0
-put_inside xs new at n i long within above below =
-    get_or-append_right (take at xs) (new ++ drop (at + n) xs) at i 0 (length-take-le at xs within) above
-    ∙ get_or_append_left new (drop (at + n) xs) 0 (i - at) (omega arith)
 
 put_after : (xs new : List ℕ) (at n i : ℕ) → length new ≡ n → at ≤ length xs → at + n ≤ i →
     get_or (take at xs ++ (new ++ drop (at + n) xs)) i 0 ≡ get_or xs i 0
@@ -46,77 +40,104 @@ byte_of_page xs page k small =
 
 -- ---- the bytes at the last settle
 
-pub settled_byte : (bytes originals : List ℕ) (written : List Bool) (i : ℕ) → i < length bytes →
-    get_or (settled_bytes bytes originals written) i 0 ≡ get_or (if is_written written (i / 4096) then originals else bytes) i 0
+pub settled_byte : (bytes originals : List ℕ) (written : List Bool) (places : List ℕ) (i : ℕ) → i < length bytes →
+    get_or (settled_bytes bytes originals written places) i 0
+    ≡ (if is_written written (i / 4096) then original_byte originals (get_or places (i / 4096) 0) i else get_or bytes i 0)
 unfolding settled_bytes
-settled_byte bytes originals written i here =
-    get_or-map-range_with_len (λ k. get_or (if is_written written (k / 4096) then originals else bytes) k 0) 0 (length bytes) i i 0 here
-    (zero-add i)
+settled_byte bytes originals written places i here =
+    get_or-map-range_with_len
+    (λ k. if is_written written (k / 4096) then original_byte originals (get_or places (k / 4096) 0) k else get_or bytes k 0) 0
+    (length bytes) i i 0 here (zero-add i)
 
-pub length-settled : (bytes originals : List ℕ) (written : List Bool) → length (settled_bytes bytes originals written) ≡ length bytes
+pub length-settled : (bytes originals : List ℕ) (written : List Bool) (places : List ℕ) →
+    length (settled_bytes bytes originals written places) ≡ length bytes
 unfolding settled_bytes
-length-settled bytes originals written =
-    length-map-range_with_len (λ k. get_or (if is_written written (k / 4096) then originals else bytes) k 0) 0 (length bytes)
+length-settled bytes originals written places =
+    length-map-range_with_len
+    (λ k. if is_written written (k / 4096) then original_byte originals (get_or places (k / 4096) 0) k else get_or bytes k 0) 0
+    (length bytes)
 
 -- what is stored in two ways has the same bytes at the last settle
-same_settled : (b c o p : List ℕ) (w v : List Bool) → length c ≡ length b →
+same_settled : (b c o x : List ℕ) (w v : List Bool) (p q : List ℕ) → length c ≡ length b →
     ((i : ℕ) → i < length b →
-    get_or (if is_written v (i / 4096) then p else c) i 0 ≡ get_or (if is_written w (i / 4096) then o else b) i 0) →
-    settled_bytes c p v ≡ settled_bytes b o w
-same_settled b c o p w v long same =
-    ext_get_or 0 _ _ (length-settled c p v ∙ long ∙ sym (length-settled b o w))
+    (if is_written v (i / 4096) then original_byte x (get_or q (i / 4096) 0) i else get_or c i 0)
+    ≡ (if is_written w (i / 4096) then original_byte o (get_or p (i / 4096) 0) i else get_or b i 0)) →
+    settled_bytes c x v q ≡ settled_bytes b o w p
+same_settled b c o x w v p q long same =
+    ext_get_or 0 _ _ (length-settled c x v q ∙ long ∙ sym (length-settled b o w p))
     (λ i here.
-    let inside : i < length b = omega (arith, here, length-settled c p v) in
-    settled_byte c p v i (omega arith) ∙ same i inside ∙ sym (settled_byte b o w i inside))
+    let inside : i < length b = omega (arith, here, length-settled c x v q) in
+    settled_byte c x v q i (omega arith) ∙ same i inside ∙ sym (settled_byte b o w p i inside))
+
+-- each written page has its place among so many originals
+abbrev pub ArePlaced : List Bool → List ℕ → ℕ → Type 0
+ArePlaced w p n = (page : ℕ) → page < length w → is_written w page ≡ true → get_or p page 0 < n
 
 -- a page that is kept before its first write
-pub settled_by_keep : (b o p : List ℕ) (w : List Bool) (page : ℕ) → length b ≡ 4096 * length w → length o ≡ length b → page < length w →
-    is_written w page ≡ false → p ≡ with_bytes o (4096 * page) (page_of b page) → settled_bytes b p (set w page true) ≡ settled_bytes b o w
-settled_by_keep b o p w page whole long here none is =
-    same_settled b b o p w (set w page true) refl
+pub settled_by_keep : (b o x : List ℕ) (w : List Bool) (p : List ℕ) (n page : ℕ) → length b ≡ 4096 * length w → length o ≡ 4096 * n →
+    length p ≡ length w → ArePlaced w p n → page < length w → is_written w page ≡ false → x ≡ o ++ page_of b page →
+    settled_bytes b x (set w page true) (set p page n) ≡ settled_bytes b o w p
+settled_by_keep b o x w p n page whole long numbered placed here none is =
+    same_settled b b o x w (set w page true) p (set p page n) refl
     (λ i inside. elim (cases_eq (i / 4096) page) [ inl same ↦ in_page i same inside | inr apart ↦ elsewhere i apart inside ])
   where
-    count : length (page_of b page) ≡ 4096
-    count = length-page b page (omega arith)
+    now : ℕ → Bool → ℕ → ℕ
+    now i f place = if f then original_byte x place i else get_or b i 0
+
+    before : ℕ → Bool → ℕ
+    before i f = if f then original_byte o (get_or p (i / 4096) 0) i else get_or b i 0
+
+    appended : (i : ℕ) → i / 4096 ≡ page → original_byte (o ++ page_of b page) n i ≡ get_or b i 0
+    appended i same =
+        let past : 4096 * n + i % 4096 - 4096 * n ≡ i % 4096 = omega arith in
+        let place : 4096 * page + i % 4096 ≡ i = omega arith in
+        get_or-append_right o (page_of b page) (4096 * n) (4096 * n + i % 4096) 0 long (omega arith)
+        ∙ ap (λ (k : ℕ). get_or (page_of b page) k 0) past
+        ∙ byte_of_page b page (i % 4096) (omega arith)
+        ∙ ap (λ (k : ℕ). get_or b k 0) place
 
     in_page : (i : ℕ) → i / 4096 ≡ page → i < length b →
-        get_or (if is_written (set w page true) (i / 4096) then p else b) i 0 ≡ get_or (if is_written w (i / 4096) then o else b) i 0
+        now i (is_written (set w page true) (i / 4096)) (get_or (set p page n) (i / 4096) 0) ≡ before i (is_written w (i / 4096))
     in_page i same inside =
-        let now : is_written (set w page true) (i / 4096) ≡ true = get_or-set_at w page (i / 4096) true true same here in
-        let before : is_written w (i / 4096) ≡ false = ap (λ (k : ℕ). get_or w k true) same ∙ none in
-        let place : 4096 * page + (i - 4096 * page) ≡ i = omega arith in
-        ap (λ (f : Bool). get_or (if f then p else b) i 0) now
-        ∙ ap (λ (x : List ℕ). get_or x i 0) is
-        ∙ put_inside o (page_of b page) (4096 * page) (length (page_of b page)) i refl (omega arith) (omega arith) (omega (arith, count))
-        ∙ byte_of_page b page (i - 4096 * page) (omega arith)
-        ∙ ap (λ (k : ℕ). get_or b k 0) place
-        ∙ sym (ap (λ (f : Bool). get_or (if f then o else b) i 0) before)
+        let flag : is_written (set w page true) (i / 4096) ≡ true = get_or-set_at w page (i / 4096) true true same here in
+        let was : is_written w (i / 4096) ≡ false = ap (λ (k : ℕ). get_or w k true) same ∙ none in
+        let place : get_or (set p page n) (i / 4096) 0 ≡ n = get_or-set_at p page (i / 4096) n 0 same (omega (arith, numbered)) in
+        ap (λ (f : Bool). now i f (get_or (set p page n) (i / 4096) 0)) flag
+        ∙ ap (λ (k : ℕ). original_byte x k i) place
+        ∙ ap (λ (xs : List ℕ). original_byte xs n i) is
+        ∙ appended i same
+        ∙ sym (ap (λ (f : Bool). before i f) was)
 
-    pick : (i : ℕ) (f : Bool) → get_or p i 0 ≡ get_or o i 0 → get_or (if f then p else b) i 0 ≡ get_or (if f then o else b) i 0
-    pick i true same = same
-    pick i false same = refl
+    kept : (i : ℕ) → i < length b → is_written w (i / 4096) ≡ true →
+        original_byte x (get_or p (i / 4096) 0) i ≡ original_byte o (get_or p (i / 4096) 0) i
+    kept i inside flag =
+        let place : ℕ = get_or p (i / 4096) 0 in
+        let below : place < n = placed (i / 4096) (omega (arith, inside, whole)) flag in
+        ap (λ (xs : List ℕ). original_byte xs place i) is
+        ∙ get_or_append_left o (page_of b page) 0 (4096 * place + i % 4096) (omega (arith, below, long))
 
-    outside : (i : ℕ) → (i / 4096 ≡ page → ⊥) → i < length b → get_or (with_bytes o (4096 * page) (page_of b page)) i 0 ≡ get_or o i 0
-    outside i apart inside = elim (cases_lt i (4096 * page)) [
-      | inl below ↦ put_before o (page_of b page) (4096 * page) (length (page_of b page)) i (omega arith) below
-      | inr above ↦ put_after o (page_of b page) (4096 * page) (length (page_of b page)) i refl (omega arith) (omega (arith, count, apart))
-    ]
+    pick : (i : ℕ) → i < length b → (f : Bool) → is_written w (i / 4096) ≡ f → now i f (get_or p (i / 4096) 0) ≡ before i f
+    pick i inside true flag = kept i inside flag
+    pick i inside false flag = refl
 
     elsewhere : (i : ℕ) → (i / 4096 ≡ page → ⊥) → i < length b →
-        get_or (if is_written (set w page true) (i / 4096) then p else b) i 0 ≡ get_or (if is_written w (i / 4096) then o else b) i 0
+        now i (is_written (set w page true) (i / 4096)) (get_or (set p page n) (i / 4096) 0) ≡ before i (is_written w (i / 4096))
     elsewhere i apart inside =
-        ap (λ (f : Bool). get_or (if f then p else b) i 0) (get_or-set_other w page (i / 4096) true true apart)
-        ∙ pick i (is_written w (i / 4096)) (ap (λ (x : List ℕ). get_or x i 0) is ∙ outside i apart inside)
+        ap (λ (f : Bool). now i f (get_or (set p page n) (i / 4096) 0)) (get_or-set_other w page (i / 4096) true true apart)
+        ∙ ap (λ (k : ℕ). now i (is_written w (i / 4096)) k) (get_or-set_other p page (i / 4096) n 0 apart)
+        ∙ pick i inside (is_written w (i / 4096)) refl
 
 -- a write to pages that were kept
-pub settled_by_write : (b c o new : List ℕ) (w v : List Bool) (at n : ℕ) → length new ≡ n → at + n ≤ length b →
-    length b ≡ 4096 * length w → c ≡ take at b ++ (new ++ drop (at + n) b) → v ≡ marked w at n → settled_bytes c o v ≡ settled_bytes b o v
-settled_by_write b c o new w v at n long fits whole is flags =
-    same_settled b c o o v v (ap length is ∙ length_overwritten b new at n fits long)
+pub settled_by_write : (b c o new : List ℕ) (w v : List Bool) (p : List ℕ) (at n : ℕ) → length new ≡ n → at + n ≤ length b →
+    length b ≡ 4096 * length w → c ≡ take at b ++ (new ++ drop (at + n) b) → v ≡ marked w at n →
+    settled_bytes c o v p ≡ settled_bytes b o v p
+settled_by_write b c o new w v p at n long fits whole is flags =
+    same_settled b c o o v v p p (ap length is ∙ length_overwritten b new at n fits long)
     (λ i inside. pick i (is_written v (i / 4096)) (untouched i))
   where
     pick : (i : ℕ) (f : Bool) → (f ≡ false → get_or c i 0 ≡ get_or b i 0) →
-        get_or (if f then o else c) i 0 ≡ get_or (if f then o else b) i 0
+        (if f then original_byte o (get_or p (i / 4096) 0) i else get_or c i 0)
+        ≡ (if f then original_byte o (get_or p (i / 4096) 0) i else get_or b i 0)
     pick i true same = refl
     pick i false same = same refl
 
@@ -137,39 +158,56 @@ settled_by_write b c o new w v at n long fits whole is flags =
     ]
 
 -- with no page written each is its own original
-pub settled_afresh : (b o : List ℕ) (w : List Bool) (n : ℕ) → length b ≡ 4096 * n → w ≡ replicate n false → settled_bytes b o w ≡ b
-settled_afresh b o w n whole none =
-    ext_get_or 0 _ _ (length-settled b o w)
+pub settled_afresh : (b o : List ℕ) (w : List Bool) (p : List ℕ) (n : ℕ) → length b ≡ 4096 * n → w ≡ replicate n false →
+    settled_bytes b o w p ≡ b
+settled_afresh b o w p n whole none =
+    ext_get_or 0 _ _ (length-settled b o w p)
     (λ i here.
-    let inside : i < length b = omega (arith, here, length-settled b o w) in
+    let inside : i < length b = omega (arith, here, length-settled b o w p) in
     let clear : is_written w (i / 4096) ≡ false =
     ap (λ (x : List Bool). get_or x (i / 4096) true) none ∙ get_or-replicate n (i / 4096) false true (omega arith) in
-    settled_byte b o w i inside ∙ ap (λ (f : Bool). get_or (if f then o else b) i 0) clear)
+    settled_byte b o w p i inside
+    ∙ ap (λ (f : Bool). if f then original_byte o (get_or p (i / 4096) 0) i else get_or b i 0) clear)
 
--- a page at the last settle is its copy, or the page itself
-pub page_settled : (b o : List ℕ) (w : List Bool) (page : ℕ) → length o ≡ length b → 4096 * page + 4096 ≤ length b →
-    page_of (settled_bytes b o w) page ≡ page_of (if is_written w page then o else b) page
-page_settled b o w page long within =
-    ext_get_or 0 _ _
-    (length-page (settled_bytes b o w) page (omega (arith, length-settled b o w))
-    ∙ sym (length-page kept page (omega (arith, kept_length))))
-    (λ k here.
-    let small : k < 4096 = omega (arith, here, length-page (settled_bytes b o w) page (omega (arith, length-settled b o w))) in
+-- a byte of a page at the last settle
+settled_byte_of_page : (b o : List ℕ) (w : List Bool) (p : List ℕ) (page k : ℕ) → 4096 * page + 4096 ≤ length b → k < 4096 →
+    get_or (page_of (settled_bytes b o w p) page) k 0
+    ≡ (if is_written w page then get_or o (4096 * get_or p page 0 + k) 0 else get_or b (4096 * page + k) 0)
+settled_byte_of_page b o w p page k within small =
     let same : (4096 * page + k) / 4096 ≡ page = omega arith in
-    byte_of_page (settled_bytes b o w) page k small
-    ∙ settled_byte b o w (4096 * page + k) (omega arith)
-    ∙ ap (λ (q : ℕ). get_or (if is_written w q then o else b) (4096 * page + k) 0) same
-    ∙ sym (byte_of_page kept page k small))
-  where
-    kept : List ℕ
-    kept = if is_written w page then o else b
+    let rest : (4096 * page + k) % 4096 ≡ k = omega arith in
+    let at : ℕ → ℕ → ℕ = λ q r. if is_written w q then get_or o (4096 * get_or p q 0 + r) 0 else get_or b (4096 * page + k) 0 in
+    byte_of_page (settled_bytes b o w p) page k small
+    ∙ settled_byte b o w p (4096 * page + k) (omega arith)
+    ∙ ap (λ (q : ℕ). at q ((4096 * page + k) % 4096)) same
+    ∙ ap (λ (r : ℕ). at page r) rest
 
-    either : (f : Bool) → length (if f then o else b) ≡ length b
-    either true = long
-    either false = refl
+-- a written page at the last settle is the original at its place
+pub page_kept : (b o : List ℕ) (w : List Bool) (p : List ℕ) (page : ℕ) → 4096 * page + 4096 ≤ length b →
+    4096 * get_or p page 0 + 4096 ≤ length o → is_written w page ≡ true →
+    page_of (settled_bytes b o w p) page ≡ page_of o (get_or p page 0)
+page_kept b o w p page within placed flag =
+    let long : length (page_of (settled_bytes b o w p) page) ≡ 4096 =
+    length-page (settled_bytes b o w p) page (omega (arith, length-settled b o w p)) in
+    ext_get_or 0 _ _ (long ∙ sym (length-page o (get_or p page 0) placed))
+    (λ k here.
+    let small : k < 4096 = omega (arith, here, long) in
+    settled_byte_of_page b o w p page k within small
+    ∙ ap (λ (f : Bool). if f then get_or o (4096 * get_or p page 0 + k) 0 else get_or b (4096 * page + k) 0) flag
+    ∙ sym (byte_of_page o (get_or p page 0) k small))
 
-    kept_length : length kept ≡ length b
-    kept_length = either (is_written w page)
+-- another page is as it was
+pub page_unkept : (b o : List ℕ) (w : List Bool) (p : List ℕ) (page : ℕ) → 4096 * page + 4096 ≤ length b → is_written w page ≡ false →
+    page_of (settled_bytes b o w p) page ≡ page_of b page
+page_unkept b o w p page within flag =
+    let long : length (page_of (settled_bytes b o w p) page) ≡ 4096 =
+    length-page (settled_bytes b o w p) page (omega (arith, length-settled b o w p)) in
+    ext_get_or 0 _ _ (long ∙ sym (length-page b page within))
+    (λ k here.
+    let small : k < 4096 = omega (arith, here, long) in
+    settled_byte_of_page b o w p page k within small
+    ∙ ap (λ (f : Bool). if f then get_or o (4096 * get_or p page 0 + k) 0 else get_or b (4096 * page + k) 0) flag
+    ∙ sym (byte_of_page b page k small))
 
 -- ---- the rules
 
@@ -182,20 +220,25 @@ flag_inside [] page none = absurd (differ none)
 flag_inside (f ∷ w) zero none = omega arith
 flag_inside (f ∷ w) (suc page) none = let below : page < length w = flag_inside w page none in omega arith
 
-pub paged : (b o : List ℕ) (w : List Bool) (d : List ℕ) (capacity copies : ℕ) → IsStored b o w d capacity copies →
-    IsPaged (seen b o w copies)
-paged b o w d capacity copies is = record {
+pub paged : (b o : List ℕ) (w : List Bool) (p d : List ℕ) (space capacity copies : ℕ) → IsStored b o w p d space capacity copies →
+    IsPaged (seen b o w p copies)
+paged b o w p d space capacity copies is = record {
   whole = is.whole;
   least = is.least;
   most = is.most;
-  settled = length-settled b o w;
+  settled = length-settled b o w p;
   kept = record {
     same = λ page none.
         let inside : page < length w = flag_inside w page none in
         let whole : length b ≡ 4096 * length w = is.whole in
-        sym (page_settled b o w page is.region (omega arith) ∙ ap (λ (f : Bool). page_of (if f then o else b) page) none);
+        sym (page_unkept b o w p page (omega arith) none);
   };
 }
+
+-- the original of a written page has its bytes among the originals
+pub original_fits : (b o : List ℕ) (w : List Bool) (p d : List ℕ) (space capacity copies page : ℕ) →
+    IsStored b o w p d space capacity copies → page < length w → is_written w page ≡ true → 4096 * get_or p page 0 + 4096 ≤ length o
+original_fits b o w p d space capacity copies page is here flag = omega (arith, is.kept, is.placed page here flag)
 
 -- one page more is written
 pub one_page_more : (w : List Bool) (page : ℕ) → is_written w page ≡ false → written_pages (set w page true) ≡ written_pages w + 1
@@ -208,68 +251,96 @@ one_page_more w page none =
 none_written : (n : ℕ) → written_pages (replicate n false) ≡ 0
 none_written n = let all : written_pages (replicate n false) ≡ n * 0 = sum_by-replicate (λ (f : Bool). cond f 1 0) n false in omega arith
 
-stored_with : (b o p : List ℕ) (w : List Bool) (d : List ℕ) (capacity space copies more page : ℕ) → page < length w →
-    is_written w page ≡ false → length p ≡ length o → space ≡ capacity → more < 2 ^ 64 → IsStored b o w d capacity copies →
-    IsStored b p (set w page true) (d ++ page ∷ []) space more
-stored_with b o p w d capacity space copies more page here none long roomy small is =
+stored_with : (b o x : List ℕ) (w : List Bool) (p d : List ℕ) (space capacity space_now capacity_now copies more page : ℕ) →
+    page < length w → is_written w page ≡ false → length x ≡ length o + 4096 → space ≤ space_now → capacity_now ≡ capacity →
+    more < 2 ^ 64 → IsStored b o w p d space capacity copies →
+    IsStored b x (set w page true) (set p page (length d)) (d ++ page ∷ []) space_now capacity_now more
+stored_with b o x w p d space capacity space_now capacity_now copies more page here none long wide roomy small is =
     let same : length (set w page true) ≡ length w = length-set w page true in
     let whole : length b ≡ 4096 * length w = is.whole in
     let least : 1 ≤ length w = is.least in
     let most : length w ≤ 4096 = is.most in
     let room : length w ≤ capacity = is.room in
+    let region : 4096 * length w ≤ space = is.region in
+    let numbered : length p ≡ length w = is.numbered in
+    let pushed : length (d ++ page ∷ []) ≡ length d + 1 = length_push d page in
     let Below : ℕ → Type 0 = λ n. All (λ q. q < n) (d ++ page ∷ []) in
     record {
       whole = omega arith;
       least = omega arith;
       most = omega arith;
-      region = long ∙ is.region;
+      kept = omega (arith, long, is.kept, pushed);
+      numbered = length-set p page (length d) ∙ numbered ∙ sym same;
+      placed = λ q inside flag. elim (cases_eq q page) [
+        | inl equal ↦ omega (arith, pushed, get_or-set_at p page q (length d) 0 equal (omega arith))
+        | inr apart ↦ omega (
+          arith,
+          pushed,
+          get_or-set_other p page q (length d) 0 apart,
+          is.placed q (omega arith) (sym (get_or-set_other w page q true true apart) ∙ flag),
+        )
+      ];
       listed = λ q inside flag. elim (cases_eq q page) [
         | inl equal ↦ let Has : ℕ → Type 0 = λ k. Contains (d ++ page ∷ []) k in subst Has (sym equal) (Contains-push d page)
         | inr apart ↦
             Contains-append_left d (page ∷ []) q (is.listed q (omega arith) (sym (get_or-set_other w page q true true apart) ∙ flag))
       ];
       inside = subst Below (sym same) (All-push (λ q. q < length w) d page is.inside here);
-      count = length_push d page ∙ ap (λ (k : ℕ). k + 1) is.count ∙ sym (one_page_more w page none);
+      count = pushed ∙ ap (λ (k : ℕ). k + 1) is.count ∙ sym (one_page_more w page none);
+      region = omega arith;
       room = omega arith;
       small = small;
     }
 
-pub stored_by_keep : (b o p : List ℕ) (w : List Bool) (d e : List ℕ) (capacity space copies more page : ℕ) → page < length w →
-    is_written w page ≡ false → length p ≡ length o → e ≡ d ++ page ∷ [] → space ≡ capacity → more < 2 ^ 64 →
-    IsStored b o w d capacity copies → IsStored b p (set w page true) e space more
-stored_by_keep b o p w d e capacity space copies more page here none long pushed roomy small is =
-    let With : List ℕ → Type 0 = λ xs. IsStored b p (set w page true) xs space more in
-    subst With (sym pushed) (stored_with b o p w d capacity space copies more page here none long roomy small is)
+pub stored_by_keep : (b o x : List ℕ) (w : List Bool) (p q d e : List ℕ) (space capacity space_now capacity_now copies more page : ℕ) →
+    page < length w → is_written w page ≡ false → x ≡ o ++ page_of b page → q ≡ set p page (length d) → e ≡ d ++ page ∷ [] →
+    space ≤ space_now → capacity_now ≡ capacity → more < 2 ^ 64 → IsStored b o w p d space capacity copies →
+    IsStored b x (set w page true) q e space_now capacity_now more
+stored_by_keep b o x w p q d e space capacity space_now capacity_now copies more page here none appended put pushed wide roomy small is =
+    let Listed : List ℕ → Type 0 = λ xs. IsStored b x (set w page true) (set p page (length d)) xs space_now capacity_now more in
+    let Placed : List ℕ → Type 0 = λ xs. IsStored b x (set w page true) xs e space_now capacity_now more in
+    let long : length x ≡ length o + 4096 =
+    ap length appended ∙ length-append o (page_of b page)
+    ∙ ap (λ (k : ℕ). length o + k) (length-page b page (omega (arith, is.whole, here))) in
+    subst Placed (sym put)
+    (subst Listed (sym pushed)
+    (stored_with b o x w p d space capacity space_now capacity_now copies more page here none long wide roomy small is))
 
-pub stored_by_write : (b c o : List ℕ) (w : List Bool) (d : List ℕ) (capacity copies : ℕ) → length c ≡ length b →
-    IsStored b o w d capacity copies → IsStored c o w d capacity copies
-stored_by_write b c o w d capacity copies long is = record {
+pub stored_by_write : (b c o : List ℕ) (w : List Bool) (p d : List ℕ) (space capacity copies : ℕ) → length c ≡ length b →
+    IsStored b o w p d space capacity copies → IsStored c o w p d space capacity copies
+stored_by_write b c o w p d space capacity copies long is = record {
   whole = long ∙ is.whole;
   least = is.least;
   most = is.most;
-  region = is.region ∙ sym long;
+  kept = is.kept;
+  numbered = is.numbered;
+  placed = is.placed;
   listed = is.listed;
   inside = is.inside;
   count = is.count;
+  region = is.region;
   room = is.room;
   small = is.small;
 }
 
 -- nothing is written yet
-pub stored_afresh : (b o : List ℕ) (w : List Bool) (d : List ℕ) (n capacity copies : ℕ) → length b ≡ 4096 * n → 1 ≤ n → n ≤ 4096 →
-    length o ≡ length b → w ≡ replicate n false → d ≡ [] → n ≤ capacity → copies < 2 ^ 64 → IsStored b o w d capacity copies
-stored_afresh b o w d n capacity copies whole least most region flags empty room small =
+pub stored_afresh : (b o : List ℕ) (w : List Bool) (p d : List ℕ) (n space capacity copies : ℕ) → length b ≡ 4096 * n → 1 ≤ n →
+    n ≤ 4096 → o ≡ [] → w ≡ replicate n false → length p ≡ n → d ≡ [] → 4096 * n ≤ space → n ≤ capacity → copies < 2 ^ 64 →
+    IsStored b o w p d space capacity copies
+stored_afresh b o w p d n space capacity copies whole least most bare flags numbered empty wide room small =
     let count : length w ≡ n = ap length flags ∙ length-replicate n false in
     record {
       whole = omega arith;
       least = omega arith;
       most = omega arith;
-      region = region;
-      listed = λ page inside flag. absurd
-          (differ (sym (ap (λ (x : List Bool). get_or x page true) flags ∙ get_or-replicate n page false true (omega arith)) ∙ flag));
+      kept = ap length bare ∙ sym (ap (λ (xs : List ℕ). 4096 * length xs) empty);
+      numbered = omega arith;
+      placed = λ page inside flag. absurd (unmarked page (omega arith) flag);
+      listed = λ page inside flag. absurd (unmarked page (omega arith) flag);
       inside = let Fits : List ℕ → Type 0 = λ xs. All (λ page. page < length w) xs in
           subst Fits (sym empty) (All-nil (λ page. page < length w));
       count = ap length empty ∙ sym (ap written_pages flags ∙ none_written n);
+      region = omega arith;
       room = omega arith;
       small = small;
     }
@@ -277,21 +348,37 @@ stored_afresh b o w d n capacity copies whole least most region flags empty room
     differ : false ≡ true → ⊥
     differ e = cc
 
--- the list has room for a page that isn't written
-pub room_for_one : (b o : List ℕ) (w : List Bool) (d : List ℕ) (capacity copies page : ℕ) → is_written w page ≡ false →
-    IsStored b o w d capacity copies → length d < capacity
-room_for_one b o w d capacity copies page none is =
+    unmarked : (page : ℕ) → page < n → is_written w page ≡ true → ⊥
+    unmarked page inside flag =
+        differ (sym (ap (λ (x : List Bool). get_or x page true) flags ∙ get_or-replicate n page false true inside) ∙ flag)
+
+-- not all pages are listed where one isn't written
+one_unlisted : (b o : List ℕ) (w : List Bool) (p d : List ℕ) (space capacity copies page : ℕ) → is_written w page ≡ false →
+    IsStored b o w p d space capacity copies → length d < length w
+one_unlisted b o w p d space capacity copies page none is =
     omega (
       arith,
       one_page_more w page none,
       count_by-le-length (λ (f : Bool). f) (set w page true),
       length-set w page true,
       is.count,
-      is.room,
     )
 
--- the flags and the list are cleared
-pub stored_by_settle : (b o : List ℕ) (w v : List Bool) (d e : List ℕ) (capacity space copies : ℕ) → v ≡ replicate (length w) false →
-    e ≡ [] → space ≡ capacity → IsStored b o w d capacity copies → IsStored b o v e space copies
-stored_by_settle b o w v d e capacity space copies none empty roomy is =
-    stored_afresh b o v e (length w) space copies is.whole is.least is.most is.region none empty (omega (arith, is.room)) is.small
+-- then the list has room for one more, and so have the originals
+pub room_for_one : (b o : List ℕ) (w : List Bool) (p d : List ℕ) (space capacity copies page : ℕ) → is_written w page ≡ false →
+    IsStored b o w p d space capacity copies → length d < capacity
+room_for_one b o w p d space capacity copies page none is =
+    omega (arith, one_unlisted b o w p d space capacity copies page none is, is.room)
+
+pub room_for_original : (b o : List ℕ) (w : List Bool) (p d : List ℕ) (space capacity copies page : ℕ) → is_written w page ≡ false →
+    IsStored b o w p d space capacity copies → length o + 4096 ≤ space
+room_for_original b o w p d space capacity copies page none is =
+    omega (arith, one_unlisted b o w p d space capacity copies page none is, is.kept, is.region)
+
+-- the flags, the list and the originals are cleared
+pub stored_by_settle : (b o x : List ℕ) (w v : List Bool) (p d e : List ℕ) (space capacity space_now capacity_now copies : ℕ) →
+    v ≡ replicate (length w) false → e ≡ [] → x ≡ [] → space ≤ space_now → capacity_now ≡ capacity →
+    IsStored b o w p d space capacity copies → IsStored b x v p e space_now capacity_now copies
+stored_by_settle b o x w v p d e space capacity space_now capacity_now copies none empty bare wide roomy is =
+    stored_afresh b x v p e (length w) space_now capacity_now copies is.whole is.least is.most bare none is.numbered empty
+    (omega (arith, is.region)) (omega (arith, is.room)) is.small

@@ -1,12 +1,13 @@
 //! How pages are kept before they are first written.
-ghost use Rattle.std.specs.Prelude.{◌≡◌, ℕ, ◌+◌, ◌*◌, ◌%◌, ◌^◌, ◌<◌, ◌≤◌, false, true, length, replicate, slice_set, All, Contains};
+ghost use Rattle.std.specs.Prelude.{◌≡◌, ℕ, ◌+◌, ◌*◌, ◌%◌, ◌^◌, ◌<◌, ◌≤◌, ◌++◌, false, true, length, replicate, slice_set, All, Contains};
+ghost use Rattle.std.specs.Prelude.{vec_len, vec_capacity};
 ghost use Rattle.paged_memory.specs.Limits.{page_bytes};
 ghost use Rattle.paged_memory.specs.Pages.{IsPaged, flagged, is_written, with_flags, with_written};
 
-use crate::memory::{Memory, PAGE_BYTES, put};
+use crate::memory::{Memory, PAGE_BYTES};
 
 impl Memory {
-    /// Copies a page to its place among the originals, and notes that it was written. It is the one that copies a page.
+    /// Appends a page to the originals, and notes that it was written. It is the one that copies a page.
     fn keep_page(&mut self, page: u32)
         requires inside { page < length self.old.written }
         requires unwritten { is_written self.old.written page ≡ false }
@@ -16,11 +17,8 @@ impl Memory {
         } }
     {
         let start = PAGE_BYTES * page as usize;
-        put(
-            &mut self.originals,
-            start,
-            &self.bytes[start..start + PAGE_BYTES],
-        );
+        append(&mut self.originals, &self.bytes[start..start + PAGE_BYTES]);
+        self.places[page as usize] = self.dirty.len() as u32;
         self.written[page as usize] = true;
         self.dirty.push_reserved(page);
         self.copies = self.copies.wrapping_add(1);
@@ -72,6 +70,17 @@ impl Memory {
             self.keep_pages(first, last + 1);
         }
     }
+}
+
+/// Appends bytes for which there is room, so that no memory is asked for.
+fn append(into: &mut Vec<u8>, from: &[u8])
+    requires { vec_len into.old + length from.now ≤ vec_capacity into.old }
+    ensures items { into.new.items ≡ into.old.items ++ from.now }
+    ensures capacity { vec_capacity into.old ≤ vec_capacity into.new }
+{
+    let Ok(()) = into.extend_from_slice(from) else {
+        unreachable!()
+    };
 }
 
 /// Clears the flags of these pages, which are all that have one.

@@ -17,10 +17,13 @@ pub const PAGE_BYTES: usize = 4096;
 #[derive(Drop)]
 pub struct Memory {
     pub(crate) bytes: Vec<u8>,
-    /// For each page that was written since the last settle, its bytes then, at its own place; for another page, any bytes.
+    /// The pages that were written since the last settle, as they were then, in the order of their first writes. There is room for
+    /// all pages.
     pub(crate) originals: Vec<u8>,
     /// Which pages were written since.
     pub(crate) written: Vec<bool>,
+    /// For each of those, which of the originals is its own, counted from 0; for another page, any number.
+    pub(crate) places: Vec<u32>,
     /// The numbers of those pages, in the order of their first writes.
     pub(crate) dirty: Vec<u32>,
     /// How many page copies were made since boot, modulo 2^64.
@@ -34,9 +37,10 @@ impl Model for Memory {
 
     ghost Value = { Paged };
 
-    ghost view = { λ m. seen m.bytes.items m.originals.items m.written.items m.copies };
+    ghost view = { λ m. seen m.bytes.items m.originals.items m.written.items m.places.items m.copies };
 
-    ghost invariant = { λ m. IsStored m.bytes.items m.originals.items m.written.items m.dirty.items (vec_capacity m.dirty) m.copies };
+    ghost invariant = { λ m. IsStored m.bytes.items m.originals.items m.written.items m.places.items m.dirty.items
+        (vec_capacity m.originals) (vec_capacity m.dirty) m.copies };
 }
 
 impl Memory {
@@ -55,8 +59,10 @@ impl Memory {
         let mut bytes = with_capacity(alloc, size)?;
         extend_from_slice(&mut bytes, image)?;
         resize(&mut bytes, size, 0)?;
-        let mut originals = with_capacity(alloc, size)?;
-        resize(&mut originals, size, 0)?;
+        // Reserved and not filled, so that it costs nothing before the first writes.
+        let originals = with_capacity(alloc, size)?;
+        let mut places = with_capacity(alloc, pages as usize)?;
+        resize(&mut places, pages as usize, 0)?;
         let mut written = with_capacity(alloc, pages as usize)?;
         resize(&mut written, pages as usize, false)?;
         let dirty = with_capacity(alloc, pages as usize)?;
@@ -64,6 +70,7 @@ impl Memory {
             bytes,
             originals,
             written,
+            places,
             dirty,
             copies: 0,
         })
@@ -172,7 +179,7 @@ impl Memory {
         ensures size { length self.now.settled ≡ length self.now.bytes }
     {
         if self.written[page as usize] {
-            page_at(self.originals.as_slice(), page)
+            page_at(self.originals.as_slice(), self.places[page as usize])
         } else {
             page_at(self.bytes.as_slice(), page)
         }
@@ -194,11 +201,12 @@ impl Memory {
     {
         clear_flags(&mut self.written, self.dirty.as_slice());
         self.dirty.clear();
+        self.originals.clear();
     }
 }
 
 /// Puts the whole of `from` in the place of the bytes from a place on.
-pub(crate) fn put(bytes: &mut Vec<u8>, at: usize, from: &[u8])
+fn put(bytes: &mut Vec<u8>, at: usize, from: &[u8])
     requires { at + length from.now ≤ length bytes.old.items }
     ensures value { bytes.new.items ≡ with_bytes bytes.old.items at from.now }
     ensures size { length bytes.new.items ≡ length bytes.old.items }

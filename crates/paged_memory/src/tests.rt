@@ -53,6 +53,26 @@ fn originals_are_those_of_the_last_settle(rt: HostRuntime) -> Result<(), Fail> {
 }
 
 #[test]
+fn each_page_has_its_own_original_in_whatever_order_they_are_written(
+    rt: HostRuntime,
+) -> Result<(), Fail> {
+    let mut memory = Memory::boot(rt.alloc(), 3, &[7])?;
+    memory.write_u8(8192, 3);
+    memory.write_u8(0, 1);
+    assert_eq!(rt; memory.original(2)[0], 0);
+    assert_eq!(rt; memory.original(0)[0], 7);
+    memory.settle();
+    // Now the first page comes first.
+    memory.write_u8(0, 4);
+    memory.write_u8(8192, 5);
+    memory.write_u8(4096, 6);
+    assert_eq!(rt; memory.original(0)[0], 1);
+    assert_eq!(rt; memory.original(1)[0], 0);
+    assert_eq!(rt; memory.original(2)[0], 3);
+    Ok(())
+}
+
+#[test]
 fn a_page_is_copied_at_its_first_write_after_a_settle(rt: HostRuntime) -> Result<(), Fail> {
     let mut memory = Memory::boot(rt.alloc(), 3, &[])?;
     assert_eq!(rt; memory.copies(), 0);

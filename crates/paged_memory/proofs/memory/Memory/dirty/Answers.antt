@@ -8,7 +8,8 @@ pub returns-clause-same : goal.returns-clause-same
 returns-clause-same c =
     let s = c.self.inside in
     let P : Paged → Type 0 = λ m. IsPaged m in
-    let is = subst P c.self.view_is (paged s.bytes.items s.originals.items s.written.items s.dirty.items _ s.copies c.self.invariant) in
+    let is = subst P c.self.view_is
+    (paged s.bytes.items s.originals.items s.written.items s.places.items s.dirty.items _ _ s.copies c.self.invariant) in
     let here : c.args.page < length s.written.items =
     omega (arith, ap (λ (p : Paged). length p.bytes) c.self.view_is, c.requires, c.self.invariant.whole) in
     λ none. is.kept.same c.args.page

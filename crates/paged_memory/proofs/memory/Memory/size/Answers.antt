@@ -7,4 +7,5 @@ pub returns-clause-rules : goal.returns-clause-rules
 returns-clause-rules c =
     let s = c.self.inside in
     let P : Paged → Type 0 = λ m. IsPaged m in
-    subst P c.self.view_is (paged s.bytes.items s.originals.items s.written.items s.dirty.items _ s.copies c.self.invariant)
+    subst P c.self.view_is
+    (paged s.bytes.items s.originals.items s.written.items s.places.items s.dirty.items _ _ s.copies c.self.invariant)

@@ -20,7 +20,7 @@ returns-clause-value c =
     let put : c.xor_at.new.bytes.items ≡ take at s.bytes.items ++ (new ++ drop (at + 64) s.bytes.items)
     = c.xor_at.ensures.value ∙ ap (λ n. take at s.bytes.items ++ (new ++ drop (at + n) s.bytes.items)) long in
     let after =
-    after_write m s.bytes.items c.xor_at.new.bytes.items s.originals.items new s.written.items s.dirty.items _ s.copies
+    after_write m s.bytes.items c.xor_at.new.bytes.items s.originals.items new s.written.items s.places.items s.dirty.items _ _ s.copies
     at 64 long c.requires c.keep_few.ensures.rules c.self.invariant (c.self.view_is ∙ c.keep_few.ensures.value) put in
     after.value
     ∙ ap (λ n. with_written m at 64 (take at m.bytes ++ (new ++ drop (at + n) m.bytes))) (sym long)
