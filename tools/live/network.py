@@ -9,6 +9,8 @@ import struct
 import sys
 import time
 
+from tools.live.segments import Openings
+
 ARP = b"\x08\x06"
 
 
@@ -59,7 +61,7 @@ class Slirp:
 
     def __init__(self, forwards, guest):
         """`forwards` are triples of a port here, one of the guest, and whether they are UDP's."""
-        self.client, self.came, self.asked = 1, [], []
+        self.client, self.came, self.asked, self.openings = 1, [], [], Openings()
         try:
             self.library = c.CDLL("libslirp.so.0")
         except OSError:
@@ -107,6 +109,7 @@ class Slirp:
     def put(self, frame):
         if frame[12:14] == ARP:
             frame = frame.replace(client_mac(1), self.MACHINE)
+        frame = self.openings.passed(frame)
         self.library.slirp_input(self.slirp, frame, len(frame))
 
 

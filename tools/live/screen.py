@@ -6,10 +6,11 @@ import sys
 import termios
 import tty
 
+from guests.lib.frames import FIN, RST, SYN
 from tools.live.hosts import ALONE, STOPPED
+from tools.live.segments import head_of
 
 EVERY = 0.2  # seconds, from one status line to the next
-FIN, SYN, RST = 1, 2, 4
 
 
 class Screen:
@@ -51,16 +52,17 @@ class Screen:
 
     def count(self, frame):
         """Follows the TCP connections and the requests of HTTP in a frame, whichever way it goes."""
-        if frame[12:14] != b"\x08\x00" or frame[23] != 6:
+        head = head_of(frame)
+        if head is None:
             return
-        tcp = 14 + 4 * (frame[14] & 15)
+        tcp, end = head
         ends = frozenset((frame[26:30] + frame[tcp:tcp + 2], frame[30:34] + frame[tcp + 2:tcp + 4]))
         number, flags = frame[tcp + 4:tcp + 8], frame[tcp + 13]
         if flags & SYN:
             self.connections[ends] = None
         elif flags & (FIN | RST):
             self.connections.pop(ends, None)
-        data = frame[tcp + 4 * (frame[tcp + 12] >> 4):]
+        data = frame[end:]
         if data[:4] in (b"GET ", b"HEAD", b"POST") and self.connections.get(ends) != number:
             self.connections[ends], self.requests = number, self.requests + 1
 
