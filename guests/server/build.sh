@@ -56,7 +56,7 @@ cp -r "$here/../lib" "$room/lib"
 cd "$room"
 core="init def inet_chksum ip mem memp netif pbuf tcp tcp_in tcp_out timeouts
     ipv4/etharp ipv4/icmp ipv4/ip4 ipv4/ip4_addr"
-sources="server/server.c server/files.c server/disk.c server/network.c server/libc/libc.c"
+sources="server/server.c server/files.c server/disk.c server/network.c server/reopen.c server/libc/libc.c"
 for name in $core; do
     sources="$sources lwip/src/core/$name.c"
 done

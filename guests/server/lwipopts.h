@@ -50,4 +50,8 @@
    failures in a row can keep a client silent for longer. */
 #define HTTPD_MAX_RETRIES 30
 
+/* A client may open a connection from a port of before. */
+#define LWIP_HOOK_FILENAME "reopen.h"
+#define LWIP_HOOK_IP4_INPUT reopen
+
 #endif
