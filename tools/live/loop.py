@@ -37,7 +37,9 @@ class Loop:
         self.begun = self.epoch_begun = now
         self.guest_begun, self.made = now, 0  # since when the guest runs, and the steps that it made since then
         self.epoch_length, self.late = plan.epoch, 0.0
-        self.next_failure = now + plan.fail_every if plan.fail_every else None
+        self.period, self.next_failure = now, None  # since when a failure is due, and when it comes
+        if plan.fail_every:
+            self.plan_failure()
         self.place, self.stopped = None, None  # where the primary is to stop, and since when it has
         self.silent, self.pause = None, None  # since when clients wait for the backup's first frame, and how long they waited the last time
         self.failures, self.is_over = 0, False
@@ -159,10 +161,16 @@ class Loop:
         self.silent = now if self.screen.connections else None
         self.screen.tell(f"host {self.hosts.live}, the primary, stops {PLACES[place]}")
 
+    def plan_failure(self):
+        """The next failure comes at a random moment of the second half of its period: one that kept step with the half seconds by which TCP
+        repeats a frame could take the same frame each time."""
+        self.next_failure = self.period + self.plan.fail_every * (1 + self.rng.random()) / 2
+        self.period += self.plan.fail_every
+
     def fail(self, now):
         """Stops the primary where it is time, and lets its backup go live where that has been noticed."""
         if self.next_failure is not None and now >= self.next_failure and self.hosts.has_backup and self.place is None:
-            self.next_failure += self.plan.fail_every
+            self.plan_failure()
             self.stop_primary(now)
         if self.hosts.mode == STOPPED and now >= self.stopped + self.plan.detect:
             lost = self.hosts.lost
