@@ -3,6 +3,7 @@ import select
 import time
 
 from tools.live.hosts import ALONE, MID_EPOCH, PLACES, STOPPED, Hosts
+from tools.live.screen import several
 
 QUICK = 20_000  # steps that take the program a fraction of a millisecond
 LATE = 0.1  # a guest that is so many seconds late isn't hurried any more
@@ -177,7 +178,9 @@ class Loop:
             self.stopped = None
             self.hosts.go_live()
             self.guest_begun, self.made = now, 0
-            self.screen.tell(f"host {self.hosts.live} goes on from step {self.hosts.steps:,}; {self.hosts.lost - lost} frames are lost")
+            lost = self.hosts.lost - lost
+            frames = several(lost, "frame") + (" is" if lost == 1 else " are")
+            self.screen.tell(f"host {self.hosts.live} goes on from step {self.hosts.steps:,}; {frames} lost")
             if not self.plan.alone:
                 self.protect(now)
 

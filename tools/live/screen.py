@@ -13,6 +13,10 @@ from tools.live.segments import head_of
 EVERY = 0.2  # seconds, from one status line to the next
 
 
+def several(number, noun):
+    return f"{number} {noun}" + ("" if number == 1 else "s")
+
+
 class Screen:
     """Standard output, with a status line where it is a terminal, and the keys of standard input."""
 
