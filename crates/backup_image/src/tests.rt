@@ -1,15 +1,15 @@
 //! Two small guests at both nodes: what the backup's image is at each point.
 
-mod stops;
+pub(crate) mod stops;
 
 use crate::{Image, ImageError, Staged, Standing};
-use checkpoint_stream::{Reader, encode};
 use epoch_snapshot::{Checkpoint, cut_delta, cut_full};
 use guest_machine::{Machine, PAGE_BYTES, Shape};
 use memory_wanted::reserve;
 use std::alloc::{AllocError, Global};
 use std::process::Abort;
 use std::test::Fail;
+use stops::{delta_text, follow};
 
 /// The guest that sends one frame: it notifies queue 1 of its network card in step 22.
 const BEACON: [u32; 23] = [
@@ -44,7 +44,7 @@ fn image(alloc: Global, words: &[u32]) -> Result<Vec<u8>, AllocError> {
     Ok(image)
 }
 
-pub(crate) fn beacon(alloc: Global) -> Result<Vec<u8>, AllocError> {
+fn beacon(alloc: Global) -> Result<Vec<u8>, AllocError> {
     let mut image = image(alloc, &BEACON)?;
     put(&mut image, 0x1000, &[0, 0x11, 0, 0x80, 0, 0, 0, 0, 26]);
     put(&mut image, 0x1042, &[1, 0]);
@@ -81,36 +81,130 @@ fn disk(alloc: Global) -> Result<Vec<u8>, AllocError> {
     Ok(image)
 }
 
-/// A machine of two pages and of this many sectors, and its image, at boot.
-#[derive(Drop)]
-pub(crate) struct Nodes {
-    pub(crate) machine: Box<Machine>,
-    pub(crate) image: Box<Image>,
+/// The shape of two pages and of this many sectors.
+fn shape(rt: &impl Abort, sectors: u32) -> Shape {
+    assert!(rt; 1 <= sectors && sectors <= 32768);
+    Shape { pages: 2, sectors }
 }
 
-pub(crate) fn boot(
+/// The machine of this many sectors at boot, in a box: it's large, and a test that holds it by value is slow to prove.
+pub(crate) fn boot_machine(
     rt: &impl Abort,
     alloc: Global,
     sectors: u32,
     bytes: &[u8],
-) -> Result<Nodes, Fail> {
-    assert!(rt; 1 <= sectors && sectors <= 32768);
-    assert!(rt; bytes.len() <= 2 * PAGE_BYTES);
-    let shape = Shape { pages: 2, sectors };
-    Ok(Nodes {
-        machine: Box::new(alloc, Machine::boot(alloc, shape, bytes)?)?,
-        image: Box::new(alloc, Image::boot(alloc, shape, bytes)?)?,
-    })
+) -> Result<Box<Machine>, Fail> {
+    let shape = shape(rt, sectors);
+    assert!(rt; bytes.len() <= PAGE_BYTES * shape.pages as usize);
+    let machine = Machine::boot(alloc, shape, bytes)?;
+    Ok(Box::new(alloc, machine)?)
+}
+
+/// Its image at boot.
+pub(crate) fn boot_image(
+    rt: &impl Abort,
+    alloc: Global,
+    sectors: u32,
+    bytes: &[u8],
+) -> Result<Box<Image>, Fail> {
+    let shape = shape(rt, sectors);
+    assert!(rt; bytes.len() <= PAGE_BYTES * shape.pages as usize);
+    let image = Image::boot(alloc, shape, bytes)?;
+    Ok(Box::new(alloc, image)?)
+}
+
+/// An empty image of this many sectors.
+pub(crate) fn empty_image(
+    rt: &impl Abort,
+    alloc: Global,
+    sectors: u32,
+) -> Result<Box<Image>, Fail> {
+    let image = Image::empty(alloc, shape(rt, sectors))?;
+    Ok(Box::new(alloc, image)?)
+}
+
+/// So many steps, none of which is refused.
+fn run(rt: &impl Abort, machine: &mut Machine, steps: u64) {
+    assert_eq!(rt; machine.run(steps), steps);
+}
+
+/// The beacon at the primary, after so many steps.
+pub(crate) fn beacon_after(
+    rt: &impl Abort,
+    alloc: Global,
+    steps: u64,
+) -> Result<Box<Machine>, Fail> {
+    let bytes = beacon(alloc)?;
+    let mut machine = boot_machine(rt, alloc, 1, bytes.as_slice())?;
+    run(rt, &mut machine, steps);
+    Ok(machine)
+}
+
+/// The beacon's image at boot.
+pub(crate) fn beacon_image(rt: &impl Abort, alloc: Global) -> Result<Box<Image>, Fail> {
+    let bytes = beacon(alloc)?;
+    boot_image(rt, alloc, 1, bytes.as_slice())
+}
+
+/// The guest that writes a sector, after it did so, at the primary.
+fn disk_machine(rt: &impl Abort, alloc: Global) -> Result<Box<Machine>, Fail> {
+    let bytes = disk(alloc)?;
+    let mut machine = boot_machine(rt, alloc, 8, bytes.as_slice())?;
+    run(rt, &mut machine, 23);
+    Ok(machine)
+}
+
+/// Its image at boot.
+fn disk_image(rt: &impl Abort, alloc: Global) -> Result<Box<Image>, Fail> {
+    let bytes = disk(alloc)?;
+    boot_image(rt, alloc, 8, bytes.as_slice())
 }
 
 /// What an image answers to a checkpoint, which has its shape.
-pub(crate) fn stage(
+fn stage(rt: &impl Abort, image: &mut Image, checkpoint: Checkpoint) -> Result<Staged, ImageError> {
+    assert!(rt; image.shape() == checkpoint.shape());
+    image.stage(checkpoint)
+}
+
+/// What an image answers to a checkpoint.
+pub(crate) fn assert_answer(
     rt: &impl Abort,
     image: &mut Image,
     checkpoint: Checkpoint,
-) -> Result<Staged, ImageError> {
-    assert!(rt; image.shape() == checkpoint.shape());
-    image.stage(checkpoint)
+    answer: Result<Staged, ImageError>,
+) {
+    assert!(rt; stage(rt, image, checkpoint) == answer);
+}
+
+/// What an image answers to the delta of this machine, of this generation and number.
+fn assert_delta(
+    rt: &impl Abort,
+    alloc: Global,
+    machine: &Machine,
+    image: &mut Image,
+    (generation, number): (u64, u64),
+    answer: Result<Staged, ImageError>,
+) -> Result<(), Fail> {
+    assert!(rt; 1 <= generation && generation < 1 << 62);
+    assert!(rt; 1 <= number && number < 1 << 62);
+    let delta = cut_delta(alloc, machine, generation, number)?;
+    assert_answer(rt, image, delta, answer);
+    Ok(())
+}
+
+/// What an image answers to the full checkpoint of this machine, of this generation.
+fn assert_full(
+    rt: &impl Abort,
+    alloc: Global,
+    machine: &Machine,
+    image: &mut Image,
+    generation: u64,
+    answer: Result<Staged, ImageError>,
+) -> Result<(), Fail> {
+    assert!(rt; 1 <= generation && generation < 1 << 62);
+    let full = cut_full(alloc, machine, generation)?;
+    assert_answer(rt, image, full, answer);
+    Ok(())
 }
 
 /// An image stands there and has made so many steps, and a sector of it is full of this byte.
@@ -134,58 +228,103 @@ pub(crate) fn at(generation: u64, number: u64) -> Option<Standing> {
     Some(Standing { generation, number })
 }
 
+/// The disk guest's delta is answered so, and the image stays at boot, also where the delta is staged.
+fn assert_stays(
+    rt: &impl Abort,
+    alloc: Global,
+    machine: &Machine,
+    image: &mut Image,
+    place: (u64, u64),
+    answer: Result<Staged, ImageError>,
+) -> Result<(), Fail> {
+    assert_delta(rt, alloc, machine, image, place, answer)?;
+    assert_image(rt, image, at(1, 0), 0, 3, 0);
+    Ok(())
+}
+
+/// After a commit the disk guest's image stands there, with the sector written.
+fn assert_commits(rt: &impl Abort, image: &mut Image, generation: u64, number: u64) {
+    image.commit();
+    assert_image(rt, image, at(generation, number), 23, 3, 0xab);
+}
+
 /// The disk guest's delta is in the image from its commit on, not from its staging on. What comes out of turn is answered otherwise.
 #[test]
 fn a_delta_counts_from_its_commit_on(rt: HostRuntime) -> Result<(), Fail> {
     let alloc = rt.alloc();
-    let bytes = disk(alloc)?;
-    let mut nodes = boot(&rt, alloc, 8, bytes.as_slice())?;
-    assert_eq!(rt; nodes.machine.run(23), 23);
-    for (generation, number, answer) in [
-        (1, 2, Err(ImageError::Gap)),
-        (2, 1, Err(ImageError::Stale)),
-        (1, 1, Ok(Staged::New)),
-        (1, 1, Ok(Staged::New)),
-    ] {
-        let checkpoint = cut_delta(alloc, &nodes.machine, generation, number)?;
-        assert!(rt; stage(&rt, &mut nodes.image, checkpoint) == answer);
-        assert_image(&rt, &nodes.image, at(1, 0), 0, 3, 0);
-    }
-    nodes.image.commit();
-    assert_image(&rt, &nodes.image, at(1, 1), 23, 3, 0xab);
-    let full = cut_full(alloc, &nodes.machine, 1)?;
-    assert!(rt; stage(&rt, &mut nodes.image, full) == Ok(Staged::Again));
-    nodes.image.commit();
-    assert_image(&rt, &nodes.image, at(1, 1), 23, 3, 0xab);
+    let machine = disk_machine(&rt, alloc)?;
+    let mut image = disk_image(&rt, alloc)?;
+    assert_stays(
+        &rt,
+        alloc,
+        &machine,
+        &mut image,
+        (1, 2),
+        Err(ImageError::Gap),
+    )?;
+    assert_stays(
+        &rt,
+        alloc,
+        &machine,
+        &mut image,
+        (2, 1),
+        Err(ImageError::Stale),
+    )?;
+    assert_stays(&rt, alloc, &machine, &mut image, (1, 1), Ok(Staged::New))?;
+    assert_stays(&rt, alloc, &machine, &mut image, (1, 1), Ok(Staged::New))?;
+    assert_commits(&rt, &mut image, 1, 1);
+    assert_full(&rt, alloc, &machine, &mut image, 1, Ok(Staged::Again))?;
+    assert_commits(&rt, &mut image, 1, 1);
     Ok(())
+}
+
+/// An empty image has no machine, and is handed back.
+fn handed_back(rt: &impl Abort, alloc: Global, image: Box<Image>) -> Result<Box<Image>, Fail> {
+    match Box::into_inner(image).resume() {
+        Ok(_) => Err("an empty image has no machine".into()),
+        Err((image, refusal)) => {
+            assert!(rt; refusal == ImageError::NoImage);
+            Ok(Box::new(alloc, image)?)
+        }
+    }
+}
+
+/// The machine that an image resumes to.
+pub(crate) fn resumed(alloc: Global, image: Box<Image>) -> Result<Box<Machine>, Fail> {
+    match Box::into_inner(image).resume() {
+        Ok(machine) => Ok(Box::new(alloc, machine)?),
+        Err(_) => Err("the image has a machine".into()),
+    }
+}
+
+/// The disk guest goes on where it was after 23 steps, with nothing in its outbox.
+fn assert_goes_on(rt: &impl Abort, machine: &mut Machine) {
+    assert!(rt; machine.outbox().is_empty());
+    run(rt, machine, 5);
+    assert_eq!(rt; machine.steps(), 28);
+    assert_eq!(rt; machine.pc(), 0x8000_005c);
 }
 
 /// An empty image takes a full checkpoint only, and gives no machine before. The machine that it then gives goes on where the other was.
 #[test]
 fn an_empty_image_is_filled(rt: HostRuntime) -> Result<(), Fail> {
     let alloc = rt.alloc();
-    let bytes = disk(alloc)?;
-    let mut nodes = boot(&rt, alloc, 8, bytes.as_slice())?;
-    assert_eq!(rt; nodes.machine.run(23), 23);
-    let empty = Image::empty(alloc, nodes.machine.shape())?;
+    let machine = disk_machine(&rt, alloc)?;
+    let empty = empty_image(&rt, alloc, 8)?;
     assert_image(&rt, &empty, None, 0, 3, 0);
-    let Err((mut image, refusal)) = empty.resume() else {
-        return Err("an empty image has no machine".into());
-    };
-    assert!(rt; refusal == ImageError::NoImage);
-    let delta = cut_delta(alloc, &nodes.machine, 2, 1)?;
-    assert!(rt; stage(&rt, &mut image, delta) == Err(ImageError::NoImage));
-    let full = cut_full(alloc, &nodes.machine, 2)?;
-    assert!(rt; stage(&rt, &mut image, full) == Ok(Staged::New));
-    image.commit();
-    assert_image(&rt, &image, at(2, 0), 23, 3, 0xab);
-    let Ok(mut machine) = image.resume() else {
-        return Err("the image has a machine".into());
-    };
-    assert!(rt; machine.outbox().is_empty());
-    assert_eq!(rt; machine.run(5), 5);
-    assert_eq!(rt; machine.steps(), 28);
-    assert_eq!(rt; machine.pc(), 0x8000_005c);
+    let mut image = handed_back(&rt, alloc, empty)?;
+    assert_delta(
+        &rt,
+        alloc,
+        &machine,
+        &mut image,
+        (2, 1),
+        Err(ImageError::NoImage),
+    )?;
+    assert_full(&rt, alloc, &machine, &mut image, 2, Ok(Staged::New))?;
+    assert_commits(&rt, &mut image, 2, 0);
+    let mut machine = resumed(alloc, image)?;
+    assert_goes_on(&rt, &mut machine);
     Ok(())
 }
 
@@ -193,24 +332,14 @@ fn an_empty_image_is_filled(rt: HostRuntime) -> Result<(), Fail> {
 #[test]
 fn part_of_a_checkpoint_leaves_the_image(rt: HostRuntime) -> Result<(), Fail> {
     let alloc = rt.alloc();
-    let bytes = beacon(alloc)?;
-    let mut nodes = boot(&rt, alloc, 1, bytes.as_slice())?;
-    assert_eq!(rt; nodes.machine.run(22), 22);
-    let text = encode(alloc, &cut_delta(alloc, &nodes.machine, 1, 1)?)?;
+    let text = delta_text(&rt, alloc)?;
+    let mut image = beacon_image(&rt, alloc)?;
     assert_eq!(rt; text.len(), 630);
     for count in 0..631usize {
-        let mut reader = Reader::new(alloc, nodes.image.shape());
-        let part = text
-            .as_slice()
-            .get(..count)
-            .ok_or("the text is long enough")?;
-        assert_eq!(rt; reader.feed(part)?, count);
-        if let Some(checkpoint) = reader.next() {
-            assert!(rt; stage(&rt, &mut nodes.image, checkpoint) == Ok(Staged::New));
-        }
-        nodes.image.commit();
+        let part = text.as_slice().get(..count).ok_or("it has them")?;
+        follow(&rt, alloc, &mut image, part, Ok(Staged::New))?;
         let whole = u64::from(count == 630);
-        assert_image(&rt, &nodes.image, at(1, whole), 22 * whole, 0, 0);
+        assert_image(&rt, &image, at(1, whole), 22 * whole, 0, 0);
     }
     Ok(())
 }

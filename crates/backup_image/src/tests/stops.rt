@@ -1,7 +1,7 @@
 //! A stream that stops inside a checkpoint leaves the guest of boot: memory, disk and devices.
 
-use super::{assert_image, at, beacon, boot, stage};
-use crate::Image;
+use super::{assert_answer, assert_image, at, beacon_after, beacon_image, resumed};
+use crate::{Image, ImageError, Staged};
 use checkpoint_stream::{Reader, encode};
 use epoch_snapshot::{Checkpoint, cut_delta, cut_full};
 use guest_machine::Machine;
@@ -17,69 +17,103 @@ fn text_of(alloc: Global, checkpoint: &Checkpoint) -> Result<Vec<u8>, Fail> {
     Ok(encode(alloc, checkpoint)?)
 }
 
-/// All of a machine's guest: the bytes of its full checkpoint.
+/// All of a machine's guest: the bytes of its full checkpoint, of generation 2.
 fn whole_guest(alloc: Global, machine: &Machine) -> Result<Vec<u8>, Fail> {
-    text_of(alloc, &cut_full(alloc, machine, 2)?)
-}
-
-/// The beacon at the primary, after so many steps.
-fn beacon_after(rt: &impl Abort, alloc: Global, steps: u64) -> Result<Box<Machine>, Fail> {
-    let bytes = beacon(alloc)?;
-    let mut machine = boot(rt, alloc, 1, bytes.as_slice())?.machine;
-    assert_eq!(rt; machine.run(steps), steps);
-    Ok(machine)
+    let full = cut_full(alloc, machine, 2)?;
+    text_of(alloc, &full)
 }
 
 fn guest_after(rt: &impl Abort, alloc: Global, steps: u64) -> Result<Vec<u8>, Fail> {
-    whole_guest(alloc, beacon_after(rt, alloc, steps)?.as_ref())
+    let machine = beacon_after(rt, alloc, steps)?;
+    whole_guest(alloc, &machine)
 }
 
 /// The beacon's first checkpoint, in which it sends its frame.
-fn delta(rt: &impl Abort, alloc: Global) -> Result<Vec<u8>, Fail> {
+pub(crate) fn delta_text(rt: &impl Abort, alloc: Global) -> Result<Vec<u8>, Fail> {
     let machine = beacon_after(rt, alloc, 22)?;
-    text_of(alloc, &cut_delta(alloc, machine.as_ref(), 1, 1)?)
+    let delta = cut_delta(alloc, &machine, 1, 1)?;
+    text_of(alloc, &delta)
 }
 
-/// The beacon's image at boot.
-fn image(rt: &impl Abort, alloc: Global) -> Result<Box<Image>, Fail> {
-    let bytes = beacon(alloc)?;
-    Ok(boot(rt, alloc, 1, bytes.as_slice())?.image)
+/// The same in version 1, which carries no frames.
+fn old_delta_text(rt: &impl Abort, alloc: Global) -> Result<Vec<u8>, Fail> {
+    let mut text = delta_text(rt, alloc)?;
+    put_version_1(&mut text, 608);
+    Ok(text)
 }
 
-/// Takes in the bytes of a stream, and commits the checkpoint that stands whole, if one does.
-fn follow(rt: &impl Abort, alloc: Global, image: &mut Image, bytes: &[u8]) -> Result<(), Fail> {
+/// Makes a text of version 2 one of version 1, which has so many bytes.
+pub(crate) fn put_version_1(text: &mut Vec<u8>, count: usize) {
+    text.truncate(count);
+    if let Some(version) = text.get_mut(3) {
+        *version = b'1';
+    }
+}
+
+/// What an image answers to the checkpoint that stands whole in a reader, if one does.
+fn assert_next(
+    rt: &impl Abort,
+    image: &mut Image,
+    reader: &mut Reader,
+    answer: Result<Staged, ImageError>,
+) {
+    if let Some(checkpoint) = reader.next() {
+        assert_answer(rt, image, checkpoint, answer);
+    }
+}
+
+/// Takes in the bytes of a stream, and commits the checkpoint that stands whole, if one does and it's staged.
+pub(crate) fn follow(
+    rt: &impl Abort,
+    alloc: Global,
+    image: &mut Image,
+    bytes: &[u8],
+    answer: Result<Staged, ImageError>,
+) -> Result<(), Fail> {
     let mut reader = Reader::new(alloc, image.shape());
     assert_eq!(rt; reader.feed(bytes)?, bytes.len());
-    if let Some(checkpoint) = reader.next() {
-        let _answer = stage(rt, image, checkpoint);
-    }
+    assert_next(rt, image, &mut reader, answer);
     image.commit();
     Ok(())
 }
 
-/// All of the guest that an image resumes to.
-fn resumed_guest(alloc: Global, image: Box<Image>) -> Result<Vec<u8>, Fail> {
-    match Box::into_inner(image).resume() {
-        Ok(machine) => whole_guest(alloc, &machine),
-        Err(_) => Err("the image has a machine".into()),
-    }
+/// The beacon's image after these bytes of a stream.
+fn image_after(
+    rt: &impl Abort,
+    alloc: Global,
+    bytes: &[u8],
+    answer: Result<Staged, ImageError>,
+) -> Result<Box<Image>, Fail> {
+    let mut image = beacon_image(rt, alloc)?;
+    follow(rt, alloc, &mut image, bytes, answer)?;
+    Ok(image)
 }
 
-/// After these bytes of a stream the beacon's image stands at this checkpoint, has made so many steps, and resumes to this guest.
+/// An image resumes to this guest.
+fn assert_resumes(
+    rt: &impl Abort,
+    alloc: Global,
+    image: Box<Image>,
+    guest: &[u8],
+    after: usize,
+) -> Result<(), Fail> {
+    let machine = resumed(alloc, image)?;
+    let resumed = whole_guest(alloc, &machine)?;
+    assert!(rt; resumed.as_slice() == guest, "after {after} bytes");
+    Ok(())
+}
+
+/// After these bytes of a stream the beacon's image is as at boot: it resumes to this guest.
 fn assert_leaves(
     rt: &impl Abort,
     alloc: Global,
     bytes: &[u8],
-    number: u64,
-    steps: u64,
+    answer: Result<Staged, ImageError>,
     guest: &[u8],
 ) -> Result<(), Fail> {
-    let mut image = image(rt, alloc)?;
-    follow(rt, alloc, image.as_mut(), bytes)?;
-    assert_image(rt, image.as_ref(), at(1, number), steps, 0, 0);
-    let resumed = resumed_guest(alloc, image)?;
-    assert!(rt; resumed.as_slice() == guest, "after {} bytes", bytes.len());
-    Ok(())
+    let image = image_after(rt, alloc, bytes, answer)?;
+    assert_image(rt, &image, at(1, 0), 0, 0, 0);
+    assert_resumes(rt, alloc, image, guest, bytes.len())
 }
 
 /// Each beginning of a text leaves the guest of boot.
@@ -87,30 +121,38 @@ fn assert_stops_leave(rt: &impl Abort, alloc: Global, text: &[u8]) -> Result<(),
     let guest = guest_after(rt, alloc, 0)?;
     for count in 0..text.len() {
         let front = text.get(..count).unwrap_or(&[]);
-        assert_leaves(rt, alloc, front, 0, 0, guest.as_slice())?;
+        assert_leaves(rt, alloc, front, Ok(Staged::New), &guest)?;
     }
     Ok(())
 }
 
+/// The whole text of a delta takes the image on, to the guest of the primary.
+fn assert_whole_takes_on(rt: &impl Abort, alloc: Global, text: &[u8]) -> Result<(), Fail> {
+    let image = image_after(rt, alloc, text, Ok(Staged::New))?;
+    assert_image(rt, &image, at(1, 1), 22, 0, 0);
+    let guest = guest_after(rt, alloc, 22)?;
+    assert_resumes(rt, alloc, image, &guest, text.len())
+}
+
 #[test]
 fn a_stop_leaves_the_guest_of_boot(rt: HostRuntime) -> Result<(), Fail> {
-    let text = delta(&rt, rt.alloc())?;
+    let text = delta_text(&rt, rt.alloc())?;
     assert_eq!(rt; text.len(), 630);
-    assert_stops_leave(&rt, rt.alloc(), text.as_slice())?;
+    assert_stops_leave(&rt, rt.alloc(), &text)?;
     // and the last byte takes it on
-    let guest = guest_after(&rt, rt.alloc(), 22)?;
-    assert_leaves(&rt, rt.alloc(), text.as_slice(), 1, 22, guest.as_slice())
+    assert_whole_takes_on(&rt, rt.alloc(), &text)
+}
+
+/// A whole text that is refused leaves the guest of boot too.
+fn assert_refused_leaves(rt: &impl Abort, alloc: Global, text: &[u8]) -> Result<(), Fail> {
+    let guest = guest_after(rt, alloc, 0)?;
+    assert_leaves(rt, alloc, text, Err(ImageError::OldVersion), &guest)
 }
 
 /// A whole delta of version 1 is refused, so that leaves it too.
 #[test]
 fn an_old_delta_leaves_the_guest_of_boot(rt: HostRuntime) -> Result<(), Fail> {
-    let mut text = delta(&rt, rt.alloc())?;
-    text.truncate(608);
-    if let Some(version) = text.get_mut(3) {
-        *version = b'1';
-    }
-    assert_stops_leave(&rt, rt.alloc(), text.as_slice())?;
-    let guest = guest_after(&rt, rt.alloc(), 0)?;
-    assert_leaves(&rt, rt.alloc(), text.as_slice(), 0, 0, guest.as_slice())
+    let text = old_delta_text(&rt, rt.alloc())?;
+    assert_stops_leave(&rt, rt.alloc(), &text)?;
+    assert_refused_leaves(&rt, rt.alloc(), &text)
 }

@@ -1,138 +1,108 @@
 //! Instructions as text: the mnemonic, and the operands as numbers.
 
-use crate::{Condition, CsrOp, Division, Instr, Multiplication, Operation, Width, WordOperation};
+use crate::{
+    Condition, CsrOp, Division, Instr, Multiplication, Operation, Register, Width, WordOperation,
+};
 use std::alloc::{AllocError, Global};
+
+/// A name, a register, and a number.
+fn one(alloc: Global, name: &str, rd: Register, number: i64) -> Result<String, AllocError> {
+    format!(in alloc; "{name} {} {number}", rd.number())
+}
+
+/// A name, two registers, and a number.
+fn two(
+    alloc: Global,
+    name: &str,
+    first: Register,
+    second: Register,
+    number: u64,
+) -> Result<String, AllocError> {
+    format!(in alloc;
+        "{name} {} {} {}",
+        first.number(),
+        second.number(),
+        number.cast_signed()
+    )
+}
+
+/// A name and three registers.
+fn three(
+    alloc: Global,
+    name: &str,
+    rd: Register,
+    rs1: Register,
+    rs2: Register,
+) -> Result<String, AllocError> {
+    format!(in alloc; "{name} {} {} {}", rd.number(), rs1.number(), rs2.number())
+}
+
+/// A name, a register, a CSR, and a register or a number.
+fn csr_access(
+    alloc: Global,
+    name: &str,
+    rd: Register,
+    csr: u16,
+    operand: u64,
+) -> Result<String, AllocError> {
+    format!(in alloc; "{name} {} {csr} {operand}", rd.number())
+}
+
+/// The 20 bits of an immediate that a word holds.
+fn upper(imm: u64) -> i64 {
+    (imm / 0x1000 % 0x10_0000).cast_signed()
+}
 
 /// What an instruction says: registers and CSRs by their numbers, immediates as signed numbers, and of LUI and AUIPC the
 /// 20 bits of the word. A load or a store names its base before the offset. Of FENCE there is only the mnemonic.
 pub fn text(alloc: Global, instr: Instr) -> Result<String, AllocError> {
     match instr {
-        Instr::Lui { rd, imm } => format!(in alloc;
-            "lui {} {}",
-            rd.number(),
-            imm / 0x1000 % 0x10_0000
-        ),
-        Instr::Auipc { rd, imm } => format!(in alloc;
-            "auipc {} {}",
-            rd.number(),
-            imm / 0x1000 % 0x10_0000
-        ),
-        Instr::Jal { rd, offset } => format!(in alloc;
-            "jal {} {}",
-            rd.number(),
-            offset.cast_signed()
-        ),
-        Instr::Jalr { rd, rs1, offset } => {
-            format!(in alloc;
-                "jalr {} {} {}",
-                rd.number(),
-                rs1.number(),
-                offset.cast_signed()
-            )
-        }
+        Instr::Lui { rd, imm } => one(alloc, "lui", rd, upper(imm)),
+        Instr::Auipc { rd, imm } => one(alloc, "auipc", rd, upper(imm)),
+        Instr::Jal { rd, offset } => one(alloc, "jal", rd, offset.cast_signed()),
+        Instr::Jalr { rd, rs1, offset } => two(alloc, "jalr", rd, rs1, offset),
         Instr::Branch {
             condition,
             rs1,
             rs2,
             offset,
-        } => {
-            let name = branch_name(condition);
-            format!(in alloc;
-                "{name} {} {} {}",
-                rs1.number(),
-                rs2.number(),
-                offset.cast_signed()
-            )
-        }
+        } => two(alloc, branch_name(condition), rs1, rs2, offset),
         Instr::Load {
             rd,
             rs1,
             offset,
             width,
             signed,
-        } => {
-            let name = load_name(width, signed);
-            format!(in alloc;
-                "{name} {} {} {}",
-                rd.number(),
-                rs1.number(),
-                offset.cast_signed()
-            )
-        }
+        } => two(alloc, load_name(width, signed), rd, rs1, offset),
         Instr::Store {
             rs1,
             rs2,
             offset,
             width,
-        } => {
-            let name = store_name(width);
-            format!(in alloc;
-                "{name} {} {} {}",
-                rs2.number(),
-                rs1.number(),
-                offset.cast_signed()
-            )
-        }
-        Instr::OpImm { op, rd, rs1, imm } => {
-            let name = op_imm_name(op);
-            format!(in alloc;
-                "{name} {} {} {}",
-                rd.number(),
-                rs1.number(),
-                imm.cast_signed()
-            )
-        }
-        Instr::Op { op, rd, rs1, rs2 } => {
-            let name = op_name(op);
-            format!(in alloc; "{name} {} {} {}", rd.number(), rs1.number(), rs2.number())
-        }
-        Instr::Sub { rd, rs1, rs2 } => {
-            format!(in alloc; "sub {} {} {}", rd.number(), rs1.number(), rs2.number())
-        }
-        Instr::Mul { op, rd, rs1, rs2 } => {
-            let name = mul_name(op);
-            format!(in alloc; "{name} {} {} {}", rd.number(), rs1.number(), rs2.number())
-        }
-        Instr::Div { op, rd, rs1, rs2 } => {
-            let name = div_name(op);
-            format!(in alloc; "{name} {} {} {}", rd.number(), rs1.number(), rs2.number())
-        }
-        Instr::OpImmWord { op, rd, rs1, imm } => {
-            let name = op_imm_word_name(op);
-            format!(in alloc;
-                "{name} {} {} {}",
-                rd.number(),
-                rs1.number(),
-                imm.cast_signed()
-            )
-        }
-        Instr::OpWord { op, rd, rs1, rs2 } => {
-            let name = op_word_name(op);
-            format!(in alloc; "{name} {} {} {}", rd.number(), rs1.number(), rs2.number())
-        }
-        Instr::SubWord { rd, rs1, rs2 } => {
-            format!(in alloc; "subw {} {} {}", rd.number(), rs1.number(), rs2.number())
-        }
-        Instr::MulWord { rd, rs1, rs2 } => {
-            format!(in alloc; "mulw {} {} {}", rd.number(), rs1.number(), rs2.number())
-        }
-        Instr::DivWord { op, rd, rs1, rs2 } => {
-            let name = div_name(op);
-            format!(in alloc; "{name}w {} {} {}", rd.number(), rs1.number(), rs2.number())
-        }
-        Instr::Fence { .. } => format!(in alloc; "fence"),
-        Instr::Csr { op, rd, rs1, csr } => {
-            let name = csr_name(op);
-            format!(in alloc; "{name} {} {csr} {}", rd.number(), rs1.number())
-        }
-        Instr::CsrImm { op, rd, imm, csr } => {
-            let name = csr_name(op);
-            format!(in alloc; "{name}i {} {csr} {imm}", rd.number())
-        }
-        Instr::Ecall => format!(in alloc; "ecall"),
-        Instr::Ebreak => format!(in alloc; "ebreak"),
-        Instr::Mret => format!(in alloc; "mret"),
-        Instr::Wfi => format!(in alloc; "wfi"),
+        } => two(alloc, store_name(width), rs2, rs1, offset),
+        Instr::OpImm { op, rd, rs1, imm } => two(alloc, op_imm_name(op), rd, rs1, imm),
+        Instr::Op { op, rd, rs1, rs2 } => three(alloc, op_name(op), rd, rs1, rs2),
+        Instr::Sub { rd, rs1, rs2 } => three(alloc, "sub", rd, rs1, rs2),
+        Instr::Mul { op, rd, rs1, rs2 } => three(alloc, mul_name(op), rd, rs1, rs2),
+        Instr::Div { op, rd, rs1, rs2 } => three(alloc, div_name(op), rd, rs1, rs2),
+        Instr::OpImmWord { op, rd, rs1, imm } => two(alloc, op_imm_word_name(op), rd, rs1, imm),
+        Instr::OpWord { op, rd, rs1, rs2 } => three(alloc, op_word_name(op), rd, rs1, rs2),
+        Instr::SubWord { rd, rs1, rs2 } => three(alloc, "subw", rd, rs1, rs2),
+        Instr::MulWord { rd, rs1, rs2 } => three(alloc, "mulw", rd, rs1, rs2),
+        Instr::DivWord { op, rd, rs1, rs2 } => three(alloc, div_word_name(op), rd, rs1, rs2),
+        Instr::Fence { .. } => String::from_str(alloc, "fence"),
+        Instr::Csr { op, rd, rs1, csr } => csr_access(
+            alloc,
+            csr_name(op),
+            rd,
+            csr,
+            rs1.number().into(),
+        ),
+        Instr::CsrImm { op, rd, imm, csr } => csr_access(alloc, csr_imm_name(op), rd, csr, imm),
+        Instr::Ecall => String::from_str(alloc, "ecall"),
+        Instr::Ebreak => String::from_str(alloc, "ebreak"),
+        Instr::Mret => String::from_str(alloc, "mret"),
+        Instr::Wfi => String::from_str(alloc, "wfi"),
     }
 }
 
@@ -214,6 +184,15 @@ fn div_name(op: Division) -> &'static str {
     }
 }
 
+fn div_word_name(op: Division) -> &'static str {
+    match op {
+        Division::Div => "divw",
+        Division::Divu => "divuw",
+        Division::Rem => "remw",
+        Division::Remu => "remuw",
+    }
+}
+
 fn op_imm_word_name(op: WordOperation) -> &'static str {
     match op {
         WordOperation::Add => "addiw",
@@ -237,5 +216,13 @@ fn csr_name(op: CsrOp) -> &'static str {
         CsrOp::Write => "csrrw",
         CsrOp::Set => "csrrs",
         CsrOp::Clear => "csrrc",
+    }
+}
+
+fn csr_imm_name(op: CsrOp) -> &'static str {
+    match op {
+        CsrOp::Write => "csrrwi",
+        CsrOp::Set => "csrrsi",
+        CsrOp::Clear => "csrrci",
     }
 }

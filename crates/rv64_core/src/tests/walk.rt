@@ -3,6 +3,8 @@
 use super::disassembly::text;
 use super::words::{COMPUTATIONS, ILLEGAL, JUMPS, MEMORY, SYSTEM, UPPER};
 use crate::{decode, encode};
+use std::alloc::Global;
+use std::process::Abort;
 use std::test::Fail;
 
 /// The number that 8 hexadecimal digits spell.
@@ -11,21 +13,39 @@ fn word_of(digits: &str) -> Result<u32, Fail> {
     Ok(word)
 }
 
+/// What a line says of a word, by its digits: it is read so, and written again.
+fn assert_says(rt: &impl Abort, alloc: Global, digits: &str, said: &str) -> Result<(), Fail> {
+    let word = word_of(digits)?;
+    let instr = decode(word).ok_or("it is an instruction")?;
+    assert_eq!(rt; text(alloc, instr)?.as_str(), said, "{digits}");
+    assert_eq!(rt; encode(instr), word);
+    Ok(())
+}
+
+/// All lines of a part. Answers how many there are.
+fn assert_lines(rt: &impl Abort, alloc: Global, part: &str) -> Result<u64, Fail> {
+    let mut count = 0u64;
+    for line in part.lines() {
+        let (digits, said) = line.split_once(' ').ok_or("no instruction")?;
+        assert_says(rt, alloc, digits, said)?;
+        count = count.saturating_add(1);
+    }
+    Ok(count)
+}
+
 #[test]
 fn each_word_says_what_objdump_reads(rt: HostRuntime) -> Result<(), Fail> {
     let mut count = 0u64;
     for part in [UPPER, JUMPS, MEMORY, COMPUTATIONS, SYSTEM] {
-        for line in part.lines() {
-            let (digits, said) = line.split_once(' ').ok_or("no instruction")?;
-            let word = word_of(digits)?;
-            let instr = decode(word).ok_or(line)?;
-            let again = instr;
-            assert_eq!(rt; text(rt.alloc(), instr)?.as_str(), said, "{digits}");
-            assert_eq!(rt; encode(again), word);
-            count = count.saturating_add(1);
-        }
+        count = count.saturating_add(assert_lines(&rt, rt.alloc(), part)?);
     }
     assert!(rt; count > 800, "the walk has {count} words");
+    Ok(())
+}
+
+/// A word, by its digits, is no instruction.
+fn assert_illegal(rt: &impl Abort, digits: &str) -> Result<(), Fail> {
+    assert_eq!(rt; decode(word_of(digits)?), None, "{digits}");
     Ok(())
 }
 
@@ -34,7 +54,7 @@ fn what_objdump_does_not_read_is_illegal(rt: HostRuntime) -> Result<(), Fail> {
     let mut count = 0u64;
     for line in ILLEGAL.lines() {
         for digits in line.split(' ') {
-            assert_eq!(rt; decode(word_of(digits)?), None, "{digits}");
+            assert_illegal(&rt, digits)?;
             count = count.saturating_add(1);
         }
     }
