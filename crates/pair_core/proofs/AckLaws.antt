@@ -10,14 +10,19 @@ use Rattle.pair_history.specs.{Entries.{Frame, Entry, Ran, Arrive, Land, DropOut
 use Rattle.pair_history.specs.{Leaving.{LeaveInOrder, NotGivenUp, leaving, frames_left}, Released.{sent_to, IsFresh}}
 use Rattle.pair_history.proofs.{ClientLists.out_of-append, States.{DropsAreKnown-append, targets_of-append}}
 use Rattle.pair_history.proofs.LeavingLaws.{all_leave_in_order, frames_left-append, leaving-append, none_leave, TakesNone}
-use Rattle.pair_core.specs.{Acknowledged.{greater, acked_to, greatest_acked, IsOrdinary, AreOrdinary}, declared.event.Event.Event}
-use Rattle.pair_core.specs.declared.event.Event.TheVariants.{Step, Cut}
-use Rattle.pair_core.specs.{declared.event.Reply.Reply, Drops.{LetsOut}}
-use Rattle.pair_core.specs.{Journal.{kept_entries, all_entries}, Modes.{is_alone, filled}, Pair.{Pair, shown_state, IsConsistent}}
-use Rattle.pair_core.specs.Protocol.{Record, Outcome, refused, shown_at, outbox_of}
-use Rattle.pair_core.specs.{Record.start_record, Replication.{Does, Leads}, Window.{NumberedFrom, IsWindow, first_after}}
-use Rattle.pair_core.proofs.{AloneLaws.frames_to-all, AlongLaws.along-keeps, Ends.{Ends, answers_end}, Tells.OfGuest}
-use Rattle.pair_core.specs.declared.event.Reply.TheVariants as replies
+use Rattle.pair_record.specs.declared.event.Event.{Event}
+use Rattle.pair_core.specs.Acknowledged.{greater, acked_to, greatest_acked, IsOrdinary, AreOrdinary}
+use Rattle.pair_record.specs.declared.event.Event.TheVariants.{Step, Cut}
+use Rattle.pair_record.specs.declared.event.Reply.{Reply}
+use Rattle.pair_core.specs.Drops.{LetsOut}
+use Rattle.pair_record.specs.{Journal.{kept_entries, all_entries}, Modes.{is_alone, filled}}
+use Rattle.pair_core.specs.Pair.{Pair, shown_state, IsConsistent}
+use Rattle.pair_record.specs.Protocol.{Record, Outcome, refused, shown_at, outbox_of}
+use Rattle.pair_record.specs.{Record.start_record, Window.{NumberedFrom, IsWindow, first_after}}
+use Rattle.pair_core.specs.Replication.{Does, Leads}
+use Rattle.pair_record.proofs.AloneLaws.{frames_to-all}
+use Rattle.pair_core.proofs.{AlongLaws.along-keeps, Ends.{Ends, answers_end}, Tells.OfGuest}
+use Rattle.pair_record.specs.declared.event.Reply.TheVariants as replies
 
 -- NUMBERS of what is pending
 

@@ -1,51 +1,22 @@
 -- Where a node goes on alone: all that is kept goes to the history, and all that is on its way lands. So does what each of its steps sends.
-use Rattle.std.proofs.Common.{◌≡◌, ℕ, zero, suc, List, [], ◌∷◌, ◌++◌, length, take, drop, refl, sym, ap, ◌∙◌, subst, append_assoc, Bool}
-use Rattle.std.proofs.{Common.{true, false, Some}, lemmas.List.append-nil}
+use Rattle.std.proofs.Common.{◌≡◌, ℕ, List, [], ◌∷◌, ◌++◌, length, refl, sym, ap, ◌∙◌, subst, append_assoc, Bool, true, false, Some}
 use Rattle.std.specs.Prelude.{slice_get, ◌≤◌}
 use Rattle.frame_ports.specs.{Addresses.targets_of, Lands.{list_of, lands}}
 use Rattle.failover.specs.declared.mode.Mode.{Mode}
-use Rattle.output_gate.specs.Epochs.{Epoch, frames_of}
-use Rattle.guest_machine.specs.Step.{sent}
-use Rattle.pair_history.specs.{Entries.{Frame, Entry, Ran, Arrive}, HistoryState.{HistoryState, after, at, Legal}}
-use Rattle.pair_history.specs.{Landings.{landings, DropsAreKnown, DropsAtFull, BoxesFit}, internal.Moves.{Move, Steps, Arrives, entries_of, left}}
-use Rattle.pair_history.proofs.{States.{at-append, Legal-append, DropsAreKnown-append, at_full-known}, Losses.AreRising-left}
-use Rattle.pair_history.proofs.Moves.{moved, Legal-moves, DropsAreKnown-moves}
-use Rattle.pair_history.proofs.LandingLaws.{length-lands, BoxesFit-lands, AllClients-targets, landings-land, AllLand, AllClients}
-use Rattle.pair_core.specs.{declared.window.Window.Window, internal.Invariant.{frames_by_epoch, AreNodes, AreClients, Holds}, Modes.is_alone}
-use Rattle.pair_core.specs.{Nodes.{Node, Nodes, HasShape, with_arrival}, Pair.{Pair, shown_state, live_state}}
-use Rattle.pair_core.specs.Journal.{joined, kept_entries, all_entries, all_committed, with_history, with_running, with_moves}
-use Rattle.pair_core.specs.Protocol.{all_held, outbox_of, step_entries, admit_done}
-use Rattle.pair_core.specs.Record.{IsRecord, IsLone, ports_after_all, ports_after_admit}
-use Rattle.pair_core.specs.Window.{committed_of, uncommitted_of, committed_count}
-use Rattle.pair_core.proofs.{Consistent.{kept_is, live_is_moved, outbox_is, owed_is, alone_is}, Events.{kept_moves, admit_holds}}
-use Rattle.pair_core.proofs.ModeLaws.{clash}
+use Rattle.output_gate.specs.Epochs.{frames_of}
+use Rattle.pair_history.specs.{Entries.{Frame, Entry, Arrive}, Landings.landings}
+use Rattle.pair_record.specs.{declared.window.Window.Window, Modes.is_alone}
+use Rattle.pair_record.specs.Journal.{joined, all_committed, with_history, with_running, with_moves}
+use Rattle.pair_record.specs.Protocol.{all_held, admit_done}
+use Rattle.pair_record.specs.Record.{IsRecord, IsLone, ports_after_all, ports_after_admit}
+use Rattle.pair_record.proofs.{LoneAccords.{all_landed_accords, landed_state, landed_is}, ModeLaws.clash}
+use Rattle.pair_core.specs.internal.Invariant.{AreNodes, Holds}
+use Rattle.pair_core.specs.{Nodes.{Node, Nodes, HasShape, with_arrival}, Pair.Pair}
+use Rattle.pair_core.proofs.{Consistent.{outbox_is, alone_is}, Events.admit_holds}
 
-pub take-none : {A : Type 0} (n : ℕ) → take {A = A} n [] ≡ []
-take-none zero = refl
-take-none (suc n) = refl
-
-pub drop-none : {A : Type 0} (n : ℕ) → drop {A = A} n [] ≡ []
-drop-none zero = refl
-drop-none (suc n) = refl
-
--- what leaves the gate and the outbox lands, or finds its client's box full
-module _ (w : Pair) (h : Holds w) where
-  abbrev held : List (ℕ × Frame)
-  held = all_held w.ports.boxes w.nodes.live.outbox w.protocol
-
-  pub all_land : AllLand (live_state w) held [] (landings w.ports.boxes held)
-  all_land =
-      let u = moved (shown_state w) (kept_moves w h) in
-      let b = w.ports.boxes in
-      let same : u.boxes ≡ b = sym h.clients.boxes in
-      let out : u.out ≡ held ++ [] = ap (λ (s : HistoryState). s.out) (sym (live_is_moved w h)) ∙ sym (owed_is w h)
-      ∙ sym (append-nil held) in
-      let all : AllClients (length b) held = AllClients-targets (length b) (frames_of w.protocol.pending ++ w.nodes.live.outbox) in
-      let land : AllLand u held [] (landings u.boxes held) =
-      landings-land u held [] out (subst (λ (x : List (List Frame)). AllClients (length x) held) h.clients.boxes all)
-      (subst BoxesFit h.clients.boxes h.clients.fit) in
-      subst (λ (s : HistoryState). AllLand s held [] (landings b held)) (sym (live_is_moved w h))
-      (subst (λ (x : List (List Frame)). AllLand u held [] (landings x held)) same land)
+-- what leaves the gate and the outbox
+abbrev pub held : Pair → List (ℕ × Frame)
+held w = all_held w.ports.boxes w.nodes.live.outbox w.protocol
 
 module _ (w : Pair) (h : Holds w) (mode : Mode) (lone : is_alone mode ≡ true) (window : Window) (x : Nodes)
     (live : x.live ≡ record w.nodes.live { outbox = [] }) (shape : x.image.shape ≡ w.nodes.image.shape) where
@@ -54,7 +25,7 @@ module _ (w : Pair) (h : Holds w) (mode : Mode) (lone : is_alone mode ≡ true) 
   all_landed = record w {
     protocol = record w.protocol {
       mode = mode;
-      journal = with_history (all_committed w.protocol.journal) (landings w.ports.boxes (held w h));
+      journal = with_history (all_committed w.protocol.journal) (landings w.ports.boxes (held w));
       window = window;
       pending = [];
     };
@@ -64,62 +35,23 @@ module _ (w : Pair) (h : Holds w) (mode : Mode) (lone : is_alone mode ≡ true) 
 
   pub all_landed_holds : Holds all_landed
   all_landed_holds =
-      let j = w.protocol.journal in
-      let s = shown_state w in
-      let b = w.ports.boxes in
-      let ms = kept_moves w h in
-      let u = moved s ms in
-      let ps = held w h in
-      let es = landings b ps in
-      let land = all_land w h in
-      let kept = kept_entries j in
-      let kept_legal : Legal s kept = subst (Legal s) (sym (kept_is w h)) (Legal-moves s ms h.journal.can) in
-      let kept_drops : DropsAreKnown s kept = subst (DropsAreKnown s) (sym (kept_is w h)) (DropsAreKnown-moves s ms h.journal.can) in
-      let all = all_entries j in
-      let now : HistoryState = record u { out = []; boxes = lands b ps } in
-      let shown : at w.start (all ++ es) ≡ now =
-      at-append w.start all es ∙ land.1
-      ∙ ap (λ (t : HistoryState). record t { out = []; boxes = lands t.boxes ps }) (live_is_moved w h)
-      ∙ (λ i. record u { out = []; boxes = lands (sym h.clients.boxes i) ps }) in
-      let long : length (lands b ps) ≡ length b = length-lands b ps in
+      let r = w.protocol in
+      let outbox = w.nodes.live.outbox in
+      let sent = outbox_is w h in
+      let u = landed_state w.start r w.ports h.accords outbox sent in
       let guest : x.live.guest ≡ u.guest = ap (λ (n : Node). n.guest) live ∙ h.nodes.live in
-      let nodes : AreNodes (is_alone mode) w.protocol.generation window.to_commit u.guest [] []
-      (frames_by_epoch (uncommitted_of window [])) x =
+      let nodes : AreNodes (is_alone mode) r.generation window.to_commit u.guest [] [] x =
       record {
         first_generation = h.nodes.first_generation;
         last_generation = h.nodes.last_generation;
         backed = λ e. absurd (clash (is_alone mode) lone e);
-        frames = ap frames_by_epoch (drop-none (committed_count window));
         live = guest;
         outbox = ap (λ (n : Node). n.outbox) live;
         shape = rw live (subst (λ t. HasShape t w.nodes.live.guest) (sym shape) h.nodes.shape);
       } in
-      let clients : AreClients now (left now.waiting []) (record w.ports { boxes = lands b ps }) =
       record {
-        number = h.clients.number;
-        rising = AreRising-left 1 w.ports.next s.waiting ms h.clients.rising;
-        count = h.clients.count ∙ sym long;
-        inboxes = rw long h.clients.inboxes;
-        boxes = refl;
-        fit = BoxesFit-lands b ps h.clients.fit;
-      } in
-      record {
-        journal = record {
-          legal = Legal-append w.start all es (Legal-append w.start j.history kept h.journal.legal kept_legal) land.0;
-          drops =
-              DropsAreKnown-append w.start all es (DropsAreKnown-append w.start j.history kept h.journal.drops kept_drops)
-              (at_full-known (live_state w) es land.2);
-          sealed_moves = [];
-          running_moves = [];
-          sealed_are = refl;
-          running_are = refl;
-          can = tt;
-        };
-        nodes = rw shown nodes;
-        clients = rw shown clients;
-        owed =
-            ap (λ (t : HistoryState). t.out) shown
-            ∙ ap (λ (es : List Epoch). targets_of (length (lands b ps)) (frames_of es)) (sym (take-none (committed_count window)));
+        accords = all_landed_accords w.start r w.ports h.accords outbox sent mode window;
+        nodes = rw (landed_is w.start r w.ports h.accords outbox sent) nodes;
       }
 
 -- WHAT THE GUEST DOES at a node that is alone goes to the history at once
@@ -147,8 +79,8 @@ module _ (w : Pair) (k : IsLone w.protocol) (lone : is_alone w.protocol.mode ≡
   at_once_holds h =
       let j = w.protocol.journal in
       let b = w.ports.boxes in
-      let leaving : held if_kept h ≡ targets = λ i. targets_of (length b) (frames_of (k.2 i) ++ live.outbox) in
-      let history : (j.history ++ (joined j.sealed ++ (j.running ++ es))) ++ landings b (held if_kept h)
+      let leaving : held if_kept ≡ targets = λ i. targets_of (length b) (frames_of (k.2 i) ++ live.outbox) in
+      let history : (j.history ++ (joined j.sealed ++ (j.running ++ es))) ++ landings b (held if_kept)
       ≡ j.history ++ (es ++ landings b targets) =
       (λ i. (j.history ++ (joined (k.0 i) ++ (k.1 i ++ es))) ++ landings b (leaving i)) ∙ append_assoc j.history es (landings b targets) in
       subst Holds
@@ -190,47 +122,3 @@ admitted_holds w h k c n f low high first = by_mode (is_alone w.protocol.mode) r
           nodes = record w.nodes { live = record live { outbox = sym none i } };
         })
         landed
-
--- WHY FRAMES ARE DROPPED there: at a full box
-
--- what the guest does drops nothing
-DropsAtFull-moves : (s : HistoryState) (ms : List Move) (es : List Entry) → DropsAtFull (at s (entries_of ms)) es
-    → DropsAtFull s (entries_of ms ++ es)
-DropsAtFull-moves s [] es p = p
-DropsAtFull-moves s (Steps ∷ ms) es p = DropsAtFull-moves (after s Ran) ms es p
-DropsAtFull-moves s (Arrives n f ∷ ms) es p = DropsAtFull-moves (after s (Arrive n)) ms es p
-
-module _ (w : Pair) (h : Holds w) where
-  -- where the backup fails
-  pub failure_drops : DropsAtFull (shown_state w) (kept_entries w.protocol.journal
-      ++ landings (shown_state w).boxes (all_held (shown_state w).boxes (outbox_of w.start w.protocol) w.protocol))
-  failure_drops =
-      let r = w.protocol in
-      let s = shown_state w in
-      let ms = kept_moves w h in
-      let es : List (List Frame) → List Frame → List Entry = λ b outbox. landings b (all_held b outbox r) in
-      let land : DropsAtFull (live_state w) (es w.ports.boxes w.nodes.live.outbox) = (all_land w h).2 in
-      let seen : DropsAtFull (live_state w) (es s.boxes (outbox_of w.start r)) = rw (← h.clients.boxes) (rw (outbox_is w h) land) in
-      let lives : live_state w ≡ at s (entries_of ms) =
-      at-append w.start r.journal.history (kept_entries r.journal) ∙ ap (at s) (kept_is w h) in
-      rw (kept_is w h) (DropsAtFull-moves s ms (es s.boxes (outbox_of w.start r)) (rw (← lives) seen))
-
-  -- a step of a node that is alone
-  pub step_drops : IsLone w.protocol
-      → DropsAtFull (shown_state w) (step_entries true (shown_state w).boxes (sent (live_state w).guest))
-  step_drops k =
-      let s = shown_state w in
-      let b = s.boxes in
-      let n = length b in
-      let r = w.protocol in
-      let kept : all_entries r.journal ≡ r.journal.history =
-      (λ i. r.journal.history ++ (joined (k.0 i) ++ k.1 i)) ∙ append-nil r.journal.history in
-      let lives : live_state w ≡ s = ap (at w.start) kept in
-      let none : s.out ≡ [] =
-      h.owed ∙ (λ i. targets_of (length w.ports.boxes) (frames_of (committed_of r.window (k.2 i))))
-      ∙ ap (λ (es : List Epoch). targets_of (length w.ports.boxes) (frames_of es)) (take-none (committed_count r.window)) in
-      let t = after s Ran in
-      let ps = targets_of n (sent s.guest) in
-      let out : t.out ≡ ps ++ [] = ap (λ (x : List (ℕ × Frame)). x ++ ps) none ∙ sym (append-nil ps) in
-      let land = landings-land t ps [] out (AllClients-targets n (sent s.guest)) (subst BoxesFit h.clients.boxes h.clients.fit) in
-      rw lives land.2

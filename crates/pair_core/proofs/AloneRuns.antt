@@ -4,14 +4,17 @@ use Rattle.std.proofs.{Common.{arith, append_assoc, Bool, true, cond, inl, inr},
 use Rattle.guest_machine.specs.{Guest.Guest, Step.{next, sent}, Runs.{after_steps, sent_in}}
 use Rattle.frame_ports.specs.{Addresses.targets_of, Lands.lands, Limits.number_limit}
 use Rattle.pair_history.specs.{Entries.{Frame, Ran}, HistoryState.HistoryState, Landings.landings}
-use Rattle.pair_core.specs.{declared.event.Event.TheVariants.Step, declared.event.Reply.Reply, Limits.lone_step_entries}
-use Rattle.pair_core.specs.{internal.Invariant.Holds, Journal.{all_entries, with_history}, Modes.is_alone, Nodes.{after_run, with_sent_off}}
-use Rattle.pair_core.specs.{Pair.Pair, Protocol.{Record, Outcome, step_done, step_outcome, step_room}, Answering.Answers, Record.IsLone}
+use Rattle.pair_record.specs.{declared.event.Event.TheVariants.Step, declared.event.Reply.Reply, Limits.lone_step_entries}
+use Rattle.pair_record.specs.{Journal.{all_entries, with_history}, Modes.is_alone}
+use Rattle.pair_core.specs.{internal.Invariant.Holds, Nodes.{after_run, with_sent_off}}
+use Rattle.pair_record.specs.{Protocol.{Record, Outcome, step_done, step_outcome, step_room}, Record.IsLone}
+use Rattle.pair_core.specs.{Pair.Pair, Answering.Answers}
 use Rattle.pair_core.specs.Runs.{StepsAnswer, goes_on, steps_outcome}
-use Rattle.pair_core.proofs.{AllLands.at_once_holds, Consistent.{live_is, alone_is}, ModeLaws.alone_not_stopped}
+use Rattle.pair_record.proofs.ModeLaws.{alone_not_stopped}
+use Rattle.pair_core.proofs.{AllLands.at_once_holds, Consistent.{live_is, alone_is}}
 use Rattle.pair_core.proofs.StepRuns.{steps_hold, step_goes, no-steps, none-sent, no-steps-answered, more-answered, after_steps-last}
 use Rattle.pair_core.proofs.StepRuns.{replicate-last, one-step-answered}
-use Rattle.pair_core.specs.declared.event.Reply.TheVariants as replies
+use Rattle.pair_record.specs.declared.event.Reply.TheVariants as replies
 
 sent_in-last : (n : ℕ) (g : Guest) → sent_in (suc n) g ≡ sent_in n g ++ sent (after_steps n g)
 unfolding sent_in after_steps

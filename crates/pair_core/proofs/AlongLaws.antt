@@ -1,7 +1,8 @@
 -- Laws of runs, whatever one event makes of a state.
 use Rattle.std.proofs.Common.{◌≡◌, ℕ, zero, suc, List, [], ◌∷◌, ◌++◌, refl, sym, subst, Some}
 use Rattle.std.specs.Prelude.{slice_get}
-use Rattle.pair_core.specs.{declared.event.Event.Event, declared.event.Reply.Reply, Along.{Along, PointAlong}}
+use Rattle.pair_record.specs.{declared.event.Event.Event, declared.event.Reply.Reply}
+use Rattle.pair_core.specs.Along.{Along, PointAlong}
 
 module _ {S : Type 0} (Makes : S → Event → Reply → S → Type 0) where
   -- a run after a run

@@ -6,16 +6,16 @@ use Rattle.guest_machine.specs.Guest.{Guest}
 use Rattle.frame_ports.specs.{Lands.list_of}
 use Rattle.pair_history.specs.{Entries.{Frame, Entry}, HistoryState.{HistoryState, inbox_of}}
 use Rattle.memory_wanted.specs.Wanted.{wanted}
-use Rattle.pair_core.specs.declared.event.Event.{Event}
-use Rattle.pair_core.specs.declared.event.Event.TheVariants.{Deliver, Take, LoseIn, LoseOut}
-use Rattle.pair_core.specs.declared.event.Refusal.TheVariants.{Full, BadFrame, NoClient, NoMemory, Exhausted}
-use Rattle.pair_core.specs.declared.event.Reply.{Reply}
+use Rattle.pair_record.specs.declared.event.Event.{Event}
+use Rattle.pair_record.specs.declared.event.Event.TheVariants.{Deliver, Take, LoseIn, LoseOut}
+use Rattle.pair_record.specs.declared.event.Refusal.TheVariants.{Full, BadFrame, NoClient, NoMemory, Exhausted}
+use Rattle.pair_record.specs.declared.event.Reply.{Reply}
 use Rattle.pair_core.specs.{Answering.{Answers, MayWantMemory}, Calls.{Moment, AnswersCall, AnswersTake, AnswersDelivery, AnswersLoss}}
-use Rattle.pair_core.specs.{Journal.kept_entries}
-use Rattle.pair_core.specs.Protocol.{Record, Outcome, unless, or_else, first_refusal, exhausts, is_among, is_bad_length}
-use Rattle.pair_core.specs.Protocol.{Row, shown_at, live_at, take_done, deliver_done, delivery_refused, lost_in, lost_out, loss_of}
-use Rattle.pair_core.specs.Protocol.{loss_done, outcome}
-use Rattle.pair_core.specs.declared.event.Reply.TheVariants as replies
+use Rattle.pair_record.specs.Journal.{kept_entries}
+use Rattle.pair_record.specs.Protocol.{Record, Outcome, unless, or_else, first_refusal, exhausts, is_among, is_bad_length}
+use Rattle.pair_record.specs.Protocol.{Row, shown_at, live_at, take_done, deliver_done, delivery_refused, lost_in, lost_out, loss_of}
+use Rattle.pair_record.specs.Protocol.{loss_done, outcome}
+use Rattle.pair_record.specs.declared.event.Reply.TheVariants as replies
 
 -- what the tests say
 

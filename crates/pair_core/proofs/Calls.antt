@@ -3,7 +3,8 @@ use Rattle.std.proofs.Common.{◌≡◌, ◌∙◌, sym, ap, subst, Result, Ok, 
 use Rattle.std.specs.Prelude.{IfOk, OnOk}
 use Rattle.memory_wanted.specs.declared.MemoryWanted.{MemoryWanted}
 use Rattle.frame_ports.specs.Ports.{PortsState}
-use Rattle.pair_core.specs.{declared.event.Reply.Reply, internal.Invariant.Holds, Pair.Pair, Protocol.{Record, Outcome}, Record.RecordState}
+use Rattle.pair_record.specs.{declared.event.Reply.Reply, Protocol.{Record, Outcome}, Record.RecordState}
+use Rattle.pair_core.specs.{internal.Invariant.Holds, Pair.Pair}
 
 -- on either result
 pub on_ok : {A : Type 0} (o : Result A MemoryWanted) (P : Type 0) → P → OnOk o P
@@ -27,8 +28,8 @@ answered_so (Err x) r done out e k = tt
 -- the invariant after a call that did all or nothing
 pub after_call : (w : Pair) → Holds w → (s : RecordState) (o : Result Reply MemoryWanted) (done : Outcome) (ports : PortsState)
     → IfOk o (λ reply. (reply, s.protocol) ≡ done) → OnOk o (s.ports ≡ ports)
-    → OnErr o (s ≡ record { protocol = w.protocol; ports = w.ports })
+    → OnErr o ((s.protocol ≡ w.protocol) × (s.ports ≡ w.ports))
     → Holds (record w { protocol = done.1; ports = ports }) → Holds (record w { protocol = s.protocol; ports = s.ports })
 after_call w h s (Ok x) done ports k p e now =
     subst Holds (λ i. record w { protocol = sym (ap (λ (q : Outcome). q.1) k) i; ports = sym p i }) now
-after_call w h s (Err x) done ports k p e now = subst Holds (λ i. record w { protocol = (sym e i).protocol; ports = (sym e i).ports }) h
+after_call w h s (Err x) done ports k p e now = subst Holds (λ i. record w { protocol = sym e.0 i; ports = sym e.1 i }) h

@@ -1,279 +1,90 @@
--- What clients and their lines do keeps the invariant: it goes into the history, before what is kept.
-use Rattle.std.proofs.Common.{◌≡◌, ℕ, ◌+◌, ◌-◌, ◌<◌, ◌≤◌, List, [], ◌∷◌, ◌++◌, length, drop, remove, refl, sym, ap, ◌∙◌, subst, arith, Bool}
-use Rattle.std.proofs.{Common.{true, cond, Some}, lemmas.Bool.{eq-eqb, lt-ltb}, lemmas.List.Edits.length-remove}
-use Rattle.std.proofs.lemmas.List.{append-nil, length-set}
-use Rattle.std.specs.Prelude.{slice_get, nat_lt, ◌==◌}
-use Rattle.frame_ports.specs.{Addresses.{IsFrame, targets_of}, Lands.{list_of, with_list, lands}, Ports.{PortsState, after_delivery}}
-use Rattle.frame_ports.specs.Limits.{inbox_frames, box_frames}
-use Rattle.output_gate.specs.Epochs.{Epoch, frames_to, frames_of}
+-- What clients, their lines and acknowledgements do keeps the invariant: the record's part is its own law, and the nodes stay.
+use Rattle.std.proofs.Common.{◌≡◌, ℕ, ◌<◌, ◌≤◌, List, [], ◌∷◌, ◌++◌, length, refl, sym, ap, ◌∙◌, Some}
+use Rattle.std.proofs.Math.Path.{transport}
+use Rattle.std.specs.Prelude.{slice_get}
+use Rattle.frame_ports.specs.{Addresses.IsFrame, Lands.list_of, Limits.inbox_frames, Ports.{PortsState, after_delivery}}
+use Rattle.output_gate.specs.Epochs.{Epoch}
 use Rattle.pair_history.specs.Entries.{Frame, Entry, Delivered, Refused, DropIn, DropOut, Took}
-use Rattle.pair_history.specs.HistoryState.{HistoryState, Waiting, inbox_of, without_number, out_without, at, Legal, Allows}
-use Rattle.pair_history.specs.{Landings.{landings, DropsAreKnown, BoxesFit}, internal.Moves.{left, AllCan}}
-use Rattle.pair_history.proofs.States.{at-append, Legal-append, DropsAreKnown-append, at_full-known, targets_of-append}
-use Rattle.pair_history.proofs.Waiting.{inbox_of-append, AreRising-push, AreRising-without, StandsAt, Leaves, leaves-at}
-use Rattle.pair_history.proofs.{Losses.{AreRising-left, LeavesBefore, leaves-before}, Moves.{AllCan-more, left-more, left-shorter}}
-use Rattle.pair_history.proofs.LandingLaws.{length-lands, BoxesFit-set, BoxesFit-at, BoxesFit-lands, AllClients-targets, landings-land}
-use Rattle.pair_history.specs.Leaving.{LeaveInOrder}
-use Rattle.pair_history.proofs.{LandingLaws.{AllLand, AllClients}, LeavingLaws.landings-leave}
-use Rattle.pair_core.specs.{declared.window.Window.Window, internal.Invariant.{AreClients, Holds}, Journal.with_history, Pair.{Pair, shown_state}}
-use Rattle.pair_core.specs.Protocol.{ack_done, deliver_done, take_done, loss_done, let_go}
-use Rattle.pair_core.specs.Record.{IsRecord, ports_after_ack, ports_after_take, ports_after_lose_in, ports_after_lose_out}
-use Rattle.pair_core.specs.Window.{committed_of, uncommitted_of}
-use Rattle.pair_core.proofs.Events.{frames_of-append, kept_moves, left_now, AreInboxes-with, apart}
-use Rattle.pair_core.proofs.WindowLaws.{leaves, gone, committed_left, uncommitted_left}
+use Rattle.pair_history.specs.{HistoryState.{HistoryState, at}, Landings.landings}
+use Rattle.pair_history.proofs.States.{at-append}
+use Rattle.pair_record.specs.{internal.Accords.Accords, Journal.with_history, declared.window.Window.Window, Modes.is_alone}
+use Rattle.pair_record.specs.Protocol.{Record, ack_done, deliver_done, take_done, loss_done, let_go}
+use Rattle.pair_record.specs.Record.{IsRecord, ports_after_ack, ports_after_take, ports_after_lose_in, ports_after_lose_out}
+use Rattle.pair_record.proofs.ClientAccords.{ack_lands, ack_accords, take_accords, lose_in_accords, lose_out_accords, deliver_accords}
+use Rattle.pair_record.proofs.ClientAccords.{full_accords}
+use Rattle.pair_core.specs.{internal.Invariant.{AreNodes, Holds}, Pair.{Pair, shown_state}}
 
 -- A CLIENT'S EVENT goes into the history, before what is kept: the guest stays as it is
 
-module _ (w : Pair) (h : Holds w) (es : List Entry) (now : HistoryState)
-    (leads : at (shown_state w) es ≡ now)
-    (guest : now.guest ≡ (shown_state w).guest)
-    (legal : Legal (shown_state w) es)
-    (drops : DropsAreKnown (shown_state w) es)
-    (can : AllCan now.waiting (kept_moves w h))
-    (ports : PortsState)
-    (clients : AreClients now (left now.waiting (kept_moves w h)) ports)
-    (window : Window) (pending : List Epoch)
+module _ (w : Pair) (h : Holds w) (es : List Entry) (window : Window) (pending : List Epoch) (ports : PortsState)
     (stays : window.to_commit ≡ w.protocol.window.to_commit)
-    (same : uncommitted_of window pending ≡ uncommitted_of w.protocol.window w.protocol.pending)
-    (owed : now.out ≡ targets_of (length ports.boxes) (frames_of (committed_of window pending))) where
+    (guest : (at (shown_state w) es).guest ≡ (shown_state w).guest)
+    (accords : Accords w.start (record w.protocol {
+      journal = with_history w.protocol.journal es;
+      window = window;
+      pending = pending;
+    }) ports)
+    (sealed : h.accords.journal.sealed_moves ≡ accords.journal.sealed_moves)
+    (running : h.accords.journal.running_moves ≡ accords.journal.running_moves) where
   pub history_holds : Holds (record w {
     protocol = record w.protocol { journal = with_history w.protocol.journal es; window = window; pending = pending };
     ports = ports;
   })
   history_holds =
-      let history = w.protocol.journal.history in
-      let shown : now ≡ at w.start (history ++ es) = sym (at-append w.start history es ∙ leads) in
-      let ms = kept_moves w h in
+      let r = w.protocol in
+      let same : (shown_state w).guest ≡ (at w.start (r.journal.history ++ es)).guest =
+      sym guest ∙ sym (ap (λ (t : HistoryState). t.guest) (at-append w.start r.journal.history es)) in
       record {
-        journal = record {
-          legal = Legal-append w.start history es h.journal.legal legal;
-          drops = DropsAreKnown-append w.start history es h.journal.drops drops;
-          sealed_moves = h.journal.sealed_moves;
-          running_moves = h.journal.running_moves;
-          sealed_are = h.journal.sealed_are;
-          running_are = h.journal.running_are;
-          can = rw shown at can;
-        };
-        nodes = rw (← stays) at (rw (← same) at (rw (sym guest ∙ ap (λ t. t.guest) shown) at h.nodes));
-        clients = rw shown at clients;
-        owed = ap (λ t. t.out) (sym shown) ∙ owed;
+        accords = accords;
+        nodes =
+            transport (λ i. AreNodes (is_alone r.mode) r.generation (sym stays i) (same i) (sealed i) (running i) w.nodes) h.nodes;
       }
 
 module _ (w : Pair) (h : Holds w) where
-  -- a client of the ports is one of the history's
-  high_there : (c : ℕ) → c ≤ length w.ports.boxes → c ≤ length (shown_state w).boxes
-  high_there c l = rw (← h.clients.boxes) l
-
-  -- AckGet: what the gate held up to that checkpoint is the front of what the history owes
-  module _ (k : IsRecord w.protocol) (n : ℕ) (below : n < w.protocol.window.to_commit) where
-    abbrev owed_after : List (ℕ × Frame)
-    owed_after = targets_of (length w.ports.boxes) (frames_of (leaves w.protocol.window w.protocol.pending k.window n below).stay)
-
-    owed_first : (shown_state w).out ≡ let_go w.ports.boxes w.protocol n ++ owed_after
-    owed_first =
-        let r = w.protocol in
-        let m = length w.ports.boxes in
-        let t = leaves r.window r.pending k.window n below in
-        h.owed ∙ ap (λ x. targets_of m (frames_of x)) t.split ∙ ap (targets_of m) (frames_of-append t.gone t.stay)
-        ∙ targets_of-append m (frames_of t.gone) (frames_of t.stay)
-        ∙ ap (λ x. targets_of m x ++ owed_after) (sym (gone r.window r.pending k.window n below))
-
-    all_clients : AllClients (length (shown_state w).boxes) (let_go w.ports.boxes w.protocol n)
-    all_clients =
-        subst (λ (x : List (List Frame)). AllClients (length x) (let_go w.ports.boxes w.protocol n)) h.clients.boxes
-        (AllClients-targets (length w.ports.boxes) (frames_to n w.protocol.pending))
-
-    -- it lands, or finds its client's box full
-    pub ack_lands : AllLand (shown_state w) (let_go w.ports.boxes w.protocol n) owed_after
-        (landings w.ports.boxes (let_go w.ports.boxes w.protocol n))
-    ack_lands =
-        let s = shown_state w in
-        let ps = let_go w.ports.boxes w.protocol n in
-        subst (λ (x : List (List Frame)). AllLand s ps owed_after (landings x ps)) (sym h.clients.boxes)
-        (landings-land s ps owed_after owed_first all_clients (subst BoxesFit h.clients.boxes h.clients.fit))
-
-    -- and leaves in order
-    pub ack_leaves : LeaveInOrder (shown_state w) (landings w.ports.boxes (let_go w.ports.boxes w.protocol n)) (let_go w.ports.boxes w.protocol n)
-    ack_leaves =
-        let s = shown_state w in
-        let ps = let_go w.ports.boxes w.protocol n in
-        subst (λ (x : List (List Frame)). LeaveInOrder s (landings x ps) ps) (sym h.clients.boxes)
-        (landings-leave s ps owed_after owed_first all_clients (subst BoxesFit h.clients.boxes h.clients.fit))
+  abbrev r : Record
+  r = w.protocol
 
   pub ack_holds : IsRecord w.protocol → (n : ℕ) → n < w.protocol.window.to_commit
       → Holds (record w { protocol = (ack_done w.ports.boxes w.protocol n).1; ports = ports_after_ack w.ports w.protocol n })
   ack_holds k n below =
-      let r = w.protocol in
-      let s = shown_state w in
-      let b = w.ports.boxes in
-      let t = leaves r.window r.pending k.window n below in
-      let ps = let_go b r n in
-      let qs = targets_of (length b) (frames_of t.stay) in
-      let same : s.boxes ≡ b = sym h.clients.boxes in
-      let land = ack_lands k n below in
-      let long : length (lands b ps) ≡ length b = length-lands b ps in
-      let now : HistoryState = record s { out = qs; boxes = lands b ps } in
-      history_holds w h (landings b ps) now (land.1 ∙ (λ i. record s { out = qs; boxes = lands (same i) ps })) refl
-      land.0 (at_full-known s (landings b ps) land.2) h.journal.can (ports_after_ack w.ports r n)
-      (record {
-        number = h.clients.number;
-        rising = h.clients.rising;
-        count = h.clients.count ∙ sym long;
-        inboxes = rw long h.clients.inboxes;
-        boxes = refl;
-        fit = BoxesFit-lands b ps h.clients.fit;
-      })
-      (ack_done b r n).1.window (ack_done b r n).1.pending refl (uncommitted_left r.window r.pending k.window n below)
-      (ap (λ (x : ℕ). targets_of x (frames_of t.stay)) (sym long)
-      ∙ ap (λ x. targets_of (length (lands b ps)) (frames_of x)) (sym (committed_left r.window r.pending k.window n below)))
+      let after = (ack_done w.ports.boxes w.protocol n).1 in
+      history_holds w h (landings w.ports.boxes (let_go w.ports.boxes w.protocol n)) after.window after.pending
+      (ports_after_ack w.ports w.protocol n) refl
+      (ap (λ (t : HistoryState). t.guest) (ack_lands w.start r w.ports h.accords k n below).1)
+      (ack_accords w.start r w.ports h.accords k n below) refl refl
 
   module _ (c : ℕ) (low : 1 ≤ c) (high : c ≤ length w.ports.boxes) where
-    -- Take
     pub take_holds : Holds (record w { protocol = (take_done w.ports.boxes w.protocol c).1; ports = ports_after_take w.ports c })
     take_holds =
-        let s = shown_state w in
-        let b = w.ports.boxes in
-        let box = list_of b c in
-        let entry = Took c (slice_get box 0) in
-        let allowed : Allows s entry = rw h.clients.boxes (answer s c (list_of s.boxes c) refl low (high_there c high)) in
-        let long : length (with_list b c (drop 1 box)) ≡ length b = length-set b (c - 1) (drop 1 box) in
-        let now : HistoryState = record s { boxes = with_list b c (drop 1 box) } in
-        history_holds w h (entry ∷ []) now
-        (λ i. record s { boxes = with_list (sym h.clients.boxes i) c (drop 1 (list_of (sym h.clients.boxes i) c)) }) refl
-        (allowed, tt) tt h.journal.can (ports_after_take w.ports c)
-        (record {
-          number = h.clients.number;
-          rising = h.clients.rising;
-          count = h.clients.count ∙ sym long;
-          inboxes = rw long h.clients.inboxes;
-          boxes = refl;
-          fit = BoxesFit-set b (c - 1) (drop 1 box) h.clients.fit (shorter box (BoxesFit-at b (c - 1) h.clients.fit));
-        })
-        w.protocol.window w.protocol.pending refl refl
-        (h.owed ∙ ap (λ (x : ℕ). targets_of x (frames_of (committed_of w.protocol.window w.protocol.pending))) (sym long))
-      where
-        answer : (s : HistoryState) (c : ℕ) (box : List Frame) → list_of s.boxes c ≡ box → 1 ≤ c → c ≤ length s.boxes
-            → Allows s (Took c (slice_get box 0))
-        answer s c [] e l k = ((l, k), e)
-        answer s c (f ∷ fs) e l k = ((l, k), ap (λ b. slice_get b 0) e)
+        history_holds w h (Took c (slice_get (list_of w.ports.boxes c) 0) ∷ []) r.window r.pending (ports_after_take w.ports c) refl refl
+        (take_accords w.start r w.ports h.accords c low high) refl refl
 
-        shorter : (xs : List Frame) → length xs ≤ box_frames → length (drop 1 xs) ≤ box_frames
-        shorter [] l = l
-        shorter (x ∷ xs) l = omega arith
-
-    -- LoseIn: a frame that still waits after what is kept leaves before it
     pub lose_in_holds : (place n : ℕ) (f : Frame) → slice_get (list_of w.ports.inboxes c) place ≡ Some (n, f)
         → Holds (record w { protocol = (loss_done w.protocol (DropIn n)).1; ports = ports_after_lose_in w.ports c place })
     lose_in_holds place n f there =
-        let s = shown_state w in
-        let p = w.ports in
-        let ms = kept_moves w h in
-        let ws = left_now w h in
-        let fewer = remove (list_of p.inboxes c) place in
-        let rising = AreRising-left 1 p.next s.waiting ms h.clients.rising in
-        let mine : list_of p.inboxes c ≡ inbox_of c ws = h.clients.inboxes c low high in
-        let stands : StandsAt c place n f ws = ap (λ t. slice_get t place) (sym mine) ∙ there in
-        let leaves : Leaves c place n f ws = leaves-at c place n f 1 p.next ws rising stands in
-        let before : LeavesBefore n f s.waiting ms = leaves-before n f 1 p.next s.waiting ms h.clients.rising h.journal.can leaves.0 in
-        let now : HistoryState = record s { waiting = without_number n s.waiting } in
-        let same : (c == c) ≡ true = eq-eqb c c refl in
-        history_holds w h (DropIn n ∷ []) now refl refl ((f, before.0), tt) tt before.1 (ports_after_lose_in p c place)
-        (record {
-          number = h.clients.number;
-          rising = AreRising-without n 1 p.next s.waiting h.clients.rising;
-          count = length-set p.inboxes (c - 1) fewer ∙ h.clients.count;
-          inboxes =
-              rw before.2 (AreInboxes-with (length p.boxes) c p.inboxes fewer ws (without_number n ws) low high h.clients.count
-              h.clients.inboxes (ap (λ t. remove t place) mine ∙ sym (leaves.1 c ∙ ap (λ t. cond t (remove (inbox_of c ws) place) (inbox_of
-              c ws)) same)) (λ d other. sym (leaves.1 d ∙ ap (λ t. cond t (remove (inbox_of c ws) place) (inbox_of d ws)) (apart d c
-              other))));
-          boxes = h.clients.boxes;
-          fit = h.clients.fit;
-        })
-        w.protocol.window w.protocol.pending refl refl h.owed
+        history_holds w h (DropIn n ∷ []) r.window r.pending (ports_after_lose_in w.ports c place) refl refl
+        (lose_in_accords w.start r w.ports h.accords c low high place n f there) refl refl
 
-    -- LoseOut: a frame leaves the box
     pub lose_out_holds : (place : ℕ) → place < length (list_of w.ports.boxes c)
         → Holds (record w { protocol = (loss_done w.protocol (DropOut c place)).1; ports = ports_after_lose_out w.ports c place })
     lose_out_holds place there =
-        let s = shown_state w in
-        let b = w.ports.boxes in
-        let box = list_of b c in
-        let fewer = remove box place in
-        let same : s.boxes ≡ b = sym h.clients.boxes in
-        let boxed : place < length (list_of s.boxes c) = rw (← h.clients.boxes) there in
-        let test : nat_lt place (length (list_of s.boxes c)) ≡ true = lt-ltb place (length (list_of s.boxes c)) boxed in
-        let long : length (with_list b c fewer) ≡ length b = length-set b (c - 1) fewer in
-        let now : HistoryState = record s { boxes = with_list b c fewer } in
-        let without = out_without c (place - length (list_of s.boxes c)) s.out in
-        let others = with_list s.boxes c (remove (list_of s.boxes c) place) in
-        history_holds w h (DropOut c place ∷ []) now
-        (ap (λ (t : Bool). record s { out = cond t s.out without; boxes = cond t others s.boxes }) test
-        ∙ (λ i. record s { boxes = with_list (same i) c (remove (list_of (same i) c) place) }))
-        refl (((low, high_there c high), omega arith), tt) (omega arith, tt) h.journal.can (ports_after_lose_out w.ports c place)
-        (record {
-          number = h.clients.number;
-          rising = h.clients.rising;
-          count = h.clients.count ∙ sym long;
-          inboxes = rw long h.clients.inboxes;
-          boxes = refl;
-          fit =
-              BoxesFit-set b (c - 1) fewer h.clients.fit
-              (let k = length-remove box place there in let l = BoxesFit-at b (c - 1) h.clients.fit in omega arith);
-        })
-        w.protocol.window w.protocol.pending refl refl
-        (h.owed ∙ ap (λ (x : ℕ). targets_of x (frames_of (committed_of w.protocol.window w.protocol.pending))) (sym long))
+        history_holds w h (DropOut c place ∷ []) r.window r.pending (ports_after_lose_out w.ports c place) refl refl
+        (lose_out_accords w.start r w.ports h.accords c low high place there) refl refl
 
     module _ (bytes : List ℕ) (frame : IsFrame (record { items = bytes })) where
       abbrev the_frame : Frame
       the_frame = record { items = bytes }
 
-      -- Deliver: the frame waits after the others, also after what is kept
       pub deliver_holds : Holds (record w {
         protocol = (deliver_done w.protocol c the_frame w.ports.next).1;
         ports = after_delivery w.ports c bytes;
       })
       deliver_holds =
-          let s = shown_state w in
-          let p = w.ports in
-          let f = the_frame in
-          let x : Waiting = record { number = p.next; client = c; frame = f } in
-          let ms = kept_moves w h in
-          let ws = left_now w h in
-          let now : HistoryState = record s { number = s.number + 1; waiting = s.waiting ++ x ∷ [] } in
-          let left_is : ws ++ x ∷ [] ≡ left (s.waiting ++ x ∷ []) ms = sym (left-more s.waiting (x ∷ []) ms h.journal.can) in
-          let mine : list_of p.inboxes c ≡ inbox_of c ws = h.clients.inboxes c low high in
-          let longer = list_of p.inboxes c ++ (p.next, f) ∷ [] in
-          history_holds w h (Delivered c f p.next ∷ []) now refl refl
-          (((low, high_there c high), frame, h.clients.number), tt) tt (AllCan-more s.waiting (x ∷ []) ms h.journal.can)
-          (after_delivery p c bytes)
-          (record {
-            number = ap (λ k. k + 1) h.clients.number;
-            rising = AreRising-push 1 p.next s.waiting x h.clients.rising refl;
-            count = length-set p.inboxes (c - 1) longer ∙ h.clients.count;
-            inboxes =
-                rw (← left_is)
-                (AreInboxes-with (length p.boxes) c p.inboxes longer ws (ws ++ x ∷ []) low high h.clients.count h.clients.inboxes
-                (ap (λ t. t ++ (p.next, f) ∷ []) mine
-                ∙ ap (λ (t : Bool). inbox_of c ws ++ cond t ((p.next, f) ∷ []) []) (sym (eq-eqb c c refl))
-                ∙ sym (inbox_of-append c ws (x ∷ [])))
-                (λ d other.
-                sym (append-nil (inbox_of d ws))
-                ∙ ap (λ (t : Bool). inbox_of d ws ++ cond t ((p.next, f) ∷ []) []) (sym (apart c d (λ (e : c ≡ d). other (sym e))))
-                ∙ sym (inbox_of-append d ws (x ∷ []))));
-            boxes = h.clients.boxes;
-            fit = h.clients.fit;
-          })
-          w.protocol.window w.protocol.pending refl refl h.owed
+          history_holds w h (Delivered c the_frame w.ports.next ∷ []) r.window r.pending (after_delivery w.ports c bytes) refl refl
+          (deliver_accords w.start r w.ports h.accords c low high bytes frame) refl refl
 
-      -- Deliver at a full inbox: that is recorded, and that is all
       pub full_holds : inbox_frames ≤ length (list_of w.ports.inboxes c)
           → Holds (record w { protocol = record w.protocol { journal = with_history w.protocol.journal (Refused c the_frame ∷ []) } })
       full_holds full =
-          let s = shown_state w in
-          let mine = ap length (h.clients.inboxes c low high) in
-          let fewer = left-shorter c s.waiting (kept_moves w h) in
-          let many : inbox_frames ≤ length (inbox_of c s.waiting) = omega arith in
-          history_holds w h (Refused c the_frame ∷ []) s refl refl (((low, high_there c high), frame, many), tt) tt h.journal.can w.ports
-          h.clients
-          w.protocol.window w.protocol.pending refl refl h.owed
+          history_holds w h (Refused c the_frame ∷ []) r.window r.pending w.ports refl refl
+          (full_accords w.start r w.ports h.accords c low high bytes frame full) refl refl

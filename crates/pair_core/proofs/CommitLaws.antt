@@ -7,9 +7,10 @@ use Rattle.epoch_snapshot.specs.{Bases.IsBase, Checkpoints.Change, Images.image_
 use Rattle.backup_image.specs.{declared.errors.ImageError.ImageError, declared.errors.ImageError.TheVariants.{Stale, Gap, OldVersion}}
 use Rattle.backup_image.specs.{declared.standing.Staged.Staged, declared.standing.Staged.TheVariants.{New, Again}}
 use Rattle.backup_image.specs.Images.{ImageState, answer_at, is_old_delta, stage_answer, staged_after, after_stage, committed}
-use Rattle.pair_history.specs.{Entries.Frame, internal.Moves.{Move, guest_along, frames_along}}
+use Rattle.pair_history.specs.internal.Moves.{Move, guest_along, frames_along}
 use Rattle.pair_history.proofs.Moves.{guest_along-append}
-use Rattle.pair_core.specs.internal.Invariant.{all_moves, epoch_frames, AreNodes, IsBacked}
+use Rattle.pair_record.specs.internal.Accords.{all_moves}
+use Rattle.pair_core.specs.internal.Invariant.{AreNodes, IsBacked}
 use Rattle.pair_core.specs.{Nodes.{Nodes, machine_of, with_commit, first_text, later_texts, read_as}, Texts.IsText}
 use Rattle.pair_core.proofs.NodesLaws.{shape-moves, reads-as, first-sealed, later-sealed}
 
@@ -37,9 +38,8 @@ next-is-new generation n some = λ i. cond (same i) (Err Stale) (cond (near i) (
     next_one : (n == n - 1 + 1) ≡ true
     next_one = eq-eqb n (n - 1 + 1) (omega arith)
 
-module _ (alone : Bool) (generation n : ℕ) (g : Guest) (ms : List Move) (mss : List (List Move)) (ran : List Move) (f : List Frame)
-    (held : List (List Frame)) (x : Nodes)
-    (h : AreNodes alone generation n g (ms ∷ mss) ran (f ∷ held) x) (two : alone ≡ false) where
+module _ (alone : Bool) (generation n : ℕ) (g : Guest) (ms : List Move) (mss : List (List Move)) (ran : List Move) (x : Nodes)
+    (h : AreNodes alone generation n g (ms ∷ mss) ran x) (two : alone ≡ false) where
   backed : IsBacked generation n g (ms ∷ mss) x
   backed = h.backed two
 
@@ -80,10 +80,9 @@ module _ (alone : Bool) (generation n : ℕ) (g : Guest) (ms : List Move) (mss :
   abbrev after : Nodes
   after = record x { image = taken_in x.image change; sealed = later_texts x.sealed }
 
-  taken : AreNodes alone generation (n + 1) (guest_along g ms) mss ran held after
+  taken : AreNodes alone generation (n + 1) (guest_along g ms) mss ran after
   taken =
       let number : n ≡ n + 1 - 1 = omega arith in
-      let frames : f ∷ held ≡ frames_along g ms ∷ epoch_frames (guest_along g ms) mss = h.frames in
       record {
         first_generation = h.first_generation;
         last_generation = h.last_generation;
@@ -98,11 +97,10 @@ module _ (alone : Bool) (generation n : ℕ) (g : Guest) (ms : List Move) (mss :
           sealed = later-sealed x.image.shape generation n g ms mss x.sealed backed.sealed;
           base = subst (IsBase (machine_of x.live)) (guest_along-append g ms (all_moves mss)) backed.base;
         };
-        frames = cc;
         live = h.live ∙ ap (guest_along g) (append_assoc ms (all_moves mss) ran) ∙ guest_along-append g ms (all_moves mss ++ ran);
         outbox = h.outbox ∙ ap (λ b. frames_along b ran) (guest_along-append g ms (all_moves mss));
         shape = h.shape;
       }
 
-  pub nodes-commit : AreNodes alone generation (n + 1) (guest_along g ms) mss ran held (with_commit x)
+  pub nodes-commit : AreNodes alone generation (n + 1) (guest_along g ms) mss ran (with_commit x)
   nodes-commit = rw (takes-in x.image change (is-new n refl)) taken

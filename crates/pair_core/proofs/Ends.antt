@@ -8,20 +8,22 @@ use Rattle.frame_ports.specs.Lands.{list_of}
 use Rattle.pair_history.specs.{Entries.{Frame, Entry, Arrive, Delivered, DropIn, DropOut, Took}, HistoryState.{HistoryState, inbox_of}}
 use Rattle.pair_history.specs.Landings.{landings}
 use Rattle.memory_wanted.specs.Wanted.{wanted}
-use Rattle.pair_core.specs.declared.event.Event.{Event}
-use Rattle.pair_core.specs.declared.event.Event.TheVariants.{Step, Cut, Send, BackupGet, AckGet, Admit, Deliver, Take, LoseIn, LoseOut}
-use Rattle.pair_core.specs.{declared.event.Event.TheVariants.{FailPrimary, FailBackup, GoLive, Protect}, declared.event.Packet.Packet}
-use Rattle.pair_core.specs.{declared.event.Refusal.Refusal, declared.event.Refusal.TheVariants.{Full, NoMemory}, declared.event.Reply.Reply}
-use Rattle.pair_core.specs.{Answering.Answers, Journal.{first_of, kept_entries, with_moves}}
-use Rattle.pair_core.specs.Modes.{is_alone, mode_refusal, backup_refusal, change_refusal}
-use Rattle.pair_core.specs.Protocol.{Record, Outcome, allowed, outcome, or_else, refused, shown_at, live_at, outbox_of, step_done}
-use Rattle.pair_core.specs.Protocol.{step_entries, cut_done, send_done, again_done, commit_done, backup_outcome, let_go, ack_done}
-use Rattle.pair_core.specs.Protocol.{ack_outcome, admit_first, admit_done, delivery_refused, deliver_done, take_done, loss_of, loss_done}
-use Rattle.pair_core.specs.Protocol.{fail_primary_done, all_held, fail_backup_done, live_entries, go_live_done, protect_done}
-use Rattle.pair_core.proofs.RecordLaws.{passed, generation_is}
+use Rattle.pair_record.specs.declared.event.Event.{Event}
+use Rattle.pair_record.specs.declared.event.Event.TheVariants.{Step, Cut, Send, BackupGet, AckGet, Admit, Deliver, Take, LoseIn, LoseOut}
+use Rattle.pair_record.specs.{declared.event.Event.TheVariants.{FailPrimary, FailBackup, GoLive, Protect}, declared.event.Packet.Packet}
+use Rattle.pair_record.specs.{declared.event.Refusal.Refusal, declared.event.Refusal.TheVariants.{Full, NoMemory}}
+use Rattle.pair_record.specs.declared.event.Reply.{Reply}
+use Rattle.pair_record.specs.Journal.{first_of, kept_entries, with_moves}
+use Rattle.pair_core.specs.Answering.{Answers}
+use Rattle.pair_record.specs.Modes.{is_alone, mode_refusal, backup_refusal, change_refusal}
+use Rattle.pair_record.specs.Protocol.{Record, Outcome, allowed, outcome, or_else, refused, shown_at, live_at, outbox_of, step_done}
+use Rattle.pair_record.specs.Protocol.{step_entries, cut_done, send_done, again_done, commit_done, backup_outcome, let_go, ack_done}
+use Rattle.pair_record.specs.Protocol.{ack_outcome, admit_first, admit_done, delivery_refused, deliver_done, take_done, loss_of, loss_done}
+use Rattle.pair_record.specs.Protocol.{fail_primary_done, all_held, fail_backup_done, live_entries, go_live_done, protect_done}
+use Rattle.pair_record.proofs.RecordLaws.{passed, generation_is}
 use Rattle.failover.specs.declared.change.Change.TheVariants as changes
 use Rattle.pair_history.specs.Entries as entries
-use Rattle.pair_core.specs.declared.event.Reply.TheVariants as replies
+use Rattle.pair_record.specs.declared.event.Reply.TheVariants as replies
 
 -- what the guest does goes to the history at once where a node is alone
 abbrev pub at_once : Bool → List Entry → List Entry

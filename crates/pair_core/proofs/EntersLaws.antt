@@ -5,13 +5,15 @@ use Rattle.std.specs.{Prelude.All}
 use Rattle.guest_machine.specs.Step.{next, sent}
 use Rattle.frame_ports.specs.{Lands.{has_room, landed_at}, Limits.box_frames}
 use Rattle.pair_history.specs.{Entries.{Frame, Entry, Ran, Arrive, Land, DropOut}, HistoryState.HistoryState, Landings.landings}
-use Rattle.pair_core.specs.{declared.event.Event.Event, declared.event.Event.TheVariants.{Step, Admit}}
-use Rattle.pair_core.specs.declared.event.Refusal.{Refusal}
-use Rattle.pair_core.specs.{Journal.{joined, first_of, rest_of, kept_entries, sealed_off, with_moves}, Modes.is_alone}
-use Rattle.pair_core.specs.{Pair.is_of_guest, Protocol.{Record, live_at, shown_at, outbox_of, step_entries, all_held, let_go, live_entries}}
+use Rattle.pair_record.specs.{declared.event.Event.Event, declared.event.Event.TheVariants.{Step, Admit}}
+use Rattle.pair_record.specs.declared.event.Refusal.{Refusal}
+use Rattle.pair_record.specs.{Journal.{joined, first_of, rest_of, kept_entries, sealed_off, with_moves}, Modes.is_alone}
+use Rattle.pair_record.specs.Protocol.{Record, live_at, shown_at, outbox_of, step_entries, all_held, let_go, live_entries}
+use Rattle.pair_core.specs.Pair.{is_of_guest}
 use Rattle.pair_core.specs.Service.{Enters, guest_entries}
-use Rattle.pair_core.proofs.{Ends.{Ends, at_once}, JournalLaws.joined-push, Tells.{OfGuest, first_of-guest, live_all}}
-use Rattle.pair_core.specs.declared.event.Reply.TheVariants as replies
+use Rattle.pair_record.proofs.JournalLaws.{joined-push}
+use Rattle.pair_core.proofs.{Ends.{Ends, at_once}, Tells.{OfGuest, first_of-guest, live_all}}
+use Rattle.pair_record.specs.declared.event.Reply.TheVariants as replies
 
 abbrev NotOfGuest : Entry → Type 0
 NotOfGuest e = is_of_guest e ≡ false

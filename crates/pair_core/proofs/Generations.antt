@@ -5,12 +5,14 @@ use Rattle.std.specs.Prelude.{slice_get}
 use Rattle.guest_machine.specs.Guest.{Guest}
 use Rattle.backup_image.specs.Images.{ImageState}
 use Rattle.pair_history.specs.HistoryState.{HistoryState}
-use Rattle.pair_core.specs.{declared.event.Event.Event, declared.event.Event.TheVariants.{Step, GoLive, Protect}}
-use Rattle.pair_core.specs.{declared.event.Refusal.Refusal, declared.event.Reply.Reply, Modes.is_alone, Nodes.Nodes}
-use Rattle.pair_core.specs.Protocol.{Record, Outcome, refused}
+use Rattle.pair_record.specs.{declared.event.Event.Event, declared.event.Event.TheVariants.{Step, GoLive, Protect}}
+use Rattle.pair_record.specs.{declared.event.Refusal.Refusal, declared.event.Reply.Reply, Modes.is_alone}
+use Rattle.pair_core.specs.Nodes.{Nodes}
+use Rattle.pair_record.specs.Protocol.{Record, Outcome, refused}
 use Rattle.pair_core.specs.Replication.{to_come, number_after, next_number, IsCut, IsCommit, KeepsBackup, Replicates}
-use Rattle.pair_core.proofs.{Ends.Ends, ModeLaws.{backup_goes, stop_goes}}
-use Rattle.pair_core.specs.declared.event.Reply.TheVariants as replies
+use Rattle.pair_record.proofs.ModeLaws.{backup_goes, stop_goes}
+use Rattle.pair_core.proofs.Ends.{Ends}
+use Rattle.pair_record.specs.declared.event.Reply.TheVariants as replies
 
 -- The places of the guests to come
 

@@ -1,14 +1,4 @@
-pub mod ModeLaws
 pub mod AlongLaws
-pub mod LengthLaws
-pub mod Receivers
-pub mod LineLaws
-pub mod JournalLaws
-pub mod WindowLaws
-pub mod RecordLaws
-pub mod LiveLaws
-pub mod ProtectLaws
-pub mod AloneLaws
 pub mod NodesLaws
 pub mod CommitLaws
 pub mod Ends

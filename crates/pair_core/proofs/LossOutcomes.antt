@@ -4,12 +4,15 @@ use Rattle.std.proofs.Common.{Option, None, Some}
 use Rattle.std.specs.Prelude.{slice_get, option_map, not}
 use Rattle.frame_ports.specs.Lands.{list_of}
 use Rattle.pair_history.specs.{Entries.{Frame, Entry}, HistoryState.inbox_of}
-use Rattle.pair_core.specs.{declared.event.Event.Event, declared.event.Event.TheVariants.{LoseIn, LoseOut}, declared.event.Refusal.Refusal}
-use Rattle.pair_core.specs.{declared.event.Refusal.TheVariants.NoClient, internal.Invariant.Holds, Pair.{Pair, live_state}}
-use Rattle.pair_core.specs.Protocol.{lost_in, on_lose_in, on_lose_out, sight, allowed, unless, refused, first_refusal, is_among}
-use Rattle.pair_core.specs.{Protocol.{client_refusals, loss_refusals, loss_done, loss_of}, Answering.MayWantMemory}
+use Rattle.pair_record.specs.{declared.event.Event.Event, declared.event.Event.TheVariants.{LoseIn, LoseOut}}
+use Rattle.pair_record.specs.declared.event.Refusal.{Refusal}
+use Rattle.pair_record.specs.declared.event.Refusal.TheVariants.{NoClient}
+use Rattle.pair_core.specs.{internal.Invariant.Holds, Pair.{Pair, live_state}}
+use Rattle.pair_record.specs.Protocol.{lost_in, on_lose_in, on_lose_out, sight, allowed, unless, refused, first_refusal, is_among}
+use Rattle.pair_record.specs.Protocol.{client_refusals, loss_refusals, loss_done, loss_of}
+use Rattle.pair_core.specs.Answering.{MayWantMemory}
 use Rattle.pair_core.proofs.Outcomes.{seen, stops, goes, client_range, inbox_is}
-use Rattle.pair_core.specs.declared.event.Reply.TheVariants as replies
+use Rattle.pair_record.specs.declared.event.Reply.TheVariants as replies
 
 -- a place within a list, and one beyond it
 pub some_at : {A : Type 0} (xs : List A) (i : ℕ) → i < length xs → (x : A) × (slice_get xs i ≡ Some x)
@@ -38,7 +41,8 @@ module _ (w : Pair) (h : Holds w) where
   pub lose_in_sight : (c place : ℕ) → on_lose_in (seen w) w.protocol c place ≡ allowed w.start w.protocol (LoseIn c place)
   lose_in_sight c place =
       by_test (not (is_among c (length w.ports.boxes))) refl
-      ∙ ap (λ (b : List (List Frame)). on_lose_in (record (sight w.start w.protocol) { boxes = b }) w.protocol c place) h.clients.boxes
+      ∙ ap (λ (b : List (List Frame)). on_lose_in (record (sight w.start w.protocol) { boxes = b }) w.protocol c place)
+      h.accords.clients.boxes
     where
       by_test : (t : Bool) → not (is_among c (length w.ports.boxes)) ≡ t
           → unless w.protocol ((t, NoClient) ∷ []) (loss_of w.protocol (lost_in (list_of w.ports.inboxes c) place))
@@ -48,7 +52,8 @@ module _ (w : Pair) (h : Holds w) where
 
   pub lose_out_sight : (c place : ℕ) → on_lose_out (seen w) w.protocol c place ≡ allowed w.start w.protocol (LoseOut c place)
   lose_out_sight c place =
-      ap (λ (b : List (List Frame)). on_lose_out (record (sight w.start w.protocol) { boxes = b }) w.protocol c place) h.clients.boxes
+      ap (λ (b : List (List Frame)). on_lose_out (record (sight w.start w.protocol) { boxes = b }) w.protocol c place)
+      h.accords.clients.boxes
 
 -- step by step: the client, the place, the table
 module _ (w : Pair) (event : Event) (c : ℕ) (lost : Option Entry)

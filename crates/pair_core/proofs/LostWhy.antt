@@ -3,10 +3,11 @@ use Rattle.std.proofs.Common.{◌≡◌, ℕ, List, [], ◌∷◌, refl, ap, ◌
 use Rattle.pair_history.specs.{Entries.{Entry, DropIn, DropOut}, Failures.dropped_numbers, HistoryState.{HistoryState, after}}
 use Rattle.pair_history.specs.Landings.{DropsAtFull, DropsNone}
 use Rattle.pair_history.proofs.FailureLaws.{go_live_numbers}
-use Rattle.pair_core.specs.declared.event.Event.{Event}
-use Rattle.pair_core.specs.declared.event.Event.TheVariants.{Step, AckGet, LoseIn, LoseOut, FailBackup, GoLive}
-use Rattle.pair_core.specs.{declared.event.Reply.Reply, Drops.{DropsOnly, WhyLost}, Journal.kept_entries, Protocol.{Record, shown_at}}
-use Rattle.pair_core.specs.declared.event.Reply.TheVariants as replies
+use Rattle.pair_record.specs.declared.event.Event.{Event}
+use Rattle.pair_record.specs.declared.event.Event.TheVariants.{Step, AckGet, LoseIn, LoseOut, FailBackup, GoLive}
+use Rattle.pair_record.specs.{declared.event.Reply.Reply, Journal.kept_entries, Protocol.{Record, shown_at}}
+use Rattle.pair_core.specs.Drops.{DropsOnly, WhyLost}
+use Rattle.pair_record.specs.declared.event.Reply.TheVariants as replies
 
 none : (es : List Entry) → DropsNone es → dropped_numbers es ≡ []
 none [] p = refl

@@ -4,13 +4,14 @@ use Rattle.failover.specs.declared.mode.Mode.TheVariants.{Paired, Filling, Alone
 use Rattle.failover.specs.{Changes.row, declared.change.Change.Change, declared.mode.Mode.Mode}
 use Rattle.pair_history.specs.{Entries.Entry, HistoryState.HistoryState}
 use Rattle.memory_wanted.specs.Wanted.{wanted}
-use Rattle.pair_core.specs.declared.event.Event.{Event}
-use Rattle.pair_core.specs.declared.event.Event.TheVariants.{FailPrimary, FailBackup, GoLive, Protect}
-use Rattle.pair_core.specs.{declared.event.Refusal.Refusal, declared.event.Refusal.TheVariants.NoMemory, declared.event.Reply.Reply}
-use Rattle.pair_core.specs.{Answering.Answers, ModeChanges.{event_of, LeavesMode}, Modes.{change_refusal, mode_refusal}}
-use Rattle.pair_core.specs.Protocol.{Record, Outcome, allowed, outcome, or_else, first_refusal, refused, shown_at, outbox_of}
-use Rattle.pair_core.specs.Protocol.{fail_primary_done, fail_backup_refusals, fail_backup_done, go_live_refusals, go_live_done}
-use Rattle.pair_core.specs.Protocol.{protect_refusals, protect_done}
+use Rattle.pair_record.specs.declared.event.Event.{Event}
+use Rattle.pair_record.specs.declared.event.Event.TheVariants.{FailPrimary, FailBackup, GoLive, Protect}
+use Rattle.pair_record.specs.{declared.event.Refusal.Refusal, declared.event.Refusal.TheVariants.NoMemory, declared.event.Reply.Reply}
+use Rattle.pair_record.specs.Modes.{change_refusal, mode_refusal}
+use Rattle.pair_core.specs.{Answering.Answers, ModeChanges.{event_of, LeavesMode}}
+use Rattle.pair_record.specs.Protocol.{Record, Outcome, allowed, outcome, or_else, first_refusal, refused, shown_at, outbox_of}
+use Rattle.pair_record.specs.Protocol.{fail_primary_done, fail_backup_refusals, fail_backup_done, go_live_refusals, go_live_done}
+use Rattle.pair_record.specs.Protocol.{protect_refusals, protect_done}
 use Rattle.pair_core.proofs.Ends.{Ends, by_table, outcome_ends}
 use Rattle.std.specs.Prelude.{Ok}
 use Rattle.failover.specs.declared.change.Change.TheVariants as changes

@@ -1,17 +1,19 @@
 -- What the two nodes keep along steps, arrivals and cuts.
-use Rattle.std.proofs.Common.{rules, ◌≡◌, ℕ, zero, suc, ◌+◌, ◌*◌, ◌/◌, ◌<◌, ◌≤◌, List, [], ◌∷◌, ◌++◌, length, refl, sym, ap, ◌∙◌, subst}
-use Rattle.std.proofs.{Common.{arith, append_assoc, Bool, true, false}, Math.Bridge.le_prop}
+use Rattle.std.proofs.Common.{rules, ◌≡◌, ℕ, zero, suc, ◌+◌, ◌-◌, ◌*◌, ◌/◌, ◌<◌, ◌≤◌, List, [], ◌∷◌, ◌++◌, length, refl, sym, ap}
+use Rattle.std.proofs.{Common.{◌∙◌, subst, arith, Bool, true, false}, Math.Bridge.le_prop}
 use Rattle.std.proofs.lemmas.List.{append-nil, length-append, length-replicate}
 use Rattle.std.specs.Prelude.{slice_range}
-use Rattle.guest_machine.specs.{Dirty.is_in, declared.shapes.Shape.Shape, Guest.{Guest, State, boot_guest}, Step.{next, arrived}}
-use Rattle.guest_machine.specs.Runs.{after_steps, marked_in}
+use Rattle.guest_machine.specs.{Dirty.is_in, declared.shapes.Shape.Shape, Guest.{Guest, State, boot_guest}, Step.{next, sent, arrived}}
+use Rattle.guest_machine.specs.Runs.{after_steps, marked_in, sent_in}
 use Rattle.guest_machine.proofs.{ApartLemmas.arrived-apart, ListedLemmas.run-listed}
 use Rattle.guest_machine.proofs.MemoryLemmas.{boot-kept, next-kept, arrived-kept, next-disk_bytes}
 use Rattle.epoch_snapshot.specs.{Bases.{IsBase, IsCut}, Checkpoints.Change, Cuts.sector_of, Images.image_of}
 use Rattle.checkpoint_stream.specs.{declared.place.Place.TheVariants.Whole, ReadBack.ReadsBack, Readings.{begun, fed}, Sound.change_in}
-use Rattle.pair_history.specs.{Entries.Frame, internal.Moves.{Move, Steps, Arrives, guest_along, frames_along}}
+use Rattle.pair_history.specs.{Entries.Frame, internal.Moves.{Move, Steps, Arrives, guest_along}}
 use Rattle.pair_history.proofs.Moves.{guest_along-append}
-use Rattle.pair_core.specs.internal.Invariant.{all_moves, first_moves, epoch_frames, AreSealed, AreNodes, IsBacked}
+use Rattle.pair_record.specs.internal.Accords.{all_moves}
+use Rattle.pair_record.proofs.AccordLaws.{all_moves-push}
+use Rattle.pair_core.specs.internal.Invariant.{first_moves, AreSealed, AreNodes, IsBacked}
 use Rattle.pair_core.specs.Nodes.{Node, Nodes, HasShape, node_of, machine_of, just_settled, start_nodes, after_run, with_arrival}
 use Rattle.pair_core.specs.{Nodes.{with_sealed, first_text, later_texts, read_as}, Texts.IsText}
 
@@ -75,17 +77,6 @@ base-with_arrival f x b h = search (arith, rules, arrived-apart)
 
 pub base-settled : (g : Guest) → IsBase (machine_of (just_settled g)) g
 base-settled g = record { ram = refl; size = refl; sectors = λ i low none. refl }
-
--- Epochs
-
-pub all_moves-push : (mss : List (List Move)) (ms : List Move) → all_moves (mss ++ ms ∷ []) ≡ all_moves mss ++ ms
-all_moves-push [] ms = append-nil ms
-all_moves-push (x ∷ mss) ms = ap (λ t. x ++ t) (all_moves-push mss ms) ∙ sym (append_assoc x (all_moves mss) ms)
-
-epoch_frames-push : (g : Guest) (mss : List (List Move)) (ms : List Move)
-    → epoch_frames g (mss ++ ms ∷ []) ≡ epoch_frames g mss ++ frames_along (guest_along g (all_moves mss)) ms ∷ []
-epoch_frames-push g [] ms = refl
-epoch_frames-push g (x ∷ mss) ms = search (arith, rules, guest_along-append, epoch_frames-push (guest_along g x) mss ms)
 
 -- Texts
 
@@ -180,30 +171,18 @@ first-push : (mss : List (List Move)) (ms : List Move) → 0 < length mss → fi
 first-push [] ms l = absurd (omega arith)
 first-push (x ∷ mss) ms l = refl
 
-pub nodes-cut : (alone : Bool) (generation n : ℕ) (g : Guest) (mss : List (List Move)) (ran : List Move) (held : List (List Frame))
-    (x : Nodes) (m : ℕ)
+pub nodes-cut : (alone : Bool) (generation n : ℕ) (g : Guest) (mss : List (List Move)) (ran : List Move) (x : Nodes) (m : ℕ)
     (text : List ℕ)
-    → AreNodes alone generation n g mss ran held x → n + length mss ≡ m
+    → AreNodes alone generation n g mss ran x → n + length mss ≡ m
     → (alone ≡ false → IsText x.image.shape generation m (guest_along g (all_moves mss)) x.live.guest text)
-    → AreNodes alone generation n g (mss ++ ran ∷ []) [] (held ++ x.live.outbox ∷ []) (with_sealed x text)
-nodes-cut alone generation n g mss ran held x m text h e t =
-    search (
-      arith,
-      rules,
-      all_moves-push,
-      append-nil,
-      base-settled,
-      epoch_frames-push,
-      first-push,
-      guest_along-append,
-      length-sealed,
-      sealed-push,
-    )
+    → AreNodes alone generation n g (mss ++ ran ∷ []) [] (with_sealed x text)
+nodes-cut alone generation n g mss ran x m text h e t =
+    search (arith, rules, all_moves-push, append-nil, base-settled, first-push, guest_along-append, length-sealed, sealed-push)
 
 -- Where both nodes boot
 
 pub nodes-start : (s : Shape) (image : List ℕ) → length image ≤ 4096 * s.pages
-    → AreNodes false 1 1 (boot_guest s.pages s.sectors image) [] [] [] (start_nodes s image)
+    → AreNodes false 1 1 (boot_guest s.pages s.sectors image) [] [] (start_nodes s image)
 nodes-start s image fits = record {
   first_generation = omega arith;
   last_generation = omega arith;
@@ -215,8 +194,29 @@ nodes-start s image fits = record {
     sealed = tt;
     base = base-settled (boot_guest s.pages s.sectors image);
   };
-  frames = refl;
   live = refl;
   outbox = refl;
   shape = shape-boot s image fits;
 }
+
+-- How much is sent
+
+none_of : (fs : List Frame) → length fs ≡ 0 → fs ≡ []
+none_of [] e = refl
+none_of (f ∷ fs) e = absurd (omega arith)
+
+-- steps of which only the last sends send no more frames than it
+few_by_last : ((g : Guest) → length (sent g) ≤ 64) → (n : ℕ) (g : Guest) → sent_in n g ≡ [] → length (sent_in (suc n) g) ≤ 64
+unfolding sent_in
+few_by_last most zero g quiet = let e = length-append (sent g) [] in let m = most g in omega arith
+few_by_last most (suc n) g quiet =
+    let e = length-append (sent g) (sent_in n (next g)) in
+    let l = length-append (sent g) (sent_in (suc n) (next g)) in
+    let q = ap length quiet in
+    let later = few_by_last most n (next g) (none_of (sent_in n (next g)) (omega arith)) in
+    omega arith
+
+pub few_sent : ((g : Guest) → length (sent g) ≤ 64) → (n : ℕ) (g : Guest) → sent_in (n - 1) g ≡ [] → length (sent_in n g) ≤ 64
+unfolding sent_in
+few_sent most zero g quiet = omega arith
+few_sent most (suc n) g quiet = search (arith, rules, few_by_last)

@@ -5,15 +5,18 @@ use Rattle.std.specs.Prelude.{slice_get, IfSome, nat_le, not}
 use Rattle.guest_machine.specs.Step.{next, sent}
 use Rattle.frame_ports.specs.{Lands.list_of, Addresses.IsFrame, Limits.{inbox_frames, number_limit}}
 use Rattle.pair_history.specs.{Entries.Frame, HistoryState.inbox_of}
-use Rattle.pair_core.specs.{declared.event.Event.TheVariants.{Cut, Admit, FailBackup}, declared.event.Refusal.Refusal}
-use Rattle.pair_core.specs.{declared.event.Refusal.TheVariants.{Full, BadFrame, NoClient, Stopped, Exhausted}, internal.Invariant.Holds}
-use Rattle.pair_core.specs.{Modes.is_stopped, Pair.{Pair, shown_state, live_state, AfterRefusal}}
-use Rattle.pair_core.specs.Protocol.{Record, Sight, Outcome, Row, first_refusal, or_else, unless, refused, exhausts, is_among, sight}
-use Rattle.pair_core.specs.Protocol.{allowed, on_step, step_outcome, cut_refusals, cut_done, on_cut, on_fail_backup, admit_refusals}
-use Rattle.pair_core.specs.Protocol.{arrival_refusals, admit_first, admit_done, on_admit, is_bad_length, deliver_refusals}
-use Rattle.pair_core.specs.{Protocol.{delivery_refused, deliver_done, on_deliver}, Answering.MayWantMemory, Record.owed_to}
+use Rattle.pair_record.specs.{declared.event.Event.TheVariants.{Cut, Admit, FailBackup}, declared.event.Refusal.Refusal}
+use Rattle.pair_record.specs.declared.event.Refusal.TheVariants.{Full, BadFrame, NoClient, Stopped, Exhausted}
+use Rattle.pair_core.specs.internal.Invariant.{Holds}
+use Rattle.pair_record.specs.Modes.{is_stopped}
+use Rattle.pair_core.specs.Pair.{Pair, shown_state, live_state, AfterRefusal}
+use Rattle.pair_record.specs.Protocol.{Record, Sight, Outcome, Row, first_refusal, or_else, unless, refused, exhausts, is_among, sight}
+use Rattle.pair_record.specs.Protocol.{allowed, on_step, step_outcome, cut_refusals, cut_done, on_cut, on_fail_backup, admit_refusals}
+use Rattle.pair_record.specs.Protocol.{arrival_refusals, admit_first, admit_done, on_admit, is_bad_length, deliver_refusals}
+use Rattle.pair_record.specs.{Protocol.{delivery_refused, deliver_done, on_deliver}, Record.owed_to}
+use Rattle.pair_core.specs.Answering.{MayWantMemory}
 use Rattle.pair_core.proofs.Consistent.{live_is, live_waiting, outbox_is}
-use Rattle.pair_core.specs.declared.event.Reply.TheVariants as replies
+use Rattle.pair_record.specs.declared.event.Reply.TheVariants as replies
 
 -- a table decides
 pub stops : (r : Record) (rows : List Row) (done : Outcome) (o : Option Refusal) (why : Refusal) → o ≡ first_refusal rows → o ≡ Some why
@@ -66,7 +69,7 @@ seen w = record {
   steps = (next w.nodes.live.guest).steps;
   resumed = w.nodes.image.guest.steps;
   boxes = w.ports.boxes;
-  owed = owed_to (record { protocol = w.protocol; ports = w.ports });
+  owed = owed_to w.protocol w.ports;
   inbox = λ c. list_of w.ports.inboxes c;
   number = w.ports.next;
 }
@@ -82,13 +85,13 @@ module _ (w : Pair) (h : Holds w) where
   fail_backup_sight = search (arith, rules, outbox_is)
 
   pub inbox_is : (c : ℕ) → 1 ≤ c → c ≤ length w.ports.boxes → list_of w.ports.inboxes c ≡ inbox_of c (live_state w).waiting
-  inbox_is c low high = h.clients.inboxes c low high ∙ ap (inbox_of c) (sym (live_waiting w h))
+  inbox_is c low high = h.accords.clients.inboxes c low high ∙ ap (inbox_of c) (sym (live_waiting w h))
 
   -- where no client has the number, what would wait of it doesn't count
   pub admit_sight : (c : ℕ) → on_admit (seen w) w.protocol c ≡ allowed w.start w.protocol (Admit c)
   admit_sight c =
       by_test (not (is_among c (length w.ports.boxes))) refl
-      ∙ ap (λ (b : List (List Frame)). on_admit (record (sight w.start w.protocol) { boxes = b }) w.protocol c) h.clients.boxes
+      ∙ ap (λ (b : List (List Frame)). on_admit (record (sight w.start w.protocol) { boxes = b }) w.protocol c) h.accords.clients.boxes
     where
       rows : Bool → List Row
       rows t = (t, NoClient) ∷ (is_stopped w.protocol.mode, Stopped) ∷ []
@@ -112,9 +115,10 @@ module _ (w : Pair) (h : Holds w) where
   pub deliver_sight : (c : ℕ) (bytes : List ℕ)
       → on_deliver (seen w) w.protocol c bytes ≡ on_deliver (sight w.start w.protocol) w.protocol c bytes
   deliver_sight c bytes =
-      ap (λ (n : ℕ). on_deliver (record (seen w) { number = n }) w.protocol c bytes) h.clients.number
+      ap (λ (n : ℕ). on_deliver (record (seen w) { number = n }) w.protocol c bytes) h.accords.clients.number
       ∙ by_test (not (is_among c (length w.ports.boxes))) refl
-      ∙ ap (λ (b : List (List Frame)). on_deliver (record (sight w.start w.protocol) { boxes = b }) w.protocol c bytes) h.clients.boxes
+      ∙ ap (λ (b : List (List Frame)). on_deliver (record (sight w.start w.protocol) { boxes = b }) w.protocol c bytes)
+      h.accords.clients.boxes
     where
       by_test : (t : Bool) → not (is_among c (length w.ports.boxes)) ≡ t
           → at_rows c bytes t (list_of w.ports.inboxes c) ≡ at_rows c bytes t (inbox_of c (live_state w).waiting)

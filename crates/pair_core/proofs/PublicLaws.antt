@@ -9,13 +9,19 @@ use Rattle.frame_ports.specs.Lands.{list_of}
 use Rattle.pair_history.specs.{Entries.{Frame, Entry, Ran, Arrive, DropOut, Took, Begins}, HistoryState.HistoryState, Landings.{DropsAtFull, DropsNone}}
 use Rattle.pair_history.specs.{Leaving.{LeaveInOrder, NotGivenUp, leaves_by, frames_left}, internal.Moves.{Move, Steps, Arrives, entries_of}}
 use Rattle.pair_history.proofs.{LeavingLaws.{TakesNone, none_leave}, Moves.DropsNone-moves}
-use Rattle.pair_core.specs.{declared.event.Event.Event, declared.event.Event.TheVariants.{Step, FailBackup, GoLive}, declared.event.Refusal.Refusal}
-use Rattle.pair_core.specs.{declared.event.Refusal.TheVariants.NoMemory, declared.event.Reply.Reply, Answering.{Answers, MayWantMemory}}
-use Rattle.pair_core.specs.{Drops.{DropsOnly, LetsOut, Drops}, internal.Invariant.Holds, Journal.first_of, Modes.is_alone}
-use Rattle.pair_core.specs.{Pair.{Pair, shown_state, live_state}, Protocol.{Record, outcome, step_entries}, Record.IsRecord}
-use Rattle.pair_core.proofs.{AllLands.{step_drops, failure_drops}, ClientEvents.{ack_lands, ack_leaves}, Ends.{Ends, answers_end, at_once}}
-use Rattle.pair_core.proofs.{LossOutcomes.within, RecordLaws.below_at}
-use Rattle.pair_core.specs.declared.event.Reply.TheVariants as replies
+use Rattle.pair_record.specs.{declared.event.Event.Event, declared.event.Event.TheVariants.{Step, FailBackup, GoLive}}
+use Rattle.pair_record.specs.declared.event.Refusal.{Refusal}
+use Rattle.pair_record.specs.{declared.event.Refusal.TheVariants.NoMemory, declared.event.Reply.Reply}
+use Rattle.pair_core.specs.Answering.{Answers, MayWantMemory}
+use Rattle.pair_record.specs.{Journal.first_of, Modes.is_alone}
+use Rattle.pair_core.specs.{Drops.{DropsOnly, LetsOut, Drops}, internal.Invariant.Holds}
+use Rattle.pair_record.specs.{Protocol.{Record, outcome, step_entries}, Record.IsRecord}
+use Rattle.pair_core.specs.Pair.{Pair, shown_state, live_state}
+use Rattle.pair_record.proofs.{LoneAccords.{step_drops, failure_drops}, ClientAccords.{ack_lands, ack_leaves}}
+use Rattle.pair_core.proofs.Ends.{Ends, answers_end, at_once}
+use Rattle.pair_record.proofs.RecordLaws.{below_at}
+use Rattle.pair_core.proofs.LossOutcomes.{within}
+use Rattle.pair_record.specs.declared.event.Reply.TheVariants as replies
 
 -- Each event lets the history grow by entries that drop what it may drop.
 
@@ -40,12 +46,12 @@ module _ (w : Pair) (h : Holds w) (k : IsRecord w.protocol) where
     send = tt;
     lost = λ k. (tt, tt);
     again = λ k. tt;
-    commit = λ n goes. epoch-drops h.journal.sealed_moves w.protocol.journal.sealed h.journal.sealed_are;
+    commit = λ n goes. epoch-drops h.accords.journal.sealed_moves w.protocol.journal.sealed h.accords.journal.sealed_are;
     -- what an acknowledgement lets go is dropped only at full boxes
     acknowledge = λ n p is same.
         let r = w.protocol in
         let below = below_at r.generation r.window.to_commit r.lines.back n (Some p) k.back (sym is) same in
-        rw (← h.clients.boxes) (ack_lands w h k p.number below).2;
+        rw (← h.accords.clients.boxes) (ack_lands w.start w.protocol w.ports h.accords k p.number below).2;
     empty = λ c place. (tt, tt, tt);
     admit = by_arrival;
     full = λ c bytes. tt;
@@ -54,7 +60,7 @@ module _ (w : Pair) (h : Holds w) (k : IsRecord w.protocol) where
     lose_in = λ c place x is. (x.0, x.1, is, refl);
     lose_out = λ c place f is. (within (list_of boxes c) place f is, refl);
     fail_primary = λ goes. tt;
-    fail_backup = failure_drops w h;
+    fail_backup = failure_drops w.start w.protocol w.ports h.accords;
     go_live = refl;
     protect = tt;
   }
@@ -62,7 +68,7 @@ module _ (w : Pair) (h : Holds w) (k : IsRecord w.protocol) where
       by_mode : (alone : Bool) → is_alone w.protocol.mode ≡ alone
           → DropsAtFull (shown_state w) (at_once alone (step_entries true boxes (sent (live_state w).guest)))
       by_mode false is = tt
-      by_mode true is = step_drops w h (k.alone is)
+      by_mode true is = step_drops w.start w.protocol w.ports h.accords (k.alone is)
 
       by_arrival : (c n : ℕ) (alone : Bool) → is_alone w.protocol.mode ≡ alone → DropsNone (at_once alone (Arrive n ∷ []))
       by_arrival c n false is = tt
@@ -113,11 +119,11 @@ module _ (w : Pair) (h : Holds w) (k : IsRecord w.protocol) where
     send = none_out;
     lost = λ k. (none_out, none_out);
     again = λ k. none_out;
-    commit = λ n goes. epoch-none h.journal.sealed_moves w.protocol.journal.sealed h.journal.sealed_are;
+    commit = λ n goes. epoch-none h.accords.journal.sealed_moves w.protocol.journal.sealed h.accords.journal.sealed_are;
     acknowledge = λ n p is same.
         let r = w.protocol in
         let below = below_at r.generation r.window.to_commit r.lines.back n (Some p) k.back (sym is) same in
-        rw (← h.clients.boxes) (ack_leaves w h k p.number below);
+        rw (← h.accords.clients.boxes) (ack_leaves w.start w.protocol w.ports h.accords k p.number below);
     empty = λ c place. (none_out, none_out, none_out);
     admit = admit-lets;
     full = λ c bytes d. (refl, All-nil NotGivenUp);

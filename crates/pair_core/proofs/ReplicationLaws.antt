@@ -7,10 +7,12 @@ use Rattle.backup_image.specs.Images.{empty_image}
 use Rattle.epoch_snapshot.specs.{Checkpoints.Change, Images.image_of}
 use Rattle.pair_history.specs.{Entries.Entry, HistoryState.{HistoryState, at}}
 use Rattle.pair_history.proofs.States.{at-append}
-use Rattle.pair_core.specs.Journal.{joined, kept_entries, first_of, rest_of}
-use Rattle.pair_core.specs.{Nodes.{Nodes, Fills, with_sealed, with_commit, with_protected, read_as}, Modes.{is_alone, filled}}
-use Rattle.pair_core.specs.{Pair.{Pair, HasBackup, ImageFollows, InMode, shown_state, live_state}, Protocol.{cut_done, commit_done}}
-use Rattle.pair_core.specs.Record.{IsRecord, SuitsMode}
+use Rattle.pair_record.specs.Journal.{joined, kept_entries, first_of, rest_of}
+use Rattle.pair_record.specs.Modes.{is_alone, filled}
+use Rattle.pair_core.specs.Nodes.{Nodes, Fills, with_sealed, with_commit, with_protected, read_as}
+use Rattle.pair_record.specs.Protocol.{cut_done, commit_done}
+use Rattle.pair_core.specs.Pair.{Pair, HasBackup, ImageFollows, InMode, shown_state, live_state}
+use Rattle.pair_record.specs.Record.{IsRecord, SuitsMode}
 use Rattle.pair_core.specs.Replication.{guests_of, to_come, number_after, next_number, IsCut, IsCommit, IsProtected}
 use Rattle.pair_core.specs.Texts.{IsText, AreTexts}
 use Rattle.pair_core.proofs.NodesLaws.{reads-as}

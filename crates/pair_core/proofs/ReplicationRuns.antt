@@ -2,10 +2,11 @@
 use Rattle.std.proofs.Common.{◌≡◌, ℕ, List, [], ◌∷◌, ◌++◌, length, refl, sym, ap, ◌∙◌, arith, Some}
 use Rattle.std.specs.Prelude.{slice_get}
 use Rattle.guest_machine.specs.Guest.{Guest}
-use Rattle.pair_core.specs.{declared.event.Event.Event, declared.event.Event.TheVariants.{Cut, BackupGet, Protect}}
-use Rattle.pair_core.specs.{declared.event.Reply.Reply, Pair.Pair, Replication.{to_come, number_after, next_number, Awaits, Does, Leads}}
+use Rattle.pair_record.specs.{declared.event.Event.Event, declared.event.Event.TheVariants.{Cut, BackupGet, Protect}}
+use Rattle.pair_record.specs.declared.event.Reply.{Reply}
+use Rattle.pair_core.specs.{Pair.Pair, Replication.{to_come, number_after, next_number, Awaits, Does, Leads}}
 use Rattle.pair_core.proofs.{AlongLaws.along-keeps, Ends.answers_end, Generations.{Goes, goes_all, next-same}}
-use Rattle.pair_core.specs.declared.event.Reply.TheVariants as replies
+use Rattle.pair_record.specs.declared.event.Reply.TheVariants as replies
 
 -- what an event did to the generation and to the guests to come
 pub does : (old new : Pair) (event : Event) (reply : Reply) → Does old event reply new

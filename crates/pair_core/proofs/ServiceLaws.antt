@@ -6,14 +6,18 @@ use Rattle.guest_machine.specs.Guest.{Guest}
 use Rattle.pair_history.specs.{Entries.Entry, HistoryState.{HistoryState, after, at, Legal}}
 use Rattle.pair_history.proofs.States.{at-append, Legal-append}
 use Rattle.memory_wanted.specs.Wanted.{wanted}
-use Rattle.pair_core.specs.{declared.event.Event.Event, declared.event.Event.TheVariants.GoLive, declared.event.Refusal.Refusal}
-use Rattle.pair_core.specs.{declared.event.Refusal.TheVariants.NoMemory, declared.event.Reply.Reply, Drops.Drops, Journal.{kept_entries, all_entries}}
-use Rattle.pair_core.specs.{Calls.Moment, Modes.{is_alone, mode_refusal}, Pair.{Pair, IsConsistent}}
-use Rattle.pair_core.specs.Protocol.{go_live_done, Record, Outcome, refused, first_refusal, shown_at, live_at, live_entries}
-use Rattle.pair_core.specs.{Protocol.go_live_refusals, Answering.Answers, Service.{moment, Resumes, Enters, Tells, Serves, guest_entries}}
-use Rattle.pair_core.proofs.{CallLaws.answers_call, EntersLaws.enters_all, Ends.{by_table, answers_end}, ModeLaws.lone}
+use Rattle.pair_record.specs.{declared.event.Event.Event, declared.event.Event.TheVariants.GoLive, declared.event.Refusal.Refusal}
+use Rattle.pair_record.specs.{declared.event.Refusal.TheVariants.NoMemory, declared.event.Reply.Reply, Journal.{kept_entries, all_entries}}
+use Rattle.pair_core.specs.Drops.{Drops}
+use Rattle.pair_record.specs.Modes.{is_alone, mode_refusal}
+use Rattle.pair_core.specs.{Calls.Moment, Pair.{Pair, IsConsistent}}
+use Rattle.pair_record.specs.Protocol.{go_live_done, Record, Outcome, refused, first_refusal, shown_at, live_at, live_entries}
+use Rattle.pair_record.specs.Protocol.{go_live_refusals}
+use Rattle.pair_core.specs.{Answering.Answers, Service.{moment, Resumes, Enters, Tells, Serves, guest_entries}}
+use Rattle.pair_core.proofs.Consistent.{lone}
+use Rattle.pair_core.proofs.{CallLaws.answers_call, EntersLaws.enters_all, Ends.{by_table, answers_end}}
 use Rattle.pair_core.proofs.Tells.{OfGuest, live_all, tells_all}
-use Rattle.pair_core.specs.declared.event.Reply.TheVariants as replies
+use Rattle.pair_record.specs.declared.event.Reply.TheVariants as replies
 
 -- drops leave the guest as it was
 abbrev Keeps : Entry → Type 0

@@ -3,11 +3,12 @@ use Rattle.std.proofs.Common.{◌≡◌, ℕ, suc, List, [], ◌∷◌, ◌++◌
 use Rattle.std.proofs.lemmas.List.{append-nil}
 use Rattle.std.specs.Prelude.{drop}
 use Rattle.pair_history.specs.{Entries.{Frame, Entry, Delivered, Refused, Took, Begins}, HistoryState.{HistoryState, after, at, Legal}}
-use Rattle.pair_core.specs.{Calls.Moment, declared.event.Event.Event, declared.event.Event.TheVariants.{Deliver, Take, GoLive}}
-use Rattle.pair_core.specs.{declared.event.Refusal.TheVariants.Full, declared.event.Reply.Reply}
+use Rattle.pair_record.specs.{declared.event.Event.Event, declared.event.Event.TheVariants.{Deliver, Take, GoLive}}
+use Rattle.pair_core.specs.Calls.{Moment}
+use Rattle.pair_record.specs.{declared.event.Refusal.TheVariants.Full, declared.event.Reply.Reply}
 use Rattle.pair_core.specs.Service.{Serves, HasServed, LetsIn, HasEntered, IsDelivery, Point, IsTold, IsResumed}
 use Rattle.pair_core.proofs.{AlongLaws.{along-keeps, along-tells}, PublicLaws.Begins-trans}
-use Rattle.pair_core.specs.declared.event.Reply.TheVariants as replies
+use Rattle.pair_record.specs.declared.event.Reply.TheVariants as replies
 
 -- the history only grows
 pub served_grows : (start : HistoryState) (old new : Moment) (events : List Event) (answers : List Reply)

@@ -7,15 +7,20 @@ use Rattle.guest_machine.specs.{Guest.Guest, Step.{next, sent}, Runs.{after_step
 use Rattle.frame_ports.specs.Limits.{number_limit}
 use Rattle.pair_history.specs.{Entries.{Frame, Ran}, HistoryState.{HistoryState, Waiting}}
 use Rattle.pair_history.specs.internal.Moves.{Steps, entries_of, guest_along, frames_along, left, AllCan}
-use Rattle.pair_core.specs.{declared.event.Refusal.Refusal, declared.event.Refusal.TheVariants.{Stopped, CutNeeded, Exhausted}}
-use Rattle.pair_core.specs.{internal.Invariant.Holds, Journal.{all_entries, with_running, with_moves}, Limits.lone_step_entries}
-use Rattle.pair_core.specs.{Modes.{is_stopped, is_alone}, Nodes.after_run, Pair.Pair}
-use Rattle.pair_core.specs.Protocol.{step_outcome, outbox_of, step_room, step_entries, Record, Outcome, first_refusal, or_else, refused}
-use Rattle.pair_core.specs.{Protocol.{shown_at, live_at, step_refusals, step_done}, Answering.step_reply}
+use Rattle.pair_record.specs.{declared.event.Refusal.Refusal, declared.event.Refusal.TheVariants.{Stopped, CutNeeded, Exhausted}}
+use Rattle.pair_record.specs.{Journal.{all_entries, with_running, with_moves}, Limits.lone_step_entries}
+use Rattle.pair_core.specs.internal.Invariant.{Holds}
+use Rattle.pair_record.specs.Modes.{is_stopped, is_alone}
+use Rattle.pair_core.specs.{Nodes.after_run, Pair.Pair}
+use Rattle.pair_record.specs.Protocol.{step_outcome, outbox_of, step_room, step_entries, Record, Outcome, first_refusal, or_else, refused}
+use Rattle.pair_record.specs.Protocol.{shown_at, live_at, step_refusals, step_done}
+use Rattle.pair_core.specs.Answering.{step_reply}
 use Rattle.pair_core.specs.Runs.{goes_on, steps_outcome, with_steps}
-use Rattle.pair_core.proofs.{Consistent.live_is, Events.{left_now, moves_hold}, NodesLaws.{shape-after_steps, base-after_run}}
-use Rattle.pair_core.proofs.{JournalLaws.length-all, Outcomes.{goes, step_sight}, WindowLaws.test_below}
-use Rattle.pair_core.specs.declared.event.Reply.TheVariants as replies
+use Rattle.pair_record.proofs.AccordLaws.{left_now}
+use Rattle.pair_core.proofs.{Consistent.live_is, Events.moves_hold, NodesLaws.{shape-after_steps, base-after_run}}
+use Rattle.pair_record.proofs.{JournalLaws.length-all, WindowLaws.test_below}
+use Rattle.pair_core.proofs.Outcomes.{goes, step_sight}
+use Rattle.pair_record.specs.declared.event.Reply.TheVariants as replies
 
 -- Runs of the guest alone
 
@@ -75,13 +80,15 @@ left-steps (suc n) ws = left-steps n ws
 
 pub steps_hold : (n : ℕ) (w : Pair) → Holds w → Holds (with_steps n w)
 steps_hold n w h =
-    moves_hold w h (replicate n Steps) (replicate n Ran) (after_run n w.nodes).live w.ports.inboxes (entries-steps n)
+    let ws = left_now w.start w.protocol w.ports h.accords in
+    moves_hold w h (replicate n Steps) (after_run n w.nodes).live
     (guest-steps n w.nodes.live.guest)
     (ap (λ t. w.nodes.live.outbox ++ t) (frames-steps n w.nodes.live.guest))
     (λ s k. shape-after_steps n s w.nodes.live.guest k)
     (λ b k. base-after_run n w.nodes b k)
-    (can-steps n (left_now w h))
-    (rw (left-steps n (left_now w h)) h.clients)
+    (replicate n Ran) w.ports.inboxes (entries-steps n)
+    (can-steps n ws)
+    (rw (left-steps n ws) h.accords.clients)
 
 pub replicate-last : (n : ℕ) → replicate (suc n) Ran ≡ replicate n Ran ++ Ran ∷ []
 replicate-last zero = refl

@@ -11,15 +11,18 @@ use Rattle.pair_history.specs.{Landings.{landings, BoxesFit}, Leaving.{LeaveInOr
 use Rattle.pair_history.proofs.{States.{at-append, Legal-append}, LandingLaws.{BoxesFit-lands, AllClients-targets, landings-land, AllLand}}
 use Rattle.memory_wanted.specs.Wanted.{wanted}
 use Rattle.pair_core.specs.{Answering.{Answers}, Calls.Moment, Drops.Drops}
-use Rattle.pair_core.specs.{declared.event.Event.TheVariants.Step, declared.event.Refusal.{Refusal, TheVariants.NoMemory}}
-use Rattle.pair_core.specs.declared.event.Reply.{Reply}
-use Rattle.pair_core.specs.{Journal.{joined, kept_entries, all_entries, with_moves}, Modes.is_alone, Pair.{Pair, IsConsistent}}
-use Rattle.pair_core.specs.Protocol.{Record, Outcome, first_refusal, refused, shown_at, live_at, step_refusals, outbox_of, step_entries}
-use Rattle.pair_core.specs.Protocol.{step_done, step_outcome}
+use Rattle.pair_record.specs.{declared.event.Event.TheVariants.Step, declared.event.Refusal.Refusal}
+use Rattle.pair_record.specs.declared.event.Refusal.TheVariants.{NoMemory}
+use Rattle.pair_record.specs.declared.event.Reply.{Reply}
+use Rattle.pair_record.specs.{Journal.{joined, kept_entries, all_entries, with_moves}, Modes.is_alone}
+use Rattle.pair_core.specs.Pair.{Pair, IsConsistent}
+use Rattle.pair_record.specs.Protocol.{Record, Outcome, first_refusal, refused, shown_at, live_at, step_refusals, outbox_of, step_entries}
+use Rattle.pair_record.specs.Protocol.{step_done, step_outcome}
 use Rattle.pair_core.specs.{Runs.{StepsAnswer, goes_on, steps_outcome}, Service.{moment, Serves, HasServed, is_step, ServesSteps}}
-use Rattle.pair_core.proofs.{AlongLaws.along-more, Ends.{by_table}, ModeLaws.lone, ServiceLaws.serves_at}
+use Rattle.pair_core.proofs.Consistent.{lone}
+use Rattle.pair_core.proofs.{AlongLaws.along-more, Ends.by_table, ServiceLaws.serves_at}
 use Rattle.pair_core.proofs.{StepRuns.{no-steps-answered, more-answered, refused_stays}, Tells.OfGuest}
-use Rattle.pair_core.specs.declared.event.Reply.TheVariants as replies
+use Rattle.pair_record.specs.declared.event.Reply.TheVariants as replies
 
 module _ (start : HistoryState) where
   abbrev moment_at : Record → Moment

@@ -6,12 +6,13 @@ use Rattle.guest_machine.specs.Step.{sent}
 use Rattle.frame_ports.specs.{Lands.{has_room, landed_at}, Limits.box_frames}
 use Rattle.pair_history.specs.{Entries.{Frame, Entry, Ran, Arrive, DropIn, Land, DropOut}, Failures.drops_of_owed_from}
 use Rattle.pair_history.specs.{HistoryState.HistoryState, Landings.landings}
-use Rattle.pair_core.specs.{declared.event.Event.Event, declared.event.Event.TheVariants.Deliver, declared.event.Refusal.Refusal}
-use Rattle.pair_core.specs.{declared.event.Refusal.TheVariants.Full, Journal.{Journal, joined, first_of, kept_entries}, Modes.is_alone}
-use Rattle.pair_core.specs.{Pair.is_of_guest, Protocol.{Record, live_at, shown_at, outbox_of, step_entries, all_held, let_go, live_entries}}
+use Rattle.pair_record.specs.{declared.event.Event.Event, declared.event.Event.TheVariants.Deliver, declared.event.Refusal.Refusal}
+use Rattle.pair_record.specs.{declared.event.Refusal.TheVariants.Full, Journal.{Journal, joined, first_of, kept_entries}, Modes.is_alone}
+use Rattle.pair_record.specs.Protocol.{Record, live_at, shown_at, outbox_of, step_entries, all_held, let_go, live_entries}
+use Rattle.pair_core.specs.Pair.{is_of_guest}
 use Rattle.pair_core.specs.Service.{is_call, Tells}
 use Rattle.pair_core.proofs.Ends.{Ends, ChangesNothing, at_once}
-use Rattle.pair_core.specs.declared.event.Reply.TheVariants as replies
+use Rattle.pair_record.specs.declared.event.Reply.TheVariants as replies
 
 -- ENTRIES THAT TELL OF NO CALL
 

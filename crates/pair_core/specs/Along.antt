@@ -1,7 +1,7 @@
 -- Runs: events, one after another, each answered so.
 use Rattle.std.specs.Prelude.{◌≡◌, ℕ, suc, List, [], ◌∷◌, take, drop}
-use Rattle.pair_core.specs.declared.event.Event.{Event}
-use Rattle.pair_core.specs.declared.event.Reply.{Reply}
+use Rattle.pair_record.specs.declared.event.Event.{Event}
+use Rattle.pair_record.specs.declared.event.Reply.{Reply}
 
 -- Of states of any kind, where this is what one event, answered so, makes of one.
 module _ {S : Type 0} (Makes : S → Event → Reply → S → Type 0) where

@@ -2,13 +2,13 @@
 use Rattle.std.specs.Prelude.{◌≡◌, ℕ, ◌<◌, true, Result, Ok, Err, ◌⊎◌, length}
 use Rattle.memory_wanted.specs.Wanted.{wanted}
 use Rattle.pair_history.specs.HistoryState.{HistoryState}
-use Rattle.pair_core.specs.declared.event.Event.{Event}
-use Rattle.pair_core.specs.declared.event.Refusal.{Refusal}
-use Rattle.pair_core.specs.declared.event.Refusal.TheVariants.{Full, NoMemory}
-use Rattle.pair_core.specs.declared.event.Reply.{Reply}
-use Rattle.pair_core.specs.declared.event.Reply.TheVariants as replies
-use Rattle.pair_core.specs.Modes.{is_alone}
-use Rattle.pair_core.specs.Protocol.{Record, Outcome, outcome}
+use Rattle.pair_record.specs.declared.event.Event.{Event}
+use Rattle.pair_record.specs.declared.event.Refusal.{Refusal}
+use Rattle.pair_record.specs.declared.event.Refusal.TheVariants.{Full, NoMemory}
+use Rattle.pair_record.specs.declared.event.Reply.{Reply}
+use Rattle.pair_record.specs.declared.event.Reply.TheVariants as replies
+use Rattle.pair_record.specs.Modes.{is_alone}
+use Rattle.pair_record.specs.Protocol.{Record, Outcome, outcome}
 
 -- the history has more entries than it had
 abbrev pub AddsEntries : Record → Record → Type 0

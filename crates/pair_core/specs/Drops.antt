@@ -5,13 +5,13 @@ use Rattle.pair_history.specs.HistoryState.{HistoryState, inbox_of, at}
 use Rattle.pair_history.specs.Landings.{IsInBox, DropsAtFull, DropsNone}
 use Rattle.pair_history.specs.Failures.{go_live_entries, arrived_numbers, rising}
 use Rattle.pair_history.specs.Leaving.{LeaveInOrder}
-use Rattle.pair_core.specs.declared.event.Event.{Event}
-use Rattle.pair_core.specs.declared.event.Event.TheVariants.{Step, AckGet, LoseIn, LoseOut, FailBackup, GoLive}
-use Rattle.pair_core.specs.declared.event.Reply.{Reply}
-use Rattle.pair_core.specs.declared.event.Reply.TheVariants.{Acked, Dropped, Live}
-use Rattle.pair_core.specs.Journal.{kept_entries}
-use Rattle.pair_core.specs.Modes.{is_alone}
-use Rattle.pair_core.specs.Protocol.{Record, shown_at, let_go}
+use Rattle.pair_record.specs.declared.event.Event.{Event}
+use Rattle.pair_record.specs.declared.event.Event.TheVariants.{Step, AckGet, LoseIn, LoseOut, FailBackup, GoLive}
+use Rattle.pair_record.specs.declared.event.Reply.{Reply}
+use Rattle.pair_record.specs.declared.event.Reply.TheVariants.{Acked, Dropped, Live}
+use Rattle.pair_record.specs.Journal.{kept_entries}
+use Rattle.pair_record.specs.Modes.{is_alone}
+use Rattle.pair_record.specs.Protocol.{Record, shown_at, let_go}
 use Rattle.pair_core.specs.Answering.{Answers}
 
 -- What an event may drop, where the history and what the guest did ahead of it were so, and the history grows by these entries: a loss

@@ -1,20 +1,9 @@
 pub mod internal
-pub mod Journal
-pub mod Window
-pub mod Lines
 pub mod Nodes
 pub mod Texts
-pub mod Modes
-pub mod Tables
-pub mod GuestActs
-pub mod BackupActs
-pub mod ClientActs
-pub mod FailureActs
-pub mod Protocol
 pub mod ModeChanges
 pub mod Answering
 pub mod Along
-pub mod Record
 pub mod Pair
 pub mod Start
 pub mod Runs
@@ -23,9 +12,11 @@ pub mod Acknowledged
 pub mod Replication
 pub mod Calls
 pub mod Service
-pub mod Limits
-pub mod Refusals
 -- what public clauses cite of lower crates
+pub use Rattle.pair_record.specs.Limits
+pub use Rattle.pair_record.specs.Protocol
+pub use Rattle.pair_record.specs.Record
+pub use Rattle.pair_record.specs.Refusals
 pub use Rattle.pair_history.specs.Entries
 pub use Rattle.pair_history.specs.HistoryState
 pub use Rattle.failover.specs.Changes

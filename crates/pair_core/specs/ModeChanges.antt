@@ -4,12 +4,12 @@ use Rattle.std.specs.Prelude.{◌≡◌, ℕ, ◌+◌, Ok}
 use Rattle.failover.specs.Changes.{row}
 use Rattle.failover.specs.declared.change.Change.{Change}
 use Rattle.failover.specs.declared.change.Change.TheVariants as changes
-use Rattle.pair_core.specs.declared.event.Event.{Event}
-use Rattle.pair_core.specs.declared.event.Event.TheVariants.{FailPrimary, FailBackup, GoLive, Protect}
-use Rattle.pair_core.specs.declared.event.Reply.{Reply}
-use Rattle.pair_core.specs.declared.event.Reply.TheVariants as replies
-use Rattle.pair_core.specs.Modes.{filled}
-use Rattle.pair_core.specs.Protocol.{Record}
+use Rattle.pair_record.specs.declared.event.Event.{Event}
+use Rattle.pair_record.specs.declared.event.Event.TheVariants.{FailPrimary, FailBackup, GoLive, Protect}
+use Rattle.pair_record.specs.declared.event.Reply.{Reply}
+use Rattle.pair_record.specs.declared.event.Reply.TheVariants as replies
+use Rattle.pair_record.specs.Modes.{filled}
+use Rattle.pair_record.specs.Protocol.{Record}
 
 -- the event that makes a change
 abbrev pub event_of : Change → Event

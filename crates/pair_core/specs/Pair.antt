@@ -10,15 +10,15 @@ use Rattle.output_gate.specs.Epochs.{frames_of}
 use Rattle.pair_history.specs.Entries.{Entry, Ran, Arrive}
 use Rattle.pair_history.specs.HistoryState.{HistoryState, inbox_of, at, Legal}
 use Rattle.pair_history.specs.Landings.{DropsAreKnown, BoxesFit}
-use Rattle.pair_core.specs.declared.event.Refusal.{Refusal}
-use Rattle.pair_core.specs.declared.event.Refusal.TheVariants.{Full}
-use Rattle.pair_core.specs.declared.event.Reply.{Reply}
-use Rattle.pair_core.specs.declared.event.Reply.TheVariants as replies
-use Rattle.pair_core.specs.Journal.{joined, first_of, kept_entries}
+use Rattle.pair_record.specs.declared.event.Refusal.{Refusal}
+use Rattle.pair_record.specs.declared.event.Refusal.TheVariants.{Full}
+use Rattle.pair_record.specs.declared.event.Reply.{Reply}
+use Rattle.pair_record.specs.declared.event.Reply.TheVariants as replies
+use Rattle.pair_record.specs.Journal.{joined, first_of, kept_entries}
 use Rattle.pair_core.specs.Nodes.{Nodes, Fills, machine_of}
-use Rattle.pair_core.specs.Protocol.{Record, outbox_of, shown_at, live_at}
+use Rattle.pair_record.specs.Protocol.{Record, outbox_of, shown_at, live_at}
 use Rattle.pair_core.specs.Texts.{AreTexts}
-use Rattle.pair_core.specs.Window.{IsWindow}
+use Rattle.pair_record.specs.Window.{IsWindow}
 
 pub record Pair : Type 0 where
   -- the state that the history starts from

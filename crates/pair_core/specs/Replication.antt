@@ -4,12 +4,12 @@ use Rattle.std.specs.Prelude.{◌≡◌, ℕ, ◌+◌, ◌≤◌, false, List, [
 use Rattle.guest_machine.specs.declared.shapes.Shape.{Shape}
 use Rattle.guest_machine.specs.Guest.{Guest}
 use Rattle.epoch_snapshot.specs.Images.{image_of}
-use Rattle.pair_core.specs.declared.event.Event.{Event}
-use Rattle.pair_core.specs.declared.event.Event.TheVariants.{Cut, BackupGet, FailBackup, GoLive, Protect}
-use Rattle.pair_core.specs.declared.event.Reply.{Reply}
-use Rattle.pair_core.specs.declared.event.Reply.TheVariants as replies
+use Rattle.pair_record.specs.declared.event.Event.{Event}
+use Rattle.pair_record.specs.declared.event.Event.TheVariants.{Cut, BackupGet, FailBackup, GoLive, Protect}
+use Rattle.pair_record.specs.declared.event.Reply.{Reply}
+use Rattle.pair_record.specs.declared.event.Reply.TheVariants as replies
 use Rattle.backup_image.specs.declared.standing.Standing.{Standing}
-use Rattle.pair_core.specs.Modes.{is_alone}
+use Rattle.pair_record.specs.Modes.{is_alone}
 use Rattle.pair_core.specs.Nodes.{Nodes, read_as}
 use Rattle.pair_core.specs.Pair.{Pair, IsConsistent}
 use Rattle.pair_core.specs.Along.{Along}

@@ -1,16 +1,16 @@
 -- Whole runs: of events, and of the guest's steps.
 use Rattle.std.specs.Prelude.{◌≡◌, ℕ, zero, suc, ◌<◌, ◌⊎◌, true, List, replicate}
-use Rattle.pair_core.specs.declared.event.Event.{Event}
+use Rattle.pair_record.specs.declared.event.Event.{Event}
 use Rattle.memory_wanted.specs.Wanted.{wanted}
-use Rattle.pair_core.specs.declared.event.Refusal.TheVariants.{NoMemory}
-use Rattle.pair_core.specs.declared.event.Reply.{Reply}
-use Rattle.pair_core.specs.declared.event.Reply.TheVariants as replies
+use Rattle.pair_record.specs.declared.event.Refusal.TheVariants.{NoMemory}
+use Rattle.pair_record.specs.declared.event.Reply.{Reply}
+use Rattle.pair_record.specs.declared.event.Reply.TheVariants as replies
 use Rattle.pair_history.specs.Entries.{Ran}
 use Rattle.pair_history.specs.HistoryState.{HistoryState}
-use Rattle.pair_core.specs.Journal.{with_running}
-use Rattle.pair_core.specs.Modes.{is_alone}
+use Rattle.pair_record.specs.Journal.{with_running}
+use Rattle.pair_record.specs.Modes.{is_alone}
 use Rattle.pair_core.specs.Nodes.{after_run}
-use Rattle.pair_core.specs.Protocol.{Record, Outcome, live_at, refused, step_outcome}
+use Rattle.pair_record.specs.Protocol.{Record, Outcome, live_at, refused, step_outcome}
 use Rattle.pair_core.specs.Along.{Along}
 use Rattle.pair_core.specs.Answering.{Answers, MayWantMemory}
 use Rattle.pair_core.specs.Pair.{Pair}

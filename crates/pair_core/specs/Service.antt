@@ -4,16 +4,16 @@ use Rattle.std.specs.Prelude.{◌≡◌, ◌⊎◌, ℕ, ◌<◌, Bool, true, fa
 use Rattle.std.specs.List.{filter}
 use Rattle.pair_history.specs.Entries.{Entry, Ran, Arrive, Delivered, Refused, Took, Begins}
 use Rattle.pair_history.specs.HistoryState.{HistoryState, Legal, Allows, at}
-use Rattle.pair_core.specs.declared.event.Event.{Event}
-use Rattle.pair_core.specs.declared.event.Event.TheVariants.{Step, BackupGet, Admit, Deliver, Take, FailBackup, GoLive}
-use Rattle.pair_core.specs.declared.event.Refusal.{Refusal}
-use Rattle.pair_core.specs.declared.event.Refusal.TheVariants.{Full}
-use Rattle.pair_core.specs.declared.event.Reply.{Reply}
-use Rattle.pair_core.specs.declared.event.Reply.TheVariants as replies
+use Rattle.pair_record.specs.declared.event.Event.{Event}
+use Rattle.pair_record.specs.declared.event.Event.TheVariants.{Step, BackupGet, Admit, Deliver, Take, FailBackup, GoLive}
+use Rattle.pair_record.specs.declared.event.Refusal.{Refusal}
+use Rattle.pair_record.specs.declared.event.Refusal.TheVariants.{Full}
+use Rattle.pair_record.specs.declared.event.Reply.{Reply}
+use Rattle.pair_record.specs.declared.event.Reply.TheVariants as replies
 use Rattle.pair_core.specs.Along.{Along, PointAlong}
 use Rattle.pair_core.specs.Calls.{Moment, AnswersCall}
 use Rattle.pair_core.specs.Drops.{Loses}
-use Rattle.pair_core.specs.Journal.{kept_entries}
+use Rattle.pair_record.specs.Journal.{kept_entries}
 use Rattle.pair_core.specs.Pair.{Pair, is_of_guest}
 
 -- a pair's: its live guest, where the primary has stopped the one that it stopped with

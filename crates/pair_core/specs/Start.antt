@@ -2,8 +2,8 @@
 use Rattle.std.specs.Prelude.{ℕ, List, length, Option, if◌then◌else◌}
 use Rattle.guest_machine.specs.Guest.{Guest, sector_in}
 use Rattle.pair_history.specs.HistoryState.{HistoryState}
-use Rattle.pair_core.specs.declared.event.Show.{Show}
-use Rattle.pair_core.specs.Modes.{is_stopped}
+use Rattle.pair_record.specs.declared.event.Show.{Show}
+use Rattle.pair_record.specs.Modes.{is_stopped}
 use Rattle.pair_core.specs.Pair.{Pair, shown_state, live_state}
 
 -- the guest that goes on: the live one, where the primary has stopped the image's; and what the history says of it

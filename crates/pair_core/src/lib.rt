@@ -2,35 +2,25 @@
 //! clients, and one history that says what clients were shown.
 //!
 //! [`World::apply`] does one event and answers it; [`World::run`] does a list of them. Contracts see a world as a `Pair`
-//! of the specs, whose part `protocol` is the pair protocol's record.
+//! of the specs, whose part `protocol` is the pair's record ([`PairRecord`](pair_record::PairRecord)).
 #![tactic(auto)]
 
-mod discards;
-mod epochs;
-mod event;
-mod journal;
-mod landings;
 mod laws;
-mod limits;
-mod lines;
 mod mode_laws;
-mod modes;
 mod nodes;
-mod record;
 #[cfg(test)]
 mod tests;
-mod window;
 mod world;
 
-pub use event::{Event, Packet, Refusal, Reply, Show};
-pub use failover::Mode;
 pub use guest_machine::{SECTOR_BYTES, Shape};
 pub use laws::{
     acknowledged_frames_have_left, clients_have_one_guest_that_never_fails,
     committed_epochs_enter_the_history, committed_guests_are_those_cut, cut_guests_are_awaited,
     what_is_delivered_is_lost_for_a_reason,
 };
-pub use limits::limits_are_the_rules;
 pub use mode_laws::modes_change_by_failovers_table;
-pub use pair_history::{Entry, Frame, History, released_frames_were_sent};
+pub use pair_history::released_frames_were_sent;
+pub use pair_record::{
+    Entry, Event, Frame, History, Mode, Packet, Refusal, Reply, Show, limits_are_the_rules,
+};
 pub use world::World;

@@ -3,12 +3,12 @@ ghost use Rattle.std.specs.Prelude.{◌≡◌};
 ghost use Rattle.failover.specs.declared.change.Change.{Change};
 ghost use Rattle.failover.specs.declared.mode.Mode.{Mode};
 ghost use Rattle.pair_history.specs.HistoryState.{HistoryState};
-ghost use Rattle.pair_core.specs.declared.event.Event.{Event};
-ghost use Rattle.pair_core.specs.declared.event.Reply.{Reply};
+ghost use Rattle.pair_record.specs.declared.event.Event.{Event};
+ghost use Rattle.pair_record.specs.declared.event.Reply.{Reply};
 ghost use Rattle.pair_core.specs.Answering.{Answers};
 ghost use Rattle.pair_core.specs.ModeChanges.{event_of, LeavesMode};
-ghost use Rattle.pair_core.specs.Modes.{mode_refusal, change_refusal};
-ghost use Rattle.pair_core.specs.Protocol.{Record};
+ghost use Rattle.pair_record.specs.Modes.{mode_refusal, change_refusal};
+ghost use Rattle.pair_record.specs.Protocol.{Record};
 
 /// Modes change as failover's state table says, row by row, and generations rise so: each of the four changes is refused, and then
 /// changes nothing, or leaves the mode and the generation of its row. Every other event leaves the generation, and the mode; but the

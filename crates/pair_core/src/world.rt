@@ -7,13 +7,10 @@ mod failures;
 mod losses;
 mod steps;
 
-use crate::event::{Event, Refusal, Reply, Show};
-use crate::modes::{is_stopped, mode_refusal};
 use crate::nodes::Nodes;
-use crate::record::PairRecord;
 use guest_machine::{SECTOR_BYTES, Shape};
 use memory_wanted::{MemoryWanted, from_slice, with_capacity};
-use pair_history::History;
+use pair_record::{Event, History, PairRecord, Refusal, Reply, Show, is_stopped, mode_refusal};
 use std::alloc::Global;
 use std::marker::Model;
 
@@ -46,16 +43,16 @@ impl World {
     ghost use Rattle.frame_ports.specs.Limits.{max_clients};
     ghost use Rattle.pair_history.specs.Entries.{Begins};
     ghost use Rattle.pair_history.specs.HistoryState.{start_state};
-    ghost use Rattle.pair_core.specs.Protocol.{Record, outcome, step_outcome};
+    ghost use Rattle.pair_record.specs.Protocol.{Record, outcome, step_outcome};
     ghost use Rattle.pair_core.specs.Answering.{Answers, MayWantMemory, step_reply};
     ghost use Rattle.pair_core.specs.Pair.{Pair, OnRefused, IsConsistent};
-    ghost use Rattle.pair_core.specs.Record.{start_record};
+    ghost use Rattle.pair_record.specs.Record.{start_record};
     ghost use Rattle.pair_core.specs.Along.{Along};
     ghost use Rattle.pair_core.specs.Runs.{Run, steps_outcome, with_steps};
     ghost use Rattle.pair_core.specs.Drops.{Drops};
     ghost use Rattle.pair_core.specs.Replication.{KeepsBackup, Replicates, Leads};
-    ghost use Rattle.pair_core.specs.declared.event.Event.{Event};
-    ghost use Rattle.pair_core.specs.declared.event.Reply.{Reply};
+    ghost use Rattle.pair_record.specs.declared.event.Event.{Event};
+    ghost use Rattle.pair_record.specs.declared.event.Reply.{Reply};
     ghost use Rattle.pair_core.specs.Service.{HasServed, Serves, moment};
     ghost use Rattle.pair_core.specs.Start.{shown, shown_sector, serving_guest, serving_state};
 
@@ -253,10 +250,10 @@ fn answered(outcome: Result<Reply, MemoryWanted>) -> Reply
 
 impl World {
     ghost use Rattle.frame_ports.specs.Limits.{number_limit};
-    ghost use Rattle.pair_core.specs.declared.event.Event.TheVariants as events;
-    ghost use Rattle.pair_core.specs.Journal.{all_entries};
-    ghost use Rattle.pair_core.specs.Modes.{is_stopped as stopped, is_alone as alone, mode_refusal};
-    ghost use Rattle.pair_core.specs.Protocol.{refused, allowed, step_outcome};
+    ghost use Rattle.pair_record.specs.declared.event.Event.TheVariants as events;
+    ghost use Rattle.pair_record.specs.Journal.{all_entries};
+    ghost use Rattle.pair_record.specs.Modes.{is_stopped as stopped, is_alone as alone, mode_refusal};
+    ghost use Rattle.pair_record.specs.Protocol.{refused, allowed, step_outcome};
     ghost use Rattle.pair_core.specs.Answering.{MayWantMemory};
     ghost use Rattle.pair_core.specs.Pair.{Pair, OnRefused};
     ghost use Rattle.pair_core.specs.Replication.{KeepsBackup, Replicates};

@@ -2,7 +2,7 @@
 use Rattle.std.proofs.Common.{◌≡◌, ℕ, List, [], Bool, true, false, Option, None, Some, Result, Ok, Err, OnErr}
 use Rattle.std.proofs.Common.{IfSome, subst, refl, sym, ap, cond, ◌∙◌, append-nil}
 use Rattle.std.specs.Io.KnownBytes.{Appends, Keeps}
-use Rattle.pair_core.specs.declared.event.Event.{Event}
+use Rattle.pair_record.specs.declared.event.Event.{Event}
 use Rattle.pair_core.specs.Pair.{Pair}
 use Rattle.remus.specs.declared.script.Command.TheVariants.{Step, Cut, Send, Backup, Ack, Admit, Take, LoseIn, LoseOut, FailPrimary}
 use Rattle.remus.specs.declared.script.Command.TheVariants.{FailBackup, GoLive, Protect, Sector, Show}

@@ -14,14 +14,14 @@ use Rattle.std.proofs.lemmas.Str.Parse.{IsNumeralModel, numerals_by_value, tells
 use Rattle.hex.specs.Hex.{encode_lower, decode_of, IsBytes}
 use Rattle.hex.proofs.HexLemmas.{decode_of-encode_lower}
 use Rattle.memory_wanted.specs.Wanted.{wanted}
-use Rattle.pair_core.specs.Refusals.{number_of, name_of}
-use Rattle.pair_core.specs.declared.event.Refusal.{Refusal}
-use Rattle.pair_core.specs.declared.event.Refusal.TheVariants.{Full, BadFrame, NoClient, Stopped, Behind, NotPaired, AlreadyPaired}
-use Rattle.pair_core.specs.declared.event.Refusal.TheVariants.{NoImage, Stale, Gap, NoMemory, CutNeeded, Exhausted}
-use Rattle.pair_core.specs.declared.event.Reply.{Reply}
-use Rattle.pair_core.specs.declared.event.Reply.TheVariants.{Steps, Cut, Sent, Committed, Again, Lost, Acked, Admitted, Empty}
-use Rattle.pair_core.specs.declared.event.Reply.TheVariants.{Delivered, Took, Dropped, Alone, Live, Protecting, Refused}
-use Rattle.pair_core.specs.declared.event.Reply.TheVariants.{Stopped as HasStopped}
+use Rattle.pair_record.specs.Refusals.{number_of, name_of}
+use Rattle.pair_record.specs.declared.event.Refusal.{Refusal}
+use Rattle.pair_record.specs.declared.event.Refusal.TheVariants.{Full, BadFrame, NoClient, Stopped, Behind, NotPaired, AlreadyPaired}
+use Rattle.pair_record.specs.declared.event.Refusal.TheVariants.{NoImage, Stale, Gap, NoMemory, CutNeeded, Exhausted}
+use Rattle.pair_record.specs.declared.event.Reply.{Reply}
+use Rattle.pair_record.specs.declared.event.Reply.TheVariants.{Steps, Cut, Sent, Committed, Again, Lost, Acked, Admitted, Empty}
+use Rattle.pair_record.specs.declared.event.Reply.TheVariants.{Delivered, Took, Dropped, Alone, Live, Protecting, Refused}
+use Rattle.pair_record.specs.declared.event.Reply.TheVariants.{Stopped as HasStopped}
 use Rattle.remus.specs.Fields.{text_after}
 use Rattle.remus.specs.Printed.{reply_line, IsPlain}
 use Rattle.remus.proofs.OptionLemmas.{some_same}

@@ -2,7 +2,7 @@
 use Rattle.std.specs.Prelude.{◌≡◌, ℕ, ◌≤◌, ◌<◌, true, false, List, [], ◌∷◌, ◌++◌, length, codes}
 use Rattle.std.specs.Io.KnownBytes.{Appends, Consumes, IsAtEnd}
 use Rattle.memory_wanted.specs.Wanted.{wanted}
-use Rattle.pair_core.specs.declared.event.Refusal.TheVariants.{NoMemory}
+use Rattle.pair_record.specs.declared.event.Refusal.TheVariants.{NoMemory}
 use Rattle.remus.specs.Limits.{most_line_bytes}
 use Rattle.remus.specs.Meaning.{Stage, unbooted, GoesOn, IsBad, IsRefused, lines_of}
 use Rattle.remus.specs.Printed.{refusal_line}

@@ -2,15 +2,15 @@
 use Rattle.std.specs.Prelude.{◌≡◌, ℕ, ◌+◌, ◌==◌, ◌⊎◌, Bool, true, false, List, [], ◌∷◌, ◌++◌, Some, None, codes, decimal}
 use Rattle.std.specs.List.{slice_split}
 use Rattle.memory_wanted.specs.Wanted.{wanted}
-use Rattle.pair_core.specs.declared.event.Event.{Event}
-use Rattle.pair_core.specs.declared.event.Event.TheVariants as events
-use Rattle.pair_core.specs.declared.event.Refusal.TheVariants.{NoMemory}
-use Rattle.pair_core.specs.declared.event.Reply.{Reply}
+use Rattle.pair_record.specs.declared.event.Event.{Event}
+use Rattle.pair_record.specs.declared.event.Event.TheVariants as events
+use Rattle.pair_record.specs.declared.event.Refusal.TheVariants.{NoMemory}
+use Rattle.pair_record.specs.declared.event.Reply.{Reply}
 use Rattle.pair_core.specs.Pair.{Pair, IsConsistent}
 use Rattle.pair_core.specs.Replication.{Does, KeepsBackup}
 use Rattle.pair_core.specs.Runs.{StepsAnswer}
 use Rattle.pair_core.specs.Service.{Serves, ServesSteps, moment}
-use Rattle.pair_core.specs.Record.{start_record}
+use Rattle.pair_record.specs.Record.{start_record}
 use Rattle.pair_core.specs.Start.{shown}
 use Rattle.remus.specs.declared.script.Command.TheVariants.{Step, Cut, Send, Backup, Ack, Admit, Take, LoseIn, LoseOut, FailPrimary}
 use Rattle.remus.specs.declared.script.Command.TheVariants.{FailBackup, GoLive, Protect, Sector, Show}

@@ -5,12 +5,12 @@ use Rattle.hex.specs.Hex.{encode_lower, IsBytes}
 use Rattle.pair_core.specs.Pair.{Pair}
 use Rattle.pair_core.specs.Start.{shown_sector}
 use Rattle.pair_core.specs.Words.{word_of}
-use Rattle.pair_core.specs.declared.event.Refusal.{Refusal}
-use Rattle.pair_core.specs.Refusals.{number_of, name_of}
-use Rattle.pair_core.specs.declared.event.Show.{Show}
-use Rattle.pair_core.specs.declared.event.Reply.{Reply}
-use Rattle.pair_core.specs.declared.event.Reply.TheVariants.{Steps, Cut, Sent, Committed, Again, Lost, Acked, Admitted, Empty}
-use Rattle.pair_core.specs.declared.event.Reply.TheVariants.{Delivered, Took, Dropped, Stopped, Alone, Live, Protecting, Refused}
+use Rattle.pair_record.specs.declared.event.Refusal.{Refusal}
+use Rattle.pair_record.specs.Refusals.{number_of, name_of}
+use Rattle.pair_record.specs.declared.event.Show.{Show}
+use Rattle.pair_record.specs.declared.event.Reply.{Reply}
+use Rattle.pair_record.specs.declared.event.Reply.TheVariants.{Steps, Cut, Sent, Committed, Again, Lost, Acked, Admitted, Empty}
+use Rattle.pair_record.specs.declared.event.Reply.TheVariants.{Delivered, Took, Dropped, Stopped, Alone, Live, Protecting, Refused}
 
 -- fields parted by one space, and the end of the line
 abbrev pub line : List (List ℕ) → List ℕ

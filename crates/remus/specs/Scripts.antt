@@ -2,10 +2,10 @@
 use Rattle.std.specs.Prelude.{◌≡◌, ℕ, suc, ◌+◌, ◌<◌, true, List, [], ◌∷◌, ◌++◌, Some, codes, length, map, replicate}
 use Rattle.std.specs.List.{flat_map, AllByRecursion}
 use Rattle.memory_wanted.specs.Wanted.{wanted}
-use Rattle.pair_core.specs.declared.event.Event.{Event}
-use Rattle.pair_core.specs.declared.event.Event.TheVariants.{Step as GuestStep}
-use Rattle.pair_core.specs.declared.event.Refusal.TheVariants.{NoMemory}
-use Rattle.pair_core.specs.declared.event.Reply.{Reply}
+use Rattle.pair_record.specs.declared.event.Event.{Event}
+use Rattle.pair_record.specs.declared.event.Event.TheVariants.{Step as GuestStep}
+use Rattle.pair_record.specs.declared.event.Refusal.TheVariants.{NoMemory}
+use Rattle.pair_record.specs.declared.event.Reply.{Reply}
 use Rattle.pair_core.specs.Pair.{Pair}
 use Rattle.pair_core.specs.Service.{HasServed, is_step, moment}
 use Rattle.pair_core.specs.Start.{shown}

@@ -2,7 +2,7 @@
 
 ghost use Rattle.std.specs.Prelude.{◌≡◌, ◌≤◌, ◌∷◌, [], length, codes, decimal};
 ghost use Rattle.hex.specs.Hex.{encode_lower, IsBytes};
-ghost use Rattle.pair_core.specs.declared.event.Reply.{Reply};
+ghost use Rattle.pair_record.specs.declared.event.Reply.{Reply};
 ghost use Rattle.pair_core.specs.Words.{word_of};
 ghost use Rattle.remus.specs.Printed.{IsPlain, line, refusal_line, reply_line, sector_line, show_line};
 

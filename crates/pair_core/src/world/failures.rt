@@ -1,15 +1,15 @@
 //! What happens when a node fails, at the world.
 ghost use Rattle.std.specs.Prelude.{◌≡◌, IfOk, OnErr, None};
-ghost use Rattle.pair_core.specs.declared.event.Event.TheVariants as events;
-ghost use Rattle.pair_core.specs.Modes.{mode_refusal};
-ghost use Rattle.pair_core.specs.Protocol.{allowed};
+ghost use Rattle.pair_record.specs.declared.event.Event.TheVariants as events;
+ghost use Rattle.pair_record.specs.Modes.{mode_refusal};
+ghost use Rattle.pair_record.specs.Protocol.{allowed};
 ghost use Rattle.pair_core.specs.Answering.{MayWantMemory};
 ghost use Rattle.pair_core.specs.Pair.{OnRefused};
 ghost use Rattle.pair_core.specs.Replication.{KeepsBackup, Replicates};
 
 use super::World;
-use crate::event::Reply;
 use memory_wanted::MemoryWanted;
+use pair_record::Reply;
 
 impl World {
     /// The primary stops.

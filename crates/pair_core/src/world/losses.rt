@@ -1,14 +1,14 @@
 //! The losses that are asked for, at the world.
 ghost use Rattle.std.specs.Prelude.{◌≡◌, IfOk, OnErr};
-ghost use Rattle.pair_core.specs.declared.event.Event.TheVariants as events;
-ghost use Rattle.pair_core.specs.Protocol.{allowed};
+ghost use Rattle.pair_record.specs.declared.event.Event.TheVariants as events;
+ghost use Rattle.pair_record.specs.Protocol.{allowed};
 ghost use Rattle.pair_core.specs.Answering.{MayWantMemory};
 ghost use Rattle.pair_core.specs.Pair.{OnRefused};
 ghost use Rattle.pair_core.specs.Replication.{KeepsBackup};
 
 use super::World;
-use crate::event::Reply;
 use memory_wanted::MemoryWanted;
+use pair_record::Reply;
 
 impl World {
     /// The line drops a frame of a client's inbox.

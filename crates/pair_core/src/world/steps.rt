@@ -1,10 +1,10 @@
 //! The guest's steps, at the world.
 ghost use Rattle.std.specs.Prelude.{◌≡◌, ℕ, ◌+◌, ◌≤◌, ◌<◌, length, IfOk, IfSome, IfNone, OnErr, true, false};
 ghost use Rattle.frame_ports.specs.Limits.{number_limit};
-ghost use Rattle.pair_core.specs.declared.event.Event.TheVariants as events;
-ghost use Rattle.pair_core.specs.Journal.{all_entries};
-ghost use Rattle.pair_core.specs.Modes as modes;
-ghost use Rattle.pair_core.specs.Protocol.{allowed, refused, step_outcome, step_room};
+ghost use Rattle.pair_record.specs.declared.event.Event.TheVariants as events;
+ghost use Rattle.pair_record.specs.Journal.{all_entries};
+ghost use Rattle.pair_record.specs.Modes as modes;
+ghost use Rattle.pair_record.specs.Protocol.{allowed, refused, step_outcome, step_room};
 ghost use Rattle.pair_core.specs.Answering.{Answers, MayWantMemory, step_reply};
 ghost use Rattle.pair_core.specs.Pair.{Pair, OnRefused, IsConsistent};
 ghost use Rattle.pair_core.specs.Drops.{Drops};
@@ -14,9 +14,8 @@ ghost use Rattle.pair_core.specs.Service.{Serves, ServesSteps, moment};
 ghost use Rattle.pair_history.specs.Entries.{Begins};
 
 use super::World;
-use crate::event::{Refusal, Reply};
-use crate::modes::is_alone;
 use memory_wanted::MemoryWanted;
+use pair_record::{Refusal, Reply, is_alone};
 
 impl World {
     /// The guest makes one step, as [`World::apply`] of [`Event::Step`](crate::Event::Step) does, and answers the guest's step count. This
@@ -168,6 +167,10 @@ impl World {
     {
         self.record.keep();
         let most = self.record.alone_steps_left(count);
-        self.record.step_alone(&mut self.nodes, most)
+        self.record.reserve_lone_steps()?;
+        let steps = self.nodes.run_to_frame(most);
+        self.record.run_alone(steps, self.nodes.outbox());
+        self.nodes.send_off();
+        Ok(steps)
     }
 }

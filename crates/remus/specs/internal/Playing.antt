@@ -3,7 +3,7 @@ use Rattle.std.specs.Prelude.{◌≡◌, ◌⊎◌, ℕ, ◌+◌, Bool, true, fa
 use Rattle.std.specs.Io.KnownBytes.{Appends}
 use Rattle.memory_wanted.specs.Wanted.{wanted}
 use Rattle.pair_core.specs.Pair.{Pair}
-use Rattle.pair_core.specs.declared.event.Refusal.TheVariants.{NoMemory}
+use Rattle.pair_record.specs.declared.event.Refusal.TheVariants.{NoMemory}
 use Rattle.remus.specs.declared.player.Turn.{Turn}
 use Rattle.remus.specs.declared.player.Turn.TheVariants as turns
 use Rattle.remus.specs.declared.sim.Stop.{Stop}

@@ -1,6 +1,6 @@
 -- a client's frame is delivered
 use Rattle.std.proofs.Common.{refl, subst, sym}
-use Rattle.pair_core.specs.declared.event.Event.TheVariants as events
+use Rattle.pair_record.specs.declared.event.Event.TheVariants as events
 use Rattle.remus.specs.declared.lines.Line.{Line as ReadLine}
 use Rattle.remus.specs.Lines.{delivery, line_of}
 use Rattle.remus.specs.internal.Playing.{IsDone}

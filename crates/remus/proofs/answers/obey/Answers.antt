@@ -1,6 +1,6 @@
 -- each command that asks for an event is done as that event
 use Rattle.std.proofs.Common.{refl, subst, sym}
-use Rattle.pair_core.specs.declared.event.Event.TheVariants as events
+use Rattle.pair_record.specs.declared.event.Event.TheVariants as events
 use Rattle.remus.specs.Lines.{order}
 use Rattle.remus.specs.internal.Playing.{IsDone}
 use Rattle.remus.specs.declared.script.Command.{Command}

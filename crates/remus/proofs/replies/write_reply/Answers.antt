@@ -1,7 +1,7 @@
 -- the line of a reply tells which reply it was
 use Rattle.std.proofs.Common.{◌≡◌, ◌∙◌, Some, ap, arith}
-use Rattle.pair_core.specs.declared.event.Reply.TheVariants.{Steps, Cut, Sent, Committed, Again, Acked, Admitted, Delivered, Took}
-use Rattle.pair_core.specs.declared.event.Reply.TheVariants.{Alone, Live, Protecting, Refused}
+use Rattle.pair_record.specs.declared.event.Reply.TheVariants.{Steps, Cut, Sent, Committed, Again, Acked, Admitted, Delivered, Took}
+use Rattle.pair_record.specs.declared.event.Reply.TheVariants.{Alone, Live, Protecting, Refused}
 use Rattle.remus.proofs.ReplyLemmas.{readable}
 use Rattle.remus.proofs.replies.write_reply.Goals as goal
 

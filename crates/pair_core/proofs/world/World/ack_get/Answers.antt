@@ -1,10 +1,13 @@
 use Rattle.std.proofs.{Common.{arith, ◌≡◌, ◌<◌, ◌∙◌, refl, sym, ap, length, None, Some}, lemmas.List.length-append}
 use Rattle.std.specs.Prelude.{slice_get}
 use Rattle.pair_history.specs.Landings.{landings}
-use Rattle.pair_core.specs.{Answering.AddsEntries, Pair.shown_state, Protocol.{ack_done, ack_outcome, ack_refusals, let_go}}
-use Rattle.pair_core.specs.{Record.ports_after_ack, internal.WorldFields.pair_of}
-use Rattle.pair_core.proofs.{Calls.{after_call, on_err_so}, ClientEvents.ack_holds, LengthLaws.length-landings, Outcomes.goes}
-use Rattle.pair_core.proofs.RecordLaws.{passed, generation_is}
+use Rattle.pair_record.specs.Protocol.{ack_done, ack_outcome, ack_refusals, let_go}
+use Rattle.pair_core.specs.{Answering.AddsEntries, Pair.shown_state}
+use Rattle.pair_record.specs.Record.{ports_after_ack}
+use Rattle.pair_core.specs.internal.WorldFields.{pair_of}
+use Rattle.pair_record.proofs.LengthLaws.{length-landings}
+use Rattle.pair_core.proofs.{Calls.{after_call, on_err_so}, ClientEvents.ack_holds, Outcomes.goes}
+use Rattle.pair_record.proofs.RecordLaws.{passed, generation_is}
 use Rattle.pair_core.proofs.world.World.ack_get.Goals as goal
 
 pub invariant_of-self : goal.invariant_of-self
@@ -29,7 +32,7 @@ returns-clause-memory c =
     let there : slice_get r.lines.back c.args.k ≡ Some p = sym c.acknowledgement.ensures.packet ∙ c.in-Some.is in
     let goes_on =
     goes r (ack_refusals b r p) (ack_done b r p.number) None (sym c.in_default-ack_refusal.is ∙ c.ack_refusal.ensures.refusal) refl
-    ∙ ap (λ bs. ack_outcome bs r (Some p)) c.self.invariant.clients.boxes
+    ∙ ap (λ bs. ack_outcome bs r (Some p)) c.self.invariant.accords.clients.boxes
     ∙ ap (ack_outcome (shown_state w).boxes r) (sym there) in
     let adds : 0 < length leaving → AddsEntries r (ack_done b r p.number).1 =
     λ some. omega (arith, length-append r.journal.history (landings b leaving), length-landings b leaving) in

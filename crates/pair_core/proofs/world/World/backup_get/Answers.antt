@@ -1,12 +1,18 @@
 use Rattle.std.proofs.Common.{rules, ◌≡◌, ℕ, ◌<◌, ◌≤◌, ◌∙◌, sym, ap, subst, arith, false, Option, None}
 use Rattle.epoch_snapshot.specs.Checkpoints.{Change}
-use Rattle.pair_core.specs.{declared.event.Packet.Packet, declared.event.Refusal.Refusal, internal.Invariant.Holds}
-use Rattle.pair_core.specs.{declared.event.Event.TheVariants.BackupGet, declared.event.Reply.Reply, Nodes.{Nodes, first_text}}
-use Rattle.pair_core.specs.{Modes.{is_alone, mode_refusal}, Pair.{Pair, shown_state}, Replication.Replicates}
-use Rattle.pair_core.specs.{Protocol.{Record, Outcome, first_refusal, backup_refusals, again_done}, internal.WorldFields.pair_of}
-use Rattle.pair_core.proofs.{ModeLaws.backup_goes, ReplicationLaws.{after_commit, commit_replicates}, Consistent.in_mode}
+use Rattle.pair_record.specs.{declared.event.Packet.Packet, declared.event.Refusal.Refusal}
+use Rattle.pair_core.specs.internal.Invariant.{Holds}
+use Rattle.pair_record.specs.{declared.event.Event.TheVariants.BackupGet, declared.event.Reply.Reply}
+use Rattle.pair_core.specs.Nodes.{Nodes, first_text}
+use Rattle.pair_record.specs.Modes.{is_alone, mode_refusal}
+use Rattle.pair_core.specs.{Pair.{Pair, shown_state}, Replication.Replicates}
+use Rattle.pair_record.specs.Protocol.{Record, Outcome, first_refusal, backup_refusals, again_done}
+use Rattle.pair_core.specs.internal.WorldFields.{pair_of}
+use Rattle.pair_record.proofs.ModeLaws.{backup_goes}
+use Rattle.pair_core.proofs.{ReplicationLaws.{after_commit, commit_replicates}, Consistent.in_mode}
 use Rattle.pair_core.proofs.{Calls.{on_ok, after_call}, Events.{lines_hold, commit_holds, oldest_text}}
-use Rattle.pair_core.proofs.{NodesLaws.{reads-whole, reads-shape}, RecordLaws.{passed, generation_is, commit_record}}
+use Rattle.pair_record.proofs.RecordLaws.{passed, generation_is, commit_record}
+use Rattle.pair_core.proofs.NodesLaws.{reads-whole, reads-shape}
 use Rattle.pair_core.proofs.world.World.backup_get.Goals as goal
 
 pub invariant_of-self : goal.invariant_of-self

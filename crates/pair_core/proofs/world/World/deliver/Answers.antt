@@ -1,10 +1,12 @@
 use Rattle.std.proofs.Common.{rules, arith, ◌≡◌, ◌∙◌, refl, sym, ap, subst, length, Some}
 use Rattle.frame_ports.specs.Ports.{after_delivery}
-use Rattle.pair_core.specs.{declared.event.Event.TheVariants.Deliver, declared.event.Refusal.TheVariants.Full, Pair.{Pair, AfterRefusal}}
-use Rattle.pair_core.specs.{Protocol.{Outcome, allowed, deliver_done, delivery_refused}, internal.WorldFields.pair_of}
+use Rattle.pair_record.specs.{declared.event.Event.TheVariants.Deliver, declared.event.Refusal.TheVariants.Full}
+use Rattle.pair_core.specs.Pair.{Pair, AfterRefusal}
+use Rattle.pair_record.specs.Protocol.{Outcome, allowed, deliver_done, delivery_refused}
+use Rattle.pair_core.specs.internal.WorldFields.{pair_of}
 use Rattle.pair_core.proofs.{Calls.{on_ok, on_err, answered_so, after_call}, ClientEvents.{deliver_holds, full_holds}}
 use Rattle.pair_core.proofs.Outcomes.{after_none, client_range, frame_range, full_rows, deliver_goes, deliver_full, deliver_stops}
-use Rattle.pair_core.proofs.{RecordLaws.passed, WindowLaws.is_from}
+use Rattle.pair_record.proofs.{RecordLaws.passed, WindowLaws.is_from}
 use Rattle.pair_core.proofs.world.World.deliver.Goals as goal
 
 pub invariant_of-self : goal.invariant_of-self

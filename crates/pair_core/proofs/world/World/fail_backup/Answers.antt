@@ -1,8 +1,10 @@
 use Rattle.std.proofs.Common.{rules, arith, ◌≡◌, ◌∙◌, List, refl, sym, ap, subst}
 use Rattle.failover.specs.declared.mode.Mode.TheVariants.{Alone}
 use Rattle.pair_history.specs.Entries.{Frame}
-use Rattle.pair_core.specs.{internal.Invariant.Holds, Nodes.left_alone, Protocol.{Outcome, first_refusal, fail_backup_refusals, fail_backup_done}}
-use Rattle.pair_core.specs.{Record.ports_after_all, Window.none_pending, internal.WorldFields.pair_of}
+use Rattle.pair_record.specs.Protocol.{Outcome, first_refusal, fail_backup_refusals, fail_backup_done}
+use Rattle.pair_core.specs.{internal.Invariant.Holds, Nodes.left_alone}
+use Rattle.pair_record.specs.{Record.ports_after_all, Window.none_pending}
+use Rattle.pair_core.specs.internal.WorldFields.{pair_of}
 use Rattle.pair_core.proofs.{AllLands.all_landed_holds, Calls.on_err, Outcomes.{stops, goes, fail_backup_sight}}
 use Rattle.pair_core.proofs.world.World.fail_backup.Goals.{After-fail_backup_refusal}
 use Rattle.pair_core.proofs.world.World.fail_backup.Goals as goal

@@ -1,8 +1,10 @@
 use Rattle.std.proofs.Common.{◌∙◌, ◌+◌, sym, ap, subst}
 use Rattle.frame_ports.specs.Limits.{number_limit}
-use Rattle.pair_core.specs.{internal.Invariant.Holds, Protocol.Outcome, internal.WorldFields.pair_of}
-use Rattle.pair_core.proofs.{GoneLive.gone_live_holds, ModeLaws.{live_goes, live_full}, RecordLaws.{passed, some_committed}}
-use Rattle.pair_core.proofs.WindowLaws.{is_below}
+use Rattle.pair_record.specs.Protocol.{Outcome}
+use Rattle.pair_core.specs.{internal.Invariant.Holds, internal.WorldFields.pair_of}
+use Rattle.pair_record.proofs.{ModeLaws.{live_goes, live_full}, RecordLaws.{passed, some_committed}}
+use Rattle.pair_core.proofs.GoneLive.{gone_live_holds}
+use Rattle.pair_record.proofs.WindowLaws.{is_below}
 use Rattle.pair_core.proofs.world.World.go_live.Goals as goal
 
 pub invariant_of-self-2 : goal.invariant_of-self-2

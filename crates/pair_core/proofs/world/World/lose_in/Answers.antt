@@ -2,11 +2,13 @@ use Rattle.std.proofs.Common.{◌∙◌, ◌<◌, ◌≤◌, ℕ, sym, ap, subst
 use Rattle.std.specs.Prelude.{option_map}
 use Rattle.frame_ports.specs.Lands.{list_of}
 use Rattle.pair_history.specs.Entries.{Frame, Entry, DropIn}
-use Rattle.pair_core.specs.{declared.event.Event.TheVariants.LoseIn, internal.Invariant.Holds, Protocol.lost_in}
+use Rattle.pair_record.specs.{declared.event.Event.TheVariants.LoseIn, Protocol.lost_in}
+use Rattle.pair_core.specs.internal.Invariant.{Holds}
 use Rattle.pair_core.specs.{internal.WorldFields.pair_of}
-use Rattle.pair_core.proofs.{Calls.on_err, ClientEvents.lose_in_holds, Outcomes.client_range, RecordLaws.passed}
+use Rattle.pair_record.proofs.RecordLaws.{passed}
+use Rattle.pair_core.proofs.{Calls.on_err, ClientEvents.lose_in_holds, Outcomes.client_range}
 use Rattle.pair_core.proofs.LossOutcomes.{some_at, none_at, numbered, lose_in_sight, loss_empty, loss_stops, loss_goes, loss_wants}
-use Rattle.pair_core.specs.declared.event.Reply.TheVariants as replies
+use Rattle.pair_record.specs.declared.event.Reply.TheVariants as replies
 use Rattle.pair_core.proofs.world.World.lose_in.Goals as goal
 
 -- the entry of a frame

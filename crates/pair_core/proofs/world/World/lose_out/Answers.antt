@@ -2,11 +2,12 @@ use Rattle.std.proofs.Common.{◌∙◌, ◌<◌, sym, ap, subst, arith, length}
 use Rattle.std.specs.Prelude.{option_map}
 use Rattle.frame_ports.specs.Lands.{list_of}
 use Rattle.pair_history.specs.Entries.{Frame, DropOut}
-use Rattle.pair_core.specs.{declared.event.Event.TheVariants.LoseOut, internal.Invariant.Holds, Protocol.lost_out}
+use Rattle.pair_record.specs.{declared.event.Event.TheVariants.LoseOut, Protocol.lost_out}
+use Rattle.pair_core.specs.internal.Invariant.{Holds}
 use Rattle.pair_core.specs.{internal.WorldFields.pair_of}
 use Rattle.pair_core.proofs.{ClientEvents.lose_out_holds, LossOutcomes.{some_at, lose_out_sight, loss_goes}, Outcomes.client_range}
-use Rattle.pair_core.proofs.RecordLaws.{passed}
-use Rattle.pair_core.specs.declared.event.Reply.TheVariants as replies
+use Rattle.pair_record.proofs.RecordLaws.{passed}
+use Rattle.pair_record.specs.declared.event.Reply.TheVariants as replies
 use Rattle.pair_core.proofs.world.World.lose_out.Goals as goal
 
 pub invariant_of-self-2 : goal.invariant_of-self-2

@@ -7,8 +7,8 @@ pub invariant_of-self : goal.invariant_of-self
 invariant_of-self c =
     let w = pair_of c.self.inside in
     subst Holds (λ i. record w {
-      protocol = (sym c.run.ensures i).protocol;
-      ports = (sym c.run.ensures i).ports;
+      protocol = sym c.run.ensures.protocol i;
+      ports = sym c.run.ensures.ports i;
       nodes = sym c.run-made.ensures.made i;
     })
     (steps_hold c.run-made.result w c.self.invariant)

@@ -1,11 +1,15 @@
 use Rattle.std.proofs.Common.{◌∙◌, ◌+◌, ap, sym, subst}
 use Rattle.guest_machine.specs.Guest.{Guest}
 use Rattle.frame_ports.specs.Limits.{number_limit}
-use Rattle.pair_core.specs.{declared.event.Event.TheVariants.Protect, internal.Invariant.Holds, Nodes.{Nodes, HasShape, with_protected}}
-use Rattle.pair_core.specs.{Protocol.Outcome, Texts.IsText, internal.WorldFields.pair_of, declared.event.Reply.Reply}
+use Rattle.pair_record.specs.declared.event.Event.TheVariants.{Protect}
+use Rattle.pair_core.specs.{internal.Invariant.Holds, Nodes.{Nodes, HasShape, with_protected}}
+use Rattle.pair_record.specs.{Protocol.Outcome, declared.event.Reply.Reply}
+use Rattle.pair_core.specs.{Texts.IsText, internal.WorldFields.pair_of}
 use Rattle.pair_core.specs.{Replication.Replicates}
-use Rattle.pair_core.proofs.{ModeLaws.protect_goes, Protected.protect_holds, RecordLaws.passed, world.World.protect.Goals.In_ok-image}
-use Rattle.pair_core.proofs.{ReplicationLaws.protect_replicates, WindowLaws.is_below}
+use Rattle.pair_record.proofs.{ModeLaws.protect_goes, RecordLaws.passed}
+use Rattle.pair_core.proofs.{Protected.protect_holds, world.World.protect.Goals.In_ok-image}
+use Rattle.pair_record.proofs.WindowLaws.{is_below}
+use Rattle.pair_core.proofs.ReplicationLaws.{protect_replicates}
 use Rattle.pair_core.proofs.world.World.protect.Goals as goal
 
 -- the text makes the live guest, whatever guest it is applied to

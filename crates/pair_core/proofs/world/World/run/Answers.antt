@@ -1,5 +1,6 @@
 use Rattle.std.proofs.{Common.{rules, ◌≡◌, ◌+◌, ◌++◌, ◌∷◌, [], length, take, get_or, ◌∙◌, arith, ◌<◌}, lemmas.List.take_more}
-use Rattle.pair_core.specs.{declared.event.Event.TheVariants.Step, Answering.Answers, Drops.Drops, Replication.Does, Service.Serves}
+use Rattle.pair_record.specs.declared.event.Event.TheVariants.{Step}
+use Rattle.pair_core.specs.{Answering.Answers, Drops.Drops, Replication.Does, Service.Serves}
 use Rattle.pair_core.proofs.{AlongLaws.along-more, PublicLaws.Begins-trans}
 use Rattle.pair_core.proofs.world.World.run.Goals as goal
 

@@ -1,6 +1,7 @@
 use Rattle.std.proofs.Common.{◌≡◌, ◌≤◌, ◌-◌, true}
-use Rattle.pair_core.specs.{Modes.is_alone, Replication.KeepsBackup, Runs.steps_outcome}
-use Rattle.pair_core.specs.declared.event.Reply.TheVariants as replies
+use Rattle.pair_record.specs.Modes.{is_alone}
+use Rattle.pair_core.specs.{Replication.KeepsBackup, Runs.steps_outcome}
+use Rattle.pair_record.specs.declared.event.Reply.TheVariants as replies
 use Rattle.pair_core.proofs.world.World.run_alone.Given as goal
 
 abbrev pub invariant-loop-made : goal.invariant-loop-made

@@ -1,4 +1,5 @@
-use Rattle.pair_core.specs.{Protocol.send_done, internal.WorldFields.pair_of}
+use Rattle.pair_record.specs.Protocol.{send_done}
+use Rattle.pair_core.specs.internal.WorldFields.{pair_of}
 use Rattle.pair_core.proofs.{Calls.{on_ok, after_call}, Events.lines_hold}
 use Rattle.pair_core.proofs.world.World.send.Goals as goal
 

@@ -1,5 +1,5 @@
 use Rattle.std.proofs.Common.{rules, arith}
-use Rattle.pair_core.specs.{declared.event.Event.TheVariants.Step}
+use Rattle.pair_record.specs.declared.event.Event.TheVariants.{Step}
 use Rattle.pair_core.proofs.{AloneRuns.{paired_answer, alone_answer}, ServiceLaws.serves, StepRuns.{one-step-answered, refused_step}}
 use Rattle.pair_core.proofs.world.World.step.Goals as goal
 

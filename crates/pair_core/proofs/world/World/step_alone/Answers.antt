@@ -1,64 +1,67 @@
-use Rattle.std.proofs.Common.{◌≡◌, ◌∙◌, ℕ, zero, suc, ◌+◌, ◌-◌, ◌<◌, ◌≤◌, [], length, sym, ap, subst, arith, true, Result, Ok, Err, OnErr}
-use Rattle.std.specs.Prelude.{IfOk}
-use Rattle.memory_wanted.specs.declared.MemoryWanted.{MemoryWanted}
+use Rattle.std.proofs.Common.{◌≡◌, ◌∙◌, ℕ, zero, suc, ◌+◌, ◌<◌, List, ◌++◌, length, replicate, sym, ap, subst, arith, true}
 use Rattle.guest_machine.specs.Runs.{sent_in}
-use Rattle.frame_ports.specs.{Ports.PortsState, Limits.number_limit}
-use Rattle.pair_core.specs.{internal.Invariant.Holds, Journal.all_entries, Modes.is_alone, Nodes.{Housed, Nodes, after_run, with_sent_off}}
-use Rattle.pair_core.specs.{Pair.Pair, Protocol.Record, Record.{RecordState, IsLone}, Runs.steps_outcome, internal.WorldFields.pair_of}
-use Rattle.pair_core.proofs.AloneRuns.{after_alone, alone_holds, alone_answered}
-use Rattle.pair_core.specs.declared.event.Reply.TheVariants as replies
+use Rattle.frame_ports.specs.{Addresses.targets_of, Lands.lands, Limits.number_limit}
+use Rattle.pair_history.specs.{Entries.{Frame, Ran}, Landings.landings}
+use Rattle.pair_record.specs.{Journal.{all_entries, with_history}, Modes.is_alone}
+use Rattle.pair_core.specs.{internal.Invariant.Holds, Nodes.{Nodes, after_run, with_sent_off}}
+use Rattle.pair_core.specs.{internal.WorldFields.pair_of}
+use Rattle.pair_core.proofs.{AloneRuns.{after_alone, alone_holds, alone_answered}, Consistent.alone_is}
+use Rattle.pair_core.proofs.world.World.step_alone.Goals.{After-send_off}
+use Rattle.pair_record.specs.declared.event.Reply.TheVariants as replies
 use Rattle.pair_core.proofs.world.World.step_alone.Goals as goal
-
--- the pair after a call that did all or nothing
-module _ (w : Pair) (h : Holds w) (k : IsLone w.protocol) (lone : is_alone w.protocol.mode ≡ true) (protocol : Record) (ports : PortsState)
-    (nodes : Nodes) where
-  after_all : (o : Result ℕ MemoryWanted)
-      → IfOk o (λ n. protocol ≡ (after_alone w n (sent_in n w.nodes.live.guest)).protocol)
-      → IfOk o (λ n. ports ≡ (after_alone w n (sent_in n w.nodes.live.guest)).ports)
-      → IfOk o (λ n. nodes ≡ with_sent_off (after_run n w.nodes))
-      → OnErr o (protocol ≡ w.protocol) → OnErr o (ports ≡ w.ports) → OnErr o (nodes ≡ w.nodes)
-      → Holds (record w { protocol = protocol; ports = ports; nodes = nodes })
-  after_all (Ok n) p q x e f g =
-      subst Holds (λ i. record w { protocol = sym p i; ports = sym q i; nodes = sym x i }) (alone_holds w h k lone n)
-  after_all (Err error) p q x e f g = subst Holds (λ i. record w { protocol = sym e i; ports = sym f i; nodes = sym g i }) h
-
-  answered : (o : Result ℕ MemoryWanted) (most : ℕ)
-      → IfOk o (λ n. protocol ≡ (after_alone w n (sent_in n w.nodes.live.guest)).protocol)
-      → IfOk o (λ n. nodes ≡ with_sent_off (after_run n w.nodes))
-      → IfOk o (λ n. sent_in (n - 1) w.nodes.live.guest ≡ []) → IfOk o (λ n. n ≤ most)
-      → length (all_entries w.protocol.journal) + (most + 1024) < number_limit
-      → IfOk o (λ n. (replies.Steps nodes.live.guest.steps, protocol) ≡ steps_outcome w.start w.protocol n)
-  answered (Ok n) most p x quiet least fits =
-      (λ i. (replies.Steps (x i).live.guest.steps, p i)) ∙ alone_answered w h k lone n quiet (omega arith)
-  answered (Err error) most p x quiet least fits = tt
-
--- what is so of both sides where the call did nothing
-ap_err : {A B : Type 0} (o : Result ℕ MemoryWanted) (f : A → B) (x y : A) → OnErr o (x ≡ y) → OnErr o (f x ≡ f y)
-ap_err (Ok n) f x y e = tt
-ap_err (Err error) f x y e = ap f e
 
 by_count : (n used : ℕ) → used + 1025 < number_limit → (0 < n → used + (n + 1024) < number_limit) → used + (n + 1024) < number_limit
 by_count zero used room some = omega arith
 by_count (suc n) used room some = some (omega arith)
 
-pub invariant_of-self : goal.invariant_of-self
-invariant_of-self c =
+lone_is : (c : After-send_off) → is_alone (pair_of c.self.inside).protocol.mode ≡ true
+lone_is c = rw (← c.self.view_is) at c.requires.alone
+
+-- what was sent is what these steps send
+sent_is : (c : After-send_off) → c.outbox.result.now ≡ sent_in c.run_to_frame-steps.result (pair_of c.self.inside).nodes.live.guest
+sent_is c =
     let w = pair_of c.self.inside in
-    let lone = rw (← c.self.view_is) at c.requires.alone in
-    after_all w c.self.invariant (c.keep.ensures.alone lone) lone c.step_alone.new.self.protocol c.step_alone.new.self.ports
-    c.step_alone.new.nodes.nodes c.step_alone.result c.step_alone.ensures.protocol c.step_alone.ensures.ports c.step_alone.ensures.nodes
-    (ap_err c.step_alone.result (λ (s : RecordState). s.protocol) _ _ c.step_alone.ensures.err)
-    (ap_err c.step_alone.result (λ (s : RecordState). s.ports) _ _ c.step_alone.ensures.err)
-    (ap_err c.step_alone.result (λ (x : Housed). x.nodes) _ _ c.step_alone.ensures.err_nodes)
+    let fs = sent_in c.run_to_frame-steps.result w.nodes.live.guest in
+    c.outbox.ensures.value
+    ∙ ap (λ (x : Nodes). x.live.outbox) c.run_to_frame-steps.ensures.made
+    ∙ ap (λ (t : List Frame). t ++ fs) (alone_is w c.self.invariant (c.keep.ensures.alone (lone_is c))).outbox
+
+protocol_is : (c : After-send_off) → c.run_alone.new.self.protocol
+    ≡ (after_alone (pair_of c.self.inside) c.run_to_frame-steps.result
+    (sent_in c.run_to_frame-steps.result (pair_of c.self.inside).nodes.live.guest)).protocol
+protocol_is c =
+    let same = c.reserve_lone_steps.ensures.same in
+    c.run_alone.ensures.protocol
+    ∙ (λ i. record (same.0 i) {
+      journal = with_history (same.0 i).journal (replicate c.run_to_frame-steps.result Ran
+          ++ landings (same.1 i).boxes (targets_of (length (same.1 i).boxes) (sent_is c i)));
+    })
+
+ports_are : (c : After-send_off) → c.run_alone.new.self.ports
+    ≡ (after_alone (pair_of c.self.inside) c.run_to_frame-steps.result
+    (sent_in c.run_to_frame-steps.result (pair_of c.self.inside).nodes.live.guest)).ports
+ports_are c =
+    let same = c.reserve_lone_steps.ensures.same in
+    c.run_alone.ensures.ports
+    ∙ (λ i. record (same.1 i) { boxes = lands (same.1 i).boxes (targets_of (length (same.1 i).boxes) (sent_is c i)) })
+
+nodes_are : (c : After-send_off) → c.send_off.new.self.nodes
+    ≡ with_sent_off (after_run c.run_to_frame-steps.result (pair_of c.self.inside).nodes)
+nodes_are c = c.send_off.ensures ∙ ap with_sent_off c.run_to_frame-steps.ensures.made
+
+pub invariant_of-self-2 : goal.invariant_of-self-2
+invariant_of-self-2 c =
+    let w = pair_of c.self.inside in
+    subst Holds (λ i. record w { protocol = sym (protocol_is c) i; ports = sym (ports_are c) i; nodes = sym (nodes_are c) i })
+    (alone_holds w c.self.invariant (c.keep.ensures.alone (lone_is c)) (lone_is c) c.run_to_frame-steps.result)
 
 pub returns-clause-answered : goal.returns-clause-answered
 returns-clause-answered c =
     let w = pair_of c.self.inside in
-    let n = c.alone_steps_left-most.result in
-    let lone = rw (← c.self.view_is) at c.requires.alone in
+    let n = c.run_to_frame-steps.result in
+    let most = c.run_to_frame-steps.ensures.most in
     let room = rw (← c.self.view_is) at c.requires.room in
-    let fits : length (all_entries w.protocol.journal) + (n + 1024) < number_limit =
-    by_count n (length (all_entries w.protocol.journal)) room c.alone_steps_left-most.ensures.fits in
-    rw (← c.self.view_is) (answered w c.self.invariant (c.keep.ensures.alone lone) lone c.step_alone.new.self.protocol
-    c.step_alone.new.self.ports c.step_alone.new.nodes.nodes c.step_alone.result n c.step_alone.ensures.protocol
-    c.step_alone.ensures.nodes c.step_alone.ensures.quiet c.step_alone.ensures.most fits)
+    let left = c.alone_steps_left-most.ensures in
+    let fits = by_count c.alone_steps_left-most.result (length (all_entries w.protocol.journal)) room left.fits in
+    rw (← c.self.view_is) ((λ i. (replies.Steps (nodes_are c i).live.guest.steps, protocol_is c i))
+    ∙ alone_answered w c.self.invariant (c.keep.ensures.alone (lone_is c)) (lone_is c) n c.run_to_frame-steps.ensures.quiet (omega arith))

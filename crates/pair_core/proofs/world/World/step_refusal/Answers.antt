@@ -1,7 +1,8 @@
 use Rattle.std.proofs.Common.{◌∙◌, List, ap}
 use Rattle.guest_machine.specs.Step.{next, sent}
 use Rattle.pair_history.specs.Entries.{Frame}
-use Rattle.pair_core.specs.{Protocol.{first_refusal, step_refusals, step_done, step_outcome}, internal.WorldFields.pair_of}
+use Rattle.pair_record.specs.Protocol.{first_refusal, step_refusals, step_done, step_outcome}
+use Rattle.pair_core.specs.internal.WorldFields.{pair_of}
 use Rattle.pair_core.proofs.Outcomes.{all_stop, step_sight}
 use Rattle.pair_core.proofs.world.World.step_refusal.Goals as goal
 

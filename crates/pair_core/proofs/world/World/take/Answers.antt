@@ -1,6 +1,8 @@
 use Rattle.std.proofs.Common.{◌∙◌, sym, length}
-use Rattle.pair_core.specs.{Protocol.take_done, Record.ports_after_take, internal.WorldFields.pair_of}
-use Rattle.pair_core.proofs.{Calls.after_call, ClientEvents.take_holds, Outcomes.client_range, RecordLaws.passed}
+use Rattle.pair_record.specs.{Protocol.take_done, Record.ports_after_take}
+use Rattle.pair_core.specs.internal.WorldFields.{pair_of}
+use Rattle.pair_record.proofs.RecordLaws.{passed}
+use Rattle.pair_core.proofs.{Calls.after_call, ClientEvents.take_holds, Outcomes.client_range}
 use Rattle.pair_core.proofs.world.World.take.Goals as goal
 
 pub invariant_of-self : goal.invariant_of-self

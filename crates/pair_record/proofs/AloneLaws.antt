@@ -1,0 +1,57 @@
+-- Laws of a node that is alone: what the gate held lands, followed by the outbox, and nothing is kept or pending.
+use Rattle.std.proofs.Common.{rules, ◌≡◌, ℕ, ◌+◌, ◌*◌, ◌≤◌, List, [], ◌∷◌, ◌++◌, length, refl, sym, ap, ◌∙◌, arith}
+use Rattle.std.proofs.{Common.{append_assoc, mul-le-mul_right}, lemmas.List.{length-append, append-nil}}
+use Rattle.frame_ports.proofs.AddressLaws.{length-targets_of}
+use Rattle.output_gate.specs.Epochs.{Epoch, epoch, frames_of, frames_to}
+use Rattle.pair_history.specs.Entries.{Frame}
+use Rattle.pair_record.specs.{internal.Lengths.receivers, Protocol.{Record, all_held, fail_backup_done}, Record.IsRecord}
+use Rattle.pair_record.specs.Window.{NumberedFrom}
+use Rattle.pair_record.proofs.{LengthLaws.length-receivers, RecordLaws.AreBelow-more, WindowLaws.{NumberedFrom-push, test_from}}
+
+-- the frames of all epochs, where none has a number above n
+pub frames_to-all : (n m : ℕ) (es : List Epoch) → NumberedFrom m es → m + length es ≤ n + 1 → frames_to n es ≡ frames_of es
+frames_to-all n m [] h l = refl
+frames_to-all n m (e ∷ es) h l = search (arith, rules, test_from, frames_to-all n (m + 1) es h.1 (omega arith))
+
+pub frames_of-push : (es : List Epoch) (e : Epoch) → frames_of (es ++ e ∷ []) ≡ frames_of es ++ e.frames
+frames_of-push [] e = append-nil e.frames
+frames_of-push (x ∷ es) e =
+    ap (λ (t : List Frame). x.frames ++ t) (frames_of-push es e) ∙ sym (append_assoc x.frames (frames_of es) e.frames)
+
+receivers-append : (n : ℕ) (fs gs : List Frame) → receivers n (fs ++ gs) ≡ receivers n fs ++ receivers n gs
+receivers-append n [] gs = refl
+receivers-append n (f ∷ fs) gs = search (arith, rules, append_assoc, receivers-append n fs gs)
+
+-- to how many clients all that is held goes, and then the outbox
+pub count-all : (boxes : List (List Frame)) (outbox : List Frame) (r : Record)
+    → length (receivers (length boxes) (frames_of r.pending)) + length (receivers (length boxes) outbox) ≡ length (all_held boxes outbox r)
+count-all boxes outbox r =
+    let n = length boxes in
+    let fs = frames_of r.pending in
+    sym (length-append (receivers n fs) (receivers n outbox))
+    ∙ ap length (sym (receivers-append n fs outbox))
+    ∙ length-receivers n (fs ++ outbox)
+
+module _ (r : Record) (h : IsRecord r) where
+  -- all that the gate holds has numbers below the next one
+  pub held_are : frames_to r.window.to_cut r.pending ≡ frames_of r.pending
+  held_are =
+      frames_to-all r.window.to_cut r.window.to_acknowledge r.pending h.window.numbers (let c = h.window.count in omega arith)
+
+  -- and with the outbox held behind it, up to it
+  pub all_are : (outbox : List Frame)
+      → frames_to r.window.to_cut (r.pending ++ epoch r.window.to_cut outbox ∷ []) ≡ frames_of r.pending ++ outbox
+  all_are outbox =
+      let e = epoch r.window.to_cut outbox in
+      let long = length-append r.pending (e ∷ []) in
+      let c = h.window.count in
+      frames_to-all r.window.to_cut r.window.to_acknowledge (r.pending ++ e ∷ [])
+      (NumberedFrom-push r.window.to_acknowledge r.pending e h.window.numbers (sym h.window.count)) (omega arith)
+      ∙ frames_of-push r.pending e
+
+  pub fail_backup_record : (boxes : List (List Frame)) (outbox : List Frame) → IsRecord (fail_backup_done boxes outbox r).1
+  fail_backup_record boxes outbox = search (arith, rules, AreBelow-more)
+
+-- 64 frames go to 64 times as many as there are clients, at most
+pub few_receivers : (n : ℕ) (fs : List Frame) → length fs ≤ 64 → length (receivers n fs) ≤ 64 * n
+few_receivers n fs few = search (arith, rules, length-receivers, length-targets_of, mul-le-mul_right)

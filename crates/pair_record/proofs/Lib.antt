@@ -1,0 +1,15 @@
+pub mod ModeLaws
+pub mod LengthLaws
+pub mod Receivers
+pub mod LineLaws
+pub mod JournalLaws
+pub mod WindowLaws
+pub mod RecordLaws
+pub mod LiveLaws
+pub mod ProtectLaws
+pub mod AloneLaws
+pub mod AccordLaws
+pub mod ClientAccords
+pub mod LoneAccords
+pub mod LiveAccords
+pub mod ProtectAccords

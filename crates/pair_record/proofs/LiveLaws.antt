@@ -1,0 +1,197 @@
+-- What going live adds to the history, as the loops over it want it; and what is true of the record after it.
+use Rattle.std.proofs.Common.{rules, ◌≡◌, ℕ, zero, suc, ◌+◌, ◌-◌, ◌<◌, ◌≤◌, List, [], ◌∷◌, ◌++◌, length, drop, replicate, get_or, refl, sym}
+use Rattle.std.proofs.{Common.{ap, ◌∙◌, arith, append_assoc, Bool, true, false, cond, Option, Some, None}, Math.Seq.drop-cons}
+use Rattle.std.proofs.lemmas.List.{append-nil, length-append, length-map, length-replicate, length-take-le, nil_from_length}
+use Rattle.std.proofs.lemmas.List.Sorted.{length_permutation}
+use Rattle.std.specs.{Prelude.{map, nat_le, filter, ◌&&◌}, List.Sorted.{IsPermutation, IsNonDecreasing}}
+use Rattle.frame_ports.specs.{Addresses.{addressed, targets_of}, Lands.list_of, Targets.{has_target, AreTargets}}
+use Rattle.frame_ports.specs.Limits.{number_limit}
+use Rattle.output_gate.specs.Epochs.{Epoch, frames_of, frames_to}
+use Rattle.pair_history.specs.{Entries.{Frame, Entry, Arrive, DropIn, DropOut}, HistoryState.{HistoryState, out_of, start_state}}
+use Rattle.pair_history.specs.Failures.{arrived_numbers, drops_of_owed_from}
+use Rattle.pair_history.proofs.{AddressedLaws.out_of-targets, LandingLaws.AllClients-targets, OwedLaws.owed_dropped}
+use Rattle.pair_history.proofs.{SortedLaws.rising-sorted, TakenInLaws.IsPermutation-rising}
+use Rattle.pair_record.specs.{declared.epochs.Arrival.Arrival, declared.epochs.RunningEpoch.RunningEpoch, declared.event.Packet.Packet}
+use Rattle.pair_record.specs.{declared.event.Refusal.Refusal, declared.event.Refusal.TheVariants.Exhausted}
+use Rattle.pair_record.specs.{declared.journal.Journal.TheInside.Inside, declared.window.Window.Window}
+use Rattle.pair_record.specs.{Journal.{Journal, joined, kept_entries}, internal.JournalFields.{epoch_of, stored, AreFields}}
+use Rattle.pair_record.specs.internal.Lengths.{receivers}
+use Rattle.pair_record.specs.{Lines.AreBelow, Protocol.{Record, first_refusal, live_entries, go_live_refusals, go_live_done}}
+use Rattle.pair_record.specs.{Record.{RecordState, owed_to, IsRecord}, Window.{IsWindow, first_after, committed_count, committed_of}}
+use Rattle.pair_record.specs.internal.Arrivals.{steps_of, arrivals_of, epoch_entries, numbers_of, numbers_in}
+use Rattle.pair_record.proofs.{LengthLaws.length-receivers, WindowLaws.{within, leaves, gone, test_from, test_below}}
+
+-- The numbers of the frames that arrived
+
+arrived-append : (es fs : List Entry) → arrived_numbers (es ++ fs) ≡ arrived_numbers es ++ arrived_numbers fs
+arrived-append [] fs = refl
+arrived-append (Arrive n ∷ es) fs = ap (λ ns. n ∷ ns) (arrived-append es fs)
+arrived-append (other ∷ es) fs = arrived-append es fs
+
+pub arrived-few : (es : List Entry) → length (arrived_numbers es) ≤ length es
+arrived-few [] = omega arith
+arrived-few (Arrive n ∷ es) = let l = arrived-few es in omega arith
+arrived-few (other ∷ es) = let l = arrived-few es in omega arith
+
+arrived-steps : (k : ℕ) → arrived_numbers (steps_of k) ≡ []
+arrived-steps zero = refl
+arrived-steps (suc k) = arrived-steps k
+
+arrived-arrivals : (arrivals : List Arrival) → arrived_numbers (arrivals_of arrivals) ≡ numbers_of arrivals
+arrived-arrivals [] = refl
+arrived-arrivals (a ∷ arrivals) = search (arith, rules, arrived-append, arrived-steps, arrived-arrivals arrivals)
+
+arrived-epoch : (arrivals : List Arrival) (k : ℕ) → arrived_numbers (epoch_entries arrivals k) ≡ numbers_of arrivals
+arrived-epoch arrivals k = search (arith, rules, append-nil, arrived-append, arrived-arrivals, arrived-steps)
+
+arrived-joined : (es : List RunningEpoch) → arrived_numbers (joined (map epoch_of es)) ≡ numbers_in es
+arrived-joined [] = refl
+arrived-joined (e ∷ es) = search (arith, rules, arrived-append, arrived-epoch, arrived-joined es)
+
+pub arrived-kept : (a : Inside)
+    → arrived_numbers (kept_entries (stored a).journal) ≡ numbers_in a.sealed.items ++ numbers_of a.running.arrivals.items
+arrived-kept a = search (arith, rules, arrived-append, arrived-epoch, arrived-joined)
+
+-- The frames on their way to a client
+
+pub to_next : (c n : ℕ) (fs : List Frame) (i : ℕ) (f : Frame) → 1 ≤ c → c ≤ n → i < length fs → f ≡ get_or fs i f
+    → length (out_of c (targets_of n (drop i fs))) ≡ cond (addressed f.items c) 1 0 + length (out_of c (targets_of n (drop (i + 1) fs)))
+to_next c n fs i f low high l is =
+    let next : suc i ≡ i + 1 = omega arith in
+    let p : Frame → Bool = λ g. addressed g.items c in
+    ap length (out_of-targets c n (drop i fs) low high)
+    ∙ ap (λ gs. length (filter p gs)) (drop-cons fs i f l)
+    ∙ ap (λ g. length (filter p (g ∷ drop (suc i) fs))) (sym is)
+    ∙ ap (λ j. length (filter p (f ∷ drop j fs))) next
+    ∙ by_test (addressed f.items c) (filter p (drop (i + 1) fs))
+    ∙ ap (λ k. cond (addressed f.items c) 1 0 + k) (sym (ap length (out_of-targets c n (drop (i + 1) fs) low high)))
+  where
+    by_test : (t : Bool) (gs : List Frame) → length (cond t (f ∷ gs) gs) ≡ cond t 1 0 + length gs
+    by_test true gs = omega arith
+    by_test false gs = omega arith
+
+pub is_addressed : (n c : ℕ) (bytes : List ℕ) (targets : ℕ) → AreTargets n bytes targets → 1 ≤ c → c ≤ n → c ≤ 16
+    → has_target targets c ≡ addressed bytes c
+is_addressed n c bytes targets are low high most = are c low most ∙ ap (λ t. t && addressed bytes c) (test_from c n high)
+
+-- what is dropped for the clients from c on, of n
+abbrev pub drops_on : ℕ → ℕ → List (List Frame) → List Frame → List Entry
+drops_on n c boxes fs = drops_of_owed_from (n + 1 - c) c boxes (targets_of (length boxes) fs)
+
+pub drops_on-first : (n : ℕ) (boxes : List (List Frame)) (fs : List Frame) → n ≡ length boxes
+    → drops_on n 1 boxes fs ≡ drops_of_owed_from (length boxes) 1 boxes (targets_of (length boxes) fs)
+drops_on-first n boxes fs e = search (arith, rules)
+
+-- the next client's
+module _ (n c : ℕ) (boxes : List (List Frame)) (fs : List Frame) (k place : ℕ) (high : c ≤ n)
+    (count : k ≡ length (out_of c (targets_of (length boxes) fs))) (box : place ≡ length (list_of boxes c)) where
+  pub drops_on-next : drops_on n c boxes fs ≡ replicate k (DropOut c place) ++ drops_on n (c + 1) boxes fs
+  drops_on-next = search (arith, rules)
+
+  pub drops_on-length : length (drops_on n c boxes fs) ≡ k + length (drops_on n (c + 1) boxes fs)
+  drops_on-length = search (arith, rules, drops_on-next, length-append, length-replicate)
+
+-- each frame on its way is dropped once
+pub length-drops : (boxes : List (List Frame)) (fs : List Frame)
+    → length (drops_of_owed_from (length boxes) 1 boxes (targets_of (length boxes) fs)) ≡ length (targets_of (length boxes) fs)
+length-drops boxes fs =
+    let s : HistoryState = record (start_state 0 0 [] 0) { boxes = boxes; out = targets_of (length boxes) fs } in
+    (owed_dropped s (AllClients-targets (length boxes) fs)).1
+
+-- What is added
+
+-- however the numbers are sorted
+pub live_entries-are : (boxes : List (List Frame)) (out : List (ℕ × Frame)) (j : Journal) (ns : List ℕ)
+    → IsPermutation (arrived_numbers (kept_entries j)) ns → IsNonDecreasing ns
+    → live_entries boxes out j ≡ map DropIn ns ++ drops_of_owed_from (length boxes) 1 boxes out
+live_entries-are boxes out j ns same sorted =
+    ap (λ ms. map DropIn ms ++ drops_of_owed_from (length boxes) 1 boxes out)
+    (sym (rising-sorted (arrived_numbers (kept_entries j)) ns same sorted))
+
+pub length-live : (boxes : List (List Frame)) (fs : List Frame) (j : Journal)
+    → length (live_entries boxes (targets_of (length boxes) fs) j)
+    ≡ length (arrived_numbers (kept_entries j)) + length (receivers (length boxes) fs)
+length-live boxes fs j =
+    search (arith, rules, IsPermutation-rising, length-append, length-drops, length-map, length-receivers, length_permutation)
+
+-- What the gate holds of committed checkpoints
+
+pub committed_held : (w : Window) (pending : List Epoch) → IsWindow w pending → w.to_acknowledge < w.to_commit
+    → frames_to (w.to_commit - 1) pending ≡ frames_of (committed_of w pending)
+committed_held w pending h some =
+    let n = w.to_commit - 1 in
+    let below : n < w.to_commit = omega arith in
+    let t = leaves w pending h n below in
+    let from : nat_le w.to_acknowledge n ≡ true = test_from w.to_acknowledge n (omega arith) in
+    let start : first_after n w.to_acknowledge ≡ n + 1 = ap (λ (b : Bool). cond b (n + 1) w.to_acknowledge) from in
+    let whole : length (committed_of w pending) ≡ committed_count w = length-take-le (committed_count w) pending (within w pending h) in
+    let none : length t.stay ≡ 0 = let k = t.count in omega arith in
+    gone w pending h n below
+    ∙ ap frames_of (sym (append-nil t.gone) ∙ ap (λ es. t.gone ++ es) (sym (nil_from_length t.stay none)) ∙ sym t.split)
+
+pub none_committed : (w : Window) (pending : List Epoch) → w.to_commit ≤ w.to_acknowledge → frames_of (committed_of w pending) ≡ []
+none_committed w pending l = search (arith, rules)
+
+-- The record
+
+-- how many entries the history would have
+abbrev pub live_count : RecordState → List Frame → ℕ
+live_count s fs =
+    let taken_in = length (arrived_numbers (kept_entries s.protocol.journal)) in
+    length s.protocol.journal.history + (taken_in + length (receivers (length s.ports.boxes) fs))
+
+abbrev pub live_table : RecordState → Option Refusal
+live_table s = first_refusal (go_live_refusals s.ports.boxes (owed_to s.protocol s.ports) s.protocol)
+
+-- the table of refusals, where there is a next generation
+module _ (s : RecordState) (fs : List Frame) (count : ℕ) (held : fs ≡ frames_of (committed_of s.protocol.window s.protocol.pending))
+    (is : count ≡ live_count s fs) (next : s.protocol.generation + 1 < number_limit) where
+  live_row : live_table s ≡ cond (nat_le number_limit count) (Some Exhausted) None
+  live_row = search (arith, rules, length-live, test_below)
+
+  pub live_refused : number_limit ≤ count → Some Exhausted ≡ live_table s
+  live_refused h = sym (live_row ∙ ap (λ (t : Bool). cond t (Some Exhausted) None) (test_from number_limit count h))
+
+  pub live_allowed : count < number_limit → None ≡ live_table s
+  live_allowed h = sym (live_row ∙ ap (λ (t : Bool). cond t (Some Exhausted) None) (test_below number_limit count h))
+
+-- in the next generation every packet is of an earlier one
+pub AreBelow-next : (g n m : ℕ) (ps : List Packet) → AreBelow g n ps → AreBelow (g + 1) m ps
+AreBelow-next g n m [] h = tt
+AreBelow-next g n m (p ∷ ps) h = (let l = h.0 in omega arith, λ e. let l = h.0 in absurd (omega arith), AreBelow-next g n m ps h.2)
+
+pub live_record : (r : Record) → IsRecord r → (boxes : List (List Frame)) (out : List (ℕ × Frame)) (steps : ℕ)
+    → IsRecord (go_live_done boxes out steps r).1
+live_record r h boxes out steps = search (arith, rules, AreBelow-next)
+
+-- The journal
+
+module _ (a : Inside) where
+  -- the frames that the kept epochs took in, in number
+  pub taken_in-count : length (numbers_in a.sealed.items) + length a.running.arrivals.items
+      ≡ length (arrived_numbers (kept_entries (stored a).journal))
+  taken_in-count = search (arith, rules, arrived-kept, length-append, length-map)
+
+  pub taken_in-few : AreFields a → length a.history.entries + length (arrived_numbers (kept_entries (stored a).journal)) < number_limit
+  taken_in-few h = search (arith, rules, arrived-few)
+
+  module _ (sealed : List RunningEpoch) (ns : List ℕ) (is : sealed ≡ a.sealed.items)
+      (same : IsPermutation (numbers_in sealed ++ numbers_of a.running.arrivals.items) ns) where
+    pub same_numbers : IsPermutation (arrived_numbers (kept_entries (stored a).journal)) ns
+    same_numbers =
+        rw (ap (λ (es : List RunningEpoch). numbers_in es ++ numbers_of a.running.arrivals.items) is ∙ sym (arrived-kept a)) at same
+
+    pub as_many : length ns ≡ length (arrived_numbers (kept_entries (stored a).journal))
+    as_many = length_permutation (arrived_numbers (kept_entries (stored a).journal)) ns same_numbers
+
+    -- the history after the frames that were taken in are dropped, and then those on their way
+    pub live_history : (boxes : List (List Frame)) (out : List (ℕ × Frame)) (slice : List ℕ) (first second third : List Entry)
+        → IsNonDecreasing ns → slice ≡ ns → first ≡ a.history.entries → second ≡ first ++ map DropIn slice
+        → third ≡ second ++ drops_of_owed_from (length boxes) 1 boxes out
+        → third ≡ a.history.entries ++ live_entries boxes out (stored a).journal
+    live_history boxes out slice first second third sorted e f g h =
+        let drops = drops_of_owed_from (length boxes) 1 boxes out in
+        h
+        ∙ ap (λ es. es ++ drops) (g ∙ ap (λ es. es ++ map DropIn slice) f ∙ ap (λ ms. a.history.entries ++ map DropIn ms) e)
+        ∙ append_assoc a.history.entries (map DropIn ns) drops
+        ∙ ap (λ es. a.history.entries ++ es) (sym (live_entries-are boxes out (stored a).journal ns same_numbers sorted))

@@ -1,0 +1,78 @@
+-- Laws of the clients to whom frames go, as the loops over them want them.
+use Rattle.std.proofs.Common.{rules, ◌≡◌, ℕ, zero, suc, ◌+◌, ◌-◌, ◌<◌, ◌≤◌, List, [], ◌∷◌, ◌++◌, length, drop, get_or, refl, sym, ap, ◌∙◌}
+use Rattle.std.proofs.{Common.{arith, append_assoc, true, false, cond}, lemmas.Bool.Decides.nat_tests}
+use Rattle.std.specs.Prelude.{nat_le, ◌&&◌}
+use Rattle.frame_ports.specs.{Addresses.{addressed, clients_from, clients_of}, Targets.{has_target, AreTargets}}
+use Rattle.pair_history.specs.Entries.{Frame, Entry}
+use Rattle.pair_record.specs.internal.Lengths.{receivers, landing_by, landings_by, lengths_at, lengths_after}
+use Rattle.pair_record.proofs.LengthLaws.{landings_by-append}
+
+-- the clients from c on, of n
+abbrev pub from_on : ℕ → ℕ → List ℕ → List ℕ
+from_on n c bytes = clients_from (n + 1 - c) c bytes
+
+step_count : (n c : ℕ) → c ≤ n → n + 1 - c ≡ suc (n + 1 - (c + 1))
+step_count n c h = omega arith
+
+next : (n c : ℕ) (bytes : List ℕ) → c ≤ n
+    → from_on n c bytes ≡ cond (addressed bytes c) (c ∷ from_on n (c + 1) bytes) (from_on n (c + 1) bytes)
+next n c bytes h = ap (λ k. clients_from k c bytes) (step_count n c h)
+
+module _ (n c : ℕ) (bytes : List ℕ) (targets : ℕ) (are : AreTargets n bytes targets) (low : 1 ≤ c) (high : c ≤ n) (most : n ≤ 16) where
+  is_addressed : has_target targets c ≡ addressed bytes c
+  is_addressed = are c low (omega arith) ∙ ap (λ t. t && addressed bytes c) (le_yes c n high)
+    where
+      le_yes : (a b : ℕ) → a ≤ b → nat_le a b ≡ true
+      le_yes a b h = grind (arith, nat_tests)
+
+  pub next_yes : has_target targets c ≡ true → from_on n c bytes ≡ c ∷ from_on n (c + 1) bytes
+  next_yes e = next n c bytes high ∙ ap (λ t. cond t (c ∷ from_on n (c + 1) bytes) (from_on n (c + 1) bytes)) (sym is_addressed ∙ e)
+
+  pub next_no : has_target targets c ≡ false → from_on n c bytes ≡ from_on n (c + 1) bytes
+  next_no e = next n c bytes high ∙ ap (λ t. cond t (c ∷ from_on n (c + 1) bytes) (from_on n (c + 1) bytes)) (sym is_addressed ∙ e)
+
+-- the receivers of the frames from place i on
+behind : (n : ℕ) (fs : List Frame) (i : ℕ) (d : Frame) → i < length fs
+    → receivers n (drop i fs) ≡ clients_of n (get_or fs i d).items ++ receivers n (drop (suc i) fs)
+behind n [] i d h = absurd (omega arith)
+behind n (f ∷ fs) zero d h = refl
+behind n (f ∷ fs) (suc i) d h = behind n fs i d (omega arith)
+
+pub receivers-next : (n : ℕ) (fs : List Frame) (i : ℕ) (d : Frame) → i < length fs
+    → receivers n (drop i fs) ≡ clients_of n (get_or fs i d).items ++ receivers n (drop (i + 1) fs)
+receivers-next n fs i d h = let e : suc i ≡ i + 1 = omega arith in behind n fs i d h
+    ∙ ap (λ j. clients_of n (get_or fs i d).items ++ receivers n (drop j fs)) e
+
+pub receivers-none : (n : ℕ) (fs : List Frame) (i : ℕ) → length fs ≤ i → receivers n (drop i fs) ≡ []
+receivers-none n [] zero h = refl
+receivers-none n [] (suc i) h = refl
+receivers-none n (f ∷ fs) zero h = absurd (omega arith)
+receivers-none n (f ∷ fs) (suc i) h = receivers-none n fs i (omega arith)
+
+-- one client more, in the count and in the entries
+pub counted_more : (count total : ℕ) (c : ℕ) (rest now : List ℕ) → now ≡ c ∷ rest → count + length now ≡ total
+    → count + 1 + length rest ≡ total
+counted_more count total c rest now e h = let l = ap length e in omega arith
+
+pub entries_more : (old new : List Entry) (lengths after : List ℕ) (c : ℕ) (rest now : List ℕ) (total : List Entry) → now ≡ c ∷ rest
+    → new ≡ old ++ landing_by lengths c ∷ [] → after ≡ lengths_at lengths c
+    → old ++ landings_by lengths now ≡ total → new ++ landings_by after rest ≡ total
+entries_more old new lengths after c rest now total e n a h = search (arith, rules, append_assoc)
+
+-- one frame more
+pub frames_more : (old new : List Entry) (lengths after : List ℕ) (cs rest now : List ℕ) (total : List Entry) → now ≡ cs ++ rest
+    → new ≡ old ++ landings_by lengths cs → after ≡ lengths_after lengths cs
+    → old ++ landings_by lengths now ≡ total → new ++ landings_by after rest ≡ total
+frames_more old new lengths after cs rest now total e n a h = search (arith, rules, append_assoc, landings_by-append)
+
+pub nil-append : (old : List Entry) (lengths now : List ℕ) (total : List Entry) → now ≡ [] → old ++ landings_by lengths now ≡ total
+    → old ≡ total
+nil-append old lengths now total e h = sym (none old) ∙ ap (λ t. old ++ landings_by lengths t) (sym e) ∙ h
+  where
+    none : (xs : List Entry) → xs ++ [] ≡ xs
+    none [] = refl
+    none (x ∷ xs) = ap (λ t. x ∷ t) (none xs)
+
+pub landings_length : (lengths cs : List ℕ) → length (landings_by lengths cs) ≡ length cs
+landings_length lengths [] = refl
+landings_length lengths (c ∷ cs) = ap suc (landings_length (lengths_at lengths c) cs)

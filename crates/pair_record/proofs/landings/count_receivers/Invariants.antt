@@ -1,0 +1,11 @@
+use Rattle.std.proofs.Common.{◌≡◌, ◌+◌, ◌≤◌, length}
+use Rattle.frame_ports.specs.Addresses.{clients_of}
+use Rattle.pair_record.proofs.Receivers.{from_on}
+use Rattle.pair_record.proofs.landings.count_receivers.Given as goal
+
+abbrev pub invariant-loop-client : goal.invariant-loop-client
+invariant-loop-client l = record {
+  first : 1 ≤ l.client;
+  few : l.count + 1 ≤ l.client;
+  counted : l.count + length (from_on l.clients l.client l.frame.items) ≡ length (clients_of l.clients l.frame.items);
+}

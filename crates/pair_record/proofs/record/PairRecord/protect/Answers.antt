@@ -1,0 +1,11 @@
+use Rattle.std.proofs.Common.{rules, arith, ◌≡◌, []}
+use Rattle.pair_record.specs.{Protocol.protect_done, internal.RecordFields.record_state}
+use Rattle.pair_record.proofs.{ProtectLaws.protect_record, RecordLaws.same_record}
+use Rattle.pair_record.proofs.record.PairRecord.protect.Goals as goal
+
+pub invariant_of-self-2 : goal.invariant_of-self-2
+invariant_of-self-2 c =
+    let r = (record_state c.self.inside).protocol in
+    let alone = rw (← c.self.view_is) at c.requires.alone in
+    let none : r.pending ≡ [] = (c.self.invariant.alone alone).2 in
+    same_record (protect_done r).1 _ (search (arith, rules, none)) (protect_record r c.self.invariant alone)

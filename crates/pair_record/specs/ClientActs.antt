@@ -1,0 +1,108 @@
+-- What clients and their lines do: a frame is delivered, arrives at the guest, is taken or lost. `X_done` is an event's reply, with the
+-- record after it, and the only place that spells them; `on_X` is the event, refused or done.
+use Rattle.std.specs.Prelude.{ℕ, ◌||◌, not, nat_lt, nat_le, Bool, List, [], ◌∷◌, length, option_map, slice_get, Option, None, Some}
+use Rattle.frame_ports.specs.Lands.{list_of}
+use Rattle.frame_ports.specs.Limits.{min_frame, max_frame, inbox_frames, number_limit}
+use Rattle.pair_history.specs.Entries.{Frame, Entry, Arrive, Delivered, DropIn, DropOut, Took}
+use Rattle.pair_history.specs.Entries as entries
+use Rattle.pair_record.specs.declared.event.Refusal.{Refusal}
+use Rattle.pair_record.specs.declared.event.Refusal.TheVariants.{Full, BadFrame, NoClient, Stopped, Exhausted}
+use Rattle.pair_record.specs.declared.event.Reply.TheVariants as replies
+use Rattle.pair_record.specs.Journal.{with_history, with_moves}
+use Rattle.pair_record.specs.Modes.{is_stopped, is_alone}
+use Rattle.pair_record.specs.Tables.{Record, Sight, Outcome, Row, first_refusal, refused, or_else, unless, exhausts, is_among}
+
+-- ADMIT
+
+-- what is refused where no client of so many has that number
+abbrev pub client_refusals : ℕ → ℕ → List Row
+client_refusals count c = (not (is_among c count), NoClient) ∷ []
+
+abbrev pub admit_refusals : Record → List Row
+admit_refusals r = (exhausts r 1, Exhausted) ∷ []
+
+-- whose frame can arrive at all
+abbrev pub arrival_refusals : ℕ → Record → ℕ → List Row
+arrival_refusals count r c = (not (is_among c count), NoClient) ∷ (is_stopped r.mode, Stopped) ∷ []
+
+-- the first frame of the client's inbox arrives at the guest
+abbrev pub admit_done : Record → ℕ → Outcome
+admit_done r n = (replies.Admitted n, record r { journal = with_moves (is_alone r.mode) r.journal (Arrive n ∷ []) })
+
+abbrev pub admit_first : Record → Option (ℕ × Frame) → Outcome
+admit_first r None = (replies.Empty, r)
+admit_first r (Some first) = unless r (admit_refusals r) (admit_done r first.0)
+
+abbrev pub on_admit : Sight → Record → ℕ → Outcome
+on_admit s r c = unless r (arrival_refusals (length s.boxes) r c) (admit_first r (slice_get (s.inbox c) 0))
+
+-- DELIVER: of so many clients, where these frames of client c wait and the next frame gets this number
+
+-- whether so many bytes are no frame
+abbrev pub is_bad_length : ℕ → Bool
+is_bad_length n = nat_lt n min_frame || nat_lt max_frame n
+
+abbrev pub deliver_refusals : ℕ → List (ℕ × Frame) → ℕ → Record → ℕ → List ℕ → List Row
+deliver_refusals count inbox number r c bytes =
+    (not (is_among c count), NoClient)
+    ∷ (is_bad_length (length bytes), BadFrame)
+    ∷ (exhausts r 1, Exhausted)
+    ∷ (nat_le inbox_frames (length inbox), Full)
+    ∷ (nat_le number_limit number, Exhausted)
+    ∷ []
+
+-- a full inbox: that is recorded, and that is all. The other refusals change nothing
+abbrev pub delivery_refused : Record → ℕ → Frame → Refusal → Outcome
+delivery_refused r c f Full = (replies.Refused Full, record r { journal = with_history r.journal (entries.Refused c f ∷ []) })
+delivery_refused r c f why = refused r why
+
+-- the frame waits for the guest under that number
+abbrev pub deliver_done : Record → ℕ → Frame → ℕ → Outcome
+deliver_done r c f n = (replies.Delivered n, record r { journal = with_history r.journal (Delivered c f n ∷ []) })
+
+abbrev pub on_deliver : Sight → Record → ℕ → List ℕ → Outcome
+on_deliver s r c bytes =
+    let f : Frame = record { items = bytes } in
+    or_else (first_refusal (deliver_refusals (length s.boxes) (s.inbox c) s.number r c bytes)) (delivery_refused r c f)
+    (deliver_done r c f s.number)
+
+-- TAKE
+
+abbrev pub take_refusals : ℕ → Record → ℕ → List Row
+take_refusals count r c = (not (is_among c count), NoClient) ∷ (exhausts r 1, Exhausted) ∷ []
+
+-- the first frame of the client's box, or none
+abbrev pub take_done : List (List Frame) → Record → ℕ → Outcome
+take_done boxes r c =
+    let first = slice_get (list_of boxes c) 0 in
+    (replies.Took first, record r { journal = with_history r.journal (Took c first ∷ []) })
+
+abbrev pub on_take : Sight → Record → ℕ → Outcome
+on_take s r c = unless r (take_refusals (length s.boxes) r c) (take_done s.boxes r c)
+
+-- LOSEIN, LOSEOUT: the line drops a frame that a client delivered, or one that lies in its box
+
+abbrev pub loss_refusals : Record → List Row
+loss_refusals r = (exhausts r 1, Exhausted) ∷ []
+
+-- a frame is dropped, as this entry says
+abbrev pub loss_done : Record → Entry → Outcome
+loss_done r e = (replies.Dropped, record r { journal = with_history r.journal (e ∷ []) })
+
+-- if there is one
+abbrev pub loss_of : Record → Option Entry → Outcome
+loss_of r None = (replies.Empty, r)
+loss_of r (Some e) = unless r (loss_refusals r) (loss_done r e)
+
+-- the entry of the frame at that place of these inbox's frames, and of these in client c's box
+abbrev pub lost_in : List (ℕ × Frame) → ℕ → Option Entry
+lost_in inbox place = option_map (λ (x : ℕ × Frame). DropIn x.0) (slice_get inbox place)
+
+abbrev pub lost_out : ℕ → List Frame → ℕ → Option Entry
+lost_out c box place = option_map (λ (f : Frame). DropOut c place) (slice_get box place)
+
+abbrev pub on_lose_in : Sight → Record → ℕ → ℕ → Outcome
+on_lose_in s r c place = unless r (client_refusals (length s.boxes) c) (loss_of r (lost_in (s.inbox c) place))
+
+abbrev pub on_lose_out : Sight → Record → ℕ → ℕ → Outcome
+on_lose_out s r c place = unless r (client_refusals (length s.boxes) c) (loss_of r (lost_out c (list_of s.boxes c) place))

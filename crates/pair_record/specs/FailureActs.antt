@@ -1,0 +1,98 @@
+-- What fails, and what follows: the primary stops or the backup does, the backup goes live, a node that is alone gets a new backup.
+-- `X_done` is an event's reply, with the record after it, and the only place that spells them; `on_X` is the event, refused or done.
+use Rattle.std.specs.Prelude.{ℕ, ◌+◌, nat_le, List, [], ◌∷◌, ◌++◌, length}
+use Rattle.frame_ports.specs.Addresses.{targets_of}
+use Rattle.frame_ports.specs.Lands.{put_count}
+use Rattle.frame_ports.specs.Limits.{number_limit}
+use Rattle.output_gate.specs.Epochs.{frames_of}
+use Rattle.failover.specs.declared.mode.Mode.TheVariants as modes
+use Rattle.pair_history.specs.Entries.{Frame, Entry}
+use Rattle.pair_history.specs.Landings.{landings}
+use Rattle.pair_history.specs.Failures.{drops_of_taken_in, drops_of_owed_from}
+use Rattle.pair_record.specs.declared.event.Refusal.TheVariants.{Exhausted}
+use Rattle.pair_record.specs.declared.event.Reply.TheVariants as replies
+use Rattle.pair_record.specs.Journal.{Journal, kept_entries, with_history, sealed_off, all_committed, discarded}
+use Rattle.pair_record.specs.Window.{filling_window, none_pending}
+use Rattle.pair_record.specs.Tables.{Record, Sight, Outcome, Row, unless, exhausts}
+
+-- FAILPRIMARY
+
+-- the primary stops: all else stays
+abbrev pub fail_primary_done : Record → Outcome
+fail_primary_done r = (replies.Stopped, record r { mode = modes.Stopped })
+
+abbrev pub on_fail_primary : Sight → Record → Outcome
+on_fail_primary s r = fail_primary_done r
+
+-- FAILBACKUP: the backup stops, and the primary goes on alone
+
+-- what lands: what the gate holds, and then the outbox
+abbrev pub all_held : List (List Frame) → List Frame → Record → List (ℕ × Frame)
+all_held boxes outbox r = targets_of (length boxes) (frames_of r.pending ++ outbox)
+
+abbrev pub fail_backup_refusals : List (List Frame) → List Frame → Record → List Row
+fail_backup_refusals boxes outbox r = (exhausts r (length (all_held boxes outbox r)), Exhausted) ∷ []
+
+-- all that was kept goes to the history, the pending checkpoints are given up, and what was held lands
+abbrev pub fail_backup_done : List (List Frame) → List Frame → Record → Outcome
+fail_backup_done boxes outbox r =
+    let leaving = all_held boxes outbox r in (
+      replies.Alone r.generation (put_count boxes leaving),
+      record r {
+        mode = modes.Alone;
+        journal = with_history (all_committed r.journal) (landings boxes leaving);
+        window = none_pending r.window.to_cut;
+        pending = [];
+      },
+    )
+
+abbrev pub on_fail_backup : Sight → Record → Outcome
+on_fail_backup s r = unless r (fail_backup_refusals s.boxes s.outbox r) (fail_backup_done s.boxes s.outbox r)
+
+-- GOLIVE: the backup goes on from its image, in the next generation; what was kept is discarded, and so is what the clients were owed
+
+-- what that adds to the history, where these are the boxes, and these frames are on their way to their clients
+abbrev pub live_entries : List (List Frame) → List (ℕ × Frame) → Journal → List Entry
+live_entries boxes out j = drops_of_taken_in (kept_entries j) ++ drops_of_owed_from (length boxes) 1 boxes out
+
+abbrev pub go_live_refusals : List (List Frame) → List (ℕ × Frame) → Record → List Row
+go_live_refusals boxes out r =
+    (nat_le number_limit (r.generation + 1), Exhausted)
+    ∷ (nat_le number_limit (length r.journal.history + length (live_entries boxes out r.journal)), Exhausted)
+    ∷ []
+
+abbrev pub go_live_done : List (List Frame) → List (ℕ × Frame) → ℕ → Record → Outcome
+go_live_done boxes out steps r = (
+  replies.Live (r.generation + 1) steps,
+  record r {
+    mode = modes.Alone;
+    generation = r.generation + 1;
+    journal = with_history (discarded r.journal) (live_entries boxes out r.journal);
+    window = none_pending r.window.to_commit;
+    pending = [];
+  },
+)
+
+abbrev pub on_go_live : Sight → Record → Outcome
+on_go_live s r = unless r (go_live_refusals s.boxes s.owed r) (go_live_done s.boxes s.owed s.resumed r)
+
+-- PROTECT: a node that is alone gets a new backup, in the next generation
+
+abbrev pub protect_refusals : Record → List Row
+protect_refusals r = (nat_le number_limit (r.generation + 1), Exhausted) ∷ []
+
+-- its full checkpoint, which no frame waits for, is pending under number 0; from now on what the guest does and sends is kept
+abbrev pub protect_done : Record → Outcome
+protect_done r = (
+  replies.Protecting (r.generation + 1),
+  record r {
+    mode = modes.Filling;
+    generation = r.generation + 1;
+    journal = sealed_off r.journal;
+    window = filling_window;
+    pending = record { number = 0; frames = [] } ∷ [];
+  },
+)
+
+abbrev pub on_protect : Sight → Record → Outcome
+on_protect s r = unless r (protect_refusals r) (protect_done r)

@@ -1,0 +1,77 @@
+-- What contracts see of the pair's record: the protocol's record, and the clients' ports; and what is true of every record.
+use Rattle.std.specs.Prelude.{◌≡◌, ℕ, ◌+◌, ◌≤◌, true, List, [], length, drop, remove}
+use Rattle.frame_ports.specs.Addresses.{targets_of}
+use Rattle.output_gate.specs.Epochs.{frames_of}
+use Rattle.frame_ports.specs.Lands.{list_of, with_list, lands}
+use Rattle.frame_ports.specs.Ports.{PortsState}
+use Rattle.pair_history.specs.Entries.{Frame}
+use Rattle.pair_record.specs.Journal.{empty_journal}
+use Rattle.pair_record.specs.Lines.{no_packets, AreBelow}
+use Rattle.pair_record.specs.Modes.{is_alone}
+use Rattle.pair_record.specs.Protocol.{Record, let_go, all_held}
+use Rattle.pair_record.specs.Window.{start_window, IsWindow, committed_of}
+use Rattle.failover.specs.declared.mode.Mode.{Mode}
+use Rattle.failover.specs.declared.mode.Mode.TheVariants.{Paired, Filling, Alone, Stopped}
+use Rattle.pair_record.specs.declared.window.Window.{Window}
+
+-- The record, the clients' ports, and how many more stored entries its history takes without memory.
+pub record RecordState : Type 0 where
+  pub protocol : Record
+  pub ports : PortsState
+  pub room : ℕ
+
+-- all is as it was, but for the room
+abbrev pub IsAsBefore : RecordState → RecordState → Type 0
+IsAsBefore old new = (new.protocol ≡ old.protocol) × (new.ports ≡ old.ports)
+
+-- what is on its way to the clients: what the gate holds of committed checkpoints
+abbrev pub owed_to : Record → PortsState → List (ℕ × Frame)
+owed_to r p = targets_of (length p.boxes) (frames_of (committed_of r.window r.pending))
+
+-- nothing happened yet
+abbrev pub start_record : Record
+start_record = record { mode = Paired; generation = 1; journal = empty_journal; window = start_window; lines = no_packets; pending = [] }
+
+-- the ports once what leaves the gate at that number has landed
+abbrev pub ports_after_ack : PortsState → Record → ℕ → PortsState
+ports_after_ack p r n = record p { boxes = lands p.boxes (let_go p.boxes r n) }
+
+-- once all that the gate holds, and then the outbox, has landed
+abbrev pub ports_after_all : PortsState → List Frame → Record → PortsState
+ports_after_all p outbox r = record p { boxes = lands p.boxes (all_held p.boxes outbox r) }
+
+-- once the first frame of a client's inbox has left it, and once that of its box has
+abbrev pub ports_after_admit : PortsState → ℕ → PortsState
+ports_after_admit p c = record p { inboxes = with_list p.inboxes c (drop 1 (list_of p.inboxes c)) }
+
+abbrev pub ports_after_take : PortsState → ℕ → PortsState
+ports_after_take p c = record p { boxes = with_list p.boxes c (drop 1 (list_of p.boxes c)) }
+
+-- once a frame of a client's inbox is lost, and once one of its box is
+abbrev pub ports_after_lose_in : PortsState → ℕ → ℕ → PortsState
+ports_after_lose_in p c place = record p { inboxes = with_list p.inboxes c (remove (list_of p.inboxes c) place) }
+
+abbrev pub ports_after_lose_out : PortsState → ℕ → ℕ → PortsState
+ports_after_lose_out p c place = record p { boxes = with_list p.boxes c (remove (list_of p.boxes c) place) }
+
+-- Where a node is alone nothing is kept, and nothing is pending.
+abbrev pub IsLone : Record → Type 0
+IsLone r = (r.journal.sealed ≡ []) × (r.journal.running ≡ []) × (r.pending ≡ [])
+
+-- A new backup takes the full checkpoint, number 0, next, and that one was cut; a backup that could go on has taken one.
+abbrev pub SuitsMode : Mode → Window → Type 0
+SuitsMode Filling w = (w.to_commit ≡ 0) × (1 ≤ w.to_cut)
+SuitsMode Paired w = 1 ≤ w.to_commit
+SuitsMode Stopped w = 1 ≤ w.to_commit
+SuitsMode Alone w = Unit {0}
+
+-- The window is that of what is pending; every packet of this generation names a checkpoint that was cut, every acknowledgement of
+-- it one that was committed; each checkpoint that was cut and not committed has its epoch; and where a node is alone nothing is kept
+-- or pending.
+pub record IsRecord (r : Record) : Type 0 where
+  pub window : IsWindow r.window r.pending
+  pub forward : AreBelow r.generation r.window.to_cut r.lines.forward
+  pub back : AreBelow r.generation r.window.to_commit r.lines.back
+  pub sealed : r.window.to_commit + length r.journal.sealed ≡ r.window.to_cut
+  pub alone : is_alone r.mode ≡ true → IsLone r
+  pub suits : SuitsMode r.mode r.window

@@ -1,0 +1,8 @@
+-- what only models, private functions and proofs cite
+pub mod Accords
+pub mod Arrivals
+pub mod JournalFields
+pub mod Lengths
+pub mod LinesFields
+pub mod Places
+pub mod RecordFields

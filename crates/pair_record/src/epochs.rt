@@ -1,0 +1,87 @@
+//! An epoch of the guest as it is stored: its arrivals, each with the steps before it, and the steps after the last.
+ghost use Rattle.std.specs.Prelude.{◌≡◌, ◌+◌, ◌*◌, ◌^◌, ◌≤◌, ◌<◌, ◌++◌, [], length, map};
+ghost use Rattle.pair_record.specs.internal.Arrivals.{arrival_of, epoch_entries};
+ghost use Rattle.pair_record.specs.Journal.{joined};
+ghost use Rattle.pair_record.specs.internal.JournalFields.{epoch_of};
+ghost use Rattle.pair_record.specs.internal.Places.{places_of};
+
+use pair_history::{Entry, History};
+use std::alloc::Global;
+
+/// A frame that arrived in an epoch.
+#[derive(Clone, Copy)]
+pub struct Arrival {
+    /// The guest's steps in the epoch since the arrival before it.
+    pub steps: u64,
+    /// The frame's number.
+    pub number: u64,
+}
+
+/// An epoch: what happened to the guest between two cuts.
+#[derive(Drop)]
+pub struct RunningEpoch {
+    /// The frames that arrived, in order.
+    pub arrivals: Vec<Arrival>,
+    /// The steps after the last of them.
+    pub steps: u64,
+}
+
+impl RunningEpoch {
+    /// An epoch in which nothing happened yet.
+    pub(crate) fn new(alloc: Global) -> RunningEpoch
+        ensures none { result.arrivals.items ≡ [] }
+        ensures still { result.steps ≡ 0 }
+    {
+        RunningEpoch {
+            arrivals: Vec::new(alloc),
+            steps: 0,
+        }
+    }
+}
+
+/// Adds an arrival to the history, with the steps before it, in two places that were reserved.
+fn add_arrival(history: &mut History, arrival: Arrival)
+    requires room { 2 ≤ history.old.room }
+    requires fits { length (history.old.entries ++ arrival_of arrival) < 2 ^ 62 }
+    ensures entries { history.new.entries ≡ history.old.entries ++ arrival_of arrival }
+    ensures room { history.old.room ≤ history.new.room + 2 }
+{
+    history.run(arrival.steps);
+    history.add(Entry::Arrive(arrival.number));
+}
+
+/// Adds an epoch's entries to the history, in the room that was reserved: two places for each arrival, and one.
+pub(crate) fn add_epoch(history: &mut History, arrivals: &[Arrival], steps: u64)
+    requires room { 2 * length arrivals.now + 1 ≤ history.old.room }
+    requires fits { length (history.old.entries ++ epoch_entries arrivals.now steps) < 2 ^ 62 }
+    ensures entries { history.new.entries ≡ history.old.entries ++ epoch_entries arrivals.now steps }
+    ensures room { history.old.room ≤ history.new.room + (2 * length arrivals.now + 1) }
+{
+    for arrival in arrivals {
+        add_arrival(history, *arrival);
+    }
+    history.run(steps);
+}
+
+/// Adds the entries of these epochs to the history, in the room that was reserved.
+pub(crate) fn add_epochs(history: &mut History, epochs: &[RunningEpoch])
+    requires room { places_of epochs.now ≤ history.old.room }
+    requires fits { length (history.old.entries ++ joined (map epoch_of epochs.now)) < 2 ^ 62 }
+    ensures entries { history.new.entries ≡ history.old.entries ++ joined (map epoch_of epochs.now) }
+    ensures room { history.old.room ≤ history.new.room + places_of epochs.now }
+{
+    for epoch in epochs {
+        add_epoch(history, epoch.arrivals.as_slice(), epoch.steps);
+    }
+}
+
+/// The places that these epochs take in the history, and so many more, or a number that no list has room for.
+pub(crate) fn places_with(epochs: &[RunningEpoch], more: usize) -> usize
+    ensures { result < 2 ^ 63 → result ≡ places_of epochs.now + more }
+{
+    let mut places = more;
+    for epoch in epochs {
+        places = places.saturating_add(2 * epoch.arrivals.len() + 1);
+    }
+    places
+}

@@ -1,0 +1,233 @@
+//! The journal: the history, the sealed epochs that no commit has covered yet, and the one that runs.
+ghost use Rattle.std.specs.Prelude.{◌≡◌, ◌+◌, ◌-◌, ◌*◌, ◌^◌, ◌≤◌, ◌<◌, ◌++◌, ◌∷◌, [], length, replicate, OnOk, OnErr, IfOk, ◌⊎◌};
+ghost use Rattle.frame_ports.specs.Addresses.{targets_of};
+ghost use Rattle.frame_ports.specs.Limits.{number_limit};
+ghost use Rattle.pair_history.specs.Entries.{Ran, Arrive};
+ghost use Rattle.pair_history.specs.Failures.{arrived_numbers};
+ghost use Rattle.pair_history.specs.Landings.{landings};
+ghost use Rattle.pair_history.specs.Log.{expanded, frame_bytes};
+ghost use Rattle.pair_record.specs.Journal.{all_entries, kept_entries, empty_journal, with_history, with_running, sealed_off, committed};
+ghost use Rattle.pair_record.specs.Journal.{all_committed, discarded};
+ghost use Rattle.pair_record.specs.internal.Lengths.{receivers};
+ghost use Rattle.pair_record.specs.Protocol.{live_entries};
+
+use crate::discards::{add_drops_in, add_drops_out, count_arrivals, sorted_numbers};
+use crate::epochs::{Arrival, RunningEpoch, add_epoch, add_epochs, places_with};
+use crate::landings::{add_landings, count_landings};
+use frame_ports::{NUMBER_LIMIT, Ports};
+use memory_wanted::{MemoryWanted, reserve};
+use pair_history::{Entry, Frame, History};
+use std::alloc::Global;
+use std::marker::Model;
+
+/// The history and what it doesn't have yet. Contracts see it as a `Stored` journal of the specs.
+#[derive(Drop)]
+pub struct Journal {
+    alloc: Global,
+    history: History,
+    sealed: Vec<RunningEpoch>,
+    running: RunningEpoch,
+    kept: u64,
+}
+
+impl Model for Journal {
+    ghost use Rattle.pair_record.specs.Journal.{Stored};
+
+    ghost Value = { Stored };
+
+    ghost use Rattle.pair_record.specs.internal.JournalFields.{stored, AreFields};
+
+    ghost view = { stored };
+
+    ghost invariant = { AreFields };
+}
+
+impl Journal {
+    /// A journal in which nothing happened yet.
+    pub(crate) fn new(alloc: Global) -> Journal
+        ensures { result.journal ≡ empty_journal }
+    {
+        Journal {
+            alloc,
+            history: History::new(alloc),
+            sealed: Vec::new(alloc),
+            running: RunningEpoch::new(alloc),
+            kept: 0,
+        }
+    }
+
+    /// The history.
+    pub(crate) fn history(&self) -> &History
+        ensures { result.now.entries ≡ self.now.journal.history }
+    {
+        &self.history
+    }
+
+    /// How many more entries have numbers.
+    pub(crate) fn entries_left(&self) -> u64
+        ensures { length (all_entries self.now.journal) + (result + 1) ≡ number_limit }
+    {
+        NUMBER_LIMIT - 1 - (self.history.len() + self.kept)
+    }
+
+    /// The guest made so many steps.
+    pub(crate) fn run(&mut self, steps: u64)
+        requires fits { length (all_entries self.old.journal) + steps < number_limit }
+        ensures { self.new.journal ≡ with_running self.old.journal (replicate steps Ran) }
+    {
+        self.running.steps += steps;
+        self.kept += steps;
+    }
+
+    /// Makes room for one more arrival, in the running epoch and in the history.
+    pub(crate) fn reserve_arrival(&mut self) -> Result<(), MemoryWanted>
+        ensures journal { self.new.journal ≡ self.old.journal }
+        ensures arrival_room { OnOk result (0 < self.new.arrival_room) }
+        ensures room { OnOk result (0 < self.new.room) }
+    {
+        reserve(&mut self.running.arrivals, 1)?;
+        self.history.reserve(1)
+    }
+
+    /// The frame of this number arrived at the guest.
+    pub(crate) fn arrive(&mut self, number: u64)
+        requires room { 0 < self.old.arrival_room }
+        requires fits { length (all_entries self.old.journal) + 1 < number_limit }
+        ensures { self.new.journal ≡ with_running self.old.journal (Arrive number ∷ []) }
+    {
+        let steps = self.running.steps;
+        self.running
+            .arrivals
+            .push(Arrival { steps, number })
+            .unwrap();
+        self.running.steps = 0;
+        self.kept += 1;
+    }
+
+    /// The running epoch is sealed, and the next one begins.
+    pub(crate) fn seal(&mut self) -> Result<(), MemoryWanted>
+        ensures ok { OnOk result (self.new.journal ≡ sealed_off self.old.journal) }
+        ensures err { OnErr result (self.new.journal ≡ self.old.journal) }
+    {
+        reserve(&mut self.sealed, 1)?;
+        let epoch = std::mem::replace(&mut self.running, RunningEpoch::new(self.alloc));
+        self.sealed.push(epoch).unwrap();
+        Ok(())
+    }
+
+    /// The oldest sealed epoch moves to the history.
+    pub(crate) fn commit(&mut self) -> Result<(), MemoryWanted>
+        requires { 0 < length self.old.journal.sealed }
+        ensures ok { OnOk result (self.new.journal ≡ committed self.old.journal) }
+        ensures err { OnErr result (self.new.journal ≡ self.old.journal) }
+    {
+        let arrivals = self.sealed[0].arrivals.len();
+        self.history.reserve(2 * arrivals + 1)?;
+        let RunningEpoch { arrivals, steps } = self.sealed.remove(0);
+        let before = self.history.len();
+        add_epoch(&mut self.history, arrivals.as_slice(), steps);
+        self.kept -= self.history.len() - before;
+        Ok(())
+    }
+
+    /// All that is kept moves to the history, where so many more stored entries have room then.
+    pub(crate) fn commit_all(&mut self, more: usize) -> Result<(), MemoryWanted>
+        ensures ok { OnOk result (self.new.journal ≡ all_committed self.old.journal) }
+        ensures room { OnOk result (more ≤ self.new.room) }
+        ensures err { OnErr result (self.new.journal ≡ self.old.journal) }
+    {
+        let last = self.running.arrivals.as_slice();
+        let places = places_with(self.sealed.as_slice(), 2 * last.len() + 1).saturating_add(more);
+        self.history.reserve(places)?;
+        add_epochs(&mut self.history, self.sealed.as_slice());
+        add_epoch(&mut self.history, last, self.running.steps);
+        self.sealed.clear();
+        self.running = RunningEpoch::new(self.alloc);
+        self.kept = 0;
+        Ok(())
+    }
+
+    /// Makes room for so many more stored entries in the history.
+    pub(crate) fn reserve(&mut self, additional: usize) -> Result<(), MemoryWanted>
+        ensures journal { self.new.journal ≡ self.old.journal }
+        ensures room { OnOk result (additional ≤ self.new.room) }
+        ensures full { OnErr result (self.old.room < additional) }
+    {
+        self.history.reserve(additional)
+    }
+
+    /// Makes room for one more stored entry in the history, with a frame of so many bytes.
+    pub(crate) fn reserve_frame(&mut self, bytes: usize) -> Result<(), MemoryWanted>
+        ensures journal { self.new.journal ≡ self.old.journal }
+        ensures room { OnOk result (0 < self.new.room) }
+        ensures byte_room { OnOk result (bytes ≤ self.new.byte_room) }
+        ensures full { OnErr result ((self.old.room < 1) ⊎ (self.old.byte_room < bytes)) }
+    {
+        self.history.reserve_frame(bytes)
+    }
+
+    /// Adds an entry of a client's to the history, in the room that was reserved.
+    pub(crate) fn add(&mut self, entry: Entry)
+        requires room { 0 < self.old.room }
+        requires byte_room { length (frame_bytes entry) ≤ self.old.byte_room }
+        requires fits { length (all_entries self.old.journal) + length (expanded entry) < number_limit }
+        ensures { self.new.journal ≡ with_history self.old.journal (expanded entry.entry) }
+    {
+        self.history.add(entry);
+    }
+
+    /// Adds what becomes of the frames once they land in these ports, in the room that was reserved.
+    pub(crate) fn land(&mut self, ports: &Ports, frames: &[Frame])
+        requires room { length (receivers (length ports.now.boxes) frames.now) ≤ self.old.room }
+        requires fits { length (all_entries self.old.journal) + length (receivers (length ports.now.boxes) frames.now) < number_limit }
+        ensures { self.new.journal
+            ≡ with_history self.old.journal (landings ports.now.boxes (targets_of (length ports.now.boxes) frames.now)) }
+    {
+        add_landings(&mut self.history, ports, frames);
+    }
+
+    /// The guest of a node that is alone made so many steps, the last of which sent these frames, and they land in these ports: that goes
+    /// into the history, in the room that was reserved.
+    pub(crate) fn run_alone(&mut self, steps: u64, ports: &Ports, frames: &[Frame])
+        requires room { length (receivers (length ports.now.boxes) frames.now) < self.old.room }
+        requires fits { length (all_entries self.old.journal) + (steps + length (receivers (length ports.now.boxes) frames.now))
+            < number_limit }
+        ensures { self.new.journal
+            ≡ with_history self.old.journal
+            (replicate steps Ran ++ landings ports.now.boxes (targets_of (length ports.now.boxes) frames.now)) }
+    {
+        self.history.run(steps);
+        add_landings(&mut self.history, ports, frames);
+    }
+
+    /// How many frames the kept epochs took in.
+    pub(crate) fn taken_in(&self) -> u64
+        ensures count { result ≡ length (arrived_numbers (kept_entries self.now.journal)) }
+        ensures fits { length self.now.journal.history + result < number_limit }
+    {
+        count_arrivals(self.sealed.as_slice()) + self.running.arrivals.len() as u64
+    }
+
+    /// What is kept is discarded: the frames that it took in are dropped, and then these, which are on their way to the clients of these
+    /// ports.
+    pub(crate) fn go_live(&mut self, ports: &Ports, owed: &[Frame]) -> Result<(), MemoryWanted>
+        requires few { length owed.now ≤ 2 ^ 58 }
+        requires fits { length self.old.journal.history
+            + length (live_entries ports.now.boxes (targets_of (length ports.now.boxes) owed.now) self.old.journal) < number_limit }
+        ensures ok { OnOk result (self.new.journal
+            ≡ with_history (discarded self.old.journal)
+            (live_entries ports.now.boxes (targets_of (length ports.now.boxes) owed.now) self.old.journal)) }
+        ensures err { OnErr result (self.new.journal ≡ self.old.journal) }
+    {
+        let count = self.taken_in() as usize;
+        let numbers = sorted_numbers(self.alloc, count, self.sealed.as_slice(), &self.running)?;
+        self.history
+            .reserve(count + count_landings(ports, owed) as usize)?;
+        self.sealed.clear();
+        self.running = RunningEpoch::new(self.alloc);
+        self.kept = 0;
+        add_drops_in(&mut self.history, numbers.as_slice());
+        add_drops_out(&mut self.history, ports, owed);
+        Ok(())
+    }
+}

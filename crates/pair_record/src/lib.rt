@@ -1,0 +1,24 @@
+//! The pair's record: all that a protected pair keeps beside its machines and its image.
+//!
+//! [`PairRecord`] has mode and generation, the history and what it doesn't have yet, the numbers of checkpoints, the lines, the gate and
+//! the clients' ports. It holds no machine and no page. Each of its calls is one event's share of it, as the protocol of the specs spells
+//! it.
+#![tactic(auto)]
+
+mod discards;
+mod epochs;
+mod event;
+mod journal;
+mod landings;
+mod limits;
+mod lines;
+mod modes;
+mod record;
+mod window;
+
+pub use event::{Event, Packet, Refusal, Reply, Show};
+pub use failover::Mode;
+pub use limits::limits_are_the_rules;
+pub use modes::{is_alone, is_stopped, mode_refusal};
+pub use pair_history::{Entry, Frame, History};
+pub use record::PairRecord;

@@ -1,0 +1,361 @@
+//! The pair's record: all of a pair but its machines.
+ghost use Rattle.std.specs.Prelude.{◌≡◌, ℕ, ◌+◌, ◌-◌, ◌*◌, ◌^◌, ◌≤◌, ◌<◌, ◌++◌, ◌∷◌, [], length, replicate, All, IfOk, IfSome, OnOk, OnErr};
+ghost use Rattle.std.specs.Prelude.{None, Some, false, slice_get};
+ghost use Rattle.frame_ports.specs.Addresses.{IsFrame};
+ghost use Rattle.frame_ports.specs.Ports.{empty_ports};
+ghost use Rattle.frame_ports.specs.Limits.{max_clients, number_limit};
+ghost use Rattle.pair_history.specs.Entries.{Ran};
+ghost use Rattle.pair_record.specs.Journal.{all_entries, with_running};
+ghost use Rattle.pair_record.specs.Modes.{is_stopped as stopped, is_alone as alone, change_refusal};
+ghost use Rattle.failover.specs.declared.change.Change.TheVariants as changes;
+ghost use Rattle.pair_record.specs.Protocol.{exhausts, is_among, first_refusal, step_refusals, cut_refusals, cut_done, send_done};
+ghost use Rattle.pair_record.specs.Protocol.{backup_refusals, again_done, commit_done, ack_refusals, ack_done, let_go, fail_primary_done};
+ghost use Rattle.pair_record.specs.Record.{IsRecord, IsAsBefore, start_record, ports_after_ack};
+
+mod alone;
+mod clients;
+mod live;
+mod protect;
+
+use crate::event::{Packet, Refusal, Reply};
+use crate::journal::Journal;
+use crate::landings::count_landings;
+use crate::limits::{FIRST_GENERATION, MOST_PENDING, STEP_ROOM};
+use crate::lines::Lines;
+use crate::modes::{filled, is_stopped, step_room};
+use crate::window::Window;
+use failover::Mode;
+use frame_ports::{NUMBER_LIMIT, PortError, Ports};
+use memory_wanted::MemoryWanted;
+use output_gate::{Gate, GateError};
+use pair_history::{Frame, History};
+use std::alloc::Global;
+use std::marker::Model;
+
+/// The mode and the generation, the journal, the window of checkpoints, the lines, the gate and the clients' ports: no machine, page
+/// or image. Contracts see it as a `RecordState` of the specs.
+///
+/// Each event that may be refused has a `.._refusal`, which answers the first row of its table of refusals that applies; the event
+/// itself asks that none does.
+#[derive(Drop)]
+pub struct PairRecord {
+    mode: Mode,
+    generation: u64,
+    journal: Journal,
+    window: Window,
+    lines: Lines,
+    gate: Gate,
+    ports: Ports,
+}
+
+impl Model for PairRecord {
+    ghost use Rattle.pair_record.specs.Record.{RecordState};
+
+    ghost Value = { RecordState };
+
+    ghost use Rattle.pair_record.specs.internal.RecordFields.{record_state, AreFields};
+
+    ghost view = { record_state };
+
+    ghost invariant = { AreFields };
+}
+
+impl PairRecord {
+    /// A record of so many clients in which nothing happened yet.
+    pub fn new(alloc: Global, clients: u64) -> Result<PairRecord, MemoryWanted>
+        requires some { 1 ≤ clients }
+        requires few { clients ≤ max_clients }
+        ensures protocol { IfOk result (λ r. r.protocol ≡ start_record) }
+        ensures ports { IfOk result (λ r. r.ports ≡ empty_ports clients) }
+    {
+        let ports = match Ports::new(alloc, clients) {
+            Ok(ports) => ports,
+            Err(PortError::NoMemory(wanted)) => return Err(wanted),
+            Err(_) => unreachable!(),
+        };
+        let gate = match Gate::new(alloc) {
+            Ok(gate) => gate,
+            Err(GateError::NoMemory(wanted)) => return Err(wanted),
+        };
+        Ok(PairRecord {
+            mode: Mode::Paired,
+            generation: FIRST_GENERATION,
+            journal: Journal::new(alloc),
+            window: Window::new(),
+            lines: Lines::new(alloc),
+            gate,
+            ports,
+        })
+    }
+
+    /// The state of the pair.
+    pub fn mode(&self) -> Mode
+        ensures { result ≡ self.now.protocol.mode }
+    {
+        self.mode
+    }
+
+    /// The primary stops.
+    pub fn fail_primary(&mut self) -> Reply
+        requires { change_refusal changes.FailPrimary self.old.protocol.mode ≡ None }
+        ensures protocol { (result, self.new.protocol) ≡ fail_primary_done self.old.protocol }
+        ensures ports { self.new.ports ≡ self.old.ports }
+    {
+        self.mode = Mode::Stopped;
+        Reply::Stopped
+    }
+
+    /// The generation, from 1.
+    pub fn generation(&self) -> u64
+        ensures { result ≡ self.now.protocol.generation }
+    {
+        self.generation
+    }
+
+    /// What is true of every record is true of this one.
+    pub fn keep(&self)
+        ensures { IsRecord self.now.protocol }
+    {
+        let _generation = self.generation;
+    }
+
+    /// The history.
+    pub fn history(&self) -> &History
+        ensures { result.now.entries ≡ self.now.protocol.journal.history }
+    {
+        self.journal.history()
+    }
+
+    /// How many checkpoints are pending.
+    pub fn pending(&self) -> u64
+        ensures { result ≡ length self.now.protocol.pending }
+    {
+        self.window.to_cut - self.window.to_acknowledge
+    }
+
+    /// The number of the next checkpoint to be cut.
+    pub fn to_cut(&self) -> u64
+        ensures { result ≡ self.now.protocol.window.to_cut }
+    {
+        self.window.to_cut
+    }
+
+    /// The number of the next checkpoint to be committed.
+    pub fn to_commit(&self) -> u64
+        ensures { result ≡ self.now.protocol.window.to_commit }
+    {
+        self.window.to_commit
+    }
+
+    /// How many of these steps the history has numbers for: none where the primary has stopped.
+    pub fn steps_left(&self, count: u64) -> u64
+        ensures most { result ≤ count }
+        ensures runs { 0 < result → stopped self.now.protocol.mode ≡ false }
+        ensures fits { length (all_entries self.now.protocol.journal) + result < number_limit }
+        ensures fewer { result < count → stopped self.now.protocol.mode ≡ false
+            → number_limit ≤ length (all_entries self.now.protocol.journal) + result + 1 }
+    {
+        let left = self.journal.entries_left();
+        if is_stopped(self.mode) {
+            0
+        } else {
+            count.min(left)
+        }
+    }
+
+    /// Whether so many more entries would be too many for the history.
+    fn is_exhausted_by(&self, more: u64) -> bool
+        ensures { result ≡ exhausts self.now.protocol more }
+    {
+        more > self.journal.entries_left()
+    }
+
+    /// Whether a client has this number.
+    fn is_client(&self, client: u64) -> bool
+        ensures { result ≡ is_among client (length self.now.ports.boxes) }
+    {
+        client >= 1 && client <= self.ports.clients()
+    }
+
+    /// Why a step is refused where the guest's outbox holds so many frames.
+    pub fn step_refusal(&self, outbox: &[Frame]) -> Option<Refusal>
+        ensures { result ≡ first_refusal (step_refusals outbox.now self.now.protocol) }
+    {
+        if is_stopped(self.mode) {
+            Some(Refusal::Stopped)
+        } else if outbox.len() > STEP_ROOM {
+            Some(Refusal::CutNeeded)
+        } else if self.is_exhausted_by(step_room(self.mode)) {
+            Some(Refusal::Exhausted)
+        } else {
+            None
+        }
+    }
+
+    /// The guest made so many steps.
+    pub fn run(&mut self, steps: u64)
+        requires pair { alone self.old.protocol.mode ≡ false }
+        requires fits { length (all_entries self.old.protocol.journal) + steps < number_limit }
+        ensures protocol { self.new.protocol ≡ record self.old.protocol {
+          journal = with_running self.old.protocol.journal (replicate steps Ran);
+        } }
+        ensures ports { self.new.ports ≡ self.old.ports }
+    {
+        self.journal.run(steps);
+    }
+
+    /// Why a cut is refused.
+    pub fn cut_refusal(&self) -> Option<Refusal>
+        ensures refusal { result ≡ first_refusal (cut_refusals self.now.protocol) }
+        // What is true of every record.
+        ensures record { IsRecord self.now.protocol }
+    {
+        if self.pending() >= MOST_PENDING {
+            Some(Refusal::Behind)
+        } else if self.window.to_cut >= NUMBER_LIMIT {
+            Some(Refusal::Exhausted)
+        } else {
+            None
+        }
+    }
+
+    /// The running epoch, along which the guest sent these frames, is sealed, and they go to the gate.
+    pub fn cut(&mut self, frames: &[Frame]) -> Result<Reply, MemoryWanted>
+        requires pair { alone self.old.protocol.mode ≡ false }
+        requires free { first_refusal (cut_refusals self.old.protocol) ≡ None }
+        requires few { length frames.now ≤ 256 }
+        requires frames { All IsFrame frames.now }
+        ensures ok { IfOk result (λ reply. (reply, self.new.protocol) ≡ cut_done frames.now self.old.protocol) }
+        ensures ports { self.new.ports ≡ self.old.ports }
+        ensures err { OnErr result (IsAsBefore self.old self.new) }
+    {
+        self.journal.seal()?;
+        let number = self.window.to_cut;
+        self.gate.hold(number, frames);
+        self.window.cut();
+        Ok(Reply::Cut {
+            generation: self.generation,
+            number,
+        })
+    }
+
+    /// One packet for each pending checkpoint is sent.
+    pub fn send(&mut self) -> Result<Reply, MemoryWanted>
+        ensures ok { IfOk result (λ reply. (reply, self.new.protocol) ≡ send_done self.old.protocol) }
+        ensures ports { self.new.ports ≡ self.old.ports }
+        ensures err { OnErr result (IsAsBefore self.old self.new) }
+        ensures none { OnErr result (0 < length self.old.protocol.pending) }
+    {
+        let count = self.pending();
+        self.lines.send(
+            self.generation,
+            self.window.to_acknowledge,
+            self.window.to_cut,
+        )?;
+        Ok(Reply::Sent(count))
+    }
+
+    /// The packet of this number on the line to the backup.
+    pub fn packet(&self, k: u64) -> Option<Packet>
+        ensures packet { result ≡ slice_get self.now.protocol.lines.forward k }
+        ensures cut { IfSome result (λ p. p.generation ≡ self.now.protocol.generation → p.number < self.now.protocol.window.to_cut) }
+    {
+        self.lines.packet(k)
+    }
+
+    /// Why the backup refuses a packet.
+    pub fn backup_refusal(&self, packet: Packet) -> Option<Refusal>
+        ensures refusal { result ≡ first_refusal (backup_refusals self.now.protocol packet) }
+        // What is true of every record.
+        ensures record { IsRecord self.now.protocol }
+    {
+        if packet.generation != self.generation {
+            Some(Refusal::Stale)
+        } else if packet.number > self.window.to_commit {
+            Some(Refusal::Gap)
+        } else {
+            None
+        }
+    }
+
+    /// The acknowledgement of the last committed checkpoint is sent once more.
+    pub fn acknowledge_again(&mut self) -> Result<Reply, MemoryWanted>
+        requires { 0 < self.old.protocol.window.to_commit }
+        ensures ok { IfOk result (λ reply. (reply, self.new.protocol) ≡ again_done self.old.protocol) }
+        ensures ports { self.new.ports ≡ self.old.ports }
+        ensures err { OnErr result (IsAsBefore self.old self.new) }
+    {
+        let number = self.window.to_commit - 1;
+        self.lines.reserve_acknowledgement()?;
+        self.lines.acknowledge(self.generation, number);
+        Ok(Reply::Again {
+            generation: self.generation,
+            number,
+        })
+    }
+
+    /// The next checkpoint is committed and acknowledged: its epoch moves to the history.
+    pub fn commit(&mut self) -> Result<Reply, MemoryWanted>
+        requires { self.old.protocol.window.to_commit < self.old.protocol.window.to_cut }
+        ensures ok { IfOk result (λ reply. (reply, self.new.protocol) ≡ commit_done self.old.protocol) }
+        ensures ports { self.new.ports ≡ self.old.ports }
+        ensures err { OnErr result (IsAsBefore self.old self.new) }
+    {
+        let number = self.window.to_commit;
+        self.lines.reserve_acknowledgement()?;
+        self.journal.commit()?;
+        self.lines.acknowledge(self.generation, number);
+        self.window.commit();
+        self.mode = filled(self.mode);
+        Ok(Reply::Committed {
+            generation: self.generation,
+            number,
+        })
+    }
+
+    /// The packet of this number on the line back.
+    pub fn acknowledgement(&self, k: u64) -> Option<Packet>
+        ensures packet { result ≡ slice_get self.now.protocol.lines.back k }
+        ensures committed { IfSome result (λ p. p.generation ≡ self.now.protocol.generation
+            → p.number < self.now.protocol.window.to_commit) }
+    {
+        self.lines.acknowledgement(k)
+    }
+
+    /// Why the primary refuses an acknowledgement.
+    pub fn ack_refusal(&self, packet: Packet) -> Option<Refusal>
+        ensures refusal { result ≡ first_refusal (ack_refusals self.now.ports.boxes self.now.protocol packet) }
+        // What is true of every record.
+        ensures record { IsRecord self.now.protocol }
+    {
+        if packet.generation != self.generation {
+            Some(Refusal::Stale)
+        } else if self.is_exhausted_by(count_landings(&self.ports, self.gate.held(packet.number))) {
+            Some(Refusal::Exhausted)
+        } else {
+            None
+        }
+    }
+
+    /// The checkpoints up to this packet's are no longer pending, and their frames land.
+    pub fn acknowledge(&mut self, packet: Packet) -> Result<Reply, MemoryWanted>
+        requires free { first_refusal (ack_refusals self.old.ports.boxes self.old.protocol packet) ≡ None }
+        requires committed { packet.number < self.old.protocol.window.to_commit }
+        ensures ok { IfOk result (λ reply. (reply, self.new.protocol) ≡ ack_done self.old.ports.boxes self.old.protocol packet.number) }
+        ensures ports { OnOk result (self.new.ports ≡ ports_after_ack self.old.ports self.old.protocol packet.number) }
+        ensures err { OnErr result (IsAsBefore self.old self.new) }
+        ensures some { OnErr result (0 < length (let_go self.old.ports.boxes self.old.protocol packet.number)) }
+    {
+        let number = packet.number;
+        let count = count_landings(&self.ports, self.gate.held(number));
+        self.journal.reserve(count as usize)?;
+        self.journal.land(&self.ports, self.gate.held(number));
+        let landed = self.gate.ack(number, &mut self.ports);
+        self.window.acknowledge(number);
+        Ok(Reply::Acked {
+            generation: self.generation,
+            number,
+            landed: landed.landed,
+        })
+    }
+}

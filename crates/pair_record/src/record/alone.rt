@@ -1,0 +1,115 @@
+//! What happens at the record where a node goes on alone.
+ghost use Rattle.std.specs.Prelude.{◌≡◌, ◌+◌, ◌*◌, ◌<◌, ◌≤◌, ◌++◌, length, replicate, All, IfOk, OnOk, OnErr, None, false, true};
+ghost use Rattle.frame_ports.specs.Addresses.{IsFrame, targets_of};
+ghost use Rattle.frame_ports.specs.Lands.{lands};
+ghost use Rattle.frame_ports.specs.Limits.{max_clients, number_limit};
+ghost use Rattle.pair_history.specs.Entries.{Ran};
+ghost use Rattle.pair_history.specs.Landings.{landings};
+ghost use Rattle.pair_record.specs.Journal.{all_entries, with_history};
+ghost use Rattle.pair_record.specs.Modes.{is_alone};
+ghost use Rattle.pair_record.specs.Protocol.{first_refusal, fail_backup_refusals, fail_backup_done, all_held};
+ghost use Rattle.pair_record.specs.Record.{IsAsBefore, ports_after_all};
+
+use super::PairRecord;
+use crate::event::{Refusal, Reply};
+use crate::landings::count_landings;
+use crate::limits::{STEP_ENTRIES, STEP_FRAMES};
+use crate::window::Window;
+use failover::Mode;
+use memory_wanted::MemoryWanted;
+use pair_history::Frame;
+
+impl PairRecord {
+    /// To how many clients all frames go that the gate holds, and then those of the outbox.
+    fn count_all(&self, outbox: &[Frame]) -> u64
+        requires { length outbox.now ≤ 256 }
+        ensures { result ≡ length (all_held self.now.ports.boxes outbox.now self.now.protocol) }
+    {
+        let held = self.gate.held(self.window.to_cut);
+        count_landings(&self.ports, held) + count_landings(&self.ports, outbox)
+    }
+
+    /// Why the backup's failure is refused, where the guest's outbox holds these frames.
+    pub fn fail_backup_refusal(&self, outbox: &[Frame]) -> Option<Refusal>
+        requires few { length outbox.now ≤ 256 }
+        ensures refusal { result ≡ first_refusal (fail_backup_refusals self.now.ports.boxes outbox.now self.now.protocol) }
+    {
+        if self.is_exhausted_by(self.count_all(outbox)) {
+            Some(Refusal::Exhausted)
+        } else {
+            None
+        }
+    }
+
+    /// The backup stops: all that was kept goes to the history, the pending checkpoints are given up, and what the gate held, and then the
+    /// outbox, lands.
+    pub fn fail_backup(&mut self, outbox: &[Frame]) -> Result<Reply, MemoryWanted>
+        requires free { first_refusal (fail_backup_refusals self.old.ports.boxes outbox.now self.old.protocol) ≡ None }
+        requires pair { is_alone self.old.protocol.mode ≡ false }
+        requires few { length outbox.now ≤ 256 }
+        requires frames { All IsFrame outbox.now }
+        ensures ok { IfOk result (λ reply. (reply, self.new.protocol)
+            ≡ fail_backup_done self.old.ports.boxes outbox.now self.old.protocol) }
+        ensures ports { OnOk result (self.new.ports ≡ ports_after_all self.old.ports outbox.now self.old.protocol) }
+        ensures err { OnErr result (IsAsBefore self.old self.new) }
+    {
+        let number = self.window.to_cut;
+        let count = self.count_all(outbox);
+        self.journal.commit_all(count as usize)?;
+        self.gate.hold(number, outbox);
+        self.journal.land(&self.ports, self.gate.held(number));
+        let landed = self.gate.open_all(&mut self.ports);
+        self.window = Window::none_pending(number);
+        self.mode = Mode::Alone;
+        Ok(Reply::Alone {
+            generation: self.generation,
+            landed: landed.landed,
+        })
+    }
+
+    /// Makes room in the history for all that a node that is alone adds where its guest makes steps of which only the last sends: one
+    /// stored entry for the steps, and each of 64 frames landing for each client.
+    ///
+    /// # Errors
+    ///
+    /// The want of memory that stood in the way.
+    pub fn reserve_lone_steps(&mut self) -> Result<(), MemoryWanted>
+        ensures same { IsAsBefore self.old self.new }
+        ensures room { OnOk result (64 * length self.old.ports.boxes < self.new.room) }
+        // What is true of all ports.
+        ensures few { length self.old.ports.boxes ≤ max_clients }
+    {
+        let landings = STEP_FRAMES * self.ports.clients() as usize;
+        self.journal.reserve(landings + 1)
+    }
+
+    /// Where a node is alone: its guest made so many steps, along which it sent these frames, and they land, in the room that was reserved.
+    pub fn run_alone(&mut self, steps: u64, sent: &[Frame])
+        requires alone { is_alone self.old.protocol.mode ≡ true }
+        requires few { length sent.now ≤ 64 }
+        requires frames { All IsFrame sent.now }
+        requires room { 64 * length self.old.ports.boxes < self.old.room }
+        requires fits { length (all_entries self.old.protocol.journal) + (steps + 64 * length self.old.ports.boxes) < number_limit }
+        ensures protocol { self.new.protocol ≡ record self.old.protocol {
+          journal = with_history self.old.protocol.journal (replicate steps Ran ++ landings self.old.ports.boxes
+              (targets_of (length self.old.ports.boxes) sent.now));
+        } }
+        ensures ports { self.new.ports ≡ record self.old.ports {
+          boxes = lands self.old.ports.boxes (targets_of (length self.old.ports.boxes) sent.now);
+        } }
+    {
+        self.journal.run_alone(steps, &self.ports, sent);
+        self.gate.hold(self.window.to_cut, sent);
+        let _landed = self.gate.open_all(&mut self.ports);
+    }
+
+    /// How many of these steps a node that is alone may begin, where none but the last sends a frame.
+    pub fn alone_steps_left(&self, count: u64) -> u64
+        ensures most { result ≤ count }
+        ensures fits { 0 < result → length (all_entries self.now.protocol.journal) + (result + 1024) < number_limit }
+        ensures fewer { result < count → number_limit ≤ length (all_entries self.now.protocol.journal) + (result + 1025) }
+    {
+        let left = self.journal.entries_left();
+        count.min(left.saturating_sub(STEP_ENTRIES - 1))
+    }
+}
