@@ -37,6 +37,8 @@ use std::marker::Model;
 ///
 /// Each event that may be refused has a `.._refusal`, which answers the first row of its table of refusals that applies; the event
 /// itself asks that none does.
+///
+/// A call that answers a [`MemoryWanted`] was refused a growth; the record and the ports are as they were then.
 #[derive(Drop)]
 pub struct PairRecord {
     mode: Mode,
