@@ -1,6 +1,7 @@
 //! What clients do, at the pair's record.
 ghost use Rattle.std.specs.Prelude.{◌≡◌, ◌<◌, ◌≤◌, ◌∷◌, [], length, IfOk, OnOk, OnErr, None, Some, slice_get, option_map};
 ghost use Rattle.frame_ports.specs.Addresses.{IsFrame};
+ghost use Rattle.frame_ports.specs.Limits.{box_frames, max_clients};
 ghost use Rattle.frame_ports.specs.Ports.{IsClient, inbox_of, box_of, after_delivery};
 ghost use Rattle.pair_history.specs.Entries.{DropIn, DropOut, Took};
 ghost use Rattle.pair_history.specs.Log.{expanded, frame_bytes};
@@ -17,6 +18,14 @@ use memory_wanted::MemoryWanted;
 use pair_history::{Entry, Frame};
 
 impl PairRecord {
+    /// How many clients there are, at most 16.
+    pub fn clients(&self) -> u64
+        ensures count { result ≡ length self.now.ports.boxes }
+        ensures few { result ≤ max_clients }
+    {
+        self.ports.clients()
+    }
+
     /// Why an event of this client's is refused whatever it is.
     pub fn client_refusal(&self, client: u64) -> Option<Refusal>
         ensures { result ≡ first_refusal (client_refusals (length self.now.ports.boxes) client) }
@@ -166,7 +175,8 @@ impl PairRecord {
     /// How many frames lie in this client's box.
     pub fn box_len(&self, client: u64) -> usize
         requires { IsClient self.now.ports client }
-        ensures { result ≡ length (box_of self.now.ports client) }
+        ensures len { result ≡ length (box_of self.now.ports client) }
+        ensures bound { result ≤ box_frames }
     {
         self.ports.box_len(client)
     }

@@ -17,7 +17,7 @@ invariant_of-self-2 c =
     let place = c.args.place in
     let range = client_range client (length w.ports.boxes) (passed _ _ _ (sym c.client_refusal.ensures ∙ c.in_default.is)).0 in
     let box = list_of w.ports.boxes client in
-    let within : place < length box = let l = c.box_len.ensures in let k = c.if-place-box_len.false in omega arith in
+    let within : place < length box = let l = c.box_len.ensures.len in let k = c.if-place-box_len.false in omega arith in
     subst Holds (λ i. record w { protocol = sym c.in_ok-lose_out.ensures.protocol i; ports = sym c.in_ok-lose_out.ensures.ports i })
     (lose_out_holds w c.self.invariant client range.0 range.1 place within)
 
@@ -27,7 +27,7 @@ returns-clause-outcome c =
     let client = c.args.client in
     let place = c.args.place in
     let box = list_of w.ports.boxes client in
-    let within : place < length box = let l = c.box_len.ensures in let k = c.if-place-box_len.false in omega arith in
+    let within : place < length box = let l = c.box_len.ensures.len in let k = c.if-place-box_len.false in omega arith in
     let there = some_at box place within in
     (λ i. (replies.Dropped, c.in_ok-lose_out.ensures.protocol i))
     ∙ (rw (← c.self.view_is) (loss_goes w (LoseOut client place) client (lost_out client box place) (lose_out_sight w c.self.invariant

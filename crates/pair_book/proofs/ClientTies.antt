@@ -1,0 +1,119 @@
+-- What each call of a client keeps of the tie.
+use Rattle.std.proofs.Common.{◌≡◌, ℕ, ◌+◌, ◌-◌, ◌≤◌, List, [], ◌∷◌, ◌++◌, length, drop, refl, sym, ap, ◌∙◌, subst, arith}
+use Rattle.std.proofs.lemmas.List.{length-set}
+use Rattle.std.specs.Prelude.{slice_get}
+use Rattle.frame_ports.specs.{Addresses.{IsFrame}, Lands.{list_of, with_list}, Limits.{inbox_frames}, Ports.{PortsState, IsClient, after_delivery}}
+use Rattle.pair_history.specs.Entries.{Frame, Entry, Delivered, Refused, Took}
+use Rattle.pair_history.specs.HistoryState.{HistoryState}
+use Rattle.pair_record.specs.Journal.{with_history}
+use Rattle.pair_record.specs.Protocol.{Record, deliver_done, take_done}
+use Rattle.pair_record.specs.Record.{ports_after_take}
+use Rattle.pair_record.specs.internal.Accords.{Accords}
+use Rattle.pair_record.proofs.ClientAccords.{take_accords, deliver_accords, full_accords}
+use Rattle.growing_history.specs.Steps.{Step, step, Added}
+use Rattle.growing_history.specs.LogState.{Legal, client_seat}
+use Rattle.pair_book.specs.Calls.{IsClientSeat, client_of}
+use Rattle.pair_book.specs.internal.Tie.{IsTied}
+use Rattle.pair_book.proofs.Ties.{added-legal, added-tied, gained}
+
+-- a client's seat is that of a client of the ports
+pub is_client_of : (start : HistoryState) (steps : List Step) (r : Record) (p : PortsState) (n : ℕ) → IsTied start steps r p
+    → IsClientSeat start n → IsClient p (client_of n)
+is_client_of start steps r p n t seat = let same = t.clients in (omega (arith, seat.0), omega (arith, seat.0, seat.1, same))
+
+pub its-seat : (start : HistoryState) (n : ℕ) → IsClientSeat start n → n ≡ client_seat (client_of n)
+its-seat start n seat = omega (arith, seat.0)
+
+-- TAKE
+module _ (start : HistoryState) (steps : List Step) (r now : Record) (p q : PortsState) (t : IsTied start steps r p) (by : ℕ)
+    (seat : IsClientSeat start by)
+    (is : now ≡ (take_done p.boxes r (client_of by)).1) (ports : q ≡ ports_after_take p (client_of by)) where
+  abbrev c : ℕ
+  c = client_of by
+
+  abbrev box : List Frame
+  box = list_of p.boxes c
+
+  abbrev pub took_entry : Entry
+  took_entry = Took c (slice_get box 0)
+
+  took-boxes : length q.boxes ≡ length p.boxes
+  took-boxes = ap (λ (x : PortsState). length x.boxes) ports ∙ length-set p.boxes (c - 1) (drop 1 box)
+
+  took-accords : Accords start r p → Accords start now q
+  took-accords a =
+      let high = is_client_of start steps r p by t seat in
+      subst (λ (y : Record × PortsState). Accords start y.0 y.1) (λ i. (sym is i, sym ports i)) (take_accords start r p a c high.0 high.1)
+
+  pub took-gained : (n : ℕ) (h : List Entry) → n ≡ length r.journal.history → h ≡ now.journal.history → drop n h ≡ took_entry ∷ []
+  took-gained n h len same = gained n h r now (took_entry ∷ []) len same is
+
+  pub took-legal : Legal start (steps ++ step by (Added (took_entry ∷ [])) ∷ [])
+  took-legal =
+      added-legal start steps r now p q t by (took_entry ∷ []) (its-seat start by seat, tt) (λ none. (tt, tt)) is took-boxes took-accords
+
+  pub took-tied : IsTied start (steps ++ step by (Added (took_entry ∷ [])) ∷ []) now q
+  took-tied =
+      added-tied start steps r now p q t by (took_entry ∷ []) (its-seat start by seat, tt) (λ none. (tt, tt)) is took-boxes took-accords
+
+-- DELIVER, and at a full inbox
+module _ (start : HistoryState) (steps : List Step) (r now : Record) (p q : PortsState) (t : IsTied start steps r p) (by : ℕ)
+    (seat : IsClientSeat start by) (bytes : List ℕ) (frame : IsFrame (record { items = bytes })) where
+  abbrev d : ℕ
+  d = client_of by
+
+  abbrev sent : Frame
+  sent = record { items = bytes }
+
+  module _ (is : now ≡ (deliver_done r d sent p.next).1) (ports : q ≡ after_delivery p d bytes) where
+    abbrev delivered : Entry
+    delivered = Delivered d sent p.next
+
+    delivered-accords : Accords start r p → Accords start now q
+    delivered-accords a =
+        let high = is_client_of start steps r p by t seat in
+        subst (λ (y : Record × PortsState). Accords start y.0 y.1) (λ i. (sym is i, sym ports i))
+        (deliver_accords start r p a d high.0 high.1 bytes frame)
+
+    delivered-boxes : length q.boxes ≡ length p.boxes
+    delivered-boxes = ap (λ (x : PortsState). length x.boxes) ports
+
+    pub delivered-gained : (n : ℕ) (h : List Entry) → n ≡ length r.journal.history → h ≡ now.journal.history → drop n h ≡ delivered ∷ []
+    delivered-gained n h len same = gained n h r now (delivered ∷ []) len same is
+
+    pub delivered-legal : Legal start (steps ++ step by (Added (delivered ∷ [])) ∷ [])
+    delivered-legal =
+        added-legal start steps r now p q t by (delivered ∷ []) (its-seat start by seat, tt) (λ none. (tt, tt)) is delivered-boxes
+        delivered-accords
+
+    pub delivered-tied : IsTied start (steps ++ step by (Added (delivered ∷ [])) ∷ []) now q
+    delivered-tied =
+        added-tied start steps r now p q t by (delivered ∷ []) (its-seat start by seat, tt) (λ none. (tt, tt)) is delivered-boxes
+        delivered-accords
+
+  module _ (full : inbox_frames ≤ length (list_of p.inboxes d))
+      (is : now ≡ record r { journal = with_history r.journal (Refused d sent ∷ []) }) (ports : q ≡ p) where
+    abbrev refused : Entry
+    refused = Refused d sent
+
+    refused-accords : Accords start r p → Accords start now q
+    refused-accords a =
+        let high = is_client_of start steps r p by t seat in
+        subst (λ (y : Record × PortsState). Accords start y.0 y.1) (λ i. (sym is i, sym ports i))
+        (full_accords start r p a d high.0 high.1 bytes frame full)
+
+    refused-boxes : length q.boxes ≡ length p.boxes
+    refused-boxes = ap (λ (x : PortsState). length x.boxes) ports
+
+    pub refused-gained : (n : ℕ) (h : List Entry) → n ≡ length r.journal.history → h ≡ now.journal.history → drop n h ≡ refused ∷ []
+    refused-gained n h len same = gained n h r now (refused ∷ []) len same is
+
+    pub refused-legal : Legal start (steps ++ step by (Added (refused ∷ [])) ∷ [])
+    refused-legal =
+        added-legal start steps r now p q t by (refused ∷ []) (its-seat start by seat, tt) (λ none. (tt, tt)) is refused-boxes
+        refused-accords
+
+    pub refused-tied : IsTied start (steps ++ step by (Added (refused ∷ [])) ∷ []) now q
+    refused-tied =
+        added-tied start steps r now p q t by (refused ∷ []) (its-seat start by seat, tt) (λ none. (tt, tt)) is refused-boxes
+        refused-accords

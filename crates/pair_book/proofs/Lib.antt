@@ -1,0 +1,5 @@
+pub mod Rows
+pub mod Ties
+pub mod ClientTies
+pub mod LossTies
+pub mod Start

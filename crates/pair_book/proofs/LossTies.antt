@@ -1,0 +1,123 @@
+-- What each loss of the line keeps of the tie.
+use Rattle.std.proofs.Common.{◌≡◌, ◌≢◌, ℕ, zero, suc, ◌+◌, ◌-◌, ◌<◌, ◌≤◌, List, [], ◌∷◌, ◌++◌, length, drop, remove, refl, sym, ap, ◌∙◌, subst, arith}
+use Rattle.std.proofs.{Common.{true, false, cond, Option, Some, None, Bool}, lemmas.{Bool.lt-ltb, Bool.Decides.nat_tests, List.length-set}}
+use Rattle.std.specs.Prelude.{slice_get, nat_lt, not, option_map}
+use Rattle.frame_ports.specs.{Lands.{list_of, with_list}, Ports.{PortsState}, Limits.{box_frames}}
+use Rattle.pair_history.specs.Entries.{Frame, Entry, DropIn, DropOut}
+use Rattle.pair_history.specs.HistoryState.{HistoryState, Waiting, frame_numbered, without_number}
+use Rattle.pair_history.specs.{Order.NoneTakes, internal.Moves.{Move, Steps, Arrives, entries_of, AllCan, AreRising}}
+use Rattle.pair_history.proofs.Waiting.{StandsAt, Leaves, leaves-at, gone, found-without, AreRising-without}
+use Rattle.pair_history.proofs.Losses.{AreRising-left, LeavesBefore, leaves-before}
+use Rattle.pair_record.specs.Journal.{kept_entries}
+use Rattle.pair_record.specs.declared.event.Refusal.TheVariants.{NoClient}
+use Rattle.pair_record.specs.Protocol.{Record, shown_at, loss_done, first_refusal, client_refusals, is_among}
+use Rattle.pair_record.specs.Record.{ports_after_lose_in, ports_after_lose_out}
+use Rattle.pair_record.specs.internal.Accords.{Accords}
+use Rattle.pair_record.proofs.AccordLaws.{kept_now, left_now, kept_is}
+use Rattle.pair_record.proofs.ClientAccords.{lose_in_accords, lose_out_accords}
+use Rattle.growing_history.specs.Steps.{Step, step, Added}
+use Rattle.growing_history.specs.LogState.{Legal, line_seat, state_at, under_way, AreOwn, AreKnown}
+use Rattle.pair_book.specs.internal.Tie.{IsTied}
+use Rattle.pair_book.proofs.Ties.{added-legal, added-tied, gained, way-is}
+
+-- a client that no row refused
+pub client_range : (c count : ℕ) → first_refusal (client_refusals count c) ≡ None → (1 ≤ c) × (c ≤ count)
+client_range c count e = by_test (not (is_among c count)) refl e
+  where
+    by_test : (t : Bool) → not (is_among c count) ≡ t → first_refusal ((t, NoClient) ∷ []) ≡ None → (1 ≤ c) × (c ≤ count)
+    by_test true is e = absurd (cc)
+    by_test false is e = grind (arith, nat_tests)
+
+-- the frame that has that number
+pub frame_at : (o : Option (ℕ × Frame)) (n : ℕ) → option_map (λ (x : ℕ × Frame). x.0) o ≡ Some n → (f : Frame) × (o ≡ Some (n, f))
+frame_at None n e = absurd (cc)
+frame_at (Some (m, f)) n e = let same : m ≡ n = cc in (f, ap (λ (k : ℕ). Some (k, f)) same)
+
+-- the frame at a place where there is one
+pub some_at : {A : Type 0} (xs : List A) (place : ℕ) → place < length xs → (x : A) × (slice_get xs place ≡ Some x)
+some_at [] place l = absurd (omega arith)
+some_at (x ∷ xs) zero l = (x, refl)
+some_at (x ∷ xs) (suc place) l = some_at xs place (omega arith)
+
+-- moves that can be made where the frame of that number doesn't wait don't take it in
+none-takes : (n first end : ℕ) (ws : List Waiting) (ms : List Move) → AreRising first end ws → AllCan ws ms → frame_numbered n ws ≡ None
+    → NoneTakes n (entries_of ms)
+none-takes n first end ws [] h can e = tt
+none-takes n first end ws (Steps ∷ ms) h can e = none-takes n first end ws ms h can.1 e
+none-takes n first end ws (Arrives m g ∷ ms) h can e =
+    let differ : m ≢ n = λ (same : m ≡ n). absurd (cc (can.0.1, ap (λ k. frame_numbered k ws) same, e)) in (
+      differ,
+      none-takes n first end (without_number m ws) ms (AreRising-without m first end ws h) can.1
+          (found-without n m ws (λ (k : n ≡ m). differ (sym k)) ∙ e),
+    )
+
+-- what waits in an inbox is taken in by nothing that is under way
+pub taken-by-none : (start : HistoryState) (r : Record) (p : PortsState) (a : Accords start r p) (c place n : ℕ) (f : Frame) → 1 ≤ c
+    → c ≤ length p.boxes → slice_get (list_of p.inboxes c) place ≡ Some (n, f) → NoneTakes n (kept_entries r.journal)
+taken-by-none start r p a c place n f low high there =
+    let s = shown_at start r in
+    let ms = kept_now start r p a in
+    let ws = left_now start r p a in
+    let rising = AreRising-left 1 p.next s.waiting ms a.clients.rising in
+    let stands : StandsAt c place n f ws = ap (λ t. slice_get t place) (sym (a.clients.inboxes c low high)) ∙ there in
+    let leaves : Leaves c place n f ws = leaves-at c place n f 1 p.next ws rising stands in
+    let before : LeavesBefore n f s.waiting ms = leaves-before n f 1 p.next s.waiting ms a.clients.rising a.journal.can leaves.0 in
+    subst (NoneTakes n) (sym (kept_is start r p a))
+    (none-takes n 1 p.next (without_number n s.waiting) ms (AreRising-without n 1 p.next s.waiting a.clients.rising) before.1
+    (gone n 1 p.next s.waiting a.clients.rising))
+
+module _ (start : HistoryState) (steps : List Step) (r now : Record) (p q : PortsState) (t : IsTied start steps r p) (c place : ℕ)
+    (low : 1 ≤ c) (high : c ≤ length p.boxes) where
+  -- LOSEIN
+  module _ (n : ℕ) (f : Frame) (there : slice_get (list_of p.inboxes c) place ≡ Some (n, f)) (is : now ≡ (loss_done r (DropIn n)).1)
+      (ports : q ≡ ports_after_lose_in p c place) where
+    lost-in-boxes : length q.boxes ≡ length p.boxes
+    lost-in-boxes = ap (λ (x : PortsState). length x.boxes) ports
+
+    lost-in-accords : Accords start r p → Accords start now q
+    lost-in-accords a =
+        subst (λ (y : Record × PortsState). Accords start y.0 y.1) (λ i. (sym is i, sym ports i))
+        (lose_in_accords start r p a c low high place n f there)
+
+    lost-in-known : (state_at start steps).marked ≡ 0
+        → AreKnown (under_way (state_at start steps)) (state_at start steps).history line_seat (DropIn n ∷ [])
+    lost-in-known none =
+        (subst (NoneTakes n) (way-is start steps r p t) (taken-by-none start r p (t.accords none) c place n f low high there), tt)
+
+    pub lost-in-legal : Legal start (steps ++ step line_seat (Added (DropIn n ∷ [])) ∷ [])
+    lost-in-legal =
+        added-legal start steps r now p q t line_seat (DropIn n ∷ []) (refl, tt) lost-in-known is lost-in-boxes lost-in-accords
+
+    pub lost-in-tied : IsTied start (steps ++ step line_seat (Added (DropIn n ∷ [])) ∷ []) now q
+    lost-in-tied =
+        added-tied start steps r now p q t line_seat (DropIn n ∷ []) (refl, tt) lost-in-known is lost-in-boxes lost-in-accords
+
+  -- LOSEOUT
+  module _ (there : place < length (list_of p.boxes c)) (few : length (list_of p.boxes c) ≤ box_frames)
+      (is : now ≡ (loss_done r (DropOut c place)).1) (ports : q ≡ ports_after_lose_out p c place) where
+    lost-out-boxes : length q.boxes ≡ length p.boxes
+    lost-out-boxes =
+        ap (λ (x : PortsState). length x.boxes) ports ∙ length-set p.boxes (c - 1) (remove (list_of p.boxes c) place)
+
+    lost-out-accords : Accords start r p → Accords start now q
+    lost-out-accords a =
+        subst (λ (y : Record × PortsState). Accords start y.0 y.1) (λ i. (sym is i, sym ports i))
+        (lose_out_accords start r p a c low high place there)
+
+    within : nat_lt place box_frames ≡ true
+    within = lt-ltb place box_frames (omega (arith, there, few))
+
+    lost-out-own : AreOwn line_seat (DropOut c place ∷ [])
+    lost-out-own = (ap (λ (b : Bool). cond b line_seat 0) (sym within), tt)
+
+    lost-out-known : (state_at start steps).marked ≡ 0
+        → AreKnown (under_way (state_at start steps)) (state_at start steps).history line_seat (DropOut c place ∷ [])
+    lost-out-known none = (λ (e : line_seat ≡ 0). absurd (cc e), tt)
+
+    pub lost-out-legal : Legal start (steps ++ step line_seat (Added (DropOut c place ∷ [])) ∷ [])
+    lost-out-legal =
+        added-legal start steps r now p q t line_seat (DropOut c place ∷ []) lost-out-own lost-out-known is lost-out-boxes lost-out-accords
+
+    pub lost-out-tied : IsTied start (steps ++ step line_seat (Added (DropOut c place ∷ [])) ∷ []) now q
+    lost-out-tied =
+        added-tied start steps r now p q t line_seat (DropOut c place ∷ []) lost-out-own lost-out-known is lost-out-boxes lost-out-accords

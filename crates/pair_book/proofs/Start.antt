@@ -1,0 +1,40 @@
+-- The tie holds where nothing happened yet.
+use Rattle.std.proofs.Common.{◌≡◌, ℕ, [], length, map, refl, sym, ap, ◌∙◌, subst}
+use Rattle.std.proofs.lemmas.List.{length-replicate}
+use Rattle.frame_ports.specs.Ports.{PortsState, empty_ports}
+use Rattle.pair_history.specs.Entries.{Arrive}
+use Rattle.pair_history.specs.HistoryState.{HistoryState}
+use Rattle.pair_record.specs.Protocol.{Record}
+use Rattle.pair_record.specs.Record.{start_record}
+use Rattle.pair_record.specs.internal.Accords.{Accords}
+use Rattle.pair_record.proofs.AccordLaws.{start_accords}
+use Rattle.growing_history.specs.LogState.{LogState, Legal, state_at, history_of}
+use Rattle.growing_history.proofs.LogLaws.{state-nil, history-nil}
+use Rattle.pair_book.specs.Opening.{IsBoot}
+use Rattle.pair_book.specs.internal.Tie.{IsTied, sealed_entries}
+
+pub nothing-legal : (h : HistoryState) → Legal h []
+unfolding Legal
+nothing-legal h = tt
+
+pub start-tied : (start : HistoryState) (clients : ℕ) (r : Record) (p : PortsState) → IsBoot start clients → r ≡ start_record
+    → p ≡ empty_ports clients → IsTied start [] r p
+start-tied start clients r p boot is ports =
+    let back = sym (state-nil start) in
+    record {
+      legal = nothing-legal start;
+      history = ap (λ (y : Record). y.journal.history) is ∙ sym (history-nil start);
+      sealed = ap (λ (y : Record). y.journal.sealed) is ∙ ap sealed_entries back;
+      running = ap (λ (y : Record). y.journal.running) is ∙ ap (λ (u : LogState). map Arrive u.handed) back;
+      mode = ap (λ (y : Record). y.mode) is ∙ ap (λ (u : LogState). u.mode) back;
+      generation = ap (λ (y : Record). y.generation) is ∙ ap (λ (u : LogState). u.generation) back;
+      next = ap (λ (y : Record). y.window.to_cut) is ∙ ap (λ (u : LogState). u.next) back;
+      clients =
+          ap (λ (y : PortsState). length y.boxes) ports
+          ∙ length-replicate clients []
+          ∙ sym (ap (λ (h : HistoryState). length h.boxes) boot.is ∙ length-replicate clients []);
+      accords = λ none.
+          subst (λ (y : HistoryState × (Record × PortsState)). Accords y.0 y.1.0 y.1.1)
+          (λ i. (sym boot.is i, (sym is i, sym ports i)))
+          (start_accords boot.pages boot.sectors boot.image clients);
+    }

@@ -1,0 +1,36 @@
+-- What the line's losses do, and why one is refused.
+use Rattle.std.specs.Prelude.{◌≡◌, ℕ, not, List, [], ◌∷◌, length, Option, None, Some}
+use Rattle.memory_wanted.specs.Wanted.{wanted}
+use Rattle.frame_ports.specs.Ports.{PortsState}
+use Rattle.pair_history.specs.Entries.{Entry}
+use Rattle.pair_record.specs.declared.event.Refusal.{Refusal}
+use Rattle.pair_record.specs.declared.event.Refusal.TheVariants.{NoClient, NoMemory}
+use Rattle.pair_record.specs.Protocol.{Row, is_among, loss_done}
+use Rattle.growing_history.specs.Steps.{Added}
+use Rattle.growing_history.specs.Views.{Member}
+use Rattle.pair_book.specs.declared.losses.Loss.{Loss}
+use Rattle.pair_book.specs.declared.losses.Loss.TheVariants.{Dropped, Empty}
+use Rattle.pair_book.specs.Books.{BookState}
+use Rattle.pair_book.specs.Calls.{Makes, IsAsBefore, entry_rows}
+
+-- a loss of client c's, whose entry is that one where a frame is there
+abbrev pub loss_rows : BookState → ℕ → Option Entry → List Row
+loss_rows b c None = (not (is_among c (length b.ports.boxes)), NoClient) ∷ []
+loss_rows b c (Some e) = (not (is_among c (length b.ports.boxes)), NoClient) ∷ entry_rows b
+
+-- where no row holds, only for want of memory, and only where a frame is there
+abbrev pub IsWhyLoss : Option Entry → Option Refusal → Refusal → Type 0
+IsWhyLoss entry (Some first) why = why ≡ first
+IsWhyLoss (Some e) None why = why ≡ NoMemory wanted
+IsWhyLoss None None why = ⊥
+
+-- What a loss leaves that was answered so: everything as before where no frame was there; else the step adds that entry, and the frame
+-- has left.
+abbrev pub AfterLoss : Option Entry → PortsState → Loss → BookState → BookState → Member → Member → Type 0
+AfterLoss entry ports Empty old new seat seat' = (entry ≡ None) × IsAsBefore old new seat seat'
+AfterLoss entry ports Dropped old new seat seat' =
+    (e : Entry)
+    × (entry ≡ Some e)
+    × Makes (Added (e ∷ [])) old new seat seat'
+    × (new.protocol ≡ (loss_done old.protocol e).1)
+    × (new.ports ≡ ports)

@@ -1,0 +1,68 @@
+//! The book.
+ghost use Rattle.std.specs.Prelude.{◌≡◌, ◌+◌, length};
+ghost use Rattle.frame_ports.specs.Ports.{IsClient};
+ghost use Rattle.growing_history.specs.LogState.{Legal, history_of};
+ghost use Rattle.pair_book.specs.Calls.{IsClientSeat, client_of, is_word_full};
+
+use frame_ports::NUMBER_LIMIT;
+use growing_history::{ClientSeat, KeeperSeat, Pair};
+use pair_record::PairRecord;
+use std::marker::Model;
+
+/// The number of the line's seat; client c's is c more.
+pub(crate) const LINE_SEAT: u64 = 3;
+
+/// What all threads of a pair share. Contracts see it as a `BookState` of the specs: the steps that its keeper has made, the record and
+/// the clients' ports. Between any two calls the record is the one that the steps lead to.
+///
+/// A call makes one step or none, as its clauses say, and after a refusal nothing has changed, the lent seat included; only a delivery
+/// refused [`Refusal::Full`](crate::Refusal::Full) is told by an entry.
+#[derive(Drop)]
+pub struct Book<P: Pair> {
+    pub(crate) record: PairRecord,
+    pub(crate) seat: KeeperSeat<P>,
+}
+
+impl<P: Pair> Model for Book<P> {
+    ghost use Rattle.std.specs.Prelude.{◌≤◌};
+    ghost use Rattle.growing_history.specs.LogState.{line_seat};
+    ghost use Rattle.pair_book.specs.Books.{BookState};
+    ghost use Rattle.pair_book.specs.internal.Tie.{IsTied, book_state};
+
+    ghost Value = { BookState };
+
+    ghost view = { λ b. book_state b.seat b.record };
+
+    ghost invariant = { λ b. IsTied P.start b.seat.steps b.record.protocol b.record.ports × (line_seat ≤ b.seat.enrolled) };
+}
+
+impl<P: Pair> Book<P> {
+    /// The length of the history.
+    pub fn entries(&self) -> u64
+        ensures length { result ≡ length self.now.protocol.journal.history }
+        // What is true of every book.
+        ensures history { self.now.protocol.journal.history ≡ history_of P.start self.now.steps }
+        ensures legal { Legal P.start self.now.steps }
+        ensures clients { length self.now.ports.boxes ≡ length P.start.boxes }
+    {
+        self.seat.count();
+        self.record.history().len()
+    }
+
+    /// Whether the word, which counts the steps, can count no more.
+    pub(crate) fn is_word_full(&self) -> bool
+        ensures { result ≡ is_word_full self.now }
+    {
+        self.seat.count() >= NUMBER_LIMIT
+    }
+
+    /// The number of the client whose seat this is.
+    pub(crate) fn client_number(&self, seat: &ClientSeat<P>) -> u64
+        requires { IsClientSeat P.start seat.now.number }
+        ensures number { result ≡ client_of seat.now.number }
+        ensures client { IsClient self.now.ports result }
+    {
+        self.seat.count();
+        seat.number() - LINE_SEAT
+    }
+}

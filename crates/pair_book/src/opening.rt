@@ -1,0 +1,114 @@
+//! A book and its members, at the start.
+ghost use Rattle.std.specs.Prelude.{◌≡◌, ◌+◌, ◌≤◌, ◌↔◌, [], IfOk, IfSome, OnSome, IfNone, IsNone, length};
+ghost use Rattle.growing_history.specs.LogState.{first_runner, first_backup, line_seat, client_seat};
+ghost use Rattle.frame_ports.specs.Limits.{max_clients};
+ghost use Rattle.pair_book.specs.Books.{start_book};
+ghost use Rattle.pair_book.specs.Calls.{IsClientSeat};
+ghost use Rattle.pair_book.specs.Opening.{IsBoot};
+
+use crate::book::{Book, LINE_SEAT};
+use growing_history::{BackupSeat, ClientSeat, Clock, LineSeat, Opened, Pair, RunnerSeat};
+use pair_record::PairRecord;
+use std::alloc::{AllocError, Global};
+use std::marker::Model;
+
+/// A book that has no name yet, with all the memory that it takes to begin. Contracts see the word, and how many clients there are.
+#[derive(Drop)]
+pub struct UnnamedBook {
+    record: PairRecord,
+    word: Opened,
+    clients: u64,
+}
+
+impl Model for UnnamedBook {
+    ghost use Rattle.std.specs.Prelude.{◌≡◌, ◌≤◌};
+    ghost use Rattle.pair_record.specs.Record.{start_record};
+    ghost use Rattle.frame_ports.specs.Ports.{empty_ports};
+    ghost use Rattle.frame_ports.specs.Limits.{max_clients};
+    ghost use Rattle.pair_book.specs.Opening.{Unnamed, unnamed};
+
+    ghost Value = { Unnamed };
+
+    ghost view = { λ b. unnamed b.word b.clients };
+
+    ghost invariant = { λ b. (b.record.protocol ≡ start_record)
+        × (b.record.ports ≡ empty_ports b.clients)
+        × (1 ≤ b.clients)
+        × (b.clients ≤ max_clients) };
+}
+
+/// A book, the word that counts its keeper's steps, and the seats of the first runner, number 1, of the first backup, 2, and of the line,
+/// 3. The clients' are given out by [`Book::next_client`].
+#[derive(Drop)]
+pub struct Members<P: Pair> {
+    pub clock: Clock<P>,
+    pub book: Book<P>,
+    pub runner: RunnerSeat<P>,
+    pub backup: BackupSeat<P>,
+    pub line: LineSeat<P>,
+}
+
+impl UnnamedBook {
+    /// A book of so many clients. This alone takes memory.
+    ///
+    /// # Errors
+    ///
+    /// [`AllocError`] if that memory can't be had.
+    pub fn new(alloc: Global, clients: u64) -> Result<UnnamedBook, AllocError>
+        requires some { 1 ≤ clients }
+        requires few { clients ≤ max_clients }
+        ensures { IfOk result (λ b. b.clients ≡ clients) }
+    {
+        let Ok(record) = PairRecord::new(alloc, clients) else {
+            return Err(AllocError);
+        };
+        let word = Opened::new(alloc)?;
+        Ok(UnnamedBook {
+            record,
+            word,
+            clients,
+        })
+    }
+
+    /// Names the pair, whose history starts at the boot guest's state, and gives out the seats. This can't fail.
+    pub fn named<P: Pair>(self) -> Members<P>
+        requires word { self.word ≡ P.word }
+        requires start { IsBoot P.start self.clients }
+        ensures book { result.book ≡ start_book self.clients line_seat }
+        ensures runner { result.runner ≡ record { number = first_runner; steps = [] } }
+        ensures backup { result.backup ≡ record { number = first_backup; steps = [] } }
+        ensures line { result.line ≡ record { number = line_seat; steps = [] } }
+    {
+        let (clock, mut keeper) = self.word.named::<P>();
+        let runner = keeper.enroll(&clock);
+        let backup = keeper.enroll(&clock);
+        let line = keeper.enroll(&clock);
+        Members {
+            book: Book {
+                record: self.record,
+                seat: keeper,
+            },
+            clock,
+            runner,
+            backup,
+            line,
+        }
+    }
+}
+
+impl<P: Pair> Book<P> {
+    /// Gives out the seat of the next client that has none yet, client 1 first; `None` once each client has one.
+    pub fn next_client(&mut self, clock: &Clock<P>) -> Option<ClientSeat<P>>
+        ensures seat { IfSome result (λ m. m ≡ record { number = self.old.enrolled + 1; steps = self.old.steps }) }
+        ensures client { IfSome result (λ m. IsClientSeat P.start m.number) }
+        ensures given { OnSome result (self.new ≡ record self.old { enrolled = self.old.enrolled + 1 }) }
+        ensures all { IsNone result ↔ (client_seat (length self.old.ports.boxes) ≤ self.old.enrolled) }
+        ensures none { IfNone result (self.new ≡ self.old) }
+    {
+        let client = self.seat.enrolled() - LINE_SEAT + 1;
+        if client > self.record.clients() {
+            return None;
+        }
+        Some(self.seat.enroll(clock))
+    }
+}
