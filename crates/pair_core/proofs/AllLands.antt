@@ -8,17 +8,17 @@ use Rattle.pair_history.specs.{Entries.{Frame, Entry, Arrive}, Landings.landings
 use Rattle.pair_record.specs.{declared.window.Window.Window, Modes.is_alone}
 use Rattle.pair_record.specs.Journal.{joined, all_committed, with_history, with_running, with_moves}
 use Rattle.pair_record.specs.Protocol.{all_held, admit_done}
-use Rattle.pair_record.specs.Record.{IsRecord, IsLone, ports_after_all, ports_after_admit}
-use Rattle.pair_record.proofs.{LoneAccords.{all_landed_accords, landed_state, landed_is}, ModeLaws.clash}
-use Rattle.pair_core.specs.internal.Invariant.{AreNodes, Holds}
+use Rattle.pair_record.specs.Record.{IsRecord, ports_after_all, ports_after_admit}
+use Rattle.pair_record.proofs.{AccordLaws.sent_is, LoneAccords.{all_landed_accords, landed_state, landed_is}, ModeLaws.clash}
+use Rattle.pair_core.specs.internal.Invariant.{AreNodes, Holds, KeepsNothing, Stands}
 use Rattle.pair_core.specs.{Nodes.{Node, Nodes, HasShape, with_arrival}, Pair.Pair}
-use Rattle.pair_core.proofs.{Consistent.{outbox_is, alone_is}, Events.admit_holds}
+use Rattle.pair_core.proofs.{Consistent.{alone_is, keeps_nothing}, Events.{admit_stands, two_hold}}
 
 -- what leaves the gate and the outbox
 abbrev pub held : Pair → List (ℕ × Frame)
 held w = all_held w.ports.boxes w.nodes.live.outbox w.protocol
 
-module _ (w : Pair) (h : Holds w) (mode : Mode) (lone : is_alone mode ≡ true) (window : Window) (x : Nodes)
+module _ (w : Pair) (h : Stands w) (mode : Mode) (lone : is_alone mode ≡ true) (window : Window) (x : Nodes)
     (live : x.live ≡ record w.nodes.live { outbox = [] }) (shape : x.image.shape ≡ w.nodes.image.shape) where
   -- the pair once all that was kept stands in the history, and all that was held has landed
   abbrev pub all_landed : Pair
@@ -37,25 +37,26 @@ module _ (w : Pair) (h : Holds w) (mode : Mode) (lone : is_alone mode ≡ true) 
   all_landed_holds =
       let r = w.protocol in
       let outbox = w.nodes.live.outbox in
-      let sent = outbox_is w h in
-      let u = landed_state w.start r w.ports h.accords outbox sent in
-      let guest : x.live.guest ≡ u.guest = ap (λ (n : Node). n.guest) live ∙ h.nodes.live in
+      let sent = sent_is w.start r w.ports h.0 ∙ sym h.1.outbox in
+      let u = landed_state w.start r w.ports h.0 outbox sent in
+      let guest : x.live.guest ≡ u.guest = ap (λ (n : Node). n.guest) live ∙ h.1.live in
       let nodes : AreNodes (is_alone mode) r.generation window.to_commit u.guest [] [] x =
       record {
-        first_generation = h.nodes.first_generation;
-        last_generation = h.nodes.last_generation;
+        first_generation = h.1.first_generation;
+        last_generation = h.1.last_generation;
         backed = λ e. absurd (clash (is_alone mode) lone e);
         live = guest;
         outbox = ap (λ (n : Node). n.outbox) live;
-        shape = rw live (subst (λ t. HasShape t w.nodes.live.guest) (sym shape) h.nodes.shape);
+        shape = rw live (subst (λ t. HasShape t w.nodes.live.guest) (sym shape) h.1.shape);
       } in
       record {
-        accords = all_landed_accords w.start r w.ports h.accords outbox sent mode window;
-        nodes = rw (landed_is w.start r w.ports h.accords outbox sent) nodes;
+        accords = all_landed_accords w.start r w.ports h.0 outbox sent mode window;
+        nodes = rw (landed_is w.start r w.ports h.0 outbox sent) nodes;
+        still = λ e. refl;
       }
 
 -- WHAT THE GUEST DOES at a node that is alone goes to the history at once
-module _ (w : Pair) (k : IsLone w.protocol) (lone : is_alone w.protocol.mode ≡ true) (es : List Entry) (live : Node)
+module _ (w : Pair) (k : KeepsNothing w.protocol) (lone : is_alone w.protocol.mode ≡ true) (es : List Entry) (live : Node)
     (inboxes : List (List (ℕ × Frame))) where
   -- as if it were kept, and at once
   abbrev pub if_kept : Pair
@@ -75,7 +76,7 @@ module _ (w : Pair) (k : IsLone w.protocol) (lone : is_alone w.protocol.mode ≡
     nodes = record w.nodes { live = record live { outbox = [] } };
   }
 
-  pub at_once_holds : Holds if_kept → Holds at_once
+  pub at_once_holds : Stands if_kept → Holds at_once
   at_once_holds h =
       let j = w.protocol.journal in
       let b = w.ports.boxes in
@@ -105,14 +106,14 @@ admitted_holds w h k c n f low high first = by_mode (is_alone w.protocol.mode) r
       ports = ports_after_admit w.ports c;
       nodes = with_arrival w.nodes f;
     })
-    by_mode false e = admit_holds w h c n f low high first
+    by_mode false e = two_hold _ e (admit_stands w h c n f low high first)
     by_mode true e =
         let b = w.ports.boxes in
-        let lone = k.alone e in
+        let lone = keeps_nothing w h k e in
         let inboxes = (ports_after_admit w.ports c).inboxes in
         let live = (with_arrival w.nodes f).live in
         let none : w.nodes.live.outbox ≡ [] = (alone_is w h lone).outbox in
-        let landed = at_once_holds w lone e (Arrive n ∷ []) live inboxes (admit_holds w h c n f low high first) in
+        let landed = at_once_holds w lone e (Arrive n ∷ []) live inboxes (admit_stands w h c n f low high first) in
         subst Holds
         (λ i. record w {
           protocol = record w.protocol {

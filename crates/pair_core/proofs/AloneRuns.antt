@@ -6,13 +6,13 @@ use Rattle.frame_ports.specs.{Addresses.targets_of, Lands.lands, Limits.number_l
 use Rattle.pair_history.specs.{Entries.{Frame, Ran}, HistoryState.HistoryState, Landings.landings}
 use Rattle.pair_record.specs.{declared.event.Event.TheVariants.Step, declared.event.Reply.Reply, Limits.lone_step_entries}
 use Rattle.pair_record.specs.{Journal.{all_entries, with_history}, Modes.is_alone}
-use Rattle.pair_core.specs.{internal.Invariant.Holds, Nodes.{after_run, with_sent_off}}
-use Rattle.pair_record.specs.{Protocol.{Record, Outcome, step_done, step_outcome, step_room}, Record.IsLone}
+use Rattle.pair_core.specs.{internal.Invariant.{Holds, KeepsNothing}, Nodes.{after_run, with_sent_off}}
+use Rattle.pair_record.specs.Protocol.{Record, Outcome, step_done, step_outcome, step_room}
 use Rattle.pair_core.specs.{Pair.Pair, Answering.Answers}
 use Rattle.pair_core.specs.Runs.{StepsAnswer, goes_on, steps_outcome}
 use Rattle.pair_record.proofs.ModeLaws.{alone_not_stopped}
 use Rattle.pair_core.proofs.{AllLands.at_once_holds, Consistent.{live_is, alone_is}}
-use Rattle.pair_core.proofs.StepRuns.{steps_hold, step_goes, no-steps, none-sent, no-steps-answered, more-answered, after_steps-last}
+use Rattle.pair_core.proofs.StepRuns.{steps_stand, step_goes, no-steps, none-sent, no-steps-answered, more-answered, after_steps-last}
 use Rattle.pair_core.proofs.StepRuns.{replicate-last, one-step-answered}
 use Rattle.pair_record.specs.declared.event.Reply.TheVariants as replies
 
@@ -40,7 +40,7 @@ module _ (w : Pair) where
     nodes = with_sent_off (after_run n w.nodes);
   }
 
-  module _ (h : Holds w) (k : IsLone w.protocol) (lone : is_alone w.protocol.mode ≡ true) where
+  module _ (h : Holds w) (k : KeepsNothing w.protocol) (lone : is_alone w.protocol.mode ≡ true) where
     none : w.nodes.live.outbox ≡ []
     none = (alone_is w h k).outbox
 
@@ -49,7 +49,7 @@ module _ (w : Pair) where
         let live = (after_run n w.nodes).live in
         let fs = sent_in n w.nodes.live.guest in
         let all : live.outbox ≡ fs = ap (λ (t : List Frame). t ++ fs) none in
-        rw (← all) (at_once_holds w k lone (replicate n Ran) live w.ports.inboxes (steps_hold n w h))
+        rw (← all) (at_once_holds w k lone (replicate n Ran) live w.ports.inboxes (steps_stand n w h))
 
     -- quiet steps: none of them sends a frame
     abbrev quiet : ℕ → Pair

@@ -38,6 +38,7 @@ module _ (w : Pair) (h : Holds w) (es : List Entry) (window : Window) (pending :
         accords = accords;
         nodes =
             transport (λ i. AreNodes (is_alone r.mode) r.generation (sym stays i) (same i) (sealed i) (running i) w.nodes) h.nodes;
+        still = h.still;
       }
 
 module _ (w : Pair) (h : Holds w) where

@@ -10,11 +10,11 @@ use Rattle.pair_history.specs.{Entries.{Frame, Entry, Ran, Arrive}, HistoryState
 use Rattle.pair_history.specs.internal.Moves.{Move, Steps, Arrives, entries_of, guest_along, AllCan}
 use Rattle.pair_history.proofs.Moves.{moved, at-moves, Legal-moves, AllCan-front, AllCan-back}
 use Rattle.pair_record.specs.internal.Accords.{all_moves, Accords}
-use Rattle.pair_core.specs.internal.Invariant.{first_moves, AreSealed, IsBacked, Holds}
+use Rattle.pair_core.specs.internal.Invariant.{first_moves, AreSealed, IsBacked, Holds, KeepsNothing}
 use Rattle.pair_record.specs.{Journal.{joined, first_of, kept_entries}, Modes.is_alone}
 use Rattle.pair_core.specs.Pair.{Pair, shown_state, live_state, HasBackup, ImageFollows, IsAlone, InMode, is_of_guest, IsConsistent}
 use Rattle.pair_record.specs.Protocol.{outbox_of}
-use Rattle.pair_record.specs.Record.{IsRecord, IsLone, SuitsMode}
+use Rattle.pair_record.specs.Record.{IsRecord, SuitsMode}
 use Rattle.pair_core.specs.Texts.{AreTexts}
 use Rattle.pair_record.proofs.AccordLaws.{kept_now, left_now, sealed_now, live_guest, live_waiting as waits, sent_is, all_owed, kept_is}
 use Rattle.pair_record.proofs.AccordLaws.{sealed_state}
@@ -94,15 +94,18 @@ module _ (w : Pair) (h : Holds w) where
   follows : Backed → 1 ≤ w.protocol.window.to_commit → ImageFollows w
   follows b some = let f = b.follows some in record { image = f.image; stands_at = f.stands_at }
 
-  pub alone_is : IsLone w.protocol → IsAlone w
+  pub keeps_nothing : IsRecord w.protocol → is_alone w.protocol.mode ≡ true → KeepsNothing w.protocol
+  keeps_nothing k alone = ((k.alone alone).0, h.still alone, (k.alone alone).1)
+
+  pub alone_is : KeepsNothing w.protocol → IsAlone w
   alone_is k = search (arith, rules, outbox_is)
 
   pub in_mode : IsRecord w.protocol → InMode w.protocol.mode w
-  in_mode k = by_mode w.protocol.mode h.nodes.backed k.suits k.alone
+  in_mode k = by_mode w.protocol.mode h.nodes.backed k.suits (keeps_nothing k)
     where
       by_mode : (mode : Mode) → (is_alone mode ≡ false → Backed) → SuitsMode mode w.protocol.window
-          → (is_alone mode ≡ true → IsLone w.protocol) → InMode mode w
-      by_mode Filling b s l = (has_backup (b refl), rw first_guest ((b refl).fills s.0))
+          → (is_alone mode ≡ true → KeepsNothing w.protocol) → InMode mode w
+      by_mode Filling b s l = (has_backup (b refl), rw first_guest ((b refl).fills s))
       by_mode Alone b s l = alone_is (l refl)
       by_mode other b s l = (has_backup (b refl), follows (b refl) s)
 

@@ -67,6 +67,10 @@ module _ (start : HistoryState) (r : Record) (kept : All OfGuest (kept_entries r
   sealed-stays : kept_entries (sealed_off r.journal) ≡ ahead
   sealed-stays = append-nil (joined (r.journal.sealed ++ r.journal.running ∷ [])) ∙ joined-push r.journal.sealed r.journal.running
 
+  -- an empty epoch adds nothing
+  empty-stays : joined (r.journal.sealed ++ [] ∷ []) ++ r.journal.running ≡ ahead
+  empty-stays = ap (λ t. t ++ r.journal.running) (joined-push r.journal.sealed [] ∙ append-nil (joined r.journal.sealed))
+
   runs-on : (es : List Entry) → joined r.journal.sealed ++ (r.journal.running ++ es) ≡ ahead ++ es
   runs-on es = sym (append_assoc (joined r.journal.sealed) r.journal.running es)
 
@@ -104,7 +108,7 @@ module _ (start : HistoryState) (r : Record) (kept : All OfGuest (kept_entries r
           (live_all NotOfGuest (λ n. refl) (λ c place. refl) boxes (shown_at start r).out r.journal),
       refl,
     );
-    protect = (refl, sealed-stays);
+    protect = (refl, empty-stays);
   }
     where
       step-enters : (alone : Bool) → is_alone r.mode ≡ alone

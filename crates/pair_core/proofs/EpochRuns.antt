@@ -48,7 +48,7 @@ first-at (x ∷ ess) es e = cc
 abbrev Tells : Record → Reply → List Entry → Record → Type 0
 Tells r (replies.Cut generation number) es q = q.journal.sealed ≡ r.journal.sealed ++ r.journal.running ∷ []
 Tells r (replies.Committed generation number) es q = es ≡ first_of r.journal.sealed
-Tells r (replies.Protecting generation) es q = q.journal.sealed ≡ r.journal.sealed ++ r.journal.running ∷ []
+Tells r (replies.Protecting generation) es q = q.journal.sealed ≡ r.journal.sealed ++ [] ∷ []
 Tells r other es q = Unit {0}
 
 -- where the generation stays and there is a backup after the event, each sealed epoch keeps its place
@@ -182,7 +182,7 @@ waits_once_cut generation number old new d =
     }
 
 waits_once_protected : (generation : ℕ) (old new : Pair) → Does old Protect (replies.Protecting generation) new
-    → Awaits generation 0 old.protocol.journal.running new
+    → Awaits generation 0 [] new
 waits_once_protected generation old new d =
     let told = (does old new Protect (replies.Protecting generation) d).tells in
     let sealed = (keeps old new Protect (replies.Protecting generation) d).2.tells in
@@ -193,8 +193,7 @@ waits_once_protected generation old new d =
       begun = omega arith;
       place = λ two e.
           let many = as-many new two d.consistent in
-          last-stands (next_number new.nodes) 0 old.protocol.journal.sealed new.protocol.journal.sealed old.protocol.journal.running
-          sealed (omega arith);
+          last-stands (next_number new.nodes) 0 old.protocol.journal.sealed new.protocol.journal.sealed [] sealed (omega arith);
     }
 
 pub cut_enters : (cut next late done : Pair) (generation number k : ℕ) (events : List Event) (answers : List Reply)
@@ -206,30 +205,13 @@ cut_enters cut next late done generation number k events answers c l d =
     enters generation number es k late done d
     (waits_along generation number es events answers next late l (waits_once_cut generation number cut next c))
 
--- a node that gets a new backup was alone, where nothing is kept
-
-was-alone : (mode : Mode) (to : Mode × ℕ) → row changes.Protect mode ≡ Ok to → is_alone mode ≡ true
-was-alone Alone to e = refl
-was-alone other to e = absurd (cc)
-
-none-follow : (es fs : List Entry) → es ++ fs ≡ [] → fs ≡ []
-none-follow [] fs e = e
-none-follow (x ∷ es) fs e = absurd (cc)
-
-none-ran : (old new : Pair) (generation : ℕ) → IsConsistent old → Does old Protect (replies.Protecting generation) new
-    → old.protocol.journal.running ≡ []
-none-ran old new generation k d =
-    let by_row = mode_left old.start old.protocol Protect (replies.Protecting generation) new.protocol d.answers in
-    let j = old.protocol.journal in
-    none-follow (joined j.sealed) j.running (lone old.protocol.mode old (was-alone old.protocol.mode _ by_row.1) k.mode).kept
+-- the full checkpoint's epoch is empty
 
 pub full_enters : (alone next late done : Pair) (generation k : ℕ) (events : List Event) (answers : List Reply)
     → IsConsistent alone → Does alone Protect (replies.Protecting generation) next → Leads next events answers late
     → Does late (BackupGet k) (replies.Committed generation 0) done
     → done.protocol.journal.history ≡ late.protocol.journal.history
 full_enters alone next late done generation k events answers before c l d =
-    let es = alone.protocol.journal.running in
-    let h = late.protocol.journal.history in
-    enters generation 0 es k late done d
-    (waits_along generation 0 es events answers next late l (waits_once_protected generation alone next c))
-    ∙ ap (λ (t : List Entry). h ++ t) (none-ran alone next generation before c) ∙ append-nil h
+    enters generation 0 [] k late done d
+    (waits_along generation 0 [] events answers next late l (waits_once_protected generation alone next c))
+    ∙ append-nil late.protocol.journal.history

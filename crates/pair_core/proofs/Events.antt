@@ -11,10 +11,10 @@ use Rattle.pair_history.specs.internal.Moves.{Move, Arrives, entries_of, guest_a
 use Rattle.pair_history.proofs.Moves.{guest_along-append, frames_along-append}
 use Rattle.pair_record.specs.{internal.Accords.{AreClients, all_moves}, Journal.{with_running}, Lines.Lines, Modes.{is_alone, filled}}
 use Rattle.pair_record.specs.{Protocol.{cut_done, commit_done}, Record.{IsRecord, start_record, ports_after_admit}}
-use Rattle.pair_record.proofs.AccordLaws.{kept_now, left_now, moves_accord, arrival_accords, cut_accords, mode_accords, lines_accord}
+use Rattle.pair_record.proofs.AccordLaws.{kept_now, left_now, moves_accord, arrival_accords, mode_accords, lines_accord}
 use Rattle.pair_record.proofs.AccordLaws.{some_moves, some_held, shown_after, commit_with, start_accords}
-use Rattle.pair_record.proofs.ModeLaws.{filled_alone}
-use Rattle.pair_core.specs.internal.Invariant.{AreSealed, AreNodes, Holds}
+use Rattle.pair_record.proofs.{ModeLaws.{clash, filled_alone}, LoneAccords.cut_accords}
+use Rattle.pair_core.specs.internal.Invariant.{AreSealed, AreNodes, Holds, Stands}
 use Rattle.pair_core.specs.{Pair.{Pair, shown_state}, Texts.IsText}
 use Rattle.pair_core.specs.Nodes.{Node, HasShape, machine_of, start_nodes, with_arrival, with_sealed, with_commit, first_text}
 use Rattle.pair_core.proofs.NodesLaws.{shape-arrived, base-with_arrival, first-sealed, length-sealed, backed-live, nodes-cut, nodes-start}
@@ -52,34 +52,35 @@ module _ (w : Pair) (h : Holds w) (ms : List Move) (live : Node)
         shape = shape w.nodes.image.shape h.nodes.shape;
       }
 
-  pub moves_hold : (es : List Entry) (inboxes : List (List (ℕ × Frame))) → es ≡ entries_of ms
+  pub moves_stand : (es : List Entry) (inboxes : List (List (ℕ × Frame))) → es ≡ entries_of ms
       → AllCan (left_now w.start w.protocol w.ports h.accords) ms
       → AreClients (shown_state w) (left (left_now w.start w.protocol w.ports h.accords) ms) (record w.ports { inboxes = inboxes })
-      → Holds (record w {
+      → Stands (record w {
         protocol = record w.protocol { journal = with_running w.protocol.journal es };
         ports = record w.ports { inboxes = inboxes };
         nodes = record w.nodes { live = live };
       })
-  moves_hold es inboxes es_are can clients = record {
-    accords = moves_accord w.start w.protocol w.ports h.accords ms es inboxes es_are can clients;
-    nodes = nodes_moved;
-  }
+  moves_stand es inboxes es_are can clients =
+      (moves_accord w.start w.protocol w.ports h.accords ms es inboxes es_are can clients, nodes_moved)
+
+-- in a pair that is all
+pub two_hold : (w : Pair) → is_alone w.protocol.mode ≡ false → Stands w → Holds w
+two_hold w two h = record { accords = h.0; nodes = h.1; still = λ alone. absurd (clash (is_alone w.protocol.mode) alone two) }
 
 -- Admit: the first frame of a client arrives
 
-pub admit_holds : (w : Pair) (h : Holds w) (c n : ℕ) (f : Frame) → 1 ≤ c → c ≤ length w.ports.boxes
+pub admit_stands : (w : Pair) (h : Holds w) (c n : ℕ) (f : Frame) → 1 ≤ c → c ≤ length w.ports.boxes
     → slice_get (list_of w.ports.inboxes c) 0 ≡ Some (n, f)
-    → Holds (record w {
+    → Stands (record w {
       protocol = record w.protocol { journal = with_running w.protocol.journal (entries_of (Arrives n f ∷ [])) };
       ports = ports_after_admit w.ports c;
       nodes = with_arrival w.nodes f;
     })
-admit_holds w h c n f low high first = record {
-  accords = (arrival_accords w.start w.protocol w.ports h.accords c n f low high first).1;
-  nodes =
-      nodes_moved w h (Arrives n f ∷ []) (with_arrival w.nodes f).live refl (sym (append-nil w.nodes.live.outbox))
-      (λ t k. shape-arrived f t w.nodes.live.guest k) (λ b k. base-with_arrival f w.nodes b k);
-}
+admit_stands w h c n f low high first = (
+  (arrival_accords w.start w.protocol w.ports h.accords c n f low high first).1,
+  nodes_moved w h (Arrives n f ∷ []) (with_arrival w.nodes f).live refl (sym (append-nil w.nodes.live.outbox))
+      (λ t k. shape-arrived f t w.nodes.live.guest k) (λ b k. base-with_arrival f w.nodes b k),
+)
 
 -- CUT: the running epoch is sealed
 
@@ -94,17 +95,18 @@ module _ (w : Pair) (h : Holds w) (k : IsRecord w.protocol) (text : List ℕ)
       ap (λ (m : ℕ). w.protocol.window.to_commit + m) (sym (ap length h.accords.journal.sealed_are ∙ length-map mss entries_of))
       ∙ k.sealed in
       record {
-        accords = cut_accords w.start w.protocol w.ports h.accords k w.nodes.live.outbox h.nodes.outbox;
+        accords = cut_accords w.start w.protocol w.ports h.accords w.nodes.live.outbox k h.nodes.outbox;
         nodes =
             nodes-cut (is_alone w.protocol.mode) w.protocol.generation w.protocol.window.to_commit s.guest mss
             h.accords.journal.running_moves w.nodes w.protocol.window.to_cut text h.nodes counted
             (λ e. is_text (guest_along s.guest (all_moves mss)) (h.nodes.backed e).base h.nodes.shape);
+        still = λ e. refl;
       }
 
 -- SEND, and an acknowledgement sent again: only the lines
 
 pub lines_hold : (w : Pair) → Holds w → (l : Lines) → Holds (record w { protocol = record w.protocol { lines = l } })
-lines_hold w h l = record { accords = lines_accord w.start w.protocol w.ports h.accords l; nodes = h.nodes }
+lines_hold w h l = record { accords = lines_accord w.start w.protocol w.ports h.accords l; nodes = h.nodes; still = h.still }
 
 -- FAILPRIMARY: only the mode
 
@@ -113,6 +115,7 @@ pub mode_holds : (w : Pair) → Holds w → (mode : Mode) → is_alone w.protoco
 mode_holds w h mode same = record {
   accords = mode_accords w.start w.protocol w.ports h.accords mode;
   nodes = rw (← same) h.nodes;
+  still = λ e. h.still (same ∙ e);
 }
 
 -- each checkpoint that was cut and not committed has its text
@@ -160,6 +163,7 @@ module _ (w : Pair) (h : Holds w) (k : IsRecord w.protocol) (two : is_alone w.pr
                 subst (λ (g : Guest). AreNodes (is_alone (filled r.mode)) r.generation (n + 1) g mss ran (with_commit w.nodes))
                 (ap (λ t. t.guest) (sym shown))
                 (nodes-commit (is_alone (filled r.mode)) r.generation n s.guest ms mss ran w.nodes now (same ∙ two));
+            still = λ e. h.still (sym same ∙ e);
           }
 
 -- WHERE A PAIR STARTS
@@ -177,4 +181,5 @@ pub start_holds : (shape : Shape) (image : List ℕ) (clients : ℕ) → length 
 start_holds shape image clients fits = record {
   accords = start_accords shape.pages shape.sectors image clients;
   nodes = nodes-start shape image fits;
+  still = λ e. refl;
 }

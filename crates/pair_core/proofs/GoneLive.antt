@@ -29,4 +29,5 @@ module _ (w : Pair) (h : Holds w) (two : is_alone w.protocol.mode ≡ false) (so
       record {
         accords = live_accords w.start r w.ports h.accords steps;
         nodes = rw (live_shown_is w.start r w.ports h.accords) nodes;
+        still = λ e. refl;
       }

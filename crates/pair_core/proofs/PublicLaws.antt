@@ -68,7 +68,7 @@ module _ (w : Pair) (h : Holds w) (k : IsRecord w.protocol) where
       by_mode : (alone : Bool) → is_alone w.protocol.mode ≡ alone
           → DropsAtFull (shown_state w) (at_once alone (step_entries true boxes (sent (live_state w).guest)))
       by_mode false is = tt
-      by_mode true is = step_drops w.start w.protocol w.ports h.accords (k.alone is)
+      by_mode true is = step_drops w.start w.protocol w.ports h.accords (k.alone is) (h.still is)
 
       by_arrival : (c n : ℕ) (alone : Bool) → is_alone w.protocol.mode ≡ alone → DropsNone (at_once alone (Arrive n ∷ []))
       by_arrival c n false is = tt

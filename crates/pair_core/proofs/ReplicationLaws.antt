@@ -73,7 +73,7 @@ module _ (w : Pair) where
   -- the image takes the next checkpoint to be committed next
   next-number : (mode : Mode) → is_alone mode ≡ false → InMode mode w → SuitsMode mode w.protocol.window
       → next_number w.nodes ≡ w.protocol.window.to_commit
-  next-number Filling two m s = ap number_after m.1.empty ∙ sym s.0
+  next-number Filling two m s = ap number_after m.1.empty ∙ sym s
   next-number Alone two m s = absurd (cc)
   next-number other two m s = ap number_after m.1.stands_at ∙ omega arith
 

@@ -9,7 +9,7 @@ use Rattle.pair_history.specs.{Entries.{Frame, Ran}, HistoryState.{HistoryState,
 use Rattle.pair_history.specs.internal.Moves.{Steps, entries_of, guest_along, frames_along, left, AllCan}
 use Rattle.pair_record.specs.{declared.event.Refusal.Refusal, declared.event.Refusal.TheVariants.{Stopped, CutNeeded, Exhausted}}
 use Rattle.pair_record.specs.{Journal.{all_entries, with_running, with_moves}, Limits.lone_step_entries}
-use Rattle.pair_core.specs.internal.Invariant.{Holds}
+use Rattle.pair_core.specs.internal.Invariant.{Holds, Stands}
 use Rattle.pair_record.specs.Modes.{is_stopped, is_alone}
 use Rattle.pair_core.specs.{Nodes.after_run, Pair.Pair}
 use Rattle.pair_record.specs.Protocol.{step_outcome, outbox_of, step_room, step_entries, Record, Outcome, first_refusal, or_else, refused}
@@ -17,8 +17,8 @@ use Rattle.pair_record.specs.Protocol.{shown_at, live_at, step_refusals, step_do
 use Rattle.pair_core.specs.Answering.{step_reply}
 use Rattle.pair_core.specs.Runs.{goes_on, steps_outcome, with_steps}
 use Rattle.pair_record.proofs.AccordLaws.{left_now}
-use Rattle.pair_core.proofs.{Consistent.live_is, Events.moves_hold, NodesLaws.{shape-after_steps, base-after_run}}
-use Rattle.pair_record.proofs.{JournalLaws.length-all, WindowLaws.test_below}
+use Rattle.pair_core.proofs.{Consistent.live_is, Events.{moves_stand, two_hold}, NodesLaws.{shape-after_steps, base-after_run}}
+use Rattle.pair_record.proofs.{JournalLaws.length-all, WindowLaws.test_below, EpochLaws.{entries-steps, can-steps, left-steps}}
 use Rattle.pair_core.proofs.Outcomes.{goes, step_sight}
 use Rattle.pair_record.specs.declared.event.Reply.TheVariants as replies
 
@@ -54,10 +54,6 @@ room-before (suc n) g o room = (room.0, room-before n (next g) (o ++ sent g) roo
 
 -- They are moves
 
-entries-steps : (n : ℕ) → replicate n Ran ≡ entries_of (replicate n Steps)
-entries-steps zero = refl
-entries-steps (suc n) = ap (λ t. Ran ∷ t) (entries-steps n)
-
 guest-steps : (n : ℕ) (g : Guest) → after_steps n g ≡ guest_along g (replicate n Steps)
 unfolding after_steps
 guest-steps zero g = refl
@@ -68,20 +64,12 @@ unfolding sent_in
 frames-steps zero g = refl
 frames-steps (suc n) g = ap (λ t. sent g ++ t) (frames-steps n (next g))
 
-can-steps : (n : ℕ) (ws : List Waiting) → AllCan ws (replicate n Steps)
-can-steps zero ws = tt
-can-steps (suc n) ws = (tt, can-steps n ws)
-
-left-steps : (n : ℕ) (ws : List Waiting) → left ws (replicate n Steps) ≡ ws
-left-steps zero ws = refl
-left-steps (suc n) ws = left-steps n ws
-
 -- What they leave
 
-pub steps_hold : (n : ℕ) (w : Pair) → Holds w → Holds (with_steps n w)
-steps_hold n w h =
+pub steps_stand : (n : ℕ) (w : Pair) → Holds w → Stands (with_steps n w)
+steps_stand n w h =
     let ws = left_now w.start w.protocol w.ports h.accords in
-    moves_hold w h (replicate n Steps) (after_run n w.nodes).live
+    moves_stand w h (replicate n Steps) (after_run n w.nodes).live
     (guest-steps n w.nodes.live.guest)
     (ap (λ t. w.nodes.live.outbox ++ t) (frames-steps n w.nodes.live.guest))
     (λ s k. shape-after_steps n s w.nodes.live.guest k)
@@ -89,6 +77,9 @@ steps_hold n w h =
     (replicate n Ran) w.ports.inboxes (entries-steps n)
     (can-steps n ws)
     (rw (left-steps n ws) h.accords.clients)
+
+pub steps_hold : (n : ℕ) (w : Pair) → is_alone w.protocol.mode ≡ false → Holds w → Holds (with_steps n w)
+steps_hold n w two h = two_hold (with_steps n w) two (steps_stand n w h)
 
 pub replicate-last : (n : ℕ) → replicate (suc n) Ran ≡ replicate n Ran ++ Ran ∷ []
 replicate-last zero = refl
@@ -169,7 +160,7 @@ steps_answered (suc n) w h two runs fits room =
       },
     ))
     ∙ step_kept w.ports.boxes (sent (after_steps n g)) (next (after_steps n g)).steps v.protocol two
-    ∙ step_goes v (steps_hold n w h) (runs (omega arith)) (room-last n g w.nodes.live.outbox room)
+    ∙ step_goes v (steps_hold n w two h) (runs (omega arith)) (room-last n g w.nodes.live.outbox room)
     (let one : step_room w.protocol.mode ≡ 1 = ap (λ (b : Bool). cond b lone_step_entries 1) two in omega arith)
     ∙ ap (λ (o : Outcome). goes_on w.start o.0 o.1) before
     ∙ sym (more-answered w.start w.protocol n)

@@ -8,8 +8,11 @@ pub mod RecordLaws
 pub mod LiveLaws
 pub mod ProtectLaws
 pub mod AloneLaws
+pub mod EpochLaws
 pub mod AccordLaws
+pub mod EpochAccords
 pub mod ClientAccords
 pub mod LoneAccords
+pub mod HandedAccords
 pub mod LiveAccords
 pub mod ProtectAccords

@@ -44,6 +44,9 @@ arrived-arrivals (a ∷ arrivals) = search (arith, rules, arrived-append, arrive
 arrived-epoch : (arrivals : List Arrival) (k : ℕ) → arrived_numbers (epoch_entries arrivals k) ≡ numbers_of arrivals
 arrived-epoch arrivals k = search (arith, rules, append-nil, arrived-append, arrived-arrivals, arrived-steps)
 
+pub arrived-count : (arrivals : List Arrival) (k : ℕ) → length (arrived_numbers (epoch_entries arrivals k)) ≡ length arrivals
+arrived-count arrivals k = ap length (arrived-epoch arrivals k) ∙ length-map arrivals (λ (a : Arrival). a.number)
+
 arrived-joined : (es : List RunningEpoch) → arrived_numbers (joined (map epoch_of es)) ≡ numbers_in es
 arrived-joined [] = refl
 arrived-joined (e ∷ es) = search (arith, rules, arrived-append, arrived-epoch, arrived-joined es)

@@ -11,7 +11,7 @@ use Rattle.pair_record.specs.{declared.event.Packet.Packet, declared.event.Refus
 use Rattle.pair_record.specs.{Journal.{all_entries, rest_of}, internal.Lengths.receivers, Lines.{packet_of, packets_from, AreBelow}}
 use Rattle.pair_record.specs.Protocol.{commit_done, ack_done, Record, first_refusal, cut_refusals, ack_refusals, exhausts, cut_done}
 use Rattle.pair_record.specs.{Protocol.{send_done, again_done}, Record.{IsRecord, SuitsMode}, Modes.{is_alone, is_filling, filled}}
-use Rattle.pair_record.specs.Window.{NumberedFrom, with_commit, with_acknowledged}
+use Rattle.pair_record.specs.{Protocol.seal_done, Limits.most_pending, Window.{NumberedFrom, with_commit, with_acknowledged}}
 use Rattle.pair_record.proofs.{LengthLaws.length-receivers, ModeLaws.{clash, filled_alone}, LineLaws.packets_from-numbered}
 use Rattle.pair_record.proofs.WindowLaws.{numbered_below, cut_window, commit_window, ack_window, is_below}
 
@@ -58,7 +58,7 @@ below_at g n (q ∷ ps) (suc k) o h e = below_at g n ps k o h.2 e
 -- The window that suits a mode: after a cut or an acknowledgement, after a commit, and once the primary stops
 
 suits_later : (mode : Mode) (w v : Window) → w.to_cut ≤ v.to_cut → v.to_commit ≡ w.to_commit → SuitsMode mode w → SuitsMode mode v
-suits_later Filling w v more same h = (same ∙ h.0, let some = h.1 in omega arith)
+suits_later Filling w v more same h = same ∙ h
 suits_later Alone w v more same h = tt
 suits_later other w v more same h = omega arith
 
@@ -73,6 +73,10 @@ suits_full Paired w two full h = h
 suits_full Stopped w two full h = h
 suits_full other w two full h = absurd (cc)
 
+pub filling_not_alone : (mode : Mode) → is_filling mode ≡ true → is_alone mode ≡ false
+filling_not_alone Filling e = refl
+filling_not_alone other e = absurd (cc)
+
 -- Events
 
 length-rest : (ess : List (List Entry)) → 0 < length ess → suc (length (rest_of ess)) ≡ length ess
@@ -83,8 +87,20 @@ module _ (r : Record) (h : IsRecord r) where
   pub rising : (k : ℕ) (d : Epoch) → k < length r.pending → (get_or r.pending k d).number < r.window.to_cut
   rising = numbered_below r.window.to_acknowledge r.window.to_cut r.pending h.window.numbers (let e = h.window.count in omega arith)
 
+  pub seal_record : (epoch rest : List Entry) (fs : List Frame) → is_alone r.mode ≡ false → length r.pending < 4
+      → r.window.to_cut < number_limit → IsRecord (seal_done epoch rest fs r).1
+  seal_record epoch rest fs two few last = search (arith, rules, AreBelow-more, clash, cut_window, length-append, suits_later)
+
+  -- and where no row applies
+  pub sealed_record : (epoch rest : List Entry) (fs : List Frame) → is_alone r.mode ≡ false → first_refusal (cut_refusals r) ≡ None
+      → IsRecord (seal_done epoch rest fs r).1
+  sealed_record epoch rest fs two free =
+      let row = passed _ _ _ free in
+      let next = passed _ _ _ row.1 in
+      seal_record epoch rest fs two (is_below most_pending (length r.pending) row.0) (is_below number_limit r.window.to_cut next.0)
+
   pub cut_record : (fs : List Frame) → is_alone r.mode ≡ false → first_refusal (cut_refusals r) ≡ None → IsRecord (cut_done fs r).1
-  cut_record fs two free = search (arith, rules, AreBelow-more, clash, cut_window, is_below, length-append, passed, suits_later)
+  cut_record fs = sealed_record r.journal.running [] fs
 
   pub sent_are : packets_from r.generation r.window.to_acknowledge (r.window.to_cut - r.window.to_acknowledge)
       ≡ map (packet_of r.generation) r.pending
@@ -122,7 +138,7 @@ module _ (r : Record) (h : IsRecord r) where
     forward = h.forward;
     back = h.back;
     sealed = h.sealed;
-    alone = λ e. ((h.alone e).0, (h.alone e).1, ap (after_number n) (h.alone e).2);
+    alone = λ e. ((h.alone e).0, ap (after_number n) (h.alone e).1);
     suits = suits_later r.mode r.window (with_acknowledged n r.window) (omega arith) refl h.suits;
   }
 

@@ -8,6 +8,7 @@ pub mod GuestActs
 pub mod BackupActs
 pub mod ClientActs
 pub mod FailureActs
+pub mod EpochActs
 pub mod Protocol
 pub mod Record
 pub mod Limits

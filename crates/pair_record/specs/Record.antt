@@ -54,19 +54,19 @@ ports_after_lose_in p c place = record p { inboxes = with_list p.inboxes c (remo
 abbrev pub ports_after_lose_out : PortsState → ℕ → ℕ → PortsState
 ports_after_lose_out p c place = record p { boxes = with_list p.boxes c (remove (list_of p.boxes c) place) }
 
--- Where a node is alone nothing is kept, and nothing is pending.
+-- Where a node is alone nothing is sealed or pending. What was handed out to its guest may still run.
 abbrev pub IsLone : Record → Type 0
-IsLone r = (r.journal.sealed ≡ []) × (r.journal.running ≡ []) × (r.pending ≡ [])
+IsLone r = (r.journal.sealed ≡ []) × (r.pending ≡ [])
 
--- A new backup takes the full checkpoint, number 0, next, and that one was cut; a backup that could go on has taken one.
+-- A new backup takes the full checkpoint, number 0, next, which may still have to be sealed; a backup that could go on has taken one.
 abbrev pub SuitsMode : Mode → Window → Type 0
-SuitsMode Filling w = (w.to_commit ≡ 0) × (1 ≤ w.to_cut)
+SuitsMode Filling w = w.to_commit ≡ 0
 SuitsMode Paired w = 1 ≤ w.to_commit
 SuitsMode Stopped w = 1 ≤ w.to_commit
 SuitsMode Alone w = Unit {0}
 
 -- The window is that of what is pending; every packet of this generation names a checkpoint that was cut, every acknowledgement of
--- it one that was committed; each checkpoint that was cut and not committed has its epoch; and where a node is alone nothing is kept
+-- it one that was committed; each checkpoint that was cut and not committed has its epoch; and where a node is alone nothing is sealed
 -- or pending.
 pub record IsRecord (r : Record) : Type 0 where
   pub window : IsWindow r.window r.pending

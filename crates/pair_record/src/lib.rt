@@ -14,6 +14,8 @@ mod limits;
 mod lines;
 mod modes;
 mod record;
+#[cfg(test)]
+mod tests;
 mod window;
 
 pub use event::{Event, Packet, Refusal, Reply, Show};

@@ -14,6 +14,7 @@ ghost use Rattle.pair_record.specs.Record.{IsRecord, IsAsBefore, start_record, p
 
 mod alone;
 mod clients;
+mod epochs;
 mod live;
 mod protect;
 
@@ -166,7 +167,7 @@ impl PairRecord {
     }
 
     /// Whether so many more entries would be too many for the history.
-    fn is_exhausted_by(&self, more: u64) -> bool
+    pub fn is_exhausted_by(&self, more: u64) -> bool
         ensures { result ≡ exhausts self.now.protocol more }
     {
         more > self.journal.entries_left()

@@ -44,7 +44,7 @@ invariant_of-self-2 c =
     ∙ ap (λ (fs : List Frame). (fail_backup_done b fs w.protocol).1) c.outbox-2.ensures.value in
     let ports = c.in_ok-reply.ensures.ports ∙ ap (λ (fs : List Frame). ports_after_all w.ports fs w.protocol) c.outbox-2.ensures.value in
     subst Holds (λ i. record w { protocol = sym protocol i; ports = sym ports i; nodes = sym c.leave_alone.ensures i })
-    (all_landed_holds w c.self.invariant Alone refl (none_pending w.protocol.window.to_cut) (left_alone w.nodes) refl refl)
+    (all_landed_holds w (c.self.invariant.accords, c.self.invariant.nodes) Alone refl (none_pending w.protocol.window.to_cut) (left_alone w.nodes) refl refl)
 
 pub returns-clause-outcome : goal.returns-clause-outcome
 returns-clause-outcome c =

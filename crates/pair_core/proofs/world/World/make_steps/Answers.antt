@@ -11,7 +11,7 @@ invariant_of-self c =
       ports = sym c.run.ensures.ports i;
       nodes = sym c.run-made.ensures.made i;
     })
-    (steps_hold c.run-made.result w c.self.invariant)
+    (steps_hold c.run-made.result w (rw (← c.self.view_is) at c.requires) c.self.invariant)
 
 pub returns-clause-answered : goal.returns-clause-answered
 returns-clause-answered c = search (arith, rules, steps_answered)
