@@ -4,18 +4,18 @@ use Rattle.guest_machine.specs.Guest.{Guest}
 use Rattle.epoch_snapshot.specs.{Bases.IsBase, Images.image_of}
 use Rattle.frame_ports.specs.Limits.{number_limit}
 use Rattle.pair_history.specs.HistoryState.{HistoryState}
-use Rattle.pair_record.specs.{Record.IsLone, Protocol.protect_done}
+use Rattle.pair_record.specs.{Record.IsLone, Protocol.protect_done, Window.filling_window}
 use Rattle.pair_record.proofs.ProtectAccords.{lives, protect_accords}
 use Rattle.pair_core.specs.{internal.Invariant.Holds, Nodes.{HasShape, machine_of, just_settled, with_protected}}
 use Rattle.pair_core.specs.{Pair.{Pair, shown_state}, Texts.IsText}
-use Rattle.pair_core.proofs.{Consistent.live_is, NodesLaws.{base-settled, reads-as}}
+use Rattle.pair_core.proofs.{Consistent.live_is, LineLaws.named-next, NodesLaws.{base-settled, reads-as}}
 
-module _ (w : Pair) (h : Holds w) (k : IsLone w.protocol) (last : w.protocol.generation + 1 < number_limit) (text : List ℕ)
+module _ (w : Pair) (h : Holds w) (k : IsLone w.protocol.state) (last : w.protocol.state.generation + 1 < number_limit) (text : List ℕ)
     (is_text : (before : Guest) → HasShape w.nodes.image.shape w.nodes.live.guest
-    → IsText w.nodes.image.shape (w.protocol.generation + 1) 0 before w.nodes.live.guest text) where
-  pub protect_holds : Holds (record w { protocol = (protect_done w.protocol).1; nodes = with_protected w.nodes text })
+    → IsText w.nodes.image.shape (w.protocol.state.generation + 1) 0 before w.nodes.live.guest text) where
+  pub protect_holds : Holds (record w { protocol = record w.protocol { state = (protect_done w.protocol.state).1 }; nodes = with_protected w.nodes text })
   protect_holds =
-      let r = w.protocol in
+      let r = w.protocol.state in
       let s = shown_state w in
       let live = w.nodes.live.guest in
       let shape = w.nodes.image.shape in
@@ -24,6 +24,7 @@ module _ (w : Pair) (h : Holds w) (k : IsLone w.protocol) (last : w.protocol.gen
       let is : (before : Guest) → IsText shape (r.generation + 1) 0 before live text = λ before. is_text before h.nodes.shape in
       record {
         accords = protect_accords w.start r w.ports h.accords k;
+        lines = named-next r w.protocol.lines h.lines filling_window;
         nodes = record {
           first_generation = omega arith;
           last_generation = last;

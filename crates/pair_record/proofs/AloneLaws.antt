@@ -6,7 +6,7 @@ use Rattle.output_gate.specs.Epochs.{Epoch, epoch, frames_of, frames_to}
 use Rattle.pair_history.specs.Entries.{Frame}
 use Rattle.pair_record.specs.{internal.Lengths.receivers, Protocol.{Record, all_held, fail_backup_done}, Record.IsRecord}
 use Rattle.pair_record.specs.Window.{NumberedFrom}
-use Rattle.pair_record.proofs.{LengthLaws.length-receivers, RecordLaws.AreBelow-more, WindowLaws.{NumberedFrom-push, test_from}}
+use Rattle.pair_record.proofs.{LengthLaws.length-receivers, WindowLaws.{NumberedFrom-push, test_from}}
 
 -- the frames of all epochs, where none has a number above n
 pub frames_to-all : (n m : ℕ) (es : List Epoch) → NumberedFrom m es → m + length es ≤ n + 1 → frames_to n es ≡ frames_of es
@@ -50,7 +50,7 @@ module _ (r : Record) (h : IsRecord r) where
       ∙ frames_of-push r.pending e
 
   pub fail_backup_record : (boxes : List (List Frame)) (outbox : List Frame) → IsRecord (fail_backup_done boxes outbox r).1
-  fail_backup_record boxes outbox = search (arith, rules, AreBelow-more)
+  fail_backup_record boxes outbox = search (arith, rules)
 
 -- 64 frames go to 64 times as many as there are clients, at most
 pub few_receivers : (n : ℕ) (fs : List Frame) → length fs ≤ 64 → length (receivers n fs) ≤ 64 * n

@@ -2,8 +2,7 @@
 -- epoch.
 use Rattle.std.proofs.{Common.{rules, ◌≡◌, arith, true}, lemmas.List.length-append}
 use Rattle.pair_record.specs.{Modes.is_alone, Protocol.{Record, protect_done}, Record.IsRecord}
-use Rattle.pair_record.proofs.LiveLaws.{AreBelow-next}
 
 module _ (r : Record) (h : IsRecord r) (alone : is_alone r.mode ≡ true) where
   pub protect_record : IsRecord (protect_done r).1
-  protect_record = search (arith, rules, AreBelow-next, length-append)
+  protect_record = search (arith, rules, length-append)

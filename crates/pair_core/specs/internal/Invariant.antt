@@ -1,5 +1,5 @@
 -- What is kept true from event to event, so that what contracts say of a pair follows: the record accords with the history, and beside it
--- what the machines, the image and the texts are. A part that an event doesn't touch passes on by name.
+-- what packets name, and what the machines, the image and the texts are. A part that an event doesn't touch passes on by name.
 use Rattle.std.specs.Prelude.{◌≡◌, ℕ, ◌+◌, ◌-◌, ◌<◌, ◌≤◌, Bool, false, List, [], ◌∷◌, ◌++◌, Some, None}
 use Rattle.guest_machine.specs.declared.shapes.Shape.{Shape}
 use Rattle.guest_machine.specs.Guest.{Guest}
@@ -8,6 +8,7 @@ use Rattle.frame_ports.specs.Limits.{number_limit}
 use Rattle.pair_history.specs.internal.Moves.{Move, guest_along, frames_along}
 use Rattle.pair_record.specs.internal.Accords.{Accords, all_moves}
 use Rattle.pair_record.specs.Modes.{is_alone}
+use Rattle.pair_core.specs.Lines.{AreNamed}
 use Rattle.pair_core.specs.Nodes.{Nodes, HasShape, Fills, machine_of}
 use Rattle.pair_core.specs.Pair.{Pair, shown_state}
 use Rattle.pair_core.specs.Texts.{IsText}
@@ -52,6 +53,7 @@ pub record AreNodes (alone : Bool) (generation n : ℕ) (g : Guest) (sealed_move
   pub shape : HasShape x.image.shape x.live.guest
 
 pub record Holds (w : Pair) : Type 0 where
-  pub accords : Accords w.start w.protocol w.ports
-  pub nodes : AreNodes (is_alone w.protocol.mode) w.protocol.generation w.protocol.window.to_commit (shown_state w).guest
+  pub accords : Accords w.start w.protocol.state w.ports
+  pub lines : AreNamed w.protocol.state.generation w.protocol.state.window w.protocol.lines
+  pub nodes : AreNodes (is_alone w.protocol.state.mode) w.protocol.state.generation w.protocol.state.window.to_commit (shown_state w).guest
       accords.journal.sealed_moves accords.journal.running_moves w.nodes
