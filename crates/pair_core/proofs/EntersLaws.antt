@@ -12,6 +12,7 @@ use Rattle.pair_record.specs.Protocol.{Record, live_at, shown_at, outbox_of, ste
 use Rattle.pair_core.specs.Pair.{is_of_guest}
 use Rattle.pair_core.specs.Service.{Enters, guest_entries}
 use Rattle.pair_record.proofs.JournalLaws.{joined-push}
+use Rattle.pair_core.specs.Lines.{Lines}
 use Rattle.pair_core.proofs.{Ends.{Ends, at_once}, Tells.{OfGuest, first_of-guest, live_all}}
 use Rattle.pair_record.specs.declared.event.Reply.TheVariants as replies
 
@@ -74,8 +75,8 @@ module _ (start : HistoryState) (r : Record) (kept : All OfGuest (kept_entries r
   runs-on : (es : List Entry) → joined r.journal.sealed ++ (r.journal.running ++ es) ≡ ahead ++ es
   runs-on es = sym (append_assoc (joined r.journal.sealed) r.journal.running es)
 
-  pub enters_all : Ends start r (λ event es o. Enters event o.0 ahead (guest_entries es) (kept_entries o.1.journal))
-  enters_all = record {
+  pub enters_all : (l : Lines) → Ends start r l (λ event es o. Enters event o.0 ahead (guest_entries es) (kept_entries o.1.journal))
+  enters_all l = record {
     refuses = λ event why plain. refused-enters event why;
     step = step-enters;
     cut = (refl, sealed-stays);

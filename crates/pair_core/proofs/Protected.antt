@@ -10,7 +10,7 @@ use Rattle.pair_record.specs.Protocol.{protect_done}
 use Rattle.pair_record.proofs.ProtectAccords.{lives, protect_accords}
 use Rattle.pair_core.specs.{internal.Invariant.{AreNodes, Holds, KeepsNothing}, Nodes.{HasShape, machine_of, just_settled, with_protected}}
 use Rattle.pair_core.specs.{Pair.{Pair, shown_state}, Texts.IsText}
-use Rattle.pair_core.proofs.{Consistent.live_is, NodesLaws.{base-settled, reads-as}}
+use Rattle.pair_core.proofs.{Consistent.live_is, LineLaws.named-next, NodesLaws.{base-settled, reads-as}}
 
 -- no entries are no moves
 no-moves : (ms : List Move) → entries_of ms ≡ [] → ms ≡ []
@@ -21,12 +21,12 @@ no-epochs : (mss : List (List Move)) → map entries_of mss ≡ [] → mss ≡ [
 no-epochs [] e = refl
 no-epochs (ms ∷ mss) e = absurd (cc)
 
-module _ (w : Pair) (h : Holds w) (k : KeepsNothing w.protocol) (last : w.protocol.generation + 1 < number_limit) (text : List ℕ)
+module _ (w : Pair) (h : Holds w) (k : KeepsNothing w.protocol.state) (last : w.protocol.state.generation + 1 < number_limit) (text : List ℕ)
     (is_text : (before : Guest) → HasShape w.nodes.image.shape w.nodes.live.guest
-    → IsText w.nodes.image.shape (w.protocol.generation + 1) 0 before w.nodes.live.guest text) where
-  pub protect_holds : Holds (record w { protocol = (protect_done w.protocol).1; nodes = with_protected w.nodes text })
+    → IsText w.nodes.image.shape (w.protocol.state.generation + 1) 0 before w.nodes.live.guest text) where
+  pub protect_holds : Holds (record w { protocol = record w.protocol { state = (protect_done w.protocol.state).1 }; nodes = with_protected w.nodes text })
   protect_holds =
-      let r = w.protocol in
+      let r = w.protocol.state in
       let s = shown_state w in
       let live = w.nodes.live.guest in
       let shape = w.nodes.image.shape in
@@ -56,13 +56,14 @@ module _ (w : Pair) (h : Holds w) (k : KeepsNothing w.protocol) (last : w.protoc
         outbox = refl;
         shape = h.nodes.shape;
       } in
-      let sealed : [] ≡ h.accords.journal.sealed_moves = sym (no-epochs h.accords.journal.sealed_moves (sym h.accords.journal.sealed_are ∙
-      k.0)) in
-      let running : [] ≡ h.accords.journal.running_moves = sym (no-moves h.accords.journal.running_moves (sym
-      h.accords.journal.running_are ∙ k.1)) in
+      let j = h.accords.journal in
+      let sealed : [] ≡ j.sealed_moves = sym (no-epochs j.sealed_moves (sym j.sealed_are ∙ k.0)) in
+      let running : [] ≡ j.running_moves = sym (no-moves j.running_moves (sym j.running_are ∙ k.1)) in
       record {
         accords = protect_accords w.start r w.ports h.accords (k.0, k.2);
+        lines = named-next r w.protocol.lines h.lines (protect_done r).1.window;
         nodes =
-            transport (λ i. AreNodes false (r.generation + 1) 0 s.guest (sealed i ++ [] ∷ []) (running i) (with_protected w.nodes text)) nodes;
+            transport (λ i. AreNodes false (r.generation + 1) 0 s.guest (sealed i ++ [] ∷ []) (running i) (with_protected w.nodes text))
+            nodes;
         still = λ e. absurd (cc);
       }

@@ -68,7 +68,7 @@ frames-steps (suc n) g = ap (λ t. sent g ++ t) (frames-steps n (next g))
 
 pub steps_stand : (n : ℕ) (w : Pair) → Holds w → Stands (with_steps n w)
 steps_stand n w h =
-    let ws = left_now w.start w.protocol w.ports h.accords in
+    let ws = left_now w.start w.protocol.state w.ports h.accords in
     moves_stand w h (replicate n Steps) (after_run n w.nodes).live
     (guest-steps n w.nodes.live.guest)
     (ap (λ t. w.nodes.live.outbox ++ t) (frames-steps n w.nodes.live.guest))
@@ -78,7 +78,7 @@ steps_stand n w h =
     (can-steps n ws)
     (rw (left-steps n ws) h.accords.clients)
 
-pub steps_hold : (n : ℕ) (w : Pair) → is_alone w.protocol.mode ≡ false → Holds w → Holds (with_steps n w)
+pub steps_hold : (n : ℕ) (w : Pair) → is_alone w.protocol.state.mode ≡ false → Holds w → Holds (with_steps n w)
 steps_hold n w two h = two_hold (with_steps n w) two (steps_stand n w h)
 
 pub replicate-last : (n : ℕ) → replicate (suc n) Ran ≡ replicate n Ran ++ Ran ∷ []
@@ -89,7 +89,7 @@ pub with_no_steps : (w : Pair) → with_steps 0 w ≡ w
 with_no_steps w = search (arith, rules, append-nil, no-steps, none-marked, none-sent)
 
 -- each step is one entry more
-pub steps-counted : (n : ℕ) (w : Pair) → length (all_entries (with_steps n w).protocol.journal) ≡ length (all_entries w.protocol.journal)
+pub steps-counted : (n : ℕ) (w : Pair) → length (all_entries (with_steps n w).protocol.state.journal) ≡ length (all_entries w.protocol.state.journal)
     + n
 steps-counted n w = search (arith, rules, length-all, length-append, length-replicate)
 
@@ -121,13 +121,13 @@ none_applies r outbox runs few room =
     no_lt : (a b : ℕ) → b ≤ a → nat_lt a b ≡ false
     no_lt a b l = grind (arith, nat_tests)
 
-pub step_goes : (w : Pair) → Holds w → is_stopped w.protocol.mode ≡ false → length w.nodes.live.outbox ≤ 192
-    → length (all_entries w.protocol.journal) + step_room w.protocol.mode < number_limit
-    → step_done w.ports.boxes (sent w.nodes.live.guest) (next w.nodes.live.guest).steps w.protocol ≡ step_outcome w.start w.protocol
+pub step_goes : (w : Pair) → Holds w → is_stopped w.protocol.state.mode ≡ false → length w.nodes.live.outbox ≤ 192
+    → length (all_entries w.protocol.state.journal) + step_room w.protocol.state.mode < number_limit
+    → step_done w.ports.boxes (sent w.nodes.live.guest) (next w.nodes.live.guest).steps w.protocol.state ≡ step_outcome w.start w.protocol.state
 step_goes w h runs few room =
     let g = w.nodes.live.guest in
-    goes w.protocol (step_refusals w.nodes.live.outbox w.protocol) (step_done w.ports.boxes (sent g) (next g).steps w.protocol) None
-    (sym (none_applies w.protocol w.nodes.live.outbox runs few room)) refl
+    goes w.protocol.state (step_refusals w.nodes.live.outbox w.protocol.state) (step_done w.ports.boxes (sent g) (next g).steps w.protocol.state) None
+    (sym (none_applies w.protocol.state w.nodes.live.outbox runs few room)) refl
     ∙ step_sight w h
 
 -- in a pair a step is kept
@@ -137,33 +137,33 @@ step_kept boxes fs steps r two =
     λ i. (replies.Steps steps, record r { journal = with_moves (sym two i) r.journal (step_entries (sym two i) boxes fs) })
 
 pub steps_answered :
-    (n : ℕ) (w : Pair) → Holds w → is_alone w.protocol.mode ≡ false → (0 < n → is_stopped w.protocol.mode ≡ false)
-    → length (all_entries w.protocol.journal) + n < number_limit
+    (n : ℕ) (w : Pair) → Holds w → is_alone w.protocol.state.mode ≡ false → (0 < n → is_stopped w.protocol.state.mode ≡ false)
+    → length (all_entries w.protocol.state.journal) + n < number_limit
     → HaveRoom n w.nodes.live.guest w.nodes.live.outbox
-    → (replies.Steps (after_steps n w.nodes.live.guest).steps, (with_steps n w).protocol) ≡ steps_outcome w.start w.protocol n
+    → (replies.Steps (after_steps n w.nodes.live.guest).steps, (with_steps n w).protocol.state) ≡ steps_outcome w.start w.protocol.state n
 steps_answered zero w h two runs fits room =
-    ap (λ (g : Guest). (replies.Steps g.steps, (with_steps 0 w).protocol)) (no-steps w.nodes.live.guest ∙ sym (live_is w h))
-    ∙ ap (λ (v : Pair). (replies.Steps (live_at w.start w.protocol).guest.steps, v.protocol)) (with_no_steps w)
-    ∙ sym (no-steps-answered w.start w.protocol)
+    ap (λ (g : Guest). (replies.Steps g.steps, (with_steps 0 w).protocol.state)) (no-steps w.nodes.live.guest ∙ sym (live_is w h))
+    ∙ ap (λ (v : Pair). (replies.Steps (live_at w.start w.protocol.state).guest.steps, v.protocol.state)) (with_no_steps w)
+    ∙ sym (no-steps-answered w.start w.protocol.state)
 steps_answered (suc n) w h two runs fits room =
     let v = with_steps n w in
     let g = w.nodes.live.guest in
-    let ran = w.protocol.journal.running in
+    let ran = w.protocol.state.journal.running in
     let e = steps-counted n w in
     let before = steps_answered n w h two (λ l. runs (omega arith)) (omega arith) (room-before n g w.nodes.live.outbox room) in
     (λ i. (
       replies.Steps (after_steps-last n g i).steps,
-      record w.protocol {
-        journal = record w.protocol.journal {
+      record w.protocol.state {
+        journal = record w.protocol.state.journal {
           running = (ap (λ t. ran ++ t) (replicate-last n) ∙ sym (append_assoc ran (replicate n Ran) (Ran ∷ []))) i;
         };
       },
     ))
-    ∙ step_kept w.ports.boxes (sent (after_steps n g)) (next (after_steps n g)).steps v.protocol two
+    ∙ step_kept w.ports.boxes (sent (after_steps n g)) (next (after_steps n g)).steps v.protocol.state two
     ∙ step_goes v (steps_hold n w two h) (runs (omega arith)) (room-last n g w.nodes.live.outbox room)
-    (let one : step_room w.protocol.mode ≡ 1 = ap (λ (b : Bool). cond b lone_step_entries 1) two in omega arith)
+    (let one : step_room w.protocol.state.mode ≡ 1 = ap (λ (b : Bool). cond b lone_step_entries 1) two in omega arith)
     ∙ ap (λ (o : Outcome). goes_on w.start o.0 o.1) before
-    ∙ sym (more-answered w.start w.protocol n)
+    ∙ sym (more-answered w.start w.protocol.state n)
 
 -- the first refusal is the answer to all steps that were to follow
 module _ (start : HistoryState) (r r' : Record) (n k : ℕ) (why : Refusal)
@@ -200,14 +200,14 @@ refused_stays start r r' why e = by_refusal (first_refusal (step_refusals (outbo
     by_refusal (Some x) e = ap (λ (o : Outcome). o.1) e
     by_refusal None e = search (arith, rules)
 
-none-made : (n : ℕ) (w : Pair) → (with_steps n w).protocol ≡ w.protocol → n ≡ 0
+none-made : (n : ℕ) (w : Pair) → (with_steps n w).protocol.state ≡ w.protocol.state → n ≡ 0
 none-made n w e =
     let c = steps-counted n w in
     let same = ap (λ (r : Record). length (all_entries r.journal)) e in
     omega arith
 
 pub refused_step :
-    (w v : Pair) (answer : Result ℕ Refusal) → (step_reply answer, v.protocol) ≡ step_outcome w.start w.protocol
+    (w v : Pair) (answer : Result ℕ Refusal) → (step_reply answer, v.protocol.state) ≡ step_outcome w.start w.protocol.state
     → (n : ℕ) → v ≡ with_steps n w → OnErr answer (v ≡ w)
 refused_step w v (Ok k) e n is = tt
 refused_step w v (Err why) e n is = search (arith, rules, none-made, refused_stays, with_no_steps)

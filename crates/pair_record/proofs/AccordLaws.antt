@@ -19,7 +19,6 @@ use Rattle.pair_history.proofs.Moves.{guest_along-append, frames_along-append, l
 use Rattle.pair_history.proofs.{Moves.{at-moves, Legal-moves, DropsAreKnown-moves, sent_along-moves}, Losses.AreRising-left}
 use Rattle.pair_record.specs.internal.Accords.{all_moves, epoch_frames, frames_by_epoch, kept_moves, AreInboxes, AreClients}
 use Rattle.pair_record.specs.internal.Accords.{Accords}
-use Rattle.pair_record.specs.Lines.{Lines}
 use Rattle.pair_record.specs.Journal.{joined, first_of, rest_of, kept_entries, with_running}
 use Rattle.pair_record.specs.Record.{IsRecord, start_record, ports_after_admit}
 use Rattle.pair_record.specs.Protocol.{Record, shown_at, live_at, outbox_of, cut_done, commit_done}
@@ -224,15 +223,11 @@ arrival_accords start r p h c n f low high first =
           }),
     )
 
--- A CHANGE OF MODE alone, or of the lines
+-- A CHANGE OF MODE alone
 
 abbrev pub mode_accords : (start : HistoryState) (r : Record) (p : PortsState) → Accords start r p → (mode : Mode)
     → Accords start (record r { mode = mode }) p
 mode_accords start r p h mode = record { journal = h.journal; frames = h.frames; clients = h.clients; owed = h.owed }
-
-abbrev pub lines_accord : (start : HistoryState) (r : Record) (p : PortsState) → Accords start r p → (l : Lines)
-    → Accords start (record r { lines = l }) p
-lines_accord start r p h l = record { journal = h.journal; frames = h.frames; clients = h.clients; owed = h.owed }
 
 -- A COMMIT: the oldest sealed epoch moves to the history
 

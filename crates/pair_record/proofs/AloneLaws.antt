@@ -6,10 +6,11 @@ use Rattle.std.proofs.{Common.{append_assoc, mul-le-mul_right}, lemmas.{Bool.Dec
 use Rattle.frame_ports.proofs.AddressLaws.{length-targets_of}
 use Rattle.output_gate.specs.Epochs.{Epoch, epoch, frames_of, frames_to}
 use Rattle.pair_history.specs.Entries.{Frame, Entry}
-use Rattle.pair_record.specs.{internal.Lengths.receivers, Protocol.{Record, all_held, failure_done, exhausts, first_refusal}, Record.IsRecord}
+use Rattle.pair_record.specs.{internal.Lengths.receivers, Protocol.{Record, all_held, failure_done}, Record.IsRecord}
+use Rattle.pair_record.specs.Protocol.{exhausts, first_refusal}
 use Rattle.pair_record.specs.{EpochActs.enter_epoch_refusals, Journal.all_entries, Window.NumberedFrom}
 use Rattle.pair_record.specs.declared.event.Refusal.TheVariants.{Exhausted}
-use Rattle.pair_record.proofs.{LengthLaws.length-receivers, RecordLaws.AreBelow-more, WindowLaws.{NumberedFrom-push, test_from}}
+use Rattle.pair_record.proofs.{LengthLaws.length-receivers, WindowLaws.{NumberedFrom-push, test_from}}
 
 -- the frames of all epochs, where none has a number above n
 pub frames_to-all : (n m : ℕ) (es : List Epoch) → NumberedFrom m es → m + length es ≤ n + 1 → frames_to n es ≡ frames_of es
@@ -54,7 +55,7 @@ module _ (r : Record) (h : IsRecord r) where
 
   pub failure_record : (epoch rest : List Entry) (boxes : List (List Frame)) (frames : List Frame)
       → IsRecord (failure_done epoch rest boxes frames r).1
-  failure_record epoch rest boxes frames = search (arith, rules, AreBelow-more)
+  failure_record epoch rest boxes frames = search (arith, rules)
 
 -- 64 frames go to 64 times as many as there are clients, at most
 pub few_receivers : (n : ℕ) (fs : List Frame) → length fs ≤ 64 → length (receivers n fs) ≤ 64 * n

@@ -1,5 +1,5 @@
 -- Laws of an epoch's beginning and of what is behind it, and of steps as moves.
-use Rattle.std.proofs.Common.{rules, arith, ◌≡◌, ℕ, zero, suc, ◌+◌, ◌≤◌, List, [], ◌∷◌, ◌++◌, length, take, drop, replicate, refl, sym, ap, ◌∙◌}
+use Rattle.std.proofs.Common.{arith, ◌≡◌, ℕ, zero, suc, ◌+◌, ◌≤◌, List, [], ◌∷◌, ◌++◌, length, take, drop, replicate, refl, sym, ap, ◌∙◌}
 use Rattle.std.proofs.{Common.append_assoc, lemmas.List.{length-append, length-replicate}}
 use Rattle.pair_history.specs.{Entries.{Entry, Ran, Arrive}, HistoryState.Waiting}
 use Rattle.pair_history.specs.internal.Moves.{Move, Steps, Arrives, entries_of, left, AllCan}

@@ -1,7 +1,6 @@
 pub mod ModeLaws
 pub mod LengthLaws
 pub mod Receivers
-pub mod LineLaws
 pub mod JournalLaws
 pub mod WindowLaws
 pub mod RecordLaws

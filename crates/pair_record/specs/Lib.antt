@@ -1,7 +1,6 @@
 pub mod internal
 pub mod Journal
 pub mod Window
-pub mod Lines
 pub mod Modes
 pub mod Tables
 pub mod GuestActs

@@ -6,7 +6,8 @@ ghost use Rattle.frame_ports.specs.Ports.{IsClient, inbox_of};
 ghost use Rattle.pair_history.specs.Failures.{arrived_numbers};
 ghost use Rattle.pair_record.specs.EpochActs.{hand_out_done, seal_epoch_done, enter_epoch_refusals, enter_epoch_done};
 ghost use Rattle.pair_record.specs.Modes.{is_alone as alone, is_filling as filling};
-ghost use Rattle.pair_record.specs.Protocol.{exhausts, first_refusal, admit_refusals, cut_refusals, protect_refusals, begin_done, full_done};
+ghost use Rattle.pair_record.specs.Protocol.{exhausts, first_refusal, admit_refusals, cut_refusals, protect_refusals};
+ghost use Rattle.pair_record.specs.Protocol.{begin_done, full_done};
 ghost use Rattle.pair_record.specs.Record.{IsAsBefore, IsLone, ports_after_admit};
 
 use super::PairRecord;

@@ -7,7 +7,7 @@ pub invariant_of-self : goal.invariant_of-self
 invariant_of-self c =
     let w = pair_of c.self.inside in
     subst Holds (λ i. record w {
-      protocol = sym c.run.ensures.protocol i;
+      protocol = record w.protocol { state = sym c.run.ensures.protocol i };
       ports = sym c.run.ensures.ports i;
       nodes = sym c.run-made.ensures.made i;
     })

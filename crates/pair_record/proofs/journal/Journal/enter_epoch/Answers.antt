@@ -3,7 +3,8 @@ use Rattle.std.proofs.lemmas.List.{length-append}
 use Rattle.std.specs.Prelude.{map}
 use Rattle.pair_record.specs.{EpochActs.{guest_epoch, behind}, Journal.{Stored, joined}, internal.Arrivals.epoch_entries}
 use Rattle.pair_record.specs.internal.JournalFields.{epoch_of, stored}
-use Rattle.pair_record.proofs.{EpochLaws.{first-is, others-are, length-parted}, JournalLaws.{length-all, length-kept}, LiveLaws.arrived-count}
+use Rattle.pair_record.proofs.{EpochLaws.{first-is, others-are, length-parted}, JournalLaws.{length-all, length-kept}}
+use Rattle.pair_record.proofs.LiveLaws.{arrived-count}
 use Rattle.pair_record.proofs.journal.Journal.enter_epoch.Goals.{After-as_slice-2}
 use Rattle.pair_record.proofs.journal.Journal.enter_epoch.Goals as goal
 

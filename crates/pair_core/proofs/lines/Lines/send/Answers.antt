@@ -1,6 +1,6 @@
 use Rattle.std.proofs.Common.{rules, arith}
-use Rattle.pair_record.proofs.LineLaws.{on_ok, packets_of-sent, keeps_all-after}
-use Rattle.pair_record.proofs.lines.Lines.send.Goals as goal
+use Rattle.pair_core.proofs.LineLaws.{on_ok, packets_of-sent, keeps_all-after}
+use Rattle.pair_core.proofs.lines.Lines.send.Goals as goal
 
 pub invariant_of-self : goal.invariant_of-self
 invariant_of-self c = search (arith, rules, keeps_all-after)

@@ -1,10 +1,10 @@
 //! The two lines between the nodes: each packet that was ever sent.
 ghost use Rattle.std.specs.Prelude.{◌≡◌, ◌+◌, ◌-◌, ◌^◌, ◌≤◌, ◌<◌, ◌++◌, ◌∷◌, [], map, OnOk, OnErr, Some, None, slice_get, slice_index_or};
-ghost use Rattle.pair_record.specs.Lines.{packet, packets_from, no_packets, with_forward, with_back};
+ghost use Rattle.pair_core.specs.Lines.{packet, packets_from, no_packets, with_forward, with_back};
 
-use crate::event::Packet;
 use lossy_line::{Line, LineError};
 use memory_wanted::MemoryWanted;
+use pair_record::Packet;
 use std::alloc::Global;
 use std::marker::Model;
 
@@ -16,11 +16,11 @@ pub struct Lines {
 }
 
 impl Model for Lines {
-    ghost use Rattle.pair_record.specs.Lines.{Carried};
+    ghost use Rattle.pair_core.specs.Lines.{Carried};
 
     ghost Value = { Carried };
 
-    ghost use Rattle.pair_record.specs.internal.LinesFields.{carried, AreFields};
+    ghost use Rattle.pair_core.specs.internal.LinesFields.{carried, AreFields};
 
     ghost view = { carried };
 

@@ -1,7 +1,7 @@
 use Rattle.std.proofs.Common.{◌≡◌, ◌-◌, ◌≤◌, ◌++◌}
 use Rattle.std.specs.Prelude.{map, Some}
-use Rattle.pair_record.specs.Lines.{packets_from}
-use Rattle.pair_record.proofs.lines.send_all.Given as goal
+use Rattle.pair_core.specs.Lines.{packets_from}
+use Rattle.pair_core.proofs.lines.send_all.Given as goal
 
 abbrev pub invariant-loop-number : goal.invariant-loop-number
 invariant-loop-number l = record {

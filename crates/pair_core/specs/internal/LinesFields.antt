@@ -1,8 +1,8 @@
 -- How the fields of the lines stand for what contracts see.
 use Rattle.std.specs.Prelude.{◌≡◌, List, [], ◌∷◌, map, Option, None, Some}
 use Rattle.pair_record.specs.declared.event.Packet.{Packet}
-use Rattle.pair_record.specs.declared.lines.Lines.TheInside.{Inside}
-use Rattle.pair_record.specs.Lines.{Carried}
+use Rattle.pair_core.specs.declared.lines.Lines.TheInside.{Inside}
+use Rattle.pair_core.specs.Lines.{Carried}
 
 -- the packets of a line that weren't dropped, in the order sent
 abbrev pub packets_of : List (Option Packet) → List Packet
