@@ -21,6 +21,7 @@ use Rattle.pair_record.specs.Protocol.{Record, Outcome, refused, shown_at, outbo
 use Rattle.pair_record.specs.{Record.start_record, Window.{NumberedFrom, IsWindow, first_after}}
 use Rattle.pair_core.specs.Replication.{Does, Leads}
 use Rattle.pair_record.proofs.AloneLaws.{frames_to-all}
+use Rattle.pair_core.specs.Lines.{Lines}
 use Rattle.pair_core.proofs.{AlongLaws.along-keeps, Ends.{Ends, answers_end}, Tells.OfGuest}
 use Rattle.pair_record.specs.declared.event.Reply.TheVariants as replies
 
@@ -131,8 +132,8 @@ module _ (start : HistoryState) (r : Record) where
     none : LeaveInOrder (shown_at start r) [] []
     none c = (refl, All-nil NotGivenUp)
 
-    keeps_all : Ends start r (λ event es o. IsOrdinary event → Keeps event es o)
-    keeps_all = record {
+    keeps_all : (l : Lines) → Ends start r l (λ event es o. IsOrdinary event → Keeps event es o)
+    keeps_all l = record {
       refuses = λ event why plain ordinary. same event [] (refused r why) refl refl refl refl (λ l. none);
       step = λ alone is ordinary. same Step _ _ refl refl refl refl (λ l. l (ap is_alone mode));
       cut = λ ordinary. record {
@@ -196,8 +197,8 @@ abbrev IsCutOf : HistoryState → Record → Reply → Record → Type 0
 IsCutOf start r (replies.Cut generation n) q = CutOf start r n q
 IsCutOf start r other q = Unit {0}
 
-cuts_all : (start : HistoryState) (r : Record) → Ends start r (λ event es o. IsCutOf start r o.0 o.1)
-cuts_all start r = record {
+cuts_all : (start : HistoryState) (r : Record) (l : Lines) → Ends start r l (λ event es o. IsCutOf start r o.0 o.1)
+cuts_all start r l = record {
   refuses = λ event why plain. tt;
   step = λ alone is. tt;
   cut = record { number = refl; cut = refl; pending = refl; history = refl };
@@ -264,15 +265,15 @@ guest-known s (e ∷ es) p = one e (All-head OfGuest e es p) (λ t. guest-known 
 
 module _ (c : ℕ) where
   abbrev left : Pair → List Frame
-  left w = frames_left (leaving w.start w.protocol.journal.history c)
+  left w = frames_left (leaving w.start w.protocol.state.journal.history c)
 
   -- what left, and then what the gate and the outbox hold, is all that was sent
   pub all_accounted : (w : Pair) → IsConsistent w → IsFresh w.start
-      → sent_to w.start (all_entries w.protocol.journal) c
-      ≡ left w ++ out_of c (targets_of (length w.ports.boxes) (frames_of w.protocol.pending ++ w.nodes.live.outbox))
+      → sent_to w.start (all_entries w.protocol.state.journal) c
+      ≡ left w ++ out_of c (targets_of (length w.ports.boxes) (frames_of w.protocol.state.pending ++ w.nodes.live.outbox))
   all_accounted w k fresh =
-      let h = w.protocol.journal.history in
-      let kept = kept_entries w.protocol.journal in
+      let h = w.protocol.state.journal.history in
+      let kept = kept_entries w.protocol.state.journal in
       let known = DropsAreKnown-append w.start h kept k.drops (guest-known (shown_state w) kept k.kept) in
       let none = none_leave (shown_state w) kept (guest-none kept k.kept) c in
       all_leave_in_order w.start (h ++ kept) c fresh known
@@ -282,70 +283,71 @@ module _ (c : ℕ) where
       ∙ ap (λ t. t ++ owed w) (append-nil (left w))
     where
       owed : Pair → List Frame
-      owed w = out_of c (targets_of (length w.ports.boxes) (frames_of w.protocol.pending ++ w.nodes.live.outbox))
+      owed w = out_of c (targets_of (length w.ports.boxes) (frames_of w.protocol.state.pending ++ w.nodes.live.outbox))
 
   -- of clients as many as at the start
   abbrev held_of : ℕ → Pair → List Frame
-  held_of m w = out_of c (targets_of (length w.start.boxes) (frames_to m w.protocol.pending))
+  held_of m w = out_of c (targets_of (length w.start.boxes) (frames_to m w.protocol.state.pending))
 
   record State (w : Pair) (g : ℕ) : Type 0 where
-    two : w.protocol.mode ≡ Paired
-    acked : w.protocol.window.to_acknowledge ≡ g + 1
-    given : All NotGivenUp (leaving w.start w.protocol.journal.history c)
+    two : w.protocol.state.mode ≡ Paired
+    acked : w.protocol.state.window.to_acknowledge ≡ g + 1
+    given : All NotGivenUp (leaving w.start w.protocol.state.journal.history c)
     consistent : IsConsistent w
 
   -- ONE EVENT leaves what is held up to a number, and what left before it, as they are in all
 
   module _ (old new : Pair) (event : Event) (reply : Reply) (d : Does old event reply new) (ordinary : IsOrdinary event)
       (g : ℕ) (s : State old g) where
-    keeps : (es : List Entry) × (new.protocol.journal.history ≡ old.protocol.journal.history ++ es)
-        × (IsOrdinary event → Keeps old.start old.protocol event es (reply, new.protocol))
-    keeps = answers_end old.start old.protocol _ (keeps_all old.start old.protocol s.two s.consistent.window) event reply new.protocol
-        d.answers
+    keeps : (es : List Entry) × (new.protocol.state.journal.history ≡ old.protocol.state.journal.history ++ es)
+        × (IsOrdinary event → Keeps old.start old.protocol.state event es (reply, new.protocol.state))
+    keeps =
+        answers_end old.start old.protocol.state old.protocol.lines _
+        (keeps_all old.start old.protocol.state s.two s.consistent.window old.protocol.lines) event reply new.protocol.state d.answers.0
 
-    kept : Keeps old.start old.protocol event keeps.0 (reply, new.protocol)
+    kept : Keeps old.start old.protocol.state event keeps.0 (reply, new.protocol.state)
     kept = keeps.2 ordinary
 
-    lets : LetsOut old.start old.protocol event reply keeps.0
+    lets : LetsOut old.start old.protocol.state event reply keeps.0
     lets =
         let same : keeps.0 ≡ d.drops.entries =
-        append_cancel_left old.protocol.journal.history keeps.0 d.drops.entries (sym keeps.1 ∙ d.drops.grows) in
-        subst (LetsOut old.start old.protocol event reply) (sym same) d.drops.lets
+        append_cancel_left old.protocol.state.journal.history keeps.0 d.drops.entries (sym keeps.1 ∙ d.drops.grows) in
+        subst (LetsOut old.start old.protocol.state event reply) (sym same) d.drops.lets
 
-    leaves : leaving new.start new.protocol.journal.history c
-        ≡ leaving old.start old.protocol.journal.history c ++ leaving (shown_state old) keeps.0 c
-    leaves = (λ i. leaving (d.start i) (keeps.1 i) c) ∙ leaving-append old.start old.protocol.journal.history keeps.0 c
+    leaves : leaving new.start new.protocol.state.journal.history c
+        ≡ leaving old.start old.protocol.state.journal.history c ++ leaving (shown_state old) keeps.0 c
+    leaves = (λ i. leaving (d.start i) (keeps.1 i) c) ∙ leaving-append old.start old.protocol.state.journal.history keeps.0 c
 
     next : State new (acked_to g (reply ∷ []))
     next = record {
       two = kept.two;
       acked = by_reply reply kept.acked;
       given = subst (All NotGivenUp) (sym leaves)
-          (All-append NotGivenUp (leaving old.start old.protocol.journal.history c) (leaving (shown_state old) keeps.0 c) s.given
+          (All-append NotGivenUp (leaving old.start old.protocol.state.journal.history c) (leaving (shown_state old) keeps.0 c) s.given
           (kept.given lets c));
       consistent = d.consistent;
     }
       where
-        by_reply : (reply : Reply) → NextAcked reply old.protocol.window.to_acknowledge new.protocol.window.to_acknowledge
-            → new.protocol.window.to_acknowledge ≡ acked_to g (reply ∷ []) + 1
+        by_reply : (reply : Reply) → NextAcked reply old.protocol.state.window.to_acknowledge new.protocol.state.window.to_acknowledge
+            → new.protocol.state.window.to_acknowledge ≡ acked_to g (reply ∷ []) + 1
         by_reply (replies.Acked generation n landed) e = e ∙ ap (first_after n) s.acked ∙ acked_next n g
         by_reply other e = e ∙ s.acked
 
-    passes : (m : ℕ) → m < old.protocol.window.to_cut → acked_to 0 (reply ∷ []) ≤ m
+    passes : (m : ℕ) → m < old.protocol.state.window.to_cut → acked_to 0 (reply ∷ []) ≤ m
         → left new ++ held_of m new ≡ left old ++ held_of m old
     passes m less most =
         let gone = frames_left (leaving (shown_state old) keeps.0 c) in
-        let count = boxes-stay old.start old.protocol.journal.history in
+        let count = boxes-stay old.start old.protocol.state.journal.history in
         let one = kept.passes lets c m less most in
-        (λ i. frames_left (leaves i) ++ out_of c (targets_of (length (d.start i).boxes) (frames_to m new.protocol.pending)))
+        (λ i. frames_left (leaves i) ++ out_of c (targets_of (length (d.start i).boxes) (frames_to m new.protocol.state.pending)))
         ∙ ap (λ t. t ++ held_at (length old.start.boxes) new)
-        (frames_left-append (leaving old.start old.protocol.journal.history c) (leaving (shown_state old) keeps.0 c))
+        (frames_left-append (leaving old.start old.protocol.state.journal.history c) (leaving (shown_state old) keeps.0 c))
         ∙ append_assoc (left old) gone (held_at (length old.start.boxes) new)
         ∙ ap (λ t. left old ++ t)
         (subst (λ n. gone ++ held_at n new ≡ held_at n old) count one)
       where
         held_at : ℕ → Pair → List Frame
-        held_at n w = out_of c (targets_of n (frames_to m w.protocol.pending))
+        held_at n w = out_of c (targets_of n (frames_to m w.protocol.state.pending))
 
   -- A RUN of ordinary events
 
@@ -360,7 +362,7 @@ module _ (c : ℕ) where
 
   -- from the moment on when all up to number m was cut
   record Cut-to (m : ℕ) (sent : List Frame) (w : Pair) : Type 0 where
-    cut : m < w.protocol.window.to_cut
+    cut : m < w.protocol.state.window.to_cut
     all : left w ++ held_of m w ≡ sent
 
   passes_along : (m : ℕ) (sent : List Frame) (events : List Event) (answers : List Reply) (old new : Pair) → Leads old events answers new
@@ -382,12 +384,14 @@ module _ (c : ℕ) where
   -- THE CUT puts all that was sent below its number
 
   module _ (old new : Pair) (m : ℕ) (d : Does old Cut (replies.Cut 1 m) new) (g : ℕ) (s : State old g) (fresh : IsFresh old.start) where
-    cuts : IsCutOf old.start old.protocol (replies.Cut 1 m) new.protocol
-    cuts = (answers_end old.start old.protocol _ (cuts_all old.start old.protocol) Cut (replies.Cut 1 m) new.protocol d.answers).2
+    cuts : IsCutOf old.start old.protocol.state (replies.Cut 1 m) new.protocol.state
+    cuts =
+        (answers_end old.start old.protocol.state old.protocol.lines _
+        (cuts_all old.start old.protocol.state old.protocol.lines) Cut (replies.Cut 1 m) new.protocol.state d.answers.0).2
 
-    cut_so : Cut-to m (sent_to old.start (all_entries old.protocol.journal) c) new
+    cut_so : Cut-to m (sent_to old.start (all_entries old.protocol.state.journal) c) new
     cut_so =
-        let r = old.protocol in
+        let r = old.protocol.state in
         let k = s.consistent in
         let w = k.window in
         let n = length old.start.boxes in
@@ -414,11 +418,11 @@ module _ (c : ℕ) where
 -- SINCE BOOT
 
 module _ (c m : ℕ) (boot cut now late : Pair) (before then : List Event) (told answers : List Reply) where
-  pub left_since_boot : IsConsistent boot → boot.protocol ≡ start_record → IsFresh boot.start
+  pub left_since_boot : IsConsistent boot → boot.protocol.state ≡ start_record → IsFresh boot.start
       → Leads boot before told cut → AreOrdinary before → Does cut Cut (replies.Cut 1 m) now
       → Leads now then answers late → AreOrdinary then → greatest_acked (told ++ answers) ≡ m
-      → (frames_left (leaving late.start late.protocol.journal.history c) ≡ sent_to cut.start (all_entries cut.protocol.journal) c)
-      × All NotGivenUp (leaving late.start late.protocol.journal.history c)
+      → (frames_left (leaving late.start late.protocol.state.journal.history c) ≡ sent_to cut.start (all_entries cut.protocol.state.journal) c)
+      × All NotGivenUp (leaving late.start late.protocol.state.journal.history c)
   left_since_boot k at_start fresh l o d l' o' most =
       let first : State c boot 0 = record {
         two = ap (λ (r : Record). r.mode) at_start;
@@ -433,11 +437,11 @@ module _ (c m : ℕ) (boot cut now late : Pair) (before then : List Event) (told
       let all = cut_so c cut now m d g s (subst IsFresh (sym same) fresh) in
       let total : acked_to g answers ≡ m = sym (acked-append 0 told answers) ∙ most in
       let end = state_along c then answers now late l' o' g s' in
-      let passed = passes_along c m (sent_to cut.start (all_entries cut.protocol.journal) c) then answers now late l' o' g s'
+      let passed = passes_along c m (sent_to cut.start (all_entries cut.protocol.state.journal) c) then answers now late l' o' g s'
       (omega arith) all in
-      let acked : late.protocol.window.to_acknowledge ≡ m + 1 = end.acked ∙ ap (λ x. x + 1) total in
-      let none = (none_below m (m + 1) late.protocol.pending
-      (subst (λ x. NumberedFrom x late.protocol.pending) acked end.consistent.window.numbers) (omega arith)).0 in (
+      let acked : late.protocol.state.window.to_acknowledge ≡ m + 1 = end.acked ∙ ap (λ x. x + 1) total in
+      let none = (none_below m (m + 1) late.protocol.state.pending
+      (subst (λ x. NumberedFrom x late.protocol.state.pending) acked end.consistent.window.numbers) (omega arith)).0 in (
         sym (append-nil (left c late))
             ∙ ap (λ fs. left c late ++ out_of c (targets_of (length late.start.boxes) fs)) (sym none)
             ∙ passed.all,

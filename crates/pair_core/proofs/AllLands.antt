@@ -1,5 +1,5 @@
 -- Where a node goes on alone: all that is kept goes to the history, and all that is on its way lands. So does what each of its steps sends.
-use Rattle.std.proofs.Common.{◌≡◌, ℕ, List, [], ◌∷◌, ◌++◌, length, refl, sym, ap, ◌∙◌, subst, append_assoc, Bool, true, false, Some}
+use Rattle.std.proofs.Common.{◌≡◌, ℕ, List, [], ◌∷◌, ◌++◌, length, refl, sym, ap, ◌∙◌, subst, append_assoc, Bool, true, false, Some, arith}
 use Rattle.std.specs.Prelude.{slice_get, ◌≤◌}
 use Rattle.frame_ports.specs.{Addresses.targets_of, Lands.{list_of, lands}}
 use Rattle.failover.specs.declared.mode.Mode.{Mode}
@@ -8,59 +8,64 @@ use Rattle.pair_history.specs.{Entries.{Frame, Entry, Arrive}, Landings.landings
 use Rattle.pair_record.specs.{declared.window.Window.Window, Modes.is_alone}
 use Rattle.pair_record.specs.Journal.{joined, all_committed, with_history, with_running, with_moves}
 use Rattle.pair_record.specs.Protocol.{all_held, admit_done}
-use Rattle.pair_record.specs.Record.{IsRecord, IsLone, ports_after_all, ports_after_admit}
-use Rattle.pair_record.proofs.{LoneAccords.{all_landed_accords, landed_state, landed_is}, ModeLaws.clash}
-use Rattle.pair_core.specs.internal.Invariant.{AreNodes, Holds}
+use Rattle.pair_record.specs.Record.{IsRecord, ports_after_all, ports_after_admit}
+use Rattle.pair_record.proofs.{AccordLaws.sent_is, LoneAccords.{all_landed_accords, landed_state, landed_is}, ModeLaws.clash}
+use Rattle.pair_core.specs.internal.Invariant.{AreNodes, Holds, KeepsNothing, Stands}
 use Rattle.pair_core.specs.{Nodes.{Node, Nodes, HasShape, with_arrival}, Pair.Pair}
-use Rattle.pair_core.proofs.{Consistent.{outbox_is, alone_is}, Events.admit_holds}
+use Rattle.pair_core.proofs.{Consistent.{alone_is, keeps_nothing}, Events.{admit_stands, two_hold}, LineLaws.named-more}
 
 -- what leaves the gate and the outbox
 abbrev pub held : Pair → List (ℕ × Frame)
-held w = all_held w.ports.boxes w.nodes.live.outbox w.protocol
+held w = all_held w.ports.boxes w.nodes.live.outbox w.protocol.state
 
-module _ (w : Pair) (h : Holds w) (mode : Mode) (lone : is_alone mode ≡ true) (window : Window) (x : Nodes)
-    (live : x.live ≡ record w.nodes.live { outbox = [] }) (shape : x.image.shape ≡ w.nodes.image.shape) where
+module _ (w : Pair) (h : Stands w) (mode : Mode) (lone : is_alone mode ≡ true) (window : Window) (x : Nodes)
+    (live : x.live ≡ record w.nodes.live { outbox = [] }) (shape : x.image.shape ≡ w.nodes.image.shape)
+    (cut : w.protocol.state.window.to_cut ≤ window.to_cut) (commit : w.protocol.state.window.to_commit ≤ window.to_commit) where
   -- the pair once all that was kept stands in the history, and all that was held has landed
   abbrev pub all_landed : Pair
   all_landed = record w {
     protocol = record w.protocol {
-      mode = mode;
-      journal = with_history (all_committed w.protocol.journal) (landings w.ports.boxes (held w));
-      window = window;
-      pending = [];
+      state = record w.protocol.state {
+        mode = mode;
+        journal = with_history (all_committed w.protocol.state.journal) (landings w.ports.boxes (held w));
+        window = window;
+        pending = [];
+      };
     };
-    ports = ports_after_all w.ports w.nodes.live.outbox w.protocol;
+    ports = ports_after_all w.ports w.nodes.live.outbox w.protocol.state;
     nodes = x;
   }
 
   pub all_landed_holds : Holds all_landed
   all_landed_holds =
-      let r = w.protocol in
+      let r = w.protocol.state in
       let outbox = w.nodes.live.outbox in
-      let sent = outbox_is w h in
-      let u = landed_state w.start r w.ports h.accords outbox sent in
-      let guest : x.live.guest ≡ u.guest = ap (λ (n : Node). n.guest) live ∙ h.nodes.live in
+      let sent = sent_is w.start r w.ports h.0 ∙ sym h.1.outbox in
+      let u = landed_state w.start r w.ports h.0 outbox sent in
+      let guest : x.live.guest ≡ u.guest = ap (λ (n : Node). n.guest) live ∙ h.1.live in
       let nodes : AreNodes (is_alone mode) r.generation window.to_commit u.guest [] [] x =
       record {
-        first_generation = h.nodes.first_generation;
-        last_generation = h.nodes.last_generation;
+        first_generation = h.1.first_generation;
+        last_generation = h.1.last_generation;
         backed = λ e. absurd (clash (is_alone mode) lone e);
         live = guest;
         outbox = ap (λ (n : Node). n.outbox) live;
-        shape = rw live (subst (λ t. HasShape t w.nodes.live.guest) (sym shape) h.nodes.shape);
+        shape = rw live (subst (λ t. HasShape t w.nodes.live.guest) (sym shape) h.1.shape);
       } in
       record {
-        accords = all_landed_accords w.start r w.ports h.accords outbox sent mode window;
-        nodes = rw (landed_is w.start r w.ports h.accords outbox sent) nodes;
+        accords = all_landed_accords w.start r w.ports h.0 outbox sent mode window;
+        lines = named-more r w.protocol.lines h.2 window cut commit;
+        nodes = rw (landed_is w.start r w.ports h.0 outbox sent) nodes;
+        still = λ e. refl;
       }
 
 -- WHAT THE GUEST DOES at a node that is alone goes to the history at once
-module _ (w : Pair) (k : IsLone w.protocol) (lone : is_alone w.protocol.mode ≡ true) (es : List Entry) (live : Node)
+module _ (w : Pair) (k : KeepsNothing w.protocol.state) (lone : is_alone w.protocol.state.mode ≡ true) (es : List Entry) (live : Node)
     (inboxes : List (List (ℕ × Frame))) where
   -- as if it were kept, and at once
   abbrev pub if_kept : Pair
   if_kept = record w {
-    protocol = record w.protocol { journal = with_running w.protocol.journal es };
+    protocol = record w.protocol { state = record w.protocol.state { journal = with_running w.protocol.state.journal es } };
     ports = record w.ports { inboxes = inboxes };
     nodes = record w.nodes { live = live };
   }
@@ -70,14 +75,14 @@ module _ (w : Pair) (k : IsLone w.protocol) (lone : is_alone w.protocol.mode ≡
 
   abbrev pub at_once : Pair
   at_once = record w {
-    protocol = record w.protocol { journal = with_history w.protocol.journal (es ++ landings w.ports.boxes targets) };
+    protocol = record w.protocol { state = record w.protocol.state { journal = with_history w.protocol.state.journal (es ++ landings w.ports.boxes targets) } };
     ports = record w.ports { inboxes = inboxes; boxes = lands w.ports.boxes targets };
     nodes = record w.nodes { live = record live { outbox = [] } };
   }
 
-  pub at_once_holds : Holds if_kept → Holds at_once
+  pub at_once_holds : Stands if_kept → Holds at_once
   at_once_holds h =
-      let j = w.protocol.journal in
+      let j = w.protocol.state.journal in
       let b = w.ports.boxes in
       let leaving : held if_kept ≡ targets = λ i. targets_of (length b) (frames_of (k.2 i) ++ live.outbox) in
       let history : (j.history ++ (joined j.sealed ++ (j.running ++ es))) ++ landings b (held if_kept)
@@ -86,37 +91,42 @@ module _ (w : Pair) (k : IsLone w.protocol) (lone : is_alone w.protocol.mode ≡
       subst Holds
       (λ i. record w {
         protocol = record w.protocol {
-          journal = record { history = history i; sealed = sym k.0 i; running = sym k.1 i };
-          pending = sym k.2 i;
+          state = record w.protocol.state {
+            journal = record { history = history i; sealed = sym k.0 i; running = sym k.1 i };
+            pending = sym k.2 i;
+          };
         };
         ports = record w.ports { inboxes = inboxes; boxes = lands b (leaving i) };
         nodes = record w.nodes { live = record live { outbox = [] } };
       })
-      (all_landed_holds if_kept h w.protocol.mode lone w.protocol.window (record w.nodes { live = record live { outbox = [] } }) refl refl)
+      (all_landed_holds if_kept h w.protocol.state.mode lone w.protocol.state.window (record w.nodes { live = record live { outbox = [] } })
+      refl refl (omega arith) (omega arith))
 
 -- a frame's arrival, in a pair and at a node that is alone
-pub admitted_holds : (w : Pair) (h : Holds w) (k : IsRecord w.protocol) (c n : ℕ) (f : Frame) → 1 ≤ c → c ≤ length w.ports.boxes
+pub admitted_holds : (w : Pair) (h : Holds w) (k : IsRecord w.protocol.state) (c n : ℕ) (f : Frame) → 1 ≤ c → c ≤ length w.ports.boxes
     → slice_get (list_of w.ports.inboxes c) 0 ≡ Some (n, f)
-    → Holds (record w { protocol = (admit_done w.protocol n).1; ports = ports_after_admit w.ports c; nodes = with_arrival w.nodes f })
-admitted_holds w h k c n f low high first = by_mode (is_alone w.protocol.mode) refl
+    → Holds (record w { protocol = record w.protocol { state = (admit_done w.protocol.state n).1 }; ports = ports_after_admit w.ports c; nodes = with_arrival w.nodes f })
+admitted_holds w h k c n f low high first = by_mode (is_alone w.protocol.state.mode) refl
   where
-    by_mode : (t : Bool) → is_alone w.protocol.mode ≡ t → Holds (record w {
-      protocol = record w.protocol { journal = with_moves t w.protocol.journal (Arrive n ∷ []) };
+    by_mode : (t : Bool) → is_alone w.protocol.state.mode ≡ t → Holds (record w {
+      protocol = record w.protocol { state = record w.protocol.state { journal = with_moves t w.protocol.state.journal (Arrive n ∷ []) } };
       ports = ports_after_admit w.ports c;
       nodes = with_arrival w.nodes f;
     })
-    by_mode false e = admit_holds w h c n f low high first
+    by_mode false e = two_hold _ e (admit_stands w h c n f low high first)
     by_mode true e =
         let b = w.ports.boxes in
-        let lone = k.alone e in
+        let lone = keeps_nothing w h k e in
         let inboxes = (ports_after_admit w.ports c).inboxes in
         let live = (with_arrival w.nodes f).live in
         let none : w.nodes.live.outbox ≡ [] = (alone_is w h lone).outbox in
-        let landed = at_once_holds w lone e (Arrive n ∷ []) live inboxes (admit_holds w h c n f low high first) in
+        let landed = at_once_holds w lone e (Arrive n ∷ []) live inboxes (admit_stands w h c n f low high first) in
         subst Holds
         (λ i. record w {
           protocol = record w.protocol {
-            journal = with_history w.protocol.journal (Arrive n ∷ landings b (targets_of (length b) (none i)));
+            state = record w.protocol.state {
+              journal = with_history w.protocol.state.journal (Arrive n ∷ landings b (targets_of (length b) (none i)));
+            };
           };
           ports = record w.ports { inboxes = inboxes; boxes = lands b (targets_of (length b) (none i)) };
           nodes = record w.nodes { live = record live { outbox = sym none i } };

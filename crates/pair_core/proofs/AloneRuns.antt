@@ -1,18 +1,19 @@
 -- What the steps of a node that is alone leave, and what the protocol answers to them: what a step sends lands at once.
 use Rattle.std.proofs.Common.{rules, ◌≡◌, ℕ, zero, suc, ◌+◌, ◌-◌, ◌<◌, List, [], ◌∷◌, ◌++◌, length, replicate, refl, sym, ap, ◌∙◌, subst}
-use Rattle.std.proofs.{Common.{arith, append_assoc, Bool, true, cond, inl, inr}, lemmas.List.{append-nil, length-append, length-replicate}}
+use Rattle.std.proofs.{Common.{arith, append_assoc, Bool, true, cond, inl, inr, Result, Ok, Err}, lemmas.List.{append-nil, length-append, length-replicate}}
 use Rattle.guest_machine.specs.{Guest.Guest, Step.{next, sent}, Runs.{after_steps, sent_in}}
 use Rattle.frame_ports.specs.{Addresses.targets_of, Lands.lands, Limits.number_limit}
 use Rattle.pair_history.specs.{Entries.{Frame, Ran}, HistoryState.HistoryState, Landings.landings}
 use Rattle.pair_record.specs.{declared.event.Event.TheVariants.Step, declared.event.Reply.Reply, Limits.lone_step_entries}
 use Rattle.pair_record.specs.{Journal.{all_entries, with_history}, Modes.is_alone}
-use Rattle.pair_core.specs.{internal.Invariant.Holds, Nodes.{after_run, with_sent_off}}
-use Rattle.pair_record.specs.{Protocol.{Record, Outcome, step_done, step_outcome, step_room}, Record.IsLone}
-use Rattle.pair_core.specs.{Pair.Pair, Answering.Answers}
+use Rattle.pair_core.specs.{internal.Invariant.{Holds, KeepsNothing}, Nodes.{after_run, with_sent_off}}
+use Rattle.pair_record.specs.Protocol.{Record, Outcome, step_done, step_outcome, step_room}
+use Rattle.pair_record.specs.declared.event.Refusal.{Refusal}
+use Rattle.pair_core.specs.{Pair.Pair, Answering.{Answers, step_reply}, Lines.{Protocol, lines_after}}
 use Rattle.pair_core.specs.Runs.{StepsAnswer, goes_on, steps_outcome}
 use Rattle.pair_record.proofs.ModeLaws.{alone_not_stopped}
 use Rattle.pair_core.proofs.{AllLands.at_once_holds, Consistent.{live_is, alone_is}}
-use Rattle.pair_core.proofs.StepRuns.{steps_hold, step_goes, no-steps, none-sent, no-steps-answered, more-answered, after_steps-last}
+use Rattle.pair_core.proofs.StepRuns.{steps_stand, step_goes, no-steps, none-sent, no-steps-answered, more-answered, after_steps-last}
 use Rattle.pair_core.proofs.StepRuns.{replicate-last, one-step-answered}
 use Rattle.pair_record.specs.declared.event.Reply.TheVariants as replies
 
@@ -34,13 +35,15 @@ module _ (w : Pair) where
   abbrev pub after_alone : ℕ → List Frame → Pair
   after_alone n fs = record w {
     protocol = record w.protocol {
-      journal = with_history w.protocol.journal (replicate n Ran ++ landings boxes (targets_of (length boxes) fs));
+      state = record w.protocol.state {
+        journal = with_history w.protocol.state.journal (replicate n Ran ++ landings boxes (targets_of (length boxes) fs));
+      };
     };
     ports = record w.ports { boxes = lands boxes (targets_of (length boxes) fs) };
     nodes = with_sent_off (after_run n w.nodes);
   }
 
-  module _ (h : Holds w) (k : IsLone w.protocol) (lone : is_alone w.protocol.mode ≡ true) where
+  module _ (h : Holds w) (k : KeepsNothing w.protocol.state) (lone : is_alone w.protocol.state.mode ≡ true) where
     none : w.nodes.live.outbox ≡ []
     none = (alone_is w h k).outbox
 
@@ -49,7 +52,7 @@ module _ (w : Pair) where
         let live = (after_run n w.nodes).live in
         let fs = sent_in n w.nodes.live.guest in
         let all : live.outbox ≡ fs = ap (λ (t : List Frame). t ++ fs) none in
-        rw (← all) (at_once_holds w k lone (replicate n Ran) live w.ports.inboxes (steps_hold n w h))
+        rw (← all) (at_once_holds w k lone (replicate n Ran) live w.ports.inboxes (steps_stand n w h))
 
     -- quiet steps: none of them sends a frame
     abbrev quiet : ℕ → Pair
@@ -60,46 +63,46 @@ module _ (w : Pair) where
 
     -- one more step, after quiet ones
     module _ (n : ℕ) (silent : sent_in n w.nodes.live.guest ≡ [])
-        (fits : length (all_entries w.protocol.journal) + (n + 1025) < number_limit) where
+        (fits : length (all_entries w.protocol.state.journal) + (n + 1025) < number_limit) where
       abbrev g : Guest
       g = after_steps n w.nodes.live.guest
 
-      counted : length (all_entries (quiet n).protocol.journal) ≡ length (all_entries w.protocol.journal) + n
+      counted : length (all_entries (quiet n).protocol.state.journal) ≡ length (all_entries w.protocol.state.journal) + n
       counted = search (arith, rules, length-append, length-replicate)
 
-      step_next : step_done boxes (sent g) (next g).steps (quiet n).protocol ≡ step_outcome w.start (quiet n).protocol
+      step_next : step_done boxes (sent g) (next g).steps (quiet n).protocol.state ≡ step_outcome w.start (quiet n).protocol.state
       step_next =
           let c = counted in
-          let room : step_room w.protocol.mode ≡ 1025 = ap (λ (b : Bool). cond b lone_step_entries 1) lone in
-          step_goes (quiet n) (quiet-holds n silent) (alone_not_stopped w.protocol.mode lone) (omega arith) (omega arith)
+          let room : step_room w.protocol.state.mode ≡ 1025 = ap (λ (b : Bool). cond b lone_step_entries 1) lone in
+          step_goes (quiet n) (quiet-holds n silent) (alone_not_stopped w.protocol.state.mode lone) (omega arith) (omega arith)
 
-      step_makes : (replies.Steps (after_steps (suc n) w.nodes.live.guest).steps, (after_alone (suc n) (sent g)).protocol)
-          ≡ step_done boxes (sent g) (next g).steps (quiet n).protocol
+      step_makes : (replies.Steps (after_steps (suc n) w.nodes.live.guest).steps, (after_alone (suc n) (sent g)).protocol.state)
+          ≡ step_done boxes (sent g) (next g).steps (quiet n).protocol.state
       step_makes = search (arith, rules, after_steps-last, append-nil, append_assoc, replicate-last)
 
-      one_more : (replies.Steps g.steps, (quiet n).protocol) ≡ steps_outcome w.start w.protocol n
-          → (replies.Steps (after_steps (suc n) w.nodes.live.guest).steps, (after_alone (suc n) (sent g)).protocol)
-          ≡ steps_outcome w.start w.protocol (suc n)
+      one_more : (replies.Steps g.steps, (quiet n).protocol.state) ≡ steps_outcome w.start w.protocol.state n
+          → (replies.Steps (after_steps (suc n) w.nodes.live.guest).steps, (after_alone (suc n) (sent g)).protocol.state)
+          ≡ steps_outcome w.start w.protocol.state (suc n)
       one_more before =
-          step_makes ∙ step_next ∙ ap (λ (o : Outcome). goes_on w.start o.0 o.1) before ∙ sym (more-answered w.start w.protocol n)
+          step_makes ∙ step_next ∙ ap (λ (o : Outcome). goes_on w.start o.0 o.1) before ∙ sym (more-answered w.start w.protocol.state n)
 
     -- so many quiet steps
-    quiet_answered : (n : ℕ) → sent_in n w.nodes.live.guest ≡ [] → length (all_entries w.protocol.journal) + (n + 1024) < number_limit
-        → (replies.Steps (after_steps n w.nodes.live.guest).steps, (quiet n).protocol) ≡ steps_outcome w.start w.protocol n
+    quiet_answered : (n : ℕ) → sent_in n w.nodes.live.guest ≡ [] → length (all_entries w.protocol.state.journal) + (n + 1024) < number_limit
+        → (replies.Steps (after_steps n w.nodes.live.guest).steps, (quiet n).protocol.state) ≡ steps_outcome w.start w.protocol.state n
     quiet_answered zero e fits = search (arith, rules, append-nil, live_is, no-steps, no-steps-answered)
     quiet_answered (suc n) e fits =
         let parts = both_empty (sent_in n w.nodes.live.guest) (sent (after_steps n w.nodes.live.guest))
         (sym (sent_in-last n w.nodes.live.guest) ∙ e) in
         let before = quiet_answered n parts.0 (omega arith) in
         subst
-        (λ (fs : List Frame). (replies.Steps (after_steps (suc n) w.nodes.live.guest).steps, (after_alone (suc n) fs).protocol)
-        ≡ steps_outcome w.start w.protocol (suc n)) parts.1 (one_more n parts.0 (omega arith) before)
+        (λ (fs : List Frame). (replies.Steps (after_steps (suc n) w.nodes.live.guest).steps, (after_alone (suc n) fs).protocol.state)
+        ≡ steps_outcome w.start w.protocol.state (suc n)) parts.1 (one_more n parts.0 (omega arith) before)
 
     -- so many steps of which only the last sends frames
     pub alone_answered : (n : ℕ) → sent_in (n - 1) w.nodes.live.guest ≡ []
-        → length (all_entries w.protocol.journal) + (n + 1024) < number_limit
-        → (replies.Steps (after_steps n w.nodes.live.guest).steps, (after_alone n (sent_in n w.nodes.live.guest)).protocol)
-        ≡ steps_outcome w.start w.protocol n
+        → length (all_entries w.protocol.state.journal) + (n + 1024) < number_limit
+        → (replies.Steps (after_steps n w.nodes.live.guest).steps, (after_alone n (sent_in n w.nodes.live.guest)).protocol.state)
+        ≡ steps_outcome w.start w.protocol.state n
     alone_answered zero e fits = search (arith, rules, none-sent, quiet_answered)
     alone_answered (suc n) e fits = search (arith, rules, one_more, quiet_answered, sent_in-last)
 
@@ -122,15 +125,22 @@ module _ (start : HistoryState) (r r' : Record) (m k : ℕ) (made : (replies.Ste
 
 -- ONE STEP, as an event
 
-module _ (start : HistoryState) (old new : Record) where
-  pub paired_answer : (reply : Reply) → (reply, new) ≡ steps_outcome start old 1 → Answers start old Step reply new
-  paired_answer reply e = inl (e ∙ one-step-answered start old)
+-- and nothing is sent on a line
+lines_stay : (old new : Protocol) (answer : Result ℕ Refusal) → new.lines ≡ old.lines → new.lines ≡ lines_after old (step_reply answer)
+lines_stay old new (Ok count) same = same
+lines_stay old new (Err why) same = same
 
-  pub alone_answer : (reply : Reply) → StepsAnswer start old 1 reply new → Answers start old Step reply new
-  alone_answer reply (inl e) = paired_answer reply e
-  alone_answer reply (inr k) =
+module _ (start : HistoryState) (old new : Protocol) (answer : Result ℕ Refusal) where
+  pub paired_answer : (step_reply answer, new.state) ≡ steps_outcome start old.state 1 → new.lines ≡ old.lines
+      → Answers start old Step (step_reply answer) new
+  paired_answer e same = (inl (e ∙ one-step-answered start old.state), lines_stay old new answer same)
+
+  pub alone_answer : StepsAnswer start old 1 (step_reply answer) new → Answers start old Step (step_reply answer) new
+  alone_answer (inl e, same) = paired_answer e same
+  alone_answer (inr k, same) =
       let made = k.2 in
       let less = made.1 in
       let first : made.0 ≡ 0 = omega arith in
-      let stays : new ≡ old = ap (λ (o : Outcome). o.1) (made.3 ∙ ap (steps_outcome start old) first ∙ no-steps-answered start old) in
-      inr (rw (← stays) made.4, k.1, stays)
+      let stays : new.state ≡ old.state =
+      ap (λ (o : Outcome). o.1) (made.3 ∙ ap (steps_outcome start old.state) first ∙ no-steps-answered start old.state) in
+      (inr (rw (← stays) made.4, k.1, stays), lines_stay old new answer same)

@@ -10,11 +10,12 @@ use Rattle.pair_record.specs.declared.event.Event.{Event}
 use Rattle.pair_record.specs.declared.event.Event.TheVariants.{Deliver, Take, LoseIn, LoseOut}
 use Rattle.pair_record.specs.declared.event.Refusal.TheVariants.{Full, BadFrame, NoClient, NoMemory, Exhausted}
 use Rattle.pair_record.specs.declared.event.Reply.{Reply}
-use Rattle.pair_core.specs.{Answering.{Answers, MayWantMemory}, Calls.{Moment, AnswersCall, AnswersTake, AnswersDelivery, AnswersLoss}}
+use Rattle.pair_core.specs.{Answering.{AnswersIn, MayWantMemory}, Calls.{Moment, AnswersCall, AnswersTake, AnswersDelivery, AnswersLoss}}
 use Rattle.pair_record.specs.Journal.{kept_entries}
 use Rattle.pair_record.specs.Protocol.{Record, Outcome, unless, or_else, first_refusal, exhausts, is_among, is_bad_length}
 use Rattle.pair_record.specs.Protocol.{Row, shown_at, live_at, take_done, deliver_done, delivery_refused, lost_in, lost_out, loss_of}
 use Rattle.pair_record.specs.Protocol.{loss_done, outcome}
+use Rattle.pair_core.specs.Lines.{Lines, got}
 use Rattle.pair_record.specs.declared.event.Reply.TheVariants as replies
 
 -- what the tests say
@@ -75,7 +76,7 @@ module _ (start : HistoryState) (r : Record) (g : Guest) where
   abbrev Ways : Outcome → Reply → Type 0
   Ways o reply = (reply ≡ o.0) ⊎ (MayWantMemory r o × (reply ≡ replies.Refused (NoMemory wanted)))
 
-  take_ways : (c : ℕ) (reply : Reply) → Ways (outcome start r (Take c)) reply → AnswersTake start m c reply
+  take_ways : (c : ℕ) (reply : Reply) → Ways (outcome start r None (Take c)) reply → AnswersTake start m c reply
   take_ways c reply k = by_tests (is_among c clients) (exhausts r 1) refl refl k
     where
       by_tests : (t u : Bool) → is_among c clients ≡ t → exhausts r 1 ≡ u
@@ -127,7 +128,7 @@ module _ (start : HistoryState) (r : Record) (g : Guest) where
     abbrev rows : Bool → Bool → Bool → Bool → Bool → List Row
     rows t u v w x = (not t, NoClient) ∷ (u, BadFrame) ∷ (v, Exhausted) ∷ (w, Full) ∷ (x, Exhausted) ∷ []
 
-    delivery_ways : Ways (outcome start r (Deliver c bytes)) reply → AnswersDelivery start m c bytes.now reply
+    delivery_ways : Ways (outcome start r None (Deliver c bytes)) reply → AnswersDelivery start m c bytes.now reply
     delivery_ways k =
         by_tests (is_among c clients) (is_bad_length (length bytes.now)) (exhausts r 1) (nat_le 64 waits) (nat_le (2 ^ 62) number)
         refl refl refl refl refl k
@@ -154,17 +155,18 @@ module _ (start : HistoryState) (r : Record) (g : Guest) where
         by_tests true false false false false p q a b d (inr e) =
             rw e.1 ((is_client c clients p, is_frame _ q), below _ _ a, inr (below _ _ d))
 
-  by_ways : (event : Event) (reply : Reply) → Ways (outcome start r event) reply → AnswersCall start m event reply
-  by_ways (Deliver c bytes) reply k = delivery_ways c bytes reply k
-  by_ways (Take c) reply k = take_ways c reply k
-  by_ways (LoseIn c place) reply k =
+  by_ways : (l : Lines) (event : Event) (reply : Reply) → Ways (outcome start r (got l event) event) reply → AnswersCall start m event reply
+  by_ways l (Deliver c bytes) reply k = delivery_ways c bytes reply k
+  by_ways l (Take c) reply k = take_ways c reply k
+  by_ways l (LoseIn c place) reply k =
       let inbox = inbox_of c (live_at start r).waiting in
       loss_ways c (length inbox) place (lost_in inbox place) reply (none_there _ inbox place) (λ e. some_there _ inbox place e) k
-  by_ways (LoseOut c place) reply k =
+  by_ways l (LoseOut c place) reply k =
       let box = list_of (shown_at start r).boxes c in
       loss_ways c (length box) place (lost_out c box place) reply (none_there _ box place) (λ e. some_there _ box place e) k
-  by_ways other reply k = tt
+  by_ways l other reply k = tt
 
-  pub answers_call : (event : Event) (reply : Reply) (new : Record) → Answers start r event reply new → AnswersCall start m event reply
-  answers_call event reply new (inl e) = by_ways event reply (inl (ap (λ (o : Outcome). o.0) e))
-  answers_call event reply new (inr e) = by_ways event reply (inr (e.0, e.1))
+  pub answers_call : (l : Lines) (event : Event) (reply : Reply) (new : Record) → AnswersIn start r (got l event) event reply new
+      → AnswersCall start m event reply
+  answers_call l event reply new (inl e) = by_ways l event reply (inl (ap (λ (o : Outcome). o.0) e))
+  answers_call l event reply new (inr e) = by_ways l event reply (inr (e.0, e.1))

@@ -28,8 +28,8 @@ answered_so (Err x) r done out e k = tt
 -- the invariant after a call that did all or nothing
 pub after_call : (w : Pair) → Holds w → (s : RecordState) (o : Result Reply MemoryWanted) (done : Outcome) (ports : PortsState)
     → IfOk o (λ reply. (reply, s.protocol) ≡ done) → OnOk o (s.ports ≡ ports)
-    → OnErr o ((s.protocol ≡ w.protocol) × (s.ports ≡ w.ports))
-    → Holds (record w { protocol = done.1; ports = ports }) → Holds (record w { protocol = s.protocol; ports = s.ports })
+    → OnErr o ((s.protocol ≡ w.protocol.state) × (s.ports ≡ w.ports))
+    → Holds (record w { protocol = record w.protocol { state = done.1 }; ports = ports }) → Holds (record w { protocol = record w.protocol { state = s.protocol }; ports = s.ports })
 after_call w h s (Ok x) done ports k p e now =
-    subst Holds (λ i. record w { protocol = sym (ap (λ (q : Outcome). q.1) k) i; ports = sym p i }) now
-after_call w h s (Err x) done ports k p e now = subst Holds (λ i. record w { protocol = sym e.0 i; ports = sym e.1 i }) h
+    subst Holds (λ i. record w { protocol = record w.protocol { state = sym (ap (λ (q : Outcome). q.1) k) i }; ports = sym p i }) now
+after_call w h s (Err x) done ports k p e now = subst Holds (λ i. record w { protocol = record w.protocol { state = sym e.0 i }; ports = sym e.1 i }) h

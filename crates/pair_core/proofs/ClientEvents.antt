@@ -1,5 +1,5 @@
 -- What clients, their lines and acknowledgements do keeps the invariant: the record's part is its own law, and the nodes stay.
-use Rattle.std.proofs.Common.{◌≡◌, ℕ, ◌<◌, ◌≤◌, List, [], ◌∷◌, ◌++◌, length, refl, sym, ap, ◌∙◌, Some}
+use Rattle.std.proofs.Common.{◌≡◌, ℕ, ◌<◌, ◌≤◌, List, [], ◌∷◌, ◌++◌, length, refl, sym, ap, ◌∙◌, Some, arith}
 use Rattle.std.proofs.Math.Path.{transport}
 use Rattle.std.specs.Prelude.{slice_get}
 use Rattle.frame_ports.specs.{Addresses.IsFrame, Lands.list_of, Limits.inbox_frames, Ports.{PortsState, after_delivery}}
@@ -13,62 +13,66 @@ use Rattle.pair_record.specs.Record.{IsRecord, ports_after_ack, ports_after_take
 use Rattle.pair_record.proofs.ClientAccords.{ack_lands, ack_accords, take_accords, lose_in_accords, lose_out_accords, deliver_accords}
 use Rattle.pair_record.proofs.ClientAccords.{full_accords}
 use Rattle.pair_core.specs.{internal.Invariant.{AreNodes, Holds}, Pair.{Pair, shown_state}}
+use Rattle.pair_core.proofs.LineLaws.{named-more}
 
 -- A CLIENT'S EVENT goes into the history, before what is kept: the guest stays as it is
 
 module _ (w : Pair) (h : Holds w) (es : List Entry) (window : Window) (pending : List Epoch) (ports : PortsState)
-    (stays : window.to_commit ≡ w.protocol.window.to_commit)
+    (cut : window.to_cut ≡ w.protocol.state.window.to_cut)
+    (stays : window.to_commit ≡ w.protocol.state.window.to_commit)
     (guest : (at (shown_state w) es).guest ≡ (shown_state w).guest)
-    (accords : Accords w.start (record w.protocol {
-      journal = with_history w.protocol.journal es;
+    (accords : Accords w.start (record w.protocol.state {
+      journal = with_history w.protocol.state.journal es;
       window = window;
       pending = pending;
     }) ports)
     (sealed : h.accords.journal.sealed_moves ≡ accords.journal.sealed_moves)
     (running : h.accords.journal.running_moves ≡ accords.journal.running_moves) where
   pub history_holds : Holds (record w {
-    protocol = record w.protocol { journal = with_history w.protocol.journal es; window = window; pending = pending };
+    protocol = record w.protocol { state = record w.protocol.state { journal = with_history w.protocol.state.journal es; window = window; pending = pending } };
     ports = ports;
   })
   history_holds =
-      let r = w.protocol in
+      let r = w.protocol.state in
       let same : (shown_state w).guest ≡ (at w.start (r.journal.history ++ es)).guest =
       sym guest ∙ sym (ap (λ (t : HistoryState). t.guest) (at-append w.start r.journal.history es)) in
       record {
         accords = accords;
+        lines = named-more r w.protocol.lines h.lines window (omega arith) (omega arith);
         nodes =
             transport (λ i. AreNodes (is_alone r.mode) r.generation (sym stays i) (same i) (sealed i) (running i) w.nodes) h.nodes;
+        still = h.still;
       }
 
 module _ (w : Pair) (h : Holds w) where
   abbrev r : Record
-  r = w.protocol
+  r = w.protocol.state
 
-  pub ack_holds : IsRecord w.protocol → (n : ℕ) → n < w.protocol.window.to_commit
-      → Holds (record w { protocol = (ack_done w.ports.boxes w.protocol n).1; ports = ports_after_ack w.ports w.protocol n })
+  pub ack_holds : IsRecord w.protocol.state → (n : ℕ) → n < w.protocol.state.window.to_commit
+      → Holds (record w { protocol = record w.protocol { state = (ack_done w.ports.boxes w.protocol.state n).1 }; ports = ports_after_ack w.ports w.protocol.state n })
   ack_holds k n below =
-      let after = (ack_done w.ports.boxes w.protocol n).1 in
-      history_holds w h (landings w.ports.boxes (let_go w.ports.boxes w.protocol n)) after.window after.pending
-      (ports_after_ack w.ports w.protocol n) refl
+      let after = (ack_done w.ports.boxes w.protocol.state n).1 in
+      history_holds w h (landings w.ports.boxes (let_go w.ports.boxes w.protocol.state n)) after.window after.pending
+      (ports_after_ack w.ports w.protocol.state n) refl refl
       (ap (λ (t : HistoryState). t.guest) (ack_lands w.start r w.ports h.accords k n below).1)
       (ack_accords w.start r w.ports h.accords k n below) refl refl
 
   module _ (c : ℕ) (low : 1 ≤ c) (high : c ≤ length w.ports.boxes) where
-    pub take_holds : Holds (record w { protocol = (take_done w.ports.boxes w.protocol c).1; ports = ports_after_take w.ports c })
+    pub take_holds : Holds (record w { protocol = record w.protocol { state = (take_done w.ports.boxes w.protocol.state c).1 }; ports = ports_after_take w.ports c })
     take_holds =
-        history_holds w h (Took c (slice_get (list_of w.ports.boxes c) 0) ∷ []) r.window r.pending (ports_after_take w.ports c) refl refl
+        history_holds w h (Took c (slice_get (list_of w.ports.boxes c) 0) ∷ []) r.window r.pending (ports_after_take w.ports c) refl refl refl
         (take_accords w.start r w.ports h.accords c low high) refl refl
 
     pub lose_in_holds : (place n : ℕ) (f : Frame) → slice_get (list_of w.ports.inboxes c) place ≡ Some (n, f)
-        → Holds (record w { protocol = (loss_done w.protocol (DropIn n)).1; ports = ports_after_lose_in w.ports c place })
+        → Holds (record w { protocol = record w.protocol { state = (loss_done w.protocol.state (DropIn n)).1 }; ports = ports_after_lose_in w.ports c place })
     lose_in_holds place n f there =
-        history_holds w h (DropIn n ∷ []) r.window r.pending (ports_after_lose_in w.ports c place) refl refl
+        history_holds w h (DropIn n ∷ []) r.window r.pending (ports_after_lose_in w.ports c place) refl refl refl
         (lose_in_accords w.start r w.ports h.accords c low high place n f there) refl refl
 
     pub lose_out_holds : (place : ℕ) → place < length (list_of w.ports.boxes c)
-        → Holds (record w { protocol = (loss_done w.protocol (DropOut c place)).1; ports = ports_after_lose_out w.ports c place })
+        → Holds (record w { protocol = record w.protocol { state = (loss_done w.protocol.state (DropOut c place)).1 }; ports = ports_after_lose_out w.ports c place })
     lose_out_holds place there =
-        history_holds w h (DropOut c place ∷ []) r.window r.pending (ports_after_lose_out w.ports c place) refl refl
+        history_holds w h (DropOut c place ∷ []) r.window r.pending (ports_after_lose_out w.ports c place) refl refl refl
         (lose_out_accords w.start r w.ports h.accords c low high place there) refl refl
 
     module _ (bytes : List ℕ) (frame : IsFrame (record { items = bytes })) where
@@ -76,15 +80,15 @@ module _ (w : Pair) (h : Holds w) where
       the_frame = record { items = bytes }
 
       pub deliver_holds : Holds (record w {
-        protocol = (deliver_done w.protocol c the_frame w.ports.next).1;
+        protocol = record w.protocol { state = (deliver_done w.protocol.state c the_frame w.ports.next).1 };
         ports = after_delivery w.ports c bytes;
       })
       deliver_holds =
-          history_holds w h (Delivered c the_frame w.ports.next ∷ []) r.window r.pending (after_delivery w.ports c bytes) refl refl
+          history_holds w h (Delivered c the_frame w.ports.next ∷ []) r.window r.pending (after_delivery w.ports c bytes) refl refl refl
           (deliver_accords w.start r w.ports h.accords c low high bytes frame) refl refl
 
       pub full_holds : inbox_frames ≤ length (list_of w.ports.inboxes c)
-          → Holds (record w { protocol = record w.protocol { journal = with_history w.protocol.journal (Refused c the_frame ∷ []) } })
+          → Holds (record w { protocol = record w.protocol { state = record w.protocol.state { journal = with_history w.protocol.state.journal (Refused c the_frame ∷ []) } } })
       full_holds full =
-          history_holds w h (Refused c the_frame ∷ []) r.window r.pending w.ports refl refl
+          history_holds w h (Refused c the_frame ∷ []) r.window r.pending w.ports refl refl refl
           (full_accords w.start r w.ports h.accords c low high bytes frame full) refl refl

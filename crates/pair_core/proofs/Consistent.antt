@@ -10,11 +10,11 @@ use Rattle.pair_history.specs.{Entries.{Frame, Entry, Ran, Arrive}, HistoryState
 use Rattle.pair_history.specs.internal.Moves.{Move, Steps, Arrives, entries_of, guest_along, AllCan}
 use Rattle.pair_history.proofs.Moves.{moved, at-moves, Legal-moves, AllCan-front, AllCan-back}
 use Rattle.pair_record.specs.internal.Accords.{all_moves, Accords}
-use Rattle.pair_core.specs.internal.Invariant.{first_moves, AreSealed, IsBacked, Holds}
+use Rattle.pair_core.specs.internal.Invariant.{first_moves, AreSealed, IsBacked, Holds, KeepsNothing}
 use Rattle.pair_record.specs.{Journal.{joined, first_of, kept_entries}, Modes.is_alone}
 use Rattle.pair_core.specs.Pair.{Pair, shown_state, live_state, HasBackup, ImageFollows, IsAlone, InMode, is_of_guest, IsConsistent}
 use Rattle.pair_record.specs.Protocol.{outbox_of}
-use Rattle.pair_record.specs.Record.{IsRecord, IsLone, SuitsMode}
+use Rattle.pair_record.specs.Record.{IsRecord, SuitsMode}
 use Rattle.pair_core.specs.Texts.{AreTexts}
 use Rattle.pair_record.proofs.AccordLaws.{kept_now, left_now, sealed_now, live_guest, live_waiting as waits, sent_is, all_owed, kept_is}
 use Rattle.pair_record.proofs.AccordLaws.{sealed_state}
@@ -49,32 +49,32 @@ lone Alone w e m = m
 lone other w e m = absurd (cc)
 
 module _ (w : Pair) (h : Holds w) where
-  abbrev a : Accords w.start w.protocol w.ports
+  abbrev a : Accords w.start w.protocol.state w.ports
   a = h.accords
 
   pub live_is : (live_state w).guest ≡ w.nodes.live.guest
-  live_is = live_guest w.start w.protocol w.ports a ∙ sym h.nodes.live
+  live_is = live_guest w.start w.protocol.state w.ports a ∙ sym h.nodes.live
 
-  pub live_waiting : (live_state w).waiting ≡ left_now w.start w.protocol w.ports a
-  live_waiting = waits w.start w.protocol w.ports a
+  pub live_waiting : (live_state w).waiting ≡ left_now w.start w.protocol.state w.ports a
+  live_waiting = waits w.start w.protocol.state w.ports a
 
-  kept_entries_are : kept_entries w.protocol.journal ≡ entries_of (kept_now w.start w.protocol w.ports a)
-  kept_entries_are = kept_is w.start w.protocol w.ports a
+  kept_entries_are : kept_entries w.protocol.state.journal ≡ entries_of (kept_now w.start w.protocol.state w.ports a)
+  kept_entries_are = kept_is w.start w.protocol.state w.ports a
 
-  cut_state_is : at w.start (w.protocol.journal.history ++ joined w.protocol.journal.sealed)
-      ≡ moved (shown_state w) (sealed_now w.start w.protocol w.ports a)
-  cut_state_is = sealed_state w.start w.protocol w.ports a
+  cut_state_is : at w.start (w.protocol.state.journal.history ++ joined w.protocol.state.journal.sealed)
+      ≡ moved (shown_state w) (sealed_now w.start w.protocol.state w.ports a)
+  cut_state_is = sealed_state w.start w.protocol.state w.ports a
 
-  pub outbox_is : outbox_of w.start w.protocol ≡ w.nodes.live.outbox
-  outbox_is = sent_is w.start w.protocol w.ports a ∙ sym h.nodes.outbox
+  pub outbox_is : outbox_of w.start w.protocol.state ≡ w.nodes.live.outbox
+  outbox_is = sent_is w.start w.protocol.state w.ports a ∙ sym h.nodes.outbox
 
-  pub owed_is : targets_of (length w.ports.boxes) (frames_of w.protocol.pending ++ w.nodes.live.outbox) ≡ (live_state w).out
+  pub owed_is : targets_of (length w.ports.boxes) (frames_of w.protocol.state.pending ++ w.nodes.live.outbox) ≡ (live_state w).out
   owed_is =
-      ap (λ (fs : List Frame). targets_of (length w.ports.boxes) (frames_of w.protocol.pending ++ fs)) (sym outbox_is)
-      ∙ all_owed w.start w.protocol w.ports a
+      ap (λ (fs : List Frame). targets_of (length w.ports.boxes) (frames_of w.protocol.state.pending ++ fs)) (sym outbox_is)
+      ∙ all_owed w.start w.protocol.state w.ports a
 
   -- the guest at the end of the oldest sealed epoch
-  first_guest : (at (shown_state w) (first_of w.protocol.journal.sealed)).guest
+  first_guest : (at (shown_state w) (first_of w.protocol.state.journal.sealed)).guest
       ≡ guest_along (shown_state w).guest (first_moves h.accords.journal.sealed_moves)
   first_guest =
       ap (λ ess. (at (shown_state w) (first_of ess)).guest) h.accords.journal.sealed_are
@@ -86,26 +86,29 @@ module _ (w : Pair) (h : Holds w) where
       by_moves (ms ∷ mss) can = search (arith, rules, AllCan-front, append_assoc, at-moves)
 
   abbrev Backed : Type 0
-  Backed = IsBacked w.protocol.generation w.protocol.window.to_commit (shown_state w).guest h.accords.journal.sealed_moves w.nodes
+  Backed = IsBacked w.protocol.state.generation w.protocol.state.window.to_commit (shown_state w).guest h.accords.journal.sealed_moves w.nodes
 
   has_backup : Backed → HasBackup w
   has_backup b = search (arith, rules, cut_state_is, texts_are)
 
-  follows : Backed → 1 ≤ w.protocol.window.to_commit → ImageFollows w
+  follows : Backed → 1 ≤ w.protocol.state.window.to_commit → ImageFollows w
   follows b some = let f = b.follows some in record { image = f.image; stands_at = f.stands_at }
 
-  pub alone_is : IsLone w.protocol → IsAlone w
+  pub keeps_nothing : IsRecord w.protocol.state → is_alone w.protocol.state.mode ≡ true → KeepsNothing w.protocol.state
+  keeps_nothing k alone = ((k.alone alone).0, h.still alone, (k.alone alone).1)
+
+  pub alone_is : KeepsNothing w.protocol.state → IsAlone w
   alone_is k = search (arith, rules, outbox_is)
 
-  pub in_mode : IsRecord w.protocol → InMode w.protocol.mode w
-  in_mode k = by_mode w.protocol.mode h.nodes.backed k.suits k.alone
+  pub in_mode : IsRecord w.protocol.state → InMode w.protocol.state.mode w
+  in_mode k = by_mode w.protocol.state.mode h.nodes.backed k.suits (keeps_nothing k)
     where
-      by_mode : (mode : Mode) → (is_alone mode ≡ false → Backed) → SuitsMode mode w.protocol.window
-          → (is_alone mode ≡ true → IsLone w.protocol) → InMode mode w
-      by_mode Filling b s l = (has_backup (b refl), rw first_guest ((b refl).fills s.0))
+      by_mode : (mode : Mode) → (is_alone mode ≡ false → Backed) → SuitsMode mode w.protocol.state.window
+          → (is_alone mode ≡ true → KeepsNothing w.protocol.state) → InMode mode w
+      by_mode Filling b s l = (has_backup (b refl), rw first_guest ((b refl).fills s))
       by_mode Alone b s l = alone_is (l refl)
       by_mode other b s l = (has_backup (b refl), follows (b refl) s)
 
-  pub consistent : IsRecord w.protocol → IsConsistent w
+  pub consistent : IsRecord w.protocol.state → IsConsistent w
   consistent k =
       search (arith, rules, Legal-moves, in_mode, kept_entries_are, live_is, live_waiting, of_guest, outbox_is, owed_is)

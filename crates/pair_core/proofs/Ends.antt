@@ -14,7 +14,8 @@ use Rattle.pair_record.specs.{declared.event.Event.TheVariants.{FailPrimary, Fai
 use Rattle.pair_record.specs.{declared.event.Refusal.Refusal, declared.event.Refusal.TheVariants.{Full, NoMemory}}
 use Rattle.pair_record.specs.declared.event.Reply.{Reply}
 use Rattle.pair_record.specs.Journal.{first_of, kept_entries, with_moves}
-use Rattle.pair_core.specs.Answering.{Answers}
+use Rattle.pair_core.specs.Answering.{AnswersIn}
+use Rattle.pair_core.specs.Lines.{Lines, got}
 use Rattle.pair_record.specs.Modes.{is_alone, mode_refusal, backup_refusal, change_refusal}
 use Rattle.pair_record.specs.Protocol.{Record, Outcome, allowed, outcome, or_else, refused, shown_at, live_at, outbox_of, step_done}
 use Rattle.pair_record.specs.Protocol.{step_entries, cut_done, send_done, again_done, commit_done, backup_outcome, let_go, ack_done}
@@ -44,7 +45,7 @@ pub by_table : (P : Outcome → Type 0) (o : Option Refusal) (refuse : Refusal �
 by_table P None refuse done p q = q refl
 by_table P (Some why) refuse done p q = p why
 
-module _ (start : HistoryState) (r : Record) where
+module _ (start : HistoryState) (r : Record) (l : Lines) where
   abbrev boxes : List (List Frame)
   boxes = (shown_at start r).boxes
 
@@ -62,7 +63,7 @@ module _ (start : HistoryState) (r : Record) where
     pub lost : (k : ℕ) → P (BackupGet k) [] (replies.Lost, r) × P (AckGet k) [] (replies.Lost, r)
     pub again : (k : ℕ) → P (BackupGet k) [] (again_done r)
     pub commit : (k : ℕ) → backup_refusal r.mode ≡ None → P (BackupGet k) (first_of r.journal.sealed) (commit_done r)
-    pub acknowledge : (k : ℕ) (p : Packet) → slice_get r.lines.back k ≡ Some p → p.generation ≡ r.generation
+    pub acknowledge : (k : ℕ) (p : Packet) → slice_get l.back k ≡ Some p → p.generation ≡ r.generation
         → P (AckGet k) (landings boxes (let_go boxes r p.number)) (ack_done boxes r p.number)
     pub empty : (c place : ℕ) → P (Admit c) [] (replies.Empty, r) × P (LoseIn c place) [] (replies.Empty, r)
         × P (LoseOut c place) [] (replies.Empty, r)
@@ -102,7 +103,7 @@ module _ (start : HistoryState) (r : Record) where
     by_rows event plain o done q =
         by_table (Ended event) o (refused r) done (λ why. stays event (refused r why) refl (e.refuses event why (plain why))) q
 
-    allowed_end : (event : Event) → mode_refusal r.mode event ≡ None → Ended event (allowed start r event)
+    allowed_end : (event : Event) → mode_refusal r.mode event ≡ None → Ended event (allowed start r (got l event) event)
     allowed_end Step goes = by_rows Step (λ why. tt) _ _ (λ none. by_mode (is_alone r.mode) refl)
       where
         by_mode : (alone : Bool) → is_alone r.mode ≡ alone
@@ -112,7 +113,7 @@ module _ (start : HistoryState) (r : Record) where
             (at_once alone (step_entries true boxes fs), moved alone is (λ t. step_entries t boxes fs), e.step alone is)
     allowed_end Cut goes = by_rows Cut (λ why. tt) _ _ (λ none. stays Cut (cut_done (outbox_of start r) r) refl e.cut)
     allowed_end Send goes = stays Send (send_done r) refl e.send
-    allowed_end (BackupGet k) goes = by_packet (slice_get r.lines.forward k)
+    allowed_end (BackupGet k) goes = by_packet (slice_get l.forward k)
       where
         by_test : (t : Bool) → Ended (BackupGet k) (cond t (again_done r) (commit_done r))
         by_test true = stays (BackupGet k) (again_done r) refl (e.again k)
@@ -121,9 +122,9 @@ module _ (start : HistoryState) (r : Record) where
         by_packet : (o : Option Packet) → Ended (BackupGet k) (backup_outcome r o)
         by_packet None = stays (BackupGet k) (replies.Lost, r) refl (e.lost k).0
         by_packet (Some p) = by_rows (BackupGet k) (λ why. tt) _ _ (λ none. by_test (nat_lt p.number r.window.to_commit))
-    allowed_end (AckGet k) goes = by_packet (slice_get r.lines.back k) refl
+    allowed_end (AckGet k) goes = by_packet (slice_get l.back k) refl
       where
-        by_packet : (o : Option Packet) → slice_get r.lines.back k ≡ o → Ended (AckGet k) (ack_outcome boxes r o)
+        by_packet : (o : Option Packet) → slice_get l.back k ≡ o → Ended (AckGet k) (ack_outcome boxes r o)
         by_packet None is = stays (AckGet k) (replies.Lost, r) refl (e.lost k).1
         by_packet (Some p) is =
             by_rows (AckGet k) (λ why. tt) _ _ (λ none. (
@@ -166,10 +167,10 @@ module _ (start : HistoryState) (r : Record) where
     allowed_end Protect goes = by_rows Protect (λ why. tt) _ _ (λ none. stays Protect (protect_done r) refl e.protect)
 
     -- a mode refuses no delivery
-    pub outcome_ends : (event : Event) → Ended event (outcome start r event)
+    pub outcome_ends : (event : Event) → Ended event (outcome start r (got l event) event)
     outcome_ends (Deliver c bytes) = allowed_end (Deliver c bytes) refl
     outcome_ends other =
-        by_table (Ended other) (mode_refusal r.mode other) (refused r) (allowed start r other)
+        by_table (Ended other) (mode_refusal r.mode other) (refused r) (allowed start r (got l other) other)
         (λ why. stays other (refused r why) refl (e.refuses other why tt)) (allowed_end other)
 
     wants_memory : (event : Event) → Ended event (refused r (NoMemory wanted))
@@ -177,6 +178,6 @@ module _ (start : HistoryState) (r : Record) where
         stays (Deliver c bytes) (refused r (NoMemory wanted)) refl (e.refuses (Deliver c bytes) (NoMemory wanted) tt)
     wants_memory other = stays other (refused r (NoMemory wanted)) refl (e.refuses other (NoMemory wanted) tt)
 
-    pub answers_end : (event : Event) (reply : Reply) (new : Record) → Answers start r event reply new → Ended event (reply, new)
+    pub answers_end : (event : Event) (reply : Reply) (new : Record) → AnswersIn start r (got l event) event reply new → Ended event (reply, new)
     answers_end event reply new (inl is) = subst (Ended event) (sym is) (outcome_ends event)
     answers_end event reply new (inr is) = subst (Ended event) (λ i. (sym is.1 i, sym is.2 i)) (wants_memory event)

@@ -12,6 +12,7 @@ use Rattle.pair_record.specs.Protocol.{Record, live_at, shown_at, outbox_of, ste
 use Rattle.pair_core.specs.Pair.{is_of_guest}
 use Rattle.pair_core.specs.Service.{Enters, guest_entries}
 use Rattle.pair_record.proofs.JournalLaws.{joined-push}
+use Rattle.pair_core.specs.Lines.{Lines}
 use Rattle.pair_core.proofs.{Ends.{Ends, at_once}, Tells.{OfGuest, first_of-guest, live_all}}
 use Rattle.pair_record.specs.declared.event.Reply.TheVariants as replies
 
@@ -67,11 +68,15 @@ module _ (start : HistoryState) (r : Record) (kept : All OfGuest (kept_entries r
   sealed-stays : kept_entries (sealed_off r.journal) ≡ ahead
   sealed-stays = append-nil (joined (r.journal.sealed ++ r.journal.running ∷ [])) ∙ joined-push r.journal.sealed r.journal.running
 
+  -- an empty epoch adds nothing
+  empty-stays : joined (r.journal.sealed ++ [] ∷ []) ++ r.journal.running ≡ ahead
+  empty-stays = ap (λ t. t ++ r.journal.running) (joined-push r.journal.sealed [] ∙ append-nil (joined r.journal.sealed))
+
   runs-on : (es : List Entry) → joined r.journal.sealed ++ (r.journal.running ++ es) ≡ ahead ++ es
   runs-on es = sym (append_assoc (joined r.journal.sealed) r.journal.running es)
 
-  pub enters_all : Ends start r (λ event es o. Enters event o.0 ahead (guest_entries es) (kept_entries o.1.journal))
-  enters_all = record {
+  pub enters_all : (l : Lines) → Ends start r l (λ event es o. Enters event o.0 ahead (guest_entries es) (kept_entries o.1.journal))
+  enters_all l = record {
     refuses = λ event why plain. refused-enters event why;
     step = step-enters;
     cut = (refl, sealed-stays);
@@ -104,7 +109,7 @@ module _ (start : HistoryState) (r : Record) (kept : All OfGuest (kept_entries r
           (live_all NotOfGuest (λ n. refl) (λ c place. refl) boxes (shown_at start r).out r.journal),
       refl,
     );
-    protect = (refl, sealed-stays);
+    protect = (refl, empty-stays);
   }
     where
       step-enters : (alone : Bool) → is_alone r.mode ≡ alone

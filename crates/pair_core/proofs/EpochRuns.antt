@@ -10,6 +10,7 @@ use Rattle.pair_record.specs.Journal.{Journal, joined, first_of, rest_of, with_m
 use Rattle.pair_record.specs.{Modes.is_alone, Protocol.{Record, Outcome, refused}}
 use Rattle.pair_core.specs.{Nodes.Nodes, Pair.{Pair, IsConsistent}}
 use Rattle.pair_core.specs.Replication.{to_come, number_after, next_number, KeepsBackup, Replicates, Does, Leads}
+use Rattle.pair_core.specs.Lines.{Lines}
 use Rattle.pair_core.proofs.{AlongLaws.along-keeps, Ends.{Ends, answers_end}, Generations.{place-more, next-same, refused_keeps}}
 use Rattle.pair_core.proofs.Consistent.{lone}
 use Rattle.pair_core.proofs.{ModeRows.mode_left, ReplicationLaws.{to_come-ends, length-ends}}
@@ -48,7 +49,7 @@ first-at (x ∷ ess) es e = cc
 abbrev Tells : Record → Reply → List Entry → Record → Type 0
 Tells r (replies.Cut generation number) es q = q.journal.sealed ≡ r.journal.sealed ++ r.journal.running ∷ []
 Tells r (replies.Committed generation number) es q = es ≡ first_of r.journal.sealed
-Tells r (replies.Protecting generation) es q = q.journal.sealed ≡ r.journal.sealed ++ r.journal.running ∷ []
+Tells r (replies.Protecting generation) es q = q.journal.sealed ≡ r.journal.sealed ++ [] ∷ []
 Tells r other es q = Unit {0}
 
 -- where the generation stays and there is a backup after the event, each sealed epoch keeps its place
@@ -76,8 +77,8 @@ module _ (start : HistoryState) (r : Record) (x y : Nodes) where
   later : (event : Event) (es : List Entry) (o : Outcome) → o.1.generation ≡ r.generation + 1 → Tells r o.0 es o.1 → Keeps r x y event es o
   later event es o generation tells = record { tells = tells; stays = λ k two e. absurd (omega arith) }
 
-  keeps_all : Ends start r (Keeps r x y)
-  keeps_all = record {
+  keeps_all : (l : Lines) → Ends start r l (Keeps r x y)
+  keeps_all l = record {
     refuses = λ event why plain. kept event _ (refused r why) refl tt (λ k. subst (λ (A : Type 0). A) (refused_keeps event why x y) k);
     step = λ alone is. kept _ _ _ (sealed-stay (is_alone r.mode) r.journal _) tt (λ k. k);
     cut = record {
@@ -111,17 +112,18 @@ module _ (start : HistoryState) (r : Record) (x y : Nodes) where
 
 -- what an event added to the history, and what it did to the sealed epochs
 keeps : (old new : Pair) (event : Event) (reply : Reply) → Does old event reply new
-    → (es : List Entry) × (new.protocol.journal.history ≡ old.protocol.journal.history ++ es)
-    × Keeps old.protocol old.nodes new.nodes event es (reply, new.protocol)
+    → (es : List Entry) × (new.protocol.state.journal.history ≡ old.protocol.state.journal.history ++ es)
+    × Keeps old.protocol.state old.nodes new.nodes event es (reply, new.protocol.state)
 keeps old new event reply d =
-    answers_end old.start old.protocol _ (keeps_all old.start old.protocol old.nodes new.nodes) event reply new.protocol d.answers
+    answers_end old.start old.protocol.state old.protocol.lines _
+    (keeps_all old.start old.protocol.state old.nodes new.nodes old.protocol.lines) event reply new.protocol.state d.answers.0
 
 -- Once the checkpoint of this generation and number is committed, this epoch enters the history: as long as there is a backup in that
 -- generation, it stands in its place among those that are sealed.
 record Awaits (generation number : ℕ) (es : List Entry) (w : Pair) : Type 0 where
-  begun : generation ≤ w.protocol.generation
-  place : is_alone w.protocol.mode ≡ false → w.protocol.generation ≡ generation
-      → Stands number es (next_number w.nodes) w.protocol.journal.sealed
+  begun : generation ≤ w.protocol.state.generation
+  place : is_alone w.protocol.state.mode ≡ false → w.protocol.state.generation ≡ generation
+      → Stands number es (next_number w.nodes) w.protocol.state.journal.sealed
 
 module _ (generation number : ℕ) (es : List Entry) where
   waits_event : (event : Event) (reply : Reply) (old new : Pair) → Does old event reply new
@@ -142,18 +144,18 @@ module _ (generation number : ℕ) (es : List Entry) where
   waits_along = along-keeps Does (Awaits generation number es) waits_event
 
   enters : (k : ℕ) (old new : Pair) → Does old (BackupGet k) (replies.Committed generation number) new
-      → Awaits generation number es old → new.protocol.journal.history ≡ old.protocol.journal.history ++ es
+      → Awaits generation number es old → new.protocol.state.journal.history ≡ old.protocol.state.journal.history ++ es
   enters k old new d p =
       let c = d.replicates in
       let before = c.before in
       let told = (does old new (BackupGet k) (replies.Committed generation number) d).tells in
       let kept = keeps old new (BackupGet k) (replies.Committed generation number) d in
-      let first = first-at old.protocol.journal.sealed es (p.place told.0 told.1 0 (omega arith)) in
-      kept.1 ∙ ap (λ (t : List Entry). old.protocol.journal.history ++ t) (kept.2.tells ∙ first)
+      let first = first-at old.protocol.state.journal.sealed es (p.place told.0 told.1 0 (omega arith)) in
+      kept.1 ∙ ap (λ (t : List Entry). old.protocol.state.journal.history ++ t) (kept.2.tells ∙ first)
 
 -- as many epochs are sealed as guests are to come
-as-many : (w : Pair) → is_alone w.protocol.mode ≡ false → IsConsistent w → length (to_come w.nodes) ≡ length w.protocol.journal.sealed
-as-many w two k = ap length (to_come-ends w w.protocol.mode two k.mode) ∙ length-ends _ w.protocol.journal.sealed
+as-many : (w : Pair) → is_alone w.protocol.state.mode ≡ false → IsConsistent w → length (to_come w.nodes) ≡ length w.protocol.state.journal.sealed
+as-many w two k = ap length (to_come-ends w w.protocol.state.mode two k.mode) ∙ length-ends _ w.protocol.state.journal.sealed
 
 -- the epoch that was sealed last stands last
 last-stands : (n number : ℕ) (ess fss : List (List Entry)) (es : List Entry) → fss ≡ ess ++ es ∷ [] → n + length fss ≡ number + 1
@@ -164,7 +166,7 @@ last-stands n number ess fss es e long j at =
     (λ i. slice_get (e i) (last i)) ∙ place-last ess es
 
 waits_once_cut : (generation number : ℕ) (old new : Pair) → Does old Cut (replies.Cut generation number) new
-    → Awaits generation number old.protocol.journal.running new
+    → Awaits generation number old.protocol.state.journal.running new
 waits_once_cut generation number old new d =
     let told = (does old new Cut (replies.Cut generation number) d).tells in
     let sealed = (keeps old new Cut (replies.Cut generation number) d).2.tells in
@@ -177,12 +179,12 @@ waits_once_cut generation number old new d =
       begun = omega arith;
       place = λ two e.
           let many = as-many new two d.consistent in
-          last-stands (next_number new.nodes) number old.protocol.journal.sealed new.protocol.journal.sealed old.protocol.journal.running
+          last-stands (next_number new.nodes) number old.protocol.state.journal.sealed new.protocol.state.journal.sealed old.protocol.state.journal.running
           sealed (omega arith);
     }
 
 waits_once_protected : (generation : ℕ) (old new : Pair) → Does old Protect (replies.Protecting generation) new
-    → Awaits generation 0 old.protocol.journal.running new
+    → Awaits generation 0 [] new
 waits_once_protected generation old new d =
     let told = (does old new Protect (replies.Protecting generation) d).tells in
     let sealed = (keeps old new Protect (replies.Protecting generation) d).2.tells in
@@ -193,43 +195,25 @@ waits_once_protected generation old new d =
       begun = omega arith;
       place = λ two e.
           let many = as-many new two d.consistent in
-          last-stands (next_number new.nodes) 0 old.protocol.journal.sealed new.protocol.journal.sealed old.protocol.journal.running
-          sealed (omega arith);
+          last-stands (next_number new.nodes) 0 old.protocol.state.journal.sealed new.protocol.state.journal.sealed [] sealed (omega arith);
     }
 
 pub cut_enters : (cut next late done : Pair) (generation number k : ℕ) (events : List Event) (answers : List Reply)
     → Does cut Cut (replies.Cut generation number) next → Leads next events answers late
     → Does late (BackupGet k) (replies.Committed generation number) done
-    → done.protocol.journal.history ≡ late.protocol.journal.history ++ cut.protocol.journal.running
+    → done.protocol.state.journal.history ≡ late.protocol.state.journal.history ++ cut.protocol.state.journal.running
 cut_enters cut next late done generation number k events answers c l d =
-    let es = cut.protocol.journal.running in
+    let es = cut.protocol.state.journal.running in
     enters generation number es k late done d
     (waits_along generation number es events answers next late l (waits_once_cut generation number cut next c))
 
--- a node that gets a new backup was alone, where nothing is kept
-
-was-alone : (mode : Mode) (to : Mode × ℕ) → row changes.Protect mode ≡ Ok to → is_alone mode ≡ true
-was-alone Alone to e = refl
-was-alone other to e = absurd (cc)
-
-none-follow : (es fs : List Entry) → es ++ fs ≡ [] → fs ≡ []
-none-follow [] fs e = e
-none-follow (x ∷ es) fs e = absurd (cc)
-
-none-ran : (old new : Pair) (generation : ℕ) → IsConsistent old → Does old Protect (replies.Protecting generation) new
-    → old.protocol.journal.running ≡ []
-none-ran old new generation k d =
-    let by_row = mode_left old.start old.protocol Protect (replies.Protecting generation) new.protocol d.answers in
-    let j = old.protocol.journal in
-    none-follow (joined j.sealed) j.running (lone old.protocol.mode old (was-alone old.protocol.mode _ by_row.1) k.mode).kept
+-- the full checkpoint's epoch is empty
 
 pub full_enters : (alone next late done : Pair) (generation k : ℕ) (events : List Event) (answers : List Reply)
     → IsConsistent alone → Does alone Protect (replies.Protecting generation) next → Leads next events answers late
     → Does late (BackupGet k) (replies.Committed generation 0) done
-    → done.protocol.journal.history ≡ late.protocol.journal.history
+    → done.protocol.state.journal.history ≡ late.protocol.state.journal.history
 full_enters alone next late done generation k events answers before c l d =
-    let es = alone.protocol.journal.running in
-    let h = late.protocol.journal.history in
-    enters generation 0 es k late done d
-    (waits_along generation 0 es events answers next late l (waits_once_protected generation alone next c))
-    ∙ ap (λ (t : List Entry). h ++ t) (none-ran alone next generation before c) ∙ append-nil h
+    enters generation 0 [] k late done d
+    (waits_along generation 0 [] events answers next late l (waits_once_protected generation alone next c))
+    ∙ append-nil late.protocol.state.journal.history

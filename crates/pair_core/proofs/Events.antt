@@ -9,16 +9,18 @@ use Rattle.frame_ports.specs.{Lands.list_of, Ports.empty_ports}
 use Rattle.pair_history.specs.{Entries.{Frame, Entry}, HistoryState.{start_state}}
 use Rattle.pair_history.specs.internal.Moves.{Move, Arrives, entries_of, guest_along, frames_along, left, AllCan}
 use Rattle.pair_history.proofs.Moves.{guest_along-append, frames_along-append}
-use Rattle.pair_record.specs.{internal.Accords.{AreClients, all_moves}, Journal.{with_running}, Lines.Lines, Modes.{is_alone, filled}}
-use Rattle.pair_record.specs.{Protocol.{cut_done, commit_done}, Record.{IsRecord, start_record, ports_after_admit}}
-use Rattle.pair_record.proofs.AccordLaws.{kept_now, left_now, moves_accord, arrival_accords, cut_accords, mode_accords, lines_accord}
+use Rattle.pair_record.specs.{internal.Accords.{AreClients, all_moves}, Journal.{with_running}, Modes.{is_alone, filled}}
+use Rattle.pair_record.specs.{Protocol.{cut_done, commit_done}, Record.{IsRecord, ports_after_admit}, Window.with_cut}
+use Rattle.pair_record.specs.Window.{with_commit as with_commit_window}
+use Rattle.pair_record.proofs.AccordLaws.{kept_now, left_now, moves_accord, arrival_accords, mode_accords}
 use Rattle.pair_record.proofs.AccordLaws.{some_moves, some_held, shown_after, commit_with, start_accords}
-use Rattle.pair_record.proofs.ModeLaws.{filled_alone}
-use Rattle.pair_core.specs.internal.Invariant.{AreSealed, AreNodes, Holds}
+use Rattle.pair_record.proofs.{ModeLaws.{clash, filled_alone}, LoneAccords.cut_accords}
+use Rattle.pair_core.specs.internal.Invariant.{AreSealed, AreNodes, Holds, Stands}
+use Rattle.pair_core.specs.Lines.{Lines, packet, with_back, start_protocol, AreNamed}
 use Rattle.pair_core.specs.{Pair.{Pair, shown_state}, Texts.IsText}
 use Rattle.pair_core.specs.Nodes.{Node, HasShape, machine_of, start_nodes, with_arrival, with_sealed, with_commit, first_text}
 use Rattle.pair_core.proofs.NodesLaws.{shape-arrived, base-with_arrival, first-sealed, length-sealed, backed-live, nodes-cut, nodes-start}
-use Rattle.pair_core.proofs.CommitLaws.{nodes-commit}
+use Rattle.pair_core.proofs.{CommitLaws.{nodes-commit}, LineLaws.{named-more, named-back}}
 
 -- THE GUEST GOES ON by moves, in the epoch that runs
 
@@ -27,14 +29,14 @@ module _ (w : Pair) (h : Holds w) (ms : List Move) (live : Node)
     (outbox : live.outbox ≡ w.nodes.live.outbox ++ frames_along w.nodes.live.guest ms)
     (shape : (t : Shape) → HasShape t w.nodes.live.guest → HasShape t live.guest)
     (base : (b : Guest) → IsBase (machine_of w.nodes.live) b → IsBase (machine_of live) b) where
-  pub nodes_moved : AreNodes (is_alone w.protocol.mode) w.protocol.generation w.protocol.window.to_commit (shown_state w).guest
+  pub nodes_moved : AreNodes (is_alone w.protocol.state.mode) w.protocol.state.generation w.protocol.state.window.to_commit (shown_state w).guest
       h.accords.journal.sealed_moves (h.accords.journal.running_moves ++ ms) (record w.nodes { live = live })
   nodes_moved =
       let s = shown_state w in
       let mss = h.accords.journal.sealed_moves in
       let ran = h.accords.journal.running_moves in
       let sealed = all_moves mss in
-      let now = kept_now w.start w.protocol w.ports h.accords in
+      let now = kept_now w.start w.protocol.state w.ports h.accords in
       let regroup : now ++ ms ≡ sealed ++ (ran ++ ms) = append_assoc sealed ran ms in
       let g = guest_along s.guest sealed in
       let live_is : w.nodes.live.guest ≡ guest_along g ran = h.nodes.live ∙ guest_along-append s.guest sealed ran in
@@ -43,7 +45,7 @@ module _ (w : Pair) (h : Holds w) (ms : List Move) (live : Node)
         last_generation = h.nodes.last_generation;
         backed = λ e.
             let b = h.nodes.backed e in
-            backed-live w.protocol.generation w.protocol.window.to_commit s.guest mss w.nodes live b (base g b.base);
+            backed-live w.protocol.state.generation w.protocol.state.window.to_commit s.guest mss w.nodes live b (base g b.base);
         live = guest ∙ ap (λ x. guest_along x ms) h.nodes.live ∙ sym (guest_along-append s.guest now ms)
             ∙ ap (guest_along s.guest) regroup;
         outbox =
@@ -52,82 +54,89 @@ module _ (w : Pair) (h : Holds w) (ms : List Move) (live : Node)
         shape = shape w.nodes.image.shape h.nodes.shape;
       }
 
-  pub moves_hold : (es : List Entry) (inboxes : List (List (ℕ × Frame))) → es ≡ entries_of ms
-      → AllCan (left_now w.start w.protocol w.ports h.accords) ms
-      → AreClients (shown_state w) (left (left_now w.start w.protocol w.ports h.accords) ms) (record w.ports { inboxes = inboxes })
-      → Holds (record w {
-        protocol = record w.protocol { journal = with_running w.protocol.journal es };
+  pub moves_stand : (es : List Entry) (inboxes : List (List (ℕ × Frame))) → es ≡ entries_of ms
+      → AllCan (left_now w.start w.protocol.state w.ports h.accords) ms
+      → AreClients (shown_state w) (left (left_now w.start w.protocol.state w.ports h.accords) ms) (record w.ports { inboxes = inboxes })
+      → Stands (record w {
+        protocol = record w.protocol { state = record w.protocol.state { journal = with_running w.protocol.state.journal es } };
         ports = record w.ports { inboxes = inboxes };
         nodes = record w.nodes { live = live };
       })
-  moves_hold es inboxes es_are can clients = record {
-    accords = moves_accord w.start w.protocol w.ports h.accords ms es inboxes es_are can clients;
-    nodes = nodes_moved;
-  }
+  moves_stand es inboxes es_are can clients =
+      (moves_accord w.start w.protocol.state w.ports h.accords ms es inboxes es_are can clients, nodes_moved, h.lines)
+
+-- in a pair that is all
+pub two_hold : (w : Pair) → is_alone w.protocol.state.mode ≡ false → Stands w → Holds w
+two_hold w two h = record { accords = h.0; lines = h.2; nodes = h.1; still = λ alone. absurd (clash (is_alone w.protocol.state.mode) alone two) }
 
 -- Admit: the first frame of a client arrives
 
-pub admit_holds : (w : Pair) (h : Holds w) (c n : ℕ) (f : Frame) → 1 ≤ c → c ≤ length w.ports.boxes
+pub admit_stands : (w : Pair) (h : Holds w) (c n : ℕ) (f : Frame) → 1 ≤ c → c ≤ length w.ports.boxes
     → slice_get (list_of w.ports.inboxes c) 0 ≡ Some (n, f)
-    → Holds (record w {
-      protocol = record w.protocol { journal = with_running w.protocol.journal (entries_of (Arrives n f ∷ [])) };
+    → Stands (record w {
+      protocol = record w.protocol { state = record w.protocol.state { journal = with_running w.protocol.state.journal (entries_of (Arrives n f ∷ [])) } };
       ports = ports_after_admit w.ports c;
       nodes = with_arrival w.nodes f;
     })
-admit_holds w h c n f low high first = record {
-  accords = (arrival_accords w.start w.protocol w.ports h.accords c n f low high first).1;
-  nodes =
-      nodes_moved w h (Arrives n f ∷ []) (with_arrival w.nodes f).live refl (sym (append-nil w.nodes.live.outbox))
-      (λ t k. shape-arrived f t w.nodes.live.guest k) (λ b k. base-with_arrival f w.nodes b k);
-}
+admit_stands w h c n f low high first = (
+  (arrival_accords w.start w.protocol.state w.ports h.accords c n f low high first).1,
+  nodes_moved w h (Arrives n f ∷ []) (with_arrival w.nodes f).live refl (sym (append-nil w.nodes.live.outbox))
+      (λ t k. shape-arrived f t w.nodes.live.guest k) (λ b k. base-with_arrival f w.nodes b k),
+  h.lines,
+)
 
 -- CUT: the running epoch is sealed
 
-module _ (w : Pair) (h : Holds w) (k : IsRecord w.protocol) (text : List ℕ)
+module _ (w : Pair) (h : Holds w) (k : IsRecord w.protocol.state) (text : List ℕ)
     (is_text : (base : Guest) → IsBase (machine_of w.nodes.live) base → HasShape w.nodes.image.shape w.nodes.live.guest
-    → IsText w.nodes.image.shape w.protocol.generation w.protocol.window.to_cut base w.nodes.live.guest text) where
-  pub cut_holds : Holds (record w { protocol = (cut_done w.nodes.live.outbox w.protocol).1; nodes = with_sealed w.nodes text })
+    → IsText w.nodes.image.shape w.protocol.state.generation w.protocol.state.window.to_cut base w.nodes.live.guest text) where
+  pub cut_holds : Holds (record w { protocol = record w.protocol { state = (cut_done w.nodes.live.outbox w.protocol.state).1 }; nodes = with_sealed w.nodes text })
   cut_holds =
       let s = shown_state w in
       let mss = h.accords.journal.sealed_moves in
-      let counted : w.protocol.window.to_commit + length mss ≡ w.protocol.window.to_cut =
-      ap (λ (m : ℕ). w.protocol.window.to_commit + m) (sym (ap length h.accords.journal.sealed_are ∙ length-map mss entries_of))
+      let counted : w.protocol.state.window.to_commit + length mss ≡ w.protocol.state.window.to_cut =
+      ap (λ (m : ℕ). w.protocol.state.window.to_commit + m) (sym (ap length h.accords.journal.sealed_are ∙ length-map mss entries_of))
       ∙ k.sealed in
       record {
-        accords = cut_accords w.start w.protocol w.ports h.accords k w.nodes.live.outbox h.nodes.outbox;
+        accords = cut_accords w.start w.protocol.state w.ports h.accords w.nodes.live.outbox k h.nodes.outbox;
+        lines = named-more w.protocol.state w.protocol.lines h.lines (with_cut w.protocol.state.window) (omega arith) (omega arith);
         nodes =
-            nodes-cut (is_alone w.protocol.mode) w.protocol.generation w.protocol.window.to_commit s.guest mss
-            h.accords.journal.running_moves w.nodes w.protocol.window.to_cut text h.nodes counted
+            nodes-cut (is_alone w.protocol.state.mode) w.protocol.state.generation w.protocol.state.window.to_commit s.guest mss
+            h.accords.journal.running_moves w.nodes w.protocol.state.window.to_cut text h.nodes counted
             (λ e. is_text (guest_along s.guest (all_moves mss)) (h.nodes.backed e).base h.nodes.shape);
+        still = λ e. refl;
       }
 
 -- SEND, and an acknowledgement sent again: only the lines
 
-pub lines_hold : (w : Pair) → Holds w → (l : Lines) → Holds (record w { protocol = record w.protocol { lines = l } })
-lines_hold w h l = record { accords = lines_accord w.start w.protocol w.ports h.accords l; nodes = h.nodes }
+pub lines_hold : (w : Pair) → Holds w → (l : Lines) → AreNamed w.protocol.state.generation w.protocol.state.window l
+    → Holds (record w { protocol = record w.protocol { lines = l } })
+lines_hold w h l named = record { accords = h.accords; lines = named; nodes = h.nodes; still = h.still }
 
 -- FAILPRIMARY: only the mode
 
-pub mode_holds : (w : Pair) → Holds w → (mode : Mode) → is_alone w.protocol.mode ≡ is_alone mode
-    → Holds (record w { protocol = record w.protocol { mode = mode } })
+pub mode_holds : (w : Pair) → Holds w → (mode : Mode) → is_alone w.protocol.state.mode ≡ is_alone mode
+    → Holds (record w { protocol = record w.protocol { state = record w.protocol.state { mode = mode } } })
 mode_holds w h mode same = record {
-  accords = mode_accords w.start w.protocol w.ports h.accords mode;
+  accords = mode_accords w.start w.protocol.state w.ports h.accords mode;
+  lines = h.lines;
   nodes = rw (← same) h.nodes;
+  still = λ e. h.still (same ∙ e);
 }
 
 -- each checkpoint that was cut and not committed has its text
-module _ (w : Pair) (h : Holds w) (k : IsRecord w.protocol) (two : is_alone w.protocol.mode ≡ false)
-    (more : w.protocol.window.to_commit < w.protocol.window.to_cut) where
+module _ (w : Pair) (h : Holds w) (k : IsRecord w.protocol.state) (two : is_alone w.protocol.state.mode ≡ false)
+    (more : w.protocol.state.window.to_commit < w.protocol.state.window.to_cut) where
   abbrev IsOldest : Guest → List (List ℕ) → Type 0
   IsOldest after texts =
       (0 < length texts)
-      × IsText w.nodes.image.shape w.protocol.generation w.protocol.window.to_commit (shown_state w).guest after (first_text texts)
+      × IsText w.nodes.image.shape w.protocol.state.generation w.protocol.state.window.to_commit (shown_state w).guest after (first_text texts)
 
   pub oldest_text : (after : Guest) × IsOldest after w.nodes.sealed
   oldest_text = by_moves h.accords.journal.sealed_moves (h.nodes.backed two).sealed
-      (some_moves w.start w.protocol w.ports h.accords k more)
+      (some_moves w.start w.protocol.state w.ports h.accords k more)
     where
-      by_moves : (mss : List (List Move)) → AreSealed w.nodes.image.shape w.protocol.generation w.protocol.window.to_commit
+      by_moves : (mss : List (List Move)) → AreSealed w.nodes.image.shape w.protocol.state.generation w.protocol.state.window.to_commit
           (shown_state w).guest mss w.nodes.sealed
           → 0 < length mss → (after : Guest) × IsOldest after w.nodes.sealed
       by_moves [] s l = absurd (omega arith)
@@ -135,17 +144,23 @@ module _ (w : Pair) (h : Holds w) (k : IsRecord w.protocol) (two : is_alone w.pr
 
 -- COMMIT: the oldest sealed epoch moves to the history, and the image takes its checkpoint in
 
-module _ (w : Pair) (h : Holds w) (k : IsRecord w.protocol) (two : is_alone w.protocol.mode ≡ false) where
+module _ (w : Pair) (h : Holds w) (k : IsRecord w.protocol.state) (two : is_alone w.protocol.state.mode ≡ false) where
   abbrev pub after_commit : Pair
-  after_commit = record w { protocol = (commit_done w.protocol).1; nodes = with_commit w.nodes }
+  after_commit = record w {
+    protocol = record {
+      state = (commit_done w.protocol.state).1;
+      lines = with_back w.protocol.lines (packet w.protocol.state.generation w.protocol.state.window.to_commit);
+    };
+    nodes = with_commit w.nodes;
+  }
 
-  pub commit_holds : w.protocol.window.to_commit < w.protocol.window.to_cut → Holds after_commit
-  commit_holds more = by_lists h.accords.journal.sealed_moves refl (some_moves w.start w.protocol w.ports h.accords k more)
+  pub commit_holds : w.protocol.state.window.to_commit < w.protocol.state.window.to_cut → Holds after_commit
+  commit_holds more = by_lists h.accords.journal.sealed_moves refl (some_moves w.start w.protocol.state w.ports h.accords k more)
     where
       by_lists : (sealed : List (List Move)) (p : h.accords.journal.sealed_moves ≡ sealed) → 0 < length sealed → Holds after_commit
       by_lists [] p l = absurd (omega arith)
       by_lists (ms ∷ mss) p l =
-          let r = w.protocol in
+          let r = w.protocol.state in
           let s = shown_state w in
           let n = r.window.to_commit in
           let ran = h.accords.journal.running_moves in
@@ -156,10 +171,14 @@ module _ (w : Pair) (h : Holds w) (k : IsRecord w.protocol) (two : is_alone w.pr
           let held = some_held w.start r w.ports h.accords k (some_moves w.start r w.ports h.accords k more) in
           record {
             accords = commit_with w.start r w.ports h.accords k ms mss p held.0 held.1 held.2;
+            lines =
+                named-back (commit_done r).1 w.protocol.lines (named-more r w.protocol.lines h.lines (with_commit_window r.window) (omega arith)
+                (omega arith)) n (omega arith);
             nodes =
                 subst (λ (g : Guest). AreNodes (is_alone (filled r.mode)) r.generation (n + 1) g mss ran (with_commit w.nodes))
                 (ap (λ t. t.guest) (sym shown))
                 (nodes-commit (is_alone (filled r.mode)) r.generation n s.guest ms mss ran w.nodes now (same ∙ two));
+            still = λ e. h.still (sym same ∙ e);
           }
 
 -- WHERE A PAIR STARTS
@@ -167,7 +186,7 @@ module _ (w : Pair) (h : Holds w) (k : IsRecord w.protocol) (two : is_alone w.pr
 abbrev pub start_pair : Shape → List ℕ → ℕ → Pair
 start_pair shape image clients = record {
   start = start_state shape.pages shape.sectors image clients;
-  protocol = start_record;
+  protocol = start_protocol;
   ports = empty_ports clients;
   nodes = start_nodes shape image;
 }
@@ -176,5 +195,7 @@ pub start_holds : (shape : Shape) (image : List ℕ) (clients : ℕ) → length 
     → Holds (start_pair shape image clients)
 start_holds shape image clients fits = record {
   accords = start_accords shape.pages shape.sectors image clients;
+  lines = record { forward = tt; back = tt };
   nodes = nodes-start shape image fits;
+  still = λ e. refl;
 }

@@ -11,6 +11,7 @@ use Rattle.pair_core.specs.Nodes.{Nodes}
 use Rattle.pair_record.specs.Protocol.{Record, Outcome, refused}
 use Rattle.pair_core.specs.Replication.{to_come, number_after, next_number, IsCut, IsCommit, KeepsBackup, Replicates}
 use Rattle.pair_record.proofs.ModeLaws.{backup_goes, stop_goes}
+use Rattle.pair_core.specs.Lines.{Lines}
 use Rattle.pair_core.proofs.Ends.{Ends}
 use Rattle.pair_record.specs.declared.event.Reply.TheVariants as replies
 
@@ -91,8 +92,8 @@ module _ (start : HistoryState) (r : Record) (x y : Nodes) where
       → (Replicates event o.0 x y → KeepsBackup x y) → Goes r x y event o
   kept event o generation mode tells keeps = same event o generation (λ e. ap is_alone (sym mode) ∙ e) tells (λ k. stays_kept x y (keeps k))
 
-  pub goes_all : Ends start r (λ event es o. Goes r x y event o)
-  goes_all = record {
+  pub goes_all : (l : Lines) → Ends start r l (λ event es o. Goes r x y event o)
+  goes_all l = record {
     refuses = λ event why plain. kept event (refused r why) refl refl tt (λ k. subst (λ (A : Type 0). A) (refused_keeps event why x y) k);
     step = λ alone is. kept _ _ refl refl tt (λ k. k);
     cut = same _ _ refl (λ e. e) refl (stays_cut r.window.to_cut x y);

@@ -1,19 +1,20 @@
 -- Where the backup goes live: what was kept is discarded, and the guest is the history's.
 use Rattle.std.proofs.Common.{◌≡◌, ℕ, ◌+◌, ◌<◌, ◌≤◌, [], refl, sym, subst, arith, true, false}
 use Rattle.frame_ports.specs.Limits.{number_limit}
-use Rattle.pair_record.specs.{Modes.is_alone, Record.owed_to, Protocol.go_live_done}
+use Rattle.pair_record.specs.{Modes.is_alone, Record.owed_to, Protocol.go_live_done, Window.none_pending}
 use Rattle.pair_record.proofs.LiveAccords.{live_shown_is, live_accords}
 use Rattle.pair_core.specs.internal.Invariant.{AreNodes, Holds}
 use Rattle.pair_core.specs.{Nodes.{HasShape, gone_live}, Pair.{Pair, shown_state}}
+use Rattle.pair_core.proofs.LineLaws.{named-next}
 
-module _ (w : Pair) (h : Holds w) (two : is_alone w.protocol.mode ≡ false) (some : 1 ≤ w.protocol.window.to_commit) (steps : ℕ)
-    (last : w.protocol.generation + 1 < number_limit) where
+module _ (w : Pair) (h : Holds w) (two : is_alone w.protocol.state.mode ≡ false) (some : 1 ≤ w.protocol.state.window.to_commit) (steps : ℕ)
+    (last : w.protocol.state.generation + 1 < number_limit) where
   pub gone_live_holds : Holds (record w {
-    protocol = (go_live_done w.ports.boxes (owed_to w.protocol w.ports) steps w.protocol).1;
+    protocol = record w.protocol { state = (go_live_done w.ports.boxes (owed_to w.protocol.state w.ports) steps w.protocol.state).1 };
     nodes = gone_live w.nodes;
   })
   gone_live_holds =
-      let r = w.protocol in
+      let r = w.protocol.state in
       let s = shown_state w in
       let backed = h.nodes.backed two in
       let image = (backed.follows some).image in
@@ -28,5 +29,7 @@ module _ (w : Pair) (h : Holds w) (two : is_alone w.protocol.mode ≡ false) (so
       } in
       record {
         accords = live_accords w.start r w.ports h.accords steps;
+        lines = named-next r w.protocol.lines h.lines (none_pending r.window.to_commit);
         nodes = rw (live_shown_is w.start r w.ports h.accords) nodes;
+        still = λ e. refl;
       }

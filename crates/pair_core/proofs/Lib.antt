@@ -1,3 +1,4 @@
+pub mod LineLaws
 pub mod AlongLaws
 pub mod NodesLaws
 pub mod CommitLaws

@@ -38,42 +38,42 @@ numbered (Some x) n e = let is : x.0 ≡ n = cc in (x.1, λ i. Some (is i, x.1))
 -- what it looks at
 
 module _ (w : Pair) (h : Holds w) where
-  pub lose_in_sight : (c place : ℕ) → on_lose_in (seen w) w.protocol c place ≡ allowed w.start w.protocol (LoseIn c place)
+  pub lose_in_sight : (c place : ℕ) → on_lose_in (seen w) w.protocol.state c place ≡ allowed w.start w.protocol.state None (LoseIn c place)
   lose_in_sight c place =
       by_test (not (is_among c (length w.ports.boxes))) refl
-      ∙ ap (λ (b : List (List Frame)). on_lose_in (record (sight w.start w.protocol) { boxes = b }) w.protocol c place)
+      ∙ ap (λ (b : List (List Frame)). on_lose_in (record (sight w.start w.protocol.state) { boxes = b }) w.protocol.state c place)
       h.accords.clients.boxes
     where
       by_test : (t : Bool) → not (is_among c (length w.ports.boxes)) ≡ t
-          → unless w.protocol ((t, NoClient) ∷ []) (loss_of w.protocol (lost_in (list_of w.ports.inboxes c) place))
-          ≡ unless w.protocol ((t, NoClient) ∷ []) (loss_of w.protocol (lost_in (inbox_of c (live_state w).waiting) place))
+          → unless w.protocol.state ((t, NoClient) ∷ []) (loss_of w.protocol.state (lost_in (list_of w.ports.inboxes c) place))
+          ≡ unless w.protocol.state ((t, NoClient) ∷ []) (loss_of w.protocol.state (lost_in (inbox_of c (live_state w).waiting) place))
       by_test true e = refl
       by_test false e = search (arith, rules, client_range, inbox_is)
 
-  pub lose_out_sight : (c place : ℕ) → on_lose_out (seen w) w.protocol c place ≡ allowed w.start w.protocol (LoseOut c place)
+  pub lose_out_sight : (c place : ℕ) → on_lose_out (seen w) w.protocol.state c place ≡ allowed w.start w.protocol.state None (LoseOut c place)
   lose_out_sight c place =
-      ap (λ (b : List (List Frame)). on_lose_out (record (sight w.start w.protocol) { boxes = b }) w.protocol c place)
+      ap (λ (b : List (List Frame)). on_lose_out (record (sight w.start w.protocol.state) { boxes = b }) w.protocol.state c place)
       h.accords.clients.boxes
 
 -- step by step: the client, the place, the table
 module _ (w : Pair) (event : Event) (c : ℕ) (lost : Option Entry)
-    (sight : unless w.protocol (client_refusals (length w.ports.boxes) c) (loss_of w.protocol lost) ≡ allowed w.start w.protocol event)
+    (sight : unless w.protocol.state (client_refusals (length w.ports.boxes) c) (loss_of w.protocol.state lost) ≡ allowed w.start w.protocol.state None event)
     (client : Option Refusal) (is : client ≡ first_refusal (client_refusals (length w.ports.boxes) c)) (none : client ≡ None) where
-  loses : (o : Option Entry) → lost ≡ o → loss_of w.protocol o ≡ allowed w.start w.protocol event
+  loses : (o : Option Entry) → lost ≡ o → loss_of w.protocol.state o ≡ allowed w.start w.protocol.state None event
   loses o e =
-      ap (loss_of w.protocol) (sym e)
-      ∙ goes w.protocol (client_refusals (length w.ports.boxes) c) (loss_of w.protocol lost) client is none
+      ap (loss_of w.protocol.state) (sym e)
+      ∙ goes w.protocol.state (client_refusals (length w.ports.boxes) c) (loss_of w.protocol.state lost) client is none
       ∙ sight
 
-  pub loss_empty : lost ≡ None → (replies.Empty, w.protocol) ≡ allowed w.start w.protocol event
+  pub loss_empty : lost ≡ None → (replies.Empty, w.protocol.state) ≡ allowed w.start w.protocol.state None event
   loss_empty = loses None
 
-  module _ (e : Entry) (some : lost ≡ Some e) (o : Option Refusal) (row : o ≡ first_refusal (loss_refusals w.protocol)) where
-    pub loss_stops : (why : Refusal) → o ≡ Some why → refused w.protocol why ≡ allowed w.start w.protocol event
-    loss_stops why k = stops w.protocol (loss_refusals w.protocol) (loss_done w.protocol e) o why row k ∙ loses (Some e) some
+  module _ (e : Entry) (some : lost ≡ Some e) (o : Option Refusal) (row : o ≡ first_refusal (loss_refusals w.protocol.state)) where
+    pub loss_stops : (why : Refusal) → o ≡ Some why → refused w.protocol.state why ≡ allowed w.start w.protocol.state None event
+    loss_stops why k = stops w.protocol.state (loss_refusals w.protocol.state) (loss_done w.protocol.state e) o why row k ∙ loses (Some e) some
 
-    pub loss_goes : o ≡ None → loss_done w.protocol e ≡ allowed w.start w.protocol event
-    loss_goes k = goes w.protocol (loss_refusals w.protocol) (loss_done w.protocol e) o row k ∙ loses (Some e) some
+    pub loss_goes : o ≡ None → loss_done w.protocol.state e ≡ allowed w.start w.protocol.state None event
+    loss_goes k = goes w.protocol.state (loss_refusals w.protocol.state) (loss_done w.protocol.state e) o row k ∙ loses (Some e) some
 
-    pub loss_wants : o ≡ None → MayWantMemory w.protocol (allowed w.start w.protocol event)
+    pub loss_wants : o ≡ None → MayWantMemory w.protocol.state (allowed w.start w.protocol.state None event)
     loss_wants k = rw (← loss_goes k) tt

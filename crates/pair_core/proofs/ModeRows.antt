@@ -8,7 +8,7 @@ use Rattle.pair_record.specs.declared.event.Event.{Event}
 use Rattle.pair_record.specs.declared.event.Event.TheVariants.{FailPrimary, FailBackup, GoLive, Protect}
 use Rattle.pair_record.specs.{declared.event.Refusal.Refusal, declared.event.Refusal.TheVariants.NoMemory, declared.event.Reply.Reply}
 use Rattle.pair_record.specs.Modes.{change_refusal, mode_refusal}
-use Rattle.pair_core.specs.{Answering.Answers, ModeChanges.{event_of, LeavesMode}}
+use Rattle.pair_core.specs.{Answering.{Answers, AnswersIn}, Lines.{Lines, Protocol, got}, ModeChanges.{event_of, LeavesMode}}
 use Rattle.pair_record.specs.Protocol.{Record, Outcome, allowed, outcome, or_else, first_refusal, refused, shown_at, outbox_of}
 use Rattle.pair_record.specs.Protocol.{fail_primary_done, fail_backup_refusals, fail_backup_done, go_live_refusals, go_live_done}
 use Rattle.pair_record.specs.Protocol.{protect_refusals, protect_done}
@@ -66,8 +66,8 @@ module _ (start : HistoryState) (r : Record) where
   other_refuses Protect why = tt
   other_refuses other why = (refl, refl)
 
-  others : Ends start r Other
-  others = record {
+  others : (l : Lines) → Ends start r l Other
+  others l = record {
     refuses = λ event why plain. other_refuses event why;
     step = λ alone is. (refl, refl);
     cut = (refl, refl);
@@ -94,25 +94,30 @@ module _ (start : HistoryState) (r : Record) where
       → Left event (or_else o (refused r) done)
   by_rows event o done goes = by_table (Left event) o (refused r) done (refuses event) goes
 
-  event_left : (event : Event) → Left event (outcome start r event)
-  event_left FailPrimary =
+  event_left : (l : Lines) (event : Event) → Left event (outcome start r (got l event) event)
+  event_left l FailPrimary =
       by_rows FailPrimary (mode_refusal r.mode FailPrimary) (fail_primary_done r) (λ goes. (0, stops r.mode goes, omega arith))
-  event_left FailBackup =
+  event_left l FailBackup =
       let boxes = (shown_at start r).boxes in
       let done = fail_backup_done boxes (outbox_of start r) r in
-      by_rows FailBackup (mode_refusal r.mode FailBackup) (allowed start r FailBackup)
+      by_rows FailBackup (mode_refusal r.mode FailBackup) (allowed start r None FailBackup)
       (λ goes. by_rows FailBackup (first_refusal (fail_backup_refusals boxes (outbox_of start r) r)) done
       (λ none. (0, leaves r.mode goes, omega arith)))
-  event_left GoLive =
+  event_left l GoLive =
       let s = shown_at start r in
-      by_rows GoLive (mode_refusal r.mode GoLive) (allowed start r GoLive)
+      by_rows GoLive (mode_refusal r.mode GoLive) (allowed start r None GoLive)
       (λ goes. by_rows GoLive (first_refusal (go_live_refusals s.boxes s.out r)) (go_live_done s.boxes s.out s.guest.steps r)
       (λ none. (1, lives r.mode goes, refl)))
-  event_left Protect =
-      by_rows Protect (mode_refusal r.mode Protect) (allowed start r Protect)
+  event_left l Protect =
+      by_rows Protect (mode_refusal r.mode Protect) (allowed start r None Protect)
       (λ goes. by_rows Protect (first_refusal (protect_refusals r)) (protect_done r) (λ none. (1, protects r.mode goes, refl)))
-  event_left other = (outcome_ends start r Other others other).2
+  event_left l other = (outcome_ends start r l Other (others l) other).2
 
-  pub mode_left : (event : Event) (reply : Reply) (new : Record) → Answers start r event reply new → LeavesMode event r reply new
-  mode_left event reply new (inl is) = subst (Left event) (sym is) (event_left event)
-  mode_left event reply new (inr is) = subst (Left event) (λ i. (sym is.1 i, sym is.2 i)) (refuses event (NoMemory wanted))
+pub mode_left : (start : HistoryState) (old new : Protocol) (event : Event) (reply : Reply) → Answers start old event reply new
+    → LeavesMode event old.state reply new.state
+mode_left start old new event reply a = by_answer a.0
+  where
+    by_answer : AnswersIn start old.state (got old.lines event) event reply new.state → LeavesMode event old.state reply new.state
+    by_answer (inl is) = subst (Left start old.state event) (sym is) (event_left start old.state old.lines event)
+    by_answer (inr is) =
+        subst (Left start old.state event) (λ i. (sym is.1 i, sym is.2 i)) (refuses start old.state event (NoMemory wanted))

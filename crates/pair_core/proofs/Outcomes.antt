@@ -69,55 +69,55 @@ seen w = record {
   steps = (next w.nodes.live.guest).steps;
   resumed = w.nodes.image.guest.steps;
   boxes = w.ports.boxes;
-  owed = owed_to w.protocol w.ports;
+  owed = owed_to w.protocol.state w.ports;
   inbox = λ c. list_of w.ports.inboxes c;
   number = w.ports.next;
 }
 
 module _ (w : Pair) (h : Holds w) where
-  pub step_sight : on_step (seen w) w.protocol ≡ step_outcome w.start w.protocol
+  pub step_sight : on_step (seen w) w.protocol.state ≡ step_outcome w.start w.protocol.state
   step_sight = search (arith, rules, live_is, outbox_is)
 
-  pub cut_sight : on_cut (seen w) w.protocol ≡ allowed w.start w.protocol Cut
-  cut_sight = ap (λ (fs : List Frame). unless w.protocol (cut_refusals w.protocol) (cut_done fs w.protocol)) (sym (outbox_is w h))
+  pub cut_sight : on_cut (seen w) w.protocol.state ≡ allowed w.start w.protocol.state None Cut
+  cut_sight = ap (λ (fs : List Frame). unless w.protocol.state (cut_refusals w.protocol.state) (cut_done fs w.protocol.state)) (sym (outbox_is w h))
 
-  pub fail_backup_sight : on_fail_backup (seen w) w.protocol ≡ allowed w.start w.protocol FailBackup
+  pub fail_backup_sight : on_fail_backup (seen w) w.protocol.state ≡ allowed w.start w.protocol.state None FailBackup
   fail_backup_sight = search (arith, rules, outbox_is)
 
   pub inbox_is : (c : ℕ) → 1 ≤ c → c ≤ length w.ports.boxes → list_of w.ports.inboxes c ≡ inbox_of c (live_state w).waiting
   inbox_is c low high = h.accords.clients.inboxes c low high ∙ ap (inbox_of c) (sym (live_waiting w h))
 
   -- where no client has the number, what would wait of it doesn't count
-  pub admit_sight : (c : ℕ) → on_admit (seen w) w.protocol c ≡ allowed w.start w.protocol (Admit c)
+  pub admit_sight : (c : ℕ) → on_admit (seen w) w.protocol.state c ≡ allowed w.start w.protocol.state None (Admit c)
   admit_sight c =
       by_test (not (is_among c (length w.ports.boxes))) refl
-      ∙ ap (λ (b : List (List Frame)). on_admit (record (sight w.start w.protocol) { boxes = b }) w.protocol c) h.accords.clients.boxes
+      ∙ ap (λ (b : List (List Frame)). on_admit (record (sight w.start w.protocol.state) { boxes = b }) w.protocol.state c) h.accords.clients.boxes
     where
       rows : Bool → List Row
-      rows t = (t, NoClient) ∷ (is_stopped w.protocol.mode, Stopped) ∷ []
+      rows t = (t, NoClient) ∷ (is_stopped w.protocol.state.mode, Stopped) ∷ []
 
       by_test : (t : Bool) → not (is_among c (length w.ports.boxes)) ≡ t
-          → unless w.protocol (rows t) (admit_first w.protocol (slice_get (list_of w.ports.inboxes c) 0))
-          ≡ unless w.protocol (rows t) (admit_first w.protocol (slice_get (inbox_of c (live_state w).waiting) 0))
+          → unless w.protocol.state (rows t) (admit_first w.protocol.state (slice_get (list_of w.ports.inboxes c) 0))
+          ≡ unless w.protocol.state (rows t) (admit_first w.protocol.state (slice_get (inbox_of c (live_state w).waiting) 0))
       by_test true e = refl
       by_test false e =
           let range = client_range c (length w.ports.boxes) e in
-          ap (λ xs. unless w.protocol (rows false) (admit_first w.protocol (slice_get xs 0))) (inbox_is c range.0 range.1)
+          ap (λ xs. unless w.protocol.state (rows false) (admit_first w.protocol.state (slice_get xs 0))) (inbox_is c range.0 range.1)
 
   -- the table of a delivery, by its first test
   abbrev at_rows : ℕ → List ℕ → Bool → List (ℕ × Frame) → Outcome
   at_rows c bytes t inbox =
-      or_else (first_refusal ((t, NoClient) ∷ (is_bad_length (length bytes), BadFrame) ∷ (exhausts w.protocol 1, Exhausted)
+      or_else (first_refusal ((t, NoClient) ∷ (is_bad_length (length bytes), BadFrame) ∷ (exhausts w.protocol.state 1, Exhausted)
       ∷ (nat_le inbox_frames (length inbox), Full) ∷ (nat_le number_limit (shown_state w).number, Exhausted) ∷ []))
-      (delivery_refused w.protocol c (record { items = bytes }))
-      (deliver_done w.protocol c (record { items = bytes }) (shown_state w).number)
+      (delivery_refused w.protocol.state c (record { items = bytes }))
+      (deliver_done w.protocol.state c (record { items = bytes }) (shown_state w).number)
 
   pub deliver_sight : (c : ℕ) (bytes : List ℕ)
-      → on_deliver (seen w) w.protocol c bytes ≡ on_deliver (sight w.start w.protocol) w.protocol c bytes
+      → on_deliver (seen w) w.protocol.state c bytes ≡ on_deliver (sight w.start w.protocol.state) w.protocol.state c bytes
   deliver_sight c bytes =
-      ap (λ (n : ℕ). on_deliver (record (seen w) { number = n }) w.protocol c bytes) h.accords.clients.number
+      ap (λ (n : ℕ). on_deliver (record (seen w) { number = n }) w.protocol.state c bytes) h.accords.clients.number
       ∙ by_test (not (is_among c (length w.ports.boxes))) refl
-      ∙ ap (λ (b : List (List Frame)). on_deliver (record (sight w.start w.protocol) { boxes = b }) w.protocol c bytes)
+      ∙ ap (λ (b : List (List Frame)). on_deliver (record (sight w.start w.protocol.state) { boxes = b }) w.protocol.state c bytes)
       h.accords.clients.boxes
     where
       by_test : (t : Bool) → not (is_among c (length w.ports.boxes)) ≡ t
@@ -128,55 +128,55 @@ module _ (w : Pair) (h : Holds w) where
           ap (at_rows c bytes false) (inbox_is c range.0 range.1)
 
   -- ADMIT, step by step: the client, the inbox, the table
-  module _ (c : ℕ) (client : Option Refusal) (is : client ≡ first_refusal (arrival_refusals (length w.ports.boxes) w.protocol c))
+  module _ (c : ℕ) (client : Option Refusal) (is : client ≡ first_refusal (arrival_refusals (length w.ports.boxes) w.protocol.state c))
       (none : client ≡ None)
     where
       admits : (o : Option (ℕ × Frame)) → slice_get (list_of w.ports.inboxes c) 0 ≡ o
-          → admit_first w.protocol o ≡ allowed w.start w.protocol (Admit c)
+          → admit_first w.protocol.state o ≡ allowed w.start w.protocol.state None (Admit c)
       admits o e = search (arith, rules, admit_sight, goes)
 
-      pub admit_empty : length (list_of w.ports.inboxes c) ≡ 0 → (replies.Empty, w.protocol) ≡ allowed w.start w.protocol (Admit c)
+      pub admit_empty : length (list_of w.ports.inboxes c) ≡ 0 → (replies.Empty, w.protocol.state) ≡ allowed w.start w.protocol.state None (Admit c)
       admit_empty e = admits None (no_first (list_of w.ports.inboxes c) e)
 
       module _ (some : length (list_of w.ports.inboxes c) ≡ 0 → ⊥)
-          (o : Option Refusal) (row : o ≡ first_refusal (admit_refusals w.protocol)) where
-        pub admit_stops : (why : Refusal) → o ≡ Some why → refused w.protocol why ≡ allowed w.start w.protocol (Admit c)
+          (o : Option Refusal) (row : o ≡ first_refusal (admit_refusals w.protocol.state)) where
+        pub admit_stops : (why : Refusal) → o ≡ Some why → refused w.protocol.state why ≡ allowed w.start w.protocol.state None (Admit c)
         admit_stops why e =
             let first = some_first (list_of w.ports.inboxes c) some in
-            stops w.protocol (admit_refusals w.protocol) (admit_done w.protocol first.0.0) o why row e ∙ admits (Some first.0) first.1
+            stops w.protocol.state (admit_refusals w.protocol.state) (admit_done w.protocol.state first.0.0) o why row e ∙ admits (Some first.0) first.1
 
         pub admit_goes : (n : ℕ) (f : Frame) → slice_get (list_of w.ports.inboxes c) 0 ≡ Some (n, f) → o ≡ None
-            → admit_done w.protocol n ≡ allowed w.start w.protocol (Admit c)
-        admit_goes n f first e = goes w.protocol (admit_refusals w.protocol) (admit_done w.protocol n) o row e ∙ admits (Some (n, f)) first
+            → admit_done w.protocol.state n ≡ allowed w.start w.protocol.state None (Admit c)
+        admit_goes n f first e = goes w.protocol.state (admit_refusals w.protocol.state) (admit_done w.protocol.state n) o row e ∙ admits (Some (n, f)) first
 
-        pub admit_wants : o ≡ None → MayWantMemory w.protocol (allowed w.start w.protocol (Admit c))
+        pub admit_wants : o ≡ None → MayWantMemory w.protocol.state (allowed w.start w.protocol.state None (Admit c))
         admit_wants e =
             let first = some_first (list_of w.ports.inboxes c) some in
             rw (← admit_goes first.0.0 first.0.1 first.1 e) tt
 
   -- DELIVER, by its table
   module _ (c : ℕ) (bytes : List ℕ) (o : Option Refusal)
-      (row : o ≡ first_refusal (deliver_refusals (length w.ports.boxes) (list_of w.ports.inboxes c) w.ports.next w.protocol c bytes)) where
+      (row : o ≡ first_refusal (deliver_refusals (length w.ports.boxes) (list_of w.ports.inboxes c) w.ports.next w.protocol.state c bytes)) where
     by_table : (x : Option Refusal) → o ≡ x
-        → or_else x (delivery_refused w.protocol c (record { items = bytes }))
-        (deliver_done w.protocol c (record { items = bytes }) w.ports.next)
-        ≡ on_deliver (sight w.start w.protocol) w.protocol c bytes
+        → or_else x (delivery_refused w.protocol.state c (record { items = bytes }))
+        (deliver_done w.protocol.state c (record { items = bytes }) w.ports.next)
+        ≡ on_deliver (sight w.start w.protocol.state) w.protocol.state c bytes
     by_table x e = search (arith, rules, deliver_sight)
 
-    pub deliver_goes : o ≡ None → deliver_done w.protocol c (record { items = bytes }) w.ports.next
-        ≡ on_deliver (sight w.start w.protocol) w.protocol c bytes
+    pub deliver_goes : o ≡ None → deliver_done w.protocol.state c (record { items = bytes }) w.ports.next
+        ≡ on_deliver (sight w.start w.protocol.state) w.protocol.state c bytes
     deliver_goes = by_table None
 
-    pub deliver_full : o ≡ Some Full → delivery_refused w.protocol c (record { items = bytes }) Full
-        ≡ on_deliver (sight w.start w.protocol) w.protocol c bytes
+    pub deliver_full : o ≡ Some Full → delivery_refused w.protocol.state c (record { items = bytes }) Full
+        ≡ on_deliver (sight w.start w.protocol.state) w.protocol.state c bytes
     deliver_full = by_table (Some Full)
 
-    pub deliver_stops : (why : Refusal) → (why ≡ Full → ⊥) → o ≡ Some why → refused w.protocol why
-        ≡ on_deliver (sight w.start w.protocol) w.protocol c bytes
+    pub deliver_stops : (why : Refusal) → (why ≡ Full → ⊥) → o ≡ Some why → refused w.protocol.state why
+        ≡ on_deliver (sight w.start w.protocol.state) w.protocol.state c bytes
     deliver_stops why other e = other_refusal why other ∙ by_table (Some why) e
       where
         other_refusal : (why : Refusal) → (why ≡ Full → ⊥)
-            → refused w.protocol why ≡ delivery_refused w.protocol c (record { items = bytes }) why
+            → refused w.protocol.state why ≡ delivery_refused w.protocol.state c (record { items = bytes }) why
         other_refusal Full n = absurd (n refl)
         other_refusal other n = refl
 

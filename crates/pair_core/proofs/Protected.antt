@@ -1,50 +1,69 @@
 -- Where a node that is alone gets a new backup: an empty epoch is sealed, whose text is the full checkpoint.
-use Rattle.std.proofs.Common.{◌≡◌, ℕ, ◌+◌, ◌<◌, List, [], refl, sym, ap, ◌∙◌, subst, arith}
+use Rattle.std.proofs.Common.{◌≡◌, ℕ, ◌+◌, ◌<◌, List, [], ◌∷◌, ◌++◌, map, false, refl, sym, ap, ◌∙◌, subst, arith}
 use Rattle.guest_machine.specs.Guest.{Guest}
 use Rattle.epoch_snapshot.specs.{Bases.IsBase, Images.image_of}
+use Rattle.std.proofs.Math.Path.{transport}
 use Rattle.frame_ports.specs.Limits.{number_limit}
+use Rattle.pair_history.specs.internal.Moves.{Move, entries_of}
 use Rattle.pair_history.specs.HistoryState.{HistoryState}
-use Rattle.pair_record.specs.{Record.IsLone, Protocol.protect_done}
+use Rattle.pair_record.specs.Protocol.{protect_done}
 use Rattle.pair_record.proofs.ProtectAccords.{lives, protect_accords}
-use Rattle.pair_core.specs.{internal.Invariant.Holds, Nodes.{HasShape, machine_of, just_settled, with_protected}}
+use Rattle.pair_core.specs.{internal.Invariant.{AreNodes, Holds, KeepsNothing}, Nodes.{HasShape, machine_of, just_settled, with_protected}}
 use Rattle.pair_core.specs.{Pair.{Pair, shown_state}, Texts.IsText}
-use Rattle.pair_core.proofs.{Consistent.live_is, NodesLaws.{base-settled, reads-as}}
+use Rattle.pair_core.proofs.{Consistent.live_is, LineLaws.named-next, NodesLaws.{base-settled, reads-as}}
 
-module _ (w : Pair) (h : Holds w) (k : IsLone w.protocol) (last : w.protocol.generation + 1 < number_limit) (text : List ℕ)
+-- no entries are no moves
+no-moves : (ms : List Move) → entries_of ms ≡ [] → ms ≡ []
+no-moves [] e = refl
+no-moves (m ∷ ms) e = absurd (cc)
+
+no-epochs : (mss : List (List Move)) → map entries_of mss ≡ [] → mss ≡ []
+no-epochs [] e = refl
+no-epochs (ms ∷ mss) e = absurd (cc)
+
+module _ (w : Pair) (h : Holds w) (k : KeepsNothing w.protocol.state) (last : w.protocol.state.generation + 1 < number_limit) (text : List ℕ)
     (is_text : (before : Guest) → HasShape w.nodes.image.shape w.nodes.live.guest
-    → IsText w.nodes.image.shape (w.protocol.generation + 1) 0 before w.nodes.live.guest text) where
-  pub protect_holds : Holds (record w { protocol = (protect_done w.protocol).1; nodes = with_protected w.nodes text })
+    → IsText w.nodes.image.shape (w.protocol.state.generation + 1) 0 before w.nodes.live.guest text) where
+  pub protect_holds : Holds (record w { protocol = record w.protocol { state = (protect_done w.protocol.state).1 }; nodes = with_protected w.nodes text })
   protect_holds =
-      let r = w.protocol in
+      let r = w.protocol.state in
       let s = shown_state w in
       let live = w.nodes.live.guest in
       let shape = w.nodes.image.shape in
       let guest : live ≡ s.guest =
-      sym (live_is w h) ∙ ap (λ (t : HistoryState). t.guest) (lives w.start r w.ports h.accords k) in
+      sym (live_is w h) ∙ ap (λ (t : HistoryState). t.guest) (lives w.start r w.ports h.accords (k.0, k.2) k.1) in
       let is : (before : Guest) → IsText shape (r.generation + 1) 0 before live text = λ before. is_text before h.nodes.shape in
-      record {
-        accords = protect_accords w.start r w.ports h.accords k;
-        nodes = record {
-          first_generation = omega arith;
-          last_generation = last;
-          backed = λ two. record {
-            follows = λ some. absurd (omega arith);
-            fills = λ none. record {
-              empty = refl;
-              text = text;
-              later = [];
-              sealed = refl;
-              makes = λ before.
-                  let reads = reads-as shape (r.generation + 1) 0 before live text (is before) in
-                  ap (λ c. image_of c before) reads ∙ (is before).image ∙ guest;
-            };
-            staged = refl;
-            image_shape = subst (HasShape shape) guest h.nodes.shape;
-            sealed = (subst (λ (g : Guest). IsText shape (r.generation + 1) 0 s.guest g text) guest (is s.guest), tt);
-            base = subst (IsBase (machine_of (just_settled live))) guest (base-settled live);
+      let nodes : AreNodes false (r.generation + 1) 0 s.guest ([] ∷ []) [] (with_protected w.nodes text) = record {
+        first_generation = omega arith;
+        last_generation = last;
+        backed = λ two. record {
+          follows = λ some. absurd (omega arith);
+          fills = λ none. record {
+            empty = refl;
+            text = text;
+            later = [];
+            sealed = refl;
+            makes = λ before.
+                let reads = reads-as shape (r.generation + 1) 0 before live text (is before) in
+                ap (λ c. image_of c before) reads ∙ (is before).image ∙ guest;
           };
-          live = guest;
-          outbox = refl;
-          shape = h.nodes.shape;
+          staged = refl;
+          image_shape = subst (HasShape shape) guest h.nodes.shape;
+          sealed = (subst (λ (g : Guest). IsText shape (r.generation + 1) 0 s.guest g text) guest (is s.guest), tt);
+          base = subst (IsBase (machine_of (just_settled live))) guest (base-settled live);
         };
+        live = guest;
+        outbox = refl;
+        shape = h.nodes.shape;
+      } in
+      let j = h.accords.journal in
+      let sealed : [] ≡ j.sealed_moves = sym (no-epochs j.sealed_moves (sym j.sealed_are ∙ k.0)) in
+      let running : [] ≡ j.running_moves = sym (no-moves j.running_moves (sym j.running_are ∙ k.1)) in
+      record {
+        accords = protect_accords w.start r w.ports h.accords (k.0, k.2);
+        lines = named-next r w.protocol.lines h.lines (protect_done r).1.window;
+        nodes =
+            transport (λ i. AreNodes false (r.generation + 1) 0 s.guest (sealed i ++ [] ∷ []) (running i) (with_protected w.nodes text))
+            nodes;
+        still = λ e. absurd (cc);
       }

@@ -15,11 +15,12 @@ use Rattle.pair_record.specs.{declared.event.Refusal.TheVariants.NoMemory, decla
 use Rattle.pair_core.specs.Answering.{Answers, MayWantMemory}
 use Rattle.pair_record.specs.{Journal.first_of, Modes.is_alone}
 use Rattle.pair_core.specs.{Drops.{DropsOnly, LetsOut, Drops}, internal.Invariant.Holds}
-use Rattle.pair_record.specs.{Protocol.{Record, outcome, step_entries}, Record.IsRecord}
+use Rattle.pair_record.specs.{Protocol.{outcome, step_entries}, Record.IsRecord}
 use Rattle.pair_core.specs.Pair.{Pair, shown_state, live_state}
 use Rattle.pair_record.proofs.{LoneAccords.{step_drops, failure_drops}, ClientAccords.{ack_lands, ack_leaves}}
 use Rattle.pair_core.proofs.Ends.{Ends, answers_end, at_once}
-use Rattle.pair_record.proofs.RecordLaws.{below_at}
+use Rattle.pair_core.proofs.LineLaws.{below_at}
+use Rattle.pair_core.specs.Lines.{Protocol, got, lines_after}
 use Rattle.pair_core.proofs.LossOutcomes.{within}
 use Rattle.pair_record.specs.declared.event.Reply.TheVariants as replies
 
@@ -30,15 +31,15 @@ epoch-drops : (mss : List (List Move)) (ess : List (List Entry)) → ess ≡ map
 epoch-drops [] ess e = rw e tt
 epoch-drops (ms ∷ mss) ess e = rw e (DropsNone-moves ms)
 
-module _ (w : Pair) (h : Holds w) (k : IsRecord w.protocol) where
+module _ (w : Pair) (h : Holds w) (k : IsRecord w.protocol.state) where
   abbrev boxes : List (List Frame)
   boxes = (shown_state w).boxes
 
-  refused-drops : (event : Event) (why : Refusal) → DropsOnly w.start w.protocol event (replies.Refused why) []
+  refused-drops : (event : Event) (why : Refusal) → DropsOnly w.start w.protocol.state event (replies.Refused why) []
   refused-drops Step why = tt
   refused-drops other why = tt
 
-  drops_all : Ends w.start w.protocol (λ event es o. DropsOnly w.start w.protocol event o.0 es)
+  drops_all : Ends w.start w.protocol.state w.protocol.lines (λ event es o. DropsOnly w.start w.protocol.state event o.0 es)
   drops_all = record {
     refuses = λ event why plain. refused-drops event why;
     step = by_mode;
@@ -46,12 +47,12 @@ module _ (w : Pair) (h : Holds w) (k : IsRecord w.protocol) where
     send = tt;
     lost = λ k. (tt, tt);
     again = λ k. tt;
-    commit = λ n goes. epoch-drops h.accords.journal.sealed_moves w.protocol.journal.sealed h.accords.journal.sealed_are;
+    commit = λ n goes. epoch-drops h.accords.journal.sealed_moves w.protocol.state.journal.sealed h.accords.journal.sealed_are;
     -- what an acknowledgement lets go is dropped only at full boxes
     acknowledge = λ n p is same.
-        let r = w.protocol in
-        let below = below_at r.generation r.window.to_commit r.lines.back n (Some p) k.back (sym is) same in
-        rw (← h.accords.clients.boxes) (ack_lands w.start w.protocol w.ports h.accords k p.number below).2;
+        let r = w.protocol.state in
+        let below = below_at r.generation r.window.to_commit w.protocol.lines.back n (Some p) h.lines.back (sym is) same in
+        rw (← h.accords.clients.boxes) (ack_lands w.start w.protocol.state w.ports h.accords k p.number below).2;
     empty = λ c place. (tt, tt, tt);
     admit = by_arrival;
     full = λ c bytes. tt;
@@ -60,17 +61,17 @@ module _ (w : Pair) (h : Holds w) (k : IsRecord w.protocol) where
     lose_in = λ c place x is. (x.0, x.1, is, refl);
     lose_out = λ c place f is. (within (list_of boxes c) place f is, refl);
     fail_primary = λ goes. tt;
-    fail_backup = failure_drops w.start w.protocol w.ports h.accords;
+    fail_backup = failure_drops w.start w.protocol.state w.ports h.accords;
     go_live = refl;
     protect = tt;
   }
     where
-      by_mode : (alone : Bool) → is_alone w.protocol.mode ≡ alone
+      by_mode : (alone : Bool) → is_alone w.protocol.state.mode ≡ alone
           → DropsAtFull (shown_state w) (at_once alone (step_entries true boxes (sent (live_state w).guest)))
       by_mode false is = tt
-      by_mode true is = step_drops w.start w.protocol w.ports h.accords (k.alone is)
+      by_mode true is = step_drops w.start w.protocol.state w.ports h.accords (k.alone is) (h.still is)
 
-      by_arrival : (c n : ℕ) (alone : Bool) → is_alone w.protocol.mode ≡ alone → DropsNone (at_once alone (Arrive n ∷ []))
+      by_arrival : (c n : ℕ) (alone : Bool) → is_alone w.protocol.state.mode ≡ alone → DropsNone (at_once alone (Arrive n ∷ []))
       by_arrival c n false is = tt
       by_arrival c n true is = tt
 
@@ -86,7 +87,7 @@ module _ (w : Pair) (h : Holds w) (k : IsRecord w.protocol) where
   none_out : LeaveInOrder s [] []
   none_out c = (refl, All-nil NotGivenUp)
 
-  refused-lets : (event : Event) (why : Refusal) → LetsOut w.start w.protocol event (replies.Refused why) []
+  refused-lets : (event : Event) (why : Refusal) → LetsOut w.start w.protocol.state event (replies.Refused why) []
   refused-lets Step why = λ two. none_out
   refused-lets FailBackup why = tt
   refused-lets GoLive why = tt
@@ -111,7 +112,7 @@ module _ (w : Pair) (h : Holds w) (k : IsRecord w.protocol) where
       let none = boxed-none c place d l in
       (ap (λ x. frames_left (x ++ [])) none, subst (λ x. All NotGivenUp (x ++ [])) (sym none) (All-nil NotGivenUp))
 
-  lets_all : Ends w.start w.protocol (λ event es o. LetsOut w.start w.protocol event o.0 es)
+  lets_all : Ends w.start w.protocol.state w.protocol.lines (λ event es o. LetsOut w.start w.protocol.state event o.0 es)
   lets_all = record {
     refuses = λ event why plain. refused-lets event why;
     step = step-lets;
@@ -119,11 +120,11 @@ module _ (w : Pair) (h : Holds w) (k : IsRecord w.protocol) where
     send = none_out;
     lost = λ k. (none_out, none_out);
     again = λ k. none_out;
-    commit = λ n goes. epoch-none h.accords.journal.sealed_moves w.protocol.journal.sealed h.accords.journal.sealed_are;
+    commit = λ n goes. epoch-none h.accords.journal.sealed_moves w.protocol.state.journal.sealed h.accords.journal.sealed_are;
     acknowledge = λ n p is same.
-        let r = w.protocol in
-        let below = below_at r.generation r.window.to_commit r.lines.back n (Some p) k.back (sym is) same in
-        rw (← h.accords.clients.boxes) (ack_leaves w.start w.protocol w.ports h.accords k p.number below);
+        let r = w.protocol.state in
+        let below = below_at r.generation r.window.to_commit w.protocol.lines.back n (Some p) h.lines.back (sym is) same in
+        rw (← h.accords.clients.boxes) (ack_leaves w.start w.protocol.state w.ports h.accords k p.number below);
     empty = λ c place. (none_out, none_out, none_out);
     admit = admit-lets;
     full = λ c bytes d. (refl, All-nil NotGivenUp);
@@ -137,22 +138,22 @@ module _ (w : Pair) (h : Holds w) (k : IsRecord w.protocol) where
     protect = none_out;
   }
     where
-      step-lets : (alone : Bool) → is_alone w.protocol.mode ≡ alone
-          → is_alone w.protocol.mode ≡ false → LeaveInOrder s (at_once alone (step_entries true boxes (sent (live_state w).guest))) []
+      step-lets : (alone : Bool) → is_alone w.protocol.state.mode ≡ alone
+          → is_alone w.protocol.state.mode ≡ false → LeaveInOrder s (at_once alone (step_entries true boxes (sent (live_state w).guest))) []
       step-lets false is two = none_out
       step-lets true is two = absurd (cc)
 
-      admit-lets : (c n : ℕ) (alone : Bool) → is_alone w.protocol.mode ≡ alone → LeaveInOrder s (at_once alone (Arrive n ∷ [])) []
+      admit-lets : (c n : ℕ) (alone : Bool) → is_alone w.protocol.state.mode ≡ alone → LeaveInOrder s (at_once alone (Arrive n ∷ [])) []
       admit-lets c n false is = none_out
       admit-lets c n true is = λ d. (refl, All-nil NotGivenUp)
 
-  pub answers_drop : (event : Event) (reply : Reply) (new : Record) → Answers w.start w.protocol event reply new
+  pub answers_drop : (event : Event) (reply : Reply) (new : Protocol) → Answers w.start w.protocol event reply new
       → Drops w.start w.protocol event reply new
   answers_drop event reply new a =
-      let grown = answers_end w.start w.protocol _ drops_all event reply new a in
-      let out = answers_end w.start w.protocol _ lets_all event reply new a in
-      let same : out.0 ≡ grown.0 = append_cancel_left w.protocol.journal.history out.0 grown.0 (sym out.1 ∙ grown.1) in
-      let lets = subst (λ es. LetsOut w.start w.protocol event reply es) same out.2 in
+      let grown = answers_end w.start w.protocol.state w.protocol.lines _ drops_all event reply new.state a.0 in
+      let out = answers_end w.start w.protocol.state w.protocol.lines _ lets_all event reply new.state a.0 in
+      let same : out.0 ≡ grown.0 = append_cancel_left w.protocol.state.journal.history out.0 grown.0 (sym out.1 ∙ grown.1) in
+      let lets = subst (λ es. LetsOut w.start w.protocol.state event reply es) same out.2 in
       record { answers = a; entries = grown.0; grows = grown.1; only = grown.2; lets = lets }
 
 pub Begins-trans : (a b c : List Entry) → Begins a b → Begins b c → Begins a c
@@ -163,14 +164,23 @@ Begins-trans a b c p q = (p.0 ++ q.0, q.1 ∙ ap (λ t. t ++ q.0) p.1 ∙ append
 module _ (old new : Pair) (event : Event) (o : Result Reply MemoryWanted) (reply : Reply)
     (ok : IfOk o (λ r. reply ≡ r))
     (err : OnErr o (reply ≡ replies.Refused (NoMemory wanted))) where
-  pub answers_by_outcome : IfOk o (λ r. (r, new.protocol) ≡ outcome old.start old.protocol event)
-      → OnErr o (MayWantMemory old.protocol (outcome old.start old.protocol event)) → OnErr o (new ≡ old)
+  pub answers_by_outcome : IfOk o (λ r. (r, new.protocol.state)
+      ≡ outcome old.start old.protocol.state (got old.protocol.lines event) event)
+      → OnErr o (MayWantMemory old.protocol.state (outcome old.start old.protocol.state (got old.protocol.lines event) event))
+      → IfOk o (λ r. new.protocol.lines ≡ lines_after old.protocol r) → OnErr o (new ≡ old)
       → Answers old.start old.protocol event reply new.protocol
   answers_by_outcome = by_result o ok err
     where
       by_result : (o : Result Reply MemoryWanted) → IfOk o (λ r. reply ≡ r) → OnErr o (reply ≡ replies.Refused (NoMemory wanted))
-          → IfOk o (λ r. (r, new.protocol) ≡ outcome old.start old.protocol event)
-          → OnErr o (MayWantMemory old.protocol (outcome old.start old.protocol event)) → OnErr o (new ≡ old)
+          → IfOk o (λ r. (r, new.protocol.state) ≡ outcome old.start old.protocol.state (got old.protocol.lines event) event)
+          → OnErr o (MayWantMemory old.protocol.state (outcome old.start old.protocol.state (got old.protocol.lines event) event))
+          → IfOk o (λ r. new.protocol.lines ≡ lines_after old.protocol r) → OnErr o (new ≡ old)
           → Answers old.start old.protocol event reply new.protocol
-      by_result (Ok r) k e d m f = inl (ap (λ (x : Reply). (x, new.protocol)) k ∙ d)
-      by_result (Err x) k e d m f = inr (m, e, ap (λ (w : Pair). w.protocol) f)
+      by_result (Ok r) k e d m l f = (
+        inl (ap (λ (x : Reply). (x, new.protocol.state)) k ∙ d),
+        l ∙ ap (lines_after old.protocol) (sym k),
+      )
+      by_result (Err x) k e d m l f = (
+        inr (m, e, ap (λ (w : Pair). w.protocol.state) f),
+        ap (λ (w : Pair). w.protocol.lines) f ∙ ap (lines_after old.protocol) (sym e),
+      )

@@ -9,6 +9,7 @@ use Rattle.pair_history.specs.{Entries.Entry, HistoryState.{HistoryState, at}}
 use Rattle.pair_history.proofs.States.{at-append}
 use Rattle.pair_record.specs.Journal.{joined, kept_entries, first_of, rest_of}
 use Rattle.pair_record.specs.Modes.{is_alone, filled}
+use Rattle.pair_core.specs.Lines.{packet, with_back}
 use Rattle.pair_core.specs.Nodes.{Nodes, Fills, with_sealed, with_commit, with_protected, read_as}
 use Rattle.pair_record.specs.Protocol.{cut_done, commit_done}
 use Rattle.pair_core.specs.Pair.{Pair, HasBackup, ImageFollows, InMode, shown_state, live_state}
@@ -55,25 +56,25 @@ from-any g before x f = search (arith, rules)
 module _ (w : Pair) where
   -- what the image will be are the guests at the ends of the sealed epochs
   pub to_come-ends : (mode : Mode) → is_alone mode ≡ false → InMode mode w
-      → to_come w.nodes ≡ ends (shown_state w) w.protocol.journal.sealed
+      → to_come w.nodes ≡ ends (shown_state w) w.protocol.state.journal.sealed
   to_come-ends mode two m = by_mode mode two m
     where
       along : HasBackup w → guests_of w.nodes.image.shape (shown_state w).guest w.nodes.sealed
-          ≡ ends (shown_state w) w.protocol.journal.sealed
+          ≡ ends (shown_state w) w.protocol.state.journal.sealed
       along b =
-          texts-make w.nodes.image.shape w.protocol.generation w.protocol.window.to_commit (shown_state w) w.protocol.journal.sealed
+          texts-make w.nodes.image.shape w.protocol.state.generation w.protocol.state.window.to_commit (shown_state w) w.protocol.state.journal.sealed
           w.nodes.sealed b.sealed
 
-      by_mode : (mode : Mode) → is_alone mode ≡ false → InMode mode w → to_come w.nodes ≡ ends (shown_state w) w.protocol.journal.sealed
+      by_mode : (mode : Mode) → is_alone mode ≡ false → InMode mode w → to_come w.nodes ≡ ends (shown_state w) w.protocol.state.journal.sealed
       by_mode Filling two m =
-          from-any (at (shown_state w) (first_of w.protocol.journal.sealed)).guest (shown_state w).guest w.nodes m.1 ∙ along m.0
+          from-any (at (shown_state w) (first_of w.protocol.state.journal.sealed)).guest (shown_state w).guest w.nodes m.1 ∙ along m.0
       by_mode Alone two m = absurd (cc)
       by_mode other two m = ap (λ (g : Guest). guests_of w.nodes.image.shape g w.nodes.sealed) m.1.image ∙ along m.0
 
   -- the image takes the next checkpoint to be committed next
-  next-number : (mode : Mode) → is_alone mode ≡ false → InMode mode w → SuitsMode mode w.protocol.window
-      → next_number w.nodes ≡ w.protocol.window.to_commit
-  next-number Filling two m s = ap number_after m.1.empty ∙ sym s.0
+  next-number : (mode : Mode) → is_alone mode ≡ false → InMode mode w → SuitsMode mode w.protocol.state.window
+      → next_number w.nodes ≡ w.protocol.state.window.to_commit
+  next-number Filling two m s = ap number_after m.1.empty ∙ sym s
   next-number Alone two m s = absurd (cc)
   next-number other two m s = ap number_after m.1.stands_at ∙ omega arith
 
@@ -90,24 +91,30 @@ filled-pairs other e = refl
 -- CUT and COMMIT, from what holds of the backup before and after
 
 abbrev pub after_cut : Pair → List ℕ → Pair
-after_cut w text = record w { protocol = (cut_done w.nodes.live.outbox w.protocol).1; nodes = with_sealed w.nodes text }
+after_cut w text = record w { protocol = record w.protocol { state = (cut_done w.nodes.live.outbox w.protocol.state).1 }; nodes = with_sealed w.nodes text }
 
 abbrev pub after_commit : Pair → Pair
-after_commit w = record w { protocol = (commit_done w.protocol).1; nodes = with_commit w.nodes }
+after_commit w = record w {
+  protocol = record {
+    state = (commit_done w.protocol.state).1;
+    lines = with_back w.protocol.lines (packet w.protocol.state.generation w.protocol.state.window.to_commit);
+  };
+  nodes = with_commit w.nodes;
+}
 
-module _ (w : Pair) (k : IsRecord w.protocol) (two : is_alone w.protocol.mode ≡ false) (now : InMode w.protocol.mode w) where
-  pub cut_replicates : (text : List ℕ) → InMode w.protocol.mode (after_cut w text) → (live_state w).guest ≡ w.nodes.live.guest
-      → IsCut w.protocol.window.to_cut w.nodes (with_sealed w.nodes text)
+module _ (w : Pair) (k : IsRecord w.protocol.state) (two : is_alone w.protocol.state.mode ≡ false) (now : InMode w.protocol.state.mode w) where
+  pub cut_replicates : (text : List ℕ) → InMode w.protocol.state.mode (after_cut w text) → (live_state w).guest ≡ w.nodes.live.guest
+      → IsCut w.protocol.state.window.to_cut w.nodes (with_sealed w.nodes text)
   cut_replicates text then live =
-      let j = w.protocol.journal in
+      let j = w.protocol.state.journal in
       let s = shown_state w in
-      let old : to_come w.nodes ≡ ends s j.sealed = to_come-ends w w.protocol.mode two now in
+      let old : to_come w.nodes ≡ ends s j.sealed = to_come-ends w w.protocol.state.mode two now in
       let new : to_come (with_sealed w.nodes text) ≡ ends s (j.sealed ++ j.running ∷ []) =
-      to_come-ends (after_cut w text) w.protocol.mode two then in
+      to_come-ends (after_cut w text) w.protocol.state.mode two then in
       let is : (at s (joined j.sealed ++ j.running)).guest ≡ w.nodes.live.guest =
       ap (λ (t : HistoryState). t.guest) (sym (at-append w.start j.history (kept_entries j))) ∙ live in
       let counted = k.sealed in
-      let next = next-number w w.protocol.mode two now k.suits in
+      let next = next-number w w.protocol.state.mode two now k.suits in
       let long : length (to_come w.nodes) ≡ length j.sealed = ap length old ∙ length-ends s j.sealed in
       record {
         last = new ∙ ends-push s j.sealed j.running ∙ (λ i. sym old i ++ is i ∷ []);
@@ -116,14 +123,14 @@ module _ (w : Pair) (k : IsRecord w.protocol) (two : is_alone w.protocol.mode �
         place = omega arith;
       }
 
-  pub commit_replicates : InMode (filled w.protocol.mode) (after_commit w) → w.protocol.window.to_commit < w.protocol.window.to_cut
-      → IsCommit w.protocol.generation w.protocol.window.to_commit w.nodes (with_commit w.nodes)
+  pub commit_replicates : InMode (filled w.protocol.state.mode) (after_commit w) → w.protocol.state.window.to_commit < w.protocol.state.window.to_cut
+      → IsCommit w.protocol.state.generation w.protocol.state.window.to_commit w.nodes (with_commit w.nodes)
   commit_replicates then more =
-      let j = w.protocol.journal in
+      let j = w.protocol.state.journal in
       let s = shown_state w in
-      let n = w.protocol.window.to_commit in
-      let follows = filled-follows (after_commit w) w.protocol.mode two then in
-      let ended = to_come-ends (after_commit w) (filled w.protocol.mode) (filled-pairs w.protocol.mode two) then in
+      let n = w.protocol.state.window.to_commit in
+      let follows = filled-follows (after_commit w) w.protocol.state.mode two then in
+      let ended = to_come-ends (after_commit w) (filled w.protocol.state.mode) (filled-pairs w.protocol.state.mode two) then in
       let counted = k.sealed in
       let shown : shown_state (after_commit w) ≡ at s (first_of j.sealed) = at-append w.start j.history (first_of j.sealed) in
       let first : ends s j.sealed ≡ (at s (first_of j.sealed)).guest ∷ ends (at s (first_of j.sealed)) (rest_of j.sealed) =
@@ -131,12 +138,12 @@ module _ (w : Pair) (k : IsRecord w.protocol) (two : is_alone w.protocol.mode �
       let number : n + 1 - 1 ≡ n = omega arith in
       record {
         first =
-            to_come-ends w w.protocol.mode two now ∙ first
+            to_come-ends w w.protocol.state.mode two now ∙ first
             ∙ (λ i. (sym shown i).guest ∷ ends (sym shown i) (rest_of j.sealed))
             ∙ (λ i. sym follows.image i ∷ sym ended i);
         live = refl;
-        before = next-number w w.protocol.mode two now k.suits;
-        stands = follows.stands_at ∙ ap (λ (m : ℕ). Some (record { generation = w.protocol.generation; number = m })) number;
+        before = next-number w w.protocol.state.mode two now k.suits;
+        stands = follows.stands_at ∙ ap (λ (m : ℕ). Some (record { generation = w.protocol.state.generation; number = m })) number;
       }
 
 -- PROTECT: the full checkpoint's text makes the live guest

@@ -10,9 +10,10 @@ use Rattle.pair_record.specs.declared.event.Reply.TheVariants as replies
 
 -- what an event did to the generation and to the guests to come
 pub does : (old new : Pair) (event : Event) (reply : Reply) → Does old event reply new
-    → Goes old.protocol old.nodes new.nodes event (reply, new.protocol)
+    → Goes old.protocol.state old.nodes new.nodes event (reply, new.protocol.state)
 does old new event reply d =
-    (answers_end old.start old.protocol _ (goes_all old.start old.protocol old.nodes new.nodes) event reply new.protocol d.answers).2
+    (answers_end old.start old.protocol.state old.protocol.lines _ (goes_all old.start old.protocol.state old.nodes new.nodes old.protocol.lines)
+    event reply new.protocol.state d.answers.0).2
 
 module _ (generation number : ℕ) (g : Guest) where
   pub waits_event : (event : Event) (reply : Reply) (old new : Pair) → Does old event reply new

@@ -13,7 +13,7 @@ use Rattle.pair_record.specs.Modes.{is_alone, mode_refusal}
 use Rattle.pair_core.specs.{Calls.Moment, Pair.{Pair, IsConsistent}}
 use Rattle.pair_record.specs.Protocol.{go_live_done, Record, Outcome, refused, first_refusal, shown_at, live_at, live_entries}
 use Rattle.pair_record.specs.Protocol.{go_live_refusals}
-use Rattle.pair_core.specs.{Answering.Answers, Service.{moment, Resumes, Enters, Tells, Serves, guest_entries}}
+use Rattle.pair_core.specs.{Answering.AnswersIn, Lines.{Lines, Protocol, got}, Service.{moment, Resumes, Enters, Tells, Serves, guest_entries}}
 use Rattle.pair_core.proofs.Consistent.{lone}
 use Rattle.pair_core.proofs.{CallLaws.answers_call, EntersLaws.enters_all, Ends.{by_table, answers_end}}
 use Rattle.pair_core.proofs.Tells.{OfGuest, live_all, tells_all}
@@ -55,8 +55,8 @@ module _ (start : HistoryState) (r new : Record) (g : Guest) (live : g ≡ (live
   resumes_refused : (reply : Reply) (why : Refusal) → reply ≡ replies.Refused why → Resumes GoLive reply (moment_of new g)
   resumes_refused reply why e = rw e tt
 
-  answers_resume : (event : Event) (reply : Reply) → Answers start r event reply new → Resumes event reply (moment_of new g)
-  answers_resume GoLive reply (inl e) =
+  answers_resume : (l : Lines) (event : Event) (reply : Reply) → AnswersIn start r (got l event) event reply new → Resumes event reply (moment_of new g)
+  answers_resume l GoLive reply (inl e) =
       by_table Leaves (mode_refusal r.mode GoLive) (refused r) _ stopped
       (λ goes. by_table Leaves (first_refusal (go_live_refusals s.boxes s.out r)) (refused r) done stopped (λ none. resumes_done reply)) e
     where
@@ -65,17 +65,21 @@ module _ (start : HistoryState) (r new : Record) (g : Guest) (live : g ≡ (live
 
       stopped : (why : Refusal) → Leaves (refused r why)
       stopped why e = resumes_refused reply why (ap (λ (o : Outcome). o.0) e)
-  answers_resume GoLive reply (inr e) = resumes_refused reply (NoMemory wanted) e.1
-  answers_resume other reply a = tt
+  answers_resume l GoLive reply (inr e) = resumes_refused reply (NoMemory wanted) e.1
+  answers_resume l other reply a = tt
 
 -- One event serves the clients, as the records before and after it say.
-pub serves_at : (start : HistoryState) (r new : Record) (g g' : Guest) (event : Event) (reply : Reply) → Drops start r event reply new
-    → All OfGuest (kept_entries r.journal) → (is_alone r.mode ≡ true → kept_entries r.journal ≡ [])
-    → Legal start (all_entries new.journal) → All OfGuest (kept_entries new.journal) → g' ≡ (live_at start new).guest
-    → Serves start (moment_of r g) event reply (moment_of new g')
-serves_at start r new g g' event reply d kept lone legal moves live =
-    let told = answers_end start r _ (tells_all start r kept) event reply new d.answers in
-    let entered = answers_end start r _ (enters_all start r kept lone) event reply new d.answers in
+pub serves_at : (start : HistoryState) (old end : Protocol) (g g' : Guest) (event : Event) (reply : Reply)
+    → Drops start old event reply end
+    → All OfGuest (kept_entries old.state.journal) → (is_alone old.state.mode ≡ true → kept_entries old.state.journal ≡ [])
+    → Legal start (all_entries end.state.journal) → All OfGuest (kept_entries end.state.journal) → g' ≡ (live_at start end.state).guest
+    → Serves start (moment_of old.state g) event reply (moment_of end.state g')
+serves_at start old end g g' event reply d kept lone legal moves live =
+    let r = old.state in
+    let new = end.state in
+    let l = old.lines in
+    let told = answers_end start r l _ (tells_all start r kept l) event reply new d.answers.0 in
+    let entered = answers_end start r l _ (enters_all start r kept lone l) event reply new d.answers.0 in
     let h = r.journal.history in
     let same : told.0 ≡ d.entries = append_cancel_left h told.0 d.entries (sym told.1 ∙ d.grows) in
     let alike : entered.0 ≡ d.entries = append_cancel_left h entered.0 d.entries (sym entered.1 ∙ d.grows) in
@@ -86,8 +90,8 @@ serves_at start r new g g' event reply d kept lone legal moves live =
       moves = moves;
       enters = subst (λ es. Enters event reply (kept_entries r.journal) (guest_entries es) (kept_entries new.journal)) alike entered.2;
       guest = live;
-      resumes = answers_resume start r new g' live event reply d.answers;
-      answered = answers_call start r g event reply new d.answers;
+      resumes = answers_resume start r new g' live l event reply d.answers.0;
+      answered = answers_call start r g l event reply new d.answers.0;
       tells = subst (λ es. Tells event reply es) same told.2;
       loses = d.only;
     }
@@ -96,9 +100,10 @@ serves_at start r new g g' event reply d kept lone legal moves live =
 pub serves : (old new : Pair) (event : Event) (reply : Reply) → new.start ≡ old.start → IsConsistent old → IsConsistent new
     → Drops old.start old.protocol event reply new.protocol → Serves old.start (moment old) event reply (moment new)
 serves old new event reply e before k d =
-    let h = new.protocol.journal.history in
-    let legal : Legal old.start (all_entries new.protocol.journal) = rw (← e) (Legal-append new.start h (kept_entries new.protocol.journal) k.legal k.goes_on) in
-    let live : new.nodes.live.guest ≡ (live_at old.start new.protocol).guest =
-    k.live ∙ ap (λ (s : HistoryState). (live_at s new.protocol).guest) e in
+    let h = new.protocol.state.journal.history in
+    let legal : Legal old.start (all_entries new.protocol.state.journal) =
+    rw (← e) (Legal-append new.start h (kept_entries new.protocol.state.journal) k.legal k.goes_on) in
+    let live : new.nodes.live.guest ≡ (live_at old.start new.protocol.state).guest =
+    k.live ∙ ap (λ (s : HistoryState). (live_at s new.protocol.state).guest) e in
     serves_at old.start old.protocol new.protocol old.nodes.live.guest new.nodes.live.guest event reply d before.kept
-    (λ a. (lone old.protocol.mode old a before.mode).kept) legal k.kept live
+    (λ a. (lone old.protocol.state.mode old a before.mode).kept) legal k.kept live

@@ -9,7 +9,7 @@ use Rattle.pair_history.specs.{Entries.{Frame, Ran}, HistoryState.{HistoryState,
 use Rattle.pair_history.specs.internal.Moves.{Steps, entries_of, guest_along, frames_along, left, AllCan}
 use Rattle.pair_record.specs.{declared.event.Refusal.Refusal, declared.event.Refusal.TheVariants.{Stopped, CutNeeded, Exhausted}}
 use Rattle.pair_record.specs.{Journal.{all_entries, with_running, with_moves}, Limits.lone_step_entries}
-use Rattle.pair_core.specs.internal.Invariant.{Holds}
+use Rattle.pair_core.specs.internal.Invariant.{Holds, Stands}
 use Rattle.pair_record.specs.Modes.{is_stopped, is_alone}
 use Rattle.pair_core.specs.{Nodes.after_run, Pair.Pair}
 use Rattle.pair_record.specs.Protocol.{step_outcome, outbox_of, step_room, step_entries, Record, Outcome, first_refusal, or_else, refused}
@@ -17,8 +17,8 @@ use Rattle.pair_record.specs.Protocol.{shown_at, live_at, step_refusals, step_do
 use Rattle.pair_core.specs.Answering.{step_reply}
 use Rattle.pair_core.specs.Runs.{goes_on, steps_outcome, with_steps}
 use Rattle.pair_record.proofs.AccordLaws.{left_now}
-use Rattle.pair_core.proofs.{Consistent.live_is, Events.moves_hold, NodesLaws.{shape-after_steps, base-after_run}}
-use Rattle.pair_record.proofs.{JournalLaws.length-all, WindowLaws.test_below}
+use Rattle.pair_core.proofs.{Consistent.live_is, Events.{moves_stand, two_hold}, NodesLaws.{shape-after_steps, base-after_run}}
+use Rattle.pair_record.proofs.{JournalLaws.length-all, WindowLaws.test_below, EpochLaws.{entries-steps, can-steps, left-steps}}
 use Rattle.pair_core.proofs.Outcomes.{goes, step_sight}
 use Rattle.pair_record.specs.declared.event.Reply.TheVariants as replies
 
@@ -54,10 +54,6 @@ room-before (suc n) g o room = (room.0, room-before n (next g) (o ++ sent g) roo
 
 -- They are moves
 
-entries-steps : (n : ℕ) → replicate n Ran ≡ entries_of (replicate n Steps)
-entries-steps zero = refl
-entries-steps (suc n) = ap (λ t. Ran ∷ t) (entries-steps n)
-
 guest-steps : (n : ℕ) (g : Guest) → after_steps n g ≡ guest_along g (replicate n Steps)
 unfolding after_steps
 guest-steps zero g = refl
@@ -68,20 +64,12 @@ unfolding sent_in
 frames-steps zero g = refl
 frames-steps (suc n) g = ap (λ t. sent g ++ t) (frames-steps n (next g))
 
-can-steps : (n : ℕ) (ws : List Waiting) → AllCan ws (replicate n Steps)
-can-steps zero ws = tt
-can-steps (suc n) ws = (tt, can-steps n ws)
-
-left-steps : (n : ℕ) (ws : List Waiting) → left ws (replicate n Steps) ≡ ws
-left-steps zero ws = refl
-left-steps (suc n) ws = left-steps n ws
-
 -- What they leave
 
-pub steps_hold : (n : ℕ) (w : Pair) → Holds w → Holds (with_steps n w)
-steps_hold n w h =
-    let ws = left_now w.start w.protocol w.ports h.accords in
-    moves_hold w h (replicate n Steps) (after_run n w.nodes).live
+pub steps_stand : (n : ℕ) (w : Pair) → Holds w → Stands (with_steps n w)
+steps_stand n w h =
+    let ws = left_now w.start w.protocol.state w.ports h.accords in
+    moves_stand w h (replicate n Steps) (after_run n w.nodes).live
     (guest-steps n w.nodes.live.guest)
     (ap (λ t. w.nodes.live.outbox ++ t) (frames-steps n w.nodes.live.guest))
     (λ s k. shape-after_steps n s w.nodes.live.guest k)
@@ -89,6 +77,9 @@ steps_hold n w h =
     (replicate n Ran) w.ports.inboxes (entries-steps n)
     (can-steps n ws)
     (rw (left-steps n ws) h.accords.clients)
+
+pub steps_hold : (n : ℕ) (w : Pair) → is_alone w.protocol.state.mode ≡ false → Holds w → Holds (with_steps n w)
+steps_hold n w two h = two_hold (with_steps n w) two (steps_stand n w h)
 
 pub replicate-last : (n : ℕ) → replicate (suc n) Ran ≡ replicate n Ran ++ Ran ∷ []
 replicate-last zero = refl
@@ -98,7 +89,7 @@ pub with_no_steps : (w : Pair) → with_steps 0 w ≡ w
 with_no_steps w = search (arith, rules, append-nil, no-steps, none-marked, none-sent)
 
 -- each step is one entry more
-pub steps-counted : (n : ℕ) (w : Pair) → length (all_entries (with_steps n w).protocol.journal) ≡ length (all_entries w.protocol.journal)
+pub steps-counted : (n : ℕ) (w : Pair) → length (all_entries (with_steps n w).protocol.state.journal) ≡ length (all_entries w.protocol.state.journal)
     + n
 steps-counted n w = search (arith, rules, length-all, length-append, length-replicate)
 
@@ -130,13 +121,13 @@ none_applies r outbox runs few room =
     no_lt : (a b : ℕ) → b ≤ a → nat_lt a b ≡ false
     no_lt a b l = grind (arith, nat_tests)
 
-pub step_goes : (w : Pair) → Holds w → is_stopped w.protocol.mode ≡ false → length w.nodes.live.outbox ≤ 192
-    → length (all_entries w.protocol.journal) + step_room w.protocol.mode < number_limit
-    → step_done w.ports.boxes (sent w.nodes.live.guest) (next w.nodes.live.guest).steps w.protocol ≡ step_outcome w.start w.protocol
+pub step_goes : (w : Pair) → Holds w → is_stopped w.protocol.state.mode ≡ false → length w.nodes.live.outbox ≤ 192
+    → length (all_entries w.protocol.state.journal) + step_room w.protocol.state.mode < number_limit
+    → step_done w.ports.boxes (sent w.nodes.live.guest) (next w.nodes.live.guest).steps w.protocol.state ≡ step_outcome w.start w.protocol.state
 step_goes w h runs few room =
     let g = w.nodes.live.guest in
-    goes w.protocol (step_refusals w.nodes.live.outbox w.protocol) (step_done w.ports.boxes (sent g) (next g).steps w.protocol) None
-    (sym (none_applies w.protocol w.nodes.live.outbox runs few room)) refl
+    goes w.protocol.state (step_refusals w.nodes.live.outbox w.protocol.state) (step_done w.ports.boxes (sent g) (next g).steps w.protocol.state) None
+    (sym (none_applies w.protocol.state w.nodes.live.outbox runs few room)) refl
     ∙ step_sight w h
 
 -- in a pair a step is kept
@@ -146,33 +137,33 @@ step_kept boxes fs steps r two =
     λ i. (replies.Steps steps, record r { journal = with_moves (sym two i) r.journal (step_entries (sym two i) boxes fs) })
 
 pub steps_answered :
-    (n : ℕ) (w : Pair) → Holds w → is_alone w.protocol.mode ≡ false → (0 < n → is_stopped w.protocol.mode ≡ false)
-    → length (all_entries w.protocol.journal) + n < number_limit
+    (n : ℕ) (w : Pair) → Holds w → is_alone w.protocol.state.mode ≡ false → (0 < n → is_stopped w.protocol.state.mode ≡ false)
+    → length (all_entries w.protocol.state.journal) + n < number_limit
     → HaveRoom n w.nodes.live.guest w.nodes.live.outbox
-    → (replies.Steps (after_steps n w.nodes.live.guest).steps, (with_steps n w).protocol) ≡ steps_outcome w.start w.protocol n
+    → (replies.Steps (after_steps n w.nodes.live.guest).steps, (with_steps n w).protocol.state) ≡ steps_outcome w.start w.protocol.state n
 steps_answered zero w h two runs fits room =
-    ap (λ (g : Guest). (replies.Steps g.steps, (with_steps 0 w).protocol)) (no-steps w.nodes.live.guest ∙ sym (live_is w h))
-    ∙ ap (λ (v : Pair). (replies.Steps (live_at w.start w.protocol).guest.steps, v.protocol)) (with_no_steps w)
-    ∙ sym (no-steps-answered w.start w.protocol)
+    ap (λ (g : Guest). (replies.Steps g.steps, (with_steps 0 w).protocol.state)) (no-steps w.nodes.live.guest ∙ sym (live_is w h))
+    ∙ ap (λ (v : Pair). (replies.Steps (live_at w.start w.protocol.state).guest.steps, v.protocol.state)) (with_no_steps w)
+    ∙ sym (no-steps-answered w.start w.protocol.state)
 steps_answered (suc n) w h two runs fits room =
     let v = with_steps n w in
     let g = w.nodes.live.guest in
-    let ran = w.protocol.journal.running in
+    let ran = w.protocol.state.journal.running in
     let e = steps-counted n w in
     let before = steps_answered n w h two (λ l. runs (omega arith)) (omega arith) (room-before n g w.nodes.live.outbox room) in
     (λ i. (
       replies.Steps (after_steps-last n g i).steps,
-      record w.protocol {
-        journal = record w.protocol.journal {
+      record w.protocol.state {
+        journal = record w.protocol.state.journal {
           running = (ap (λ t. ran ++ t) (replicate-last n) ∙ sym (append_assoc ran (replicate n Ran) (Ran ∷ []))) i;
         };
       },
     ))
-    ∙ step_kept w.ports.boxes (sent (after_steps n g)) (next (after_steps n g)).steps v.protocol two
-    ∙ step_goes v (steps_hold n w h) (runs (omega arith)) (room-last n g w.nodes.live.outbox room)
-    (let one : step_room w.protocol.mode ≡ 1 = ap (λ (b : Bool). cond b lone_step_entries 1) two in omega arith)
+    ∙ step_kept w.ports.boxes (sent (after_steps n g)) (next (after_steps n g)).steps v.protocol.state two
+    ∙ step_goes v (steps_hold n w two h) (runs (omega arith)) (room-last n g w.nodes.live.outbox room)
+    (let one : step_room w.protocol.state.mode ≡ 1 = ap (λ (b : Bool). cond b lone_step_entries 1) two in omega arith)
     ∙ ap (λ (o : Outcome). goes_on w.start o.0 o.1) before
-    ∙ sym (more-answered w.start w.protocol n)
+    ∙ sym (more-answered w.start w.protocol.state n)
 
 -- the first refusal is the answer to all steps that were to follow
 module _ (start : HistoryState) (r r' : Record) (n k : ℕ) (why : Refusal)
@@ -209,14 +200,14 @@ refused_stays start r r' why e = by_refusal (first_refusal (step_refusals (outbo
     by_refusal (Some x) e = ap (λ (o : Outcome). o.1) e
     by_refusal None e = search (arith, rules)
 
-none-made : (n : ℕ) (w : Pair) → (with_steps n w).protocol ≡ w.protocol → n ≡ 0
+none-made : (n : ℕ) (w : Pair) → (with_steps n w).protocol.state ≡ w.protocol.state → n ≡ 0
 none-made n w e =
     let c = steps-counted n w in
     let same = ap (λ (r : Record). length (all_entries r.journal)) e in
     omega arith
 
 pub refused_step :
-    (w v : Pair) (answer : Result ℕ Refusal) → (step_reply answer, v.protocol) ≡ step_outcome w.start w.protocol
+    (w v : Pair) (answer : Result ℕ Refusal) → (step_reply answer, v.protocol.state) ≡ step_outcome w.start w.protocol.state
     → (n : ℕ) → v ≡ with_steps n w → OnErr answer (v ≡ w)
 refused_step w v (Ok k) e n is = tt
 refused_step w v (Err why) e n is = search (arith, rules, none-made, refused_stays, with_no_steps)

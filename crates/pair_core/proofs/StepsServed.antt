@@ -10,7 +10,7 @@ use Rattle.pair_history.specs.{Entries.{Ran}, HistoryState.{HistoryState, after,
 use Rattle.pair_history.specs.{Landings.{landings, BoxesFit}, Leaving.{LeaveInOrder, NotGivenUp}}
 use Rattle.pair_history.proofs.{States.{at-append, Legal-append}, LandingLaws.{BoxesFit-lands, AllClients-targets, landings-land, AllLand}}
 use Rattle.memory_wanted.specs.Wanted.{wanted}
-use Rattle.pair_core.specs.{Answering.{Answers}, Calls.Moment, Drops.Drops}
+use Rattle.pair_core.specs.{Answering.{AnswersIn}, Calls.Moment, Drops.Drops, Lines.{Protocol, no_packets}}
 use Rattle.pair_record.specs.{declared.event.Event.TheVariants.Step, declared.event.Refusal.Refusal}
 use Rattle.pair_record.specs.declared.event.Refusal.TheVariants.{NoMemory}
 use Rattle.pair_record.specs.declared.event.Reply.{Reply}
@@ -18,13 +18,17 @@ use Rattle.pair_record.specs.{Journal.{joined, kept_entries, all_entries, with_m
 use Rattle.pair_core.specs.Pair.{Pair, IsConsistent}
 use Rattle.pair_record.specs.Protocol.{Record, Outcome, first_refusal, refused, shown_at, live_at, step_refusals, outbox_of, step_entries}
 use Rattle.pair_record.specs.Protocol.{step_done, step_outcome}
-use Rattle.pair_core.specs.{Runs.{StepsAnswer, goes_on, steps_outcome}, Service.{moment, Serves, HasServed, is_step, ServesSteps}}
+use Rattle.pair_core.specs.{Runs.{StepsAnswerIn, goes_on, steps_outcome}, Service.{moment, Serves, HasServed, is_step, ServesSteps}}
 use Rattle.pair_core.proofs.Consistent.{lone}
 use Rattle.pair_core.proofs.{AlongLaws.along-more, Ends.by_table, ServiceLaws.serves_at}
 use Rattle.pair_core.proofs.{StepRuns.{no-steps-answered, more-answered, refused_stays}, Tells.OfGuest}
 use Rattle.pair_record.specs.declared.event.Reply.TheVariants as replies
 
 module _ (start : HistoryState) where
+  -- a record on whose lines nothing was sent: steps look at none
+  abbrev bare : Record → Protocol
+  bare r = record { state = r; lines = no_packets }
+
   abbrev moment_at : Record → Moment
   moment_at r = record { history = r.journal.history; ahead = kept_entries r.journal; guest = (live_at start r).guest }
 
@@ -69,10 +73,10 @@ module _ (start : HistoryState) where
         subst (Legal start) (sym whole) (Legal-append start all (Ran ∷ []) h.legal (tt, tt)) in
         let moves : All OfGuest (kept_entries (done false).journal) =
         subst (All OfGuest) (sym runs) (All-append OfGuest kept (Ran ∷ []) h.moves (All-cons OfGuest Ran [] refl (All-nil OfGuest))) in
-        let drops : Drops start r Step (replies.Steps (next g).steps) (done false) =
-        record { answers = inl e; entries = []; grows = sym (append-nil r.journal.history); only = tt; lets = λ two. none_out } in
+        let drops : Drops start (bare r) Step (replies.Steps (next g).steps) (bare (done false)) =
+        record { answers = (inl e, refl); entries = []; grows = sym (append-nil r.journal.history); only = tt; lets = λ two. none_out } in
         record {
-          serves = serves_at start r (done false) g _ Step (replies.Steps (next g).steps) drops h.moves (λ a. (h.lone a).0) legal moves refl;
+          serves = serves_at start (bare r) (bare (done false)) g _ Step (replies.Steps (next g).steps) drops h.moves (λ a. (h.lone a).0) legal moves refl;
           good = record { legal = legal; moves = moves; fit = h.fit; lone = λ a. absurd (cc) };
           count = ap (λ t. (at start t).guest.steps) whole ∙ ap (λ (t : HistoryState). t.guest.steps) (at-append start all (Ran ∷ []));
         }
@@ -96,12 +100,12 @@ module _ (start : HistoryState) where
         let whole : all_entries (done true).journal ≡ j.history ++ Ran ∷ es =
         ap (λ k. (j.history ++ Ran ∷ es) ++ k) none ∙ append-nil (j.history ++ Ran ∷ es) in
         let legal : Legal start (all_entries (done true).journal) = subst (Legal start) (sym whole) history in
-        let drops : Drops start r Step (replies.Steps (next g).steps) (done true) =
-        record { answers = inl e; entries = Ran ∷ es; grows = refl; only = land.2; lets = λ two. absurd (cc) } in
+        let drops : Drops start (bare r) Step (replies.Steps (next g).steps) (bare (done true)) =
+        record { answers = (inl e, refl); entries = Ran ∷ es; grows = refl; only = land.2; lets = λ two. absurd (cc) } in
         let shown : shown_at start (done true) ≡ record t { out = []; boxes = lands b ps } =
         at-append start j.history (Ran ∷ es) ∙ land.1 in
         record {
-          serves = serves_at start r (done true) g _ Step (replies.Steps (next g).steps) drops h.moves (λ a. (h.lone a).0) legal h.moves refl;
+          serves = serves_at start (bare r) (bare (done true)) g _ Step (replies.Steps (next g).steps) drops h.moves (λ a. (h.lone a).0) legal h.moves refl;
           good = record {
             legal = legal;
             moves = h.moves;
@@ -144,12 +148,12 @@ module _ (start : HistoryState) where
             subst (λ (o : Outcome). MadeAt o.0 o.1) (sym all) (one_alone is (sym all ∙ e))
 
     -- a step that is refused changes nothing
-    one_refused : (why : Refusal) → Answers start r Step (replies.Refused why) r
+    one_refused : (why : Refusal) → AnswersIn start r None Step (replies.Refused why) r
         → Serves start (moment_at r) Step (replies.Refused why) (moment_at r)
     one_refused why a =
-        let drops : Drops start r Step (replies.Refused why) r =
-        record { answers = a; entries = []; grows = sym (append-nil r.journal.history); only = tt; lets = λ two. none_out } in
-        serves_at start r r g g Step (replies.Refused why) drops h.moves (λ a. (h.lone a).0) h.legal h.moves refl
+        let drops : Drops start (bare r) Step (replies.Refused why) (bare r) =
+        record { answers = (a, refl); entries = []; grows = sym (append-nil r.journal.history); only = tt; lets = λ two. none_out } in
+        serves_at start (bare r) (bare r) g g Step (replies.Refused why) drops h.moves (λ a. (h.lone a).0) h.legal h.moves refl
 
   -- SO MANY STEPS
 
@@ -280,48 +284,48 @@ module _ (start : HistoryState) where
 
 -- So many steps of a pair are that to its clients.
 module _ (w v : Pair) (count : ℕ) (reply : Reply) (start : v.start ≡ w.start) (old : IsConsistent w) (new : IsConsistent v) where
-  good : IsGood w.start w.protocol
+  good : IsGood w.start w.protocol.state
   good = record {
-    legal = Legal-append w.start w.protocol.journal.history (kept_entries w.protocol.journal) old.legal old.goes_on;
+    legal = Legal-append w.start w.protocol.state.journal.history (kept_entries w.protocol.state.journal) old.legal old.goes_on;
     moves = old.kept;
     fit = subst BoxesFit old.boxes old.fit;
     lone = λ a.
-        let is = lone w.protocol.mode w a old.mode in
+        let is = lone w.protocol.state.mode w a old.mode in
         let none = is.kept in
         let n = length w.ports.boxes in (
           none,
-          ap (λ (s : HistoryState). s.out) (sym (ap (at w.start) (ap (λ t. w.protocol.journal.history ++ t) none
-              ∙ append-nil w.protocol.journal.history)))
+          ap (λ (s : HistoryState). s.out) (sym (ap (at w.start) (ap (λ t. w.protocol.state.journal.history ++ t) none
+              ∙ append-nil w.protocol.state.journal.history)))
               ∙ sym old.owed
               ∙ (λ i. targets_of n (frames_of (is.pending i) ++ is.outbox i)),
         );
   }
 
   -- the moments of both pairs, as their records say them
-  old_moment : moment_at w.start w.protocol ≡ moment w
+  old_moment : moment_at w.start w.protocol.state ≡ moment w
   old_moment = λ i. record {
-    history = w.protocol.journal.history;
-    ahead = kept_entries w.protocol.journal;
+    history = w.protocol.state.journal.history;
+    ahead = kept_entries w.protocol.state.journal;
     guest = sym old.live i;
   }
 
-  new_moment : moment_at w.start v.protocol ≡ moment v
+  new_moment : moment_at w.start v.protocol.state ≡ moment v
   new_moment = λ i. record {
-    history = v.protocol.journal.history;
-    ahead = kept_entries v.protocol.journal;
-    guest = (ap (λ (s : HistoryState). (live_at s v.protocol).guest) (sym start) ∙ sym new.live) i;
+    history = v.protocol.state.journal.history;
+    ahead = kept_entries v.protocol.state.journal;
+    guest = (ap (λ (s : HistoryState). (live_at s v.protocol.state).guest) (sym start) ∙ sym new.live) i;
   }
 
   -- those that were made, between the moments of both pairs
-  run : (n k : ℕ) → (a : AllMade w.start w.protocol n k v.protocol)
+  run : (n k : ℕ) → (a : AllMade w.start w.protocol.state n k v.protocol.state)
       → HasServed w.start (moment w) (replicate (length a.made) Step) a.made (moment v)
   run n k a =
       subst (λ m. HasServed w.start m (replicate (length a.made) Step) a.made (moment v)) old_moment
-      (subst (λ m. HasServed w.start (moment_at w.start w.protocol) (replicate (length a.made) Step) a.made m) new_moment
-      (subst (λ n. HasServed w.start (moment_at w.start w.protocol) (replicate n Step) a.made (moment_at w.start v.protocol)) (sym a.count)
+      (subst (λ m. HasServed w.start (moment_at w.start w.protocol.state) (replicate (length a.made) Step) a.made m) new_moment
+      (subst (λ n. HasServed w.start (moment_at w.start w.protocol.state) (replicate n Step) a.made (moment_at w.start v.protocol.state)) (sym a.count)
       a.run))
 
-  all : (k : ℕ) → AllMade w.start w.protocol count k v.protocol → ServesSteps w.start (moment w) count (replies.Steps k) (moment v)
+  all : (k : ℕ) → AllMade w.start w.protocol.state count k v.protocol.state → ServesSteps w.start (moment w) count (replies.Steps k) (moment v)
   all k a = record {
     made = a.made;
     are_steps = a.are_steps;
@@ -330,8 +334,8 @@ module _ (w v : Pair) (count : ℕ) (reply : Reply) (start : v.start ≡ w.start
     ends = (a.count, refl, ap (λ (m : Moment). m.guest.steps) (sym new_moment) ∙ a.steps);
   }
 
-  early : (n k : ℕ) (why : Refusal) → n < count → AllMade w.start w.protocol n k v.protocol
-      → Serves w.start (moment_at w.start v.protocol) Step (replies.Refused why) (moment_at w.start v.protocol)
+  early : (n k : ℕ) (why : Refusal) → n < count → AllMade w.start w.protocol.state n k v.protocol.state
+      → Serves w.start (moment_at w.start v.protocol.state) Step (replies.Refused why) (moment_at w.start v.protocol.state)
       → ServesSteps w.start (moment w) count (replies.Refused why) (moment v)
   early n k why less a refusal = record {
     made = a.made;
@@ -344,19 +348,19 @@ module _ (w v : Pair) (count : ℕ) (reply : Reply) (start : v.start ≡ w.start
     );
   }
 
-  by_reply : (reply : Reply) → IsStepAnswer w.start reply → (reply, v.protocol) ≡ steps_outcome w.start w.protocol count
+  by_reply : (reply : Reply) → IsStepAnswer w.start reply → (reply, v.protocol.state) ≡ steps_outcome w.start w.protocol.state count
       → ServesSteps w.start (moment w) count reply (moment v)
-  by_reply (replies.Steps k) is e = all k (all_made w.start w.protocol good count k v.protocol e)
+  by_reply (replies.Steps k) is e = all k (all_made w.start w.protocol.state good count k v.protocol.state e)
   by_reply (replies.Refused why) is e =
-      let ended = ends_early w.start w.protocol good count why v.protocol e in
+      let ended = ends_early w.start w.protocol.state good count why v.protocol.state e in
       early ended.tried ended.count why ended.less ended.before ended.refusal
   by_reply other is e = absurd is
 
-  pub serves_steps : StepsAnswer w.start w.protocol count reply v.protocol → ServesSteps w.start (moment w) count reply (moment v)
+  pub serves_steps : StepsAnswerIn w.start w.protocol.state count reply v.protocol.state → ServesSteps w.start (moment w) count reply (moment v)
   serves_steps (inl e) =
-      by_reply reply (subst (λ (o : Outcome). IsStepAnswer w.start o.0) (sym e) (steps-answer w.start w.protocol count)) e
+      by_reply reply (subst (λ (o : Outcome). IsStepAnswer w.start o.0) (sym e) (steps-answer w.start w.protocol.state count)) e
   serves_steps (inr k) =
       let made = k.2 in
-      let a = all_made w.start w.protocol good made.0 made.2 v.protocol made.3 in
+      let a = all_made w.start w.protocol.state good made.0 made.2 v.protocol.state made.3 in
       rw k.1 (early made.0 made.2 (NoMemory wanted) made.1 a
-      (one_refused w.start v.protocol a.good (NoMemory wanted) (inr (made.4, refl, refl))))
+      (one_refused w.start v.protocol.state a.good (NoMemory wanted) (inr (made.4, refl, refl))))

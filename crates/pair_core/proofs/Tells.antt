@@ -11,6 +11,7 @@ use Rattle.pair_record.specs.{declared.event.Refusal.TheVariants.Full, Journal.{
 use Rattle.pair_record.specs.Protocol.{Record, live_at, shown_at, outbox_of, step_entries, all_held, let_go, live_entries}
 use Rattle.pair_core.specs.Pair.{is_of_guest}
 use Rattle.pair_core.specs.Service.{is_call, Tells}
+use Rattle.pair_core.specs.Lines.{Lines}
 use Rattle.pair_core.proofs.Ends.{Ends, ChangesNothing, at_once}
 use Rattle.pair_record.specs.declared.event.Reply.TheVariants as replies
 
@@ -80,8 +81,8 @@ module _ (start : HistoryState) (r : Record) (kept : All OfGuest (kept_entries r
   refused-tells (Deliver c bytes) other plain = refl
   refused-tells other why plain = none
 
-  pub tells_all : Ends start r (λ event es o. Tells event o.0 es)
-  tells_all = record {
+  pub tells_all : (l : Lines) → Ends start r l (λ event es o. Tells event o.0 es)
+  tells_all l = record {
     refuses = refused-tells;
     step = by_mode;
     cut = none;

@@ -1,5 +1,5 @@
 -- How events may be answered: as the protocol says, or for want of memory.
-use Rattle.std.specs.Prelude.{◌≡◌, ℕ, ◌<◌, true, Result, Ok, Err, ◌⊎◌, length}
+use Rattle.std.specs.Prelude.{◌≡◌, ℕ, ◌<◌, true, Result, Ok, Err, Option, ◌⊎◌, length}
 use Rattle.memory_wanted.specs.Wanted.{wanted}
 use Rattle.pair_history.specs.HistoryState.{HistoryState}
 use Rattle.pair_record.specs.declared.event.Event.{Event}
@@ -9,6 +9,8 @@ use Rattle.pair_record.specs.declared.event.Reply.{Reply}
 use Rattle.pair_record.specs.declared.event.Reply.TheVariants as replies
 use Rattle.pair_record.specs.Modes.{is_alone}
 use Rattle.pair_record.specs.Protocol.{Record, Outcome, outcome}
+use Rattle.pair_record.specs.declared.event.Packet.{Packet}
+use Rattle.pair_core.specs.Lines.{Protocol, got, lines_after}
 
 -- the history has more entries than it had
 abbrev pub AddsEntries : Record → Record → Type 0
@@ -30,11 +32,17 @@ MayWant old other new = Unit {0}
 abbrev pub MayWantMemory : Record → Outcome → Type 0
 MayWantMemory old o = MayWant old o.0 o.1
 
--- From the record old an event may be answered reply and leave new: by the protocol, or for want of memory with nothing changed.
-abbrev pub Answers : HistoryState → Record → Event → Reply → Record → Type 0
+-- From the record old an event that gets this packet may be answered reply and leave new: by the protocol, or for want of memory with
+-- nothing changed.
+abbrev pub AnswersIn : HistoryState → Record → Option Packet → Event → Reply → Record → Type 0
+AnswersIn start old packet event reply new =
+    ((reply, new) ≡ outcome start old packet event)
+    ⊎ (MayWantMemory old (outcome start old packet event) × (reply ≡ replies.Refused (NoMemory wanted)) × (new ≡ old))
+
+-- The same with the lines: the packet is its line's, and what the answer says was sent is on its line.
+abbrev pub Answers : HistoryState → Protocol → Event → Reply → Protocol → Type 0
 Answers start old event reply new =
-    ((reply, new) ≡ outcome start old event)
-    ⊎ (MayWantMemory old (outcome start old event) × (reply ≡ replies.Refused (NoMemory wanted)) × (new ≡ old))
+    AnswersIn start old.state (got old.lines event) event reply new.state × (new.lines ≡ lines_after old reply)
 
 -- what a step answers, as a reply
 abbrev pub step_reply : Result ℕ Refusal → Reply

@@ -13,6 +13,7 @@ use Rattle.pair_record.specs.Journal.{kept_entries}
 use Rattle.pair_record.specs.Modes.{is_alone}
 use Rattle.pair_record.specs.Protocol.{Record, shown_at, let_go}
 use Rattle.pair_core.specs.Answering.{Answers}
+use Rattle.pair_core.specs.Lines.{Protocol}
 
 -- What an event may drop, where the history and what the guest did ahead of it were so, and the history grows by these entries: a loss
 -- that was asked for drops that frame and no other; where frames land, which is at an acknowledgement, where the backup fails, and at a
@@ -43,12 +44,12 @@ LetsOut start r GoLive reply es = Unit {0}
 LetsOut start r event reply es = LeaveInOrder (shown_at start r) es []
 
 -- An event, answered so, makes the history grow by entries that drop what it may drop, and let out what it may let out.
-pub record Drops (start : HistoryState) (old : Record) (event : Event) (reply : Reply) (new : Record) : Type 0 where
+pub record Drops (start : HistoryState) (old : Protocol) (event : Event) (reply : Reply) (new : Protocol) : Type 0 where
   pub answers : Answers start old event reply new
   pub entries : List Entry
-  pub grows : new.journal.history ≡ old.journal.history ++ entries
-  pub only : DropsOnly start old event reply entries
-  pub lets : LetsOut start old event reply entries
+  pub grows : new.state.journal.history ≡ old.state.journal.history ++ entries
+  pub only : DropsOnly start old.state event reply entries
+  pub lets : LetsOut start old.state event reply entries
 
 -- Why frames that clients delivered, of these numbers, were dropped: none was; or a loss was asked for, of that one frame; or the backup
 -- went live, and the epochs that had taken them in were never committed.

@@ -15,15 +15,16 @@ use Rattle.pair_record.specs.declared.event.Refusal.TheVariants.{Full}
 use Rattle.pair_record.specs.declared.event.Reply.{Reply}
 use Rattle.pair_record.specs.declared.event.Reply.TheVariants as replies
 use Rattle.pair_record.specs.Journal.{joined, first_of, kept_entries}
+use Rattle.pair_core.specs.Lines.{Protocol}
 use Rattle.pair_core.specs.Nodes.{Nodes, Fills, machine_of}
-use Rattle.pair_record.specs.Protocol.{Record, outbox_of, shown_at, live_at}
+use Rattle.pair_record.specs.Protocol.{outbox_of, shown_at, live_at}
 use Rattle.pair_core.specs.Texts.{AreTexts}
 use Rattle.pair_record.specs.Window.{IsWindow}
 
 pub record Pair : Type 0 where
   -- the state that the history starts from
   pub start : HistoryState
-  pub protocol : Record
+  pub protocol : Protocol
   -- the clients' inboxes and boxes
   pub ports : PortsState
   -- the machines of both nodes
@@ -31,23 +32,24 @@ pub record Pair : Type 0 where
 
 -- the state that clients see, and the one after all that is kept
 abbrev pub shown_state : Pair → HistoryState
-shown_state w = shown_at w.start w.protocol
+shown_state w = shown_at w.start w.protocol.state
 
 abbrev pub live_state : Pair → HistoryState
-live_state w = live_at w.start w.protocol
+live_state w = live_at w.start w.protocol.state
 
 -- the state at the last cut, or at the start
 abbrev pub cut_state : Pair → HistoryState
-cut_state w = at w.start (w.protocol.journal.history ++ joined w.protocol.journal.sealed)
+cut_state w = at w.start (w.protocol.state.journal.history ++ joined w.protocol.state.journal.sealed)
 
 -- The image is the guest of the history, memory, disk and devices, and stands at the last checkpoint that was committed.
 pub record ImageFollows (w : Pair) : Type 0 where
   pub image : w.nodes.image.guest ≡ (shown_state w).guest
-  pub stands_at : w.nodes.image.stands_at ≡ Some (record { generation = w.protocol.generation; number = w.protocol.window.to_commit - 1 })
+  pub stands_at : w.nodes.image.stands_at
+      ≡ Some (record { generation = w.protocol.state.generation; number = w.protocol.state.window.to_commit - 1 })
 
 -- A new backup's image is empty, until it takes in the full checkpoint, which makes the guest of its epoch's end.
 abbrev pub ImageFills : Pair → Type 0
-ImageFills w = Fills (at (shown_state w) (first_of w.protocol.journal.sealed)).guest w.nodes
+ImageFills w = Fills (at (shown_state w) (first_of w.protocol.state.journal.sealed)).guest w.nodes
 
 -- What holds besides where there is a backup.
 pub record HasBackup (w : Pair) : Type 0 where
@@ -56,13 +58,13 @@ pub record HasBackup (w : Pair) : Type 0 where
   -- nothing is staged
   pub staged : w.nodes.image.staged ≡ None
   -- each sealed text reads back as the checkpoint of its number, which makes the guest of its epoch's end of the one of the epoch before
-  pub sealed : AreTexts w.nodes.image.shape w.protocol.generation w.protocol.window.to_commit
-      (shown_state w) w.protocol.journal.sealed w.nodes.sealed
+  pub sealed : AreTexts w.nodes.image.shape w.protocol.state.generation w.protocol.state.window.to_commit
+      (shown_state w) w.protocol.state.journal.sealed w.nodes.sealed
 
 -- What holds where a node is alone: nothing is kept, pending, held or in the outbox.
 pub record IsAlone (w : Pair) : Type 0 where
-  pub kept : kept_entries w.protocol.journal ≡ []
-  pub pending : w.protocol.pending ≡ []
+  pub kept : kept_entries w.protocol.state.journal ≡ []
+  pub pending : w.protocol.state.pending ≡ []
   pub outbox : w.nodes.live.outbox ≡ []
 
 -- What holds in each mode. The backup of a pair could go on from its image, and it still could where the primary has stopped.
@@ -82,18 +84,18 @@ is_of_guest other = false
 pub record IsConsistent (w : Pair) : Type 0 where
   -- the history is one of a guest that never fails, and dropped no frame for a client but out of its box, or the next one on its way;
   -- what is kept goes on from it
-  pub legal : Legal w.start w.protocol.journal.history
-  pub drops : DropsAreKnown w.start w.protocol.journal.history
-  pub goes_on : Legal (shown_state w) (kept_entries w.protocol.journal)
-  pub kept : All (λ e. is_of_guest e ≡ true) (kept_entries w.protocol.journal)
+  pub legal : Legal w.start w.protocol.state.journal.history
+  pub drops : DropsAreKnown w.start w.protocol.state.journal.history
+  pub goes_on : Legal (shown_state w) (kept_entries w.protocol.state.journal)
+  pub kept : All (λ e. is_of_guest e ≡ true) (kept_entries w.protocol.state.journal)
   -- what is pending are the checkpoints from the next to be acknowledged to the last cut
-  pub window : IsWindow w.protocol.window w.protocol.pending
+  pub window : IsWindow w.protocol.state.window w.protocol.state.pending
   -- the live machine is the guest of the history followed by what is kept
   pub live : w.nodes.live.guest ≡ (live_state w).guest
   -- there is a backup, unless a node is alone
-  pub mode : InMode w.protocol.mode w
+  pub mode : InMode w.protocol.state.mode w
   -- the outbox is all that the guest sent along the epoch that runs, also what goes nowhere
-  pub outbox : w.nodes.live.outbox ≡ outbox_of w.start w.protocol
+  pub outbox : w.nodes.live.outbox ≡ outbox_of w.start w.protocol.state
   -- each client's inbox is what waits of it after all that is kept, and numbers go on from the history's
   pub number : w.ports.next ≡ (shown_state w).number
   pub clients : length w.ports.inboxes ≡ length w.ports.boxes
@@ -102,7 +104,7 @@ pub record IsConsistent (w : Pair) : Type 0 where
   pub boxes : w.ports.boxes ≡ (shown_state w).boxes
   pub fit : BoxesFit w.ports.boxes
   -- what the gate holds, with the outbox, is what is still on its way to each client
-  pub owed : targets_of (length w.ports.boxes) (frames_of w.protocol.pending ++ w.nodes.live.outbox) ≡ (live_state w).out
+  pub owed : targets_of (length w.ports.boxes) (frames_of w.protocol.state.pending ++ w.nodes.live.outbox) ≡ (live_state w).out
 
 -- What a refusal leaves: all as it was. That of a full inbox is recorded, and that is all.
 abbrev pub AfterRefusal : Refusal → Pair → Pair → Type 0

@@ -66,8 +66,8 @@ KeepsBackup old new = (new.image ≡ old.image) × (new.sealed ≡ old.sealed)
 -- Once the checkpoint of this generation and number is committed, the image will be this guest: as long as there is a backup in that
 -- generation, the guest stands in its place among those to come.
 pub record Awaits (generation number : ℕ) (g : Guest) (w : Pair) : Type 0 where
-  pub begun : generation ≤ w.protocol.generation
-  pub place : is_alone w.protocol.mode ≡ false → w.protocol.generation ≡ generation
+  pub begun : generation ≤ w.protocol.state.generation
+  pub place : is_alone w.protocol.state.mode ≡ false → w.protocol.state.generation ≡ generation
       → (j : ℕ) → next_number w.nodes + j ≡ number → slice_get (to_come w.nodes) j ≡ Some g
 
 -- there is no backup any more

@@ -13,10 +13,11 @@ use Rattle.pair_core.specs.Nodes.{after_run}
 use Rattle.pair_record.specs.Protocol.{Record, Outcome, live_at, refused, step_outcome}
 use Rattle.pair_core.specs.Along.{Along}
 use Rattle.pair_core.specs.Answering.{Answers, MayWantMemory}
+use Rattle.pair_core.specs.Lines.{Protocol}
 use Rattle.pair_core.specs.Pair.{Pair}
 
--- These events, one after another, may be answered so, and lead from the record old to new.
-abbrev pub Run : HistoryState → Record → List Event → List Reply → Record → Type 0
+-- These events, one after another, may be answered so, and lead from the protocol's record old to new.
+abbrev pub Run : HistoryState → Protocol → List Event → List Reply → Protocol → Type 0
 Run start old events replies new = Along (Answers start) old events replies new
 
 -- one more of several steps, after the answer of those before: a refusal ends them
@@ -34,16 +35,22 @@ steps_outcome start r (suc n) =
 
 -- What so many steps may be answered, and leave: by the protocol; or, where a node is alone, for want of memory before one of them,
 -- and those before it stay made.
-abbrev pub StepsAnswer : HistoryState → Record → ℕ → Reply → Record → Type 0
-StepsAnswer start old count reply new =
+abbrev pub StepsAnswerIn : HistoryState → Record → ℕ → Reply → Record → Type 0
+StepsAnswerIn start old count reply new =
     ((reply, new) ≡ steps_outcome start old count)
     ⊎ ((is_alone old.mode ≡ true) × (reply ≡ replies.Refused (NoMemory wanted))
     × ((made : ℕ) × (made < count) × (steps : ℕ) × ((replies.Steps steps, new) ≡ steps_outcome start old made)
     × MayWantMemory new (step_outcome start new)))
 
+-- the same with the lines, on which steps send nothing
+abbrev pub StepsAnswer : HistoryState → Protocol → ℕ → Reply → Protocol → Type 0
+StepsAnswer start old count reply new = StepsAnswerIn start old.state count reply new.state × (new.lines ≡ old.lines)
+
 -- the pair after n steps of its live guest
 abbrev pub with_steps : ℕ → Pair → Pair
 with_steps n w = record w {
-  protocol = record w.protocol { journal = with_running w.protocol.journal (replicate n Ran) };
+  protocol = record w.protocol {
+    state = record w.protocol.state { journal = with_running w.protocol.state.journal (replicate n Ran) };
+  };
   nodes = after_run n w.nodes;
 }

@@ -18,7 +18,7 @@ use Rattle.pair_core.specs.Pair.{Pair, is_of_guest}
 
 -- a pair's: its live guest, where the primary has stopped the one that it stopped with
 abbrev pub moment : Pair → Moment
-moment w = record { history = w.protocol.journal.history; ahead = kept_entries w.protocol.journal; guest = w.nodes.live.guest }
+moment w = record { history = w.protocol.state.journal.history; ahead = kept_entries w.protocol.state.journal; guest = w.nodes.live.guest }
 
 -- the event is that client c delivers these bytes
 abbrev pub IsDelivery : ℕ → List ℕ → Event → Type 0

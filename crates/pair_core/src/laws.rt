@@ -18,7 +18,7 @@ ghost use Rattle.pair_history.specs.Failures.{dropped_numbers};
 ghost use Rattle.pair_history.specs.Entries.{Frame, Delivered, Refused, Took, Begins};
 ghost use Rattle.pair_history.specs.HistoryState.{HistoryState, out_of};
 ghost use Rattle.pair_core.specs.Drops.{Drops, WhyLost};
-ghost use Rattle.pair_record.specs.Protocol.{Record};
+ghost use Rattle.pair_core.specs.Lines.{Protocol};
 ghost use Rattle.pair_core.specs.Calls.{Moment};
 ghost use Rattle.pair_core.specs.Service.{HasServed, HasEntered, IsDelivery, Point, IsTold, IsResumed};
 ghost use Rattle.pair_core.specs.Replication.{KeepsBackup, Awaits, Does, Leads};
@@ -52,7 +52,8 @@ pub fn cut_guests_are_awaited()
     ensures event { (generation number : ℕ) (g : Guest) (event : Event) (reply : Reply) (old new : Pair)
         → Does old event reply new → Awaits generation number g old → Awaits generation number g new }
     ensures call { (generation number : ℕ) (g : Guest) (old new : Pair)
-        → KeepsBackup old.nodes new.nodes → new.protocol.mode ≡ old.protocol.mode → new.protocol.generation ≡ old.protocol.generation
+        → KeepsBackup old.nodes new.nodes → new.protocol.state.mode ≡ old.protocol.state.mode
+        → new.protocol.state.generation ≡ old.protocol.state.generation
         → Awaits generation number g old → Awaits generation number g new }
     ensures run { (generation number : ℕ) (g : Guest) (events : List Event) (answers : List Reply) (old new : Pair)
         → Leads old events answers new → Awaits generation number g old → Awaits generation number g new }
@@ -68,8 +69,8 @@ pub fn cut_guests_are_awaited()
 /// ([`released_frames_were_sent`](crate::released_frames_were_sent)). Of the frames that clients delivered, the entries that an event
 /// adds drop none; or the one that a `LoseIn` named; or, where the backup goes live, those that the discarded epochs had taken in.
 pub fn what_is_delivered_is_lost_for_a_reason()
-    ensures { (start : HistoryState) (old new : Record) (event : Event) (reply : Reply) → (drops : Drops start old event reply new)
-        → WhyLost old event (dropped_numbers drops.entries) }
+    ensures { (start : HistoryState) (old new : Protocol) (event : Event) (reply : Reply) → (drops : Drops start old event reply new)
+        → WhyLost old.state event (dropped_numbers drops.entries) }
 {}
 
 /// The service that the whole is for: over every list of events, each reply to a client's call is that of one never-failing guest behind a
@@ -114,17 +115,18 @@ pub fn clients_have_one_guest_that_never_fails()
 /// up.
 pub fn acknowledged_frames_have_left()
     ensures since_boot { (c m : ℕ) (boot cut now late : Pair) (before then : List Event) (told answers : List Reply)
-        → IsConsistent boot → boot.protocol ≡ start_record → IsFresh boot.start
+        → IsConsistent boot → boot.protocol.state ≡ start_record → IsFresh boot.start
         → Leads boot before told cut → AreOrdinary before
         → Does cut Cut (replies.Cut 1 m) now
         → Leads now then answers late → AreOrdinary then
         → greatest_acked (told ++ answers) ≡ m
-        → (frames_left (leaving late.start late.protocol.journal.history c) ≡ sent_to cut.start (all_entries cut.protocol.journal) c)
-        × All NotGivenUp (leaving late.start late.protocol.journal.history c) }
+        → (frames_left (leaving late.start late.protocol.state.journal.history c)
+        ≡ sent_to cut.start (all_entries cut.protocol.state.journal) c)
+        × All NotGivenUp (leaving late.start late.protocol.state.journal.history c) }
     ensures accounted { (c : ℕ) (w : Pair) → IsConsistent w → IsFresh w.start
-        → sent_to w.start (all_entries w.protocol.journal) c
-        ≡ frames_left (leaving w.start w.protocol.journal.history c)
-        ++ out_of c (targets_of (length w.ports.boxes) (frames_of w.protocol.pending ++ w.nodes.live.outbox)) }
+        → sent_to w.start (all_entries w.protocol.state.journal) c
+        ≡ frames_left (leaving w.start w.protocol.state.journal.history c)
+        ++ out_of c (targets_of (length w.ports.boxes) (frames_of w.protocol.state.pending ++ w.nodes.live.outbox)) }
 {}
 
 /// What the guest did enters the history epoch by epoch, when the backup commits the epoch's checkpoint; all of it where the backup fails;
@@ -141,12 +143,12 @@ pub fn committed_epochs_enter_the_history()
         → Does cut Cut (replies.Cut generation number) next
         → Leads next events answers late
         → Does late (BackupGet k) (replies.Committed generation number) done
-        → done.protocol.journal.history ≡ late.protocol.journal.history ++ cut.protocol.journal.running }
+        → done.protocol.state.journal.history ≡ late.protocol.state.journal.history ++ cut.protocol.state.journal.running }
     // With the full checkpoint of a new backup none does: a node alone keeps nothing.
     ensures full { (alone next late done : Pair) (generation k : ℕ) (events : List Event) (answers : List Reply)
         → IsConsistent alone
         → Does alone Protect (replies.Protecting generation) next
         → Leads next events answers late
         → Does late (BackupGet k) (replies.Committed generation 0) done
-        → done.protocol.journal.history ≡ late.protocol.journal.history }
+        → done.protocol.state.journal.history ≡ late.protocol.state.journal.history }
 {}

@@ -2,10 +2,11 @@
 //! clients, and one history that says what clients were shown.
 //!
 //! [`World::apply`] does one event and answers it; [`World::run`] does a list of them. Contracts see a world as a `Pair`
-//! of the specs, whose part `protocol` is the pair's record ([`PairRecord`](pair_record::PairRecord)).
+//! of the specs, whose part `protocol` is the pair's record ([`PairRecord`](pair_record::PairRecord)) with the lines between its nodes.
 #![tactic(auto)]
 
 mod laws;
+mod lines;
 mod mode_laws;
 mod nodes;
 #[cfg(test)]

@@ -1,5 +1,5 @@
 //! The pair as one value, and what each event does to it.
-ghost use Rattle.std.specs.Prelude.{◌≡◌, ℕ, ◌+◌, ◌*◌, ◌≤◌, ◌<◌, length, IfOk, IfErr, IfSome, IfNone, OnErr, None, true, false};
+ghost use Rattle.std.specs.Prelude.{◌≡◌, ℕ, ◌+◌, ◌*◌, ◌≤◌, ◌<◌, length, IfOk, IfErr, IfSome, IfNone, OnErr, None, true, false, slice_get};
 ghost use Rattle.memory_wanted.specs.Wanted.{wanted};
 
 mod clients;
@@ -7,6 +7,7 @@ mod failures;
 mod losses;
 mod steps;
 
+use crate::lines::Lines;
 use crate::nodes::Nodes;
 use guest_machine::{SECTOR_BYTES, Shape};
 use memory_wanted::{MemoryWanted, from_slice, with_capacity};
@@ -14,7 +15,7 @@ use pair_record::{Event, History, PairRecord, Refusal, Reply, Show, is_stopped, 
 use std::alloc::Global;
 use std::marker::Model;
 
-/// A protected pair: its record, and the machines of its two nodes. Contracts see it as a `Pair` of the specs.
+/// A protected pair: its record, the lines between its two nodes, and their machines. Contracts see it as a `Pair` of the specs.
 #[derive(Drop)]
 pub struct World {
     alloc: Global,
@@ -22,6 +23,7 @@ pub struct World {
     shape: Shape,
     clients: u64,
     record: PairRecord,
+    lines: Lines,
     nodes: Nodes,
 }
 
@@ -43,10 +45,10 @@ impl World {
     ghost use Rattle.frame_ports.specs.Limits.{max_clients};
     ghost use Rattle.pair_history.specs.Entries.{Begins};
     ghost use Rattle.pair_history.specs.HistoryState.{start_state};
-    ghost use Rattle.pair_record.specs.Protocol.{Record, outcome, step_outcome};
+    ghost use Rattle.pair_record.specs.Protocol.{outcome, step_outcome};
     ghost use Rattle.pair_core.specs.Answering.{Answers, MayWantMemory, step_reply};
     ghost use Rattle.pair_core.specs.Pair.{Pair, OnRefused, IsConsistent};
-    ghost use Rattle.pair_record.specs.Record.{start_record};
+    ghost use Rattle.pair_core.specs.Lines.{Protocol, start_protocol, got, lines_after};
     ghost use Rattle.pair_core.specs.Along.{Along};
     ghost use Rattle.pair_core.specs.Runs.{Run, steps_outcome, with_steps};
     ghost use Rattle.pair_core.specs.Drops.{Drops};
@@ -67,19 +69,21 @@ impl World {
         requires few { clients ≤ max_clients }
         requires fits { length image.now ≤ 4096 * shape.pages }
         ensures start { IfOk result (λ w. w.start ≡ start_state shape.pages shape.sectors image.now clients) }
-        ensures protocol { IfOk result (λ w. w.protocol ≡ start_record) }
+        ensures protocol { IfOk result (λ w. w.protocol ≡ start_protocol) }
         ensures consistent { IfOk result IsConsistent }
         ensures err { IfErr result (λ e. e ≡ Refusal.NoMemory wanted) }
     {
         let boot_image = from_slice(alloc, image)?;
         let nodes = Nodes::boot(alloc, shape, image)?;
         let record = PairRecord::new(alloc, clients)?;
+        let lines = Lines::new(alloc);
         let world = World {
             alloc,
             boot_image,
             shape,
             clients,
             record,
+            lines,
             nodes,
         };
         world.keep_consistent();
@@ -96,7 +100,7 @@ impl World {
         ensures refused { OnRefused result self.old self.new }
 
         // The history is that of a guest that never fails, and begins with the history before.
-        ensures grows { Begins self.old.protocol.journal.history self.new.protocol.journal.history }
+        ensures grows { Begins self.old.protocol.state.journal.history self.new.protocol.state.journal.history }
         ensures consistent { IsConsistent self.new }
 
         // Why a frame was dropped: a loss that was asked for drops that frame, an acknowledgement what finds a box full.
@@ -118,11 +122,14 @@ impl World {
 
     /// Does one event, or finds no memory for it.
     fn act(&mut self, event: Event<'_>) -> Result<Reply, MemoryWanted>
-        ensures outcome { IfOk result (λ reply. (reply, self.new.protocol) ≡ outcome self.old.start self.old.protocol event.entry) }
+        ensures outcome { IfOk result (λ reply. (reply, self.new.protocol.state)
+            ≡ outcome self.old.start self.old.protocol.state (got self.old.protocol.lines event.entry) event.entry) }
         ensures start { self.new.start ≡ self.old.start }
+        ensures lines { IfOk result (λ reply. self.new.protocol.lines ≡ lines_after self.old.protocol reply) }
         ensures replicates { IfOk result (λ reply. Replicates event.entry reply self.old.nodes self.new.nodes) }
         ensures refused { IfOk result (λ reply. OnRefused reply self.old self.new) }
-        ensures memory { OnErr result (MayWantMemory self.old.protocol (outcome self.old.start self.old.protocol event.entry)) }
+        ensures memory { OnErr result (MayWantMemory self.old.protocol.state
+            (outcome self.old.start self.old.protocol.state (got self.old.protocol.lines event.entry) event.entry)) }
         ensures err { OnErr result (self.new ≡ self.old) }
     {
         if let Some(why) = mode_refusal(self.record.mode(), event) {
@@ -155,7 +162,7 @@ impl World {
 
     /// What each event may drop is known before it happens.
     fn keep_drops(&self)
-        ensures { (event : Event) (reply : Reply) (new : Record) → Answers self.now.start self.now.protocol event reply new
+        ensures { (event : Event) (reply : Reply) (new : Protocol) → Answers self.now.start self.now.protocol event reply new
             → Drops self.now.start self.now.protocol event reply new }
     {
         self.record.keep();
@@ -169,7 +176,7 @@ impl World {
     pub fn run(&mut self, events: &[Event<'_>]) -> Result<Vec<Reply>, Refusal>
         ensures replies { IfOk result (λ replies. Run self.old.start self.old.protocol events.now replies.items self.new.protocol) }
         ensures start { self.new.start ≡ self.old.start }
-        ensures grows { Begins self.old.protocol.journal.history self.new.protocol.journal.history }
+        ensures grows { Begins self.old.protocol.state.journal.history self.new.protocol.state.journal.history }
         ensures consistent { IsConsistent self.new }
         // Why a frame was dropped, event by event.
         ensures drops { IfOk result (λ replies. Along (Drops self.old.start) self.old.protocol events.now replies.items self.new.protocol) }
@@ -190,7 +197,7 @@ impl World {
 
     /// The history so far.
     pub fn history(&self) -> &History
-        ensures { result.now.entries ≡ self.now.protocol.journal.history }
+        ensures { result.now.entries ≡ self.now.protocol.state.journal.history }
     {
         self.record.history()
     }
@@ -255,18 +262,22 @@ impl World {
     ghost use Rattle.pair_record.specs.Modes.{is_stopped as stopped, is_alone as alone, mode_refusal};
     ghost use Rattle.pair_record.specs.Protocol.{refused, allowed, step_outcome};
     ghost use Rattle.pair_core.specs.Answering.{MayWantMemory};
+    ghost use Rattle.pair_core.specs.Lines.{lines_after};
     ghost use Rattle.pair_core.specs.Pair.{Pair, OnRefused};
     ghost use Rattle.pair_core.specs.Replication.{KeepsBackup, Replicates};
     ghost use Rattle.pair_core.specs.Runs.{steps_outcome, with_steps};
 
     /// The running epoch ends: its checkpoint is sealed as a text, and its frames go to the gate.
     fn cut(&mut self) -> Result<Reply, MemoryWanted>
-        requires { mode_refusal self.old.protocol.mode events.Cut ≡ None }
-        ensures outcome { IfOk result (λ reply. (reply, self.new.protocol) ≡ allowed self.old.start self.old.protocol events.Cut) }
+        requires { mode_refusal self.old.protocol.state.mode events.Cut ≡ None }
+        ensures outcome { IfOk result (λ reply. (reply, self.new.protocol.state)
+            ≡ allowed self.old.start self.old.protocol.state None events.Cut) }
         ensures start { self.new.start ≡ self.old.start }
+        ensures lines { IfOk result (λ reply. self.new.protocol.lines ≡ lines_after self.old.protocol reply) }
         ensures replicates { IfOk result (λ reply. Replicates events.Cut reply self.old.nodes self.new.nodes) }
         ensures refused { IfOk result (λ reply. OnRefused reply self.old self.new) }
-        ensures memory { OnErr result (MayWantMemory self.old.protocol (allowed self.old.start self.old.protocol events.Cut)) }
+        ensures memory { OnErr result (MayWantMemory self.old.protocol.state
+            (allowed self.old.start self.old.protocol.state None events.Cut)) }
         ensures err { OnErr result (self.new ≡ self.old) }
     {
         if let Some(why) = self.record.cut_refusal() {
@@ -282,55 +293,74 @@ impl World {
 
     /// One packet for each pending checkpoint is sent.
     fn send(&mut self) -> Result<Reply, MemoryWanted>
-        requires { mode_refusal self.old.protocol.mode events.Send ≡ None }
-        ensures outcome { IfOk result (λ reply. (reply, self.new.protocol) ≡ allowed self.old.start self.old.protocol events.Send) }
+        requires { mode_refusal self.old.protocol.state.mode events.Send ≡ None }
+        ensures outcome { IfOk result (λ reply. (reply, self.new.protocol.state)
+            ≡ allowed self.old.start self.old.protocol.state None events.Send) }
         ensures start { self.new.start ≡ self.old.start }
+        ensures lines { IfOk result (λ reply. self.new.protocol.lines ≡ lines_after self.old.protocol reply) }
         ensures backup { KeepsBackup self.old.nodes self.new.nodes }
         ensures refused { IfOk result (λ reply. OnRefused reply self.old self.new) }
-        ensures memory { OnErr result (MayWantMemory self.old.protocol (allowed self.old.start self.old.protocol events.Send)) }
+        ensures memory { OnErr result (MayWantMemory self.old.protocol.state
+            (allowed self.old.start self.old.protocol.state None events.Send)) }
         ensures err { OnErr result (self.new ≡ self.old) }
     {
-        self.record.send()
+        self.record.keep();
+        self.lines.send(
+            self.record.generation(),
+            self.record.to_acknowledge(),
+            self.record.to_cut(),
+        )?;
+        Ok(self.record.send())
     }
 
     /// The backup gets a packet.
     fn backup_get(&mut self, k: u64) -> Result<Reply, MemoryWanted>
-        requires { mode_refusal self.old.protocol.mode (events.BackupGet k) ≡ None }
-        ensures outcome { IfOk result (λ reply. (reply, self.new.protocol)
-            ≡ allowed self.old.start self.old.protocol (events.BackupGet k)) }
+        requires { mode_refusal self.old.protocol.state.mode (events.BackupGet k) ≡ None }
+        ensures outcome { IfOk result (λ reply. (reply, self.new.protocol.state)
+            ≡ allowed self.old.start self.old.protocol.state (slice_get self.old.protocol.lines.forward k) (events.BackupGet k)) }
         ensures start { self.new.start ≡ self.old.start }
+        ensures lines { IfOk result (λ reply. self.new.protocol.lines ≡ lines_after self.old.protocol reply) }
         ensures replicates { IfOk result (λ reply. Replicates (events.BackupGet k) reply self.old.nodes self.new.nodes) }
         ensures refused { IfOk result (λ reply. OnRefused reply self.old self.new) }
-        ensures memory { OnErr result (MayWantMemory self.old.protocol
-            (allowed self.old.start self.old.protocol (events.BackupGet k))) }
+        ensures memory { OnErr result (MayWantMemory self.old.protocol.state
+            (allowed self.old.start self.old.protocol.state (slice_get self.old.protocol.lines.forward k) (events.BackupGet k))) }
         ensures err { OnErr result (self.new ≡ self.old) }
     {
-        let Some(packet) = self.record.packet(k) else {
+        let Some(packet) = self.lines.packet(k) else {
             return Ok(Reply::Lost);
         };
         if let Some(why) = self.record.backup_refusal(packet) {
             return Ok(Reply::Refused(why));
         }
-        if packet.number < self.record.to_commit() {
-            return self.record.acknowledge_again();
+        let generation = self.record.generation();
+        let number = self.record.to_commit();
+        self.lines.reserve_acknowledgement()?;
+        if packet.number < number {
+            let reply = self.record.acknowledge_again();
+            self.lines.acknowledge(generation, number - 1);
+            return Ok(reply);
         }
         let checkpoint = self.nodes.oldest()?;
         let reply = self.record.commit()?;
+        self.lines.acknowledge(generation, number);
         self.nodes.commit(checkpoint);
         Ok(reply)
     }
 
     /// The primary gets an acknowledgement.
     fn ack_get(&mut self, k: u64) -> Result<Reply, MemoryWanted>
-        requires { mode_refusal self.old.protocol.mode (events.AckGet k) ≡ None }
-        ensures outcome { IfOk result (λ reply. (reply, self.new.protocol) ≡ allowed self.old.start self.old.protocol (events.AckGet k)) }
+        requires { mode_refusal self.old.protocol.state.mode (events.AckGet k) ≡ None }
+        ensures outcome { IfOk result (λ reply. (reply, self.new.protocol.state)
+            ≡ allowed self.old.start self.old.protocol.state (slice_get self.old.protocol.lines.back k) (events.AckGet k)) }
         ensures start { self.new.start ≡ self.old.start }
+        ensures lines { IfOk result (λ reply. self.new.protocol.lines ≡ lines_after self.old.protocol reply) }
         ensures backup { KeepsBackup self.old.nodes self.new.nodes }
         ensures refused { IfOk result (λ reply. OnRefused reply self.old self.new) }
-        ensures memory { OnErr result (MayWantMemory self.old.protocol (allowed self.old.start self.old.protocol (events.AckGet k))) }
+        ensures memory { OnErr result (MayWantMemory self.old.protocol.state
+            (allowed self.old.start self.old.protocol.state (slice_get self.old.protocol.lines.back k) (events.AckGet k))) }
         ensures err { OnErr result (self.new ≡ self.old) }
     {
-        let Some(packet) = self.record.acknowledgement(k) else {
+        let Some(packet) = self.lines.acknowledgement(k) else {
             return Ok(Reply::Lost);
         };
         if let Some(why) = self.record.ack_refusal(packet) {

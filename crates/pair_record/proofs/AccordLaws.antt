@@ -19,7 +19,6 @@ use Rattle.pair_history.proofs.Moves.{guest_along-append, frames_along-append, l
 use Rattle.pair_history.proofs.{Moves.{at-moves, Legal-moves, DropsAreKnown-moves, sent_along-moves}, Losses.AreRising-left}
 use Rattle.pair_record.specs.internal.Accords.{all_moves, epoch_frames, frames_by_epoch, kept_moves, AreInboxes, AreClients}
 use Rattle.pair_record.specs.internal.Accords.{Accords}
-use Rattle.pair_record.specs.Lines.{Lines}
 use Rattle.pair_record.specs.Journal.{joined, first_of, rest_of, kept_entries, with_running}
 use Rattle.pair_record.specs.Record.{IsRecord, start_record, ports_after_admit}
 use Rattle.pair_record.specs.Protocol.{Record, shown_at, live_at, outbox_of, cut_done, commit_done}
@@ -78,7 +77,7 @@ module _ (start : HistoryState) (r : Record) (p : PortsState) (h : Accords start
   abbrev pub left_now : List Waiting
   left_now = left (shown_at start r).waiting kept_now
 
-  sealed_entries : joined r.journal.sealed ≡ entries_of sealed_now
+  pub sealed_entries : joined r.journal.sealed ≡ entries_of sealed_now
   sealed_entries = ap joined h.journal.sealed_are ∙ joined-entries h.journal.sealed_moves
 
   pub kept_is : kept_entries r.journal ≡ entries_of kept_now
@@ -101,29 +100,34 @@ module _ (start : HistoryState) (r : Record) (p : PortsState) (h : Accords start
   pub sent_is : outbox_of start r ≡ frames_along (guest_along (shown_at start r).guest sealed_now) h.journal.running_moves
   sent_is = search (arith, rules, AllCan-back, moved, sealed_state, sent_along-moves)
 
-  -- the frames sent along all that is kept
-  kept_frames : frames_along (shown_at start r).guest kept_now ≡ frames_of (uncommitted_of r.window r.pending) ++ outbox_of start r
-  kept_frames =
-      frames_along-append (shown_at start r).guest sealed_now h.journal.running_moves
-      ∙ ap (λ t. t ++ frames_along (guest_along (shown_at start r).guest sealed_now) h.journal.running_moves)
-      (sym (of_epochs (shown_at start r).guest h.journal.sealed_moves (uncommitted_of r.window r.pending) h.frames))
-      ∙ ap (λ t. frames_of (uncommitted_of r.window r.pending) ++ t) (sym sent_is)
+  -- Where these frames were sent along an epoch behind what is sealed
+  module _ (epoch : List Move) (outbox : List Frame)
+      (sent : outbox ≡ frames_along (guest_along (shown_at start r).guest sealed_now) epoch) where
+    -- those sent along all of it
+    frames_with : frames_along (shown_at start r).guest (sealed_now ++ epoch) ≡ frames_of (uncommitted_of r.window r.pending) ++ outbox
+    frames_with =
+        frames_along-append (shown_at start r).guest sealed_now epoch
+        ∙ ap (λ t. t ++ frames_along (guest_along (shown_at start r).guest sealed_now) epoch)
+        (sym (of_epochs (shown_at start r).guest h.journal.sealed_moves (uncommitted_of r.window r.pending) h.frames))
+        ∙ ap (λ t. frames_of (uncommitted_of r.window r.pending) ++ t) (sym sent)
+
+    pub owed_with : targets_of (length p.boxes) (frames_of r.pending ++ outbox) ≡ (moved (shown_at start r) (sealed_now ++ epoch)).out
+    owed_with =
+        let n = length p.boxes in
+        let covered = committed_of r.window r.pending in
+        let others = uncommitted_of r.window r.pending in
+        let ms = sealed_now ++ epoch in
+        ap (λ t. targets_of n (frames_of t ++ outbox)) (sym (take-append-drop (committed_count r.window) r.pending))
+        ∙ ap (λ t. targets_of n (t ++ outbox)) (frames_of-append covered others)
+        ∙ ap (targets_of n) (append_assoc (frames_of covered) (frames_of others) outbox)
+        ∙ targets_of-append n (frames_of covered) (frames_of others ++ outbox)
+        ∙ ap (λ t. t ++ targets_of n (frames_of others ++ outbox)) (sym h.owed)
+        ∙ ap (λ t. (shown_at start r).out ++ targets_of n t) (sym frames_with)
+        ∙ ap (λ (b : List (List Frame)). (shown_at start r).out ++ targets_of (length b) (frames_along (shown_at start r).guest ms))
+        h.clients.boxes
 
   pub all_owed : targets_of (length p.boxes) (frames_of r.pending ++ outbox_of start r) ≡ (live_at start r).out
-  all_owed =
-      let n = length p.boxes in
-      let outbox = outbox_of start r in
-      let covered = committed_of r.window r.pending in
-      let others = uncommitted_of r.window r.pending in
-      ap (λ t. targets_of n (frames_of t ++ outbox)) (sym (take-append-drop (committed_count r.window) r.pending))
-      ∙ ap (λ t. targets_of n (t ++ outbox)) (frames_of-append covered others)
-      ∙ ap (targets_of n) (append_assoc (frames_of covered) (frames_of others) outbox)
-      ∙ targets_of-append n (frames_of covered) (frames_of others ++ outbox)
-      ∙ ap (λ t. t ++ targets_of n (frames_of others ++ outbox)) (sym h.owed)
-      ∙ ap (λ t. (shown_at start r).out ++ targets_of n t) (sym kept_frames)
-      ∙ ap (λ (b : List (List Frame)). (shown_at start r).out ++ targets_of (length b) (frames_along (shown_at start r).guest kept_now))
-      h.clients.boxes
-      ∙ sym (ap (λ s. s.out) live_is_moved)
+  all_owed = owed_with h.journal.running_moves (outbox_of start r) sent_is ∙ sym (ap (λ s. s.out) live_is_moved)
 
   -- each sealed epoch has its frames
   pub as_many_frames : length (uncommitted_of r.window r.pending) ≡ length h.journal.sealed_moves
@@ -219,52 +223,11 @@ arrival_accords start r p h c n f low high first =
           }),
     )
 
--- A CUT: the running epoch is sealed, with the frames that the guest sent along it
-
-module _ (start : HistoryState) (r : Record) (p : PortsState) (h : Accords start r p) (k : IsRecord r) (outbox : List Frame)
-    (sent : outbox ≡ frames_along (guest_along (shown_at start r).guest (sealed_now start r p h)) h.journal.running_moves) where
-  abbrev pub cut_accords : Accords start (cut_done outbox r).1 p
-  cut_accords =
-      let s = shown_at start r in
-      let j = r.journal in
-      let e : Epoch = record { number = r.window.to_cut; frames = outbox } in
-      let n = committed_count r.window in
-      let enough = within r.window r.pending k.window in
-      let mss = h.journal.sealed_moves in
-      let ran = h.journal.running_moves in
-      let same : kept_now start r p h ≡ all_moves (mss ++ ran ∷ []) ++ [] = sym (append-nil (all_moves (mss ++ ran ∷ []))
-      ∙ all_moves-push mss ran) in
-      record {
-        journal = record {
-          legal = h.journal.legal;
-          drops = h.journal.drops;
-          sealed_moves = mss ++ ran ∷ [];
-          running_moves = [];
-          sealed_are =
-              ap (λ t. t ++ j.running ∷ []) h.journal.sealed_are ∙ ap (λ t. map entries_of mss ++ t ∷ []) h.journal.running_are
-              ∙ sym (map-append entries_of mss (ran ∷ []));
-          running_are = refl;
-          can = subst (AllCan s.waiting) same h.journal.can;
-        };
-        frames =
-            ap frames_by_epoch (drop-append-le n r.pending (e ∷ []) enough)
-            ∙ map-append (λ (x : Epoch). x.frames) (drop n r.pending) (e ∷ [])
-            ∙ ap (λ t. t ++ outbox ∷ []) h.frames
-            ∙ ap (λ t. epoch_frames s.guest mss ++ t ∷ []) sent
-            ∙ sym (epoch_frames-push s.guest mss ran);
-        clients = rw (← same) h.clients;
-        owed = h.owed ∙ ap (λ t. targets_of (length p.boxes) (frames_of t)) (sym (take-append-le n r.pending (e ∷ []) enough));
-      }
-
--- A CHANGE OF MODE alone, or of the lines
+-- A CHANGE OF MODE alone
 
 abbrev pub mode_accords : (start : HistoryState) (r : Record) (p : PortsState) → Accords start r p → (mode : Mode)
     → Accords start (record r { mode = mode }) p
 mode_accords start r p h mode = record { journal = h.journal; frames = h.frames; clients = h.clients; owed = h.owed }
-
-abbrev pub lines_accord : (start : HistoryState) (r : Record) (p : PortsState) → Accords start r p → (l : Lines)
-    → Accords start (record r { lines = l }) p
-lines_accord start r p h l = record { journal = h.journal; frames = h.frames; clients = h.clients; owed = h.owed }
 
 -- A COMMIT: the oldest sealed epoch moves to the history
 

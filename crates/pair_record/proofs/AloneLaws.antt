@@ -1,12 +1,16 @@
 -- Laws of a node that is alone: what the gate held lands, followed by the outbox, and nothing is kept or pending.
-use Rattle.std.proofs.Common.{rules, ◌≡◌, ℕ, ◌+◌, ◌*◌, ◌≤◌, List, [], ◌∷◌, ◌++◌, length, refl, sym, ap, ◌∙◌, arith}
-use Rattle.std.proofs.{Common.{append_assoc, mul-le-mul_right}, lemmas.List.{length-append, append-nil}}
+use Rattle.std.proofs.Common.{rules, ◌≡◌, ℕ, ◌+◌, ◌*◌, ◌≤◌, List, [], ◌∷◌, ◌++◌, length, refl, sym, ap, ◌∙◌, arith, Bool, cond, Some, None}
+use Rattle.std.specs.Prelude.{nat_le, min}
+use Rattle.frame_ports.specs.Limits.{number_limit}
+use Rattle.std.proofs.{Common.{append_assoc, mul-le-mul_right}, lemmas.{Bool.Decides.nat_tests, List.{length-append, append-nil}}}
 use Rattle.frame_ports.proofs.AddressLaws.{length-targets_of}
 use Rattle.output_gate.specs.Epochs.{Epoch, epoch, frames_of, frames_to}
-use Rattle.pair_history.specs.Entries.{Frame}
-use Rattle.pair_record.specs.{internal.Lengths.receivers, Protocol.{Record, all_held, fail_backup_done}, Record.IsRecord}
-use Rattle.pair_record.specs.Window.{NumberedFrom}
-use Rattle.pair_record.proofs.{LengthLaws.length-receivers, RecordLaws.AreBelow-more, WindowLaws.{NumberedFrom-push, test_from}}
+use Rattle.pair_history.specs.Entries.{Frame, Entry}
+use Rattle.pair_record.specs.{internal.Lengths.receivers, Protocol.{Record, all_held, failure_done}, Record.IsRecord}
+use Rattle.pair_record.specs.Protocol.{exhausts, first_refusal}
+use Rattle.pair_record.specs.{EpochActs.enter_epoch_refusals, Journal.all_entries, Window.NumberedFrom}
+use Rattle.pair_record.specs.declared.event.Refusal.TheVariants.{Exhausted}
+use Rattle.pair_record.proofs.{LengthLaws.length-receivers, WindowLaws.{NumberedFrom-push, test_from}}
 
 -- the frames of all epochs, where none has a number above n
 pub frames_to-all : (n m : ℕ) (es : List Epoch) → NumberedFrom m es → m + length es ≤ n + 1 → frames_to n es ≡ frames_of es
@@ -49,9 +53,23 @@ module _ (r : Record) (h : IsRecord r) where
       (NumberedFrom-push r.window.to_acknowledge r.pending e h.window.numbers (sym h.window.count)) (omega arith)
       ∙ frames_of-push r.pending e
 
-  pub fail_backup_record : (boxes : List (List Frame)) (outbox : List Frame) → IsRecord (fail_backup_done boxes outbox r).1
-  fail_backup_record boxes outbox = search (arith, rules, AreBelow-more)
+  pub failure_record : (epoch rest : List Entry) (boxes : List (List Frame)) (frames : List Frame)
+      → IsRecord (failure_done epoch rest boxes frames r).1
+  failure_record epoch rest boxes frames = search (arith, rules)
 
 -- 64 frames go to 64 times as many as there are clients, at most
 pub few_receivers : (n : ℕ) (fs : List Frame) → length fs ≤ 64 → length (receivers n fs) ≤ 64 * n
 few_receivers n fs few = search (arith, rules, length-receivers, length-targets_of, mul-le-mul_right)
+
+-- The row of an epoch that enters the history, where the sum of what it adds was cut off at a number that is beyond all entries
+
+capped : (used more : ℕ) → nat_le number_limit (used + min more 18446744073709551615) ≡ nat_le number_limit (used + more)
+capped used more = grind (arith, nat_tests)
+
+pub enter_row : (boxes : List (List Frame)) (r : Record) (steps count sum : ℕ) (fs : List Frame) (t : Bool)
+    → count ≡ length (receivers (length boxes) fs) → sum ≡ min (steps + count) 18446744073709551615 → t ≡ exhausts r sum
+    → cond t (Some Exhausted) None ≡ first_refusal (enter_epoch_refusals steps boxes fs r)
+enter_row boxes r steps count sum fs t counted summed row =
+    ap (λ b. cond b (Some Exhausted) None)
+    (row ∙ ap (exhausts r) summed ∙ capped (length (all_entries r.journal)) (steps + count)
+    ∙ ap (λ k. exhausts r (steps + k)) (counted ∙ length-receivers (length boxes) fs))

@@ -12,7 +12,7 @@ use Rattle.pair_history.proofs.{Losses.AreRising-left, Moves.Legal-moves, States
 use Rattle.pair_record.specs.{internal.Accords.{frames_by_epoch, AreClients, Accords}, Journal.kept_entries}
 use Rattle.pair_record.specs.Protocol.{Record, shown_at, live_entries, go_live_done}
 use Rattle.pair_record.specs.Window.{committed_of, committed_count, none_pending}
-use Rattle.pair_record.proofs.{LoneAccords.{take-none, drop-none}, AccordLaws.{kept_now, left_now, kept_is, live_waiting}}
+use Rattle.pair_record.proofs.{EpochAccords.{take-none, drop-none}, AccordLaws.{kept_now, left_now, kept_is, live_waiting}}
 
 -- WHAT IT DROPS is what the kept entries took in, and what is next on its way to a client
 

@@ -11,12 +11,12 @@ use Rattle.pair_history.specs.{Entries.{Frame, Entry, Arrive, DropIn, DropOut}, 
 use Rattle.pair_history.specs.Failures.{arrived_numbers, drops_of_owed_from}
 use Rattle.pair_history.proofs.{AddressedLaws.out_of-targets, LandingLaws.AllClients-targets, OwedLaws.owed_dropped}
 use Rattle.pair_history.proofs.{SortedLaws.rising-sorted, TakenInLaws.IsPermutation-rising}
-use Rattle.pair_record.specs.{declared.epochs.Arrival.Arrival, declared.epochs.RunningEpoch.RunningEpoch, declared.event.Packet.Packet}
+use Rattle.pair_record.specs.{declared.epochs.Arrival.Arrival, declared.epochs.RunningEpoch.RunningEpoch}
 use Rattle.pair_record.specs.{declared.event.Refusal.Refusal, declared.event.Refusal.TheVariants.Exhausted}
 use Rattle.pair_record.specs.{declared.journal.Journal.TheInside.Inside, declared.window.Window.Window}
 use Rattle.pair_record.specs.{Journal.{Journal, joined, kept_entries}, internal.JournalFields.{epoch_of, stored, AreFields}}
 use Rattle.pair_record.specs.internal.Lengths.{receivers}
-use Rattle.pair_record.specs.{Lines.AreBelow, Protocol.{Record, first_refusal, live_entries, go_live_refusals, go_live_done}}
+use Rattle.pair_record.specs.{Protocol.{Record, first_refusal, live_entries, go_live_refusals, go_live_done}}
 use Rattle.pair_record.specs.{Record.{RecordState, owed_to, IsRecord}, Window.{IsWindow, first_after, committed_count, committed_of}}
 use Rattle.pair_record.specs.internal.Arrivals.{steps_of, arrivals_of, epoch_entries, numbers_of, numbers_in}
 use Rattle.pair_record.proofs.{LengthLaws.length-receivers, WindowLaws.{within, leaves, gone, test_from, test_below}}
@@ -43,6 +43,9 @@ arrived-arrivals (a ∷ arrivals) = search (arith, rules, arrived-append, arrive
 
 arrived-epoch : (arrivals : List Arrival) (k : ℕ) → arrived_numbers (epoch_entries arrivals k) ≡ numbers_of arrivals
 arrived-epoch arrivals k = search (arith, rules, append-nil, arrived-append, arrived-arrivals, arrived-steps)
+
+pub arrived-count : (arrivals : List Arrival) (k : ℕ) → length (arrived_numbers (epoch_entries arrivals k)) ≡ length arrivals
+arrived-count arrivals k = ap length (arrived-epoch arrivals k) ∙ length-map arrivals (λ (a : Arrival). a.number)
 
 arrived-joined : (es : List RunningEpoch) → arrived_numbers (joined (map epoch_of es)) ≡ numbers_in es
 arrived-joined [] = refl
@@ -155,14 +158,9 @@ module _ (s : RecordState) (fs : List Frame) (count : ℕ) (held : fs ≡ frames
   pub live_allowed : count < number_limit → None ≡ live_table s
   live_allowed h = sym (live_row ∙ ap (λ (t : Bool). cond t (Some Exhausted) None) (test_below number_limit count h))
 
--- in the next generation every packet is of an earlier one
-pub AreBelow-next : (g n m : ℕ) (ps : List Packet) → AreBelow g n ps → AreBelow (g + 1) m ps
-AreBelow-next g n m [] h = tt
-AreBelow-next g n m (p ∷ ps) h = (let l = h.0 in omega arith, λ e. let l = h.0 in absurd (omega arith), AreBelow-next g n m ps h.2)
-
 pub live_record : (r : Record) → IsRecord r → (boxes : List (List Frame)) (out : List (ℕ × Frame)) (steps : ℕ)
     → IsRecord (go_live_done boxes out steps r).1
-live_record r h boxes out steps = search (arith, rules, AreBelow-next)
+live_record r h boxes out steps = search (arith, rules)
 
 -- The journal
 

@@ -1,38 +1,37 @@
--- Where a node that is alone gets a new backup: an empty epoch is sealed.
-use Rattle.std.proofs.Common.{◌≡◌, List, [], ◌∷◌, ◌++◌, length, take, refl, sym, ap, ◌∙◌, subst}
+-- Where a node that is alone gets a new backup: it begins to be protected, and then an empty epoch is sealed.
+use Rattle.std.proofs.Common.{◌≡◌, ◌≤◌, List, [], ◌∷◌, ◌++◌, length, take, drop, refl, sym, ap, ◌∙◌, arith}
 use Rattle.frame_ports.specs.{Addresses.targets_of, Ports.PortsState}
 use Rattle.output_gate.specs.Epochs.{Epoch, frames_of}
-use Rattle.pair_history.specs.HistoryState.{HistoryState, Waiting, at}
+use Rattle.pair_history.specs.HistoryState.{HistoryState, at}
 use Rattle.std.proofs.lemmas.List.{append-nil}
-use Rattle.pair_record.specs.{internal.Accords.{AreClients, Accords}, Journal.{joined}, Record.IsLone}
-use Rattle.pair_record.specs.Protocol.{Record, shown_at, live_at, protect_done}
+use Rattle.pair_record.specs.{internal.Accords.{frames_by_epoch, Accords}, Journal.{joined}, Record.IsLone}
+use Rattle.pair_record.specs.Protocol.{Record, shown_at, live_at, begin_done, full_done, protect_done}
 use Rattle.pair_record.specs.Window.{committed_count}
-use Rattle.pair_record.proofs.{LoneAccords.take-none, AccordLaws.{left_now, live_waiting}}
+use Rattle.pair_record.proofs.EpochAccords.{take-none, drop-none, seal_accords}
+
+module _ (start : HistoryState) (r : Record) (p : PortsState) (h : Accords start r p) where
+  abbrev pub full_accords : committed_count r.window ≤ length r.pending → Accords start (full_done r).1 p
+  full_accords enough =
+      seal_accords start r p h [] h.journal.running_moves [] r.journal.running refl h.journal.running_are h.journal.can refl [] refl enough
+
+  module _ (k : IsLone r) where
+    -- where nothing runs either, nothing is kept
+    pub lives : r.journal.running ≡ [] → live_at start r ≡ shown_at start r
+    lives still = ap (at start) ((λ i. r.journal.history ++ (joined (k.0 i) ++ still i)) ∙ append-nil r.journal.history)
+
+    abbrev pub begin_accords : Accords start (begin_done r).1 p
+    begin_accords =
+        let n = length p.boxes in
+        let m = committed_count r.window in
+        record {
+          journal = h.journal;
+          frames = sym (ap (λ (es : List Epoch). frames_by_epoch (drop m es)) k.1 ∙ ap frames_by_epoch (drop-none m)) ∙ h.frames;
+          clients = h.clients;
+          owed =
+              h.owed ∙ (λ i. targets_of n (frames_of (take m (k.1 i))))
+              ∙ ap (λ (es : List Epoch). targets_of n (frames_of es)) (take-none m);
+        }
 
 module _ (start : HistoryState) (r : Record) (p : PortsState) (h : Accords start r p) (k : IsLone r) where
-  -- nothing is kept
-  pub lives : live_at start r ≡ shown_at start r
-  lives = ap (at start) ((λ i. r.journal.history ++ (joined (k.0 i) ++ k.1 i)) ∙ append-nil r.journal.history)
-
   abbrev pub protect_accords : Accords start (protect_done r).1 p
-  protect_accords =
-      let s = shown_at start r in
-      let n = length p.boxes in
-      let waiting : left_now start r p h ≡ s.waiting =
-      sym (live_waiting start r p h) ∙ ap (λ (t : HistoryState). t.waiting) lives in
-      record {
-        journal = record {
-          legal = h.journal.legal;
-          drops = h.journal.drops;
-          sealed_moves = [] ∷ [];
-          running_moves = [];
-          sealed_are = λ i. k.0 i ++ k.1 i ∷ [];
-          running_are = refl;
-          can = tt;
-        };
-        frames = refl;
-        clients = subst (λ (ws : List Waiting). AreClients s ws p) waiting h.clients;
-        owed =
-            h.owed ∙ (λ i. targets_of n (frames_of (take (committed_count r.window) (k.2 i))))
-            ∙ ap (λ (es : List Epoch). targets_of n (frames_of es)) (take-none (committed_count r.window));
-      }
+  protect_accords = full_accords start (begin_done r).1 p (begin_accords start r p h k) (omega arith)

@@ -1,9 +1,19 @@
 -- Laws of a node that gets a new backup: its full checkpoint, number 0, is all that is pending, and all that is sealed is an empty
 -- epoch.
-use Rattle.std.proofs.{Common.{rules, ◌≡◌, arith, true}, lemmas.List.length-append}
-use Rattle.pair_record.specs.{Modes.is_alone, Protocol.{Record, protect_done}, Record.IsRecord}
-use Rattle.pair_record.proofs.LiveLaws.{AreBelow-next}
+use Rattle.std.proofs.{Common.{rules, ◌≡◌, arith, true, [], length}, lemmas.List.length-append}
+use Rattle.pair_record.specs.{Modes.{is_alone, is_filling}, Protocol.{Record, begin_done, full_done, protect_done}, Record.IsRecord}
+use Rattle.pair_record.proofs.RecordLaws.{seal_record, filling_not_alone}
 
 module _ (r : Record) (h : IsRecord r) (alone : is_alone r.mode ≡ true) where
   pub protect_record : IsRecord (protect_done r).1
-  protect_record = search (arith, rules, AreBelow-next, length-append)
+  protect_record = search (arith, rules, length-append)
+
+  pub begin_record : IsRecord (begin_done r).1
+  begin_record = search (arith, rules)
+
+-- where it was begun, and none is pending yet
+module _ (r : Record) (h : IsRecord r) (filling : is_filling r.mode ≡ true) (none : r.window.to_cut ≡ 0) where
+  pub full_record : IsRecord (full_done r).1
+  full_record =
+      let c = h.window.count in
+      seal_record r h [] r.journal.running [] (filling_not_alone r.mode filling) (omega arith) (omega arith)

@@ -1,18 +1,18 @@
 -- Each event leaves what is true of every record, and what the tables of refusals say.
-use Rattle.std.proofs.Common.{rules, ◌≡◌, ℕ, zero, suc, ◌+◌, ◌-◌, ◌<◌, ◌≤◌, List, [], ◌∷◌, ◌++◌, length, get_or, refl, ap, ◌∙◌, arith, Bool}
+use Rattle.std.proofs.Common.{rules, ◌≡◌, ℕ, suc, ◌+◌, ◌<◌, ◌≤◌, List, [], ◌∷◌, ◌++◌, length, get_or, refl, ap, ◌∙◌, arith, Bool}
 use Rattle.std.proofs.{Common.{true, false, cond, Option, None, Some, subst, sym}, lemmas.Bool.eq-eqb, lemmas.Bool.Decides.nat_tests}
 use Rattle.std.proofs.lemmas.List.{length-append}
-use Rattle.std.specs.Prelude.{map, slice_get, IfSome, ◌==◌, not}
+use Rattle.std.specs.Prelude.{◌==◌, not}
 use Rattle.failover.specs.{declared.mode.Mode.Mode, declared.mode.Mode.TheVariants.{Paired, Filling, Alone, Stopped}}
 use Rattle.frame_ports.specs.Limits.{number_limit}
 use Rattle.output_gate.specs.Epochs.{Epoch, frames_to, after_number}
 use Rattle.pair_history.specs.Entries.{Frame, Entry}
 use Rattle.pair_record.specs.{declared.event.Packet.Packet, declared.event.Refusal.TheVariants.Exhausted, declared.window.Window.Window}
-use Rattle.pair_record.specs.{Journal.{all_entries, rest_of}, internal.Lengths.receivers, Lines.{packet_of, packets_from, AreBelow}}
+use Rattle.pair_record.specs.{Journal.{all_entries, rest_of}, internal.Lengths.receivers}
 use Rattle.pair_record.specs.Protocol.{commit_done, ack_done, Record, first_refusal, cut_refusals, ack_refusals, exhausts, cut_done}
-use Rattle.pair_record.specs.{Protocol.{send_done, again_done}, Record.{IsRecord, SuitsMode}, Modes.{is_alone, is_filling, filled}}
-use Rattle.pair_record.specs.Window.{NumberedFrom, with_commit, with_acknowledged}
-use Rattle.pair_record.proofs.{LengthLaws.length-receivers, ModeLaws.{clash, filled_alone}, LineLaws.packets_from-numbered}
+use Rattle.pair_record.specs.{Record.{IsRecord, SuitsMode}, Modes.{is_alone, is_filling, filled}}
+use Rattle.pair_record.specs.{Protocol.seal_done, Limits.most_pending, Window.{with_commit, with_acknowledged}}
+use Rattle.pair_record.proofs.{LengthLaws.length-receivers, ModeLaws.{clash, filled_alone}}
 use Rattle.pair_record.proofs.WindowLaws.{numbered_below, cut_window, commit_window, ack_window, is_below}
 
 -- Tables of refusals
@@ -31,34 +31,10 @@ pub ack_row : (boxes : List (List Frame)) (r : Record) (p : Packet) (count : ℕ
     → first_refusal (ack_refusals boxes r p) ≡ cond (exhausts r count) (Some Exhausted) None
 ack_row boxes r p count fs is held same = search (arith, rules, eq-eqb, length-receivers)
 
--- Lines
-
-AreBelow-append : (g n : ℕ) (ps qs : List Packet) → AreBelow g n ps → AreBelow g n qs → AreBelow g n (ps ++ qs)
-AreBelow-append g n [] qs h k = k
-AreBelow-append g n (p ∷ ps) qs h k = (h.0, h.1, AreBelow-append g n ps qs h.2 k)
-
-pub AreBelow-more : (g n m : ℕ) (ps : List Packet) → n ≤ m → AreBelow g n ps → AreBelow g m ps
-AreBelow-more g n m [] l h = tt
-AreBelow-more g n m (p ∷ ps) l h = (h.0, λ e. let k = h.1 e in omega arith, AreBelow-more g n m ps l h.2)
-
--- the packets of numbered checkpoints
-AreBelow-numbered : (g n m : ℕ) (es : List Epoch) → NumberedFrom n es → n + length es ≤ m → AreBelow g m (map (packet_of g) es)
-AreBelow-numbered g n m [] h l = tt
-AreBelow-numbered g n m (e ∷ es) h l = (omega arith, λ s. omega arith, AreBelow-numbered g (n + 1) m es h.1 (omega arith))
-
--- what a packet on the line names
-pub below_at : (g n : ℕ) (ps : List Packet) (k : ℕ) (o : Option Packet) → AreBelow g n ps → o ≡ slice_get ps k
-    → IfSome o (λ p. p.generation ≡ g → p.number < n)
-below_at g n [] k None h e = tt
-below_at g n [] k (Some p) h e = absurd (cc)
-below_at g n (q ∷ ps) zero None h e = tt
-below_at g n (q ∷ ps) zero (Some p) h e = search (arith, rules)
-below_at g n (q ∷ ps) (suc k) o h e = below_at g n ps k o h.2 e
-
 -- The window that suits a mode: after a cut or an acknowledgement, after a commit, and once the primary stops
 
 suits_later : (mode : Mode) (w v : Window) → w.to_cut ≤ v.to_cut → v.to_commit ≡ w.to_commit → SuitsMode mode w → SuitsMode mode v
-suits_later Filling w v more same h = (same ∙ h.0, let some = h.1 in omega arith)
+suits_later Filling w v more same h = same ∙ h
 suits_later Alone w v more same h = tt
 suits_later other w v more same h = omega arith
 
@@ -73,6 +49,10 @@ suits_full Paired w two full h = h
 suits_full Stopped w two full h = h
 suits_full other w two full h = absurd (cc)
 
+pub filling_not_alone : (mode : Mode) → is_filling mode ≡ true → is_alone mode ≡ false
+filling_not_alone Filling e = refl
+filling_not_alone other e = absurd (cc)
+
 -- Events
 
 length-rest : (ess : List (List Entry)) → 0 < length ess → suc (length (rest_of ess)) ≡ length ess
@@ -83,46 +63,32 @@ module _ (r : Record) (h : IsRecord r) where
   pub rising : (k : ℕ) (d : Epoch) → k < length r.pending → (get_or r.pending k d).number < r.window.to_cut
   rising = numbered_below r.window.to_acknowledge r.window.to_cut r.pending h.window.numbers (let e = h.window.count in omega arith)
 
+  pub seal_record : (epoch rest : List Entry) (fs : List Frame) → is_alone r.mode ≡ false → length r.pending < 4
+      → r.window.to_cut < number_limit → IsRecord (seal_done epoch rest fs r).1
+  seal_record epoch rest fs two few last = search (arith, rules, clash, cut_window, length-append, suits_later)
+
+  -- and where no row applies
+  pub sealed_record : (epoch rest : List Entry) (fs : List Frame) → is_alone r.mode ≡ false → first_refusal (cut_refusals r) ≡ None
+      → IsRecord (seal_done epoch rest fs r).1
+  sealed_record epoch rest fs two free =
+      let row = passed _ _ _ free in
+      let next = passed _ _ _ row.1 in
+      seal_record epoch rest fs two (is_below most_pending (length r.pending) row.0) (is_below number_limit r.window.to_cut next.0)
+
   pub cut_record : (fs : List Frame) → is_alone r.mode ≡ false → first_refusal (cut_refusals r) ≡ None → IsRecord (cut_done fs r).1
-  cut_record fs two free = search (arith, rules, AreBelow-more, clash, cut_window, is_below, length-append, passed, suits_later)
-
-  pub sent_are : packets_from r.generation r.window.to_acknowledge (r.window.to_cut - r.window.to_acknowledge)
-      ≡ map (packet_of r.generation) r.pending
-  sent_are =
-      let e : r.window.to_cut - r.window.to_acknowledge ≡ length r.pending = let p = h.window.count in omega arith in
-      ap (packets_from r.generation r.window.to_acknowledge) e
-      ∙ packets_from-numbered r.generation r.window.to_acknowledge r.pending h.window.numbers
-
-  pub send_record : IsRecord (send_done r).1
-  send_record = record {
-    window = h.window;
-    forward =
-        AreBelow-append r.generation r.window.to_cut r.lines.forward (map (packet_of r.generation) r.pending) h.forward
-        (AreBelow-numbered r.generation r.window.to_acknowledge r.window.to_cut r.pending h.window.numbers (let p = h.window.count in
-        omega arith));
-    back = h.back;
-    sealed = h.sealed;
-    alone = h.alone;
-    suits = h.suits;
-  }
-
-  pub again_record : 0 < r.window.to_commit → IsRecord (again_done r).1
-  again_record some = search (arith, rules, AreBelow-append)
+  cut_record fs = sealed_record r.journal.running [] fs
 
   pub some_sealed : r.window.to_commit < r.window.to_cut → 0 < length r.journal.sealed
   some_sealed more = let s = h.sealed in omega arith
 
   pub commit_record : r.window.to_commit < r.window.to_cut → IsRecord (commit_done r).1
-  commit_record more =
-      search (arith, rules, AreBelow-append, AreBelow-more, commit_window, filled_alone, length-rest, some_sealed, suits_committed)
+  commit_record more = search (arith, rules, commit_window, filled_alone, length-rest, some_sealed, suits_committed)
 
   pub ack_record : (boxes : List (List Frame)) (n : ℕ) → n < r.window.to_commit → IsRecord (ack_done boxes r n).1
   ack_record boxes n below = record {
     window = ack_window r.window r.pending h.window n below;
-    forward = h.forward;
-    back = h.back;
     sealed = h.sealed;
-    alone = λ e. ((h.alone e).0, (h.alone e).1, ap (after_number n) (h.alone e).2);
+    alone = λ e. ((h.alone e).0, ap (after_number n) (h.alone e).1);
     suits = suits_later r.mode r.window (with_acknowledged n r.window) (omega arith) refl h.suits;
   }
 

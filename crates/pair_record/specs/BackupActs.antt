@@ -1,6 +1,6 @@
 -- What is sent to the backup, what it gets, and what the primary gets of it. `X_done` is an event's reply, with the record after it, and
 -- the only place that spells them; `on_X` is the event, refused or done.
-use Rattle.std.specs.Prelude.{ℕ, ◌-◌, ◌==◌, not, nat_lt, if◌then◌else◌, List, [], ◌∷◌, length, map, slice_get, Option, None, Some}
+use Rattle.std.specs.Prelude.{ℕ, ◌-◌, ◌==◌, not, nat_lt, if◌then◌else◌, List, [], ◌∷◌, length, Option, None, Some}
 use Rattle.frame_ports.specs.Addresses.{targets_of}
 use Rattle.frame_ports.specs.Lands.{put_count}
 use Rattle.output_gate.specs.Epochs.{frames_to, after_number}
@@ -10,7 +10,6 @@ use Rattle.pair_record.specs.declared.event.Packet.{Packet}
 use Rattle.pair_record.specs.declared.event.Refusal.TheVariants.{Stale, Gap, Exhausted}
 use Rattle.pair_record.specs.declared.event.Reply.TheVariants as replies
 use Rattle.pair_record.specs.Journal.{with_history, committed}
-use Rattle.pair_record.specs.Lines.{packet, packet_of, with_forward, with_back}
 use Rattle.pair_record.specs.Modes.{filled}
 use Rattle.pair_record.specs.Window.{with_commit, with_acknowledged}
 use Rattle.pair_record.specs.Tables.{Record, Sight, Outcome, Row, unless, exhausts}
@@ -19,8 +18,7 @@ use Rattle.pair_record.specs.Tables.{Record, Sight, Outcome, Row, unless, exhaus
 
 -- one packet for each pending checkpoint, rising
 abbrev pub send_done : Record → Outcome
-send_done r =
-    (replies.Sent (length r.pending), record r { lines = with_forward r.lines (map (packet_of r.generation) r.pending) })
+send_done r = (replies.Sent (length r.pending), r)
 
 abbrev pub on_send : Sight → Record → Outcome
 on_send s r = send_done r
@@ -32,9 +30,7 @@ backup_refusals r p = (not (p.generation == r.generation), Stale) ∷ (nat_lt r.
 
 -- the last committed checkpoint is acknowledged again
 abbrev pub again_done : Record → Outcome
-again_done r =
-    let last = r.window.to_commit - 1 in
-    (replies.Again r.generation last, record r { lines = with_back r.lines (packet r.generation last) })
+again_done r = (replies.Again r.generation (r.window.to_commit - 1), r)
 
 -- the next checkpoint is committed and acknowledged: its epoch moves to the history. A new backup's first one makes a pair
 abbrev pub commit_done : Record → Outcome
@@ -44,7 +40,6 @@ commit_done r = (
     mode = filled r.mode;
     journal = committed r.journal;
     window = with_commit r.window;
-    lines = with_back r.lines (packet r.generation r.window.to_commit);
   },
 )
 
@@ -55,8 +50,8 @@ abbrev pub backup_outcome : Record → Option Packet → Outcome
 backup_outcome r None = (replies.Lost, r)
 backup_outcome r (Some p) = unless r (backup_refusals r p) (backup_done r p)
 
-abbrev pub on_backup_get : Sight → Record → ℕ → Outcome
-on_backup_get s r k = backup_outcome r (slice_get r.lines.forward k)
+abbrev pub on_backup_get : Sight → Record → Option Packet → Outcome
+on_backup_get s r got = backup_outcome r got
 
 -- ACKGET
 
@@ -83,5 +78,5 @@ abbrev pub ack_outcome : List (List Frame) → Record → Option Packet → Outc
 ack_outcome boxes r None = (replies.Lost, r)
 ack_outcome boxes r (Some p) = unless r (ack_refusals boxes r p) (ack_done boxes r p.number)
 
-abbrev pub on_ack_get : Sight → Record → ℕ → Outcome
-on_ack_get s r k = ack_outcome s.boxes r (slice_get r.lines.back k)
+abbrev pub on_ack_get : Sight → Record → Option Packet → Outcome
+on_ack_get s r got = ack_outcome s.boxes r got

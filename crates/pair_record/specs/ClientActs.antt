@@ -25,9 +25,13 @@ admit_refusals r = (exhausts r 1, Exhausted) ∷ []
 abbrev pub arrival_refusals : ℕ → Record → ℕ → List Row
 arrival_refusals count r c = (not (is_among c count), NoClient) ∷ (is_stopped r.mode, Stopped) ∷ []
 
--- the first frame of the client's inbox arrives at the guest
+-- the first frame of the client's inbox arrives at the guest: that goes into the epoch that runs, or at once into the history
+abbrev pub arrival_done : Bool → Record → ℕ → Outcome
+arrival_done at_once r n = (replies.Admitted n, record r { journal = with_moves at_once r.journal (Arrive n ∷ []) })
+
+-- where a node is alone, into the history
 abbrev pub admit_done : Record → ℕ → Outcome
-admit_done r n = (replies.Admitted n, record r { journal = with_moves (is_alone r.mode) r.journal (Arrive n ∷ []) })
+admit_done r n = arrival_done (is_alone r.mode) r n
 
 abbrev pub admit_first : Record → Option (ℕ × Frame) → Outcome
 admit_first r None = (replies.Empty, r)

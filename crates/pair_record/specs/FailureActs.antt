@@ -11,8 +11,10 @@ use Rattle.pair_history.specs.Landings.{landings}
 use Rattle.pair_history.specs.Failures.{drops_of_taken_in, drops_of_owed_from}
 use Rattle.pair_record.specs.declared.event.Refusal.TheVariants.{Exhausted}
 use Rattle.pair_record.specs.declared.event.Reply.TheVariants as replies
-use Rattle.pair_record.specs.Journal.{Journal, kept_entries, with_history, sealed_off, all_committed, discarded}
-use Rattle.pair_record.specs.Window.{filling_window, none_pending}
+use Rattle.pair_record.specs.GuestActs.{seal_done}
+use Rattle.pair_record.specs.Journal.{Journal, kept_entries, with_history, entered, discarded}
+use Rattle.pair_record.specs.Limits.{full_checkpoint}
+use Rattle.pair_record.specs.Window.{none_pending}
 use Rattle.pair_record.specs.Tables.{Record, Sight, Outcome, Row, unless, exhausts}
 
 -- FAILPRIMARY
@@ -33,18 +35,26 @@ all_held boxes outbox r = targets_of (length boxes) (frames_of r.pending ++ outb
 abbrev pub fail_backup_refusals : List (List Frame) → List Frame → Record → List Row
 fail_backup_refusals boxes outbox r = (exhausts r (length (all_held boxes outbox r)), Exhausted) ∷ []
 
--- all that was kept goes to the history, the pending checkpoints are given up, and what was held lands
-abbrev pub fail_backup_done : List (List Frame) → List Frame → Record → Outcome
-fail_backup_done boxes outbox r =
-    let leaving = all_held boxes outbox r in (
+-- what was sealed goes to the history, and behind it this epoch, and what leaves lands; this runs on
+abbrev pub landed_after : List Entry → List Entry → List (List Frame) → List (ℕ × Frame) → Journal → Journal
+landed_after epoch rest boxes leaving j = with_history (entered epoch rest j) (landings boxes leaving)
+
+-- the pending checkpoints are given up, and what was held lands, and then these frames, which the guest sent along this epoch
+abbrev pub failure_done : List Entry → List Entry → List (List Frame) → List Frame → Record → Outcome
+failure_done epoch rest boxes frames r =
+    let leaving = all_held boxes frames r in (
       replies.Alone r.generation (put_count boxes leaving),
       record r {
         mode = modes.Alone;
-        journal = with_history (all_committed r.journal) (landings boxes leaving);
+        journal = landed_after epoch rest boxes leaving r.journal;
         window = none_pending r.window.to_cut;
         pending = [];
       },
     )
+
+-- all that was kept goes to the history
+abbrev pub fail_backup_done : List (List Frame) → List Frame → Record → Outcome
+fail_backup_done boxes outbox r = failure_done r.journal.running [] boxes outbox r
 
 abbrev pub on_fail_backup : Sight → Record → Outcome
 on_fail_backup s r = unless r (fail_backup_refusals s.boxes s.outbox r) (fail_backup_done s.boxes s.outbox r)
@@ -81,18 +91,20 @@ on_go_live s r = unless r (go_live_refusals s.boxes s.owed r) (go_live_done s.bo
 abbrev pub protect_refusals : Record → List Row
 protect_refusals r = (nat_le number_limit (r.generation + 1), Exhausted) ∷ []
 
--- its full checkpoint, which no frame waits for, is pending under number 0; from now on what the guest does and sends is kept
-abbrev pub protect_done : Record → Outcome
-protect_done r = (
+-- nothing is pending, and its full checkpoint is the next one
+abbrev pub begin_done : Record → Outcome
+begin_done r = (
   replies.Protecting (r.generation + 1),
-  record r {
-    mode = modes.Filling;
-    generation = r.generation + 1;
-    journal = sealed_off r.journal;
-    window = filling_window;
-    pending = record { number = 0; frames = [] } ∷ [];
-  },
+  record r { mode = modes.Filling; generation = r.generation + 1; window = none_pending full_checkpoint; pending = [] },
 )
+
+-- its full checkpoint, which no frame waits for, is pending: from now on what the guest does and sends is kept
+abbrev pub full_done : Record → Outcome
+full_done r = seal_done [] r.journal.running [] r
+
+-- the one and then the other
+abbrev pub protect_done : Record → Outcome
+protect_done r = ((begin_done r).0, (full_done (begin_done r).1).1)
 
 abbrev pub on_protect : Sight → Record → Outcome
 on_protect s r = unless r (protect_refusals r) (protect_done r)

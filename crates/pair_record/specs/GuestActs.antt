@@ -9,7 +9,7 @@ use Rattle.pair_history.specs.Landings.{landings}
 use Rattle.pair_record.specs.declared.event.Refusal.TheVariants.{Stopped, Behind, CutNeeded, Exhausted}
 use Rattle.pair_record.specs.declared.event.Reply.TheVariants as replies
 use Rattle.pair_record.specs.Limits.{most_pending, stepping_frames, lone_step_entries}
-use Rattle.pair_record.specs.Journal.{with_moves, sealed_off}
+use Rattle.pair_record.specs.Journal.{with_moves, sealed_as}
 use Rattle.pair_record.specs.Modes.{is_stopped, is_alone}
 use Rattle.pair_record.specs.Window.{with_cut}
 use Rattle.pair_record.specs.Tables.{Record, Sight, Outcome, Row, unless, exhausts}
@@ -42,16 +42,20 @@ on_step s r = unless r (step_refusals s.outbox r) (step_done s.boxes s.sent s.st
 abbrev pub cut_refusals : Record → List Row
 cut_refusals r = (nat_le most_pending (length r.pending), Behind) ∷ (nat_le number_limit r.window.to_cut, Exhausted) ∷ []
 
--- the running epoch, along which the guest sent these frames, is sealed, and its checkpoint is pending under the next number
-abbrev pub cut_done : List Frame → Record → Outcome
-cut_done outbox r = (
+-- an epoch, along which the guest sent these frames, is sealed, and this runs on: its checkpoint is pending under the next number
+abbrev pub seal_done : List Entry → List Entry → List Frame → Record → Outcome
+seal_done epoch rest frames r = (
   replies.Cut r.generation r.window.to_cut,
   record r {
-    journal = sealed_off r.journal;
+    journal = sealed_as epoch rest r.journal;
     window = with_cut r.window;
-    pending = r.pending ++ record { number = r.window.to_cut; frames = outbox } ∷ [];
+    pending = r.pending ++ record { number = r.window.to_cut; frames = frames } ∷ [];
   },
 )
+
+-- all of the running epoch is
+abbrev pub cut_done : List Frame → Record → Outcome
+cut_done outbox r = seal_done r.journal.running [] outbox r
 
 abbrev pub on_cut : Sight → Record → Outcome
 on_cut s r = unless r (cut_refusals r) (cut_done s.outbox r)

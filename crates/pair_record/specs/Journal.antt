@@ -33,9 +33,12 @@ with_history j es = record j { history = j.history ++ es }
 abbrev pub with_running : Journal → List Entry → Journal
 with_running j es = record j { running = j.running ++ es }
 
--- the running epoch is sealed, and the next one begins
+-- an epoch is sealed, and this runs on; or the epoch that runs is, and the next one begins
+abbrev pub sealed_as : List Entry → List Entry → Journal → Journal
+sealed_as epoch rest j = record j { sealed = j.sealed ++ epoch ∷ []; running = rest }
+
 abbrev pub sealed_off : Journal → Journal
-sealed_off j = record j { sealed = j.sealed ++ j.running ∷ []; running = [] }
+sealed_off j = sealed_as j.running [] j
 
 abbrev pub first_of : List (List Entry) → List Entry
 first_of [] = []
@@ -49,9 +52,13 @@ rest_of (es ∷ ess) = ess
 abbrev pub committed : Journal → Journal
 committed j = record j { history = j.history ++ first_of j.sealed; sealed = rest_of j.sealed }
 
+-- what is sealed moves to the history, and behind it this epoch, and this runs on
+abbrev pub entered : List Entry → List Entry → Journal → Journal
+entered epoch rest j = record { history = j.history ++ (joined j.sealed ++ epoch); sealed = []; running = rest }
+
 -- all that is kept moves to the history; or it is discarded
 abbrev pub all_committed : Journal → Journal
-all_committed j = record { history = all_entries j; sealed = []; running = [] }
+all_committed j = entered j.running [] j
 
 abbrev pub discarded : Journal → Journal
 discarded j = record j { sealed = []; running = [] }

@@ -1,13 +1,13 @@
 pub mod internal
 pub mod Journal
 pub mod Window
-pub mod Lines
 pub mod Modes
 pub mod Tables
 pub mod GuestActs
 pub mod BackupActs
 pub mod ClientActs
 pub mod FailureActs
+pub mod EpochActs
 pub mod Protocol
 pub mod Record
 pub mod Limits

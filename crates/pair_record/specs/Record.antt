@@ -6,7 +6,6 @@ use Rattle.frame_ports.specs.Lands.{list_of, with_list, lands}
 use Rattle.frame_ports.specs.Ports.{PortsState}
 use Rattle.pair_history.specs.Entries.{Frame}
 use Rattle.pair_record.specs.Journal.{empty_journal}
-use Rattle.pair_record.specs.Lines.{no_packets, AreBelow}
 use Rattle.pair_record.specs.Modes.{is_alone}
 use Rattle.pair_record.specs.Protocol.{Record, let_go, all_held}
 use Rattle.pair_record.specs.Window.{start_window, IsWindow, committed_of}
@@ -30,7 +29,7 @@ owed_to r p = targets_of (length p.boxes) (frames_of (committed_of r.window r.pe
 
 -- nothing happened yet
 abbrev pub start_record : Record
-start_record = record { mode = Paired; generation = 1; journal = empty_journal; window = start_window; lines = no_packets; pending = [] }
+start_record = record { mode = Paired; generation = 1; journal = empty_journal; window = start_window; pending = [] }
 
 -- the ports once what leaves the gate at that number has landed
 abbrev pub ports_after_ack : PortsState → Record → ℕ → PortsState
@@ -54,24 +53,21 @@ ports_after_lose_in p c place = record p { inboxes = with_list p.inboxes c (remo
 abbrev pub ports_after_lose_out : PortsState → ℕ → ℕ → PortsState
 ports_after_lose_out p c place = record p { boxes = with_list p.boxes c (remove (list_of p.boxes c) place) }
 
--- Where a node is alone nothing is kept, and nothing is pending.
+-- Where a node is alone nothing is sealed or pending. What was handed out to its guest may still run.
 abbrev pub IsLone : Record → Type 0
-IsLone r = (r.journal.sealed ≡ []) × (r.journal.running ≡ []) × (r.pending ≡ [])
+IsLone r = (r.journal.sealed ≡ []) × (r.pending ≡ [])
 
--- A new backup takes the full checkpoint, number 0, next, and that one was cut; a backup that could go on has taken one.
+-- A new backup takes the full checkpoint, number 0, next, which may still have to be sealed; a backup that could go on has taken one.
 abbrev pub SuitsMode : Mode → Window → Type 0
-SuitsMode Filling w = (w.to_commit ≡ 0) × (1 ≤ w.to_cut)
+SuitsMode Filling w = w.to_commit ≡ 0
 SuitsMode Paired w = 1 ≤ w.to_commit
 SuitsMode Stopped w = 1 ≤ w.to_commit
 SuitsMode Alone w = Unit {0}
 
--- The window is that of what is pending; every packet of this generation names a checkpoint that was cut, every acknowledgement of
--- it one that was committed; each checkpoint that was cut and not committed has its epoch; and where a node is alone nothing is kept
--- or pending.
+-- The window is that of what is pending; each checkpoint that was cut and not committed has its epoch; and where a node is alone nothing
+-- is sealed or pending.
 pub record IsRecord (r : Record) : Type 0 where
   pub window : IsWindow r.window r.pending
-  pub forward : AreBelow r.generation r.window.to_cut r.lines.forward
-  pub back : AreBelow r.generation r.window.to_commit r.lines.back
   pub sealed : r.window.to_commit + length r.journal.sealed ≡ r.window.to_cut
   pub alone : is_alone r.mode ≡ true → IsLone r
   pub suits : SuitsMode r.mode r.window

@@ -10,7 +10,6 @@ use Rattle.pair_record.specs.declared.event.Reply.{Reply}
 use Rattle.pair_record.specs.declared.event.Reply.TheVariants as replies
 use Rattle.pair_record.specs.declared.window.Window.{Window}
 use Rattle.pair_record.specs.Journal.{Journal, all_entries}
-use Rattle.pair_record.specs.Lines.{Lines}
 
 pub record Record : Type 0 where
   pub mode : Mode
@@ -18,7 +17,6 @@ pub record Record : Type 0 where
   pub journal : Journal
   -- the numbers of the next checkpoint to be cut, to be committed, to be acknowledged
   pub window : Window
-  pub lines : Lines
   -- each pending checkpoint's number with the frames that the guest sent along its epoch
   pub pending : List Epoch
 

@@ -9,10 +9,6 @@ use Rattle.pair_record.specs.declared.window.Window.{Window}
 abbrev pub start_window : Window
 start_window = record { to_cut = 1; to_commit = 1; to_acknowledge = 1 }
 
--- a new backup: the full checkpoint, number 0, was cut, and none was committed
-abbrev pub filling_window : Window
-filling_window = record { to_cut = 1; to_commit = 0; to_acknowledge = 0 }
-
 abbrev pub with_cut : Window → Window
 with_cut w = record w { to_cut = w.to_cut + 1 }
 

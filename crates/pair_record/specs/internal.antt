@@ -3,6 +3,5 @@ pub mod Accords
 pub mod Arrivals
 pub mod JournalFields
 pub mod Lengths
-pub mod LinesFields
 pub mod Places
 pub mod RecordFields

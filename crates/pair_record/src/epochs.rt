@@ -1,10 +1,11 @@
 //! An epoch of the guest as it is stored: its arrivals, each with the steps before it, and the steps after the last.
-ghost use Rattle.std.specs.Prelude.{◌≡◌, ◌+◌, ◌*◌, ◌^◌, ◌≤◌, ◌<◌, ◌++◌, [], length, map};
+ghost use Rattle.std.specs.Prelude.{◌≡◌, ◌+◌, ◌*◌, ◌^◌, ◌≤◌, ◌<◌, ◌++◌, [], length, map, take, drop, IfOk, OnOk, OnErr};
 ghost use Rattle.pair_record.specs.internal.Arrivals.{arrival_of, epoch_entries};
 ghost use Rattle.pair_record.specs.Journal.{joined};
 ghost use Rattle.pair_record.specs.internal.JournalFields.{epoch_of};
 ghost use Rattle.pair_record.specs.internal.Places.{places_of};
 
+use memory_wanted::{MemoryWanted, from_slice};
 use pair_history::{Entry, History};
 use std::alloc::Global;
 
@@ -36,6 +37,29 @@ impl RunningEpoch {
             arrivals: Vec::new(alloc),
             steps: 0,
         }
+    }
+
+    /// Splits off so many arrivals, the first first, with so many steps after them. The others stay, and the steps behind the last.
+    pub(crate) fn split(
+        &mut self,
+        alloc: Global,
+        arrivals: usize,
+        steps: u64,
+    ) -> Result<RunningEpoch, MemoryWanted>
+        requires { arrivals ≤ length self.old.arrivals.items }
+        ensures first { IfOk result (λ e. e.arrivals.items ≡ take arrivals self.old.arrivals.items) }
+        ensures steps { IfOk result (λ e. e.steps ≡ steps) }
+        ensures others { OnOk result (self.new.arrivals.items ≡ drop arrivals self.old.arrivals.items) }
+        ensures behind { self.new.steps ≡ self.old.steps }
+        ensures err { OnErr result (self.new.arrivals.items ≡ self.old.arrivals.items) }
+    {
+        let others = from_slice(alloc, &self.arrivals.as_slice()[arrivals..])?;
+        let mut first = std::mem::replace(&mut self.arrivals, others);
+        first.truncate(arrivals);
+        Ok(RunningEpoch {
+            arrivals: first,
+            steps,
+        })
     }
 }
 

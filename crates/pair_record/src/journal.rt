@@ -7,7 +7,8 @@ ghost use Rattle.pair_history.specs.Failures.{arrived_numbers};
 ghost use Rattle.pair_history.specs.Landings.{landings};
 ghost use Rattle.pair_history.specs.Log.{expanded, frame_bytes};
 ghost use Rattle.pair_record.specs.Journal.{all_entries, kept_entries, empty_journal, with_history, with_running, sealed_off, committed};
-ghost use Rattle.pair_record.specs.Journal.{all_committed, discarded};
+ghost use Rattle.pair_record.specs.Journal.{all_committed, discarded, sealed_as, entered};
+ghost use Rattle.pair_record.specs.EpochActs.{guest_epoch, behind};
 ghost use Rattle.pair_record.specs.internal.Lengths.{receivers};
 ghost use Rattle.pair_record.specs.Protocol.{live_entries};
 
@@ -112,6 +113,74 @@ impl Journal {
         reserve(&mut self.sealed, 1)?;
         let epoch = std::mem::replace(&mut self.running, RunningEpoch::new(self.alloc));
         self.sealed.push(epoch).unwrap();
+        Ok(())
+    }
+
+    /// An empty epoch is sealed, and the one that runs goes on.
+    pub(crate) fn seal_empty(&mut self) -> Result<(), MemoryWanted>
+        ensures ok { OnOk result (self.new.journal ≡ sealed_as [] self.old.journal.running self.old.journal) }
+        ensures err { OnErr result (self.new.journal ≡ self.old.journal) }
+    {
+        reserve(&mut self.sealed, 1)?;
+        self.sealed.push(RunningEpoch::new(self.alloc)).unwrap();
+        Ok(())
+    }
+
+    /// So many arrivals of those that run, the first first, and so many steps after them are sealed, and what is behind runs on.
+    pub(crate) fn seal_epoch(&mut self, arrivals: usize, steps: u64) -> Result<(), MemoryWanted>
+        requires there { arrivals ≤ length (arrived_numbers self.old.journal.running) }
+        requires fits { length (all_entries self.old.journal) + steps < number_limit }
+        ensures ok { OnOk result (self.new.journal
+            ≡ sealed_as (guest_epoch arrivals steps self.old.journal.running) (behind arrivals self.old.journal.running)
+            self.old.journal) }
+        ensures err { OnErr result (self.new.journal ≡ self.old.journal) }
+    {
+        reserve(&mut self.sealed, 1)?;
+        let epoch = self.running.split(self.alloc, arrivals, steps)?;
+        self.sealed.push(epoch).unwrap();
+        self.kept += steps;
+        Ok(())
+    }
+
+    /// Where nothing is sealed they go to the history, where so many more stored entries have room then, and what is behind runs on.
+    pub(crate) fn enter_epoch(
+        &mut self,
+        arrivals: usize,
+        steps: u64,
+        more: usize,
+    ) -> Result<(), MemoryWanted>
+        requires none { self.old.journal.sealed ≡ [] }
+        requires there { arrivals ≤ length (arrived_numbers self.old.journal.running) }
+        requires fits { length (all_entries self.old.journal) + steps < number_limit }
+        ensures ok { OnOk result (self.new.journal
+            ≡ entered (guest_epoch arrivals steps self.old.journal.running) (behind arrivals self.old.journal.running)
+            self.old.journal) }
+        ensures room { OnOk result (more ≤ self.new.room) }
+        ensures err { OnErr result (self.new.journal ≡ self.old.journal) }
+    {
+        let first = &self.running.arrivals.as_slice()[..arrivals];
+        let places = (2 * first.len() + 1).saturating_add(more);
+        self.history.reserve(places)?;
+        let epoch = self.running.split(self.alloc, arrivals, steps)?;
+        let before = self.history.len();
+        add_epoch(&mut self.history, epoch.arrivals.as_slice(), steps);
+        let added = self.history.len() - before;
+        self.kept = self.kept + steps - added;
+        Ok(())
+    }
+
+    /// What is sealed moves to the history, where so many more stored entries have room then, and the epoch that runs goes on.
+    pub(crate) fn commit_sealed(&mut self, more: usize) -> Result<(), MemoryWanted>
+        ensures ok { OnOk result (self.new.journal ≡ entered [] self.old.journal.running self.old.journal) }
+        ensures room { OnOk result (more ≤ self.new.room) }
+        ensures err { OnErr result (self.new.journal ≡ self.old.journal) }
+    {
+        let places = places_with(self.sealed.as_slice(), more);
+        self.history.reserve(places)?;
+        let before = self.history.len();
+        add_epochs(&mut self.history, self.sealed.as_slice());
+        self.sealed.clear();
+        self.kept -= self.history.len() - before;
         Ok(())
     }
 

@@ -1,8 +1,8 @@
 //! The pair's record: all that a protected pair keeps beside its machines and its image.
 //!
-//! [`PairRecord`] has mode and generation, the history and what it doesn't have yet, the numbers of checkpoints, the lines, the gate and
-//! the clients' ports. It holds no machine and no page. Each of its calls is one event's share of it, as the protocol of the specs spells
-//! it.
+//! [`PairRecord`] has mode and generation, the history and what it doesn't have yet, the numbers of checkpoints, the gate and the
+//! clients' ports. It holds no machine, no page and no packet. Each of its calls is one event's share of it, as the protocol of the specs
+//! spells it.
 #![tactic(auto)]
 
 mod discards;
@@ -11,9 +11,10 @@ mod event;
 mod journal;
 mod landings;
 mod limits;
-mod lines;
 mod modes;
 mod record;
+#[cfg(test)]
+mod tests;
 mod window;
 
 pub use event::{Event, Packet, Refusal, Reply, Show};

@@ -1,6 +1,6 @@
 //! The pair's record: all of a pair but its machines.
-ghost use Rattle.std.specs.Prelude.{◌≡◌, ℕ, ◌+◌, ◌-◌, ◌*◌, ◌^◌, ◌≤◌, ◌<◌, ◌++◌, ◌∷◌, [], length, replicate, All, IfOk, IfSome, OnOk, OnErr};
-ghost use Rattle.std.specs.Prelude.{None, Some, false, slice_get};
+ghost use Rattle.std.specs.Prelude.{◌≡◌, ℕ, ◌+◌, ◌-◌, ◌*◌, ◌^◌, ◌≤◌, ◌<◌, ◌++◌, ◌∷◌, [], length, replicate, All, IfOk, OnOk, OnErr};
+ghost use Rattle.std.specs.Prelude.{None, Some, false};
 ghost use Rattle.frame_ports.specs.Addresses.{IsFrame};
 ghost use Rattle.frame_ports.specs.Ports.{empty_ports};
 ghost use Rattle.frame_ports.specs.Limits.{max_clients, number_limit};
@@ -14,6 +14,7 @@ ghost use Rattle.pair_record.specs.Record.{IsRecord, IsAsBefore, start_record, p
 
 mod alone;
 mod clients;
+mod epochs;
 mod live;
 mod protect;
 
@@ -21,7 +22,6 @@ use crate::event::{Packet, Refusal, Reply};
 use crate::journal::Journal;
 use crate::landings::count_landings;
 use crate::limits::{FIRST_GENERATION, MOST_PENDING, STEP_ROOM};
-use crate::lines::Lines;
 use crate::modes::{filled, is_stopped, step_room};
 use crate::window::Window;
 use failover::Mode;
@@ -32,8 +32,8 @@ use pair_history::{Frame, History};
 use std::alloc::Global;
 use std::marker::Model;
 
-/// The mode and the generation, the journal, the window of checkpoints, the lines, the gate and the clients' ports: no machine, page
-/// or image. Contracts see it as a `RecordState` of the specs.
+/// The mode and the generation, the journal, the window of checkpoints, the gate and the clients' ports: no machine, page, image
+/// or packet. Contracts see it as a `RecordState` of the specs.
 ///
 /// Each event that may be refused has a `.._refusal`, which answers the first row of its table of refusals that applies; the event
 /// itself asks that none does.
@@ -45,7 +45,6 @@ pub struct PairRecord {
     generation: u64,
     journal: Journal,
     window: Window,
-    lines: Lines,
     gate: Gate,
     ports: Ports,
 }
@@ -84,7 +83,6 @@ impl PairRecord {
             generation: FIRST_GENERATION,
             journal: Journal::new(alloc),
             window: Window::new(),
-            lines: Lines::new(alloc),
             gate,
             ports,
         })
@@ -142,6 +140,13 @@ impl PairRecord {
         self.window.to_cut
     }
 
+    /// The number of the next checkpoint to be acknowledged.
+    pub fn to_acknowledge(&self) -> u64
+        ensures { result ≡ self.now.protocol.window.to_acknowledge }
+    {
+        self.window.to_acknowledge
+    }
+
     /// The number of the next checkpoint to be committed.
     pub fn to_commit(&self) -> u64
         ensures { result ≡ self.now.protocol.window.to_commit }
@@ -166,7 +171,7 @@ impl PairRecord {
     }
 
     /// Whether so many more entries would be too many for the history.
-    fn is_exhausted_by(&self, more: u64) -> bool
+    pub fn is_exhausted_by(&self, more: u64) -> bool
         ensures { result ≡ exhausts self.now.protocol more }
     {
         more > self.journal.entries_left()
@@ -241,28 +246,11 @@ impl PairRecord {
         })
     }
 
-    /// One packet for each pending checkpoint is sent.
-    pub fn send(&mut self) -> Result<Reply, MemoryWanted>
-        ensures ok { IfOk result (λ reply. (reply, self.new.protocol) ≡ send_done self.old.protocol) }
-        ensures ports { self.new.ports ≡ self.old.ports }
-        ensures err { OnErr result (IsAsBefore self.old self.new) }
-        ensures none { OnErr result (0 < length self.old.protocol.pending) }
+    /// What is answered where one packet for each pending checkpoint is sent.
+    pub fn send(&self) -> Reply
+        ensures { (result, self.now.protocol) ≡ send_done self.now.protocol }
     {
-        let count = self.pending();
-        self.lines.send(
-            self.generation,
-            self.window.to_acknowledge,
-            self.window.to_cut,
-        )?;
-        Ok(Reply::Sent(count))
-    }
-
-    /// The packet of this number on the line to the backup.
-    pub fn packet(&self, k: u64) -> Option<Packet>
-        ensures packet { result ≡ slice_get self.now.protocol.lines.forward k }
-        ensures cut { IfSome result (λ p. p.generation ≡ self.now.protocol.generation → p.number < self.now.protocol.window.to_cut) }
-    {
-        self.lines.packet(k)
+        Reply::Sent(self.pending())
     }
 
     /// Why the backup refuses a packet.
@@ -280,23 +268,18 @@ impl PairRecord {
         }
     }
 
-    /// The acknowledgement of the last committed checkpoint is sent once more.
-    pub fn acknowledge_again(&mut self) -> Result<Reply, MemoryWanted>
-        requires { 0 < self.old.protocol.window.to_commit }
-        ensures ok { IfOk result (λ reply. (reply, self.new.protocol) ≡ again_done self.old.protocol) }
-        ensures ports { self.new.ports ≡ self.old.ports }
-        ensures err { OnErr result (IsAsBefore self.old self.new) }
+    /// What is answered where the acknowledgement of the last committed checkpoint is sent once more.
+    pub fn acknowledge_again(&self) -> Reply
+        requires { 0 < self.now.protocol.window.to_commit }
+        ensures { (result, self.now.protocol) ≡ again_done self.now.protocol }
     {
-        let number = self.window.to_commit - 1;
-        self.lines.reserve_acknowledgement()?;
-        self.lines.acknowledge(self.generation, number);
-        Ok(Reply::Again {
+        Reply::Again {
             generation: self.generation,
-            number,
-        })
+            number: self.window.to_commit - 1,
+        }
     }
 
-    /// The next checkpoint is committed and acknowledged: its epoch moves to the history.
+    /// The next checkpoint is committed: its epoch moves to the history.
     pub fn commit(&mut self) -> Result<Reply, MemoryWanted>
         requires { self.old.protocol.window.to_commit < self.old.protocol.window.to_cut }
         ensures ok { IfOk result (λ reply. (reply, self.new.protocol) ≡ commit_done self.old.protocol) }
@@ -304,24 +287,13 @@ impl PairRecord {
         ensures err { OnErr result (IsAsBefore self.old self.new) }
     {
         let number = self.window.to_commit;
-        self.lines.reserve_acknowledgement()?;
         self.journal.commit()?;
-        self.lines.acknowledge(self.generation, number);
         self.window.commit();
         self.mode = filled(self.mode);
         Ok(Reply::Committed {
             generation: self.generation,
             number,
         })
-    }
-
-    /// The packet of this number on the line back.
-    pub fn acknowledgement(&self, k: u64) -> Option<Packet>
-        ensures packet { result ≡ slice_get self.now.protocol.lines.back k }
-        ensures committed { IfSome result (λ p. p.generation ≡ self.now.protocol.generation
-            → p.number < self.now.protocol.window.to_commit) }
-    {
-        self.lines.acknowledgement(k)
     }
 
     /// Why the primary refuses an acknowledgement.

@@ -1,6 +1,6 @@
 //! The numbers of the checkpoints that are under way.
 ghost use Rattle.std.specs.Prelude.{◌≡◌, ◌+◌, ◌-◌, ◌^◌, ◌≤◌, ◌<◌};
-ghost use Rattle.pair_record.specs.Window.{start_window, filling_window, with_cut, with_commit, with_acknowledged};
+ghost use Rattle.pair_record.specs.Window.{start_window, with_cut, with_commit, with_acknowledged};
 ghost use Rattle.pair_record.specs.Window.{none_pending as none_pending_from};
 
 /// The numbers of the next checkpoint to be cut, to be committed and to be acknowledged.
@@ -23,17 +23,6 @@ impl Window {
             to_cut: 1,
             to_commit: 1,
             to_acknowledge: 1,
-        }
-    }
-
-    /// A new backup: the full checkpoint, number 0, was cut, and none was committed.
-    pub(crate) fn filling() -> Window
-        ensures { result ≡ filling_window }
-    {
-        Window {
-            to_cut: 1,
-            to_commit: 0,
-            to_acknowledge: 0,
         }
     }
 

@@ -10,7 +10,7 @@ use Rattle.pair_core.specs.Pair.{Pair, IsConsistent}
 use Rattle.pair_core.specs.Replication.{Does, KeepsBackup}
 use Rattle.pair_core.specs.Runs.{StepsAnswer}
 use Rattle.pair_core.specs.Service.{Serves, ServesSteps, moment}
-use Rattle.pair_record.specs.Record.{start_record}
+use Rattle.pair_core.specs.Lines.{start_protocol}
 use Rattle.pair_core.specs.Start.{shown}
 use Rattle.remus.specs.declared.script.Command.TheVariants.{Step, Cut, Send, Backup, Ack, Admit, Take, LoseIn, LoseOut, FailPrimary}
 use Rattle.remus.specs.declared.script.Command.TheVariants.{FailBackup, GoLive, Protect, Sector, Show}
@@ -91,7 +91,7 @@ IsBeyond w line = ⊥
 -- The pair of a boot line, at its start.
 pub record IsReady (line : BootLine) (w : Pair) : Type 0 where
   pub start : w.start ≡ booted_state line
-  pub protocol : w.protocol ≡ start_record
+  pub protocol : w.protocol ≡ start_protocol
   pub consistent : IsConsistent w
 
 -- ---- a line of a script

@@ -1,13 +1,14 @@
 -- What is kept true from event to event, so that what contracts say of a pair follows: the record accords with the history, and beside it
--- what the machines, the image and the texts are. A part that an event doesn't touch passes on by name.
-use Rattle.std.specs.Prelude.{◌≡◌, ℕ, ◌+◌, ◌-◌, ◌<◌, ◌≤◌, Bool, false, List, [], ◌∷◌, ◌++◌, Some, None}
+-- what packets name, and what the machines, the image and the texts are. A part that an event doesn't touch passes on by name.
+use Rattle.std.specs.Prelude.{◌≡◌, ℕ, ◌+◌, ◌-◌, ◌<◌, ◌≤◌, Bool, true, false, List, [], ◌∷◌, ◌++◌, Some, None}
 use Rattle.guest_machine.specs.declared.shapes.Shape.{Shape}
 use Rattle.guest_machine.specs.Guest.{Guest}
 use Rattle.epoch_snapshot.specs.Bases.{IsBase}
 use Rattle.frame_ports.specs.Limits.{number_limit}
 use Rattle.pair_history.specs.internal.Moves.{Move, guest_along, frames_along}
 use Rattle.pair_record.specs.internal.Accords.{Accords, all_moves}
-use Rattle.pair_record.specs.Modes.{is_alone}
+use Rattle.pair_record.specs.{Modes.is_alone, Protocol.Record}
+use Rattle.pair_core.specs.Lines.{AreNamed}
 use Rattle.pair_core.specs.Nodes.{Nodes, HasShape, Fills, machine_of}
 use Rattle.pair_core.specs.Pair.{Pair, shown_state}
 use Rattle.pair_core.specs.Texts.{IsText}
@@ -51,7 +52,25 @@ pub record AreNodes (alone : Bool) (generation n : ℕ) (g : Guest) (sealed_move
   pub outbox : x.live.outbox ≡ frames_along (guest_along g (all_moves sealed_moves)) running_moves
   pub shape : HasShape x.image.shape x.live.guest
 
+-- the nodes of this pair, whose record accords so
+abbrev pub NodesStand : (w : Pair) → Accords w.start w.protocol.state w.ports → Type 0
+NodesStand w accords = AreNodes (is_alone w.protocol.state.mode) w.protocol.state.generation w.protocol.state.window.to_commit
+    (shown_state w).guest accords.journal.sealed_moves accords.journal.running_moves w.nodes
+
+-- Between events, where a node is alone nothing runs: what its guest does goes to the history at once.
 pub record Holds (w : Pair) : Type 0 where
-  pub accords : Accords w.start w.protocol w.ports
-  pub nodes : AreNodes (is_alone w.protocol.mode) w.protocol.generation w.protocol.window.to_commit (shown_state w).guest
-      accords.journal.sealed_moves accords.journal.running_moves w.nodes
+  pub accords : Accords w.start w.protocol.state w.ports
+  pub lines : AreNamed w.protocol.state.generation w.protocol.state.window w.protocol.lines
+  pub nodes : NodesStand w accords
+  pub still : is_alone w.protocol.state.mode ≡ true → w.protocol.state.journal.running ≡ []
+
+-- And so nothing is kept or pending there.
+abbrev pub KeepsNothing : Record → Type 0
+KeepsNothing r = (r.journal.sealed ≡ []) × (r.journal.running ≡ []) × (r.pending ≡ [])
+
+-- amid an event, it may run
+abbrev pub Stands : Pair → Type 0
+Stands w =
+    (accords : Accords w.start w.protocol.state w.ports)
+    × NodesStand w accords
+    × AreNamed w.protocol.state.generation w.protocol.state.window w.protocol.lines

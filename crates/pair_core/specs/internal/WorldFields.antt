@@ -7,7 +7,7 @@ use Rattle.pair_core.specs.internal.Invariant.{Holds}
 abbrev pub pair_of : Inside → Pair
 pair_of a = record {
   start = start_state a.shape.pages a.shape.sectors a.boot_image.items a.clients;
-  protocol = a.record.protocol;
+  protocol = record { state = a.record.protocol; lines = a.lines.lines };
   ports = a.record.ports;
   nodes = a.nodes.nodes;
 }

@@ -1,8 +1,9 @@
 //! What clients and their lines do, at the world.
-ghost use Rattle.std.specs.Prelude.{◌≡◌, IfOk, OnErr};
+ghost use Rattle.std.specs.Prelude.{◌≡◌, IfOk, OnErr, None};
 ghost use Rattle.pair_record.specs.declared.event.Event.TheVariants as events;
 ghost use Rattle.pair_record.specs.Protocol.{allowed};
 ghost use Rattle.pair_core.specs.Answering.{MayWantMemory};
+ghost use Rattle.pair_core.specs.Lines.{lines_after};
 ghost use Rattle.pair_core.specs.Pair.{OnRefused};
 ghost use Rattle.pair_core.specs.Replication.{KeepsBackup};
 
@@ -13,13 +14,14 @@ use pair_record::{Refusal, Reply};
 impl World {
     /// The first frame of a client's inbox arrives at the guest.
     pub(super) fn admit(&mut self, client: u64) -> Result<Reply, MemoryWanted>
-        ensures outcome { IfOk result (λ reply. (reply, self.new.protocol)
-            ≡ allowed self.old.start self.old.protocol (events.Admit client)) }
+        ensures outcome { IfOk result (λ reply. (reply, self.new.protocol.state)
+            ≡ allowed self.old.start self.old.protocol.state None (events.Admit client)) }
         ensures start { self.new.start ≡ self.old.start }
+        ensures lines { IfOk result (λ reply. self.new.protocol.lines ≡ lines_after self.old.protocol reply) }
         ensures backup { KeepsBackup self.old.nodes self.new.nodes }
         ensures refused { IfOk result (λ reply. OnRefused reply self.old self.new) }
-        ensures memory { OnErr result (MayWantMemory self.old.protocol
-            (allowed self.old.start self.old.protocol (events.Admit client))) }
+        ensures memory { OnErr result (MayWantMemory self.old.protocol.state
+            (allowed self.old.start self.old.protocol.state None (events.Admit client))) }
         ensures err { OnErr result (self.new ≡ self.old) }
     {
         if let Some(why) = self.record.arrival_refusal(client) {
@@ -39,13 +41,14 @@ impl World {
 
     /// A client delivers a frame of these bytes.
     pub(super) fn deliver(&mut self, client: u64, bytes: &[u8]) -> Result<Reply, MemoryWanted>
-        ensures outcome { IfOk result (λ reply. (reply, self.new.protocol)
-            ≡ allowed self.old.start self.old.protocol (events.Deliver client bytes.entry)) }
+        ensures outcome { IfOk result (λ reply. (reply, self.new.protocol.state)
+            ≡ allowed self.old.start self.old.protocol.state None (events.Deliver client bytes.entry)) }
         ensures start { self.new.start ≡ self.old.start }
+        ensures lines { IfOk result (λ reply. self.new.protocol.lines ≡ lines_after self.old.protocol reply) }
         ensures backup { KeepsBackup self.old.nodes self.new.nodes }
         ensures refused { IfOk result (λ reply. OnRefused reply self.old self.new) }
-        ensures memory { OnErr result (MayWantMemory self.old.protocol
-            (allowed self.old.start self.old.protocol (events.Deliver client bytes.entry))) }
+        ensures memory { OnErr result (MayWantMemory self.old.protocol.state
+            (allowed self.old.start self.old.protocol.state None (events.Deliver client bytes.entry))) }
         ensures err { OnErr result (self.new ≡ self.old) }
     {
         let Some(why) = self.record.deliver_refusal(client, bytes) else {
@@ -59,13 +62,14 @@ impl World {
 
     /// A client takes the first frame of its box.
     pub(super) fn take(&mut self, client: u64) -> Result<Reply, MemoryWanted>
-        ensures outcome { IfOk result (λ reply. (reply, self.new.protocol)
-            ≡ allowed self.old.start self.old.protocol (events.Take client)) }
+        ensures outcome { IfOk result (λ reply. (reply, self.new.protocol.state)
+            ≡ allowed self.old.start self.old.protocol.state None (events.Take client)) }
         ensures start { self.new.start ≡ self.old.start }
+        ensures lines { IfOk result (λ reply. self.new.protocol.lines ≡ lines_after self.old.protocol reply) }
         ensures backup { KeepsBackup self.old.nodes self.new.nodes }
         ensures refused { IfOk result (λ reply. OnRefused reply self.old self.new) }
-        ensures memory { OnErr result (MayWantMemory self.old.protocol
-            (allowed self.old.start self.old.protocol (events.Take client))) }
+        ensures memory { OnErr result (MayWantMemory self.old.protocol.state
+            (allowed self.old.start self.old.protocol.state None (events.Take client))) }
         ensures err { OnErr result (self.new ≡ self.old) }
     {
         if let Some(why) = self.record.take_refusal(client) {

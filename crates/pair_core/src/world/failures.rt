@@ -4,6 +4,7 @@ ghost use Rattle.pair_record.specs.declared.event.Event.TheVariants as events;
 ghost use Rattle.pair_record.specs.Modes.{mode_refusal};
 ghost use Rattle.pair_record.specs.Protocol.{allowed};
 ghost use Rattle.pair_core.specs.Answering.{MayWantMemory};
+ghost use Rattle.pair_core.specs.Lines.{lines_after};
 ghost use Rattle.pair_core.specs.Pair.{OnRefused};
 ghost use Rattle.pair_core.specs.Replication.{KeepsBackup, Replicates};
 
@@ -14,9 +15,10 @@ use pair_record::Reply;
 impl World {
     /// The primary stops.
     pub(super) fn fail_primary(&mut self) -> Reply
-        requires { mode_refusal self.old.protocol.mode events.FailPrimary ≡ None }
-        ensures outcome { (result, self.new.protocol) ≡ allowed self.old.start self.old.protocol events.FailPrimary }
+        requires { mode_refusal self.old.protocol.state.mode events.FailPrimary ≡ None }
+        ensures outcome { (result, self.new.protocol.state) ≡ allowed self.old.start self.old.protocol.state None events.FailPrimary }
         ensures start { self.new.start ≡ self.old.start }
+        ensures lines { self.new.protocol.lines ≡ lines_after self.old.protocol result }
         ensures backup { KeepsBackup self.old.nodes self.new.nodes }
         ensures refused { OnRefused result self.old self.new }
     {
@@ -25,15 +27,18 @@ impl World {
 
     /// The backup stops, and the primary goes on alone.
     pub(super) fn fail_backup(&mut self) -> Result<Reply, MemoryWanted>
-        requires { mode_refusal self.old.protocol.mode events.FailBackup ≡ None }
-        ensures outcome { IfOk result (λ reply. (reply, self.new.protocol) ≡ allowed self.old.start self.old.protocol events.FailBackup) }
+        requires { mode_refusal self.old.protocol.state.mode events.FailBackup ≡ None }
+        ensures outcome { IfOk result (λ reply. (reply, self.new.protocol.state)
+            ≡ allowed self.old.start self.old.protocol.state None events.FailBackup) }
         ensures start { self.new.start ≡ self.old.start }
+        ensures lines { IfOk result (λ reply. self.new.protocol.lines ≡ lines_after self.old.protocol reply) }
         ensures replicates { IfOk result (λ reply. Replicates events.FailBackup reply self.old.nodes self.new.nodes) }
         ensures refused { IfOk result (λ reply. OnRefused reply self.old self.new) }
-        ensures memory { OnErr result (MayWantMemory self.old.protocol
-            (allowed self.old.start self.old.protocol events.FailBackup)) }
+        ensures memory { OnErr result (MayWantMemory self.old.protocol.state
+            (allowed self.old.start self.old.protocol.state None events.FailBackup)) }
         ensures err { OnErr result (self.new ≡ self.old) }
     {
+        self.record.keep();
         if let Some(why) = self.record.fail_backup_refusal(self.nodes.outbox()) {
             return Ok(Reply::Refused(why));
         }
@@ -44,12 +49,15 @@ impl World {
 
     /// The backup goes live in the place of the stopped primary.
     pub(super) fn go_live(&mut self) -> Result<Reply, MemoryWanted>
-        requires { mode_refusal self.old.protocol.mode events.GoLive ≡ None }
-        ensures outcome { IfOk result (λ reply. (reply, self.new.protocol) ≡ allowed self.old.start self.old.protocol events.GoLive) }
+        requires { mode_refusal self.old.protocol.state.mode events.GoLive ≡ None }
+        ensures outcome { IfOk result (λ reply. (reply, self.new.protocol.state)
+            ≡ allowed self.old.start self.old.protocol.state None events.GoLive) }
         ensures start { self.new.start ≡ self.old.start }
+        ensures lines { IfOk result (λ reply. self.new.protocol.lines ≡ lines_after self.old.protocol reply) }
         ensures replicates { IfOk result (λ reply. Replicates events.GoLive reply self.old.nodes self.new.nodes) }
         ensures refused { IfOk result (λ reply. OnRefused reply self.old self.new) }
-        ensures memory { OnErr result (MayWantMemory self.old.protocol (allowed self.old.start self.old.protocol events.GoLive)) }
+        ensures memory { OnErr result (MayWantMemory self.old.protocol.state
+            (allowed self.old.start self.old.protocol.state None events.GoLive)) }
         ensures err { OnErr result (self.new ≡ self.old) }
     {
         self.record.keep();
@@ -63,12 +71,15 @@ impl World {
 
     /// The node that is alone gets a new backup.
     pub(super) fn protect(&mut self) -> Result<Reply, MemoryWanted>
-        requires { mode_refusal self.old.protocol.mode events.Protect ≡ None }
-        ensures outcome { IfOk result (λ reply. (reply, self.new.protocol) ≡ allowed self.old.start self.old.protocol events.Protect) }
+        requires { mode_refusal self.old.protocol.state.mode events.Protect ≡ None }
+        ensures outcome { IfOk result (λ reply. (reply, self.new.protocol.state)
+            ≡ allowed self.old.start self.old.protocol.state None events.Protect) }
         ensures start { self.new.start ≡ self.old.start }
+        ensures lines { IfOk result (λ reply. self.new.protocol.lines ≡ lines_after self.old.protocol reply) }
         ensures replicates { IfOk result (λ reply. Replicates events.Protect reply self.old.nodes self.new.nodes) }
         ensures refused { IfOk result (λ reply. OnRefused reply self.old self.new) }
-        ensures memory { OnErr result (MayWantMemory self.old.protocol (allowed self.old.start self.old.protocol events.Protect)) }
+        ensures memory { OnErr result (MayWantMemory self.old.protocol.state
+            (allowed self.old.start self.old.protocol.state None events.Protect)) }
         ensures err { OnErr result (self.new ≡ self.old) }
     {
         self.record.keep();

@@ -1,8 +1,9 @@
 //! The losses that are asked for, at the world.
-ghost use Rattle.std.specs.Prelude.{◌≡◌, IfOk, OnErr};
+ghost use Rattle.std.specs.Prelude.{◌≡◌, IfOk, OnErr, None};
 ghost use Rattle.pair_record.specs.declared.event.Event.TheVariants as events;
 ghost use Rattle.pair_record.specs.Protocol.{allowed};
 ghost use Rattle.pair_core.specs.Answering.{MayWantMemory};
+ghost use Rattle.pair_core.specs.Lines.{lines_after};
 ghost use Rattle.pair_core.specs.Pair.{OnRefused};
 ghost use Rattle.pair_core.specs.Replication.{KeepsBackup};
 
@@ -13,13 +14,14 @@ use pair_record::Reply;
 impl World {
     /// The line drops a frame of a client's inbox.
     pub(super) fn lose_in(&mut self, client: u64, place: u64) -> Result<Reply, MemoryWanted>
-        ensures outcome { IfOk result (λ reply. (reply, self.new.protocol)
-            ≡ allowed self.old.start self.old.protocol (events.LoseIn client place)) }
+        ensures outcome { IfOk result (λ reply. (reply, self.new.protocol.state)
+            ≡ allowed self.old.start self.old.protocol.state None (events.LoseIn client place)) }
         ensures start { self.new.start ≡ self.old.start }
+        ensures lines { IfOk result (λ reply. self.new.protocol.lines ≡ lines_after self.old.protocol reply) }
         ensures backup { KeepsBackup self.old.nodes self.new.nodes }
         ensures refused { IfOk result (λ reply. OnRefused reply self.old self.new) }
-        ensures memory { OnErr result (MayWantMemory self.old.protocol
-            (allowed self.old.start self.old.protocol (events.LoseIn client place))) }
+        ensures memory { OnErr result (MayWantMemory self.old.protocol.state
+            (allowed self.old.start self.old.protocol.state None (events.LoseIn client place))) }
         ensures err { OnErr result (self.new ≡ self.old) }
     {
         if let Some(why) = self.record.client_refusal(client) {
@@ -37,13 +39,14 @@ impl World {
 
     /// The line drops a frame of a client's box.
     pub(super) fn lose_out(&mut self, client: u64, place: u64) -> Result<Reply, MemoryWanted>
-        ensures outcome { IfOk result (λ reply. (reply, self.new.protocol)
-            ≡ allowed self.old.start self.old.protocol (events.LoseOut client place)) }
+        ensures outcome { IfOk result (λ reply. (reply, self.new.protocol.state)
+            ≡ allowed self.old.start self.old.protocol.state None (events.LoseOut client place)) }
         ensures start { self.new.start ≡ self.old.start }
+        ensures lines { IfOk result (λ reply. self.new.protocol.lines ≡ lines_after self.old.protocol reply) }
         ensures backup { KeepsBackup self.old.nodes self.new.nodes }
         ensures refused { IfOk result (λ reply. OnRefused reply self.old self.new) }
-        ensures memory { OnErr result (MayWantMemory self.old.protocol
-            (allowed self.old.start self.old.protocol (events.LoseOut client place))) }
+        ensures memory { OnErr result (MayWantMemory self.old.protocol.state
+            (allowed self.old.start self.old.protocol.state None (events.LoseOut client place))) }
         ensures err { OnErr result (self.new ≡ self.old) }
     {
         if let Some(why) = self.record.client_refusal(client) {

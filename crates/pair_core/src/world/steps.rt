@@ -6,6 +6,7 @@ ghost use Rattle.pair_record.specs.Journal.{all_entries};
 ghost use Rattle.pair_record.specs.Modes as modes;
 ghost use Rattle.pair_record.specs.Protocol.{allowed, refused, step_outcome, step_room};
 ghost use Rattle.pair_core.specs.Answering.{Answers, MayWantMemory, step_reply};
+ghost use Rattle.pair_core.specs.Lines.{lines_after};
 ghost use Rattle.pair_core.specs.Pair.{Pair, OnRefused, IsConsistent};
 ghost use Rattle.pair_core.specs.Drops.{Drops};
 ghost use Rattle.pair_core.specs.Replication.{KeepsBackup};
@@ -31,7 +32,7 @@ impl World {
         ensures start { self.new.start ≡ self.old.start }
         ensures backup { KeepsBackup self.old.nodes self.new.nodes }
         ensures refused { OnErr result (self.new ≡ self.old) }
-        ensures grows { Begins self.old.protocol.journal.history self.new.protocol.journal.history }
+        ensures grows { Begins self.old.protocol.state.journal.history self.new.protocol.state.journal.history }
         ensures consistent { IsConsistent self.new }
         ensures drops { Drops self.old.start self.old.protocol events.Step (step_reply result) self.new.protocol }
         ensures serves { Serves self.old.start (moment self.old) events.Step (step_reply result) (moment self.new) }
@@ -75,11 +76,12 @@ impl World {
 
     /// One step, as a reply.
     pub(super) fn stepped(&mut self) -> Result<Reply, MemoryWanted>
-        ensures outcome { IfOk result (λ reply. (reply, self.new.protocol) ≡ step_outcome self.old.start self.old.protocol) }
+        ensures outcome { IfOk result (λ reply. (reply, self.new.protocol.state) ≡ step_outcome self.old.start self.old.protocol.state) }
         ensures start { self.new.start ≡ self.old.start }
+        ensures lines { IfOk result (λ reply. self.new.protocol.lines ≡ lines_after self.old.protocol reply) }
         ensures backup { KeepsBackup self.old.nodes self.new.nodes }
         ensures refused { IfOk result (λ reply. OnRefused reply self.old self.new) }
-        ensures memory { OnErr result (MayWantMemory self.old.protocol (step_outcome self.old.start self.old.protocol)) }
+        ensures memory { OnErr result (MayWantMemory self.old.protocol.state (step_outcome self.old.start self.old.protocol.state)) }
         ensures err { OnErr result (self.new ≡ self.old) }
     {
         match self.step() {
@@ -91,8 +93,8 @@ impl World {
 
     /// Steps of a pair: they are kept.
     fn run_paired(&mut self, count: u64) -> Result<u64, Refusal>
-        requires { modes.is_alone self.old.protocol.mode ≡ false }
-        ensures outcome { (step_reply result, self.new.protocol) ≡ steps_outcome self.old.start self.old.protocol count }
+        requires { modes.is_alone self.old.protocol.state.mode ≡ false }
+        ensures outcome { (step_reply result, self.new.protocol.state) ≡ steps_outcome self.old.start self.old.protocol.state count }
         ensures made { (made : ℕ) × (self.new ≡ with_steps made self.old) }
     {
         let made = self.make_steps(count);
@@ -107,13 +109,13 @@ impl World {
 
     /// Makes as many of these steps as there is room for, in the outbox and in the history.
     fn make_steps(&mut self, count: u64) -> u64
-        requires { modes.is_alone self.old.protocol.mode ≡ false }
+        requires { modes.is_alone self.old.protocol.state.mode ≡ false }
         ensures most { result ≤ count }
         ensures made { self.new ≡ with_steps result self.old }
-        ensures answered { (Reply.Steps self.new.nodes.live.guest.steps, self.new.protocol)
-            ≡ steps_outcome self.old.start self.old.protocol result }
-        ensures ended { result < count → modes.is_stopped self.new.protocol.mode ≡ false → length self.new.nodes.live.outbox ≤ 192
-            → number_limit ≤ length (all_entries self.new.protocol.journal) + 1 }
+        ensures answered { (Reply.Steps self.new.nodes.live.guest.steps, self.new.protocol.state)
+            ≡ steps_outcome self.old.start self.old.protocol.state result }
+        ensures ended { result < count → modes.is_stopped self.new.protocol.state.mode ≡ false → length self.new.nodes.live.outbox ≤ 192
+            → number_limit ≤ length (all_entries self.new.protocol.state.journal) + 1 }
     {
         let most = self.record.steps_left(count);
         let made = self.nodes.run(most);
@@ -123,16 +125,16 @@ impl World {
 
     /// Why the next step is refused.
     fn step_refusal(&self) -> Option<Refusal>
-        ensures refused { IfSome result (λ why. refused self.now.protocol why ≡ step_outcome self.now.start self.now.protocol) }
-        ensures none { IfNone result ((modes.is_stopped self.now.protocol.mode ≡ false) × (length self.now.nodes.live.outbox ≤ 192)
-            × (length (all_entries self.now.protocol.journal) + step_room self.now.protocol.mode < number_limit)) }
+        ensures refused { IfSome result (λ why. refused self.now.protocol.state why ≡ step_outcome self.now.start self.now.protocol.state) }
+        ensures none { IfNone result ((modes.is_stopped self.now.protocol.state.mode ≡ false) × (length self.now.nodes.live.outbox ≤ 192)
+            × (length (all_entries self.now.protocol.state.journal) + step_room self.now.protocol.state.mode < number_limit)) }
     {
         self.record.step_refusal(self.nodes.outbox())
     }
 
     /// Steps of a node that is alone: what each of them sends lands at once.
     fn run_alone(&mut self, count: u64) -> Result<u64, Refusal>
-        requires { modes.is_alone self.old.protocol.mode ≡ true }
+        requires { modes.is_alone self.old.protocol.state.mode ≡ true }
         ensures outcome { StepsAnswer self.old.start self.old.protocol count (step_reply result) self.new.protocol }
         ensures start { self.new.start ≡ self.old.start }
         ensures backup { KeepsBackup self.old.nodes self.new.nodes }
@@ -152,17 +154,18 @@ impl World {
 
     /// Some of these steps of a node that is alone, of which none is refused: none follows one that sent a frame.
     fn step_alone(&mut self, count: u64) -> Result<u64, MemoryWanted>
-        requires alone { modes.is_alone self.old.protocol.mode ≡ true }
+        requires alone { modes.is_alone self.old.protocol.state.mode ≡ true }
         requires some { 0 < count }
-        requires room { length (all_entries self.old.protocol.journal) + 1025 < number_limit }
+        requires room { length (all_entries self.old.protocol.state.journal) + 1025 < number_limit }
         ensures most { IfOk result (λ n. n ≤ count) }
         ensures some { IfOk result (λ n. 0 < n) }
-        ensures answered { IfOk result (λ n. (Reply.Steps self.new.nodes.live.guest.steps, self.new.protocol)
-            ≡ steps_outcome self.old.start self.old.protocol n) }
+        ensures answered { IfOk result (λ n. (Reply.Steps self.new.nodes.live.guest.steps, self.new.protocol.state)
+            ≡ steps_outcome self.old.start self.old.protocol.state n) }
         ensures start { self.new.start ≡ self.old.start }
-        ensures mode { self.new.protocol.mode ≡ self.old.protocol.mode }
+        ensures mode { self.new.protocol.state.mode ≡ self.old.protocol.state.mode }
+        ensures lines { self.new.protocol.lines ≡ self.old.protocol.lines }
         ensures backup { KeepsBackup self.old.nodes self.new.nodes }
-        ensures wants { OnErr result (MayWantMemory self.old.protocol (step_outcome self.old.start self.old.protocol)) }
+        ensures wants { OnErr result (MayWantMemory self.old.protocol.state (step_outcome self.old.start self.old.protocol.state)) }
         ensures err { OnErr result (self.new ≡ self.old) }
     {
         self.record.keep();

@@ -9,7 +9,6 @@ record_state a = record {
     generation = a.generation;
     journal = a.journal.journal;
     window = a.window;
-    lines = a.lines.lines;
     pending = a.gate;
   };
   ports = a.ports;

@@ -1,10 +1,11 @@
 //! What happens at the record where a node goes on alone.
-ghost use Rattle.std.specs.Prelude.{◌≡◌, ◌+◌, ◌*◌, ◌<◌, ◌≤◌, ◌++◌, length, replicate, All, IfOk, OnOk, OnErr, None, false, true};
+ghost use Rattle.std.specs.Prelude.{◌≡◌, ◌+◌, ◌*◌, ◌<◌, ◌≤◌, ◌++◌, [], length, replicate, All, IfOk, OnOk, OnErr, None, false, true};
 ghost use Rattle.frame_ports.specs.Addresses.{IsFrame, targets_of};
 ghost use Rattle.frame_ports.specs.Lands.{lands};
 ghost use Rattle.frame_ports.specs.Limits.{max_clients, number_limit};
 ghost use Rattle.pair_history.specs.Entries.{Ran};
 ghost use Rattle.pair_history.specs.Landings.{landings};
+ghost use Rattle.pair_record.specs.EpochActs.{fail_within_done};
 ghost use Rattle.pair_record.specs.Journal.{all_entries, with_history};
 ghost use Rattle.pair_record.specs.Modes.{is_alone};
 ghost use Rattle.pair_record.specs.Protocol.{first_refusal, fail_backup_refusals, fail_backup_done, all_held};
@@ -57,6 +58,28 @@ impl PairRecord {
         let count = self.count_all(outbox);
         self.journal.commit_all(count as usize)?;
         self.gate.hold(number, outbox);
+        self.journal.land(&self.ports, self.gate.held(number));
+        let landed = self.gate.open_all(&mut self.ports);
+        self.window = Window::none_pending(number);
+        self.mode = Mode::Alone;
+        Ok(Reply::Alone {
+            generation: self.generation,
+            landed: landed.landed,
+        })
+    }
+
+    /// The backup stops while the guest is in an epoch, which goes on: the pending checkpoints are given up, and what the gate held lands.
+    /// [`PairRecord::fail_backup_refusal`] of no frames says why that is refused.
+    pub fn fail_backup_within(&mut self) -> Result<Reply, MemoryWanted>
+        requires free { first_refusal (fail_backup_refusals self.old.ports.boxes [] self.old.protocol) ≡ None }
+        requires pair { is_alone self.old.protocol.mode ≡ false }
+        ensures ok { IfOk result (λ reply. (reply, self.new.protocol) ≡ fail_within_done self.old.ports.boxes self.old.protocol) }
+        ensures ports { OnOk result (self.new.ports ≡ ports_after_all self.old.ports [] self.old.protocol) }
+        ensures err { OnErr result (IsAsBefore self.old self.new) }
+    {
+        let number = self.window.to_cut;
+        let count = self.count_all(&[]);
+        self.journal.commit_sealed(count as usize)?;
         self.journal.land(&self.ports, self.gate.held(number));
         let landed = self.gate.open_all(&mut self.ports);
         self.window = Window::none_pending(number);

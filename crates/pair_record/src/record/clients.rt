@@ -7,7 +7,7 @@ ghost use Rattle.pair_history.specs.Entries.{DropIn, DropOut, Took};
 ghost use Rattle.pair_history.specs.Log.{expanded, frame_bytes};
 ghost use Rattle.pair_record.specs.Protocol.{first_refusal, client_refusals, arrival_refusals, admit_refusals, admit_done};
 ghost use Rattle.pair_record.specs.Protocol.{deliver_refusals, delivery_refused, deliver_done, take_refusals, take_done};
-ghost use Rattle.pair_record.specs.Protocol.{loss_refusals, loss_done};
+ghost use Rattle.pair_record.specs.Protocol.{loss_refusals, loss_done, arrival_done};
 ghost use Rattle.pair_record.specs.Record.{IsAsBefore, ports_after_admit, ports_after_take, ports_after_lose_in, ports_after_lose_out};
 
 use super::PairRecord;
@@ -80,11 +80,29 @@ impl PairRecord {
         ensures ports { OnOk result (self.new.ports ≡ ports_after_admit self.old.ports client) }
         ensures err { OnErr result (IsAsBefore self.old self.new) }
     {
+        self.arrive(client, is_alone(self.mode))
+    }
+
+    /// The first frame of this client's inbox leaves it, with its number, and that goes at once into the history, or it runs.
+    pub(super) fn arrive(
+        &mut self,
+        client: u64,
+        at_once: bool,
+    ) -> Result<(u64, Frame), MemoryWanted>
+        requires free { first_refusal (admit_refusals self.old.protocol) ≡ None }
+        requires client { IsClient self.old.ports client }
+        requires some { 0 < length (inbox_of self.old.ports client) }
+        ensures first { IfOk result (λ x. slice_get (inbox_of self.old.ports client) 0 ≡ Some x) }
+        ensures frame { IfOk result (λ x. IsFrame x.1) }
+        ensures protocol { IfOk result (λ x. self.new.protocol ≡ (arrival_done at_once self.old.protocol x.0).1) }
+        ensures ports { OnOk result (self.new.ports ≡ ports_after_admit self.old.ports client) }
+        ensures err { OnErr result (IsAsBefore self.old self.new) }
+    {
         self.journal.reserve_arrival()?;
         let Ok(Some((number, frame))) = self.ports.admit(client) else {
             unreachable!();
         };
-        if is_alone(self.mode) {
+        if at_once {
             self.journal.add(Entry::Arrive(number));
         } else {
             self.journal.arrive(number);

@@ -32,9 +32,10 @@ impl PairRecord {
         ensures ports { self.new.ports ≡ self.old.ports }
         ensures err { OnErr result (IsAsBefore self.old self.new) }
     {
-        self.journal.seal()?;
+        self.journal.seal_empty()?;
         self.gate.hold(FULL_CHECKPOINT, &[]);
-        self.window = Window::filling();
+        self.window = Window::none_pending(FULL_CHECKPOINT);
+        self.window.cut();
         self.mode = Mode::Filling;
         self.generation += 1;
         Ok(Reply::Protecting(self.generation))

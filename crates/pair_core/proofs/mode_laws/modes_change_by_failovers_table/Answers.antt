@@ -5,4 +5,4 @@ pub returns-clause-refused : goal.returns-clause-refused
 returns-clause-refused c = rows_refuse
 
 pub returns-clause-leaves : goal.returns-clause-leaves
-returns-clause-leaves c start old new event reply = mode_left start old event reply new
+returns-clause-leaves c start old new event reply = mode_left start old new event reply

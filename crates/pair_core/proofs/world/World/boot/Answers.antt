@@ -9,7 +9,7 @@ invariant_of-world c =
     let image = c.in_ok-boot_image.ensures.items in
     subst Holds (λ i. record {
       start = start_state c.args.shape.pages c.args.shape.sectors (sym image i) c.args.clients;
-      protocol = sym c.in_ok-record.ensures.protocol i;
+      protocol = record { state = sym c.in_ok-record.ensures.protocol i; lines = sym c.new-lines.ensures i };
       ports = sym c.in_ok-record.ensures.ports i;
       nodes = sym c.in_ok-nodes.ensures i;
     })

@@ -14,19 +14,19 @@ use Rattle.pair_core.proofs.{Events.cut_holds, Outcomes.{goes, cut_sight}, world
 use Rattle.pair_core.proofs.world.World.cut.Goals as goal
 
 -- no node is alone
-two : {w v : Pair} → w ≡ v → mode_refusal v.protocol.mode Cut ≡ None → is_alone w.protocol.mode ≡ false
-two {w} same goes = primary_goes w.protocol.mode (rw same goes)
+two : {w v : Pair} → w ≡ v → mode_refusal v.protocol.state.mode Cut ≡ None → is_alone w.protocol.state.mode ≡ false
+two {w} same goes = primary_goes w.protocol.state.mode (rw same goes)
 
 -- what the record answered and left, by the live machine's outbox
 done : (c : In_ok-reply) → (c.in_ok-reply.reply, c.cut.new.self.protocol) ≡ cut_done (pair_of c.self.inside).nodes.live.outbox
-    (pair_of c.self.inside).protocol
+    (pair_of c.self.inside).protocol.state
 done c = search (arith, rules)
 
 -- the text makes the live guest of the one that the live machine was last settled at
 makes : (c : In_ok-reply) (base : Guest) → IsBase (machine_of (pair_of c.self.inside).nodes.live) base
     → HasShape (pair_of c.self.inside).nodes.image.shape (pair_of c.self.inside).nodes.live.guest
-    → IsText (pair_of c.self.inside).nodes.image.shape (pair_of c.self.inside).protocol.generation
-    (pair_of c.self.inside).protocol.window.to_cut base (pair_of c.self.inside).nodes.live.guest c.in_ok-text.text.items
+    → IsText (pair_of c.self.inside).nodes.image.shape (pair_of c.self.inside).protocol.state.generation
+    (pair_of c.self.inside).protocol.state.window.to_cut base (pair_of c.self.inside).nodes.live.guest c.in_ok-text.text.items
 makes c base is sized =
     let w = pair_of c.self.inside in
     let text = c.in_ok-text.text.items in
@@ -38,7 +38,7 @@ invariant_of-self-2 c =
     let protocol = ap (λ (o : Outcome). o.1) (done (goal.at.invariant_of-self-2 c).In_ok-reply) in
     let text = c.in_ok-text.text.items in
     let nodes = c.seal.ensures ∙ ap (λ (x : Nodes). with_sealed x text) c.checkpoint.ensures.nodes in
-    subst Holds (λ i. record w { protocol = sym protocol i; ports = sym c.cut.ensures.ports i; nodes = sym nodes i })
+    subst Holds (λ i. record w { protocol = record w.protocol { state = sym protocol i }; ports = sym c.cut.ensures.ports i; nodes = sym nodes i })
     (cut_holds w c.self.invariant c.cut_refusal.ensures.record text
     (makes (goal.at.invariant_of-self-2 c).In_ok-reply))
 
@@ -53,12 +53,12 @@ returns-clause-replicates c =
     let alone = two c.self.view_is c.requires in
     let now = in_mode w h k in
     let then = in_mode (after_cut w text) (cut_holds w h k text (makes (goal.at.returns-clause-replicates c).In_ok-reply))
-    (cut_record w.protocol k w.nodes.live.outbox alone (sym c.cut_refusal.ensures.refusal ∙ c.in_default.is)) in
+    (cut_record w.protocol.state k w.nodes.live.outbox alone (sym c.cut_refusal.ensures.refusal ∙ c.in_default.is)) in
     rw (← c.self.view_is) (subst (λ (o : Reply × Nodes). Replicates Cut o.0 w.nodes o.1) (λ i. (sym reply i, sym nodes i)) (cut_replicates w
     k alone now text then (live_is w h)))
 
 pub returns-clause-outcome : goal.returns-clause-outcome
 returns-clause-outcome c =
     let w = pair_of c.self.inside in
-    rw (← c.self.view_is) (done (goal.at.returns-clause-outcome c).In_ok-reply ∙ goes w.protocol (cut_refusals w.protocol) (cut_done
-    w.nodes.live.outbox w.protocol) c.cut_refusal.result c.cut_refusal.ensures.refusal c.in_default.is ∙ cut_sight w c.self.invariant)
+    rw (← c.self.view_is) (done (goal.at.returns-clause-outcome c).In_ok-reply ∙ goes w.protocol.state (cut_refusals w.protocol.state) (cut_done
+    w.nodes.live.outbox w.protocol.state) c.cut_refusal.result c.cut_refusal.ensures.refusal c.in_default.is ∙ cut_sight w c.self.invariant)

@@ -1,4 +1,4 @@
-use Rattle.std.proofs.Common.{rules, arith, ◌≡◌, ◌∙◌, refl, sym, ap, subst, length, Some}
+use Rattle.std.proofs.Common.{rules, arith, ◌≡◌, ◌∙◌, refl, sym, ap, subst, length, None, Some}
 use Rattle.frame_ports.specs.Ports.{after_delivery}
 use Rattle.pair_record.specs.{declared.event.Event.TheVariants.Deliver, declared.event.Refusal.TheVariants.Full}
 use Rattle.pair_core.specs.Pair.{Pair, AfterRefusal}
@@ -18,7 +18,7 @@ invariant_of-self c =
     let range = client_range client (length w.ports.boxes) rows.0 in
     let frame = frame_range bytes (passed _ _ _ rows.1).0 in
     after_call w c.self.invariant c.deliver.new.self c.deliver.result
-    (deliver_done w.protocol client (record { items = bytes }) w.ports.next) (after_delivery w.ports client bytes)
+    (deliver_done w.protocol.state client (record { items = bytes }) w.ports.next) (after_delivery w.ports client bytes)
     c.deliver.ensures.ok c.deliver.ensures.ports c.deliver.ensures.err
     (deliver_holds w c.self.invariant client range.0 range.1 bytes frame)
 
@@ -32,7 +32,7 @@ invariant_of-self-in-Full c =
     let range = client_range client (length w.ports.boxes) rows.0 in
     let frame = frame_range bytes rows.1 in
     after_call w c.self.invariant c.refuse_delivery.new.self c.refuse_delivery.result
-    (delivery_refused w.protocol client (record { items = bytes }) Full) w.ports
+    (delivery_refused w.protocol.state client (record { items = bytes }) Full) w.ports
     c.refuse_delivery.ensures.ok (on_ok c.refuse_delivery.result _ c.refuse_delivery.ensures.ports) c.refuse_delivery.ensures.err
     (full_holds w c.self.invariant client range.0 range.1 bytes frame (is_from _ _ rows.2))
 
@@ -40,8 +40,8 @@ pub returns-in_default-clause-outcome : goal.returns-in_default-clause-outcome
 returns-in_default-clause-outcome c =
     let w = pair_of c.self.inside in
     let bytes = c.args.bytes.now in
-    let Out : Pair → Outcome = λ v. allowed v.start v.protocol (Deliver c.args.client c.args.bytes) in
-    let done = deliver_done w.protocol c.args.client (record { items = bytes }) w.ports.next in
+    let Out : Pair → Outcome = λ v. allowed v.start v.protocol.state None (Deliver c.args.client c.args.bytes) in
+    let done = deliver_done w.protocol.state c.args.client (record { items = bytes }) w.ports.next in
     answered_so c.deliver.result c.deliver.new.self.protocol done (Out c.args.self.now)
     (subst (λ (v : Pair). done ≡ Out v) c.self.view_is
     (deliver_goes w c.self.invariant c.args.client bytes c.deliver_refusal.result c.deliver_refusal.ensures c.in_default.is))
@@ -54,8 +54,8 @@ pub returns-in-Full-clause-memory : goal.returns-in-Full-clause-memory
 returns-in-Full-clause-memory c =
     let w = pair_of c.self.inside in
     let bytes = c.args.bytes.now in
-    let Out : Pair → Outcome = λ v. allowed v.start v.protocol (Deliver c.args.client c.args.bytes) in
-    let done = delivery_refused w.protocol c.args.client (record { items = bytes }) Full in
+    let Out : Pair → Outcome = λ v. allowed v.start v.protocol.state None (Deliver c.args.client c.args.bytes) in
+    let done = delivery_refused w.protocol.state c.args.client (record { items = bytes }) Full in
     let goes = deliver_full w c.self.invariant c.args.client bytes c.deliver_refusal.result c.deliver_refusal.ensures
     (c.in-Some.is ∙ ap Some c.in-Full.is) in
     on_err c.refuse_delivery.result _
@@ -65,13 +65,14 @@ pub returns-in_default-why : goal.returns-in_default-why
 returns-in_default-why c =
     let w = pair_of c.self.inside in
     let bytes = c.args.bytes.now in
-    let Out : Pair → Outcome = λ v. allowed v.start v.protocol (Deliver c.args.client c.args.bytes) in
+    let Out : Pair → Outcome = λ v. allowed v.start v.protocol.state None (Deliver c.args.client c.args.bytes) in
     let why = c.in-Some.why in
     record {
       outcome =
           rw (← c.self.view_is) (deliver_stops w c.self.invariant c.args.client bytes c.deliver_refusal.result c.deliver_refusal.ensures why
           c.in_default-why.not-Full c.in-Some.is);
       start = refl;
+      lines = refl;
       backup = (refl, refl);
       refused = subst (λ (v : Pair). AfterRefusal why v v) c.self.view_is (after_none w c.self.invariant why);
       memory = tt;

@@ -12,7 +12,7 @@ use Rattle.pair_core.proofs.world.World.fail_backup.Goals as goal
 -- the table of refusals, by the live machine's outbox
 table : (c : After-fail_backup_refusal) → c.fail_backup_refusal.result
     ≡ first_refusal (fail_backup_refusals (pair_of c.self.inside).ports.boxes (pair_of c.self.inside).nodes.live.outbox
-    (pair_of c.self.inside).protocol)
+    (pair_of c.self.inside).protocol.state)
 table c = search (arith, rules)
 
 pub returns-in-Some-clause-outcome : goal.returns-in-Some-clause-outcome
@@ -20,7 +20,7 @@ returns-in-Some-clause-outcome c =
     let w = pair_of c.self.inside in
     let b = w.ports.boxes in
     let outbox = w.nodes.live.outbox in
-    rw (← c.self.view_is) (stops w.protocol (fail_backup_refusals b outbox w.protocol) (fail_backup_done b outbox w.protocol)
+    rw (← c.self.view_is) (stops w.protocol.state (fail_backup_refusals b outbox w.protocol.state) (fail_backup_done b outbox w.protocol.state)
     c.fail_backup_refusal.result c.in-Some.why (table (goal.at.returns-in-Some-clause-outcome c).After-fail_backup_refusal) c.in-Some.is ∙
     fail_backup_sight w c.self.invariant)
 
@@ -30,7 +30,7 @@ returns-in_err-reply-clause-memory c =
     let b = w.ports.boxes in
     let outbox = w.nodes.live.outbox in
     let goes_on =
-    goes w.protocol (fail_backup_refusals b outbox w.protocol) (fail_backup_done b outbox w.protocol) c.fail_backup_refusal.result
+    goes w.protocol.state (fail_backup_refusals b outbox w.protocol.state) (fail_backup_done b outbox w.protocol.state) c.fail_backup_refusal.result
     (table (goal.at.returns-in_err-reply-clause-memory c).After-fail_backup_refusal) c.in_default.is
     ∙ fail_backup_sight w c.self.invariant in
     on_err c.from_residual.result _
@@ -41,10 +41,11 @@ invariant_of-self-2 c =
     let w = pair_of c.self.inside in
     let b = w.ports.boxes in
     let protocol = ap (λ (o : Outcome). o.1) c.in_ok-reply.ensures.ok
-    ∙ ap (λ (fs : List Frame). (fail_backup_done b fs w.protocol).1) c.outbox-2.ensures.value in
-    let ports = c.in_ok-reply.ensures.ports ∙ ap (λ (fs : List Frame). ports_after_all w.ports fs w.protocol) c.outbox-2.ensures.value in
-    subst Holds (λ i. record w { protocol = sym protocol i; ports = sym ports i; nodes = sym c.leave_alone.ensures i })
-    (all_landed_holds w c.self.invariant Alone refl (none_pending w.protocol.window.to_cut) (left_alone w.nodes) refl refl)
+    ∙ ap (λ (fs : List Frame). (fail_backup_done b fs w.protocol.state).1) c.outbox-2.ensures.value in
+    let ports = c.in_ok-reply.ensures.ports ∙ ap (λ (fs : List Frame). ports_after_all w.ports fs w.protocol.state) c.outbox-2.ensures.value in
+    subst Holds (λ i. record w { protocol = record w.protocol { state = sym protocol i }; ports = sym ports i; nodes = sym c.leave_alone.ensures i })
+    (all_landed_holds w (c.self.invariant.accords, c.self.invariant.nodes, c.self.invariant.lines) Alone refl (none_pending w.protocol.state.window.to_cut) (left_alone w.nodes) refl refl (omega arith)
+    (let cut = c.keep.ensures.window.cut in omega arith))
 
 pub returns-clause-outcome : goal.returns-clause-outcome
 returns-clause-outcome c =
@@ -53,7 +54,7 @@ returns-clause-outcome c =
     let outbox = w.nodes.live.outbox in
     rw (← c.self.view_is)
     (c.in_ok-reply.ensures.ok
-    ∙ ap (λ (fs : List Frame). fail_backup_done b fs w.protocol) c.outbox-2.ensures.value
-    ∙ goes w.protocol (fail_backup_refusals b outbox w.protocol) (fail_backup_done b outbox w.protocol) c.fail_backup_refusal.result
+    ∙ ap (λ (fs : List Frame). fail_backup_done b fs w.protocol.state) c.outbox-2.ensures.value
+    ∙ goes w.protocol.state (fail_backup_refusals b outbox w.protocol.state) (fail_backup_done b outbox w.protocol.state) c.fail_backup_refusal.result
     (table (goal.at.returns-clause-outcome c).After-fail_backup_refusal) c.in_default.is
     ∙ fail_backup_sight w c.self.invariant)

@@ -10,7 +10,7 @@ pub invariant_of-self : goal.invariant_of-self
 invariant_of-self c =
     let w = pair_of c.self.inside in
     subst Holds (λ i. record w {
-      protocol = sym (ap (λ (o : Outcome). o.1) c.fail_primary.ensures.protocol) i;
+      protocol = record w.protocol { state = sym (ap (λ (o : Outcome). o.1) c.fail_primary.ensures.protocol) i };
       ports = sym c.fail_primary.ensures.ports i;
     })
-    (mode_holds w c.self.invariant Stopped (stop_goes w.protocol.mode (rw (← c.self.view_is) at c.requires)))
+    (mode_holds w c.self.invariant Stopped (stop_goes w.protocol.state.mode (rw (← c.self.view_is) at c.requires)))

@@ -11,10 +11,10 @@ pub invariant_of-self-2 : goal.invariant_of-self-2
 invariant_of-self-2 c =
     let w = pair_of c.self.inside in
     let goes = rw (← c.self.view_is) at c.requires in
-    let two = live_goes w.protocol.mode goes in
-    let some = some_committed w.protocol c.keep.ensures two (live_full w.protocol.mode goes) in
+    let two = live_goes w.protocol.state.mode goes in
+    let some = some_committed w.protocol.state c.keep.ensures two (live_full w.protocol.state.mode goes) in
     let rows = passed _ _ _ (sym c.go_live_refusal.ensures.refusal ∙ c.in_default.is) in
-    let last = is_below number_limit (w.protocol.generation + 1) rows.0 in
+    let last = is_below number_limit (w.protocol.state.generation + 1) rows.0 in
     let protocol = ap (λ (o : Outcome). o.1) c.in_ok-reply.ensures.ok in
-    subst Holds (λ i. record w { protocol = sym protocol i; ports = sym c.go_live.ensures.ports i; nodes = sym c.go_live-2.ensures i })
+    subst Holds (λ i. record w { protocol = record w.protocol { state = sym protocol i }; ports = sym c.go_live.ensures.ports i; nodes = sym c.go_live-2.ensures i })
     (gone_live_holds w c.self.invariant two some c.image_steps.result last)

@@ -56,7 +56,7 @@ invariant_of-self-2 c =
     let client = c.args.client in
     let range = client_range client (length w.ports.boxes) (passed _ _ _ (sym c.client_refusal.ensures ∙ c.in_default.is)).0 in
     let frame = numbered _ c.in_ok-_number._number c.in_ok-_number.ensures.number in
-    subst Holds (λ i. record w { protocol = sym c.in_ok-_number.ensures.protocol i; ports = sym c.in_ok-_number.ensures.ports i })
+    subst Holds (λ i. record w { protocol = record w.protocol { state = sym c.in_ok-_number.ensures.protocol i }; ports = sym c.in_ok-_number.ensures.ports i })
     (lose_in_holds w c.self.invariant client range.0 range.1 c.args.place c.in_ok-_number._number frame.0 frame.1)
 
 pub returns-clause-outcome : goal.returns-clause-outcome

@@ -18,7 +18,7 @@ invariant_of-self-2 c =
     let range = client_range client (length w.ports.boxes) (passed _ _ _ (sym c.client_refusal.ensures ∙ c.in_default.is)).0 in
     let box = list_of w.ports.boxes client in
     let within : place < length box = let l = c.box_len.ensures.len in let k = c.if-place-box_len.false in omega arith in
-    subst Holds (λ i. record w { protocol = sym c.in_ok-lose_out.ensures.protocol i; ports = sym c.in_ok-lose_out.ensures.ports i })
+    subst Holds (λ i. record w { protocol = record w.protocol { state = sym c.in_ok-lose_out.ensures.protocol i }; ports = sym c.in_ok-lose_out.ensures.ports i })
     (lose_out_holds w c.self.invariant client range.0 range.1 place within)
 
 pub returns-clause-outcome : goal.returns-clause-outcome

@@ -7,7 +7,7 @@ use Rattle.pair_record.specs.{Protocol.Outcome, declared.event.Reply.Reply}
 use Rattle.pair_core.specs.{Texts.IsText, internal.WorldFields.pair_of}
 use Rattle.pair_core.specs.{Replication.Replicates}
 use Rattle.pair_record.proofs.{ModeLaws.protect_goes, RecordLaws.passed}
-use Rattle.pair_core.proofs.{Protected.protect_holds, world.World.protect.Goals.In_ok-image}
+use Rattle.pair_core.proofs.{Consistent.keeps_nothing, Protected.protect_holds, world.World.protect.Goals.In_ok-image}
 use Rattle.pair_record.proofs.WindowLaws.{is_below}
 use Rattle.pair_core.proofs.ReplicationLaws.{protect_replicates}
 use Rattle.pair_core.proofs.world.World.protect.Goals as goal
@@ -15,7 +15,7 @@ use Rattle.pair_core.proofs.world.World.protect.Goals as goal
 -- the text makes the live guest, whatever guest it is applied to
 makes : (c : In_ok-image) (before : Guest)
     → HasShape (pair_of c.self.inside).nodes.image.shape (pair_of c.self.inside).nodes.live.guest
-    → IsText (pair_of c.self.inside).nodes.image.shape ((pair_of c.self.inside).protocol.generation + 1) 0 before
+    → IsText (pair_of c.self.inside).nodes.image.shape ((pair_of c.self.inside).protocol.state.generation + 1) 0 before
     (pair_of c.self.inside).nodes.live.guest c.in_ok-image.text.items
 makes c before sized =
     let x = (pair_of c.self.inside).nodes in
@@ -26,12 +26,12 @@ invariant_of-self-2 c =
     let w = pair_of c.self.inside in
     let text = c.in_ok-image.text.items in
     let goes = rw (← c.self.view_is) at c.requires in
-    let lone = c.keep.ensures.alone (protect_goes w.protocol.mode goes) in
+    let lone = keeps_nothing w c.self.invariant c.keep.ensures (protect_goes w.protocol.state.mode goes) in
     let rows = passed _ _ _ (sym c.protect_refusal.ensures.refusal ∙ c.in_default.is) in
-    let last = is_below number_limit (w.protocol.generation + 1) rows.0 in
+    let last = is_below number_limit (w.protocol.state.generation + 1) rows.0 in
     let protocol = ap (λ (o : Outcome). o.1) c.in_ok-reply.ensures.ok in
     let nodes = c.protect-2.ensures ∙ ap (λ (x : Nodes). with_protected x text) c.full_checkpoint.ensures.nodes in
-    subst Holds (λ i. record w { protocol = sym protocol i; ports = sym c.protect.ensures.ports i; nodes = sym nodes i })
+    subst Holds (λ i. record w { protocol = record w.protocol { state = sym protocol i }; ports = sym c.protect.ensures.ports i; nodes = sym nodes i })
     (protect_holds w c.self.invariant lone last text (makes (goal.at.invariant_of-self-2 c).In_ok-image))
 
 pub returns-clause-replicates : goal.returns-clause-replicates

@@ -11,7 +11,7 @@ invariant-loop-event l = record {
   served : HasServed l.initial.self.start (moment l.initial.self) (take l.event-index l.events) l.replies.items (moment l.self);
   leads : Leads l.initial.self (take l.event-index l.events) l.replies.items l.self;
   start : l.self.start ≡ l.initial.self.start;
-  grows : Begins l.initial.self.protocol.journal.history l.self.protocol.journal.history;
+  grows : Begins l.initial.self.protocol.state.journal.history l.self.protocol.state.journal.history;
   consistent : IsConsistent l.self;
   counted : vec_len l.replies ≡ l.event-index;
   room : length l.events ≤ vec_capacity l.replies;

@@ -10,10 +10,12 @@ pub returns-in-Some-clause-outcome : goal.returns-in-Some-clause-outcome
 returns-in-Some-clause-outcome c =
     let w = c.args.self.now in
     let v = c.loop-made.invariant in
-    let r = c.loop-made.self.protocol in
-    let ends = rw v.start at c.in-Some.ensures.refused in
-    inl (refusal_answered w.start w.protocol r c.loop-made.made c.loop-made.self.nodes.live.guest.steps c.in-Some.why v.answered ends
-    c.args.count c.loop-made-test.true)
+    let r = c.loop-made.self.protocol.state in
+    let ends = rw v.start at c.in-Some.ensures.refused in (
+      inl (refusal_answered w.start w.protocol.state r c.loop-made.made c.loop-made.self.nodes.live.guest.steps c.in-Some.why v.answered ends
+          c.args.count c.loop-made-test.true),
+      v.lines,
+    )
 
 pub loop-made-preserved : goal.loop-made-preserved
 loop-made-preserved c =
@@ -29,10 +31,11 @@ loop-made-preserved c =
       most = let a = made.most in let b = c.loop-made-test.true in omega arith;
       alone = ap is_alone c.step_alone.ensures.mode ∙ v.alone;
       start = c.step_alone.ensures.start ∙ v.start;
+      lines = c.step_alone.ensures.lines ∙ v.lines;
       backup = (kept.0 ∙ v.backup.0, kept.1 ∙ v.backup.1);
       answered =
           answered
-          ∙ steps_join w.start w.protocol mid.protocol c.loop-made.made mid.nodes.live.guest.steps v.answered n (c.loop-made.made + n)
+          ∙ steps_join w.start w.protocol.state mid.protocol.state c.loop-made.made mid.nodes.live.guest.steps v.answered n (c.loop-made.made + n)
           made.some refl;
       none = λ e. absurd (let some = made.some in omega arith);
     }

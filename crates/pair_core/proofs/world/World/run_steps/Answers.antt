@@ -5,7 +5,7 @@ use Rattle.pair_core.proofs.world.World.run_steps.Goals as goal
 pub returns-then-is_alone-clause-served : goal.returns-then-is_alone-clause-served
 returns-then-is_alone-clause-served c =
     serves_steps c.args.self.now c.run_alone-answer.new.self c.args.count _ c.run_alone-answer.ensures.start c.keep_consistent.ensures
-    c.keep_consistent-then-is_alone.ensures c.run_alone-answer.ensures.outcome
+    c.keep_consistent-then-is_alone.ensures c.run_alone-answer.ensures.outcome.0
 
 pub returns-clause-served : goal.returns-clause-served
 returns-clause-served c =

@@ -5,7 +5,7 @@ use Rattle.pair_history.specs.{Entries.{Frame, Ran}, Landings.landings}
 use Rattle.pair_record.specs.{Journal.{all_entries, with_history}, Modes.is_alone}
 use Rattle.pair_core.specs.{internal.Invariant.Holds, Nodes.{Nodes, after_run, with_sent_off}}
 use Rattle.pair_core.specs.{internal.WorldFields.pair_of}
-use Rattle.pair_core.proofs.{AloneRuns.{after_alone, alone_holds, alone_answered}, Consistent.alone_is}
+use Rattle.pair_core.proofs.{AloneRuns.{after_alone, alone_holds, alone_answered}, Consistent.{alone_is, keeps_nothing}}
 use Rattle.pair_core.proofs.world.World.step_alone.Goals.{After-send_off}
 use Rattle.pair_record.specs.declared.event.Reply.TheVariants as replies
 use Rattle.pair_core.proofs.world.World.step_alone.Goals as goal
@@ -14,7 +14,7 @@ by_count : (n used : ℕ) → used + 1025 < number_limit → (0 < n → used + (
 by_count zero used room some = omega arith
 by_count (suc n) used room some = some (omega arith)
 
-lone_is : (c : After-send_off) → is_alone (pair_of c.self.inside).protocol.mode ≡ true
+lone_is : (c : After-send_off) → is_alone (pair_of c.self.inside).protocol.state.mode ≡ true
 lone_is c = rw (← c.self.view_is) at c.requires.alone
 
 -- what was sent is what these steps send
@@ -24,11 +24,11 @@ sent_is c =
     let fs = sent_in c.run_to_frame-steps.result w.nodes.live.guest in
     c.outbox.ensures.value
     ∙ ap (λ (x : Nodes). x.live.outbox) c.run_to_frame-steps.ensures.made
-    ∙ ap (λ (t : List Frame). t ++ fs) (alone_is w c.self.invariant (c.keep.ensures.alone (lone_is c))).outbox
+    ∙ ap (λ (t : List Frame). t ++ fs) (alone_is w c.self.invariant (keeps_nothing w c.self.invariant c.keep.ensures (lone_is c))).outbox
 
 protocol_is : (c : After-send_off) → c.run_alone.new.self.protocol
     ≡ (after_alone (pair_of c.self.inside) c.run_to_frame-steps.result
-    (sent_in c.run_to_frame-steps.result (pair_of c.self.inside).nodes.live.guest)).protocol
+    (sent_in c.run_to_frame-steps.result (pair_of c.self.inside).nodes.live.guest)).protocol.state
 protocol_is c =
     let same = c.reserve_lone_steps.ensures.same in
     c.run_alone.ensures.protocol
@@ -52,8 +52,8 @@ nodes_are c = c.send_off.ensures ∙ ap with_sent_off c.run_to_frame-steps.ensur
 pub invariant_of-self-2 : goal.invariant_of-self-2
 invariant_of-self-2 c =
     let w = pair_of c.self.inside in
-    subst Holds (λ i. record w { protocol = sym (protocol_is c) i; ports = sym (ports_are c) i; nodes = sym (nodes_are c) i })
-    (alone_holds w c.self.invariant (c.keep.ensures.alone (lone_is c)) (lone_is c) c.run_to_frame-steps.result)
+    subst Holds (λ i. record w { protocol = record w.protocol { state = sym (protocol_is c) i }; ports = sym (ports_are c) i; nodes = sym (nodes_are c) i })
+    (alone_holds w c.self.invariant (keeps_nothing w c.self.invariant c.keep.ensures (lone_is c)) (lone_is c) c.run_to_frame-steps.result)
 
 pub returns-clause-answered : goal.returns-clause-answered
 returns-clause-answered c =
@@ -62,6 +62,7 @@ returns-clause-answered c =
     let most = c.run_to_frame-steps.ensures.most in
     let room = rw (← c.self.view_is) at c.requires.room in
     let left = c.alone_steps_left-most.ensures in
-    let fits = by_count c.alone_steps_left-most.result (length (all_entries w.protocol.journal)) room left.fits in
+    let fits = by_count c.alone_steps_left-most.result (length (all_entries w.protocol.state.journal)) room left.fits in
     rw (← c.self.view_is) ((λ i. (replies.Steps (nodes_are c i).live.guest.steps, protocol_is c i))
-    ∙ alone_answered w c.self.invariant (c.keep.ensures.alone (lone_is c)) (lone_is c) n c.run_to_frame-steps.ensures.quiet (omega arith))
+    ∙ alone_answered w c.self.invariant (keeps_nothing w c.self.invariant c.keep.ensures (lone_is c)) (lone_is c) n
+    c.run_to_frame-steps.ensures.quiet (omega arith))

@@ -9,7 +9,7 @@ use Rattle.pair_core.proofs.world.World.step_refusal.Goals as goal
 pub returns-clause-refused : goal.returns-clause-refused
 returns-clause-refused c =
     let w = pair_of c.self.inside in
-    rw (← c.self.view_is) (all_stop w.protocol (step_refusals w.nodes.live.outbox w.protocol) (step_done w.ports.boxes (sent
-    w.nodes.live.guest) (next w.nodes.live.guest).steps w.protocol) (step_outcome w.start w.protocol) c.step_refusal.result
-    (c.step_refusal.ensures ∙ ap (λ (fs : List Frame). first_refusal (step_refusals fs w.protocol)) c.outbox.ensures.value) (step_sight w
+    rw (← c.self.view_is) (all_stop w.protocol.state (step_refusals w.nodes.live.outbox w.protocol.state) (step_done w.ports.boxes (sent
+    w.nodes.live.guest) (next w.nodes.live.guest).steps w.protocol.state) (step_outcome w.start w.protocol.state) c.step_refusal.result
+    (c.step_refusal.ensures ∙ ap (λ (fs : List Frame). first_refusal (step_refusals fs w.protocol.state)) c.outbox.ensures.value) (step_sight w
     c.self.invariant))

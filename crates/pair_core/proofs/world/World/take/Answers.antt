@@ -10,7 +10,7 @@ invariant_of-self c =
     let w = pair_of c.self.inside in
     let client = c.args.client in
     let range = client_range client (length w.ports.boxes) (passed _ _ _ (sym c.take_refusal.ensures ∙ c.in_default.is)).0 in
-    after_call w c.self.invariant c.take.new.self c.take.result (take_done w.ports.boxes w.protocol client)
+    after_call w c.self.invariant c.take.new.self c.take.result (take_done w.ports.boxes w.protocol.state client)
     (ports_after_take w.ports client)
     c.take.ensures.ok c.take.ensures.ports c.take.ensures.err
     (take_holds w c.self.invariant client range.0 range.1)

@@ -1,9 +1,9 @@
-use Rattle.std.proofs.{Common.{rules, ◌≡◌, ◌∙◌, ◌++◌, length, sym, ap, subst, arith}, lemmas.List.length-append}
+use Rattle.std.proofs.{Common.{rules, ◌≡◌, ◌∙◌, [], ◌++◌, length, sym, ap, subst, arith}, lemmas.List.length-append}
 use Rattle.output_gate.specs.Epochs.{epoch, frames_of, frames_to}
 use Rattle.pair_history.specs.Landings.{landings}
 use Rattle.pair_record.specs.{Journal.{all_committed, with_history}, internal.Lengths.receivers, Protocol.all_held, Record.IsRecord}
 use Rattle.pair_record.specs.internal.RecordFields.{record_state}
-use Rattle.pair_record.proofs.{AloneLaws.{all_are, frames_of-push, fail_backup_record}, LengthLaws.length-receivers}
+use Rattle.pair_record.proofs.{AloneLaws.{all_are, frames_of-push, failure_record}, LengthLaws.length-receivers}
 use Rattle.pair_record.proofs.RecordLaws.{passed, has_room_for, rising}
 use Rattle.pair_record.proofs.record.PairRecord.fail_backup.Goals.{After-held, After-none_pending-self-inside}
 use Rattle.failover.specs.declared.mode.Mode.TheVariants as modes
@@ -50,7 +50,7 @@ invariant_of-self-2 c =
       window = sym c.none_pending-self-inside.ensures i;
       pending = sym c.open_all-landed.ensures.gate i;
     })
-    (fail_backup_record r c.self.invariant s.ports.boxes c.args.outbox.now)
+    (failure_record r c.self.invariant r.journal.running [] s.ports.boxes c.args.outbox.now)
 
 pub returns-clause-ok : goal.returns-clause-ok
 returns-clause-ok c = search (arith, rules, After-held, After-none_pending-self-inside, held_is, journal_is, opened_is)

@@ -7,5 +7,5 @@ pub invariant_of-self-2 : goal.invariant_of-self-2
 invariant_of-self-2 c =
     let r = (record_state c.self.inside).protocol in
     let alone = rw (← c.self.view_is) at c.requires.alone in
-    let none : r.pending ≡ [] = (c.self.invariant.alone alone).2 in
+    let none : r.pending ≡ [] = (c.self.invariant.alone alone).1 in
     same_record (protect_done r).1 _ (search (arith, rules, none)) (protect_record r c.self.invariant alone)

@@ -1,0 +1,6 @@
+use Rattle.std.proofs.Common.{rules, arith}
+use Rattle.pair_core.proofs.LineLaws.{packet-at}
+use Rattle.pair_core.proofs.lines.Lines.packet.Goals as goal
+
+pub returns : goal.returns
+returns c = search (arith, rules, packet-at)

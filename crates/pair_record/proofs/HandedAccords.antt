@@ -1,0 +1,105 @@
+-- Epochs of a guest that runs elsewhere: it took in the first of the frames that were handed out, and made steps behind them.
+use Rattle.std.proofs.Common.{rules, arith, ◌≡◌, ℕ, List, [], ◌∷◌, ◌++◌, length, replicate, refl, sym, ap, ◌∙◌, subst, append_assoc}
+use Rattle.std.proofs.lemmas.List.{map-append}
+use Rattle.frame_ports.specs.{Addresses.targets_of, Lands.lands, Ports.PortsState}
+use Rattle.output_gate.specs.Epochs.{frames_of}
+use Rattle.pair_history.specs.{Entries.{Frame, Entry, Ran}, HistoryState.{HistoryState, Waiting, sent_along}}
+use Rattle.pair_history.specs.internal.Moves.{Move, Steps, entry_of, entries_of, guest_along, frames_along, left, AllCan}
+use Rattle.pair_history.proofs.Moves.{moved, AllCan-append, AllCan-front, AllCan-back, left-append, sent_along-moves}
+use Rattle.pair_record.specs.internal.Accords.{Accords}
+use Rattle.pair_record.specs.{EpochActs.{up_to, behind, guest_epoch, epoch_sent, seal_epoch_done, enter_epoch_done, fail_within_done}}
+use Rattle.pair_record.specs.Protocol.{Record, shown_at, landed_after}
+use Rattle.pair_record.specs.{Record.{IsRecord, IsLone, ports_after_all}, Window.none_pending}
+use Rattle.pair_record.proofs.AccordLaws.{sealed_now, left_now, sealed_state}
+use Rattle.pair_record.proofs.EpochAccords.{seal_accords, landed_accords}
+use Rattle.pair_record.proofs.EpochLaws.{Parts, parts, entries-steps, can-steps, left-steps}
+use Rattle.pair_record.proofs.WindowLaws.{within}
+use Rattle.failover.specs.declared.mode.Mode.TheVariants as modes
+
+module _ (start : HistoryState) (r : Record) (p : PortsState) (h : Accords start r p) (arrivals steps : ℕ) where
+  abbrev s : HistoryState
+  s = shown_at start r
+
+  abbrev sealed : List Move
+  sealed = sealed_now start r p h
+
+  abbrev part : Parts arrivals h.journal.running_moves
+  part = parts arrivals h.journal.running_moves
+
+  abbrev epoch : List Move
+  epoch = part.came ++ replicate steps Steps
+
+  pub epoch_are : guest_epoch arrivals steps r.journal.running ≡ entries_of epoch
+  epoch_are =
+      ap (λ (es : List Entry). guest_epoch arrivals steps es) h.journal.running_are
+      ∙ (λ i. part.first i ++ entries-steps steps i) ∙ sym (map-append entry_of part.came (replicate steps Steps))
+
+  pub held_are : behind arrivals r.journal.running ≡ entries_of part.held
+  held_are = ap (behind arrivals) h.journal.running_are ∙ part.others
+
+  -- what waits behind the arrivals waits behind the steps too
+  here : left s.waiting (sealed ++ epoch) ≡ left s.waiting (sealed ++ part.came)
+  here =
+      left-append s.waiting sealed epoch ∙ left-append (left s.waiting sealed) part.came (replicate steps Steps)
+      ∙ left-steps steps (left (left s.waiting sealed) part.came) ∙ sym (left-append s.waiting sealed part.came)
+
+  came_first : sealed ++ h.journal.running_moves ≡ (sealed ++ part.came) ++ part.held
+  came_first = ap (λ t. sealed ++ t) part.whole ∙ sym (append_assoc sealed part.came part.held)
+
+  grouped : (sealed ++ epoch) ++ part.held ≡ sealed ++ (epoch ++ part.held)
+  grouped = append_assoc sealed epoch part.held
+
+  pub same : left s.waiting (sealed ++ (epoch ++ part.held)) ≡ left_now start r p h
+  same =
+      ap (left s.waiting) (sym grouped) ∙ left-append s.waiting (sealed ++ epoch) part.held
+      ∙ ap (λ ws. left ws part.held) here ∙ sym (left-append s.waiting (sealed ++ part.came) part.held)
+      ∙ ap (left s.waiting) (sym came_first)
+
+  pub can : AllCan s.waiting (sealed ++ (epoch ++ part.held))
+  can =
+      let ran = replicate steps Steps in
+      let all : AllCan s.waiting ((sealed ++ part.came) ++ part.held) = subst (AllCan s.waiting) came_first h.journal.can in
+      let front = AllCan-front s.waiting (sealed ++ part.came) part.held all in
+      let back = AllCan-back s.waiting (sealed ++ part.came) part.held all in
+      let ends = AllCan-append s.waiting (sealed ++ part.came) ran front (can-steps steps (left s.waiting (sealed ++ part.came))) in
+      subst (AllCan s.waiting) grouped
+      (AllCan-append s.waiting (sealed ++ epoch) part.held (subst (AllCan s.waiting) (append_assoc sealed part.came ran) ends)
+      (subst (λ ws. AllCan ws part.held) (sym here) back))
+
+  module _ (frames : List Frame) (sent : frames ≡ epoch_sent start r arrivals steps) where
+    pub along : frames ≡ frames_along (guest_along s.guest sealed) epoch
+    along =
+        let first : AllCan (left s.waiting sealed) epoch =
+        AllCan-front (left s.waiting sealed) epoch part.held (AllCan-back s.waiting sealed (epoch ++ part.held) can) in
+        sent ∙ (λ i. sent_along (sealed_state start r p h i) (epoch_are i)) ∙ sent_along-moves (moved s sealed) epoch first
+
+    -- the epoch is sealed
+    abbrev pub seal_epoch_accords : IsRecord r → Accords start (seal_epoch_done arrivals steps frames r).1 p
+    seal_epoch_accords k =
+        seal_accords start r p h epoch part.held (guest_epoch arrivals steps r.journal.running) (behind arrivals r.journal.running)
+        epoch_are held_are can same frames along (within r.window r.pending k.window)
+
+    -- it enters the history, and what was sent along it lands
+    pub enter_epoch_accords : IsLone r → Accords start (enter_epoch_done arrivals steps p.boxes frames r)
+        (record p { boxes = lands p.boxes (targets_of (length p.boxes) frames) })
+    enter_epoch_accords k =
+        let n = length p.boxes in
+        let es = guest_epoch arrivals steps r.journal.running in
+        let rest = behind arrivals r.journal.running in
+        let landed = landed_accords start r p h epoch part.held es rest epoch_are held_are can same frames along r.mode r.window in
+        subst (λ (x : Record × PortsState). Accords start x.0 x.1)
+        (λ i. (
+          record r {
+            journal = landed_after es rest p.boxes (targets_of n (frames_of (k.1 i) ++ frames)) r.journal;
+            pending = sym k.1 i;
+          },
+          record p { boxes = lands p.boxes (targets_of n (frames_of (k.1 i) ++ frames)) },
+        ))
+        landed
+
+-- THE BACKUP FAILS while the guest is in an epoch: what was handed out runs on
+abbrev pub fail_within_accords : (start : HistoryState) (r : Record) (p : PortsState) → Accords start r p
+    → Accords start (fail_within_done p.boxes r).1 (ports_after_all p [] r)
+fail_within_accords start r p h =
+    landed_accords start r p h [] h.journal.running_moves [] r.journal.running refl h.journal.running_are h.journal.can refl [] refl
+    modes.Alone (none_pending r.window.to_cut)

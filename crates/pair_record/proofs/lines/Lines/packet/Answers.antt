@@ -1,6 +1,0 @@
-use Rattle.std.proofs.Common.{rules, arith}
-use Rattle.pair_record.proofs.LineLaws.{packet-at}
-use Rattle.pair_record.proofs.lines.Lines.packet.Goals as goal
-
-pub returns : goal.returns
-returns c = search (arith, rules, packet-at)

@@ -1,6 +1,0 @@
-use Rattle.std.proofs.Common.{rules, arith}
-use Rattle.pair_record.proofs.LineLaws.{packets_from-more}
-use Rattle.pair_record.proofs.lines.send_all.Goals as goal
-
-pub loop-number-preserved : goal.loop-number-preserved
-loop-number-preserved c = search (arith, rules, packets_from-more)

@@ -1,0 +1,21 @@
+use Rattle.std.proofs.Common.{rules, arith}
+use Rattle.pair_record.specs.{EpochActs.{seal_epoch_done, guest_epoch, behind}, internal.RecordFields.record_state}
+use Rattle.pair_record.proofs.RecordLaws.{has_room_for, rising, sealed_record, same_record}
+use Rattle.pair_record.proofs.record.PairRecord.seal_epoch.Goals as goal
+
+pub seal_epoch-requires-clause-fits : goal.seal_epoch-requires-clause-fits
+seal_epoch-requires-clause-fits c = search (arith, rules, has_room_for)
+
+pub hold-requires-clause-above : goal.hold-requires-clause-above
+hold-requires-clause-above c = rising (record_state c.self.inside).protocol c.self.invariant
+
+pub invariant_of-self-2 : goal.invariant_of-self-2
+invariant_of-self-2 c =
+    let r = (record_state c.self.inside).protocol in
+    let n = c.args.arrivals in
+    let steps = c.args.steps in
+    let fs = c.args.frames.now in
+    let free = rw (← c.self.view_is) at c.requires.free in
+    let two = rw (← c.self.view_is) at c.requires.pair in
+    same_record (seal_epoch_done n steps fs r).1 _ (search (arith, rules))
+    (sealed_record r c.self.invariant (guest_epoch n steps r.journal.running) (behind n r.journal.running) fs two free)

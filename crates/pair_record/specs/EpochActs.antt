@@ -1,0 +1,66 @@
+-- What happens to epochs of a guest that runs elsewhere: the epoch that runs is then the arrivals of the frames that were handed out to it,
+-- and so many of them, the first first, and the steps after them make an epoch. `X_done` is what a call leaves, with its reply if it has
+-- one; the events of a pair whose guest is at hand stand on the same spellings.
+use Rattle.std.specs.Prelude.{ℕ, zero, suc, ◌+◌, ◌++◌, Bool, true, false, if◌then◌else◌, List, [], ◌∷◌, length, replicate}
+use Rattle.frame_ports.specs.Addresses.{targets_of}
+use Rattle.pair_history.specs.Entries.{Frame, Entry, Ran, Arrive}
+use Rattle.pair_history.specs.HistoryState.{HistoryState, at, sent_along}
+use Rattle.pair_record.specs.declared.event.Refusal.TheVariants.{Exhausted}
+use Rattle.pair_record.specs.ClientActs.{arrival_done}
+use Rattle.pair_record.specs.FailureActs.{landed_after, failure_done}
+use Rattle.pair_record.specs.Journal.{joined}
+use Rattle.pair_record.specs.GuestActs.{seal_done}
+use Rattle.pair_record.specs.Tables.{Record, Outcome, Row, exhausts}
+
+-- THE EPOCH: what runs up to so many arrivals, and what comes after them
+
+abbrev pub is_arrival : Entry → Bool
+is_arrival (Arrive n) = true
+is_arrival other = false
+
+-- how many arrivals are still to come once this entry has
+abbrev pub to_come : ℕ → Entry → ℕ
+to_come n e = if is_arrival e then n else suc n
+
+abbrev pub up_to : ℕ → List Entry → List Entry
+up_to zero es = []
+up_to (suc n) [] = []
+up_to (suc n) (e ∷ es) = e ∷ up_to (to_come n e) es
+
+abbrev pub behind : ℕ → List Entry → List Entry
+behind zero es = es
+behind (suc n) [] = []
+behind (suc n) (e ∷ es) = behind (to_come n e) es
+
+-- so many arrivals, and so many steps after them
+abbrev pub guest_epoch : ℕ → ℕ → List Entry → List Entry
+guest_epoch arrivals steps es = up_to arrivals es ++ replicate steps Ran
+
+-- the frames that the guest sent along it, behind what is sealed
+abbrev pub epoch_sent : HistoryState → Record → ℕ → ℕ → List Frame
+epoch_sent start r arrivals steps =
+    sent_along (at start (r.journal.history ++ joined r.journal.sealed)) (guest_epoch arrivals steps r.journal.running)
+
+-- A frame is handed out, whatever the mode: from then on it runs.
+abbrev pub hand_out_done : Record → ℕ → Outcome
+hand_out_done r n = arrival_done false r n
+
+-- The guest's epoch is sealed, and the other frames that were handed out run on.
+abbrev pub seal_epoch_done : ℕ → ℕ → List Frame → Record → Outcome
+seal_epoch_done arrivals steps frames r =
+    seal_done (guest_epoch arrivals steps r.journal.running) (behind arrivals r.journal.running) frames r
+
+-- what is refused where it goes to the history, and these frames, which the guest sent along it, land
+abbrev pub enter_epoch_refusals : ℕ → List (List Frame) → List Frame → Record → List Row
+enter_epoch_refusals steps boxes frames r = (exhausts r (steps + length (targets_of (length boxes) frames)), Exhausted) ∷ []
+
+-- Where nothing is sealed or pending, it goes to the history, and these frames, which the guest sent along it, land after it.
+abbrev pub enter_epoch_done : ℕ → ℕ → List (List Frame) → List Frame → Record → Record
+enter_epoch_done arrivals steps boxes frames r = record r {
+  journal = landed_after (guest_epoch arrivals steps r.journal.running) (behind arrivals r.journal.running) boxes
+      (targets_of (length boxes) frames) r.journal;
+}
+
+-- The backup fails while the guest is in an epoch, which goes on: what was handed out runs on.
+abbrev pub fail_within_done : List (List Frame) → Record → Outcome
+fail_within_done boxes r = failure_done [] r.journal.running boxes [] r

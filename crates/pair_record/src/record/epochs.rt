@@ -1,0 +1,137 @@
+//! What happens at the record to epochs of a guest that runs elsewhere: frames are handed out to it, and its epochs come back.
+ghost use Rattle.std.specs.Prelude.{◌≡◌, ◌+◌, ◌<◌, ◌≤◌, length, All, IfOk, OnOk, OnErr, None, Some, true, false, slice_get};
+ghost use Rattle.frame_ports.specs.Addresses.{IsFrame, targets_of};
+ghost use Rattle.frame_ports.specs.Lands.{lands};
+ghost use Rattle.frame_ports.specs.Ports.{IsClient, inbox_of};
+ghost use Rattle.pair_history.specs.Failures.{arrived_numbers};
+ghost use Rattle.pair_record.specs.EpochActs.{hand_out_done, seal_epoch_done, enter_epoch_refusals, enter_epoch_done};
+ghost use Rattle.pair_record.specs.Modes.{is_alone as alone, is_filling as filling};
+ghost use Rattle.pair_record.specs.Protocol.{exhausts, first_refusal, admit_refusals, cut_refusals, protect_refusals};
+ghost use Rattle.pair_record.specs.Protocol.{begin_done, full_done};
+ghost use Rattle.pair_record.specs.Record.{IsAsBefore, IsLone, ports_after_admit};
+
+use super::PairRecord;
+use crate::event::{Refusal, Reply};
+use crate::landings::count_landings;
+use crate::limits::FULL_CHECKPOINT;
+use crate::window::Window;
+use failover::Mode;
+use memory_wanted::MemoryWanted;
+use pair_history::Frame;
+
+impl PairRecord {
+    /// The first frame of this client's inbox leaves it for the guest, with its number, whatever the mode: from then on it runs.
+    pub fn hand_out(&mut self, client: u64) -> Result<(u64, Frame), MemoryWanted>
+        requires free { first_refusal (admit_refusals self.old.protocol) ≡ None }
+        requires client { IsClient self.old.ports client }
+        requires some { 0 < length (inbox_of self.old.ports client) }
+        ensures first { IfOk result (λ x. slice_get (inbox_of self.old.ports client) 0 ≡ Some x) }
+        ensures frame { IfOk result (λ x. IsFrame x.1) }
+        ensures protocol { IfOk result (λ x. self.new.protocol ≡ (hand_out_done self.old.protocol x.0).1) }
+        ensures ports { OnOk result (self.new.ports ≡ ports_after_admit self.old.ports client) }
+        ensures err { OnErr result (IsAsBefore self.old self.new) }
+    {
+        self.arrive(client, false)
+    }
+
+    /// An epoch of the guest, so many arrivals of the frames that were handed out, the first first, and so many steps after them, along
+    /// which it sent these frames, is sealed, and they go to the gate. The other frames that were handed out run on.
+    pub fn seal_epoch(
+        &mut self,
+        arrivals: usize,
+        steps: u64,
+        frames: &[Frame],
+    ) -> Result<Reply, MemoryWanted>
+        requires pair { alone self.old.protocol.mode ≡ false }
+        requires free { first_refusal (cut_refusals self.old.protocol) ≡ None }
+        requires there { arrivals ≤ length (arrived_numbers self.old.protocol.journal.running) }
+        requires fits { exhausts self.old.protocol steps ≡ false }
+        requires few { length frames.now ≤ 256 }
+        requires frames { All IsFrame frames.now }
+        ensures ok { IfOk result (λ reply. (reply, self.new.protocol) ≡ seal_epoch_done arrivals steps frames.now self.old.protocol) }
+        ensures ports { self.new.ports ≡ self.old.ports }
+        ensures err { OnErr result (IsAsBefore self.old self.new) }
+    {
+        self.journal.seal_epoch(arrivals, steps)?;
+        let number = self.window.to_cut;
+        self.gate.hold(number, frames);
+        self.window.cut();
+        Ok(Reply::Cut {
+            generation: self.generation,
+            number,
+        })
+    }
+
+    /// Why an epoch of the guest with so many steps, along which it sent these frames, can't enter the history.
+    pub fn enter_epoch_refusal(&self, steps: u64, frames: &[Frame]) -> Option<Refusal>
+        requires few { length frames.now ≤ 256 }
+        ensures { result ≡ first_refusal (enter_epoch_refusals steps self.now.ports.boxes frames.now self.now.protocol) }
+    {
+        if self.is_exhausted_by(steps.saturating_add(count_landings(&self.ports, frames))) {
+            Some(Refusal::Exhausted)
+        } else {
+            None
+        }
+    }
+
+    /// Where nothing is sealed or pending: an epoch of the guest, so many arrivals of the frames that were handed out, the first first, and
+    /// so many steps after them, along which it sent these frames, goes to the history, and then they land. The other frames that were
+    /// handed out run on.
+    pub fn enter_epoch(
+        &mut self,
+        arrivals: usize,
+        steps: u64,
+        frames: &[Frame],
+    ) -> Result<(), MemoryWanted>
+        requires lone { IsLone self.old.protocol }
+        requires there { arrivals ≤ length (arrived_numbers self.old.protocol.journal.running) }
+        requires free { first_refusal (enter_epoch_refusals steps self.old.ports.boxes frames.now self.old.protocol) ≡ None }
+        requires few { length frames.now ≤ 256 }
+        requires frames { All IsFrame frames.now }
+        ensures protocol { OnOk result (self.new.protocol
+            ≡ enter_epoch_done arrivals steps self.old.ports.boxes frames.now self.old.protocol) }
+        ensures ports { OnOk result (self.new.ports ≡ record self.old.ports {
+          boxes = lands self.old.ports.boxes (targets_of (length self.old.ports.boxes) frames.now);
+        }) }
+        ensures err { OnErr result (IsAsBefore self.old self.new) }
+    {
+        let count = count_landings(&self.ports, frames);
+        self.journal.enter_epoch(arrivals, steps, count as usize)?;
+        self.journal.land(&self.ports, frames);
+        self.gate.hold(self.window.to_cut, frames);
+        let _landed = self.gate.open_all(&mut self.ports);
+        Ok(())
+    }
+
+    /// The node that is alone gets a new backup, in the next generation, whose full checkpoint has still to be sealed: what
+    /// [`PairRecord::protect`] does first.
+    pub fn begin_protect(&mut self) -> Reply
+        requires free { first_refusal (protect_refusals self.old.protocol) ≡ None }
+        requires alone { alone self.old.protocol.mode ≡ true }
+        ensures protocol { (result, self.new.protocol) ≡ begin_done self.old.protocol }
+        ensures ports { self.new.ports ≡ self.old.ports }
+    {
+        self.window = Window::none_pending(FULL_CHECKPOINT);
+        self.mode = Mode::Filling;
+        self.generation += 1;
+        Reply::Protecting(self.generation)
+    }
+
+    /// The full checkpoint, which no frame waits for, is sealed and pending: what [`PairRecord::protect`] does then.
+    pub fn seal_full(&mut self) -> Result<Reply, MemoryWanted>
+        requires filling { filling self.old.protocol.mode ≡ true }
+        requires first { self.old.protocol.window.to_cut ≡ 0 }
+        ensures ok { IfOk result (λ reply. (reply, self.new.protocol) ≡ full_done self.old.protocol) }
+        ensures ports { self.new.ports ≡ self.old.ports }
+        ensures err { OnErr result (IsAsBefore self.old self.new) }
+    {
+        self.journal.seal_empty()?;
+        let number = self.window.to_cut;
+        self.gate.hold(number, &[]);
+        self.window.cut();
+        Ok(Reply::Cut {
+            generation: self.generation,
+            number,
+        })
+    }
+}
