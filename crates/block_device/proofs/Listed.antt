@@ -1,44 +1,10 @@
 -- However many requests are served, only sectors of the list are changed, and none is taken off it.
-use Rattle.std.proofs.Common.{
-  ◌≡◌,
-  ℕ,
-  ◌+◌,
-  ◌/◌,
-  ◌<◌,
-  ◌≤◌,
-  Bool,
-  true,
-  false,
-  ◌&&◌,
-  ◌||◌,
-  ◌==◌,
-  ◌⊎◌,
-  inl,
-  inr,
-  List,
-  [],
-  length,
-  refl,
-  sym,
-  ap,
-  ◌∙◌,
-  subst,
-  if◌then◌else◌,
-  nat_le,
-  nat_lt,
-}
-use Rattle.std.proofs.lemmas.Bool.{cases_lt, le-leb, lt-ltb}
-use Rattle.virtio_mmio.specs.declared.kinds.DeviceKind.TheVariants.{Block}
-use Rattle.virtio_mmio.specs.declared.states.DeviceState.{DeviceState}
-use Rattle.virtio_mmio.specs.ServingLoop.{standing}
-use Rattle.block_device.specs.Dirty.{is_in}
-use Rattle.block_device.specs.Contents.{Contents, capacity, in_capacity, contents_with}
-use Rattle.block_device.specs.Disk.{disk_served}
-use Rattle.block_device.specs.Listed.{IsListed}
+use Rattle.std.proofs.Common.{◌≡◌, ℕ, ◌+◌, ◌/◌, ◌<◌, ◌≤◌, Bool, true, false, ◌&&◌, ◌||◌, ◌==◌, ◌⊎◌, inl, inr, List, [], length, refl, sym}
+use Rattle.std.proofs.{Common.{ap, ◌∙◌, subst, if◌then◌else◌, nat_le, nat_lt}, lemmas.Bool.{cases_lt, le-leb, lt-ltb}}
+use Rattle.virtio_mmio.specs.{declared.{kinds.DeviceKind.TheVariants.Block, states.DeviceState.DeviceState}, ServingLoop.standing}
+use Rattle.block_device.specs.{Dirty.is_in, Contents.{Contents, capacity, in_capacity, contents_with}, Disk.disk_served, Listed.IsListed}
 use Rattle.block_device.specs.Request.{Outcome, Request, outcome, read_outcome, write_outcome}
-use Rattle.block_device.proofs.Members.{in_written}
-use Rattle.block_device.proofs.ReadBack.{other_sector}
-use Rattle.block_device.proofs.Serving.{by_test, read_size, served_keeps}
+use Rattle.block_device.proofs.{Members.in_written, ReadBack.other_sector, Serving.{by_test, read_size, served_keeps}}
 
 neither : (a b : Bool) → (a || b) ≡ false → (a ≡ false) × (b ≡ false)
 neither false false h = (refl, refl)

@@ -1,35 +1,6 @@
 -- Which numbers stand in a list of written sectors.
-use Rattle.std.proofs.Common.{
-  ◌≡◌,
-  ℕ,
-  zero,
-  suc,
-  ◌+◌,
-  Bool,
-  true,
-  false,
-  ◌&&◌,
-  ◌||◌,
-  ◌==◌,
-  ◌⊎◌,
-  inl,
-  inr,
-  List,
-  [],
-  ◌∷◌,
-  ◌++◌,
-  refl,
-  sym,
-  ap,
-  ◌∙◌,
-  nat_le,
-  nat_lt,
-  filter,
-  cond,
-  arith,
-}
-use Rattle.std.specs.List.{range_with_len}
-use Rattle.std.proofs.lemmas.Bool.Decides.{nat_tests}
+use Rattle.std.proofs.Common.{◌≡◌, ℕ, zero, suc, ◌+◌, Bool, true, false, ◌&&◌, ◌||◌, ◌==◌, ◌⊎◌, inl, inr, List, [], ◌∷◌, ◌++◌, refl, sym}
+use Rattle.std.{proofs.{Common.{ap, ◌∙◌, nat_le, nat_lt, filter, cond, arith}, lemmas.Bool.Decides.nat_tests}, specs.List.range_with_len}
 use Rattle.block_device.specs.Dirty.{with_written, is_in}
 
 or_assoc : (a b c : Bool) → (a || (b || c)) ≡ ((a || b) || c)

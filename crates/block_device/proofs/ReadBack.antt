@@ -1,49 +1,11 @@
 -- What stands where bytes were written, and what stands elsewhere.
-use Rattle.std.proofs.Common.{
-  ◌≡◌,
-  ℕ,
-  ◌+◌,
-  ◌-◌,
-  ◌*◌,
-  ◌/◌,
-  ◌%◌,
-  ◌≤◌,
-  ◌<◌,
-  Bool,
-  true,
-  false,
-  ◌&&◌,
-  ◌==◌,
-  ◌++◌,
-  ◌⊎◌,
-  inl,
-  inr,
-  List,
-  [],
-  refl,
-  sym,
-  ap,
-  ◌∙◌,
-  if◌then◌else◌,
-  length,
-  take,
-  drop,
-  nat_le,
-  arith,
-  append_assoc,
-  length-append,
-  length-take-le,
-  length-drop,
-  slice_range,
-}
-use Rattle.std.proofs.lemmas.Bool.Decides.{nat_tests}
-use Rattle.std.proofs.lemmas.List.{take_at, drop_at, drop-append-le, take-append-le, drop-drop, take-take, drop-take}
-use Rattle.std.proofs.Math.Seq.{drop-append-add}
-use Rattle.virtqueue.specs.Memory.{written}
-use Rattle.block_device.specs.Contents.{Contents, sector_at, in_capacity, contents_with, bytes_at}
-use Rattle.block_device.specs.Request.{Outcome, Request, outcome, read_outcome, write_outcome}
-use Rattle.virtqueue.proofs.Lengths.{length_written}
-use Rattle.block_device.proofs.Serving.{in_capacity_tells, whole_sectors, read_size, by_test}
+use Rattle.std.proofs.Common.{◌≡◌, ℕ, ◌+◌, ◌-◌, ◌*◌, ◌/◌, ◌%◌, ◌≤◌, ◌<◌, Bool, true, false, ◌&&◌, ◌==◌, ◌++◌, ◌⊎◌, inl, inr, List, [], refl}
+use Rattle.std.proofs.Common.{sym, ap, ◌∙◌, if◌then◌else◌, length, take, drop, nat_le, arith, append_assoc, length-append, length-take-le}
+use Rattle.std.proofs.{Common.{length-drop, slice_range}, lemmas.{Bool.Decides.nat_tests, List.{take_at, drop_at, drop-append-le}}}
+use Rattle.std.proofs.{lemmas.List.{take-append-le, drop-drop, take-take, drop-take}, Math.Seq.drop-append-add}
+use Rattle.virtqueue.{specs.Memory.written, proofs.Lengths.length_written}
+use Rattle.block_device.specs.{Contents.{Contents, sector_at, in_capacity, contents_with, bytes_at}, Request.{Outcome, Request, outcome}}
+use Rattle.block_device.{specs.Request.{read_outcome, write_outcome}, proofs.Serving.{in_capacity_tells, whole_sectors, read_size, by_test}}
 
 -- the written bytes stand where they were written
 read_written : (bytes new : List ℕ) (place : ℕ) → place + length new ≤ length bytes →

@@ -1,49 +1,12 @@
 -- What a request does, by the lengths of its chain.
-use Rattle.std.proofs.Common.{
-  ◌≡◌,
-  ℕ,
-  ◌+◌,
-  ◌-◌,
-  ◌<◌,
-  ◌≤◌,
-  true,
-  false,
-  ◌||◌,
-  ◌==◌,
-  List,
-  [],
-  ◌∷◌,
-  refl,
-  ap,
-  ◌∙◌,
-  if◌then◌else◌,
-  length,
-  drop,
-  nat_lt,
-  arith,
-  length-drop,
-  ◌⊎◌,
-}
-use Rattle.std.specs.Prelude.{Ok, Err}
-use Rattle.std.proofs.lemmas.Bool.Decides.{nat_tests}
-use Rattle.virtqueue.specs.declared.broken.Broken.TheVariants.{Short}
-use Rattle.virtqueue.specs.declared.chains.Descriptor.{Descriptor}
-use Rattle.virtqueue.specs.Chains.{Spelled, BuffersInside}
+use Rattle.std.proofs.Common.{◌≡◌, ℕ, ◌+◌, ◌-◌, ◌<◌, ◌≤◌, true, false, ◌||◌, ◌==◌, List, [], ◌∷◌, refl, ap, ◌∙◌, if◌then◌else◌, length}
+use Rattle.std.{proofs.{Common.{drop, nat_lt, arith, length-drop, ◌⊎◌}, lemmas.Bool.Decides.nat_tests}, specs.Prelude.{Ok, Err}}
+use Rattle.virtqueue.specs.{declared.{broken.Broken.TheVariants.Short, chains.Descriptor.Descriptor}, Chains.{Spelled, BuffersInside}}
 use Rattle.virtqueue.specs.Parts.{readable_len, writable_len, readable_bytes, writable_places, put_at}
-use Rattle.virtio_mmio.specs.ServingLoop.{Acted}
-use Rattle.block_device.specs.Contents.{Contents, in_capacity, contents_with}
-use Rattle.block_device.specs.Request.{
-  Outcome,
-  Request,
-  request_of,
-  outcome,
-  write_outcome,
-  chain_answered,
-  written_len,
-  is_short,
-  request_act,
-}
 use Rattle.virtqueue.proofs.Lengths.{length_readable, length_places}
+use Rattle.virtio_mmio.specs.ServingLoop.{Acted}
+use Rattle.block_device.specs.{Contents.{Contents, in_capacity, contents_with}, Request.{Outcome, Request, request_of, outcome}}
+use Rattle.block_device.specs.Request.{write_outcome, chain_answered, written_len, is_short, request_act}
 
 -- the data of a request is all behind its header
 pub length_payload : (bytes : List ℕ) (ds : List Descriptor) (len : ℕ) → BuffersInside (length bytes) ds → 16 + len ≡ readable_len ds →

@@ -1,73 +1,15 @@
 -- However many requests are served, a disk stays one, of the same size.
-use Rattle.std.proofs.Common.{
-  ◌≡◌,
-  ℕ,
-  zero,
-  suc,
-  ◌+◌,
-  ◌-◌,
-  ◌*◌,
-  ◌/◌,
-  ◌%◌,
-  ◌≤◌,
-  Bool,
-  true,
-  false,
-  ◌&&◌,
-  ◌==◌,
-  List,
-  [],
-  refl,
-  sym,
-  ap,
-  subst,
-  ◌∙◌,
-  if◌then◌else◌,
-  length,
-  nat_le,
-  arith,
-  ◌⊎◌,
-  inl,
-  inr,
-}
+use Rattle.std.proofs.Common.{◌≡◌, ℕ, zero, suc, ◌+◌, ◌-◌, ◌*◌, ◌/◌, ◌%◌, ◌≤◌, Bool, true, false, ◌&&◌, ◌==◌, List, [], refl, sym, ap}
+use Rattle.std.proofs.{Common.{subst, ◌∙◌, if◌then◌else◌, length, nat_le, arith, ◌⊎◌, inl, inr}, lemmas.Bool.Decides.nat_tests}
 use Rattle.std.specs.Prelude.{Result, Ok, Err}
-use Rattle.std.proofs.lemmas.Bool.Decides.{nat_tests}
-use Rattle.virtqueue.specs.declared.broken.Broken.{Broken}
-use Rattle.virtqueue.specs.declared.broken.Broken.TheVariants.{Short}
-use Rattle.virtqueue.specs.Memory.{written}
-use Rattle.virtqueue.specs.Areas.{available_of}
-use Rattle.virtqueue.specs.Chains.{Spelled, chain_of, ◌>>=◌}
-use Rattle.virtqueue.specs.Parts.{readable_bytes, writable_places}
-use Rattle.virtqueue.proofs.Lengths.{length_written}
-use Rattle.virtio_mmio.specs.declared.kinds.DeviceKind.{DeviceKind}
-use Rattle.virtio_mmio.specs.declared.states.DeviceState.{DeviceState}
-use Rattle.virtio_mmio.specs.States.{queue_at}
-use Rattle.virtio_mmio.specs.Serving.{can_serve}
-use Rattle.virtqueue.proofs.Inside.{bind_ok}
-use Rattle.virtio_mmio.specs.ServingLoop.{
-  Acted,
-  Served,
-  standing,
-  puts_used,
-  one_served,
-  or_breaks,
-  chains_served,
-  served,
-}
-use Rattle.block_device.specs.Dirty.{with_written}
-use Rattle.block_device.specs.Contents.{Contents, capacity, in_capacity, contents_with, bytes_at, IsDisk}
-use Rattle.block_device.specs.Request.{
-  Outcome,
-  Request,
-  request_of,
-  outcome,
-  read_outcome,
-  write_outcome,
-  chain_answered,
-  is_short,
-  request_act,
-}
-use Rattle.block_device.proofs.DiskLemmas.{disk_kept}
+use Rattle.virtqueue.specs.{declared.broken.Broken.{Broken, TheVariants.Short}, Memory.written, Areas.available_of, Chains.Spelled}
+use Rattle.virtqueue.specs.{Chains.{chain_of, ◌>>=◌}, Parts.{readable_bytes, writable_places}}
+use Rattle.virtqueue.proofs.{Lengths.length_written, Inside.bind_ok}
+use Rattle.virtio_mmio.specs.{declared.{kinds.DeviceKind.DeviceKind, states.DeviceState.DeviceState}, States.queue_at, Serving.can_serve}
+use Rattle.virtio_mmio.specs.ServingLoop.{Acted, Served, standing, puts_used, one_served, or_breaks, chains_served, served}
+use Rattle.block_device.specs.{Dirty.with_written, Contents.{Contents, capacity, in_capacity, contents_with, bytes_at, IsDisk}}
+use Rattle.block_device.specs.Request.{Outcome, Request, request_of, outcome, read_outcome, write_outcome, chain_answered, is_short}
+use Rattle.block_device.{specs.Request.request_act, proofs.DiskLemmas.disk_kept}
 
 -- ---- one request
 

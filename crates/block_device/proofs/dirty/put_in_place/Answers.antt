@@ -1,30 +1,7 @@
-use Rattle.std.proofs.Common.{
-  ◌≡◌,
-  ℕ,
-  ◌+◌,
-  ◌≤◌,
-  ◌++◌,
-  List,
-  ap,
-  ◌∙◌,
-  sym,
-  subst,
-  arith,
-  vec_capacity,
-  take,
-  drop,
-  filter,
-  nat_lt,
-  nat_le,
-  length,
-  length-append,
-  length-take-le,
-}
-use Rattle.std.specs.List.{range_with_len}
-use Rattle.std.specs.List.Sorted.{IsNonDecreasing}
-use Rattle.std.proofs.lemmas.List.FromFn.{length-range_with_len}
-use Rattle.block_device.specs.Dirty.{Rises}
-use Rattle.block_device.proofs.Rising.{Parted, rises_nondecreasing, from_before_to, room_for_range, moved_in}
+use Rattle.std.proofs.Common.{◌≡◌, ℕ, ◌+◌, ◌≤◌, ◌++◌, List, ap, ◌∙◌, sym, subst, arith, vec_capacity, take, drop, filter, nat_lt, nat_le}
+use Rattle.std.proofs.{Common.{length, length-append, length-take-le}, lemmas.List.FromFn.length-range_with_len}
+use Rattle.std.specs.List.{range_with_len, Sorted.IsNonDecreasing}
+use Rattle.block_device.{specs.Dirty.Rises, proofs.Rising.{Parted, rises_nondecreasing, from_before_to, room_for_range, moved_in}}
 use Rattle.block_device.proofs.dirty.put_in_place.Goals as goal
 
 -- what both searches found, of the list itself

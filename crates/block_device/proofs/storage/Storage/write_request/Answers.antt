@@ -1,7 +1,6 @@
 use Rattle.std.proofs.Common.{◌≡◌, ℕ, true, false, ap, ◌∙◌, sym, drop, List, arith, length}
 use Rattle.virtqueue.specs.Parts.{readable_bytes}
-use Rattle.block_device.specs.Contents.{in_capacity}
-use Rattle.block_device.proofs.RequestLemmas.{length_payload, write_done, write_fails}
+use Rattle.block_device.{specs.Contents.in_capacity, proofs.RequestLemmas.{length_payload, write_done, write_fails}}
 use Rattle.block_device.proofs.storage.Storage.write_request.Goals as goal
 
 pub returns-then-not-in_capacity-clause-status : goal.returns-then-not-in_capacity-clause-status
