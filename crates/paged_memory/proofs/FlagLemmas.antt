@@ -1,11 +1,9 @@
 -- The flags of a range of pages.
 use Rattle.std.proofs.Common.{◌≡◌, ℕ, ◌+◌, ◌-◌, ◌*◌, ◌/◌, ◌<◌, ◌≤◌, ◌⊎◌, ◌++◌, inl, inr, Bool, true, false, if◌then◌else◌, List, length}
-use Rattle.std.proofs.Common.{replicate, take, drop, get_or, sym, ap, ◌∙◌, arith}
-use Rattle.std.proofs.Math.ListN.{set}
-use Rattle.std.proofs.lemmas.Bool.{cases_lt, cases_order, cases_eq, ne_eqb}
-use Rattle.std.proofs.lemmas.List.{ext_get_or, get_or_append_left, get_or-append_right, length-take-le, length-append, length-drop}
-use Rattle.std.proofs.lemmas.List.{length-replicate, get_or-drop, get_or-take, get_or-replicate, get_or-set_same, get_or-set_other}
-use Rattle.std.proofs.lemmas.List.{length-set, set-set}
+use Rattle.std.proofs.{Common.{replicate, take, drop, get_or, sym, ap, ◌∙◌, arith}, Math.ListN.set, lemmas.Bool.{cases_lt, cases_order}}
+use Rattle.std.proofs.lemmas.{Bool.{cases_eq, ne_eqb}, List.{ext_get_or, get_or_append_left, get_or-append_right, length-take-le}}
+use Rattle.std.proofs.lemmas.List.{length-append, length-drop, length-replicate, get_or-drop, get_or-take, get_or-replicate}
+use Rattle.std.proofs.lemmas.List.{get_or-set_same, get_or-set_other, length-set, set-set}
 use Rattle.paged_memory.specs.Pages.{flagged, end_page, marked}
 
 pub length-flagged : (xs : List Bool) (from end : ℕ) → from ≤ end → end ≤ length xs → length (flagged xs from end) ≡ length xs

@@ -1,9 +1,6 @@
 -- The pages of a list lose their flags one after another.
-use Rattle.std.proofs.Common.{◌≡◌, ℕ, zero, suc, ◌+◌, ◌<◌, ◌≤◌, inl, inr, Bool, true, false, List, [], ◌∷◌, length, replicate, drop}
-use Rattle.std.proofs.Common.{get_or, Contains, refl, sym, ◌∙◌, subst, add-one, arith}
-use Rattle.std.proofs.Math.ListN.{set}
-use Rattle.std.proofs.Math.Seq.{drop-cons}
-use Rattle.std.proofs.lemmas.Bool.{cases_eq}
+use Rattle.std.proofs.Common.{◌≡◌, ℕ, zero, suc, ◌+◌, ◌<◌, ◌≤◌, inl, inr, Bool, true, false, List, [], ◌∷◌, length, replicate, drop, get_or}
+use Rattle.std.proofs.{Common.{Contains, refl, sym, ◌∙◌, subst, add-one, arith}, Math.{ListN.set, Seq.drop-cons}, lemmas.Bool.cases_eq}
 use Rattle.std.proofs.lemmas.List.{ext_get_or, drop_all, length-set, length-replicate, get_or-replicate, get_or-set_other}
 use Rattle.std.proofs.lemmas.Grind.{get_or-set_at}
 use Rattle.paged_memory.specs.Pages.{is_written}

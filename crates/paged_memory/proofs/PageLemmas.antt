@@ -1,10 +1,7 @@
 -- A page's bytes, and the flags after a write.
-use Rattle.std.proofs.Common.{◌≡◌, ℕ, ◌+◌, ◌-◌, ◌*◌, ◌/◌, ◌≤◌, ◌++◌, inl, inr, Bool, List, [], length, take, drop, ap}
-use Rattle.std.proofs.Common.{◌∙◌, arith}
-use Rattle.std.proofs.lemmas.Bool.{cases_eq}
-use Rattle.std.proofs.lemmas.List.{take-append-drop, length-take-le, length-drop, ext_get_or}
-use Rattle.paged_memory.specs.Pages.{page_of, marked}
-use Rattle.paged_memory.proofs.FlagLemmas.{length-flagged, marked_some, marked_none}
+use Rattle.std.proofs.Common.{◌≡◌, ℕ, ◌+◌, ◌-◌, ◌*◌, ◌/◌, ◌≤◌, ◌++◌, inl, inr, Bool, List, [], length, take, drop, ap, ◌∙◌, arith}
+use Rattle.std.proofs.lemmas.{Bool.cases_eq, List.{take-append-drop, length-take-le, length-drop, ext_get_or}}
+use Rattle.paged_memory.{specs.Pages.{page_of, marked}, proofs.FlagLemmas.{length-flagged, marked_some, marked_none}}
 
 -- no bytes change nothing
 pub nothing_written : (xs new : List ℕ) (at n : ℕ) → length new ≡ n → n ≡ 0 → take at xs ++ (new ++ drop (at + n) xs) ≡ xs

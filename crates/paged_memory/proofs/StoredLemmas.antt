@@ -1,21 +1,14 @@
 -- What is seen of a memory's parts: the bytes at the last settle, and the rules.
-use Rattle.std.proofs.Common.{◌≡◌, ℕ, zero, suc, ◌+◌, ◌-◌, ◌*◌, ◌/◌, ◌%◌, ◌^◌, ◌<◌, ◌≤◌, ◌++◌, inl, inr, Bool, true, false}
-use Rattle.std.proofs.Common.{if◌then◌else◌, cond, List, [], ◌∷◌, length, replicate, take, drop, get_or, All, Contains, refl, sym, ap}
-use Rattle.std.proofs.Common.{◌∙◌, subst, zero-add, add-zero, arith}
-use Rattle.std.proofs.Math.ListN.{set}
-use Rattle.std.proofs.lemmas.Bool.{cases_eq}
-use Rattle.std.proofs.lemmas.List.{ext_get_or, get_or_append_left, get_or-append_right, length-take-le, length-set}
-use Rattle.std.proofs.lemmas.List.{length-replicate, length_push, length-append, get_or-drop, get_or-take}
-use Rattle.std.proofs.lemmas.List.{get_or-replicate, get_or-set_other}
+use Rattle.std.proofs.Common.{◌≡◌, ℕ, zero, suc, ◌+◌, ◌-◌, ◌*◌, ◌/◌, ◌%◌, ◌^◌, ◌<◌, ◌≤◌, ◌++◌, inl, inr, Bool, true, false, if◌then◌else◌}
+use Rattle.std.proofs.Common.{cond, List, [], ◌∷◌, length, replicate, take, drop, get_or, All, Contains, refl, sym, ap, ◌∙◌, subst}
+use Rattle.std.proofs.{Common.{zero-add, add-zero, arith}, Math.ListN.set, lemmas.{Bool.cases_eq, List.{ext_get_or, get_or_append_left}}}
+use Rattle.std.proofs.lemmas.List.{get_or-append_right, length-take-le, length-set, length-replicate, length_push, length-append}
+use Rattle.std.proofs.lemmas.List.{get_or-drop, get_or-take, get_or-replicate, get_or-set_other, Elements.Contains-append_left}
+use Rattle.std.proofs.lemmas.List.{Elements.{Contains-push, All-push, All-nil}, Sums.{count_by-le-length, sum_by-set}}
+use Rattle.std.proofs.lemmas.List.{Folds.sum_by-replicate, FromFn.{get_or-map-range_with_len, length-map-range_with_len}}
 use Rattle.std.proofs.lemmas.Grind.{get_or-set_at}
-use Rattle.std.proofs.lemmas.List.Elements.{Contains-append_left, Contains-push, All-push, All-nil}
-use Rattle.std.proofs.lemmas.List.Sums.{count_by-le-length, sum_by-set}
-use Rattle.std.proofs.lemmas.List.Folds.{sum_by-replicate}
-use Rattle.std.proofs.lemmas.List.FromFn.{get_or-map-range_with_len, length-map-range_with_len}
-use Rattle.paged_memory.specs.Pages.{IsPaged, page_of, is_written, written_pages, flagged, marked}
-use Rattle.paged_memory.specs.Stored.{original_byte, settled_bytes, seen, IsStored}
-use Rattle.paged_memory.proofs.BytesLemmas.{length_overwritten}
-use Rattle.paged_memory.proofs.FlagLemmas.{no_new_flag, marked_some}
+use Rattle.paged_memory.specs.{Pages.{IsPaged, page_of, is_written, written_pages, flagged, marked}, Stored.{original_byte, settled_bytes}}
+use Rattle.paged_memory.{specs.Stored.{seen, IsStored}, proofs.{BytesLemmas.length_overwritten, FlagLemmas.{no_new_flag, marked_some}}}
 use Rattle.paged_memory.proofs.PageLemmas.{nothing_written, length-page}
 
 -- ---- bytes that were put somewhere
