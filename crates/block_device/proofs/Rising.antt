@@ -126,7 +126,7 @@ none_below : (from end s : ℕ) (is : List ℕ) → s ≤ from → Rises from en
 none_below from end s is l h =
     none_kept (λ i. nat_lt i s) is (λ k d w. not_below (get_or is k d) s (let least = rises_least from end is k d h w in omega arith))
 
-two_ways : (b : Bool) → (b ≡ true) ⊎ (b ≡ false)
+pub two_ways : (b : Bool) → (b ≡ true) ⊎ (b ≡ false)
 two_ways true = inl refl
 two_ways false = inr refl
 
