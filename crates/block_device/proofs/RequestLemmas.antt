@@ -1,6 +1,6 @@
 -- What a request does, by the lengths of its chain.
-use Rattle.std.proofs.Common.{Bool, ◌≡◌, ℕ, ◌+◌, ◌-◌, ◌<◌, ◌≤◌, true, false, ◌||◌, ◌==◌, List, [], ◌∷◌, refl, ap, ◌∙◌, if◌then◌else◌, length}
-use Rattle.std.{proofs.{Common.{drop, nat_lt, arith, length-drop, ◌⊎◌}, lemmas.Bool.Decides.nat_tests}, specs.Prelude.{Ok, Err}}
+use Rattle.std.proofs.Common.{Bool, ◌≡◌, ℕ, ◌+◌, ◌-◌, ◌<◌, ◌≤◌, true, false, ◌||◌, ◌==◌, List, [], ◌∷◌, refl, ap, ◌∙◌, if◌then◌else◌}
+use Rattle.std.{proofs.{Common.{length, drop, nat_lt, arith, length-drop, ◌⊎◌}, lemmas.Bool.Decides.nat_tests}, specs.Prelude.{Ok, Err}}
 use Rattle.virtqueue.specs.{declared.{broken.Broken.TheVariants.Short, chains.Descriptor.Descriptor}, Chains.{Spelled, BuffersInside}}
 use Rattle.virtqueue.specs.Parts.{readable_len, writable_len, readable_bytes, writable_places, put_at}
 use Rattle.virtqueue.proofs.Lengths.{length_readable, length_places}
@@ -18,8 +18,8 @@ module _ (disk : Contents) (sector len : ℕ) (bytes : List ℕ) (ds : List Desc
       ≡ (if test then record { status = 0; payload = []; disk = contents_with disk sector (drop 16 (readable_bytes bytes ds)) } else record
       { status = 1; payload = []; disk = disk })
   tested test is =
-      ap (λ b. if b then record { status = 0; payload = []; disk = contents_with disk sector (drop 16 (readable_bytes bytes ds)) } else record
-      { status = 1; payload = []; disk = disk }) (ap (in_capacity disk sector) count ∙ is)
+      ap (λ b. if b then record { status = 0; payload = []; disk = contents_with disk sector (drop 16 (readable_bytes bytes ds)) }
+      else record { status = 1; payload = []; disk = disk }) (ap (in_capacity disk sector) count ∙ is)
 
   -- a write of whole sectors of the disk, and any other
   pub write_done : in_capacity disk sector len ≡ true → write_outcome disk sector (drop 16 (readable_bytes bytes ds))

@@ -74,8 +74,8 @@ by_kind P disk r room = by_types P (r.kind == 0) (r.kind == 1) (r.kind == 4) _ _
 
 pub outcome_size : (disk : Contents) (r : Request) (room : ℕ) → length (outcome disk r room).disk.bytes ≡ length disk.bytes
 outcome_size disk r room =
-    by_kind (λ o. length o.disk.bytes ≡ length disk.bytes) disk r room (ap (λ (d : Contents). length d.bytes) (read_size disk r.sector room))
-    (λ is. write_size disk r.sector r.payload) refl refl
+    by_kind (λ o. length o.disk.bytes ≡ length disk.bytes) disk r room
+    (ap (λ (d : Contents). length d.bytes) (read_size disk r.sector room)) (λ is. write_size disk r.sector r.payload) refl refl
 
 -- a disk stays one
 outcome_disk : (disk : Contents) (r : Request) (room : ℕ) → IsDisk disk → IsDisk (outcome disk r room).disk

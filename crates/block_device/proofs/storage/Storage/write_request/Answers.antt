@@ -1,4 +1,4 @@
-use Rattle.std.proofs.Common.{ap, ◌∙◌, sym, arith}
+use Rattle.std.proofs.Common.{◌≡◌, true, ap, ◌∙◌, sym, arith}
 use Rattle.block_device.{specs.Contents.in_capacity, proofs.RequestLemmas.{write_done, write_fails}}
 use Rattle.block_device.proofs.storage.Storage.write_request.Goals as goal
 
@@ -19,5 +19,6 @@ returns-clause-status g c =
 
 pub returns-clause-disk : goal.returns-clause-disk
 returns-clause-disk g c =
-    c.write.ensures ∙ sym (ap (λ o. o.disk) (write_done c.args.self.now c.args.sector c.args.len (g.R.GuestRam.bytes c.args.ram.now) c.args.chain.now.parts
-    c.requires.inside c.requires.all (grind (arith, c.in_capacity.ensures))))
+    let fits : in_capacity c.args.self.now c.args.sector c.args.len ≡ true = grind (arith, c.in_capacity.ensures) in
+    c.write.ensures ∙ sym (ap (λ o. o.disk) (write_done c.args.self.now c.args.sector c.args.len (g.R.GuestRam.bytes c.args.ram.now)
+    c.args.chain.now.parts c.requires.inside c.requires.all fits))
