@@ -1,5 +1,5 @@
--- How a pace is asked whether the guest goes on. `answers p n a p'` says that the pace p, asked when n steps were made, answers a, and is p'
--- then.
+-- How a pace is asked whether the guest goes on. `answers p n a p'` says that the pace p, asked when n steps were made, answers a, and
+-- is p' then.
 use Rattle.std.specs.Prelude.{◌≡◌, ℕ, zero, suc, ◌-◌, ◌*◌, ◌<◌, ◌≤◌, Bool, true, false}
 
 -- a pace is asked once more, after it has become `between`, and says yes

@@ -28,8 +28,8 @@ pub trait Pace {
 
 impl Machine {
     /// Steps of the guest, as [`run`](Machine::run) makes them, for a pace that is asked before them, and again each time that as many
-    /// steps were made as one yes of its type lets by. `count` steps are made, or fewer where the next one finds more than 192 frames in the
-    /// outbox, so that a cut is needed, or where the pace says no. The answer is how many were made. It takes no memory.
+    /// steps were made as one yes of its type lets by. `count` steps are made, or fewer where the next one finds more than 192 frames in
+    /// the outbox, so that a cut is needed, or where the pace says no. The answer is how many were made. It takes no memory.
     pub fn run_paced<P: Pace>(&mut self, count: u64, pace: &mut P) -> u64
         ensures most { result ≤ count }
         ensures guest { self.new.guest ≡ after_steps result self.old.guest }
