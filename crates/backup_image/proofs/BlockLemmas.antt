@@ -1,17 +1,9 @@
 -- Blocks put into memory, one after another.
-use Rattle.std.proofs.Common.{◌≡◌, ℕ, suc, ◌+◌, ◌-◌, ◌*◌, ◌<◌, ◌≤◌, ◌==◌, cond, List, [], ◌∷◌, ◌++◌, length, take}
-use Rattle.std.proofs.Common.{drop, get_or, refl, sym, ap, ◌∙◌, arith, add-one, length-append}
-use Rattle.std.specs.Int.{bit_at}
-use Rattle.std.specs.List.{range_with_len, filter}
-use Rattle.std.proofs.Math.Seq.{drop-cons}
-use Rattle.std.proofs.lemmas.Bool.{eq-eqb, ne_eqb}
-use Rattle.std.proofs.lemmas.List.{length-take-le, length-drop}
-use Rattle.guest_machine.specs.Bytes.{with_bytes, with_xored}
-use Rattle.guest_machine.specs.Blocks.{block_place}
-use Rattle.epoch_snapshot.specs.Blocks.{xored}
-
-pub next : {X : Type 0} (xs : List X) (i : ℕ) (d : X) → i < length xs → drop i xs ≡ get_or xs i d ∷ drop (i + 1) xs
-next xs i d h = rw (add-one) (drop-cons xs i d h)
+use Rattle.epoch_snapshot.{proofs.{BlockLemmas.length-xored, PartLemmas.length-with_bytes}, specs.Blocks.xored}
+use Rattle.std.proofs.Common.{◌≡◌, ℕ, suc, ◌+◌, ◌-◌, ◌*◌, ◌<◌, ◌≤◌, ◌==◌, cond, List, [], ◌∷◌, length, take, drop, sym, ap, ◌∙◌, arith}
+use Rattle.std.proofs.lemmas.{Bool.{eq-eqb, ne_eqb}, List.{length-take-le, length-drop}}
+use Rattle.std.specs.{Int.bit_at, List.{range_with_len, filter}}
+use Rattle.guest_machine.specs.{Bytes.with_xored, Blocks.block_place}
 
 -- ---- the blocks that a mask names
 
@@ -39,21 +31,6 @@ from_block-end mask i past =
     ap (λ n. filter (λ j. bit_at mask j == 1) (range_with_len i n)) e
 
 -- ---- one block
-
-length-xored : (xs ys : List ℕ) → length xs ≡ length ys → length (xored xs ys) ≡ length xs
-length-xored [] ys e = refl
-length-xored (x ∷ xs) [] e = sym e
-length-xored (x ∷ xs) (y ∷ ys) e = ap suc (length-xored xs ys (omega arith))
-
-pub length-with_bytes : (xs new : List ℕ) (at : ℕ) → at + length new ≤ length xs → length (with_bytes xs at new) ≡ length xs
-length-with_bytes xs new at fits =
-    let front : length (take at xs) ≡ at = length-take-le at xs (omega arith) in
-    omega (
-      arith,
-      length-append (take at xs) (new ++ drop (at + length new) xs),
-      length-append new (drop (at + length new) xs),
-      length-drop (at + length new) xs,
-    )
 
 -- a block of a page is a block of memory
 pub same_place : (ram block : List ℕ) (page i : ℕ) → with_xored ram (block_place page i) block ≡ with_xored ram (64 * (64 * page + i)) block

@@ -1,19 +1,12 @@
 -- What is true of each image.
 use Rattle.std.proofs.Common.{◌≡◌, ℕ, ◌+◌, ◌-◌, ◌*◌, ◌^◌, ◌<◌, ◌≤◌, ◌==◌, not, Bool, true, false, cond, List, [], length, take, drop}
-use Rattle.std.proofs.Common.{replicate, refl, sym, ap, ◌∙◌, arith, length-append, subst}
-use Rattle.std.specs.Prelude.{nat_lt, slice_range, Option, Some, None, is_some, Result, Ok, Err}
-use Rattle.std.proofs.lemmas.Bool.{eqb-true, true≢false}
+use Rattle.std.proofs.{Common.{replicate, refl, sym, ap, ◌∙◌, arith, length-append, subst}, lemmas.Bool.{eqb-true, true≢false}}
 use Rattle.std.proofs.lemmas.List.{length-replicate, take-replicate, drop-replicate}
-use Rattle.guest_machine.specs.declared.shapes.Shape.{Shape}
-use Rattle.guest_machine.specs.Guest.{Guest, State, boot_guest}
-use Rattle.epoch_snapshot.specs.Checkpoints.{Change}
-use Rattle.epoch_snapshot.specs.Images.{base_ram, base_sectors}
-use Rattle.backup_image.specs.declared.errors.ImageError.{ImageError}
-use Rattle.backup_image.specs.declared.errors.ImageError.TheVariants.{Stale, Gap}
-use Rattle.backup_image.specs.declared.standing.Standing.{Standing}
-use Rattle.backup_image.specs.declared.standing.Staged.{Staged}
-use Rattle.backup_image.specs.declared.standing.Staged.TheVariants.{New, Again}
-use Rattle.backup_image.specs.Images.{answer_at, settled_machine}
+use Rattle.std.specs.Prelude.{nat_lt, slice_range, Option, Some, None, is_some, Result, Ok, Err}
+use Rattle.guest_machine.specs.{declared.shapes.Shape.Shape, Guest.{Guest, State, boot_guest}}
+use Rattle.epoch_snapshot.specs.{Checkpoints.Change, Images.{base_ram, base_sectors}}
+use Rattle.backup_image.specs.declared.{errors.ImageError.{ImageError, TheVariants.{Stale, Gap}}, standing.Standing.Standing}
+use Rattle.backup_image.specs.{declared.standing.Staged.{Staged, TheVariants.{New, Again}}, Images.{answer_at, settled_machine}}
 use Rattle.backup_image.specs.internal.Invariant.{IsImage}
 
 pub some≢none : {X : Type 0} (x : X) (o : Option X) → o ≡ Some x → o ≡ None → ⊥

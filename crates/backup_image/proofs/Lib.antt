@@ -1,6 +1,5 @@
 pub mod BlockLemmas
 pub mod ImageLemmas
-pub mod MaskLemmas
 pub mod PutLemmas
 pub mod RisingLemmas
 pub mod StageLemmas

@@ -1,23 +1,23 @@
 -- Loops that put blocks and sectors into a machine: what is to come, put into what stands there so far, makes what all of it makes of the
 -- first.
-use Rattle.std.proofs.Common.{◌≡◌, ℕ, ◌+◌, ◌*◌, ◌<◌, ◌≤◌, false, List, [], ◌∷◌, ◌++◌, length, replicate, drop, map, get_or, refl, sym}
-use Rattle.std.proofs.Common.{ap, ◌∙◌, arith, count_ones, length-append}
-use Rattle.std.specs.Int.{bit_at}
-use Rattle.std.proofs.lemmas.List.{drop_all, length-map}
-use Rattle.guest_machine.specs.Guest.{Guest, State}
-use Rattle.guest_machine.specs.Bytes.{with_bytes, with_xored}
-use Rattle.guest_machine.specs.Blocks.{block_place, with_block, with_sector}
-use Rattle.guest_machine.specs.MachineStates.{with_state}
-use Rattle.guest_machine.specs.declared.machine_state.MachineState.{MachineState}
-use Rattle.epoch_snapshot.specs.declared.changes.PageChange.{PageChange}
-use Rattle.epoch_snapshot.specs.declared.changes.SectorChange.{SectorChange}
-use Rattle.epoch_snapshot.specs.Blocks.{set_blocks, block_numbers}
-use Rattle.epoch_snapshot.specs.Checkpoints.{Change, block_count}
-use Rattle.epoch_snapshot.specs.Images.{base_ram, base_sectors, image_of, with_blocks, with_sectors}
+use Rattle.std.proofs.Common.{◌≡◌, ℕ, ◌+◌, ◌*◌, ◌<◌, ◌≤◌, false, List, [], ◌∷◌, ◌++◌, length, replicate, drop, map, get_or, refl, sym, ap}
+use Rattle.std.{proofs.{Common.{◌∙◌, arith, count_ones, length-append}, lemmas.List.{drop_all, length-map}}, specs.Int.bit_at}
+use Rattle.guest_machine.specs.{Guest.{Guest, State}, Bytes.{with_bytes, with_xored}, Blocks.{block_place, with_block, with_sector}}
+use Rattle.guest_machine.specs.{MachineStates.with_state, declared.machine_state.MachineState.MachineState}
+use Rattle.epoch_snapshot.specs.{declared.changes.{PageChange.PageChange, SectorChange.SectorChange}, Blocks.{set_blocks, block_numbers}}
+use Rattle.epoch_snapshot.specs.{Checkpoints.{Change, block_count}, Images.{base_ram, base_sectors, image_of, with_blocks, with_sectors}}
 use Rattle.backup_image.specs.Images.{settled_machine}
-use Rattle.backup_image.proofs.BlockLemmas.{next, from_block, from_block-set, from_block-clear, from_block-end, same_place}
-use Rattle.backup_image.proofs.BlockLemmas.{length-with_xored}
-use Rattle.backup_image.proofs.MaskLemmas.{blocks-append, block_count-drop}
+use Rattle.backup_image.proofs.BlockLemmas.{from_block, from_block-set, from_block-clear, from_block-end, same_place, length-with_xored}
+use Rattle.checkpoint_stream.proofs.Spelling.{next, block_count-drop}
+
+-- what stands at the front of two lists is put first
+blocks-append : (ram : List ℕ) (ns ms : List ℕ) (bs cs : List (List ℕ)) → length ns ≡ length bs →
+    with_blocks ram (ns ++ ms) (bs ++ cs) ≡ with_blocks (with_blocks ram ns bs) ms cs
+unfolding with_blocks
+blocks-append ram [] ms [] cs e = refl
+blocks-append ram [] ms (b ∷ bs) cs e = absurd (omega arith)
+blocks-append ram (n ∷ ns) ms [] cs e = absurd (omega arith)
+blocks-append ram (n ∷ ns) ms (b ∷ bs) cs e = blocks-append (with_xored ram (64 * n) b) ns ms bs cs (omega arith)
 
 -- a machine whose memory only is another than at first
 pub record SameButMemory (first m : State) : Type 0 where

@@ -1,12 +1,9 @@
 -- What is staged, and what a commit makes of it.
-use Rattle.std.proofs.Common.{◌≡◌, Bool, true, false, if◌then◌else◌, refl, ap}
-use Rattle.std.specs.Prelude.{Option, Some, Result, Ok, Err}
+use Rattle.std.{proofs.Common.{◌≡◌, Bool, true, false, if◌then◌else◌, refl, ap}, specs.Prelude.{Option, Some, Result, Ok, Err}}
 use Rattle.epoch_snapshot.specs.Checkpoints.{Change}
-use Rattle.backup_image.specs.declared.errors.ImageError.{ImageError}
-use Rattle.backup_image.specs.declared.errors.ImageError.TheVariants.{OldVersion}
-use Rattle.backup_image.specs.declared.standing.Staged.{Staged}
-use Rattle.backup_image.specs.declared.standing.Staged.TheVariants.{New, Again}
-use Rattle.backup_image.specs.Images.{ImageState, answer_at, is_old_delta, staged_after, stage_answer, after_stage, applied, committed}
+use Rattle.backup_image.specs.declared.{errors.ImageError.{ImageError, TheVariants.OldVersion}, standing.Staged.{Staged, TheVariants.New}}
+use Rattle.backup_image.specs.{declared.standing.Staged.TheVariants.Again, Images.{ImageState, answer_at, is_old_delta, staged_after}}
+use Rattle.backup_image.specs.Images.{stage_answer, after_stage, applied, committed}
 
 -- what isn't new leaves what was staged
 pub staged_after-kept : (answer : Result Staged ImageError) (c : Change) (before : Option Change) → (answer ≡ Ok New → ⊥) →

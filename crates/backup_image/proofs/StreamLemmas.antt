@@ -1,45 +1,15 @@
 -- A follower of a stream stands where the bytes say, whatever the pieces were and wherever they end.
-use Rattle.std.proofs.Common.{◌≡◌, ℕ, suc, ◌+◌, ◌<◌, List, [], ◌∷◌, ◌++◌, length, Bool, true, false, refl, sym, ap, subst, ◌∙◌}
-use Rattle.std.proofs.Common.{arith, take, drop, slice_index_or, append_assoc, length-append, if◌then◌else◌}
-use Rattle.std.proofs.lemmas.List.{append-nil}
+use Rattle.checkpoint_stream.proofs.{Feeding.{fed-append, fed-closed, taken-closed, taken-byte, taken-append}, Canonical.whole-place}
+use Rattle.checkpoint_stream.specs.{declared.place.Place.{Place, TheVariants.Whole}, Readings.{Reading, begun, fed_byte, fed, taken}}
+use Rattle.checkpoint_stream.specs.{Readings.{is_whole, is_closed}, Sound.change_in, Text.text, Widths.HasWidths, ReadBack.ReadsBack}
+use Rattle.std.proofs.Common.{◌≡◌, ℕ, suc, ◌+◌, ◌<◌, List, [], ◌∷◌, ◌++◌, length, Bool, true, false, refl, sym, ap, subst, ◌∙◌, arith, take}
+use Rattle.std.proofs.{Common.{drop, slice_index_or, append_assoc, length-append}, lemmas.List.append-nil}
 use Rattle.guest_machine.specs.declared.shapes.Shape.{Shape}
 use Rattle.epoch_snapshot.specs.Checkpoints.{Change, IsCanonical}
-use Rattle.checkpoint_stream.specs.declared.place.Place.{Place}
-use Rattle.checkpoint_stream.specs.declared.place.Place.TheVariants.{Whole}
-use Rattle.checkpoint_stream.specs.Readings.{Reading, begun, fed_byte, fed, taken, is_whole, is_closed}
-use Rattle.checkpoint_stream.specs.Sound.{change_in}
-use Rattle.checkpoint_stream.specs.Text.{text}
-use Rattle.checkpoint_stream.specs.Widths.{HasWidths}
-use Rattle.checkpoint_stream.specs.ReadBack.{ReadsBack}
-use Rattle.backup_image.specs.Images.{ImageState, after_stage, committed}
-use Rattle.backup_image.specs.Streams.{IsOne, renewed, BeginsWith, after_all, Follower, Call, feeds, commits, after_call, after_calls}
-use Rattle.backup_image.specs.Streams.{committed_next}
-use Rattle.backup_image.specs.Streams.{follower, IsWritten, AreWritten, texts}
+use Rattle.backup_image.specs.{Images.ImageState, Streams.{IsOne, renewed, BeginsWith, after_all, Follower, Call, feeds, commits}}
+use Rattle.backup_image.specs.Streams.{after_call, after_calls, committed_next, follower, IsWritten, AreWritten, texts}
 
 -- Reading
-
-fed-append : (r : Reading) (xs ys : List ℕ) → fed r (xs ++ ys) ≡ fed (fed r xs) ys
-unfolding fed
-fed-append r [] ys = refl
-fed-append r (x ∷ xs) ys = fed-append (fed_byte r x) xs ys
-
-byte-closed : (r : Reading) (b : ℕ) → is_closed r.place ≡ true → fed_byte r b ≡ r
-unfolding fed_byte
-byte-closed r b closed = rw closed refl
-
-fed-closed : (r : Reading) (xs : List ℕ) → is_closed r.place ≡ true → fed r xs ≡ r
-unfolding fed
-fed-closed r [] closed = refl
-fed-closed r (x ∷ xs) closed = ap (λ (s : Reading). fed s xs) (byte-closed r x closed) ∙ fed-closed r xs closed
-
-taken-closed : (r : Reading) (xs : List ℕ) → is_closed r.place ≡ true → taken r xs ≡ 0
-unfolding taken
-taken-closed r [] closed = refl
-taken-closed r (x ∷ xs) closed = rw closed refl
-
-taken-byte : (r : Reading) (b : ℕ) (bs : List ℕ) → is_closed r.place ≡ false → taken r (b ∷ bs) ≡ suc (taken (fed_byte r b) bs)
-unfolding taken
-taken-byte r b bs going = rw going (omega arith)
 
 -- what is taken of a piece is all that counts of it
 fed-taken : (r : Reading) (xs : List ℕ) → fed r (take (taken r xs) xs) ≡ fed r xs
@@ -67,30 +37,12 @@ taken-taken r (x ∷ xs) = by_test (is_closed r.place) refl (taken-taken (fed_by
         let both : taken r (x ∷ left) ≡ length (x ∷ left) = omega (arith, first, rest) in
         rw (taken-byte r x xs going) both
 
-taken-append : (r : Reading) (xs ys : List ℕ) → taken r xs ≡ length xs → taken r (xs ++ ys) ≡ length xs + taken (fed r xs) ys
-unfolding fed taken
-taken-append r [] ys all = omega arith
-taken-append r (x ∷ xs) ys all = by_test (is_closed r.place) refl (taken-append (fed_byte r x) xs ys)
-  where
-    by_test : (t : Bool) → is_closed r.place ≡ t
-        → (taken (fed_byte r x) xs ≡ length xs → taken (fed_byte r x) (xs ++ ys) ≡ length xs + taken (fed (fed_byte r x) xs) ys)
-        → taken r (x ∷ xs ++ ys) ≡ length (x ∷ xs) + taken (fed r (x ∷ xs)) ys
-    by_test true closed rest = absurd (omega (arith, all, taken-closed r (x ∷ xs) closed))
-    by_test false going rest =
-        let first : taken (fed_byte r x) xs ≡ length xs = omega (arith, all, taken-byte r x xs going) in
-        let more : taken r (x ∷ xs ++ ys) ≡ suc (taken (fed_byte r x) (xs ++ ys)) = taken-byte r x (xs ++ ys) going in
-        omega (arith, more, rest first)
-
 whole-closed : (p : Place) → is_whole p ≡ true → is_closed p ≡ true
 whole-closed Whole e = refl
 whole-closed other e = absurd (cc)
 
 is-whole : (p : Place) → p ≡ Whole → is_whole p ≡ true
 is-whole p e = ap is_whole e
-
-whole-is : (p : Place) → is_whole p ≡ true → p ≡ Whole
-whole-is Whole e = refl
-whole-is other e = absurd (cc)
 
 -- what doesn't stand whole after all the bytes didn't after any of the first of them
 none-before : (start : Reading) (part : List ℕ) → is_whole (fed start part).place ≡ false → BeginsWith start [] part
@@ -157,7 +109,7 @@ follows (commits ∷ calls) start part f is all bare =
         let same : after_call f commits ≡ committed_next f = rw e refl in
         let later = goes (subst (Bare calls) same bare) in
         let one : IsOne start part (change_in f.reading) = record {
-          whole = ap (λ (r : Reading). r.place) (sym is) ∙ whole-is _ e;
+          whole = ap (λ (r : Reading). r.place) (sym is) ∙ whole-place _ e;
           all = all;
           is = ap change_in (sym is);
         } in
@@ -176,10 +128,6 @@ follows-all calls start i bare =
     (all.1, subst (BeginsWith start all.1) (sym all.2) all.3, all.4)
 
 -- The bytes have one reading
-
-length-nil : (xs : List ℕ) → length xs ≡ 0 → xs ≡ []
-length-nil [] e = refl
-length-nil (x ∷ xs) e = absurd (omega (arith, e))
 
 -- of two ways to part the same bytes, at the same length, both parts are the same
 same-parts : (xs ys us vs : List ℕ) → xs ++ us ≡ ys ++ vs → length xs ≡ length ys → (xs ≡ ys) × (us ≡ vs)

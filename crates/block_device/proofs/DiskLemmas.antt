@@ -1,8 +1,6 @@
 -- A disk after whole sectors of it were written.
 use Rattle.std.proofs.Common.{◌≡◌, ℕ, ◌+◌, ◌*◌, ◌/◌, ◌≤◌, List, sym, ap, ◌∙◌, subst, length}
-use Rattle.block_device.specs.Dirty.{Rises, with_written}
-use Rattle.block_device.specs.Contents.{contents_of, IsDisk}
-use Rattle.block_device.proofs.Rising.{rises_written}
+use Rattle.block_device.{specs.{Dirty.{Rises, with_written}, Contents.{contents_of, IsDisk}}, proofs.Rising.rises_written}
 
 pub disk_kept : (bytes new dirty marked : List ℕ) (first n : ℕ) → length new ≡ length bytes → marked ≡ with_written dirty first n →
     first + n ≤ length bytes / 512 → IsDisk (contents_of bytes dirty) → IsDisk (contents_of new marked)

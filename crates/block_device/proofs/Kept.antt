@@ -2,20 +2,12 @@
 -- a disk.
 use Rattle.std.proofs.Common.{◌≡◌, ℕ, ◌-◌, ◌/◌, Bool, true, false, if◌then◌else◌, List, [], ◌∷◌, length, drop, ap, ◌∙◌}
 use Rattle.std.specs.Prelude.{Ok, Err}
-use Rattle.virtqueue.specs.declared.broken.Broken.TheVariants.{Short}
-use Rattle.virtqueue.specs.Chains.{Spelled}
-use Rattle.virtqueue.specs.Parts.{readable_bytes, writable_places, put_at}
+use Rattle.virtqueue.specs.{declared.broken.Broken.TheVariants.Short, Chains.Spelled, Parts.{readable_bytes, writable_places, put_at}}
 use Rattle.virtqueue.proofs.Lengths.{length_put_at}
-use Rattle.virtio_mmio.specs.declared.kinds.DeviceKind.TheVariants.{Block}
-use Rattle.virtio_mmio.specs.declared.states.DeviceState.{DeviceState}
-use Rattle.virtio_mmio.specs.States.{IsDeviceRecord}
-use Rattle.virtio_mmio.specs.ServingLoop.{Acted, standing}
-use Rattle.virtio_mmio.proofs.Loop.{served_keeps_rules}
-use Rattle.virtio_mmio.proofs.Lengths.{served-length}
-use Rattle.block_device.specs.Contents.{Contents, capacity, IsDisk}
-use Rattle.block_device.specs.Request.{Outcome, request_of, outcome, answered, chain_answered, is_short, request_act}
-use Rattle.block_device.specs.Disk.{disk_served}
-use Rattle.block_device.proofs.Serving.{disk_size, disk_stays}
+use Rattle.virtio_mmio.specs.{declared.{kinds.DeviceKind.TheVariants.Block, states.DeviceState.DeviceState}, States.IsDeviceRecord}
+use Rattle.virtio_mmio.{specs.ServingLoop.{Acted, standing}, proofs.{Loop.served_keeps_rules, Lengths.served-length}}
+use Rattle.block_device.specs.{Contents.{Contents, capacity, IsDisk}, Request.{Outcome, request_of, outcome, answered, chain_answered}}
+use Rattle.block_device.{specs.{Request.{is_short, request_act}, Disk.disk_served}, proofs.Serving.{disk_size, disk_stays}}
 
 -- an answer goes to places of the memory
 answered-length : (ram places : List ℕ) (o : Outcome) → length (answered ram places o) ≡ length ram

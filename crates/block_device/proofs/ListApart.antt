@@ -1,20 +1,12 @@
 -- The list of the written sectors plays no part in what serving leaves beside that list.
 use Rattle.std.proofs.Common.{◌≡◌, ℕ, zero, suc, ◌-◌, Bool, true, false, ◌==◌, List, refl, ap, ◌∙◌, if◌then◌else◌, length}
 use Rattle.std.specs.Prelude.{Result, Ok, Err}
-use Rattle.virtqueue.specs.declared.broken.Broken.{Broken}
-use Rattle.virtqueue.specs.declared.broken.Broken.TheVariants.{Short}
-use Rattle.virtqueue.specs.Areas.{available_of}
-use Rattle.virtqueue.specs.Chains.{Spelled, chain_of, ◌>>=◌}
+use Rattle.virtqueue.specs.{declared.broken.Broken.{Broken, TheVariants.Short}, Areas.available_of, Chains.{Spelled, chain_of, ◌>>=◌}}
 use Rattle.virtqueue.specs.Parts.{readable_bytes, writable_places}
-use Rattle.virtio_mmio.specs.declared.kinds.DeviceKind.{DeviceKind}
-use Rattle.virtio_mmio.specs.declared.kinds.DeviceKind.TheVariants.{Block}
-use Rattle.virtio_mmio.specs.declared.states.DeviceState.{DeviceState}
-use Rattle.virtio_mmio.specs.States.{queue_at}
-use Rattle.virtio_mmio.specs.Serving.{can_serve}
-use Rattle.virtio_mmio.specs.ServingLoop.{Acted, Served, standing, puts_used, or_breaks, chains_served, served}
-use Rattle.block_device.specs.Contents.{Contents, capacity, in_capacity, contents_of, unlisted}
-use Rattle.block_device.specs.Request.{Outcome, Request, request_of, outcome, chain_answered, is_short, request_act}
-use Rattle.block_device.specs.Disk.{disk_served}
+use Rattle.virtio_mmio.specs.{declared.{kinds.DeviceKind.{DeviceKind, TheVariants.Block}, states.DeviceState.DeviceState}, States.queue_at}
+use Rattle.virtio_mmio.specs.{Serving.can_serve, ServingLoop.{Acted, Served, standing, puts_used, or_breaks, chains_served, served}}
+use Rattle.block_device.specs.{Contents.{Contents, capacity, in_capacity, contents_of, unlisted}, Request.{Outcome, Request, request_of}}
+use Rattle.block_device.specs.{Request.{outcome, chain_answered, is_short, request_act}, Disk.disk_served}
 
 -- ---- one request
 

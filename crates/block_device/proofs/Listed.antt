@@ -1,44 +1,10 @@
 -- However many requests are served, only sectors of the list are changed, and none is taken off it.
-use Rattle.std.proofs.Common.{
-  ◌≡◌,
-  ℕ,
-  ◌+◌,
-  ◌/◌,
-  ◌<◌,
-  ◌≤◌,
-  Bool,
-  true,
-  false,
-  ◌&&◌,
-  ◌||◌,
-  ◌==◌,
-  ◌⊎◌,
-  inl,
-  inr,
-  List,
-  [],
-  length,
-  refl,
-  sym,
-  ap,
-  ◌∙◌,
-  subst,
-  if◌then◌else◌,
-  nat_le,
-  nat_lt,
-}
-use Rattle.std.proofs.lemmas.Bool.{cases_lt, le-leb, lt-ltb}
-use Rattle.virtio_mmio.specs.declared.kinds.DeviceKind.TheVariants.{Block}
-use Rattle.virtio_mmio.specs.declared.states.DeviceState.{DeviceState}
-use Rattle.virtio_mmio.specs.ServingLoop.{standing}
-use Rattle.block_device.specs.Dirty.{is_in}
-use Rattle.block_device.specs.Contents.{Contents, capacity, in_capacity, contents_with}
-use Rattle.block_device.specs.Disk.{disk_served}
-use Rattle.block_device.specs.Listed.{IsListed}
-use Rattle.block_device.specs.Request.{Outcome, Request, outcome, read_outcome, write_outcome}
-use Rattle.block_device.proofs.Members.{in_written}
-use Rattle.block_device.proofs.ReadBack.{other_sector}
-use Rattle.block_device.proofs.Serving.{by_test, read_size, served_keeps}
+use Rattle.std.proofs.Common.{◌≡◌, ℕ, ◌+◌, ◌/◌, ◌<◌, ◌≤◌, Bool, true, false, ◌&&◌, ◌||◌, ◌⊎◌, inl, inr, List, length, refl, sym, ap, ◌∙◌}
+use Rattle.std.proofs.{Common.{subst, nat_le, nat_lt}, lemmas.Bool.{cases_lt, le-leb, lt-ltb}}
+use Rattle.virtio_mmio.specs.{declared.{kinds.DeviceKind.TheVariants.Block, states.DeviceState.DeviceState}, ServingLoop.standing}
+use Rattle.block_device.specs.{Dirty.is_in, Contents.{Contents, capacity, in_capacity, contents_with}, Disk.disk_served, Listed.IsListed}
+use Rattle.block_device.specs.Request.{Outcome, Request, outcome, write_outcome}
+use Rattle.block_device.proofs.{Members.in_written, ReadBack.other_sector, Serving.{write_cases, by_kind, read_size, served_keeps}}
 
 neither : (a b : Bool) → (a || b) ≡ false → (a ≡ false) × (b ≡ false)
 neither false false h = (refl, refl)
@@ -81,25 +47,15 @@ module _ (old : Contents) where
 
   write_listed : (disk : Contents) (sector : ℕ) (new : List ℕ) → IsListed old disk → IsListed old (write_outcome disk sector new).disk
   write_listed disk sector new p =
-      elim (by_test {A = Outcome} (in_capacity disk sector (length new))
-      (record { status = 0; payload = []; disk = contents_with disk sector new }) (record { status = 1; payload = []; disk = disk })) [
+      elim (write_cases disk sector new) [
         | inl w ↦ subst (λ (o : Outcome). IsListed old o.disk) (sym w.1) (written_listed disk sector new w.0 p)
         | inr w ↦ subst (λ (o : Outcome). IsListed old o.disk) (sym w.1) p
       ]
 
-  chosen_listed : (a b d : Bool) (w x y z : Outcome) → IsListed old w.disk → IsListed old x.disk → IsListed old y.disk →
-      IsListed old z.disk →
-      IsListed old (if a then w else (if b then x else (if d then y else z))).disk
-  chosen_listed true b d w x y z pw px py pz = pw
-  chosen_listed false true d w x y z pw px py pz = px
-  chosen_listed false false true w x y z pw px py pz = py
-  chosen_listed false false false w x y z pw px py pz = pz
-
   outcome_listed : (disk : Contents) (r : Request) (room : ℕ) → IsListed old disk → IsListed old (outcome disk r room).disk
   outcome_listed disk r room p =
-      chosen_listed (r.kind == 0) (r.kind == 1) (r.kind == 4) (read_outcome disk r.sector room) (write_outcome disk r.sector r.payload)
-      (record { status = 0; payload = []; disk = disk }) (record { status = 2; payload = []; disk = disk })
-      (subst (IsListed old) (sym (read_size disk r.sector room)) p) (write_listed disk r.sector r.payload p) p p
+      by_kind (λ o. IsListed old o.disk) disk r room (subst (IsListed old) (sym (read_size disk r.sector room)) p)
+      (λ is. write_listed disk r.sector r.payload p) p p
 
 pub served_listed : (ram : List ℕ) (state : DeviceState) (c : Contents) → IsListed c (disk_served ram state c).kept
 unfolding disk_served

@@ -1,36 +1,7 @@
 -- Which numbers stand in a list of written sectors.
-use Rattle.std.proofs.Common.{
-  ◌≡◌,
-  ℕ,
-  zero,
-  suc,
-  ◌+◌,
-  Bool,
-  true,
-  false,
-  ◌&&◌,
-  ◌||◌,
-  ◌==◌,
-  ◌⊎◌,
-  inl,
-  inr,
-  List,
-  [],
-  ◌∷◌,
-  ◌++◌,
-  refl,
-  sym,
-  ap,
-  ◌∙◌,
-  nat_le,
-  nat_lt,
-  filter,
-  cond,
-  arith,
-}
-use Rattle.std.specs.List.{range_with_len}
-use Rattle.std.proofs.lemmas.Bool.Decides.{nat_tests}
-use Rattle.block_device.specs.Dirty.{with_written, is_in}
+use Rattle.block_device.{proofs.Rising.two_ways, specs.Dirty.{with_written, is_in}}
+use Rattle.std.proofs.Common.{◌≡◌, ℕ, zero, suc, ◌+◌, Bool, true, false, ◌&&◌, ◌||◌, ◌==◌, inl, inr, List, [], ◌∷◌, ◌++◌, refl, sym, ap}
+use Rattle.std.{proofs.{Common.{◌∙◌, nat_le, nat_lt, filter, cond, arith}, lemmas.Bool.Decides.nat_tests}, specs.List.range_with_len}
 
 or_assoc : (a b c : Bool) → (a || (b || c)) ≡ ((a || b) || c)
 or_assoc true b c = refl
@@ -52,10 +23,6 @@ and_false false q h = refl
 step_lost : (e m q f : Bool) → f ≡ (m && q) → (e ≡ true → q ≡ false) → f ≡ ((e || m) && q)
 step_lost true m q f h k = h ∙ (and_false m q (k refl) ∙ sym (k refl))
 step_lost false m q f h k = h
-
-two_ways : (b : Bool) → (b ≡ true) ⊎ (b ≡ false)
-two_ways true = inl refl
-two_ways false = inr refl
 
 same_number : (i x : ℕ) → (i == x) ≡ true → i ≡ x
 same_number i x h = grind (arith, nat_tests)

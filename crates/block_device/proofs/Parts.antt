@@ -1,24 +1,6 @@
 -- Bytes that were put into the middle of a list.
-use Rattle.std.proofs.Common.{
-  ◌≡◌,
-  ℕ,
-  ◌+◌,
-  ◌-◌,
-  ◌≤◌,
-  List,
-  ◌++◌,
-  sym,
-  ap,
-  ◌∙◌,
-  arith,
-  length,
-  length-take-le,
-  length-drop,
-  take,
-  drop,
-  append_assoc,
-}
-use Rattle.std.proofs.lemmas.List.{take_all, drop-drop}
+use Rattle.std.proofs.Common.{◌≡◌, ℕ, ◌+◌, ◌-◌, ◌≤◌, List, ◌++◌, sym, ap, ◌∙◌, arith, length, length-take-le, length-drop, take, drop}
+use Rattle.std.proofs.{Common.append_assoc, lemmas.List.{take_all, drop-drop}}
 use borrow.Rule.Slice.PartMut.{put_mid}
 use Rattle.virtqueue.specs.Memory.{written}
 

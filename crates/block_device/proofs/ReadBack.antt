@@ -1,49 +1,12 @@
 -- What stands where bytes were written, and what stands elsewhere.
-use Rattle.std.proofs.Common.{
-  ◌≡◌,
-  ℕ,
-  ◌+◌,
-  ◌-◌,
-  ◌*◌,
-  ◌/◌,
-  ◌%◌,
-  ◌≤◌,
-  ◌<◌,
-  Bool,
-  true,
-  false,
-  ◌&&◌,
-  ◌==◌,
-  ◌++◌,
-  ◌⊎◌,
-  inl,
-  inr,
-  List,
-  [],
-  refl,
-  sym,
-  ap,
-  ◌∙◌,
-  if◌then◌else◌,
-  length,
-  take,
-  drop,
-  nat_le,
-  arith,
-  append_assoc,
-  length-append,
-  length-take-le,
-  length-drop,
-  slice_range,
-}
-use Rattle.std.proofs.lemmas.Bool.Decides.{nat_tests}
-use Rattle.std.proofs.lemmas.List.{take_at, drop_at, drop-append-le, take-append-le, drop-drop, take-take, drop-take}
-use Rattle.std.proofs.Math.Seq.{drop-append-add}
-use Rattle.virtqueue.specs.Memory.{written}
-use Rattle.block_device.specs.Contents.{Contents, sector_at, in_capacity, contents_with, bytes_at}
-use Rattle.block_device.specs.Request.{Outcome, Request, outcome, read_outcome, write_outcome}
-use Rattle.virtqueue.proofs.Lengths.{length_written}
-use Rattle.block_device.proofs.Serving.{in_capacity_tells, whole_sectors, read_size, by_test}
+use Rattle.std.proofs.Common.{◌≡◌, ℕ, ◌+◌, ◌-◌, ◌*◌, ◌/◌, ◌%◌, ◌≤◌, ◌<◌, true, false, ◌&&◌, ◌==◌, ◌++◌, ◌⊎◌, inl, inr, List, [], refl, sym}
+use Rattle.std.proofs.Common.{ap, ◌∙◌, if◌then◌else◌, length, take, drop, nat_le, arith, append_assoc, length-append, length-take-le}
+use Rattle.std.proofs.{Common.{length-drop, slice_range}, lemmas.{Bool.Decides.nat_tests, List.{take_at, drop_at, drop-append-le}}}
+use Rattle.std.proofs.{lemmas.List.{take-append-le, drop-drop, take-take, drop-take}, Math.Seq.drop-append-add}
+use Rattle.virtqueue.{specs.Memory.written, proofs.Lengths.length_written}
+use Rattle.block_device.specs.{Contents.{Contents, sector_at, in_capacity, contents_with, bytes_at}, Request.{Outcome, Request, outcome}}
+use Rattle.block_device.specs.Request.{read_outcome, write_outcome}
+use Rattle.block_device.proofs.Serving.{in_capacity_tells, whole_sectors, read_size, write_cases, by_kind}
 
 -- the written bytes stand where they were written
 read_written : (bytes new : List ℕ) (place : ℕ) → place + length new ≤ length bytes →
@@ -122,13 +85,9 @@ read_after disk sector new fits =
 pub good_write : (disk : Contents) (sector : ℕ) (new : List ℕ) → (write_outcome disk sector new).status ≡ 0 →
     (in_capacity disk sector (length new) ≡ true) × ((write_outcome disk sector new).disk ≡ contents_with disk sector new)
 good_write disk sector new good =
-    let done : Outcome = record { status = 0; payload = []; disk = contents_with disk sector new } in
-    let failed : Outcome = record { status = 1; payload = []; disk = disk } in
-    elim (by_test {A = Outcome} (in_capacity disk sector (length new)) done failed) [
+    elim (write_cases disk sector new) [
       | inl w ↦ (w.0, ap (λ (o : Outcome). o.disk) w.1)
-      | inr w ↦ (let status : (write_outcome disk sector new).status ≡ 1 = ap (λ (o : Outcome). o.status) w.1 in
-          let one : 1 ≡ 0 = sym status ∙ good in
-          absurd (omega (arith, one)))
+      | inr w ↦ (let one : 1 ≡ 0 = sym (ap (λ (o : Outcome). o.status) w.1) ∙ good in absurd (omega (arith, one)))
     ]
 
 pub reads_back : (disk : Contents) (w r : Request) (room : ℕ) → w.kind ≡ 1 → (outcome disk w room).status ≡ 0 → r.kind ≡ 0 →
@@ -149,33 +108,20 @@ reads_back disk w r room writes good reads same =
 abbrev Refused : Contents → Outcome → Type 0
 Refused disk o = (o.status ≡ 0 → ⊥) → o.disk ≡ disk
 
-by_types : (P : Outcome → Type 0) (a b d : Bool) (w x y z : Outcome) → P w → (b ≡ true → P x) → P y → P z →
-    P (if a then w else (if b then x else (if d then y else z)))
-by_types P true b d w x y z pw px py pz = pw
-by_types P false true d w x y z pw px py pz = px refl
-by_types P false false true w x y z pw px py pz = py
-by_types P false false false w x y z pw px py pz = pz
-
 refused_write : (disk : Contents) (sector : ℕ) (new : List ℕ) → Refused disk (write_outcome disk sector new)
 refused_write disk sector new bad =
-    let done : Outcome = record { status = 0; payload = []; disk = contents_with disk sector new } in
-    let failed : Outcome = record { status = 1; payload = []; disk = disk } in
-    elim (by_test {A = Outcome} (in_capacity disk sector (length new)) done failed) [
+    elim (write_cases disk sector new) [
       | inl w ↦ absurd (bad (ap (λ (o : Outcome). o.status) w.1))
       | inr w ↦ ap (λ (o : Outcome). o.disk) w.1
     ]
 
 pub refused_changes_nothing : (disk : Contents) (r : Request) (room : ℕ) → Refused disk (outcome disk r room)
 refused_changes_nothing disk r room =
-    by_types (Refused disk) (r.kind == 0) (r.kind == 1) (r.kind == 4) (read_outcome disk r.sector room)
-    (write_outcome disk r.sector r.payload)
-    (record { status = 0; payload = []; disk = disk }) (record { status = 2; payload = []; disk = disk })
-    (λ bad. read_size disk r.sector room) (λ is. refused_write disk r.sector r.payload) (λ bad. refl) (λ bad. refl)
+    by_kind (Refused disk) disk r room (λ bad. read_size disk r.sector room) (λ is. refused_write disk r.sector r.payload) (λ bad. refl)
+    (λ bad. refl)
 
 pub others_change_nothing : (disk : Contents) (r : Request) (room : ℕ) → (r.kind ≡ 1 → ⊥) → (outcome disk r room).disk ≡ disk
 others_change_nothing disk r room other =
     let no : (r.kind == 1) ≡ false = grind (arith, nat_tests) in
-    by_types (λ (o : Outcome). o.disk ≡ disk) (r.kind == 0) (r.kind == 1) (r.kind == 4) (read_outcome disk r.sector room)
-    (write_outcome disk r.sector r.payload)
-    (record { status = 0; payload = []; disk = disk }) (record { status = 2; payload = []; disk = disk })
-    (read_size disk r.sector room) (λ is. let never : true ≡ false = sym is ∙ no in let none : ⊥ = cc in absurd none) refl refl
+    by_kind (λ (o : Outcome). o.disk ≡ disk) disk r room (read_size disk r.sector room)
+    (λ is. let never : true ≡ false = sym is ∙ no in let none : ⊥ = cc in absurd none) refl refl

@@ -1,69 +1,34 @@
 -- What a request does, by the lengths of its chain.
-use Rattle.std.proofs.Common.{
-  ◌≡◌,
-  ℕ,
-  ◌+◌,
-  ◌-◌,
-  ◌<◌,
-  ◌≤◌,
-  true,
-  false,
-  ◌||◌,
-  ◌==◌,
-  List,
-  [],
-  ◌∷◌,
-  refl,
-  ap,
-  ◌∙◌,
-  if◌then◌else◌,
-  length,
-  drop,
-  nat_lt,
-  arith,
-  length-drop,
-  ◌⊎◌,
-}
-use Rattle.std.specs.Prelude.{Ok, Err}
-use Rattle.std.proofs.lemmas.Bool.Decides.{nat_tests}
-use Rattle.virtqueue.specs.declared.broken.Broken.TheVariants.{Short}
-use Rattle.virtqueue.specs.declared.chains.Descriptor.{Descriptor}
-use Rattle.virtqueue.specs.Chains.{Spelled, BuffersInside}
+use Rattle.std.proofs.Common.{Bool, ◌≡◌, ℕ, ◌+◌, ◌-◌, ◌<◌, ◌≤◌, true, false, ◌||◌, ◌==◌, List, [], ◌∷◌, refl, ap, ◌∙◌, if◌then◌else◌}
+use Rattle.std.{proofs.{Common.{length, drop, nat_lt, arith, length-drop, ◌⊎◌}, lemmas.Bool.Decides.nat_tests}, specs.Prelude.{Ok, Err}}
+use Rattle.virtqueue.specs.{declared.{broken.Broken.TheVariants.Short, chains.Descriptor.Descriptor}, Chains.{Spelled, BuffersInside}}
 use Rattle.virtqueue.specs.Parts.{readable_len, writable_len, readable_bytes, writable_places, put_at}
-use Rattle.virtio_mmio.specs.ServingLoop.{Acted}
-use Rattle.block_device.specs.Contents.{Contents, in_capacity, contents_with}
-use Rattle.block_device.specs.Request.{
-  Outcome,
-  Request,
-  request_of,
-  outcome,
-  write_outcome,
-  chain_answered,
-  written_len,
-  is_short,
-  request_act,
-}
 use Rattle.virtqueue.proofs.Lengths.{length_readable, length_places}
+use Rattle.virtio_mmio.specs.ServingLoop.{Acted}
+use Rattle.block_device.specs.{Contents.{Contents, in_capacity, contents_with}, Request.{Outcome, Request, request_of, outcome}}
+use Rattle.block_device.specs.Request.{write_outcome, chain_answered, written_len, is_short, request_act}
 
 -- the data of a request is all behind its header
-pub length_payload : (bytes : List ℕ) (ds : List Descriptor) (len : ℕ) → BuffersInside (length bytes) ds → 16 + len ≡ readable_len ds →
-    length (drop 16 (readable_bytes bytes ds)) ≡ len
-length_payload bytes ds len inside all = omega (arith, length_readable bytes ds inside, length-drop 16 (readable_bytes bytes ds))
+module _ (disk : Contents) (sector len : ℕ) (bytes : List ℕ) (ds : List Descriptor) (inside : BuffersInside (length bytes) ds)
+    (all : 16 + len ≡ readable_len ds) where
+  count : length (drop 16 (readable_bytes bytes ds)) ≡ len
+  count = omega (arith, length_readable bytes ds inside, length-drop 16 (readable_bytes bytes ds))
 
--- a write of whole sectors of the disk, and any other
-pub write_done : (disk : Contents) (sector : ℕ) (payload : List ℕ) (len : ℕ) → length payload ≡ len → in_capacity disk sector len ≡ true →
-    write_outcome disk sector payload ≡ record { status = 0; payload = []; disk = contents_with disk sector payload }
-write_done disk sector payload len is fits =
-    ap (λ b. if b then record { status = 0; payload = []; disk = contents_with disk sector payload } else record
-    { status = 1; payload = []; disk = disk })
-    (ap (in_capacity disk sector) is ∙ fits)
+  tested : (test : Bool) → in_capacity disk sector len ≡ test → write_outcome disk sector (drop 16 (readable_bytes bytes ds))
+      ≡ (if test then record { status = 0; payload = []; disk = contents_with disk sector (drop 16 (readable_bytes bytes ds)) } else record
+      { status = 1; payload = []; disk = disk })
+  tested test is =
+      ap (λ b. if b then record { status = 0; payload = []; disk = contents_with disk sector (drop 16 (readable_bytes bytes ds)) }
+      else record { status = 1; payload = []; disk = disk }) (ap (in_capacity disk sector) count ∙ is)
 
-pub write_fails : (disk : Contents) (sector : ℕ) (payload : List ℕ) (len : ℕ) → length payload ≡ len → in_capacity disk sector len ≡ false →
-    write_outcome disk sector payload ≡ record { status = 1; payload = []; disk = disk }
-write_fails disk sector payload len is fits =
-    ap (λ b. if b then record { status = 0; payload = []; disk = contents_with disk sector payload } else record
-    { status = 1; payload = []; disk = disk })
-    (ap (in_capacity disk sector) is ∙ fits)
+  -- a write of whole sectors of the disk, and any other
+  pub write_done : in_capacity disk sector len ≡ true → write_outcome disk sector (drop 16 (readable_bytes bytes ds))
+      ≡ record { status = 0; payload = []; disk = contents_with disk sector (drop 16 (readable_bytes bytes ds)) }
+  write_done = tested true
+
+  pub write_fails : in_capacity disk sector len ≡ false →
+      write_outcome disk sector (drop 16 (readable_bytes bytes ds)) ≡ record { status = 1; payload = []; disk = disk }
+  write_fails = tested false
 
 -- what a chain of enough bytes and places leaves
 abbrev pub left_by : List ℕ → List ℕ → ℕ → Outcome → Acted Contents

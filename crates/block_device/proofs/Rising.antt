@@ -1,53 +1,9 @@
 -- Rising lists, and their parts below and above a number.
-use Rattle.std.proofs.Common.{
-  ◌≡◌,
-  ℕ,
-  zero,
-  suc,
-  ◌+◌,
-  ◌<◌,
-  ◌≤◌,
-  Bool,
-  true,
-  false,
-  List,
-  [],
-  ◌∷◌,
-  ◌++◌,
-  refl,
-  sym,
-  ap,
-  ◌∙◌,
-  length,
-  take,
-  drop,
-  get_or,
-  arith,
-  filter,
-  nat_lt,
-  nat_le,
-  cond,
-  subst,
-  ◌⊎◌,
-  inl,
-  inr,
-  take-append-drop,
-  append-nil,
-  length-take-le,
-  length-drop,
-  get_or-take,
-  get_or-drop,
-  append_assoc,
-  length-append,
-  map-id,
-  ◌-◌,
-}
-use Rattle.std.proofs.lemmas.List.{take_at, drop_at}
-use Rattle.std.proofs.lemmas.List.FromFn.{length-range_with_len, map-range_with_len_more}
-use Rattle.std.proofs.lemmas.List.Elements.{filter-append}
-use Rattle.std.proofs.lemmas.Bool.Decides.{nat_tests}
-use Rattle.std.specs.List.{range_with_len, AllWithin}
-use Rattle.std.specs.List.Sorted.{IsNonDecreasingBy}
+use Rattle.std.proofs.Common.{◌≡◌, ℕ, zero, suc, ◌+◌, ◌<◌, ◌≤◌, Bool, true, false, List, [], ◌∷◌, ◌++◌, refl, sym, ap, ◌∙◌, length, take}
+use Rattle.std.proofs.Common.{drop, get_or, arith, filter, nat_lt, nat_le, cond, subst, ◌⊎◌, inl, inr, take-append-drop, append-nil}
+use Rattle.std.proofs.Common.{length-take-le, length-drop, get_or-take, get_or-drop, append_assoc, length-append, map-id, ◌-◌}
+use Rattle.std.proofs.lemmas.List.{take_at, drop_at, FromFn.{length-range_with_len, map-range_with_len_more}, Elements.filter-append}
+use Rattle.std.{proofs.lemmas.Bool.Decides.nat_tests, specs.List.{range_with_len, AllWithin, Sorted.IsNonDecreasingBy}}
 use Rattle.block_device.specs.Dirty.{Rises, with_written}
 
 -- a rising list may begin lower, and end higher
@@ -153,14 +109,8 @@ lt_tells i s = grind (arith, nat_tests)
 le_tells : (s i : ℕ) → ((nat_le s i ≡ true) × (s ≤ i)) ⊎ ((nat_le s i ≡ false) × (i < s))
 le_tells s i = grind (arith, nat_tests)
 
-above_tells : (s i : ℕ) → s ≤ i → nat_le s i ≡ true
-above_tells s i h = grind (arith, nat_tests)
-
 below_tells : (i s : ℕ) → i < s → nat_lt i s ≡ true
 below_tells i s h = grind (arith, nat_tests)
-
-not_above : (s i : ℕ) → i < s → nat_le s i ≡ false
-not_above s i h = grind (arith, nat_tests)
 
 not_below : (y s : ℕ) → s ≤ y → nat_lt y s ≡ false
 not_below y s h = grind (arith, nat_tests)
@@ -176,7 +126,7 @@ none_below : (from end s : ℕ) (is : List ℕ) → s ≤ from → Rises from en
 none_below from end s is l h =
     none_kept (λ i. nat_lt i s) is (λ k d w. not_below (get_or is k d) s (let least = rises_least from end is k d h w in omega arith))
 
-two_ways : (b : Bool) → (b ≡ true) ⊎ (b ≡ false)
+pub two_ways : (b : Bool) → (b ≡ true) ⊎ (b ≡ false)
 two_ways true = inl refl
 two_ways false = inr refl
 

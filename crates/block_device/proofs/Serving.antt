@@ -1,73 +1,15 @@
 -- However many requests are served, a disk stays one, of the same size.
-use Rattle.std.proofs.Common.{
-  ◌≡◌,
-  ℕ,
-  zero,
-  suc,
-  ◌+◌,
-  ◌-◌,
-  ◌*◌,
-  ◌/◌,
-  ◌%◌,
-  ◌≤◌,
-  Bool,
-  true,
-  false,
-  ◌&&◌,
-  ◌==◌,
-  List,
-  [],
-  refl,
-  sym,
-  ap,
-  subst,
-  ◌∙◌,
-  if◌then◌else◌,
-  length,
-  nat_le,
-  arith,
-  ◌⊎◌,
-  inl,
-  inr,
-}
+use Rattle.std.proofs.Common.{◌≡◌, ℕ, zero, suc, ◌+◌, ◌-◌, ◌*◌, ◌/◌, ◌%◌, ◌≤◌, Bool, true, false, ◌&&◌, ◌==◌, List, [], refl, sym, ap}
+use Rattle.std.proofs.{Common.{subst, ◌∙◌, if◌then◌else◌, length, nat_le, arith, ◌⊎◌, inl, inr}, lemmas.Bool.Decides.nat_tests}
 use Rattle.std.specs.Prelude.{Result, Ok, Err}
-use Rattle.std.proofs.lemmas.Bool.Decides.{nat_tests}
-use Rattle.virtqueue.specs.declared.broken.Broken.{Broken}
-use Rattle.virtqueue.specs.declared.broken.Broken.TheVariants.{Short}
-use Rattle.virtqueue.specs.Memory.{written}
-use Rattle.virtqueue.specs.Areas.{available_of}
-use Rattle.virtqueue.specs.Chains.{Spelled, chain_of, ◌>>=◌}
-use Rattle.virtqueue.specs.Parts.{readable_bytes, writable_places}
-use Rattle.virtqueue.proofs.Lengths.{length_written}
-use Rattle.virtio_mmio.specs.declared.kinds.DeviceKind.{DeviceKind}
-use Rattle.virtio_mmio.specs.declared.states.DeviceState.{DeviceState}
-use Rattle.virtio_mmio.specs.States.{queue_at}
-use Rattle.virtio_mmio.specs.Serving.{can_serve}
-use Rattle.virtqueue.proofs.Inside.{bind_ok}
-use Rattle.virtio_mmio.specs.ServingLoop.{
-  Acted,
-  Served,
-  standing,
-  puts_used,
-  one_served,
-  or_breaks,
-  chains_served,
-  served,
-}
-use Rattle.block_device.specs.Dirty.{with_written}
-use Rattle.block_device.specs.Contents.{Contents, capacity, in_capacity, contents_with, bytes_at, IsDisk}
-use Rattle.block_device.specs.Request.{
-  Outcome,
-  Request,
-  request_of,
-  outcome,
-  read_outcome,
-  write_outcome,
-  chain_answered,
-  is_short,
-  request_act,
-}
-use Rattle.block_device.proofs.DiskLemmas.{disk_kept}
+use Rattle.virtqueue.specs.{declared.broken.Broken.{Broken, TheVariants.Short}, Memory.written, Areas.available_of, Chains.Spelled}
+use Rattle.virtqueue.specs.{Chains.{chain_of, ◌>>=◌}, Parts.{readable_bytes, writable_places}}
+use Rattle.virtqueue.proofs.{Lengths.length_written, Inside.bind_ok}
+use Rattle.virtio_mmio.specs.{declared.{kinds.DeviceKind.DeviceKind, states.DeviceState.DeviceState}, States.queue_at, Serving.can_serve}
+use Rattle.virtio_mmio.specs.ServingLoop.{Acted, Served, standing, puts_used, one_served, or_breaks, chains_served, served}
+use Rattle.block_device.specs.{Dirty.with_written, Contents.{Contents, capacity, in_capacity, contents_with, bytes_at, IsDisk}}
+use Rattle.block_device.specs.Request.{Outcome, Request, request_of, outcome, read_outcome, write_outcome, chain_answered, is_short}
+use Rattle.block_device.{specs.Request.request_act, proofs.DiskLemmas.disk_kept}
 
 -- ---- one request
 
@@ -93,10 +35,17 @@ pub by_test : {A : Type 0} (b : Bool) (x y : A) → ((b ≡ true) × ((if b then
 by_test true x y = inl (refl, refl)
 by_test false x y = inr (refl, refl)
 
+-- a write is done or fails
+pub write_cases : (disk : Contents) (sector : ℕ) (new : List ℕ) →
+    ((in_capacity disk sector (length new) ≡ true)
+    × (write_outcome disk sector new ≡ record { status = 0; payload = []; disk = contents_with disk sector new }))
+    ⊎ ((in_capacity disk sector (length new) ≡ false)
+    × (write_outcome disk sector new ≡ record { status = 1; payload = []; disk = disk }))
+write_cases disk sector new = by_test (in_capacity disk sector (length new)) _ _
+
 write_size : (disk : Contents) (sector : ℕ) (payload : List ℕ) → length (write_outcome disk sector payload).disk.bytes ≡ length disk.bytes
 write_size disk sector payload =
-    elim (by_test {A = Outcome} (in_capacity disk sector (length payload))
-    (record { status = 0; payload = []; disk = contents_with disk sector payload }) (record { status = 1; payload = []; disk = disk })) [
+    elim (write_cases disk sector payload) [
       | inl w ↦ ap (λ (o : Outcome). length o.disk.bytes) w.1 ∙ length_written disk.bytes payload (512 * sector)
           (in_capacity_tells disk sector (length payload) w.0)
       | inr w ↦ ap (λ (o : Outcome). length o.disk.bytes) w.1
@@ -110,39 +59,33 @@ read_size disk sector room =
       | inr w ↦ ap (λ (o : Outcome). o.disk) w.1
     ]
 
-chosen_size : (a b d : Bool) (w x y z : Outcome) (n : ℕ) → length w.disk.bytes ≡ n → length x.disk.bytes ≡ n → length y.disk.bytes ≡ n →
-    length z.disk.bytes ≡ n →
-    length (if a then w else (if b then x else (if d then y else z))).disk.bytes ≡ n
-chosen_size true b d w x y z n ew ex ey ez = ew
-chosen_size false true d w x y z n ew ex ey ez = ex
-chosen_size false false true w x y z n ew ex ey ez = ey
-chosen_size false false false w x y z n ew ex ey ez = ez
+-- what holds of each kind of request's outcome
+by_types : (P : Outcome → Type 0) (a b d : Bool) (w x y z : Outcome) → P w → (b ≡ true → P x) → P y → P z →
+    P (if a then w else (if b then x else (if d then y else z)))
+by_types P true b d w x y z pw px py pz = pw
+by_types P false true d w x y z pw px py pz = px refl
+by_types P false false true w x y z pw px py pz = py
+by_types P false false false w x y z pw px py pz = pz
+
+pub by_kind : (P : Outcome → Type 0) (disk : Contents) (r : Request) (room : ℕ) → P (read_outcome disk r.sector room) →
+    ((r.kind == 1) ≡ true → P (write_outcome disk r.sector r.payload)) → P (record { status = 0; payload = []; disk = disk }) →
+    P (record { status = 2; payload = []; disk = disk }) → P (outcome disk r room)
+by_kind P disk r room = by_types P (r.kind == 0) (r.kind == 1) (r.kind == 4) _ _ _ _
 
 pub outcome_size : (disk : Contents) (r : Request) (room : ℕ) → length (outcome disk r room).disk.bytes ≡ length disk.bytes
 outcome_size disk r room =
-    chosen_size (r.kind == 0) (r.kind == 1) (r.kind == 4) (read_outcome disk r.sector room) (write_outcome disk r.sector r.payload)
-    (record { status = 0; payload = []; disk = disk }) (record { status = 2; payload = []; disk = disk }) (length disk.bytes)
-    (ap (λ (d : Contents). length d.bytes) (read_size disk r.sector room)) (write_size disk r.sector r.payload) refl refl
+    by_kind (λ o. length o.disk.bytes ≡ length disk.bytes) disk r room
+    (ap (λ (d : Contents). length d.bytes) (read_size disk r.sector room)) (λ is. write_size disk r.sector r.payload) refl refl
 
 -- a disk stays one
 outcome_disk : (disk : Contents) (r : Request) (room : ℕ) → IsDisk disk → IsDisk (outcome disk r room).disk
 outcome_disk disk r room is =
-    chosen_disk (r.kind == 0) (r.kind == 1) (r.kind == 4) (read_outcome disk r.sector room) (write_outcome disk r.sector r.payload)
-    (record { status = 0; payload = []; disk = disk }) (record { status = 2; payload = []; disk = disk })
-    (subst IsDisk (sym (read_size disk r.sector room)) is) (written_disk disk r.sector r.payload is) is is
+    by_kind (λ o. IsDisk o.disk) disk r room (subst IsDisk (sym (read_size disk r.sector room)) is)
+    (λ one. written_disk disk r.sector r.payload is) is is
   where
-    chosen_disk : (a b d : Bool) (w x y z : Outcome) → IsDisk w.disk → IsDisk x.disk → IsDisk y.disk → IsDisk z.disk →
-        IsDisk (if a then w else (if b then x else (if d then y else z))).disk
-    chosen_disk true b d w x y z pw px py pz = pw
-    chosen_disk false true d w x y z pw px py pz = px
-    chosen_disk false false true w x y z pw px py pz = py
-    chosen_disk false false false w x y z pw px py pz = pz
-
     written_disk : (disk : Contents) (sector : ℕ) (payload : List ℕ) → IsDisk disk → IsDisk (write_outcome disk sector payload).disk
     written_disk disk sector payload is =
-        elim (by_test {A = Outcome} (in_capacity disk sector (length payload))
-        (record { status = 0; payload = []; disk = contents_with disk sector payload })
-        (record { status = 1; payload = []; disk = disk })) [
+        elim (write_cases disk sector payload) [
           | inl w ↦
               (let size = length_written disk.bytes payload (512 * sector) (in_capacity_tells disk sector (length payload) w.0) in
               let both = tells (length payload % 512) (sector + length payload / 512) (capacity disk) w.0 in

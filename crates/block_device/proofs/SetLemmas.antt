@@ -1,49 +1,11 @@
 -- A set of sectors by its bits and by its rising list.
-use Rattle.std.proofs.Common.{
-  ◌≡◌,
-  ◌≢◌,
-  ℕ,
-  ◌+◌,
-  ◌*◌,
-  ◌/◌,
-  ◌%◌,
-  ◌^◌,
-  ◌<◌,
-  ◌≤◌,
-  Bool,
-  true,
-  false,
-  ◌&&◌,
-  ◌||◌,
-  ◌==◌,
-  if◌then◌else◌,
-  inl,
-  inr,
-  List,
-  [],
-  ◌∷◌,
-  refl,
-  sym,
-  ap,
-  ◌∙◌,
-  subst,
-  length,
-  nat_le,
-  nat_lt,
-  get_or,
-  bit_or,
-  arith,
-  get_or-set_same,
-  get_or-set_other,
-}
-use Rattle.std.specs.Int.{bit_at}
-use Rattle.std.proofs.Math.ListN.{set}
-use Rattle.std.proofs.lemmas.Bool.{cases_eq, cases_order, and_parts, eq-eqb, ne_eqb, leb-true, ltb-true}
-use Rattle.std.proofs.lemmas.Nat.Bits.{bit_at_set_same, bit_at_set_other}
+use Rattle.std.proofs.Common.{◌≡◌, ◌≢◌, ℕ, ◌+◌, ◌*◌, ◌/◌, ◌%◌, ◌^◌, ◌<◌, ◌≤◌, Bool, true, false, ◌&&◌, ◌||◌, ◌==◌, if◌then◌else◌, inl, inr}
+use Rattle.std.proofs.Common.{List, [], ◌∷◌, refl, sym, ap, ◌∙◌, subst, length, nat_le, nat_lt, get_or, bit_or, arith, get_or-set_same}
+use Rattle.std.proofs.{Common.get_or-set_other, Math.ListN.set, lemmas.Bool.{cases_eq, cases_order, and_parts, eq-eqb, ne_eqb, leb-true}}
+use Rattle.std.{proofs.lemmas.{Bool.ltb-true, Nat.Bits.{bit_at_set_same, bit_at_set_other}}, specs.Int.bit_at}
 use mir.Syntax.{w64}
 use Rattle.block_device.specs.Dirty.{Rises, with_written, is_in, bit_of, IsSectorSet}
-use Rattle.block_device.proofs.Members.{in_written}
-use Rattle.block_device.proofs.Rising.{rises_written, rises_at_most}
+use Rattle.block_device.proofs.{Members.in_written, Rising.{rises_written, rises_at_most}}
 
 -- ---- one word is written
 

@@ -1,12 +1,9 @@
 -- What a unit makes of a reading doesn't depend on what was taken of the unit before.
 use Rattle.std.proofs.Common.{◌≡◌, ℕ, ◌++◌, List, Bool, true, false, refl}
-use Rattle.checkpoint_stream.specs.declared.rules.Row.{Row}
-use Rattle.checkpoint_stream.specs.declared.place.Place.{Place}
-use Rattle.checkpoint_stream.specs.declared.place.Place.TheVariants.{Head, PageCount, PageIndex, PageMask, Block, SectorCount}
-use Rattle.checkpoint_stream.specs.declared.place.Place.TheVariants.{SectorIndex, SectorBytes, FrameCount, FrameLength, FrameBytes}
-use Rattle.checkpoint_stream.specs.declared.place.Place.TheVariants.{Whole, Failed}
-use Rattle.checkpoint_stream.specs.Readings.{Reading, is_closed, moved_if, kept_number, kept_mask}
-use Rattle.checkpoint_stream.specs.Readings.{kept_block, kept_sector, frame_judged, judged, judged_at}
+use Rattle.checkpoint_stream.specs.declared.{rules.Row.Row, place.Place.{Place, TheVariants.{Head, PageCount, PageIndex, PageMask, Block}}}
+use Rattle.checkpoint_stream.specs.declared.place.Place.TheVariants.{SectorCount, SectorIndex, SectorBytes, FrameCount, FrameLength}
+use Rattle.checkpoint_stream.specs.{declared.place.Place.TheVariants.{FrameBytes, Whole, Failed}, Readings.{Reading, is_closed, moved_if}}
+use Rattle.checkpoint_stream.specs.Readings.{kept_number, kept_mask, kept_block, kept_sector, frame_judged, judged, judged_at}
 
 -- the reading with more of the unit that has begun
 abbrev pub with_more : Reading → List ℕ → Reading

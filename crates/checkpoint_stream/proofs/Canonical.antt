@@ -1,24 +1,14 @@
 -- A reading that is whole and sound is that of a canonical checkpoint.
-use Rattle.std.proofs.Common.{◌≡◌, ℕ, suc, zero, ◌%◌, ◌^◌, ◌<◌, ◌≤◌, ◌==◌, ◌&&◌, ◌||◌, IsTrue, List, [], ◌∷◌, length, Bool, if◌then◌else◌}
-use Rattle.std.proofs.Common.{true}
-use Rattle.std.proofs.Common.{false, refl, sym, subst, arith, nat_le, get_or, bit_and, lit<}
-use Rattle.std.proofs.lemmas.Bool.Decides.{nat_tests}
-use Rattle.std.proofs.lemmas.Nat.{and_le_r}
-use Rattle.guest_machine.specs.declared.shapes.Shape.{Shape}
-use Rattle.guest_machine.specs.MachineStates.{IsMachineState}
+use Rattle.std.proofs.{lemmas.{List.nil_from_length, Bool.Decides.nat_tests, Nat.and_le_r}, Common.{◌≡◌, ℕ, suc, zero, ◌%◌, ◌^◌, ◌<◌, ◌≤◌}}
+use Rattle.std.proofs.Common.{◌==◌, ◌&&◌, ◌||◌, IsTrue, List, [], ◌∷◌, length, Bool, if◌then◌else◌, true, false, refl, sym, subst, arith}
+use Rattle.std.proofs.Common.{nat_le, get_or, bit_and, lit<}
+use Rattle.checkpoint_stream.{proofs.StateRead.low_half, specs.declared.rules.{Row.Row, Width.TheVariants.Four, Rule.TheVariants.Magic}}
+use Rattle.checkpoint_stream.specs.{declared.place.Place.{Place, TheVariants.Whole}, HeadTable.{head_table, passes, number}}
+use Rattle.checkpoint_stream.specs.{Readings.{Reading, is_whole, is_full, has_frames}, Sound.{IsSound, IsHead, HasRecords, HasFrames}}
+use Rattle.checkpoint_stream.specs.Sound.{AllPass, StandsAt, FramesAt, change_in, state_from, version_from}
+use Rattle.guest_machine.specs.{declared.shapes.Shape.Shape, MachineStates.IsMachineState}
 use Rattle.virtio_mmio.specs.States.{is_queue_size, IsQueueRecord}
 use Rattle.epoch_snapshot.specs.Checkpoints.{IsCanonical}
-use Rattle.checkpoint_stream.specs.declared.rules.Row.{Row}
-use Rattle.checkpoint_stream.specs.declared.place.Place.{Place}
-use Rattle.checkpoint_stream.specs.declared.place.Place.TheVariants.{Head, PageCount, PageIndex, PageMask, Block, SectorCount}
-use Rattle.checkpoint_stream.specs.declared.place.Place.TheVariants.{SectorIndex, SectorBytes, FrameCount, FrameLength, FrameBytes}
-use Rattle.checkpoint_stream.specs.declared.place.Place.TheVariants.{Whole, Failed}
-use Rattle.checkpoint_stream.specs.HeadTable.{head_table, passes, number}
-use Rattle.checkpoint_stream.specs.declared.rules.Width.TheVariants.{Four}
-use Rattle.checkpoint_stream.specs.declared.rules.Rule.TheVariants.{Magic}
-use Rattle.checkpoint_stream.specs.Readings.{Reading, is_whole, is_full, has_frames}
-use Rattle.checkpoint_stream.specs.Sound.{IsSound, IsHead, HasRecords, HasFrames, AllPass, StandsAt, FramesAt, change_in, state_from}
-use Rattle.checkpoint_stream.specs.Sound.{version_from}
 
 AllPass-at : (shape : Shape) (before : ℕ) (rows : List Row) (ns : List ℕ) (k : ℕ) (d : Row) → k < length ns → AllPass shape before rows ns →
     IsTrue (passes shape (get_or rows k d).rule (get_or (before ∷ ns) k 0) (get_or ns k 0))
@@ -33,9 +23,6 @@ within least n most h = grind (arith, nat_tests)
 equal : (m n : ℕ) → IsTrue (m == n) → m ≡ n
 equal m n h = grind (arith, nat_tests)
 
-low : (n : ℕ) → n < 2 ^ 32 → n % 2 ^ 32 ≡ n
-low n h = omega (arith, h)
-
 low-msip : (n : ℕ) → IsTrue (nat_le 0 n && nat_le n 1) → n % 2 ^ 32 ≤ 1
 low-msip n h = let le : (0 ≤ n) × (n ≤ 1) = within 0 n 1 h in omega (arith, le.1)
 
@@ -45,7 +32,7 @@ low-interrupts n h = let le : (0 ≤ n) × (n ≤ 3) = within 0 n 3 h in omega (
 low-status : (n : ℕ) → IsTrue (bit_and n 0xcf == n) → bit_and (n % 2 ^ 32) 0xcf ≡ n % 2 ^ 32
 low-status n h =
     let same : bit_and n 0xcf ≡ n = equal _ n h in
-    let small : n % 2 ^ 32 ≡ n = low n (omega (arith, same, and_le_r n 0xcf)) in
+    let small : n % 2 ^ 32 ≡ n = low_half n (omega (arith, same, and_le_r n 0xcf)) in
     subst (λ (m : ℕ). bit_and m 0xcf ≡ m) (sym small) same
 
 size-small : (n : ℕ) → IsTrue (n == 0 || is_queue_size n) → n ≤ 64
@@ -67,7 +54,7 @@ queue-record : (size ready desc driver device available used : ℕ) → IsTrue (
       next_used = used;
     })
 queue-record size ready desc driver device available used sized made =
-    let small : size % 2 ^ 32 ≡ size = low size (omega (arith, size-small size sized)) in
+    let small : size % 2 ^ 32 ≡ size = low_half size (omega (arith, size-small size sized)) in
     record {
       size = subst (λ (m : ℕ). IsTrue (m == 0 || is_queue_size m)) (sym small) sized;
       ready_has_size = λ (is : (ready == 1) ≡ true). omega (arith, small, ready-sized size ready made is);
@@ -120,10 +107,6 @@ version-within magic =
       | false ↦ (omega arith, omega arith)
     ]
 
-nothing : {X : Type 0} (xs : List X) → length xs ≡ 0 → xs ≡ []
-nothing [] e = refl
-nothing (x ∷ xs) e = absurd (omega (arith, e))
-
 -- a full one, and one of version 1, by the tests of a reading
 full-test : (r : Reading) → r.known ≡ 80 → get_or r.head 4 0 ≡ 0 → is_full r ≡ true
 full-test r known e = rw (known, e) refl
@@ -157,22 +140,11 @@ canonical r h whole =
         full_sectors = records.full;
         frames = frames.each;
         frame_count = omega (arith, frames.count);
-        old_frames = λ e. nothing r.frames (omega (arith, frames.old (old-carries r records.known e)));
-        full_frames = λ e. nothing r.frames (omega (arith, frames.full (full-test r records.known e)));
+        old_frames = λ e. nil_from_length r.frames (omega (arith, frames.old (old-carries r records.known e)));
+        full_frames = λ e. nil_from_length r.frames (omega (arith, frames.full (full-test r records.known e)));
       },
     )
 
 pub whole-place : (p : Place) → is_whole p ≡ true → p ≡ Whole
-whole-place Head e = cc
-whole-place PageCount e = cc
-whole-place (PageIndex left from) e = cc
-whole-place (PageMask left page) e = cc
-whole-place (Block left page more) e = cc
-whole-place SectorCount e = cc
-whole-place (SectorIndex left from) e = cc
-whole-place (SectorBytes left sector) e = cc
-whole-place FrameCount e = cc
-whole-place (FrameLength left) e = cc
-whole-place (FrameBytes left len) e = cc
 whole-place Whole e = refl
-whole-place (Failed at) e = cc
+whole-place other e = absurd (cc)

@@ -1,15 +1,10 @@
 -- What was read stays where more is read.
 use Rattle.std.proofs.Common.{◌≡◌, ℕ, List, [], ◌∷◌, ◌++◌, ◌+◌, ◌==◌, length, if◌then◌else◌, Bool, true, false, refl, sym, ◌∙◌, ap}
-use Rattle.std.proofs.Common.{append_assoc}
-use Rattle.std.proofs.lemmas.List.{append-nil}
-use Rattle.checkpoint_stream.specs.declared.rules.Row.{Row}
-use Rattle.checkpoint_stream.specs.declared.place.Place.{Place}
-use Rattle.checkpoint_stream.specs.declared.place.Place.TheVariants.{Head, PageCount, PageIndex, PageMask, Block, SectorCount}
-use Rattle.checkpoint_stream.specs.declared.place.Place.TheVariants.{SectorIndex, SectorBytes, FrameCount, FrameLength, FrameBytes}
-use Rattle.checkpoint_stream.specs.declared.place.Place.TheVariants.{Whole, Failed}
-use Rattle.checkpoint_stream.specs.Taken.{Extends}
-use Rattle.checkpoint_stream.specs.Readings.{Reading, is_closed, moved_if, kept_number, kept_mask, kept_block, kept_sector, frame_judged}
-use Rattle.checkpoint_stream.specs.Readings.{judged}
+use Rattle.std.proofs.{Common.append_assoc, lemmas.List.append-nil}
+use Rattle.checkpoint_stream.specs.declared.{rules.Row.Row, place.Place.{Place, TheVariants.{Head, PageCount, PageIndex, PageMask, Block}}}
+use Rattle.checkpoint_stream.specs.declared.place.Place.TheVariants.{SectorCount, SectorIndex, SectorBytes, FrameCount, FrameLength}
+use Rattle.checkpoint_stream.specs.{declared.place.Place.TheVariants.{FrameBytes, Whole, Failed}, Taken.Extends, Readings.Reading}
+use Rattle.checkpoint_stream.specs.Readings.{is_closed, moved_if, kept_number, kept_mask, kept_block, kept_sector, frame_judged, judged}
 use Rattle.checkpoint_stream.specs.Readings.{judged_at, fed_byte, fed, width_of}
 
 pub Extends-itself : (r : Reading) → Extends r r

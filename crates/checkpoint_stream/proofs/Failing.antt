@@ -1,7 +1,6 @@
 -- A unit that breaks its rule fails the reading.
 use Rattle.std.proofs.Common.{◌≡◌, ℕ, List, Bool, true, false}
-use Rattle.checkpoint_stream.specs.declared.rules.Row.{Row}
-use Rattle.checkpoint_stream.specs.Readings.{Reading, failed, kept_number, kept_mask, kept_block, kept_sector}
+use Rattle.checkpoint_stream.specs.{declared.rules.Row.Row, Readings.{Reading, failed, kept_number, kept_mask, kept_block, kept_sector}}
 
 pub kept_number-false : (b : Bool) (r : Reading) (row : Row) (n : ℕ) → b ≡ false → kept_number b r row n ≡ failed r
 unfolding kept_number

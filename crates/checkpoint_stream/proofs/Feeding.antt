@@ -1,12 +1,9 @@
 -- Bytes that end before the unit does are added to it, and bytes that end with it complete it.
-use Rattle.std.proofs.Common.{◌≡◌, ℕ, suc, ◌+◌, ◌-◌, ◌<◌, ◌≤◌, ◌==◌, List, [], ◌∷◌, ◌++◌, length, Bool, true, false, refl, sym, ◌∙◌}
-use Rattle.std.proofs.Common.{ap, subst, take, drop, length-drop, arith, append_assoc, length-append, if◌then◌else◌}
-use Rattle.std.proofs.lemmas.Bool.Decides.{nat_tests}
-use Rattle.std.proofs.lemmas.List.{append-nil, take_at}
+use Rattle.std.proofs.Common.{◌≡◌, ℕ, suc, ◌+◌, ◌-◌, ◌<◌, ◌≤◌, ◌==◌, List, [], ◌∷◌, ◌++◌, length, Bool, true, false, refl, sym, ◌∙◌, ap}
+use Rattle.std.proofs.Common.{subst, take, drop, length-drop, arith, append_assoc, length-append, if◌then◌else◌}
+use Rattle.std.proofs.{lemmas.{Bool.Decides.nat_tests, List.{append-nil, take_at}}, Math.Seq.{take-length, take-add}}
 use Rattle.checkpoint_stream.proofs.Begun.{with_more, judged-more}
-use Rattle.std.proofs.Math.Seq.{take-length, take-add}
-use Rattle.checkpoint_stream.specs.Taken.{Takes}
-use Rattle.checkpoint_stream.specs.Readings.{Reading, is_closed, width_of, judged, fed_byte, fed, taken}
+use Rattle.checkpoint_stream.specs.{Taken.Takes, Readings.{Reading, is_closed, width_of, judged, fed_byte, fed, taken}}
 
 fed_byte-inside : (r : Reading) (b : ℕ) → is_closed r.place ≡ false → (length r.partial + 1 == width_of r) ≡ false →
     fed_byte r b ≡ with_more r (b ∷ [])
@@ -111,6 +108,10 @@ pub taken-closed : (r : Reading) (ys : List ℕ) → is_closed r.place ≡ true 
 unfolding taken
 taken-closed r [] closed = refl
 taken-closed r (y ∷ ys) closed = rw closed refl
+
+pub taken-byte : (r : Reading) (b : ℕ) (bs : List ℕ) → is_closed r.place ≡ false → taken r (b ∷ bs) ≡ suc (taken (fed_byte r b) bs)
+unfolding taken
+taken-byte r b bs going = rw going (omega arith)
 
 taken-step : (closed : Bool) (n m : ℕ) → (if closed then 0 else 1 + n) ≡ suc m → (closed ≡ false) × (n ≡ m)
 taken-step true n m e = absurd (omega arith)

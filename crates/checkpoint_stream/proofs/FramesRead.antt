@@ -1,24 +1,16 @@
 -- The units of the frames are read as these.
-use Rattle.std.proofs.Common.{◌≡◌, ℕ, ◌+◌, ◌<◌, ◌≤◌, ◌%◌, ◌^◌, ◌==◌, ◌&&◌, List, [], ◌∷◌, ◌++◌, length, Bool, true, false, refl, sym, ◌∙◌}
-use Rattle.std.proofs.Common.{ap, arith}
-use Rattle.std.proofs.Common.{append_assoc, All, slice_index, nat_le, if◌then◌else◌}
-use Rattle.std.proofs.lemmas.List.{append-nil}
-use Rattle.std.proofs.lemmas.List.Elements.{All-head, All-tail}
-use Rattle.std.proofs.lemmas.Bool.Decides.{nat_tests}
+use Rattle.std.proofs.Common.{◌≡◌, ℕ, ◌+◌, ◌≤◌, ◌%◌, ◌^◌, ◌==◌, ◌&&◌, List, [], ◌∷◌, ◌++◌, length, Bool, true, false, refl, sym, ◌∙◌, ap}
+use Rattle.std.proofs.{Common.{arith, append_assoc, All, slice_index, nat_le, if◌then◌else◌}, lemmas.List.{append-nil, Elements.All-head}}
+use Rattle.std.proofs.lemmas.{List.Elements.All-tail, Bool.Decides.nat_tests}
 use Rattle.guest_machine.specs.declared.shapes.Shape.{Shape}
 use Rattle.net_device.specs.Frames.{IsFrame}
 use Rattle.arrayvec.specs.ArrayVec.{ArrayVec}
-use Rattle.epoch_snapshot.specs.declared.changes.PageChange.{PageChange}
-use Rattle.epoch_snapshot.specs.declared.changes.SectorChange.{SectorChange}
-use Rattle.epoch_snapshot.specs.Checkpoints.{Change, IsCanonical}
-use Rattle.checkpoint_stream.specs.declared.rules.Width.TheVariants.{Four}
-use Rattle.checkpoint_stream.specs.declared.place.Place.TheVariants.{FrameCount, FrameLength, FrameBytes, Whole}
-use Rattle.checkpoint_stream.specs.HeadTable.{bytes_of}
-use Rattle.checkpoint_stream.specs.Readings.{judged, moved_if, frame_judged, frames_due}
-use Rattle.checkpoint_stream.specs.Text.{frame_units, head_numbers}
-use Rattle.checkpoint_stream.proofs.Numbers.{number-back, length-bytes_of, some-bytes}
-use Rattle.checkpoint_stream.proofs.Leading.{standing, framed, Leads, Leads-append, Leads-unit, Leads-none}
-use Rattle.checkpoint_stream.proofs.RecordsRead.{end_of, le-test}
+use Rattle.epoch_snapshot.specs.{declared.changes.{PageChange.PageChange, SectorChange.SectorChange}, Checkpoints.{Change, IsCanonical}}
+use Rattle.checkpoint_stream.specs.declared.{rules.Width.TheVariants.Four, place.Place.TheVariants.{FrameCount, FrameLength, FrameBytes}}
+use Rattle.checkpoint_stream.specs.{declared.place.Place.TheVariants.Whole, HeadTable.bytes_of, Readings.{judged, moved_if, frame_judged}}
+use Rattle.checkpoint_stream.specs.{Readings.frames_due, Text.{frame_units, head_numbers}}
+use Rattle.checkpoint_stream.proofs.{Numbers.{number-back, length-bytes_of, some-bytes}, Leading.{standing, framed, Leads, Leads-append}}
+use Rattle.checkpoint_stream.proofs.{Leading.{Leads-unit, Leads-none}, RecordsRead.{end_of, le-test}}
 
 -- as many as a checkpoint may carry, by its number
 limit-test : (number n : ℕ) → n ≤ 256 → (number ≡ 0 → n ≡ 0) → nat_le n (if number == 0 then 0 else 256) ≡ true

@@ -1,17 +1,12 @@
 -- What one more number, block or record adds to the text of those before it.
-use Rattle.std.proofs.Common.{◌≡◌, ℕ, suc, zero, ◌+◌, ◌<◌, ◌≤◌, List, [], ◌∷◌, ◌++◌, length, take, drop, get_or, refl, sym, ◌∙◌, ap, subst}
-use Rattle.std.proofs.Common.{append_assoc, count_ones, take_all, arith, length-drop}
-use Rattle.std.proofs.lemmas.List.{append-nil, take-append-le, drop-append-le, drop_all}
-use Rattle.std.proofs.lemmas.List.Sums.{sum_by-cons}
-use Rattle.epoch_snapshot.specs.declared.changes.PageChange.{PageChange}
-use Rattle.epoch_snapshot.specs.declared.changes.SectorChange.{SectorChange}
-use Rattle.epoch_snapshot.specs.Checkpoints.{block_count}
-use Rattle.checkpoint_stream.specs.declared.rules.Row.{Row}
-use Rattle.checkpoint_stream.specs.declared.rules.Width.TheVariants.{Four, Eight}
-use Rattle.checkpoint_stream.specs.HeadTable.{bytes_of}
-use Rattle.checkpoint_stream.specs.Text.{joined, number_units, page_units, page_record, sector_units, frame_units}
+use Rattle.std.proofs.{lemmas.List.{nil_from_length, append-nil, take-append-le, drop-append-le, Sums.sum_by-cons}, Common.{◌≡◌, ℕ, ◌+◌}}
+use Rattle.std.proofs.Common.{◌<◌, ◌≤◌, List, [], ◌∷◌, ◌++◌, length, take, drop, get_or, refl, sym, ◌∙◌, ap, append_assoc, count_ones}
+use Rattle.std.proofs.Common.{take_all, arith, length-drop}
+use Rattle.checkpoint_stream.proofs.Spelling.{sector-at, frame-at, joined-append}
+use Rattle.checkpoint_stream.specs.{declared.rules.{Row.Row, Width.TheVariants.{Four, Eight}}, HeadTable.bytes_of, Text.joined}
+use Rattle.checkpoint_stream.specs.Text.{number_units, page_units, page_record, sector_units, frame_units}
+use Rattle.epoch_snapshot.specs.{declared.changes.{PageChange.PageChange, SectorChange.SectorChange}, Checkpoints.block_count}
 use Rattle.arrayvec.specs.ArrayVec.{ArrayVec}
-use Rattle.checkpoint_stream.proofs.Spelling.{joined-append}
 
 number_units-none : (rows : List Row) → number_units rows [] ≡ []
 unfolding number_units
@@ -28,17 +23,13 @@ number_units-push (row ∷ rows) (m ∷ ns) n d h =
     ap (λ (l : List ℕ). bytes_of row.width m ++ l) (number_units-push rows ns n d (omega (arith, h)))
     ∙ sym (append_assoc (bytes_of row.width m) (joined (number_units rows ns)) (bytes_of (get_or rows (length ns) d).width n))
 
-none-left : {X : Type 0} (xs : List X) → length xs ≡ 0 → xs ≡ []
-none-left [] e = refl
-none-left (x ∷ xs) e = absurd (omega (arith, e))
-
 regroup : (front own rest later : List (List ℕ)) → front ++ (own ++ (rest ++ later)) ≡ (front ++ (own ++ rest)) ++ later
 regroup front own rest later = simp append_assoc
 
 page_units-append : (qs ps : List PageChange) (bs cs : List (List ℕ)) → length bs ≡ block_count qs →
     page_units (qs ++ ps) (bs ++ cs) ≡ page_units qs bs ++ page_units ps cs
 unfolding page_units
-page_units-append [] ps bs cs e = ap (λ (l : List (List ℕ)). page_units ps (l ++ cs)) (none-left bs e)
+page_units-append [] ps bs cs e = ap (λ (l : List (List ℕ)). page_units ps (l ++ cs)) (nil_from_length bs e)
 page_units-append (q ∷ qs) ps bs cs e =
     let one_more : block_count (q ∷ qs) ≡ count_ones q.mask + block_count qs
     = sum_by-cons (λ (p : PageChange). count_ones p.mask) q qs in
@@ -92,11 +83,6 @@ block-spelled qs p bs own b e more h =
     ∙ ap (λ (l : List ℕ). joined (page_units qs bs) ++ (bytes_of Four p.page ++ (bytes_of Eight p.mask ++ l))) (joined-push own b)
     ∙ grouped ∙ ap (λ (l : List ℕ). l ++ b) (sym (last-spelled qs p bs own e h))
 
-sector-at : (s : SectorChange) (ss : List SectorChange) →
-    joined (sector_units (s ∷ ss)) ≡ bytes_of Four s.sector ++ (s.bytes ++ joined (sector_units ss))
-unfolding joined sector_units
-sector-at s ss = refl
-
 sectors-nothing : joined (sector_units []) ≡ []
 unfolding joined sector_units
 sectors-nothing = refl
@@ -121,11 +107,6 @@ no-pages ps blocks e = ap (λ (l : List PageChange). joined (page_units l blocks
 
 pub no-sectors : (ss : List SectorChange) → ss ≡ [] → joined (sector_units ss) ≡ []
 no-sectors ss e = ap (λ (l : List SectorChange). joined (sector_units l)) e ∙ sectors-nothing
-
-frame-at : (f : ArrayVec ℕ) (fs : List (ArrayVec ℕ)) →
-    joined (frame_units (f ∷ fs)) ≡ bytes_of Four (length f.items) ++ (f.items ++ joined (frame_units fs))
-unfolding joined frame_units
-frame-at f fs = refl
 
 frames-nothing : joined (frame_units []) ≡ []
 unfolding joined frame_units

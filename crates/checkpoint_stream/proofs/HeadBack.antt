@@ -1,19 +1,11 @@
 -- The head's numbers of a checkpoint that was read whole are those that were read.
-use Rattle.std.proofs.Common.{◌≡◌, ℕ, suc, zero, ◌+◌, ◌<◌, ◌≤◌, ◌%◌, ◌^◌, ◌==◌, ◌&&◌, ◌||◌, IsTrue, List, [], ◌∷◌, ◌++◌, length, drop}
-use Rattle.std.proofs.Common.{Bool, true, false, refl, sym, ◌∙◌, ap, arith, nat_le, get_or, slice_index, if◌then◌else◌, lit<}
-use Rattle.std.proofs.lemmas.Bool.Decides.{nat_tests}
-use Rattle.virtqueue.specs.declared.rings.Queue.{Queue}
-use Rattle.virtqueue.specs.Queues.{boot_queue}
-use Rattle.checkpoint_stream.specs.declared.rules.Row.{Row}
-use Rattle.checkpoint_stream.specs.declared.rules.Width.TheVariants.{Four}
-use Rattle.checkpoint_stream.specs.declared.rules.Rule.TheVariants.{Magic}
-use Rattle.checkpoint_stream.specs.HeadTable.{head_table, passes, number}
-use Rattle.checkpoint_stream.specs.Readings.{Reading}
-use Rattle.checkpoint_stream.specs.Sound.{IsHead, change_in, version_from, queue_from, device_from}
-use Rattle.checkpoint_stream.specs.Text.{magic, head_numbers, numbers_from, queue_numbers, device_numbers}
-use Rattle.checkpoint_stream.proofs.Numbers.{limit_of}
-use Rattle.checkpoint_stream.proofs.Canonical.{rule-at}
-use Rattle.checkpoint_stream.proofs.StateRead.{numbers-back}
+use Rattle.checkpoint_stream.proofs.{StateRead.{low_half, low_quarter, numbers-back}, Numbers.limit_of, Canonical.rule-at}
+use Rattle.checkpoint_stream.specs.{declared.rules.{Row.Row, Width.TheVariants.Four, Rule.TheVariants.Magic}, HeadTable.head_table}
+use Rattle.checkpoint_stream.specs.{HeadTable.{passes, number}, Readings.Reading, Sound.{IsHead, change_in, version_from, queue_from}}
+use Rattle.checkpoint_stream.specs.{Sound.device_from, Text.{magic, head_numbers, numbers_from, queue_numbers, device_numbers}}
+use Rattle.std.proofs.Common.{◌≡◌, ℕ, suc, zero, ◌+◌, ◌<◌, ◌^◌, ◌==◌, ◌&&◌, ◌||◌, IsTrue, List, [], ◌∷◌, ◌++◌, length, Bool, true, false}
+use Rattle.std.proofs.{Common.{refl, sym, ◌∙◌, ap, arith, nat_le, get_or, slice_index, if◌then◌else◌, lit<}, lemmas.Bool.Decides.nat_tests}
+use Rattle.virtqueue.specs.{declared.rings.Queue.Queue, Queues.boot_queue}
 
 -- each number is as wide as its row
 abbrev pub Narrow : List Row → List ℕ → Type 0
@@ -34,12 +26,6 @@ Narrow-at rows [] k d h all = absurd (omega (arith, h))
 Narrow-at [] (n ∷ ns) k d h all = absurd all
 Narrow-at (row ∷ rows) (n ∷ ns) zero d h all = all.0
 Narrow-at (row ∷ rows) (n ∷ ns) (suc k) d h all = Narrow-at rows ns k d (omega (arith, h)) all.1
-
-low_half : (n : ℕ) → n < 2 ^ 32 → n % 2 ^ 32 ≡ n
-low_half n h = omega (arith, h)
-
-low_quarter : (n : ℕ) → n < 2 ^ 16 → n % 2 ^ 16 ≡ n
-low_quarter n h = omega (arith, h)
 
 flag : (n size : ℕ) → IsTrue (n == 0 || (n == 1 && nat_le 1 size)) → (if n == 1 then 1 else 0) ≡ n
 flag n size h = grind (arith, nat_tests)

@@ -1,13 +1,9 @@
 -- The head's numbers of a checkpoint keep their rules, and are as wide as their rows.
-use Rattle.std.proofs.Common.{◌≡◌, ℕ, ◌<◌, ◌≤◌, ◌^◌, ◌==◌, ◌&&◌, ◌||◌, IsTrue, Bool, true, false}
-use Rattle.std.proofs.Common.{arith, refl, if◌then◌else◌, nat_le, lit<, get_or}
-use Rattle.std.proofs.lemmas.Bool.Decides.{nat_tests}
+use Rattle.std.proofs.Common.{◌≡◌, ℕ, ◌<◌, ◌≤◌, ◌^◌, ◌==◌, ◌&&◌, ◌||◌, IsTrue, Bool, true, false, arith, refl, if◌then◌else◌, nat_le, lit<}
+use Rattle.std.proofs.{Common.get_or, lemmas.Bool.Decides.nat_tests}
 use Rattle.virtio_mmio.specs.States.{queue_at}
 use Rattle.epoch_snapshot.specs.Checkpoints.{Change, IsCanonical}
-use Rattle.checkpoint_stream.specs.HeadTable.{head_table, passes}
-use Rattle.checkpoint_stream.specs.Sound.{AllPass}
-use Rattle.checkpoint_stream.specs.Text.{magic, head_numbers}
-use Rattle.checkpoint_stream.specs.Widths.{HasWidths}
+use Rattle.checkpoint_stream.specs.{HeadTable.{head_table, passes}, Sound.AllPass, Text.{magic, head_numbers}, Widths.HasWidths}
 use Rattle.checkpoint_stream.proofs.Numbers.{AllFit}
 
 infixr 5 ◌⨾◌

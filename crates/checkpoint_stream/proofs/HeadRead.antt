@@ -1,19 +1,11 @@
 -- The units of the head are read as its numbers.
-use Rattle.std.proofs.Common.{◌≡◌, ℕ, ◌+◌, ◌<◌, ◌%◌, ◌^◌, ◌==◌, List, [], ◌∷◌, ◌++◌, length, drop, get_or, IsTrue, true}
-use Rattle.std.proofs.Common.{false, refl, sym, ◌∙◌, ap, arith, append_assoc, length-drop}
-use Rattle.std.proofs.lemmas.List.{get_or-drop, drop-drop}
-use Rattle.std.proofs.lemmas.Bool.Decides.{nat_tests}
+use Rattle.std.proofs.Common.{◌≡◌, ℕ, ◌+◌, ◌<◌, ◌%◌, ◌^◌, ◌==◌, List, [], ◌∷◌, ◌++◌, length, drop, get_or, IsTrue, true, false, refl, sym}
+use Rattle.std.proofs.{Common.{◌∙◌, ap, arith, append_assoc, length-drop}, lemmas.{List.{get_or-drop, drop-drop}, Bool.Decides.nat_tests}}
 use Rattle.guest_machine.specs.declared.shapes.Shape.{Shape}
-use Rattle.checkpoint_stream.specs.declared.rules.Row.{Row}
-use Rattle.checkpoint_stream.specs.declared.rules.Width.TheVariants.{Four}
-use Rattle.checkpoint_stream.specs.declared.rules.Rule.TheVariants.{Magic}
-use Rattle.checkpoint_stream.specs.declared.place.Place.{Place}
-use Rattle.checkpoint_stream.specs.declared.place.Place.TheVariants.{Head, PageCount}
-use Rattle.checkpoint_stream.specs.HeadTable.{head_table, row_at, passes, bytes_of, bytes_in, number}
-use Rattle.checkpoint_stream.specs.Readings.{judged, kept_number, after_number}
-use Rattle.checkpoint_stream.specs.Sound.{AllPass, last_after}
-use Rattle.checkpoint_stream.specs.Text.{number_units}
-use Rattle.checkpoint_stream.proofs.Numbers.{limit_of, AllFit, number-back, length-bytes_of, some-bytes}
+use Rattle.checkpoint_stream.specs.declared.{rules.{Row.Row, Width.TheVariants.Four, Rule.TheVariants.Magic}, place.Place.Place}
+use Rattle.checkpoint_stream.specs.{declared.place.Place.TheVariants.{Head, PageCount}, HeadTable.{head_table, row_at, passes, bytes_of}}
+use Rattle.checkpoint_stream.specs.{HeadTable.{bytes_in, number}, Readings.{judged, kept_number, after_number}, Sound.{AllPass, last_after}}
+use Rattle.checkpoint_stream.{specs.Text.number_units, proofs.Numbers.{limit_of, AllFit, number-back, length-bytes_of, some-bytes}}
 use Rattle.checkpoint_stream.proofs.Leading.{standing, Leads, Leads-append, Leads-unit}
 
 length-head_table : length head_table ≡ 80

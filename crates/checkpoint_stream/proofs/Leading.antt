@@ -1,12 +1,10 @@
 -- Units that lead from one reading to another, wherever in the stream.
 use Rattle.std.proofs.Common.{◌≡◌, ℕ, ◌<◌, List, [], ◌∷◌, ◌++◌, length, false, refl, sym, ◌∙◌, ap, subst}
 use Rattle.guest_machine.specs.declared.shapes.Shape.{Shape}
-use Rattle.epoch_snapshot.specs.declared.changes.PageChange.{PageChange}
-use Rattle.epoch_snapshot.specs.declared.changes.SectorChange.{SectorChange}
+use Rattle.epoch_snapshot.specs.declared.changes.{PageChange.PageChange, SectorChange.SectorChange}
 use Rattle.arrayvec.specs.ArrayVec.{ArrayVec}
-use Rattle.checkpoint_stream.specs.declared.place.Place.{Place}
-use Rattle.checkpoint_stream.specs.Readings.{Reading, is_closed, width_of, judged}
-use Rattle.checkpoint_stream.specs.Units.{judged_all, AreUnits}
+use Rattle.checkpoint_stream.specs.{declared.place.Place.Place, Readings.{Reading, is_closed, width_of, judged}, Units.judged_all}
+use Rattle.checkpoint_stream.specs.Units.{AreUnits}
 
 -- a reading at the start of a unit
 abbrev pub framed : Shape → Place → ℕ → List ℕ → ℕ → List PageChange → List (List ℕ) → List SectorChange → List (ArrayVec ℕ) → ℕ →
@@ -63,6 +61,3 @@ Leads-unit from to unit going begun some wide judges = record {
 
 pub Leads-none : (from : ℕ → Reading) → Leads from [] from
 Leads-none from = record { are = λ o. tt; lead = λ o. (o, refl) }
-
-pub Leads-to : (from to end : ℕ → Reading) (us : List (List ℕ)) → to ≡ end → Leads from us to → Leads from us end
-Leads-to from to end us e h = subst (λ (t : ℕ → Reading). Leads from us t) e h

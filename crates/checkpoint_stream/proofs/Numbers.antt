@@ -1,13 +1,9 @@
 -- A number and its bytes give each other.
-use Rattle.std.proofs.Common.{◌≡◌, ℕ, ◌<◌, ◌^◌, List, [], ◌∷◌, length, refl, arith}
-use Rattle.std.proofs.Common.{suc, zero, All, get_or, lit<}
-use Rattle.std.proofs.lemmas.List.Elements.{All-head, All-tail}
-use Rattle.std.proofs.lemmas.Nat.{from_le_bytes-to_le_bytes_2, from_le_bytes-to_le_bytes_4, from_le_bytes-to_le_bytes_8}
-use Rattle.std.proofs.lemmas.Nat.{le_bytes_2, le_bytes_4, le_bytes_8}
-use Rattle.checkpoint_stream.specs.declared.rules.Width.{Width}
-use Rattle.checkpoint_stream.specs.declared.rules.Width.TheVariants.{Two, Four, Eight}
-use Rattle.checkpoint_stream.specs.declared.rules.Row.{Row}
-use Rattle.checkpoint_stream.specs.HeadTable.{bytes_in, bytes_of, number_of}
+use Rattle.std.proofs.Common.{◌≡◌, ℕ, ◌<◌, ◌^◌, List, [], ◌∷◌, length, refl, arith, suc, zero, All, get_or, lit<}
+use Rattle.std.proofs.lemmas.{List.Elements.{All-head, All-tail}, Nat.{from_le_bytes-to_le_bytes_2, from_le_bytes-to_le_bytes_4}}
+use Rattle.std.proofs.lemmas.Nat.{from_le_bytes-to_le_bytes_8, le_bytes_2, le_bytes_4, le_bytes_8}
+use Rattle.checkpoint_stream.specs.{declared.rules.{Width.{Width, TheVariants.{Two, Four, Eight}}, Row.Row}, HeadTable.{bytes_in, bytes_of}}
+use Rattle.checkpoint_stream.specs.HeadTable.{number_of}
 
 -- the least number that a width can't hold
 abbrev pub limit_of : Width → ℕ

@@ -1,51 +1,16 @@
 -- The places of frames, and that a reader never goes back from one.
 use Rattle.std.proofs.Common.{◌≡◌, ◌≢◌, ℕ, zero, suc, ◌+◌, ◌<◌, ◌≤◌, ◌==◌, List, [], ◌∷◌, ◌++◌, length, Bool, true, false, refl, sym, ◌∙◌}
-use Rattle.std.proofs.Common.{ap, subst, arith, if◌then◌else◌}
-use Rattle.std.proofs.lemmas.List.{append-nil}
-use Rattle.checkpoint_stream.specs.declared.place.Place.{Place}
-use Rattle.checkpoint_stream.specs.declared.place.Place.TheVariants.{Head, PageCount, PageIndex, PageMask, Block, SectorCount}
-use Rattle.checkpoint_stream.specs.declared.place.Place.TheVariants.{SectorIndex, SectorBytes, FrameCount, FrameLength, FrameBytes}
-use Rattle.checkpoint_stream.specs.declared.place.Place.TheVariants.{Whole, Failed}
-use Rattle.checkpoint_stream.specs.Readings.{Reading, is_closed, width_of, moved_if, frames_due, frame_judged, judged, judged_at}
-use Rattle.checkpoint_stream.specs.Readings.{fed_byte, fed}
-use Rattle.checkpoint_stream.specs.Taken.{is_at_frame, has_room, HasPlaces}
-
--- where no frame comes next, none has begun
-pub places-early : (p : Place) (filled frames places : ℕ) → is_at_frame p ≡ false → HasPlaces p filled [] frames places
-places-early Head filled frames places e = refl
-places-early PageCount filled frames places e = refl
-places-early (PageIndex left from) filled frames places e = refl
-places-early (PageMask left page) filled frames places e = refl
-places-early (Block left page more) filled frames places e = refl
-places-early SectorCount filled frames places e = refl
-places-early (SectorIndex left from) filled frames places e = refl
-places-early (SectorBytes left sector) filled frames places e = refl
-places-early FrameCount filled frames places e = refl
-places-early (FrameLength left) filled frames places e = cc
-places-early (FrameBytes left len) filled frames places e = cc
-places-early Whole filled frames places e = refl
-places-early (Failed at) filled frames places e = refl
-
-pub places-due : (left filled frames places : ℕ) → frames + left ≤ places → HasPlaces (frames_due left) filled [] frames places
-places-due zero filled frames places h = refl
-places-due (suc left) filled frames places h = (refl, omega (arith, h))
+use Rattle.std.proofs.{Common.{ap, subst, if◌then◌else◌}, lemmas.List.append-nil}
+use Rattle.checkpoint_stream.specs.{declared.place.Place.{Place, TheVariants.{FrameLength, FrameBytes, Whole, Failed}}, Readings.Reading}
+use Rattle.checkpoint_stream.specs.Readings.{is_closed, width_of, moved_if, frames_due, frame_judged, judged, judged_at, fed_byte, fed}
+use Rattle.checkpoint_stream.specs.Taken.{has_room, HasPlaces}
 
 -- only a frame's bytes lie beside the buffer
 pub part-nothing : (p : Place) (filled : ℕ) (part : List ℕ) (frames places : ℕ) → ((left len : ℕ) → p ≢ FrameBytes left len) →
     HasPlaces p filled part frames places → part ≡ []
-part-nothing Head filled part frames places other h = h
-part-nothing PageCount filled part frames places other h = h
-part-nothing (PageIndex left from) filled part frames places other h = h
-part-nothing (PageMask left page) filled part frames places other h = h
-part-nothing (Block left page more) filled part frames places other h = h
-part-nothing SectorCount filled part frames places other h = h
-part-nothing (SectorIndex left from) filled part frames places other h = h
-part-nothing (SectorBytes left sector) filled part frames places other h = h
-part-nothing FrameCount filled part frames places other h = h
 part-nothing (FrameLength left) filled part frames places other h = h.0
 part-nothing (FrameBytes left len) filled part frames places other h = absurd (other left len refl)
-part-nothing Whole filled part frames places other h = h
-part-nothing (Failed at) filled part frames places other h = h
+part-nothing place filled part frames places other h = h
 
 -- what is known where a frame's bytes come next
 pub at-bytes : (p : Place) (filled : ℕ) (part : List ℕ) (frames places left len : ℕ) → p ≡ FrameBytes left len →
@@ -84,19 +49,11 @@ unfolding frame_judged
 frame-room r left len unit = due-room left
 
 judged_at-room : (p : Place) (r : Reading) (unit : List ℕ) → r.place ≡ p → has_room p ≡ true → has_room (judged_at p r unit).place ≡ true
-judged_at-room Head r unit at e = cc
-judged_at-room PageCount r unit at e = cc
-judged_at-room (PageIndex left from) r unit at e = cc
-judged_at-room (PageMask left page) r unit at e = cc
-judged_at-room (Block left page more) r unit at e = cc
-judged_at-room SectorCount r unit at e = cc
-judged_at-room (SectorIndex left from) r unit at e = cc
-judged_at-room (SectorBytes left sector) r unit at e = cc
-judged_at-room FrameCount r unit at e = cc
 judged_at-room (FrameLength left) r unit at e = moved_if-room _ r _ refl
 judged_at-room (FrameBytes left len) r unit at e = frame-room r left len unit
 judged_at-room Whole r unit at e = ap has_room at
 judged_at-room (Failed x) r unit at e = ap has_room at
+judged_at-room other r unit at e = cc
 
 judged-room : (r : Reading) (unit : List ℕ) → has_room r.place ≡ true → has_room (judged r unit).place ≡ true
 unfolding judged

@@ -1,29 +1,19 @@
 -- What is read whole is the text of what it gives.
-use Rattle.std.proofs.Common.{◌≡◌, ℕ, suc, zero, ◌+◌, ◌<◌, ◌≤◌, ◌==◌, List, [], ◌∷◌, ◌++◌, length, take, Bool, true, false, All, get_or}
-use Rattle.std.proofs.Common.{refl, sym, ◌∙◌, ap, subst, arith, append_assoc, if◌then◌else◌, length-append}
-use Rattle.std.proofs.lemmas.List.{append-nil}
-use Rattle.std.proofs.lemmas.List.Elements.{All-head, All-tail, All-push, All-nil}
-use Rattle.std.proofs.lemmas.Bool.Decides.{nat_tests}
+use Rattle.checkpoint_stream.proofs.{Feeding.{taken-byte, fed-closed, taken-closed}, Numbers.{IsByte, limit_of, number-small}}
+use Rattle.checkpoint_stream.proofs.{Soundness.{fed_byte-sound, begun-sound}, Spelling.text-spelled, Spelled.{heads, pages_of, sectors_of}}
+use Rattle.checkpoint_stream.proofs.{Spelled.{records_of, ending_of, front, SpellsAt, IsWritten, judged_at-written}, HeadBack.Narrow}
+use Rattle.checkpoint_stream.proofs.HeadBack.{Narrow-push, head-kept}
+use Rattle.checkpoint_stream.specs.declared.{rules.{Row.Row, Width.TheVariants.Four, Rule.TheVariants.Magic}, place.Place.Place}
+use Rattle.checkpoint_stream.specs.declared.place.Place.TheVariants.{Head, PageCount, PageIndex, PageMask, Block, SectorCount, SectorIndex}
+use Rattle.checkpoint_stream.specs.declared.place.Place.TheVariants.{SectorBytes, FrameCount, FrameLength, FrameBytes, Whole, Failed}
+use Rattle.checkpoint_stream.specs.{HeadTable.{head_table, row_at, number}, Readings.{Reading, begun, is_closed, width_of, judged}}
+use Rattle.checkpoint_stream.specs.Readings.{judged_at, fed_byte, fed, taken, moved_if, kept_number, kept_mask, kept_block, kept_sector}
+use Rattle.checkpoint_stream.specs.{Readings.{frame_judged, has_frames}, Sound.{IsSound, IsHead, HasRecords, StandsAt, change_in}}
+use Rattle.checkpoint_stream.specs.Text.{joined, number_units, units_of_frames, text}
+use Rattle.std.proofs.Common.{◌≡◌, ℕ, suc, ◌+◌, ◌<◌, ◌==◌, List, [], ◌∷◌, ◌++◌, length, take, Bool, true, false, All, get_or, refl, sym}
+use Rattle.std.proofs.{Common.{◌∙◌, ap, subst, arith, append_assoc, if◌then◌else◌, length-append}, lemmas.List.append-nil}
+use Rattle.std.proofs.lemmas.{List.Elements.{All-head, All-tail, All-push, All-nil}, Bool.Decides.nat_tests}
 use Rattle.guest_machine.specs.declared.shapes.Shape.{Shape}
-use Rattle.checkpoint_stream.specs.declared.rules.Row.{Row}
-use Rattle.checkpoint_stream.specs.declared.rules.Width.TheVariants.{Four}
-use Rattle.checkpoint_stream.specs.declared.rules.Rule.TheVariants.{Magic}
-use Rattle.checkpoint_stream.specs.declared.place.Place.{Place}
-use Rattle.checkpoint_stream.specs.declared.place.Place.TheVariants.{Head, PageCount, PageIndex, PageMask, Block, SectorCount}
-use Rattle.checkpoint_stream.specs.declared.place.Place.TheVariants.{SectorIndex, SectorBytes, FrameCount, FrameLength, FrameBytes}
-use Rattle.checkpoint_stream.specs.declared.place.Place.TheVariants.{Whole, Failed}
-use Rattle.checkpoint_stream.specs.HeadTable.{head_table, row_at, number, number_of, bytes_of}
-use Rattle.checkpoint_stream.specs.Readings.{Reading, begun, is_closed, width_of, judged, judged_at, fed_byte, fed, taken}
-use Rattle.checkpoint_stream.specs.Readings.{moved_if, kept_number, kept_mask, kept_block, kept_sector, frame_judged, has_frames}
-use Rattle.checkpoint_stream.specs.Sound.{IsSound, IsHead, HasRecords, StandsAt, change_in}
-use Rattle.checkpoint_stream.specs.Text.{joined, number_units, page_units, sector_units, frame_units, units_of_frames, text, head_numbers}
-use Rattle.checkpoint_stream.proofs.Numbers.{IsByte, limit_of, number-small}
-use Rattle.checkpoint_stream.proofs.Feeding.{fed-closed, taken-closed}
-use Rattle.checkpoint_stream.proofs.Soundness.{fed_byte-sound, begun-sound}
-use Rattle.checkpoint_stream.proofs.Spelling.{text-spelled}
-use Rattle.checkpoint_stream.proofs.Spelled.{heads, pages_of, sectors_of, records_of, ending_of, front, OpenAt, SpellsAt, IsWritten}
-use Rattle.checkpoint_stream.proofs.Spelled.{judged_at-written}
-use Rattle.checkpoint_stream.proofs.HeadBack.{Narrow, Narrow-push, head-kept}
 
 length-head_table : length head_table ≡ 80
 unfolding head_table
@@ -106,10 +96,6 @@ record IsSpelled (r : Reading) (done : List ℕ) : Type 0 where
 -- the bytes of a unit that has begun change nothing of what was read
 began-written : (p : Place) (r : Reading) (partial units : List ℕ) → IsWritten p r units →
     IsWritten p (record r { partial = partial }) units
-began-written Head r partial units h = record { opens = h.opens; spells = h.spells }
-began-written PageCount r partial units h = record { opens = h.opens; spells = h.spells }
-began-written (PageIndex left from) r partial units h = record { opens = h.opens; spells = h.spells }
-began-written (PageMask left page) r partial units h = record { opens = h.opens; spells = h.spells }
 began-written (Block left page more) r partial units h = record {
   opens = record {
     earlier = h.opens.earlier;
@@ -123,29 +109,12 @@ began-written (Block left page more) r partial units h = record {
   };
   spells = h.spells;
 }
-began-written SectorCount r partial units h = record { opens = h.opens; spells = h.spells }
-began-written (SectorIndex left from) r partial units h = record { opens = h.opens; spells = h.spells }
-began-written (SectorBytes left sector) r partial units h = record { opens = h.opens; spells = h.spells }
-began-written FrameCount r partial units h = record { opens = h.opens; spells = h.spells }
-began-written (FrameLength left) r partial units h = record { opens = h.opens; spells = h.spells }
-began-written (FrameBytes left len) r partial units h = record { opens = h.opens; spells = h.spells }
-began-written Whole r partial units h = record { opens = h.opens; spells = h.spells }
-began-written (Failed at) r partial units h = record { opens = h.opens; spells = h.spells }
+began-written other r partial units h = record { opens = h.opens; spells = h.spells }
 
 spelled-front : (p : Place) (r : Reading) (units : List ℕ) → is_closed p ≡ false → SpellsAt p r units → units ≡ front p r
-spelled-front Head r units going h = h
-spelled-front PageCount r units going h = h
-spelled-front (PageIndex left from) r units going h = h
-spelled-front (PageMask left page) r units going h = h
-spelled-front (Block left page more) r units going h = h
-spelled-front SectorCount r units going h = h
-spelled-front (SectorIndex left from) r units going h = h
-spelled-front (SectorBytes left sector) r units going h = h
-spelled-front FrameCount r units going h = h
-spelled-front (FrameLength left) r units going h = h
-spelled-front (FrameBytes left len) r units going h = h
 spelled-front Whole r units going h = cc
 spelled-front (Failed at) r units going h = cc
+spelled-front other r units going h = h
 
 regrouped : (units partial done : List ℕ) (b : ℕ) → done ≡ units ++ partial → done ++ b ∷ [] ≡ units ++ (partial ++ b ∷ [])
 regrouped units partial done b e = ap (λ (l : List ℕ). l ++ b ∷ []) e ∙ append_assoc units partial (b ∷ [])
@@ -220,10 +189,6 @@ stays r done bytes h closed e = record {
       ∙ whole-read r.place r h.units e h.written;
 }
 
-one-more : (r : Reading) (b : ℕ) (bs : List ℕ) → is_closed r.place ≡ false → taken r (b ∷ bs) ≡ suc (taken (fed_byte r b) bs)
-unfolding taken
-one-more r b bs going = rw going (omega arith)
-
 fed-spelled : (r : Reading) (done bytes : List ℕ) → IsSpelled r done → All IsByte bytes → (fed r bytes).place ≡ Whole →
     IsReadOf (fed r bytes) (done ++ take (taken r bytes) bytes)
 unfolding fed taken
@@ -241,7 +206,7 @@ fed-spelled r done (b ∷ bs) h all e =
           let byte : IsSpelled (fed_byte r b) (done ++ b ∷ []) = fed_byte-spelled r done b h going (All-head IsByte b bs all) in
           let rest : IsReadOf (fed (fed_byte r b) bs) ((done ++ b ∷ []) ++ take (taken (fed_byte r b) bs) bs)
           = fed-spelled (fed_byte r b) (done ++ b ∷ []) bs byte (All-tail IsByte b bs all) e in
-          let count : taken r (b ∷ bs) ≡ suc (taken (fed_byte r b) bs) = one-more r b bs going in
+          let count : taken r (b ∷ bs) ≡ suc (taken (fed_byte r b) bs) = taken-byte r b bs going in
           subst (λ (n : ℕ). IsReadOf (fed (fed_byte r b) bs) (done ++ take n (b ∷ bs))) (sym count)
           (subst (IsReadOf (fed (fed_byte r b) bs)) (append_assoc done (b ∷ []) (take (taken (fed_byte r b) bs) bs)) rest)
     ] refl

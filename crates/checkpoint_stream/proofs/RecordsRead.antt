@@ -1,28 +1,18 @@
 -- The units of the page records and of the sector records are read as these.
-use Rattle.std.proofs.Common.{◌≡◌, ◌≢◌, ℕ, suc, zero, ◌+◌, ◌-◌, ◌<◌, ◌≤◌, ◌%◌, ◌^◌, ◌==◌, ◌&&◌, List, [], ◌∷◌, ◌++◌}
-use Rattle.std.proofs.Common.{length, map, take, drop}
-use Rattle.std.proofs.Common.{IsTrue, not, Bool, true, false, refl, ◌∙◌, ap, arith, append_assoc, All, count_ones}
-use Rattle.std.proofs.Common.{nat_le, nat_lt, length-drop, length-append, slice_index, if◌then◌else◌}
-use Rattle.std.proofs.lemmas.List.{append-nil, take-append-drop}
-use Rattle.std.proofs.lemmas.List.Elements.{All-head, All-tail, All-take, All-drop}
-use Rattle.std.proofs.lemmas.List.Sums.{sum_by-cons}
-use Rattle.std.proofs.lemmas.Bool.Decides.{nat_tests}
+use Rattle.std.proofs.Common.{◌≡◌, ◌≢◌, ℕ, suc, zero, ◌+◌, ◌-◌, ◌<◌, ◌≤◌, ◌%◌, ◌^◌, ◌==◌, ◌&&◌, List, [], ◌∷◌, ◌++◌, length, map, take}
+use Rattle.std.proofs.Common.{drop, IsTrue, not, Bool, true, false, refl, ◌∙◌, ap, arith, append_assoc, All, count_ones, nat_le, nat_lt}
+use Rattle.std.proofs.{Common.{length-drop, length-append, slice_index, if◌then◌else◌}, lemmas.List.{append-nil, take-append-drop}}
+use Rattle.std.proofs.lemmas.{List.{Elements.{All-head, All-tail, All-take, All-drop}, Sums.sum_by-cons}, Bool.Decides.nat_tests}
 use Rattle.std.proofs.lemmas.Nat.{zero_from_ones}
-use Rattle.guest_machine.specs.Dirty.{Rises}
-use Rattle.guest_machine.specs.declared.shapes.Shape.{Shape}
-use Rattle.epoch_snapshot.specs.declared.changes.PageChange.{PageChange}
-use Rattle.epoch_snapshot.specs.declared.changes.SectorChange.{SectorChange}
-use Rattle.epoch_snapshot.specs.Blocks.{is_zero}
+use Rattle.guest_machine.specs.{Dirty.Rises, declared.shapes.Shape.Shape}
+use Rattle.epoch_snapshot.specs.{declared.changes.{PageChange.PageChange, SectorChange.SectorChange}, Blocks.is_zero}
 use Rattle.epoch_snapshot.specs.Checkpoints.{block_count}
-use Rattle.checkpoint_stream.specs.declared.rules.Width.TheVariants.{Four, Eight}
-use Rattle.checkpoint_stream.specs.declared.place.Place.{Place}
-use Rattle.checkpoint_stream.specs.declared.place.Place.TheVariants.{PageCount, PageIndex, PageMask, Block, SectorCount}
-use Rattle.checkpoint_stream.specs.declared.place.Place.TheVariants.{SectorIndex, SectorBytes, FrameCount, Whole}
-use Rattle.checkpoint_stream.specs.HeadTable.{bytes_of}
-use Rattle.checkpoint_stream.specs.Readings.{judged, moved_if, kept_mask, kept_block, pages_due, sectors_due, after_block}
-use Rattle.checkpoint_stream.specs.Text.{page_units}
-use Rattle.checkpoint_stream.proofs.Numbers.{number-back, length-bytes_of, some-bytes}
-use Rattle.checkpoint_stream.proofs.Leading.{standing, Leads, Leads-append, Leads-unit, Leads-none}
+use Rattle.checkpoint_stream.specs.declared.{rules.Width.TheVariants.{Four, Eight}, place.Place.{Place, TheVariants.{PageCount, PageIndex}}}
+use Rattle.checkpoint_stream.specs.declared.place.Place.TheVariants.{PageMask, Block, SectorCount, SectorIndex, SectorBytes, FrameCount}
+use Rattle.checkpoint_stream.specs.{declared.place.Place.TheVariants.Whole, HeadTable.bytes_of, Readings.{judged, moved_if, kept_mask}}
+use Rattle.checkpoint_stream.specs.{Readings.{kept_block, pages_due, sectors_due, after_block}, Text.page_units}
+use Rattle.checkpoint_stream.proofs.{Numbers.{number-back, length-bytes_of, some-bytes}, Leading.{standing, Leads, Leads-append}}
+use Rattle.checkpoint_stream.proofs.Leading.{Leads-unit, Leads-none}
 
 -- what is true of each mask, block and sector
 abbrev pub HasOnes : PageChange → Type 0

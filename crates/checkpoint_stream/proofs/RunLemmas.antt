@@ -1,13 +1,9 @@
 -- Units of one kind, one after another.
 use Rattle.std.proofs.Common.{◌≡◌, ℕ, ◌+◌, ◌<◌, ◌≤◌, List, ◌++◌, take, drop, ap, sym, ◌∙◌, subst, append_assoc, lit<, lit≤}
 use Rattle.std.proofs.Math.Seq.{take-add}
-use Rattle.checkpoint_stream.specs.declared.place.Place.{Place}
-use Rattle.checkpoint_stream.specs.declared.place.Place.TheVariants.{Head, Block}
-use Rattle.checkpoint_stream.specs.declared.rules.Width.{Width}
-use Rattle.checkpoint_stream.specs.declared.rules.Width.TheVariants.{Two, Four, Eight}
-use Rattle.checkpoint_stream.specs.HeadTable.{row_at, number_of, bytes_in}
-use Rattle.checkpoint_stream.specs.Readings.{Reading, judged, judged_at, number_judged, block_judged}
-use Rattle.checkpoint_stream.specs.Taken.{Takes, Extends}
+use Rattle.checkpoint_stream.specs.declared.{place.Place.{Place, TheVariants.{Head, Block}}, rules.Width.{Width, TheVariants.{Two, Four}}}
+use Rattle.checkpoint_stream.specs.{declared.rules.Width.TheVariants.Eight, HeadTable.{row_at, number_of, bytes_in}, Readings.Reading}
+use Rattle.checkpoint_stream.specs.{Readings.{judged, judged_at, number_judged, block_judged}, Taken.{Takes, Extends}}
 use Rattle.checkpoint_stream.proofs.Feeding.{Takes-append}
 
 pub judged-number : (r : Reading) (unit : List ℕ) → r.place ≡ Head →

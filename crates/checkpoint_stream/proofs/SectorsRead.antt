@@ -1,21 +1,13 @@
 -- The units of the sector records are read as these.
-use Rattle.std.proofs.Common.{◌≡◌, ℕ, ◌+◌, ◌<◌, ◌%◌, ◌^◌, ◌==◌, ◌&&◌, List, [], ◌∷◌, ◌++◌, length, map}
-use Rattle.std.proofs.Common.{IsTrue, not, Bool, true, false, refl, arith, append_assoc, All, slice_index}
-use Rattle.std.proofs.lemmas.List.{append-nil}
-use Rattle.std.proofs.lemmas.List.Elements.{All-head, All-tail}
+use Rattle.std.proofs.Common.{◌≡◌, ℕ, ◌+◌, ◌<◌, ◌%◌, ◌^◌, ◌==◌, ◌&&◌, List, [], ◌∷◌, ◌++◌, length, map, IsTrue, not, Bool, true, false}
+use Rattle.std.proofs.{Common.{refl, arith, append_assoc, All, slice_index}, lemmas.List.{append-nil, Elements.{All-head, All-tail}}}
 use Rattle.std.proofs.lemmas.Bool.Decides.{nat_tests}
-use Rattle.guest_machine.specs.Dirty.{Rises}
-use Rattle.guest_machine.specs.declared.shapes.Shape.{Shape}
-use Rattle.epoch_snapshot.specs.declared.changes.PageChange.{PageChange}
-use Rattle.epoch_snapshot.specs.declared.changes.SectorChange.{SectorChange}
-use Rattle.epoch_snapshot.specs.Blocks.{is_zero}
-use Rattle.checkpoint_stream.specs.declared.rules.Width.TheVariants.{Four}
-use Rattle.checkpoint_stream.specs.declared.place.Place.TheVariants.{SectorIndex, SectorBytes}
-use Rattle.checkpoint_stream.specs.HeadTable.{bytes_of}
-use Rattle.checkpoint_stream.specs.Readings.{judged, kept_sector, sectors_due, is_full}
-use Rattle.checkpoint_stream.specs.Text.{sector_units}
-use Rattle.checkpoint_stream.proofs.Leading.{standing, Leads, Leads-append, Leads-unit, Leads-none}
-use Rattle.checkpoint_stream.proofs.RecordsRead.{end_of, Rises-end, IsSectorWide, sector_index-step, not-true}
+use Rattle.guest_machine.specs.{Dirty.Rises, declared.shapes.Shape.Shape}
+use Rattle.epoch_snapshot.specs.{declared.changes.{PageChange.PageChange, SectorChange.SectorChange}, Blocks.is_zero}
+use Rattle.checkpoint_stream.specs.declared.{rules.Width.TheVariants.Four, place.Place.TheVariants.{SectorIndex, SectorBytes}}
+use Rattle.checkpoint_stream.specs.{HeadTable.bytes_of, Readings.{judged, kept_sector, sectors_due, is_full}, Text.sector_units}
+use Rattle.checkpoint_stream.proofs.{Leading.{standing, Leads, Leads-append, Leads-unit, Leads-none}, RecordsRead.{end_of, Rises-end}}
+use Rattle.checkpoint_stream.proofs.RecordsRead.{IsSectorWide, sector_index-step, not-true}
 
 -- in a full checkpoint no sector is all zero
 abbrev pub HasSectorByte : SectorChange → Type 0

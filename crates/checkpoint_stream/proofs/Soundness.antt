@@ -1,30 +1,19 @@
 -- Each unit leaves a sound reading sound.
-use Rattle.std.proofs.Common.{◌≡◌, ◌≢◌, ℕ, suc, zero, ◌+◌, ◌-◌, ◌<◌, ◌≤◌, ◌==◌, ◌&&◌, not, IsTrue, List, [], ◌∷◌, ◌++◌, length, Bool}
-use Rattle.std.proofs.Common.{true, false, refl, sym, ◌∙◌, ap, subst, arith, nat_le, nat_lt, get_or, count_ones, if◌then◌else◌}
-use Rattle.std.proofs.Common.{length-append, add-one, All}
-use Rattle.std.proofs.lemmas.Bool.Decides.{nat_tests}
-use Rattle.std.proofs.lemmas.Nat.{zero_from_ones}
-use Rattle.std.proofs.lemmas.List.{map-append}
-use Rattle.std.proofs.lemmas.List.Elements.{All-push}
-use Rattle.std.proofs.lemmas.List.Sums.{sum_by_push}
-use Rattle.guest_machine.specs.Dirty.{Rises}
-use Rattle.guest_machine.specs.declared.shapes.Shape.{Shape}
-use Rattle.epoch_snapshot.specs.declared.changes.PageChange.{PageChange}
-use Rattle.epoch_snapshot.specs.declared.changes.SectorChange.{SectorChange}
-use Rattle.epoch_snapshot.specs.Blocks.{is_zero}
-use Rattle.checkpoint_stream.specs.declared.rules.Row.{Row}
-use Rattle.checkpoint_stream.specs.declared.place.Place.{Place}
-use Rattle.checkpoint_stream.specs.declared.place.Place.TheVariants.{Head, PageCount, PageIndex, PageMask, Block, SectorCount}
-use Rattle.checkpoint_stream.specs.declared.place.Place.TheVariants.{SectorIndex, SectorBytes, FrameCount, FrameLength, FrameBytes}
-use Rattle.checkpoint_stream.specs.declared.place.Place.TheVariants.{Whole, Failed}
-use Rattle.checkpoint_stream.specs.declared.rules.Width.TheVariants.{Four}
-use Rattle.checkpoint_stream.specs.HeadTable.{head_table, row_at, passes, number_of, number}
-use Rattle.checkpoint_stream.specs.declared.rules.Rule.TheVariants.{Magic}
-use Rattle.checkpoint_stream.specs.Readings.{Reading, is_full, failed, moved, pages_due, sectors_due, after_block, after_number, moved_if}
-use Rattle.checkpoint_stream.specs.Readings.{has_frames, most_frames, frames_due, frame_judged, width_at}
-use Rattle.checkpoint_stream.specs.Readings.{kept_number, kept_mask, kept_block, kept_sector, judged, judged_at, is_closed, fed_byte, fed}
-use Rattle.checkpoint_stream.specs.Readings.{begun, width_of}
-use Rattle.checkpoint_stream.specs.Sound.{IsSound, IsHead, HasNoRecords, HasRecords, StandsAt, HasFrames, FramesAt, AllPass, last_after}
+use Rattle.std.proofs.Common.{◌≡◌, ◌≢◌, ℕ, suc, zero, ◌+◌, ◌-◌, ◌<◌, ◌≤◌, ◌==◌, ◌&&◌, not, IsTrue, List, [], ◌∷◌, ◌++◌, length, Bool, true}
+use Rattle.std.proofs.Common.{false, refl, sym, ◌∙◌, ap, subst, arith, nat_le, nat_lt, get_or, count_ones, if◌then◌else◌, length-append}
+use Rattle.std.proofs.{Common.{add-one, All, map, rules}, lemmas.{Bool.Decides.nat_tests, Nat.zero_from_ones, List.map-append}}
+use Rattle.std.proofs.lemmas.List.{Elements.All-push, Sums.sum_by_push}
+use Rattle.guest_machine.specs.{Dirty.Rises, declared.shapes.Shape.Shape}
+use Rattle.epoch_snapshot.specs.{declared.changes.{PageChange.PageChange, SectorChange.SectorChange}, Blocks.is_zero}
+use Rattle.epoch_snapshot.specs.Checkpoints.{block_count}
+use Rattle.checkpoint_stream.specs.declared.{rules.{Row.Row, Width.TheVariants.Four, Rule.TheVariants.Magic}, place.Place.Place}
+use Rattle.checkpoint_stream.specs.declared.place.Place.TheVariants.{Head, PageCount, PageIndex, PageMask, Block, SectorCount, SectorIndex}
+use Rattle.checkpoint_stream.specs.declared.place.Place.TheVariants.{SectorBytes, FrameCount, FrameLength, FrameBytes, Whole, Failed}
+use Rattle.checkpoint_stream.specs.{HeadTable.{head_table, row_at, passes, number_of, number}, Readings.{Reading, is_full, failed, moved}}
+use Rattle.checkpoint_stream.specs.Readings.{pages_due, sectors_due, after_block, after_number, moved_if, has_frames, most_frames}
+use Rattle.checkpoint_stream.specs.Readings.{frames_due, frame_judged, width_at, kept_number, kept_mask, kept_block, kept_sector, judged}
+use Rattle.checkpoint_stream.specs.{Readings.{judged_at, is_closed, fed_byte, fed, begun, width_of}, Sound.{IsSound, IsHead, HasNoRecords}}
+use Rattle.checkpoint_stream.specs.Sound.{HasRecords, StandsAt, HasFrames, FramesAt, AllPass, last_after}
 use Rattle.net_device.specs.Frames.{IsFrame}
 use Rattle.arrayvec.specs.ArrayVec.{ArrayVec}
 
@@ -67,17 +56,7 @@ keep-head r offset place pages blocks sectors frames partial h = record { known 
 keep-records : (r : Reading) (offset : ℕ) (place : Place) (frames : List (ArrayVec ℕ)) (partial : List ℕ) (end due sector_end : ℕ) →
     HasRecords r end due sector_end →
     HasRecords (record r { offset = offset; place = place; frames = frames; partial = partial }) end due sector_end
-keep-records r offset place frames partial end due sector_end h = record {
-  known = h.known;
-  pages = h.pages;
-  page_end = h.page_end;
-  masks = h.masks;
-  count = h.count;
-  blocks = h.blocks;
-  sectors = h.sectors;
-  sector_end = h.sector_end;
-  full = h.full;
-}
+keep-records r offset place frames partial end due sector_end h = search rules
 
 -- the head and the records of what was read
 record IsRead (r : Reading) : Type 0 where
@@ -163,31 +142,15 @@ no-records r known none = record {
 
 higher-pages : (r : Reading) (end higher due sector_end : ℕ) → end ≤ higher → higher ≤ r.shape.pages →
     HasRecords r end due sector_end → HasRecords r higher due sector_end
-higher-pages r end higher due sector_end le top h = record {
-  known = h.known;
-  pages = Rises-higher 0 end higher _ le h.pages;
-  page_end = top;
-  masks = h.masks;
-  count = h.count;
-  blocks = h.blocks;
-  sectors = h.sectors;
-  sector_end = h.sector_end;
-  full = h.full;
-}
+higher-pages r end higher due sector_end le top h =
+    let pages : Rises 0 higher (map (λ (p : PageChange). p.page) r.pages) = Rises-higher 0 end higher _ le h.pages in
+    search rules
 
 higher-sectors : (r : Reading) (page_end due end higher : ℕ) → end ≤ higher → higher ≤ r.shape.sectors →
     HasRecords r page_end due end → HasRecords r page_end due higher
-higher-sectors r page_end due end higher le top h = record {
-  known = h.known;
-  pages = h.pages;
-  page_end = h.page_end;
-  masks = h.masks;
-  count = h.count;
-  blocks = h.blocks;
-  sectors = Rises-higher 0 end higher _ le h.sectors;
-  sector_end = top;
-  full = h.full;
-}
+higher-sectors r page_end due end higher le top h =
+    let sectors : Rises 0 higher (map (λ (s : SectorChange). s.sector) r.sectors) = Rises-higher 0 end higher _ le h.sectors in
+    search rules
 
 stands-pages_due : (r : Reading) (left from : ℕ) → HasRecords r from 0 0 → StandsAt (pages_due left from) r
 stands-pages_due r zero from h = higher-pages r from r.shape.pages 0 0 h.page_end (omega arith) h
@@ -251,17 +214,11 @@ not-zero e = rw e
 -- a block
 block-records : (r : Reading) (end due sector_end : ℕ) (block : List ℕ) → is_zero block ≡ false → HasRecords r end (due + 1) sector_end →
     HasRecords (record r { blocks = r.blocks ++ block ∷ [] }) end due sector_end
-block-records r end due sector_end block is h = record {
-  known = h.known;
-  pages = h.pages;
-  page_end = h.page_end;
-  masks = h.masks;
-  count = omega (arith, h.count, length-append r.blocks (block ∷ []));
-  blocks = All-push (λ (b : List ℕ). IsTrue (not (is_zero b))) r.blocks block h.blocks (not-zero is);
-  sectors = h.sectors;
-  sector_end = h.sector_end;
-  full = h.full;
-}
+block-records r end due sector_end block is h =
+    let count : length (r.blocks ++ block ∷ []) + due ≡ block_count r.pages
+    = omega (arith, h.count, length-append r.blocks (block ∷ [])) in
+    let blocks = All-push (λ (b : List ℕ). IsTrue (not (is_zero b))) r.blocks block h.blocks (not-zero is) in
+    search rules
 
 stands-after_block : (r : Reading) (left page more : ℕ) → page < r.shape.pages → HasRecords r (page + 1) more 0 →
     StandsAt (after_block left page more) r
@@ -477,32 +434,18 @@ began-stands r partial h = began r.place r partial h
     began : (p : Place) (r : Reading) (partial : List ℕ) → StandsAt p r → StandsAt p (record r { partial = partial })
     began Head r partial h = (h.0, record { pages = h.1.pages; blocks = h.1.blocks; sectors = h.1.sectors })
     began PageCount r partial h = (h.0, record { pages = h.1.pages; blocks = h.1.blocks; sectors = h.1.sectors })
-    began (PageIndex left from) r partial h = keep-records r _ _ _ _ _ _ _ h
     began (PageMask left page) r partial h = (h.0, keep-records r _ _ _ _ _ _ _ h.1)
     began (Block left page more) r partial h = (h.0, keep-records r _ _ _ _ _ _ _ h.1)
-    began SectorCount r partial h = keep-records r _ _ _ _ _ _ _ h
-    began (SectorIndex left from) r partial h = keep-records r _ _ _ _ _ _ _ h
     began (SectorBytes left sector) r partial h = (h.0, keep-records r _ _ _ _ _ _ _ h.1)
-    began FrameCount r partial h = keep-records r _ _ _ _ _ _ _ h
-    began (FrameLength left) r partial h = keep-records r _ _ _ _ _ _ _ h
-    began (FrameBytes left len) r partial h = keep-records r _ _ _ _ _ _ _ h
-    began Whole r partial h = keep-records r _ _ _ _ _ _ _ h
     began (Failed x) r partial h = tt
+    began other r partial h = keep-records r _ _ _ _ _ _ _ h
 
 began-frames : (p : Place) (r : Reading) (partial : List ℕ) → FramesAt p r → FramesAt p (record r { partial = partial })
-began-frames Head r partial h = h
-began-frames PageCount r partial h = h
-began-frames (PageIndex left from) r partial h = h
-began-frames (PageMask left page) r partial h = h
-began-frames (Block left page more) r partial h = h
-began-frames SectorCount r partial h = h
-began-frames (SectorIndex left from) r partial h = h
-began-frames (SectorBytes left sector) r partial h = h
-began-frames FrameCount r partial h = h
 began-frames (FrameLength left) r partial h = keep-frames r _ _ _ _ h
 began-frames (FrameBytes left len) r partial h = (h.0, keep-frames r _ _ _ _ h.1)
 began-frames Whole r partial h = keep-frames r _ _ _ _ h
 began-frames (Failed x) r partial h = tt
+began-frames other r partial h = h
 
 pub fed_byte-sound : (r : Reading) (b : ℕ) → IsSound r → IsSound (fed_byte r b)
 unfolding fed_byte

@@ -1,32 +1,19 @@
 -- What was taken so far is the text of what was read so far.
-use Rattle.std.proofs.Common.{◌≡◌, ◌≢◌, ℕ, suc, zero, ◌+◌, ◌-◌, ◌<◌, ◌≤◌, ◌==◌, ◌&&◌, List, [], ◌∷◌, ◌++◌, length, take, Bool, true, false}
-use Rattle.std.proofs.Common.{refl, sym, ◌∙◌, ap, subst, arith, append_assoc, count_ones, if◌then◌else◌, length-append, nat_le, nat_lt}
-use Rattle.std.proofs.Common.{All, get_or}
-use Rattle.std.proofs.lemmas.List.{append-nil, length-map}
-use Rattle.std.proofs.lemmas.Bool.Decides.{nat_tests}
-use Rattle.std.proofs.lemmas.Nat.{zero_from_ones}
-use Rattle.epoch_snapshot.specs.declared.changes.PageChange.{PageChange}
-use Rattle.epoch_snapshot.specs.declared.changes.SectorChange.{SectorChange}
-use Rattle.epoch_snapshot.specs.Checkpoints.{block_count}
-use Rattle.epoch_snapshot.specs.Blocks.{is_zero}
-use Rattle.checkpoint_stream.specs.declared.rules.Row.{Row}
-use Rattle.checkpoint_stream.specs.declared.rules.Width.TheVariants.{Four, Eight}
-use Rattle.checkpoint_stream.specs.declared.rules.Rule.TheVariants.{Magic}
-use Rattle.checkpoint_stream.specs.declared.place.Place.{Place}
-use Rattle.checkpoint_stream.specs.declared.place.Place.TheVariants.{Head, PageCount, PageIndex, PageMask, Block, SectorCount}
-use Rattle.checkpoint_stream.specs.declared.place.Place.TheVariants.{SectorIndex, SectorBytes, FrameCount, FrameLength, FrameBytes}
-use Rattle.checkpoint_stream.specs.declared.place.Place.TheVariants.{Whole, Failed}
-use Rattle.checkpoint_stream.specs.HeadTable.{head_table, row_at, bytes_of, bytes_in, number_of, number, passes}
-use Rattle.checkpoint_stream.specs.Readings.{Reading, failed, moved, moved_if, kept_number, kept_mask, kept_block, kept_sector}
-use Rattle.checkpoint_stream.specs.Readings.{pages_due, sectors_due, after_block, after_number, is_full, is_closed, judged_at, width_at}
-use Rattle.checkpoint_stream.specs.Readings.{has_frames, after_sectors, frames_due, frame_judged}
-use Rattle.checkpoint_stream.specs.Sound.{IsHead, HasRecords, HasFrames, StandsAt, FramesAt}
+use Rattle.checkpoint_stream.proofs.{Spelling.put-after, Numbers.{IsByte, bytes-back}, RecordsRead.Rises-end, Fronts.number_units-push}
+use Rattle.checkpoint_stream.proofs.Fronts.{last-spelled, block-spelled, sector_units-push, no-pages, no-sectors, frame_units-push}
+use Rattle.checkpoint_stream.{proofs.Fronts.no-frames, specs.declared.rules.{Width.TheVariants.{Four, Eight}, Rule.TheVariants.Magic}}
+use Rattle.checkpoint_stream.specs.declared.place.Place.{Place, TheVariants.{Head, PageCount, PageIndex, PageMask, Block, SectorCount}}
+use Rattle.checkpoint_stream.specs.declared.place.Place.TheVariants.{SectorIndex, SectorBytes, FrameCount, FrameLength, FrameBytes, Whole}
+use Rattle.checkpoint_stream.specs.{declared.place.Place.TheVariants.Failed, HeadTable.{head_table, row_at, bytes_of, number_of, number}}
+use Rattle.checkpoint_stream.specs.Readings.{Reading, failed, moved, moved_if, kept_number, kept_mask, kept_block, kept_sector, pages_due}
+use Rattle.checkpoint_stream.specs.Readings.{sectors_due, after_number, is_closed, judged_at, width_at, has_frames, after_sectors}
+use Rattle.checkpoint_stream.specs.{Readings.{frames_due, frame_judged}, Sound.{IsHead, HasRecords, HasFrames, StandsAt, FramesAt}}
 use Rattle.checkpoint_stream.specs.Text.{joined, number_units, page_units, sector_units, frame_units}
+use Rattle.std.proofs.Common.{◌≡◌, ◌≢◌, ℕ, suc, zero, ◌+◌, ◌-◌, ◌<◌, ◌≤◌, ◌==◌, List, [], ◌∷◌, ◌++◌, length, Bool, true, false, refl, sym}
+use Rattle.std.proofs.{Common.{◌∙◌, ap, arith, append_assoc, count_ones, if◌then◌else◌, length-append, All, get_or}, lemmas.List.append-nil}
+use Rattle.std.proofs.lemmas.{List.length-map, Bool.Decides.nat_tests, Nat.zero_from_ones}
+use Rattle.epoch_snapshot.specs.{declared.changes.{PageChange.PageChange, SectorChange.SectorChange}, Checkpoints.block_count}
 use Rattle.arrayvec.specs.ArrayVec.{ArrayVec}
-use Rattle.checkpoint_stream.proofs.Numbers.{IsByte, bytes-back}
-use Rattle.checkpoint_stream.proofs.RecordsRead.{Rises-end}
-use Rattle.checkpoint_stream.proofs.Fronts.{number_units-push, last-spelled, block-spelled, sector_units-push, no-pages, no-sectors}
-use Rattle.checkpoint_stream.proofs.Fronts.{frame_units-push, no-frames}
 
 abbrev pub heads : Reading → List ℕ
 heads r = joined (number_units head_table r.head)
@@ -92,8 +79,15 @@ pub record IsWritten (p : Place) (r : Reading) (whole : List ℕ) : Type 0 where
 failed-written : (r : Reading) (whole : List ℕ) → IsWritten (failed r).place (failed r) whole
 failed-written r whole = record { opens = tt; spells = tt }
 
-put-after : (a b c d : List ℕ) → a ≡ b → c ≡ d → a ++ c ≡ b ++ d
-put-after a b c d e f = ap (λ (l : List ℕ). l ++ c) e ∙ ap (λ (l : List ℕ). b ++ l) f
+-- bytes put together in another order
+leftmost : (a b c d : List ℕ) → a ++ (b ++ (c ++ d)) ≡ ((a ++ b) ++ c) ++ d
+leftmost a b c d = simp append_assoc
+
+middle : (a b c d : List ℕ) → ((a ++ b) ++ c) ++ d ≡ a ++ ((b ++ c) ++ d)
+middle a b c d = simp append_assoc
+
+rightmost : (a b c d : List ℕ) → (a ++ (b ++ c)) ++ d ≡ a ++ (b ++ (c ++ d))
+rightmost a b c d = simp append_assoc
 
 -- a number of the head
 after_number-written : (known : ℕ) (r : Reading) (whole : List ℕ) → whole ≡ heads r → IsWritten (after_number known) r whole
@@ -211,11 +205,8 @@ mask-spelled r left p count =
     = ap (λ (l : List (List ℕ)). joined (page_units (r.pages ++ p ∷ []) l)) (sym (append-nil r.blocks)) ∙ last
     ∙ ap (λ (l : List ℕ). joined (page_units r.pages r.blocks) ++ (bytes_of Four p.page ++ l)) (bytes-nothing p) in
     put-after _ _ _ _ (ap (bytes_of Four) counted) spelled
-    ∙ grouped (bytes_of Four (length r.pages + (left + 1))) (joined (page_units r.pages r.blocks)) (bytes_of Four p.page)
+    ∙ leftmost (bytes_of Four (length r.pages + (left + 1))) (joined (page_units r.pages r.blocks)) (bytes_of Four p.page)
     (bytes_of Eight p.mask)
-  where
-    grouped : (a b c d : List ℕ) → a ++ (b ++ (c ++ d)) ≡ ((a ++ b) ++ c) ++ d
-    grouped a b c d = simp append_assoc
 
 three : (a b c d : List ℕ) → (a ++ (b ++ c)) ++ d ≡ a ++ ((b ++ c) ++ d)
 three a b c d = append_assoc a (b ++ c) d
@@ -242,15 +233,12 @@ mask-written false r left page mask whole unit h is e f =
         due = omega (arith, ones);
       };
       spells = put-after _ _ _ _ e (sym f)
-          ∙ grouped (heads r) (pages_of (length r.pages + (left + 1)) r) (bytes_of Four page) (bytes_of Eight mask)
+          ∙ middle (heads r) (pages_of (length r.pages + (left + 1)) r) (bytes_of Four page) (bytes_of Eight mask)
           ∙ ap (λ (l : List ℕ). heads r ++ l) (sym (mask-spelled r left p count));
     }
   where
     not-zero : (n : ℕ) → (n == 0) ≡ false → n ≢ 0
     not-zero n e = grind (arith, nat_tests)
-
-    grouped : (a b c d : List ℕ) → ((a ++ b) ++ c) ++ d ≡ a ++ ((b ++ c) ++ d)
-    grouped a b c d = simp append_assoc
 
 -- a block
 block-pushed : (r : Reading) (more : ℕ) (b : List ℕ) → IsOpen r more →
@@ -286,20 +274,14 @@ block-written false r left page zero whole unit h e =
         whole ++ unit ≡ heads r ++ (bytes_of Four (length r.pages + left) ++ joined (page_units r.pages (r.blocks ++ unit ∷ [])))
     block-put r left more whole unit h e =
         ap (λ (l : List ℕ). l ++ unit) e
-        ∙ grouped (heads r) (bytes_of Four (length r.pages + left)) (joined (page_units r.pages r.blocks)) unit
+        ∙ rightmost (heads r) (bytes_of Four (length r.pages + left)) (joined (page_units r.pages r.blocks)) unit
         ∙ ap (λ (l : List ℕ). heads r ++ (bytes_of Four (length r.pages + left) ++ l)) (sym (block-pushed r more unit h))
-      where
-        grouped : (a b c d : List ℕ) → (a ++ (b ++ c)) ++ d ≡ a ++ (b ++ (c ++ d))
-        grouped a b c d = simp append_assoc
 block-written false r left page (suc more) whole unit h e = record {
   opens = next-open r more unit _ _ h;
   spells = ap (λ (l : List ℕ). l ++ unit) e
-      ∙ grouped (heads r) (bytes_of Four (length r.pages + left)) (joined (page_units r.pages r.blocks)) unit
+      ∙ rightmost (heads r) (bytes_of Four (length r.pages + left)) (joined (page_units r.pages r.blocks)) unit
       ∙ ap (λ (l : List ℕ). heads r ++ (bytes_of Four (length r.pages + left) ++ l)) (sym (block-pushed r (suc more) unit h));
 }
-  where
-    grouped : (a b c d : List ℕ) → (a ++ (b ++ c)) ++ d ≡ a ++ (b ++ (c ++ d))
-    grouped a b c d = simp append_assoc
 
 -- a sector
 sector-spelled : (r : Reading) (left : ℕ) (s : SectorChange) →
@@ -308,10 +290,7 @@ sector-spelled : (r : Reading) (left : ℕ) (s : SectorChange) →
 sector-spelled r left s =
     let counted : length (r.sectors ++ s ∷ []) + left ≡ length r.sectors + (left + 1) = omega (arith, length-append r.sectors (s ∷ [])) in
     put-after _ _ _ _ (ap (bytes_of Four) counted) (sector_units-push r.sectors s)
-    ∙ grouped (bytes_of Four (length r.sectors + (left + 1))) (joined (sector_units r.sectors)) (bytes_of Four s.sector) s.bytes
-  where
-    grouped : (a b c d : List ℕ) → a ++ (b ++ (c ++ d)) ≡ ((a ++ b) ++ c) ++ d
-    grouped a b c d = simp append_assoc
+    ∙ leftmost (bytes_of Four (length r.sectors + (left + 1))) (joined (sector_units r.sectors)) (bytes_of Four s.sector) s.bytes
 
 sector-written : (b : Bool) (r : Reading) (left sector : ℕ) (whole unit : List ℕ) →
     whole ≡ ((heads r ++ pages_of (length r.pages) r) ++ sectors_of (length r.sectors + (left + 1)) r) ++ bytes_of Four sector →
@@ -321,12 +300,9 @@ sector-written true r left sector whole unit e = failed-written r _
 sector-written false r left sector whole unit e =
     sectors_due-written _ left (sector + 1) (whole ++ unit)
     (ap (λ (l : List ℕ). l ++ unit) e
-    ∙ grouped (heads r ++ pages_of (length r.pages) r) (sectors_of (length r.sectors + (left + 1)) r) (bytes_of Four sector) unit
+    ∙ middle (heads r ++ pages_of (length r.pages) r) (sectors_of (length r.sectors + (left + 1)) r) (bytes_of Four sector) unit
     ∙ ap (λ (l : List ℕ). (heads r ++ pages_of (length r.pages) r) ++ l)
     (sym (sector-spelled r left (record { sector = sector; bytes = unit }))))
-  where
-    grouped : (a b c d : List ℕ) → ((a ++ b) ++ c) ++ d ≡ a ++ ((b ++ c) ++ d)
-    grouped a b c d = simp append_assoc
 
 -- a frame
 frame-spelled : (r : Reading) (left : ℕ) (f : ArrayVec ℕ) →
@@ -335,10 +311,7 @@ frame-spelled : (r : Reading) (left : ℕ) (f : ArrayVec ℕ) →
 frame-spelled r left f =
     let counted : length (r.frames ++ f ∷ []) + left ≡ length r.frames + (left + 1) = omega (arith, length-append r.frames (f ∷ [])) in
     put-after _ _ _ _ (ap (bytes_of Four) counted) (frame_units-push r.frames f)
-    ∙ grouped (bytes_of Four (length r.frames + (left + 1))) (joined (frame_units r.frames)) (bytes_of Four (length f.items)) f.items
-  where
-    grouped : (a b c d : List ℕ) → a ++ (b ++ (c ++ d)) ≡ ((a ++ b) ++ c) ++ d
-    grouped a b c d = simp append_assoc
+    ∙ leftmost (bytes_of Four (length r.frames + (left + 1))) (joined (frame_units r.frames)) (bytes_of Four (length f.items)) f.items
 
 frame-written : (r : Reading) (left len : ℕ) (whole unit : List ℕ) → HasFrames r (left + 1) → length unit ≡ len →
     whole ≡ (records_of r ++ frames_of (length r.frames + (left + 1)) r) ++ bytes_of Four len →
@@ -348,12 +321,9 @@ frame-written r left len whole unit h wide e =
     frames_due-written _ left (whole ++ unit) (carried (has_frames r) refl)
     (ap (λ (l : List ℕ). l ++ unit) (e ∙ ap (λ (n : ℕ). (records_of r ++ frames_of (length r.frames + (left + 1)) r) ++ bytes_of Four n)
     (sym wide))
-    ∙ grouped (records_of r) (frames_of (length r.frames + (left + 1)) r) (bytes_of Four (length unit)) unit
+    ∙ middle (records_of r) (frames_of (length r.frames + (left + 1)) r) (bytes_of Four (length unit)) unit
     ∙ ap (λ (l : List ℕ). records_of r ++ l) (sym (frame-spelled r left (record { items = unit }))))
   where
-    grouped : (a b c d : List ℕ) → ((a ++ b) ++ c) ++ d ≡ a ++ ((b ++ c) ++ d)
-    grouped a b c d = simp append_assoc
-
     carried : (b : Bool) → has_frames r ≡ b → has_frames r ≡ true
     carried true is = is
     carried false is = absurd (omega (arith, h.old is))

@@ -1,19 +1,10 @@
 -- A loop that puts the units of a list at the end of some bytes, one element after another.
-use Rattle.std.proofs.Common.{◌≡◌, ℕ, ◌+◌, ◌<◌, ◌≤◌, List, [], ◌∷◌, ◌++◌, length, take, drop, get_or, refl, sym, ◌∙◌, ap}
-use Rattle.std.proofs.Common.{append_assoc, add-one, count_ones, All, take_all, subst}
-use Rattle.std.proofs.lemmas.List.{append-nil, drop_all}
-use Rattle.std.proofs.Math.Seq.{drop-cons}
-use Rattle.std.specs.List.{flat_map}
-use Rattle.std.proofs.lemmas.List.Concat.{flat_map-cons}
-use Rattle.std.proofs.lemmas.List.Sums.{sum_by-cons}
-use Rattle.epoch_snapshot.specs.declared.changes.PageChange.{PageChange}
-use Rattle.epoch_snapshot.specs.declared.changes.SectorChange.{SectorChange}
-use Rattle.epoch_snapshot.specs.Checkpoints.{Change, block_count}
-use Rattle.checkpoint_stream.specs.declared.rules.Row.{Row}
-use Rattle.checkpoint_stream.specs.declared.rules.Width.TheVariants.{Four, Eight}
-use Rattle.checkpoint_stream.specs.HeadTable.{bytes_of, head_table}
-use Rattle.checkpoint_stream.specs.Text.{text, units, units_of_frames, head_numbers, joined, number_units, page_units, sector_units}
-use Rattle.checkpoint_stream.specs.Text.{frame_units}
+use Rattle.std.proofs.Common.{◌≡◌, ℕ, ◌+◌, ◌<◌, ◌≤◌, List, [], ◌∷◌, ◌++◌, length, take, drop, get_or, refl, sym, ◌∙◌, ap, append_assoc}
+use Rattle.std.proofs.{Common.{add-one, count_ones, All, take_all, subst}, lemmas.List.{append-nil, drop_all, Concat.flat_map-cons}}
+use Rattle.std.{proofs.{lemmas.List.Sums.sum_by-cons, Math.Seq.drop-cons}, specs.List.flat_map}
+use Rattle.epoch_snapshot.specs.{declared.changes.{PageChange.PageChange, SectorChange.SectorChange}, Checkpoints.{Change, block_count}}
+use Rattle.checkpoint_stream.specs.{declared.rules.{Row.Row, Width.TheVariants.{Four, Eight}}, HeadTable.{bytes_of, head_table}, Text.text}
+use Rattle.checkpoint_stream.specs.Text.{units, units_of_frames, head_numbers, joined, number_units, page_units, sector_units, frame_units}
 use Rattle.arrayvec.specs.ArrayVec.{ArrayVec}
 
 -- one more element is put: its bytes stood at the front of what was to come
@@ -26,17 +17,8 @@ advance out unit put rest before whole so_far front is =
 pub finish : (out before whole : List ℕ) → out ++ before ≡ whole → before ≡ [] → out ≡ whole
 finish out before whole so_far nothing = sym (append-nil out) ∙ ap (λ (l : List ℕ). out ++ l) (sym nothing) ∙ so_far
 
-next : {X : Type 0} (xs : List X) (i : ℕ) (d : X) → i < length xs → drop i xs ≡ get_or xs i d ∷ drop (i + 1) xs
+pub next : {X : Type 0} (xs : List X) (i : ℕ) (d : X) → i < length xs → drop i xs ≡ get_or xs i d ∷ drop (i + 1) xs
 next xs i d h = rw (add-one) (drop-cons xs i d h)
-
-pub joined-drop : (blocks : List (List ℕ)) (i : ℕ) (d : List ℕ) → i < length blocks →
-    joined (drop i blocks) ≡ get_or blocks i d ++ joined (drop (i + 1) blocks)
-unfolding joined
-joined-drop blocks i d h = ap joined (next blocks i d h)
-
-pub joined-done : (blocks : List (List ℕ)) (i : ℕ) → length blocks ≤ i → joined (drop i blocks) ≡ []
-unfolding joined
-joined-done blocks i h = ap joined (drop_all i blocks h)
 
 units-at : (rows : List Row) (ns : List ℕ) (row : Row) (n : ℕ) →
     joined (number_units (row ∷ rows) (n ∷ ns)) ≡ bytes_of row.width n ++ joined (number_units rows ns)
@@ -53,7 +35,7 @@ pub number_units-done : (rows : List Row) (ns : List ℕ) (i : ℕ) → length r
 unfolding joined number_units
 number_units-done rows ns i h = rw (drop_all i rows h) refl
 
-sector-at : (s : SectorChange) (ss : List SectorChange) →
+pub sector-at : (s : SectorChange) (ss : List SectorChange) →
     joined (sector_units (s ∷ ss)) ≡ bytes_of Four s.sector ++ (s.bytes ++ joined (sector_units ss))
 unfolding joined sector_units
 sector-at s ss = refl
@@ -137,8 +119,8 @@ joined-cons : (u : List ℕ) (us : List (List ℕ)) → joined (u ∷ us) ≡ u 
 unfolding joined
 joined-cons u us = refl
 
-both : (a b c d : List ℕ) → a ≡ b → c ≡ d → a ++ c ≡ b ++ d
-both a b c d e f = ap (λ (l : List ℕ). l ++ c) e ∙ ap (λ (l : List ℕ). b ++ l) f
+pub put-after : (a b c d : List ℕ) → a ≡ b → c ≡ d → a ++ c ≡ b ++ d
+put-after a b c d e f = ap (λ (l : List ℕ). l ++ c) e ∙ ap (λ (l : List ℕ). b ++ l) f
 
 pub text-spelled : (c : Change) →
     text c ≡ joined (number_units head_table (head_numbers c)) ++ ((bytes_of Four (length c.pages) ++ joined (page_units c.pages c.blocks))
@@ -148,7 +130,7 @@ text-spelled c =
     joined-append (number_units head_table (head_numbers c)) _
     ∙ ap (λ (l : List ℕ). joined (number_units head_table (head_numbers c))
     ++ l) (joined-append (bytes_of Four (length c.pages) ∷ page_units c.pages c.blocks) _
-    ∙ both _ _ _ _ (joined-cons _ _) (joined-append (bytes_of Four (length c.sectors) ∷ sector_units c.sectors) _
+    ∙ put-after _ _ _ _ (joined-cons _ _) (joined-append (bytes_of Four (length c.sectors) ∷ sector_units c.sectors) _
     ∙ ap (λ (l : List ℕ). l ++ joined (units_of_frames c.version c.frames)) (joined-cons _ _)))
 
 -- what follows the sector records in version 2
@@ -177,7 +159,7 @@ encoded c numbers pages blocks sectors frames start one two three four five six 
     (sym (frames-spelled c.version c.frames version))
     ∙ sym (text-spelled c)
 
-frame-at : (f : ArrayVec ℕ) (fs : List (ArrayVec ℕ)) →
+pub frame-at : (f : ArrayVec ℕ) (fs : List (ArrayVec ℕ)) →
     joined (frame_units (f ∷ fs)) ≡ bytes_of Four (length f.items) ++ (f.items ++ joined (frame_units fs))
 unfolding joined frame_units
 frame-at f fs = refl

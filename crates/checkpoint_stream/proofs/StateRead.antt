@@ -1,20 +1,16 @@
 -- The state that the head's numbers of a checkpoint are is the checkpoint's.
 use Rattle.std.proofs.Common.{◌≡◌, ℕ, suc, zero, ◌+◌, ◌<◌, ◌^◌, ◌%◌, ◌==◌, List, [], ◌∷◌, length, Bool, true, false, arith, refl}
-use Rattle.std.proofs.Common.{if◌then◌else◌, slice_index, slice_index_or, drop, sym, ◌∙◌, ap}
-use Rattle.std.proofs.lemmas.List.{drop_more, drop_all}
-use Rattle.virtqueue.specs.declared.rings.Queue.{Queue}
-use Rattle.virtqueue.specs.Queues.{boot_queue}
+use Rattle.std.proofs.{Common.{if◌then◌else◌, slice_index, slice_index_or, drop, sym, ◌∙◌, ap}, lemmas.List.{drop_more, drop_all}}
+use Rattle.virtqueue.specs.{declared.rings.Queue.Queue, Queues.boot_queue}
 use Rattle.virtio_mmio.specs.declared.states.DeviceState.{DeviceState}
 use Rattle.guest_machine.specs.declared.machine_state.MachineState.{MachineState}
 use Rattle.epoch_snapshot.specs.Checkpoints.{Change, IsCanonical}
-use Rattle.checkpoint_stream.specs.Sound.{state_from}
-use Rattle.checkpoint_stream.specs.Text.{head_numbers, numbers_from}
-use Rattle.checkpoint_stream.specs.Widths.{QueueFits, DeviceFits, StateFits}
+use Rattle.checkpoint_stream.specs.{Sound.state_from, Text.{head_numbers, numbers_from}, Widths.{QueueFits, DeviceFits, StateFits}}
 
-low_half : (n : ℕ) → n < 2 ^ 32 → n % 2 ^ 32 ≡ n
+pub low_half : (n : ℕ) → n < 2 ^ 32 → n % 2 ^ 32 ≡ n
 low_half n h = omega (arith, h)
 
-low_quarter : (n : ℕ) → n < 2 ^ 16 → n % 2 ^ 16 ≡ n
+pub low_quarter : (n : ℕ) → n < 2 ^ 16 → n % 2 ^ 16 ≡ n
 low_quarter n h = omega (arith, h)
 
 ready-back : (ready : Bool) → ((if ready then 1 else 0) == 1) ≡ ready

@@ -1,17 +1,11 @@
 -- What follows from each text's being read whole: at its last byte, as one checkpoint, and as no other's beginning.
-use Rattle.std.proofs.Common.{◌≡◌, ◌≢◌, ℕ, suc, ◌+◌, ◌<◌, ◌≤◌, List, [], ◌∷◌, ◌++◌, length, Bool, true, false, refl, sym, ◌∙◌}
-use Rattle.std.proofs.Common.{ap, subst, arith, length-append, if◌then◌else◌}
+use Rattle.std.proofs.{lemmas.List.nil_from_length, Common.{◌≡◌, ◌≢◌, ℕ, suc, ◌+◌, ◌≤◌, List, [], ◌∷◌, ◌++◌, length, Bool, true, false}}
+use Rattle.std.proofs.Common.{refl, sym, ◌∙◌, ap, subst, arith, length-append, if◌then◌else◌}
 use Rattle.guest_machine.specs.declared.shapes.Shape.{Shape}
 use Rattle.epoch_snapshot.specs.Checkpoints.{Change, IsCanonical}
-use Rattle.checkpoint_stream.specs.declared.place.Place.TheVariants.{Whole, Failed}
-use Rattle.checkpoint_stream.specs.Readings.{Reading, begun, is_closed, fed_byte, fed, taken}
-use Rattle.checkpoint_stream.specs.Sound.{change_in}
-use Rattle.checkpoint_stream.specs.Taken.{Takes}
-use Rattle.checkpoint_stream.specs.Text.{text}
-use Rattle.checkpoint_stream.specs.Widths.{HasWidths}
-use Rattle.checkpoint_stream.specs.ReadBack.{ReadsBack}
-use Rattle.checkpoint_stream.proofs.Feeding.{fed-append, fed-closed, taken-closed, fed-done, taken-done}
-use Rattle.checkpoint_stream.proofs.TextRead.{whole, text-taken, whole-change}
+use Rattle.checkpoint_stream.specs.{declared.place.Place.TheVariants.{Whole, Failed}, Readings.{Reading, begun, is_closed, fed_byte, fed}}
+use Rattle.checkpoint_stream.{specs.{Readings.taken, Sound.change_in, Taken.Takes, Text.text, Widths.HasWidths}, proofs.Feeding.fed-append}
+use Rattle.checkpoint_stream.proofs.{Feeding.{fed-closed, taken-closed, fed-done, taken-done}, TextRead.{whole, text-taken, whole-change}}
 
 -- no more is taken than what closed the reading
 taken-front : (r : Reading) (xs ys : List ℕ) → is_closed (fed r xs).place ≡ true → taken r (xs ++ ys) ≤ length xs
@@ -23,17 +17,13 @@ taken-front r (x ∷ xs) ys closed =
       | false ↦ omega (arith, taken-front (fed_byte r x) xs ys closed)
     ]
 
-nothing : (xs : List ℕ) → length xs ≡ 0 → xs ≡ []
-nothing [] e = refl
-nothing (x ∷ xs) e = absurd (omega (arith, e))
-
 pub every-byte : (c : Change) (offset : ℕ) (front rest : List ℕ) → IsCanonical c → HasWidths c → text c ≡ front ++ rest →
     is_closed (fed (begun c.shape offset) front).place ≡ true → rest ≡ []
 every-byte c offset front rest h w spelled closed =
     let t : (p : ℕ) × Takes (begun c.shape offset) (text c) (whole c p) = text-taken c offset h w in
     let all : taken (begun c.shape offset) (front ++ rest) ≡ length (front ++ rest)
     = subst (λ (l : List ℕ). taken (begun c.shape offset) l ≡ length l) spelled (t.1.count) in
-    nothing rest (omega (arith, all, taken-front (begun c.shape offset) front rest closed, length-append front rest))
+    nil_from_length rest (omega (arith, all, taken-front (begun c.shape offset) front rest closed, length-append front rest))
 
 place-fed : (c : Change) (offset : ℕ) → IsCanonical c → HasWidths c → (fed (begun c.shape offset) (text c)).place ≡ Whole
 place-fed c offset h w = ap (λ (r : Reading). r.place) ((text-taken c offset h w).1.reading)
@@ -63,5 +53,5 @@ no-beginning c d more h w k v shape same =
     let counts : length (text c) ≡ length (text c ++ more)
     = sym count ∙ ap (taken (begun c.shape 0)) same ∙ other_count ∙ ap length (sym same) in (
       sym (whole-change c t.0 h w) ∙ ap change_in together ∙ whole-change d u.0 k v,
-      nothing more (omega (arith, counts, length-append (text c) more)),
+      nil_from_length more (omega (arith, counts, length-append (text c) more)),
     )

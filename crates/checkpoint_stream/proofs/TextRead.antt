@@ -1,34 +1,20 @@
 -- A checkpoint's text is read as this checkpoint.
-use Rattle.std.proofs.Common.{◌≡◌, ℕ, ◌<◌, ◌≤◌, ◌^◌, List, [], ◌∷◌, length, refl, sym, ◌∙◌, ap, subst, arith, lit<}
-use Rattle.std.proofs.lemmas.List.{length-map}
-use Rattle.std.proofs.Common.{All, drop}
-use Rattle.std.proofs.lemmas.List.Elements.{All-take, All-drop}
-use Rattle.guest_machine.specs.declared.machine_state.MachineState.{MachineState}
-use Rattle.epoch_snapshot.specs.declared.changes.PageChange.{PageChange}
-use Rattle.epoch_snapshot.specs.declared.changes.SectorChange.{SectorChange}
-use Rattle.epoch_snapshot.specs.Checkpoints.{Change, IsCanonical, change_of}
-use Rattle.checkpoint_stream.specs.declared.rules.Width.TheVariants.{Four}
-use Rattle.checkpoint_stream.specs.declared.place.Place.TheVariants.{Head, PageCount, SectorCount, Whole}
-use Rattle.checkpoint_stream.specs.HeadTable.{head_table, bytes_of}
-use Rattle.checkpoint_stream.specs.Readings.{Reading, begun, judged, pages_due, sectors_due}
-use Rattle.checkpoint_stream.specs.Sound.{change_in, last_after, version_from}
-use Rattle.checkpoint_stream.specs.Taken.{Takes}
-use Rattle.checkpoint_stream.specs.Text.{magic, head_numbers, numbers_from, number_units, page_units, sector_units, units_of_frames, units}
-use Rattle.checkpoint_stream.specs.Text.{joined, text}
-use Rattle.checkpoint_stream.specs.Units.{judged_all, AreUnits}
-use Rattle.checkpoint_stream.specs.Widths.{HasWidths, StateFits}
-use Rattle.checkpoint_stream.specs.ReadBack.{ReadsBack}
-use Rattle.checkpoint_stream.proofs.Feeding.{Takes-nothing, Takes-append, Takes-unit}
-use Rattle.checkpoint_stream.proofs.Leading.{standing, framed, Leads, Leads-append}
-use Rattle.checkpoint_stream.proofs.HeadRead.{numbers-lead}
-use Rattle.checkpoint_stream.proofs.HeadFits.{IsWord, head-passes, head-fits}
-use Rattle.checkpoint_stream.proofs.StateRead.{state-back, numbers-back}
-use Rattle.checkpoint_stream.proofs.RecordsRead.{end_of, FitsMask, IsBlockWide, IsSectorWide, Rises-end, PagesLeft}
-use Rattle.checkpoint_stream.proofs.RecordsRead.{page_count-step, sector_count-step, pages-lead}
-use Rattle.checkpoint_stream.proofs.SectorsRead.{SectorsLeft, sectors-lead}
-use Rattle.checkpoint_stream.proofs.FramesRead.{ending-lead}
+use Rattle.std.proofs.Common.{◌≡◌, ℕ, ◌<◌, ◌≤◌, ◌^◌, List, [], ◌∷◌, length, refl, sym, ◌∙◌, ap, subst, arith, lit<, All, drop, Bool, true}
+use Rattle.std.proofs.{Common.{false, ◌==◌, if◌then◌else◌}, lemmas.List.{length-map, Elements.{All-take, All-drop}}}
 use Rattle.std.proofs.lemmas.Bool.Decides.{nat_tests}
-use Rattle.std.proofs.Common.{Bool, true, false, ◌==◌, if◌then◌else◌}
+use Rattle.guest_machine.specs.declared.machine_state.MachineState.{MachineState}
+use Rattle.epoch_snapshot.specs.{declared.changes.{PageChange.PageChange, SectorChange.SectorChange}, Checkpoints.{Change, IsCanonical}}
+use Rattle.epoch_snapshot.specs.Checkpoints.{change_of}
+use Rattle.checkpoint_stream.specs.declared.{rules.Width.TheVariants.Four, place.Place.TheVariants.{Head, PageCount, SectorCount, Whole}}
+use Rattle.checkpoint_stream.specs.{HeadTable.{head_table, bytes_of}, Readings.{Reading, begun, judged, pages_due, sectors_due}}
+use Rattle.checkpoint_stream.specs.{Sound.{change_in, last_after, version_from}, Taken.Takes, Text.{magic, head_numbers, numbers_from}}
+use Rattle.checkpoint_stream.specs.{Text.{number_units, page_units, sector_units, units_of_frames, units, joined, text}, Units.judged_all}
+use Rattle.checkpoint_stream.specs.{Units.AreUnits, Widths.{HasWidths, StateFits}, ReadBack.ReadsBack}
+use Rattle.checkpoint_stream.proofs.{Feeding.{Takes-nothing, Takes-append, Takes-unit}, Leading.{standing, framed, Leads, Leads-append}}
+use Rattle.checkpoint_stream.proofs.{HeadRead.numbers-lead, HeadFits.{IsWord, head-passes, head-fits}, StateRead.{state-back, numbers-back}}
+use Rattle.checkpoint_stream.proofs.RecordsRead.{end_of, FitsMask, IsBlockWide, IsSectorWide, Rises-end, PagesLeft, page_count-step}
+use Rattle.checkpoint_stream.proofs.{RecordsRead.{sector_count-step, pages-lead}, SectorsRead.{SectorsLeft, sectors-lead}}
+use Rattle.checkpoint_stream.proofs.FramesRead.{ending-lead}
 
 -- units are taken whole, and read as these units
 pub units-taken : (r : Reading) (us : List (List ℕ)) → AreUnits r us → Takes r (joined us) (judged_all r us)

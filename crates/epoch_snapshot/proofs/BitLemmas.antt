@@ -1,13 +1,9 @@
 -- The blocks that a mask names, found one set bit after another.
-use Rattle.std.proofs.Common.{◌≡◌, ℕ, zero, suc, ◌+◌, ◌-◌, ◌/◌, ◌%◌, ◌^◌, ◌<◌, ◌≤◌, ◌==◌, List, [], ◌∷◌, ◌++◌, w64}
-use Rattle.std.proofs.Common.{cond, sym, ap, ◌∙◌, arith, inl, inr, shr-shr}
-use Rattle.std.specs.Int.{bit_at, trailing_zeros}
-use Rattle.std.specs.List.{range_with_len, filter}
-use Rattle.std.proofs.lemmas.Bool.{ne_eqb, cases_order}
-use Rattle.std.proofs.lemmas.List.{append-nil}
-use Rattle.std.proofs.lemmas.Nat.Bits.{bit_at-zero, bit_at_above, bit_at-trailing_zeros}
-use Rattle.epoch_snapshot.specs.Blocks.{set_blocks}
-use Rattle.epoch_snapshot.proofs.PageLemmas.{filter_last}
+use Rattle.std.proofs.Common.{◌≡◌, ℕ, zero, suc, ◌+◌, ◌-◌, ◌/◌, ◌%◌, ◌^◌, ◌<◌, ◌≤◌, ◌==◌, List, [], ◌∷◌, ◌++◌, w64, cond, sym, ap, ◌∙◌}
+use Rattle.std.proofs.{Common.{arith, inl, inr, shr-shr}, lemmas.{Bool.{ne_eqb, cases_order}, List.append-nil, Nat.Bits.bit_at-zero}}
+use Rattle.std.proofs.lemmas.Nat.Bits.{bit_at_above, bit_at-trailing_zeros}
+use Rattle.std.specs.{Int.{bit_at, trailing_zeros}, List.{range_with_len, filter}}
+use Rattle.epoch_snapshot.{specs.Blocks.set_blocks, proofs.PageLemmas.filter_last}
 
 -- the blocks below one that a mask names
 abbrev pub named_below : ℕ → ℕ → List ℕ

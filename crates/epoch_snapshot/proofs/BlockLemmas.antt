@@ -1,53 +1,11 @@
 -- Blocks: what XOR gives back, and what differs.
-use Rattle.std.proofs.Common.{
-  ◌≡◌,
-  ℕ,
-  zero,
-  suc,
-  ◌+◌,
-  ◌*◌,
-  ◌≤◌,
-  Bool,
-  true,
-  false,
-  ◌||◌,
-  ◌==◌,
-  not,
-  List,
-  [],
-  ◌∷◌,
-  ◌++◌,
-  length,
-  take,
-  drop,
-  map,
-  cond,
-  refl,
-  sym,
-  ap,
-  ◌∙◌,
-  arith,
-}
-use Rattle.std.specs.Int.Bits.{bit_xor, xor_assoc, xor_self, xor_zero_l}
-use Rattle.std.proofs.lemmas.Bool.{eqb-true, true≢false}
-use Rattle.std.proofs.Math.Seq.{take-add}
-use Rattle.std.proofs.lemmas.List.{
-  take_at,
-  drop_at,
-  drop-drop,
-  take-append-drop,
-  length-take-le,
-  length-drop,
-  append_assoc,
-  append-nil,
-  take_all,
-  nil_from_length,
-}
-use Rattle.std.specs.List.{range_with_len, filter}
+use Rattle.std.proofs.Common.{◌≡◌, ℕ, zero, suc, ◌+◌, ◌*◌, ◌≤◌, Bool, true, false, ◌||◌, ◌==◌, not, List, [], ◌∷◌, ◌++◌, length, take, drop}
+use Rattle.std.proofs.{Common.{map, cond, refl, sym, ap, ◌∙◌, arith}, lemmas.{Bool.{eqb-true, true≢false}, List.{take_at, drop_at}}}
+use Rattle.std.proofs.lemmas.List.{drop-drop, take-append-drop, length-take-le, length-drop, append_assoc, append-nil, take_all}
+use Rattle.std.proofs.{lemmas.List.nil_from_length, Math.Seq.take-add}
+use Rattle.std.specs.{Int.Bits.{bit_xor, xor_assoc, xor_self, xor_zero_l}, List.{range_with_len, filter}}
 use Rattle.guest_machine.specs.Bytes.{with_bytes, with_xored}
-use Rattle.epoch_snapshot.specs.Blocks.{xored, differ, block_in, block_differs}
-use Rattle.epoch_snapshot.specs.Cuts.{block_change}
-use Rattle.epoch_snapshot.specs.Images.{with_blocks}
+use Rattle.epoch_snapshot.specs.{Blocks.{xored, differ, block_in, block_differs}, Cuts.block_change, Images.with_blocks}
 
 pub xor_twice : (a b : ℕ) → bit_xor a (bit_xor a b) ≡ b
 xor_twice a b = sym (xor_assoc a a b) ∙ ap (λ n. bit_xor n b) (xor_self a) ∙ xor_zero_l b

@@ -1,52 +1,13 @@
 -- What a cut records of memory is a canonical checkpoint's.
-use Rattle.std.proofs.Common.{
-  ◌≡◌,
-  ◌≢◌,
-  ℕ,
-  zero,
-  suc,
-  ◌+◌,
-  ◌*◌,
-  ◌^◌,
-  ◌<◌,
-  ◌≤◌,
-  ◌==◌,
-  ◌&&◌,
-  ◌||◌,
-  not,
-  Bool,
-  true,
-  false,
-  cond,
-  List,
-  [],
-  ◌∷◌,
-  length,
-  map,
-  get_or,
-  refl,
-  sym,
-  ap,
-  ◌∙◌,
-  arith,
-  subst,
-  length-append,
-}
-use Rattle.std.specs.Prelude.{All, IsTrue, count_ones}
-use Rattle.std.specs.List.{range_with_len, filter}
-use Rattle.std.specs.Int.Bits.{bit_xor, xor_zero_r}
-use Rattle.std.proofs.lemmas.Bool.{eqb-true, eq-eqb, true≢false}
-use Rattle.std.proofs.lemmas.List.{length-map}
-use Rattle.std.proofs.lemmas.List.Elements.{filter_passes}
-use Rattle.std.proofs.lemmas.List.Sums.{sum_by-cons}
+use Rattle.std.proofs.Common.{◌≡◌, ◌≢◌, ℕ, zero, suc, ◌+◌, ◌*◌, ◌^◌, ◌<◌, ◌≤◌, ◌==◌, ◌&&◌, ◌||◌, not, Bool, true, false, cond, List, []}
+use Rattle.std.proofs.{Common.{◌∷◌, length, map, get_or, refl, sym, ap, ◌∙◌, arith, subst, length-append}, lemmas.Bool.{eqb-true, eq-eqb}}
+use Rattle.std.proofs.lemmas.{Bool.true≢false, List.{length-map, Elements.filter_passes, Sums.sum_by-cons}}
+use Rattle.std.specs.{Prelude.{All, IsTrue, count_ones}, List.{range_with_len, filter}, Int.Bits.{bit_xor, xor_zero_r}}
 use Rattle.guest_machine.specs.Dirty.{Rises}
-use Rattle.epoch_snapshot.specs.declared.changes.PageChange.{PageChange}
-use Rattle.epoch_snapshot.specs.Blocks.{is_zero, set_blocks, block_numbers, xored, differ, block_in, block_differs}
-use Rattle.epoch_snapshot.specs.Checkpoints.{block_count}
-use Rattle.epoch_snapshot.specs.Cuts.{page_change, is_changed, changed_pages, block_change, changed_blocks}
-use Rattle.epoch_snapshot.proofs.MaskLemmas.{length-set_blocks, changed_mask-lt}
-use Rattle.epoch_snapshot.proofs.BlockLemmas.{xor_twice}
-use Rattle.epoch_snapshot.proofs.CutLemmas.{block_numbers-changed}
+use Rattle.epoch_snapshot.specs.{declared.changes.PageChange.PageChange, Blocks.{is_zero, set_blocks, block_numbers, xored, differ}}
+use Rattle.epoch_snapshot.specs.{Blocks.{block_in, block_differs}, Checkpoints.block_count, Cuts.{page_change, is_changed, changed_pages}}
+use Rattle.epoch_snapshot.specs.Cuts.{block_change, changed_blocks}
+use Rattle.epoch_snapshot.proofs.{MaskLemmas.{length-set_blocks, changed_mask-lt}, BlockLemmas.xor_twice, CutLemmas.block_numbers-changed}
 
 -- ---- rising numbers
 

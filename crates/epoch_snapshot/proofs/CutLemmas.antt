@@ -1,38 +1,10 @@
 -- What a cut records of memory: a canonical checkpoint's pages and blocks, and its image.
-use Rattle.std.proofs.Common.{
-  ◌≡◌,
-  ℕ,
-  zero,
-  suc,
-  ◌+◌,
-  ◌*◌,
-  ◌==◌,
-  not,
-  Bool,
-  true,
-  false,
-  cond,
-  List,
-  [],
-  ◌∷◌,
-  ◌++◌,
-  length,
-  map,
-  refl,
-  sym,
-  ap,
-  ◌∙◌,
-  arith,
-}
+use Rattle.std.proofs.Common.{◌≡◌, ℕ, zero, suc, ◌+◌, ◌*◌, ◌==◌, not, Bool, true, false, cond, List, [], ◌∷◌, ◌++◌, length, map, refl, sym}
+use Rattle.std.proofs.{Common.{ap, ◌∙◌, arith}, lemmas.{Bool.{eqb-true, true≢false}, List.Elements.filter-append}}
 use Rattle.std.specs.List.{range_with_len, filter}
-use Rattle.std.proofs.lemmas.Bool.{eqb-true, true≢false}
-use Rattle.std.proofs.lemmas.List.Elements.{filter-append}
-use Rattle.epoch_snapshot.specs.declared.changes.PageChange.{PageChange}
-use Rattle.epoch_snapshot.specs.Blocks.{set_blocks, block_numbers, block_differs, changed_mask}
-use Rattle.epoch_snapshot.specs.Cuts.{page_change, is_changed, changed_pages, block_change, changed_blocks}
-use Rattle.epoch_snapshot.specs.Images.{with_blocks}
-use Rattle.epoch_snapshot.proofs.RangeLemmas.{range-append, filter-shift}
-use Rattle.epoch_snapshot.proofs.MaskLemmas.{set_blocks-changed, set_blocks-zero}
+use Rattle.epoch_snapshot.specs.{declared.changes.PageChange.PageChange, Blocks.{set_blocks, block_numbers, block_differs, changed_mask}}
+use Rattle.epoch_snapshot.specs.{Cuts.{page_change, is_changed, changed_pages, block_change, changed_blocks}, Images.with_blocks}
+use Rattle.epoch_snapshot.proofs.{RangeLemmas.{range-append, filter-shift}, MaskLemmas.{set_blocks-changed, set_blocks-zero}}
 use Rattle.epoch_snapshot.proofs.BlockLemmas.{with_blocks-all}
 
 module _ (old new : List ℕ) where

@@ -1,25 +1,15 @@
 -- A cut is canonical, and its image is the machine's guest.
 use Rattle.std.proofs.Common.{◌≡◌, ℕ, ◌*◌, ◌^◌, ◌<◌, ◌≤◌, ◌==◌, cond, not, false, List, [], length, replicate, map, sym, ap, ◌∙◌, arith}
-use Rattle.std.proofs.Common.{subst}
-use Rattle.std.specs.Prelude.{All, IsTrue}
-use Rattle.std.proofs.lemmas.List.{length-replicate}
-use Rattle.std.proofs.lemmas.Bool.{eq-eqb, ne_eqb}
+use Rattle.std.{proofs.{Common.subst, lemmas.{List.length-replicate, Bool.{eq-eqb, ne_eqb}}}, specs.Prelude.{All, IsTrue}}
 use Rattle.arrayvec.specs.ArrayVec.{ArrayVec}
 use Rattle.net_device.specs.Frames.{IsFrame}
-use Rattle.guest_machine.specs.Dirty.{Rises}
-use Rattle.guest_machine.specs.Guest.{Guest, sector_count}
-use Rattle.guest_machine.specs.MachineStates.{IsMachineState, state_of, with_state}
-use Rattle.guest_machine.specs.Guest.{State}
-use Rattle.epoch_snapshot.specs.declared.changes.PageChange.{PageChange}
-use Rattle.epoch_snapshot.specs.declared.changes.SectorChange.{SectorChange}
-use Rattle.epoch_snapshot.specs.Bases.{IsBase, IsCut}
-use Rattle.epoch_snapshot.specs.Blocks.{is_zero, block_numbers}
-use Rattle.epoch_snapshot.specs.Checkpoints.{Change, IsCanonical, block_count}
-use Rattle.epoch_snapshot.specs.Cuts.{sector_of, changed_blocks, changed_sectors, used_sectors}
-use Rattle.epoch_snapshot.specs.Images.{with_blocks, with_sectors, base_ram, base_sectors, image_of}
-use Rattle.epoch_snapshot.proofs.CutLemmas.{with_blocks-cut}
-use Rattle.epoch_snapshot.proofs.CanonicalLemmas.{Rises-changed, masks-changed, length-changed_blocks, blocks-changed}
-use Rattle.epoch_snapshot.proofs.SectorLemmas.{AgreesOff, AgreesOff-zero, with_sectors-changed, numbers-changed, Rises-used}
+use Rattle.guest_machine.specs.{Dirty.Rises, Guest.{Guest, sector_count, State}, MachineStates.{IsMachineState, state_of, with_state}}
+use Rattle.epoch_snapshot.specs.{declared.changes.{PageChange.PageChange, SectorChange.SectorChange}, Bases.{IsBase, IsCut}, Blocks.is_zero}
+use Rattle.epoch_snapshot.specs.{Blocks.block_numbers, Checkpoints.{Change, IsCanonical, block_count}, Cuts.{sector_of, changed_blocks}}
+use Rattle.epoch_snapshot.specs.{Cuts.{changed_sectors, used_sectors}, Images.{with_blocks, with_sectors, base_ram, base_sectors, image_of}}
+use Rattle.epoch_snapshot.proofs.{CutLemmas.with_blocks-cut, CanonicalLemmas.{Rises-changed, masks-changed, length-changed_blocks}}
+use Rattle.epoch_snapshot.proofs.{CanonicalLemmas.blocks-changed, SectorLemmas.{AgreesOff, AgreesOff-zero, with_sectors-changed}}
+use Rattle.epoch_snapshot.proofs.SectorLemmas.{numbers-changed, Rises-used}
 
 -- what a cut keeps of a machine is canonical
 pub IsCanonical-cut : (old listed : List ℕ) (sent : List (ArrayVec ℕ)) (m : State) (generation number : ℕ) (c : Change) →

@@ -1,7 +1,7 @@
 mod RangeLemmas
-mod PartLemmas
-mod BlockLemmas
-mod MaskLemmas
+pub mod PartLemmas
+pub mod BlockLemmas
+pub mod MaskLemmas
 mod CutLemmas
 mod CanonicalLemmas
 mod PageLemmas

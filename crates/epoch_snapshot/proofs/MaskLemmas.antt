@@ -1,40 +1,10 @@
 -- Masks: which blocks they name, and how many.
-use Rattle.std.proofs.Common.{
-  ◌≡◌,
-  ℕ,
-  zero,
-  suc,
-  ◌+◌,
-  ◌*◌,
-  ◌^◌,
-  ◌<◌,
-  ◌==◌,
-  Bool,
-  true,
-  false,
-  cond,
-  List,
-  [],
-  ◌∷◌,
-  length,
-  map,
-  refl,
-  sym,
-  ap,
-  ◌∙◌,
-  arith,
-  subst,
-}
-use Rattle.std.specs.Prelude.{count_ones}
-use Rattle.std.specs.List.{range_with_len, filter}
-use Rattle.std.specs.Int.{bit_at}
-use Rattle.std.specs.Simd.Lanes.{mask_l}
-use Rattle.std.proofs.lemmas.Simd.{bit_mask_l, mask_l-lt, ones-mask_l}
-use Rattle.std.proofs.lemmas.List.FromFn.{get_or-map-range_with_len, length-map-range_with_len}
-use Rattle.std.proofs.lemmas.List.Sums.{length-filter}
+use Rattle.std.proofs.Common.{◌≡◌, ℕ, zero, suc, ◌+◌, ◌*◌, ◌^◌, ◌<◌, ◌==◌, Bool, true, false, cond, List, [], ◌∷◌, length, map, refl, sym}
+use Rattle.std.proofs.{Common.{ap, ◌∙◌, arith, subst}, lemmas.Simd.{bit_mask_l, mask_l-lt, ones-mask_l}}
+use Rattle.std.proofs.lemmas.List.{FromFn.{get_or-map-range_with_len, length-map-range_with_len}, Sums.length-filter}
 use Rattle.std.proofs.lemmas.Nat.Bits.{same_from_bits_below, bit_at-zero}
-use Rattle.epoch_snapshot.specs.Blocks.{set_blocks, block_differs, changed_mask}
-use Rattle.epoch_snapshot.proofs.RangeLemmas.{filter_agree_in}
+use Rattle.std.specs.{Prelude.count_ones, List.{range_with_len, filter}, Int.bit_at, Simd.Lanes.mask_l}
+use Rattle.epoch_snapshot.{specs.Blocks.{set_blocks, block_differs, changed_mask}, proofs.RangeLemmas.filter_agree_in}
 
 one_of : (b : Bool) → (cond b 1 0 == 1) ≡ b
 one_of true = refl
@@ -110,17 +80,3 @@ mask_from_bits old new page m fits bits =
     same_from_bits_below 64 m (mask_l (map (λ i. block_differs old new (64 * page + i)) (range_with_len 0 64))) fits
     (flag_lt (λ i. block_differs old new (64 * page + i)) 64)
     (λ i below. bits i below ∙ sym (flag_bit (λ j. block_differs old new (64 * page + j)) 64 i below))
-
-no_bit : (b : Bool) (n : ℕ) → n ≡ cond b 1 0 → n ≡ 0 → b ≡ false
-no_bit true n e z = absurd (omega (arith, e, z))
-no_bit false n e z = refl
-
--- a mask of 0 says that no block differs
-pub no_block : (old new : List ℕ) (page : ℕ) → changed_mask old new page ≡ 0 → (i : ℕ) → i < 64 →
-    block_differs old new (64 * page + i) ≡ false
-unfolding changed_mask
-no_block old new page none i below =
-    no_bit (block_differs old new (64 * page + i))
-    (bit_at (mask_l (map (λ j. block_differs old new (64 * page + j)) (range_with_len 0 64))) i)
-    (flag_bit (λ j. block_differs old new (64 * page + j)) 64 i below)
-    (ap (λ m. bit_at m i) none ∙ bit_at-zero i)

@@ -1,19 +1,13 @@
 -- Pages of a memory, as the list of its bytes.
-use Rattle.std.proofs.Common.{◌≡◌, ℕ, zero, suc, ◌+◌, ◌-◌, ◌*◌, ◌^◌, ◌<◌, ◌≤◌, ◌==◌, ◌||◌, not, lit<, Bool, true, false, cond, List, []}
-use Rattle.std.proofs.Common.{◌∷◌, ◌++◌, length, take, drop, replicate, map, refl, sym, ap, ◌∙◌, arith, subst, length-append}
-use Rattle.std.specs.Prelude.{slice_range, ◌↔◌, IsTrue}
-use Rattle.std.specs.List.{range_with_len, filter}
-use Rattle.std.specs.Int.{bit_at}
-use Rattle.std.proofs.lemmas.List.{take-take, drop-drop, drop-take, map-append, map-id, append-nil, append_assoc, length_push}
-use Rattle.std.proofs.lemmas.Bool.{eq-eqb, ne_eqb, true≢false}
-use Rattle.std.proofs.lemmas.Nat.Bits.{bit_at-zero}
-use Rattle.std.proofs.lemmas.List.FromFn.{filter_of_map_range_with_len_more}
-use Rattle.std.proofs.lemmas.List.Elements.{filter-append}
-use Rattle.epoch_snapshot.specs.declared.changes.PageChange.{PageChange}
-use Rattle.epoch_snapshot.specs.Blocks.{set_blocks, block_numbers, xored, differ, block_in, changed_mask}
-use Rattle.epoch_snapshot.specs.Cuts.{page_change, is_changed, changed_pages, block_change, changed_blocks}
-use Rattle.epoch_snapshot.proofs.MaskLemmas.{mask_from_bits}
-use Rattle.epoch_snapshot.proofs.RangeLemmas.{range-append}
+use Rattle.std.proofs.lemmas.{Simd.map-map, List.{take-replicate, drop-replicate, take-take, drop-drop, drop-take, map-append, map-id}}
+use Rattle.std.proofs.lemmas.List.{append-nil, append_assoc, length_push, FromFn.filter_of_map_range_with_len_more, Elements.filter-append}
+use Rattle.std.proofs.{lemmas.{Bool.{eq-eqb, ne_eqb, true≢false}, Nat.Bits.bit_at-zero}, Common.{◌≡◌, ℕ, zero, suc, ◌+◌, ◌-◌, ◌*◌, ◌^◌}}
+use Rattle.std.proofs.Common.{◌<◌, ◌≤◌, ◌==◌, ◌||◌, not, lit<, Bool, true, false, cond, List, [], ◌∷◌, ◌++◌, length, take, drop, replicate}
+use Rattle.std.proofs.Common.{map, refl, sym, ap, ◌∙◌, arith, subst, length-append}
+use Rattle.std.specs.{Prelude.{slice_range, ◌↔◌, IsTrue}, List.{range_with_len, filter}, Int.bit_at}
+use Rattle.epoch_snapshot.specs.{declared.changes.PageChange.PageChange, Blocks.{set_blocks, block_numbers, xored, differ, block_in}}
+use Rattle.epoch_snapshot.specs.{Blocks.changed_mask, Cuts.{page_change, is_changed, changed_pages, block_change, changed_blocks}}
+use Rattle.epoch_snapshot.proofs.{MaskLemmas.mask_from_bits, RangeLemmas.range-append}
 
 -- a block of a page is a block of memory
 pub block_in-page : (ram : List ℕ) (page i : ℕ) → i < 64 → block_in (slice_range ram (4096 * page) (4096 * page + 4096)) i ≡
@@ -27,18 +21,8 @@ block_in-page ram page i below =
     ∙ ap (take 64) (drop-drop (64 * i) (4096 * page) ram ∙ ap (λ n. drop n ram) at)
 
 -- so is a block of zeros
-take-replicate : (n m : ℕ) → n ≤ m → take {A = ℕ} n (replicate m 0) ≡ replicate n 0
-take-replicate zero m within = refl
-take-replicate (suc n) zero within = absurd (omega arith)
-take-replicate (suc n) (suc m) within = ap (λ (l : List ℕ). 0 ∷ l) (take-replicate n m (omega arith))
-
-drop-replicate : (k m : ℕ) → drop {A = ℕ} k (replicate m 0) ≡ replicate (m - k) 0
-drop-replicate zero m = let e : m ≡ m - 0 = omega arith in ap (λ n. replicate {A = ℕ} n 0) e
-drop-replicate (suc k) zero = let e : 0 ≡ 0 - suc k = omega arith in ap (λ n. replicate {A = ℕ} n 0) e
-drop-replicate (suc k) (suc m) = let e : m - k ≡ suc m - suc k = omega arith in drop-replicate k m ∙ ap (λ n. replicate {A = ℕ} n 0) e
-
 pub zero_block : (m n : ℕ) → 64 * n + 64 ≤ m → block_in (replicate m 0) n ≡ replicate 64 0
-zero_block m n within = ap (take {A = ℕ} 64) (drop-replicate (64 * n) m) ∙ take-replicate 64 (m - 64 * n) (omega arith)
+zero_block m n within = ap (take {A = ℕ} 64) (drop-replicate (64 * n) m 0) ∙ take-replicate 64 (m - 64 * n) 0 (omega arith)
 
 differ-self : (xs : List ℕ) → differ xs xs ≡ false
 differ-self [] = refl
@@ -167,10 +151,6 @@ map_agree_in f g p s (suc n) agree =
     agree_by f g (p s) s (filter p (range_with_len (s + 1) n)) (agree s (omega arith) (omega arith))
     (map_agree_in f g p (s + 1) n (λ i low high. agree i (omega arith) (omega arith)))
 
-map-map : (f : ℕ → List ℕ) (g : ℕ → ℕ) (is : List ℕ) → map (λ i. f (g i)) is ≡ map f (map g is)
-map-map f g [] = refl
-map-map f g (i ∷ is) = ap (λ l. f (g i) ∷ l) (map-map f g is)
-
 -- the blocks of a page that its mask names, as blocks of the two memories
 pub page_blocks : (old new p q : List ℕ) (page mask : ℕ) →
     ((i : ℕ) → i < 64 → block_in p i ≡ block_in old (64 * page + i)) → ((i : ℕ) → i < 64 → block_in q i ≡ block_in new (64 * page + i)) →
@@ -180,7 +160,7 @@ unfolding set_blocks
 page_blocks old new p q page mask olds news =
     map_agree_in (λ i. xored (block_in p i) (block_in q i)) (λ i. block_change old new (64 * page + i)) (λ i. bit_at mask i == 1) 0 64
     (λ i low high. λ k. xored (olds i (omega arith) k) (news i (omega arith) k))
-    ∙ map-map (block_change old new) (λ i. 64 * page + i) (set_blocks mask)
+    ∙ sym (map-map (block_change old new) (λ i. 64 * page + i) (set_blocks mask))
 
 numbers-append : (ps qs : List PageChange) → block_numbers (ps ++ qs) ≡ block_numbers ps ++ block_numbers qs
 unfolding block_numbers

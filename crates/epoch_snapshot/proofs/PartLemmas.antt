@@ -1,38 +1,7 @@
 -- Parts of bytes, before and after some of them are replaced.
-use Rattle.std.proofs.Common.{
-  ◌≡◌,
-  ℕ,
-  zero,
-  suc,
-  ◌+◌,
-  ◌-◌,
-  ◌*◌,
-  ◌<◌,
-  ◌≤◌,
-  List,
-  ◌++◌,
-  length,
-  take,
-  drop,
-  sym,
-  ap,
-  ◌∙◌,
-  arith,
-  length-append,
-}
-use Rattle.std.proofs.Math.Seq.{take-add}
-use Rattle.std.proofs.lemmas.List.{
-  take_at,
-  drop_at,
-  drop-drop,
-  take-append-drop,
-  take-append-le,
-  length-take-le,
-  length-drop,
-  drop-append-le,
-  take_all,
-  append_assoc,
-}
+use Rattle.std.proofs.Common.{◌≡◌, ℕ, zero, suc, ◌+◌, ◌-◌, ◌*◌, ◌<◌, ◌≤◌, List, ◌++◌, length, take, drop, sym, ap, ◌∙◌, arith}
+use Rattle.std.proofs.{Common.length-append, Math.Seq.take-add, lemmas.List.{take_at, drop_at, drop-drop, take-append-drop, take-append-le}}
+use Rattle.std.proofs.lemmas.List.{length-take-le, length-drop, drop-append-le, take_all, append_assoc}
 use Rattle.guest_machine.specs.Bytes.{with_bytes}
 
 -- replaced bytes are as many as before

@@ -1,57 +1,15 @@
 -- What a cut records of a disk, and its image.
-use Rattle.std.proofs.Common.{
-  ◌≡◌,
-  ℕ,
-  zero,
-  suc,
-  ◌+◌,
-  ◌-◌,
-  ◌*◌,
-  ◌<◌,
-  ◌≤◌,
-  ◌==◌,
-  ◌&&◌,
-  ◌||◌,
-  not,
-  Bool,
-  true,
-  false,
-  cond,
-  List,
-  [],
-  ◌∷◌,
-  ◌++◌,
-  length,
-  take,
-  drop,
-  replicate,
-  map,
-  get_or,
-  refl,
-  sym,
-  ap,
-  ◌∙◌,
-  arith,
-  subst,
-  inl,
-  inr,
-}
-use Rattle.std.specs.Prelude.{All, IsTrue, ◌↔◌, slice_range}
-use Rattle.std.specs.List.{range_with_len, filter}
-use Rattle.std.proofs.lemmas.Bool.{eqb-true, eqb-false, eq-eqb, true≢false, cases_order, cases_eq, and_parts}
-use Rattle.std.proofs.lemmas.List.{length-take-le, length-drop, length-replicate, append-nil}
-use Rattle.std.proofs.lemmas.List.Elements.{filter_passes}
-use Rattle.guest_machine.specs.Dirty.{Rises, is_in}
+use Rattle.std.proofs.Common.{◌≡◌, ℕ, zero, suc, ◌+◌, ◌-◌, ◌*◌, ◌<◌, ◌≤◌, ◌==◌, ◌&&◌, ◌||◌, not, Bool, true, false, cond, List, [], ◌∷◌}
+use Rattle.std.proofs.Common.{◌++◌, length, take, drop, replicate, map, get_or, refl, sym, ap, ◌∙◌, arith, subst, inl, inr}
+use Rattle.std.proofs.lemmas.{Bool.{eqb-true, eqb-false, eq-eqb, true≢false, cases_order, cases_eq, and_parts}, List.length-take-le}
+use Rattle.std.proofs.lemmas.List.{length-drop, length-replicate, append-nil, Elements.filter_passes}
+use Rattle.std.specs.{Prelude.{All, IsTrue, ◌↔◌, slice_range}, List.{range_with_len, filter}}
+use Rattle.guest_machine.specs.{Dirty.{Rises, is_in}, Bytes.with_bytes}
+use Rattle.epoch_snapshot.specs.{declared.changes.SectorChange.SectorChange, Blocks.is_zero, Cuts.{sector_of, sector_change}}
+use Rattle.epoch_snapshot.specs.{Cuts.{changed_sectors, used_sectors}, Images.with_sectors}
+use Rattle.epoch_snapshot.proofs.{PartLemmas.{length-with_bytes, part-same, part-below, part-above, same_from_parts}, BlockLemmas.or_parts}
+use Rattle.epoch_snapshot.proofs.{CanonicalLemmas.{Rises-filter, all_mapped}, PageLemmas.filter_last}
 use Rattle.guest_machine.specs.Guest.{sector_count, sector_of as sector_in_place}
-use Rattle.epoch_snapshot.specs.declared.changes.SectorChange.{SectorChange}
-use Rattle.guest_machine.specs.Bytes.{with_bytes}
-use Rattle.epoch_snapshot.specs.Blocks.{is_zero}
-use Rattle.epoch_snapshot.specs.Cuts.{sector_of, sector_change, changed_sectors, used_sectors}
-use Rattle.epoch_snapshot.specs.Images.{with_sectors}
-use Rattle.epoch_snapshot.proofs.PartLemmas.{length-with_bytes, part-same, part-below, part-above, same_from_parts}
-use Rattle.epoch_snapshot.proofs.BlockLemmas.{or_parts}
-use Rattle.epoch_snapshot.proofs.CanonicalLemmas.{Rises-filter, all_mapped}
-use Rattle.epoch_snapshot.proofs.PageLemmas.{filter_last}
 
 -- two disks of this many sectors agree on each sector that isn't in the list
 unfoldable pub AgreesOff : ℕ → List ℕ → List ℕ → List ℕ → Type 0

@@ -10,6 +10,7 @@ pub mod Guest
 pub mod KeptWords
 pub mod Limits
 pub mod MachineStates
+pub mod Paces
 pub mod Parts
 pub mod Pending
 pub mod Runs

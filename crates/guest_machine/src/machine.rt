@@ -26,7 +26,7 @@ use std::alloc::Global;
 use std::marker::Model;
 
 /// How many frames the outbox may hold for a step: 64 of its 256 places are then free, as many as one step can take.
-const STEPPING_FRAMES: usize = 192;
+pub(crate) const STEPPING_FRAMES: usize = 192;
 
 /// A guest, and since the last [`settle`](Machine::settle) the frames that it sent, and which pages and sectors were written. All
 /// memory that its calls need is reserved at boot.
@@ -148,7 +148,7 @@ impl Machine {
 
     /// Steps of the guest, one by one: `count` of them, or fewer where one finds more than `limit` frames in the outbox.
     #[inline]
-    fn run_while(&mut self, count: u64, limit: usize) -> u64
+    pub(crate) fn run_while(&mut self, count: u64, limit: usize) -> u64
         requires { limit ≤ stepping_frames }
         ensures most { result ≤ count }
         ensures guest { self.new.guest ≡ after_steps result self.old.guest }

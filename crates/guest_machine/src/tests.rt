@@ -9,6 +9,7 @@ mod interrupts;
 mod laps;
 mod loads;
 mod network;
+mod paces;
 mod ping;
 mod program_words;
 mod programs;

@@ -1,11 +1,9 @@
 -- The flags of a range of pages.
-use Rattle.std.proofs.Common.{◌≡◌, ℕ, ◌+◌, ◌-◌, ◌*◌, ◌/◌, ◌<◌, ◌≤◌, ◌⊎◌, ◌++◌, inl, inr, Bool, true, false, if◌then◌else◌, List, length}
-use Rattle.std.proofs.Common.{replicate, take, drop, get_or, sym, ap, ◌∙◌, arith}
-use Rattle.std.proofs.Math.ListN.{set}
-use Rattle.std.proofs.lemmas.Bool.{cases_lt, cases_order, cases_eq, ne_eqb}
-use Rattle.std.proofs.lemmas.List.{ext_get_or, get_or_append_left, get_or-append_right, length-take-le, length-append, length-drop}
-use Rattle.std.proofs.lemmas.List.{length-replicate, get_or-drop, get_or-take, get_or-replicate, get_or-set_same, get_or-set_other}
-use Rattle.std.proofs.lemmas.List.{length-set, set-set}
+use Rattle.std.proofs.lemmas.{Bool.{true≢false, cases_lt, cases_order, cases_eq, ne_eqb}, List.{ext_get_or, get_or_append_left}}
+use Rattle.std.proofs.lemmas.List.{get_or-append_right, length-take-le, length-append, length-drop, length-replicate, get_or-drop}
+use Rattle.std.proofs.{lemmas.List.{get_or-take, get_or-replicate, get_or-set_same, get_or-set_other, length-set, set-set}, Common.{◌≡◌, ℕ}}
+use Rattle.std.proofs.Common.{◌+◌, ◌-◌, ◌*◌, ◌/◌, ◌<◌, ◌≤◌, ◌⊎◌, ◌++◌, inl, inr, Bool, true, false, if◌then◌else◌, List, length, replicate}
+use Rattle.std.proofs.{Common.{take, drop, get_or, sym, ap, ◌∙◌, arith}, Math.ListN.set}
 use Rattle.paged_memory.specs.Pages.{flagged, end_page, marked}
 
 pub length-flagged : (xs : List Bool) (from end : ℕ) → from ≤ end → end ≤ length xs → length (flagged xs from end) ≡ length xs
@@ -53,13 +51,10 @@ no_new_flag xs from end i ordered within none =
     elim (cases_lt i from) [
       | inl below ↦ (inl below, sym (flag_before xs from end i true (omega arith) below) ∙ none)
       | inr above ↦ elim (cases_lt i end) [
-        | inl inside ↦ absurd (differ (sym (flag_inside xs from end i true (omega arith) above inside) ∙ none))
+        | inl inside ↦ absurd (true≢false (sym (flag_inside xs from end i true (omega arith) above inside) ∙ none))
         | inr past ↦ (inr past, sym (flag_after xs from end i true ordered within past) ∙ none)
       ]
     ]
-  where
-    differ : true ≡ false → ⊥
-    differ e = cc
 
 -- two ranges that agree on each page
 flag_below_more : (xs : List Bool) (from end i : ℕ) → from ≤ end → end < length xs → i < length xs →

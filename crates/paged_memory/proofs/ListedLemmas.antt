@@ -1,11 +1,8 @@
 -- The pages of a list lose their flags one after another.
-use Rattle.std.proofs.Common.{◌≡◌, ℕ, zero, suc, ◌+◌, ◌<◌, ◌≤◌, inl, inr, Bool, true, false, List, [], ◌∷◌, length, replicate, drop}
-use Rattle.std.proofs.Common.{get_or, Contains, refl, sym, ◌∙◌, subst, add-one, arith}
-use Rattle.std.proofs.Math.ListN.{set}
-use Rattle.std.proofs.Math.Seq.{drop-cons}
-use Rattle.std.proofs.lemmas.Bool.{cases_eq}
-use Rattle.std.proofs.lemmas.List.{ext_get_or, drop_all, length-set, length-replicate, get_or-replicate, get_or-set_other}
-use Rattle.std.proofs.lemmas.Grind.{get_or-set_at}
+use Rattle.std.proofs.lemmas.{Bool.{true≢false, cases_eq}, List.{ext_get_or, drop_all, length-set, length-replicate, get_or-replicate}}
+use Rattle.std.proofs.{lemmas.{List.get_or-set_other, Grind.get_or-set_at}, Common.{◌≡◌, ℕ, zero, suc, ◌+◌, ◌<◌, ◌≤◌, inl, inr, Bool, true}}
+use Rattle.std.proofs.Common.{false, List, [], ◌∷◌, length, replicate, drop, get_or, Contains, refl, sym, ◌∙◌, subst, add-one, arith}
+use Rattle.std.proofs.Math.{ListN.set, Seq.drop-cons}
 use Rattle.paged_memory.specs.Pages.{is_written}
 
 -- each page with a flag is yet to come in the list
@@ -26,14 +23,11 @@ pub one_cleared : (flags : List Bool) (pages : List ℕ) (index number : ℕ) �
 one_cleared flags pages index number here inside is = record {
   count = length-set flags (get_or pages index 0) false ∙ is.count;
   ahead = λ page below flag. elim (cases_eq page (get_or pages index 0)) [
-    | inl same ↦ absurd (differ (sym (get_or-set_at flags (get_or pages index 0) page false true same (omega (arith, is.count))) ∙ flag))
+    | inl same ↦ absurd (true≢false (sym flag ∙ get_or-set_at flags (get_or pages index 0) page false true same (omega (arith, is.count))))
     | inr apart ↦ later page below apart (sym (get_or-set_other flags (get_or pages index 0) page false true apart) ∙ flag)
   ];
 }
   where
-    differ : false ≡ true → ⊥
-    differ e = cc
-
     later : (page : ℕ) → page < number → (page ≡ get_or pages index 0 → ⊥) → is_written flags page ≡ true →
         Contains (drop (index + 1) pages) page
     later page below apart flag =

@@ -1,21 +1,15 @@
 -- A page's bytes, and the flags after a write.
-use Rattle.std.proofs.Common.{◌≡◌, ℕ, ◌+◌, ◌-◌, ◌*◌, ◌/◌, ◌≤◌, ◌++◌, inl, inr, Bool, List, [], length, take, drop, ap}
-use Rattle.std.proofs.Common.{◌∙◌, arith}
-use Rattle.std.proofs.lemmas.Bool.{cases_eq}
-use Rattle.std.proofs.lemmas.List.{take-append-drop, length-take-le, length-drop, ext_get_or}
-use Rattle.paged_memory.specs.Pages.{page_of, marked}
-use Rattle.paged_memory.proofs.FlagLemmas.{length-flagged, marked_some, marked_none}
+use Rattle.std.proofs.{lemmas.{List.{nil_from_length, take-append-drop, length-take-le, length-drop}, Bool.cases_eq}, Common.{◌≡◌, ℕ, ◌+◌}}
+use Rattle.std.proofs.Common.{◌-◌, ◌*◌, ◌/◌, ◌≤◌, ◌++◌, inl, inr, Bool, List, length, take, drop, ap, ◌∙◌, arith}
+use Rattle.paged_memory.{specs.Pages.{page_of, marked}, proofs.FlagLemmas.{length-flagged, marked_some, marked_none}}
 
 -- no bytes change nothing
 pub nothing_written : (xs new : List ℕ) (at n : ℕ) → length new ≡ n → n ≡ 0 → take at xs ++ (new ++ drop (at + n) xs) ≡ xs
 nothing_written xs new at n long none =
     let here : at + n ≡ at = omega arith in
     ap (λ (k : ℕ). take at xs ++ (new ++ drop k xs)) here
-    ∙ ap (λ (x : List ℕ). take at xs ++ (x ++ drop at xs)) (empty new (long ∙ none))
+    ∙ ap (λ (x : List ℕ). take at xs ++ (x ++ drop at xs)) (nil_from_length new (long ∙ none))
     ∙ take-append-drop at xs
-  where
-    empty : (x : List ℕ) → length x ≡ 0 → x ≡ []
-    empty x e = ext_get_or 0 x [] e (λ i h. absurd (omega (arith, h, e)))
 
 pub length_marked : (flags : List Bool) (at n : ℕ) → at + n ≤ 4096 * length flags → length (marked flags at n) ≡ length flags
 length_marked flags at n within =

@@ -1,18 +1,13 @@
 -- What each change of the parts is to the memory that contracts see.
-use Rattle.std.proofs.Common.{◌≡◌, ℕ, ◌+◌, ◌-◌, ◌*◌, ◌/◌, ◌%◌, ◌^◌, ◌<◌, ◌≤◌, ◌++◌, Bool, true, false, List, length}
-use Rattle.std.proofs.Common.{replicate, take, drop, refl, sym, ap, ◌∙◌, arith}
-use Rattle.std.proofs.Math.ListN.{set}
-use Rattle.std.proofs.Math.Nat.{mod-eq_of_lt, mod-add-div', add-mul-mod_self_right}
+use Rattle.std.proofs.Common.{◌≡◌, ℕ, ◌+◌, ◌-◌, ◌*◌, ◌/◌, ◌%◌, ◌^◌, ◌<◌, ◌≤◌, ◌++◌, Bool, true, false, List, length, replicate, take, drop}
+use Rattle.std.proofs.{Common.{refl, sym, ap, ◌∙◌, arith}, Math.{ListN.set, Nat.{mod-eq_of_lt, mod-add-div', add-mul-mod_self_right}}}
 use Rattle.std.proofs.lemmas.List.{set-get_or}
 use Rattle.byteorder.specs.Endian.{little_bytes}
-use Rattle.paged_memory.specs.Bytes.{with_number}
-use Rattle.paged_memory.specs.Pages.{Paged, IsPaged, page_of, is_written, written_pages, flagged, marked, with_flags, with_written}
-use Rattle.paged_memory.specs.Pages.{settled_at}
-use Rattle.paged_memory.specs.Stored.{settled_bytes, seen, IsStored}
-use Rattle.paged_memory.proofs.BytesLemmas.{length_overwritten}
-use Rattle.paged_memory.proofs.FlagLemmas.{one_more, no_pages, few_marked, marked_none}
-use Rattle.paged_memory.proofs.PageLemmas.{length_marked}
-use Rattle.paged_memory.proofs.StoredLemmas.{settled_by_keep, settled_by_write, settled_afresh, stored_by_write, one_page_more}
+use Rattle.paged_memory.specs.{Bytes.with_number, Pages.{Paged, IsPaged, page_of, is_written, written_pages, flagged, marked, with_flags}}
+use Rattle.paged_memory.specs.{Pages.{with_written, settled_at}, Stored.{settled_bytes, seen, IsStored}}
+use Rattle.paged_memory.proofs.{BytesLemmas.length_overwritten, FlagLemmas.{one_more, no_pages, few_marked, marked_none}}
+use Rattle.paged_memory.proofs.{PageLemmas.length_marked, StoredLemmas.{settled_by_keep, settled_by_write, settled_afresh, stored_by_write}}
+use Rattle.paged_memory.proofs.StoredLemmas.{one_page_more}
 
 -- a page is kept
 pub seen_by_keep : (m : Paged) (b o x : List ℕ) (w : List Bool) (p q d : List ℕ) (space capacity copies page : ℕ) →

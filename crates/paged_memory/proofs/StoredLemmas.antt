@@ -1,21 +1,14 @@
 -- What is seen of a memory's parts: the bytes at the last settle, and the rules.
-use Rattle.std.proofs.Common.{◌≡◌, ℕ, zero, suc, ◌+◌, ◌-◌, ◌*◌, ◌/◌, ◌%◌, ◌^◌, ◌<◌, ◌≤◌, ◌++◌, inl, inr, Bool, true, false}
-use Rattle.std.proofs.Common.{if◌then◌else◌, cond, List, [], ◌∷◌, length, replicate, take, drop, get_or, All, Contains, refl, sym, ap}
-use Rattle.std.proofs.Common.{◌∙◌, subst, zero-add, add-zero, arith}
-use Rattle.std.proofs.Math.ListN.{set}
-use Rattle.std.proofs.lemmas.Bool.{cases_eq}
-use Rattle.std.proofs.lemmas.List.{ext_get_or, get_or_append_left, get_or-append_right, length-take-le, length-set}
-use Rattle.std.proofs.lemmas.List.{length-replicate, length_push, length-append, get_or-drop, get_or-take}
-use Rattle.std.proofs.lemmas.List.{get_or-replicate, get_or-set_other}
-use Rattle.std.proofs.lemmas.Grind.{get_or-set_at}
-use Rattle.std.proofs.lemmas.List.Elements.{Contains-append_left, Contains-push, All-push, All-nil}
-use Rattle.std.proofs.lemmas.List.Sums.{count_by-le-length, sum_by-set}
-use Rattle.std.proofs.lemmas.List.Folds.{sum_by-replicate}
-use Rattle.std.proofs.lemmas.List.FromFn.{get_or-map-range_with_len, length-map-range_with_len}
-use Rattle.paged_memory.specs.Pages.{IsPaged, page_of, is_written, written_pages, flagged, marked}
-use Rattle.paged_memory.specs.Stored.{original_byte, settled_bytes, seen, IsStored}
-use Rattle.paged_memory.proofs.BytesLemmas.{length_overwritten}
-use Rattle.paged_memory.proofs.FlagLemmas.{no_new_flag, marked_some}
+use Rattle.std.proofs.Common.{rules}
+use Rattle.std.proofs.lemmas.{Bool.{true≢false, cases_eq}, List.{ext_get_or, get_or_append_left, get_or-append_right, length-take-le}}
+use Rattle.std.proofs.lemmas.List.{length-set, length-replicate, length_push, length-append, get_or-drop, get_or-take, get_or-replicate}
+use Rattle.std.proofs.lemmas.List.{get_or-set_other, Elements.{Contains-append_left, Contains-push, All-push, All-nil}}
+use Rattle.std.proofs.lemmas.List.{Sums.{count_by-le-length, sum_by-set}, Folds.sum_by-replicate, FromFn.get_or-map-range_with_len}
+use Rattle.std.proofs.{lemmas.{List.FromFn.length-map-range_with_len, Grind.get_or-set_at}, Common.{◌≡◌, ℕ, zero, suc, ◌+◌, ◌-◌, ◌*◌, ◌/◌}}
+use Rattle.std.proofs.Common.{◌%◌, ◌^◌, ◌<◌, ◌≤◌, ◌++◌, inl, inr, Bool, true, false, if◌then◌else◌, cond, List, [], ◌∷◌, length, replicate}
+use Rattle.std.proofs.{Common.{take, drop, get_or, All, Contains, refl, sym, ap, ◌∙◌, subst, zero-add, add-zero, arith}, Math.ListN.set}
+use Rattle.paged_memory.specs.{Pages.{IsPaged, page_of, is_written, written_pages, flagged, marked}, Stored.{original_byte, settled_bytes}}
+use Rattle.paged_memory.{specs.Stored.{seen, IsStored}, proofs.{BytesLemmas.length_overwritten, FlagLemmas.{no_new_flag, marked_some}}}
 use Rattle.paged_memory.proofs.PageLemmas.{nothing_written, length-page}
 
 -- ---- bytes that were put somewhere
@@ -213,10 +206,7 @@ page_unkept b o w p page within flag =
 
 -- a page without flag is one that the memory has
 flag_inside : (w : List Bool) (page : ℕ) → is_written w page ≡ false → page < length w
-flag_inside [] page none = absurd (differ none)
-  where
-    differ : true ≡ false → ⊥
-    differ e = cc
+flag_inside [] page none = absurd (true≢false none)
 flag_inside (f ∷ w) zero none = omega arith
 flag_inside (f ∷ w) (suc page) none = let below : page < length w = flag_inside w page none in omega arith
 
@@ -308,20 +298,9 @@ stored_by_keep b o x w p q d e space capacity space_now capacity_now copies more
 
 pub stored_by_write : (b c o : List ℕ) (w : List Bool) (p d : List ℕ) (space capacity copies : ℕ) → length c ≡ length b →
     IsStored b o w p d space capacity copies → IsStored c o w p d space capacity copies
-stored_by_write b c o w p d space capacity copies long is = record {
-  whole = long ∙ is.whole;
-  least = is.least;
-  most = is.most;
-  kept = is.kept;
-  numbered = is.numbered;
-  placed = is.placed;
-  listed = is.listed;
-  inside = is.inside;
-  count = is.count;
-  region = is.region;
-  room = is.room;
-  small = is.small;
-}
+stored_by_write b c o w p d space capacity copies long is =
+    let whole : length c ≡ 4096 * length w = long ∙ is.whole in
+    search rules
 
 -- nothing is written yet
 pub stored_afresh : (b o : List ℕ) (w : List Bool) (p d : List ℕ) (n space capacity copies : ℕ) → length b ≡ 4096 * n → 1 ≤ n →
@@ -345,12 +324,9 @@ stored_afresh b o w p d n space capacity copies whole least most bare flags numb
       small = small;
     }
   where
-    differ : false ≡ true → ⊥
-    differ e = cc
-
     unmarked : (page : ℕ) → page < n → is_written w page ≡ true → ⊥
     unmarked page inside flag =
-        differ (sym (ap (λ (x : List Bool). get_or x page true) flags ∙ get_or-replicate n page false true inside) ∙ flag)
+        true≢false (sym flag ∙ ap (λ (x : List Bool). get_or x page true) flags ∙ get_or-replicate n page false true inside)
 
 -- not all pages are listed where one isn't written
 one_unlisted : (b o : List ℕ) (w : List Bool) (p d : List ℕ) (space capacity copies page : ℕ) → is_written w page ≡ false →

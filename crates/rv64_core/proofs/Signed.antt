@@ -1,21 +1,39 @@
--- Products of signed numbers of 64 bits fit 128.
-use Rattle.std.proofs.Common.{◌≡◌, ◌≤◌, ◌^◌, ℤ, pos, negsuc, ◌*ℤ◌, FitsSigned, unsigned_abs, to_z, of_z, ap, ◌∙◌, arith}
-use Rattle.std.specs.Int.{w64, w128}
-use Rattle.std.proofs.lemmas.Int.{to_z-of_z, fits_signed_mul, fits_signed_from_abs}
+-- Products of numbers of 64 bits, of which one or both are signed, fit 128.
+use Rattle.std.proofs.Common.{
+  ◌≡◌,
+  ◌≤◌,
+  ◌<◌,
+  ◌*◌,
+  ◌^◌,
+  ℕ,
+  ℤ,
+  ◌*ℤ◌,
+  FitsSigned,
+  unsigned_abs,
+  to_z,
+  of_z,
+  subst,
+  sym,
+  ap,
+  ◌∙◌,
+  arith,
+  mul-le-mul_right,
+}
+use Rattle.std.specs.Int.{w128}
+use Rattle.std.proofs.lemmas.Int.{to_z-of_z, unsigned_abs-mul, fits_signed_from_abs}
 
-abs_le : (x : ℤ) → FitsSigned w64 x → unsigned_abs x ≤ 2 ^ 63
-abs_le (pos n) p = omega (arith, p.sfits)
-abs_le (negsuc n) p = omega (arith, p.sfits)
+pub product_below : (x y : ℤ) → unsigned_abs x ≤ 2 ^ 63 → unsigned_abs y < 2 ^ 64 → unsigned_abs (x *ℤ y) < 2 ^ 127
+product_below x y p q =
+    let Below : ℕ → Type 0 = λ n. n < 2 ^ 127 in
+    let most : unsigned_abs x * unsigned_abs y ≤ 2 ^ 63 * unsigned_abs y = mul-le-mul_right (unsigned_abs y) p in
+    subst Below (sym (unsigned_abs-mul x y)) (omega (arith, most, q))
 
-pub product_fits : (x y : ℤ) → FitsSigned w64 x → FitsSigned w64 y → FitsSigned w128 (x *ℤ y)
-product_fits x y p q = fits_signed_mul w128 x y (2 ^ 63) (2 ^ 63) (abs_le x p) (abs_le y q) (omega arith)
+pub product_fits : (x y : ℤ) → unsigned_abs x ≤ 2 ^ 63 → unsigned_abs y < 2 ^ 64 → FitsSigned w128 (x *ℤ y)
+product_fits x y p q = fits_signed_from_abs w128 (x *ℤ y) (product_below x y p q)
 
-wider : (x : ℤ) → FitsSigned w64 x → FitsSigned w128 x
-wider x p = fits_signed_from_abs w128 x (omega (arith, abs_le x p))
-
-pub product_is : (x y : ℤ) → FitsSigned w64 x → FitsSigned w64 y
+pub product_is : (x y : ℤ) → FitsSigned w128 x → FitsSigned w128 y → unsigned_abs x ≤ 2 ^ 63 → unsigned_abs y < 2 ^ 64
     → to_z w128 (of_z w128 (to_z w128 (of_z w128 x) *ℤ to_z w128 (of_z w128 y))) ≡ x *ℤ y
-product_is x y p q =
-    ap (λ z. to_z w128 (of_z w128 (z *ℤ to_z w128 (of_z w128 y)))) (to_z-of_z w128 x (wider x p))
-    ∙ ap (λ z. to_z w128 (of_z w128 (x *ℤ z))) (to_z-of_z w128 y (wider y q))
+product_is x y fx fy p q =
+    ap (λ z. to_z w128 (of_z w128 (z *ℤ to_z w128 (of_z w128 y)))) (to_z-of_z w128 x fx)
+    ∙ ap (λ z. to_z w128 (of_z w128 (x *ℤ z))) (to_z-of_z w128 y fy)
     ∙ to_z-of_z w128 (x *ℤ y) (product_fits x y p q)

@@ -1,6 +1,6 @@
 //! The operations on numbers modulo 2^64.
 
-ghost use Rattle.std.specs.Prelude.{◌≡◌, ◌*◌, ◌%◌, ◌<◌, ◌^◌, unsigned_abs, FitsSigned};
+ghost use Rattle.std.specs.Prelude.{◌≡◌, ◌*◌, ◌*ℤ◌, ◌%◌, ◌<◌, ◌≤◌, ◌^◌, unsigned_abs};
 ghost use Rattle.std.specs.Int.{w64, w32, cast_signed, cast_unsigned, int_shr};
 ghost use Rattle.rv64_core.specs.Fields.{sign_extended};
 ghost use Rattle.rv64_core.specs.Operations.{
@@ -64,10 +64,34 @@ pub(crate) fn multiply(op: Multiplication, a: u64, b: u64) -> u64
 {
     match op {
         Multiplication::Mul => a.wrapping_mul(b),
-        Multiplication::Mulh => high_signed(widened(a) * widened(b)),
-        Multiplication::Mulhsu => high_signed(widened(a) * i128::from(b)),
-        Multiplication::Mulhu => ((u128::from(a) * u128::from(b)) >> 64) as u64,
+        Multiplication::Mulh => high_of_signed(a, b),
+        Multiplication::Mulhsu => high_of_mixed(a, b),
+        Multiplication::Mulhu => high_of_unsigned(a, b),
     }
+}
+
+/// The high half of a product of signed numbers.
+#[inline]
+fn high_of_signed(a: u64, b: u64) -> u64
+    ensures { result ≡ multiplied Multiplication.Mulh a b }
+{
+    high_signed(product(widened(a), widened(b)))
+}
+
+/// The high half of a product of a signed and an unsigned number.
+#[inline]
+fn high_of_mixed(a: u64, b: u64) -> u64
+    ensures { result ≡ multiplied Multiplication.Mulhsu a b }
+{
+    high_signed(product(widened(a), i128::from(b)))
+}
+
+/// The high half of a product of unsigned numbers.
+#[inline]
+fn high_of_unsigned(a: u64, b: u64) -> u64
+    ensures { result ≡ multiplied Multiplication.Mulhu a b }
+{
+    ((u128::from(a) * u128::from(b)) >> 64) as u64
 }
 
 /// The product of the low 32 bits.
@@ -155,9 +179,21 @@ pub(crate) fn is_taken(condition: Condition, a: u64, b: u64) -> bool
 #[inline]
 fn widened(value: u64) -> i128
     ensures value { result ≡ cast_signed w64 value }
-    ensures bound { FitsSigned w64 result }
+    ensures bound { unsigned_abs result ≤ 2 ^ 63 }
 {
     i128::from(value.cast_signed())
+}
+
+/// A product of two numbers of 65 bits, the first of them of 64.
+#[inline]
+#[tactic(auto, using(crate::proofs::Signed::product_fits))]
+fn product(a: i128, b: i128) -> i128
+    requires first { unsigned_abs a ≤ 2 ^ 63 }
+    requires second { unsigned_abs b < 2 ^ 64 }
+    ensures value { result ≡ a *ℤ b }
+    ensures bound { unsigned_abs result < 2 ^ 127 }
+{
+    a * b
 }
 
 /// The high half of a signed product of two numbers of 64 bits.

@@ -1,9 +1,7 @@
 -- What the parts make is the image.
-use Rattle.std.proofs.Common.{◌≡◌, false, length, ap, ◌∙◌}
-use Rattle.std.proofs.lemmas.List.{length-replicate}
+use Rattle.std.proofs.{Common.{◌≡◌, false, length, ap, ◌∙◌}, lemmas.List.length-replicate}
 use Rattle.guest_machine.specs.Guest.{Guest, State}
-use Rattle.epoch_snapshot.specs.Blocks.{block_numbers}
-use Rattle.epoch_snapshot.specs.Images.{with_blocks}
+use Rattle.epoch_snapshot.specs.{Blocks.block_numbers, Images.with_blocks}
 use Rattle.backup_image.proofs.PutLemmas.{image-made}
 use Rattle.backup_image.proofs.apply.apply.Goals as goal
 

@@ -1,6 +1,6 @@
 -- One block more.
 use Rattle.std.proofs.Common.{[], ◌∙◌, arith}
-use Rattle.backup_image.proofs.MaskLemmas.{length-set_blocks}
+use Rattle.epoch_snapshot.proofs.MaskLemmas.{length-set_blocks}
 use Rattle.backup_image.proofs.PutLemmas.{page-begins, enough-at, page-put, page-skip, page-done}
 use Rattle.backup_image.proofs.apply.put_page.Goals as goal
 use Rattle.backup_image.proofs.apply.put_page.Goals.{then-mask-block-eq1, else-mask-block-eq1}

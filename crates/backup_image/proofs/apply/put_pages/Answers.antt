@@ -1,10 +1,8 @@
 -- One page more.
-use Rattle.std.proofs.Common.{◌≡◌, ℕ, List, ◌++◌, length, take, drop, sym, ap, ◌∙◌, arith}
-use Rattle.std.proofs.lemmas.List.{take-append-drop}
+use Rattle.std.proofs.{Common.{◌≡◌, ℕ, List, ◌++◌, length, take, drop, sym, ap, ◌∙◌, arith}, lemmas.List.take-append-drop}
 use Rattle.epoch_snapshot.specs.declared.changes.PageChange.{PageChange}
-use Rattle.backup_image.proofs.RisingLemmas.{rising-below}
-use Rattle.backup_image.proofs.MaskLemmas.{block_count-drop}
-use Rattle.backup_image.proofs.PutLemmas.{pages-begin, pages-put, pages-done}
+use Rattle.backup_image.proofs.{RisingLemmas.rising-below, PutLemmas.{pages-begin, pages-put, pages-done}}
+use Rattle.checkpoint_stream.proofs.Spelling.{block_count-drop}
 use Rattle.backup_image.proofs.apply.put_pages.Goals as goal
 
 none : PageChange

@@ -2,8 +2,7 @@
 use Rattle.std.proofs.Common.{[], arith}
 use Rattle.guest_machine.specs.Guest.{sector_count}
 use Rattle.epoch_snapshot.specs.declared.changes.SectorChange.{SectorChange}
-use Rattle.backup_image.proofs.RisingLemmas.{rising-below}
-use Rattle.backup_image.proofs.PutLemmas.{sectors-begin, sectors-put, sectors-done}
+use Rattle.backup_image.proofs.{RisingLemmas.rising-below, PutLemmas.{sectors-begin, sectors-put, sectors-done}}
 use Rattle.backup_image.proofs.apply.put_sectors.Goals as goal
 
 none : SectorChange

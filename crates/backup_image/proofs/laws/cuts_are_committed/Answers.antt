@@ -1,7 +1,6 @@
 -- The commit makes the image of what was cut.
 use Rattle.std.proofs.Common.{ap, ◌∙◌}
-use Rattle.backup_image.specs.Images.{ImageState}
-use Rattle.backup_image.proofs.StageLemmas.{new-committed}
+use Rattle.backup_image.{specs.Images.ImageState, proofs.StageLemmas.new-committed}
 use Rattle.backup_image.proofs.laws.cuts_are_committed.Goals as goal
 
 pub returns-clause-delta : goal.returns-clause-delta

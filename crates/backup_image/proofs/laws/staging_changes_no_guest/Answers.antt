@@ -1,7 +1,6 @@
 -- Only what is staged changes, and only where the checkpoint is new.
 use Rattle.std.proofs.Common.{ap}
-use Rattle.backup_image.specs.Images.{stage_answer}
-use Rattle.backup_image.proofs.StageLemmas.{staged_after-kept}
+use Rattle.backup_image.{specs.Images.stage_answer, proofs.StageLemmas.staged_after-kept}
 use Rattle.backup_image.proofs.laws.staging_changes_no_guest.Goals as goal
 
 pub returns-clause-unless_new : goal.returns-clause-unless_new

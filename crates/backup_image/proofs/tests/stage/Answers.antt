@@ -1,7 +1,5 @@
 -- Shapes that compare equal are the same.
-use Rattle.std.proofs.Common.{rules, ◌≡◌, ℕ, ◌≤◌, ◌==◌, true, sym, ◌∙◌, subst}
-use Rattle.std.proofs.Math.Bridge.{le_prop}
-use Rattle.std.proofs.lemmas.Bool.{and_parts, eqb-true}
+use Rattle.std.proofs.{Common.{rules, ◌≡◌, ℕ, ◌≤◌, ◌==◌, true, sym, ◌∙◌, subst}, Math.Bridge.le_prop, lemmas.Bool.{and_parts, eqb-true}}
 use Rattle.guest_machine.specs.declared.shapes.Shape.{Shape}
 use Rattle.backup_image.proofs.tests.stage.Goals as goal
 

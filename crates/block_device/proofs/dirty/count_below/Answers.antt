@@ -1,6 +1,5 @@
-use Rattle.std.proofs.Common.{◌≡◌, true, false, nat_lt, rules}
+use Rattle.std.proofs.{Common.{◌≡◌, true, false, nat_lt, rules}, lemmas.List.Sorted.{IsPartitionedBy-ltb, IsPartitionPoint-from_clause}}
 use Rattle.std.specs.List.Sorted.{IsPartitionPoint}
-use Rattle.std.proofs.lemmas.List.Sorted.{IsPartitionedBy-ltb, IsPartitionPoint-from_clause}
 use Rattle.block_device.proofs.Rising.{parted_below, parted_above}
 use Rattle.block_device.proofs.dirty.count_below.Goals as goal
 

@@ -1,5 +1,4 @@
-use Rattle.std.proofs.Common.{◌≡◌, ◌++◌, vec_capacity}
-use Rattle.std.specs.List.{range_with_len}
+use Rattle.std.{proofs.Common.{◌≡◌, ◌++◌, vec_capacity}, specs.List.range_with_len}
 use Rattle.block_device.proofs.dirty.push_range.Given as goal
 
 abbrev pub invariant-loop-done : goal.invariant-loop-done

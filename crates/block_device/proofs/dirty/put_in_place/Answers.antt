@@ -1,30 +1,7 @@
-use Rattle.std.proofs.Common.{
-  ◌≡◌,
-  ℕ,
-  ◌+◌,
-  ◌≤◌,
-  ◌++◌,
-  List,
-  ap,
-  ◌∙◌,
-  sym,
-  subst,
-  arith,
-  vec_capacity,
-  take,
-  drop,
-  filter,
-  nat_lt,
-  nat_le,
-  length,
-  length-append,
-  length-take-le,
-}
-use Rattle.std.specs.List.{range_with_len}
-use Rattle.std.specs.List.Sorted.{IsNonDecreasing}
-use Rattle.std.proofs.lemmas.List.FromFn.{length-range_with_len}
-use Rattle.block_device.specs.Dirty.{Rises}
-use Rattle.block_device.proofs.Rising.{Parted, rises_nondecreasing, from_before_to, room_for_range, moved_in}
+use Rattle.std.proofs.Common.{◌≡◌, ℕ, ◌+◌, ◌≤◌, ◌++◌, List, ap, ◌∙◌, sym, subst, arith, vec_capacity, take, drop, filter, nat_lt, nat_le}
+use Rattle.std.proofs.{Common.{length, length-append, length-take-le}, lemmas.List.FromFn.length-range_with_len}
+use Rattle.std.specs.List.{range_with_len, Sorted.IsNonDecreasing}
+use Rattle.block_device.{specs.Dirty.Rises, proofs.Rising.{Parted, rises_nondecreasing, from_before_to, room_for_range, moved_in}}
 use Rattle.block_device.proofs.dirty.put_in_place.Goals as goal
 
 -- what both searches found, of the list itself
@@ -53,28 +30,23 @@ count_below-to-requires c =
 
 pub remove_places-requires-clause-ordered : goal.remove_places-requires-clause-ordered
 remove_places-requires-clause-ordered c =
-    let p = parted c.args.list.now.items c.as_slice.result.now c.as_slice-2.result.now c.args.first c.args.count
-    (vec_capacity c.args.list.now) c.count_below-from.result c.count_below-to.result c.as_slice.ensures.value
-    c.as_slice-2.ensures.value c.requires.rises c.requires.room c.count_below-from.ensures.below c.count_below-to.ensures.below
-    c.count_below-to.ensures.above c.count_below-from.ensures.within c.count_below-to.ensures.within in
-    from_before_to c.args.list.now.items c.args.first c.args.count (vec_capacity c.args.list.now) c.count_below-from.result
-    c.count_below-to.result p
+    let p = parted _ _ _ _ _ _ _ _ c.as_slice.ensures.value c.as_slice-2.ensures.value c.requires.rises c.requires.room
+    c.count_below-from.ensures.below c.count_below-to.ensures.below c.count_below-to.ensures.above c.count_below-from.ensures.within
+    c.count_below-to.ensures.within in
+    from_before_to _ _ _ _ _ _ p
 
 pub push_range-requires-clause-room : goal.push_range-requires-clause-room
 push_range-requires-clause-room c =
-    let p = parted c.args.list.now.items c.as_slice.result.now c.as_slice-2.result.now c.args.first c.args.count
-    (vec_capacity c.args.list.now) c.count_below-from.result c.count_below-to.result c.as_slice.ensures.value
-    c.as_slice-2.ensures.value c.requires.rises c.requires.room c.count_below-from.ensures.below c.count_below-to.ensures.below
-    c.count_below-to.ensures.above c.count_below-from.ensures.within c.count_below-to.ensures.within in
-    let room = room_for_range c.args.list.now.items c.args.first c.args.count (vec_capacity c.args.list.now) c.count_below-from.result
-    c.count_below-to.result p in omega (arith, ap length c.remove_places.ensures.items, c.remove_places.ensures.capacity)
+    let p = parted _ _ _ _ _ _ _ _ c.as_slice.ensures.value c.as_slice-2.ensures.value c.requires.rises c.requires.room
+    c.count_below-from.ensures.below c.count_below-to.ensures.below c.count_below-to.ensures.above c.count_below-from.ensures.within
+    c.count_below-to.ensures.within in
+    let room = room_for_range _ _ _ _ _ _ p in omega (arith, ap length c.remove_places.ensures.items, c.remove_places.ensures.capacity)
 
 pub move_last-requires : goal.move_last-requires
 move_last-requires c =
-    let p = parted c.args.list.now.items c.as_slice.result.now c.as_slice-2.result.now c.args.first c.args.count
-    (vec_capacity c.args.list.now) c.count_below-from.result c.count_below-to.result c.as_slice.ensures.value
-    c.as_slice-2.ensures.value c.requires.rises c.requires.room c.count_below-from.ensures.below c.count_below-to.ensures.below
-    c.count_below-to.ensures.above c.count_below-from.ensures.within c.count_below-to.ensures.within in
+    let p = parted _ _ _ _ _ _ _ _ c.as_slice.ensures.value c.as_slice-2.ensures.value c.requires.rises c.requires.room
+    c.count_below-from.ensures.below c.count_below-to.ensures.below c.count_below-to.ensures.above c.count_below-from.ensures.within
+    c.count_below-to.ensures.within in
     omega (
       arith,
       ap length c.push_range.ensures.items,
@@ -90,10 +62,9 @@ move_last-requires c =
 
 pub returns-clause-items : goal.returns-clause-items
 returns-clause-items c =
-    let p = parted c.args.list.now.items c.as_slice.result.now c.as_slice-2.result.now c.args.first c.args.count
-    (vec_capacity c.args.list.now) c.count_below-from.result c.count_below-to.result c.as_slice.ensures.value
-    c.as_slice-2.ensures.value c.requires.rises c.requires.room c.count_below-from.ensures.below c.count_below-to.ensures.below
-    c.count_below-to.ensures.above c.count_below-from.ensures.within c.count_below-to.ensures.within in
+    let p = parted _ _ _ _ _ _ _ _ c.as_slice.ensures.value c.as_slice-2.ensures.value c.requires.rises c.requires.room
+    c.count_below-from.ensures.below c.count_below-to.ensures.below c.count_below-to.ensures.above c.count_below-from.ensures.within
+    c.count_below-to.ensures.within in
     let list = c.push_range.ensures.items ∙ ap (λ ys. ys ++ range_with_len c.args.first c.args.count) c.remove_places.ensures.items in
     c.move_last.ensures.items ∙ moved_in c.args.list.now.items c.args.first c.args.count (vec_capacity c.args.list.now)
     c.count_below-from.result c.count_below-to.result p c.push_range.new.list.items list

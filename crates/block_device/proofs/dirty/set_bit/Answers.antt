@@ -1,5 +1,4 @@
-use Rattle.std.proofs.Common.{◌/◌, arith}
-use Rattle.std.proofs.lemmas.List.{get_or_read}
+use Rattle.std.proofs.{Common.{◌/◌, arith}, lemmas.List.get_or_read}
 use Rattle.block_device.proofs.SetLemmas.{bit_set}
 use Rattle.block_device.proofs.dirty.set_bit.Goals as goal
 

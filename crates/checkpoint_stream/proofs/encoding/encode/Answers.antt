@@ -1,9 +1,6 @@
 use Rattle.std.proofs.Common.{sym, ◌≡◌, subst}
-use Rattle.checkpoint_stream.specs.Text.{text}
-use Rattle.checkpoint_stream.specs.Widths.{HasWidths}
-use Rattle.checkpoint_stream.specs.ReadBack.{ReadsBack}
-use Rattle.checkpoint_stream.proofs.Spelling.{encoded}
-use Rattle.checkpoint_stream.proofs.TextRead.{has-widths, reads-back}
+use Rattle.checkpoint_stream.specs.{Text.text, Widths.HasWidths, ReadBack.ReadsBack}
+use Rattle.checkpoint_stream.proofs.{Spelling.encoded, TextRead.{has-widths, reads-back}}
 use Rattle.checkpoint_stream.proofs.encoding.encode.Goals as goal
 
 pub returns : goal.returns

@@ -1,6 +1,5 @@
 use Rattle.std.proofs.Common.{rules, ◌≡◌, ◌++◌, List, ℕ, OnOk, ◌∙◌, subst}
-use Rattle.checkpoint_stream.specs.Text.{joined}
-use Rattle.checkpoint_stream.proofs.Spelling.{joined-flat}
+use Rattle.checkpoint_stream.{specs.Text.joined, proofs.Spelling.joined-flat}
 use Rattle.checkpoint_stream.proofs.encoding.put_blocks.Goals as goal
 
 pub returns : goal.returns

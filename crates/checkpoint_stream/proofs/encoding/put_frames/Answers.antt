@@ -1,8 +1,6 @@
 use Rattle.std.proofs.Common.{◌++◌, ◌+◌, ℕ, drop, length, sym, ◌∙◌, ap, arith}
 use Rattle.arrayvec.specs.ArrayVec.{ArrayVec}
-use Rattle.checkpoint_stream.specs.HeadTable.{bytes_of}
-use Rattle.checkpoint_stream.specs.declared.rules.Width.TheVariants.{Four}
-use Rattle.checkpoint_stream.specs.Text.{joined, frame_units}
+use Rattle.checkpoint_stream.specs.{HeadTable.bytes_of, declared.rules.Width.TheVariants.Four, Text.{joined, frame_units}}
 use Rattle.checkpoint_stream.proofs.Spelling.{advance, finish, frame_units-drop, frame_units-done}
 use Rattle.checkpoint_stream.proofs.encoding.put_frames.Goals as goal
 

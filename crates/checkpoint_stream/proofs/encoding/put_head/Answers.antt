@@ -1,9 +1,6 @@
-use Rattle.std.proofs.Common.{◌≡◌, ◌∙◌, ◌++◌, ap, get_or, length, refl, arith}
-use Rattle.std.proofs.lemmas.List.Elements.{All-more}
-use Rattle.checkpoint_stream.specs.HeadTable.{head_table, row_at, bytes_of}
-use Rattle.checkpoint_stream.specs.declared.rules.Row.{Row}
-use Rattle.checkpoint_stream.proofs.HeadFits.{IsWord}
-use Rattle.checkpoint_stream.proofs.Spelling.{advance, finish, number_units-drop, number_units-done, all-seen}
+use Rattle.std.proofs.{Common.{◌≡◌, ◌∙◌, ◌++◌, ap, get_or, length, refl, arith}, lemmas.List.Elements.All-more}
+use Rattle.checkpoint_stream.specs.{HeadTable.{head_table, row_at, bytes_of}, declared.rules.Row.Row}
+use Rattle.checkpoint_stream.proofs.{HeadFits.IsWord, Spelling.{advance, finish, number_units-drop, number_units-done, all-seen}}
 use Rattle.checkpoint_stream.proofs.encoding.put_head.Goals as goal
 
 length-head_table : length head_table ≡ 80

@@ -1,7 +1,5 @@
 use Rattle.std.proofs.Common.{◌≡◌, ◌++◌, All, drop, take}
-use Rattle.checkpoint_stream.specs.HeadTable.{head_table}
-use Rattle.checkpoint_stream.specs.Text.{joined, number_units}
-use Rattle.checkpoint_stream.proofs.HeadFits.{IsWord}
+use Rattle.checkpoint_stream.{specs.{HeadTable.head_table, Text.{joined, number_units}}, proofs.HeadFits.IsWord}
 use Rattle.checkpoint_stream.proofs.encoding.put_head.Given as goal
 
 abbrev pub invariant-loop-i : goal.invariant-loop-i

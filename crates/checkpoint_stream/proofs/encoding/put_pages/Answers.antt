@@ -1,5 +1,4 @@
-use Rattle.std.proofs.Common.{arith}
-use Rattle.std.proofs.lemmas.List.Elements.{All-more}
+use Rattle.std.proofs.{Common.arith, lemmas.List.Elements.All-more}
 use Rattle.epoch_snapshot.specs.declared.changes.PageChange.{PageChange}
 use Rattle.checkpoint_stream.proofs.Spelling.{advance, finish, page_units-split, page_units-done, block_count-drop, all-seen}
 use Rattle.checkpoint_stream.proofs.RecordsRead.{FitsMask}

@@ -1,7 +1,6 @@
 use Rattle.std.proofs.Common.{◌≡◌, ◌≤◌, ◌++◌, All, drop, take, length}
 use Rattle.epoch_snapshot.specs.Checkpoints.{block_count}
-use Rattle.checkpoint_stream.specs.Text.{joined, page_units}
-use Rattle.checkpoint_stream.proofs.RecordsRead.{FitsMask}
+use Rattle.checkpoint_stream.{specs.Text.{joined, page_units}, proofs.RecordsRead.FitsMask}
 use Rattle.checkpoint_stream.proofs.encoding.put_pages.Given as goal
 
 abbrev pub invariant-loop-page : goal.invariant-loop-page

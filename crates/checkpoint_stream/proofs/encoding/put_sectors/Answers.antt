@@ -1,7 +1,5 @@
-use Rattle.std.proofs.Common.{arith}
-use Rattle.std.proofs.lemmas.List.Elements.{All-more}
-use Rattle.checkpoint_stream.proofs.RecordsRead.{IsSectorWide}
-use Rattle.checkpoint_stream.proofs.Spelling.{advance, finish, sector_units-drop, sector_units-done, all-seen}
+use Rattle.std.proofs.{Common.arith, lemmas.List.Elements.All-more}
+use Rattle.checkpoint_stream.proofs.{RecordsRead.IsSectorWide, Spelling.{advance, finish, sector_units-drop, sector_units-done, all-seen}}
 use Rattle.checkpoint_stream.proofs.encoding.put_sectors.Goals as goal
 
 pub loop-sector-preserved : goal.loop-sector-preserved

@@ -1,6 +1,5 @@
 use Rattle.std.proofs.Common.{◌≡◌, ◌++◌, All, drop, take}
-use Rattle.checkpoint_stream.specs.Text.{joined, sector_units}
-use Rattle.checkpoint_stream.proofs.RecordsRead.{IsSectorWide}
+use Rattle.checkpoint_stream.{specs.Text.{joined, sector_units}, proofs.RecordsRead.IsSectorWide}
 use Rattle.checkpoint_stream.proofs.encoding.put_sectors.Given as goal
 
 abbrev pub invariant-loop-sector : goal.invariant-loop-sector

@@ -1,5 +1,4 @@
-use Rattle.checkpoint_stream.proofs.Canonical.{canonical}
-use Rattle.checkpoint_stream.proofs.Soundness.{fed-sound, begun-sound}
+use Rattle.checkpoint_stream.proofs.{Canonical.canonical, Soundness.{fed-sound, begun-sound}}
 use Rattle.checkpoint_stream.proofs.laws.read_is_canonical.Goals as goal
 
 pub returns : goal.returns

@@ -1,13 +1,8 @@
 -- The parts are a canonical cut's, and its image over a base is the machine's guest.
 use Rattle.std.proofs.Common.{refl, sym, ap, ◌∙◌, arith}
-use Rattle.epoch_snapshot.specs.Bases.{IsCut}
-use Rattle.epoch_snapshot.specs.Checkpoints.{Change, change_of}
-use Rattle.epoch_snapshot.specs.Images.{image_of}
-use Rattle.guest_machine.specs.Dirty.{Rises}
-use Rattle.guest_machine.specs.MachineStates.{with_state}
-use Rattle.epoch_snapshot.specs.Cuts.{changed_blocks}
-use Rattle.epoch_snapshot.proofs.ImageLemmas.{IsCanonical-cut, image-delta}
-use Rattle.epoch_snapshot.proofs.SectorLemmas.{Rises-count}
+use Rattle.epoch_snapshot.specs.{Bases.IsCut, Checkpoints.{Change, change_of}, Images.image_of, Cuts.changed_blocks}
+use Rattle.epoch_snapshot.proofs.{ImageLemmas.{IsCanonical-cut, image-delta}, SectorLemmas.Rises-count}
+use Rattle.guest_machine.specs.{Dirty.Rises, MachineStates.with_state}
 use Rattle.epoch_snapshot.proofs.cut.cut_delta.Goals as goal
 
 -- what the checkpoint is made of

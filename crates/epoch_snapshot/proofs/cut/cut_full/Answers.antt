@@ -1,14 +1,9 @@
 -- The parts are a canonical cut's, and its image over any guest is the machine's.
-use Rattle.std.proofs.Common.{ℕ, [], arith, length, replicate, refl, sym, ap, ◌∙◌, lit<}
-use Rattle.std.proofs.lemmas.List.Elements.{All-nil}
+use Rattle.std.proofs.{Common.{ℕ, [], arith, length, replicate, refl, sym, ap, ◌∙◌, lit<}, lemmas.List.Elements.All-nil}
 use Rattle.net_device.specs.Frames.{IsFrame}
 use Rattle.guest_machine.specs.MachineStates.{with_state}
-use Rattle.epoch_snapshot.specs.Bases.{IsCut}
-use Rattle.epoch_snapshot.specs.Checkpoints.{Change, change_of}
-use Rattle.epoch_snapshot.specs.Cuts.{changed_blocks, used_sectors}
-use Rattle.epoch_snapshot.specs.Images.{image_of}
-use Rattle.epoch_snapshot.proofs.ImageLemmas.{IsCanonical-cut, image-full}
-use Rattle.epoch_snapshot.proofs.SectorLemmas.{Rises-used, used-nonzero}
+use Rattle.epoch_snapshot.specs.{Bases.IsCut, Checkpoints.{Change, change_of}, Cuts.{changed_blocks, used_sectors}, Images.image_of}
+use Rattle.epoch_snapshot.proofs.{ImageLemmas.{IsCanonical-cut, image-full}, SectorLemmas.{Rises-used, used-nonzero}}
 use Rattle.epoch_snapshot.proofs.cut.cut_full.Goals as goal
 
 -- what the checkpoint is made of

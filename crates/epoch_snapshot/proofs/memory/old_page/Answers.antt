@@ -1,8 +1,6 @@
 -- Each block of the page is the same block of what the checkpoint is cut over.
 use Rattle.std.proofs.Common.{◌+◌, ◌*◌, length, ap, sym, ◌∙◌, arith}
-use Rattle.epoch_snapshot.specs.Bases.{old_ram}
-use Rattle.epoch_snapshot.specs.Blocks.{block_in}
-use Rattle.epoch_snapshot.proofs.PageLemmas.{block_in-page, zero_block}
+use Rattle.epoch_snapshot.{specs.{Bases.old_ram, Blocks.block_in}, proofs.PageLemmas.{block_in-page, zero_block}}
 use Rattle.epoch_snapshot.proofs.memory.old_page.Goals as goal
 
 pub returns-in-Settled : goal.returns-in-Settled

@@ -1,8 +1,6 @@
 -- A page's mask speaks of its blocks, which are blocks of memory.
 use Rattle.std.proofs.Common.{ap, ◌∙◌, arith}
-use Rattle.epoch_snapshot.specs.Bases.{old_ram}
-use Rattle.epoch_snapshot.specs.Blocks.{block_in}
-use Rattle.epoch_snapshot.proofs.PageLemmas.{block_in-page, mask-pages}
+use Rattle.epoch_snapshot.{specs.{Bases.old_ram, Blocks.block_in}, proofs.PageLemmas.{block_in-page, mask-pages}}
 use Rattle.epoch_snapshot.proofs.memory.page_mask.Goals as goal
 
 pub returns : goal.returns

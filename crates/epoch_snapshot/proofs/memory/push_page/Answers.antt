@@ -1,10 +1,7 @@
 -- A page's blocks are those that its mask names.
 use Rattle.std.proofs.Common.{◌++◌, map, ap, sym, ◌∙◌, arith}
-use Rattle.epoch_snapshot.specs.Bases.{old_ram}
-use Rattle.epoch_snapshot.specs.Blocks.{block_in}
-use Rattle.epoch_snapshot.specs.Cuts.{block_change}
-use Rattle.epoch_snapshot.proofs.MaskLemmas.{length-set_blocks}
-use Rattle.epoch_snapshot.proofs.PageLemmas.{block_in-page, page_blocks, one_page}
+use Rattle.epoch_snapshot.specs.{Bases.old_ram, Blocks.block_in, Cuts.block_change}
+use Rattle.epoch_snapshot.proofs.{MaskLemmas.length-set_blocks, PageLemmas.{block_in-page, page_blocks, one_page}}
 use Rattle.epoch_snapshot.proofs.memory.push_page.Goals as goal
 
 pub push_page_blocks-requires : goal.push_page_blocks-requires

@@ -1,11 +1,9 @@
 -- A page whose mask isn't 0 is added, and its blocks are.
 use Rattle.std.proofs.Common.{◌++◌, ◌∷◌, [], ap, sym, ◌∙◌}
-use Rattle.epoch_snapshot.specs.Bases.{old_ram}
-use Rattle.epoch_snapshot.specs.Cuts.{changed_pages, changed_blocks}
-use Rattle.epoch_snapshot.specs.declared.changes.PageChange.{PageChange}
+use Rattle.epoch_snapshot.specs.{Bases.old_ram, Cuts.{changed_pages, changed_blocks}, declared.changes.PageChange.PageChange}
 use Rattle.epoch_snapshot.proofs.PageLemmas.{changed_pages-push, changed_pages-skip, changed_blocks-push, no_pages, no_blocks}
-use Rattle.epoch_snapshot.proofs.memory.push_pages.Goals as goal
 use Rattle.epoch_snapshot.proofs.memory.push_pages.Goals.{then-mask-ne0+in_ok-push_page, else-mask-ne0}
+use Rattle.epoch_snapshot.proofs.memory.push_pages.Goals as goal
 
 pub loop-page-init : goal.loop-page-init
 loop-page-init c =

@@ -1,7 +1,6 @@
 -- The lists hold the changed ones among the pages so far, and their blocks.
 use Rattle.std.proofs.Common.{◌≡◌, ◌-◌, ◌≤◌}
-use Rattle.epoch_snapshot.specs.Bases.{old_ram}
-use Rattle.epoch_snapshot.specs.Cuts.{changed_pages, changed_blocks}
+use Rattle.epoch_snapshot.specs.{Bases.old_ram, Cuts.{changed_pages, changed_blocks}}
 use Rattle.epoch_snapshot.proofs.memory.push_pages.Given as goal
 
 abbrev pub invariant-loop-page : goal.invariant-loop-page

@@ -1,7 +1,6 @@
 -- A page that wasn't written is the same.
 use Rattle.std.proofs.Common.{◌∙◌}
-use Rattle.epoch_snapshot.proofs.BlockLemmas.{or_parts}
-use Rattle.epoch_snapshot.proofs.PageLemmas.{changed_pages-same}
+use Rattle.epoch_snapshot.proofs.{BlockLemmas.or_parts, PageLemmas.changed_pages-same}
 use Rattle.epoch_snapshot.proofs.memory.some_written.Goals as goal
 
 pub loop-page-preserved : goal.loop-page-preserved

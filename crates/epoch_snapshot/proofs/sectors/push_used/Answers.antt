@@ -1,10 +1,8 @@
 -- A sector is added where it isn't all zero.
-use Rattle.std.proofs.Common.{◌++◌, ◌∷◌, [], ap, sym, ◌∙◌}
-use Rattle.std.proofs.lemmas.List.{map-append}
-use Rattle.epoch_snapshot.specs.Cuts.{sector_change, changed_sectors, used_sectors}
-use Rattle.epoch_snapshot.proofs.SectorLemmas.{zero-flag, used-push, used-skip, no_sectors}
+use Rattle.std.proofs.{Common.{◌++◌, ◌∷◌, [], ap, sym, ◌∙◌}, lemmas.List.map-append}
+use Rattle.epoch_snapshot.{specs.Cuts.{sector_change, changed_sectors, used_sectors}, proofs.SectorLemmas.{zero-flag, used-push, used-skip}}
+use Rattle.epoch_snapshot.proofs.{SectorLemmas.no_sectors, sectors.push_used.Goals.{then-not-blank+in_ok-push, else-not-blank}}
 use Rattle.epoch_snapshot.proofs.sectors.push_used.Goals as goal
-use Rattle.epoch_snapshot.proofs.sectors.push_used.Goals.{then-not-blank+in_ok-push, else-not-blank}
 
 pub loop-sector-init : goal.loop-sector-init
 loop-sector-init c =

@@ -1,5 +1,4 @@
-use Rattle.std.proofs.Common.{◌<◌, length}
-use Rattle.std.proofs.lemmas.List.Elements.{All-get_or}
+use Rattle.std.proofs.{Common.{◌<◌, length}, lemmas.List.Elements.All-get_or}
 use Rattle.paged_memory.proofs.ListedLemmas.{one_cleared, all_cleared}
 use Rattle.paged_memory.proofs.keeping.clear_flags.Goals as goal
 

@@ -1,8 +1,6 @@
 -- The machine at boot is an image.
-use Rattle.std.proofs.Common.{◌<◌, ◌^◌, lit<, refl, subst}
-use Rattle.std.specs.Prelude.{Option, Some}
-use Rattle.backup_image.specs.declared.standing.Standing.{Standing}
-use Rattle.backup_image.proofs.ImageLemmas.{some≢none, number_in, boot-image}
+use Rattle.std.{proofs.Common.{◌<◌, ◌^◌, lit<, refl, subst}, specs.Prelude.{Option, Some}}
+use Rattle.backup_image.{specs.declared.standing.Standing.Standing, proofs.ImageLemmas.{some≢none, number_in, boot-image}}
 use Rattle.backup_image.proofs.image.Image.boot.Goals as goal
 
 first : Standing

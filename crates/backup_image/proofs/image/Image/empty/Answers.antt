@@ -1,6 +1,5 @@
 -- The machine at boot with no program is an empty image.
-use Rattle.std.proofs.Common.{[], refl, arith}
-use Rattle.std.specs.Prelude.{None}
+use Rattle.std.{proofs.Common.{[], refl, arith}, specs.Prelude.None}
 use Rattle.backup_image.proofs.ImageLemmas.{some≢none, boot-image}
 use Rattle.backup_image.proofs.image.Image.empty.Goals as goal
 

@@ -1,7 +1,6 @@
 -- An empty image has zeros.
 use Rattle.std.proofs.Common.{◌≡◌, [], ap, ◌∙◌, arith}
-use Rattle.backup_image.specs.Images.{ImageState}
-use Rattle.backup_image.proofs.ImageLemmas.{zero_sector}
+use Rattle.backup_image.{specs.Images.ImageState, proofs.ImageLemmas.zero_sector}
 use Rattle.backup_image.proofs.image.Image.sector.Goals as goal
 
 pub returns-clause-empty : goal.returns-clause-empty

@@ -1,7 +1,6 @@
 -- An empty image has made no steps.
 use Rattle.std.proofs.Common.{[], ap, ◌∙◌}
-use Rattle.backup_image.specs.Images.{ImageState}
-use Rattle.backup_image.proofs.ImageLemmas.{zero_steps}
+use Rattle.backup_image.{specs.Images.ImageState, proofs.ImageLemmas.zero_steps}
 use Rattle.backup_image.proofs.image.Image.steps.Goals as goal
 
 pub returns-clause-empty : goal.returns-clause-empty

@@ -1,7 +1,5 @@
 use Rattle.std.proofs.Common.{◌+◌, ◌≤◌, ap, ◌∙◌, sym, refl, arith, vec_capacity}
-use Rattle.block_device.specs.Dirty.{Sectors, sectors_of, with_written}
-use Rattle.block_device.proofs.Rising.{rises_higher}
-use Rattle.block_device.proofs.SetLemmas.{put_none, put_some}
+use Rattle.block_device.{specs.Dirty.{Sectors, sectors_of, with_written}, proofs.{Rising.rises_higher, SetLemmas.{put_none, put_some}}}
 use Rattle.block_device.proofs.dirty.SectorSet.mark.Goals as goal
 
 pub returns-then-has_all : goal.returns-then-has_all

@@ -1,14 +1,8 @@
 use Rattle.std.proofs.Common.{◌≡◌, ◌/◌, [], List, ℕ, ap, ◌∙◌, sym, subst}
-use Rattle.virtio_mmio.specs.declared.kinds.DeviceKind.{DeviceKind}
-use Rattle.virtio_mmio.specs.declared.kinds.DeviceKind.TheVariants.{Block}
-use Rattle.virtio_mmio.specs.States.{IsDeviceRecord}
-use Rattle.virtio_mmio.specs.Transport.{Device}
+use Rattle.virtio_mmio.specs.{declared.kinds.DeviceKind.{DeviceKind, TheVariants.Block}, States.IsDeviceRecord, Transport.Device}
 use Rattle.virtio_mmio.specs.ServingLoop.{Served, standing, served}
-use Rattle.block_device.specs.Contents.{Contents, capacity}
-use Rattle.block_device.specs.Disk.{DiskState, disk_served}
-use Rattle.block_device.specs.Request.{request_act}
-use Rattle.block_device.proofs.ListApart.{memory_apart, state_apart, bytes_apart}
-use Rattle.block_device.proofs.Serving.{disk_size}
+use Rattle.block_device.specs.{Contents.{Contents, capacity}, Disk.{DiskState, disk_served}, Request.request_act}
+use Rattle.block_device.proofs.{ListApart.{memory_apart, state_apart, bytes_apart}, Serving.disk_size}
 use Rattle.block_device.proofs.disk.Disk.serve.Goals as goal
 
 -- the disk has as many sectors as before

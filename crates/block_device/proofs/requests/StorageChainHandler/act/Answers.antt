@@ -1,32 +1,9 @@
-use Rattle.std.proofs.Common.{
-  ◌≡◌,
-  ℕ,
-  List,
-  [],
-  ◌∷◌,
-  ◌+◌,
-  ◌-◌,
-  ◌≤◌,
-  subst,
-  ap,
-  ◌∙◌,
-  sym,
-  arith,
-  inl,
-  inr,
-  ◌<◌,
-  ◌==◌,
-  if◌then◌else◌,
-  length,
-  drop,
-}
-use Rattle.std.specs.Prelude.{Ok, Err}
-use Rattle.virtqueue.specs.declared.broken.Broken.TheVariants.{Short}
-use Rattle.virtqueue.specs.Chains.{Spelled}
-use Rattle.virtqueue.specs.Parts.{readable_len, writable_len, readable_bytes, writable_places, put_at}
+use Rattle.std.proofs.Common.{◌≡◌, ℕ, List, [], ◌∷◌, ◌+◌, ◌-◌, ◌≤◌, subst, ap, ◌∙◌, sym, arith, inl, inr, ◌<◌, ◌==◌, if◌then◌else◌, length}
+use Rattle.std.{proofs.Common.drop, specs.Prelude.{Ok, Err}}
+use Rattle.virtqueue.specs.{declared.broken.Broken.TheVariants.Short, Chains.Spelled, Parts.{readable_len, writable_len, readable_bytes}}
+use Rattle.virtqueue.specs.Parts.{writable_places, put_at}
 use Rattle.virtio_mmio.specs.ServingLoop.{len_answer, ram_after, kept_after}
-use Rattle.block_device.specs.Contents.{Contents}
-use Rattle.block_device.specs.Request.{Outcome, request_of, outcome, written_len, request_act}
+use Rattle.block_device.specs.{Contents.Contents, Request.{Outcome, request_of, outcome, written_len, request_act}}
 use Rattle.block_device.proofs.RequestLemmas.{left_by, act_short, act_done}
 use Rattle.block_device.proofs.requests.StorageChainHandler.act.Goals as goal
 

@@ -1,7 +1,5 @@
 use Rattle.std.proofs.Common.{◌≡◌, ◌+◌, ◌/◌, ◌≤◌, ℕ, ap, ◌∙◌, sym, subst, arith, length}
-use Rattle.block_device.specs.Contents.{Contents, capacity}
-use Rattle.block_device.specs.Dirty.{Sectors}
-use Rattle.block_device.proofs.DiskLemmas.{disk_kept}
+use Rattle.block_device.{specs.{Contents.{Contents, capacity}, Dirty.Sectors}, proofs.DiskLemmas.disk_kept}
 use Rattle.block_device.proofs.storage.Storage.put_sector.Goals as goal
 
 pub invariant_of-self : goal.invariant_of-self

@@ -1,8 +1,6 @@
 use Rattle.std.proofs.Common.{◌≡◌, ℕ, ◌+◌, ◌*◌, ◌/◌, ◌≤◌, List, ap, ◌∙◌, sym, subst, length, drop}
-use Rattle.virtqueue.specs.Memory.{written}
-use Rattle.virtqueue.specs.Parts.{readable_bytes}
-use Rattle.block_device.specs.Dirty.{Sectors, with_written}
-use Rattle.block_device.specs.Contents.{Contents, capacity, contents_of, contents_with}
+use Rattle.virtqueue.specs.{Memory.written, Parts.readable_bytes}
+use Rattle.block_device.specs.{Dirty.{Sectors, with_written}, Contents.{Contents, capacity, contents_of, contents_with}}
 use Rattle.block_device.proofs.DiskLemmas.{disk_kept}
 use Rattle.block_device.proofs.storage.Storage.write.Goals as goal
 

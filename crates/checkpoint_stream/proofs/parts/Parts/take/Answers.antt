@@ -1,9 +1,6 @@
-use Rattle.std.proofs.Common.{rules, ◌≡◌, ◌≢◌, ◌<◌, ℕ, [], length, take, ◌∙◌, ap, arith}
-use Rattle.std.proofs.lemmas.List.{length-take-le}
-use Rattle.checkpoint_stream.specs.Readings.{width_of, width_at}
-use Rattle.checkpoint_stream.specs.declared.place.Place.TheVariants.{FrameBytes}
-use Rattle.checkpoint_stream.proofs.Feeding.{Takes-unit}
-use Rattle.checkpoint_stream.proofs.PlaceLemmas.{part-nothing}
+use Rattle.std.proofs.{Common.{rules, ◌≡◌, ◌≢◌, ◌<◌, ℕ, [], length, take, ◌∙◌, ap, arith}, lemmas.List.length-take-le}
+use Rattle.checkpoint_stream.specs.{Readings.{width_of, width_at}, declared.place.Place.TheVariants.FrameBytes}
+use Rattle.checkpoint_stream.proofs.{Feeding.Takes-unit, PlaceLemmas.part-nothing}
 use Rattle.checkpoint_stream.proofs.parts.Parts.take.Goals as goal
 
 pub returns-then-width-rest-clause-read : goal.returns-then-width-rest-clause-read

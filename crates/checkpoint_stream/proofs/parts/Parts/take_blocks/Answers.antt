@@ -1,14 +1,9 @@
-use Rattle.std.proofs.Common.{rules, ◌≡◌, false, ◌≤◌, ◌+◌, ◌-◌, ℕ, List, [], length, take, drop, refl, sym, ◌∙◌, ap, subst, arith}
-use Rattle.std.proofs.Common.{length-drop}
+use Rattle.std.proofs.Common.{rules, ◌≡◌, false, ◌≤◌, ◌+◌, ◌-◌, ℕ, List, [], length, take, drop, sym, ◌∙◌, ap, subst, arith, length-drop}
 use Rattle.std.proofs.lemmas.List.{length-take-le}
-use Rattle.checkpoint_stream.specs.declared.place.Place.{Place}
-use Rattle.checkpoint_stream.specs.declared.place.Place.TheVariants.{Block, FrameBytes}
-use Rattle.checkpoint_stream.specs.Readings.{Reading, is_closed, width_at, judged, block_judged}
-use Rattle.checkpoint_stream.specs.Taken.{Takes, Extends, has_room}
-use Rattle.checkpoint_stream.proofs.Feeding.{Takes-nothing, Takes-unit}
-use Rattle.checkpoint_stream.proofs.Extending.{Extends-itself, fed-extends}
-use Rattle.checkpoint_stream.proofs.RunLemmas.{judged-block, Takes-next}
-use Rattle.checkpoint_stream.proofs.PlaceLemmas.{part-nothing, room-before}
+use Rattle.checkpoint_stream.specs.{declared.place.Place.{Place, TheVariants.{Block, FrameBytes}}, Readings.{Reading, is_closed, width_at}}
+use Rattle.checkpoint_stream.specs.{Readings.{judged, block_judged}, Taken.{Takes, Extends, has_room}}
+use Rattle.checkpoint_stream.proofs.{Feeding.{Takes-nothing, Takes-unit}, Extending.{Extends-itself, fed-extends}, RunLemmas.judged-block}
+use Rattle.checkpoint_stream.proofs.{RunLemmas.Takes-next, PlaceLemmas.{part-nothing, room-before}}
 use Rattle.checkpoint_stream.proofs.parts.Parts.take_blocks.Goals as goal
 
 not-bytes : {left page more other len : ℕ} → Block left page more ≡ FrameBytes other len → ⊥

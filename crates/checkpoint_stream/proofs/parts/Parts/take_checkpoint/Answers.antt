@@ -1,8 +1,6 @@
-use Rattle.std.proofs.Common.{◌≡◌, ℕ, List, take, get_or, sym, ◌∙◌, ap, subst, arith}
-use Rattle.std.proofs.lemmas.List.{take_all}
+use Rattle.std.proofs.{Common.{◌≡◌, ℕ, List, take, get_or, sym, ◌∙◌, ap, subst, arith}, lemmas.List.take_all}
 use Rattle.epoch_snapshot.specs.Checkpoints.{IsCanonical, change_of}
-use Rattle.checkpoint_stream.specs.Readings.{Reading}
-use Rattle.checkpoint_stream.specs.Sound.{change_in, state_from, version_from}
+use Rattle.checkpoint_stream.specs.{Readings.Reading, Sound.{change_in, state_from, version_from}}
 use Rattle.checkpoint_stream.proofs.parts.Parts.take_checkpoint.Goals as goal
 
 pub from_parts-requires : goal.from_parts-requires

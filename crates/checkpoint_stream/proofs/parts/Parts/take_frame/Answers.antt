@@ -1,16 +1,9 @@
-use Rattle.std.proofs.Common.{◌≡◌, ◌<◌, ◌≤◌, ◌+◌, ◌++◌, ℕ, List, [], ◌∷◌, length, take, refl, sym, ◌∙◌, ap, arith, append_assoc}
-use Rattle.std.proofs.lemmas.List.{length-take-le}
-use Rattle.checkpoint_stream.specs.declared.place.Place.{Place}
-use Rattle.checkpoint_stream.specs.declared.place.Place.TheVariants.{FrameBytes}
-use Rattle.checkpoint_stream.specs.Readings.{Reading, is_closed, width_of, width_at, frame_judged}
-use Rattle.checkpoint_stream.specs.contracts.parts.Parts.{the_view}
-use Rattle.checkpoint_stream.proofs.Feeding.{Takes-unit, Takes-part, Takes-end, with_more-at}
+use Rattle.std.proofs.{lemmas.List.{nil_from_length, length-take-le}, Common.{◌≡◌, ◌+◌, ◌++◌, ℕ, List, [], length, take, sym, ◌∙◌, ap}}
+use Rattle.std.proofs.Common.{arith, append_assoc}
+use Rattle.checkpoint_stream.specs.{declared.place.Place.Place, Readings.{Reading, is_closed, width_of, width_at, frame_judged}}
+use Rattle.checkpoint_stream.{specs.contracts.parts.Parts.the_view, proofs.Feeding.{Takes-unit, Takes-part, Takes-end, with_more-at}}
 use Rattle.checkpoint_stream.proofs.PlaceLemmas.{at-bytes, judged-frame, frame_judged-part}
 use Rattle.checkpoint_stream.proofs.parts.Parts.take_frame.Goals as goal
-
-nothing : (xs : List ℕ) → length xs ≡ 0 → xs ≡ []
-nothing [] e = refl
-nothing (x ∷ xs) e = absurd (omega (arith, e))
 
 pub returns-then-len-rest-clause-read : goal.returns-then-len-rest-clause-read
 returns-then-len-rest-clause-read c =
@@ -21,7 +14,8 @@ returns-then-len-rest-clause-read c =
     let partial : m.partial ≡ c.self.inside.part.items
     = sym (ap (λ (r : Reading). r.partial) c.self.view_is)
     ∙ ap (λ (n : ℕ). take n c.self.inside.buffer ++ c.self.inside.part.items) at.0 in
-    let begun : m.partial ≡ [] = partial ∙ nothing c.self.inside.part.items (omega (arith, c.len-held.ensures.value, c.if-held-eq0.true)) in
+    let begun : m.partial ≡ []
+    = partial ∙ nil_from_length c.self.inside.part.items (omega (arith, c.len-held.ensures.value, c.if-held-eq0.true)) in
     let whole : length unit ≡ c.args.len = length-take-le c.args.len c.args.rest.now (omega (arith, c.if-len-rest.true)) in
     Takes-unit m c.keep_frame.new.self unit (ap is_closed c.requires.place) begun (omega (arith, whole, at.1))
     (whole ∙ sym (ap (λ (p : Place). width_at p m.known) c.requires.place))

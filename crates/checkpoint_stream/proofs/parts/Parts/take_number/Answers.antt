@@ -1,6 +1,5 @@
 use Rattle.std.proofs.Common.{◌≡◌, ◌∙◌, sym, false}
-use Rattle.checkpoint_stream.specs.HeadTable.{passes, row_at}
-use Rattle.checkpoint_stream.proofs.Failing.{kept_number-false}
+use Rattle.checkpoint_stream.{specs.HeadTable.{passes, row_at}, proofs.Failing.kept_number-false}
 use Rattle.checkpoint_stream.proofs.parts.Parts.take_number.Goals as goal
 
 pub returns-else-passes : goal.returns-else-passes

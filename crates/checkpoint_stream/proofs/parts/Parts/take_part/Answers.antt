@@ -1,9 +1,6 @@
-use Rattle.std.proofs.Common.{◌≡◌, ◌+◌, ℕ, List, [], ◌++◌, length, take, sym, ◌∙◌, ap, arith}
-use Rattle.std.proofs.lemmas.List.{append-nil, length-take-le}
-use Rattle.checkpoint_stream.specs.Readings.{Reading, width_of, width_at}
-use Rattle.checkpoint_stream.proofs.Feeding.{Takes-part, Takes-end, take-filled, with_more-at}
-use Rattle.checkpoint_stream.proofs.PlaceLemmas.{part-nothing, beside}
-use Rattle.checkpoint_stream.specs.contracts.parts.Parts.{the_view}
+use Rattle.std.proofs.{Common.{◌≡◌, ◌+◌, ℕ, List, [], ◌++◌, length, take, sym, ◌∙◌, ap, arith}, lemmas.List.{append-nil, length-take-le}}
+use Rattle.checkpoint_stream.specs.{Readings.{Reading, width_of, width_at}, contracts.parts.Parts.the_view}
+use Rattle.checkpoint_stream.proofs.{Feeding.{Takes-part, Takes-end, take-filled, with_more-at}, PlaceLemmas.{part-nothing, beside}}
 use Rattle.checkpoint_stream.proofs.parts.Parts.take_part.Goals as goal
 
 pub returns-then-filled-taken-clause-read : goal.returns-then-filled-taken-clause-read

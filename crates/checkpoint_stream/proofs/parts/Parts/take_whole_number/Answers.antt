@@ -1,11 +1,7 @@
-use Rattle.std.proofs.Common.{◌≡◌, ◌<◌, ◌≤◌, ℕ, List, length, take, sym, ◌∙◌, ap, arith}
-use Rattle.std.proofs.lemmas.List.{length-take-le}
-use Rattle.checkpoint_stream.specs.declared.place.Place.{Place}
-use Rattle.checkpoint_stream.specs.declared.rules.Row.{Row}
-use Rattle.checkpoint_stream.specs.HeadTable.{row_at, number_of, bytes_in}
-use Rattle.checkpoint_stream.specs.Readings.{Reading, is_closed, width_of, width_at, number_judged, judged}
-use Rattle.checkpoint_stream.proofs.Feeding.{Takes-unit}
-use Rattle.checkpoint_stream.proofs.RunLemmas.{judged-number, width-least, width-most}
+use Rattle.std.proofs.{Common.{◌≡◌, ◌<◌, ◌≤◌, ℕ, List, length, take, sym, ◌∙◌, ap, arith}, lemmas.List.length-take-le}
+use Rattle.checkpoint_stream.specs.{declared.{place.Place.Place, rules.Row.Row}, HeadTable.{row_at, number_of, bytes_in}, Readings.Reading}
+use Rattle.checkpoint_stream.specs.Readings.{is_closed, width_of, width_at, number_judged, judged}
+use Rattle.checkpoint_stream.proofs.{Feeding.Takes-unit, RunLemmas.{judged-number, width-least, width-most}}
 use Rattle.checkpoint_stream.proofs.parts.Parts.take_whole_number.Goals as goal
 
 pub returns-clause-read : goal.returns-clause-read

@@ -1,6 +1,5 @@
 use Rattle.std.proofs.Common.{sym, subst}
-use Rattle.checkpoint_stream.specs.Sound.{IsSound}
-use Rattle.checkpoint_stream.proofs.Soundness.{fed-sound}
+use Rattle.checkpoint_stream.{specs.Sound.IsSound, proofs.Soundness.fed-sound}
 use Rattle.checkpoint_stream.proofs.reader.Reader.feed.Goals as goal
 
 pub invariant_of-self-2 : goal.invariant_of-self-2

@@ -1,7 +1,5 @@
-use Rattle.std.proofs.Common.{◌≡◌, ◌*◌, false, length, replicate, arith, rules}
-use Rattle.std.proofs.lemmas.Grind.{common_steps}
-use Rattle.paged_memory.specs.Pages.{boot_bytes}
-use Rattle.paged_memory.proofs.SeenLemmas.{seen_at_boot}
+use Rattle.std.proofs.{Common.{◌≡◌, ◌*◌, false, length, replicate, arith, rules}, lemmas.Grind.common_steps}
+use Rattle.paged_memory.{specs.Pages.boot_bytes, proofs.SeenLemmas.seen_at_boot}
 use Rattle.paged_memory.proofs.memory.Memory.boot.Goals as goal
 
 pub returns : goal.returns

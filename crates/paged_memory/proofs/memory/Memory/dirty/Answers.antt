@@ -1,7 +1,5 @@
-use Rattle.std.proofs.Common.{◌<◌, true, length, sym, ap, ◌∙◌, subst, arith}
-use Rattle.std.proofs.lemmas.List.{get_or_read}
-use Rattle.paged_memory.specs.Pages.{Paged, IsPaged, is_written}
-use Rattle.paged_memory.proofs.StoredLemmas.{paged}
+use Rattle.std.proofs.{Common.{◌<◌, true, length, sym, ap, ◌∙◌, subst, arith}, lemmas.List.get_or_read}
+use Rattle.paged_memory.{specs.Pages.{Paged, IsPaged, is_written}, proofs.StoredLemmas.paged}
 use Rattle.paged_memory.proofs.memory.Memory.dirty.Goals as goal
 
 pub returns-clause-same : goal.returns-clause-same

@@ -1,10 +1,7 @@
-use Rattle.std.proofs.Common.{◌≡◌, ◌≤◌, ◌<◌, ◌+◌, ◌-◌, ◌*◌, ◌/◌, ◌^◌, ℕ, ◌&&◌, List, Bool, true, false, length, refl, sym, ap, ◌∙◌, subst}
-use Rattle.std.proofs.Common.{arith}
-use Rattle.std.proofs.lemmas.List.{get_or_read}
+use Rattle.std.proofs.{lemmas.{Bool.true≢false, List.get_or_read}, Common.{◌≡◌, ◌≤◌, ◌<◌, ◌+◌, ◌-◌, ◌*◌, ◌/◌, ◌^◌, ℕ, ◌&&◌, List, Bool}}
+use Rattle.std.proofs.Common.{true, false, length, refl, sym, ap, ◌∙◌, subst, arith}
 use Rattle.paged_memory.specs.Pages.{Paged, IsPaged, is_written, with_flags}
-use Rattle.paged_memory.proofs.FlagLemmas.{marked_some}
-use Rattle.paged_memory.proofs.StoredLemmas.{paged}
-use Rattle.paged_memory.proofs.SeenLemmas.{all_kept}
+use Rattle.paged_memory.proofs.{FlagLemmas.marked_some, StoredLemmas.paged, SeenLemmas.all_kept}
 use Rattle.paged_memory.proofs.memory.Memory.keep_few.Goals as goal
 
 pub returns-then-not-first_written-index : goal.returns-then-not-first_written-index
@@ -24,10 +21,7 @@ and_first false b both = both
 
 and_last : (a b : Bool) → (a && b) ≡ true → b ≡ true
 and_last true b both = both
-and_last false b both = absurd (differ both)
-  where
-    differ : false ≡ true → ⊥
-    differ e = cc
+and_last false b both = absurd (true≢false (sym both))
 
 pub returns-else-not-first_written-index : goal.returns-else-not-first_written-index
 returns-else-not-first_written-index c =

@@ -1,10 +1,6 @@
-use Rattle.std.proofs.Common.{◌≡◌, ◌<◌, ◌+◌, ◌%◌, ◌^◌, ◌++◌, ℕ, List, Bool, false, length, ap, ◌∙◌}
-use Rattle.std.proofs.Common.{arith}
-use Rattle.std.proofs.Math.ListN.{set}
-use Rattle.std.proofs.Math.Nat.{mod-lt}
+use Rattle.std.proofs.{Common.{◌≡◌, ◌<◌, ◌+◌, ◌%◌, ◌^◌, ◌++◌, ℕ, List, Bool, false, length, ap, ◌∙◌, arith}, Math.{ListN.set, Nat.mod-lt}}
 use Rattle.paged_memory.specs.Pages.{Paged, page_of, is_written}
-use Rattle.paged_memory.proofs.StoredLemmas.{room_for_one, room_for_original, stored_by_keep}
-use Rattle.paged_memory.proofs.SeenLemmas.{seen_by_keep}
+use Rattle.paged_memory.proofs.{StoredLemmas.{room_for_one, room_for_original, stored_by_keep}, SeenLemmas.seen_by_keep}
 use Rattle.paged_memory.proofs.memory.Memory.keep_page.Goals as goal
 
 pub append-requires : goal.append-requires

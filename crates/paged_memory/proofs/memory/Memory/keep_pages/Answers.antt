@@ -1,10 +1,7 @@
-use Rattle.std.proofs.Common.{◌≡◌, ◌<◌, ◌+◌, ℕ, true, length, sym, ap, ◌∙◌, subst, arith}
-use Rattle.std.proofs.lemmas.List.{get_or_read}
-use Rattle.paged_memory.specs.Pages.{Paged, is_written}
-use Rattle.paged_memory.proofs.FlagLemmas.{length-flagged}
-use Rattle.paged_memory.proofs.SeenLemmas.{KeptBelow, one_below, one_kept_below}
+use Rattle.std.proofs.{Common.{◌≡◌, ◌<◌, ◌+◌, ℕ, true, length, sym, ap, ◌∙◌, subst, arith}, lemmas.List.get_or_read}
+use Rattle.paged_memory.{specs.Pages.{Paged, is_written}, proofs.{FlagLemmas.length-flagged, SeenLemmas.{KeptBelow, one_below}}}
+use Rattle.paged_memory.proofs.{SeenLemmas.one_kept_below, memory.Memory.keep_pages.Goals.{then-not-index, else-not-index}}
 use Rattle.paged_memory.proofs.memory.Memory.keep_pages.Goals as goal
-use Rattle.paged_memory.proofs.memory.Memory.keep_pages.Goals.{then-not-index, else-not-index}
 
 pub loop-page-preserved : goal.loop-page-preserved
 loop-page-preserved c =

@@ -1,7 +1,5 @@
-use Rattle.std.proofs.Common.{◌≡◌, ◌<◌, ◌≤◌, ◌+◌, ◌*◌, true, length, List, ℕ, sym, ap, ◌∙◌, arith}
-use Rattle.std.proofs.lemmas.List.{get_or_read}
-use Rattle.paged_memory.specs.Pages.{Paged, page_of}
-use Rattle.paged_memory.proofs.StoredLemmas.{length-settled, original_fits, page_kept, page_unkept}
+use Rattle.std.proofs.{Common.{◌≡◌, ◌<◌, ◌≤◌, ◌+◌, ◌*◌, true, length, List, ℕ, sym, ap, ◌∙◌, arith}, lemmas.List.get_or_read}
+use Rattle.paged_memory.{specs.Pages.{Paged, page_of}, proofs.StoredLemmas.{length-settled, original_fits, page_kept, page_unkept}}
 use Rattle.paged_memory.proofs.memory.Memory.original.Goals as goal
 
 pub page_at-requires : goal.page_at-requires

@@ -1,6 +1,5 @@
 use Rattle.std.proofs.Common.{ap}
-use Rattle.paged_memory.specs.Pages.{Paged}
-use Rattle.paged_memory.proofs.BytesLemmas.{number_at_rest}
+use Rattle.paged_memory.{specs.Pages.Paged, proofs.BytesLemmas.number_at_rest}
 use Rattle.paged_memory.proofs.memory.Memory.read_u16.Goals as goal
 
 pub returns : goal.returns

@@ -1,6 +1,5 @@
 use Rattle.std.proofs.Common.{arith}
-use Rattle.paged_memory.proofs.StoredLemmas.{stored_by_settle}
-use Rattle.paged_memory.proofs.SeenLemmas.{seen_by_settle}
+use Rattle.paged_memory.proofs.{StoredLemmas.stored_by_settle, SeenLemmas.seen_by_settle}
 use Rattle.paged_memory.proofs.memory.Memory.settle.Goals as goal
 
 pub invariant_of-self : goal.invariant_of-self

@@ -1,6 +1,5 @@
 use Rattle.std.proofs.Common.{subst}
-use Rattle.paged_memory.specs.Pages.{Paged, IsPaged}
-use Rattle.paged_memory.proofs.StoredLemmas.{paged}
+use Rattle.paged_memory.{specs.Pages.{Paged, IsPaged}, proofs.StoredLemmas.paged}
 use Rattle.paged_memory.proofs.memory.Memory.size.Goals as goal
 
 pub returns-clause-rules : goal.returns-clause-rules

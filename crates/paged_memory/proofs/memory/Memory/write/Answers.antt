@@ -1,6 +1,5 @@
 use Rattle.std.proofs.Common.{◌∙◌, ◌-◌, ◌+◌, ◌%◌, ◌^◌, length, refl, sym, ap}
-use Rattle.paged_memory.specs.Pages.{Paged, written_pages}
-use Rattle.paged_memory.proofs.SeenLemmas.{after_write}
+use Rattle.paged_memory.{specs.Pages.{Paged, written_pages}, proofs.SeenLemmas.after_write}
 use Rattle.paged_memory.proofs.memory.Memory.write.Goals as goal
 
 pub invariant_of-self : goal.invariant_of-self

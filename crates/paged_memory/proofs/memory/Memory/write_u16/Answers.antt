@@ -1,6 +1,5 @@
 use Rattle.std.proofs.Common.{◌∙◌, length, refl, ap}
-use Rattle.paged_memory.specs.Pages.{Paged}
-use Rattle.paged_memory.proofs.SeenLemmas.{after_number}
+use Rattle.paged_memory.{specs.Pages.Paged, proofs.SeenLemmas.after_number}
 use Rattle.paged_memory.proofs.memory.Memory.write_u16.Goals as goal
 
 pub invariant_of-self : goal.invariant_of-self

@@ -1,10 +1,7 @@
-use Rattle.std.proofs.Common.{◌≡◌, ◌+◌, ℕ, List, ◌++◌, length, take, drop, sym, ap, ◌∙◌, arith, length-drop}
-use Rattle.std.proofs.lemmas.List.{length-take-le}
+use Rattle.std.proofs.{Common.{◌≡◌, ◌+◌, ℕ, List, ◌++◌, length, take, drop, sym, ap, ◌∙◌, arith, length-drop}, lemmas.List.length-take-le}
 use Rattle.std.proofs.lemmas.Simd.{length-zip2}
 use Rattle.page_lanes.specs.Kernels.{xored}
-use Rattle.paged_memory.specs.Bytes.{with_bytes}
-use Rattle.paged_memory.specs.Pages.{Paged, with_written}
-use Rattle.paged_memory.proofs.SeenLemmas.{after_write}
+use Rattle.paged_memory.{specs.{Bytes.with_bytes, Pages.{Paged, with_written}}, proofs.SeenLemmas.after_write}
 use Rattle.paged_memory.proofs.memory.Memory.xor_block.Goals as goal
 
 pub returns-clause-value : goal.returns-clause-value

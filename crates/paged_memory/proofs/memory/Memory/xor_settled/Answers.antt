@@ -1,6 +1,5 @@
 use Rattle.std.proofs.Common.{List, ℕ}
-use Rattle.paged_memory.specs.Bytes.{with_xored}
-use Rattle.paged_memory.proofs.SeenLemmas.{seen_unmarked}
+use Rattle.paged_memory.{specs.Bytes.with_xored, proofs.SeenLemmas.seen_unmarked}
 use Rattle.paged_memory.proofs.memory.Memory.xor_settled.Goals as goal
 
 pub returns-clause-value : goal.returns-clause-value
