@@ -1,21 +1,18 @@
 -- Along a run each sealed epoch keeps its place, until its checkpoint is committed and it enters the history.
 use Rattle.std.proofs.Common.{◌≡◌, ℕ, suc, ◌+◌, ◌≤◌, List, [], ◌∷◌, ◌++◌, length, refl, sym, ap, ◌∙◌, subst, arith, Bool, true, false, Some}
-use Rattle.std.proofs.{Common.Ok, lemmas.List.{length-append, append-nil}}
+use Rattle.std.proofs.lemmas.List.{length-append, append-nil}
 use Rattle.std.specs.Prelude.{slice_get}
-use Rattle.failover.specs.{Changes.row, declared.mode.Mode.Mode, declared.mode.Mode.TheVariants.Alone}
 use Rattle.pair_history.specs.{Entries.Entry, HistoryState.HistoryState}
 use Rattle.pair_record.specs.{declared.event.Event.Event, declared.event.Event.TheVariants.{Cut, BackupGet, Protect}}
 use Rattle.pair_record.specs.declared.event.Reply.{Reply}
-use Rattle.pair_record.specs.Journal.{Journal, joined, first_of, rest_of, with_moves}
+use Rattle.pair_record.specs.Journal.{Journal, first_of, rest_of, with_moves}
 use Rattle.pair_record.specs.{Modes.is_alone, Protocol.{Record, Outcome, refused}}
 use Rattle.pair_core.specs.{Nodes.Nodes, Pair.{Pair, IsConsistent}}
 use Rattle.pair_core.specs.Replication.{to_come, number_after, next_number, KeepsBackup, Replicates, Does, Leads}
 use Rattle.pair_core.specs.Lines.{Lines}
 use Rattle.pair_core.proofs.{AlongLaws.along-keeps, Ends.{Ends, answers_end}, Generations.{place-more, next-same, refused_keeps}}
-use Rattle.pair_core.proofs.Consistent.{lone}
-use Rattle.pair_core.proofs.{ModeRows.mode_left, ReplicationLaws.{to_come-ends, length-ends}}
+use Rattle.pair_core.proofs.ReplicationLaws.{to_come-ends, length-ends}
 use Rattle.pair_core.proofs.ReplicationRuns.{does, place-last}
-use Rattle.failover.specs.declared.change.Change.TheVariants as changes
 use Rattle.pair_record.specs.declared.event.Reply.TheVariants as replies
 
 -- The places of sealed epochs

@@ -5,8 +5,8 @@ use Rattle.std.proofs.{lemmas.Bool.Decides.nat_tests, lemmas.List.{append-nil, l
 use Rattle.std.specs.Prelude.{nat_lt}
 use Rattle.guest_machine.specs.{Guest.Guest, Step.{next, sent}, Runs.{after_steps, sent_in, marked_in, HaveRoom}}
 use Rattle.frame_ports.specs.Limits.{number_limit}
-use Rattle.pair_history.specs.{Entries.{Frame, Ran}, HistoryState.{HistoryState, Waiting}}
-use Rattle.pair_history.specs.internal.Moves.{Steps, entries_of, guest_along, frames_along, left, AllCan}
+use Rattle.pair_history.specs.{Entries.{Frame, Ran}, HistoryState.HistoryState}
+use Rattle.pair_history.specs.internal.Moves.{Steps, guest_along, frames_along}
 use Rattle.pair_record.specs.{declared.event.Refusal.Refusal, declared.event.Refusal.TheVariants.{Stopped, CutNeeded, Exhausted}}
 use Rattle.pair_record.specs.{Journal.{all_entries, with_running, with_moves}, Limits.lone_step_entries}
 use Rattle.pair_core.specs.internal.Invariant.{Holds, Stands}

@@ -3,7 +3,7 @@ use Rattle.std.proofs.Common.{rules, ◌≡◌, ◌≢◌, ℕ, zero, suc, ◌+�
 use Rattle.std.proofs.Common.{get_or, replicate, refl, sym, ap, ◌∙◌, subst, arith, append_assoc, true, false, cond, Some, ⊎_elim}
 use Rattle.std.proofs.{lemmas.Bool.eq-eqb, lemmas.Bool.Decides.{nat_tests, eqb_tells}}
 use Rattle.std.proofs.lemmas.List.{append-nil, length-map, length-replicate, length-set, map-append, get_or-set_same, get_or-set_other}
-use Rattle.std.proofs.lemmas.List.{drop-append-le, take-append-le, take-append-drop}
+use Rattle.std.proofs.lemmas.List.{take-append-drop}
 use Rattle.std.specs.Prelude.{map, slice_get, ◌==◌}
 use Rattle.guest_machine.specs.Guest.{Guest}
 use Rattle.frame_ports.specs.{Addresses.targets_of, Lands.{list_of, with_list}, Ports.{PortsState, empty_ports}}
@@ -21,7 +21,7 @@ use Rattle.pair_record.specs.internal.Accords.{all_moves, epoch_frames, frames_b
 use Rattle.pair_record.specs.internal.Accords.{Accords}
 use Rattle.pair_record.specs.Journal.{joined, first_of, rest_of, kept_entries, with_running}
 use Rattle.pair_record.specs.Record.{IsRecord, start_record, ports_after_admit}
-use Rattle.pair_record.specs.Protocol.{Record, shown_at, live_at, outbox_of, cut_done, commit_done}
+use Rattle.pair_record.specs.Protocol.{Record, shown_at, live_at, outbox_of, commit_done}
 use Rattle.pair_record.specs.Window.{committed_of, uncommitted_of, committed_count}
 use Rattle.pair_record.proofs.WindowLaws.{within}
 

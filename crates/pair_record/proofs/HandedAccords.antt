@@ -1,13 +1,13 @@
 -- Epochs of a guest that runs elsewhere: it took in the first of the frames that were handed out, and made steps behind them.
-use Rattle.std.proofs.Common.{rules, arith, ◌≡◌, ℕ, List, [], ◌∷◌, ◌++◌, length, replicate, refl, sym, ap, ◌∙◌, subst, append_assoc}
+use Rattle.std.proofs.Common.{◌≡◌, ℕ, List, [], ◌++◌, length, replicate, refl, sym, ap, ◌∙◌, subst, append_assoc}
 use Rattle.std.proofs.lemmas.List.{map-append}
 use Rattle.frame_ports.specs.{Addresses.targets_of, Lands.lands, Ports.PortsState}
 use Rattle.output_gate.specs.Epochs.{frames_of}
-use Rattle.pair_history.specs.{Entries.{Frame, Entry, Ran}, HistoryState.{HistoryState, Waiting, sent_along}}
+use Rattle.pair_history.specs.{Entries.{Frame, Entry}, HistoryState.{HistoryState, sent_along}}
 use Rattle.pair_history.specs.internal.Moves.{Move, Steps, entry_of, entries_of, guest_along, frames_along, left, AllCan}
 use Rattle.pair_history.proofs.Moves.{moved, AllCan-append, AllCan-front, AllCan-back, left-append, sent_along-moves}
 use Rattle.pair_record.specs.internal.Accords.{Accords}
-use Rattle.pair_record.specs.{EpochActs.{up_to, behind, guest_epoch, epoch_sent, seal_epoch_done, enter_epoch_done, fail_within_done}}
+use Rattle.pair_record.specs.EpochActs.{behind, guest_epoch, epoch_sent, seal_epoch_done, enter_epoch_done, fail_within_done}
 use Rattle.pair_record.specs.Protocol.{Record, shown_at, landed_after}
 use Rattle.pair_record.specs.{Record.{IsRecord, IsLone, ports_after_all}, Window.none_pending}
 use Rattle.pair_record.proofs.AccordLaws.{sealed_now, left_now, sealed_state}

@@ -1,5 +1,5 @@
 -- Where a node that is alone gets a new backup: it begins to be protected, and then an empty epoch is sealed.
-use Rattle.std.proofs.Common.{◌≡◌, ◌≤◌, List, [], ◌∷◌, ◌++◌, length, take, drop, refl, sym, ap, ◌∙◌, arith}
+use Rattle.std.proofs.Common.{◌≡◌, ◌≤◌, List, [], ◌++◌, length, take, drop, refl, sym, ap, ◌∙◌, arith}
 use Rattle.frame_ports.specs.{Addresses.targets_of, Ports.PortsState}
 use Rattle.output_gate.specs.Epochs.{Epoch, frames_of}
 use Rattle.pair_history.specs.HistoryState.{HistoryState, at}

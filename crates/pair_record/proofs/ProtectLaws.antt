@@ -1,6 +1,6 @@
 -- Laws of a node that gets a new backup: its full checkpoint, number 0, is all that is pending, and all that is sealed is an empty
 -- epoch.
-use Rattle.std.proofs.{Common.{rules, ◌≡◌, arith, true, [], length}, lemmas.List.length-append}
+use Rattle.std.proofs.{Common.{rules, ◌≡◌, arith, true, []}, lemmas.List.length-append}
 use Rattle.pair_record.specs.{Modes.{is_alone, is_filling}, Protocol.{Record, begin_done, full_done, protect_done}, Record.IsRecord}
 use Rattle.pair_record.proofs.RecordLaws.{seal_record, filling_not_alone}
 

@@ -1,7 +1,6 @@
-use Rattle.std.proofs.Common.{rules, arith, ◌≡◌, ◌∙◌, ◌+◌, ◌≤◌, ◌++◌, ◌∷◌, [], length, sym, ap}
+use Rattle.std.proofs.Common.{rules, arith, ◌≡◌, ◌∙◌, ◌+◌, ◌≤◌, ◌++◌, [], length, sym, ap}
 use Rattle.std.proofs.lemmas.List.{length-append}
-use Rattle.std.specs.Prelude.{map}
-use Rattle.pair_record.specs.{EpochActs.{guest_epoch, behind}, Journal.{Stored, joined}, internal.Arrivals.epoch_entries}
+use Rattle.pair_record.specs.{EpochActs.{guest_epoch, behind}, Journal.joined, internal.Arrivals.epoch_entries}
 use Rattle.pair_record.specs.internal.JournalFields.{epoch_of, stored}
 use Rattle.pair_record.proofs.{EpochLaws.{first-is, others-are, length-parted}, JournalLaws.{length-all, length-kept}}
 use Rattle.pair_record.proofs.LiveLaws.{arrived-count}

@@ -1,5 +1,5 @@
-use Rattle.std.proofs.Common.{rules, arith, ◌≡◌, ◌∙◌, ◌≤◌, ◌++◌, ◌∷◌, [], length, ap}
-use Rattle.std.proofs.lemmas.List.{length-append, map-append}
+use Rattle.std.proofs.Common.{rules, arith, ◌≡◌, ◌≤◌, ◌++◌, ◌∷◌, [], length}
+use Rattle.std.proofs.lemmas.List.{map-append}
 use Rattle.std.specs.Prelude.{map}
 use Rattle.pair_record.specs.{EpochActs.{guest_epoch, behind}, Journal.{joined, kept_entries, sealed_as}}
 use Rattle.pair_record.specs.internal.JournalFields.{epoch_of, stored}

@@ -1,4 +1,4 @@
-use Rattle.std.proofs.Common.{arith, ◌∙◌, length, ap, sym}
+use Rattle.std.proofs.Common.{arith, ◌∙◌, length, ap}
 use Rattle.pair_record.specs.{Journal.{Journal, all_entries}, internal.RecordFields.record_state}
 use Rattle.pair_record.proofs.{EpochLaws.all-entered, LengthLaws.length-receivers, RecordLaws.{passed, has_room_for}}
 use Rattle.pair_record.proofs.record.PairRecord.enter_epoch.Goals as goal

@@ -1,6 +1,5 @@
-use Rattle.std.proofs.{Common.{rules, ◌≡◌, ◌∙◌, [], ◌++◌, length, sym, ap, subst, arith}, lemmas.List.{append-nil, length-append}}
+use Rattle.std.proofs.{Common.{rules, ◌≡◌, ◌∙◌, [], ◌++◌, length, sym, subst, arith}, lemmas.List.{append-nil, length-append}}
 use Rattle.output_gate.specs.Epochs.{frames_of}
-use Rattle.pair_history.specs.Landings.{landings}
 use Rattle.pair_record.specs.{internal.Lengths.receivers, Protocol.{all_held, landed_after}, Record.IsRecord}
 use Rattle.pair_record.specs.internal.RecordFields.{record_state}
 use Rattle.pair_record.proofs.{AloneLaws.{held_are, failure_record}, LengthLaws.length-receivers, RecordLaws.{passed, has_room_for}}
