@@ -1,8 +1,8 @@
 -- What each call of a client keeps of the tie.
-use Rattle.std.proofs.Common.{◌≡◌, ℕ, ◌+◌, ◌-◌, ◌≤◌, List, [], ◌∷◌, ◌++◌, length, drop, refl, sym, ap, ◌∙◌, subst, arith}
+use Rattle.std.proofs.Common.{◌≡◌, ℕ, ◌-◌, ◌≤◌, List, [], ◌∷◌, ◌++◌, length, drop, sym, ap, ◌∙◌, subst, arith}
 use Rattle.std.proofs.lemmas.List.{length-set}
 use Rattle.std.specs.Prelude.{slice_get}
-use Rattle.frame_ports.specs.{Addresses.{IsFrame}, Lands.{list_of, with_list}, Limits.{inbox_frames}, Ports.{PortsState, IsClient, after_delivery}}
+use Rattle.frame_ports.specs.{Addresses.{IsFrame}, Lands.{list_of}, Limits.{inbox_frames}, Ports.{PortsState, IsClient, after_delivery}}
 use Rattle.pair_history.specs.Entries.{Frame, Entry, Delivered, Refused, Took}
 use Rattle.pair_history.specs.HistoryState.{HistoryState}
 use Rattle.pair_record.specs.Journal.{with_history}
@@ -11,10 +11,10 @@ use Rattle.pair_record.specs.Record.{ports_after_take}
 use Rattle.pair_record.specs.internal.Accords.{Accords}
 use Rattle.pair_record.proofs.ClientAccords.{take_accords, deliver_accords, full_accords}
 use Rattle.growing_history.specs.Steps.{Step, step, Added}
-use Rattle.growing_history.specs.LogState.{Legal, client_seat}
+use Rattle.growing_history.specs.LogState.{client_seat}
 use Rattle.pair_book.specs.Calls.{IsClientSeat, client_of}
 use Rattle.pair_book.specs.internal.Tie.{IsTied}
-use Rattle.pair_book.proofs.Ties.{added-legal, added-tied, gained}
+use Rattle.pair_book.proofs.Ties.{added-tied, gained}
 
 -- a client's seat is that of a client of the ports
 pub is_client_of : (start : HistoryState) (steps : List Step) (r : Record) (p : PortsState) (n : ℕ) → IsTied start steps r p
@@ -48,10 +48,6 @@ module _ (start : HistoryState) (steps : List Step) (r now : Record) (p q : Port
   pub took-gained : (n : ℕ) (h : List Entry) → n ≡ length r.journal.history → h ≡ now.journal.history → drop n h ≡ took_entry ∷ []
   took-gained n h len same = gained n h r now (took_entry ∷ []) len same is
 
-  pub took-legal : Legal start (steps ++ step by (Added (took_entry ∷ [])) ∷ [])
-  took-legal =
-      added-legal start steps r now p q t by (took_entry ∷ []) (its-seat start by seat, tt) (λ none. (tt, tt)) is took-boxes took-accords
-
   pub took-tied : IsTied start (steps ++ step by (Added (took_entry ∷ [])) ∷ []) now q
   took-tied =
       added-tied start steps r now p q t by (took_entry ∷ []) (its-seat start by seat, tt) (λ none. (tt, tt)) is took-boxes took-accords
@@ -81,11 +77,6 @@ module _ (start : HistoryState) (steps : List Step) (r now : Record) (p q : Port
     pub delivered-gained : (n : ℕ) (h : List Entry) → n ≡ length r.journal.history → h ≡ now.journal.history → drop n h ≡ delivered ∷ []
     delivered-gained n h len same = gained n h r now (delivered ∷ []) len same is
 
-    pub delivered-legal : Legal start (steps ++ step by (Added (delivered ∷ [])) ∷ [])
-    delivered-legal =
-        added-legal start steps r now p q t by (delivered ∷ []) (its-seat start by seat, tt) (λ none. (tt, tt)) is delivered-boxes
-        delivered-accords
-
     pub delivered-tied : IsTied start (steps ++ step by (Added (delivered ∷ [])) ∷ []) now q
     delivered-tied =
         added-tied start steps r now p q t by (delivered ∷ []) (its-seat start by seat, tt) (λ none. (tt, tt)) is delivered-boxes
@@ -107,11 +98,6 @@ module _ (start : HistoryState) (steps : List Step) (r now : Record) (p q : Port
 
     pub refused-gained : (n : ℕ) (h : List Entry) → n ≡ length r.journal.history → h ≡ now.journal.history → drop n h ≡ refused ∷ []
     refused-gained n h len same = gained n h r now (refused ∷ []) len same is
-
-    pub refused-legal : Legal start (steps ++ step by (Added (refused ∷ [])) ∷ [])
-    refused-legal =
-        added-legal start steps r now p q t by (refused ∷ []) (its-seat start by seat, tt) (λ none. (tt, tt)) is refused-boxes
-        refused-accords
 
     pub refused-tied : IsTied start (steps ++ step by (Added (refused ∷ [])) ∷ []) now q
     refused-tied =

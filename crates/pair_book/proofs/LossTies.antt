@@ -1,9 +1,9 @@
 -- What each loss of the line keeps of the tie.
-use Rattle.std.proofs.Common.{◌≡◌, ◌≢◌, ℕ, zero, suc, ◌+◌, ◌-◌, ◌<◌, ◌≤◌, List, [], ◌∷◌, ◌++◌, length, drop, remove, refl, sym, ap, ◌∙◌, subst, arith}
+use Rattle.std.proofs.Common.{◌≡◌, ◌≢◌, ℕ, zero, suc, ◌-◌, ◌<◌, ◌≤◌, List, [], ◌∷◌, ◌++◌, length, remove, refl, sym, ap, ◌∙◌, subst, arith}
 use Rattle.std.proofs.{Common.{true, false, cond, Option, Some, None, Bool}, lemmas.{Bool.lt-ltb, Bool.Decides.nat_tests, List.length-set}}
 use Rattle.std.specs.Prelude.{slice_get, nat_lt, not, option_map}
-use Rattle.frame_ports.specs.{Lands.{list_of, with_list}, Ports.{PortsState}, Limits.{box_frames}}
-use Rattle.pair_history.specs.Entries.{Frame, Entry, DropIn, DropOut}
+use Rattle.frame_ports.specs.{Lands.{list_of}, Ports.{PortsState}, Limits.{box_frames}}
+use Rattle.pair_history.specs.Entries.{Frame, DropIn, DropOut}
 use Rattle.pair_history.specs.HistoryState.{HistoryState, Waiting, frame_numbered, without_number}
 use Rattle.pair_history.specs.{Order.NoneTakes, internal.Moves.{Move, Steps, Arrives, entries_of, AllCan, AreRising}}
 use Rattle.pair_history.proofs.Waiting.{StandsAt, Leaves, leaves-at, gone, found-without, AreRising-without}
@@ -16,9 +16,9 @@ use Rattle.pair_record.specs.internal.Accords.{Accords}
 use Rattle.pair_record.proofs.AccordLaws.{kept_now, left_now, kept_is}
 use Rattle.pair_record.proofs.ClientAccords.{lose_in_accords, lose_out_accords}
 use Rattle.growing_history.specs.Steps.{Step, step, Added}
-use Rattle.growing_history.specs.LogState.{Legal, line_seat, state_at, under_way, AreOwn, AreKnown}
+use Rattle.growing_history.specs.LogState.{line_seat, state_at, under_way, AreOwn, AreKnown}
 use Rattle.pair_book.specs.internal.Tie.{IsTied}
-use Rattle.pair_book.proofs.Ties.{added-legal, added-tied, gained, way-is}
+use Rattle.pair_book.proofs.Ties.{added-tied, way-is}
 
 -- a client that no row refused
 pub client_range : (c count : ℕ) → first_refusal (client_refusals count c) ≡ None → (1 ≤ c) × (c ≤ count)
@@ -84,10 +84,6 @@ module _ (start : HistoryState) (steps : List Step) (r now : Record) (p q : Port
     lost-in-known none =
         (subst (NoneTakes n) (way-is start steps r p t) (taken-by-none start r p (t.accords none) c place n f low high there), tt)
 
-    pub lost-in-legal : Legal start (steps ++ step line_seat (Added (DropIn n ∷ [])) ∷ [])
-    lost-in-legal =
-        added-legal start steps r now p q t line_seat (DropIn n ∷ []) (refl, tt) lost-in-known is lost-in-boxes lost-in-accords
-
     pub lost-in-tied : IsTied start (steps ++ step line_seat (Added (DropIn n ∷ [])) ∷ []) now q
     lost-in-tied =
         added-tied start steps r now p q t line_seat (DropIn n ∷ []) (refl, tt) lost-in-known is lost-in-boxes lost-in-accords
@@ -113,10 +109,6 @@ module _ (start : HistoryState) (steps : List Step) (r now : Record) (p q : Port
     lost-out-known : (state_at start steps).marked ≡ 0
         → AreKnown (under_way (state_at start steps)) (state_at start steps).history line_seat (DropOut c place ∷ [])
     lost-out-known none = (λ (e : line_seat ≡ 0). absurd (cc e), tt)
-
-    pub lost-out-legal : Legal start (steps ++ step line_seat (Added (DropOut c place ∷ [])) ∷ [])
-    lost-out-legal =
-        added-legal start steps r now p q t line_seat (DropOut c place ∷ []) lost-out-own lost-out-known is lost-out-boxes lost-out-accords
 
     pub lost-out-tied : IsTied start (steps ++ step line_seat (Added (DropOut c place ∷ [])) ∷ []) now q
     lost-out-tied =

@@ -1,5 +1,5 @@
 -- The tie holds where nothing happened yet.
-use Rattle.std.proofs.Common.{◌≡◌, ℕ, [], length, map, refl, sym, ap, ◌∙◌, subst}
+use Rattle.std.proofs.Common.{◌≡◌, ℕ, [], length, map, sym, ap, ◌∙◌, subst}
 use Rattle.std.proofs.lemmas.List.{length-replicate}
 use Rattle.frame_ports.specs.Ports.{PortsState, empty_ports}
 use Rattle.pair_history.specs.Entries.{Arrive}
@@ -8,7 +8,7 @@ use Rattle.pair_record.specs.Protocol.{Record}
 use Rattle.pair_record.specs.Record.{start_record}
 use Rattle.pair_record.specs.internal.Accords.{Accords}
 use Rattle.pair_record.proofs.AccordLaws.{start_accords}
-use Rattle.growing_history.specs.LogState.{LogState, Legal, state_at, history_of}
+use Rattle.growing_history.specs.LogState.{LogState, Legal}
 use Rattle.growing_history.proofs.LogLaws.{state-nil, history-nil}
 use Rattle.pair_book.specs.Opening.{IsBoot}
 use Rattle.pair_book.specs.internal.Tie.{IsTied, sealed_entries}

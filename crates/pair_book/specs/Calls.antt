@@ -1,5 +1,5 @@
 -- What a call of a member does to the book, to its seat and to the keeper's list of steps, and the tables of refusals.
-use Rattle.std.specs.Prelude.{◌≡◌, ℕ, ◌+◌, ◌-◌, ◌<◌, ◌≤◌, nat_le, Bool, List, [], ◌∷◌, ◌++◌, ◌⊎◌, length, Option, None, Some}
+use Rattle.std.specs.Prelude.{◌≡◌, ℕ, ◌-◌, ◌≤◌, nat_le, Bool, List, [], ◌∷◌, ◌++◌, ◌⊎◌, length, Option, None, Some}
 use Rattle.memory_wanted.specs.Wanted.{wanted}
 use Rattle.frame_ports.specs.Limits.{inbox_frames, number_limit}
 use Rattle.frame_ports.specs.Ports.{inbox_of}

@@ -10,7 +10,7 @@ ghost use Rattle.pair_book.specs.Calls.{IsClientSeat, client_of, Makes, IsAsBefo
 ghost use Rattle.pair_book.specs.Calls.{IsWhyDelivery, AfterRefusedDelivery};
 
 use crate::book::Book;
-use crate::gained::Gained;
+use crate::gained::tell;
 use frame_ports::{MAX_FRAME, MIN_FRAME};
 use growing_history::{ClientSeat, Clock, Pair};
 use memory_wanted::MemoryWanted;
@@ -59,11 +59,7 @@ impl<P: Pair> Book<P> {
         let Reply::Took(taken) = reply else {
             unreachable!();
         };
-        let gained = Gained {
-            history: self.record.history(),
-            before,
-        };
-        self.seat.step(clock, seat, &gained);
+        tell(&self.record, before, &mut self.seat, clock, seat);
         Ok(taken)
     }
 
@@ -104,11 +100,7 @@ impl<P: Pair> Book<P> {
         let Reply::Delivered(number) = reply else {
             unreachable!();
         };
-        let gained = Gained {
-            history: self.record.history(),
-            before,
-        };
-        self.seat.step(clock, seat, &gained);
+        tell(&self.record, before, &mut self.seat, clock, seat);
         Ok(number)
     }
 
@@ -129,11 +121,7 @@ impl<P: Pair> Book<P> {
         let client = self.client_number(seat);
         let before = self.record.history().len();
         self.record.refuse_delivery(client, bytes)?;
-        let gained = Gained {
-            history: self.record.history(),
-            before,
-        };
-        self.seat.step(clock, seat, &gained);
+        tell(&self.record, before, &mut self.seat, clock, seat);
         Ok(())
     }
 

@@ -8,7 +8,7 @@ ghost use Rattle.pair_book.specs.Calls.{IsAsBefore, entry_rows};
 ghost use Rattle.pair_book.specs.Losses.{loss_rows, IsWhyLoss, AfterLoss};
 
 use crate::book::Book;
-use crate::gained::Gained;
+use crate::gained::tell;
 use growing_history::{Clock, LineSeat, Pair};
 use pair_record::Refusal;
 
@@ -64,11 +64,7 @@ impl<P: Pair> Book<P> {
         }
         let before = self.record.history().len();
         self.record.lose_in(client, place)?;
-        let gained = Gained {
-            history: self.record.history(),
-            before,
-        };
-        self.seat.step(clock, seat, &gained);
+        tell(&self.record, before, &mut self.seat, clock, seat);
         Ok(Loss::Dropped)
     }
 
@@ -103,11 +99,7 @@ impl<P: Pair> Book<P> {
         }
         let before = self.record.history().len();
         self.record.lose_out(client, place)?;
-        let gained = Gained {
-            history: self.record.history(),
-            before,
-        };
-        self.seat.step(clock, seat, &gained);
+        tell(&self.record, before, &mut self.seat, clock, seat);
         Ok(Loss::Dropped)
     }
 }

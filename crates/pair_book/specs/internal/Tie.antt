@@ -1,5 +1,5 @@
 -- The record is the one that the keeper's steps lead to.
-use Rattle.std.specs.Prelude.{◌≡◌, ℕ, List, length, map}
+use Rattle.std.specs.Prelude.{◌≡◌, List, length, map}
 use Rattle.frame_ports.specs.Ports.{PortsState}
 use Rattle.pair_history.specs.Entries.{Entry, Arrive}
 use Rattle.pair_history.specs.HistoryState.{HistoryState}

@@ -1,13 +1,13 @@
-use Rattle.std.proofs.Common.{rules, ◌≡◌, ◌∷◌, [], sym, ◌∙◌, length, arith}
+use Rattle.std.proofs.Common.{rules, ◌∷◌, [], sym, ◌∙◌, length}
 use Rattle.frame_ports.specs.Lands.{list_of}
-use Rattle.pair_history.specs.Entries.{DropIn, DropOut}
+use Rattle.pair_history.specs.Entries.{DropIn}
 use Rattle.std.specs.Prelude.{slice_get}
 use Rattle.pair_book.proofs.Ties.{gained}
-use Rattle.pair_book.proofs.LossTies.{client_range, frame_at, some_at, lost-in-legal, lost-in-tied, lost-out-legal, lost-out-tied}
+use Rattle.pair_book.proofs.LossTies.{client_range, frame_at, lost-in-tied}
 use Rattle.pair_book.proofs.book.Book.lose_in.Goals as goal
 
-pub step-requires-clause-legal : goal.step-requires-clause-legal
-step-requires-clause-legal g c =
+pub tell-requires-clause-tied : goal.tell-requires-clause-tied
+tell-requires-clause-tied g c =
     let start = g.P.Pair.start in
     let steps = c.self.inside.seat.steps in
     let r = c.self.inside.record in
@@ -20,24 +20,6 @@ step-requires-clause-legal g c =
     let at = frame_at (slice_get (list_of r.ports.inboxes client) place) n c.in_ok-lose_in.ensures.number in
     search (
       rules,
-      gained c.len-before.result c.history-2.result.now.entries r.protocol now.protocol (DropIn n ∷ []),
-      lost-in-legal start steps r.protocol now.protocol r.ports now.ports tied client place range.0 range.1 n at.0 at.1,
-    )
-
-pub invariant_of-self-2 : goal.invariant_of-self-2
-invariant_of-self-2 g c =
-    let start = g.P.Pair.start in
-    let steps = c.self.inside.seat.steps in
-    let r = c.self.inside.record in
-    let now = c.lose_in.new.self in
-    let client = c.args.client in
-    let place = c.args.place in
-    let tied = c.self.invariant.0 in
-    let range = client_range client (length r.ports.boxes) (sym c.client_refusal.ensures ∙ c.in_default.is) in
-    let n = c.in_ok-lose_in.field-0 in
-    let at = frame_at (slice_get (list_of r.ports.inboxes client) place) n c.in_ok-lose_in.ensures.number in
-    search (
-      rules,
-      gained c.len-before.result c.history-2.result.now.entries r.protocol now.protocol (DropIn n ∷ []),
+      gained c.len-before.result now.protocol.journal.history r.protocol now.protocol (DropIn n ∷ []),
       lost-in-tied start steps r.protocol now.protocol r.ports now.ports tied client place range.0 range.1 n at.0 at.1,
     )

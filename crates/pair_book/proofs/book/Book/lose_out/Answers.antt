@@ -1,16 +1,16 @@
 use Rattle.std.proofs.Common.{rules, ◌≡◌, ◌∷◌, [], sym, ap, subst, ◌∙◌, length, arith, Some}
 use Rattle.frame_ports.specs.Lands.{list_of}
-use Rattle.pair_history.specs.Entries.{Frame, DropIn, DropOut}
-use Rattle.std.specs.Prelude.{slice_get, option_map}
+use Rattle.pair_history.specs.Entries.{Frame, DropOut}
+use Rattle.std.specs.Prelude.{option_map}
 use Rattle.frame_ports.specs.Ports.{PortsState, box_of}
 use Rattle.pair_record.specs.Protocol.{lost_out}
 use Rattle.pair_book.specs.Books.{BookState}
 use Rattle.pair_book.proofs.Ties.{gained}
-use Rattle.pair_book.proofs.LossTies.{client_range, frame_at, some_at, lost-in-legal, lost-in-tied, lost-out-legal, lost-out-tied}
+use Rattle.pair_book.proofs.LossTies.{client_range, some_at, lost-out-tied}
 use Rattle.pair_book.proofs.book.Book.lose_out.Goals as goal
 
-pub step-requires-clause-legal : goal.step-requires-clause-legal
-step-requires-clause-legal g c =
+pub tell-requires-clause-tied : goal.tell-requires-clause-tied
+tell-requires-clause-tied g c =
     let start = g.P.Pair.start in
     let steps = c.self.inside.seat.steps in
     let r = c.self.inside.record in
@@ -22,24 +22,7 @@ step-requires-clause-legal g c =
     search (
       rules,
       arith,
-      gained c.len-before.result c.history-2.result.now.entries r.protocol now.protocol (DropOut client place ∷ []),
-      lost-out-legal start steps r.protocol now.protocol r.ports now.ports tied client place range.0 range.1,
-    )
-
-pub invariant_of-self-2 : goal.invariant_of-self-2
-invariant_of-self-2 g c =
-    let start = g.P.Pair.start in
-    let steps = c.self.inside.seat.steps in
-    let r = c.self.inside.record in
-    let now = c.lose_out.new.self in
-    let client = c.args.client in
-    let place = c.args.place in
-    let tied = c.self.invariant.0 in
-    let range = client_range client (length r.ports.boxes) (sym c.client_refusal.ensures ∙ c.in_default.is) in
-    search (
-      rules,
-      arith,
-      gained c.len-before.result c.history-2.result.now.entries r.protocol now.protocol (DropOut client place ∷ []),
+      gained c.len-before.result now.protocol.journal.history r.protocol now.protocol (DropOut client place ∷ []),
       lost-out-tied start steps r.protocol now.protocol r.ports now.ports tied client place range.0 range.1,
     )
 
@@ -60,5 +43,5 @@ returns-clause-done g c =
     let is = ap (option_map (λ (f : Frame). DropOut client place)) there.1 in
     let lost : lost_out client (box_of book.ports client) place ≡ Some (DropOut client place) =
     subst (λ (p : PortsState). lost_out client (box_of p client) place ≡ Some (DropOut client place)) same is in
-    let told = gained c.len-before.result c.history-2.result.now.entries r.protocol now.protocol (DropOut client place ∷ []) in
+    let told = gained c.len-before.result now.protocol.journal.history r.protocol now.protocol (DropOut client place ∷ []) in
     (DropOut client place, lost, search (rules, told), search rules, search rules)

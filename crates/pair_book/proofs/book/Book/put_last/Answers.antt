@@ -1,33 +1,12 @@
-use Rattle.std.proofs.Common.{rules, ◌≡◌, sym, subst, Some, None}
-use Rattle.pair_record.specs.declared.event.Refusal.TheVariants.{Full}
+use Rattle.std.proofs.Common.{rules, ◌≡◌, sym, subst, None}
 use Rattle.pair_record.specs.Protocol.{first_refusal}
 use Rattle.pair_book.specs.{Books.BookState, Calls.{client_of, deliver_rows}, internal.Tie.book_state}
-use Rattle.pair_book.proofs.ClientTies.{is_client_of, delivered-gained, delivered-legal, delivered-tied}
+use Rattle.pair_book.proofs.ClientTies.{is_client_of, delivered-gained, delivered-tied}
 use Rattle.pair_book.proofs.Rows.{taken_in}
 use Rattle.pair_book.proofs.book.Book.put_last.Goals as goal
 
-pub step-requires-clause-legal : goal.step-requires-clause-legal
-step-requires-clause-legal g c =
-    let start = g.P.Pair.start in
-    let steps = c.self.inside.seat.steps in
-    let r = c.self.inside.record in
-    let now = c.deliver.new.self in
-    let by = c.args.seat.now.number in
-    let bytes = c.args.bytes.now in
-    let tied = c.self.invariant.0 in
-    let client = is_client_of start steps r.protocol r.ports by tied c.requires.client in
-    let book = book_state c.self.inside.seat r in
-    let row =
-    subst (λ (b : BookState). first_refusal (deliver_rows b (client_of by) bytes) ≡ None) (sym c.self.view_is) c.requires.free in
-    let rows = taken_in book (client_of by) bytes client.0 client.1 row in
-    search (
-      rules,
-      delivered-gained start steps r.protocol now.protocol r.ports now.ports tied by c.requires.client bytes rows.1,
-      delivered-legal start steps r.protocol now.protocol r.ports now.ports tied by c.requires.client bytes rows.1,
-    )
-
-pub invariant_of-self-2 : goal.invariant_of-self-2
-invariant_of-self-2 g c =
+pub tell-requires-clause-tied : goal.tell-requires-clause-tied
+tell-requires-clause-tied g c =
     let start = g.P.Pair.start in
     let steps = c.self.inside.seat.steps in
     let r = c.self.inside.record in
