@@ -2,6 +2,7 @@
 use Rattle.std.proofs.Common.{
   ◌≡◌,
   ℕ,
+  ◌+◌,
   ◌-◌,
   ◌<◌,
   Bool,
@@ -39,11 +40,14 @@ use Rattle.std.proofs.lemmas.List.Elements.{
 }
 use Rattle.std.specs.List.{Contains}
 use Rattle.arrayvec.specs.ArrayVec.{ArrayVec}
-use Rattle.frame_ports.specs.Lands.{list_of, with_list, has_room, landed_at, lands}
-use Rattle.frame_ports.specs.Ports.{PortsState}
-use Rattle.frame_ports.proofs.AddressLaws.{targets_of-frames}
-use Rattle.output_gate.specs.Epochs.{Epoch, epoch, frames_of, frames_to, landings, ports_after}
+use Rattle.frame_ports.specs.Lands.{list_of, with_list, has_room, landed_at}
+use Rattle.frame_ports.specs.Numbers.{is_new, after_landing}
+use Rattle.frame_ports.specs.Ports.{PortsState, box_of}
+use Rattle.frame_ports.proofs.NumberLaws.{landed_new}
+use Rattle.output_gate.specs.Epochs.{Epoch, epoch, frames_of, frames_to}
+use Rattle.output_gate.specs.Landings.{clients_for, landed_for, ports_after}
 use Rattle.output_gate.proofs.EpochLaws.{frames_of-append}
+use Rattle.output_gate.proofs.PortsAfterLaws.{next_same-after, inboxes_same-after}
 use Rattle.early_release.specs.Weak.{OnlyLands}
 
 module _ (held : List (ArrayVec ℕ)) where
@@ -75,22 +79,45 @@ module _ (held : List (ArrayVec ℕ)) where
           (cases_eq (c - 1) (d - 1))
       by_room false h = inl h
 
-  lands_contains : (boxes : List (List (ArrayVec ℕ))) (ps : List (ℕ × ArrayVec ℕ)) → All (λ p. Contains held p.1) ps →
-      (c : ℕ) (f : ArrayVec ℕ) → Contains (list_of (lands boxes ps) c) f → Contains (list_of boxes c) f ⊎ Contains held f
-  lands_contains boxes [] all c f h = inl h
-  lands_contains boxes (p ∷ ps) all c f h =
+  -- so does a landing under a number
+  numbered_contains : (p : PortsState) (d n : ℕ) (g : ArrayVec ℕ) → Contains held g → (c : ℕ) (f : ArrayVec ℕ) →
+      Contains (box_of (after_landing p d n g) c) f → Contains (box_of p c) f ⊎ Contains held f
+  numbered_contains p d n g was c f = by_number (is_new p d n)
+    where
+      by_number : (b : Bool) → Contains (box_of (let q : PortsState = if b then landed_new p d n g else p in q) c) f →
+          Contains (box_of p c) f ⊎ Contains held f
+      by_number true h = landed_contains p.boxes d g was c f h
+      by_number false h = inl h
+
+  for_contains : (p : PortsState) (cs : List ℕ) (n : ℕ) (g : ArrayVec ℕ) → Contains held g → (c : ℕ) (f : ArrayVec ℕ) →
+      Contains (box_of (landed_for p cs n g) c) f → Contains (box_of p c) f ⊎ Contains held f
+  for_contains p [] n g was c f h = inl h
+  for_contains p (d ∷ cs) n g was c f h =
       ⊎_elim
-      (λ before. landed_contains boxes p.0 p.1 (All-head (λ q. Contains held q.1) p ps all) c f before)
-      (λ was. inr was)
-      (lands_contains (landed_at boxes p.0 p.1) ps (All-tail (λ q. Contains held q.1) p ps all) c f h)
+      (λ before. numbered_contains p d n g was c f before)
+      (λ is_held. inr is_held)
+      (for_contains (after_landing p d n g) cs n g was c f h)
+
+  after_contains : (p : PortsState) (first : ℕ) (fs : List (ArrayVec ℕ)) → All (Contains held) fs → (c : ℕ) (f : ArrayVec ℕ) →
+      Contains (box_of (ports_after p first fs) c) f → Contains (box_of p c) f ⊎ Contains held f
+  after_contains p first [] all c f h = inl h
+  after_contains p first (g ∷ fs) all c f h =
+      ⊎_elim
+      (λ before. for_contains p (clients_for p g) first g (All-head (Contains held) g fs all) c f before)
+      (λ is_held. inr is_held)
+      (after_contains (landed_for p (clients_for p g) first g) (first + 1) fs (All-tail (Contains held) g fs all) c f h)
 
 -- frames that landed were held
-pub only_lands : (p : PortsState) (fs : List (ArrayVec ℕ)) → OnlyLands fs p (ports_after p fs)
-only_lands p fs = record {
-  boxes = λ c f h. lands_contains fs p.boxes (landings p fs)
-      (targets_of-frames (λ g. Contains fs g) (length p.boxes) fs (All-contains_itself fs)) c f h;
-  rest = refl;
-}
+pub only_lands : (p : PortsState) (first : ℕ) (fs : List (ArrayVec ℕ)) → OnlyLands fs p (ports_after p first fs)
+only_lands p first fs =
+    let q = ports_after p first fs in
+    record {
+      boxes = λ c f h. after_contains fs p first fs (All-contains_itself fs) c f h;
+      rest =
+          ap (λ (n : ℕ). let t : PortsState = record q { next = n } in t) (next_same-after p first fs)
+          ∙ ap (λ (l : List (List (ℕ × ArrayVec ℕ))). let t : PortsState = record q { next = p.next; inboxes = l } in t)
+          (inboxes_same-after p first fs);
+    }
 
 -- and where more was held
 pub only_lands_some : (held fs : List (ArrayVec ℕ)) (p q : PortsState) → ((f : ArrayVec ℕ) → Contains fs f → Contains held f) →

@@ -30,7 +30,7 @@ impl AcknowledgedGate for HoldsUntilAcknowledged {
 
 /// It meets the starting contract by the stronger one.
 impl StartingGate for HoldsUntilAcknowledged {
-    ghost epochs = { λ g. g.gate };
+    ghost held = { λ g. g.gate };
 
     fn hold(&mut self, number: u64, frames: &[Frame], ports: &mut Ports) -> Landed {
         AcknowledgedGate::hold(self, number, frames, ports)
@@ -48,7 +48,7 @@ pub(crate) struct LandsAtOnce {
 }
 
 impl StartingGate for LandsAtOnce {
-    ghost epochs = { λ g. g.gate };
+    ghost held = { λ g. g.gate };
 
     fn hold(&mut self, number: u64, frames: &[Frame], ports: &mut Ports) -> Landed {
         self.gate.hold(number, frames);

@@ -1,5 +1,6 @@
 //! The script `boot 2 1 1 beacon`, `step 22`, `cut`, `take 1`, over any gate.
-ghost use Rattle.std.specs.Prelude.{◌≡◌, []};
+ghost use Rattle.std.specs.Prelude.{◌≡◌};
+ghost use Rattle.output_gate.specs.Gate.{begun};
 
 use crate::stand_in::Beacon;
 use crate::starting_gate::StartingGate;
@@ -13,7 +14,7 @@ pub(crate) fn run_script<G: StartingGate>(
     alloc: Global,
     gate: &mut G,
 ) -> anyhow::Result<()>
-    requires { G.epochs gate.old ≡ [] }
+    requires { G.held gate.old ≡ begun 0 }
 {
     let mut ports = Ports::new(alloc, 1)?;
     let mut guest = Beacon { steps: 0 };

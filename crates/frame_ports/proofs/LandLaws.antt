@@ -132,6 +132,7 @@ ports-lands s ps frames clients ok =
       next = ok.next;
       clients = (omega (arith, same, ok.clients.0), omega (arith, same, ok.clients.1));
       pairs = ok.pairs ∙ sym same;
+      numbered = ok.numbered ∙ sym same;
       inboxes = ok.inboxes;
       boxes = boxes-lands s.boxes ps frames clients ok.boxes;
     }

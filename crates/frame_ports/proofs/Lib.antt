@@ -1,5 +1,7 @@
 mod PortsLemmas
+mod RaisedLemmas
 mod RingLemmas
 mod TargetLemmas
 pub mod LandLaws
 pub mod AddressLaws
+pub mod NumberLaws

@@ -130,21 +130,21 @@ module _ (p : Inside) (c : ℕ) where
 
   -- the ports with one ring changed
   abbrev pub inbox_put : ℕ → Buffer (ℕ × ArrayVec ℕ) → Inside
-  inbox_put n r = record { next = n; inboxes = with_item p.inboxes (c - 1) r; boxes = p.boxes }
+  inbox_put n r = record { next = n; inboxes = with_item p.inboxes (c - 1) r; boxes = p.boxes; numbers = p.numbers }
 
   abbrev pub box_put : Buffer (ArrayVec ℕ) → Inside
-  box_put r = record { next = p.next; inboxes = p.inboxes; boxes = with_item p.boxes (c - 1) r }
+  box_put r = record { next = p.next; inboxes = p.inboxes; boxes = with_item p.boxes (c - 1) r; numbers = p.numbers }
 
   -- what contracts see of them
   pub state-inbox_put : (n : ℕ) (r : Buffer (ℕ × ArrayVec ℕ)) →
       ports_state (inbox_put n r) ≡ record (with_inbox (ports_state p) c r.items) { next = n }
   state-inbox_put n r = ap (λ (l : List (List (ℕ × ArrayVec ℕ))). let s : PortsState =
-      record { next = n; inboxes = l; boxes = rings_items p.boxes.items } in s)
+      record { next = n; inboxes = l; boxes = rings_items p.boxes.items; numbers = p.numbers.items } in s)
       (map-set (λ (b : Buffer (ℕ × ArrayVec ℕ)). b.items) p.inboxes.items (c - 1) r)
 
   pub state-box_put : (r : Buffer (ArrayVec ℕ)) → ports_state (box_put r) ≡ with_box (ports_state p) c r.items
   state-box_put r = ap (λ (l : List (List (ArrayVec ℕ))). let s : PortsState =
-      record { next = p.next; inboxes = rings_items p.inboxes.items; boxes = l } in s)
+      record { next = p.next; inboxes = rings_items p.inboxes.items; boxes = l; numbers = p.numbers.items } in s)
       (map-set (λ (b : Buffer (ArrayVec ℕ)). b.items) p.boxes.items (c - 1) r)
 
   -- they are ports again
@@ -155,6 +155,7 @@ module _ (p : Inside) (c : ℕ) where
       next = number;
       clients = ok.state.clients;
       pairs = length-set (rings_items p.inboxes.items) (c - 1) r.items ∙ ok.state.pairs;
+      numbered = ok.state.numbered;
       inboxes = All-set IsInbox (rings_items p.inboxes.items) (c - 1) r.items inbox ok.state.inboxes;
       boxes = ok.state.boxes;
     });
@@ -170,6 +171,7 @@ module _ (p : Inside) (c : ℕ) where
           next = ok.state.next;
           clients = (omega (arith, same, ok.state.clients.0), omega (arith, same, ok.state.clients.1));
           pairs = ok.state.pairs ∙ sym same;
+          numbered = ok.state.numbered ∙ sym same;
           inboxes = ok.state.inboxes;
           boxes = All-set IsBox (rings_items p.boxes.items) (c - 1) r.items box ok.state.boxes;
         });
@@ -277,20 +279,18 @@ ports-empty n some few =
       next = (lit≤ tt, lit≤ tt);
       clients = (omega (arith, length-replicate n nobox), omega (arith, length-replicate n nobox));
       pairs = length-replicate n noinbox ∙ sym (length-replicate n nobox);
+      numbered = length-replicate n 0 ∙ sym (length-replicate n nobox);
       inboxes = All-replicate IsInbox n [] (lit≤ tt, All-nil (λ x. IsFrame x.1));
       boxes = All-replicate IsBox n [] (lit≤ tt, All-nil IsFrame);
     }
 
 module _ (p : Inside) (n : ℕ) (next : p.next ≡ 1) (inboxes : p.inboxes.items ≡ replicate n (buffer [] inbox_frames))
-    (boxes : p.boxes.items ≡ replicate n (buffer [] box_frames)) where
+    (boxes : p.boxes.items ≡ replicate n (buffer [] box_frames)) (numbers : p.numbers.items ≡ replicate n 0) where
   pub state-empty : ports_state p ≡ empty_ports n
   state-empty =
-      ap (λ (k : ℕ). let s : PortsState = record { next = k; inboxes = rings_items p.inboxes.items; boxes = rings_items p.boxes.items } in
-      s) next
-      ∙ ap (λ (l : List (List (ℕ × ArrayVec ℕ))). let s : PortsState = record { next = 1; inboxes = l; boxes = rings_items p.boxes.items }
-      in s) (ap (λ (l : List (Buffer (ℕ × ArrayVec ℕ))). rings_items l) inboxes ∙ rings_items-empty n inbox_frames)
-      ∙ ap (λ (l : List (List (ArrayVec ℕ))). let s : PortsState = record { next = 1; inboxes = replicate n []; boxes = l } in s)
-      (ap (λ (l : List (Buffer (ArrayVec ℕ))). rings_items l) boxes ∙ rings_items-empty n box_frames)
+      let inboxes_are = ap (λ (l : List (Buffer (ℕ × ArrayVec ℕ))). rings_items l) inboxes ∙ rings_items-empty n inbox_frames in
+      let boxes_are = ap (λ (l : List (Buffer (ArrayVec ℕ))). rings_items l) boxes ∙ rings_items-empty n box_frames in
+      cc (next, inboxes_are, boxes_are, numbers)
 
   pub fields-empty : 1 ≤ n → n ≤ max_clients → AreFields p
   fields-empty some few = record {
@@ -300,6 +300,28 @@ module _ (p : Inside) (n : ℕ) (next : p.next ≡ 1) (inboxes : p.inboxes.items
     boxes = All-same (λ b. b.capacity ≡ box_frames) p.boxes.items (replicate n (buffer [] box_frames)) boxes
         (All-replicate (λ b. b.capacity ≡ box_frames) n (buffer [] box_frames) refl);
   }
+
+-- the fields with other numbers, of as many clients, and what contracts see of them
+module _ (p : Inside) (ns : ArrayVec ℕ) (ok : AreFields p) where
+  abbrev pub numbers_put : Inside
+  numbers_put = record p { numbers = ns }
+
+  pub fields-numbers_put : length ns.items ≡ length (rings_items p.boxes.items) → AreFields numbers_put
+  fields-numbers_put same = record {
+    state = record {
+      next = ok.state.next;
+      clients = ok.state.clients;
+      pairs = ok.state.pairs;
+      numbered = same;
+      inboxes = ok.state.inboxes;
+      boxes = ok.state.boxes;
+    };
+    inboxes = ok.inboxes;
+    boxes = ok.boxes;
+  }
+
+  pub state-numbers_put : (s : PortsState) → ports_state p ≡ s → ◌≡◌ {A = PortsState} (ports_state numbers_put) (record s { numbers = ns.items })
+  state-numbers_put s seen = ap (λ (t : PortsState). let u : PortsState = record t { numbers = ns.items } in u) seen
 
 -- a fact that needs no answer, at an answer
 pub on_ok : {A E P : Type 0} (r : Result A E) → P → OnOk r P

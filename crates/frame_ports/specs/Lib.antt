@@ -3,6 +3,7 @@ pub use Rattle.arrayvec.specs.ArrayVec
 pub mod Addresses
 pub mod Lands
 pub mod Limits
+pub mod Numbers
 pub mod Ports
 pub mod Refusals
 pub mod Targets

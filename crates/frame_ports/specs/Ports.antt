@@ -29,11 +29,13 @@ use Rattle.frame_ports.specs.declared.errors.PortError.TheVariants.{Full, BadFra
 use Rattle.frame_ports.specs.Limits.{min_frame, max_frame, max_clients, inbox_frames, box_frames, number_limit}
 
 -- the number of the next frame that is delivered; for each client the frames that wait for the guest, with their
--- numbers, and the frames that landed for it. Client c has the place c - 1 in both
+-- numbers, the frames that landed for it, and the number of the guest's last frame that came for it, 0 at first: that
+-- frame landed, or was dropped at a full box. Client c has the place c - 1 in all three
 pub record PortsState : Type 0 where
   pub next : ℕ
   pub inboxes : List (List (ℕ × ArrayVec ℕ))
   pub boxes : List (List (ArrayVec ℕ))
+  pub numbers : List ℕ
 
 -- a client's number is 1 to the count of clients
 abbrev pub is_client : PortsState → ℕ → Bool
@@ -66,12 +68,18 @@ pub record IsPorts (s : PortsState) : Type 0 where
   pub next : (1 ≤ s.next) × (s.next ≤ number_limit)
   pub clients : (1 ≤ length s.boxes) × (length s.boxes ≤ max_clients)
   pub pairs : length s.inboxes ≡ length s.boxes
+  pub numbered : length s.numbers ≡ length s.boxes
   pub inboxes : All IsInbox s.inboxes
   pub boxes : All IsBox s.boxes
 
 -- ports at the start: nothing was delivered, nothing landed
 abbrev pub empty_ports : ℕ → PortsState
-empty_ports clients = record { next = 1; inboxes = replicate clients []; boxes = replicate clients [] }
+empty_ports clients = record {
+  next = 1;
+  inboxes = replicate clients [];
+  boxes = replicate clients [];
+  numbers = replicate clients 0;
+}
 
 -- what a delivery to client c answers, by the table of refusals in this order: 3, 2, 1, 14
 abbrev pub delivery : PortsState → ℕ → List ℕ → Result ℕ PortError

@@ -22,7 +22,7 @@ ghost use Rattle.std.specs.Prelude.{
 };
 ghost use Rattle.frame_ports.specs.Limits.{max_clients, inbox_frames, box_frames};
 ghost use Rattle.frame_ports.specs.Addresses.{IsFrame};
-ghost use Rattle.frame_ports.specs.Lands.{has_room, landed_at};
+ghost use Rattle.frame_ports.specs.Numbers.{landing, after_landing, marked};
 ghost use Rattle.frame_ports.specs.Ports.{
   is_client,
   IsClient,
@@ -41,19 +41,23 @@ ghost use Rattle.frame_ports.specs.declared.errors.PortError.TheVariants.{NoMemo
 ghost use Rattle.memory_wanted.specs.Wanted.{wanted};
 
 use crate::errors::PortError;
+use crate::landing::Landing;
 use crate::limits::{
     BOX_FRAMES, Frame, INBOX_FRAMES, MAX_CLIENTS, MAX_FRAME, MIN_FRAME, NUMBER_LIMIT,
 };
+use crate::numbers::{Numbers, raise, zeros};
 use crate::rings::{frame_of, put_last, remove_at, rings};
 use crate::targets::Targets;
 use circular_buffer::HeapCircularBuffer;
 use std::alloc::Global;
 use std::marker::Model;
 
-/// For each client, numbered from 1, an inbox of numbered frames for the guest and a box of frames that landed.
+/// For each client, numbered from 1, an inbox of numbered frames for the guest, a box of frames that landed, and
+/// the number of the last frame of the guest that came for it.
 ///
-/// A call changes only the list that it names and, in [`Ports::deliver`], the next frame number. After a refusal
-/// nothing has changed. Only [`Ports::new`] takes memory.
+/// A call changes only the list that it names and, in [`Ports::deliver`], the next frame number. Only
+/// [`Ports::land`] and [`Ports::mark`] change the number of a client. After a refusal nothing has changed. Only
+/// [`Ports::new`] takes memory.
 #[derive(Drop)]
 pub struct Ports {
     /// The number that the next delivered frame gets, from 1.
@@ -62,6 +66,8 @@ pub struct Ports {
     inboxes: Vec<HeapCircularBuffer<(u64, Frame)>>,
     /// The box of client c has the place c - 1.
     boxes: Vec<HeapCircularBuffer<Frame>>,
+    /// The number of the last frame that came for client c has the place c - 1. It is 0 at first.
+    numbers: Numbers,
 }
 
 impl Model for Ports {
@@ -94,6 +100,7 @@ impl Ports {
             next: 1,
             inboxes,
             boxes,
+            numbers: zeros(clients as usize),
         })
     }
 
@@ -215,20 +222,32 @@ impl Ports {
         self.boxes[(client - 1) as usize].len()
     }
 
-    /// Lands a frame for a client: it goes last in the client's box. Answers `false` exactly where the box holds
-    /// 64 frames, and then drops the frame.
-    pub fn land(&mut self, client: u64, frame: &Frame) -> bool
+    /// Lands the guest's frame of that number for a client: it goes last in the client's box. A box of 64 frames
+    /// drops it, and its number is the client's all the same. A frame whose number isn't above the client's came
+    /// before, and changes nothing.
+    pub fn land(&mut self, client: u64, number: u64, frame: &Frame) -> Landing
         requires client { IsClient self.old client }
         requires frame { IsFrame frame.now }
-        ensures answer { result ≡ has_room self.old.boxes client }
-        ensures boxes { self.new ≡ record self.old { boxes = landed_at self.old.boxes client frame.now } }
+        ensures answer { result ≡ landing self.old client number }
+        ensures ports { self.new ≡ after_landing self.old client number frame.now }
     {
-        let landed = &mut self.boxes[(client - 1) as usize];
+        let place = (client - 1) as usize;
+        if !raise(&mut self.numbers, place, number) {
+            return Landing::Old;
+        }
+        let landed = &mut self.boxes[place];
         if landed.len() >= BOX_FRAMES {
-            return false;
+            return Landing::Dropped;
         }
         put_last(landed, frame_of(frame.as_slice()));
-        true
+        Landing::In
+    }
+
+    /// Makes the number of each client 0, so that frames that the guest numbers from 1 anew land.
+    pub fn mark(&mut self)
+        ensures { self.new ≡ marked self.old }
+    {
+        self.numbers = zeros(self.boxes.len());
     }
 
     /// Drops the frame at `place`, from 0, of the client's inbox, and answers its number; `None` where no frame

@@ -75,11 +75,61 @@ fn a_frame_waits_lands_and_is_lost(rt: HostRuntime) -> Result<(), Fail> {
         return Ok(());
     };
     assert_eq!(rt; broadcast.len(), 14);
-    assert!(rt; ports.land(3, &broadcast));
+    assert_eq!(rt; ports.land(3, 1, &broadcast), Landing::In);
     assert_eq!(rt; ports.box_len(3), 1);
     assert_eq!(rt; ports.lose_landed(3, 1).map_err(|e| e.number()), Ok(false));
     assert_eq!(rt; ports.lose_landed(3, 0).map_err(|e| e.number()), Ok(true));
     assert!(rt; ports.take(3)?.is_none());
+    Ok(())
+}
+
+/// What becomes of a frame of that number at the client; `None` where there is no such client, or for too few bytes.
+fn landing(ports: &mut Ports, client: u64, number: u64, frame: &Frame) -> Option<Landing> {
+    if client < 1 || client > ports.clients() || frame.len() < 14 {
+        return None;
+    }
+    Some(ports.land(client, number, frame))
+}
+
+#[test]
+fn a_frame_lands_once_until_the_ports_are_marked(rt: HostRuntime) -> Result<(), Fail> {
+    let mut ports = Ports::new(rt.alloc(), 2)?;
+    let frame = frame(&[0xff; 14]).ok_or("too long")?;
+    for (client, number, answer) in [
+        // No frame has the number 0.
+        (1, 0, Landing::Old),
+        (1, 5, Landing::In),
+        (1, 5, Landing::Old),
+        (1, 4, Landing::Old),
+        (2, 4, Landing::In),
+        (2, 5, Landing::In),
+        (1, 6, Landing::In),
+    ] {
+        assert_eq!(rt; landing(&mut ports, client, number, &frame), Some(answer));
+    }
+    // Two have landed for client 1. What it has taken came all the same.
+    assert!(rt; ports.take(1)?.is_some());
+    assert!(rt; ports.take(1)?.is_some());
+    assert!(rt; ports.take(1)?.is_none());
+    assert_eq!(rt; landing(&mut ports, 1, 6, &frame), Some(Landing::Old));
+    ports.mark();
+    assert_eq!(rt; landing(&mut ports, 1, 1, &frame), Some(Landing::In));
+    assert_eq!(rt; landing(&mut ports, 2, 1, &frame), Some(Landing::In));
+    Ok(())
+}
+
+#[test]
+fn the_number_of_a_dropped_frame_counts(rt: HostRuntime) -> Result<(), Fail> {
+    let mut ports = Ports::new(rt.alloc(), 1)?;
+    let frame = frame(&frame_to(1)).ok_or("too long")?;
+    for number in 1..65u64 {
+        assert_eq!(rt; landing(&mut ports, 1, number, &frame), Some(Landing::In));
+    }
+    assert_eq!(rt; landing(&mut ports, 1, 65, &frame), Some(Landing::Dropped));
+    // There is room for it now, and still it doesn't land.
+    assert!(rt; ports.take(1)?.is_some());
+    assert_eq!(rt; landing(&mut ports, 1, 65, &frame), Some(Landing::Old));
+    assert_eq!(rt; landing(&mut ports, 1, 66, &frame), Some(Landing::In));
     Ok(())
 }
 

@@ -32,17 +32,20 @@ use Rattle.std.proofs.Common.{
 use Rattle.std.proofs.Math.ListN.{length-drop}
 use Rattle.std.proofs.Math.Seq.{take-add}
 use Rattle.std.proofs.lemmas.Bool.{leb-false}
-use Rattle.std.proofs.lemmas.List.{nil_from_length, take_all, take-append-le, drop-append-le, drop-drop, take-append-drop, length_push}
+use Rattle.std.proofs.lemmas.List.{nil_from_length, take_all, take-append-le, drop-append-le}
+use Rattle.std.proofs.lemmas.List.{drop-drop, take-append-drop, length_push, append-nil}
 use Rattle.std.proofs.lemmas.List.Elements.{All-push, All-drop}
 use Rattle.std.proofs.lemmas.List.Quantifiers.{all_pairs_push}
 use Rattle.std.proofs.lemmas.List.Sums.{sum_by-cons}
 use Rattle.std.specs.List.{AllPairs, prefix_len}
 use Rattle.arrayvec.specs.ArrayVec.{ArrayVec}
-use Rattle.output_gate.specs.Epochs.{Epoch, epoch, frames_of, frames_to, after_number, IsEpoch, IsGate}
+use Rattle.frame_ports.specs.Limits.{number_limit}
+use Rattle.output_gate.specs.Epochs.{Epoch, epoch, frames_of, frames_to, after_number, IsEpoch}
+use Rattle.output_gate.specs.Gate.{GateState, IsGate}
 use Rattle.output_gate.specs.internal.Fields.{total, epochs_of}
 use Rattle.output_gate.specs.declared.marks.Mark.{Mark}
 use Rattle.output_gate.specs.Limits.{max_epochs, max_frames}
-use Rattle.output_gate.proofs.EpochLaws.{frames_to-none, after_number-none}
+use Rattle.output_gate.proofs.EpochLaws.{frames_of-append, frames_to-none, after_number-none}
 
 -- of a list by pairs: its first element against the others, its rest, and what is left of it
 module _ {X : Type 0} (R : X → X → Type 0) where
@@ -143,19 +146,38 @@ after_number-reach n (m ∷ ms) fs rising =
         rising k d inside in let above = leb-false m.number n here in omega arith))
 
 -- a gate after one more epoch, and after the first ones have gone
-pub gate-push : (es : List Epoch) (e : Epoch) → IsGate es → length es < max_epochs → All (λ d. d.number < e.number) es → IsEpoch e →
-    IsGate (es ++ e ∷ [])
-gate-push es e ok room above new = record {
-  few = omega (arith, length_push es e);
-  rising = all_pairs_push (λ a b. a.number < b.number) es e ok.rising above;
-  epochs = All-push IsEpoch es e ok.epochs new;
+pub gate-push : (g : GateState) (e : Epoch) → IsGate g → length g.epochs < max_epochs → All (λ d. d.number < e.number) g.epochs →
+    IsEpoch e → g.next + length e.frames ≤ number_limit →
+    IsGate (record { next = g.next + length e.frames; epochs = g.epochs ++ e ∷ [] })
+gate-push g e ok room above new limit = record {
+  few = omega (arith, length_push g.epochs e);
+  rising = all_pairs_push (λ a b. a.number < b.number) g.epochs e ok.rising above;
+  epochs = All-push IsEpoch g.epochs e ok.epochs new;
+  numbers = omega (
+    arith,
+    ap (λ (l : List (ArrayVec ℕ)). length l) (frames_of-append g.epochs (e ∷ [])),
+    length-append (frames_of g.epochs) (e.frames ++ []),
+    ap (λ (l : List (ArrayVec ℕ)). length l) (append-nil e.frames),
+    ok.numbers,
+  );
+  limit = limit;
 }
 
-pub gate-drop : (k : ℕ) (es : List Epoch) → IsGate es → IsGate (drop k es)
-gate-drop k es ok = record {
-  few = omega (arith, length-drop k es, ok.few);
-  rising = drop_pairs (λ a b. a.number < b.number) k es ok.rising;
-  epochs = All-drop IsEpoch k es ok.epochs;
+length-frames_of-drop : (k : ℕ) (es : List Epoch) → length (frames_of (drop k es)) ≤ length (frames_of es)
+length-frames_of-drop k es =
+    omega (
+      arith,
+      ap (λ (l : List (ArrayVec ℕ)). length l) (sym (frames_of-append (take k es) (drop k es)) ∙ ap frames_of (take-append-drop k es)),
+      length-append (frames_of (take k es)) (frames_of (drop k es)),
+    )
+
+pub gate-drop : (k : ℕ) (g : GateState) → IsGate g → IsGate (record g { epochs = drop k g.epochs })
+gate-drop k g ok = record {
+  few = omega (arith, length-drop k g.epochs, ok.few);
+  rising = drop_pairs (λ a b. a.number < b.number) k g.epochs ok.rising;
+  epochs = All-drop IsEpoch k g.epochs ok.epochs;
+  numbers = omega (arith, length-frames_of-drop k g.epochs, ok.numbers);
+  limit = ok.limit;
 }
 
 -- the row holds at most 256 frames for each epoch

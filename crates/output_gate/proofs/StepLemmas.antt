@@ -5,7 +5,6 @@ use Rattle.std.proofs.Common.{
   ◌+◌,
   ◌-◌,
   ◌≤◌,
-  Bool,
   true,
   false,
   if◌then◌else◌,
@@ -20,121 +19,110 @@ use Rattle.std.proofs.Common.{
   ap,
   arith,
 }
-use Rattle.std.proofs.lemmas.List.{append-nil, map-append}
+use Rattle.std.proofs.lemmas.List.{append-nil}
 use Rattle.arrayvec.specs.ArrayVec.{ArrayVec}
-use Rattle.frame_ports.specs.Addresses.{addressed, clients_from, clients_of, paired_with, targets_of}
-use Rattle.frame_ports.specs.Lands.{has_room, landed_at, lands, put_count, drop_count}
+use Rattle.frame_ports.specs.Addresses.{addressed, clients_from}
+use Rattle.frame_ports.specs.Numbers.{landing, after_landing}
 use Rattle.frame_ports.specs.Ports.{PortsState, IsClient}
+use Rattle.frame_ports.specs.declared.landing.Landing.{Landing}
+use Rattle.frame_ports.specs.declared.landing.Landing.TheVariants.{In, Dropped, Old}
 use Rattle.frame_ports.proofs.AddressLaws.{clients_from-more}
-use Rattle.frame_ports.proofs.LandLaws.{lands-append, put_count-append, drop_count-append, length-lands}
-use Rattle.output_gate.specs.Epochs.{ports_after, landed_count, dropped_count}
+use Rattle.output_gate.specs.Landings.{clients_for, landed_for, puts, drops, landed_of, dropped_of}
+use Rattle.output_gate.proofs.PortsAfterLaws.{landed_for-append, landed_of-append, dropped_of-append, boxes_count-for}
 
--- the landings of one frame for the clients below c
-abbrev pub below : ArrayVec ℕ → ℕ → List (ℕ × ArrayVec ℕ)
-below f c = paired_with (clients_from (c - 1) 1 f.items) f
+-- the clients of a frame below c
+abbrev pub below : ArrayVec ℕ → ℕ → List ℕ
+below f c = clients_from (c - 1) 1 f.items
 
--- these landings are done, and counted
-pub record Done (old now : PortsState) (f : ArrayVec ℕ) (c landed dropped : ℕ) : Type 0 where
-  pub ports : now ≡ record old { boxes = lands old.boxes (below f c) }
-  pub put_is : landed ≡ put_count old.boxes (below f c)
-  pub drop_is : dropped ≡ drop_count old.boxes (below f c)
+-- frame n, which is f, has landed for these, and that is counted
+pub record Done (old now : PortsState) (n : ℕ) (f : ArrayVec ℕ) (c landed dropped : ℕ) : Type 0 where
+  pub ports : now ≡ landed_for old (below f c) n f
+  pub put_is : landed ≡ landed_of old (below f c) n f
+  pub drop_is : dropped ≡ dropped_of old (below f c) n f
   pub bound : landed + dropped + 1 ≤ c
 
-pub done_none : (old : PortsState) (f : ArrayVec ℕ) → Done old old f 1 0 0
-done_none old f = record { ports = refl; put_is = refl; drop_is = refl; bound = omega arith }
+pub done_none : (old : PortsState) (n : ℕ) (f : ArrayVec ℕ) → Done old old n f 1 0 0
+done_none old n f = record { ports = refl; put_is = refl; drop_is = refl; bound = omega arith }
 
 -- client c is below c + 1 where the frame goes to it
-below_more : (f : ArrayVec ℕ) (c : ℕ) → 1 ≤ c → below f (c + 1) ≡ below f c ++ paired_with (if addressed f.items c then c ∷ [] else []) f
+below_more : (f : ArrayVec ℕ) (c : ℕ) → 1 ≤ c → below f (c + 1) ≡ below f c ++ (if addressed f.items c then c ∷ [] else [])
 below_more f c pos =
     let one : c + 1 - 1 ≡ (c - 1) + 1 = omega arith in
     let at : 1 + (c - 1) ≡ c = omega arith in
-    ap (λ n. paired_with (clients_from n 1 f.items) f) one
-    ∙ ap (λ (l : List ℕ). paired_with l f) (clients_from-more (c - 1) 1 f.items
-    ∙ ap (λ n. clients_from (c - 1) 1 f.items ++ (if addressed f.items n then n ∷ [] else [])) at)
-    ∙ map-append (λ n. let p : ℕ × ArrayVec ℕ = (n, f) in p) (clients_from (c - 1) 1 f.items) (if addressed f.items c then c ∷ [] else [])
+    ap (λ k. clients_from k 1 f.items) one
+    ∙ clients_from-more (c - 1) 1 f.items
+    ∙ ap (λ k. clients_from (c - 1) 1 f.items ++ (if addressed f.items k then k ∷ [] else [])) at
 
 pub below_same : (f : ArrayVec ℕ) (c : ℕ) → 1 ≤ c → addressed f.items c ≡ false → below f (c + 1) ≡ below f c
-below_same f c pos away = below_more f c pos ∙ ap (λ b. below f c ++ paired_with (if b then c ∷ [] else []) f) away ∙ append-nil (below f c)
+below_same f c pos away = below_more f c pos ∙ ap (λ b. below f c ++ (if b then c ∷ [] else [])) away ∙ append-nil (below f c)
 
-pub below_one : (f : ArrayVec ℕ) (c : ℕ) → 1 ≤ c → addressed f.items c ≡ true → below f (c + 1) ≡ below f c ++ (c, f) ∷ []
-below_one f c pos named = below_more f c pos ∙ ap (λ b. below f c ++ paired_with (if b then c ∷ [] else []) f) named
+pub below_one : (f : ArrayVec ℕ) (c : ℕ) → 1 ≤ c → addressed f.items c ≡ true → below f (c + 1) ≡ below f c ++ c ∷ []
+below_one f c pos named = below_more f c pos ∙ ap (λ b. below f c ++ (if b then c ∷ [] else [])) named
 
-module _ (old now : PortsState) (f : ArrayVec ℕ) (c landed dropped : ℕ) (pos : 1 ≤ c) (done : Done old now f c landed dropped) where
-  pub done_skip : addressed f.items c ≡ false → Done old now f (c + 1) landed dropped
+-- a landing counts once at most
+one_most : (l : Landing) → puts l + drops l ≤ 1
+one_most In = omega arith
+one_most Dropped = omega arith
+one_most Old = omega arith
+
+module _ (old now : PortsState) (n : ℕ) (f : ArrayVec ℕ) (c landed dropped : ℕ) (pos : 1 ≤ c) (done : Done old now n f c landed dropped) where
+  pub done_skip : addressed f.items c ≡ false → Done old now n f (c + 1) landed dropped
   done_skip away =
       let same = sym (below_same f c pos away) in
       record {
-        ports = done.ports ∙ ap (λ (ps : List (ℕ × ArrayVec ℕ)). let s : PortsState = record old { boxes = lands old.boxes ps } in s) same;
-        put_is = done.put_is ∙ ap (put_count old.boxes) same;
-        drop_is = done.drop_is ∙ ap (drop_count old.boxes) same;
+        ports = done.ports ∙ ap (λ (cs : List ℕ). landed_for old cs n f) same;
+        put_is = done.put_is ∙ ap (λ (cs : List ℕ). landed_of old cs n f) same;
+        drop_is = done.drop_is ∙ ap (λ (cs : List ℕ). dropped_of old cs n f) same;
         bound = omega (arith, done.bound);
       }
 
-  -- the boxes so far
-  boxes : now.boxes ≡ lands old.boxes (below f c)
-  boxes = ap (λ (s : PortsState). s.boxes) done.ports
-
-  landed_after : addressed f.items c ≡ true → ◌≡◌ {A = PortsState} (record now { boxes = landed_at now.boxes c f })
-      (record old { boxes = lands old.boxes (below f (c + 1)) })
-  landed_after named =
-      ap (λ (s : PortsState). let t : PortsState = record s { boxes = landed_at s.boxes c f } in t) done.ports
-      ∙ ap (λ (l : List (List (ArrayVec ℕ))). let t : PortsState = record old { boxes = l } in t)
-      (sym (lands-append old.boxes (below f c) ((c, f) ∷ [])) ∙ ap (lands old.boxes) (sym (below_one f c pos named)))
-
-  put_after : (b : Bool) → addressed f.items c ≡ true → has_room now.boxes c ≡ b →
-      put_count old.boxes (below f (c + 1)) ≡ put_count old.boxes (below f c) + (if b then 1 else 0)
-  put_after b named room =
-      let last : put_count (lands old.boxes (below f c)) ((c, f) ∷ []) ≡ (if b then 1 else 0) + 0 =
-      ap (λ (l : List (List (ArrayVec ℕ))). (if has_room l c then 1 else 0) + 0) (sym boxes)
-      ∙ ap (λ t. (if t then 1 else 0) + 0) room in
-      ap (put_count old.boxes) (below_one f c pos named) ∙ put_count-append old.boxes (below f c) ((c, f) ∷ []) ∙ omega (arith, last)
-
-  drop_after : (b : Bool) → addressed f.items c ≡ true → has_room now.boxes c ≡ b →
-      drop_count old.boxes (below f (c + 1)) ≡ drop_count old.boxes (below f c) + (if b then 0 else 1)
-  drop_after b named room =
-      let last : drop_count (lands old.boxes (below f c)) ((c, f) ∷ []) ≡ (if b then 0 else 1) + 0 =
-      ap (λ (l : List (List (ArrayVec ℕ))). (if has_room l c then 0 else 1) + 0) (sym boxes)
-      ∙ ap (λ t. (if t then 0 else 1) + 0) room in
-      ap (drop_count old.boxes) (below_one f c pos named) ∙ drop_count-append old.boxes (below f c) ((c, f) ∷ []) ∙ omega (arith, last)
-
-  -- a frame put into the box of client c, or dropped there
-  pub done_put : (next : PortsState) → addressed f.items c ≡ true → has_room now.boxes c ≡ true →
-      next ≡ record now { boxes = landed_at now.boxes c f } → Done old next f (c + 1) (landed + 1) dropped
-  done_put next named room is = record {
-    ports = is ∙ landed_after named;
-    put_is = omega (arith, done.put_is, put_after true named room);
-    drop_is = omega (arith, done.drop_is, drop_after true named room);
-    bound = omega (arith, done.bound);
-  }
-
-  pub done_drop : (next : PortsState) → addressed f.items c ≡ true → has_room now.boxes c ≡ false →
-      next ≡ record now { boxes = landed_at now.boxes c f } → Done old next f (c + 1) landed (dropped + 1)
-  done_drop next named room is = record {
-    ports = is ∙ landed_after named;
-    put_is = omega (arith, done.put_is, put_after false named room);
-    drop_is = omega (arith, done.drop_is, drop_after false named room);
-    bound = omega (arith, done.bound);
-  }
+  -- the frame came for client c, with that answer
+  pub done_one : (next : PortsState) (answer : Landing) (landed' dropped' : ℕ) → addressed f.items c ≡ true → answer ≡ landing now c n →
+      next ≡ after_landing now c n f → landed' ≡ landed + puts answer → dropped' ≡ dropped + drops answer →
+      Done old next n f (c + 1) landed' dropped'
+  done_one next answer landed' dropped' named is after put drop =
+      let here : answer ≡ landing (landed_for old (below f c) n f) c n = is ∙ ap (λ (s : PortsState). landing s c n) done.ports in
+      record {
+        ports =
+            after ∙ ap (λ (s : PortsState). after_landing s c n f) done.ports
+            ∙ sym (ap (λ (cs : List ℕ). landed_for old cs n f) (below_one f c pos named) ∙ landed_for-append n f old (below f c) (c ∷ []));
+        put_is = omega (
+          arith,
+          put,
+          done.put_is,
+          ap puts here,
+          ap (λ (cs : List ℕ). landed_of old cs n f) (below_one f c pos named),
+          landed_of-append n f old (below f c) (c ∷ []),
+        );
+        drop_is = omega (
+          arith,
+          drop,
+          done.drop_is,
+          ap drops here,
+          ap (λ (cs : List ℕ). dropped_of old cs n f) (below_one f c pos named),
+          dropped_of-append n f old (below f c) (c ∷ []),
+        );
+        bound = omega (arith, done.bound, put, drop, one_most answer);
+      }
 
   -- client c is one of the clients still
   pub client_still : c ≤ length old.boxes → IsClient now c
-  client_still within = (pos, omega (arith, ap (λ (l : List (List (ArrayVec ℕ))). length l) boxes, length-lands old.boxes (below f c)))
+  client_still within = (
+    pos,
+    omega (arith, ap (λ (s : PortsState). length s.boxes) done.ports, boxes_count-for n f old (below f c)),
+  )
 
 -- all clients are below the count and one
-all_below : (count : ℕ) (f : ArrayVec ℕ) → below f (count + 1) ≡ targets_of count (f ∷ [])
-all_below count f = let n : count + 1 - 1 ≡ count = omega arith in ap (λ k. paired_with (clients_from k 1 f.items) f) n
-    ∙ sym (append-nil (paired_with (clients_of count f.items) f))
+module _ (old now : PortsState) (n : ℕ) (f : ArrayVec ℕ) (c landed dropped : ℕ) (end : c ≡ length old.boxes + 1)
+    (done : Done old now n f c landed dropped) where
+  last : below f c ≡ clients_for old f
+  last = let count : c - 1 ≡ length old.boxes = omega arith in ap (λ k. clients_from k 1 f.items) count
 
-module _ (old now : PortsState) (f : ArrayVec ℕ) (c landed dropped : ℕ) (end : c ≡ length old.boxes + 1)
-    (done : Done old now f c landed dropped) where
-  last : below f c ≡ targets_of (length old.boxes) (f ∷ [])
-  last = ap (below f) end ∙ all_below (length old.boxes) f
+  pub done_ports : now ≡ landed_for old (clients_for old f) n f
+  done_ports = done.ports ∙ ap (λ (cs : List ℕ). landed_for old cs n f) last
 
-  pub done_ports : now ≡ ports_after old (f ∷ [])
-  done_ports = done.ports ∙ ap (λ (ps : List (ℕ × ArrayVec ℕ)). let s : PortsState = record old { boxes = lands old.boxes ps } in s) last
+  pub done_landed : landed ≡ landed_of old (clients_for old f) n f
+  done_landed = done.put_is ∙ ap (λ (cs : List ℕ). landed_of old cs n f) last
 
-  pub done_landed : landed ≡ landed_count old (f ∷ [])
-  done_landed = done.put_is ∙ ap (put_count old.boxes) last
-
-  pub done_dropped : dropped ≡ dropped_count old (f ∷ [])
-  done_dropped = done.drop_is ∙ ap (drop_count old.boxes) last
+  pub done_dropped : dropped ≡ dropped_of old (clients_for old f) n f
+  done_dropped = done.drop_is ∙ ap (λ (cs : List ℕ). dropped_of old cs n f) last

@@ -1,7 +1,10 @@
 pub mod internal
 pub use Rattle.frame_ports.specs.Addresses
 pub use Rattle.frame_ports.specs.Lands
+pub use Rattle.frame_ports.specs.Numbers
 pub use Rattle.frame_ports.specs.Ports
 pub mod Epochs
+pub mod Gate
+pub mod Landings
 pub mod Limits
 pub mod Refusals

@@ -9,3 +9,7 @@ max_epochs = 5
 -- the guest's outbox: at most 256 frames, and an epoch's frames are what was in it
 abbrev pub max_frames : ℕ
 max_frames = 256
+
+-- what a gate holds at most: 5 epochs of 256 frames
+abbrev pub max_held : ℕ
+max_held = 1280

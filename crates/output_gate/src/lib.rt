@@ -3,11 +3,15 @@
 //! What the outside world has seen can't be taken back. So a frame that the guest sent is held here, under the
 //! number of the checkpoint that ends its epoch, until the backup could resume from that checkpoint. Only then it
 //! lands in the boxes of its clients.
+//!
+//! The guest's frames are numbered from 1, in the order sent, those that go nowhere too. The held ones have
+//! consecutive numbers, up to the last one given, so the gate keeps only the number of the next.
 #![tactic(auto)]
 
 mod errors;
 mod gate;
 mod landing;
+mod laws;
 mod limits;
 mod marks;
 mod room;
@@ -16,5 +20,6 @@ mod tests;
 
 pub use errors::GateError;
 pub use gate::Gate;
-pub use landing::Landed;
-pub use limits::{Frame, MAX_EPOCHS, MAX_FRAMES, limits_are_the_rules};
+pub use landing::{Landed, land_numbered};
+pub use laws::{landings_go_in_parts, new_frames_land, old_frames_stay};
+pub use limits::{Frame, MAX_EPOCHS, MAX_FRAMES, MAX_HELD, limits_are_the_rules};

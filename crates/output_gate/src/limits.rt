@@ -1,6 +1,6 @@
 //! The limits of the gate.
 ghost use Rattle.std.specs.Prelude.{◌≡◌};
-ghost use Rattle.output_gate.specs.Limits.{max_epochs, max_frames};
+ghost use Rattle.output_gate.specs.Limits.{max_epochs, max_frames, max_held};
 
 use arrayvec::ArrayVec;
 
@@ -14,10 +14,11 @@ pub const MAX_EPOCHS: usize = 5;
 pub const MAX_FRAMES: usize = 256;
 
 /// How many frames a gate holds at most.
-pub(crate) const ALL_FRAMES: usize = MAX_EPOCHS * MAX_FRAMES;
+pub const MAX_HELD: usize = MAX_EPOCHS * MAX_FRAMES;
 
 /// Each constant is the number that the rules name. Definitions and clauses cite those numbers, and never the constants.
 pub fn limits_are_the_rules()
     ensures max_epochs { MAX_EPOCHS ≡ max_epochs }
     ensures max_frames { MAX_FRAMES ≡ max_frames }
+    ensures max_held { MAX_HELD ≡ max_held }
 {}

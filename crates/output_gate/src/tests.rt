@@ -60,7 +60,9 @@ fn frames_land_at_their_acknowledgement(rt: HostRuntime) -> Result<(), Fail> {
     assert_eq!(rt; taken(&mut ports, 1)?, 4);
     assert_eq!(rt; gate.held(9).len(), 0);
     gate.hold(1, &[frame_to(1, 5)]);
+    assert_eq!(rt; gate.next(), 6);
     gate.discard();
+    assert_eq!(rt; gate.next(), 6);
     assert_eq!(rt;
         gate.open_all(&mut ports),
         Landed {
@@ -72,12 +74,61 @@ fn frames_land_at_their_acknowledgement(rt: HostRuntime) -> Result<(), Fail> {
     Ok(())
 }
 
+/// A frame of 14 bytes from the guest to every client.
+fn frame_to_all() -> Frame
+    ensures { IsFrame result }
+{
+    let mut frame = ArrayVec::new();
+    match frame.try_extend_from_slice(&[0xff; 14]) {
+        Ok(()) => frame,
+        Err(_) => unreachable!(),
+    }
+}
+
+#[test]
+fn a_rolled_back_number_is_given_anew(rt: HostRuntime) -> Result<(), Fail> {
+    let mut ports = Ports::new(rt.alloc(), 2)?;
+    let mut gate = Gate::new(rt.alloc())?;
+    // Frames 1 to 4, of which the third goes nowhere. The first two land.
+    gate.hold(1, &[frame_to(1, 1), frame_to(2, 2)]);
+    gate.hold(2, &[frame_to(9, 3), frame_to(1, 4)]);
+    assert_eq!(rt; gate.next(), 5);
+    assert_eq!(rt; gate.ack(1, &mut ports).landed, 2);
+    // Frames 1 to 3 were committed, so that frame 4 is rolled back, and the next one has its number.
+    gate.begin(3);
+    assert_eq!(rt; gate.next(), 4);
+    gate.hold(3, &[frame_to(1, 5)]);
+    assert_eq!(rt; gate.open_all(&mut ports).landed, 1);
+    assert_eq!(rt; taken(&mut ports, 1)?, 1);
+    assert_eq!(rt; taken(&mut ports, 1)?, 5);
+    assert_eq!(rt; taken(&mut ports, 1)?, 0);
+    Ok(())
+}
+
+#[test]
+fn a_frame_lands_only_where_it_has_not_come_before(rt: HostRuntime) -> Result<(), Fail> {
+    let mut ports = Ports::new(rt.alloc(), 2)?;
+    // Frame 7 comes for client 2 alone, then for client 1, frame 6 for neither, and frame 8 for both.
+    for (number, frame, landed) in [
+        (7, frame_to(2, 7), 1),
+        (7, frame_to_all(), 1),
+        (6, frame_to_all(), 0),
+        (8, frame_to_all(), 2),
+        (8, frame_to(1, 8), 0),
+    ] {
+        let frames = [frame];
+        let counts = land_numbered(&mut ports, number, &frames);
+        assert_eq!(rt; counts, Landed { landed, dropped: 0 });
+    }
+    Ok(())
+}
+
 #[test]
 fn a_full_box_drops_and_a_frame_for_no_client_doesnt_count(rt: HostRuntime) -> Result<(), Fail> {
     let mut ports = Ports::new(rt.alloc(), 1)?;
     let mut gate = Gate::new(rt.alloc())?;
-    for _ in 0..64 {
-        gate.discard();
+    for sent in 0..64 {
+        gate.begin(2 * sent);
         gate.hold(1, &[frame_to(1, 1), frame_to(9, 1)]);
         assert_eq!(rt;
             gate.ack(1, &mut ports),
@@ -87,7 +138,7 @@ fn a_full_box_drops_and_a_frame_for_no_client_doesnt_count(rt: HostRuntime) -> R
             }
         );
     }
-    gate.discard();
+    gate.begin(128);
     gate.hold(1, &[frame_to(1, 1), frame_to(1, 2)]);
     assert_eq!(rt;
         gate.ack(1, &mut ports),

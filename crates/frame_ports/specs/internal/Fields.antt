@@ -10,7 +10,12 @@ abbrev pub rings_items : {X : Type 0} → List (Buffer X) → List (List X)
 rings_items rings = map (λ r. r.items) rings
 
 abbrev pub ports_state : Inside → PortsState
-ports_state p = record { next = p.next; inboxes = rings_items p.inboxes.items; boxes = rings_items p.boxes.items }
+ports_state p = record {
+  next = p.next;
+  inboxes = rings_items p.inboxes.items;
+  boxes = rings_items p.boxes.items;
+  numbers = p.numbers.items;
+}
 
 -- the rings have their size, so that no call but the first takes memory
 pub record AreFields (p : Inside) : Type 0 where

@@ -1,7 +1,8 @@
--- How the fields of a gate stand for the epochs that it holds.
+-- How the fields of a gate stand for the epochs that it holds and for the next number.
 use Rattle.std.specs.Prelude.{◌≡◌, ℕ, ◌*◌, ◌≤◌, List, [], ◌∷◌, length, take, drop, sum_by, vec_capacity}
 use Rattle.arrayvec.specs.ArrayVec.{ArrayVec}
-use Rattle.output_gate.specs.Epochs.{Epoch, epoch, IsGate}
+use Rattle.output_gate.specs.Epochs.{Epoch, epoch}
+use Rattle.output_gate.specs.Gate.{GateState, IsGate}
 use Rattle.output_gate.specs.declared.gate.Gate.TheInside.{Inside}
 use Rattle.output_gate.specs.declared.marks.Mark.{Mark}
 use Rattle.output_gate.specs.Limits.{max_epochs, max_frames}
@@ -18,9 +19,12 @@ epochs_of (m ∷ ms) frames = epoch m.number (take m.count frames) ∷ epochs_of
 abbrev pub epochs_held : Inside → List Epoch
 epochs_held g = epochs_of g.marks.items g.frames.items
 
+abbrev pub gate_state : Inside → GateState
+gate_state g = record { next = g.next; epochs = epochs_held g }
+
 -- no frame beside the epochs, and the room that was reserved
 pub record AreFields (g : Inside) : Type 0 where
-  pub gate : IsGate (epochs_held g)
+  pub gate : IsGate (gate_state g)
   pub whole : total g.marks.items ≡ length g.frames.items
   pub marks : max_epochs ≤ vec_capacity g.marks
   pub frames : max_epochs * max_frames ≤ vec_capacity g.frames

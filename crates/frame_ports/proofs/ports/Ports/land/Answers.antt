@@ -1,43 +1,44 @@
--- The frame goes last in the box where it has room, and the other lists stay.
-use Rattle.std.proofs.Common.{◌≡◌, ◌<◌, ℕ, sym, ◌∙◌, ap, length, List, arith, ◌++◌, ◌∷◌, [], true}
-use Rattle.std.proofs.lemmas.Bool.{lt-ltb}
+-- The client's number becomes that of the frame. The frame goes last in the box where it has room, and the other lists stay.
+use Rattle.std.proofs.Common.{◌≡◌, ◌<◌, ◌-◌, ℕ, sym, ◌∙◌, ap, length, List, arith, ◌++◌, ◌∷◌, [], true, if◌then◌else◌, slice_set}
 use Rattle.arrayvec.specs.ArrayVec.{ArrayVec}
-use Rattle.frame_ports.specs.Addresses.{IsFrame}
-use Rattle.frame_ports.specs.Lands.{has_room}
-use Rattle.frame_ports.specs.Ports.{PortsState, with_box, box_of}
+use Rattle.circular_buffer.specs.Buffer.{Buffer, buffer}
 use Rattle.frame_ports.specs.Limits.{box_frames}
-use Rattle.frame_ports.proofs.LandLaws.{landed_at-room}
-use Rattle.frame_ports.proofs.PortsLemmas.{box_changed, box_seen, box-push}
+use Rattle.frame_ports.specs.Numbers.{is_new}
+use Rattle.frame_ports.specs.Ports.{PortsState}
+use Rattle.frame_ports.proofs.PortsLemmas.{box_seen}
+use Rattle.frame_ports.proofs.RaisedLemmas.{landed_fields, landed_state}
 use Rattle.frame_ports.proofs.ports.Ports.land.Goals as goal
+use Rattle.frame_ports.proofs.ports.Ports.land.Goals.{After-put_last}
+
+-- the frame is new
+new : (c : After-put_last) → is_new c.args.self.now c.args.client c.args.number ≡ true
+new c = ap (λ (s : PortsState). is_new s c.args.client c.args.number) (sym c.self.view_is) ∙ sym c.raise.ensures.answer
+    ∙ c.if-not-raise.false
+
+raised : (c : After-put_last) → c.raise.new.numbers.items ≡ slice_set c.self.inside.numbers.items (c.args.client - 1) c.args.number
+raised c = c.raise.ensures.raised ∙ ap (λ b. if b then slice_set c.self.inside.numbers.items (c.args.client - 1) c.args.number
+    else c.self.inside.numbers.items) c.if-not-raise.false
+
+-- the box had room, and the frame is last in it
+room : (c : After-put_last) → length c.index_mut-landed.result.now.items < box_frames
+room c = omega (arith, c.len.ensures.len, c.if-len-ge-BOX_FRAMES.false)
+
+put : (c : After-put_last) →
+    c.put_last.new.ring ≡ buffer (c.index_mut-landed.result.now.items ++ c.args.frame.now ∷ []) c.index_mut-landed.result.now.capacity
+put c = c.put_last.ensures ∙ ap (λ (l : List ℕ). let f : ArrayVec ℕ = record { items = l } in
+    buffer (c.index_mut-landed.result.now.items ++ f ∷ []) c.index_mut-landed.result.now.capacity)
+    (c.frame_of.ensures ∙ c.as_slice.ensures.value)
 
 pub invariant_of-self-2 : goal.invariant_of-self-2
 invariant_of-self-2 c =
-    let s = c.args.self.now in
-    let xs = c.index_mut-landed.result.now.items in
-    let at = box_seen c.self.inside c.args.client s c.self.view_is c.self.invariant c.requires.client c.index_mut-landed.result.now
-    c.index_mut-landed.ensures.value in
-    let room : length xs < box_frames = omega (arith, c.len.ensures.len, c.if-len-ge-BOX_FRAMES.false) in
-    let bytes = ap (λ (l : List ℕ). length l) (c.frame_of.ensures ∙ c.as_slice.ensures.value) in
-    let frame : IsFrame c.frame_of.result = (omega (arith, bytes, c.requires.frame.0), omega (arith, bytes, c.requires.frame.1)) in
-    (box_changed c.self.inside c.args.client s c.self.view_is c.self.invariant c.requires.client (λ l. l ++ c.frame_of.result ∷ [])
-    c.index_mut-landed.result.now c.put_last.new.ring c.index_mut-landed.ensures.value c.put_last.ensures
-    (box-push xs c.frame_of.result room frame)).0
+    let w = (goal.at.invariant_of-self-2 c).After-put_last in
+    landed_fields c.self.inside c.args.client c.args.number c.args.self.now c.self.view_is c.self.invariant c.requires.client (new w)
+    c.raise.new.numbers (raised w) c.args.frame.now c.requires.frame c.index_mut-landed.result.now c.put_last.new.ring
+    c.index_mut-landed.ensures.value (room w) (put w)
 
-pub returns-clause-boxes : goal.returns-clause-boxes
-returns-clause-boxes c =
-    let s = c.args.self.now in
-    let xs = c.index_mut-landed.result.now.items in
-    let at = box_seen c.self.inside c.args.client s c.self.view_is c.self.invariant c.requires.client c.index_mut-landed.result.now
-    c.index_mut-landed.ensures.value in
-    let room : length xs < box_frames = omega (arith, c.len.ensures.len, c.if-len-ge-BOX_FRAMES.false) in
-    let bytes = ap (λ (l : List ℕ). length l) (c.frame_of.ensures ∙ c.as_slice.ensures.value) in
-    let frame : IsFrame c.frame_of.result = (omega (arith, bytes, c.requires.frame.0), omega (arith, bytes, c.requires.frame.1)) in
-    let has : has_room s.boxes c.args.client ≡ true = lt-ltb (length (box_of s c.args.client)) box_frames
-    (omega (arith, ap (λ (l : List (ArrayVec ℕ)). length l) at.0)) in
-    (box_changed c.self.inside c.args.client s c.self.view_is c.self.invariant c.requires.client (λ l. l ++ c.frame_of.result ∷ [])
-    c.index_mut-landed.result.now c.put_last.new.ring c.index_mut-landed.ensures.value c.put_last.ensures
-    (box-push xs c.frame_of.result room frame)).1
-    ∙ ap (λ (bytes : List ℕ). let f : ArrayVec ℕ = record { items = bytes } in with_box s c.args.client (box_of s c.args.client ++ f ∷ []))
-    (c.frame_of.ensures ∙ c.as_slice.ensures.value)
-    ∙ ap (λ (boxes : List (List (ArrayVec ℕ))). let t : PortsState = record s { boxes = boxes } in t)
-    (sym (landed_at-room s.boxes c.args.client c.args.frame.now has))
+pub returns-clause-ports : goal.returns-clause-ports
+returns-clause-ports c =
+    let w = (goal.at.returns-clause-ports c).After-put_last in
+    landed_state c.self.inside c.args.client c.args.number c.args.self.now c.self.view_is c.self.invariant c.requires.client (new w)
+    c.raise.new.numbers (raised w) c.args.frame.now c.requires.frame c.index_mut-landed.result.now c.put_last.new.ring
+    c.index_mut-landed.ensures.value (room w) (put w)

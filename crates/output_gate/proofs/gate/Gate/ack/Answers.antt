@@ -1,33 +1,47 @@
--- The first part of the row lands, and the rest stays under its numbers.
-use Rattle.std.proofs.Common.{rules, ◌≡◌, All, length, take, sym, ap, subst, arith}
+-- The first part of the row lands under its numbers, and the rest stays under its own.
+use Rattle.std.proofs.Common.{rules, ◌≡◌, All, length, take, refl, sym, ap, subst, arith}
 use Rattle.std.proofs.Math.ListN.{length-take}
 use Rattle.std.proofs.lemmas.List.Elements.{All-take}
 use Rattle.frame_ports.specs.Addresses.{IsFrame}
-use Rattle.output_gate.specs.Epochs.{IsGate, frames_to}
-use Rattle.output_gate.proofs.GateLemmas.{row_frames, row_few, part_is, rest_is, rest_fields}
+use Rattle.output_gate.specs.Epochs.{frames_of, frames_to}
+use Rattle.output_gate.specs.Gate.{IsGate}
+use Rattle.output_gate.proofs.GateLemmas.{row_is, row_frames, row_few, part_is, rest_state, rest_fields}
 use Rattle.output_gate.proofs.gate.Gate.ack.Goals as goal
 use Rattle.output_gate.proofs.gate.Gate.ack.Goals.{After-frames_in-count}
 
 -- what landed
-part : (c : After-frames_in-count) → take c.frames_in-count.result c.as_slice-frames.result.now ≡ frames_to c.args.number c.args.self.now
+part : (c : After-frames_in-count) → take c.frames_in-count.result c.as_slice-frames.result.now ≡ frames_to c.args.number c.args.self.now.epochs
 part c =
     part_is c.self.inside c.args.self.now c.self.view_is c.self.invariant c.args.number c.epochs_to-epochs.result c.frames_in-count.result
     c.as_slice-marks.result.now c.as_slice-marks.result.now c.as_slice-marks.ensures.value c.as_slice-marks.ensures.value
     c.epochs_to-epochs.ensures c.frames_in-count.ensures c.as_slice-frames.result.now c.as_slice-frames.ensures.value
 
-pub land_all-landed-requires-clause-frames : goal.land_all-landed-requires-clause-frames
-land_all-landed-requires-clause-frames c =
+pub land_numbered-landed-requires-clause-frames : goal.land_numbered-landed-requires-clause-frames
+land_numbered-landed-requires-clause-frames c =
     All-take IsFrame c.frames_in-count.result c.as_slice-frames.result.now
     (subst (λ l. All IsFrame l) (sym c.as_slice-frames.ensures.value)
     (row_frames c.self.inside c.args.self.now c.self.view_is c.self.invariant))
 
-pub land_all-landed-requires-clause-few : goal.land_all-landed-requires-clause-few
-land_all-landed-requires-clause-few c =
+pub land_numbered-landed-requires-clause-few : goal.land_numbered-landed-requires-clause-few
+land_numbered-landed-requires-clause-few c =
     let gate : IsGate c.args.self.now = subst IsGate c.self.view_is c.self.invariant.gate in
     omega (
       arith,
       gate.few,
       row_few c.self.inside c.args.self.now c.self.view_is c.self.invariant,
+      ap (λ l. length l) c.as_slice-frames.ensures.value,
+      length-take c.frames_in-count.result c.as_slice-frames.result.now,
+    )
+
+pub land_numbered-landed-requires-clause-numbers : goal.land_numbered-landed-requires-clause-numbers
+land_numbered-landed-requires-clause-numbers c =
+    let gate : IsGate c.args.self.now = subst IsGate c.self.view_is c.self.invariant.gate in
+    omega (
+      arith,
+      gate.few,
+      row_few c.self.inside c.args.self.now c.self.view_is c.self.invariant,
+      c.first-first.ensures.bound,
+      ap (λ l. length l) (row_is c.self.inside c.args.self.now c.self.view_is c.self.invariant),
       ap (λ l. length l) c.as_slice-frames.ensures.value,
       length-take c.frames_in-count.result c.as_slice-frames.result.now,
     )
@@ -38,11 +52,11 @@ invariant_of-self c =
     c.epochs_to-epochs.result c.frames_in-count.result
     c.as_slice-marks.result.now c.as_slice-marks.result.now c.as_slice-marks.ensures.value c.as_slice-marks.ensures.value
     c.epochs_to-epochs.ensures c.frames_in-count.ensures _
-    (search (arith, rules)) (search (arith, rules)) (search (arith, rules)) (search (arith, rules))
+    (search (arith, rules)) (search (arith, rules)) refl (search (arith, rules)) (search (arith, rules))
 
 pub returns-clause-gate : goal.returns-clause-gate
 returns-clause-gate c =
-    rest_is c.self.inside c.args.self.now c.self.view_is c.self.invariant c.args.number c.epochs_to-epochs.result c.frames_in-count.result
+    rest_state c.self.inside c.args.self.now c.self.view_is c.self.invariant c.args.number c.epochs_to-epochs.result c.frames_in-count.result
     c.as_slice-marks.result.now c.as_slice-marks.result.now c.as_slice-marks.ensures.value c.as_slice-marks.ensures.value
     c.epochs_to-epochs.ensures c.frames_in-count.ensures _ _ (search (arith, rules)) (search (arith, rules))
 
