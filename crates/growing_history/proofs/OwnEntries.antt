@@ -1,19 +1,18 @@
 -- A client's entries in the history are those that its own steps announced.
-use Rattle.std.proofs.Common.{◌≡◌, ℕ, zero, suc, ◌+◌, ◌≤◌, List, [], ◌∷◌, ◌++◌, length, map, take, drop, replicate, refl, sym, ap, ◌∙◌}
+use Rattle.std.proofs.Common.{◌≡◌, ℕ, zero, suc, ◌+◌, ◌≤◌, List, [], ◌∷◌, ◌++◌, map, take, drop, refl, sym, ap, ◌∙◌}
 use Rattle.std.proofs.Common.{subst, cond, arith}
 use Rattle.std.proofs.Common.{Bool, true, false, eq-eqb, ne_eqb, append_assoc}
 use Rattle.std.specs.Prelude.{◌==◌, nat_lt}
 use Rattle.std.proofs.lemmas.List.{append-nil}
 use mathlib.Core.Logic.{dite}
 use native.Mathlib.Decide.{ℕ_discrete}
-use Rattle.frame_ports.specs.Lands.{list_of, has_room, landed_at}
+use Rattle.frame_ports.specs.Lands.{has_room, landed_at}
 use Rattle.frame_ports.specs.Limits.{box_frames}
 use Rattle.pair_history.specs.Entries.{Frame, Entry, Ran, Arrive, Delivered, Refused, DropIn, Land, DropOut, Took}
-use Rattle.pair_history.specs.HistoryState.{HistoryState, at, out_of}
+use Rattle.pair_history.specs.HistoryState.{HistoryState, at}
 use Rattle.pair_history.specs.Order.{AreGuests}
 use Rattle.pair_history.specs.Landings.{landings}
-use Rattle.pair_history.specs.Failures.{all_land, drops_of_owed_to, drops_of_owed_from, drops_of_owed, drops_of_taken_in, rising}
-use Rattle.pair_history.specs.Failures.{arrived_numbers}
+use Rattle.pair_history.specs.Failures.{all_land, drops_of_taken_in, rising, arrived_numbers}
 use Rattle.growing_history.specs.Steps.{What, Added, Sealed, RanAlone, Committed, PrimaryFailed, BackupFailed, WentLive, Protected, Step}
 use Rattle.growing_history.specs.Steps.{steps_by}
 use Rattle.growing_history.specs.LogState.{LogState, Epoch, start_of, entries_of, under_way, added, after, IsOwn, AreOwn, MayStep}
@@ -61,16 +60,6 @@ all_land-none c h = landings-none c h.boxes h.out
 drops-none : (c : ℕ) (ns : List ℕ) → own_entries c (map DropIn ns) ≡ []
 drops-none c [] = refl
 drops-none c (n ∷ ns) = drops-none c ns
-
-repeated-none : (c d place k : ℕ) → own_entries c (replicate k (DropOut d place)) ≡ []
-repeated-none c d place zero = refl
-repeated-none c d place (suc k) = repeated-none c d place k
-
-owed-none : (c n first : ℕ) (boxes : List (List Frame)) (out : List (ℕ × Frame)) → own_entries c (drops_of_owed_from n first boxes out) ≡ []
-owed-none c zero first boxes out = refl
-owed-none c (suc n) first boxes out =
-    none-joined c (drops_of_owed_to first boxes out) (drops_of_owed_from n (first + 1) boxes out)
-    (repeated-none c first (length (list_of boxes first)) (length (out_of first out))) (owed-none c n (first + 1) boxes out)
 
 -- a client's own entry is one of its seat's, and no other is
 own-is : (c by : ℕ) (e : Entry) → 1 ≤ c → IsOwn by e → is_of c e ≡ (by == client_seat c)
@@ -166,8 +155,8 @@ added-own c s by BackupFailed p m g =
     none-joined c (entries_of s.sealed) (all_land (at s.history (entries_of s.sealed))) (guests-none c (entries_of s.sealed) g)
     (all_land-none c (at s.history (entries_of s.sealed))) ∙ off_if (by == client_seat c)
 added-own c s by (WentLive r) p m g =
-    none-joined c (drops_of_taken_in (under_way s)) (drops_of_owed s.history) (drops-none c (rising (arrived_numbers (under_way s))))
-    (owed-none c (length s.history.boxes) 1 s.history.boxes s.history.out) ∙ off_if (by == client_seat c)
+    none-joined c (drops_of_taken_in (under_way s)) (all_land s.history) (drops-none c (rising (arrived_numbers (under_way s))))
+    (all_land-none c s.history) ∙ off_if (by == client_seat c)
 added-own c s by (Protected b) p m g = off_if (by == client_seat c)
 
 -- all steps

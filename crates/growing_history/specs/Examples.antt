@@ -1,7 +1,7 @@
 -- A pair of two clients, worked through by computing.
-use Rattle.std.specs.Prelude.{◌≡◌, ℕ, List, [], ◌∷◌, None, refl}
+use Rattle.std.specs.Prelude.{◌≡◌, ℕ, List, [], ◌∷◌, replicate, None, refl}
 use Rattle.failover.specs.declared.mode.Mode.TheVariants.{Paired, Filling, Stopped}
-use Rattle.pair_history.specs.Entries.{Frame, Delivered, DropIn, Took}
+use Rattle.pair_history.specs.Entries.{Frame, Delivered, DropIn, Land, DropOut, Took}
 use Rattle.pair_history.specs.HistoryState.{HistoryState, start_state}
 use Rattle.growing_history.specs.Steps.{What, Added, Sealed, Committed, PrimaryFailed, BackupFailed, WentLive, Protected, Step, step}
 use Rattle.growing_history.specs.Steps.{steps_by}
@@ -56,3 +56,14 @@ a_waiting_frame_is_handed_out f = refl
 pub going_live_drops_it : (f : Frame)
     → added (run (Added (Delivered 2 f 1 ∷ []) ∷ Sealed 1 1 [] [] ∷ PrimaryFailed ∷ [])) (WentLive 6) ≡ DropIn 1 ∷ []
 going_live_drops_it f = refl
+
+-- what was on its way to a client lands
+pub going_live_lands_it : (f : Frame)
+    → added (run_from (start_of (record two_clients { out = (2, f) ∷ [] })) (PrimaryFailed ∷ [])) (WentLive 6) ≡ Land 2 ∷ []
+going_live_lands_it f = refl
+
+-- and a full box drops it
+pub a_full_box_drops_it : (f : Frame)
+    → added (run_from (start_of (record two_clients { out = (2, f) ∷ []; boxes = [] ∷ replicate 64 f ∷ [] })) (PrimaryFailed ∷ []))
+    (WentLive 6) ≡ DropOut 2 64 ∷ []
+a_full_box_drops_it f = refl

@@ -1,14 +1,15 @@
 -- Frames leave in the order in which they were sent.
-use Rattle.std.proofs.Common.{arith, rules, ◌≡◌, ℕ, zero, suc, ◌-◌, ◌<◌, ◌≤◌, List, [], ◌∷◌, ◌++◌, length, take, drop, refl, sym, ap, ◌∙◌}
+use Rattle.std.proofs.Common.{arith, ◌≡◌, ℕ, ◌-◌, ◌≤◌, List, [], ◌∷◌, ◌++◌, length, take, refl, sym, ap, ◌∙◌}
 use Rattle.std.proofs.Common.{append_assoc, Bool, true, false}
 use Rattle.std.proofs.{Common.{cond, subst}, lemmas.Bool.Decides.nat_tests, lemmas.List.{append-nil, map-append}}
 use Rattle.std.proofs.lemmas.List.Elements.{All-nil, All-cons, All-head, All-tail, All-append}
-use Rattle.std.specs.Prelude.{map, nat_lt, ◌==◌, All, remove}
+use Rattle.std.specs.Prelude.{◌==◌, All, remove}
 use Rattle.guest_machine.specs.Step.{sent}
 use Rattle.frame_ports.specs.{Addresses.targets_of, Lands.{list_of, has_room, landed_at}, Limits.box_frames}
-use Rattle.pair_history.specs.Entries.{Frame, Entry, Ran, Arrive, Delivered, Refused, DropIn, Land, DropOut, Took}
-use Rattle.pair_history.specs.{HistoryState.{HistoryState, after, at, Legal, out_of, out_without, along}, Landings.{DropsAreKnown, landings, BoxesFit}}
-use Rattle.pair_history.specs.{Leaving.{Way, in_way, leaves_by, leaving, frames_left, LeaveInOrder, NotGivenUp}, Released.{frames_for, sent_for, sent_to, IsFresh}}
+use Rattle.pair_history.specs.Entries.{Frame, Entry, Ran, Land, DropOut}
+use Rattle.pair_history.specs.{HistoryState.{HistoryState, after, at, out_of}, Landings.{DropsAreKnown, landings, BoxesFit}}
+use Rattle.pair_history.specs.Leaving.{Way, in_way, leaves_by, leaving, frames_left, LeaveInOrder, NotGivenUp}
+use Rattle.pair_history.specs.Released.{sent_for, sent_to, IsFresh}
 use Rattle.pair_history.specs.{Leaving.{Landed, AtFull}, Reached.AllClients}
 use Rattle.pair_history.proofs.ClientLists.{out_of-append, out_of-without}
 use Rattle.pair_history.proofs.LandingLaws.{one_lands, BoxesFit-at, BoxesFit-landed_at, length-landed_at}

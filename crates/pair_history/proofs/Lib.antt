@@ -4,7 +4,6 @@ pub mod Losses
 pub mod Moves
 pub mod LandingLaws
 pub mod ReachedLaws
-pub mod OwedLaws
 pub mod SortedLaws
 pub mod TakenInLaws
 pub mod FateLaws
@@ -16,3 +15,4 @@ pub mod AccountLaws
 pub mod OrderLaws
 pub mod LogLaws
 pub mod LeavingLaws
+pub mod DropLaws

@@ -1,9 +1,9 @@
--- What a failure adds to the history. Where the primary fails, the backup goes live from the history's state, and what was kept is
--- discarded; where the backup fails, all that was kept stays, and nothing is held any more; a node that is alone holds nothing.
-use Rattle.std.specs.Prelude.{ℕ, zero, suc, ◌+◌, if◌then◌else◌, nat_le, List, [], ◌∷◌, ◌++◌, length, map, replicate}
-use Rattle.frame_ports.specs.Lands.{list_of}
-use Rattle.pair_history.specs.Entries.{Frame, Entry, Ran, Arrive, DropIn, DropOut}
-use Rattle.pair_history.specs.HistoryState.{HistoryState, after, at, out_of}
+-- What a failure adds to the history. Where the primary fails, the backup goes live from the history's state: what uncommitted epochs
+-- took in is dropped, by rising number, and then what is owed to clients lands, in the order sent, each client rising; a full box drops
+-- it. Where the backup fails, all that was kept stays, and nothing is held any more; a node that is alone holds nothing.
+use Rattle.std.specs.Prelude.{ℕ, if◌then◌else◌, nat_le, List, [], ◌∷◌, ◌++◌, map}
+use Rattle.pair_history.specs.Entries.{Entry, Ran, Arrive, DropIn}
+use Rattle.pair_history.specs.HistoryState.{HistoryState, after, at}
 use Rattle.pair_history.specs.Landings.{landings}
 
 -- the numbers of the frames that arrived, in the order in which they did
@@ -25,26 +25,13 @@ rising (n ∷ ns) = put_rising n (rising ns)
 abbrev pub drops_of_taken_in : List Entry → List Entry
 drops_of_taken_in kept = map DropIn (rising (arrived_numbers kept))
 
--- each frame on its way to client c is dropped, from the front: the one at the place after the client's box
-abbrev pub drops_of_owed_to : ℕ → List (List Frame) → List (ℕ × Frame) → List Entry
-drops_of_owed_to c boxes out = replicate (length (out_of c out)) (DropOut c (length (list_of boxes c)))
-
--- the same for that many clients, rising from the first one on
-abbrev pub drops_of_owed_from : ℕ → ℕ → List (List Frame) → List (ℕ × Frame) → List Entry
-drops_of_owed_from zero first boxes out = []
-drops_of_owed_from (suc n) first boxes out = drops_of_owed_to first boxes out ++ drops_of_owed_from n (first + 1) boxes out
-
--- what is still owed to clients is dropped
-abbrev pub drops_of_owed : HistoryState → List Entry
-drops_of_owed s = drops_of_owed_from (length s.boxes) 1 s.boxes s.out
-
--- What is added where the backup goes live at the history's state s, and the kept entries are discarded.
-abbrev pub go_live_entries : HistoryState → List Entry → List Entry
-go_live_entries s kept = drops_of_taken_in kept ++ drops_of_owed s
-
 -- all that is on its way lands, in the order sent
 abbrev pub all_land : HistoryState → List Entry
 all_land s = landings s.boxes s.out
+
+-- What is added where the backup goes live at the history's state s, and the kept entries are discarded.
+abbrev pub go_live_entries : HistoryState → List Entry → List Entry
+go_live_entries s kept = drops_of_taken_in kept ++ all_land s
 
 -- What is added where the backup fails: all that was kept, and then what is on its way after it lands.
 abbrev pub fail_backup_entries : HistoryState → List Entry → List Entry

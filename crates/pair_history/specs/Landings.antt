@@ -1,5 +1,5 @@
 -- What becomes of frames that are let go: each lands in its client's box, or is dropped at a full one.
-use Rattle.std.specs.Prelude.{◌≡◌, ℕ, ◌<◌, ◌≤◌, if◌then◌else◌, List, [], ◌∷◌, length}
+use Rattle.std.specs.Prelude.{◌≡◌, ℕ, ◌<◌, ◌≤◌, ◌⊎◌, if◌then◌else◌, List, [], ◌∷◌, length}
 use Rattle.frame_ports.specs.Lands.{list_of, has_room, landed_at}
 use Rattle.frame_ports.specs.Limits.{box_frames}
 use Rattle.pair_history.specs.Entries.{Frame, Entry, DropIn, Land, DropOut}
@@ -24,6 +24,13 @@ abbrev pub DropsAreKnown : HistoryState → List Entry → Type 0
 DropsAreKnown s [] = Unit {0}
 DropsAreKnown s (DropOut c place ∷ es) = (place ≤ length (list_of s.boxes c)) × DropsAreKnown (after s (DropOut c place)) es
 DropsAreKnown s (other ∷ es) = DropsAreKnown (after s other) es
+
+-- each frame for a client was dropped by a loss that was asked for, which takes it out of its box, or at a full box
+abbrev pub DropsAreAskedOrFull : HistoryState → List Entry → Type 0
+DropsAreAskedOrFull s [] = Unit {0}
+DropsAreAskedOrFull s (DropOut c place ∷ es) =
+    (IsInBox s c place ⊎ IsAtFull s c place) × DropsAreAskedOrFull (after s (DropOut c place)) es
+DropsAreAskedOrFull s (other ∷ es) = DropsAreAskedOrFull (after s other) es
 
 -- these entries drop no frame but at full boxes
 abbrev pub DropsAtFull : HistoryState → List Entry → Type 0

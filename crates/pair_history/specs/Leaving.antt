@@ -1,5 +1,5 @@
 -- What has left for a client: each frame that was taken off those on their way to it, in that order, and how.
-use Rattle.std.specs.Prelude.{◌≡◌, ℕ, ◌-◌, ◌==◌, nat_lt, Bool, true, false, if◌then◌else◌, List, [], All, length, map, take, drop}
+use Rattle.std.specs.Prelude.{◌≡◌, ℕ, ◌-◌, ◌==◌, nat_lt, Bool, true, false, if◌then◌else◌, List, [], All, filter, length, map, take, drop}
 use Rattle.frame_ports.specs.Lands.{list_of}
 use Rattle.frame_ports.specs.Limits.{box_frames}
 use Rattle.pair_history.specs.Entries.{Frame, Entry, Land, DropOut}
@@ -34,6 +34,15 @@ leaving s es c = along (leaves_by c) s es
 
 abbrev pub frames_left : List (Way × Frame) → List Frame
 frames_left xs = map (λ (x : Way × Frame). x.1) xs
+
+-- those that went into the client's box, in order
+abbrev pub has_landed : Way → Bool
+has_landed Landed = true
+has_landed AtFull = false
+has_landed GivenUp = false
+
+abbrev pub frames_landed : List (Way × Frame) → List Frame
+frames_landed xs = frames_left (filter (λ (x : Way × Frame). has_landed x.0) xs)
 
 -- none was dropped while its client's box had room
 abbrev pub is_given_up : Way → Bool

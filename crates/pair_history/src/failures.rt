@@ -4,13 +4,14 @@ ghost use Rattle.std.specs.List.Sorted.{IsNonDecreasing, IsPermutation, IsStrict
 ghost use Rattle.guest_machine.specs.Step.{next, sent};
 ghost use Rattle.frame_ports.specs.Addresses.{targets_of};
 ghost use Rattle.frame_ports.specs.Lands.{lands};
-ghost use Rattle.pair_history.specs.Entries.{Frame, Entry, Ran, Arrive, DropIn, DropOut};
-ghost use Rattle.pair_history.specs.HistoryState.{HistoryState, IsClient, at, Legal, start_state};
+ghost use Rattle.pair_history.specs.Entries.{Frame, Entry, Ran, Arrive, DropIn, Land, DropOut};
+ghost use Rattle.pair_history.specs.HistoryState.{HistoryState, at, Legal, start_state};
 ghost use Rattle.pair_history.specs.Landings.{landings};
+ghost use Rattle.pair_history.specs.Leaving.{LeaveInOrder};
 ghost use Rattle.pair_history.specs.Order.{AreGuests};
-ghost use Rattle.pair_history.specs.Released.{account, IsFresh};
+ghost use Rattle.pair_history.specs.Released.{account};
 ghost use Rattle.pair_history.specs.Reached.{IsReached};
-ghost use Rattle.pair_history.specs.Failures.{arrived_numbers, dropped_numbers, drops_of_owed};
+ghost use Rattle.pair_history.specs.Failures.{arrived_numbers, dropped_numbers, all_land};
 ghost use Rattle.pair_history.specs.Failures.{go_live_entries, fail_backup_entries, alone_step_entries};
 
 use guest_machine::sent_frames;
@@ -23,35 +24,37 @@ pub fn reached_states()
     ensures goes_on { (s : HistoryState) (es : List Entry) → IsReached s → Legal s es → IsReached (at s es) }
 {}
 
-/// Where the primary fails and the backup goes live, the entries that were kept are discarded, and what is added to the history in
-/// their place drops frames and does nothing else.
+/// Where the primary fails and the backup goes live, the entries that were kept are discarded. What is added to the history in their
+/// place drops what they had taken in, and then lets all land that is owed to clients.
 ///
 /// The guest is that of the history, as if nothing had been kept. What waits for it is what waited after the kept entries, so that
 /// no inbox changes: the frames that they had taken in are dropped, each once, by rising number, and no others. Nothing is on its way
-/// to a client any more: of each client's account, all that was on its way is dropped, from the front, and what was released to it, what
-/// lies in its box and what it took stay. There are as many entries as frames that were taken in, or on their way.
+/// to a client any more: what was on its way leaves in the order in which the guest sent it, each frame into its client's box, or
+/// dropped where that is full; none is given up. What was sent to a client and what it took stay. There are as many entries as
+/// frames that were taken in, or on their way.
 #[tactic(auto, using(crate::proofs::FailureLaws::go_live_laws))]
-pub fn going_live_drops_frames()
+pub fn going_live_lands_what_is_owed()
     ensures legal { (s : HistoryState) (kept : List Entry) → IsReached s → AreGuests kept → Legal s kept
         → Legal s (go_live_entries s kept) }
     ensures state { (s : HistoryState) (kept : List Entry) → IsReached s → AreGuests kept → Legal s kept
-        → at s (go_live_entries s kept) ≡ record s { waiting = (at s kept).waiting; out = [] } }
+        → at s (go_live_entries s kept) ≡ record s { waiting = (at s kept).waiting; out = []; boxes = lands s.boxes s.out } }
     ensures taken_in { (s : HistoryState) (kept : List Entry)
         → IsPermutation (arrived_numbers kept) (dropped_numbers (go_live_entries s kept)) }
     ensures rising { (s : HistoryState) (kept : List Entry) → IsReached s → AreGuests kept → Legal s kept
         → IsStrictlyIncreasing (dropped_numbers (go_live_entries s kept)) }
-    ensures owed { (s : HistoryState) (es kept : List Entry) (c : ℕ) → IsFresh s → IsClient (at s es) c
-        → account s (es ++ go_live_entries (at s es) kept) c
-        ≡ record (account s es c) { on_way = []; dropped = (account s es c).dropped ++ (account s es c).on_way } }
-    ensures count { (s : HistoryState) (kept : List Entry) → IsReached s
+    ensures owed { (s : HistoryState) (kept : List Entry) → IsReached s → LeaveInOrder s (go_live_entries s kept) s.out }
+    ensures account { (s : HistoryState) (es kept : List Entry) (c : ℕ)
+        → ((account s (es ++ go_live_entries (at s es) kept) c).sent ≡ (account s es c).sent)
+        × ((account s (es ++ go_live_entries (at s es) kept) c).taken ≡ (account s es c).taken) }
+    ensures count { (s : HistoryState) (kept : List Entry)
         → length (go_live_entries s kept) ≡ length (arrived_numbers kept) + length s.out }
     // However the numbers are sorted, these are the entries.
     ensures any_sort { (s : HistoryState) (kept : List Entry) (ns : List ℕ) → IsPermutation (arrived_numbers kept) ns → IsNonDecreasing ns
-        → go_live_entries s kept ≡ map DropIn ns ++ drops_of_owed s }
-    // Two clients, of whom the first has a frame in its box, and a frame on its way to the first between two to the second.
-    ensures example { (s : HistoryState) (b f g h : Frame) → s.boxes ≡ (b ∷ []) ∷ [] ∷ [] → s.out ≡ (2, f) ∷ (1, g) ∷ (2, h) ∷ []
-        → go_live_entries s (Ran ∷ Arrive 5 ∷ Ran ∷ Arrive 3 ∷ [])
-        ≡ DropIn 3 ∷ DropIn 5 ∷ DropOut 1 1 ∷ DropOut 2 0 ∷ DropOut 2 0 ∷ [] }
+        → go_live_entries s kept ≡ map DropIn ns ++ all_land s }
+    // Two clients, the first of whom has a full box, and a frame on its way to the first between two to the second.
+    ensures example { (s : HistoryState) (b : List Frame) (f g h : Frame) → length b ≡ 64 → s.boxes ≡ b ∷ [] ∷ []
+        → s.out ≡ (2, f) ∷ (1, g) ∷ (2, h) ∷ []
+        → go_live_entries s (Ran ∷ Arrive 5 ∷ Ran ∷ Arrive 3 ∷ []) ≡ DropIn 3 ∷ DropIn 5 ∷ Land 2 ∷ DropOut 1 64 ∷ Land 2 ∷ [] }
 {}
 
 /// Where the backup fails, all that was kept stays in the history, and then all that is on its way lands, in the order sent: it goes

@@ -1,14 +1,16 @@
 //! What every legal history gives its clients.
-ghost use Rattle.std.specs.Prelude.{◌≡◌, ℕ, ◌+◌, ◌≤◌, ◌++◌, List, length};
+ghost use Rattle.std.specs.Prelude.{◌≡◌, ℕ, ◌+◌, ◌≤◌, ◌++◌, ◌⊎◌, List, ◌∷◌, length};
 ghost use Rattle.std.specs.List.{All};
-ghost use Rattle.pair_history.specs.Entries.{Entry};
+ghost use Rattle.pair_history.specs.Entries.{Entry, DropOut};
 ghost use Rattle.pair_history.specs.HistoryState.{HistoryState, after, at, Legal, out_of, start_state};
 ghost use Rattle.pair_history.specs.Order.{AreGuests, IsReady};
 ghost use Rattle.pair_history.specs.Released.{frames, Sent, goes_on, account, WasSent, IsSound};
 ghost use Rattle.pair_history.specs.Released.{sent_to, released, taken, dropped_count, IsFresh};
 ghost use Rattle.frame_ports.specs.Lands.{list_of};
-ghost use Rattle.pair_history.specs.Landings.{DropsAreKnown};
-ghost use Rattle.pair_history.specs.Leaving.{leaving, frames_left};
+ghost use Rattle.pair_history.specs.Landings.{IsInBox, IsAtFull, DropsAreKnown, DropsAreAskedOrFull, DropsAtFull};
+ghost use Rattle.pair_history.specs.Leaving.{leaving, frames_left, frames_landed, NotGivenUp};
+ghost use Rattle.pair_history.specs.Failures.{all_land, go_live_entries, fail_backup_entries, alone_step_entries};
+ghost use Rattle.pair_history.specs.Reached.{IsReached};
 
 /// Each frame that a history released to a client stands in that client's account with the step of the history that sent it.
 ///
@@ -53,4 +55,29 @@ pub fn client_entries_go_first()
 pub fn frames_leave_in_order()
     ensures { (s : HistoryState) (es : List Entry) (c : ℕ) → IsFresh s → DropsAreKnown s es
         → sent_to s es c ≡ frames_left (leaving s es c) ++ out_of c (at s es).out }
+{}
+
+/// A frame that the guest sent is dropped only by a loss that was asked for, which takes it out of its client's box, or at a full box
+/// (`DropsAreAskedOrFull`); no failure loses it.
+///
+/// Where each drop of a history is of that kind, no frame that left for a client was given up: what was sent to it is what landed or
+/// was dropped at its full box, and then what is still on its way, in order. What landed is what was released to it. What the guest
+/// does, what lands, and what a failure or a step of a node that is alone adds drop no frame for another reason.
+#[tactic(auto, using(crate::proofs::DropLaws::drop_laws))]
+pub fn no_failure_loses_a_sent_frame()
+    ensures kept { (s : HistoryState) (es : List Entry) (c : ℕ) → DropsAreAskedOrFull s es → All NotGivenUp (leaving s es c) }
+    ensures in_order { (s : HistoryState) (es : List Entry) (c : ℕ) → IsFresh s → DropsAreAskedOrFull s es
+        → sent_to s es c ≡ frames_left (leaving s es c) ++ out_of c (at s es).out }
+    ensures landed { (s : HistoryState) (es : List Entry) (c : ℕ) → frames_landed (leaving s es c) ≡ released s es c }
+    ensures each { (s : HistoryState) (before later : List Entry) (c place : ℕ)
+        → DropsAreAskedOrFull s (before ++ DropOut c place ∷ later) → IsInBox (at s before) c place ⊎ IsAtFull (at s before) c place }
+    ensures goes_on { (s : HistoryState) (es more : List Entry) → DropsAreAskedOrFull s es → DropsAreAskedOrFull (at s es) more
+        → DropsAreAskedOrFull s (es ++ more) }
+    ensures guests { (s : HistoryState) (es : List Entry) → AreGuests es → DropsAreAskedOrFull s es }
+    ensures at_full { (s : HistoryState) (es : List Entry) → DropsAtFull s es → DropsAreAskedOrFull s es }
+    ensures lands { (s : HistoryState) → IsReached s → DropsAreAskedOrFull s (all_land s) }
+    ensures goes_live { (s : HistoryState) (kept : List Entry) → IsReached s → DropsAreAskedOrFull s (go_live_entries s kept) }
+    ensures fails_backup { (s : HistoryState) (kept : List Entry) → IsReached s → AreGuests kept → Legal s kept
+        → DropsAreAskedOrFull s (fail_backup_entries s kept) }
+    ensures alone { (s : HistoryState) → IsReached s → DropsAreAskedOrFull s (alone_step_entries s) }
 {}
