@@ -38,8 +38,8 @@ pub boot-image : (shape : Shape) (m : State) (image : List ℕ) (standing : Opti
     m.guest ≡ boot_guest shape.pages shape.sectors image → m.outbox ≡ [] → m.dirty ≡ [] → m.settled ≡ m.guest.ram →
     m.written ≡ replicate shape.pages false →
     (standing ≡ None → m.guest ≡ boot_guest shape.pages shape.sectors []) → ((at : Standing) → standing ≡ Some at → at.number < 2 ^ 62) →
-    IsImage shape m standing None
-boot-image shape m image standing fits guest outbox dirty settled written empty numbers = record {
+    (sent : ℕ) → IsImage shape m standing None sent
+boot-image shape m image standing fits guest outbox dirty settled written empty numbers sent = record {
   settled = λ k. record { guest = m.guest; outbox = outbox k; dirty = dirty k; settled = settled k; written = written k };
   pages = ap (λ (g : Guest). length g.ram) guest ∙ length-boot shape image fits;
   sectors = ap (λ (g : Guest). length g.sectors) guest ∙ length-boot_disk shape image;
@@ -47,6 +47,7 @@ boot-image shape m image standing fits guest outbox dirty settled written empty 
   numbers = numbers;
   shapes = λ c e. absurd (some≢none c None e refl);
   next = λ c e. absurd (some≢none c None e refl);
+  numbered = λ c e. absurd (some≢none c None e refl);
 }
 
 -- ---- an empty image
@@ -101,8 +102,8 @@ based_by : (b : Bool) (base now : List ℕ) → (b ≡ true → base ≡ now) �
 based_by true base now e = e refl
 based_by false base now e = refl
 
-module _ (shape : Shape) (m : State) (standing : Option Standing) (staged : Option Change) (c : Change)
-    (is : IsImage shape m standing staged) (has : staged ≡ Some c) where
+module _ (shape : Shape) (m : State) (standing : Option Standing) (staged : Option Change) (sent : ℕ) (c : Change)
+    (is : IsImage shape m standing staged sent) (has : staged ≡ Some c) where
   zero_guest : c.number ≡ 0 → m.guest ≡ boot_guest c.shape.pages c.shape.sectors []
   zero_guest z =
       is.empty (full-first standing c.generation c.number (is.next c has) z)
@@ -123,11 +124,11 @@ module _ (shape : Shape) (m : State) (standing : Option Standing) (staged : Opti
       (λ e. sym (ap (λ (g : Guest). g.sectors) (zero_guest (eqb-true c.number 0 e))))
 
   -- the image after it is applied
-  pub committed-image : (end : State) (g n : ℕ) (left : Option Change) → end ≡ settled_machine c.shape end.guest →
+  pub committed-image : (end : State) (g n : ℕ) (left : Option Change) (last : ℕ) → end ≡ settled_machine c.shape end.guest →
       length end.guest.ram ≡ length m.guest.ram →
       length end.guest.sectors ≡ length m.guest.sectors → n < 2 ^ 62 → left ≡ None →
-      IsImage shape end (Some (record { generation = g; number = n })) left
-  committed-image end g n left settled ram sectors small none = record {
+      IsImage shape end (Some (record { generation = g; number = n })) left last
+  committed-image end g n left last settled ram sectors small none = record {
     settled = settled ∙ ap (λ s. settled_machine s end.guest) (is.shapes c has);
     pages = ram ∙ is.pages;
     sectors = sectors ∙ is.sectors;
@@ -135,4 +136,5 @@ module _ (shape : Shape) (m : State) (standing : Option Standing) (staged : Opti
     numbers = λ at e. subst (λ (o : Option Standing). number_in o < 2 ^ 62) e small;
     shapes = λ d e. absurd (some≢none d left e none);
     next = λ d e. absurd (some≢none d left e none);
+    numbered = λ d e. absurd (some≢none d left e none);
   }

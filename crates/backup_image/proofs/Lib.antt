@@ -1,5 +1,6 @@
 pub mod BlockLemmas
 pub mod ImageLemmas
+pub mod KeptLemmas
 pub mod PutLemmas
 pub mod RisingLemmas
 pub mod StageLemmas

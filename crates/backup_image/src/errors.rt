@@ -22,6 +22,9 @@ pub enum ImageError {
     /// Memory was really refused.
     #[error("NoMemory")]
     NoMemory(MemoryWanted),
+    /// The number of the checkpoint's last frame would reach 2^62.
+    #[error("Exhausted")]
+    Exhausted,
     /// The checkpoint is a delta of version 1, which doesn't say what its guest sent.
     #[error("OldVersion")]
     OldVersion,
@@ -45,6 +48,7 @@ impl ImageError {
             ImageError::Stale => 9,
             ImageError::Gap => 10,
             ImageError::NoMemory(_) => 12,
+            ImageError::Exhausted => 14,
             ImageError::OldVersion => 15,
         }
     }
@@ -58,6 +62,7 @@ impl ImageError {
             ImageError::Stale => "Stale",
             ImageError::Gap => "Gap",
             ImageError::NoMemory(_) => "NoMemory",
+            ImageError::Exhausted => "Exhausted",
             ImageError::OldVersion => "OldVersion",
         }
     }

@@ -2,24 +2,36 @@
 ghost use Rattle.std.specs.Prelude.{◌≡◌, ◌↔◌, ◌+◌, ◌*◌, ◌<◌, ◌≤◌, length, replicate, slice_range, IfOk, IfErr, OnErr, IsErr, Some};
 ghost use Rattle.std.specs.Prelude.{None, Err};
 ghost use Rattle.memory_wanted.specs.Wanted.{wanted};
-ghost use Rattle.backup_image.specs.Images.{booted, empty_image, stage_answer, after_stage, committed, settled_machine};
+ghost use Rattle.backup_image.specs.Images.{booted, empty_image, answer_at, stage_answer, after_stage, committed, settled_machine};
 
 use crate::apply::apply;
 use crate::errors::ImageError;
+use crate::kept::KeptFrames;
+use crate::limits::NUMBER_LIMIT;
 use crate::standing::{Staged, Standing};
 use epoch_snapshot::Checkpoint;
 use guest_machine::{Machine, MachineError, SECTOR_BYTES, Shape};
 use std::alloc::Global;
 use std::marker::Model;
 
-/// The guest as of the last checkpoint that was committed, and the checkpoint that is staged. An empty image has none yet, and holds
-/// zeros. All memory that its calls need is reserved when it is made.
+/// The guest as of the last checkpoint that was committed, the checkpoint that is staged, and the frames of the last four commits. An
+/// empty image has none yet, and holds zeros. All memory that its calls need is reserved when it is made.
 #[derive(Drop)]
 pub struct Image {
     shape: Shape,
     machine: Machine,
     standing: Option<Standing>,
     staged: Option<Checkpoint>,
+    kept: KeptFrames,
+}
+
+/// What an image gives to the node that goes on with its guest.
+#[derive(Drop)]
+pub struct Resumed {
+    /// The machine of the image's guest, just settled.
+    pub machine: Machine,
+    /// The frames of the last four commits, with their numbers.
+    pub kept: KeptFrames,
 }
 
 impl Model for Image {
@@ -28,9 +40,9 @@ impl Model for Image {
 
     ghost Value = { ImageState };
 
-    ghost view = { λ i. state_of i.shape i.machine i.standing i.staged };
+    ghost view = { λ i. state_of i.shape i.machine i.standing i.staged i.kept };
 
-    ghost invariant = { λ i. IsImage i.shape i.machine i.standing i.staged };
+    ghost invariant = { λ i. IsImage i.shape i.machine i.standing i.staged i.kept.sent };
 }
 
 impl Image {
@@ -55,6 +67,7 @@ impl Image {
                 number: 0,
             }),
             staged: None,
+            kept: KeptFrames::none(alloc),
         })
     }
 
@@ -75,17 +88,30 @@ impl Image {
             machine,
             standing: None,
             staged: None,
+            kept: KeptFrames::none(alloc),
         })
     }
 
-    /// What a checkpoint is for this image, by its version, generation and number.
+    /// What a checkpoint is for this image, by its version, its turn and how many frames it has.
     fn answer(&self, checkpoint: &Checkpoint) -> Result<Staged, ImageError>
         ensures { result ≡ stage_answer self.now checkpoint.now }
     {
-        let number = checkpoint.number();
-        if checkpoint.version() == 1 && number != 0 {
+        if checkpoint.version() == 1 && checkpoint.number() != 0 {
             return Err(ImageError::OldVersion);
         }
+        match self.turn(checkpoint) {
+            Ok(Staged::New) if self.kept.sent_with(checkpoint) >= NUMBER_LIMIT => {
+                Err(ImageError::Exhausted)
+            }
+            answer => answer,
+        }
+    }
+
+    /// Whether it is a checkpoint's turn, by its generation and number.
+    fn turn(&self, checkpoint: &Checkpoint) -> Result<Staged, ImageError>
+        ensures { result ≡ answer_at self.now.stands_at checkpoint.now.generation checkpoint.now.number }
+    {
+        let number = checkpoint.number();
         let Some(at) = self.standing else {
             return if number == 0 {
                 Ok(Staged::New)
@@ -109,8 +135,8 @@ impl Image {
     ///
     /// # Errors
     /// `OldVersion` for a delta of version 1; `NoImage` for a delta at an empty image; `Stale` for one of another generation; `Gap` for one
-    /// beyond the next number. Nothing changes then.
-    #[tactic(auto, using(crate::proofs::StageLemmas::new_next))]
+    /// beyond the next number; last, for a new one, `Exhausted` where the number of its last frame would reach 2^62. Nothing changes then.
+    #[tactic(auto, using(crate::proofs::StageLemmas::new_next, crate::proofs::StageLemmas::new_numbered))]
     pub fn stage(&mut self, checkpoint: Checkpoint) -> Result<Staged, ImageError>
         requires { checkpoint.shape ≡ self.old.shape }
         ensures answer { result ≡ stage_answer self.old checkpoint }
@@ -123,8 +149,8 @@ impl Image {
         answer
     }
 
-    /// Applies what is staged, if anything is, in place: from then on the image stands at it, and nothing is staged. It takes no
-    /// memory.
+    /// Applies what is staged, if anything is, in place: from then on the image stands at it and keeps its frames, and nothing is staged.
+    /// Of more than four commits the frames of the oldest are let go; a full checkpoint begins anew. It takes no memory.
     pub fn commit(&mut self)
         ensures { self.new ≡ committed self.old }
     {
@@ -136,6 +162,7 @@ impl Image {
             generation: checkpoint.generation(),
             number: checkpoint.number(),
         });
+        self.kept.commit(checkpoint);
     }
 
     /// Where the image stands, or `None` while it is empty.
@@ -143,6 +170,14 @@ impl Image {
         ensures { result ≡ self.now.stands_at }
     {
         self.standing
+    }
+
+    /// The frames of the last four commits, with their numbers. What is staged isn't in it.
+    pub fn kept(&self) -> &KeptFrames
+        ensures lists { result.now.lists ≡ self.now.kept }
+        ensures sent { result.now.sent ≡ self.now.sent }
+    {
+        &self.kept
     }
 
     /// How large its guest is.
@@ -171,19 +206,25 @@ impl Image {
         self.machine.sector(sector)
     }
 
-    /// The machine of the image's guest, just settled. What is staged is let go. It copies no page.
+    /// The machine of the image's guest, just settled, and the frames of the last four commits. What is staged is let go. It copies no
+    /// page and no frame.
     ///
     /// # Errors
     /// `NoImage`, exactly where the image is empty; it is handed back.
-    pub fn resume(self) -> Result<Machine, (Image, ImageError)>
-        ensures ok { IfOk result (λ machine. machine ≡ settled_machine self.shape self.guest) }
+    pub fn resume(self) -> Result<Resumed, (Image, ImageError)>
+        ensures ok { IfOk result (λ resumed. resumed.machine ≡ settled_machine self.shape self.guest) }
+        ensures lists { IfOk result (λ resumed. resumed.kept.lists ≡ self.kept) }
+        ensures sent { IfOk result (λ resumed. resumed.kept.sent ≡ self.sent) }
         ensures refused { IsErr result ↔ (self.stands_at ≡ None) }
         ensures err { IfErr result (λ refusal. (refusal.0 ≡ self) × (refusal.1 ≡ ImageError.NoImage)) }
     {
         if self.standing.is_none() {
             return Err((self, ImageError::NoImage));
         }
-        Ok(self.machine)
+        Ok(Resumed {
+            machine: self.machine,
+            kept: self.kept,
+        })
     }
 }
 

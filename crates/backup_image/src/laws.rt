@@ -10,20 +10,24 @@ ghost use Rattle.checkpoint_stream.specs.Text.{text};
 ghost use Rattle.backup_image.specs.declared.standing.Staged.TheVariants.{New};
 ghost use Rattle.backup_image.specs.Streams.{Call, BeginsWith, after_all, after_calls, follower, IsWritten, AreWritten, texts};
 ghost use Rattle.backup_image.specs.Images.{ImageState, stage_answer, after_stage, committed, settled_machine};
+ghost use Rattle.backup_image.specs.Kept.{kept_with, sent_with};
 
 use checkpoint_stream::{each_byte_is_needed, text_is_read_back};
 
-/// Whatever is staged, no page, sector or register of the image changes, nor where it stands. Where the checkpoint isn't a new one,
-/// nothing changes at all.
+/// Whatever is staged, no page, sector or register of the image changes, nor where it stands, nor what it keeps. Where the checkpoint
+/// isn't a new one, nothing changes at all.
 pub fn staging_changes_no_guest()
     ensures guest { (i : ImageState) (c : Change) → (after_stage i c).guest ≡ i.guest }
     ensures standing { (i : ImageState) (c : Change) → (after_stage i c).stands_at ≡ i.stands_at }
+    ensures kept { (i : ImageState) (c : Change) → (after_stage i c).kept ≡ i.kept }
+    ensures sent { (i : ImageState) (c : Change) → (after_stage i c).sent ≡ i.sent }
     ensures unless_new { (i : ImageState) (c : Change) → stage_answer i c ≢ Ok New → after_stage i c ≡ i }
 {}
 
 /// A machine's delta that is new to an image with the machine's pages and sectors of its last settle, staged and committed, makes the
 /// image's guest the machine's; so does a full checkpoint of the machine that is new to an empty image. The image then stands at the
-/// checkpoint, and once the machine is settled the machine's next delta stands over the image's guest.
+/// checkpoint, and once the machine is settled the machine's next delta stands over the image's guest. The last of the lists that the image
+/// keeps is the checkpoint's, and its frames are those that the guest sent last.
 pub fn cuts_are_committed()
     ensures delta { (i : ImageState) (m : State) (c : Change) → IsBase m i.guest →
         ((base : Guest) → IsBase m base → image_of c base ≡ m.guest)
@@ -32,6 +36,10 @@ pub fn cuts_are_committed()
         → stage_answer i c ≡ Ok New → (committed (after_stage i c)).guest ≡ m.guest }
     ensures standing { (i : ImageState) (c : Change) → stage_answer i c ≡ Ok New
         → (committed (after_stage i c)).stands_at ≡ Some (record { generation = c.generation; number = c.number }) }
+    ensures kept { (i : ImageState) (c : Change) → stage_answer i c ≡ Ok New
+        → (committed (after_stage i c)).kept ≡ kept_with c i.kept }
+    ensures sent { (i : ImageState) (c : Change) → stage_answer i c ≡ Ok New
+        → (committed (after_stage i c)).sent ≡ sent_with c i.sent }
     ensures next { (shape : Shape) (g : Guest) → IsBase (settled_machine shape g) g }
 {}
 

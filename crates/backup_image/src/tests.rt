@@ -292,7 +292,7 @@ fn handed_back(rt: &impl Abort, alloc: Global, image: Box<Image>) -> Result<Box<
 /// The machine that an image resumes to.
 pub(crate) fn resumed(alloc: Global, image: Box<Image>) -> Result<Box<Machine>, Fail> {
     match Box::into_inner(image).resume() {
-        Ok(machine) => Ok(Box::new(alloc, machine)?),
+        Ok(resumed) => Ok(Box::new(alloc, resumed.machine)?),
         Err(_) => Err("the image has a machine".into()),
     }
 }
@@ -354,6 +354,7 @@ fn refusals_have_numbers_and_names(rt: HostRuntime) -> Result<(), Fail> {
         (ImageError::Stale, 9, "Stale"),
         (ImageError::Gap, 10, "Gap"),
         (ImageError::from(wanted), 12, "NoMemory"),
+        (ImageError::Exhausted, 14, "Exhausted"),
         (ImageError::OldVersion, 15, "OldVersion"),
     ] {
         assert_eq!(rt; refusal.number(), number);

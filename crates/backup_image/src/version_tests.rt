@@ -18,7 +18,7 @@ fn older(alloc: Global, shape: Shape, mut text: Vec<u8>, tail: usize) -> Result<
 }
 
 /// The checkpoint of a text.
-fn read_whole(alloc: Global, shape: Shape, text: &[u8]) -> Result<Checkpoint, Fail> {
+pub(crate) fn read_whole(alloc: Global, shape: Shape, text: &[u8]) -> Result<Checkpoint, Fail> {
     let mut reader = Reader::new(alloc, shape);
     if reader.feed(text)? != text.len() {
         return Err("it is read whole".into());

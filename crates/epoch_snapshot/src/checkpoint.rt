@@ -144,4 +144,12 @@ impl Checkpoint {
     {
         self.frames.as_slice()
     }
+
+    /// These frames, and no other part of the checkpoint: its own list, without a copy.
+    pub fn into_frames(self) -> Vec<Frame>
+        ensures value { result.items ≡ self.frames }
+        ensures canonical { IsCanonical self }
+    {
+        self.frames
+    }
 }

@@ -16,6 +16,9 @@ fn delta_carries_the_beacons_frame(rt: HostRuntime) -> Result<(), Fail> {
     for frame in checkpoint.frames() {
         assert!(rt; frame.as_slice() == FRAME.as_slice());
     }
+    for frame in &checkpoint.into_frames() {
+        assert!(rt; frame.as_slice() == FRAME.as_slice());
+    }
     machine.settle();
     assert_eq!(rt; cut_delta(rt.alloc(), &machine, 1, 2)?.frames().len(), 0);
     Ok(())

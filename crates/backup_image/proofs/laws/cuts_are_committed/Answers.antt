@@ -11,3 +11,9 @@ returns-clause-full c = λ i m d makes new. ap (λ (s : ImageState). s.guest) (n
 
 pub returns-clause-standing : goal.returns-clause-standing
 returns-clause-standing c = λ i d new. ap (λ (s : ImageState). s.stands_at) (new-committed i d new)
+
+pub returns-clause-kept : goal.returns-clause-kept
+returns-clause-kept c = λ i d new. ap (λ (s : ImageState). s.kept) (new-committed i d new)
+
+pub returns-clause-sent : goal.returns-clause-sent
+returns-clause-sent c = λ i d new. ap (λ (s : ImageState). s.sent) (new-committed i d new)

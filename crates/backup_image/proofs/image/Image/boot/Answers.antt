@@ -12,4 +12,4 @@ invariant_of-result c =
     boot-image c.args.shape c.in-Ok.machine c.args.image.now (Some first) c.requires c.in-Ok.ensures.guest c.in-Ok.ensures.outbox
     c.in-Ok.ensures.dirty c.in-Ok.ensures.settled
     c.in-Ok.ensures.written (λ e. absurd (some≢none first (Some first) refl e))
-    (λ at e. subst (λ (o : Option Standing). number_in o < 2 ^ 62) e (lit< tt))
+    (λ at e. subst (λ (o : Option Standing). number_in o < 2 ^ 62) e (lit< tt)) _
