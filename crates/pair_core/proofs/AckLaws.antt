@@ -1,14 +1,16 @@
 -- As long as no node fails, what acknowledgements let out is what the guest sent up to the cut of the last of them.
 use Rattle.std.proofs.Common.{arith, ◌≡◌, ℕ, ◌+◌, ◌<◌, ◌≤◌, List, [], ◌∷◌, ◌++◌, length, refl, sym, ap, ◌∙◌, subst}
 use Rattle.std.proofs.Common.{append_assoc, Bool, true, false, cond}
-use Rattle.std.proofs.{lemmas.Bool.Decides.nat_tests, lemmas.List.{append-nil, append_cancel_left, length-set}, lemmas.List.Elements.{All-nil, All-cons, All-head, All-tail, All-append}}
+use Rattle.std.proofs.{lemmas.Bool.Decides.nat_tests, lemmas.List.{append-nil, append_cancel_left, length-set}}
+use Rattle.std.proofs.lemmas.List.Elements.{All-nil, All-cons, All-head, All-tail, All-append}
 use Rattle.std.specs.Prelude.{All, nat_le, nat_lt, remove}
 use Rattle.failover.specs.declared.mode.Mode.TheVariants.{Paired}
 use Rattle.frame_ports.specs.{Addresses.targets_of, Lands.{list_of, with_list}}
 use Rattle.output_gate.specs.Epochs.{Epoch, epoch, frames_of, frames_to, after_number}
-use Rattle.pair_history.specs.{Entries.{Frame, Entry, Ran, Arrive, Land, DropOut, Took}, HistoryState.{HistoryState, after, at, out_of}, Landings.DropsAreKnown}
+use Rattle.pair_history.specs.Entries.{Frame, Entry, Ran, Arrive, Land, DropOut, Took}
+use Rattle.pair_history.specs.{HistoryState.{HistoryState, after, at, out_of}, Landings.DropsAreKnown}
 use Rattle.pair_history.specs.{Leaving.{LeaveInOrder, NotGivenUp, leaving, frames_left}, Released.{sent_to, IsFresh}}
-use Rattle.pair_history.proofs.{ClientLists.out_of-append, States.{DropsAreKnown-append, targets_of-append}}
+use Rattle.pair_history.proofs.{ClientLists.out_of-append, DropLaws.asked-known, States.{DropsAreKnown-append, targets_of-append}}
 use Rattle.pair_history.proofs.LeavingLaws.{all_leave_in_order, frames_left-append, leaving-append, none_leave, TakesNone}
 use Rattle.pair_record.specs.declared.event.Event.{Event}
 use Rattle.pair_core.specs.Acknowledged.{greater, acked_to, greatest_acked, IsOrdinary, AreOrdinary}
@@ -274,7 +276,7 @@ module _ (c : ℕ) where
   all_accounted w k fresh =
       let h = w.protocol.state.journal.history in
       let kept = kept_entries w.protocol.state.journal in
-      let known = DropsAreKnown-append w.start h kept k.drops (guest-known (shown_state w) kept k.kept) in
+      let known = DropsAreKnown-append w.start h kept (asked-known w.start h k.drops) (guest-known (shown_state w) kept k.kept) in
       let none = none_leave (shown_state w) kept (guest-none kept k.kept) c in
       all_leave_in_order w.start (h ++ kept) c fresh known
       ∙ (λ i. frames_left (leaving-append w.start h kept c i) ++ out_of c (sym k.owed i))

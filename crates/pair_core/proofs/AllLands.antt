@@ -1,15 +1,16 @@
 -- Where a node goes on alone: all that is kept goes to the history, and all that is on its way lands. So does what each of its steps sends.
-use Rattle.std.proofs.Common.{◌≡◌, ℕ, List, [], ◌∷◌, ◌++◌, length, refl, sym, ap, ◌∙◌, subst, append_assoc, Bool, true, false, Some, arith}
+use Rattle.std.proofs.Common.{◌≡◌, ℕ, ◌+◌, List, [], ◌∷◌, ◌++◌, length, refl, sym, ap}
+use Rattle.std.proofs.Common.{◌∙◌, subst, append_assoc, Bool, true, false, Some, arith}
 use Rattle.std.specs.Prelude.{slice_get, ◌≤◌}
-use Rattle.frame_ports.specs.{Addresses.targets_of, Lands.{list_of, lands}}
+use Rattle.frame_ports.specs.{Addresses.targets_of, Lands.list_of}
 use Rattle.failover.specs.declared.mode.Mode.{Mode}
 use Rattle.output_gate.specs.Epochs.{frames_of}
 use Rattle.pair_history.specs.{Entries.{Frame, Entry, Arrive}, Landings.landings}
 use Rattle.pair_record.specs.{declared.window.Window.Window, Modes.is_alone}
 use Rattle.pair_record.specs.Journal.{joined, all_committed, with_history, with_running, with_moves}
 use Rattle.pair_record.specs.Protocol.{all_held, admit_done}
-use Rattle.pair_record.specs.Record.{IsRecord, ports_after_all, ports_after_admit}
-use Rattle.pair_record.proofs.{AccordLaws.sent_is, LoneAccords.{all_landed_accords, landed_state, landed_is}, ModeLaws.clash}
+use Rattle.pair_record.specs.Record.{IsRecord, first_held, ports_landed, ports_after_all, ports_after_admit}
+use Rattle.pair_record.proofs.{AccordLaws.{sent_is, first_lone}, LoneAccords.{all_landed_accords, landed_state, landed_is}, ModeLaws.clash}
 use Rattle.pair_core.specs.internal.Invariant.{AreNodes, Holds, KeepsNothing, Stands}
 use Rattle.pair_core.specs.{Nodes.{Node, Nodes, HasShape, with_arrival}, Pair.Pair}
 use Rattle.pair_core.proofs.{Consistent.{alone_is, keeps_nothing}, Events.{admit_stands, two_hold}, LineLaws.named-more}
@@ -30,6 +31,7 @@ module _ (w : Pair) (h : Stands w) (mode : Mode) (lone : is_alone mode ≡ true)
         journal = with_history (all_committed w.protocol.state.journal) (landings w.ports.boxes (held w));
         window = window;
         pending = [];
+        next_frame = w.protocol.state.next_frame + length w.nodes.live.outbox;
       };
     };
     ports = ports_after_all w.ports w.nodes.live.outbox w.protocol.state;
@@ -56,6 +58,7 @@ module _ (w : Pair) (h : Stands w) (mode : Mode) (lone : is_alone mode ≡ true)
         accords = all_landed_accords w.start r w.ports h.0 outbox sent mode window;
         lines = named-more r w.protocol.lines h.2 window cut commit;
         nodes = rw (landed_is w.start r w.ports h.0 outbox sent) nodes;
+        kept = λ two. absurd (clash (is_alone mode) lone two);
         still = λ e. refl;
       }
 
@@ -75,8 +78,13 @@ module _ (w : Pair) (k : KeepsNothing w.protocol.state) (lone : is_alone w.proto
 
   abbrev pub at_once : Pair
   at_once = record w {
-    protocol = record w.protocol { state = record w.protocol.state { journal = with_history w.protocol.state.journal (es ++ landings w.ports.boxes targets) } };
-    ports = record w.ports { inboxes = inboxes; boxes = lands w.ports.boxes targets };
+    protocol = record w.protocol {
+      state = record w.protocol.state {
+        journal = with_history w.protocol.state.journal (es ++ landings w.ports.boxes targets);
+        next_frame = w.protocol.state.next_frame + length live.outbox;
+      };
+    };
+    ports = ports_landed (record w.ports { inboxes = inboxes }) w.protocol.state.next_frame live.outbox;
     nodes = record w.nodes { live = record live { outbox = [] } };
   }
 
@@ -84,6 +92,7 @@ module _ (w : Pair) (k : KeepsNothing w.protocol.state) (lone : is_alone w.proto
   at_once_holds h =
       let j = w.protocol.state.journal in
       let b = w.ports.boxes in
+      let first : first_held w.protocol.state ≡ w.protocol.state.next_frame = first_lone w.protocol.state k.2 in
       let leaving : held if_kept ≡ targets = λ i. targets_of (length b) (frames_of (k.2 i) ++ live.outbox) in
       let history : (j.history ++ (joined j.sealed ++ (j.running ++ es))) ++ landings b (held if_kept)
       ≡ j.history ++ (es ++ landings b targets) =
@@ -94,9 +103,10 @@ module _ (w : Pair) (k : KeepsNothing w.protocol.state) (lone : is_alone w.proto
           state = record w.protocol.state {
             journal = record { history = history i; sealed = sym k.0 i; running = sym k.1 i };
             pending = sym k.2 i;
+            next_frame = w.protocol.state.next_frame + length live.outbox;
           };
         };
-        ports = record w.ports { inboxes = inboxes; boxes = lands b (leaving i) };
+        ports = ports_landed (record w.ports { inboxes = inboxes }) (first i) (frames_of (k.2 i) ++ live.outbox);
         nodes = record w.nodes { live = record live { outbox = [] } };
       })
       (all_landed_holds if_kept h w.protocol.state.mode lone w.protocol.state.window (record w.nodes { live = record live { outbox = [] } })
@@ -121,14 +131,24 @@ admitted_holds w h k c n f low high first = by_mode (is_alone w.protocol.state.m
         let live = (with_arrival w.nodes f).live in
         let none : w.nodes.live.outbox ≡ [] = (alone_is w h lone).outbox in
         let landed = at_once_holds w lone e (Arrive n ∷ []) live inboxes (admit_stands w h c n f low high first) in
+        let next = w.protocol.state.next_frame in
+        let same : next + 0 ≡ next = omega arith in
         subst Holds
-        (λ i. record w {
+        ((λ i. record w {
           protocol = record w.protocol {
             state = record w.protocol.state {
               journal = with_history w.protocol.state.journal (Arrive n ∷ landings b (targets_of (length b) (none i)));
+              next_frame = next + length (none i);
             };
           };
-          ports = record w.ports { inboxes = inboxes; boxes = lands b (targets_of (length b) (none i)) };
+          ports = ports_landed (record w.ports { inboxes = inboxes }) next (none i);
           nodes = record w.nodes { live = record live { outbox = sym none i } };
         })
+        ∙ (λ i. record w {
+          protocol = record w.protocol {
+            state = record w.protocol.state { journal = with_history w.protocol.state.journal (Arrive n ∷ []); next_frame = same i };
+          };
+          ports = record w.ports { inboxes = inboxes };
+          nodes = record w.nodes { live = live };
+        }))
         landed

@@ -1,11 +1,13 @@
 -- What the steps of a node that is alone leave, and what the protocol answers to them: what a step sends lands at once.
 use Rattle.std.proofs.Common.{rules, ◌≡◌, ℕ, zero, suc, ◌+◌, ◌-◌, ◌<◌, List, [], ◌∷◌, ◌++◌, length, replicate, refl, sym, ap, ◌∙◌, subst}
-use Rattle.std.proofs.{Common.{arith, append_assoc, Bool, true, cond, inl, inr, Result, Ok, Err}, lemmas.List.{append-nil, length-append, length-replicate}}
+use Rattle.std.proofs.Common.{arith, append_assoc, Bool, true, false, cond, inl, inr, Result, Ok, Err}
+use Rattle.std.proofs.lemmas.List.{append-nil, length-append, length-replicate}
 use Rattle.guest_machine.specs.{Guest.Guest, Step.{next, sent}, Runs.{after_steps, sent_in}}
-use Rattle.frame_ports.specs.{Addresses.targets_of, Lands.lands, Limits.number_limit}
+use Rattle.std.specs.Prelude.{nat_lt, ◌&&◌}
+use Rattle.frame_ports.specs.{Addresses.targets_of, Limits.number_limit}
 use Rattle.pair_history.specs.{Entries.{Frame, Ran}, HistoryState.HistoryState, Landings.landings}
-use Rattle.pair_record.specs.{declared.event.Event.TheVariants.Step, declared.event.Reply.Reply, Limits.lone_step_entries}
-use Rattle.pair_record.specs.{Journal.{all_entries, with_history}, Modes.is_alone}
+use Rattle.pair_record.specs.{declared.event.Event.TheVariants.Step, declared.event.Reply.Reply, Limits.{lone_step_entries, last_frame}}
+use Rattle.pair_record.specs.{Journal.{all_entries, with_history}, Modes.is_alone, Record.ports_landed, Tables.frames_run_out}
 use Rattle.pair_core.specs.{internal.Invariant.{Holds, KeepsNothing}, Nodes.{after_run, with_sent_off}}
 use Rattle.pair_record.specs.Protocol.{Record, Outcome, step_done, step_outcome, step_room}
 use Rattle.pair_record.specs.declared.event.Refusal.{Refusal}
@@ -37,9 +39,10 @@ module _ (w : Pair) where
     protocol = record w.protocol {
       state = record w.protocol.state {
         journal = with_history w.protocol.state.journal (replicate n Ran ++ landings boxes (targets_of (length boxes) fs));
+        next_frame = w.protocol.state.next_frame + length fs;
       };
     };
-    ports = record w.ports { boxes = lands boxes (targets_of (length boxes) fs) };
+    ports = ports_landed w.ports w.protocol.state.next_frame fs;
     nodes = with_sent_off (after_run n w.nodes);
   }
 
@@ -63,18 +66,24 @@ module _ (w : Pair) where
 
     -- one more step, after quiet ones
     module _ (n : ℕ) (silent : sent_in n w.nodes.live.guest ≡ [])
-        (fits : length (all_entries w.protocol.state.journal) + (n + 1025) < number_limit) where
+        (fits : length (all_entries w.protocol.state.journal) + (n + 1025) < number_limit)
+        (numbers : frames_run_out w.protocol.state ≡ false) where
       abbrev g : Guest
       g = after_steps n w.nodes.live.guest
 
       counted : length (all_entries (quiet n).protocol.state.journal) ≡ length (all_entries w.protocol.state.journal) + n
       counted = search (arith, rules, length-append, length-replicate)
 
+      quiet_numbers : (is_alone w.protocol.state.mode && frames_run_out (quiet n).protocol.state) ≡ false
+      quiet_numbers =
+          let same : w.protocol.state.next_frame + 0 ≡ w.protocol.state.next_frame = omega arith in
+          (λ i. lone i && nat_lt last_frame (same i)) ∙ numbers
+
       step_next : step_done boxes (sent g) (next g).steps (quiet n).protocol.state ≡ step_outcome w.start (quiet n).protocol.state
       step_next =
           let c = counted in
           let room : step_room w.protocol.state.mode ≡ 1025 = ap (λ (b : Bool). cond b lone_step_entries 1) lone in
-          step_goes (quiet n) (quiet-holds n silent) (alone_not_stopped w.protocol.state.mode lone) (omega arith) (omega arith)
+          step_goes (quiet n) (quiet-holds n silent) (alone_not_stopped w.protocol.state.mode lone) (omega arith) (omega arith) quiet_numbers
 
       step_makes : (replies.Steps (after_steps (suc n) w.nodes.live.guest).steps, (after_alone (suc n) (sent g)).protocol.state)
           ≡ step_done boxes (sent g) (next g).steps (quiet n).protocol.state
@@ -88,23 +97,24 @@ module _ (w : Pair) where
 
     -- so many quiet steps
     quiet_answered : (n : ℕ) → sent_in n w.nodes.live.guest ≡ [] → length (all_entries w.protocol.state.journal) + (n + 1024) < number_limit
+        → frames_run_out w.protocol.state ≡ false
         → (replies.Steps (after_steps n w.nodes.live.guest).steps, (quiet n).protocol.state) ≡ steps_outcome w.start w.protocol.state n
-    quiet_answered zero e fits = search (arith, rules, append-nil, live_is, no-steps, no-steps-answered)
-    quiet_answered (suc n) e fits =
+    quiet_answered zero e fits numbers = search (arith, rules, append-nil, live_is, no-steps, no-steps-answered)
+    quiet_answered (suc n) e fits numbers =
         let parts = both_empty (sent_in n w.nodes.live.guest) (sent (after_steps n w.nodes.live.guest))
         (sym (sent_in-last n w.nodes.live.guest) ∙ e) in
-        let before = quiet_answered n parts.0 (omega arith) in
+        let before = quiet_answered n parts.0 (omega arith) numbers in
         subst
         (λ (fs : List Frame). (replies.Steps (after_steps (suc n) w.nodes.live.guest).steps, (after_alone (suc n) fs).protocol.state)
-        ≡ steps_outcome w.start w.protocol.state (suc n)) parts.1 (one_more n parts.0 (omega arith) before)
+        ≡ steps_outcome w.start w.protocol.state (suc n)) parts.1 (one_more n parts.0 (omega arith) numbers before)
 
     -- so many steps of which only the last sends frames
     pub alone_answered : (n : ℕ) → sent_in (n - 1) w.nodes.live.guest ≡ []
-        → length (all_entries w.protocol.state.journal) + (n + 1024) < number_limit
+        → length (all_entries w.protocol.state.journal) + (n + 1024) < number_limit → frames_run_out w.protocol.state ≡ false
         → (replies.Steps (after_steps n w.nodes.live.guest).steps, (after_alone n (sent_in n w.nodes.live.guest)).protocol.state)
         ≡ steps_outcome w.start w.protocol.state n
-    alone_answered zero e fits = search (arith, rules, none-sent, quiet_answered)
-    alone_answered (suc n) e fits = search (arith, rules, one_more, quiet_answered, sent_in-last)
+    alone_answered zero e fits numbers = search (arith, rules, none-sent, quiet_answered)
+    alone_answered (suc n) e fits numbers = search (arith, rules, one_more, quiet_answered, sent_in-last)
 
 -- steps after steps
 module _ (start : HistoryState) (r r' : Record) (m k : ℕ) (made : (replies.Steps k, r') ≡ steps_outcome start r m) where

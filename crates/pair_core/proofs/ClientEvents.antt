@@ -1,6 +1,6 @@
 -- What clients, their lines and acknowledgements do keeps the invariant: the record's part is its own law, and the nodes stay.
-use Rattle.std.proofs.Common.{◌≡◌, ℕ, ◌<◌, ◌≤◌, List, [], ◌∷◌, ◌++◌, length, refl, sym, ap, ◌∙◌, Some, arith}
-use Rattle.std.proofs.Math.Path.{transport}
+use Rattle.std.proofs.Common.{◌≡◌, ℕ, ◌-◌, ◌<◌, ◌≤◌, false, List, [], ◌∷◌, ◌++◌, length, drop, remove, refl, sym, ap, ◌∙◌, Some, arith}
+use Rattle.std.proofs.{Math.Path.transport, lemmas.List.length-set}
 use Rattle.std.specs.Prelude.{slice_get}
 use Rattle.frame_ports.specs.{Addresses.IsFrame, Lands.list_of, Limits.inbox_frames, Ports.{PortsState, after_delivery}}
 use Rattle.output_gate.specs.Epochs.{Epoch}
@@ -9,11 +9,11 @@ use Rattle.pair_history.specs.{HistoryState.{HistoryState, at}, Landings.landing
 use Rattle.pair_history.proofs.States.{at-append}
 use Rattle.pair_record.specs.{internal.Accords.Accords, Journal.with_history, declared.window.Window.Window, Modes.is_alone}
 use Rattle.pair_record.specs.Protocol.{Record, ack_done, deliver_done, take_done, loss_done, let_go}
-use Rattle.pair_record.specs.Record.{IsRecord, ports_after_ack, ports_after_take, ports_after_lose_in, ports_after_lose_out}
+use Rattle.pair_record.specs.Record.{IsRecord, AreNumbered, ports_after_ack, ports_after_take, ports_after_lose_in, ports_after_lose_out}
 use Rattle.pair_record.proofs.ClientAccords.{ack_lands, ack_accords, take_accords, lose_in_accords, lose_out_accords, deliver_accords}
 use Rattle.pair_record.proofs.ClientAccords.{full_accords}
-use Rattle.pair_core.specs.{internal.Invariant.{AreNodes, Holds}, Pair.{Pair, shown_state}}
-use Rattle.pair_core.proofs.LineLaws.{named-more}
+use Rattle.pair_core.specs.{internal.Invariant.{AreNodes, Holds}, Kept.KeepsFrames, Pair.{Pair, shown_state}}
+use Rattle.pair_core.proofs.{KeptLaws.{keeps_ack, keeps_on, risen-same}, LineLaws.named-more}
 
 -- A CLIENT'S EVENT goes into the history, before what is kept: the guest stays as it is
 
@@ -27,7 +27,12 @@ module _ (w : Pair) (h : Holds w) (es : List Entry) (window : Window) (pending :
       pending = pending;
     }) ports)
     (sealed : h.accords.journal.sealed_moves ≡ accords.journal.sealed_moves)
-    (running : h.accords.journal.running_moves ≡ accords.journal.running_moves) where
+    (running : h.accords.journal.running_moves ≡ accords.journal.running_moves)
+    (kept : is_alone w.protocol.state.mode ≡ false → KeepsFrames (record w.protocol.state {
+      journal = with_history w.protocol.state.journal es;
+      window = window;
+      pending = pending;
+    }) ports w.nodes.image) where
   pub history_holds : Holds (record w {
     protocol = record w.protocol { state = record w.protocol.state { journal = with_history w.protocol.state.journal es; window = window; pending = pending } };
     ports = ports;
@@ -41,6 +46,7 @@ module _ (w : Pair) (h : Holds w) (es : List Entry) (window : Window) (pending :
         lines = named-more r w.protocol.lines h.lines window (omega arith) (omega arith);
         nodes =
             transport (λ i. AreNodes (is_alone r.mode) r.generation (sym stays i) (same i) (sealed i) (running i) w.nodes) h.nodes;
+        kept = kept;
         still = h.still;
       }
 
@@ -48,32 +54,50 @@ module _ (w : Pair) (h : Holds w) where
   abbrev r : Record
   r = w.protocol.state
 
-  pub ack_holds : IsRecord w.protocol.state → (n : ℕ) → n < w.protocol.state.window.to_commit
+  -- the image keeps what it kept where no number of the ports changes
+  keeps : (es : List Entry) (q : PortsState) → length q.boxes ≡ length w.ports.boxes → q.numbers ≡ w.ports.numbers
+      → is_alone w.protocol.state.mode ≡ false → KeepsFrames (record w.protocol.state {
+        journal = with_history w.protocol.state.journal es;
+        window = w.protocol.state.window;
+        pending = w.protocol.state.pending;
+      }) q w.nodes.image
+  keeps es q boxes numbers two =
+      keeps_on r w.ports w.nodes.image (h.kept two) (record r { journal = with_history r.journal es; window = r.window; pending = r.pending }) q
+      w.nodes.image refl refl (risen-same w.ports q boxes numbers) refl refl
+
+  pub ack_holds : IsRecord w.protocol.state → AreNumbered w.protocol.state w.ports → length w.ports.numbers ≡ length w.ports.boxes → (n : ℕ)
+      → n < w.protocol.state.window.to_commit
       → Holds (record w { protocol = record w.protocol { state = (ack_done w.ports.boxes w.protocol.state n).1 }; ports = ports_after_ack w.ports w.protocol.state n })
-  ack_holds k n below =
+  ack_holds k numbered clients n below =
       let after = (ack_done w.ports.boxes w.protocol.state n).1 in
       history_holds w h (landings w.ports.boxes (let_go w.ports.boxes w.protocol.state n)) after.window after.pending
       (ports_after_ack w.ports w.protocol.state n) refl refl
       (ap (λ (t : HistoryState). t.guest) (ack_lands w.start r w.ports h.accords k n below).1)
       (ack_accords w.start r w.ports h.accords k n below) refl refl
+      (λ two. keeps_ack r w.ports w.nodes.image (h.kept two) k numbered clients n below)
 
   module _ (c : ℕ) (low : 1 ≤ c) (high : c ≤ length w.ports.boxes) where
     pub take_holds : Holds (record w { protocol = record w.protocol { state = (take_done w.ports.boxes w.protocol.state c).1 }; ports = ports_after_take w.ports c })
     take_holds =
         history_holds w h (Took c (slice_get (list_of w.ports.boxes c) 0) ∷ []) r.window r.pending (ports_after_take w.ports c) refl refl refl
         (take_accords w.start r w.ports h.accords c low high) refl refl
+        (keeps (Took c (slice_get (list_of w.ports.boxes c) 0) ∷ []) (ports_after_take w.ports c)
+        (length-set w.ports.boxes (c - 1) (drop 1 (list_of w.ports.boxes c))) refl)
 
     pub lose_in_holds : (place n : ℕ) (f : Frame) → slice_get (list_of w.ports.inboxes c) place ≡ Some (n, f)
         → Holds (record w { protocol = record w.protocol { state = (loss_done w.protocol.state (DropIn n)).1 }; ports = ports_after_lose_in w.ports c place })
     lose_in_holds place n f there =
         history_holds w h (DropIn n ∷ []) r.window r.pending (ports_after_lose_in w.ports c place) refl refl refl
         (lose_in_accords w.start r w.ports h.accords c low high place n f there) refl refl
+        (keeps (DropIn n ∷ []) (ports_after_lose_in w.ports c place) refl refl)
 
     pub lose_out_holds : (place : ℕ) → place < length (list_of w.ports.boxes c)
         → Holds (record w { protocol = record w.protocol { state = (loss_done w.protocol.state (DropOut c place)).1 }; ports = ports_after_lose_out w.ports c place })
     lose_out_holds place there =
         history_holds w h (DropOut c place ∷ []) r.window r.pending (ports_after_lose_out w.ports c place) refl refl refl
         (lose_out_accords w.start r w.ports h.accords c low high place there) refl refl
+        (keeps (DropOut c place ∷ []) (ports_after_lose_out w.ports c place)
+        (length-set w.ports.boxes (c - 1) (remove (list_of w.ports.boxes c) place)) refl)
 
     module _ (bytes : List ℕ) (frame : IsFrame (record { items = bytes })) where
       abbrev the_frame : Frame
@@ -86,9 +110,10 @@ module _ (w : Pair) (h : Holds w) where
       deliver_holds =
           history_holds w h (Delivered c the_frame w.ports.next ∷ []) r.window r.pending (after_delivery w.ports c bytes) refl refl refl
           (deliver_accords w.start r w.ports h.accords c low high bytes frame) refl refl
+          (keeps (Delivered c the_frame w.ports.next ∷ []) (after_delivery w.ports c bytes) refl refl)
 
       pub full_holds : inbox_frames ≤ length (list_of w.ports.inboxes c)
           → Holds (record w { protocol = record w.protocol { state = record w.protocol.state { journal = with_history w.protocol.state.journal (Refused c the_frame ∷ []) } } })
       full_holds full =
           history_holds w h (Refused c the_frame ∷ []) r.window r.pending w.ports refl refl refl
-          (full_accords w.start r w.ports h.accords c low high bytes frame full) refl refl
+          (full_accords w.start r w.ports h.accords c low high bytes frame full) refl refl (keeps (Refused c the_frame ∷ []) w.ports refl refl)

@@ -1,12 +1,15 @@
 -- What the two nodes keep along a commit: the image takes in the oldest sealed text, an empty one as well as one that follows.
-use Rattle.std.proofs.Common.{rules, ◌≡◌, ℕ, zero, suc, ◌+◌, ◌-◌, ◌≤◌, List, ◌∷◌, ◌++◌, refl, ap, ◌∙◌, subst, arith, append_assoc, Bool}
-use Rattle.std.proofs.{Common.{true, false, cond, Some, None, Result, Ok, Err}, lemmas.Bool.eq-eqb, lemmas.Bool.Decides.nat_tests}
+use Rattle.std.proofs.Common.{rules, ◌≡◌, ℕ, zero, suc, ◌+◌, ◌-◌, ◌<◌, ◌≤◌, List, [], ◌∷◌}
+use Rattle.std.proofs.Common.{◌++◌, refl, sym, ap, ◌∙◌, subst, arith, append_assoc, Bool}
+use Rattle.std.proofs.{Common.{true, false, cond, Some, None, Result, Ok, Err}, lemmas.Bool.{eq-eqb, lt-ltb}, lemmas.Bool.Decides.nat_tests}
 use Rattle.std.specs.Prelude.{nat_lt, not, ◌==◌, ◌&&◌}
 use Rattle.guest_machine.specs.Guest.{Guest}
 use Rattle.epoch_snapshot.specs.{Bases.IsBase, Checkpoints.Change, Images.image_of}
-use Rattle.backup_image.specs.{declared.errors.ImageError.ImageError, declared.errors.ImageError.TheVariants.{Stale, Gap, OldVersion}}
+use Rattle.backup_image.specs.declared.errors.ImageError.{ImageError}
+use Rattle.backup_image.specs.declared.errors.ImageError.TheVariants.{Stale, Gap, OldVersion, Exhausted}
 use Rattle.backup_image.specs.{declared.standing.Staged.Staged, declared.standing.Staged.TheVariants.{New, Again}}
-use Rattle.backup_image.specs.Images.{ImageState, answer_at, is_old_delta, stage_answer, staged_after, after_stage, committed}
+use Rattle.backup_image.specs.Images.{ImageState, answer_at, if_numbered, is_old_delta, stage_answer, staged_after, after_stage, committed}
+use Rattle.backup_image.specs.{Kept.{kept_with, sent_with}, Limits.number_limit}
 use Rattle.pair_history.specs.internal.Moves.{Move, guest_along, frames_along}
 use Rattle.pair_history.proofs.Moves.{guest_along-append}
 use Rattle.pair_record.specs.internal.Accords.{all_moves}
@@ -15,12 +18,14 @@ use Rattle.pair_core.specs.{Nodes.{Nodes, machine_of, with_commit, first_text, l
 use Rattle.pair_core.proofs.NodesLaws.{shape-moves, reads-as, first-sealed, later-sealed}
 
 -- the image that a new checkpoint makes
-abbrev taken_in : ImageState → Change → ImageState
+abbrev pub taken_in : ImageState → Change → ImageState
 taken_in i c = record {
   shape = i.shape;
   guest = image_of c i.guest;
   stands_at = Some (record { generation = c.generation; number = c.number });
   staged = None;
+  kept = kept_with c i.kept;
+  sent = sent_with c i.sent;
 }
 
 takes-in : (i : ImageState) (c : Change) → stage_answer i c ≡ Ok New → committed (after_stage i c) ≡ taken_in i c
@@ -43,14 +48,14 @@ module _ (alone : Bool) (generation n : ℕ) (g : Guest) (ms : List Move) (mss :
   backed : IsBacked generation n g (ms ∷ mss) x
   backed = h.backed two
 
-  text : IsText x.image.shape generation n g (guest_along g ms) (first_text x.sealed)
+  text : IsText x.image.shape generation n g (guest_along g ms) (frames_along g ms) (first_text x.sealed)
   text = first-sealed x.image.shape generation n g ms mss x.sealed backed.sealed
 
-  abbrev change : Change
+  abbrev pub change : Change
   change = read_as x.image.shape (first_text x.sealed)
 
   change-is : change ≡ text.change
-  change-is = reads-as x.image.shape generation n g (guest_along g ms) (first_text x.sealed) text
+  change-is = reads-as x.image.shape generation n g (guest_along g ms) (frames_along g ms) (first_text x.sealed) text
 
   generation-is : change.generation ≡ generation
   generation-is = ap (λ (c : Change). c.generation) change-is ∙ text.of_generation
@@ -58,8 +63,12 @@ module _ (alone : Bool) (generation n : ℕ) (g : Guest) (ms : List Move) (mss :
   number-is : change.number ≡ n
   number-is = ap (λ (c : Change). c.number) change-is ∙ text.of_number
 
-  version-is : change.version ≡ 2
+  pub version-is : change.version ≡ 2
   version-is = ap (λ (c : Change). c.version) change-is ∙ text.of_version
+
+  -- what is committed carries the frames of the oldest sealed epoch
+  pub frames-are : change.frames ≡ frames_along g ms
+  frames-are = ap (λ (c : Change). c.frames) change-is ∙ text.frames
 
   -- no delta of version 1
   new-version : is_old_delta change ≡ false
@@ -70,8 +79,16 @@ module _ (alone : Bool) (generation n : ℕ) (g : Guest) (ms : List Move) (mss :
   is-next zero e = λ i. answer_at ((backed.fills e).empty i) (generation-is i) ((number-is ∙ e) i)
   is-next (suc m) e = search (arith, rules, backed, generation-is, next-is-new, number-is)
 
-  is-new : (m : ℕ) → n ≡ m → stage_answer x.image change ≡ Ok New
-  is-new m e = ap (λ old. cond old (Err OldVersion) (answer_at x.image.stands_at change.generation change.number)) new-version ∙ is-next m e
+  -- an image that no checkpoint was committed to keeps nothing
+  pub keeps-nothing : change.number ≡ 0 → (x.image.kept ≡ []) × (x.image.sent ≡ 0)
+  keeps-nothing e = let f = backed.fills (sym number-is ∙ e) in (f.kept, f.sent)
+
+  is-new : sent_with change x.image.sent < number_limit → (m : ℕ) → n ≡ m → stage_answer x.image change ≡ Ok New
+  is-new fits m e =
+      ap (λ old. cond old (Err OldVersion)
+      (if_numbered (sent_with change x.image.sent) (answer_at x.image.stands_at change.generation change.number))) new-version
+      ∙ ap (if_numbered (sent_with change x.image.sent)) (is-next m e)
+      ∙ ap (λ (t : Bool). cond t (Ok New) (Err Exhausted)) (lt-ltb (sent_with change x.image.sent) number_limit fits)
 
   makes : (m : ℕ) → n ≡ m → image_of change x.image.guest ≡ guest_along g ms
   makes zero e = search (arith, rules, backed)
@@ -102,5 +119,9 @@ module _ (alone : Bool) (generation n : ℕ) (g : Guest) (ms : List Move) (mss :
         shape = h.shape;
       }
 
-  pub nodes-commit : AreNodes alone generation (n + 1) (guest_along g ms) mss ran (with_commit x)
-  nodes-commit = rw (takes-in x.image change (is-new n refl)) taken
+  module _ (fits : sent_with change x.image.sent < number_limit) where
+    pub image-commit : (with_commit x).image ≡ taken_in x.image change
+    image-commit = takes-in x.image change (is-new fits n refl)
+
+    pub nodes-commit : AreNodes alone generation (n + 1) (guest_along g ms) mss ran (with_commit x)
+    nodes-commit = rw image-commit taken

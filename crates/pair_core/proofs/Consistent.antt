@@ -7,15 +7,15 @@ use Rattle.guest_machine.specs.{declared.shapes.Shape.Shape}
 use Rattle.frame_ports.specs.Addresses.{targets_of}
 use Rattle.output_gate.specs.Epochs.{frames_of}
 use Rattle.pair_history.specs.{Entries.{Frame, Entry, Ran, Arrive}, HistoryState.{HistoryState, at}}
-use Rattle.pair_history.specs.internal.Moves.{Move, Steps, Arrives, entries_of, guest_along, AllCan}
-use Rattle.pair_history.proofs.Moves.{moved, at-moves, Legal-moves, AllCan-front, AllCan-back}
+use Rattle.pair_history.specs.internal.Moves.{Move, Steps, Arrives, entries_of, guest_along, frames_along, AllCan}
+use Rattle.pair_history.proofs.Moves.{moved, at-moves, sent_along-moves, Legal-moves, AllCan-front, AllCan-back}
 use Rattle.pair_record.specs.internal.Accords.{all_moves, Accords}
 use Rattle.pair_core.specs.internal.Invariant.{first_moves, AreSealed, IsBacked, Holds, KeepsNothing}
 use Rattle.pair_record.specs.{Journal.{joined, first_of, kept_entries}, Modes.is_alone}
 use Rattle.pair_core.specs.Pair.{Pair, shown_state, live_state, HasBackup, ImageFollows, IsAlone, InMode, is_of_guest, IsConsistent}
 use Rattle.pair_record.specs.Protocol.{outbox_of}
-use Rattle.pair_record.specs.Record.{IsRecord, SuitsMode}
-use Rattle.pair_core.specs.Texts.{AreTexts}
+use Rattle.pair_record.specs.Record.{IsRecord, AreNumbered, SuitsMode}
+use Rattle.pair_core.specs.Texts.{IsText, AreTexts}
 use Rattle.pair_record.proofs.AccordLaws.{kept_now, left_now, sealed_now, live_guest, live_waiting as waits, sent_is, all_owed, kept_is}
 use Rattle.pair_record.proofs.AccordLaws.{sealed_state}
 
@@ -28,8 +28,10 @@ texts_are shape generation n s [] rest (t ∷ texts) can h = absurd h
 texts_are shape generation n s (ms ∷ mss) rest [] can h = absurd h
 texts_are shape generation n s (ms ∷ mss) rest (t ∷ texts) can h =
     let apart : AllCan s.waiting (ms ++ (all_moves mss ++ rest)) = subst (AllCan s.waiting) (append_assoc ms (all_moves mss) rest) can in
-    let is : moved s ms ≡ at s (entries_of ms) = sym (at-moves s ms (AllCan-front s.waiting ms (all_moves mss ++ rest) apart)) in (
-      rw (← is) h.0,
+    let first : AllCan s.waiting ms = AllCan-front s.waiting ms (all_moves mss ++ rest) apart in
+    let is : moved s ms ≡ at s (entries_of ms) = sym (at-moves s ms first) in (
+      subst (λ (fs : List Frame). IsText shape generation n s.guest (at s (entries_of ms)).guest fs t) (sym (sent_along-moves s ms first))
+          (subst (λ (to : HistoryState). IsText shape generation n s.guest to.guest (frames_along s.guest ms) t) is h.0),
       rw (← is) (texts_are shape generation (n + 1) (moved s ms) mss rest texts (AllCan-back s.waiting ms (all_moves mss ++ rest) apart)
           h.1),
     )
@@ -109,6 +111,6 @@ module _ (w : Pair) (h : Holds w) where
       by_mode Alone b s l = alone_is (l refl)
       by_mode other b s l = (has_backup (b refl), follows (b refl) s)
 
-  pub consistent : IsRecord w.protocol.state → IsConsistent w
-  consistent k =
+  pub consistent : IsRecord w.protocol.state → AreNumbered w.protocol.state w.ports → IsConsistent w
+  consistent k numbered =
       search (arith, rules, Legal-moves, in_mode, kept_entries_are, live_is, live_waiting, of_guest, outbox_is, owed_is)

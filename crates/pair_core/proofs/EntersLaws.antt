@@ -106,7 +106,7 @@ module _ (start : HistoryState) (r : Record) (kept : All OfGuest (kept_entries r
         );
     go_live = (
       guest-none (live_entries boxes (shown_at start r).out r.journal)
-          (live_all NotOfGuest (λ n. refl) (λ c place. refl) boxes (shown_at start r).out r.journal),
+          (live_all NotOfGuest (λ n. refl) (λ c. refl) (λ c place. refl) boxes (shown_at start r).out r.journal),
       refl,
     );
     protect = (refl, empty-stays);

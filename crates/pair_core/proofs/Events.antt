@@ -1,26 +1,30 @@
 -- Each event of the guest and of the backup keeps the invariant: the record's part is its own law, and here stands the nodes'.
 use Rattle.std.proofs.Common.{rules, ◌≡◌, ℕ, ◌+◌, ◌*◌, ◌<◌, ◌≤◌, List, [], ◌∷◌, ◌++◌, length, refl, sym, ap, ◌∙◌, subst, arith}
-use Rattle.std.proofs.{Common.{append_assoc, false, Some}, lemmas.List.{append-nil, length-map}}
+use Rattle.std.proofs.{Common.{append_assoc, Bool, false, Some}, lemmas.List.{append-nil, length-map}}
 use Rattle.std.specs.Prelude.{slice_get}
 use Rattle.failover.specs.declared.mode.Mode.{Mode}
 use Rattle.guest_machine.specs.{declared.shapes.Shape.Shape, Guest.Guest}
-use Rattle.epoch_snapshot.specs.Bases.{IsBase}
+use Rattle.epoch_snapshot.specs.{Bases.IsBase, Checkpoints.Change}
 use Rattle.frame_ports.specs.{Lands.list_of, Ports.empty_ports}
 use Rattle.pair_history.specs.{Entries.{Frame, Entry}, HistoryState.{start_state}}
 use Rattle.pair_history.specs.internal.Moves.{Move, Arrives, entries_of, guest_along, frames_along, left, AllCan}
 use Rattle.pair_history.proofs.Moves.{guest_along-append, frames_along-append}
 use Rattle.pair_record.specs.{internal.Accords.{AreClients, all_moves}, Journal.{with_running}, Modes.{is_alone, filled}}
-use Rattle.pair_record.specs.{Protocol.{cut_done, commit_done}, Record.{IsRecord, ports_after_admit}, Window.with_cut}
+use Rattle.pair_record.specs.{Protocol.{cut_done, commit_done}, Record.{IsRecord, AreNumbered, ports_after_admit}, Window.with_cut}
 use Rattle.pair_record.specs.Window.{with_commit as with_commit_window}
 use Rattle.pair_record.proofs.AccordLaws.{kept_now, left_now, moves_accord, arrival_accords, mode_accords}
-use Rattle.pair_record.proofs.AccordLaws.{some_moves, some_held, shown_after, commit_with, start_accords}
+use Rattle.pair_record.proofs.AccordLaws.{first_sends, some_moves, some_held, shown_after, commit_with, start_accords}
 use Rattle.pair_record.proofs.{ModeLaws.{clash, filled_alone}, LoneAccords.cut_accords}
-use Rattle.pair_core.specs.internal.Invariant.{AreSealed, AreNodes, Holds, Stands}
+use Rattle.pair_core.specs.internal.Invariant.{first_moves, AreSealed, AreNodes, Holds, Stands}
 use Rattle.pair_core.specs.Lines.{Lines, packet, with_back, start_protocol, AreNamed}
 use Rattle.pair_core.specs.{Pair.{Pair, shown_state}, Texts.IsText}
-use Rattle.pair_core.specs.Nodes.{Node, HasShape, machine_of, start_nodes, with_arrival, with_sealed, with_commit, first_text}
+use Rattle.pair_core.specs.Nodes.{Node, HasShape, machine_of, start_nodes, with_arrival, with_sealed, with_commit}
+use Rattle.pair_core.specs.Nodes.{first_text, read_as}
 use Rattle.pair_core.proofs.NodesLaws.{shape-arrived, base-with_arrival, first-sealed, length-sealed, backed-live, nodes-cut, nodes-start}
-use Rattle.pair_core.proofs.{CommitLaws.{nodes-commit}, LineLaws.{named-more, named-back}}
+use Rattle.pair_core.proofs.NodesLaws.{reads-version, reads-frames}
+use Rattle.pair_core.proofs.{CommitLaws.{change, frames-are, image-commit, keeps-nothing, nodes-commit}, LineLaws.{named-more, named-back}}
+use Rattle.pair_core.proofs.KeptLaws.{commit_fits, keeps_commit, keeps_cut, keeps_none, keeps_on, risen-same}
+use Rattle.backup_image.specs.Images.{ImageState}
 
 -- THE GUEST GOES ON by moves, in the epoch that runs
 
@@ -63,11 +67,18 @@ module _ (w : Pair) (h : Holds w) (ms : List Move) (live : Node)
         nodes = record w.nodes { live = live };
       })
   moves_stand es inboxes es_are can clients =
-      (moves_accord w.start w.protocol.state w.ports h.accords ms es inboxes es_are can clients, nodes_moved, h.lines)
+      let r = w.protocol.state in
+      let p = w.ports in (
+        moves_accord w.start r p h.accords ms es inboxes es_are can clients,
+        nodes_moved,
+        h.lines,
+        λ two. keeps_on r p w.nodes.image (h.kept two) (record r { journal = with_running r.journal es }) (record p { inboxes = inboxes })
+            w.nodes.image refl refl (risen-same p (record p { inboxes = inboxes }) refl refl) refl refl,
+      )
 
 -- in a pair that is all
 pub two_hold : (w : Pair) → is_alone w.protocol.state.mode ≡ false → Stands w → Holds w
-two_hold w two h = record { accords = h.0; lines = h.2; nodes = h.1; still = λ alone. absurd (clash (is_alone w.protocol.state.mode) alone two) }
+two_hold w two h = record { accords = h.0; lines = h.2; nodes = h.1; kept = h.3; still = λ alone. absurd (clash (is_alone w.protocol.state.mode) alone two) }
 
 -- Admit: the first frame of a client arrives
 
@@ -83,13 +94,16 @@ admit_stands w h c n f low high first = (
   nodes_moved w h (Arrives n f ∷ []) (with_arrival w.nodes f).live refl (sym (append-nil w.nodes.live.outbox))
       (λ t k. shape-arrived f t w.nodes.live.guest k) (λ b k. base-with_arrival f w.nodes b k),
   h.lines,
+  λ two. keeps_on w.protocol.state w.ports w.nodes.image (h.kept two)
+      (record w.protocol.state { journal = with_running w.protocol.state.journal (entries_of (Arrives n f ∷ [])) })
+      (ports_after_admit w.ports c) w.nodes.image refl refl (risen-same w.ports (ports_after_admit w.ports c) refl refl) refl refl,
 )
 
 -- CUT: the running epoch is sealed
 
-module _ (w : Pair) (h : Holds w) (k : IsRecord w.protocol.state) (text : List ℕ)
+module _ (w : Pair) (h : Holds w) (k : IsRecord w.protocol.state) (numbered : AreNumbered w.protocol.state w.ports) (text : List ℕ)
     (is_text : (base : Guest) → IsBase (machine_of w.nodes.live) base → HasShape w.nodes.image.shape w.nodes.live.guest
-    → IsText w.nodes.image.shape w.protocol.state.generation w.protocol.state.window.to_cut base w.nodes.live.guest text) where
+    → IsText w.nodes.image.shape w.protocol.state.generation w.protocol.state.window.to_cut base w.nodes.live.guest w.nodes.live.outbox text) where
   pub cut_holds : Holds (record w { protocol = record w.protocol { state = (cut_done w.nodes.live.outbox w.protocol.state).1 }; nodes = with_sealed w.nodes text })
   cut_holds =
       let s = shown_state w in
@@ -104,6 +118,8 @@ module _ (w : Pair) (h : Holds w) (k : IsRecord w.protocol.state) (text : List �
             nodes-cut (is_alone w.protocol.state.mode) w.protocol.state.generation w.protocol.state.window.to_commit s.guest mss
             h.accords.journal.running_moves w.nodes w.protocol.state.window.to_cut text h.nodes counted
             (λ e. is_text (guest_along s.guest (all_moves mss)) (h.nodes.backed e).base h.nodes.shape);
+        kept = λ two. keeps_cut w.protocol.state w.ports w.nodes.image (h.kept two) k.window numbered.held w.protocol.state.journal.running []
+            w.nodes.live.outbox;
         still = λ e. refl;
       }
 
@@ -111,7 +127,7 @@ module _ (w : Pair) (h : Holds w) (k : IsRecord w.protocol.state) (text : List �
 
 pub lines_hold : (w : Pair) → Holds w → (l : Lines) → AreNamed w.protocol.state.generation w.protocol.state.window l
     → Holds (record w { protocol = record w.protocol { lines = l } })
-lines_hold w h l named = record { accords = h.accords; lines = named; nodes = h.nodes; still = h.still }
+lines_hold w h l named = record { accords = h.accords; lines = named; nodes = h.nodes; kept = h.kept; still = h.still }
 
 -- FAILPRIMARY: only the mode
 
@@ -121,30 +137,48 @@ mode_holds w h mode same = record {
   accords = mode_accords w.start w.protocol.state w.ports h.accords mode;
   lines = h.lines;
   nodes = rw (← same) h.nodes;
+  kept = λ two. keeps_on w.protocol.state w.ports w.nodes.image (h.kept (same ∙ two)) (record w.protocol.state { mode = mode }) w.ports
+      w.nodes.image refl refl (risen-same w.ports w.ports refl refl) refl refl;
   still = λ e. h.still (same ∙ e);
 }
 
--- each checkpoint that was cut and not committed has its text
+-- each checkpoint that was cut and not committed has its text, which carries the frames of its epoch
 module _ (w : Pair) (h : Holds w) (k : IsRecord w.protocol.state) (two : is_alone w.protocol.state.mode ≡ false)
     (more : w.protocol.state.window.to_commit < w.protocol.state.window.to_cut) where
-  abbrev IsOldest : Guest → List (List ℕ) → Type 0
-  IsOldest after texts =
+  abbrev IsOldest : List Move → List (List ℕ) → Type 0
+  IsOldest ms texts =
       (0 < length texts)
-      × IsText w.nodes.image.shape w.protocol.state.generation w.protocol.state.window.to_commit (shown_state w).guest after (first_text texts)
+      × IsText w.nodes.image.shape w.protocol.state.generation w.protocol.state.window.to_commit (shown_state w).guest
+      (guest_along (shown_state w).guest ms) (frames_along (shown_state w).guest ms) (first_text texts)
 
-  pub oldest_text : (after : Guest) × IsOldest after w.nodes.sealed
+  pub oldest_text : IsOldest (first_moves h.accords.journal.sealed_moves) w.nodes.sealed
   oldest_text = by_moves h.accords.journal.sealed_moves (h.nodes.backed two).sealed
       (some_moves w.start w.protocol.state w.ports h.accords k more)
     where
       by_moves : (mss : List (List Move)) → AreSealed w.nodes.image.shape w.protocol.state.generation w.protocol.state.window.to_commit
           (shown_state w).guest mss w.nodes.sealed
-          → 0 < length mss → (after : Guest) × IsOldest after w.nodes.sealed
+          → 0 < length mss → IsOldest (first_moves mss) w.nodes.sealed
       by_moves [] s l = absurd (omega arith)
       by_moves (ms ∷ mss) s l = search (arith, rules, first-sealed, length-sealed)
 
+  -- what the image takes in next is of version 2, and carries the frames that the guest sent along the oldest sealed epoch
+  abbrev oldest : Change
+  oldest = read_as w.nodes.image.shape (first_text w.nodes.sealed)
+
+  pub oldest_version : oldest.version ≡ 2
+  oldest_version =
+      reads-version w.nodes.image.shape w.protocol.state.generation w.protocol.state.window.to_commit (shown_state w).guest _ _
+      (first_text w.nodes.sealed) oldest_text.1
+
+  pub oldest_frames : oldest.frames ≡ frames_along (shown_state w).guest (first_moves h.accords.journal.sealed_moves)
+  oldest_frames =
+      reads-frames w.nodes.image.shape w.protocol.state.generation w.protocol.state.window.to_commit (shown_state w).guest _ _
+      (first_text w.nodes.sealed) oldest_text.1
+
 -- COMMIT: the oldest sealed epoch moves to the history, and the image takes its checkpoint in
 
-module _ (w : Pair) (h : Holds w) (k : IsRecord w.protocol.state) (two : is_alone w.protocol.state.mode ≡ false) where
+module _ (w : Pair) (h : Holds w) (k : IsRecord w.protocol.state) (numbered : AreNumbered w.protocol.state w.ports)
+    (two : is_alone w.protocol.state.mode ≡ false) where
   abbrev pub after_commit : Pair
   after_commit = record w {
     protocol = record {
@@ -169,6 +203,15 @@ module _ (w : Pair) (h : Holds w) (k : IsRecord w.protocol.state) (two : is_alon
           rw same (subst (λ (x : List (List Move)). AreNodes (is_alone r.mode) r.generation n s.guest x ran w.nodes) p h.nodes) in
           let shown = shown_after w.start r w.ports h.accords k ms mss p in
           let held = some_held w.start r w.ports h.accords k (some_moves w.start r w.ports h.accords k more) in
+          let lone : Bool = is_alone (filled r.mode) in
+          let not : lone ≡ false = same ∙ two in
+          let c = change lone r.generation n s.guest ms mss ran w.nodes now not in
+          let frames : c.frames ≡ held.0.frames =
+          frames-are lone r.generation n s.guest ms mss ran w.nodes now not
+          ∙ sym (first_sends w.start r w.ports h.accords k ms mss p held.0 held.1 held.2) in
+          let full = keeps-nothing lone r.generation n s.guest ms mss ran w.nodes now not in
+          let keeps = h.kept two in
+          let fits = commit_fits r w.ports w.nodes.image keeps k numbered.held held.0 held.1 held.2 c frames full numbered.left in
           record {
             accords = commit_with w.start r w.ports h.accords k ms mss p held.0 held.1 held.2;
             lines =
@@ -177,7 +220,10 @@ module _ (w : Pair) (h : Holds w) (k : IsRecord w.protocol.state) (two : is_alon
             nodes =
                 subst (λ (g : Guest). AreNodes (is_alone (filled r.mode)) r.generation (n + 1) g mss ran (with_commit w.nodes))
                 (ap (λ t. t.guest) (sym shown))
-                (nodes-commit (is_alone (filled r.mode)) r.generation n s.guest ms mss ran w.nodes now (same ∙ two));
+                (nodes-commit lone r.generation n s.guest ms mss ran w.nodes now not fits);
+            kept = λ e. keeps_commit r w.ports w.nodes.image keeps k numbered.held held.0 held.1 held.2 c frames full (with_commit w.nodes).image
+                (ap (λ (x : ImageState). x.kept) (image-commit lone r.generation n s.guest ms mss ran w.nodes now not fits))
+                (ap (λ (x : ImageState). x.sent) (image-commit lone r.generation n s.guest ms mss ran w.nodes now not fits));
             still = λ e. h.still (sym same ∙ e);
           }
 
@@ -197,5 +243,6 @@ start_holds shape image clients fits = record {
   accords = start_accords shape.pages shape.sectors image clients;
   lines = record { forward = tt; back = tt };
   nodes = nodes-start shape image fits;
+  kept = λ two. keeps_none (start_pair shape image clients).protocol.state (empty_ports clients) (start_nodes shape image).image refl refl refl refl;
   still = λ e. refl;
 }

@@ -1,7 +1,7 @@
 -- Where the backup goes live: what was kept is discarded, and the guest is the history's.
 use Rattle.std.proofs.Common.{◌≡◌, ℕ, ◌+◌, ◌<◌, ◌≤◌, [], refl, sym, subst, arith, true, false}
 use Rattle.frame_ports.specs.Limits.{number_limit}
-use Rattle.pair_record.specs.{Modes.is_alone, Record.owed_to, Protocol.go_live_done, Window.none_pending}
+use Rattle.pair_record.specs.{Modes.is_alone, Record.{owed_to, ports_after_live}, Protocol.go_live_done, Window.none_pending}
 use Rattle.pair_record.proofs.LiveAccords.{live_shown_is, live_accords}
 use Rattle.pair_core.specs.internal.Invariant.{AreNodes, Holds}
 use Rattle.pair_core.specs.{Nodes.{HasShape, gone_live}, Pair.{Pair, shown_state}}
@@ -11,6 +11,7 @@ module _ (w : Pair) (h : Holds w) (two : is_alone w.protocol.state.mode ≡ fals
     (last : w.protocol.state.generation + 1 < number_limit) where
   pub gone_live_holds : Holds (record w {
     protocol = record w.protocol { state = (go_live_done w.ports.boxes (owed_to w.protocol.state w.ports) steps w.protocol.state).1 };
+    ports = ports_after_live w.ports w.protocol.state;
     nodes = gone_live w.nodes;
   })
   gone_live_holds =
@@ -31,5 +32,6 @@ module _ (w : Pair) (h : Holds w) (two : is_alone w.protocol.state.mode ≡ fals
         accords = live_accords w.start r w.ports h.accords steps;
         lines = named-next r w.protocol.lines h.lines (none_pending r.window.to_commit);
         nodes = rw (live_shown_is w.start r w.ports h.accords) nodes;
+        kept = λ e. absurd (cc);
         still = λ e. refl;
       }

@@ -2,6 +2,7 @@ pub mod LineLaws
 pub mod AlongLaws
 pub mod NodesLaws
 pub mod CommitLaws
+pub mod KeptLaws
 pub mod Ends
 pub mod ModeRows
 pub mod Events

@@ -1,5 +1,6 @@
 -- Laws of the lines.
-use Rattle.std.proofs.Common.{rules, ◌≡◌, ℕ, zero, suc, ◌+◌, ◌-◌, ◌<◌, ◌≤◌, List, [], ◌∷◌, ◌++◌, length, refl, sym, ap, ◌∙◌, arith, append_assoc}
+use Rattle.std.proofs.Common.{rules, ◌≡◌, ℕ, zero, suc, ◌+◌, ◌-◌, ◌<◌, ◌≤◌, List, [], ◌∷◌}
+use Rattle.std.proofs.Common.{◌++◌, length, refl, sym, ap, ◌∙◌, arith, append_assoc}
 use Rattle.std.proofs.{Common.{Result, Ok, Err, OnOk, OnErr}, lemmas.List.map-append}
 use Rattle.std.specs.Prelude.{map, Option, None, Some, slice_get, slice_index_or, IfSome}
 use Rattle.lossy_line.specs.Lines.{Packets}

@@ -9,7 +9,7 @@ use Rattle.guest_machine.proofs.{ApartLemmas.arrived-apart, ListedLemmas.run-lis
 use Rattle.guest_machine.proofs.MemoryLemmas.{boot-kept, next-kept, arrived-kept, next-disk_bytes}
 use Rattle.epoch_snapshot.specs.{Bases.{IsBase, IsCut}, Checkpoints.Change, Cuts.sector_of, Images.image_of}
 use Rattle.checkpoint_stream.specs.{declared.place.Place.TheVariants.Whole, ReadBack.ReadsBack, Readings.{begun, fed}, Sound.change_in}
-use Rattle.pair_history.specs.{Entries.Frame, internal.Moves.{Move, Steps, Arrives, guest_along}}
+use Rattle.pair_history.specs.{Entries.Frame, internal.Moves.{Move, Steps, Arrives, guest_along, frames_along}}
 use Rattle.pair_history.proofs.Moves.{guest_along-append}
 use Rattle.pair_record.specs.internal.Accords.{all_moves}
 use Rattle.pair_record.proofs.AccordLaws.{all_moves-push}
@@ -80,7 +80,8 @@ base-settled g = record { ram = refl; size = refl; sectors = λ i low none. refl
 
 -- Texts
 
-module _ (shape : Shape) (generation n : ℕ) (before after : Guest) (text : List ℕ) (h : IsText shape generation n before after text) where
+module _ (shape : Shape) (generation n : ℕ) (before after : Guest) (sent : List Frame) (text : List ℕ)
+    (h : IsText shape generation n before after sent text) where
   pub reads-whole : (fed (begun shape 0) text).place ≡ Whole
   unfolding ReadsBack
   reads-whole = ap (λ s. (fed (begun s 0) text).place) (sym h.of_shape) ∙ (h.reads_back 0).0
@@ -91,6 +92,12 @@ module _ (shape : Shape) (generation n : ℕ) (before after : Guest) (text : Lis
 
   pub reads-shape : (read_as shape text).shape ≡ shape
   reads-shape = ap (λ (c : Change). c.shape) reads-as ∙ h.of_shape
+
+  pub reads-version : (read_as shape text).version ≡ 2
+  reads-version = ap (λ (c : Change). c.version) reads-as ∙ h.of_version
+
+  pub reads-frames : (read_as shape text).frames ≡ sent
+  reads-frames = ap (λ (c : Change). c.frames) reads-as ∙ h.frames
 
 -- a shape is its two numbers
 abbrev made : (pages sectors : ℕ) → 1 ≤ pages → pages ≤ 4096 → 1 ≤ sectors → sectors ≤ 32768 → Shape
@@ -115,10 +122,10 @@ cut-shape : (old listed : List ℕ) (sent : List Frame) (m : State) (generation 
     → HasShape shape m.guest → c.shape ≡ shape
 cut-shape old listed sent m generation number c shape cut sized = search (arith, rules, same-shape)
 
--- the text of a machine's delta makes the machine's guest of the one that the machine was last settled at
+-- the text of a machine's delta makes the machine's guest of the one that the machine was last settled at, and carries what was cut
 pub delta-text : (old listed : List ℕ) (sent : List Frame) (m : State) (generation number : ℕ) (c : Change) (shape : Shape)
     (text : List ℕ) (base : Guest) → IsCut old listed sent m generation number c → ReadsBack c text → image_of c base ≡ m.guest → HasShape shape m.guest
-    → IsText shape generation number base m.guest text
+    → IsText shape generation number base m.guest sent text
 delta-text old listed sent m generation number c shape text base cut reads image sized = search (arith, rules, cut-shape)
 
 -- whichever pages count as written, it is the same base
@@ -134,7 +141,8 @@ module _ (shape : Shape) (generation : ℕ) where
   length-sealed n g (ms ∷ mss) (t ∷ texts) h = ap suc (length-sealed (n + 1) (guest_along g ms) mss texts h.1)
 
   pub first-sealed : (n : ℕ) (g : Guest) (ms : List Move) (mss : List (List Move)) (texts : List (List ℕ))
-      → AreSealed shape generation n g (ms ∷ mss) texts → IsText shape generation n g (guest_along g ms) (first_text texts)
+      → AreSealed shape generation n g (ms ∷ mss) texts
+      → IsText shape generation n g (guest_along g ms) (frames_along g ms) (first_text texts)
   first-sealed n g ms mss [] h = absurd h
   first-sealed n g ms mss (t ∷ texts) h = h.0
 
@@ -145,7 +153,9 @@ module _ (shape : Shape) (generation : ℕ) where
 
   sealed-push : (n : ℕ) (g : Guest) (mss : List (List Move)) (texts : List (List ℕ)) (ms : List Move) (m : ℕ) (text : List ℕ)
       → AreSealed shape generation n g mss texts
-      → n + length mss ≡ m → IsText shape generation m (guest_along g (all_moves mss)) (guest_along (guest_along g (all_moves mss)) ms) text
+      → n + length mss ≡ m
+      → IsText shape generation m (guest_along g (all_moves mss)) (guest_along (guest_along g (all_moves mss)) ms)
+      (frames_along (guest_along g (all_moves mss)) ms) text
       → AreSealed shape generation n g (mss ++ ms ∷ []) (texts ++ text ∷ [])
   sealed-push n g [] [] ms m text h e t =
       let same : m ≡ n = omega arith in
@@ -174,7 +184,7 @@ first-push (x ∷ mss) ms l = refl
 pub nodes-cut : (alone : Bool) (generation n : ℕ) (g : Guest) (mss : List (List Move)) (ran : List Move) (x : Nodes) (m : ℕ)
     (text : List ℕ)
     → AreNodes alone generation n g mss ran x → n + length mss ≡ m
-    → (alone ≡ false → IsText x.image.shape generation m (guest_along g (all_moves mss)) x.live.guest text)
+    → (alone ≡ false → IsText x.image.shape generation m (guest_along g (all_moves mss)) x.live.guest x.live.outbox text)
     → AreNodes alone generation n g (mss ++ ran ∷ []) [] (with_sealed x text)
 nodes-cut alone generation n g mss ran x m text h e t =
     search (arith, rules, all_moves-push, append-nil, base-settled, first-push, guest_along-append, length-sealed, sealed-push)

@@ -6,18 +6,21 @@ use Rattle.std.specs.Prelude.{map, slice_get, IfOk, All}
 use Rattle.memory_wanted.specs.{Wanted.wanted, declared.MemoryWanted.MemoryWanted}
 use Rattle.guest_machine.specs.Step.{sent}
 use Rattle.frame_ports.specs.Lands.{list_of}
-use Rattle.pair_history.specs.{Entries.{Frame, Entry, Ran, Arrive, DropOut, Took, Begins}, HistoryState.HistoryState, Landings.{DropsAtFull, DropsNone}}
-use Rattle.pair_history.specs.{Leaving.{LeaveInOrder, NotGivenUp, leaves_by, frames_left}, internal.Moves.{Move, Steps, Arrives, entries_of}}
-use Rattle.pair_history.proofs.{LeavingLaws.{TakesNone, none_leave}, Moves.DropsNone-moves}
+use Rattle.pair_history.specs.Entries.{Frame, Entry, Ran, Arrive, DropOut, Took, Begins}
+use Rattle.pair_history.specs.{HistoryState.HistoryState, Landings.{DropsAtFull, DropsNone}}
+use Rattle.pair_history.specs.Leaving.{LeaveInOrder, NotGivenUp, leaves_by, frames_left}
+use Rattle.pair_history.specs.internal.Moves.{Move, Steps, Arrives, entries_of}
+use Rattle.pair_history.proofs.{FailureLaws.go_live_leaves, LeavingLaws.{TakesNone, none_leave}, Moves.DropsNone-moves}
 use Rattle.pair_record.specs.{declared.event.Event.Event, declared.event.Event.TheVariants.{Step, FailBackup, GoLive}}
 use Rattle.pair_record.specs.declared.event.Refusal.{Refusal}
 use Rattle.pair_record.specs.{declared.event.Refusal.TheVariants.NoMemory, declared.event.Reply.Reply}
 use Rattle.pair_core.specs.Answering.{Answers, MayWantMemory}
-use Rattle.pair_record.specs.{Journal.first_of, Modes.is_alone}
+use Rattle.pair_record.specs.{Journal.{first_of, kept_entries}, Modes.is_alone}
 use Rattle.pair_core.specs.{Drops.{DropsOnly, LetsOut, Drops}, internal.Invariant.Holds}
 use Rattle.pair_record.specs.{Protocol.{outcome, step_entries}, Record.IsRecord}
 use Rattle.pair_core.specs.Pair.{Pair, shown_state, live_state}
-use Rattle.pair_record.proofs.{LoneAccords.{step_drops, failure_drops}, ClientAccords.{ack_lands, ack_leaves}}
+use Rattle.pair_record.proofs.LoneAccords.{step_drops, failure_drops}
+use Rattle.pair_record.proofs.{ClientAccords.{ack_lands, ack_leaves}, LiveAccords.{all_clients, all_fit}}
 use Rattle.pair_core.proofs.Ends.{Ends, answers_end, at_once}
 use Rattle.pair_core.proofs.LineLaws.{below_at}
 use Rattle.pair_core.specs.Lines.{Protocol, got, lines_after}
@@ -90,7 +93,6 @@ module _ (w : Pair) (h : Holds w) (k : IsRecord w.protocol.state) where
   refused-lets : (event : Event) (why : Refusal) → LetsOut w.start w.protocol.state event (replies.Refused why) []
   refused-lets Step why = λ two. none_out
   refused-lets FailBackup why = tt
-  refused-lets GoLive why = tt
   refused-lets other why = none_out
 
   -- what the guest did lets nothing out
@@ -134,7 +136,8 @@ module _ (w : Pair) (h : Holds w) (k : IsRecord w.protocol.state) where
     lose_out = λ c place f is. boxed-out c place (within (list_of boxes c) place f is);
     fail_primary = λ goes. none_out;
     fail_backup = tt;
-    go_live = tt;
+    go_live = go_live_leaves s (kept_entries w.protocol.state.journal) (all_clients w.start w.protocol.state w.ports h.accords)
+        (all_fit w.start w.protocol.state w.ports h.accords);
     protect = none_out;
   }
     where

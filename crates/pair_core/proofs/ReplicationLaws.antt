@@ -5,7 +5,7 @@ use Rattle.failover.specs.{declared.mode.Mode.Mode, declared.mode.Mode.TheVarian
 use Rattle.guest_machine.specs.{declared.shapes.Shape.Shape, Guest.Guest}
 use Rattle.backup_image.specs.Images.{empty_image}
 use Rattle.epoch_snapshot.specs.{Checkpoints.Change, Images.image_of}
-use Rattle.pair_history.specs.{Entries.Entry, HistoryState.{HistoryState, at}}
+use Rattle.pair_history.specs.{Entries.Entry, HistoryState.{HistoryState, at, sent_along}}
 use Rattle.pair_history.proofs.States.{at-append}
 use Rattle.pair_record.specs.Journal.{joined, kept_entries, first_of, rest_of}
 use Rattle.pair_record.specs.Modes.{is_alone, filled}
@@ -31,7 +31,7 @@ texts-make shape generation n s [] (t ∷ texts) h = absurd h
 texts-make shape generation n s (es ∷ ess) [] h = absurd h
 texts-make shape generation n s (es ∷ ess) (t ∷ texts) h =
     let is : image_of (read_as shape t) s.guest ≡ (at s es).guest =
-    ap (λ (c : Change). image_of c s.guest) (reads-as shape generation n s.guest (at s es).guest t h.0) ∙ h.0.image in
+    ap (λ (c : Change). image_of c s.guest) (reads-as shape generation n s.guest (at s es).guest (sent_along s es) t h.0) ∙ h.0.image in
     ap (λ (g : Guest). g ∷ guests_of shape g texts) is
     ∙ ap (λ t. (at s es).guest ∷ t) (texts-make shape generation (n + 1) (at s es) ess texts h.1)
 
@@ -149,14 +149,14 @@ module _ (w : Pair) (k : IsRecord w.protocol.state) (two : is_alone w.protocol.s
 -- PROTECT: the full checkpoint's text makes the live guest
 
 pub protect_replicates : (x : Nodes) (generation : ℕ) (text : List ℕ)
-    → ((before : Guest) → IsText x.image.shape generation 0 before x.live.guest text) → IsProtected x (with_protected x text)
+    → ((before : Guest) → IsText x.image.shape generation 0 before x.live.guest [] text) → IsProtected x (with_protected x text)
 protect_replicates x generation text is_text =
     let shape = x.image.shape in
     let before = (empty_image shape).guest in
     let is = is_text before in
     record {
       only =
-          ap (λ (c : Change). image_of c before ∷ []) (reads-as shape generation 0 before x.live.guest text is)
+          ap (λ (c : Change). image_of c before ∷ []) (reads-as shape generation 0 before x.live.guest [] text is)
           ∙ ap (λ (g : Guest). g ∷ []) is.image;
       live = refl;
       empty = refl;

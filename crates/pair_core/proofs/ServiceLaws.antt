@@ -1,5 +1,6 @@
 -- What one event is to the clients, from what the pair knows of it.
-use Rattle.std.proofs.{Common.{◌≡◌, List, [], ◌∷◌, ◌++◌, refl, sym, ap, ◌∙◌, inl, inr, subst, true}, lemmas.List.{append-nil, append_cancel_left}}
+use Rattle.std.proofs.Common.{◌≡◌, List, [], ◌∷◌, ◌++◌, refl, sym, ap, ◌∙◌, inl, inr, subst, true}
+use Rattle.std.proofs.lemmas.List.{append-nil, append_cancel_left}
 use Rattle.std.proofs.lemmas.List.Elements.{All-head, All-tail}
 use Rattle.std.specs.Prelude.{All}
 use Rattle.guest_machine.specs.Guest.{Guest}
@@ -13,7 +14,8 @@ use Rattle.pair_record.specs.Modes.{is_alone, mode_refusal}
 use Rattle.pair_core.specs.{Calls.Moment, Pair.{Pair, IsConsistent}}
 use Rattle.pair_record.specs.Protocol.{go_live_done, Record, Outcome, refused, first_refusal, shown_at, live_at, live_entries}
 use Rattle.pair_record.specs.Protocol.{go_live_refusals}
-use Rattle.pair_core.specs.{Answering.AnswersIn, Lines.{Lines, Protocol, got}, Service.{moment, Resumes, Enters, Tells, Serves, guest_entries}}
+use Rattle.pair_core.specs.{Answering.AnswersIn, Lines.{Lines, Protocol, got}}
+use Rattle.pair_core.specs.Service.{moment, Resumes, Enters, Tells, Serves, guest_entries}
 use Rattle.pair_core.proofs.Consistent.{lone}
 use Rattle.pair_core.proofs.{CallLaws.answers_call, EntersLaws.enters_all, Ends.{by_table, answers_end}}
 use Rattle.pair_core.proofs.Tells.{OfGuest, live_all, tells_all}
@@ -49,7 +51,7 @@ module _ (start : HistoryState) (r new : Record) (g : Guest) (live : g ≡ (live
             ∙ ap (λ (o : Outcome). (live_at start o.1).guest.steps) e
             ∙ ap (λ (t : List Entry). (at start t).guest.steps) (append-nil (h ++ es))
             ∙ ap (λ (t : HistoryState). t.guest.steps) (at-append start h es)
-            ∙ ap (λ (g : Guest). g.steps) (drops_guest s es (live_all Keeps (λ n t. refl) (λ c place t. refl) s.boxes s.out r.journal)),
+            ∙ ap (λ (g : Guest). g.steps) (drops_guest s es (live_all Keeps (λ n t. refl) (λ c t. refl) (λ c place t. refl) s.boxes s.out r.journal)),
       )
 
   resumes_refused : (reply : Reply) (why : Refusal) → reply ≡ replies.Refused why → Resumes GoLive reply (moment_of new g)

@@ -2,7 +2,7 @@
 use Rattle.std.proofs.Common.{rules, ◌≡◌, ℕ, zero, suc, ◌+◌, ◌<◌, ◌≤◌, List, [], ◌∷◌, ◌++◌, length, replicate, refl, sym, ap, ◌∙◌, subst}
 use Rattle.std.proofs.Common.{arith, append_assoc, Bool, true, false, cond, Option, None, Some, Result, Ok, Err, OnErr}
 use Rattle.std.proofs.{lemmas.Bool.Decides.nat_tests, lemmas.List.{append-nil, length-append, length-replicate}}
-use Rattle.std.specs.Prelude.{nat_lt}
+use Rattle.std.specs.Prelude.{nat_lt, ◌&&◌}
 use Rattle.guest_machine.specs.{Guest.Guest, Step.{next, sent}, Runs.{after_steps, sent_in, marked_in, HaveRoom}}
 use Rattle.frame_ports.specs.Limits.{number_limit}
 use Rattle.pair_history.specs.{Entries.{Frame, Ran}, HistoryState.HistoryState}
@@ -13,7 +13,7 @@ use Rattle.pair_core.specs.internal.Invariant.{Holds, Stands}
 use Rattle.pair_record.specs.Modes.{is_stopped, is_alone}
 use Rattle.pair_core.specs.{Nodes.after_run, Pair.Pair}
 use Rattle.pair_record.specs.Protocol.{step_outcome, outbox_of, step_room, step_entries, Record, Outcome, first_refusal, or_else, refused}
-use Rattle.pair_record.specs.Protocol.{shown_at, live_at, step_refusals, step_done}
+use Rattle.pair_record.specs.{GuestActs.frame_after_step, Protocol.{shown_at, live_at, step_refusals, step_done}, Tables.frames_run_out}
 use Rattle.pair_core.specs.Answering.{step_reply}
 use Rattle.pair_core.specs.Runs.{goes_on, steps_outcome, with_steps}
 use Rattle.pair_record.proofs.AccordLaws.{left_now}
@@ -112,29 +112,37 @@ one-step-answered start r = refl
 
 -- where the guest runs, and the outbox and the history have room, no row applies
 none_applies : (r : Record) (outbox : List Frame) → is_stopped r.mode ≡ false → length outbox ≤ 192
-    → length (all_entries r.journal) + step_room r.mode < number_limit → first_refusal (step_refusals outbox r) ≡ None
-none_applies r outbox runs few room =
+    → length (all_entries r.journal) + step_room r.mode < number_limit → (is_alone r.mode && frames_run_out r) ≡ false
+    → first_refusal (step_refusals outbox r) ≡ None
+none_applies r outbox runs few room numbers =
     λ i. cond (runs i) (Some Stopped) (cond (no_lt 192 (length outbox) few i) (Some CutNeeded)
     (cond (test_below number_limit (length (all_entries r.journal) + step_room r.mode) room i)
-    (Some Exhausted) None))
+    (Some Exhausted) (cond (numbers i) (Some Exhausted) None)))
   where
     no_lt : (a b : ℕ) → b ≤ a → nat_lt a b ≡ false
     no_lt a b l = grind (arith, nat_tests)
 
 pub step_goes : (w : Pair) → Holds w → is_stopped w.protocol.state.mode ≡ false → length w.nodes.live.outbox ≤ 192
     → length (all_entries w.protocol.state.journal) + step_room w.protocol.state.mode < number_limit
+    → (is_alone w.protocol.state.mode && frames_run_out w.protocol.state) ≡ false
     → step_done w.ports.boxes (sent w.nodes.live.guest) (next w.nodes.live.guest).steps w.protocol.state ≡ step_outcome w.start w.protocol.state
-step_goes w h runs few room =
+step_goes w h runs few room numbers =
     let g = w.nodes.live.guest in
     goes w.protocol.state (step_refusals w.nodes.live.outbox w.protocol.state) (step_done w.ports.boxes (sent g) (next g).steps w.protocol.state) None
-    (sym (none_applies w.protocol.state w.nodes.live.outbox runs few room)) refl
+    (sym (none_applies w.protocol.state w.nodes.live.outbox runs few room numbers)) refl
     ∙ step_sight w h
 
 -- in a pair a step is kept
 step_kept : (boxes : List (List Frame)) (fs : List Frame) (steps : ℕ) (r : Record) → is_alone r.mode ≡ false
     → (replies.Steps steps, record r { journal = with_running r.journal (Ran ∷ []) }) ≡ step_done boxes fs steps r
 step_kept boxes fs steps r two =
-    λ i. (replies.Steps steps, record r { journal = with_moves (sym two i) r.journal (step_entries (sym two i) boxes fs) })
+    λ i. (
+      replies.Steps steps,
+      record r {
+        journal = with_moves (sym two i) r.journal (step_entries (sym two i) boxes fs);
+        next_frame = frame_after_step (sym two i) fs r.next_frame;
+      },
+    )
 
 pub steps_answered :
     (n : ℕ) (w : Pair) → Holds w → is_alone w.protocol.state.mode ≡ false → (0 < n → is_stopped w.protocol.state.mode ≡ false)
@@ -162,6 +170,7 @@ steps_answered (suc n) w h two runs fits room =
     ∙ step_kept w.ports.boxes (sent (after_steps n g)) (next (after_steps n g)).steps v.protocol.state two
     ∙ step_goes v (steps_hold n w two h) (runs (omega arith)) (room-last n g w.nodes.live.outbox room)
     (let one : step_room w.protocol.state.mode ≡ 1 = ap (λ (b : Bool). cond b lone_step_entries 1) two in omega arith)
+    (ap (λ (b : Bool). b && frames_run_out v.protocol.state) two)
     ∙ ap (λ (o : Outcome). goes_on w.start o.0 o.1) before
     ∙ sym (more-answered w.start w.protocol.state n)
 

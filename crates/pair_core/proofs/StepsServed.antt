@@ -1,7 +1,8 @@
 -- Many steps in one call are as many events to the clients, up to the first that is refused.
 use Rattle.std.proofs.Common.{arith, ◌≡◌, ℕ, zero, suc, ◌+◌, ◌<◌, List, [], ◌∷◌, ◌++◌, length, replicate, refl, sym, ap, ◌∙◌}
 use Rattle.std.proofs.Common.{subst, append_assoc, Bool, true, false, None, inl, inr}
-use Rattle.std.proofs.{lemmas.List.{append-nil, length-append, replicate-append-replicate}, lemmas.List.Elements.{All-nil, All-cons, All-append}}
+use Rattle.std.proofs.lemmas.List.{append-nil, length-append, replicate-append-replicate}
+use Rattle.std.proofs.lemmas.List.Elements.{All-nil, All-cons, All-append}
 use Rattle.std.specs.Prelude.{All}
 use Rattle.guest_machine.specs.{Guest.Guest, Step.{next, sent}}
 use Rattle.frame_ports.specs.{Addresses.targets_of, Lands.lands}
@@ -17,7 +18,7 @@ use Rattle.pair_record.specs.declared.event.Reply.{Reply}
 use Rattle.pair_record.specs.{Journal.{joined, kept_entries, all_entries, with_moves}, Modes.is_alone}
 use Rattle.pair_core.specs.Pair.{Pair, IsConsistent}
 use Rattle.pair_record.specs.Protocol.{Record, Outcome, first_refusal, refused, shown_at, live_at, step_refusals, outbox_of, step_entries}
-use Rattle.pair_record.specs.Protocol.{step_done, step_outcome}
+use Rattle.pair_record.specs.{GuestActs.frame_after_step, Protocol.{step_done, step_outcome}}
 use Rattle.pair_core.specs.{Runs.{StepsAnswerIn, goes_on, steps_outcome}, Service.{moment, Serves, HasServed, is_step, ServesSteps}}
 use Rattle.pair_core.proofs.Consistent.{lone}
 use Rattle.pair_core.proofs.{AlongLaws.along-more, Ends.by_table, ServiceLaws.serves_at}
@@ -55,7 +56,10 @@ module _ (start : HistoryState) where
     g = (live_at start r).guest
 
     abbrev done : Bool → Record
-    done alone = record r { journal = with_moves alone r.journal (step_entries alone s.boxes (sent g)) }
+    done alone = record r {
+      journal = with_moves alone r.journal (step_entries alone s.boxes (sent g));
+      next_frame = frame_after_step alone (sent g) r.next_frame;
+    }
 
     none_out : LeaveInOrder s [] []
     none_out c = (refl, All-nil NotGivenUp)
@@ -135,7 +139,10 @@ module _ (start : HistoryState) where
             → step_done s.boxes (sent g) (next g).steps r ≡ (replies.Steps (next g).steps, done alone)
         is_done alone is = λ i. (
           replies.Steps (next g).steps,
-          record r { journal = with_moves (is i) r.journal (step_entries (is i) s.boxes (sent g)) },
+          record r {
+            journal = with_moves (is i) r.journal (step_entries (is i) s.boxes (sent g));
+            next_frame = frame_after_step (is i) (sent g) r.next_frame;
+          },
         )
 
         by_mode : (alone : Bool) → is_alone r.mode ≡ alone → first_refusal (step_refusals (outbox_of start r) r) ≡ None

@@ -1,10 +1,11 @@
 -- What the entries that an event adds tell of clients' calls.
 use Rattle.std.proofs.Common.{rules, arith, ◌≡◌, ℕ, zero, suc, ◌+◌, List, [], ◌∷◌, ◌++◌, refl, subst, append_assoc, Bool, true, false, cond}
-use Rattle.std.proofs.lemmas.List.Elements.{All-nil, All-cons, All-head, All-tail, All-append, All-replicate}
+use Rattle.std.proofs.lemmas.List.Elements.{All-nil, All-cons, All-head, All-tail, All-append}
 use Rattle.std.specs.Prelude.{All, map, get_or}
 use Rattle.guest_machine.specs.Step.{sent}
 use Rattle.frame_ports.specs.{Lands.{has_room, landed_at}, Limits.box_frames}
-use Rattle.pair_history.specs.{Entries.{Frame, Entry, Ran, Arrive, DropIn, Land, DropOut}, Failures.drops_of_owed_from}
+use Rattle.pair_history.specs.Entries.{Frame, Entry, Ran, Arrive, DropIn, Land, DropOut}
+use Rattle.pair_history.specs.Failures.{arrived_numbers, drops_of_taken_in, rising}
 use Rattle.pair_history.specs.{HistoryState.HistoryState, Landings.landings}
 use Rattle.pair_record.specs.{declared.event.Event.Event, declared.event.Event.TheVariants.Deliver, declared.event.Refusal.Refusal}
 use Rattle.pair_record.specs.{declared.event.Refusal.TheVariants.Full, Journal.{Journal, joined, first_of, kept_entries}, Modes.is_alone}
@@ -35,30 +36,30 @@ guest-quiet other p = absurd (cc)
 all_guest-quiet : (es : List Entry) → All OfGuest es → All Quiet es
 all_guest-quiet es p k d within = guest-quiet (get_or es k d) (p k d within)
 
--- what lands
-landings-quiet : (boxes : List (List Frame)) (ps : List (ℕ × Frame)) → All Quiet (landings boxes ps)
-landings-quiet boxes [] = none
-landings-quiet boxes (p ∷ ps) =
-    let room = has_room boxes p.0 in
-    let rest = landed_at boxes p.0 p.1 in
-    All-cons Quiet (cond room (Land p.0) (DropOut p.0 box_frames)) (landings rest ps) (by_room room) (landings-quiet rest ps)
-  where
-    by_room : (t : Bool) → Quiet (cond t (Land p.0) (DropOut p.0 box_frames))
-    by_room true = refl
-    by_room false = refl
-
--- where the backup goes live each entry drops a frame
-module _ (P : Entry → Type 0) (ins : (n : ℕ) → P (DropIn n)) (outs : (c place : ℕ) → P (DropOut c place)) where
+-- what lands or finds its client's box full, and where the backup goes live what is dropped before that
+module _ (P : Entry → Type 0) (ins : (n : ℕ) → P (DropIn n)) (lands : (c : ℕ) → P (Land c)) (outs : (c place : ℕ) → P (DropOut c place)) where
   all_in : (ns : List ℕ) → All P (map DropIn ns)
   all_in [] = All-nil P
   all_in (n ∷ ns) = All-cons P (DropIn n) (map DropIn ns) (ins n) (all_in ns)
 
-  all_out : (n first : ℕ) (boxes : List (List Frame)) (out : List (ℕ × Frame)) → All P (drops_of_owed_from n first boxes out)
-  all_out zero first boxes out = All-nil P
-  all_out (suc n) first boxes out = search (arith, rules, All-append, All-replicate, all_out n (first + 1) boxes out)
+  all_land : (boxes : List (List Frame)) (ps : List (ℕ × Frame)) → All P (landings boxes ps)
+  all_land boxes [] = All-nil P
+  all_land boxes (p ∷ ps) =
+      let room = has_room boxes p.0 in
+      let rest = landed_at boxes p.0 p.1 in
+      All-cons P (cond room (Land p.0) (DropOut p.0 box_frames)) (landings rest ps) (by_room room) (all_land rest ps)
+    where
+      by_room : (t : Bool) → P (cond t (Land p.0) (DropOut p.0 box_frames))
+      by_room true = lands p.0
+      by_room false = outs p.0 box_frames
 
   pub live_all : (boxes : List (List Frame)) (out : List (ℕ × Frame)) (j : Journal) → All P (live_entries boxes out j)
-  live_all boxes out j = search (arith, rules, All-append, all_in, all_out)
+  live_all boxes out j =
+      All-append P (drops_of_taken_in (kept_entries j)) (landings boxes out) (all_in (rising (arrived_numbers (kept_entries j))))
+      (all_land boxes out)
+
+landings-quiet : (boxes : List (List Frame)) (ps : List (ℕ × Frame)) → All Quiet (landings boxes ps)
+landings-quiet = all_land Quiet (λ n. refl) (λ c. refl) (λ c place. refl)
 
 All-front : (P : Entry → Type 0) (es fs : List Entry) → All P (es ++ fs) → All P es
 All-front P [] fs p = All-nil P
@@ -104,7 +105,7 @@ module _ (start : HistoryState) (r : Record) (kept : All OfGuest (kept_entries r
         let held = all_held boxes (outbox_of start r) r in
         All-append Quiet (kept_entries r.journal) (landings boxes held) (all_guest-quiet (kept_entries r.journal) kept)
         (landings-quiet boxes held);
-    go_live = live_all Quiet (λ n. refl) (λ c place. refl) boxes (shown_at start r).out r.journal;
+    go_live = live_all Quiet (λ n. refl) (λ c. refl) (λ c place. refl) boxes (shown_at start r).out r.journal;
     protect = none;
   }
     where

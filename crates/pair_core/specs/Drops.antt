@@ -18,7 +18,7 @@ use Rattle.pair_core.specs.Lines.{Protocol}
 -- What an event may drop, where the history and what the guest did ahead of it were so, and the history grows by these entries: a loss
 -- that was asked for drops that frame and no other; where frames land, which is at an acknowledgement, where the backup fails, and at a
 -- step of a node that is alone, what finds its client's box full; the backup that goes live drops each frame that the guest took in
--- ahead of the history, and each that is on its way; nothing else drops a frame.
+-- ahead of the history, and what is on its way lands then, or finds its client's box full; nothing else drops a frame.
 abbrev pub Loses : HistoryState → List Entry → List Entry → Event → Reply → List Entry → Type 0
 Loses start history ahead (LoseIn c place) Dropped es =
     (n : ℕ) × (f : Frame) × (slice_get (inbox_of c (at start (history ++ ahead)).waiting) place ≡ Some (n, f)) × (es ≡ DropIn n ∷ [])
@@ -33,14 +33,15 @@ Loses start history ahead event reply es = DropsNone es
 abbrev pub DropsOnly : HistoryState → Record → Event → Reply → List Entry → Type 0
 DropsOnly start old event reply es = Loses start old.journal.history (kept_entries old.journal) event reply es
 
--- What leaves for clients where an event adds these entries: at an acknowledgement the frames of the checkpoints up to its number, in the
--- order in which they were sent, and none is given up. While there is a backup nothing else lets a frame leave.
+-- What leaves for clients where an event adds these entries: at an acknowledgement the frames of the checkpoints up to its number, and
+-- where the backup goes live all that is on its way, in the order in which they were sent, and none is given up. While there is a backup
+-- nothing else lets a frame leave.
 abbrev pub LetsOut : HistoryState → Record → Event → Reply → List Entry → Type 0
 LetsOut start r (AckGet k) (Acked generation number landed) es =
     LeaveInOrder (shown_at start r) es (let_go (shown_at start r).boxes r number)
 LetsOut start r Step reply es = is_alone r.mode ≡ false → LeaveInOrder (shown_at start r) es []
 LetsOut start r FailBackup reply es = Unit {0}
-LetsOut start r GoLive reply es = Unit {0}
+LetsOut start r GoLive (Live generation steps) es = LeaveInOrder (shown_at start r) es (shown_at start r).out
 LetsOut start r event reply es = LeaveInOrder (shown_at start r) es []
 
 -- An event, answered so, makes the history grow by entries that drop what it may drop, and let out what it may let out.

@@ -1,4 +1,5 @@
 pub mod internal
+pub mod Kept
 pub mod Lines
 pub mod Nodes
 pub mod Texts

@@ -109,9 +109,11 @@ gone_live x = record (without_backup x) { live = just_settled x.image.guest }
 abbrev pub with_protected : Nodes → List ℕ → Nodes
 with_protected x text = record x { live = just_settled x.live.guest; image = empty_image x.image.shape; sealed = text ∷ [] }
 
--- The image is empty, and the oldest text is a full checkpoint: it makes the guest g, whatever guest it is applied to.
+-- The image is empty and keeps no frame, and the oldest text is a full checkpoint: it makes the guest g, whatever guest it is applied to.
 pub record Fills (g : Guest) (x : Nodes) : Type 0 where
   pub empty : x.image.stands_at ≡ None
+  pub kept : x.image.kept ≡ []
+  pub sent : x.image.sent ≡ 0
   pub text : List ℕ
   pub later : List (List ℕ)
   pub sealed : x.sealed ≡ text ∷ later

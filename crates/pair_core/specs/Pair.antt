@@ -9,12 +9,15 @@ use Rattle.frame_ports.specs.Ports.{PortsState}
 use Rattle.output_gate.specs.Epochs.{frames_of}
 use Rattle.pair_history.specs.Entries.{Entry, Ran, Arrive}
 use Rattle.pair_history.specs.HistoryState.{HistoryState, inbox_of, at, Legal}
-use Rattle.pair_history.specs.Landings.{DropsAreKnown, BoxesFit}
+use Rattle.pair_history.specs.Landings.{DropsAreAskedOrFull, BoxesFit}
 use Rattle.pair_record.specs.declared.event.Refusal.{Refusal}
 use Rattle.pair_record.specs.declared.event.Refusal.TheVariants.{Full}
 use Rattle.pair_record.specs.declared.event.Reply.{Reply}
 use Rattle.pair_record.specs.declared.event.Reply.TheVariants as replies
 use Rattle.pair_record.specs.Journal.{joined, first_of, kept_entries}
+use Rattle.pair_record.specs.Modes.{is_alone}
+use Rattle.pair_record.specs.Record.{AreNumbered}
+use Rattle.pair_core.specs.Kept.{KeepsFrames}
 use Rattle.pair_core.specs.Lines.{Protocol}
 use Rattle.pair_core.specs.Nodes.{Nodes, Fills, machine_of}
 use Rattle.pair_record.specs.Protocol.{outbox_of, shown_at, live_at}
@@ -57,7 +60,8 @@ pub record HasBackup (w : Pair) : Type 0 where
   pub base : IsBase (machine_of w.nodes.live) (cut_state w).guest
   -- nothing is staged
   pub staged : w.nodes.image.staged ≡ None
-  -- each sealed text reads back as the checkpoint of its number, which makes the guest of its epoch's end of the one of the epoch before
+  -- each sealed text reads back as the checkpoint of its number, of version 2, which makes the guest of its epoch's end of the one of the
+  -- epoch before, and whose frames are those that the guest sent along its epoch
   pub sealed : AreTexts w.nodes.image.shape w.protocol.state.generation w.protocol.state.window.to_commit
       (shown_state w) w.protocol.state.journal.sealed w.nodes.sealed
 
@@ -82,14 +86,20 @@ is_of_guest other = false
 
 -- What holds between events.
 pub record IsConsistent (w : Pair) : Type 0 where
-  -- the history is one of a guest that never fails, and dropped no frame for a client but out of its box, or the next one on its way;
-  -- what is kept goes on from it
+  -- the history is one of a guest that never fails, and dropped a frame for a client only by a loss that was asked for, out of its box,
+  -- or at a full box; what is kept goes on from it
   pub legal : Legal w.start w.protocol.state.journal.history
-  pub drops : DropsAreKnown w.start w.protocol.state.journal.history
+  pub drops : DropsAreAskedOrFull w.start w.protocol.state.journal.history
   pub goes_on : Legal (shown_state w) (kept_entries w.protocol.state.journal)
   pub kept : All (λ e. is_of_guest e ≡ true) (kept_entries w.protocol.state.journal)
   -- what is pending are the checkpoints from the next to be acknowledged to the last cut
   pub window : IsWindow w.protocol.state.window w.protocol.state.pending
+  -- the gate's frames have consecutive numbers up to the last one given, and no frame with the number of one that it holds, or a later
+  -- one, has come for a client
+  pub numbered : AreNumbered w.protocol.state w.ports
+  -- while there is a backup, its image keeps what the gate holds of committed checkpoints under the same numbers, and before it frames that
+  -- have come for each of their clients
+  pub backed_up : is_alone w.protocol.state.mode ≡ false → KeepsFrames w.protocol.state w.ports w.nodes.image
   -- the live machine is the guest of the history followed by what is kept
   pub live : w.nodes.live.guest ≡ (live_state w).guest
   -- there is a backup, unless a node is alone

@@ -15,7 +15,7 @@ ghost use Rattle.pair_core.specs.Nodes.{first_text, read_as};
 ghost use Rattle.pair_core.specs.Texts.{IsText};
 ghost use Rattle.backup_image.specs.Images.{empty_image};
 
-use backup_image::{Image, ImageError};
+use backup_image::{Image, ImageError, KeptFrames};
 use checkpoint_stream::{Reader, StreamError, encode};
 use epoch_snapshot::{Checkpoint, SnapshotError, cut_delta, cut_full};
 use guest_machine::{Machine, MachineError, SECTOR_BYTES, Shape, sent_frames};
@@ -89,6 +89,18 @@ impl Nodes {
         ensures most { length self.now.nodes.live.outbox ≤ 256 }
     {
         self.live.outbox()
+    }
+
+    /// The frames that the backup's image keeps, which there is, as the caller knows.
+    pub(crate) fn kept(&self) -> &KeptFrames
+        requires { HasImage self.now.nodes }
+        ensures lists { result.now.lists ≡ self.now.nodes.image.kept }
+        ensures sent { result.now.sent ≡ self.now.nodes.image.sent }
+    {
+        match &self.image {
+            Some(image) => image.kept(),
+            None => unreachable!(),
+        }
     }
 
     /// The image's step count.
@@ -175,11 +187,12 @@ impl Nodes {
         requires last_number { number < 2 ^ 62 }
         ensures nodes { self.new.nodes ≡ self.old.nodes }
         ensures room { OnOk result (0 < self.new.room) }
-        // It reads back as the checkpoint that makes the live guest of the one that the live machine was last settled at.
+        // It reads back as the checkpoint that makes the live guest of the one that the live machine was last settled at, and carries
+        // the frames in the outbox.
         ensures text { IfOk result (λ text. (base : Guest)
             → IsBase (machine_of self.old.nodes.live) base
             → HasShape self.old.nodes.image.shape self.old.nodes.live.guest
-            → IsText self.old.nodes.image.shape generation number base self.old.nodes.live.guest text.items) }
+            → IsText self.old.nodes.image.shape generation number base self.old.nodes.live.guest self.old.nodes.live.outbox text.items) }
     {
         reserve(&mut self.sealed, 1)?;
         let checkpoint = match cut_delta(self.alloc, &self.live, generation, number) {
@@ -215,10 +228,10 @@ impl Nodes {
         ensures nodes { self.new.nodes ≡ self.old.nodes }
         ensures room { OnOk result (0 < self.new.room) }
         ensures image { IfOk result (λ made. made.0 ≡ empty_image self.old.nodes.image.shape) }
-        // It reads back as the checkpoint that makes the live guest, whatever guest it is applied to.
+        // It reads back as the checkpoint that makes the live guest, whatever guest it is applied to, and carries no frames.
         ensures text { IfOk result (λ made. (before : Guest)
             → HasShape self.old.nodes.image.shape self.old.nodes.live.guest
-            → IsText self.old.nodes.image.shape generation 0 before self.old.nodes.live.guest made.1.items) }
+            → IsText self.old.nodes.image.shape generation 0 before self.old.nodes.live.guest [] made.1.items) }
     {
         reserve(&mut self.sealed, 1)?;
         let image = match Image::empty(self.alloc, self.shape) {
@@ -300,10 +313,10 @@ impl Nodes {
         let Some(image) = std::mem::replace(&mut self.image, None) else {
             unreachable!();
         };
-        let Ok(machine) = image.resume() else {
+        let Ok(resumed) = image.resume() else {
             unreachable!();
         };
-        self.retired = Some(std::mem::replace(&mut self.live, machine));
+        self.retired = Some(std::mem::replace(&mut self.live, resumed.machine));
         self.sealed.clear();
     }
 }

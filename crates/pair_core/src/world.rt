@@ -280,6 +280,7 @@ impl World {
             (allowed self.old.start self.old.protocol.state None events.Cut)) }
         ensures err { OnErr result (self.new ≡ self.old) }
     {
+        self.record.keep();
         if let Some(why) = self.record.cut_refusal() {
             return Ok(Reply::Refused(why));
         }
@@ -329,6 +330,7 @@ impl World {
         let Some(packet) = self.lines.packet(k) else {
             return Ok(Reply::Lost);
         };
+        self.record.keep();
         if let Some(why) = self.record.backup_refusal(packet) {
             return Ok(Reply::Refused(why));
         }
@@ -363,6 +365,7 @@ impl World {
         let Some(packet) = self.lines.acknowledgement(k) else {
             return Ok(Reply::Lost);
         };
+        self.record.keep();
         if let Some(why) = self.record.ack_refusal(packet) {
             return Ok(Reply::Refused(why));
         }

@@ -11,16 +11,17 @@ use Rattle.failover.specs.declared.mode.Mode.{Mode}
 use Rattle.output_gate.specs.Epochs.{Epoch, frames_of}
 use Rattle.pair_history.specs.Entries.{Frame, Entry}
 use Rattle.pair_history.specs.HistoryState.{HistoryState, Waiting, inbox_of, without_number, at, Legal, start_state}
-use Rattle.pair_history.specs.Landings.{BoxesFit, DropsAreKnown}
+use Rattle.pair_history.specs.Landings.{BoxesFit, DropsAreAskedOrFull}
 use Rattle.pair_history.specs.internal.Moves.{Move, Arrives, entry_of, entries_of, guest_along, frames_along, left, AllCan}
-use Rattle.pair_history.proofs.States.{at-append, Legal-append, targets_of-append, DropsAreKnown-append}
+use Rattle.pair_history.proofs.States.{at-append, Legal-append, targets_of-append}
 use Rattle.pair_history.proofs.Waiting.{Leaves, StandsAt, leaves-at}
 use Rattle.pair_history.proofs.Moves.{guest_along-append, frames_along-append, left-append, AllCan-append, AllCan-front, AllCan-back, moved}
-use Rattle.pair_history.proofs.{Moves.{at-moves, Legal-moves, DropsAreKnown-moves, sent_along-moves}, Losses.AreRising-left}
+use Rattle.pair_history.proofs.{Moves.{at-moves, Legal-moves, sent_along-moves}, Losses.AreRising-left}
+use Rattle.pair_history.proofs.{DropLaws.{DropsAreAskedOrFull-append, DropsAreAskedOrFull-guests}, FailureLaws.AreGuests-moves}
 use Rattle.pair_record.specs.internal.Accords.{all_moves, epoch_frames, frames_by_epoch, kept_moves, AreInboxes, AreClients}
 use Rattle.pair_record.specs.internal.Accords.{Accords}
 use Rattle.pair_record.specs.Journal.{joined, first_of, rest_of, kept_entries, with_running}
-use Rattle.pair_record.specs.Record.{IsRecord, start_record, ports_after_admit}
+use Rattle.pair_record.specs.Record.{IsRecord, start_record, first_held, ports_after_admit}
 use Rattle.pair_record.specs.Protocol.{Record, shown_at, live_at, outbox_of, commit_done}
 use Rattle.pair_record.specs.Window.{committed_of, uncommitted_of, committed_count}
 use Rattle.pair_record.proofs.WindowLaws.{within}
@@ -260,6 +261,15 @@ module _ (start : HistoryState) (r : Record) (p : PortsState) (h : Accords start
         at-append start r.journal.history (first_of r.journal.sealed) ∙ ap (at (shown_at start r)) first_is
         ∙ at-moves (shown_at start r) ms can_first
 
+    -- the frames of the oldest checkpoint that wasn't committed are those that the guest sent along them
+    pub first_sends : (e : Epoch) (us : List Epoch) → uncommitted_of r.window r.pending ≡ e ∷ us
+        → e.frames ≡ frames_along (shown_at start r).guest ms
+    first_sends e us us_is =
+        let s = shown_at start r in
+        let sents : e.frames ∷ frames_by_epoch us ≡ frames_along s.guest ms ∷ epoch_frames (guest_along s.guest ms) mss =
+        ap frames_by_epoch (sym us_is) ∙ h.frames ∙ ap (epoch_frames s.guest) moves_are in
+        cc
+
     abbrev pub commit_with : (e : Epoch) (us : List Epoch) → uncommitted_of r.window r.pending ≡ e ∷ us → Accords start (commit_done r).1 p
     commit_with e us us_is =
         let j = r.journal in
@@ -271,7 +281,7 @@ module _ (start : HistoryState) (r : Record) (p : PortsState) (h : Accords start
         let g = guest_along s.guest ms in
         let sents : e.frames ∷ frames_by_epoch us ≡ frames_along s.guest ms ∷ epoch_frames g mss =
         ap frames_by_epoch (sym us_is) ∙ h.frames ∙ ap (epoch_frames s.guest) moves_are in
-        let e_sent : e.frames ≡ frames_along s.guest ms = cc in
+        let e_sent = first_sends e us us_is in
         let us_sent : frames_by_epoch us ≡ epoch_frames g mss = cc in
         let next = next_epoch (committed_count r.window) r.pending e us us_is in
         let one_more : (r.window.to_commit + 1) - r.window.to_acknowledge ≡ suc (committed_count r.window) =
@@ -283,8 +293,8 @@ module _ (start : HistoryState) (r : Record) (p : PortsState) (h : Accords start
           journal = record {
             legal = Legal-append start j.history (first_of j.sealed) h.journal.legal
                 (subst (Legal s) (sym first) (Legal-moves s ms can_first));
-            drops = DropsAreKnown-append start j.history (first_of j.sealed)
-                h.journal.drops (subst (DropsAreKnown s) (sym first) (DropsAreKnown-moves s ms can_first));
+            drops = DropsAreAskedOrFull-append start j.history (first_of j.sealed) h.journal.drops
+                (subst (DropsAreAskedOrFull s) (sym first) (DropsAreAskedOrFull-guests s (entries_of ms) (AreGuests-moves ms)));
             sealed_moves = mss;
             running_moves = h.journal.running_moves;
             sealed_are = ap rest_of sealed_is;
@@ -331,6 +341,34 @@ module _ (start : HistoryState) (r : Record) (p : PortsState) (h : Accords start
           → (e : Epoch) × (us : List Epoch) × (uncommitted_of r.window r.pending ≡ e ∷ us)
       by_list [] is l = absurd (omega arith)
       by_list (e ∷ us) is l = (e, us, is)
+
+-- where nothing is pending, the first frame that is held would be the next one
+pub first_lone : (r : Record) → r.pending ≡ [] → first_held r ≡ r.next_frame
+first_lone r none =
+    let a : length (frames_of r.pending) ≡ 0 = ap (λ (es : List Epoch). length (frames_of es)) none in
+    omega arith
+
+-- PORTS whose clients have other numbers
+
+abbrev pub numbered_clients : (s : HistoryState) (ws : List Waiting) (p : PortsState) → AreClients s ws p → (ns : List ℕ)
+    → AreClients s ws (record p { numbers = ns })
+numbered_clients s ws p h ns = record {
+  number = h.number;
+  rising = h.rising;
+  count = h.count;
+  inboxes = h.inboxes;
+  boxes = h.boxes;
+  fit = h.fit;
+}
+
+abbrev pub numbered_accords : (start : HistoryState) (r : Record) (p : PortsState) → Accords start r p → (next : ℕ) (ns : List ℕ)
+    → Accords start (record r { next_frame = next }) (record p { numbers = ns })
+numbered_accords start r p h next ns = record {
+  journal = h.journal;
+  frames = h.frames;
+  clients = numbered_clients (shown_at start r) (left_now start r p h) p h.clients ns;
+  owed = h.owed;
+}
 
 -- WHERE A RECORD STARTS
 

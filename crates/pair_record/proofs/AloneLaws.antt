@@ -7,7 +7,7 @@ use Rattle.frame_ports.proofs.AddressLaws.{length-targets_of}
 use Rattle.output_gate.specs.Epochs.{Epoch, epoch, frames_of, frames_to}
 use Rattle.pair_history.specs.Entries.{Frame, Entry}
 use Rattle.pair_record.specs.{internal.Lengths.receivers, Protocol.{Record, all_held, failure_done}, Record.IsRecord}
-use Rattle.pair_record.specs.Protocol.{exhausts, first_refusal}
+use Rattle.pair_record.specs.Protocol.{exhausts, frames_run_out, first_refusal}
 use Rattle.pair_record.specs.{EpochActs.enter_epoch_refusals, Journal.all_entries, Window.NumberedFrom}
 use Rattle.pair_record.specs.declared.event.Refusal.TheVariants.{Exhausted}
 use Rattle.pair_record.proofs.{LengthLaws.length-receivers, WindowLaws.{NumberedFrom-push, test_from}}
@@ -68,8 +68,8 @@ capped used more = grind (arith, nat_tests)
 
 pub enter_row : (boxes : List (List Frame)) (r : Record) (steps count sum : ℕ) (fs : List Frame) (t : Bool)
     → count ≡ length (receivers (length boxes) fs) → sum ≡ min (steps + count) 18446744073709551615 → t ≡ exhausts r sum
-    → cond t (Some Exhausted) None ≡ first_refusal (enter_epoch_refusals steps boxes fs r)
+    → cond t (Some Exhausted) (cond (frames_run_out r) (Some Exhausted) None) ≡ first_refusal (enter_epoch_refusals steps boxes fs r)
 enter_row boxes r steps count sum fs t counted summed row =
-    ap (λ b. cond b (Some Exhausted) None)
+    ap (λ b. cond b (Some Exhausted) (cond (frames_run_out r) (Some Exhausted) None))
     (row ∙ ap (exhausts r) summed ∙ capped (length (all_entries r.journal)) (steps + count)
     ∙ ap (λ k. exhausts r (steps + k)) (counted ∙ length-receivers (length boxes) fs))

@@ -1,6 +1,6 @@
 -- What clients, their lines and acknowledgements do keeps the accord: it goes into the history, before what is kept.
 use Rattle.std.proofs.Common.{◌≡◌, ℕ, ◌+◌, ◌-◌, ◌<◌, ◌≤◌, List, [], ◌∷◌, ◌++◌, length, drop, remove, refl, sym, ap, ◌∙◌, subst, arith, Bool}
-use Rattle.std.proofs.{Common.{true, cond, Some}, lemmas.Bool.{eq-eqb, lt-ltb}, lemmas.List.Edits.length-remove}
+use Rattle.std.proofs.{Common.{true, cond, Some, inl}, lemmas.Bool.{eq-eqb, lt-ltb}, lemmas.List.Edits.length-remove}
 use Rattle.std.proofs.lemmas.List.{append-nil, length-set}
 use Rattle.std.specs.Prelude.{slice_get, nat_lt, ◌==◌}
 use Rattle.guest_machine.specs.Guest.{Guest}
@@ -9,8 +9,8 @@ use Rattle.frame_ports.specs.Limits.{inbox_frames, box_frames}
 use Rattle.output_gate.specs.Epochs.{Epoch, frames_to, frames_of}
 use Rattle.pair_history.specs.Entries.{Frame, Entry, Delivered, Refused, DropIn, DropOut, Took}
 use Rattle.pair_history.specs.HistoryState.{HistoryState, Waiting, inbox_of, without_number, out_without, at, Legal, Allows}
-use Rattle.pair_history.specs.{Landings.{landings, DropsAreKnown, BoxesFit}, internal.Moves.{left, AllCan}}
-use Rattle.pair_history.proofs.States.{at-append, Legal-append, DropsAreKnown-append, at_full-known, targets_of-append}
+use Rattle.pair_history.specs.{Landings.{landings, DropsAreAskedOrFull, BoxesFit}, internal.Moves.{left, AllCan}}
+use Rattle.pair_history.proofs.{DropLaws.{DropsAreAskedOrFull-append, at_full-asked}, States.{at-append, Legal-append, targets_of-append}}
 use Rattle.pair_history.proofs.Waiting.{inbox_of-append, AreRising-push, AreRising-without, StandsAt, Leaves, leaves-at}
 use Rattle.pair_history.proofs.{Losses.{AreRising-left, LeavesBefore, leaves-before}, Moves.{AllCan-more, left-more, left-shorter}}
 use Rattle.pair_history.proofs.LandingLaws.{length-lands, BoxesFit-set, BoxesFit-at, BoxesFit-lands, AllClients-targets, landings-land}
@@ -30,7 +30,7 @@ module _ (start : HistoryState) (r : Record) (p : PortsState) (h : Accords start
     (leads : at (shown_at start r) es ≡ now)
     (guest : now.guest ≡ (shown_at start r).guest)
     (legal : Legal (shown_at start r) es)
-    (drops : DropsAreKnown (shown_at start r) es)
+    (drops : DropsAreAskedOrFull (shown_at start r) es)
     (can : AllCan now.waiting (kept_now start r p h))
     (ports : PortsState)
     (clients : AreClients now (left now.waiting (kept_now start r p h)) ports)
@@ -45,7 +45,7 @@ module _ (start : HistoryState) (r : Record) (p : PortsState) (h : Accords start
       record {
         journal = record {
           legal = Legal-append start history es h.journal.legal legal;
-          drops = DropsAreKnown-append start history es h.journal.drops drops;
+          drops = DropsAreAskedOrFull-append start history es h.journal.drops drops;
           sealed_moves = h.journal.sealed_moves;
           running_moves = h.journal.running_moves;
           sealed_are = h.journal.sealed_are;
@@ -112,7 +112,7 @@ module _ (start : HistoryState) (r : Record) (p : PortsState) (h : Accords start
       let long : length (lands b ps) ≡ length b = length-lands b ps in
       let now : HistoryState = record s { out = qs; boxes = lands b ps } in
       history_accords start r p h (landings b ps) now (land.1 ∙ (λ i. record s { out = qs; boxes = lands (same i) ps })) refl
-      land.0 (at_full-known s (landings b ps) land.2) h.journal.can (ports_after_ack p r n)
+      land.0 (at_full-asked s (landings b ps) land.2) h.journal.can (ports_after_ack p r n)
       (record {
         number = h.clients.number;
         rising = h.clients.rising;
@@ -207,7 +207,7 @@ module _ (start : HistoryState) (r : Record) (p : PortsState) (h : Accords start
         history_accords start r p h (DropOut c place ∷ []) now
         (ap (λ (t : Bool). record s { out = cond t s.out without; boxes = cond t others s.boxes }) test
         ∙ (λ i. record s { boxes = with_list (same i) c (remove (list_of (same i) c) place) }))
-        refl (((low, high_there c high), omega arith), tt) (omega arith, tt) h.journal.can (ports_after_lose_out p c place)
+        refl (((low, high_there c high), omega arith), tt) (inl boxed, tt) h.journal.can (ports_after_lose_out p c place)
         (record {
           number = h.clients.number;
           rising = h.clients.rising;

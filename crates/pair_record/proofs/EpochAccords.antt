@@ -7,10 +7,11 @@ use Rattle.frame_ports.specs.{Addresses.targets_of, Lands.{lands}, Ports.PortsSt
 use Rattle.failover.specs.declared.mode.Mode.{Mode}
 use Rattle.output_gate.specs.Epochs.{Epoch, frames_of}
 use Rattle.pair_history.specs.{Entries.{Frame, Entry}, HistoryState.{HistoryState, at, Legal}}
-use Rattle.pair_history.specs.Landings.{landings, DropsAreKnown, BoxesFit}
+use Rattle.pair_history.specs.Landings.{landings, DropsAreAskedOrFull, BoxesFit}
 use Rattle.pair_history.specs.internal.Moves.{Move, entry_of, entries_of, guest_along, frames_along, left, AllCan}
-use Rattle.pair_history.proofs.{States.{at-append, Legal-append, DropsAreKnown-append, at_full-known}, Losses.AreRising-left}
-use Rattle.pair_history.proofs.Moves.{moved, at-moves, Legal-moves, DropsAreKnown-moves, AllCan-front, AllCan-back, left-append}
+use Rattle.pair_history.proofs.{States.{at-append, Legal-append}, Losses.AreRising-left, FailureLaws.AreGuests-moves}
+use Rattle.pair_history.proofs.DropLaws.{DropsAreAskedOrFull-append, DropsAreAskedOrFull-guests, at_full-asked}
+use Rattle.pair_history.proofs.Moves.{moved, at-moves, Legal-moves, AllCan-front, AllCan-back, left-append}
 use Rattle.pair_history.proofs.LandingLaws.{length-lands, BoxesFit-lands, AllClients-targets, landings-land, AllLand, AllClients}
 use Rattle.pair_record.specs.{declared.window.Window.Window, Journal.joined, Record.ports_after_all}
 use Rattle.pair_record.specs.internal.Accords.{all_moves, epoch_frames, frames_by_epoch, AreInboxes, AreClients, Accords}
@@ -122,22 +123,27 @@ module _ (start : HistoryState) (r : Record) (p : PortsState) (h : Accords start
       ∙ (λ i. record u { out = []; boxes = lands (sym h.clients.boxes i) leaving })
 
   module _ (mode : Mode) (window : Window) where
-    abbrev pub landed_accords : Accords start
-        (record r { mode = mode; journal = landed_after es rest p.boxes leaving r.journal; window = window; pending = [] })
-        (ports_after_all p frames r)
+    abbrev pub landed_accords : Accords start (record r {
+      mode = mode;
+      journal = landed_after es rest p.boxes leaving r.journal;
+      window = window;
+      pending = [];
+      next_frame = r.next_frame + length frames;
+    }) (ports_after_all p frames r)
     landed_accords =
         let j = r.journal in
         let b = p.boxes in
         let lands_so = landings b leaving in
         let legal : Legal s entries = subst (Legal s) (sym entries_are) (Legal-moves s first can_first) in
-        let drops : DropsAreKnown s entries = subst (DropsAreKnown s) (sym entries_are) (DropsAreKnown-moves s first can_first) in
+        let drops : DropsAreAskedOrFull s entries =
+        subst (DropsAreAskedOrFull s) (sym entries_are) (DropsAreAskedOrFull-guests s (entries_of first) (AreGuests-moves first)) in
         let all = j.history ++ entries in
         let shown = landed_is in
         let long : length (lands b leaving) ≡ length b = length-lands b leaving in
         let waits : left_now start r p h ≡ left landed_state.waiting held = sym left_is ∙ left-append s.waiting first held in
         let inboxes : AreInboxes (length b) p.inboxes (left landed_state.waiting held) =
         subst (AreInboxes (length b) p.inboxes) waits h.clients.inboxes in
-        let clients : AreClients landed_state (left landed_state.waiting held) (record p { boxes = lands b leaving }) =
+        let clients : AreClients landed_state (left landed_state.waiting held) (ports_after_all p frames r) =
         record {
           number = h.clients.number;
           rising = AreRising-left 1 p.next s.waiting first h.clients.rising;
@@ -151,8 +157,8 @@ module _ (start : HistoryState) (r : Record) (p : PortsState) (h : Accords start
           journal = record {
             legal = Legal-append start all lands_so (Legal-append start j.history entries h.journal.legal legal) all_land.0;
             drops =
-                DropsAreKnown-append start all lands_so (DropsAreKnown-append start j.history entries h.journal.drops drops)
-                (at_full-known (at start all) lands_so all_land.2);
+                DropsAreAskedOrFull-append start all lands_so (DropsAreAskedOrFull-append start j.history entries h.journal.drops drops)
+                (at_full-asked (at start all) lands_so all_land.2);
             sealed_moves = [];
             running_moves = held;
             sealed_are = refl;

@@ -1,7 +1,7 @@
 -- Epochs of a guest that runs elsewhere: it took in the first of the frames that were handed out, and made steps behind them.
-use Rattle.std.proofs.Common.{◌≡◌, ℕ, List, [], ◌++◌, length, replicate, refl, sym, ap, ◌∙◌, subst, append_assoc}
+use Rattle.std.proofs.Common.{◌≡◌, ℕ, ◌+◌, List, [], ◌++◌, length, replicate, refl, sym, ap, ◌∙◌, subst, append_assoc}
 use Rattle.std.proofs.lemmas.List.{map-append}
-use Rattle.frame_ports.specs.{Addresses.targets_of, Lands.lands, Ports.PortsState}
+use Rattle.frame_ports.specs.{Addresses.targets_of, Ports.PortsState}
 use Rattle.output_gate.specs.Epochs.{frames_of}
 use Rattle.pair_history.specs.{Entries.{Frame, Entry}, HistoryState.{HistoryState, sent_along}}
 use Rattle.pair_history.specs.internal.Moves.{Move, Steps, entry_of, entries_of, guest_along, frames_along, left, AllCan}
@@ -9,8 +9,8 @@ use Rattle.pair_history.proofs.Moves.{moved, AllCan-append, AllCan-front, AllCan
 use Rattle.pair_record.specs.internal.Accords.{Accords}
 use Rattle.pair_record.specs.EpochActs.{behind, guest_epoch, epoch_sent, seal_epoch_done, enter_epoch_done, fail_within_done}
 use Rattle.pair_record.specs.Protocol.{Record, shown_at, landed_after}
-use Rattle.pair_record.specs.{Record.{IsRecord, IsLone, ports_after_all}, Window.none_pending}
-use Rattle.pair_record.proofs.AccordLaws.{sealed_now, left_now, sealed_state}
+use Rattle.pair_record.specs.{Record.{IsRecord, IsLone, first_held, ports_landed, ports_after_all}, Window.none_pending}
+use Rattle.pair_record.proofs.AccordLaws.{sealed_now, left_now, sealed_state, first_lone}
 use Rattle.pair_record.proofs.EpochAccords.{seal_accords, landed_accords}
 use Rattle.pair_record.proofs.EpochLaws.{Parts, parts, entries-steps, can-steps, left-steps}
 use Rattle.pair_record.proofs.WindowLaws.{within}
@@ -81,9 +81,10 @@ module _ (start : HistoryState) (r : Record) (p : PortsState) (h : Accords start
 
     -- it enters the history, and what was sent along it lands
     pub enter_epoch_accords : IsLone r → Accords start (enter_epoch_done arrivals steps p.boxes frames r)
-        (record p { boxes = lands p.boxes (targets_of (length p.boxes) frames) })
+        (ports_landed p r.next_frame frames)
     enter_epoch_accords k =
         let n = length p.boxes in
+        let first : first_held r ≡ r.next_frame = first_lone r k.1 in
         let es = guest_epoch arrivals steps r.journal.running in
         let rest = behind arrivals r.journal.running in
         let landed = landed_accords start r p h epoch part.held es rest epoch_are held_are can same frames along r.mode r.window in
@@ -92,8 +93,9 @@ module _ (start : HistoryState) (r : Record) (p : PortsState) (h : Accords start
           record r {
             journal = landed_after es rest p.boxes (targets_of n (frames_of (k.1 i) ++ frames)) r.journal;
             pending = sym k.1 i;
+            next_frame = r.next_frame + length frames;
           },
-          record p { boxes = lands p.boxes (targets_of n (frames_of (k.1 i) ++ frames)) },
+          ports_landed p (first i) (frames_of (k.1 i) ++ frames),
         ))
         landed
 

@@ -9,6 +9,8 @@ pub mod ProtectLaws
 pub mod AloneLaws
 pub mod EpochLaws
 pub mod AccordLaws
+pub mod NumberLaws
+pub mod BroughtLaws
 pub mod EpochAccords
 pub mod ClientAccords
 pub mod LoneAccords

@@ -3,23 +3,23 @@ use Rattle.std.proofs.Common.{rules, ◌≡◌, ℕ, zero, suc, ◌+◌, ◌-◌
 use Rattle.std.proofs.{Common.{ap, ◌∙◌, arith, append_assoc, Bool, true, false, cond, Option, Some, None}, Math.Seq.drop-cons}
 use Rattle.std.proofs.lemmas.List.{append-nil, length-append, length-map, length-replicate, length-take-le, nil_from_length}
 use Rattle.std.proofs.lemmas.List.Sorted.{length_permutation}
-use Rattle.std.specs.{Prelude.{map, nat_le, filter, ◌&&◌}, List.Sorted.{IsPermutation, IsNonDecreasing}}
-use Rattle.frame_ports.specs.{Addresses.{addressed, targets_of}, Lands.list_of, Targets.{has_target, AreTargets}}
+use Rattle.std.specs.{Prelude.{map, nat_le}, List.Sorted.{IsPermutation, IsNonDecreasing}}
+use Rattle.frame_ports.specs.{Addresses.targets_of, Lands.landed_at}
 use Rattle.frame_ports.specs.Limits.{number_limit}
 use Rattle.output_gate.specs.Epochs.{Epoch, frames_of, frames_to}
-use Rattle.pair_history.specs.{Entries.{Frame, Entry, Arrive, DropIn, DropOut}, HistoryState.{HistoryState, out_of, start_state}}
-use Rattle.pair_history.specs.Failures.{arrived_numbers, drops_of_owed_from}
-use Rattle.pair_history.proofs.{AddressedLaws.out_of-targets, LandingLaws.AllClients-targets, OwedLaws.owed_dropped}
+use Rattle.pair_history.specs.Entries.{Frame, Entry, Arrive, DropIn}
+use Rattle.pair_history.specs.{Failures.{arrived_numbers, rising, drops_of_taken_in}, Landings.landings}
 use Rattle.pair_history.proofs.{SortedLaws.rising-sorted, TakenInLaws.IsPermutation-rising}
 use Rattle.pair_record.specs.{declared.epochs.Arrival.Arrival, declared.epochs.RunningEpoch.RunningEpoch}
 use Rattle.pair_record.specs.{declared.event.Refusal.Refusal, declared.event.Refusal.TheVariants.Exhausted}
 use Rattle.pair_record.specs.{declared.journal.Journal.TheInside.Inside, declared.window.Window.Window}
-use Rattle.pair_record.specs.{Journal.{Journal, joined, kept_entries}, internal.JournalFields.{epoch_of, stored, AreFields}}
+use Rattle.pair_record.specs.{Journal.{Journal, joined, kept_entries, with_history}, internal.JournalFields.{epoch_of, stored, AreFields}}
 use Rattle.pair_record.specs.internal.Lengths.{receivers}
 use Rattle.pair_record.specs.{Protocol.{Record, first_refusal, live_entries, go_live_refusals, go_live_done}}
 use Rattle.pair_record.specs.{Record.{RecordState, owed_to, IsRecord}, Window.{IsWindow, first_after, committed_count, committed_of}}
 use Rattle.pair_record.specs.internal.Arrivals.{steps_of, arrivals_of, epoch_entries, numbers_of, numbers_in}
-use Rattle.pair_record.proofs.{LengthLaws.length-receivers, WindowLaws.{within, leaves, gone, test_from, test_below}}
+use Rattle.pair_record.proofs.{LengthLaws.length-receivers, RecordLaws.passed}
+use Rattle.pair_record.proofs.WindowLaws.{within, leaves, gone, is_below, test_from, test_below}
 
 -- The numbers of the frames that arrived
 
@@ -55,67 +55,32 @@ pub arrived-kept : (a : Inside)
     → arrived_numbers (kept_entries (stored a).journal) ≡ numbers_in a.sealed.items ++ numbers_of a.running.arrivals.items
 arrived-kept a = search (arith, rules, arrived-append, arrived-epoch, arrived-joined)
 
--- The frames on their way to a client
-
-pub to_next : (c n : ℕ) (fs : List Frame) (i : ℕ) (f : Frame) → 1 ≤ c → c ≤ n → i < length fs → f ≡ get_or fs i f
-    → length (out_of c (targets_of n (drop i fs))) ≡ cond (addressed f.items c) 1 0 + length (out_of c (targets_of n (drop (i + 1) fs)))
-to_next c n fs i f low high l is =
-    let next : suc i ≡ i + 1 = omega arith in
-    let p : Frame → Bool = λ g. addressed g.items c in
-    ap length (out_of-targets c n (drop i fs) low high)
-    ∙ ap (λ gs. length (filter p gs)) (drop-cons fs i f l)
-    ∙ ap (λ g. length (filter p (g ∷ drop (suc i) fs))) (sym is)
-    ∙ ap (λ j. length (filter p (f ∷ drop j fs))) next
-    ∙ by_test (addressed f.items c) (filter p (drop (i + 1) fs))
-    ∙ ap (λ k. cond (addressed f.items c) 1 0 + k) (sym (ap length (out_of-targets c n (drop (i + 1) fs) low high)))
-  where
-    by_test : (t : Bool) (gs : List Frame) → length (cond t (f ∷ gs) gs) ≡ cond t 1 0 + length gs
-    by_test true gs = omega arith
-    by_test false gs = omega arith
-
-pub is_addressed : (n c : ℕ) (bytes : List ℕ) (targets : ℕ) → AreTargets n bytes targets → 1 ≤ c → c ≤ n → c ≤ 16
-    → has_target targets c ≡ addressed bytes c
-is_addressed n c bytes targets are low high most = are c low most ∙ ap (λ t. t && addressed bytes c) (test_from c n high)
-
--- what is dropped for the clients from c on, of n
-abbrev pub drops_on : ℕ → ℕ → List (List Frame) → List Frame → List Entry
-drops_on n c boxes fs = drops_of_owed_from (n + 1 - c) c boxes (targets_of (length boxes) fs)
-
-pub drops_on-first : (n : ℕ) (boxes : List (List Frame)) (fs : List Frame) → n ≡ length boxes
-    → drops_on n 1 boxes fs ≡ drops_of_owed_from (length boxes) 1 boxes (targets_of (length boxes) fs)
-drops_on-first n boxes fs e = search (arith, rules)
-
--- the next client's
-module _ (n c : ℕ) (boxes : List (List Frame)) (fs : List Frame) (k place : ℕ) (high : c ≤ n)
-    (count : k ≡ length (out_of c (targets_of (length boxes) fs))) (box : place ≡ length (list_of boxes c)) where
-  pub drops_on-next : drops_on n c boxes fs ≡ replicate k (DropOut c place) ++ drops_on n (c + 1) boxes fs
-  drops_on-next = search (arith, rules)
-
-  pub drops_on-length : length (drops_on n c boxes fs) ≡ k + length (drops_on n (c + 1) boxes fs)
-  drops_on-length = search (arith, rules, drops_on-next, length-append, length-replicate)
-
--- each frame on its way is dropped once
-pub length-drops : (boxes : List (List Frame)) (fs : List Frame)
-    → length (drops_of_owed_from (length boxes) 1 boxes (targets_of (length boxes) fs)) ≡ length (targets_of (length boxes) fs)
-length-drops boxes fs =
-    let s : HistoryState = record (start_state 0 0 [] 0) { boxes = boxes; out = targets_of (length boxes) fs } in
-    (owed_dropped s (AllClients-targets (length boxes) fs)).1
-
 -- What is added
 
 -- however the numbers are sorted
-pub live_entries-are : (boxes : List (List Frame)) (out : List (ℕ × Frame)) (j : Journal) (ns : List ℕ)
-    → IsPermutation (arrived_numbers (kept_entries j)) ns → IsNonDecreasing ns
-    → live_entries boxes out j ≡ map DropIn ns ++ drops_of_owed_from (length boxes) 1 boxes out
-live_entries-are boxes out j ns same sorted =
-    ap (λ ms. map DropIn ms ++ drops_of_owed_from (length boxes) 1 boxes out)
-    (sym (rising-sorted (arrived_numbers (kept_entries j)) ns same sorted))
+pub drops-are : (j : Journal) (ns : List ℕ) → IsPermutation (arrived_numbers (kept_entries j)) ns → IsNonDecreasing ns
+    → drops_of_taken_in (kept_entries j) ≡ map DropIn ns
+drops-are j ns same sorted = ap (map DropIn) (sym (rising-sorted (arrived_numbers (kept_entries j)) ns same sorted))
+
+pub length-landings : (boxes : List (List Frame)) (ps : List (ℕ × Frame)) → length (landings boxes ps) ≡ length ps
+length-landings boxes [] = refl
+length-landings boxes (p ∷ ps) = ap suc (length-landings (landed_at boxes p.0 p.1) ps)
+
+pub length-drops : (j : Journal) → length (drops_of_taken_in (kept_entries j)) ≡ length (arrived_numbers (kept_entries j))
+length-drops j =
+    let ns = arrived_numbers (kept_entries j) in
+    length-map (rising ns) DropIn ∙ length_permutation ns (rising ns) (IsPermutation-rising ns)
 
 pub length-live : (boxes : List (List Frame)) (fs : List Frame) (j : Journal)
     → length (live_entries boxes (targets_of (length boxes) fs) j)
     ≡ length (arrived_numbers (kept_entries j)) + length (receivers (length boxes) fs)
 length-live boxes fs j =
-    search (arith, rules, IsPermutation-rising, length-append, length-drops, length-map, length-receivers, length_permutation)
+    let ps = targets_of (length boxes) fs in
+    let a = length-append (drops_of_taken_in (kept_entries j)) (landings boxes ps) in
+    let b = length-drops j in
+    let c = length-landings boxes ps in
+    let d = length-receivers (length boxes) fs in
+    omega arith
 
 -- What the gate holds of committed checkpoints
 
@@ -158,6 +123,22 @@ module _ (s : RecordState) (fs : List Frame) (count : ℕ) (held : fs ≡ frames
   pub live_allowed : count < number_limit → None ≡ live_table s
   live_allowed h = sym (live_row ∙ ap (λ (t : Bool). cond t (Some Exhausted) None) (test_below number_limit count h))
 
+-- and where it refuses nothing, the history has numbers for all that is added
+pub live_fits : (s : RecordState) → live_table s ≡ None → live_count s (frames_of (committed_of s.protocol.window s.protocol.pending)) < number_limit
+live_fits s free =
+    let boxes = s.ports.boxes in
+    let fs = frames_of (committed_of s.protocol.window s.protocol.pending) in
+    let j = s.protocol.journal in
+    let many = length j.history + length (live_entries boxes (targets_of (length boxes) fs) j) in
+    let row = passed (nat_le number_limit (s.protocol.generation + 1)) Exhausted (cond (nat_le number_limit many) (Some Exhausted) None) free in
+    let fits = is_below number_limit many (passed (nat_le number_limit many) Exhausted None row.1).0 in
+    let all = length-live boxes fs j in
+    omega arith
+
+-- the history goes on by these entries, and then by those
+pub goes_on_twice : (j : Journal) (es fs : List Entry) → with_history (with_history j es) fs ≡ with_history j (es ++ fs)
+goes_on_twice j es fs = λ i. record j { history = append_assoc j.history es fs i }
+
 pub live_record : (r : Record) → IsRecord r → (boxes : List (List Frame)) (out : List (ℕ × Frame)) (steps : ℕ)
     → IsRecord (go_live_done boxes out steps r).1
 live_record r h boxes out steps = search (arith, rules)
@@ -182,14 +163,10 @@ module _ (a : Inside) where
     pub as_many : length ns ≡ length (arrived_numbers (kept_entries (stored a).journal))
     as_many = length_permutation (arrived_numbers (kept_entries (stored a).journal)) ns same_numbers
 
-    -- the history after the frames that were taken in are dropped, and then those on their way
-    pub live_history : (boxes : List (List Frame)) (out : List (ℕ × Frame)) (slice : List ℕ) (first second third : List Entry)
-        → IsNonDecreasing ns → slice ≡ ns → first ≡ a.history.entries → second ≡ first ++ map DropIn slice
-        → third ≡ second ++ drops_of_owed_from (length boxes) 1 boxes out
-        → third ≡ a.history.entries ++ live_entries boxes out (stored a).journal
-    live_history boxes out slice first second third sorted e f g h =
-        let drops = drops_of_owed_from (length boxes) 1 boxes out in
-        h
-        ∙ ap (λ es. es ++ drops) (g ∙ ap (λ es. es ++ map DropIn slice) f ∙ ap (λ ms. a.history.entries ++ map DropIn ms) e)
-        ∙ append_assoc a.history.entries (map DropIn ns) drops
-        ∙ ap (λ es. a.history.entries ++ es) (sym (live_entries-are boxes out (stored a).journal ns same_numbers sorted))
+    -- the history after the frames that were taken in are dropped
+    pub live_history : (slice : List ℕ) (first second : List Entry) → IsNonDecreasing ns → slice ≡ ns → first ≡ a.history.entries
+        → second ≡ first ++ map DropIn slice
+        → second ≡ a.history.entries ++ drops_of_taken_in (kept_entries (stored a).journal)
+    live_history slice first second sorted e f g =
+        g ∙ (λ i. f i ++ map DropIn (e i))
+        ∙ ap (λ es. a.history.entries ++ es) (sym (drops-are (stored a).journal ns same_numbers sorted))

@@ -1,5 +1,5 @@
 -- Where a node goes on alone: all that is kept goes to the history, and all that is on its way lands. So does what each of its steps sends.
-use Rattle.std.proofs.Common.{◌≡◌, ℕ, List, [], ◌∷◌, ◌++◌, length, refl, sym, ap, ◌∙◌, subst}
+use Rattle.std.proofs.Common.{◌+◌, ◌≡◌, ℕ, List, [], ◌∷◌, ◌++◌, length, refl, sym, ap, ◌∙◌, subst}
 use Rattle.std.proofs.{Common.{true}, lemmas.List.append-nil}
 use Rattle.frame_ports.specs.{Addresses.targets_of, Ports.PortsState}
 use Rattle.failover.specs.declared.mode.Mode.{Mode}
@@ -57,6 +57,7 @@ module _ (start : HistoryState) (r : Record) (p : PortsState) (h : Accords start
         journal = landed_after r.journal.running [] p.boxes (all_held p.boxes outbox r) r.journal;
         window = window;
         pending = [];
+        next_frame = r.next_frame + length outbox;
       }) (ports_after_all p outbox r)
       all_landed_accords =
           land.landed_accords start r p h ran [] r.journal.running [] h.journal.running_are refl can_ran left_ran outbox sent_so mode window

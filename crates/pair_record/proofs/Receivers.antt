@@ -5,7 +5,11 @@ use Rattle.std.specs.Prelude.{nat_le, ◌&&◌}
 use Rattle.frame_ports.specs.{Addresses.{addressed, clients_from, clients_of}, Targets.{has_target, AreTargets}}
 use Rattle.pair_history.specs.Entries.{Frame, Entry}
 use Rattle.pair_record.specs.internal.Lengths.{receivers, landing_by, landings_by, lengths_at, lengths_after}
+use Rattle.frame_ports.specs.{Numbers.{landing, after_landing}, Ports.PortsState}
+use Rattle.output_gate.specs.Landings.{clients_for, landed_for, ports_after}
+use Rattle.pair_record.specs.internal.Brought.{entries_of_landing, entries_for, entries_after}
 use Rattle.pair_record.proofs.LengthLaws.{landings_by-append}
+use Rattle.std.proofs.{lemmas.List.length-append, Math.Seq.drop-cons}
 
 -- the clients from c on, of n
 abbrev pub from_on : ℕ → ℕ → List ℕ → List ℕ
@@ -76,3 +80,38 @@ nil-append old lengths now total e h = sym (none old) ∙ ap (λ t. old ++ landi
 pub landings_length : (lengths cs : List ℕ) → length (landings_by lengths cs) ≡ length cs
 landings_length lengths [] = refl
 landings_length lengths (c ∷ cs) = ap suc (landings_length (lengths_at lengths c) cs)
+
+-- one client more of a frame that lands under its number
+module _ (p : PortsState) (n : ℕ) (f : Frame) (c : ℕ) (rest now : List ℕ) (is : now ≡ c ∷ rest) where
+  pub brought_more : entries_for p now n f ≡ entries_of_landing c (landing p c n) ++ entries_for (after_landing p c n f) rest n f
+  brought_more = ap (λ cs. entries_for p cs n f) is
+
+  pub brought_count : length (entries_for p now n f)
+      ≡ length (entries_of_landing c (landing p c n)) + length (entries_for (after_landing p c n f) rest n f)
+  brought_count =
+      ap (λ (es : List Entry). length es) brought_more
+      ∙ length-append (entries_of_landing c (landing p c n)) (entries_for (after_landing p c n f) rest n f)
+
+  pub landed_more : landed_for p now n f ≡ landed_for (after_landing p c n f) rest n f
+  landed_more = ap (λ cs. landed_for p cs n f) is
+
+-- one frame more
+module _ (p : PortsState) (n : ℕ) (fs : List Frame) (i : ℕ) (f : Frame) (within : i < length fs) (is : f ≡ get_or fs i f) where
+  next_frame : drop i fs ≡ f ∷ drop (i + 1) fs
+  next_frame =
+      let e : suc i ≡ i + 1 = omega arith in
+      drop-cons fs i f within ∙ (λ k. sym is k ∷ drop (e k) fs)
+
+  pub frame_more : entries_after p n (drop i fs)
+      ≡ entries_for p (clients_for p f) n f ++ entries_after (landed_for p (clients_for p f) n f) (n + 1) (drop (i + 1) fs)
+  frame_more = ap (entries_after p n) next_frame
+
+  pub frame_count : length (entries_after p n (drop i fs))
+      ≡ length (entries_for p (clients_for p f) n f)
+      + length (entries_after (landed_for p (clients_for p f) n f) (n + 1) (drop (i + 1) fs))
+  frame_count =
+      ap (λ (es : List Entry). length es) frame_more
+      ∙ length-append (entries_for p (clients_for p f) n f) (entries_after (landed_for p (clients_for p f) n f) (n + 1) (drop (i + 1) fs))
+
+  pub frame_ports : ports_after p n (drop i fs) ≡ ports_after (landed_for p (clients_for p f) n f) (n + 1) (drop (i + 1) fs)
+  frame_ports = ap (ports_after p n) next_frame

@@ -8,9 +8,9 @@ use Rattle.frame_ports.specs.Limits.{number_limit}
 use Rattle.output_gate.specs.Epochs.{Epoch, frames_to, after_number}
 use Rattle.pair_history.specs.Entries.{Frame, Entry}
 use Rattle.pair_record.specs.{declared.event.Packet.Packet, declared.event.Refusal.TheVariants.Exhausted, declared.window.Window.Window}
-use Rattle.pair_record.specs.{Journal.{all_entries, rest_of}, internal.Lengths.receivers}
+use Rattle.pair_record.specs.{Journal.{all_entries, rest_of, with_history}, Protocol.landed_after, internal.Lengths.receivers}
 use Rattle.pair_record.specs.Protocol.{commit_done, ack_done, Record, first_refusal, cut_refusals, ack_refusals, exhausts, cut_done}
-use Rattle.pair_record.specs.{Record.{IsRecord, SuitsMode}, Modes.{is_alone, is_filling, filled}}
+use Rattle.pair_record.specs.{Record.{IsRecord, IsLone, SuitsMode}, Modes.{is_alone, is_filling, filled}}
 use Rattle.pair_record.specs.{Protocol.seal_done, Limits.most_pending, Window.{with_commit, with_acknowledged}}
 use Rattle.pair_record.proofs.{LengthLaws.length-receivers, ModeLaws.{clash, filled_alone}}
 use Rattle.pair_record.proofs.WindowLaws.{numbered_below, cut_window, commit_window, ack_window, is_below}
@@ -90,6 +90,20 @@ module _ (r : Record) (h : IsRecord r) where
     sealed = h.sealed;
     alone = λ e. ((h.alone e).0, ap (after_number n) (h.alone e).1);
     suits = suits_later r.mode r.window (with_acknowledged n r.window) (omega arith) refl h.suits;
+  }
+
+  -- where the history goes on, and the next frame has this number
+  pub history_record : (es : List Entry) (next : ℕ) → IsRecord (record r { journal = with_history r.journal es; next_frame = next })
+  history_record es next = record { window = h.window; sealed = h.sealed; alone = h.alone; suits = h.suits }
+
+  -- where nothing is sealed, and an epoch enters it
+  pub entered_record : IsLone r → (epoch rest : List Entry) (boxes : List (List Frame)) (leaving : List (ℕ × Frame)) (next : ℕ)
+      → IsRecord (record r { journal = landed_after epoch rest boxes leaving r.journal; next_frame = next })
+  entered_record k epoch rest boxes leaving next = record {
+    window = h.window;
+    sealed = let s = h.sealed in let n = ap (λ (ess : List (List Entry)). length ess) k.0 in omega arith;
+    alone = λ e. (refl, k.1);
+    suits = h.suits;
   }
 
   pub some_committed : is_alone r.mode ≡ false → is_filling r.mode ≡ false → 1 ≤ r.window.to_commit

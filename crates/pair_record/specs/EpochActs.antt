@@ -10,7 +10,7 @@ use Rattle.pair_record.specs.ClientActs.{arrival_done}
 use Rattle.pair_record.specs.FailureActs.{landed_after, failure_done}
 use Rattle.pair_record.specs.Journal.{joined}
 use Rattle.pair_record.specs.GuestActs.{seal_done}
-use Rattle.pair_record.specs.Tables.{Record, Outcome, Row, exhausts}
+use Rattle.pair_record.specs.Tables.{Record, Outcome, Row, exhausts, frames_run_out}
 
 -- THE EPOCH: what runs up to so many arrivals, and what comes after them
 
@@ -52,13 +52,15 @@ seal_epoch_done arrivals steps frames r =
 
 -- what is refused where it goes to the history, and these frames, which the guest sent along it, land
 abbrev pub enter_epoch_refusals : ℕ → List (List Frame) → List Frame → Record → List Row
-enter_epoch_refusals steps boxes frames r = (exhausts r (steps + length (targets_of (length boxes) frames)), Exhausted) ∷ []
+enter_epoch_refusals steps boxes frames r =
+    (exhausts r (steps + length (targets_of (length boxes) frames)), Exhausted) ∷ (frames_run_out r, Exhausted) ∷ []
 
 -- Where nothing is sealed or pending, it goes to the history, and these frames, which the guest sent along it, land after it.
 abbrev pub enter_epoch_done : ℕ → ℕ → List (List Frame) → List Frame → Record → Record
 enter_epoch_done arrivals steps boxes frames r = record r {
   journal = landed_after (guest_epoch arrivals steps r.journal.running) (behind arrivals r.journal.running) boxes
       (targets_of (length boxes) frames) r.journal;
+  next_frame = r.next_frame + length frames;
 }
 
 -- The backup fails while the guest is in an epoch, which goes on: what was handed out runs on.

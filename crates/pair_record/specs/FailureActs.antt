@@ -1,6 +1,6 @@
 -- What fails, and what follows: the primary stops or the backup does, the backup goes live, a node that is alone gets a new backup.
 -- `X_done` is an event's reply, with the record after it, and the only place that spells them; `on_X` is the event, refused or done.
-use Rattle.std.specs.Prelude.{ℕ, ◌+◌, nat_le, List, [], ◌∷◌, ◌++◌, length}
+use Rattle.std.specs.Prelude.{ℕ, ◌+◌, ◌-◌, nat_le, List, [], ◌∷◌, ◌++◌, length}
 use Rattle.frame_ports.specs.Addresses.{targets_of}
 use Rattle.frame_ports.specs.Lands.{put_count}
 use Rattle.frame_ports.specs.Limits.{number_limit}
@@ -8,13 +8,13 @@ use Rattle.output_gate.specs.Epochs.{frames_of}
 use Rattle.failover.specs.declared.mode.Mode.TheVariants as modes
 use Rattle.pair_history.specs.Entries.{Frame, Entry}
 use Rattle.pair_history.specs.Landings.{landings}
-use Rattle.pair_history.specs.Failures.{drops_of_taken_in, drops_of_owed_from}
+use Rattle.pair_history.specs.Failures.{drops_of_taken_in}
 use Rattle.pair_record.specs.declared.event.Refusal.TheVariants.{Exhausted}
 use Rattle.pair_record.specs.declared.event.Reply.TheVariants as replies
 use Rattle.pair_record.specs.GuestActs.{seal_done}
 use Rattle.pair_record.specs.Journal.{Journal, kept_entries, with_history, entered, discarded}
-use Rattle.pair_record.specs.Limits.{full_checkpoint}
-use Rattle.pair_record.specs.Window.{none_pending}
+use Rattle.pair_record.specs.Limits.{full_checkpoint, first_frame}
+use Rattle.pair_record.specs.Window.{none_pending, uncommitted_of}
 use Rattle.pair_record.specs.Tables.{Record, Sight, Outcome, Row, unless, exhausts}
 
 -- FAILPRIMARY
@@ -39,7 +39,7 @@ fail_backup_refusals boxes outbox r = (exhausts r (length (all_held boxes outbox
 abbrev pub landed_after : List Entry → List Entry → List (List Frame) → List (ℕ × Frame) → Journal → Journal
 landed_after epoch rest boxes leaving j = with_history (entered epoch rest j) (landings boxes leaving)
 
--- the pending checkpoints are given up, and what was held lands, and then these frames, which the guest sent along this epoch
+-- the pending checkpoints are given up, and what was held lands, and then these frames, which the guest sent along this epoch, numbered on
 abbrev pub failure_done : List Entry → List Entry → List (List Frame) → List Frame → Record → Outcome
 failure_done epoch rest boxes frames r =
     let leaving = all_held boxes frames r in (
@@ -49,6 +49,7 @@ failure_done epoch rest boxes frames r =
         journal = landed_after epoch rest boxes leaving r.journal;
         window = none_pending r.window.to_cut;
         pending = [];
+        next_frame = r.next_frame + length frames;
       },
     )
 
@@ -59,17 +60,21 @@ fail_backup_done boxes outbox r = failure_done r.journal.running [] boxes outbox
 abbrev pub on_fail_backup : Sight → Record → Outcome
 on_fail_backup s r = unless r (fail_backup_refusals s.boxes s.outbox r) (fail_backup_done s.boxes s.outbox r)
 
--- GOLIVE: the backup goes on from its image, in the next generation; what was kept is discarded, and so is what the clients were owed
+-- GOLIVE: the backup goes on from its image, in the next generation; what was kept is discarded, and what the clients are owed lands
 
 -- what that adds to the history, where these are the boxes, and these frames are on their way to their clients
 abbrev pub live_entries : List (List Frame) → List (ℕ × Frame) → Journal → List Entry
-live_entries boxes out j = drops_of_taken_in (kept_entries j) ++ drops_of_owed_from (length boxes) 1 boxes out
+live_entries boxes out j = drops_of_taken_in (kept_entries j) ++ landings boxes out
 
 abbrev pub go_live_refusals : List (List Frame) → List (ℕ × Frame) → Record → List Row
 go_live_refusals boxes out r =
     (nat_le number_limit (r.generation + 1), Exhausted)
     ∷ (nat_le number_limit (length r.journal.history + length (live_entries boxes out r.journal)), Exhausted)
     ∷ []
+
+-- the number behind those of the committed frames: what was sent after them is rolled back, and its numbers are given anew
+abbrev pub first_uncommitted : Record → ℕ
+first_uncommitted r = r.next_frame - length (frames_of (uncommitted_of r.window r.pending))
 
 abbrev pub go_live_done : List (List Frame) → List (ℕ × Frame) → ℕ → Record → Outcome
 go_live_done boxes out steps r = (
@@ -80,6 +85,7 @@ go_live_done boxes out steps r = (
     journal = with_history (discarded r.journal) (live_entries boxes out r.journal);
     window = none_pending r.window.to_commit;
     pending = [];
+    next_frame = first_uncommitted r;
   },
 )
 
@@ -91,11 +97,17 @@ on_go_live s r = unless r (go_live_refusals s.boxes s.owed r) (go_live_done s.bo
 abbrev pub protect_refusals : Record → List Row
 protect_refusals r = (nat_le number_limit (r.generation + 1), Exhausted) ∷ []
 
--- nothing is pending, and its full checkpoint is the next one
+-- nothing is pending, its full checkpoint is the next one, and the guest's frames are numbered anew
 abbrev pub begin_done : Record → Outcome
 begin_done r = (
   replies.Protecting (r.generation + 1),
-  record r { mode = modes.Filling; generation = r.generation + 1; window = none_pending full_checkpoint; pending = [] },
+  record r {
+    mode = modes.Filling;
+    generation = r.generation + 1;
+    window = none_pending full_checkpoint;
+    pending = [];
+    next_frame = first_frame;
+  },
 )
 
 -- its full checkpoint, which no frame waits for, is pending: from now on what the guest does and sends is kept

@@ -1,6 +1,6 @@
 -- What the primary's guest does: it makes a step, and its running epoch is cut. `X_done` is an event's reply, with the record after it,
 -- and the only place that spells them; `on_X` is the event, refused or done.
-use Rattle.std.specs.Prelude.{ℕ, nat_lt, nat_le, Bool, if◌then◌else◌, List, [], ◌∷◌, ◌++◌, length}
+use Rattle.std.specs.Prelude.{ℕ, ◌+◌, ◌&&◌, nat_lt, nat_le, Bool, if◌then◌else◌, List, [], ◌∷◌, ◌++◌, length}
 use Rattle.frame_ports.specs.Addresses.{targets_of}
 use Rattle.frame_ports.specs.Limits.{number_limit}
 use Rattle.failover.specs.declared.mode.Mode.{Mode}
@@ -12,7 +12,7 @@ use Rattle.pair_record.specs.Limits.{most_pending, stepping_frames, lone_step_en
 use Rattle.pair_record.specs.Journal.{with_moves, sealed_as}
 use Rattle.pair_record.specs.Modes.{is_stopped, is_alone}
 use Rattle.pair_record.specs.Window.{with_cut}
-use Rattle.pair_record.specs.Tables.{Record, Sight, Outcome, Row, unless, exhausts}
+use Rattle.pair_record.specs.Tables.{Record, Sight, Outcome, Row, unless, exhausts, frames_run_out}
 
 -- STEP
 
@@ -22,16 +22,26 @@ step_room mode = if is_alone mode then lone_step_entries else 1
 
 abbrev pub step_refusals : List Frame → Record → List Row
 step_refusals outbox r =
-    (is_stopped r.mode, Stopped) ∷ (nat_lt stepping_frames (length outbox), CutNeeded) ∷ (exhausts r (step_room r.mode), Exhausted) ∷ []
+    (is_stopped r.mode, Stopped)
+    ∷ (nat_lt stepping_frames (length outbox), CutNeeded)
+    ∷ (exhausts r (step_room r.mode), Exhausted)
+    ∷ (is_alone r.mode && frames_run_out r, Exhausted)
+    ∷ []
 
--- The guest makes one step, its `steps`th, in which it sends these frames. Where a node is alone they land at once.
+-- The guest makes one step, its `steps`th, in which it sends these frames. Where a node is alone they land at once, numbered on.
 abbrev pub step_entries : Bool → List (List Frame) → List Frame → List Entry
 step_entries alone boxes sent = if alone then Ran ∷ landings boxes (targets_of (length boxes) sent) else Ran ∷ []
+
+abbrev pub frame_after_step : Bool → List Frame → ℕ → ℕ
+frame_after_step alone sent next = if alone then next + length sent else next
 
 abbrev pub step_done : List (List Frame) → List Frame → ℕ → Record → Outcome
 step_done boxes sent steps r = (
   replies.Steps steps,
-  record r { journal = with_moves (is_alone r.mode) r.journal (step_entries (is_alone r.mode) boxes sent) },
+  record r {
+    journal = with_moves (is_alone r.mode) r.journal (step_entries (is_alone r.mode) boxes sent);
+    next_frame = frame_after_step (is_alone r.mode) sent r.next_frame;
+  },
 )
 
 abbrev pub on_step : Sight → Record → Outcome
@@ -40,9 +50,14 @@ on_step s r = unless r (step_refusals s.outbox r) (step_done s.boxes s.sent s.st
 -- CUT
 
 abbrev pub cut_refusals : Record → List Row
-cut_refusals r = (nat_le most_pending (length r.pending), Behind) ∷ (nat_le number_limit r.window.to_cut, Exhausted) ∷ []
+cut_refusals r =
+    (nat_le most_pending (length r.pending), Behind)
+    ∷ (nat_le number_limit r.window.to_cut, Exhausted)
+    ∷ (frames_run_out r, Exhausted)
+    ∷ []
 
--- an epoch, along which the guest sent these frames, is sealed, and this runs on: its checkpoint is pending under the next number
+-- an epoch, along which the guest sent these frames, is sealed, and this runs on: its checkpoint is pending under the next number, and its
+-- frames have the next ones
 abbrev pub seal_done : List Entry → List Entry → List Frame → Record → Outcome
 seal_done epoch rest frames r = (
   replies.Cut r.generation r.window.to_cut,
@@ -50,6 +65,7 @@ seal_done epoch rest frames r = (
     journal = sealed_as epoch rest r.journal;
     window = with_cut r.window;
     pending = r.pending ++ record { number = r.window.to_cut; frames = frames } ∷ [];
+    next_frame = r.next_frame + length frames;
   },
 )
 

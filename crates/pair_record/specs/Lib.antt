@@ -10,6 +10,7 @@ pub mod FailureActs
 pub mod EpochActs
 pub mod Protocol
 pub mod Record
+pub mod Kept
 pub mod Limits
 pub mod Refusals
 -- what public clauses cite of lower crates

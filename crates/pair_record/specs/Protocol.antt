@@ -1,7 +1,7 @@
 -- The pair protocol: what each event is answered and what it leaves, over a record that holds no machine, page or byte. By who acts: the
 -- guest (GuestActs), the backup (BackupActs), clients and their lines (ClientActs), and failures (FailureActs). An event has a table of
--- refusals; else it is done. What it looks at beside the record is a `Sight`, and the history says what that is. Which packet an event gets,
--- and where packets go that an answer says were sent, whoever holds lines says.
+-- refusals; else it is done. What it looks at beside the record is a `Sight`, and the history says what that is. Which packet an event
+-- gets, and where packets go that an answer says were sent, whoever holds lines says.
 use Rattle.std.specs.Prelude.{List, ◌++◌, Option}
 use Rattle.guest_machine.specs.Step.{next, sent}
 use Rattle.pair_history.specs.Entries.{Frame}
@@ -12,7 +12,8 @@ use Rattle.pair_record.specs.declared.event.Event.TheVariants.{FailPrimary, Fail
 use Rattle.pair_record.specs.declared.event.Packet.{Packet}
 use Rattle.pair_record.specs.Journal.{joined, all_entries}
 use Rattle.pair_record.specs.Modes.{mode_refusal}
-pub use Rattle.pair_record.specs.Tables.{Record, Sight, Outcome, Row, first_refusal, refused, or_else, unless, exhausts, is_among}
+pub use Rattle.pair_record.specs.Tables.{Record, Sight, Outcome, Row, first_refusal, refused, or_else, unless, exhausts}
+pub use Rattle.pair_record.specs.Tables.{frames_run_out, is_among}
 pub use Rattle.pair_record.specs.GuestActs.{step_room, step_refusals, step_entries, step_done, on_step, cut_refusals}
 pub use Rattle.pair_record.specs.GuestActs.{seal_done, cut_done, on_cut}
 pub use Rattle.pair_record.specs.BackupActs.{send_done, on_send, backup_refusals, again_done, commit_done, backup_done, backup_outcome}

@@ -1,13 +1,15 @@
 -- What contracts see of the pair's record: the protocol's record, and the clients' ports; and what is true of every record.
-use Rattle.std.specs.Prelude.{◌≡◌, ℕ, ◌+◌, ◌≤◌, true, List, [], length, drop, remove}
+use Rattle.std.specs.Prelude.{◌≡◌, ℕ, ◌+◌, ◌-◌, ◌≤◌, ◌<◌, true, false, List, [], ◌++◌, All, length, drop, remove}
 use Rattle.frame_ports.specs.Addresses.{targets_of}
-use Rattle.output_gate.specs.Epochs.{frames_of}
+use Rattle.output_gate.specs.Epochs.{frames_of, frames_to}
+use Rattle.output_gate.specs.Landings.{ports_after}
 use Rattle.frame_ports.specs.Lands.{list_of, with_list, lands}
 use Rattle.frame_ports.specs.Ports.{PortsState}
 use Rattle.pair_history.specs.Entries.{Frame}
 use Rattle.pair_record.specs.Journal.{empty_journal}
 use Rattle.pair_record.specs.Modes.{is_alone}
-use Rattle.pair_record.specs.Protocol.{Record, let_go, all_held}
+use Rattle.pair_record.specs.Limits.{first_frame, last_frame}
+use Rattle.pair_record.specs.Protocol.{Record}
 use Rattle.pair_record.specs.Window.{start_window, IsWindow, committed_of}
 use Rattle.failover.specs.declared.mode.Mode.{Mode}
 use Rattle.failover.specs.declared.mode.Mode.TheVariants.{Paired, Filling, Alone, Stopped}
@@ -29,15 +31,37 @@ owed_to r p = targets_of (length p.boxes) (frames_of (committed_of r.window r.pe
 
 -- nothing happened yet
 abbrev pub start_record : Record
-start_record = record { mode = Paired; generation = 1; journal = empty_journal; window = start_window; pending = [] }
+start_record = record {
+  mode = Paired;
+  generation = 1;
+  journal = empty_journal;
+  window = start_window;
+  pending = [];
+  next_frame = first_frame;
+}
+
+-- the number of the first frame that the gate holds; where it holds none, the number that the next one gets
+abbrev pub first_held : Record → ℕ
+first_held r = r.next_frame - length (frames_of r.pending)
+
+-- the ports once these frames, none of which came for a client before, have landed in order, the first of them under this number
+abbrev pub ports_landed : PortsState → ℕ → List Frame → PortsState
+ports_landed p first fs = record p {
+  boxes = lands p.boxes (targets_of (length p.boxes) fs);
+  numbers = (ports_after p first fs).numbers;
+}
 
 -- the ports once what leaves the gate at that number has landed
 abbrev pub ports_after_ack : PortsState → Record → ℕ → PortsState
-ports_after_ack p r n = record p { boxes = lands p.boxes (let_go p.boxes r n) }
+ports_after_ack p r n = ports_landed p (first_held r) (frames_to n r.pending)
 
 -- once all that the gate holds, and then the outbox, has landed
 abbrev pub ports_after_all : PortsState → List Frame → Record → PortsState
-ports_after_all p outbox r = record p { boxes = lands p.boxes (all_held p.boxes outbox r) }
+ports_after_all p outbox r = ports_landed p (first_held r) (frames_of r.pending ++ outbox)
+
+-- once the backup has gone live: what the gate held of committed checkpoints has landed
+abbrev pub ports_after_live : PortsState → Record → PortsState
+ports_after_live p r = ports_landed p (first_held r) (frames_of (committed_of r.window r.pending))
 
 -- once the first frame of a client's inbox has left it, and once that of its box has
 abbrev pub ports_after_admit : PortsState → ℕ → PortsState
@@ -71,3 +95,11 @@ pub record IsRecord (r : Record) : Type 0 where
   pub sealed : r.window.to_commit + length r.journal.sealed ≡ r.window.to_cut
   pub alone : is_alone r.mode ≡ true → IsLone r
   pub suits : SuitsMode r.mode r.window
+
+-- The numbers of frames: the first that the gate holds has at least number 1, and no frame with its number or a later one has come for a
+-- client; and numbers are left for the frames of one epoch more, and while a backup may fail, of two.
+pub record AreNumbered (r : Record) (p : PortsState) : Type 0 where
+  pub held : length (frames_of r.pending) < r.next_frame
+  pub new : All (λ n. n < first_held r) p.numbers
+  pub left : r.next_frame ≤ last_frame + 512
+  pub left_in_pair : is_alone r.mode ≡ false → r.next_frame ≤ last_frame + 256

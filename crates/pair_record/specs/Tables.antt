@@ -1,6 +1,6 @@
 -- The pair's record, which holds no machine, page or byte; what an event looks at beside it; and tables of refusals, in which the first
 -- row whose test holds decides.
-use Rattle.std.specs.Prelude.{ℕ, ◌+◌, ◌&&◌, nat_le, Bool, if◌then◌else◌, List, [], ◌∷◌, length, Option, None, Some}
+use Rattle.std.specs.Prelude.{ℕ, ◌+◌, ◌&&◌, nat_le, nat_lt, Bool, if◌then◌else◌, List, [], ◌∷◌, length, Option, None, Some}
 use Rattle.frame_ports.specs.Limits.{number_limit}
 use Rattle.output_gate.specs.Epochs.{Epoch}
 use Rattle.failover.specs.declared.mode.Mode.{Mode}
@@ -10,6 +10,7 @@ use Rattle.pair_record.specs.declared.event.Reply.{Reply}
 use Rattle.pair_record.specs.declared.event.Reply.TheVariants as replies
 use Rattle.pair_record.specs.declared.window.Window.{Window}
 use Rattle.pair_record.specs.Journal.{Journal, all_entries}
+use Rattle.pair_record.specs.Limits.{last_frame}
 
 pub record Record : Type 0 where
   pub mode : Mode
@@ -19,6 +20,8 @@ pub record Record : Type 0 where
   pub window : Window
   -- each pending checkpoint's number with the frames that the guest sent along its epoch
   pub pending : List Epoch
+  -- the number that the next frame of the guest gets where it comes to the gate
+  pub next_frame : ℕ
 
 -- What an event looks at beside the record.
 pub record Sight : Type 0 where
@@ -64,6 +67,10 @@ unless r rows done = or_else (first_refusal rows) (refused r) done
 -- that many more entries would be too many for the history
 abbrev pub exhausts : Record → ℕ → Bool
 exhausts r more = nat_le number_limit (length (all_entries r.journal) + more)
+
+-- too few numbers are left for the frames that the guest may send
+abbrev pub frames_run_out : Record → Bool
+frames_run_out r = nat_lt last_frame r.next_frame
 
 -- whether that many clients have one of this number
 abbrev pub is_among : ℕ → ℕ → Bool

@@ -1,20 +1,22 @@
 //! The journal: the history, the sealed epochs that no commit has covered yet, and the one that runs.
-ghost use Rattle.std.specs.Prelude.{◌≡◌, ◌+◌, ◌-◌, ◌*◌, ◌^◌, ◌≤◌, ◌<◌, ◌++◌, ◌∷◌, [], length, replicate, OnOk, OnErr, IfOk, ◌⊎◌};
-ghost use Rattle.frame_ports.specs.Addresses.{targets_of};
+ghost use Rattle.std.specs.Prelude.{◌≡◌, ◌+◌, ◌-◌, ◌*◌, ◌^◌, ◌≤◌, ◌<◌, ◌++◌, ◌∷◌, [], All, length, map, replicate, OnOk, OnErr, IfOk, ◌⊎◌};
+ghost use Rattle.frame_ports.specs.Addresses.{IsFrame, targets_of};
 ghost use Rattle.frame_ports.specs.Limits.{number_limit};
 ghost use Rattle.pair_history.specs.Entries.{Ran, Arrive};
-ghost use Rattle.pair_history.specs.Failures.{arrived_numbers};
+ghost use Rattle.output_gate.specs.Landings.{ports_after};
+ghost use Rattle.pair_history.specs.Failures.{arrived_numbers, drops_of_taken_in};
 ghost use Rattle.pair_history.specs.Landings.{landings};
 ghost use Rattle.pair_history.specs.Log.{expanded, frame_bytes};
 ghost use Rattle.pair_record.specs.Journal.{all_entries, kept_entries, empty_journal, with_history, with_running, sealed_off, committed};
 ghost use Rattle.pair_record.specs.Journal.{all_committed, discarded, sealed_as, entered};
 ghost use Rattle.pair_record.specs.EpochActs.{guest_epoch, behind};
 ghost use Rattle.pair_record.specs.internal.Lengths.{receivers};
-ghost use Rattle.pair_record.specs.Protocol.{live_entries};
+ghost use Rattle.pair_record.specs.internal.Brought.{entries_after};
+ghost use Rattle.pair_record.specs.Kept.{all_frames};
 
-use crate::discards::{add_drops_in, add_drops_out, count_arrivals, sorted_numbers};
+use crate::discards::{add_drops_in, count_arrivals, sorted_numbers};
 use crate::epochs::{Arrival, RunningEpoch, add_epoch, add_epochs, places_with};
-use crate::landings::{add_landings, count_landings};
+use crate::landings::{add_landings, land_lists};
 use frame_ports::{NUMBER_LIMIT, Ports};
 use memory_wanted::{MemoryWanted, reserve};
 use pair_history::{Entry, Frame, History};
@@ -277,26 +279,36 @@ impl Journal {
         count_arrivals(self.sealed.as_slice()) + self.running.arrivals.len() as u64
     }
 
-    /// What is kept is discarded: the frames that it took in are dropped, and then these, which are on their way to the clients of these
-    /// ports.
-    pub(crate) fn go_live(&mut self, ports: &Ports, owed: &[Frame]) -> Result<(), MemoryWanted>
-        requires few { length owed.now ≤ 2 ^ 58 }
-        requires fits { length self.old.journal.history
-            + length (live_entries ports.now.boxes (targets_of (length ports.now.boxes) owed.now) self.old.journal) < number_limit }
+    /// What is kept is discarded: the frames that it took in are dropped, and the history has room for so many more stored entries then.
+    pub(crate) fn go_live(&mut self, more: usize) -> Result<(), MemoryWanted>
+        requires fits { length self.old.journal.history + length (arrived_numbers (kept_entries self.old.journal)) + more < number_limit }
         ensures ok { OnOk result (self.new.journal
-            ≡ with_history (discarded self.old.journal)
-            (live_entries ports.now.boxes (targets_of (length ports.now.boxes) owed.now) self.old.journal)) }
+            ≡ with_history (discarded self.old.journal) (drops_of_taken_in (kept_entries self.old.journal))) }
+        ensures room { OnOk result (more ≤ self.new.room) }
         ensures err { OnErr result (self.new.journal ≡ self.old.journal) }
     {
         let count = self.taken_in() as usize;
         let numbers = sorted_numbers(self.alloc, count, self.sealed.as_slice(), &self.running)?;
-        self.history
-            .reserve(count + count_landings(ports, owed) as usize)?;
+        self.history.reserve(count + more)?;
         self.sealed.clear();
         self.running = RunningEpoch::new(self.alloc);
         self.kept = 0;
         add_drops_in(&mut self.history, numbers.as_slice());
-        add_drops_out(&mut self.history, ports, owed);
         Ok(())
+    }
+
+    /// The frames of these lists land at these ports, the first of them under that number, and what becomes of them goes to the history, in
+    /// the room that was reserved.
+    pub(crate) fn land_kept(&mut self, ports: &mut Ports, first: u64, lists: &[Vec<Frame>])
+        requires frames { All (λ v. All IsFrame v.items) lists.now }
+        requires numbers { first + length (all_frames (map (λ v. v.items) lists.now)) ≤ 2 ^ 62 }
+        requires room { length (entries_after ports.old first (all_frames (map (λ v. v.items) lists.now))) ≤ self.old.room }
+        requires fits { length (all_entries self.old.journal)
+            + length (entries_after ports.old first (all_frames (map (λ v. v.items) lists.now))) < number_limit }
+        ensures journal { self.new.journal
+            ≡ with_history self.old.journal (entries_after ports.old first (all_frames (map (λ v. v.items) lists.now))) }
+        ensures ports { ports.new ≡ ports_after ports.old first (all_frames (map (λ v. v.items) lists.now)) }
+    {
+        land_lists(&mut self.history, ports, first, lists);
     }
 }

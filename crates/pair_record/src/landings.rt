@@ -1,11 +1,14 @@
-//! What an acknowledgement adds to the history: for each frame that leaves the gate and each of its clients, that it
-//! lands, or is dropped at a full box.
-ghost use Rattle.std.specs.Prelude.{◌≡◌, ℕ, ◌+◌, ◌-◌, ◌*◌, ◌^◌, ◌≤◌, ◌<◌, ◌++◌, [], ◌∷◌, length, IsTrue, ◌↔◌};
-ghost use Rattle.frame_ports.specs.Addresses.{clients_of, targets_of};
+//! What landings add to the history: for each frame and each of its clients, that it lands, or is dropped at a full box. What leaves the
+//! gate lands so; what a backup kept does where it hadn't come yet.
+ghost use Rattle.std.specs.Prelude.{◌≡◌, ℕ, ◌+◌, ◌-◌, ◌*◌, ◌^◌, ◌≤◌, ◌<◌, ◌++◌, [], ◌∷◌, All, length, map, IsTrue, ◌↔◌};
+ghost use Rattle.frame_ports.specs.Addresses.{IsFrame, clients_of, targets_of};
+ghost use Rattle.output_gate.specs.Landings.{clients_for, landed_for, ports_after};
 ghost use Rattle.pair_history.specs.Landings.{landings};
 ghost use Rattle.pair_record.specs.internal.Lengths.{receivers, landing_by, landings_by, lengths_at, lengths_after, AreLengths};
+ghost use Rattle.pair_record.specs.internal.Brought.{entries_of_landing, entries_for, entries_after};
+ghost use Rattle.pair_record.specs.Kept.{all_frames};
 
-use frame_ports::{BOX_FRAMES, MAX_CLIENTS, Ports};
+use frame_ports::{BOX_FRAMES, Landing, MAX_CLIENTS, Ports};
 use pair_history::{Entry, Frame, History};
 
 /// A place for the length of each client's box.
@@ -101,5 +104,79 @@ pub(crate) fn add_landings(history: &mut History, ports: &Ports, frames: &[Frame
     let mut lengths = box_lengths(ports);
     for frame in frames {
         add_frame(history, &mut lengths, ports, frame);
+    }
+}
+
+/// Adds what became of a frame for a client: nothing, where it had come before.
+fn add_landed(history: &mut History, client: u64, landing: Landing)
+    requires room { length (entries_of_landing client landing) ≤ history.old.room }
+    requires fits { length history.old.entries + length (entries_of_landing client landing) < 2 ^ 62 }
+    ensures entries { history.new.entries ≡ history.old.entries ++ entries_of_landing client landing }
+    ensures room { history.old.room ≤ history.new.room + length (entries_of_landing client landing) }
+{
+    match landing {
+        Landing::In => history.add(Entry::Land(client)),
+        Landing::Dropped => history.add(Entry::DropOut {
+            client,
+            place: BOX_FRAMES as u64,
+        }),
+        Landing::Old => {}
+    }
+}
+
+/// Lands one frame, under its number, for each of its clients, and adds what became of it.
+fn land_frame(history: &mut History, ports: &mut Ports, number: u64, frame: &Frame)
+    requires frame { IsFrame frame.now }
+    requires room { length (entries_for ports.old (clients_for ports.old frame.now) number frame.now) ≤ history.old.room }
+    requires fits { length history.old.entries
+        + length (entries_for ports.old (clients_for ports.old frame.now) number frame.now) < 2 ^ 62 }
+    ensures entries { history.new.entries
+        ≡ history.old.entries ++ entries_for ports.old (clients_for ports.old frame.now) number frame.now }
+    ensures room { history.old.room
+        ≤ history.new.room + length (entries_for ports.old (clients_for ports.old frame.now) number frame.now) }
+    ensures ports { ports.new ≡ landed_for ports.old (clients_for ports.old frame.now) number frame.now }
+{
+    let targets = ports.route(frame);
+    let clients = ports.clients();
+    for client in 1..clients + 1 {
+        if targets.contains(client) {
+            let landing = ports.land(client, number, frame);
+            add_landed(history, client, landing);
+        }
+    }
+}
+
+/// Lands these frames in order, the first of them under that number, and adds what became of them.
+fn land_frames(history: &mut History, ports: &mut Ports, first: u64, frames: &[Frame])
+    requires frames { All IsFrame frames.now }
+    requires numbers { first + length frames.now ≤ 2 ^ 62 }
+    requires room { length (entries_after ports.old first frames.now) ≤ history.old.room }
+    requires fits { length history.old.entries + length (entries_after ports.old first frames.now) < 2 ^ 62 }
+    ensures entries { history.new.entries ≡ history.old.entries ++ entries_after ports.old first frames.now }
+    ensures room { history.old.room ≤ history.new.room + length (entries_after ports.old first frames.now) }
+    ensures ports { ports.new ≡ ports_after ports.old first frames.now }
+{
+    let mut number = first;
+    for frame in frames {
+        land_frame(history, ports, number, frame);
+        number += 1;
+    }
+}
+
+/// Lands the frames of these lists in order, the first of them under that number, and adds what became of them.
+pub(crate) fn land_lists(history: &mut History, ports: &mut Ports, first: u64, lists: &[Vec<Frame>])
+    requires frames { All (λ v. All IsFrame v.items) lists.now }
+    requires numbers { first + length (all_frames (map (λ v. v.items) lists.now)) ≤ 2 ^ 62 }
+    requires room { length (entries_after ports.old first (all_frames (map (λ v. v.items) lists.now))) ≤ history.old.room }
+    requires fits { length history.old.entries + length (entries_after ports.old first (all_frames (map (λ v. v.items) lists.now)))
+        < 2 ^ 62 }
+    ensures entries { history.new.entries
+        ≡ history.old.entries ++ entries_after ports.old first (all_frames (map (λ v. v.items) lists.now)) }
+    ensures ports { ports.new ≡ ports_after ports.old first (all_frames (map (λ v. v.items) lists.now)) }
+{
+    let mut number = first;
+    for frames in lists {
+        land_frames(history, ports, number, frames.as_slice());
+        number += frames.len() as u64;
     }
 }

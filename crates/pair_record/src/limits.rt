@@ -2,7 +2,7 @@
 //! memory and disk `guest_machine`'s, that of held epochs `output_gate`'s.
 ghost use Rattle.std.specs.Prelude.{◌≡◌};
 ghost use Rattle.pair_record.specs.Limits.{most_pending, step_frames, stepping_frames, lone_step_entries, first_generation};
-ghost use Rattle.pair_record.specs.Limits.{full_checkpoint};
+ghost use Rattle.pair_record.specs.Limits.{full_checkpoint, last_frame};
 
 /// How many checkpoints may be pending.
 pub(crate) const MOST_PENDING: u64 = 4;
@@ -22,6 +22,9 @@ pub(crate) const FIRST_GENERATION: u64 = 1;
 /// The number of a generation's full checkpoint.
 pub(crate) const FULL_CHECKPOINT: u64 = 0;
 
+/// Where the next frame's number is above this, too few are left for the frames of an epoch and of what may follow it.
+pub(crate) const LAST_FRAME: u64 = (1 << 62) - 1023;
+
 /// Each constant is the number that the rules name. Definitions and clauses cite those numbers, and never the constants.
 pub fn limits_are_the_rules()
     ensures most_pending { MOST_PENDING ≡ most_pending }
@@ -30,4 +33,5 @@ pub fn limits_are_the_rules()
     ensures lone_step_entries { STEP_ENTRIES ≡ lone_step_entries }
     ensures first_generation { FIRST_GENERATION ≡ first_generation }
     ensures full_checkpoint { FULL_CHECKPOINT ≡ full_checkpoint }
+    ensures last_frame { LAST_FRAME ≡ last_frame }
 {}

@@ -8,9 +8,10 @@ ghost use Rattle.pair_history.specs.Entries.{Ran};
 ghost use Rattle.pair_record.specs.Journal.{all_entries, with_running};
 ghost use Rattle.pair_record.specs.Modes.{is_stopped as stopped, is_alone as alone, change_refusal};
 ghost use Rattle.failover.specs.declared.change.Change.TheVariants as changes;
-ghost use Rattle.pair_record.specs.Protocol.{exhausts, is_among, first_refusal, step_refusals, cut_refusals, cut_done, send_done};
+ghost use Rattle.pair_record.specs.Protocol.{exhausts, frames_run_out as runs_out, is_among, first_refusal};
+ghost use Rattle.pair_record.specs.Protocol.{step_refusals, cut_refusals, cut_done, send_done};
 ghost use Rattle.pair_record.specs.Protocol.{backup_refusals, again_done, commit_done, ack_refusals, ack_done, let_go, fail_primary_done};
-ghost use Rattle.pair_record.specs.Record.{IsRecord, IsAsBefore, start_record, ports_after_ack};
+ghost use Rattle.pair_record.specs.Record.{IsRecord, IsAsBefore, AreNumbered, start_record, ports_after_ack};
 
 mod alone;
 mod clients;
@@ -21,8 +22,8 @@ mod protect;
 use crate::event::{Packet, Refusal, Reply};
 use crate::journal::Journal;
 use crate::landings::count_landings;
-use crate::limits::{FIRST_GENERATION, MOST_PENDING, STEP_ROOM};
-use crate::modes::{filled, is_stopped, step_room};
+use crate::limits::{FIRST_GENERATION, LAST_FRAME, MOST_PENDING, STEP_ROOM};
+use crate::modes::{filled, is_alone, is_stopped, step_room};
 use crate::window::Window;
 use failover::Mode;
 use frame_ports::{NUMBER_LIMIT, PortError, Ports};
@@ -114,9 +115,11 @@ impl PairRecord {
 
     /// What is true of every record is true of this one.
     pub fn keep(&self)
-        ensures { IsRecord self.now.protocol }
+        ensures record { IsRecord self.now.protocol }
+        ensures numbers { AreNumbered self.now.protocol self.now.ports }
+        ensures clients { length self.now.ports.numbers ≡ length self.now.ports.boxes }
     {
-        let _generation = self.generation;
+        let _clients = self.ports.clients();
     }
 
     /// The history.
@@ -177,6 +180,13 @@ impl PairRecord {
         more > self.journal.entries_left()
     }
 
+    /// Whether too few numbers are left for the frames that the guest may send.
+    fn frames_run_out(&self) -> bool
+        ensures { result ≡ runs_out self.now.protocol }
+    {
+        self.gate.next() > LAST_FRAME
+    }
+
     /// Whether a client has this number.
     fn is_client(&self, client: u64) -> bool
         ensures { result ≡ is_among client (length self.now.ports.boxes) }
@@ -192,7 +202,9 @@ impl PairRecord {
             Some(Refusal::Stopped)
         } else if outbox.len() > STEP_ROOM {
             Some(Refusal::CutNeeded)
-        } else if self.is_exhausted_by(step_room(self.mode)) {
+        } else if self.is_exhausted_by(step_room(self.mode))
+            || is_alone(self.mode) && self.frames_run_out()
+        {
             Some(Refusal::Exhausted)
         } else {
             None
@@ -219,7 +231,7 @@ impl PairRecord {
     {
         if self.pending() >= MOST_PENDING {
             Some(Refusal::Behind)
-        } else if self.window.to_cut >= NUMBER_LIMIT {
+        } else if self.window.to_cut >= NUMBER_LIMIT || self.frames_run_out() {
             Some(Refusal::Exhausted)
         } else {
             None

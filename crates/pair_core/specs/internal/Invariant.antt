@@ -8,6 +8,7 @@ use Rattle.frame_ports.specs.Limits.{number_limit}
 use Rattle.pair_history.specs.internal.Moves.{Move, guest_along, frames_along}
 use Rattle.pair_record.specs.internal.Accords.{Accords, all_moves}
 use Rattle.pair_record.specs.{Modes.is_alone, Protocol.Record}
+use Rattle.pair_core.specs.Kept.{KeepsFrames}
 use Rattle.pair_core.specs.Lines.{AreNamed}
 use Rattle.pair_core.specs.Nodes.{Nodes, HasShape, Fills, machine_of}
 use Rattle.pair_core.specs.Pair.{Pair, shown_state}
@@ -21,7 +22,8 @@ first_moves (ms ∷ mss) = ms
 abbrev pub AreSealed : Shape → ℕ → ℕ → Guest → List (List Move) → List (List ℕ) → Type 0
 AreSealed shape generation n g [] [] = Unit {0}
 AreSealed shape generation n g (ms ∷ mss) (text ∷ texts) =
-    IsText shape generation n g (guest_along g ms) text × AreSealed shape generation (n + 1) (guest_along g ms) mss texts
+    IsText shape generation n g (guest_along g ms) (frames_along g ms) text
+    × AreSealed shape generation (n + 1) (guest_along g ms) mss texts
 AreSealed shape generation n g [] (text ∷ texts) = ⊥
 AreSealed shape generation n g (ms ∷ mss) [] = ⊥
 
@@ -57,11 +59,16 @@ abbrev pub NodesStand : (w : Pair) → Accords w.start w.protocol.state w.ports 
 NodesStand w accords = AreNodes (is_alone w.protocol.state.mode) w.protocol.state.generation w.protocol.state.window.to_commit
     (shown_state w).guest accords.journal.sealed_moves accords.journal.running_moves w.nodes
 
+-- while there is a backup, its image keeps what the gate may still owe
+abbrev pub ImageKeeps : Pair → Type 0
+ImageKeeps w = is_alone w.protocol.state.mode ≡ false → KeepsFrames w.protocol.state w.ports w.nodes.image
+
 -- Between events, where a node is alone nothing runs: what its guest does goes to the history at once.
 pub record Holds (w : Pair) : Type 0 where
   pub accords : Accords w.start w.protocol.state w.ports
   pub lines : AreNamed w.protocol.state.generation w.protocol.state.window w.protocol.lines
   pub nodes : NodesStand w accords
+  pub kept : ImageKeeps w
   pub still : is_alone w.protocol.state.mode ≡ true → w.protocol.state.journal.running ≡ []
 
 -- And so nothing is kept or pending there.
@@ -74,3 +81,4 @@ Stands w =
     (accords : Accords w.start w.protocol.state w.ports)
     × NodesStand w accords
     × AreNamed w.protocol.state.generation w.protocol.state.window w.protocol.lines
+    × ImageKeeps w

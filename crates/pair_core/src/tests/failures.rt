@@ -52,7 +52,7 @@ fn the_backup_goes_on_from_its_image_in_mid_epoch(rt: HostRuntime) -> Result<(),
 }
 
 #[test]
-fn a_committed_frame_without_its_acknowledgement_is_lost(rt: HostRuntime) -> Result<(), Fail> {
+fn a_committed_frame_without_its_acknowledgement_lands(rt: HostRuntime) -> Result<(), Fail> {
     let mut world = beacon_pair(rt.alloc())?;
     assert_eq!(rt; world.run_steps(22), Ok(22));
     let events = [
@@ -61,13 +61,35 @@ fn a_committed_frame_without_its_acknowledgement_is_lost(rt: HostRuntime) -> Res
         Event::BackupGet(0),
         Event::FailPrimary,
         Event::GoLive,
-        Event::Take(1),
     ];
     let wanted =
         "Cut { generation: 1, number: 1 }\nSent(1)\nCommitted { generation: 1, number: 1 }\n\
-        Stopped\nLive { generation: 2, steps: 22 }\nTook(None)\n";
+        Stopped\nLive { generation: 2, steps: 22 }\n";
     assert!(rt; answers(rt.alloc(), &mut world, &events, wanted)?);
+    assert!(rt; answers(rt.alloc(), &mut world, &[Event::Take(1)], TOOK_FRAME)?);
     assert_eq!(rt; world.show(), alone(2, 22, 24));
+    Ok(())
+}
+
+#[test]
+fn a_frame_that_landed_doesnt_land_again(rt: HostRuntime) -> Result<(), Fail> {
+    let mut world = beacon_pair(rt.alloc())?;
+    assert_eq!(rt; world.run_steps(22), Ok(22));
+    let events = [
+        Event::Cut,
+        Event::Send,
+        Event::BackupGet(0),
+        Event::AckGet(0),
+        Event::FailPrimary,
+        Event::GoLive,
+    ];
+    let wanted =
+        "Cut { generation: 1, number: 1 }\nSent(1)\nCommitted { generation: 1, number: 1 }\n\
+        Acked { generation: 1, number: 1, landed: 1 }\nStopped\nLive { generation: 2, steps: 22 }\n";
+    assert!(rt; answers(rt.alloc(), &mut world, &events, wanted)?);
+    assert!(rt; answers(rt.alloc(), &mut world, &[Event::Take(1)], TOOK_FRAME)?);
+    assert!(rt; answers(rt.alloc(), &mut world, &[Event::Take(1)], "Took(None)\n")?);
+    assert_eq!(rt; world.show(), alone(2, 22, 25));
     Ok(())
 }
 

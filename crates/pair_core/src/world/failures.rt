@@ -64,7 +64,9 @@ impl World {
         if let Some(why) = self.record.go_live_refusal() {
             return Ok(Reply::Refused(why));
         }
-        let reply = self.record.go_live(self.nodes.image_steps())?;
+        let steps = self.nodes.image_steps();
+        let kept = self.nodes.kept();
+        let reply = self.record.go_live(steps, kept.first(), kept.epochs())?;
         self.nodes.go_live();
         Ok(reply)
     }

@@ -1,10 +1,10 @@
 //! The guest's steps, at the world.
-ghost use Rattle.std.specs.Prelude.{◌≡◌, ℕ, ◌+◌, ◌≤◌, ◌<◌, length, IfOk, IfSome, IfNone, OnErr, true, false};
+ghost use Rattle.std.specs.Prelude.{◌≡◌, ℕ, ◌+◌, ◌≤◌, ◌<◌, ◌&&◌, length, IfOk, IfSome, IfNone, OnErr, true, false};
 ghost use Rattle.frame_ports.specs.Limits.{number_limit};
 ghost use Rattle.pair_record.specs.declared.event.Event.TheVariants as events;
 ghost use Rattle.pair_record.specs.Journal.{all_entries};
 ghost use Rattle.pair_record.specs.Modes as modes;
-ghost use Rattle.pair_record.specs.Protocol.{allowed, refused, step_outcome, step_room};
+ghost use Rattle.pair_record.specs.Protocol.{allowed, frames_run_out, refused, step_outcome, step_room};
 ghost use Rattle.pair_core.specs.Answering.{Answers, MayWantMemory, step_reply};
 ghost use Rattle.pair_core.specs.Lines.{lines_after};
 ghost use Rattle.pair_core.specs.Pair.{Pair, OnRefused, IsConsistent};
@@ -127,7 +127,8 @@ impl World {
     fn step_refusal(&self) -> Option<Refusal>
         ensures refused { IfSome result (λ why. refused self.now.protocol.state why ≡ step_outcome self.now.start self.now.protocol.state) }
         ensures none { IfNone result ((modes.is_stopped self.now.protocol.state.mode ≡ false) × (length self.now.nodes.live.outbox ≤ 192)
-            × (length (all_entries self.now.protocol.state.journal) + step_room self.now.protocol.state.mode < number_limit)) }
+            × (length (all_entries self.now.protocol.state.journal) + step_room self.now.protocol.state.mode < number_limit)
+            × ((modes.is_alone self.now.protocol.state.mode && frames_run_out self.now.protocol.state) ≡ false)) }
     {
         self.record.step_refusal(self.nodes.outbox())
     }
@@ -157,6 +158,7 @@ impl World {
         requires alone { modes.is_alone self.old.protocol.state.mode ≡ true }
         requires some { 0 < count }
         requires room { length (all_entries self.old.protocol.state.journal) + 1025 < number_limit }
+        requires numbers { frames_run_out self.old.protocol.state ≡ false }
         ensures most { IfOk result (λ n. n ≤ count) }
         ensures some { IfOk result (λ n. 0 < n) }
         ensures answered { IfOk result (λ n. (Reply.Steps self.new.nodes.live.guest.steps, self.new.protocol.state)

@@ -8,9 +8,10 @@ use Rattle.frame_ports.specs.Ports.{PortsState}
 use Rattle.output_gate.specs.Epochs.{Epoch, frames_of}
 use Rattle.pair_history.specs.Entries.{Frame}
 use Rattle.pair_history.specs.HistoryState.{HistoryState, Waiting, inbox_of, at, Legal}
-use Rattle.pair_history.specs.Landings.{DropsAreKnown, BoxesFit}
+use Rattle.pair_history.specs.Landings.{DropsAreAskedOrFull, BoxesFit}
 use Rattle.pair_history.specs.internal.Moves.{Move, entries_of, guest_along, frames_along, left, AllCan, AreRising}
 use Rattle.pair_record.specs.Journal.{Journal}
+pub use Rattle.pair_record.specs.Kept.{frames_by_epoch}
 use Rattle.pair_record.specs.Protocol.{Record, shown_at}
 use Rattle.pair_record.specs.Window.{committed_of, uncommitted_of}
 
@@ -24,10 +25,6 @@ abbrev pub epoch_frames : Guest → List (List Move) → List (List Frame)
 epoch_frames g [] = []
 epoch_frames g (ms ∷ mss) = frames_along g ms ∷ epoch_frames (guest_along g ms) mss
 
--- the frames of pending checkpoints, epoch by epoch
-abbrev pub frames_by_epoch : List Epoch → List (List Frame)
-frames_by_epoch es = map (λ e. e.frames) es
-
 -- the inboxes are what waits, client by client
 abbrev pub AreInboxes : ℕ → List (List (ℕ × Frame)) → List Waiting → Type 0
 AreInboxes count inboxes ws = (c : ℕ) → 1 ≤ c → c ≤ count → list_of inboxes c ≡ inbox_of c ws
@@ -35,7 +32,7 @@ AreInboxes count inboxes ws = (c : ℕ) → 1 ≤ c → c ≤ count → list_of 
 -- The history is legal, and what is kept are moves of the guest that go on from it.
 pub record IsJournal (start : HistoryState) (j : Journal) : Type 0 where
   pub legal : Legal start j.history
-  pub drops : DropsAreKnown start j.history
+  pub drops : DropsAreAskedOrFull start j.history
   pub sealed_moves : List (List Move)
   pub running_moves : List Move
   pub sealed_are : j.sealed ≡ map entries_of sealed_moves

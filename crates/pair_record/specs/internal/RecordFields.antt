@@ -1,6 +1,6 @@
 -- How the fields of the pair's record stand for what contracts see.
 use Rattle.pair_record.specs.declared.record.PairRecord.TheInside.{Inside}
-use Rattle.pair_record.specs.Record.{RecordState, IsRecord}
+use Rattle.pair_record.specs.Record.{RecordState, IsRecord, AreNumbered}
 
 abbrev pub record_state : Inside → RecordState
 record_state a = record {
@@ -9,11 +9,13 @@ record_state a = record {
     generation = a.generation;
     journal = a.journal.journal;
     window = a.window;
-    pending = a.gate;
+    pending = a.gate.epochs;
+    next_frame = a.gate.next;
   };
   ports = a.ports;
   room = a.journal.room;
 }
 
-abbrev pub AreFields : Inside → Type 0
-AreFields a = IsRecord (record_state a).protocol
+pub record AreFields (a : Inside) : Type 0 where
+  pub is : IsRecord (record_state a).protocol
+  pub numbers : AreNumbered (record_state a).protocol a.ports

@@ -1,15 +1,14 @@
 //! What happens at the record where a node goes on alone.
 ghost use Rattle.std.specs.Prelude.{◌≡◌, ◌+◌, ◌*◌, ◌<◌, ◌≤◌, ◌++◌, [], length, replicate, All, IfOk, OnOk, OnErr, None, false, true};
 ghost use Rattle.frame_ports.specs.Addresses.{IsFrame, targets_of};
-ghost use Rattle.frame_ports.specs.Lands.{lands};
 ghost use Rattle.frame_ports.specs.Limits.{max_clients, number_limit};
 ghost use Rattle.pair_history.specs.Entries.{Ran};
 ghost use Rattle.pair_history.specs.Landings.{landings};
 ghost use Rattle.pair_record.specs.EpochActs.{fail_within_done};
 ghost use Rattle.pair_record.specs.Journal.{all_entries, with_history};
 ghost use Rattle.pair_record.specs.Modes.{is_alone};
-ghost use Rattle.pair_record.specs.Protocol.{first_refusal, fail_backup_refusals, fail_backup_done, all_held};
-ghost use Rattle.pair_record.specs.Record.{IsAsBefore, ports_after_all};
+ghost use Rattle.pair_record.specs.Protocol.{frames_run_out, first_refusal, fail_backup_refusals, fail_backup_done, all_held};
+ghost use Rattle.pair_record.specs.Record.{IsAsBefore, ports_landed, ports_after_all};
 
 use super::PairRecord;
 use crate::event::{Refusal, Reply};
@@ -109,6 +108,7 @@ impl PairRecord {
     /// Where a node is alone: its guest made so many steps, along which it sent these frames, and they land, in the room that was reserved.
     pub fn run_alone(&mut self, steps: u64, sent: &[Frame])
         requires alone { is_alone self.old.protocol.mode ≡ true }
+        requires numbers { frames_run_out self.old.protocol ≡ false }
         requires few { length sent.now ≤ 64 }
         requires frames { All IsFrame sent.now }
         requires room { 64 * length self.old.ports.boxes < self.old.room }
@@ -116,10 +116,9 @@ impl PairRecord {
         ensures protocol { self.new.protocol ≡ record self.old.protocol {
           journal = with_history self.old.protocol.journal (replicate steps Ran ++ landings self.old.ports.boxes
               (targets_of (length self.old.ports.boxes) sent.now));
+          next_frame = self.old.protocol.next_frame + length sent.now;
         } }
-        ensures ports { self.new.ports ≡ record self.old.ports {
-          boxes = lands self.old.ports.boxes (targets_of (length self.old.ports.boxes) sent.now);
-        } }
+        ensures ports { self.new.ports ≡ ports_landed self.old.ports self.old.protocol.next_frame sent.now }
     {
         self.journal.run_alone(steps, &self.ports, sent);
         self.gate.hold(self.window.to_cut, sent);

@@ -1,14 +1,14 @@
 //! What happens at the record to epochs of a guest that runs elsewhere: frames are handed out to it, and its epochs come back.
 ghost use Rattle.std.specs.Prelude.{◌≡◌, ◌+◌, ◌<◌, ◌≤◌, length, All, IfOk, OnOk, OnErr, None, Some, true, false, slice_get};
-ghost use Rattle.frame_ports.specs.Addresses.{IsFrame, targets_of};
-ghost use Rattle.frame_ports.specs.Lands.{lands};
+ghost use Rattle.frame_ports.specs.Addresses.{IsFrame};
+ghost use Rattle.frame_ports.specs.Numbers.{marked};
 ghost use Rattle.frame_ports.specs.Ports.{IsClient, inbox_of};
 ghost use Rattle.pair_history.specs.Failures.{arrived_numbers};
 ghost use Rattle.pair_record.specs.EpochActs.{hand_out_done, seal_epoch_done, enter_epoch_refusals, enter_epoch_done};
 ghost use Rattle.pair_record.specs.Modes.{is_alone as alone, is_filling as filling};
 ghost use Rattle.pair_record.specs.Protocol.{exhausts, first_refusal, admit_refusals, cut_refusals, protect_refusals};
 ghost use Rattle.pair_record.specs.Protocol.{begin_done, full_done};
-ghost use Rattle.pair_record.specs.Record.{IsAsBefore, IsLone, ports_after_admit};
+ghost use Rattle.pair_record.specs.Record.{IsAsBefore, IsLone, ports_landed, ports_after_admit};
 
 use super::PairRecord;
 use crate::event::{Refusal, Reply};
@@ -67,7 +67,10 @@ impl PairRecord {
         requires few { length frames.now ≤ 256 }
         ensures { result ≡ first_refusal (enter_epoch_refusals steps self.now.ports.boxes frames.now self.now.protocol) }
     {
-        if self.is_exhausted_by(steps.saturating_add(count_landings(&self.ports, frames))) {
+        let entries = steps.saturating_add(count_landings(&self.ports, frames));
+        if self.is_exhausted_by(entries) {
+            Some(Refusal::Exhausted)
+        } else if self.frames_run_out() {
             Some(Refusal::Exhausted)
         } else {
             None
@@ -90,9 +93,7 @@ impl PairRecord {
         requires frames { All IsFrame frames.now }
         ensures protocol { OnOk result (self.new.protocol
             ≡ enter_epoch_done arrivals steps self.old.ports.boxes frames.now self.old.protocol) }
-        ensures ports { OnOk result (self.new.ports ≡ record self.old.ports {
-          boxes = lands self.old.ports.boxes (targets_of (length self.old.ports.boxes) frames.now);
-        }) }
+        ensures ports { OnOk result (self.new.ports ≡ ports_landed self.old.ports self.old.protocol.next_frame frames.now) }
         ensures err { OnErr result (IsAsBefore self.old self.new) }
     {
         let count = count_landings(&self.ports, frames);
@@ -109,9 +110,11 @@ impl PairRecord {
         requires free { first_refusal (protect_refusals self.old.protocol) ≡ None }
         requires alone { alone self.old.protocol.mode ≡ true }
         ensures protocol { (result, self.new.protocol) ≡ begin_done self.old.protocol }
-        ensures ports { self.new.ports ≡ self.old.ports }
+        ensures ports { self.new.ports ≡ marked self.old.ports }
     {
         self.window = Window::none_pending(FULL_CHECKPOINT);
+        self.gate.begin(0);
+        self.ports.mark();
         self.mode = Mode::Filling;
         self.generation += 1;
         Reply::Protecting(self.generation)

@@ -10,6 +10,6 @@ returns-clause-text c =
     let text = c.in-Ok-encode.text.items in
     let generation = c.args.generation in
     rw (← c.self.view_is) (λ base is sized.
-    subst (λ (n : ℕ). IsText shape generation n base m.guest text) (omega arith)
+    subst (λ (n : ℕ). IsText shape generation n base m.guest m.outbox text) (omega arith)
     (delta-text m.settled m.dirty m.outbox m generation _ c.in-Ok.checkpoint shape text base c.in-Ok.ensures.parts
     c.in-Ok-encode.ensures.read (c.in-Ok.ensures.image base (base-of m base is)) sized))

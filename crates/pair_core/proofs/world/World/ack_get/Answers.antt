@@ -35,7 +35,7 @@ invariant_of-self c =
     after_call w c.self.invariant c.acknowledge.new.self c.acknowledge.result (ack_done w.ports.boxes w.protocol.state p.number)
     (ports_after_ack w.ports w.protocol.state p.number)
     c.acknowledge.ensures.ok c.acknowledge.ensures.ports c.acknowledge.ensures.err
-    (ack_holds w c.self.invariant c.ack_refusal.ensures.record p.number (below w c.self.invariant c.args.k p _ c.acknowledgement.ensures c.in-Some.is same))
+    (ack_holds w c.self.invariant c.ack_refusal.ensures.record c.keep.ensures.numbers c.keep.ensures.clients p.number (below w c.self.invariant c.args.k p _ c.acknowledgement.ensures c.in-Some.is same))
 
 -- it adds an entry for each frame that leaves
 pub returns-clause-memory : goal.returns-clause-memory

@@ -25,7 +25,7 @@ invariant_of-self-2 c =
     let range = client_range c.args.client (length w.ports.boxes) (passed _ _ _ (sym c.arrival_refusal.ensures ∙ c.in_default.is)).0 in
     let x = c.in_ok-number.ensures in
     subst Holds (λ i. record w { protocol = record w.protocol { state = sym x.protocol i }; ports = sym x.ports i; nodes = sym c.arrive.ensures i })
-    (admitted_holds w c.self.invariant c.keep.ensures c.args.client c.in_ok-number.number c.in_ok-number.frame range.0 range.1
+    (admitted_holds w c.self.invariant c.keep.ensures.record c.args.client c.in_ok-number.number c.in_ok-number.frame range.0 range.1
     c.in_ok-number.ensures.first)
 
 pub returns-clause-outcome : goal.returns-clause-outcome

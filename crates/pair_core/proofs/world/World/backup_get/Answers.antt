@@ -52,7 +52,7 @@ oldest-requires-clause-some c =
     let more = names_next w.protocol.state c.in-Some.packet _ _ c.backup_refusal.ensures.refusal c.in_default-backup_refusal.is
     (names_cut w c.self.invariant c.args.k c.in-Some.packet _ c.packet.ensures c.in-Some.is) c.to_commit-number.ensures
     c.if-packet-number.false in
-    (oldest_text w c.self.invariant c.backup_refusal.ensures.record (two c.args.k c.self.view_is c.requires) more).1.0
+    (oldest_text w c.self.invariant c.backup_refusal.ensures.record (two c.args.k c.self.view_is c.requires) more).0
 
 pub oldest-requires-clause-whole : goal.oldest-requires-clause-whole
 oldest-requires-clause-whole c =
@@ -61,8 +61,8 @@ oldest-requires-clause-whole c =
     (names_cut w c.self.invariant c.args.k c.in-Some.packet _ c.packet.ensures c.in-Some.is) c.to_commit-number.ensures
     c.if-packet-number.false in
     let oldest = oldest_text w c.self.invariant c.backup_refusal.ensures.record (two c.args.k c.self.view_is c.requires) more in
-    reads-whole w.nodes.image.shape w.protocol.state.generation w.protocol.state.window.to_commit (shown_state w).guest oldest.0
-    (first_text w.nodes.sealed) oldest.1.1
+    reads-whole w.nodes.image.shape w.protocol.state.generation w.protocol.state.window.to_commit (shown_state w).guest
+    _ _ (first_text w.nodes.sealed) oldest.1
 
 pub commit-requires : goal.commit-requires
 commit-requires c =
@@ -77,7 +77,7 @@ commit-requires-2-clause-some c =
     let more = names_next w.protocol.state c.in-Some.packet _ _ c.backup_refusal.ensures.refusal c.in_default-backup_refusal.is
     (names_cut w c.self.invariant c.args.k c.in-Some.packet _ c.packet.ensures c.in-Some.is) c.to_commit-number.ensures
     c.if-packet-number.false in
-    (oldest_text w c.self.invariant c.backup_refusal.ensures.record (two c.args.k c.self.view_is c.requires) more).1.0
+    (oldest_text w c.self.invariant c.backup_refusal.ensures.record (two c.args.k c.self.view_is c.requires) more).0
 
 pub commit-requires-2-clause-shape : goal.commit-requires-2-clause-shape
 commit-requires-2-clause-shape c =
@@ -87,8 +87,8 @@ commit-requires-2-clause-shape c =
     c.if-packet-number.false in
     let oldest = oldest_text w c.self.invariant c.backup_refusal.ensures.record (two c.args.k c.self.view_is c.requires) more in
     ap (λ (checkpoint : Change). checkpoint.shape) c.in_ok-checkpoint.ensures
-    ∙ reads-shape w.nodes.image.shape w.protocol.state.generation w.protocol.state.window.to_commit (shown_state w).guest oldest.0
-    (first_text w.nodes.sealed) oldest.1.1
+    ∙ reads-shape w.nodes.image.shape w.protocol.state.generation w.protocol.state.window.to_commit (shown_state w).guest
+    _ _ (first_text w.nodes.sealed) oldest.1
 
 pub invariant_of-self-2 : goal.invariant_of-self-2
 invariant_of-self-2 c =
@@ -105,7 +105,7 @@ invariant_of-self-2 c =
       ports = sym c.commit.ensures.ports i;
       nodes = sym c.commit-2.ensures i;
     })
-    (commit_holds w c.self.invariant c.backup_refusal.ensures.record (two c.args.k c.self.view_is c.requires) more)
+    (commit_holds w c.self.invariant c.backup_refusal.ensures.record c.keep.ensures.numbers (two c.args.k c.self.view_is c.requires) more)
 
 pub returns-clause-replicates : goal.returns-clause-replicates
 returns-clause-replicates c =
@@ -118,7 +118,7 @@ returns-clause-replicates c =
     (names_cut w c.self.invariant c.args.k c.in-Some.packet _ c.packet.ensures c.in-Some.is) c.to_commit-number.ensures
     c.if-packet-number.false in
     let now = in_mode w h k in
-    let then = in_mode (after_commit w) (commit_holds w h k alone more) (commit_record w.protocol.state k more) in
+    let then = in_mode (after_commit w) (commit_holds w h k c.keep.ensures.numbers alone more) (commit_record w.protocol.state k more) in
     rw (← c.self.view_is) (subst (λ (o : Reply × Nodes). Replicates (BackupGet c.args.k) o.0 w.nodes o.1) (λ i. (
       sym reply i,
       sym

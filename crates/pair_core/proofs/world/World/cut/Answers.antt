@@ -26,7 +26,8 @@ done c = search (arith, rules)
 makes : (c : In_ok-reply) (base : Guest) → IsBase (machine_of (pair_of c.self.inside).nodes.live) base
     → HasShape (pair_of c.self.inside).nodes.image.shape (pair_of c.self.inside).nodes.live.guest
     → IsText (pair_of c.self.inside).nodes.image.shape (pair_of c.self.inside).protocol.state.generation
-    (pair_of c.self.inside).protocol.state.window.to_cut base (pair_of c.self.inside).nodes.live.guest c.in_ok-text.text.items
+    (pair_of c.self.inside).protocol.state.window.to_cut base (pair_of c.self.inside).nodes.live.guest
+    (pair_of c.self.inside).nodes.live.outbox c.in_ok-text.text.items
 makes c base is sized =
     let w = pair_of c.self.inside in
     let text = c.in_ok-text.text.items in
@@ -39,7 +40,7 @@ invariant_of-self-2 c =
     let text = c.in_ok-text.text.items in
     let nodes = c.seal.ensures ∙ ap (λ (x : Nodes). with_sealed x text) c.checkpoint.ensures.nodes in
     subst Holds (λ i. record w { protocol = record w.protocol { state = sym protocol i }; ports = sym c.cut.ensures.ports i; nodes = sym nodes i })
-    (cut_holds w c.self.invariant c.cut_refusal.ensures.record text
+    (cut_holds w c.self.invariant c.cut_refusal.ensures.record c.keep.ensures.numbers text
     (makes (goal.at.invariant_of-self-2 c).In_ok-reply))
 
 pub returns-clause-replicates : goal.returns-clause-replicates
@@ -52,7 +53,7 @@ returns-clause-replicates c =
     let k = c.cut_refusal.ensures.record in
     let alone = two c.self.view_is c.requires in
     let now = in_mode w h k in
-    let then = in_mode (after_cut w text) (cut_holds w h k text (makes (goal.at.returns-clause-replicates c).In_ok-reply))
+    let then = in_mode (after_cut w text) (cut_holds w h k c.keep.ensures.numbers text (makes (goal.at.returns-clause-replicates c).In_ok-reply))
     (cut_record w.protocol.state k w.nodes.live.outbox alone (sym c.cut_refusal.ensures.refusal ∙ c.in_default.is)) in
     rw (← c.self.view_is) (subst (λ (o : Reply × Nodes). Replicates Cut o.0 w.nodes o.1) (λ i. (sym reply i, sym nodes i)) (cut_replicates w
     k alone now text then (live_is w h)))

@@ -44,8 +44,8 @@ invariant_of-self-2 c =
     ∙ ap (λ (fs : List Frame). (fail_backup_done b fs w.protocol.state).1) c.outbox-2.ensures.value in
     let ports = c.in_ok-reply.ensures.ports ∙ ap (λ (fs : List Frame). ports_after_all w.ports fs w.protocol.state) c.outbox-2.ensures.value in
     subst Holds (λ i. record w { protocol = record w.protocol { state = sym protocol i }; ports = sym ports i; nodes = sym c.leave_alone.ensures i })
-    (all_landed_holds w (c.self.invariant.accords, c.self.invariant.nodes, c.self.invariant.lines) Alone refl (none_pending w.protocol.state.window.to_cut) (left_alone w.nodes) refl refl (omega arith)
-    (let cut = c.keep.ensures.window.cut in omega arith))
+    (all_landed_holds w (c.self.invariant.accords, c.self.invariant.nodes, c.self.invariant.lines, c.self.invariant.kept) Alone refl (none_pending w.protocol.state.window.to_cut) (left_alone w.nodes) refl refl (omega arith)
+    (let cut = c.keep.ensures.record.window.cut in omega arith))
 
 pub returns-clause-outcome : goal.returns-clause-outcome
 returns-clause-outcome c =

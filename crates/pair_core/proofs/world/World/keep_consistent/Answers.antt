@@ -4,4 +4,4 @@ use Rattle.pair_core.proofs.Consistent.{consistent}
 use Rattle.pair_core.proofs.world.World.keep_consistent.Goals as goal
 
 pub returns : goal.returns
-returns c = subst IsConsistent c.self.view_is (consistent (pair_of c.self.inside) c.self.invariant c.keep.ensures)
+returns c = subst IsConsistent c.self.view_is (consistent (pair_of c.self.inside) c.self.invariant c.keep.ensures.record c.keep.ensures.numbers)

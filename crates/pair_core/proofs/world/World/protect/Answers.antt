@@ -1,4 +1,4 @@
-use Rattle.std.proofs.Common.{◌∙◌, ◌+◌, ap, sym, subst}
+use Rattle.std.proofs.Common.{◌∙◌, ◌+◌, [], ap, sym, subst}
 use Rattle.guest_machine.specs.Guest.{Guest}
 use Rattle.frame_ports.specs.Limits.{number_limit}
 use Rattle.pair_record.specs.declared.event.Event.TheVariants.{Protect}
@@ -16,7 +16,7 @@ use Rattle.pair_core.proofs.world.World.protect.Goals as goal
 makes : (c : In_ok-image) (before : Guest)
     → HasShape (pair_of c.self.inside).nodes.image.shape (pair_of c.self.inside).nodes.live.guest
     → IsText (pair_of c.self.inside).nodes.image.shape ((pair_of c.self.inside).protocol.state.generation + 1) 0 before
-    (pair_of c.self.inside).nodes.live.guest c.in_ok-image.text.items
+    (pair_of c.self.inside).nodes.live.guest [] c.in_ok-image.text.items
 makes c before sized =
     let x = (pair_of c.self.inside).nodes in
     rw (← c.generation-generation.ensures) (c.in_ok-image.ensures.text before sized)
@@ -26,12 +26,12 @@ invariant_of-self-2 c =
     let w = pair_of c.self.inside in
     let text = c.in_ok-image.text.items in
     let goes = rw (← c.self.view_is) at c.requires in
-    let lone = keeps_nothing w c.self.invariant c.keep.ensures (protect_goes w.protocol.state.mode goes) in
+    let lone = keeps_nothing w c.self.invariant c.keep.ensures.record (protect_goes w.protocol.state.mode goes) in
     let rows = passed _ _ _ (sym c.protect_refusal.ensures.refusal ∙ c.in_default.is) in
     let last = is_below number_limit (w.protocol.state.generation + 1) rows.0 in
     let protocol = ap (λ (o : Outcome). o.1) c.in_ok-reply.ensures.ok in
     let nodes = c.protect-2.ensures ∙ ap (λ (x : Nodes). with_protected x text) c.full_checkpoint.ensures.nodes in
-    subst Holds (λ i. record w { protocol = record w.protocol { state = sym protocol i }; ports = sym c.protect.ensures.ports i; nodes = sym nodes i })
+    subst Holds (λ i. record w { protocol = record w.protocol { state = sym protocol i }; ports = sym c.in_ok-reply.ensures.ports i; nodes = sym nodes i })
     (protect_holds w c.self.invariant lone last text (makes (goal.at.invariant_of-self-2 c).In_ok-image))
 
 pub returns-clause-replicates : goal.returns-clause-replicates

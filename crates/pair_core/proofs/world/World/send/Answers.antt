@@ -16,14 +16,14 @@ lines_are c =
     c.in_ok-send.ensures.ok
     ∙ (λ i. with_forward w.protocol.lines (packets_from (c.generation.ensures i) (c.to_acknowledge.ensures i)
     (c.to_cut.ensures i - c.to_acknowledge.ensures i)))
-    ∙ ap (with_forward w.protocol.lines) (sent_are w.protocol.state c.keep.ensures.window)
+    ∙ ap (with_forward w.protocol.lines) (sent_are w.protocol.state c.keep.ensures.record.window)
 
 pub invariant_of-self-2 : goal.invariant_of-self-2
 invariant_of-self-2 c =
     let w = pair_of c.self.inside in
     let lines = lines_are (goal.at.invariant_of-self-2 c).After-send-2 in
     subst Holds (λ i. record w { protocol = record w.protocol { lines = sym lines i } })
-    (lines_hold w c.self.invariant _ (named-sent w.protocol.state w.protocol.lines c.self.invariant.lines c.keep.ensures.window))
+    (lines_hold w c.self.invariant _ (named-sent w.protocol.state w.protocol.lines c.self.invariant.lines c.keep.ensures.record.window))
 
 pub returns-clause-lines : goal.returns-clause-lines
 returns-clause-lines c =

@@ -1,8 +1,8 @@
 use Rattle.std.proofs.Common.{◌≡◌, ◌∙◌, ℕ, zero, suc, ◌+◌, ◌<◌, List, ◌++◌, length, replicate, sym, ap, subst, arith, true}
 use Rattle.guest_machine.specs.Runs.{sent_in}
-use Rattle.frame_ports.specs.{Addresses.targets_of, Lands.lands, Limits.number_limit}
+use Rattle.frame_ports.specs.{Addresses.targets_of, Limits.number_limit}
 use Rattle.pair_history.specs.{Entries.{Frame, Ran}, Landings.landings}
-use Rattle.pair_record.specs.{Journal.{all_entries, with_history}, Modes.is_alone}
+use Rattle.pair_record.specs.{Journal.{all_entries, with_history}, Modes.is_alone, Record.ports_landed}
 use Rattle.pair_core.specs.{internal.Invariant.Holds, Nodes.{Nodes, after_run, with_sent_off}}
 use Rattle.pair_core.specs.{internal.WorldFields.pair_of}
 use Rattle.pair_core.proofs.{AloneRuns.{after_alone, alone_holds, alone_answered}, Consistent.{alone_is, keeps_nothing}}
@@ -24,7 +24,7 @@ sent_is c =
     let fs = sent_in c.run_to_frame-steps.result w.nodes.live.guest in
     c.outbox.ensures.value
     ∙ ap (λ (x : Nodes). x.live.outbox) c.run_to_frame-steps.ensures.made
-    ∙ ap (λ (t : List Frame). t ++ fs) (alone_is w c.self.invariant (keeps_nothing w c.self.invariant c.keep.ensures (lone_is c))).outbox
+    ∙ ap (λ (t : List Frame). t ++ fs) (alone_is w c.self.invariant (keeps_nothing w c.self.invariant c.keep.ensures.record (lone_is c))).outbox
 
 protocol_is : (c : After-send_off) → c.run_alone.new.self.protocol
     ≡ (after_alone (pair_of c.self.inside) c.run_to_frame-steps.result
@@ -35,6 +35,7 @@ protocol_is c =
     ∙ (λ i. record (same.0 i) {
       journal = with_history (same.0 i).journal (replicate c.run_to_frame-steps.result Ran
           ++ landings (same.1 i).boxes (targets_of (length (same.1 i).boxes) (sent_is c i)));
+      next_frame = (same.0 i).next_frame + length (sent_is c i);
     })
 
 ports_are : (c : After-send_off) → c.run_alone.new.self.ports
@@ -43,7 +44,7 @@ ports_are : (c : After-send_off) → c.run_alone.new.self.ports
 ports_are c =
     let same = c.reserve_lone_steps.ensures.same in
     c.run_alone.ensures.ports
-    ∙ (λ i. record (same.1 i) { boxes = lands (same.1 i).boxes (targets_of (length (same.1 i).boxes) (sent_is c i)) })
+    ∙ (λ i. ports_landed (same.1 i) (same.0 i).next_frame (sent_is c i))
 
 nodes_are : (c : After-send_off) → c.send_off.new.self.nodes
     ≡ with_sent_off (after_run c.run_to_frame-steps.result (pair_of c.self.inside).nodes)
@@ -53,7 +54,7 @@ pub invariant_of-self-2 : goal.invariant_of-self-2
 invariant_of-self-2 c =
     let w = pair_of c.self.inside in
     subst Holds (λ i. record w { protocol = record w.protocol { state = sym (protocol_is c) i }; ports = sym (ports_are c) i; nodes = sym (nodes_are c) i })
-    (alone_holds w c.self.invariant (keeps_nothing w c.self.invariant c.keep.ensures (lone_is c)) (lone_is c) c.run_to_frame-steps.result)
+    (alone_holds w c.self.invariant (keeps_nothing w c.self.invariant c.keep.ensures.record (lone_is c)) (lone_is c) c.run_to_frame-steps.result)
 
 pub returns-clause-answered : goal.returns-clause-answered
 returns-clause-answered c =
@@ -61,8 +62,9 @@ returns-clause-answered c =
     let n = c.run_to_frame-steps.result in
     let most = c.run_to_frame-steps.ensures.most in
     let room = rw (← c.self.view_is) at c.requires.room in
+    let numbers = rw (← c.self.view_is) at c.requires.numbers in
     let left = c.alone_steps_left-most.ensures in
     let fits = by_count c.alone_steps_left-most.result (length (all_entries w.protocol.state.journal)) room left.fits in
     rw (← c.self.view_is) ((λ i. (replies.Steps (nodes_are c i).live.guest.steps, protocol_is c i))
-    ∙ alone_answered w c.self.invariant (keeps_nothing w c.self.invariant c.keep.ensures (lone_is c)) (lone_is c) n
-    c.run_to_frame-steps.ensures.quiet (omega arith))
+    ∙ alone_answered w c.self.invariant (keeps_nothing w c.self.invariant c.keep.ensures.record (lone_is c)) (lone_is c) n
+    c.run_to_frame-steps.ensures.quiet (omega arith) numbers)

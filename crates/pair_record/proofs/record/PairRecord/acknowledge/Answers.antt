@@ -1,5 +1,7 @@
-use Rattle.std.proofs.Common.{rules, arith}
-use Rattle.pair_record.specs.{Protocol.ack_done, internal.RecordFields.record_state}
+use Rattle.std.proofs.Common.{rules, arith, ◌∙◌}
+use Rattle.output_gate.specs.Epochs.{frames_to}
+use Rattle.pair_record.specs.{Protocol.ack_done, Record.ports_after_ack, internal.RecordFields.record_state}
+use Rattle.pair_record.proofs.NumberLaws.{ack_numbers, landed_ports, landed_counted, same_numbers}
 use Rattle.pair_record.proofs.{LengthLaws.length-receivers, RecordLaws.{passed, has_room_for, ack_record, same_record}}
 use Rattle.pair_record.proofs.record.PairRecord.acknowledge.Goals as goal
 
@@ -11,8 +13,27 @@ invariant_of-self-2 c =
     let s = record_state c.self.inside in
     let n = c.args.packet.number in
     let below = rw (← c.self.view_is) at c.requires.committed in
-    same_record (ack_done s.ports.boxes s.protocol n).1 _ (search (arith, rules))
-    (ack_record s.protocol c.self.invariant s.ports.boxes n below)
+    record {
+      is = same_record (ack_done s.ports.boxes s.protocol n).1 _ (search (arith, rules))
+          (ack_record s.protocol c.self.invariant.is s.ports.boxes n below);
+      numbers =
+          same_numbers (ack_done s.ports.boxes s.protocol n).1 _ (ports_after_ack s.ports s.protocol n) _ (search (arith, rules))
+          (c.ack-landed.ensures.ports ∙ landed_ports s.protocol s.ports c.self.invariant.numbers (frames_to n s.protocol.pending))
+          (ack_numbers s.protocol s.ports c.self.invariant.numbers n);
+    }
+
+pub returns-clause-ports : goal.returns-clause-ports
+returns-clause-ports c =
+    let s = record_state c.self.inside in
+    rw (← c.self.view_is)
+    (c.ack-landed.ensures.ports ∙ landed_ports s.protocol s.ports c.self.invariant.numbers (frames_to c.args.packet.number s.protocol.pending))
+
+pub returns-clause-ok : goal.returns-clause-ok
+returns-clause-ok c =
+    let s = record_state c.self.inside in
+    let put = c.ack-landed.ensures.landed
+    ∙ landed_counted s.protocol s.ports c.self.invariant.numbers (frames_to c.args.packet.number s.protocol.pending) in
+    search (arith, rules, put)
 
 pub returns-in_err-reserve-clause-some : goal.returns-in_err-reserve-clause-some
 returns-in_err-reserve-clause-some c = search (arith, rules, length-receivers)

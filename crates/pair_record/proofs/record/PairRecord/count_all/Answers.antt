@@ -12,7 +12,7 @@ returns c =
     let outbox = c.args.outbox.now in
     let held =
     c.count_landings.ensures.count
-    ∙ ap (λ (fs : List Frame). length (receivers n fs)) (c.held-held.ensures.held ∙ held_are r c.self.invariant) in
+    ∙ ap (λ (fs : List Frame). length (receivers n fs)) (c.held-held.ensures.held ∙ held_are r c.self.invariant.is) in
     let sent = c.count_landings-2.ensures.count in
     (λ i. held i + sent i) ∙ count-all a.ports.boxes outbox r
     ∙ ap (λ (s : RecordState). length (all_held s.ports.boxes outbox s.protocol)) c.self.view_is

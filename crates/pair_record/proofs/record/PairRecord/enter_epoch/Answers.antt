@@ -1,6 +1,10 @@
-use Rattle.std.proofs.Common.{arith, ◌∙◌, length, ap}
-use Rattle.pair_record.specs.{Journal.{Journal, all_entries}, internal.RecordFields.record_state}
-use Rattle.pair_record.proofs.{EpochLaws.all-entered, LengthLaws.length-receivers, RecordLaws.{passed, has_room_for}}
+use Rattle.std.proofs.Common.{rules, arith, ◌≡◌, ◌∙◌, ◌+◌, List, length, ap, sym, subst, Bool, true, refl}
+use Rattle.frame_ports.specs.Addresses.{targets_of}
+use Rattle.pair_record.specs.{EpochActs.{behind, guest_epoch}, Journal.{Journal, all_entries}, Protocol.landed_after, Record.ports_landed}
+use Rattle.pair_record.specs.internal.RecordFields.{record_state}
+use Rattle.pair_record.proofs.NumberLaws.{lone_numbers, opened_lone, same_numbers}
+use Rattle.pair_record.proofs.{EpochLaws.all-entered, LengthLaws.length-receivers}
+use Rattle.pair_record.proofs.RecordLaws.{entered_record, passed, has_room_for, same_record}
 use Rattle.pair_record.proofs.record.PairRecord.enter_epoch.Goals as goal
 
 pub land-requires-clause-fits : goal.land-requires-clause-fits
@@ -12,3 +16,47 @@ land-requires-clause-fits c =
     let entered = ap (λ (j : Journal). length (all_entries j)) c.in_ok-enter_epoch.ensures.ok
     ∙ all-entered c.args.arrivals c.args.steps s.protocol.journal in
     omega arith
+
+pub invariant_of-self-2 : goal.invariant_of-self-2
+invariant_of-self-2 c =
+    let s = record_state c.self.inside in
+    let r = s.protocol in
+    let n = c.args.arrivals in
+    let steps = c.args.steps in
+    let fs = c.args.frames.now in
+    let ps = targets_of (length s.ports.boxes) fs in
+    let h = c.self.invariant in
+    let lone = rw (← c.self.view_is) at c.requires.lone in
+    let free = rw (← c.self.view_is) at c.requires.free in
+    let numbers = (passed _ _ _ (passed _ _ _ free).1).0 in
+    let epoch = guest_epoch n steps r.journal.running in
+    let rest = behind n r.journal.running in
+    let j = landed_after epoch rest s.ports.boxes ps r.journal in
+    let journal : c.land.new.self.journal ≡ j = search (arith, rules) in
+    let gate : c.open_all-landed.new.self ≡ record { next = r.next_frame + length fs; epochs = r.pending } =
+    c.open_all-landed.ensures.gate ∙ (λ i. record { next = (c.hold.ensures i).next; epochs = sym lone.1 i }) in
+    let after : record r {
+      journal = c.land.new.self.journal;
+      pending = c.open_all-landed.new.self.epochs;
+      next_frame = c.open_all-landed.new.self.next;
+    } ≡ record r { journal = j; next_frame = r.next_frame + length fs } =
+    λ i. record r { journal = journal i; pending = (gate i).epochs; next_frame = (gate i).next } in
+    let ports : c.open_all-landed.new.ports ≡ ports_landed s.ports r.next_frame fs =
+    c.open_all-landed.ensures.ports
+    ∙ opened_lone r s.ports h.numbers c.self.inside.window.to_cut fs c.hold.new.self c.hold.ensures lone.1 in
+    record {
+      is = same_record (record r { journal = j; next_frame = r.next_frame + length fs }) _ after
+          (entered_record r h.is lone epoch rest s.ports.boxes ps (r.next_frame + length fs));
+      numbers =
+          same_numbers (record r { journal = j; next_frame = r.next_frame + length fs }) _
+          (ports_landed s.ports r.next_frame fs) _ after ports
+          (lone_numbers r s.ports h.numbers j fs c.requires.few numbers lone.1);
+    }
+
+pub returns-clause-ports : goal.returns-clause-ports
+returns-clause-ports c =
+    let s = record_state c.self.inside in
+    let lone = rw (← c.self.view_is) at c.requires.lone in
+    rw (← c.self.view_is) (c.open_all-landed.ensures.ports
+    ∙ opened_lone s.protocol s.ports c.self.invariant.numbers c.self.inside.window.to_cut c.args.frames.now c.hold.new.self c.hold.ensures
+    lone.1)

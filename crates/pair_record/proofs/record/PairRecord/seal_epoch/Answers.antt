@@ -1,13 +1,13 @@
-use Rattle.std.proofs.Common.{rules, arith}
+use Rattle.std.proofs.Common.{rules, arith, refl}
 use Rattle.pair_record.specs.{EpochActs.{seal_epoch_done, guest_epoch, behind}, internal.RecordFields.record_state}
-use Rattle.pair_record.proofs.RecordLaws.{has_room_for, rising, sealed_record, same_record}
+use Rattle.pair_record.proofs.{NumberLaws.{sealed_numbers, same_numbers}, RecordLaws.{has_room_for, rising, sealed_record, same_record}}
 use Rattle.pair_record.proofs.record.PairRecord.seal_epoch.Goals as goal
 
 pub seal_epoch-requires-clause-fits : goal.seal_epoch-requires-clause-fits
 seal_epoch-requires-clause-fits c = search (arith, rules, has_room_for)
 
 pub hold-requires-clause-above : goal.hold-requires-clause-above
-hold-requires-clause-above c = rising (record_state c.self.inside).protocol c.self.invariant
+hold-requires-clause-above c = rising (record_state c.self.inside).protocol c.self.invariant.is
 
 pub invariant_of-self-2 : goal.invariant_of-self-2
 invariant_of-self-2 c =
@@ -17,5 +17,11 @@ invariant_of-self-2 c =
     let fs = c.args.frames.now in
     let free = rw (← c.self.view_is) at c.requires.free in
     let two = rw (← c.self.view_is) at c.requires.pair in
-    same_record (seal_epoch_done n steps fs r).1 _ (search (arith, rules))
-    (sealed_record r c.self.invariant (guest_epoch n steps r.journal.running) (behind n r.journal.running) fs two free)
+    let epoch = guest_epoch n steps r.journal.running in
+    let rest = behind n r.journal.running in
+    record {
+      is = same_record (seal_epoch_done n steps fs r).1 _ (search (arith, rules)) (sealed_record r c.self.invariant.is epoch rest fs two free);
+      numbers =
+          same_numbers (seal_epoch_done n steps fs r).1 _ c.self.inside.ports _ (search (arith, rules)) refl
+          (sealed_numbers r c.self.inside.ports c.self.invariant.numbers epoch rest fs c.requires.few free);
+    }

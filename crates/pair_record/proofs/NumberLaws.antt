@@ -1,0 +1,254 @@
+-- The numbers of frames: no frame that the gate holds, or will hold, has come for a client yet, whatever happens.
+use Rattle.std.proofs.Common.{rules, ◌≡◌, ℕ, zero, suc, ◌+◌, ◌-◌, ◌<◌, ◌≤◌, List, [], ◌∷◌}
+use Rattle.std.proofs.Common.{◌++◌, length, drop, replicate, get_or, set, refl, sym, ap, ◌∙◌}
+use Rattle.std.proofs.{Common.{arith, Bool, true, false, cond, Option, None, Some, subst}, lemmas.Bool.Decides.nat_tests}
+use Rattle.std.proofs.lemmas.{Bool.{ltb-true, ltb-false}, List.{length-append, take-append-drop}, List.Elements.All-set}
+use Rattle.std.specs.Prelude.{All, nat_le, nat_lt, slice_index_or}
+use Rattle.failover.specs.declared.mode.Mode.{Mode}
+use Rattle.failover.specs.declared.mode.Mode.TheVariants.{Filling}
+use Rattle.frame_ports.specs.{Lands.{lands, landed_at, put_count}, Numbers.{number_of, is_new, after_landing, marked}, Ports.PortsState}
+use Rattle.frame_ports.specs.{Addresses.targets_of, Limits.number_limit}
+use Rattle.output_gate.specs.Epochs.{Epoch, epoch as epoch_of, frames_of, frames_to, after_number}
+use Rattle.output_gate.specs.Landings.{clients_for, landed_for, ports_after, landed_count, AreBelow}
+use Rattle.output_gate.specs.Gate.{GateState, first_held as gate_first}
+use Rattle.output_gate.proofs.{LandedLaws.{boxes-after, landed_count-new}, PortsAfterLaws.rest_same-after}
+use Rattle.pair_history.specs.Entries.{Frame, Entry}
+use Rattle.pair_record.specs.{declared.event.Refusal.Refusal, declared.event.Refusal.TheVariants.{Behind, Exhausted}}
+use Rattle.pair_record.specs.{Journal.Journal, Limits.{last_frame, most_pending}, Modes.is_alone}
+use Rattle.pair_record.specs.Window.{committed_of, uncommitted_of, committed_count}
+use Rattle.pair_record.specs.{FailureActs.first_uncommitted, Protocol.{Record, first_refusal, cut_refusals, frames_run_out}}
+use Rattle.pair_record.specs.Protocol.{all_held, seal_done, commit_done, ack_done, failure_done, go_live_done, begin_done, protect_done}
+use Rattle.pair_record.specs.Record.{AreNumbered, first_held, ports_landed, ports_after_ack, ports_after_all, ports_after_live}
+use Rattle.pair_record.proofs.{AccordLaws.{frames_of-append, first_lone}, AloneLaws.frames_of-push}
+use Rattle.pair_record.proofs.{ModeLaws.filled_alone, RecordLaws.passed}
+
+-- NUMBERS BELOW a limit
+
+abbrev Below : ℕ → List ℕ → Type 0
+Below end ns = All (λ k. k < end) ns
+
+more_below : (m n : ℕ) (ns : List ℕ) → m ≤ n → Below m ns → Below n ns
+more_below m n ns l h k d i = let x = h k d i in omega arith
+
+module _ (n end : ℕ) (f : Frame) (within : n < end) where
+  landing_below : (p : PortsState) (c : ℕ) → Below end p.numbers → Below end (after_landing p c n f).numbers
+  landing_below p c h = by_test (is_new p c n)
+    where
+      by_test : (t : Bool)
+          → Below end (cond t (record p { numbers = set p.numbers (c - 1) n; boxes = landed_at p.boxes c f }) p).numbers
+      by_test true = All-set (λ k. k < end) p.numbers (c - 1) n within h
+      by_test false = h
+
+  for_below : (cs : List ℕ) (p : PortsState) → Below end p.numbers → Below end (landed_for p cs n f).numbers
+  for_below [] p h = h
+  for_below (c ∷ cs) p h = for_below cs (after_landing p c n f) (landing_below p c h)
+
+pub after_below : (fs : List Frame) (first end : ℕ) (p : PortsState) → first + length fs ≤ end → Below end p.numbers
+    → Below end (ports_after p first fs).numbers
+after_below [] first end p l h = h
+after_below (f ∷ fs) first end p l h =
+    after_below fs (first + 1) end (landed_for p (clients_for p f) first f) (omega arith)
+    (for_below first end f (omega arith) (clients_for p f) p h)
+
+none_below : (n count : ℕ) → 0 < n → Below n (replicate count 0)
+none_below n (suc count) l zero d i = l
+none_below n (suc count) l (suc k) d i = none_below n count l k d (omega arith)
+none_below n zero l k d i = absurd (omega arith)
+
+-- FRAMES THAT CAME FOR NO CLIENT land as if they had no number
+
+past : (ns : List ℕ) (i : ℕ) → length ns ≤ i → get_or ns i 0 ≡ 0
+past [] i l = refl
+past (n ∷ ns) zero l = absurd (omega arith)
+past (n ∷ ns) (suc i) l = past ns i (omega arith)
+
+module _ (p : PortsState) (first : ℕ) (some : 0 < first) (h : Below first p.numbers) where
+  pub each_below : AreBelow p first
+  each_below = record { below = λ c low high. by_place (c - 1) (nat_lt (c - 1) (length p.numbers)) refl }
+    where
+      by_place : (i : ℕ) (t : Bool) → nat_lt i (length p.numbers) ≡ t → slice_index_or p.numbers i 0 < first
+      by_place i true e = h i 0 (ltb-true i (length p.numbers) e)
+      by_place i false e = let l = ltb-false i (length p.numbers) e in let n = past p.numbers i (omega arith) in omega arith
+
+  pub landed_new : (fs : List Frame) → ports_after p first fs ≡ ports_landed p first fs
+  landed_new fs =
+      let rest = rest_same-after p first fs in
+      λ i. record (ports_after p first fs) { next = rest.0 i; inboxes = rest.1 i; boxes = boxes-after p first fs each_below i }
+
+  pub put_new : (fs : List Frame) → landed_count p first fs ≡ put_count p.boxes (targets_of (length p.boxes) fs)
+  put_new fs = landed_count-new p first fs each_below
+
+-- WHAT THE GATE HOLDS, in number
+
+parted : (n : ℕ) (es : List Epoch) → length (frames_to n es) + length (frames_of (after_number n es)) ≡ length (frames_of es)
+parted n [] = refl
+parted n (e ∷ es) = by_test (nat_le e.number n) (parted n es)
+  where
+    by_test : (t : Bool) → length (frames_to n es) + length (frames_of (after_number n es)) ≡ length (frames_of es)
+        → length (cond t (e.frames ++ frames_to n es) (frames_to n es)) + length (frames_of (cond t (after_number n es) (e ∷ after_number n es)))
+        ≡ length (e.frames ++ frames_of es)
+    by_test true h =
+        let a = length-append e.frames (frames_to n es) in
+        let b = length-append e.frames (frames_of es) in
+        omega arith
+    by_test false h =
+        let a = length-append e.frames (frames_of (after_number n es)) in
+        let b = length-append e.frames (frames_of es) in
+        omega arith
+
+-- by whether their checkpoint is committed
+pub in_two : (r : Record) → length (frames_of r.pending)
+    ≡ length (frames_of (committed_of r.window r.pending)) + length (frames_of (uncommitted_of r.window r.pending))
+in_two r =
+    let owed = committed_of r.window r.pending in
+    let others = uncommitted_of r.window r.pending in
+    ap (λ (es : List Epoch). length (frames_of es)) (sym (take-append-drop (committed_count r.window) r.pending))
+    ∙ ap (λ (fs : List Frame). length fs) (frames_of-append owed others) ∙ length-append (frames_of owed) (frames_of others)
+
+-- EACH EVENT keeps what is true of the numbers
+
+room_for : (next : ℕ) → nat_lt last_frame next ≡ false → next ≤ last_frame
+room_for next e = grind (arith, nat_tests)
+
+module _ (r : Record) (p : PortsState) (h : AreNumbered r p) where
+  pub first_positive : 0 < first_held r
+  first_positive = let a = h.held in omega arith
+
+  -- what the gate gives its frames, and their numbers, where they land first
+  pub landed_ports : (fs : List Frame) → ports_after p (first_held r) fs ≡ ports_landed p (first_held r) fs
+  landed_ports fs = landed_new p (first_held r) first_positive h.new fs
+
+  pub landed_counted : (fs : List Frame) → landed_count p (first_held r) fs ≡ put_count p.boxes (targets_of (length p.boxes) fs)
+  landed_counted fs = put_new p (first_held r) first_positive h.new fs
+
+  -- where a cut isn't refused
+  numbers_left : first_refusal (cut_refusals r) ≡ None → frames_run_out r ≡ false
+  numbers_left free =
+      let others : Option Refusal = cond (frames_run_out r) (Some Exhausted) None in
+      let row = passed (nat_le most_pending (length r.pending)) Behind (cond (nat_le number_limit r.window.to_cut) (Some Exhausted) others) free in
+      let next = passed (nat_le number_limit r.window.to_cut) Exhausted others row.1 in
+      (passed (frames_run_out r) Exhausted None next.1).0
+
+  -- what the gate lets go where it opens, with these frames held behind the others
+  module _ (n : ℕ) (fs : List Frame) (g : GateState)
+      (is : g ≡ record { next = r.next_frame + length fs; epochs = r.pending ++ epoch_of n fs ∷ [] }) where
+    held_so : frames_of g.epochs ≡ frames_of r.pending ++ fs
+    held_so = ap (λ (x : GateState). frames_of x.epochs) is ∙ frames_of-push r.pending (epoch_of n fs)
+
+    first_so : gate_first g ≡ first_held r
+    first_so =
+        let next = ap (λ (x : GateState). x.next) is in
+        let all = ap (λ (gs : List Frame). length gs) held_so ∙ length-append (frames_of r.pending) fs in
+        let some = h.held in
+        omega arith
+
+    pub opened_ports : ports_after p (gate_first g) (frames_of g.epochs) ≡ ports_after_all p fs r
+    opened_ports = (λ i. ports_after p (first_so i) (held_so i)) ∙ landed_ports (frames_of r.pending ++ fs)
+
+    pub opened_count : landed_count p (gate_first g) (frames_of g.epochs) ≡ put_count p.boxes (all_held p.boxes fs r)
+    opened_count = (λ i. landed_count p (first_so i) (held_so i)) ∙ landed_counted (frames_of r.pending ++ fs)
+
+    pub opened_lone : r.pending ≡ [] → ports_after p (gate_first g) (frames_of g.epochs) ≡ ports_landed p r.next_frame fs
+    opened_lone none =
+        opened_ports ∙ (λ i. ports_landed p (first_lone r none i) (frames_of (none i) ++ fs))
+
+  -- an epoch is sealed
+  module _ (epoch rest : List Entry) (fs : List Frame) where
+    pub seal_numbers : r.next_frame + length fs ≤ last_frame + 256 → AreNumbered (seal_done epoch rest fs r).1 p
+    seal_numbers few =
+        let e : Epoch = record { number = r.window.to_cut; frames = fs } in
+        let a = ap (λ (t : List Frame). length t) (frames_of-push r.pending e) ∙ length-append (frames_of r.pending) fs in
+        let b = h.held in
+        record {
+          held = omega arith;
+          new = more_below (first_held r) _ p.numbers (omega arith) h.new;
+          left = omega arith;
+          left_in_pair = λ t. omega arith;
+        }
+
+    pub sealed_numbers : length fs ≤ 256 → first_refusal (cut_refusals r) ≡ None → AreNumbered (seal_done epoch rest fs r).1 p
+    sealed_numbers few free =
+        let room = room_for r.next_frame (numbers_left free) in
+        seal_numbers (omega arith)
+
+  pub commit_numbers : AreNumbered (commit_done r).1 p
+  commit_numbers = record {
+    held = h.held;
+    new = h.new;
+    left = h.left;
+    left_in_pair = λ t. h.left_in_pair (sym (filled_alone r.mode) ∙ t);
+  }
+
+  pub ack_numbers : (n : ℕ) → AreNumbered (ack_done p.boxes r n).1 (ports_after_ack p r n)
+  ack_numbers n =
+      let a = parted n r.pending in
+      let b = h.held in
+      let end = r.next_frame - length (frames_of (after_number n r.pending)) in
+      record {
+        held = omega arith;
+        new = after_below (frames_to n r.pending) (first_held r) end p (omega arith) (more_below (first_held r) end p.numbers (omega arith) h.new);
+        left = h.left;
+        left_in_pair = h.left_in_pair;
+      }
+
+  -- all that the gate holds lands, and then these
+  pub failure_numbers : (epoch rest : List Entry) (fs : List Frame) → length fs ≤ 256 → is_alone r.mode ≡ false
+      → AreNumbered (failure_done epoch rest p.boxes fs r).1 (ports_after_all p fs r)
+  failure_numbers epoch rest fs few two =
+      let a = length-append (frames_of r.pending) fs in
+      let b = h.held in
+      let c = h.left_in_pair two in
+      let end = r.next_frame + length fs - 0 in
+      record {
+        held = omega arith;
+        new = after_below (frames_of r.pending ++ fs) (first_held r) end p (omega arith) (more_below (first_held r) end p.numbers (omega arith) h.new);
+        left = omega arith;
+        left_in_pair = λ t. absurd (cc);
+      }
+
+  -- where nothing is pending these land
+  pub lone_numbers : (j : Journal) (fs : List Frame) → length fs ≤ 256 → frames_run_out r ≡ false → r.pending ≡ []
+      → AreNumbered (record r { journal = j; next_frame = r.next_frame + length fs }) (ports_landed p r.next_frame fs)
+  lone_numbers j fs few free none =
+      let a : length (frames_of r.pending) ≡ 0 = ap (λ (es : List Epoch). length (frames_of es)) none in
+      let b = room_for r.next_frame free in
+      let c = h.held in
+      let end = r.next_frame + length fs - length (frames_of r.pending) in
+      record {
+        held = omega arith;
+        new = after_below fs r.next_frame end p (omega arith) (more_below (first_held r) end p.numbers (omega arith) h.new);
+        left = omega arith;
+        left_in_pair = λ t. omega arith;
+      }
+
+  -- what the gate holds of committed checkpoints lands, and what it holds of others is given up
+  pub live_numbers : (boxes : List (List Frame)) (out : List (ℕ × Frame)) (steps : ℕ)
+      → AreNumbered (go_live_done boxes out steps r).1 (ports_after_live p r)
+  live_numbers boxes out steps =
+      let owed = frames_of (committed_of r.window r.pending) in
+      let a = in_two r in
+      let b = h.held in
+      let c = h.left in
+      let end = first_uncommitted r - 0 in
+      record {
+        held = omega arith;
+        new = after_below owed (first_held r) end p (omega arith) (more_below (first_held r) end p.numbers (omega arith) h.new);
+        left = omega arith;
+        left_in_pair = λ t. absurd (cc);
+      }
+
+  pub begin_numbers : AreNumbered (begin_done r).1 (marked p)
+  begin_numbers = record {
+    held = omega arith;
+    new = none_below 1 (length p.boxes) (omega arith);
+    left = omega arith;
+    left_in_pair = λ t. omega arith;
+  }
+
+-- and its full checkpoint, which no frame waits for, is sealed
+pub protect_numbers : (r : Record) (p : PortsState) → AreNumbered r p → AreNumbered (protect_done r).1 (marked p)
+protect_numbers r p h = seal_numbers (begin_done r).1 (marked p) (begin_numbers r p h) [] r.journal.running [] (omega arith)
+
+-- what is the same record with the same ports is numbered too
+pub same_numbers : (r q : Record) (p o : PortsState) → q ≡ r → o ≡ p → AreNumbered r p → AreNumbered q o
+same_numbers r q p o e f h = subst (λ x. AreNumbered x o) (sym e) (subst (AreNumbered r) (sym f) h)
