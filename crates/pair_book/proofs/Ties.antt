@@ -10,7 +10,8 @@ use Rattle.pair_record.specs.Protocol.{Record}
 use Rattle.pair_record.specs.internal.Accords.{Accords, kept_moves}
 use Rattle.pair_record.proofs.AccordLaws.{kept_is}
 use Rattle.growing_history.specs.Steps.{Step, step, Added}
-use Rattle.growing_history.specs.LogState.{LogState, Epoch, Legal, Needs, AreOwn, AreKnown, state_at, history_of, entries_of, under_way, after}
+use Rattle.growing_history.specs.LogState.{LogState, Epoch, Legal, Needs, AreOwn, AreKnown}
+use Rattle.growing_history.specs.LogState.{state_at, history_of, entries_of, under_way, after}
 use Rattle.growing_history.proofs.LogLaws.{goes-on, state-snoc, history-snoc, history-stands, legal-second}
 use Rattle.pair_book.specs.internal.Tie.{IsTied, sealed_entries}
 

@@ -125,7 +125,8 @@ impl<P: Pair> Book<P> {
         Ok(())
     }
 
-    /// The client delivers a frame of these bytes: it goes last into the client's inbox. Answers its number, counted from 1 over all clients.
+    /// The client delivers a frame of these bytes: it goes last into the client's inbox. Answers its number, counted from 1 over all
+    /// clients.
     ///
     /// # Errors
     ///
@@ -147,7 +148,8 @@ impl<P: Pair> Book<P> {
         ensures step { IfOk result (λ n. Makes (Added (Delivered (client_of seat.old.number) (record { items = bytes.now }) n ∷ []))
             self.old self.new seat.old seat.new) }
         ensures free { OnOk result (first_refusal (deliver_rows self.old (client_of seat.old.number) bytes.now) ≡ None) }
-        ensures why { IfErr result (λ why. IsWhyDelivery (first_refusal (deliver_rows self.old (client_of seat.old.number) bytes.now)) why) }
+        ensures why { IfErr result (λ why.
+            IsWhyDelivery (first_refusal (deliver_rows self.old (client_of seat.old.number) bytes.now)) why) }
         ensures refused { IfErr result (λ why. AfterRefusedDelivery (client_of seat.old.number) (record { items = bytes.now }) why
             self.old self.new seat.old seat.new) }
     {
