@@ -7,8 +7,10 @@ FRAME = "02000000010102000000000188b5"
 IN_WORDS = {
     "a disk goes back to what was committed": "boot 2 8 1 disk 3 ab|step 23|cut|fail primary|golive|sector 3",
     "or has it, where the backup has it": "boot 2 8 1 disk 3 ab|step 23|cut|send|backup 0|fail primary|golive|sector 3",
-    "a held frame is dropped where the backup goes live":
+    "a committed frame lands where the backup goes live":
         "boot 2 1 1 beacon|step 22|cut|send|backup 0|fail primary|golive|take 1|show",
+    "and doesn't land again":
+        "boot 2 1 1 beacon|step 22|cut|send|backup 0|ack 0|fail primary|golive|take 1|take 1|show",
     "packets late, twice and never": "boot 2 1 1 idle|cut|cut|send|backup 1|backup 0|backup 0|backup 1|backup 9",
     "an old acknowledgement opens no gate":
         "boot 2 1 1 beacon|cut|send|backup 0|fail backup|protect|step 22|cut|ack 0|take 1|show",

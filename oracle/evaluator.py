@@ -83,14 +83,14 @@ class Guest:
         return bytes(SECTOR_BYTES)
 
 
-def booted(fields):
+def booted(fields, kind_of_pair=Pair):
     """The pair of a boot line."""
     if len(fields) < 5 or fields[0] != b"boot":
         raise Bad
     pages = in_range(number(fields[1]), 1, MOST_PAGES)
     sectors = in_range(number(fields[2]), 1, MOST_SECTORS)
     clients = in_range(number(fields[3]), 1, MOST_CLIENTS)
-    return Pair(Guest(fields[4:], pages), sectors, clients)
+    return kind_of_pair(Guest(fields[4:], pages), sectors, clients)
 
 
 def answer(pair, fields):
@@ -117,7 +117,8 @@ def answer(pair, fields):
 class Player:
     """A script as it is played, a line at a time: what it has printed so far, and what ended it."""
 
-    def __init__(self):
+    def __init__(self, kind_of_pair=Pair):
+        self.kind_of_pair = kind_of_pair
         self.pair, self.count, self.printed, self.said, self.status = None, 0, [], b"", 0
 
     def play(self, line):
@@ -129,7 +130,7 @@ class Player:
         try:
             fields = line.split(b" ")
             if self.pair is None:
-                self.pair = booted(fields)
+                self.pair = booted(fields, self.kind_of_pair)
                 self.printed.append("booted")
             else:
                 self.printed.append(answer(self.pair, fields))

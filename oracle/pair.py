@@ -202,13 +202,10 @@ class Pair:
 
     def golive(self):
         self.refuse(alone=NOT_PAIRED, paired=ALREADY_PAIRED, filling=ALREADY_PAIRED)
-        # What uncommitted epochs took in, by rising number; then what is committed and not landed, each client's from its front.
+        # What uncommitted epochs took in is dropped, by rising number; then what committed ones sent and hasn't landed does.
         for n in sorted(entry[1] for entry in self.kept() if entry[0] == "Arrive"):
             self.record("DropIn", n)
-        for c in self.boxes:
-            for frame in [frame for n in self.pending if n <= self.committed for frame in self.held[n]]:
-                if c in targets(frame, self.clients):
-                    self.record("DropOut", c, len(self.boxes[c]))
+        self.land(held_to(self, self.committed + 1))
         self.forget(ALONE)
         self.generation += 1
         self.steps = self.image_steps

@@ -355,19 +355,17 @@ impl Pair {
             Mode::Paired | Mode::Filling => return Err(ALREADY_PAIRED),
             Mode::Stopped => {}
         }
-        // Each frame that was taken in by an epoch that isn't committed is dropped, and each that was committed and hasn't landed.
+        // What was taken in by an epoch that isn't committed is dropped; then what committed ones sent and hasn't landed does.
         let mut dropped = self.running.arrivals;
-        for pending in &self.pending {
-            dropped += match &pending.rest {
-                Some((epoch, _)) => epoch.arrivals,
-                None => pending
-                    .frames
-                    .iter()
-                    .map(|frame| targets(frame, self.boxes.len()).len() as u64)
-                    .sum(),
-            };
+        let mut owed = Vec::new();
+        for pending in std::mem::take(&mut self.pending) {
+            match pending.rest {
+                Some((epoch, _)) => dropped += epoch.arrivals,
+                None => owed.extend(pending.frames),
+            }
         }
         self.entries += dropped;
+        self.land(owed);
         self.live = self.image.take().expect("a stopped pair has an image");
         self.generation += 1;
         self.be_alone();
