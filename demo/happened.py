@@ -31,6 +31,8 @@ class Run:
         self.hosts = [Host(0), Host(0)]
         self.hosts[0].live = self.hosts[0].filled = self.hosts[1].filled = 0
         self.epochs, self.open = [], {}  # all that were cut; those that aren't acknowledged, by generation and number
+        self.kept = []  # of each backup that went live: the last epoch whose frames landed then
+        self.is_landing = False  # until the next step
         self.lost = []  # spans of steps that no backup had
         self.stops, self.resumed = [], []  # times, the latter with the guest's steps
         self.taken, self.asked = [], []  # the frames that the client took, and those that it sent, each with its time
@@ -46,6 +48,7 @@ class Run:
 
     def _step(self, line, _):
         self.now += int(line[1])
+        self.is_landing = False
 
     def _cut(self, _, answer):
         epoch = self.open[answer[1], int(answer[2])] = Epoch(self.epoch_start, self.now)
@@ -70,6 +73,8 @@ class Run:
 
     def _take(self, _, answer):
         self.taken.append((self.now, bytes.fromhex(answer[1])))
+        if self.is_landing:
+            self.kept[-1].landed += 1
 
     def _deliver(self, line, _):
         self.asked.append((self.now, bytes.fromhex(line[2])))
@@ -90,7 +95,11 @@ class Run:
         if self.epoch_start < self.now:
             self.lost.append((self.epoch_start, self.now))
         self.epochs = [epoch for epoch in self.epochs if epoch.committed]
-        self.open = {}
+        # What was held of committed ones lands. How many frames that are is seen by what the client takes before the next step.
+        kept = [epoch for epoch in self.open.values() if epoch.committed]
+        for epoch in kept:
+            epoch.released = self.now
+        self.kept, self.is_landing, self.open = self.kept + kept[-1:], bool(kept), {}
         self.resumed.append((self.now, int(answer[3])))
         self.hosts[-1].live = self.now
         self.hosts[-1].alone.append([self.now, None])

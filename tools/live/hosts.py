@@ -68,6 +68,7 @@ class Hosts:
         self.packets, self.acks = 0, 0  # how many were sent on either line
         self.way = []  # what is on the link: when it arrives, the event, and its packet's number
         self.waiting = dict.fromkeys(clients, 0)  # frames in inboxes
+        self.taken_in = [0]  # frames, by the epochs that aren't committed, the running one last
         self.is_full = False  # the outbox: the guest goes on after the next cut
         self.came, self.went, self.let_out, self.dropped, self.lost, self.epochs = 0, 0, 0, 0, 0, 0
         self.held = 0  # frames, until the last acknowledgement
@@ -109,6 +110,7 @@ class Hosts:
         lines = [f"admit {client}" for client, count in self.waiting.items() for _ in range(count)]
         if lines and self.mode != STOPPED:
             self.say(lines)
+            self.taken_in[-1] += len(lines)
             self.waiting = dict.fromkeys(self.waiting, 0)
 
     def collect(self, landed=1):
@@ -144,6 +146,7 @@ class Hosts:
         """The epoch ends, and its checkpoint goes to the backup. The primary stops at a place thereafter, if one is given."""
         self.say(["cut"] if stops == NOT_SENT else ["cut", "send"])
         self.next, self.epochs, self.is_full = self.next + 1, self.epochs + 1, False
+        self.taken_in.append(0)
         if stops != NOT_SENT:
             self.send(now)
         if stops == NOT_COMMITTED:
@@ -174,7 +177,9 @@ class Hosts:
                 self.arrive_at_primary(packet)
 
     def arrive_at_backup(self, when, packet):
-        self.say([f"backup {packet}"])
+        [answer] = self.say([f"backup {packet}"])
+        if answer.startswith("committed"):
+            del self.taken_in[0]
         self.acks += 1
         if self.mode == FILLING:
             self.mode = PAIRED
@@ -193,12 +198,13 @@ class Hosts:
         self.mode = STOPPED
 
     def go_live(self):
-        """The backup goes on in the stopped primary's place. What it loses is what the history says that it dropped."""
-        before, answer, after = self.say(["show", "golive", "show"])
-        self.lost += int(after.split()[-1]) - int(before.split()[-1])
-        _, self.generation, _, self.steps = map(int_or_word, answer.split())
+        """The backup goes on in the stopped primary's place. Lost is what the epochs that it hadn't committed had taken in; what the
+        others sent, and wasn't let out before, lands."""
+        _, self.generation, _, self.steps = map(int_or_word, self.say(["golive"])[0].split())
+        self.lost += sum(self.taken_in)
         self.live, self.backup = self.backup, None
         self.be_alone()
+        self.collect()
         self.admit()
 
     def fail_backup(self):
@@ -210,7 +216,7 @@ class Hosts:
 
     def be_alone(self):
         self.mode, self.way, self.is_full = ALONE, [], False
-        self.acked = self.next - 1
+        self.acked, self.taken_in = self.next - 1, [0]
 
     def protect(self, now):
         """A new backup comes, and the full checkpoint is on its way to it."""
@@ -219,6 +225,7 @@ class Hosts:
         self.last += 1
         self.backup = self.last
         self.next, self.acked = 1, -1
+        self.taken_in = [0, 0]  # the full checkpoint ends an epoch without frames
         self.send(now)
         self.arrive(now)
 
