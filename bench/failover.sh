@@ -1,9 +1,10 @@
 #!/usr/bin/env bash
 # How long the backup takes to go live, at three sizes of memory and disk, beside a copy of as many bytes, and beside what the system
-# takes to be given back the memory of a machine, as that of the stopped primary is then; how fast a loop of arithmetic runs where a
-# node is alone, beside the same loop in a pair; and the most memory that 20 million steps take there. Going live is the middle of
-# TIMES (20 if left out) times, where 0 is less than can be seen from outside; the others are the best of some times. REMUS names another
-# program to measure in the place of the repository's own.
+# takes to be given back the memory of a machine, as that of the stopped primary is then; the same where it has kept 1024 frames of 1514
+# bytes, which land for 16 clients, beside a copy of these; how fast a loop of arithmetic runs where a node is alone, beside the same
+# loop in a pair; and the most memory that 20 million steps take there. Going live is the middle of TIMES (20 if left out) times, where
+# 0 is less than can be seen from outside; the others are the best of some times. REMUS names another program to measure in the place of
+# the repository's own.
 set -eu
 cd "$(dirname "$0")/.."
 program=${REMUS:-crates/remus/out/remus}
@@ -23,6 +24,7 @@ from pathlib import Path
 
 PROGRAM, TIMES = sys.argv[1], int(sys.argv[2])
 PAGE, SECTOR = 4096, 512
+FRAMES, LONGEST = 1024, 1514
 
 
 def play(lines, wanted=()):
@@ -53,12 +55,29 @@ def play(lines, wanted=()):
         return resource.getrusage(resource.RUSAGE_CHILDREN).ru_utime - before, [when[text] for text in wanted]
 
 
-def going_live(pages, sectors):
-    """A line `step 100000` has all that was printed before it written out, and where the primary has stopped it does nothing else."""
+def failing(lines, live):
+    """How long `golive` takes after these lines. A line `step 100000` has all that was printed before it written out, and where the
+    primary has stopped it does nothing else."""
     written = ["step 100000"]
-    lines = [f"boot {pages} {sectors} 1 beacon", "step 22", "cut", "send", "backup 0", "step 5", "fail primary"]
-    _, (before, after) = play(lines + written + ["golive"] + written, [b"stopped primary\n", b"live 2 steps 22\n"])
+    _, (before, after) = play(lines + ["fail primary"] + written + ["golive"] + written, [b"stopped primary\n", live])
     return after - before
+
+
+def going_live(pages, sectors):
+    return failing([f"boot {pages} {sectors} 1 beacon", "step 22", "cut", "send", "backup 0", "step 5"], b"live 2 steps 22\n")
+
+
+def landing_kept():
+    """The guest of guests/flood.c, but for 16 clients, which is one constant of its words: its loop ends at CLIENTS + 1. It sends until its
+    outbox is full, 256 frames an epoch, 16 of them to each client."""
+    few, many = "00400813", "01100813"
+    words = Path("guests/words/flood.words").read_text().strip()
+    if words.count(few) != 1:
+        sys.exit("guests/words/flood.words isn't the guest that this script knows")
+    lines = [f"boot 2 1 16 words {words.replace(few, many)}"]
+    for epoch in range(4):
+        lines += ["step 30000", "cut", "send", f"backup {epoch}"]
+    return failing(lines, b"\nlive 2 steps ")
 
 
 def copying(count):
@@ -86,6 +105,11 @@ for pages, sectors in [(16, 64), (256, 2048), (4096, 32768)]:
     given = min(giving_back(pages, sectors) for _ in range(TIMES))
     print(f"{pages:5} pages, {sectors:5} sectors: going live {live * 1e6:6.0f} us, copying them {copied * 1e6:6.0f} us, "
           f"giving back a machine's {given * 1e6:6.0f} us", flush=True)
+
+live = statistics.median(landing_kept() for _ in range(TIMES))
+copied = min(copying(FRAMES * LONGEST) for _ in range(TIMES))
+print(f"{FRAMES} kept frames of {LONGEST} bytes: going live {live * 1e6:6.0f} us, copying them {copied * 1e6:6.0f} us, "
+      f"ratio {live / copied:.2f}", flush=True)
 
 words = Path("bench/loops/arithmetic.words").read_text().strip()
 count, modes = 50_000_000, {"paired": [], "alone": ["fail backup"]}
