@@ -9,8 +9,8 @@ use Rattle.pair_history.specs.HistoryState.{HistoryState, Waiting, inbox_of, fra
 use Rattle.pair_history.specs.HistoryState as history
 use Rattle.pair_history.specs.internal.Moves.{AreRising}
 use Rattle.pair_history.specs.Reached.{IsReached}
-use Rattle.pair_history.proofs.Waiting.{AreRising-without, StandsAt, leaves-at}
-use Rattle.pair_history.proofs.TakenInLaws.{without_numbers}
+use Rattle.pair_history.proofs.Waiting.{AreRising-without, StandsAt, leaves-at, first-waits}
+use Rattle.pair_history.proofs.TakenInLaws.{without_numbers, AllWait}
 use Rattle.growing_history.specs.LogState.{first_frames}
 
 -- frames of these numbers arrive in this order
@@ -108,3 +108,19 @@ module _ (s : HistoryState) (reached : IsReached s) where
   pub waits-numbered : (c place n : ℕ) (f : Frame) → slice_get (inbox_of c s.waiting) place ≡ Some (n, f)
       → frame_numbered n s.waiting ≡ Some f
   waits-numbered c place n f stands = (leaves-at c place n f 1 s.number s.waiting reached.rising stands).0
+
+-- Of what waits alone, where its numbers rise.
+wait-all : (ns : List ℕ) (ws : List Waiting) → CanArrive ns ws → AllWait ns ws
+wait-all [] ws a = tt
+wait-all (n ∷ ns) ws a = (first-waits n ws a.0, wait-all ns (without_number n ws) a.1)
+
+module _ (first end m : ℕ) (ws : List Waiting) (rises : AreRising first end ws) where
+  firsts : FirstOfAll first end m 1 ws ws
+  firsts = first-of-all first end m 1 ws ws rises (λ d low. refl)
+
+  -- the first frames of each inbox wait, and leave it where they are taken out
+  pub firsts-wait : AllWait (first_frames m 1 ws) ws
+  firsts-wait = wait-all (first_frames m 1 ws) ws firsts.0
+
+  pub firsts-leave : (c : ℕ) → 1 ≤ c → c ≤ m → inbox_of c (without_numbers (first_frames m 1 ws) ws) ≡ drop 4 (inbox_of c ws)
+  firsts-leave c low high = firsts.1 c low (omega (arith, high))

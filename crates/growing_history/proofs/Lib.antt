@@ -18,3 +18,4 @@ pub mod SeatNumbers
 pub mod FailureLaws
 pub mod ServiceLaws
 pub mod Lives
+pub mod WaitsAlong

@@ -133,7 +133,7 @@ steps-keep go s (x ∷ xs) n l g way none others is now =
       frames = λ before later m f h waits. rest.frames before later m f (held ∙ h) (one.frames before later m f h waits);
     }
 
-guests-after : (s : LogState) (xs : List Step) → LegalFrom s xs → AreGuests (entries_of s.sealed)
+pub guests-after : (s : LogState) (xs : List Step) → LegalFrom s xs → AreGuests (entries_of s.sealed)
     → AreGuests (entries_of (state_after s xs).sealed)
 guests-after s [] l g = g
 guests-after s (x ∷ xs) l g = guests-after (after s x.what) xs l.1 (sealed-guests s x.by x.what l.0.may g)

@@ -54,3 +54,12 @@ pub seats-apart : (h : HistoryState) (xs : List Step) (n : ℕ) → Legal h xs �
 unfolding Legal state_at
 seats-apart h xs n l low high =
     free-steps (start_of h) xs n l high ((λ e. absurd (omega (arith, low, e))), λ e. absurd (omega (arith, low, e)))
+
+seats-after : (s : LogState) (xs : List Step) → last_seat (state_after s xs) ≡ last_seat s
+seats-after s [] = refl
+seats-after s (x ∷ xs) = seats-after (after s x.what) xs ∙ seats-stay s x.what
+
+-- the greatest number of a client's seat stays that of the start
+pub seats-last : (h : HistoryState) (xs : List Step) → last_seat (state_at h xs) ≡ client_seat (length h.boxes)
+unfolding state_at
+seats-last h xs = seats-after (start_of h) xs

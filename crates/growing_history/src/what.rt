@@ -10,6 +10,7 @@ pub trait Tells {
 }
 
 /// What a step of the keeper is, as the call that makes it says it. Nothing is stored.
+#[derive(Drop)]
 pub enum What<'a> {
     /// Entries of the clients' lines: what a client called, and what landed or was dropped.
     Added(&'a [Entry<'a>]),

@@ -16,3 +16,4 @@ pub mod OrderLaws
 pub mod LogLaws
 pub mod LeavingLaws
 pub mod DropLaws
+pub mod WaitsLaws

@@ -6,20 +6,11 @@ use Rattle.pair_history.specs.Entries.{Entry, Ran, Arrive, DropIn}
 use Rattle.pair_history.specs.HistoryState.{HistoryState, Waiting, without_number, at, after, Legal}
 use Rattle.pair_history.specs.Order.{AreGuests}
 use Rattle.pair_history.specs.internal.Moves.{AreRising}
+pub use Rattle.pair_history.specs.internal.Waits.{without_numbers, AllWait}
 use Rattle.pair_history.specs.Failures.{arrived_numbers, put_rising, rising, drops_of_taken_in}
 use Rattle.pair_history.proofs.Waiting.{Waits, first-waits, AreRising-without, found-without, without-swaps, gone}
 use Rattle.pair_history.proofs.SortedLaws.{Climb, Climb-rising}
 pub use Rattle.pair_history.proofs.SortedLaws.{IsPermutation-rising}
-
--- what waits without frames of these numbers
-abbrev pub without_numbers : List ℕ → List Waiting → List Waiting
-without_numbers [] ws = ws
-without_numbers (n ∷ ns) ws = without_numbers ns (without_number n ws)
-
--- a frame of each of these numbers waits, once those before it have left
-abbrev pub AllWait : List ℕ → List Waiting → Type 0
-AllWait [] ws = Unit {0}
-AllWait (n ∷ ns) ws = Waits n ws × AllWait ns (without_number n ws)
 
 -- They leave in any order, and in the rising one.
 
@@ -42,7 +33,7 @@ without_numbers-put n [] ws = refl
 without_numbers-put n (m ∷ ns) ws =
     grind (arith, nat_tests, without_numbers-put n ns (without_number m ws), without-swaps n m ws)
 
-without_numbers-rising : (ns : List ℕ) (ws : List Waiting) → without_numbers (rising ns) ws ≡ without_numbers ns ws
+pub without_numbers-rising : (ns : List ℕ) (ws : List Waiting) → without_numbers (rising ns) ws ≡ without_numbers ns ws
 without_numbers-rising [] ws = refl
 without_numbers-rising (n ∷ ns) ws = without_numbers-put n (rising ns) ws ∙ without_numbers-rising ns (without_number n ws)
 

@@ -6,6 +6,7 @@ use Rattle.std.proofs.lemmas.Bool.Decides.{nat_tests}
 use Rattle.pair_history.specs.Entries.{Frame}
 use Rattle.pair_history.specs.HistoryState.{Waiting, inbox_of, frame_numbered, without_number, IsFirst}
 use Rattle.pair_history.specs.internal.Moves.{AreRising}
+pub use Rattle.pair_history.specs.internal.Waits.{Waits}
 
 -- Frames that are delivered later stand behind.
 
@@ -19,10 +20,6 @@ first-more (x ∷ xs) ys a e = e
 
 pub IsFirst-more : (n : ℕ) (xs ys : List Waiting) → IsFirst n xs → IsFirst n (xs ++ ys)
 IsFirst-more n xs ys h = (h.0, h.1, rw (inbox_of-append h.0 xs ys) (first-more _ _ _ h.2))
-
--- a frame of that number waits
-abbrev pub Waits : ℕ → List Waiting → Type 0
-Waits n ws = (f : Frame) × (frame_numbered n ws ≡ Some f)
 
 is-there : (n c : ℕ) (f : Frame) (ws : List Waiting) → slice_get (inbox_of c ws) 0 ≡ Some (n, f) → frame_numbered n ws ≢ None
 is-there n c f [] e = absurd (cc)

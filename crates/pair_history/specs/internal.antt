@@ -3,3 +3,4 @@ pub mod LogFields
 pub mod Moves
 pub mod Packed
 pub mod UnreadFields
+pub mod Waits
