@@ -22,7 +22,7 @@ ghost use Rattle.std.specs.Prelude.{
 };
 ghost use Rattle.frame_ports.specs.Limits.{max_clients, inbox_frames, box_frames};
 ghost use Rattle.frame_ports.specs.Addresses.{IsFrame};
-ghost use Rattle.frame_ports.specs.Numbers.{landing, after_landing, marked};
+ghost use Rattle.frame_ports.specs.Numbers.{is_new, landing, after_landing, marked};
 ghost use Rattle.frame_ports.specs.Ports.{
   is_client,
   IsClient,
@@ -220,6 +220,14 @@ impl Ports {
         ensures bound { result ≤ box_frames }
     {
         self.boxes[(client - 1) as usize].len()
+    }
+
+    /// Whether the guest's frame of that number hasn't come for the client yet, so that [`Ports::land`] would land it.
+    pub fn is_new(&self, client: u64, number: u64) -> bool
+        requires { IsClient self.now client }
+        ensures { result ≡ is_new self.now client number }
+    {
+        self.numbers[(client - 1) as usize] < number
     }
 
     /// Lands the guest's frame of that number for a client: it goes last in the client's box. A box of 64 frames

@@ -1,9 +1,10 @@
 -- What is kept true from event to event gives what contracts say: of the record its laws do.
-use Rattle.std.proofs.Common.{rules, arith, ◌≡◌, ℕ, ◌+◌, ◌≤◌, true, false, List, [], ◌∷◌, ◌++◌, length, refl, sym, ap, ◌∙◌, subst}
-use Rattle.std.proofs.{Common.append_assoc, lemmas.List.Elements.{All-nil, All-cons}}
+use Rattle.std.proofs.Common.{rules, arith, ◌≡◌, ℕ, ◌+◌, ◌<◌, ◌≤◌, true, false, List, [], ◌∷◌, ◌++◌, length, refl, sym, ap, ◌∙◌}
+use Rattle.std.proofs.Common.{subst, inl, inr}
+use Rattle.std.proofs.{Common.append_assoc, lemmas.Bool.cases_lt, lemmas.List.length-map, lemmas.List.Elements.{All-nil, All-cons}}
 use Rattle.std.specs.Prelude.{map, All}
 use Rattle.failover.specs.declared.mode.{Mode.Mode, Mode.TheVariants.{Filling, Alone}}
-use Rattle.guest_machine.specs.{declared.shapes.Shape.Shape}
+use Rattle.guest_machine.specs.{declared.shapes.Shape.Shape, Guest.Guest}
 use Rattle.frame_ports.specs.Addresses.{targets_of}
 use Rattle.output_gate.specs.Epochs.{frames_of}
 use Rattle.pair_history.specs.{Entries.{Frame, Entry, Ran, Arrive}, HistoryState.{HistoryState, at}}
@@ -49,6 +50,13 @@ of_guest (Arrives n f ∷ ms) = All-cons IsOfGuest (Arrive n) (entries_of ms) re
 pub lone : (mode : Mode) (w : Pair) → is_alone mode ≡ true → InMode mode w → IsAlone w
 lone Alone w e m = m
 lone other w e m = absurd (cc)
+
+-- where there is a text, there are moves
+some_moves : (shape : Shape) (generation n : ℕ) (g : Guest) (mss : List (List Move)) (texts : List (List ℕ)) (text : List ℕ)
+    (later : List (List ℕ)) → texts ≡ text ∷ later → AreSealed shape generation n g mss texts → 1 ≤ length mss
+some_moves shape generation n g [] [] text later e s = absurd (cc)
+some_moves shape generation n g [] (t ∷ ts) text later e s = absurd s
+some_moves shape generation n g (ms ∷ mss) texts text later e s = omega arith
 
 module _ (w : Pair) (h : Holds w) where
   abbrev a : Accords w.start w.protocol.state w.ports
@@ -114,3 +122,21 @@ module _ (w : Pair) (h : Holds w) where
   pub consistent : IsRecord w.protocol.state → AreNumbered w.protocol.state w.ports → IsConsistent w
   consistent k numbered =
       search (arith, rules, Legal-moves, in_mode, kept_entries_are, live_is, live_waiting, of_guest, outbox_is, owed_is)
+
+  -- a backup's first checkpoint was cut
+  pub some_cut : IsRecord w.protocol.state → is_alone w.protocol.state.mode ≡ false → 1 ≤ w.protocol.state.window.to_cut
+  some_cut k two =
+      let r = w.protocol.state in
+      let b = h.nodes.backed two in
+      let mss = h.accords.journal.sealed_moves in
+      let sealed = ap (λ (ess : List (List Entry)). length ess) h.accords.journal.sealed_are ∙ length-map mss entries_of in
+      let counted = k.sealed in
+      elim (cases_lt 0 r.window.to_commit) [
+        | inl some ↦ omega arith
+        | inr none ↦
+            let f = b.fills (omega arith) in
+            let n = some_moves w.nodes.image.shape r.generation r.window.to_commit (shown_state w).guest mss w.nodes.sealed f.text f.later
+            f.sealed
+            b.sealed in
+            omega arith
+      ]

@@ -24,7 +24,6 @@ use Rattle.pair_record.specs.Journal.{joined, first_of, rest_of, kept_entries, w
 use Rattle.pair_record.specs.Record.{IsRecord, start_record, first_held, ports_after_admit}
 use Rattle.pair_record.specs.Protocol.{Record, shown_at, live_at, outbox_of, commit_done}
 use Rattle.pair_record.specs.Window.{committed_of, uncommitted_of, committed_count}
-use Rattle.pair_record.proofs.WindowLaws.{within}
 
 -- Lists of epochs
 

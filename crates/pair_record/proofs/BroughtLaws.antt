@@ -1,23 +1,23 @@
 -- What frames that a backup kept add where they land: those that came before nothing, and the others what frames add that leave the gate.
-use Rattle.std.proofs.Common.{rules, ◌≡◌, ℕ, suc, ◌+◌, ◌<◌, ◌≤◌, List, [], ◌∷◌, ◌++◌, length}
-use Rattle.std.proofs.Common.{drop, get_or, refl, sym, ap, ◌∙◌, arith, append_assoc}
+use Rattle.std.proofs.Common.{◌≡◌, ℕ, zero, suc, ◌+◌, ◌-◌, ◌<◌, ◌≤◌, List, [], ◌∷◌, ◌++◌, length}
+use Rattle.std.proofs.Common.{take, drop, get_or, refl, sym, ap, ◌∙◌, arith, append_assoc}
 use Rattle.std.proofs.Math.Seq.{drop-cons}
-use Rattle.std.proofs.{Common.{Bool, true, false, cond}, lemmas.List.length-append, lemmas.List.Elements.{All-head, All-tail}}
+use Rattle.std.proofs.{Common.{Bool, true, false, cond}, lemmas.List.{length-append, length-take, take_all}}
+use Rattle.std.proofs.lemmas.List.Elements.{All-head, All-tail}
 use Rattle.std.specs.Prelude.{All}
-use Rattle.frame_ports.specs.Addresses.{clients_of, paired_with, targets_of}
+use Rattle.frame_ports.specs.Addresses.{paired_with, targets_of}
 use Rattle.frame_ports.specs.Lands.{has_room, landed_at, lands}
 use Rattle.frame_ports.specs.{Limits.box_frames, Numbers.{number_of, landing, after_landing}, Ports.PortsState}
-use Rattle.frame_ports.specs.declared.landing.Landing.TheVariants.{In, Dropped, Old}
+use Rattle.frame_ports.specs.declared.landing.Landing.TheVariants.{In, Dropped}
 use Rattle.frame_ports.proofs.NumberLaws.{landing-new, landing-old, new_from, old_from}
 use Rattle.output_gate.specs.{Epochs.frames_of, Landings.{clients_for, landed_for, ports_after, AreBelow, AreOld}}
 use Rattle.output_gate.proofs.LandedLaws.{AreRising, ports_after-old, same_after, new_here, new_later}
 use Rattle.output_gate.proofs.LandedLaws.{rising, new, boxes-frame, count-frame, below-frame}
 use Rattle.output_gate.proofs.PortsAfterLaws.{after_frame, ports_after-append}
-use Rattle.pair_history.specs.{Entries.{Frame, Entry, Land, DropOut}, Landings.landings}
-use Rattle.pair_record.specs.{internal.Brought.{entries_of_landing, entries_for, entries_after}, Kept.{all_frames, Brings}}
+use Rattle.pair_history.specs.{Entries.{Frame, Land, DropOut}, Landings.landings}
+use Rattle.pair_record.specs.{Kept.{all_frames, Brings, entries_of_landing, entries_for, entries_after}}
+use Rattle.pair_record.specs.{FailureActs.first_uncommitted, Kept.{brought, brought_entries, ports_after_brought}}
 use Rattle.pair_record.specs.{Record.{AreNumbered, first_held, owed_to, ports_after_live}, Tables.Record, Window.committed_of}
-use Rattle.pair_record.specs.{internal.Lengths.receivers, Limits.last_frame}
-use Rattle.pair_record.proofs.{LengthLaws.length-receivers, LiveLaws.length-landings}
 use Rattle.pair_record.proofs.NumberLaws.{each_below, first_positive, in_two, landed_ports}
 
 landings-append : (b : List (List Frame)) (ps qs : List (ℕ × Frame)) → landings b (ps ++ qs) ≡ landings b ps ++ landings (lands b ps) qs
@@ -101,38 +101,51 @@ list_more fss i fs within is =
     let e : suc i ≡ i + 1 = omega arith in
     ap all_frames (drop-cons fss i fs within ∙ (λ k. sym is k ∷ drop (e k) fss))
 
+-- the frames of a list that have a number below `end`, and then those of others
+take-parts : (n : ℕ) (fs gs : List Frame) → take n (fs ++ gs) ≡ take n fs ++ take (n - length fs) gs
+take-parts zero [] gs = let same : 0 ≡ 0 - 0 = omega arith in ap (λ m. take m gs) same
+take-parts (suc n) [] gs = let same : suc n ≡ suc n - 0 = omega arith in ap (λ m. take m gs) same
+take-parts zero (f ∷ fs) gs = let none : 0 ≡ 0 - length (f ∷ fs) = omega arith in ap (λ m. take m gs) none
+take-parts (suc n) (f ∷ fs) gs =
+    let same : n - length fs ≡ suc n - length (f ∷ fs) = omega arith in
+    ap (λ (hs : List Frame). f ∷ hs) (take-parts n fs gs) ∙ ap (λ m. f ∷ (take n fs ++ take m gs)) same
+
+pub cut-parts : (end number : ℕ) (fs gs : List Frame)
+    → take (end - number) (fs ++ gs)
+    ≡ take (end - number) fs ++ take (end - (number + length (take (end - number) fs))) gs
+cut-parts end number fs gs =
+    let long = length-take (end - number) fs in
+    let rest : (end - number) - length fs ≡ end - (number + length (take (end - number) fs)) = omega arith in
+    take-parts (end - number) fs gs ∙ ap (λ n. take (end - number) fs ++ take n gs) rest
+
 -- WHAT A BACKUP BRINGS
 
 module _ (r : Record) (p : PortsState) (h : AreNumbered r p) (first : ℕ) (lists : List (List Frame)) (b : Brings r p first lists) where
   abbrev owed : List Frame
   owed = frames_of (committed_of r.window r.pending)
 
+  -- all of it was committed
+  brought_all : brought r first lists ≡ b.older ++ owed
+  brought_all =
+      let all = ap (λ (fs : List Frame). length fs) b.all ∙ length-append b.older owed in
+      let a = b.number in
+      let c = in_two r in
+      let d = h.held in
+      take_all (first_uncommitted r - first) (all_frames lists) (omega arith) ∙ b.all
+
   -- what lands, and where
-  pub brought_ports : ports_after p first (all_frames lists) ≡ ports_after_live p r
+  pub brought_ports : ports_after_brought p r first lists ≡ ports_after_live p r
   brought_ports =
-      ap (ports_after p first) b.all
+      ap (ports_after p first) brought_all
       ∙ ports_after-append p first b.older owed
       ∙ ap (λ n. ports_after (ports_after p first b.older) n owed) b.number
       ∙ ap (λ (q : PortsState). ports_after q (first_held r) owed) (ports_after-old p first b.older b.came)
       ∙ landed_ports r p h owed
 
-  pub brought_entries : entries_after p first (all_frames lists) ≡ landings p.boxes (owed_to r p)
-  brought_entries =
-      ap (entries_after p first) b.all
+  pub brought_landings : brought_entries r p first lists ≡ landings p.boxes (owed_to r p)
+  brought_landings =
+      ap (entries_after p first) brought_all
       ∙ entries-append p first (first_held r) b.older owed (sym b.number)
       ∙ ap (λ es. es ++ entries_after (ports_after p first b.older) (first_held r) owed) (entries-old p first b.older b.came)
       ∙ ap (λ (q : PortsState). entries_after q (first_held r) owed) (ports_after-old p first b.older b.came)
       ∙ entries-new p (first_held r) owed (each_below p (first_held r) (first_positive r p h) h.new)
-
-  pub brought_count : length (entries_after p first (all_frames lists)) ≡ length (receivers (length p.boxes) owed)
-  brought_count =
-      ap (λ (es : List Entry). length es) brought_entries ∙ length-landings p.boxes (owed_to r p) ∙ sym (length-receivers (length p.boxes) owed)
-
-  pub brought_numbers : first + length (all_frames lists) ≤ last_frame + 512
-  brought_numbers =
-      let all = ap (λ (fs : List Frame). length fs) b.all ∙ length-append b.older owed in
-      let a = b.number in
-      let c = in_two r in
-      let d = h.held in
-      let e = h.left in
-      omega arith

@@ -11,6 +11,7 @@ pub mod EpochLaws
 pub mod AccordLaws
 pub mod NumberLaws
 pub mod BroughtLaws
+pub mod NewFrameLaws
 pub mod EpochAccords
 pub mod ClientAccords
 pub mod LoneAccords

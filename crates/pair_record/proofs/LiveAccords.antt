@@ -1,5 +1,5 @@
 -- Where the backup goes live: what was kept is discarded, what the clients are owed lands, and the guest is the history's.
-use Rattle.std.proofs.Common.{rules, ◌≡◌, ℕ, List, [], ◌∷◌, ◌++◌, length, refl, sym, ap, ◌∙◌, subst, arith}
+use Rattle.std.proofs.Common.{◌≡◌, ℕ, List, [], ◌++◌, length, refl, sym, ap, ◌∙◌, subst}
 use Rattle.frame_ports.specs.{Addresses.targets_of, Lands.lands, Ports.PortsState}
 use Rattle.output_gate.specs.Epochs.{Epoch, frames_of}
 use Rattle.pair_history.specs.{Entries.{Frame, Entry}, Failures.go_live_entries}

@@ -1,24 +1,23 @@
 -- What going live adds to the history, as the loops over it want it; and what is true of the record after it.
-use Rattle.std.proofs.Common.{rules, ◌≡◌, ℕ, zero, suc, ◌+◌, ◌-◌, ◌<◌, ◌≤◌, List, [], ◌∷◌, ◌++◌, length, drop, replicate, get_or, refl, sym}
-use Rattle.std.proofs.{Common.{ap, ◌∙◌, arith, append_assoc, Bool, true, false, cond, Option, Some, None}, Math.Seq.drop-cons}
-use Rattle.std.proofs.lemmas.List.{append-nil, length-append, length-map, length-replicate, length-take-le, nil_from_length}
+use Rattle.std.proofs.Common.{rules, ◌≡◌, ℕ, zero, suc, ◌+◌, ◌-◌, ◌<◌, ◌≤◌, List, [], ◌∷◌, ◌++◌, length, refl, sym}
+use Rattle.std.proofs.{Common.{ap, ◌∙◌, arith, append_assoc, Bool, true, cond, Some, None}}
+use Rattle.std.proofs.lemmas.List.{append-nil, length-append, length-map, length-take-le, nil_from_length}
 use Rattle.std.proofs.lemmas.List.Sorted.{length_permutation}
 use Rattle.std.specs.{Prelude.{map, nat_le}, List.Sorted.{IsPermutation, IsNonDecreasing}}
-use Rattle.frame_ports.specs.{Addresses.targets_of, Lands.landed_at}
+use Rattle.frame_ports.specs.{Lands.landed_at}
 use Rattle.frame_ports.specs.Limits.{number_limit}
 use Rattle.output_gate.specs.Epochs.{Epoch, frames_of, frames_to}
 use Rattle.pair_history.specs.Entries.{Frame, Entry, Arrive, DropIn}
 use Rattle.pair_history.specs.{Failures.{arrived_numbers, rising, drops_of_taken_in}, Landings.landings}
 use Rattle.pair_history.proofs.{SortedLaws.rising-sorted, TakenInLaws.IsPermutation-rising}
 use Rattle.pair_record.specs.{declared.epochs.Arrival.Arrival, declared.epochs.RunningEpoch.RunningEpoch}
-use Rattle.pair_record.specs.{declared.event.Refusal.Refusal, declared.event.Refusal.TheVariants.Exhausted}
+use Rattle.pair_record.specs.{declared.event.Refusal.TheVariants.Exhausted}
 use Rattle.pair_record.specs.{declared.journal.Journal.TheInside.Inside, declared.window.Window.Window}
 use Rattle.pair_record.specs.{Journal.{Journal, joined, kept_entries, with_history}, internal.JournalFields.{epoch_of, stored, AreFields}}
-use Rattle.pair_record.specs.internal.Lengths.{receivers}
-use Rattle.pair_record.specs.{Protocol.{Record, first_refusal, live_entries, go_live_refusals, go_live_done}}
-use Rattle.pair_record.specs.{Record.{RecordState, owed_to, IsRecord}, Window.{IsWindow, first_after, committed_count, committed_of}}
+use Rattle.pair_record.specs.{FailureActs.{entries_with, live_refusals, live_done}, Protocol.{Record, first_refusal}}
+use Rattle.pair_record.specs.{Record.{IsRecord}, Window.{IsWindow, first_after, committed_count, committed_of}}
 use Rattle.pair_record.specs.internal.Arrivals.{steps_of, arrivals_of, epoch_entries, numbers_of, numbers_in}
-use Rattle.pair_record.proofs.{LengthLaws.length-receivers, RecordLaws.passed}
+use Rattle.pair_record.proofs.{RecordLaws.passed}
 use Rattle.pair_record.proofs.WindowLaws.{within, leaves, gone, is_below, test_from, test_below}
 
 -- The numbers of the frames that arrived
@@ -71,15 +70,11 @@ length-drops j =
     let ns = arrived_numbers (kept_entries j) in
     length-map (rising ns) DropIn ∙ length_permutation ns (rising ns) (IsPermutation-rising ns)
 
-pub length-live : (boxes : List (List Frame)) (fs : List Frame) (j : Journal)
-    → length (live_entries boxes (targets_of (length boxes) fs) j)
-    ≡ length (arrived_numbers (kept_entries j)) + length (receivers (length boxes) fs)
-length-live boxes fs j =
-    let ps = targets_of (length boxes) fs in
-    let a = length-append (drops_of_taken_in (kept_entries j)) (landings boxes ps) in
+pub length-live : (landed : List Entry) (j : Journal)
+    → length (entries_with landed j) ≡ length (arrived_numbers (kept_entries j)) + length landed
+length-live landed j =
+    let a = length-append (drops_of_taken_in (kept_entries j)) landed in
     let b = length-drops j in
-    let c = length-landings boxes ps in
-    let d = length-receivers (length boxes) fs in
     omega arith
 
 -- What the gate holds of committed checkpoints
@@ -102,46 +97,45 @@ none_committed w pending l = search (arith, rules)
 
 -- The record
 
--- how many entries the history would have
-abbrev pub live_count : RecordState → List Frame → ℕ
-live_count s fs =
-    let taken_in = length (arrived_numbers (kept_entries s.protocol.journal)) in
-    length s.protocol.journal.history + (taken_in + length (receivers (length s.ports.boxes) fs))
-
-abbrev pub live_table : RecordState → Option Refusal
-live_table s = first_refusal (go_live_refusals s.ports.boxes (owed_to s.protocol s.ports) s.protocol)
+-- how many entries the history would have, where so many say what lands
+abbrev pub live_count : Record → ℕ → ℕ
+live_count r landed = length r.journal.history + (length (arrived_numbers (kept_entries r.journal)) + landed)
 
 -- the table of refusals, where there is a next generation
-module _ (s : RecordState) (fs : List Frame) (count : ℕ) (held : fs ≡ frames_of (committed_of s.protocol.window s.protocol.pending))
-    (is : count ≡ live_count s fs) (next : s.protocol.generation + 1 < number_limit) where
-  live_row : live_table s ≡ cond (nat_le number_limit count) (Some Exhausted) None
+module _ (r : Record) (landed : List Entry) (next : r.generation + 1 < number_limit) where
+  live_row : first_refusal (live_refusals landed r) ≡ cond (nat_le number_limit (live_count r (length landed))) (Some Exhausted) None
   live_row = search (arith, rules, length-live, test_below)
 
-  pub live_refused : number_limit ≤ count → Some Exhausted ≡ live_table s
-  live_refused h = sym (live_row ∙ ap (λ (t : Bool). cond t (Some Exhausted) None) (test_from number_limit count h))
+  -- by a count that stops at the limit
+  module _ (count : ℕ) (most : count ≤ length landed) (exact : count < number_limit → count ≡ length landed) where
+    pub live_refused : number_limit ≤ live_count r count → Some Exhausted ≡ first_refusal (live_refusals landed r)
+    live_refused h =
+        sym (live_row
+        ∙ ap (λ (t : Bool). cond t (Some Exhausted) None) (test_from number_limit (live_count r (length landed)) (omega arith)))
 
-  pub live_allowed : count < number_limit → None ≡ live_table s
-  live_allowed h = sym (live_row ∙ ap (λ (t : Bool). cond t (Some Exhausted) None) (test_below number_limit count h))
+    pub live_allowed : live_count r count < number_limit → None ≡ first_refusal (live_refusals landed r)
+    live_allowed h =
+        let same = exact (omega arith) in
+        sym (live_row
+        ∙ ap (λ (t : Bool). cond t (Some Exhausted) None) (test_below number_limit (live_count r (length landed)) (omega arith)))
 
 -- and where it refuses nothing, the history has numbers for all that is added
-pub live_fits : (s : RecordState) → live_table s ≡ None → live_count s (frames_of (committed_of s.protocol.window s.protocol.pending)) < number_limit
-live_fits s free =
-    let boxes = s.ports.boxes in
-    let fs = frames_of (committed_of s.protocol.window s.protocol.pending) in
-    let j = s.protocol.journal in
-    let many = length j.history + length (live_entries boxes (targets_of (length boxes) fs) j) in
-    let row = passed (nat_le number_limit (s.protocol.generation + 1)) Exhausted (cond (nat_le number_limit many) (Some Exhausted) None) free in
+pub live_fits : (r : Record) (landed : List Entry) → first_refusal (live_refusals landed r) ≡ None
+    → live_count r (length landed) < number_limit
+live_fits r landed free =
+    let j = r.journal in
+    let many = length j.history + length (entries_with landed j) in
+    let row = passed (nat_le number_limit (r.generation + 1)) Exhausted (cond (nat_le number_limit many) (Some Exhausted) None) free in
     let fits = is_below number_limit many (passed (nat_le number_limit many) Exhausted None row.1).0 in
-    let all = length-live boxes fs j in
+    let all = length-live landed j in
     omega arith
 
 -- the history goes on by these entries, and then by those
 pub goes_on_twice : (j : Journal) (es fs : List Entry) → with_history (with_history j es) fs ≡ with_history j (es ++ fs)
 goes_on_twice j es fs = λ i. record j { history = append_assoc j.history es fs i }
 
-pub live_record : (r : Record) → IsRecord r → (boxes : List (List Frame)) (out : List (ℕ × Frame)) (steps : ℕ)
-    → IsRecord (go_live_done boxes out steps r).1
-live_record r h boxes out steps = search (arith, rules)
+pub live_record : (r : Record) → IsRecord r → (landed : List Entry) (steps : ℕ) → IsRecord (live_done landed steps r).1
+live_record r h landed steps = search (arith, rules)
 
 -- The journal
 

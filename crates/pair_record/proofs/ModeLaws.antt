@@ -1,7 +1,7 @@
 -- What follows from a mode that doesn't refuse an event.
 use Rattle.std.proofs.Common.{◌≡◌, refl, Bool, true, false, None}
 use Rattle.failover.specs.{declared.mode.Mode.Mode, declared.mode.Mode.TheVariants.{Filling, Alone, Stopped}}
-use Rattle.failover.specs.declared.change.Change.TheVariants.{FailPrimary, GoLive, Protect}
+use Rattle.failover.specs.declared.change.Change.TheVariants.{FailPrimary, FailBackup, GoLive, Protect}
 use Rattle.pair_record.specs.Modes.{is_stopped, is_alone, is_filling, filled, primary_refusal, backup_refusal, change_refusal}
 
 pub clash : (t : Bool) → t ≡ true → t ≡ false → ⊥
@@ -18,6 +18,10 @@ backup_goes other e = refl
 pub stop_goes : (mode : Mode) → change_refusal FailPrimary mode ≡ None → is_alone mode ≡ false
 stop_goes Alone e = absurd (cc)
 stop_goes other e = refl
+
+pub failure_goes : (mode : Mode) → change_refusal FailBackup mode ≡ None → is_alone mode ≡ false
+failure_goes Alone e = absurd (cc)
+failure_goes other e = refl
 
 pub live_goes : (mode : Mode) → change_refusal GoLive mode ≡ None → is_alone mode ≡ false
 live_goes Alone e = absurd (cc)

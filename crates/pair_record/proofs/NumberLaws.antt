@@ -1,12 +1,11 @@
 -- The numbers of frames: no frame that the gate holds, or will hold, has come for a client yet, whatever happens.
-use Rattle.std.proofs.Common.{rules, ◌≡◌, ℕ, zero, suc, ◌+◌, ◌-◌, ◌<◌, ◌≤◌, List, [], ◌∷◌}
-use Rattle.std.proofs.Common.{◌++◌, length, drop, replicate, get_or, set, refl, sym, ap, ◌∙◌}
+use Rattle.std.proofs.Common.{◌≡◌, ℕ, zero, suc, ◌+◌, ◌-◌, ◌<◌, ◌≤◌, List, [], ◌∷◌}
+use Rattle.std.proofs.Common.{◌++◌, length, take, replicate, get_or, set, refl, sym, ap, ◌∙◌, inl, inr}
 use Rattle.std.proofs.{Common.{arith, Bool, true, false, cond, Option, None, Some, subst}, lemmas.Bool.Decides.nat_tests}
-use Rattle.std.proofs.lemmas.{Bool.{ltb-true, ltb-false}, List.{length-append, take-append-drop}, List.Elements.All-set}
+use Rattle.std.proofs.lemmas.{Bool.{ltb-true, ltb-false, cases_lt}, List.{length-append, length-take, take-append-drop}}
+use Rattle.std.proofs.lemmas.List.Elements.{All-set}
 use Rattle.std.specs.Prelude.{All, nat_le, nat_lt, slice_index_or}
-use Rattle.failover.specs.declared.mode.Mode.{Mode}
-use Rattle.failover.specs.declared.mode.Mode.TheVariants.{Filling}
-use Rattle.frame_ports.specs.{Lands.{lands, landed_at, put_count}, Numbers.{number_of, is_new, after_landing, marked}, Ports.PortsState}
+use Rattle.frame_ports.specs.{Lands.{landed_at, put_count}, Numbers.{is_new, after_landing, marked}, Ports.PortsState}
 use Rattle.frame_ports.specs.{Addresses.targets_of, Limits.number_limit}
 use Rattle.output_gate.specs.Epochs.{Epoch, epoch as epoch_of, frames_of, frames_to, after_number}
 use Rattle.output_gate.specs.Landings.{clients_for, landed_for, ports_after, landed_count, AreBelow}
@@ -14,11 +13,11 @@ use Rattle.output_gate.specs.Gate.{GateState, first_held as gate_first}
 use Rattle.output_gate.proofs.{LandedLaws.{boxes-after, landed_count-new}, PortsAfterLaws.rest_same-after}
 use Rattle.pair_history.specs.Entries.{Frame, Entry}
 use Rattle.pair_record.specs.{declared.event.Refusal.Refusal, declared.event.Refusal.TheVariants.{Behind, Exhausted}}
-use Rattle.pair_record.specs.{Journal.Journal, Limits.{last_frame, most_pending}, Modes.is_alone}
+use Rattle.pair_record.specs.{Journal.Journal, Limits.{last_frame, most_pending}}
 use Rattle.pair_record.specs.Window.{committed_of, uncommitted_of, committed_count}
-use Rattle.pair_record.specs.{FailureActs.first_uncommitted, Protocol.{Record, first_refusal, cut_refusals, frames_run_out}}
-use Rattle.pair_record.specs.Protocol.{all_held, seal_done, commit_done, ack_done, failure_done, go_live_done, begin_done, protect_done}
-use Rattle.pair_record.specs.Record.{AreNumbered, first_held, ports_landed, ports_after_ack, ports_after_all, ports_after_live}
+use Rattle.pair_record.specs.{FailureActs.{first_uncommitted, live_done}, Protocol.{Record, first_refusal, cut_refusals, frames_run_out}}
+use Rattle.pair_record.specs.Protocol.{all_held, seal_done, commit_done, ack_done, failure_done, begin_done, full_done, protect_done}
+use Rattle.pair_record.specs.Record.{AreNumbered, first_held, ports_landed, ports_after_ack, ports_after_all}
 use Rattle.pair_record.proofs.{AccordLaws.{frames_of-append, first_lone}, AloneLaws.frames_of-push}
 use Rattle.pair_record.proofs.{ModeLaws.filled_alone, RecordLaws.passed}
 
@@ -49,6 +48,16 @@ after_below [] first end p l h = h
 after_below (f ∷ fs) first end p l h =
     after_below fs (first + 1) end (landed_for p (clients_for p f) first f) (omega arith)
     (for_below first end f (omega arith) (clients_for p f) p h)
+
+-- the frames below a number, wherever they begin
+cut_below : (fs : List Frame) (first end : ℕ) (p : PortsState) → Below end p.numbers
+    → Below end (ports_after p first (take (end - first) fs)).numbers
+cut_below fs first end p h = elim (cases_lt first end) [
+  | inl low ↦ let some = length-take (end - first) fs in after_below (take (end - first) fs) first end p (omega arith) h
+  | inr high ↦
+      let none : end - first ≡ 0 = omega arith in
+      subst (λ n. Below end (ports_after p first (take n fs)).numbers) (sym none) h
+]
 
 none_below : (n count : ℕ) → 0 < n → Below n (replicate count 0)
 none_below n (suc count) l zero d i = l
@@ -163,7 +172,7 @@ module _ (r : Record) (p : PortsState) (h : AreNumbered r p) where
           held = omega arith;
           new = more_below (first_held r) _ p.numbers (omega arith) h.new;
           left = omega arith;
-          left_in_pair = λ t. omega arith;
+          left_in_pair = λ t some. omega arith;
         }
 
     pub sealed_numbers : length fs ≤ 256 → first_refusal (cut_refusals r) ≡ None → AreNumbered (seal_done epoch rest fs r).1 p
@@ -176,7 +185,7 @@ module _ (r : Record) (p : PortsState) (h : AreNumbered r p) where
     held = h.held;
     new = h.new;
     left = h.left;
-    left_in_pair = λ t. h.left_in_pair (sym (filled_alone r.mode) ∙ t);
+    left_in_pair = λ t some. h.left_in_pair (sym (filled_alone r.mode) ∙ t) some;
   }
 
   pub ack_numbers : (n : ℕ) → AreNumbered (ack_done p.boxes r n).1 (ports_after_ack p r n)
@@ -192,18 +201,17 @@ module _ (r : Record) (p : PortsState) (h : AreNumbered r p) where
       }
 
   -- all that the gate holds lands, and then these
-  pub failure_numbers : (epoch rest : List Entry) (fs : List Frame) → length fs ≤ 256 → is_alone r.mode ≡ false
+  pub failure_numbers : (epoch rest : List Entry) (fs : List Frame) → r.next_frame + length fs ≤ last_frame + 512
       → AreNumbered (failure_done epoch rest p.boxes fs r).1 (ports_after_all p fs r)
-  failure_numbers epoch rest fs few two =
+  failure_numbers epoch rest fs few =
       let a = length-append (frames_of r.pending) fs in
       let b = h.held in
-      let c = h.left_in_pair two in
       let end = r.next_frame + length fs - 0 in
       record {
         held = omega arith;
         new = after_below (frames_of r.pending ++ fs) (first_held r) end p (omega arith) (more_below (first_held r) end p.numbers (omega arith) h.new);
         left = omega arith;
-        left_in_pair = λ t. absurd (cc);
+        left_in_pair = λ t some. absurd (cc);
       }
 
   -- where nothing is pending these land
@@ -218,36 +226,52 @@ module _ (r : Record) (p : PortsState) (h : AreNumbered r p) where
         held = omega arith;
         new = after_below fs r.next_frame end p (omega arith) (more_below (first_held r) end p.numbers (omega arith) h.new);
         left = omega arith;
-        left_in_pair = λ t. omega arith;
+        left_in_pair = λ t some. omega arith;
       }
 
-  -- what the gate holds of committed checkpoints lands, and what it holds of others is given up
-  pub live_numbers : (boxes : List (List Frame)) (out : List (ℕ × Frame)) (steps : ℕ)
-      → AreNumbered (go_live_done boxes out steps r).1 (ports_after_live p r)
-  live_numbers boxes out steps =
-      let owed = frames_of (committed_of r.window r.pending) in
+  -- what a backup brings lands, as far as it was committed, and what the gate holds of other checkpoints is given up
+  pub live_numbers : (landed : List Entry) (steps first : ℕ) (fs : List Frame)
+      → AreNumbered (live_done landed steps r).1 (ports_after p first (take (first_uncommitted r - first) fs))
+  live_numbers landed steps first fs =
       let a = in_two r in
       let b = h.held in
       let c = h.left in
-      let end = first_uncommitted r - 0 in
+      let end = first_uncommitted r in
       record {
         held = omega arith;
-        new = after_below owed (first_held r) end p (omega arith) (more_below (first_held r) end p.numbers (omega arith) h.new);
+        new =
+            more_below end (end - 0) _ (omega arith)
+            (cut_below fs first end p (more_below (first_held r) end p.numbers (omega arith) h.new));
         left = omega arith;
-        left_in_pair = λ t. absurd (cc);
+        left_in_pair = λ t some. absurd (cc);
       }
 
-  pub begin_numbers : AreNumbered (begin_done r).1 (marked p)
-  begin_numbers = record {
-    held = omega arith;
-    new = none_below 1 (length p.boxes) (omega arith);
-    left = omega arith;
-    left_in_pair = λ t. omega arith;
-  }
+  -- a new backup's full checkpoint has still to be sealed
+  pub begin_numbers : r.pending ≡ [] → AreNumbered (begin_done r).1 p
+  begin_numbers none =
+      let a : length (frames_of r.pending) ≡ 0 = ap (λ (es : List Epoch). length (frames_of es)) none in
+      let b = h.held in
+      record {
+        held = omega arith;
+        new = more_below (first_held r) _ p.numbers (omega arith) h.new;
+        left = h.left;
+        left_in_pair = λ t some. absurd (omega arith);
+      }
 
--- and its full checkpoint, which no frame waits for, is sealed
-pub protect_numbers : (r : Record) (p : PortsState) → AreNumbered r p → AreNumbered (protect_done r).1 (marked p)
-protect_numbers r p h = seal_numbers (begin_done r).1 (marked p) (begin_numbers r p h) [] r.journal.running [] (omega arith)
+-- which no frame waits for, and then it is sealed, and frames are numbered anew
+pub full_numbers : (r : Record) (p : PortsState) → r.pending ≡ [] → AreNumbered (full_done r).1 (marked p)
+full_numbers r p none =
+    let e : Epoch = record { number = r.window.to_cut; frames = [] } in
+    let a : length (frames_of (r.pending ++ e ∷ [])) ≡ 0 = ap (λ (es : List Epoch). length (frames_of (es ++ e ∷ []))) none in
+    record {
+      held = omega arith;
+      new = more_below 1 _ _ (omega arith) (none_below 1 (length p.boxes) (omega arith));
+      left = omega arith;
+      left_in_pair = λ t some. omega arith;
+    }
+
+pub protect_numbers : (r : Record) (p : PortsState) → AreNumbered (protect_done r).1 (marked p)
+protect_numbers r p = full_numbers (begin_done r).1 p refl
 
 -- what is the same record with the same ports is numbered too
 pub same_numbers : (r q : Record) (p o : PortsState) → q ≡ r → o ≡ p → AreNumbered r p → AreNumbered q o

@@ -4,29 +4,31 @@ use Rattle.frame_ports.specs.{Addresses.targets_of, Numbers.marked, Ports.PortsS
 use Rattle.output_gate.specs.Epochs.{Epoch, frames_of}
 use Rattle.pair_history.specs.HistoryState.{HistoryState, at}
 use Rattle.std.proofs.lemmas.List.{append-nil}
-use Rattle.pair_record.specs.{internal.Accords.{frames_by_epoch, Accords}, Journal.{joined}, Record.IsLone}
+use Rattle.pair_record.specs.{internal.Accords.{frames_by_epoch, Accords}, Journal.{joined}, Limits.first_frame, Record.IsLone}
 use Rattle.pair_record.specs.Protocol.{Record, shown_at, live_at, begin_done, full_done, protect_done}
 use Rattle.pair_record.specs.Window.{committed_count}
-use Rattle.pair_record.proofs.{AccordLaws.{left_now, numbered_clients}, EpochAccords.{take-none, drop-none, seal_accords}}
+use Rattle.pair_record.proofs.{AccordLaws.{numbered_accords}, EpochAccords.{take-none, drop-none, seal_accords}}
 
 module _ (start : HistoryState) (r : Record) (p : PortsState) (h : Accords start r p) where
-  abbrev pub full_accords : committed_count r.window ≤ length r.pending → Accords start (full_done r).1 p
+  -- its frames are numbered anew
+  abbrev pub full_accords : committed_count r.window ≤ length r.pending → Accords start (full_done r).1 (marked p)
   full_accords enough =
-      seal_accords start r p h [] h.journal.running_moves [] r.journal.running refl h.journal.running_are h.journal.can refl [] refl enough
+      seal_accords start (record r { next_frame = first_frame }) (marked p) (numbered_accords start r p h first_frame (marked p).numbers)
+      [] h.journal.running_moves [] r.journal.running refl h.journal.running_are h.journal.can refl [] refl enough
 
   module _ (k : IsLone r) where
     -- where nothing runs either, nothing is kept
     pub lives : r.journal.running ≡ [] → live_at start r ≡ shown_at start r
     lives still = ap (at start) ((λ i. r.journal.history ++ (joined (k.0 i) ++ still i)) ∙ append-nil r.journal.history)
 
-    abbrev pub begin_accords : Accords start (begin_done r).1 (marked p)
+    abbrev pub begin_accords : Accords start (begin_done r).1 p
     begin_accords =
         let n = length p.boxes in
         let m = committed_count r.window in
         record {
           journal = h.journal;
           frames = sym (ap (λ (es : List Epoch). frames_by_epoch (drop m es)) k.1 ∙ ap frames_by_epoch (drop-none m)) ∙ h.frames;
-          clients = numbered_clients (shown_at start r) (left_now start r p h) p h.clients (marked p).numbers;
+          clients = h.clients;
           owed =
               h.owed ∙ (λ i. targets_of n (frames_of (take m (k.1 i))))
               ∙ ap (λ (es : List Epoch). targets_of n (frames_of es)) (take-none m);
@@ -34,4 +36,4 @@ module _ (start : HistoryState) (r : Record) (p : PortsState) (h : Accords start
 
 module _ (start : HistoryState) (r : Record) (p : PortsState) (h : Accords start r p) (k : IsLone r) where
   abbrev pub protect_accords : Accords start (protect_done r).1 (marked p)
-  protect_accords = full_accords start (begin_done r).1 (marked p) (begin_accords start r p h k) (omega arith)
+  protect_accords = full_accords start (begin_done r).1 p (begin_accords start r p h k) (omega arith)

@@ -7,7 +7,7 @@ use Rattle.pair_history.specs.Entries.{Frame, Entry}
 use Rattle.pair_record.specs.internal.Lengths.{receivers, landing_by, landings_by, lengths_at, lengths_after}
 use Rattle.frame_ports.specs.{Numbers.{landing, after_landing}, Ports.PortsState}
 use Rattle.output_gate.specs.Landings.{clients_for, landed_for, ports_after}
-use Rattle.pair_record.specs.internal.Brought.{entries_of_landing, entries_for, entries_after}
+use Rattle.pair_record.specs.Kept.{entries_of_landing, entries_for, entries_after}
 use Rattle.pair_record.proofs.LengthLaws.{landings_by-append}
 use Rattle.std.proofs.{lemmas.List.length-append, Math.Seq.drop-cons}
 

@@ -5,14 +5,14 @@ use Rattle.std.proofs.lemmas.List.{length-append}
 use Rattle.std.specs.Prelude.{◌==◌, not}
 use Rattle.failover.specs.{declared.mode.Mode.Mode, declared.mode.Mode.TheVariants.{Paired, Filling, Alone, Stopped}}
 use Rattle.frame_ports.specs.Limits.{number_limit}
-use Rattle.output_gate.specs.Epochs.{Epoch, frames_to, after_number}
+use Rattle.output_gate.specs.Epochs.{Epoch, after_number}
 use Rattle.pair_history.specs.Entries.{Frame, Entry}
 use Rattle.pair_record.specs.{declared.event.Packet.Packet, declared.event.Refusal.TheVariants.Exhausted, declared.window.Window.Window}
-use Rattle.pair_record.specs.{Journal.{all_entries, rest_of, with_history}, Protocol.landed_after, internal.Lengths.receivers}
-use Rattle.pair_record.specs.Protocol.{commit_done, ack_done, Record, first_refusal, cut_refusals, ack_refusals, exhausts, cut_done}
+use Rattle.pair_record.specs.{Journal.{all_entries, rest_of, with_history}, Protocol.landed_after}
+use Rattle.pair_record.specs.Protocol.{commit_done, ack_done, Record, first_refusal, cut_refusals, ack_refusals, let_go, exhausts, cut_done}
 use Rattle.pair_record.specs.{Record.{IsRecord, IsLone, SuitsMode}, Modes.{is_alone, is_filling, filled}}
 use Rattle.pair_record.specs.{Protocol.seal_done, Limits.most_pending, Window.{with_commit, with_acknowledged}}
-use Rattle.pair_record.proofs.{LengthLaws.length-receivers, ModeLaws.{clash, filled_alone}}
+use Rattle.pair_record.proofs.{ModeLaws.{clash, filled_alone}}
 use Rattle.pair_record.proofs.WindowLaws.{numbered_below, cut_window, commit_window, ack_window, is_below}
 
 -- Tables of refusals
@@ -25,11 +25,10 @@ passed false x o e = (refl, e)
 pub has_room_for : (r : Record) (more : ℕ) → exhausts r more ≡ false → length (all_entries r.journal) + more < number_limit
 has_room_for r more e = is_below number_limit (length (all_entries r.journal) + more) e
 
--- an acknowledgement of this generation, for whose landings so many entries come
-pub ack_row : (boxes : List (List Frame)) (r : Record) (p : Packet) (count : ℕ) (fs : List Frame)
-    → count ≡ length (receivers (length boxes) fs) → fs ≡ frames_to p.number r.pending → p.generation ≡ r.generation
-    → first_refusal (ack_refusals boxes r p) ≡ cond (exhausts r count) (Some Exhausted) None
-ack_row boxes r p count fs is held same = search (arith, rules, eq-eqb, length-receivers)
+-- an acknowledgement of this generation
+pub ack_row : (boxes : List (List Frame)) (r : Record) (p : Packet) → p.generation ≡ r.generation
+    → first_refusal (ack_refusals boxes r p) ≡ cond (exhausts r (length (let_go boxes r p.number))) (Some Exhausted) None
+ack_row boxes r p same = search (arith, rules, eq-eqb)
 
 -- The window that suits a mode: after a cut or an acknowledgement, after a commit, and once the primary stops
 

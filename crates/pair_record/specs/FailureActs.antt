@@ -62,32 +62,42 @@ on_fail_backup s r = unless r (fail_backup_refusals s.boxes s.outbox r) (fail_ba
 
 -- GOLIVE: the backup goes on from its image, in the next generation; what was kept is discarded, and what the clients are owed lands
 
--- what that adds to the history, where these are the boxes, and these frames are on their way to their clients
+-- what that adds to the history, whatever lands: the frames that were taken in are dropped, and then come these entries
+abbrev pub entries_with : List Entry → Journal → List Entry
+entries_with landed j = drops_of_taken_in (kept_entries j) ++ landed
+
+-- where these are the boxes, and these frames are on their way to their clients
 abbrev pub live_entries : List (List Frame) → List (ℕ × Frame) → Journal → List Entry
-live_entries boxes out j = drops_of_taken_in (kept_entries j) ++ landings boxes out
+live_entries boxes out j = entries_with (landings boxes out) j
+
+abbrev pub live_refusals : List Entry → Record → List Row
+live_refusals landed r =
+    (nat_le number_limit (r.generation + 1), Exhausted)
+    ∷ (nat_le number_limit (length r.journal.history + length (entries_with landed r.journal)), Exhausted)
+    ∷ []
 
 abbrev pub go_live_refusals : List (List Frame) → List (ℕ × Frame) → Record → List Row
-go_live_refusals boxes out r =
-    (nat_le number_limit (r.generation + 1), Exhausted)
-    ∷ (nat_le number_limit (length r.journal.history + length (live_entries boxes out r.journal)), Exhausted)
-    ∷ []
+go_live_refusals boxes out r = live_refusals (landings boxes out) r
 
 -- the number behind those of the committed frames: what was sent after them is rolled back, and its numbers are given anew
 abbrev pub first_uncommitted : Record → ℕ
 first_uncommitted r = r.next_frame - length (frames_of (uncommitted_of r.window r.pending))
 
-abbrev pub go_live_done : List (List Frame) → List (ℕ × Frame) → ℕ → Record → Outcome
-go_live_done boxes out steps r = (
+abbrev pub live_done : List Entry → ℕ → Record → Outcome
+live_done landed steps r = (
   replies.Live (r.generation + 1) steps,
   record r {
     mode = modes.Alone;
     generation = r.generation + 1;
-    journal = with_history (discarded r.journal) (live_entries boxes out r.journal);
+    journal = with_history (discarded r.journal) (entries_with landed r.journal);
     window = none_pending r.window.to_commit;
     pending = [];
     next_frame = first_uncommitted r;
   },
 )
+
+abbrev pub go_live_done : List (List Frame) → List (ℕ × Frame) → ℕ → Record → Outcome
+go_live_done boxes out steps r = live_done (landings boxes out) steps r
 
 abbrev pub on_go_live : Sight → Record → Outcome
 on_go_live s r = unless r (go_live_refusals s.boxes s.owed r) (go_live_done s.boxes s.owed s.resumed r)
@@ -97,7 +107,7 @@ on_go_live s r = unless r (go_live_refusals s.boxes s.owed r) (go_live_done s.bo
 abbrev pub protect_refusals : Record → List Row
 protect_refusals r = (nat_le number_limit (r.generation + 1), Exhausted) ∷ []
 
--- nothing is pending, its full checkpoint is the next one, and the guest's frames are numbered anew
+-- Nothing is pending, and its full checkpoint is the next one. Until that is sealed the guest's frames are numbered on, and land.
 abbrev pub begin_done : Record → Outcome
 begin_done r = (
   replies.Protecting (r.generation + 1),
@@ -106,13 +116,13 @@ begin_done r = (
     generation = r.generation + 1;
     window = none_pending full_checkpoint;
     pending = [];
-    next_frame = first_frame;
   },
 )
 
--- its full checkpoint, which no frame waits for, is pending: from now on what the guest does and sends is kept
+-- Its full checkpoint, which no frame waits for, is pending: from now on what the guest does and sends is kept, and its frames are numbered
+-- anew.
 abbrev pub full_done : Record → Outcome
-full_done r = seal_done [] r.journal.running [] r
+full_done r = seal_done [] r.journal.running [] (record r { next_frame = first_frame })
 
 -- the one and then the other
 abbrev pub protect_done : Record → Outcome

@@ -15,11 +15,12 @@ use Rattle.failover.specs.declared.mode.Mode.{Mode}
 use Rattle.failover.specs.declared.mode.Mode.TheVariants.{Paired, Filling, Alone, Stopped}
 use Rattle.pair_record.specs.declared.window.Window.{Window}
 
--- The record, the clients' ports, and how many more stored entries its history takes without memory.
+-- The record, the clients' ports, and how many more stored entries its history takes without memory, and arrivals the epoch that runs.
 pub record RecordState : Type 0 where
   pub protocol : Record
   pub ports : PortsState
   pub room : ℕ
+  pub arrival_room : ℕ
 
 -- all is as it was, but for the room
 abbrev pub IsAsBefore : RecordState → RecordState → Type 0
@@ -97,9 +98,9 @@ pub record IsRecord (r : Record) : Type 0 where
   pub suits : SuitsMode r.mode r.window
 
 -- The numbers of frames: the first that the gate holds has at least number 1, and no frame with its number or a later one has come for a
--- client; and numbers are left for the frames of one epoch more, and while a backup may fail, of two.
+-- client; and numbers are left for the frames of one epoch more, and where a backup has been sealed a checkpoint and may fail, of two.
 pub record AreNumbered (r : Record) (p : PortsState) : Type 0 where
   pub held : length (frames_of r.pending) < r.next_frame
   pub new : All (λ n. n < first_held r) p.numbers
   pub left : r.next_frame ≤ last_frame + 512
-  pub left_in_pair : is_alone r.mode ≡ false → r.next_frame ≤ last_frame + 256
+  pub left_in_pair : is_alone r.mode ≡ false → 1 ≤ r.window.to_cut → r.next_frame ≤ last_frame + 256

@@ -1,5 +1,6 @@
 //! The journal: the history, the sealed epochs that no commit has covered yet, and the one that runs.
-ghost use Rattle.std.specs.Prelude.{◌≡◌, ◌+◌, ◌-◌, ◌*◌, ◌^◌, ◌≤◌, ◌<◌, ◌++◌, ◌∷◌, [], All, length, map, replicate, OnOk, OnErr, IfOk, ◌⊎◌};
+ghost use Rattle.std.specs.Prelude.{◌≡◌, ◌+◌, ◌-◌, ◌*◌, ◌^◌, ◌≤◌, ◌<◌, ◌++◌, ◌∷◌, [], All, length, map, take};
+ghost use Rattle.std.specs.Prelude.{replicate, OnOk, OnErr, IfOk, ◌⊎◌};
 ghost use Rattle.frame_ports.specs.Addresses.{IsFrame, targets_of};
 ghost use Rattle.frame_ports.specs.Limits.{number_limit};
 ghost use Rattle.pair_history.specs.Entries.{Ran, Arrive};
@@ -11,8 +12,7 @@ ghost use Rattle.pair_record.specs.Journal.{all_entries, kept_entries, empty_jou
 ghost use Rattle.pair_record.specs.Journal.{all_committed, discarded, sealed_as, entered};
 ghost use Rattle.pair_record.specs.EpochActs.{guest_epoch, behind};
 ghost use Rattle.pair_record.specs.internal.Lengths.{receivers};
-ghost use Rattle.pair_record.specs.internal.Brought.{entries_after};
-ghost use Rattle.pair_record.specs.Kept.{all_frames};
+ghost use Rattle.pair_record.specs.Kept.{all_frames, entries_after};
 
 use crate::discards::{add_drops_in, count_arrivals, sorted_numbers};
 use crate::epochs::{Arrival, RunningEpoch, add_epoch, add_epochs, places_with};
@@ -92,11 +92,20 @@ impl Journal {
         self.history.reserve(1)
     }
 
+    /// Makes room for so many more arrivals in the running epoch.
+    pub(crate) fn reserve_arrivals(&mut self, count: usize) -> Result<(), MemoryWanted>
+        ensures journal { self.new.journal ≡ self.old.journal }
+        ensures arrival_room { OnOk result (count ≤ self.new.arrival_room) }
+    {
+        reserve(&mut self.running.arrivals, count)
+    }
+
     /// The frame of this number arrived at the guest.
     pub(crate) fn arrive(&mut self, number: u64)
         requires room { 0 < self.old.arrival_room }
         requires fits { length (all_entries self.old.journal) + 1 < number_limit }
-        ensures { self.new.journal ≡ with_running self.old.journal (Arrive number ∷ []) }
+        ensures journal { self.new.journal ≡ with_running self.old.journal (Arrive number ∷ []) }
+        ensures arrival_room { self.old.arrival_room ≤ self.new.arrival_room + 1 }
     {
         let steps = self.running.steps;
         self.running
@@ -297,18 +306,25 @@ impl Journal {
         Ok(())
     }
 
-    /// The frames of these lists land at these ports, the first of them under that number, and what becomes of them goes to the history, in
-    /// the room that was reserved.
-    pub(crate) fn land_kept(&mut self, ports: &mut Ports, first: u64, lists: &[Vec<Frame>])
+    /// Those frames of these lists land at these ports that have a number below `end`, where the first of all has the number `first`, and
+    /// what becomes of them goes to the history, in the room that was reserved.
+    pub(crate) fn land_kept(
+        &mut self,
+        ports: &mut Ports,
+        first: u64,
+        end: u64,
+        lists: &[Vec<Frame>],
+    )
         requires frames { All (λ v. All IsFrame v.items) lists.now }
-        requires numbers { first + length (all_frames (map (λ v. v.items) lists.now)) ≤ 2 ^ 62 }
-        requires room { length (entries_after ports.old first (all_frames (map (λ v. v.items) lists.now))) ≤ self.old.room }
+        requires room { length (entries_after ports.old first (take (end - first) (all_frames (map (λ v. v.items) lists.now))))
+            ≤ self.old.room }
         requires fits { length (all_entries self.old.journal)
-            + length (entries_after ports.old first (all_frames (map (λ v. v.items) lists.now))) < number_limit }
+            + length (entries_after ports.old first (take (end - first) (all_frames (map (λ v. v.items) lists.now)))) < number_limit }
         ensures journal { self.new.journal
-            ≡ with_history self.old.journal (entries_after ports.old first (all_frames (map (λ v. v.items) lists.now))) }
-        ensures ports { ports.new ≡ ports_after ports.old first (all_frames (map (λ v. v.items) lists.now)) }
+            ≡ with_history self.old.journal
+            (entries_after ports.old first (take (end - first) (all_frames (map (λ v. v.items) lists.now)))) }
+        ensures ports { ports.new ≡ ports_after ports.old first (take (end - first) (all_frames (map (λ v. v.items) lists.now))) }
     {
-        land_lists(&mut self.history, ports, first, lists);
+        land_lists(&mut self.history, ports, first, end, lists);
     }
 }

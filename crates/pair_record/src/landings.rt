@@ -1,14 +1,16 @@
 //! What landings add to the history: for each frame and each of its clients, that it lands, or is dropped at a full box. What leaves the
 //! gate lands so; what a backup kept does where it hadn't come yet.
-ghost use Rattle.std.specs.Prelude.{◌≡◌, ℕ, ◌+◌, ◌-◌, ◌*◌, ◌^◌, ◌≤◌, ◌<◌, ◌++◌, [], ◌∷◌, All, length, map, IsTrue, ◌↔◌};
+ghost use Rattle.std.specs.Prelude.{◌≡◌, ℕ, ◌+◌, ◌-◌, ◌*◌, ◌^◌, ◌≤◌, ◌<◌, ◌++◌, [], ◌∷◌, All, length, map, take, IsTrue, ◌↔◌};
 ghost use Rattle.frame_ports.specs.Addresses.{IsFrame, clients_of, targets_of};
+ghost use Rattle.frame_ports.specs.Limits.{number_limit};
+ghost use Rattle.frame_ports.specs.Ports.{IsClient};
 ghost use Rattle.output_gate.specs.Landings.{clients_for, landed_for, ports_after};
 ghost use Rattle.pair_history.specs.Landings.{landings};
 ghost use Rattle.pair_record.specs.internal.Lengths.{receivers, landing_by, landings_by, lengths_at, lengths_after, AreLengths};
-ghost use Rattle.pair_record.specs.internal.Brought.{entries_of_landing, entries_for, entries_after};
-ghost use Rattle.pair_record.specs.Kept.{all_frames};
+ghost use Rattle.pair_record.specs.internal.NewFrames.{new_one, new_for, new_after};
+ghost use Rattle.pair_record.specs.Kept.{all_frames, entries_of_landing, entries_for, entries_after};
 
-use frame_ports::{BOX_FRAMES, Landing, MAX_CLIENTS, Ports};
+use frame_ports::{BOX_FRAMES, Landing, MAX_CLIENTS, NUMBER_LIMIT, Ports};
 use pair_history::{Entry, Frame, History};
 
 /// A place for the length of each client's box.
@@ -149,7 +151,7 @@ fn land_frame(history: &mut History, ports: &mut Ports, number: u64, frame: &Fra
 /// Lands these frames in order, the first of them under that number, and adds what became of them.
 fn land_frames(history: &mut History, ports: &mut Ports, first: u64, frames: &[Frame])
     requires frames { All IsFrame frames.now }
-    requires numbers { first + length frames.now ≤ 2 ^ 62 }
+    requires numbers { first + length frames.now < 2 ^ 64 }
     requires room { length (entries_after ports.old first frames.now) ≤ history.old.room }
     requires fits { length history.old.entries + length (entries_after ports.old first frames.now) < 2 ^ 62 }
     ensures entries { history.new.entries ≡ history.old.entries ++ entries_after ports.old first frames.now }
@@ -163,20 +165,98 @@ fn land_frames(history: &mut History, ports: &mut Ports, first: u64, frames: &[F
     }
 }
 
-/// Lands the frames of these lists in order, the first of them under that number, and adds what became of them.
-pub(crate) fn land_lists(history: &mut History, ports: &mut Ports, first: u64, lists: &[Vec<Frame>])
+/// Those of these frames, the first of which has that number, that have a number below `end`.
+fn up_to(frames: &[Frame], number: u64, end: u64) -> &[Frame]
+    ensures frames { result.now ≡ take (end - number) frames.now }
+    ensures numbers { number + length result.now < 2 ^ 64 }
+{
+    let most = end.saturating_sub(number);
+    if most < frames.len() as u64 {
+        &frames[..most as usize]
+    } else {
+        frames
+    }
+}
+
+/// Lands those frames of these lists that have a number below `end`, in order, where the first of all has the number `first`, and adds what
+/// became of them.
+pub(crate) fn land_lists(
+    history: &mut History,
+    ports: &mut Ports,
+    first: u64,
+    end: u64,
+    lists: &[Vec<Frame>],
+)
     requires frames { All (λ v. All IsFrame v.items) lists.now }
-    requires numbers { first + length (all_frames (map (λ v. v.items) lists.now)) ≤ 2 ^ 62 }
-    requires room { length (entries_after ports.old first (all_frames (map (λ v. v.items) lists.now))) ≤ history.old.room }
-    requires fits { length history.old.entries + length (entries_after ports.old first (all_frames (map (λ v. v.items) lists.now)))
-        < 2 ^ 62 }
+    requires room { length (entries_after ports.old first (take (end - first) (all_frames (map (λ v. v.items) lists.now))))
+        ≤ history.old.room }
+    requires fits { length history.old.entries
+        + length (entries_after ports.old first (take (end - first) (all_frames (map (λ v. v.items) lists.now)))) < 2 ^ 62 }
     ensures entries { history.new.entries
-        ≡ history.old.entries ++ entries_after ports.old first (all_frames (map (λ v. v.items) lists.now)) }
-    ensures ports { ports.new ≡ ports_after ports.old first (all_frames (map (λ v. v.items) lists.now)) }
+        ≡ history.old.entries ++ entries_after ports.old first (take (end - first) (all_frames (map (λ v. v.items) lists.now))) }
+    ensures ports { ports.new ≡ ports_after ports.old first (take (end - first) (all_frames (map (λ v. v.items) lists.now))) }
 {
     let mut number = first;
     for frames in lists {
-        land_frames(history, ports, number, frames.as_slice());
-        number += frames.len() as u64;
+        let known = up_to(frames.as_slice(), number, end);
+        land_frames(history, ports, number, known);
+        number += known.len() as u64;
     }
+}
+
+/// 1 where the frame of that number is new for the client, and else 0.
+fn count_if_new(ports: &Ports, client: u64, number: u64) -> u64
+    requires { IsClient ports.now client }
+    ensures { result ≡ new_one ports.now client number }
+{
+    if ports.is_new(client, number) { 1 } else { 0 }
+}
+
+/// For how many of its clients the frame of that number is new.
+fn count_new(ports: &Ports, number: u64, frame: &Frame) -> u64
+    ensures count { result ≡ new_for ports.now (clients_for ports.now frame.now) number }
+    ensures few { result ≤ 16 }
+{
+    let targets = ports.route(frame);
+    let clients = ports.clients();
+    let mut count = 0;
+    for client in 1..clients + 1 {
+        if targets.contains(client) {
+            count += count_if_new(ports, client, number);
+        }
+    }
+    count
+}
+
+/// For how many clients these frames are new, the first of which has that number, all in all: as many as there are, but at most 2^62.
+fn count_new_frames(ports: &Ports, first: u64, frames: &[Frame]) -> u64
+    requires numbers { first + length frames.now < 2 ^ 64 }
+    ensures limit { result ≤ number_limit }
+    ensures most { result ≤ new_after ports.now first frames.now }
+    ensures exact { result < number_limit → result ≡ new_after ports.now first frames.now }
+{
+    let mut number = first;
+    let mut count = 0;
+    for frame in frames {
+        count = NUMBER_LIMIT.min(count + count_new(ports, number, frame));
+        number += 1;
+    }
+    count
+}
+
+/// How many entries [`land_lists`] of these lists adds: as many as it does, but at most 2^62.
+pub(crate) fn count_lists(ports: &Ports, first: u64, end: u64, lists: &[Vec<Frame>]) -> u64
+    ensures limit { result ≤ number_limit }
+    ensures most { result ≤ length (entries_after ports.now first (take (end - first) (all_frames (map (λ v. v.items) lists.now)))) }
+    ensures exact { result < number_limit
+        → result ≡ length (entries_after ports.now first (take (end - first) (all_frames (map (λ v. v.items) lists.now)))) }
+{
+    let mut number = first;
+    let mut count = 0;
+    for frames in lists {
+        let known = up_to(frames.as_slice(), number, end);
+        count = NUMBER_LIMIT.min(count + count_new_frames(ports, number, known));
+        number += known.len() as u64;
+    }
+    count
 }

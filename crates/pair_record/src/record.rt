@@ -308,6 +308,13 @@ impl PairRecord {
         })
     }
 
+    /// How many frames leave the gate where the checkpoints up to this number are acknowledged, each counted for each of its clients.
+    pub fn leaving(&self, number: u64) -> u64
+        ensures { result ≡ length (let_go self.now.ports.boxes self.now.protocol number) }
+    {
+        count_landings(&self.ports, self.gate.held(number))
+    }
+
     /// Why the primary refuses an acknowledgement.
     pub fn ack_refusal(&self, packet: Packet) -> Option<Refusal>
         ensures refusal { result ≡ first_refusal (ack_refusals self.now.ports.boxes self.now.protocol packet) }
@@ -316,7 +323,7 @@ impl PairRecord {
     {
         if packet.generation != self.generation {
             Some(Refusal::Stale)
-        } else if self.is_exhausted_by(count_landings(&self.ports, self.gate.held(packet.number))) {
+        } else if self.is_exhausted_by(self.leaving(packet.number)) {
             Some(Refusal::Exhausted)
         } else {
             None
@@ -333,7 +340,7 @@ impl PairRecord {
         ensures some { OnErr result (0 < length (let_go self.old.ports.boxes self.old.protocol packet.number)) }
     {
         let number = packet.number;
-        let count = count_landings(&self.ports, self.gate.held(number));
+        let count = self.leaving(number);
         self.journal.reserve(count as usize)?;
         self.journal.land(&self.ports, self.gate.held(number));
         let landed = self.gate.ack(number, &mut self.ports);

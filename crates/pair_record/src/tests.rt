@@ -1,6 +1,10 @@
-//! What no clause says: that the calls for a guest that runs elsewhere succeed where there is memory. The events are called by pair_core's
-//! tests.
-use crate::{Frame, Mode, PairRecord, Reply, is_alone};
+//! What no clause says: that the calls for a guest that runs elsewhere succeed where there is memory, and that a backup goes live which
+//! brings more than was committed. The events are called by pair_core's tests.
+ghost use Rattle.std.specs.Prelude.{All, IfOk};
+ghost use Rattle.frame_ports.specs.Addresses.{IsFrame};
+
+use crate::{Event, Frame, Mode, PairRecord, Reply, is_alone, mode_refusal};
+use arrayvec::ArrayVec;
 use std::alloc::Global;
 use std::test::Fail;
 
@@ -15,7 +19,8 @@ fn handed_out(record: &mut PairRecord) -> Result<(u64, Frame), Fail> {
     if record.inbox_len(1) == 0 || record.admit_refusal().is_some() {
         return Err("there is no frame".into());
     }
-    Ok(record.hand_out(1)?)
+    record.reserve_arrivals(1)?;
+    Ok(record.hand_out(1))
 }
 
 #[test]
@@ -97,5 +102,57 @@ fn a_full_checkpoint_is_sealed_once_protection_has_begun(rt: HostRuntime) -> Res
         )
     );
     assert_eq!(rt; record.pending(), 1);
+    Ok(())
+}
+
+/// A frame of 14 bytes from the guest to client 1.
+fn answer() -> Frame
+    ensures { IsFrame result }
+{
+    let mut frame = ArrayVec::new();
+    match frame.try_extend_from_slice(&[2, 0, 0, 0, 1, 1, 2, 0, 0, 0, 1, 0, 0x88, 0xb5]) {
+        Ok(()) => frame,
+        Err(_) => unreachable!(),
+    }
+}
+
+/// Two of them.
+fn two_answers(alloc: Global) -> Result<Vec<Frame>, Fail>
+    ensures { IfOk result (λ v. All IsFrame v.items) }
+{
+    let frames = Vec::from_array(alloc, [answer(), answer()])?;
+    Ok(frames)
+}
+
+#[test]
+fn what_a_backup_brings_lands_up_to_the_last_commit(rt: HostRuntime) -> Result<(), Fail> {
+    let mut record = PairRecord::new(rt.alloc(), 1)?;
+    if is_alone(record.mode()) || record.cut_refusal().is_some() || record.is_exhausted_by(3) {
+        return Err("an epoch can't be sealed".into());
+    }
+    record.seal_epoch(0, 3, &[answer()])?;
+    if record.to_commit() >= record.to_cut() {
+        return Err("there is nothing to commit".into());
+    }
+    record.commit()?;
+    if mode_refusal(record.mode(), Event::FailPrimary).is_some() {
+        return Err("the primary can't stop".into());
+    }
+    record.fail_primary();
+    let kept = [two_answers(rt.alloc())?];
+    if is_alone(record.mode()) || record.go_live_refusal(1, &kept).is_some() {
+        return Err("the backup can't go live".into());
+    }
+    let reply = record.go_live(7, 1, &kept)?;
+    assert!(rt;
+        matches!(
+            reply,
+            Reply::Live {
+                generation: 2,
+                steps: 7
+            }
+        )
+    );
+    assert_eq!(rt; record.history().len(), 4);
     Ok(())
 }

@@ -61,12 +61,14 @@ impl World {
         ensures err { OnErr result (self.new ≡ self.old) }
     {
         self.record.keep();
-        if let Some(why) = self.record.go_live_refusal() {
+        let kept = self.nodes.kept();
+        let first = kept.first();
+        let frames = kept.epochs();
+        if let Some(why) = self.record.go_live_refusal(first, frames) {
             return Ok(Reply::Refused(why));
         }
         let steps = self.nodes.image_steps();
-        let kept = self.nodes.kept();
-        let reply = self.record.go_live(steps, kept.first(), kept.epochs())?;
+        let reply = self.record.go_live(steps, first, frames)?;
         self.nodes.go_live();
         Ok(reply)
     }

@@ -5,7 +5,7 @@ use Rattle.guest_machine.specs.Guest.{Guest}
 use Rattle.frame_ports.specs.Addresses.{targets_of}
 use Rattle.frame_ports.specs.Lands.{list_of}
 use Rattle.frame_ports.specs.Ports.{PortsState}
-use Rattle.output_gate.specs.Epochs.{Epoch, frames_of}
+use Rattle.output_gate.specs.Epochs.{frames_of}
 use Rattle.pair_history.specs.Entries.{Frame}
 use Rattle.pair_history.specs.HistoryState.{HistoryState, Waiting, inbox_of, at, Legal}
 use Rattle.pair_history.specs.Landings.{DropsAreAskedOrFull, BoxesFit}

@@ -14,6 +14,7 @@ record_state a = record {
   };
   ports = a.ports;
   room = a.journal.room;
+  arrival_room = a.journal.arrival_room;
 }
 
 pub record AreFields (a : Inside) : Type 0 where

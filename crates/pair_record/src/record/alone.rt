@@ -42,10 +42,11 @@ impl PairRecord {
     }
 
     /// The backup stops: all that was kept goes to the history, the pending checkpoints are given up, and what the gate held, and then the
-    /// outbox, lands.
+    /// outbox, lands. Where a full checkpoint has still to be sealed, [`PairRecord::fail_backup_within`] does.
     pub fn fail_backup(&mut self, outbox: &[Frame]) -> Result<Reply, MemoryWanted>
         requires free { first_refusal (fail_backup_refusals self.old.ports.boxes outbox.now self.old.protocol) ≡ None }
         requires pair { is_alone self.old.protocol.mode ≡ false }
+        requires sealed { 1 ≤ self.old.protocol.window.to_cut }
         requires few { length outbox.now ≤ 256 }
         requires frames { All IsFrame outbox.now }
         ensures ok { IfOk result (λ reply. (reply, self.new.protocol)

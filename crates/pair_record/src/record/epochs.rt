@@ -20,18 +20,32 @@ use memory_wanted::MemoryWanted;
 use pair_history::Frame;
 
 impl PairRecord {
-    /// The first frame of this client's inbox leaves it for the guest, with its number, whatever the mode: from then on it runs.
-    pub fn hand_out(&mut self, client: u64) -> Result<(u64, Frame), MemoryWanted>
+    /// Makes room for so many frames to be handed out.
+    pub fn reserve_arrivals(&mut self, count: usize) -> Result<(), MemoryWanted>
+        ensures same { IsAsBefore self.old self.new }
+        ensures room { OnOk result (count ≤ self.new.arrival_room) }
+    {
+        self.journal.reserve_arrivals(count)
+    }
+
+    /// The first frame of this client's inbox leaves it for the guest, with its number, whatever the mode: from then on it runs. This takes
+    /// a place of those that [`PairRecord::reserve_arrivals`] made, and can't fail.
+    pub fn hand_out(&mut self, client: u64) -> (u64, Frame)
         requires free { first_refusal (admit_refusals self.old.protocol) ≡ None }
         requires client { IsClient self.old.ports client }
         requires some { 0 < length (inbox_of self.old.ports client) }
-        ensures first { IfOk result (λ x. slice_get (inbox_of self.old.ports client) 0 ≡ Some x) }
-        ensures frame { IfOk result (λ x. IsFrame x.1) }
-        ensures protocol { IfOk result (λ x. self.new.protocol ≡ (hand_out_done self.old.protocol x.0).1) }
-        ensures ports { OnOk result (self.new.ports ≡ ports_after_admit self.old.ports client) }
-        ensures err { OnErr result (IsAsBefore self.old self.new) }
+        requires room { 0 < self.old.arrival_room }
+        ensures first { slice_get (inbox_of self.old.ports client) 0 ≡ Some result }
+        ensures frame { IsFrame result.1 }
+        ensures protocol { self.new.protocol ≡ (hand_out_done self.old.protocol result.0).1 }
+        ensures ports { self.new.ports ≡ ports_after_admit self.old.ports client }
+        ensures room { self.old.arrival_room ≤ self.new.arrival_room + 1 }
     {
-        self.arrive(client, false)
+        let Ok(Some((number, frame))) = self.ports.admit(client) else {
+            unreachable!();
+        };
+        self.journal.arrive(number);
+        (number, frame)
     }
 
     /// An epoch of the guest, so many arrivals of the frames that were handed out, the first first, and so many steps after them, along
@@ -105,31 +119,32 @@ impl PairRecord {
     }
 
     /// The node that is alone gets a new backup, in the next generation, whose full checkpoint has still to be sealed: what
-    /// [`PairRecord::protect`] does first.
+    /// [`PairRecord::protect`] does first. Until then what the guest sends still lands, under numbers that go on.
     pub fn begin_protect(&mut self) -> Reply
         requires free { first_refusal (protect_refusals self.old.protocol) ≡ None }
         requires alone { alone self.old.protocol.mode ≡ true }
         ensures protocol { (result, self.new.protocol) ≡ begin_done self.old.protocol }
-        ensures ports { self.new.ports ≡ marked self.old.ports }
+        ensures ports { self.new.ports ≡ self.old.ports }
     {
         self.window = Window::none_pending(FULL_CHECKPOINT);
-        self.gate.begin(0);
-        self.ports.mark();
         self.mode = Mode::Filling;
         self.generation += 1;
         Reply::Protecting(self.generation)
     }
 
-    /// The full checkpoint, which no frame waits for, is sealed and pending: what [`PairRecord::protect`] does then.
+    /// The full checkpoint, which no frame waits for, is sealed and pending: what [`PairRecord::protect`] does then. The guest's frames are
+    /// numbered from 1 anew.
     pub fn seal_full(&mut self) -> Result<Reply, MemoryWanted>
         requires filling { filling self.old.protocol.mode ≡ true }
         requires first { self.old.protocol.window.to_cut ≡ 0 }
         ensures ok { IfOk result (λ reply. (reply, self.new.protocol) ≡ full_done self.old.protocol) }
-        ensures ports { self.new.ports ≡ self.old.ports }
+        ensures ports { OnOk result (self.new.ports ≡ marked self.old.ports) }
         ensures err { OnErr result (IsAsBefore self.old self.new) }
     {
         self.journal.seal_empty()?;
         let number = self.window.to_cut;
+        self.gate.begin(0);
+        self.ports.mark();
         self.gate.hold(number, &[]);
         self.window.cut();
         Ok(Reply::Cut {

@@ -4,7 +4,7 @@ use Rattle.frame_ports.specs.{Numbers.{landing, after_landing}, Ports.PortsState
 use Rattle.output_gate.specs.Landings.{clients_for, landed_for}
 use Rattle.output_gate.proofs.PortsAfterLaws.{boxes_count-for}
 use Rattle.pair_history.specs.{Entries.Entry, Log.Log}
-use Rattle.pair_record.specs.internal.Brought.{entries_of_landing, entries_for}
+use Rattle.pair_record.specs.Kept.{entries_of_landing, entries_for}
 use Rattle.pair_record.proofs.Receivers.{from_on, next_yes, next_no, brought_more, brought_count, landed_more}
 use Rattle.pair_record.proofs.landings.land_frame.Goals.{then-contains, else-contains, After-contains, After-land-landing}
 use Rattle.pair_record.proofs.landings.land_frame.Goals as goal

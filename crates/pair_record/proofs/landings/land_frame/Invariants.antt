@@ -1,7 +1,7 @@
 -- What remains to be done for the clients from this one on.
 use Rattle.std.proofs.Common.{◌≡◌, ◌+◌, ◌≤◌, ◌++◌, length}
 use Rattle.output_gate.specs.Landings.{clients_for, landed_for}
-use Rattle.pair_record.specs.internal.Brought.{entries_for}
+use Rattle.pair_record.specs.Kept.{entries_for}
 use Rattle.pair_record.proofs.Receivers.{from_on}
 use Rattle.pair_record.proofs.landings.land_frame.Given as goal
 

@@ -1,8 +1,8 @@
-use Rattle.std.proofs.{Common.{rules, ◌≡◌, ◌+◌, ◌++◌, List, length, drop, ap, ◌∙◌, sym, arith, append_assoc}, lemmas.List.length-append}
+use Rattle.std.proofs.{Common.{◌≡◌, ◌+◌, ◌++◌, List, length, drop, ap, ◌∙◌, sym, arith, append_assoc}, lemmas.List.length-append}
 use Rattle.frame_ports.specs.Ports.{PortsState}
 use Rattle.output_gate.specs.Landings.{clients_for, landed_for, ports_after}
 use Rattle.pair_history.specs.Entries.{Entry}
-use Rattle.pair_record.specs.internal.Brought.{entries_for, entries_after}
+use Rattle.pair_record.specs.Kept.{entries_for, entries_after}
 use Rattle.pair_record.proofs.Receivers.{frame_more, frame_count, frame_ports}
 use Rattle.pair_record.proofs.landings.land_frames.Goals as goal
 

@@ -1,7 +1,7 @@
 -- What remains to be done for the frames from this one on.
 use Rattle.std.proofs.Common.{◌≡◌, ◌+◌, ◌≤◌, ◌++◌, length, drop}
 use Rattle.output_gate.specs.Landings.{ports_after}
-use Rattle.pair_record.specs.internal.Brought.{entries_after}
+use Rattle.pair_record.specs.Kept.{entries_after}
 use Rattle.pair_record.proofs.landings.land_frames.Given as goal
 
 abbrev pub invariant-loop-frame : goal.invariant-loop-frame

@@ -5,7 +5,8 @@ use Rattle.pair_record.specs.Protocol.{Outcome, first_refusal, fail_backup_refus
 use Rattle.pair_core.specs.{internal.Invariant.Holds, Nodes.left_alone}
 use Rattle.pair_record.specs.{Record.ports_after_all, Window.none_pending}
 use Rattle.pair_core.specs.internal.WorldFields.{pair_of}
-use Rattle.pair_core.proofs.{AllLands.all_landed_holds, Calls.on_err, Outcomes.{stops, goes, fail_backup_sight}}
+use Rattle.pair_record.proofs.ModeLaws.{failure_goes}
+use Rattle.pair_core.proofs.{AllLands.all_landed_holds, Calls.on_err, Consistent.some_cut, Outcomes.{stops, goes, fail_backup_sight}}
 use Rattle.pair_core.proofs.world.World.fail_backup.Goals.{After-fail_backup_refusal}
 use Rattle.pair_core.proofs.world.World.fail_backup.Goals as goal
 
@@ -14,6 +15,12 @@ table : (c : After-fail_backup_refusal) → c.fail_backup_refusal.result
     ≡ first_refusal (fail_backup_refusals (pair_of c.self.inside).ports.boxes (pair_of c.self.inside).nodes.live.outbox
     (pair_of c.self.inside).protocol.state)
 table c = search (arith, rules)
+
+pub fail_backup-requires-clause-sealed : goal.fail_backup-requires-clause-sealed
+fail_backup-requires-clause-sealed c =
+    let w = pair_of c.self.inside in
+    let two = failure_goes w.protocol.state.mode (rw (← c.self.view_is) at c.requires) in
+    some_cut w c.self.invariant c.keep.ensures.record two
 
 pub returns-in-Some-clause-outcome : goal.returns-in-Some-clause-outcome
 returns-in-Some-clause-outcome c =

@@ -11,5 +11,5 @@ running_is c = search (arith, rules, epoch-arrives)
 pub invariant_of-self : goal.invariant_of-self
 invariant_of-self c = search (arith, rules, After-unwrap, length-all, length-append, running_is)
 
-pub returns : goal.returns
-returns c = search (arith, rules, After-unwrap, running_is)
+pub returns-clause-journal : goal.returns-clause-journal
+returns-clause-journal c = search (arith, rules, After-unwrap, running_is)

@@ -1,8 +1,7 @@
-use Rattle.std.proofs.{Common.{rules, ◌≡◌, ◌+◌, ◌<◌, ◌++◌, length, sym, ap, arith}, lemmas.List.length-append}
+use Rattle.std.proofs.{Common.{rules, ◌≡◌, ◌++◌, length, sym, ap, arith}, lemmas.List.length-append}
 use Rattle.std.specs.Prelude.{map}
-use Rattle.frame_ports.specs.Limits.{number_limit}
-use Rattle.pair_history.specs.Failures.{arrived_numbers, drops_of_taken_in}
-use Rattle.pair_record.specs.{internal.Arrivals.epoch_entries, Journal.{Stored, joined, kept_entries}}
+use Rattle.pair_history.specs.Failures.{drops_of_taken_in}
+use Rattle.pair_record.specs.{internal.Arrivals.epoch_entries, Journal.{joined, kept_entries}}
 use Rattle.pair_record.specs.internal.JournalFields.{stored, epoch_of}
 use Rattle.pair_record.proofs.LiveLaws.{as_many, length-drops, live_history}
 use Rattle.pair_record.proofs.journal.Journal.go_live.Goals.{After-as_slice-2, After-add_drops_in}

@@ -1,23 +1,20 @@
-use Rattle.std.proofs.Common.{◌∙◌, sym, ap, cond, length, Some, None}
-use Rattle.output_gate.specs.Epochs.{frames_to}
-use Rattle.pair_record.specs.{declared.event.Refusal.TheVariants.Exhausted, internal.Lengths.receivers, Record.RecordState}
+use Rattle.std.proofs.Common.{◌∙◌, sym, ap, cond, Some, None}
+use Rattle.pair_record.specs.{declared.event.Refusal.TheVariants.Exhausted, Protocol.exhausts, Record.RecordState}
 use Rattle.pair_record.proofs.RecordLaws.{ack_row}
 use Rattle.pair_record.proofs.record.PairRecord.ack_refusal.Goals as goal
 
 pub returns-then-is_exhausted_by-clause-refusal : goal.returns-then-is_exhausted_by-clause-refusal
 returns-then-is_exhausted_by-clause-refusal c =
     let s = c.args.self.now in
-    sym (ack_row s.ports.boxes s.protocol c.args.packet c.count_landings.result c.held.result.now
-    (c.count_landings.ensures.count ∙ ap (λ (t : RecordState). length (receivers (length t.ports.boxes) c.held.result.now)) c.self.view_is)
-    (c.held.ensures.held ∙ ap (λ (t : RecordState). frames_to c.args.packet.number t.protocol.pending) c.self.view_is)
+    sym (ack_row s.ports.boxes s.protocol c.args.packet
     (c.if-packet-self.false ∙ ap (λ (t : RecordState). t.protocol.generation) c.self.view_is)
-    ∙ ap (λ t. cond t (Some Exhausted) None) (sym c.is_exhausted_by.ensures ∙ c.if-is_exhausted_by.true))
+    ∙ ap (λ t. cond t (Some Exhausted) None)
+    (ap (exhausts s.protocol) (sym c.leaving.ensures) ∙ sym c.is_exhausted_by.ensures ∙ c.if-is_exhausted_by.true))
 
 pub returns-else-is_exhausted_by-clause-refusal : goal.returns-else-is_exhausted_by-clause-refusal
 returns-else-is_exhausted_by-clause-refusal c =
     let s = c.args.self.now in
-    sym (ack_row s.ports.boxes s.protocol c.args.packet c.count_landings.result c.held.result.now
-    (c.count_landings.ensures.count ∙ ap (λ (t : RecordState). length (receivers (length t.ports.boxes) c.held.result.now)) c.self.view_is)
-    (c.held.ensures.held ∙ ap (λ (t : RecordState). frames_to c.args.packet.number t.protocol.pending) c.self.view_is)
+    sym (ack_row s.ports.boxes s.protocol c.args.packet
     (c.if-packet-self.false ∙ ap (λ (t : RecordState). t.protocol.generation) c.self.view_is)
-    ∙ ap (λ t. cond t (Some Exhausted) None) (sym c.is_exhausted_by.ensures ∙ c.if-is_exhausted_by.false))
+    ∙ ap (λ t. cond t (Some Exhausted) None)
+    (ap (exhausts s.protocol) (sym c.leaving.ensures) ∙ sym c.is_exhausted_by.ensures ∙ c.if-is_exhausted_by.false))

@@ -1,4 +1,4 @@
-use Rattle.std.proofs.Common.{rules, arith, ◌≡◌, ◌∙◌, ◌+◌, List, length, ap, sym, subst, Bool, true, refl}
+use Rattle.std.proofs.Common.{rules, arith, ◌≡◌, ◌∙◌, ◌+◌, length, ap, sym}
 use Rattle.frame_ports.specs.Addresses.{targets_of}
 use Rattle.pair_record.specs.{EpochActs.{behind, guest_epoch}, Journal.{Journal, all_entries}, Protocol.landed_after, Record.ports_landed}
 use Rattle.pair_record.specs.internal.RecordFields.{record_state}

@@ -83,13 +83,16 @@ invariant_of-self-2 c =
     let fs = c.args.outbox.now in
     let at = goal.at.invariant_of-self-2 c in
     let two = rw (← c.self.view_is) at c.requires.pair in
+    let sealed = rw (← c.self.view_is) at c.requires.sealed in
+    let left = c.self.invariant.numbers.left_in_pair two sealed in
+    let few = c.requires.few in
     let after = record_is at.After-none_pending-self-inside (held_is at.After-held) in
     record {
       is = same_record (fail_backup_done s.ports.boxes fs r).1 _ after (failure_record r c.self.invariant.is r.journal.running [] s.ports.boxes fs);
       numbers =
           same_numbers (fail_backup_done s.ports.boxes fs r).1 _ (ports_after_all s.ports fs r) _ after
           (ports_are at.After-none_pending-self-inside)
-          (failure_numbers r s.ports c.self.invariant.numbers r.journal.running [] fs c.requires.few two);
+          (failure_numbers r s.ports c.self.invariant.numbers r.journal.running [] fs (omega arith));
     }
 
 pub returns-clause-ok : goal.returns-clause-ok

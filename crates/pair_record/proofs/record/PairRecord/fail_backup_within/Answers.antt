@@ -1,5 +1,5 @@
 use Rattle.std.proofs.{Common.{rules, ◌≡◌, ◌∙◌, ◌+◌, List, [], ◌++◌, length, sym, ap, arith}, lemmas.List.{append-nil, length-append}}
-use Rattle.output_gate.specs.{Epochs.frames_of, Gate.GateState}
+use Rattle.output_gate.specs.{Epochs.frames_of}
 use Rattle.frame_ports.specs.Lands.{put_count}
 use Rattle.pair_history.specs.Entries.{Frame}
 use Rattle.pair_record.specs.{EpochActs.fail_within_done, internal.Lengths.receivers, Protocol.{all_held, landed_after}}
@@ -81,14 +81,14 @@ invariant_of-self-2 c =
     let s = record_state c.self.inside in
     let r = s.protocol in
     let at = goal.at.invariant_of-self-2 c in
-    let two = rw (← c.self.view_is) at c.requires.pair in
     let after = record_is at.After-none_pending-self-inside (held_is at.After-held) in
     record {
       is = same_record (fail_within_done s.ports.boxes r).1 _ after (failure_record r c.self.invariant.is [] r.journal.running s.ports.boxes []);
       numbers =
           same_numbers (fail_within_done s.ports.boxes r).1 _ (ports_after_all s.ports [] r) _ after
           (ports_are at.After-none_pending-self-inside)
-          (failure_numbers r s.ports c.self.invariant.numbers [] r.journal.running [] (omega arith) two);
+          (let left = c.self.invariant.numbers.left in
+          failure_numbers r s.ports c.self.invariant.numbers [] r.journal.running [] (omega arith));
     }
 
 pub returns-clause-ok : goal.returns-clause-ok

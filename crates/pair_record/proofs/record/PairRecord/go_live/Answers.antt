@@ -1,106 +1,95 @@
-use Rattle.std.proofs.Common.{rules, ◌≡◌, ◌∙◌, ◌+◌, ◌++◌, [], List, length, map, ap, sym, arith}
-use Rattle.std.proofs.lemmas.List.{length-append}
-use Rattle.output_gate.specs.{Epochs.frames_of, Gate.GateState}
-use Rattle.pair_history.specs.{Entries.Frame, Failures.drops_of_taken_in}
-use Rattle.pair_record.specs.FailureActs.{first_uncommitted}
-use Rattle.pair_record.specs.{Journal.{kept_entries, all_entries, discarded, with_history}, Kept.{all_frames, Brings}}
-use Rattle.pair_record.specs.{Protocol.{go_live_done, live_entries}, Record.{RecordState, owed_to, ports_after_live}, Window.committed_of}
-use Rattle.pair_record.specs.{internal.Lengths.receivers, internal.RecordFields.record_state}
-use Rattle.pair_record.proofs.BroughtLaws.{brought_count, brought_entries, brought_numbers, brought_ports}
-use Rattle.pair_record.proofs.LiveLaws.{goes_on_twice, length-drops, live_fits, live_record}
-use Rattle.pair_record.proofs.{NumberLaws.{in_two, live_numbers, same_numbers}, RecordLaws.same_record}
-use Rattle.pair_record.proofs.record.PairRecord.go_live.Goals.{After-begin}
+use Rattle.std.proofs.Common.{rules, ◌≡◌, ◌∙◌, ◌+◌, ◌-◌, [], List, length, map, take, ap, sym, arith}
+use Rattle.output_gate.specs.Landings.{ports_after}
+use Rattle.pair_history.specs.{Entries.{Frame, Entry}, Failures.drops_of_taken_in}
+use Rattle.pair_record.specs.FailureActs.{entries_with, first_uncommitted, live_done}
+use Rattle.pair_record.specs.{Journal.{kept_entries, discarded, with_history}, Record.RecordState, internal.RecordFields.record_state}
+use Rattle.pair_record.specs.Kept.{all_frames, brought, brought_entries, entries_after, ports_after_brought}
+use Rattle.pair_record.proofs.{BroughtLaws.{brought_landings, brought_ports}, LiveLaws.{goes_on_twice, live_fits, live_record}}
+use Rattle.pair_record.proofs.{NumberLaws.{live_numbers, same_numbers}, RecordLaws.same_record}
+use Rattle.pair_record.proofs.record.PairRecord.go_live.Goals.{After-count_lists-count, After-begin}
 use Rattle.pair_record.proofs.record.PairRecord.go_live.Goals as goal
 
+abbrev lists : (c : After-count_lists-count) → List (List Frame)
+lists c = map (λ v. v.items) c.args.kept.now
+
+-- the last committed frame, and what is up to it
+last_is : (c : After-count_lists-count) → c.last_committed-sent.result + 1 ≡ first_uncommitted (record_state c.self.inside).protocol
+last_is c = c.last_committed-sent.ensures.last ∙ ap (λ (t : RecordState). first_uncommitted t.protocol) (sym c.self.view_is)
+
+cut_is : (c : After-count_lists-count)
+    → take (c.last_committed-sent.result + 1 - c.args.first) (all_frames (lists c))
+    ≡ brought (record_state c.self.inside).protocol c.args.first (lists c)
+cut_is c = ap (λ n. take (n - c.args.first) (all_frames (lists c))) (last_is c)
+
 pub go_live-requires : goal.go_live-requires
-go_live-requires c = search (arith, rules, live_fits)
-
-pub land_kept-requires-clause-numbers : goal.land_kept-requires-clause-numbers
-land_kept-requires-clause-numbers c =
+go_live-requires c =
     let s = record_state c.self.inside in
-    let brings = rw (← c.self.view_is) at c.requires.brings in
-    let n = brought_numbers s.protocol s.ports c.self.invariant.numbers c.args.first (map (λ v. v.items) c.args.kept.now) brings in
-    omega arith
+    let free = rw (← c.self.view_is) at c.requires.free in
+    let at = (goal.at.go_live-requires c).After-count_lists-count in
+    let fits = live_fits s.protocol (brought_entries s.protocol s.ports c.args.first (lists at)) free in
+    let same = ap (λ (fs : List Frame). length (entries_after s.ports c.args.first fs)) (cut_is at) in
+    let most = c.count_lists-count.ensures.most in
+    record { fits = omega arith }
 
-pub land_kept-requires-clause-room : goal.land_kept-requires-clause-room
-land_kept-requires-clause-room c =
-    let s = record_state c.self.inside in
-    let brings = rw (← c.self.view_is) at c.requires.brings in
-    let n = brought_count s.protocol s.ports c.self.invariant.numbers c.args.first (map (λ v. v.items) c.args.kept.now) brings in
-    search (arith, rules, n)
+-- what it leaves, where this is what was cut off
+module _ (c : After-begin) (cut : take (c.last_committed-sent.result + 1 - c.args.first) (all_frames (map (λ v. v.items) c.args.kept.now))
+    ≡ brought (record_state c.self.inside).protocol c.args.first (map (λ v. v.items) c.args.kept.now)) where
+  journal_is : c.land_kept.new.self.journal
+      ≡ with_history (discarded c.self.inside.journal.journal)
+      (entries_with
+      (brought_entries (record_state c.self.inside).protocol c.self.inside.ports c.args.first (map (λ v. v.items) c.args.kept.now))
+      c.self.inside.journal.journal)
+  journal_is =
+      let j = c.self.inside.journal.journal in
+      c.land_kept.ensures.journal
+      ∙ (λ i. with_history (c.in_ok-go_live.ensures.ok i) (entries_after c.self.inside.ports c.args.first (cut i)))
+      ∙ goes_on_twice (discarded j) (drops_of_taken_in (kept_entries j)) _
 
-pub land_kept-requires-clause-fits : goal.land_kept-requires-clause-fits
-land_kept-requires-clause-fits c =
-    let s = record_state c.self.inside in
-    let brings = rw (← c.self.view_is) at c.requires.brings in
-    let n = brought_count s.protocol s.ports c.self.invariant.numbers c.args.first (map (λ v. v.items) c.args.kept.now) brings in
-    search (arith, rules, n, live_fits, length-drops, length-append)
-
-pub begin-requires : goal.begin-requires
-begin-requires c =
-    let r = (record_state c.self.inside).protocol in
-    let owed = ap (λ (fs : List Frame). length fs) c.committed_frames-owed.ensures.held in
-    let two = in_two r in
-    let held = c.self.invariant.numbers.held in
-    let left = c.self.invariant.numbers.left in
-    let first = c.first.ensures.first in
-    omega arith
-
--- the record after it
-journal_is : (c : After-begin) → c.land_kept.new.self.journal
-    ≡ with_history (discarded c.self.inside.journal.journal)
-    (live_entries c.self.inside.ports.boxes (owed_to (record_state c.self.inside).protocol c.self.inside.ports) c.self.inside.journal.journal)
-journal_is c =
-    let s = record_state c.self.inside in
-    let j = s.protocol.journal in
-    let brings = rw (← c.self.view_is) at c.requires.brings in
-    let entries = brought_entries s.protocol s.ports c.self.invariant.numbers c.args.first (map (λ v. v.items) c.args.kept.now) brings in
-    c.land_kept.ensures.journal
-    ∙ (λ i. with_history (c.in_ok-go_live.ensures.ok i) (entries i))
-    ∙ goes_on_twice (discarded j) (drops_of_taken_in (kept_entries j)) _
+  ports_are : c.land_kept.new.ports
+      ≡ ports_after_brought c.self.inside.ports (record_state c.self.inside).protocol c.args.first (map (λ v. v.items) c.args.kept.now)
+  ports_are = c.land_kept.ensures.ports ∙ ap (ports_after c.self.inside.ports c.args.first) cut
 
 -- the gate begins behind the committed frames
-gate_is : (c : After-begin) → c.begin.new.self ≡ record { next = first_uncommitted (record_state c.self.inside).protocol; epochs = [] }
-gate_is c =
-    let r = (record_state c.self.inside).protocol in
-    let owed = ap (λ (fs : List Frame). length fs) c.committed_frames-owed.ensures.held in
-    let two = in_two r in
-    let held = c.self.invariant.numbers.held in
-    let first = c.first.ensures.first in
-    let next : c.begin.new.self.next ≡ first_uncommitted r = let b = ap (λ (g : GateState). g.next) c.begin.ensures in omega arith in
-    let none : c.begin.new.self.epochs ≡ [] = ap (λ (g : GateState). g.epochs) c.begin.ensures in
-    λ i. record { next = next i; epochs = none i }
+gate_is : (c : After-begin) → c.last_committed-sent.result + 1 ≡ first_uncommitted (record_state c.self.inside).protocol
+    → c.begin.new.self ≡ record { next = first_uncommitted (record_state c.self.inside).protocol; epochs = [] }
+gate_is c last = c.begin.ensures ∙ (λ i. record { next = last i; epochs = [] })
 
 pub invariant_of-self-2 : goal.invariant_of-self-2
 invariant_of-self-2 c =
     let s = record_state c.self.inside in
     let r = s.protocol in
-    let boxes = s.ports.boxes in
-    let out = owed_to r s.ports in
-    let brings = rw (← c.self.view_is) at c.requires.brings in
-    let journal = journal_is (goal.at.invariant_of-self-2 c).After-begin in
-    let gate = gate_is (goal.at.invariant_of-self-2 c).After-begin in
-    let ports : c.land_kept.new.ports ≡ ports_after_live s.ports r =
-    c.land_kept.ensures.ports
-    ∙ brought_ports r s.ports c.self.invariant.numbers c.args.first (map (λ v. v.items) c.args.kept.now) brings in
+    let at = goal.at.invariant_of-self-2 c in
+    let fss = lists at.After-count_lists-count in
+    let landed = brought_entries r s.ports c.args.first fss in
+    let cut = cut_is at.After-count_lists-count in
+    let journal = journal_is at.After-begin cut in
+    let gate = gate_is at.After-begin (last_is at.After-count_lists-count) in
     record {
-      is = same_record (go_live_done boxes out c.args.steps r).1 _ (search (arith, rules, gate, journal))
-          (live_record r c.self.invariant.is boxes out c.args.steps);
+      is = same_record (live_done landed c.args.steps r).1 _ (search (arith, rules, gate, journal))
+          (live_record r c.self.invariant.is landed c.args.steps);
       numbers =
-          same_numbers (go_live_done boxes out c.args.steps r).1 _ (ports_after_live s.ports r) _ (search (arith, rules, gate, journal)) ports
-          (live_numbers r s.ports c.self.invariant.numbers boxes out c.args.steps);
+          same_numbers (live_done landed c.args.steps r).1 _ (ports_after_brought s.ports r c.args.first fss) _
+          (search (arith, rules, gate, journal)) (ports_are at.After-begin cut)
+          (live_numbers r s.ports c.self.invariant.numbers landed c.args.steps c.args.first (all_frames fss));
     }
 
-pub returns-clause-ok : goal.returns-clause-ok
-returns-clause-ok c =
-    let r = (record_state c.self.inside).protocol in
-    let journal = journal_is (goal.at.returns-clause-ok c).After-begin in
-    let gate = gate_is (goal.at.returns-clause-ok c).After-begin in
+pub returns-clause-owed : goal.returns-clause-owed
+returns-clause-owed c = λ b.
+    let s = record_state c.self.inside in
+    let r = s.protocol in
+    let j = r.journal in
+    let at = goal.at.returns-clause-owed c in
+    let brings = rw (← c.self.view_is) at b in
+    let landings = brought_landings r s.ports c.self.invariant.numbers c.args.first (lists at.After-count_lists-count) brings in
+    let journal = journal_is at.After-begin (cut_is at.After-count_lists-count)
+    ∙ ap (λ (es : List Entry). with_history (discarded j) (entries_with es j)) landings in
+    let gate = gate_is at.After-begin (last_is at.After-count_lists-count) in
     search (arith, rules, gate, journal)
 
-pub returns-clause-ports : goal.returns-clause-ports
-returns-clause-ports c =
+pub returns-clause-owed_ports : goal.returns-clause-owed_ports
+returns-clause-owed_ports c = λ b.
     let s = record_state c.self.inside in
-    let brings = rw (← c.self.view_is) at c.requires.brings in
-    rw (← c.self.view_is) (c.land_kept.ensures.ports
-    ∙ brought_ports s.protocol s.ports c.self.invariant.numbers c.args.first (map (λ v. v.items) c.args.kept.now) brings)
+    let at = goal.at.returns-clause-owed_ports c in
+    let brings = rw (← c.self.view_is) at b in
+    rw (← c.self.view_is) (ports_are at.After-begin (cut_is at.After-count_lists-count)
+    ∙ brought_ports s.protocol s.ports c.self.invariant.numbers c.args.first (lists at.After-count_lists-count) brings)

@@ -13,5 +13,5 @@ invariant_of-self-2 c =
       is = same_record (protect_done r).1 _ (search (arith, rules, none)) (protect_record r c.self.invariant.is alone);
       numbers =
           same_numbers (protect_done r).1 _ (marked c.self.inside.ports) _ (search (arith, rules, none)) (search (arith, rules))
-          (protect_numbers r c.self.inside.ports c.self.invariant.numbers);
+          (protect_numbers r c.self.inside.ports);
     }
