@@ -11,10 +11,10 @@ use Rattle.pair_record.specs.Record.{ports_after_take}
 use Rattle.pair_record.specs.internal.Accords.{Accords}
 use Rattle.pair_record.proofs.ClientAccords.{take_accords, deliver_accords, full_accords}
 use Rattle.growing_history.specs.Steps.{Step, step, Added}
-use Rattle.growing_history.specs.LogState.{client_seat}
+use Rattle.growing_history.specs.LogState.{client_seat, state_at, after}
 use Rattle.pair_book.specs.Calls.{IsClientSeat, client_of}
-use Rattle.pair_book.specs.internal.Tie.{IsTied}
-use Rattle.pair_book.proofs.Ties.{added-tied, gained}
+use Rattle.pair_book.specs.internal.{Tie.IsTied, Waits.AreWaiting}
+use Rattle.pair_book.proofs.{Ties.{added-tied, gained, tied-guests, tied-still}, Waits.delivered-waiting}
 
 -- a client's seat is that of a client of the ports
 pub is_client_of : (start : HistoryState) (steps : List Step) (r : Record) (p : PortsState) (n : ℕ) → IsTied start steps r p
@@ -40,6 +40,11 @@ module _ (start : HistoryState) (steps : List Step) (r now : Record) (p q : Port
   took-boxes : length q.boxes ≡ length p.boxes
   took-boxes = ap (λ (x : PortsState). length x.boxes) ports ∙ length-set p.boxes (c - 1) (drop 1 box)
 
+  took-waits : AreWaiting (after (state_at start steps) (Added (took_entry ∷ []))) q
+  took-waits =
+      tied-still start steps r p q t (Added (took_entry ∷ [])) (tt, tt) (ap (λ (x : PortsState). x.next) ports)
+      (ap (λ (x : PortsState). x.inboxes) ports) took-boxes
+
   took-accords : Accords start r p → Accords start now q
   took-accords a =
       let high = is_client_of start steps r p by t seat in
@@ -50,7 +55,8 @@ module _ (start : HistoryState) (steps : List Step) (r now : Record) (p q : Port
 
   pub took-tied : IsTied start (steps ++ step by (Added (took_entry ∷ [])) ∷ []) now q
   took-tied =
-      added-tied start steps r now p q t by (took_entry ∷ []) (its-seat start by seat, tt) (λ none. (tt, tt)) is took-boxes took-accords
+      added-tied start steps r now p q t by (took_entry ∷ []) (its-seat start by seat, tt) (λ none. (tt, tt)) is took-boxes
+      took-waits took-accords
 
 -- DELIVER, and at a full inbox
 module _ (start : HistoryState) (steps : List Step) (r now : Record) (p q : PortsState) (t : IsTied start steps r p) (by : ℕ)
@@ -74,13 +80,19 @@ module _ (start : HistoryState) (steps : List Step) (r now : Record) (p q : Port
     delivered-boxes : length q.boxes ≡ length p.boxes
     delivered-boxes = ap (λ (x : PortsState). length x.boxes) ports
 
+    delivered-waits : AreWaiting (after (state_at start steps) (Added (delivered ∷ []))) q
+    delivered-waits =
+        let high = is_client_of start steps r p by t seat in
+        subst (AreWaiting (after (state_at start steps) (Added (delivered ∷ [])))) (sym ports)
+        (delivered-waiting (state_at start steps) p t.waits (tied-guests start steps r p t) d high.0 high.1 bytes)
+
     pub delivered-gained : (n : ℕ) (h : List Entry) → n ≡ length r.journal.history → h ≡ now.journal.history → drop n h ≡ delivered ∷ []
     delivered-gained n h len same = gained n h r now (delivered ∷ []) len same is
 
     pub delivered-tied : IsTied start (steps ++ step by (Added (delivered ∷ [])) ∷ []) now q
     delivered-tied =
         added-tied start steps r now p q t by (delivered ∷ []) (its-seat start by seat, tt) (λ none. (tt, tt)) is delivered-boxes
-        delivered-accords
+        delivered-waits delivered-accords
 
   module _ (full : inbox_frames ≤ length (list_of p.inboxes d))
       (is : now ≡ record r { journal = with_history r.journal (Refused d sent ∷ []) }) (ports : q ≡ p) where
@@ -96,10 +108,15 @@ module _ (start : HistoryState) (steps : List Step) (r now : Record) (p q : Port
     refused-boxes : length q.boxes ≡ length p.boxes
     refused-boxes = ap (λ (x : PortsState). length x.boxes) ports
 
+    refused-waits : AreWaiting (after (state_at start steps) (Added (refused ∷ []))) q
+    refused-waits =
+        tied-still start steps r p q t (Added (refused ∷ [])) (tt, tt) (ap (λ (x : PortsState). x.next) ports)
+        (ap (λ (x : PortsState). x.inboxes) ports) refused-boxes
+
     pub refused-gained : (n : ℕ) (h : List Entry) → n ≡ length r.journal.history → h ≡ now.journal.history → drop n h ≡ refused ∷ []
     refused-gained n h len same = gained n h r now (refused ∷ []) len same is
 
     pub refused-tied : IsTied start (steps ++ step by (Added (refused ∷ [])) ∷ []) now q
     refused-tied =
         added-tied start steps r now p q t by (refused ∷ []) (its-seat start by seat, tt) (λ none. (tt, tt)) is refused-boxes
-        refused-accords
+        refused-waits refused-accords

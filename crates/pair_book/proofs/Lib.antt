@@ -1,5 +1,10 @@
 pub mod Rows
+pub mod FailureRows
+pub mod LiveLaws
+pub mod Waits
 pub mod Ties
 pub mod ClientTies
 pub mod LossTies
+pub mod FailureTies
 pub mod Start
+pub mod HandingLaws

@@ -16,9 +16,9 @@ use Rattle.pair_record.specs.internal.Accords.{Accords}
 use Rattle.pair_record.proofs.AccordLaws.{kept_now, left_now, kept_is}
 use Rattle.pair_record.proofs.ClientAccords.{lose_in_accords, lose_out_accords}
 use Rattle.growing_history.specs.Steps.{Step, step, Added}
-use Rattle.growing_history.specs.LogState.{line_seat, state_at, under_way, AreOwn, AreKnown}
-use Rattle.pair_book.specs.internal.Tie.{IsTied}
-use Rattle.pair_book.proofs.Ties.{added-tied, way-is}
+use Rattle.growing_history.specs.LogState.{line_seat, state_at, after, under_way, AreOwn, AreKnown}
+use Rattle.pair_book.specs.internal.{Tie.IsTied, Waits.AreWaiting}
+use Rattle.pair_book.proofs.{Ties.{added-tied, way-is, tied-guests, tied-still}, Waits.lost-waiting}
 
 -- a client that no row refused
 pub client_range : (c count : ℕ) → first_refusal (client_refusals count c) ≡ None → (1 ≤ c) × (c ≤ count)
@@ -84,9 +84,15 @@ module _ (start : HistoryState) (steps : List Step) (r now : Record) (p q : Port
     lost-in-known none =
         (subst (NoneTakes n) (way-is start steps r p t) (taken-by-none start r p (t.accords none) c place n f low high there), tt)
 
+    lost-in-waits : AreWaiting (after (state_at start steps) (Added (DropIn n ∷ []))) q
+    lost-in-waits =
+        subst (AreWaiting (after (state_at start steps) (Added (DropIn n ∷ [])))) (sym ports)
+        (lost-waiting (state_at start steps) p t.waits (tied-guests start steps r p t) c low high place n f there)
+
     pub lost-in-tied : IsTied start (steps ++ step line_seat (Added (DropIn n ∷ [])) ∷ []) now q
     lost-in-tied =
-        added-tied start steps r now p q t line_seat (DropIn n ∷ []) (refl, tt) lost-in-known is lost-in-boxes lost-in-accords
+        added-tied start steps r now p q t line_seat (DropIn n ∷ []) (refl, tt) lost-in-known is lost-in-boxes
+        lost-in-waits lost-in-accords
 
   -- LOSEOUT
   module _ (there : place < length (list_of p.boxes c)) (few : length (list_of p.boxes c) ≤ box_frames)
@@ -110,6 +116,12 @@ module _ (start : HistoryState) (steps : List Step) (r now : Record) (p q : Port
         → AreKnown (under_way (state_at start steps)) (state_at start steps).history line_seat (DropOut c place ∷ [])
     lost-out-known none = (λ (e : line_seat ≡ 0). absurd (cc e), tt)
 
+    lost-out-waits : AreWaiting (after (state_at start steps) (Added (DropOut c place ∷ []))) q
+    lost-out-waits =
+        tied-still start steps r p q t (Added (DropOut c place ∷ [])) (tt, tt) (ap (λ (x : PortsState). x.next) ports)
+        (ap (λ (x : PortsState). x.inboxes) ports) lost-out-boxes
+
     pub lost-out-tied : IsTied start (steps ++ step line_seat (Added (DropOut c place ∷ [])) ∷ []) now q
     lost-out-tied =
-        added-tied start steps r now p q t line_seat (DropOut c place ∷ []) lost-out-own lost-out-known is lost-out-boxes lost-out-accords
+        added-tied start steps r now p q t line_seat (DropOut c place ∷ []) lost-out-own lost-out-known is lost-out-boxes
+        lost-out-waits lost-out-accords

@@ -1,19 +1,22 @@
 -- What a step keeps of the tie, where it adds entries of clients or of the line.
-use Rattle.std.proofs.Common.{◌≡◌, ℕ, List, [], ◌∷◌, ◌++◌, length, map, drop, refl, sym, ap, ◌∙◌, subst, append_assoc}
+use Rattle.std.proofs.Common.{◌≡◌, ℕ, List, [], ◌∷◌, ◌++◌, length, map, drop, refl, sym, ap, ◌∙◌, subst, append_assoc, arith}
 use Rattle.frame_ports.specs.Ports.{PortsState}
 use Rattle.pair_history.specs.Entries.{Entry, Arrive}
 use Rattle.pair_history.specs.HistoryState.{HistoryState, at}
 use Rattle.pair_history.specs.HistoryState as history
+use Rattle.pair_history.specs.Order.{AreGuests}
 use Rattle.pair_history.proofs.{Moves.Legal-moves, States.Legal-append}
 use Rattle.pair_record.specs.Journal.{joined, kept_entries, with_history}
 use Rattle.pair_record.specs.Protocol.{Record}
 use Rattle.pair_record.specs.internal.Accords.{Accords, kept_moves}
 use Rattle.pair_record.proofs.AccordLaws.{kept_is}
-use Rattle.growing_history.specs.Steps.{Step, step, Added}
-use Rattle.growing_history.specs.LogState.{LogState, Epoch, Legal, Needs, AreOwn, AreKnown}
-use Rattle.growing_history.specs.LogState.{state_at, history_of, entries_of, under_way, after}
-use Rattle.growing_history.proofs.LogLaws.{goes-on, state-snoc, history-snoc, history-stands, legal-second}
-use Rattle.pair_book.specs.internal.Tie.{IsTied, sealed_entries}
+use Rattle.growing_history.specs.Steps.{What, Step, step, Added}
+use Rattle.growing_history.specs.LogState.{LogState, Epoch, Legal, Needs, MayStep, DropsKnown, AreOwn, AreKnown}
+use Rattle.growing_history.specs.LogState.{state_at, history_of, entries_of, under_way, added, after}
+use Rattle.growing_history.proofs.LogLaws.{goes-on, state-snoc, history-snoc, history-stands, legal-second, marked}
+use Rattle.growing_history.proofs.WaitsAlong.{IsStill, legal-guests, still-wait}
+use Rattle.pair_book.specs.internal.{Tie.{IsTied, sealed_entries}, Waits.AreWaiting}
+use Rattle.pair_book.proofs.Waits.{still-waiting}
 
 pub sealed-joined : (es : List Epoch) → joined (map (λ (e : Epoch). e.entries) es) ≡ entries_of es
 sealed-joined [] = refl
@@ -35,58 +38,109 @@ way-is start steps r p t =
     ∙ ap (λ l. l ++ r.journal.running) (sealed-joined (state_at start steps).sealed)
     ∙ ap (λ l. entries_of (state_at start steps).sealed ++ l) t.running
 
+-- what is sealed is the guest's
+pub tied-guests : (start : HistoryState) (steps : List Step) (r : Record) (p : PortsState) → IsTied start steps r p
+    → AreGuests (entries_of (state_at start steps).sealed)
+tied-guests start steps r p t = legal-guests start steps t.legal
+
+-- a step that neither delivers nor drops by the line, nor ends an epoch, leaves what waits
+pub tied-still : (start : HistoryState) (steps : List Step) (r : Record) (p q : PortsState) → IsTied start steps r p → (w : What)
+    → IsStill w → q.next ≡ p.next → q.inboxes ≡ p.inboxes → length q.boxes ≡ length p.boxes → AreWaiting (after (state_at start steps) w) q
+tied-still start steps r p q t w still next inboxes boxes =
+    let s = state_at start steps in
+    still-waiting s (after s w) p q t.waits (still-wait s w (tied-guests start steps r p t) still) next inboxes boxes
+
+-- A STEP, whatever it is: its entries are what the history has gained, and what it leaves is what the record has
+module _ (start : HistoryState) (steps : List Step) (r now : Record) (p q : PortsState) (t : IsTied start steps r p) (by : ℕ) (what : What)
+    (may : MayStep (state_at start steps) by what)
+    (known : (state_at start steps).marked ≡ 0 → DropsKnown (state_at start steps) by what)
+    (grown : (state_at start steps).marked ≡ 0 → now.journal.history ≡ r.journal.history ++ added (state_at start steps) what)
+    (sealed : now.journal.sealed ≡ sealed_entries (after (state_at start steps) what))
+    (running : now.journal.running ≡ map Arrive (after (state_at start steps) what).handed)
+    (mode : now.mode ≡ (after (state_at start steps) what).mode)
+    (generation : now.generation ≡ (after (state_at start steps) what).generation)
+    (next : now.window.to_cut ≡ (after (state_at start steps) what).next)
+    (boxes : length q.boxes ≡ length p.boxes)
+    (waits : AreWaiting (after (state_at start steps) what) q)
+    (accords : (state_at start steps).marked ≡ 0 → Accords start now q) where
+  abbrev s : LogState
+  s = state_at start steps
+
+  abbrev x : Step
+  x = step by what
+
+  way-now : kept_entries now.journal ≡ under_way (after s what)
+  way-now =
+      ap (λ l. joined l ++ now.journal.running) sealed
+      ∙ ap (λ l. l ++ now.journal.running) (sealed-joined (after s what).sealed)
+      ∙ ap (λ l. entries_of (after s what).sealed ++ l) running
+
+  history-now : s.marked ≡ 0 → now.journal.history ≡ history_of start steps ++ added s what
+  history-now none = grown none ∙ ap (λ l. l ++ added s what) (t.history none)
+
+  needs : Needs s x
+  needs = record {
+    may = may;
+    known = known;
+    lawful = λ none.
+        let same : now.journal.history ++ kept_entries now.journal
+        ≡ history_of start steps ++ (added s what ++ under_way (after s what)) =
+        (λ i. history-now none i ++ way-now i) ∙ append_assoc (history_of start steps) (added s what) (under_way (after s what)) in
+        let all = subst (history.Legal start) same (all-legal start now q (accords none)) in
+        subst (λ h. history.Legal h (added s what ++ under_way (after s what))) (sym (history-stands start steps))
+        (legal-second start (history_of start steps) (added s what ++ under_way (after s what)) all);
+  }
+
+  pub step-legal : Legal start (steps ++ x ∷ [])
+  step-legal = goes-on start steps x t.legal needs
+
+  pub step-tied : IsTied start (steps ++ x ∷ []) now q
+  step-tied =
+      let there : state_at start (steps ++ x ∷ []) ≡ after s what = state-snoc start steps x in
+      let back = sym there in
+      let before : (state_at start (steps ++ x ∷ [])).marked ≡ 0 → s.marked ≡ 0 =
+      λ none. let least = marked s what in let same = ap (λ (u : LogState). u.marked) there in omega (arith, least, same, none) in
+      record {
+        legal = step-legal;
+        history = λ none. history-now (before none) ∙ sym (history-snoc start steps x);
+        sealed = sealed ∙ ap sealed_entries back;
+        running = running ∙ ap (λ (u : LogState). map Arrive u.handed) back;
+        mode = mode ∙ ap (λ (u : LogState). u.mode) back;
+        generation = generation ∙ ap (λ (u : LogState). u.generation) back;
+        next = next ∙ ap (λ (u : LogState). u.next) back;
+        clients = boxes ∙ t.clients;
+        waits = subst (λ (u : LogState). AreWaiting u q) back waits;
+        accords = λ none. accords (before none);
+      }
+
+-- A STEP THAT ADDS ENTRIES of clients or of the line
 module _ (start : HistoryState) (steps : List Step) (r now : Record) (p q : PortsState) (t : IsTied start steps r p)
     (by : ℕ) (es : List Entry) (own : AreOwn by es)
     (known : (state_at start steps).marked ≡ 0 → AreKnown (under_way (state_at start steps)) (state_at start steps).history by es)
     (is : now ≡ record r { journal = with_history r.journal es })
     (boxes : length q.boxes ≡ length p.boxes)
+    (waits : AreWaiting (after (state_at start steps) (Added es)) q)
     (accords : Accords start r p → Accords start now q) where
-  abbrev s : LogState
-  s = state_at start steps
-
-  abbrev x : Step
-  x = step by (Added es)
-
-  needs : Needs s x
-  needs = record {
-    may = own;
-    known = known;
-    lawful = λ none.
-        let all = all-legal start now q (accords (t.accords none)) in
-        let same : now.journal.history ++ kept_entries now.journal ≡ history_of start steps ++ (es ++ under_way s) =
-        ap (λ (y : Record). y.journal.history ++ kept_entries y.journal) is
-        ∙ append_assoc r.journal.history es (kept_entries r.journal)
-        ∙ ap (λ l. l ++ (es ++ kept_entries r.journal)) t.history
-        ∙ ap (λ l. history_of start steps ++ (es ++ l)) (way-is start steps r p t) in
-        subst (λ h. history.Legal h (es ++ under_way s)) (sym (history-stands start steps))
-        (legal-second start (history_of start steps) (es ++ under_way s) (subst (history.Legal start) same all));
-  }
-
-  pub added-legal : Legal start (steps ++ x ∷ [])
-  added-legal = goes-on start steps x t.legal needs
-
-  pub added-tied : IsTied start (steps ++ x ∷ []) now q
+  pub added-tied : IsTied start (steps ++ step by (Added es) ∷ []) now q
   added-tied =
-      let there : state_at start (steps ++ x ∷ []) ≡ after s (Added es) = state-snoc start steps x in
-      let back = sym there in
-      record {
-        legal = added-legal;
-        history = ap (λ (y : Record). y.journal.history) is ∙ ap (λ l. l ++ es) t.history ∙ sym (history-snoc start steps x);
-        sealed = ap (λ (y : Record). y.journal.sealed) is ∙ t.sealed ∙ ap sealed_entries back;
-        running = ap (λ (y : Record). y.journal.running) is ∙ t.running ∙ ap (λ (u : LogState). map Arrive u.handed) back;
-        mode = ap (λ (y : Record). y.mode) is ∙ t.mode ∙ ap (λ (u : LogState). u.mode) back;
-        generation = ap (λ (y : Record). y.generation) is ∙ t.generation ∙ ap (λ (u : LogState). u.generation) back;
-        next = ap (λ (y : Record). y.window.to_cut) is ∙ t.next ∙ ap (λ (u : LogState). u.next) back;
-        clients = boxes ∙ t.clients;
-        accords = λ none. accords (t.accords (ap (λ (u : LogState). u.marked) back ∙ none));
-      }
+      step-tied start steps r now p q t by (Added es) own known
+      (λ none. ap (λ (y : Record). y.journal.history) is)
+      (ap (λ (y : Record). y.journal.sealed) is ∙ t.sealed)
+      (ap (λ (y : Record). y.journal.running) is ∙ t.running)
+      (ap (λ (y : Record). y.mode) is ∙ t.mode)
+      (ap (λ (y : Record). y.generation) is ∙ t.generation)
+      (ap (λ (y : Record). y.window.to_cut) is ∙ t.next)
+      boxes waits (λ none. accords (t.accords none))
 
 -- what the history has gained
-pub gained : (n : ℕ) (h : List Entry) (r now : Record) (es : List Entry) → n ≡ length r.journal.history → h ≡ now.journal.history
-    → now ≡ record r { journal = with_history r.journal es } → drop n h ≡ es
-gained n h r now es len same is =
-    (λ i. drop (len i) ((same ∙ ap (λ (y : Record). y.journal.history) is) i)) ∙ rest r.journal.history
+pub gained-there : (n : ℕ) (h : List Entry) (r now : Record) (es : List Entry) → n ≡ length r.journal.history → h ≡ now.journal.history
+    → now.journal.history ≡ r.journal.history ++ es → drop n h ≡ es
+gained-there n h r now es len same is = (λ i. drop (len i) ((same ∙ is) i)) ∙ rest r.journal.history
   where
     rest : (xs : List Entry) → drop (length xs) (xs ++ es) ≡ es
     rest [] = refl
     rest (x ∷ xs) = rest xs
+
+pub gained : (n : ℕ) (h : List Entry) (r now : Record) (es : List Entry) → n ≡ length r.journal.history → h ≡ now.journal.history
+    → now ≡ record r { journal = with_history r.journal es } → drop n h ≡ es
+gained n h r now es len same is = gained-there n h r now es len same (ap (λ (y : Record). y.journal.history) is)

@@ -1,2 +1,5 @@
 -- what only models, private functions and proofs cite
+pub mod Handing
+pub mod Live
 pub mod Tie
+pub mod Waits

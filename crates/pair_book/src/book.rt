@@ -1,11 +1,12 @@
 //! The book.
 ghost use Rattle.std.specs.Prelude.{◌≡◌, ◌+◌, length};
 ghost use Rattle.frame_ports.specs.Ports.{IsClient};
-ghost use Rattle.growing_history.specs.LogState.{Legal, history_of};
+ghost use Rattle.growing_history.specs.LogState.{Legal, state_at, history_of};
 ghost use Rattle.pair_book.specs.Calls.{IsClientSeat, client_of, is_word_full};
 
+use crate::seats::Seats;
 use frame_ports::NUMBER_LIMIT;
-use growing_history::{ClientSeat, KeeperSeat, Pair};
+use growing_history::{ClientSeat, Pair};
 use pair_record::PairRecord;
 use std::marker::Model;
 
@@ -20,20 +21,18 @@ pub(crate) const LINE_SEAT: u64 = 3;
 #[derive(Drop)]
 pub struct Book<P: Pair> {
     pub(crate) record: PairRecord,
-    pub(crate) seat: KeeperSeat<P>,
+    pub(crate) seats: Seats<P>,
 }
 
 impl<P: Pair> Model for Book<P> {
-    ghost use Rattle.std.specs.Prelude.{◌≤◌};
-    ghost use Rattle.growing_history.specs.LogState.{line_seat};
     ghost use Rattle.pair_book.specs.Books.{BookState};
     ghost use Rattle.pair_book.specs.internal.Tie.{IsTied, book_state};
 
     ghost Value = { BookState };
 
-    ghost view = { λ b. book_state b.seat b.record };
+    ghost view = { λ b. book_state b.seats b.record };
 
-    ghost invariant = { λ b. IsTied P.start b.seat.steps b.record.protocol b.record.ports × (line_seat ≤ b.seat.enrolled) };
+    ghost invariant = { λ b. IsTied P.start b.seats.steps b.record.protocol b.record.ports };
 }
 
 impl<P: Pair> Book<P> {
@@ -41,11 +40,12 @@ impl<P: Pair> Book<P> {
     pub fn entries(&self) -> u64
         ensures length { result ≡ length self.now.protocol.journal.history }
         // What is true of every book.
-        ensures history { self.now.protocol.journal.history ≡ history_of P.start self.now.steps }
+        ensures history { (state_at P.start self.now.steps).marked ≡ 0
+            → self.now.protocol.journal.history ≡ history_of P.start self.now.steps }
         ensures legal { Legal P.start self.now.steps }
         ensures clients { length self.now.ports.boxes ≡ length P.start.boxes }
     {
-        self.seat.count();
+        self.seats.count();
         self.record.history().len()
     }
 
@@ -53,7 +53,7 @@ impl<P: Pair> Book<P> {
     pub(crate) fn is_word_full(&self) -> bool
         ensures { result ≡ is_word_full self.now }
     {
-        self.seat.count() >= NUMBER_LIMIT
+        self.seats.count() >= NUMBER_LIMIT
     }
 
     /// The number of the client whose seat this is.
@@ -62,7 +62,7 @@ impl<P: Pair> Book<P> {
         ensures number { result ≡ client_of seat.now.number }
         ensures client { IsClient self.now.ports result }
     {
-        self.seat.count();
+        self.seats.count();
         seat.number() - LINE_SEAT
     }
 }

@@ -59,7 +59,7 @@ impl<P: Pair> Book<P> {
         let Reply::Took(taken) = reply else {
             unreachable!();
         };
-        tell(&self.record, before, &mut self.seat, clock, seat);
+        tell(&self.record, before, &mut self.seats, clock, seat);
         Ok(taken)
     }
 
@@ -100,7 +100,7 @@ impl<P: Pair> Book<P> {
         let Reply::Delivered(number) = reply else {
             unreachable!();
         };
-        tell(&self.record, before, &mut self.seat, clock, seat);
+        tell(&self.record, before, &mut self.seats, clock, seat);
         Ok(number)
     }
 
@@ -121,7 +121,7 @@ impl<P: Pair> Book<P> {
         let client = self.client_number(seat);
         let before = self.record.history().len();
         self.record.refuse_delivery(client, bytes)?;
-        tell(&self.record, before, &mut self.seat, clock, seat);
+        tell(&self.record, before, &mut self.seats, clock, seat);
         Ok(())
     }
 

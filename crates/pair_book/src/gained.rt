@@ -4,7 +4,8 @@ ghost use Rattle.frame_ports.specs.Limits.{number_limit};
 ghost use Rattle.growing_history.specs.Steps.{Added, step, Begins, steps_by};
 ghost use Rattle.pair_book.specs.internal.Tie.{IsTied};
 
-use growing_history::{Clock, KeeperSeat, MemberSeat, Pair, Tells};
+use crate::seats::Seats;
+use growing_history::{Clock, MemberSeat, Pair, Tells};
 use pair_history::History;
 use pair_record::PairRecord;
 
@@ -24,19 +25,19 @@ impl Tells for Gained<'_> {
 pub(crate) fn tell<P: Pair>(
     record: &PairRecord,
     before: u64,
-    keeper: &mut KeeperSeat<P>,
+    seats: &mut Seats<P>,
     clock: &Clock<P>,
     member: &mut MemberSeat<P>,
 )
-    requires tied { IsTied P.start (keeper.old.steps
+    requires tied { IsTied P.start (seats.old.steps
         ++ step member.old.number (Added (drop before record.now.protocol.journal.history)) ∷ []) record.now.protocol record.now.ports }
-    requires room { length keeper.old.steps < number_limit }
-    ensures tied { IsTied P.start keeper.new.steps record.now.protocol record.now.ports }
-    ensures keeper { keeper.new ≡ record keeper.old {
-      steps = keeper.old.steps ++ step member.old.number (Added (drop before record.now.protocol.journal.history)) ∷ [];
+    requires room { length seats.old.steps < number_limit }
+    ensures tied { IsTied P.start seats.new.steps record.now.protocol record.now.ports }
+    ensures seats { seats.new ≡ record seats.old {
+      steps = seats.old.steps ++ step member.old.number (Added (drop before record.now.protocol.journal.history)) ∷ [];
     } }
-    ensures member { member.new ≡ record { number = member.old.number; steps = keeper.new.steps } }
-    ensures before { Begins member.old.steps keeper.old.steps }
+    ensures member { member.new ≡ record { number = member.old.number; steps = seats.new.steps } }
+    ensures before { Begins member.old.steps seats.old.steps }
     ensures own { steps_by member.old.number member.new.steps ≡ steps_by member.old.number member.old.steps
         ++ step member.old.number (Added (drop before record.now.protocol.journal.history)) ∷ [] }
 {
@@ -44,5 +45,27 @@ pub(crate) fn tell<P: Pair>(
         history: record.history(),
         before,
     };
-    keeper.step(clock, member, &gained);
+    seats.step(clock, member, &gained);
+}
+
+/// The same where the step is no member's.
+pub(crate) fn tell_alone<P: Pair>(
+    record: &PairRecord,
+    before: u64,
+    seats: &mut Seats<P>,
+    clock: &Clock<P>,
+)
+    requires tied { IsTied P.start (seats.old.steps ++ step 0 (Added (drop before record.now.protocol.journal.history)) ∷ [])
+        record.now.protocol record.now.ports }
+    requires room { length seats.old.steps < number_limit }
+    ensures tied { IsTied P.start seats.new.steps record.now.protocol record.now.ports }
+    ensures seats { seats.new ≡ record seats.old {
+      steps = seats.old.steps ++ step 0 (Added (drop before record.now.protocol.journal.history)) ∷ [];
+    } }
+{
+    let gained = Gained {
+        history: record.history(),
+        before,
+    };
+    seats.step_alone(clock, &gained);
 }

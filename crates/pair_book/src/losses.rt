@@ -64,7 +64,7 @@ impl<P: Pair> Book<P> {
         }
         let before = self.record.history().len();
         self.record.lose_in(client, place)?;
-        tell(&self.record, before, &mut self.seat, clock, seat);
+        tell(&self.record, before, &mut self.seats, clock, seat);
         Ok(Loss::Dropped)
     }
 
@@ -99,7 +99,7 @@ impl<P: Pair> Book<P> {
         }
         let before = self.record.history().len();
         self.record.lose_out(client, place)?;
-        tell(&self.record, before, &mut self.seat, clock, seat);
+        tell(&self.record, before, &mut self.seats, clock, seat);
         Ok(Loss::Dropped)
     }
 }

@@ -7,10 +7,18 @@ ghost use Rattle.pair_book.specs.Calls.{IsClientSeat};
 ghost use Rattle.pair_book.specs.Opening.{IsBoot};
 
 use crate::book::{Book, LINE_SEAT};
-use growing_history::{BackupSeat, ClientSeat, Clock, LineSeat, Opened, Pair, RunnerSeat};
+use crate::seats::Seats;
+use growing_history::{
+    BackupSeat, ClientSeat, Clock, KeeperSeat, LineSeat, Opened, Pair, RunnerSeat,
+};
 use pair_record::PairRecord;
 use std::alloc::{AllocError, Global};
 use std::marker::Model;
+
+/// The numbers of the first runner's seat and of the first backup's.
+const RUNNER_SEAT: u64 = 1;
+
+const BACKUP_SEAT: u64 = 2;
 
 /// A book that has no name yet, with all the memory that it takes to begin. Contracts see the word, and how many clients there are.
 #[derive(Drop)]
@@ -37,12 +45,37 @@ impl Model for UnnamedBook {
         × (b.clients ≤ max_clients) };
 }
 
+/// A book whose clients haven't all got their seats yet. Contracts see the book at its start.
+#[derive(Drop)]
+pub struct NewBook<P: Pair> {
+    record: PairRecord,
+    keeper: KeeperSeat<P>,
+}
+
+impl<P: Pair> Model for NewBook<P> {
+    ghost use Rattle.std.specs.Prelude.{◌≡◌, ◌≤◌, [], length};
+    ghost use Rattle.frame_ports.specs.Limits.{max_clients};
+    ghost use Rattle.growing_history.specs.LogState.{line_seat, client_seat};
+    ghost use Rattle.pair_book.specs.Books.{BookState};
+    ghost use Rattle.pair_book.specs.internal.Tie.{IsTied, book_state};
+
+    ghost Value = { BookState };
+
+    ghost view = { λ b. book_state b.keeper b.record };
+
+    ghost invariant = { λ b. IsTied P.start b.keeper.steps b.record.protocol b.record.ports
+        × (b.keeper.steps ≡ [])
+        × (line_seat ≤ b.keeper.enrolled)
+        × (b.keeper.enrolled ≤ client_seat (length b.record.ports.boxes))
+        × (length b.record.ports.boxes ≤ max_clients) };
+}
+
 /// A book, the word that counts its keeper's steps, and the seats of the first runner, number 1, of the first backup, 2, and of the line,
-/// 3. The clients' are given out by [`Book::next_client`].
+/// 3. The clients' are given out by [`NewBook::next_client`].
 #[derive(Drop)]
 pub struct Members<P: Pair> {
     pub clock: Clock<P>,
-    pub book: Book<P>,
+    pub book: NewBook<P>,
     pub runner: RunnerSeat<P>,
     pub backup: BackupSeat<P>,
     pub line: LineSeat<P>,
@@ -84,9 +117,9 @@ impl UnnamedBook {
         let backup = keeper.enroll(&clock);
         let line = keeper.enroll(&clock);
         Members {
-            book: Book {
+            book: NewBook {
                 record: self.record,
-                seat: keeper,
+                keeper,
             },
             clock,
             runner,
@@ -96,7 +129,7 @@ impl UnnamedBook {
     }
 }
 
-impl<P: Pair> Book<P> {
+impl<P: Pair> NewBook<P> {
     /// Gives out the seat of the next client that has none yet, client 1 first; `None` once each client has one.
     pub fn next_client(&mut self, clock: &Clock<P>) -> Option<ClientSeat<P>>
         ensures seat { IfSome result (λ m. m ≡ record { number = self.old.enrolled + 1; steps = self.old.steps }) }
@@ -105,10 +138,24 @@ impl<P: Pair> Book<P> {
         ensures all { IsNone result ↔ (client_seat (length self.old.ports.boxes) ≤ self.old.enrolled) }
         ensures none { IfNone result (self.new ≡ self.old) }
     {
-        let client = self.seat.enrolled() - LINE_SEAT + 1;
+        let client = self.keeper.enrolled() - LINE_SEAT + 1;
         if client > self.record.clients() {
             return None;
         }
-        Some(self.seat.enroll(clock))
+        Some(self.keeper.enroll(clock))
+    }
+
+    /// The book that is shared from here on. A client that has got no seat by now gets none.
+    pub fn open(mut self, clock: &Clock<P>) -> Book<P>
+        ensures book { result ≡ record self { enrolled = client_seat (length self.ports.boxes) } }
+    {
+        for _ in 0..self.record.clients() {
+            let _not_asked_for = self.next_client(clock);
+        }
+        let NewBook { record, keeper } = self;
+        Book {
+            record,
+            seats: Seats::first(keeper, RUNNER_SEAT, BACKUP_SEAT),
+        }
     }
 }

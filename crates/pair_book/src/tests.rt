@@ -5,7 +5,7 @@ ghost use Rattle.growing_history.specs.LogState.{line_seat};
 ghost use Rattle.pair_book.specs.Calls.{IsClientSeat};
 
 use super::*;
-use growing_history::{Badge, ClientSeat, Clock, LineSeat, Pair};
+use growing_history::{BackupSeat, Badge, ClientSeat, Clock, LineSeat, Pair, RunnerSeat};
 use pair_history::Frame;
 use std::alloc::Global;
 use std::marker::Brand;
@@ -28,6 +28,16 @@ fn an_inbox_takes_64_frames(rt: HostRuntime) -> Result<(), Fail> {
 }
 
 #[test]
+fn a_backup_fails_and_a_new_one_comes(rt: HostRuntime) -> Result<(), Fail> {
+    lose_the_backup::<Brand, _>(&rt, rt.alloc(), UnnamedBook::new(rt.alloc(), 2)?)
+}
+
+#[test]
+fn a_stopped_primary_refuses(rt: HostRuntime) -> Result<(), Fail> {
+    stop_the_primary::<Brand, _>(&rt, rt.alloc(), UnnamedBook::new(rt.alloc(), 2)?)
+}
+
+#[test]
 fn two_threads_share_a_book(rt: HostRuntime) -> Result<(), Fail> {
     share::<Brand, _>(&rt, rt.alloc(), UnnamedBook::new(rt.alloc(), 2)?)
 }
@@ -37,6 +47,7 @@ fn two_threads_share_a_book(rt: HostRuntime) -> Result<(), Fail> {
 struct Desk<P: Pair> {
     clock: Clock<P>,
     book: Book<P>,
+    runner: RunnerSeat<P>,
     line: LineSeat<P>,
     first: ClientSeat<P>,
     second: ClientSeat<P>,
@@ -57,11 +68,13 @@ fn opened<P: Pair>(alloc: Global, book: UnnamedBook) -> Result<Box<Desk<P>>, Fai
         .book
         .next_client(&members.clock)
         .ok_or("a second client")?;
+    let book = members.book.open(&members.clock);
     Ok(Box::new(
         alloc,
         Desk {
             clock: members.clock,
-            book: members.book,
+            book,
+            runner: members.runner,
             line: members.line,
             first,
             second,
@@ -83,6 +96,26 @@ impl<P: Pair> Desk<P> {
     fn lose_in(&mut self, client: u64, place: u64) -> Result<Loss, Refusal> {
         self.book
             .lose_in(&self.clock, &mut self.line, client, place)
+    }
+
+    fn fail_primary(&mut self) -> Result<(), Refusal> {
+        self.book.fail_primary(&self.clock)
+    }
+
+    fn fail_backup(&mut self) -> Result<u64, Refusal> {
+        self.book.fail_backup(&self.clock)
+    }
+
+    fn protect(&mut self) -> Result<BackupSeat<P>, Refusal> {
+        self.book.protect(&self.clock)
+    }
+
+    fn ask(&self) -> Result<Want, Refusal> {
+        self.book.ask(&self.runner)
+    }
+
+    fn acked(&mut self, generation: u64, number: u64) -> Result<u64, Refusal> {
+        self.book.acked(&self.clock, Ack { generation, number })
     }
 
     fn lose_out(&mut self, client: u64, place: u64) -> Result<Loss, Refusal> {
@@ -115,6 +148,53 @@ fn fill_an_inbox<P: Pair, R: Abort>(rt: &R, alloc: Global, book: UnnamedBook) ->
     }
     assert_eq!(rt; desk.deliver(&FRAME), Err(Refusal::Full));
     assert_eq!(rt; desk.book.entries(), 65);
+    Ok(())
+}
+
+fn want(kind: Kind, generation: u64, number: u64) -> Want {
+    Want {
+        kind,
+        generation,
+        number,
+    }
+}
+
+fn lose_the_backup<P: Pair, R: Abort>(rt: &R, alloc: Global, book: UnnamedBook) -> Result<(), Fail>
+    requires { (book.word ≡ P.word) × (P.start ≡ start_state 1 1 [] book.clients) }
+{
+    let mut desk = opened::<P>(alloc, book)?;
+    assert_eq!(rt; desk.ask(), Ok(want(Kind::Delta, 1, 1)));
+    assert_eq!(rt; desk.acked(1, 1), Err(Refusal::Gap));
+    assert_eq!(rt; desk.acked(2, 1), Err(Refusal::Stale));
+    assert!(rt; matches!(desk.protect(), Err(Refusal::AlreadyPaired)));
+    assert_eq!(rt; desk.fail_backup(), Ok(0));
+    assert_eq!(rt; desk.ask(), Ok(want(Kind::Nothing, 1, 0)));
+    assert_eq!(rt; desk.fail_backup(), Err(Refusal::NotPaired));
+    assert_eq!(rt; desk.fail_primary(), Err(Refusal::NoImage));
+    assert_eq!(rt; desk.acked(1, 0), Err(Refusal::NotPaired));
+    let Ok(backup) = desk.protect() else {
+        return Err("a new backup".into());
+    };
+    assert_eq!(rt; backup.number(), 6);
+    assert_eq!(rt; desk.ask(), Ok(want(Kind::Full, 2, 0)));
+    assert_eq!(rt; desk.fail_primary(), Err(Refusal::NoImage));
+    assert_eq!(rt; desk.acked(1, 0), Err(Refusal::Stale));
+    assert_eq!(rt; desk.acked(2, 0), Err(Refusal::Gap));
+    assert_eq!(rt; desk.book.entries(), 0);
+    Ok(())
+}
+
+fn stop_the_primary<P: Pair, R: Abort>(rt: &R, alloc: Global, book: UnnamedBook) -> Result<(), Fail>
+    requires { (book.word ≡ P.word) × (P.start ≡ start_state 1 1 [] book.clients) }
+{
+    let mut desk = opened::<P>(alloc, book)?;
+    assert_eq!(rt; desk.fail_primary(), Ok(()));
+    assert_eq!(rt; desk.ask(), Err(Refusal::Stopped));
+    assert_eq!(rt; desk.fail_primary(), Err(Refusal::Stopped));
+    assert_eq!(rt; desk.fail_backup(), Err(Refusal::Stopped));
+    assert!(rt; matches!(desk.protect(), Err(Refusal::Stopped)));
+    assert_eq!(rt; desk.acked(1, 0), Err(Refusal::Stopped));
+    assert_eq!(rt; desk.deliver(&FRAME), Ok(1));
     Ok(())
 }
 
@@ -155,6 +235,7 @@ fn share<P: Pair + Send + Sync, R: Threads + Wait + Abort + Sync>(
     let Desk {
         clock,
         book,
+        runner: _,
         line: _,
         first,
         second,

@@ -10,6 +10,7 @@ use Rattle.growing_history.specs.Steps.{Step}
 use Rattle.growing_history.specs.LogState.{Legal, LogState, state_at, history_of}
 use Rattle.growing_history.specs.Views.{Keeper}
 use Rattle.pair_book.specs.Books.{BookState}
+use Rattle.pair_book.specs.internal.Waits.{AreWaiting}
 
 abbrev pub book_state : Keeper → RecordState → BookState
 book_state keeper r = record { steps = keeper.steps; enrolled = keeper.enrolled; protocol = r.protocol; ports = r.ports }
@@ -17,15 +18,17 @@ book_state keeper r = record { steps = keeper.steps; enrolled = keeper.enrolled;
 abbrev pub sealed_entries : LogState → List (List Entry)
 sealed_entries s = map (λ e. e.entries) s.sealed
 
--- History, sealed epochs, mode and numbers are those of the steps; the epoch that runs, as far as the book knows, is the arrivals of what
--- was handed out; there are as many boxes as where the history starts. Unless a commit is marked, record and ports accord with the history.
+-- Sealed epochs, mode and numbers are those of the steps; the epoch that runs, as far as the book knows, is the arrivals of what was handed
+-- out; there are as many boxes as where the history starts, and the inboxes are what waits. Unless a commit is marked, the history is that
+-- of the steps, and record and ports accord with it: after a marked one the guest that goes on may send what the history's guest didn't.
 pub record IsTied (start : HistoryState) (steps : List Step) (r : Record) (p : PortsState) : Type 0 where
   pub legal : Legal start steps
-  pub history : r.journal.history ≡ history_of start steps
+  pub history : (state_at start steps).marked ≡ 0 → r.journal.history ≡ history_of start steps
   pub sealed : r.journal.sealed ≡ sealed_entries (state_at start steps)
   pub running : r.journal.running ≡ map Arrive (state_at start steps).handed
   pub mode : r.mode ≡ (state_at start steps).mode
   pub generation : r.generation ≡ (state_at start steps).generation
   pub next : r.window.to_cut ≡ (state_at start steps).next
   pub clients : length p.boxes ≡ length start.boxes
+  pub waits : AreWaiting (state_at start steps) p
   pub accords : (state_at start steps).marked ≡ 0 → Accords start r p

@@ -9,12 +9,12 @@ use Rattle.pair_book.proofs.book.Book.lose_in.Goals as goal
 pub tell-requires-clause-tied : goal.tell-requires-clause-tied
 tell-requires-clause-tied g c =
     let start = g.P.Pair.start in
-    let steps = c.self.inside.seat.steps in
+    let steps = c.self.inside.seats.steps in
     let r = c.self.inside.record in
     let now = c.lose_in.new.self in
     let client = c.args.client in
     let place = c.args.place in
-    let tied = c.self.invariant.0 in
+    let tied = c.self.invariant in
     let range = client_range client (length r.ports.boxes) (sym c.client_refusal.ensures ∙ c.in_default.is) in
     let n = c.in_ok-lose_in.field-0 in
     let at = frame_at (slice_get (list_of r.ports.inboxes client) place) n c.in_ok-lose_in.ensures.number in

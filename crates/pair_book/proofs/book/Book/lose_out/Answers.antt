@@ -12,12 +12,12 @@ use Rattle.pair_book.proofs.book.Book.lose_out.Goals as goal
 pub tell-requires-clause-tied : goal.tell-requires-clause-tied
 tell-requires-clause-tied g c =
     let start = g.P.Pair.start in
-    let steps = c.self.inside.seat.steps in
+    let steps = c.self.inside.seats.steps in
     let r = c.self.inside.record in
     let now = c.lose_out.new.self in
     let client = c.args.client in
     let place = c.args.place in
-    let tied = c.self.invariant.0 in
+    let tied = c.self.invariant in
     let range = client_range client (length r.ports.boxes) (sym c.client_refusal.ensures ∙ c.in_default.is) in
     search (
       rules,
@@ -29,12 +29,12 @@ tell-requires-clause-tied g c =
 pub returns-clause-done : goal.returns-clause-done
 returns-clause-done g c =
     let start = g.P.Pair.start in
-    let steps = c.self.inside.seat.steps in
+    let steps = c.self.inside.seats.steps in
     let r = c.self.inside.record in
     let now = c.lose_out.new.self in
     let client = c.args.client in
     let place = c.args.place in
-    let tied = c.self.invariant.0 in
+    let tied = c.self.invariant in
     let range = client_range client (length r.ports.boxes) (sym c.client_refusal.ensures ∙ c.in_default.is) in
     let book = c.args.self.now in
     let same : r.ports ≡ book.ports = ap (λ (b : BookState). b.ports) c.self.view_is in

@@ -5,11 +5,11 @@ use Rattle.pair_book.proofs.book.Book.take.Goals as goal
 pub tell-requires-clause-tied : goal.tell-requires-clause-tied
 tell-requires-clause-tied g c =
     let start = g.P.Pair.start in
-    let steps = c.self.inside.seat.steps in
+    let steps = c.self.inside.seats.steps in
     let r = c.self.inside.record in
     let now = c.take.new.self in
     let by = c.args.seat.now.number in
-    let tied = c.self.invariant.0 in
+    let tied = c.self.invariant in
     search (
       rules,
       took-gained start steps r.protocol now.protocol r.ports now.ports tied by c.requires.client,

@@ -9,14 +9,14 @@ use Rattle.pair_book.proofs.book.Book.tell_full.Goals as goal
 pub tell-requires-clause-tied : goal.tell-requires-clause-tied
 tell-requires-clause-tied g c =
     let start = g.P.Pair.start in
-    let steps = c.self.inside.seat.steps in
+    let steps = c.self.inside.seats.steps in
     let r = c.self.inside.record in
     let now = c.refuse_delivery.new.self in
     let by = c.args.seat.now.number in
     let bytes = c.args.bytes.now in
-    let tied = c.self.invariant.0 in
+    let tied = c.self.invariant in
     let client = is_client_of start steps r.protocol r.ports by tied c.requires.client in
-    let book = book_state c.self.inside.seat r in
+    let book = book_state c.self.inside.seats r in
     let row =
     subst (λ (b : BookState). first_refusal (deliver_rows b (client_of by) bytes) ≡ Some Full) (sym c.self.view_is) c.requires.full in
     let rows = found_full book (client_of by) bytes client.0 client.1 row in

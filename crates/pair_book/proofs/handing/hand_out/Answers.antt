@@ -1,0 +1,53 @@
+use Rattle.std.proofs.Common.{rules, ◌≡◌, ◌+◌, ◌-◌, ◌≤◌, ℕ, List, [], length, take, suc, sym, ap, ◌∙◌, subst, arith}
+use Rattle.frame_ports.specs.Lands.{list_of}
+use Rattle.pair_book.specs.internal.Handing.{Handing, handing, handed_all, handed_out, HandsOutFirsts}
+use Rattle.pair_book.proofs.HandingLaws.{as_many, hands-firsts}
+use Rattle.pair_book.proofs.handing.hand_out.Goals as goal
+
+pub loop-client-preserved : goal.loop-client-preserved
+loop-client-preserved c =
+    let v = c.loop-client.invariant in
+    let p = c.loop-client.pair in
+    let new = c.hand_out_some.new.pair in
+    let e = c.hand_out_some.ensures in
+    let clients = c.clients-clients.result in
+    let client = c.loop-client.client in
+    let inbox = list_of p.ports.inboxes client in
+    let count = c.min-count.result in
+    let least = c.min-count.ensures in
+    let here = c.inbox_len.ensures in
+    let few : count ≤ 4 = omega (arith, least) in
+    let m = clients - client in
+    let h : Handing = handing p.protocol p.ports c.loop-client.frames.items in
+    let now : Handing = handing new.protocol new.ports c.hand_out_some.new.frames.items in
+    let next : (clients + 1) - (client + 1) ≡ m = omega arith in
+    let this : (clients + 1) - client ≡ suc m = omega (arith, c.loop-client-test.true) in
+    let four : take count inbox ≡ take 4 inbox = as_many count 4 inbox few (λ k. omega (arith, k, least, here)) in
+    record {
+      first = omega arith;
+      done =
+          ap (λ (k : ℕ). handed_out k (client + 1) now) next
+          ∙ ap (handed_out m (client + 1)) (e.done ∙ ap (λ l. handed_all client l h) four)
+          ∙ ap (λ (k : ℕ). handed_out k client h) (sym this)
+          ∙ v.done;
+      boxes = e.boxes ∙ v.boxes;
+      inboxes = e.inboxes ∙ e.boxes ∙ v.boxes;
+      numbers = omega (arith, e.numbers, v.numbers, few);
+      arrival_room = omega (arith, e.arrival_room, v.arrival_room, few);
+      room = omega (arith, e.len, e.room, v.room, few);
+    }
+
+pub returns-clause-done : goal.returns-clause-done
+returns-clause-done c =
+    let old = c.args.pair.now in
+    let n = length old.ports.boxes in
+    let before : Handing = handing old.protocol old.ports [] in
+    let now : Handing = handing c.loop-client.pair.protocol c.loop-client.pair.ports c.loop-client.frames.items in
+    let kept = c.reserve_arrivals.ensures.same in
+    let count = c.clients-clients.ensures.count in
+    let over : (c.clients-clients.result + 1) - c.loop-client.client ≡ 0 = omega (arith, c.loop-client-test.false) in
+    let whole : now ≡ handed_out n 1 before =
+    sym (ap (λ (k : ℕ). handed_out k c.loop-client.client now) over)
+    ∙ c.loop-client.invariant.done
+    ∙ (λ i. handed_out (count i) 1 (handing (kept.0 i) (kept.1 i) [])) in
+    subst (HandsOutFirsts n 1 before) (sym whole) (hands-firsts n 1 before (omega arith) (omega (arith, c.requires.inboxes)))

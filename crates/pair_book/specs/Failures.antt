@@ -1,0 +1,58 @@
+-- Failures and new backups, and acknowledgements: the steps that are no member's, and why they are refused.
+use Rattle.std.specs.Prelude.{◌≡◌, ℕ, ◌+◌, ◌==◌, ◌&&◌, not, nat_lt, nat_le, Bool, List, [], ◌∷◌, ◌++◌, length, Option, None, Some}
+use Rattle.frame_ports.specs.Limits.{number_limit}
+use Rattle.pair_history.specs.Entries.{Entry}
+use Rattle.pair_record.specs.declared.event.Event.TheVariants.{AckGet, FailPrimary, FailBackup, Protect}
+use Rattle.pair_record.specs.declared.event.Refusal.{Refusal}
+use Rattle.pair_record.specs.declared.event.Refusal.TheVariants.{Stale, Gap, Exhausted}
+use Rattle.pair_record.specs.Modes.{mode_refusal}
+use Rattle.pair_record.specs.Protocol.{Row, first_refusal, exhausts, let_go, fail_backup_refusals}
+use Rattle.growing_history.specs.Steps.{What, Added, step}
+use Rattle.pair_book.specs.declared.failures.Ack.{Ack}
+use Rattle.pair_book.specs.Books.{BookState}
+use Rattle.pair_book.specs.Calls.{is_word_full}
+
+-- WHAT SUCH A CALL DOES: it makes one step, under no member's number
+
+pub record MakesAlone (what : What) (old new : BookState) : Type 0 where
+  pub steps : new.steps ≡ old.steps ++ step 0 what ∷ []
+  pub enrolled : new.enrolled ≡ old.enrolled
+
+-- where it adds these entries; none, where there are none
+abbrev pub AddsAlone : List Entry → BookState → BookState → Type 0
+AddsAlone [] old new = (new.steps ≡ old.steps) × (new.enrolled ≡ old.enrolled)
+AddsAlone (e ∷ es) old new = MakesAlone (Added (e ∷ es)) old new
+
+-- WHY ONE IS REFUSED: by the mode (pair_record's Modes), or else by the first row that holds
+
+abbrev pub first_of : Option Refusal → List Row → Option Refusal
+first_of None rows = first_refusal rows
+first_of (Some why) rows = Some why
+
+abbrev pub fail_primary_why : BookState → Option Refusal
+fail_primary_why b = first_of (mode_refusal b.protocol.mode FailPrimary) ((is_word_full b, Exhausted) ∷ [])
+
+-- what is handed out stays, and so does what the guest sends along its epoch: the outbox counts for nothing
+abbrev pub fail_backup_why : BookState → Option Refusal
+fail_backup_why b =
+    first_of (mode_refusal b.protocol.mode FailBackup)
+    (fail_backup_refusals b.ports.boxes [] b.protocol ++ (is_word_full b, Exhausted) ∷ [])
+
+abbrev pub protect_why : BookState → Option Refusal
+protect_why b =
+    first_of (mode_refusal b.protocol.mode Protect)
+    ((nat_le number_limit (b.protocol.generation + 1), Exhausted) ∷ (is_word_full b, Exhausted) ∷ [])
+
+-- how many frames leave the gate at that number, each counted for each of its clients
+abbrev pub leaving_at : BookState → ℕ → ℕ
+leaving_at b n = length (let_go b.ports.boxes b.protocol n)
+
+-- An acknowledgement: of another generation, or beyond the last commit. A step is made only where a frame leaves the gate.
+abbrev pub ack_why : BookState → Ack → Option Refusal
+ack_why b ack =
+    first_of (mode_refusal b.protocol.mode (AckGet 0))
+    ((not (ack.generation == b.protocol.generation), Stale)
+    ∷ (nat_le b.protocol.window.to_commit ack.number, Gap)
+    ∷ (exhausts b.protocol (leaving_at b ack.number), Exhausted)
+    ∷ (nat_lt 0 (leaving_at b ack.number) && is_word_full b, Exhausted)
+    ∷ [])
