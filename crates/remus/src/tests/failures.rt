@@ -73,11 +73,12 @@ fn a_disk_goes_back_to_what_was_committed(rt: HostRuntime) -> Result<(), Fail> {
 }
 
 #[test]
-fn a_held_frame_is_dropped_where_the_backup_goes_live(rt: HostRuntime) {
+fn a_committed_frame_lands_where_the_backup_goes_live(rt: HostRuntime) {
     let script =
         b"boot 2 1 1 beacon\nstep 22\ncut\nsend\nbackup 0\nfail primary\ngolive\ntake 1\nshow\n";
     let printed =
-        "booted\nsteps 22\ncut 1 1\nsent 1\ncommitted 1 1\nstopped primary\nlive 2 steps 22\nnone\n\
+        "booted\nsteps 22\ncut 1 1\nsent 1\ncommitted 1 1\nstopped primary\nlive 2 steps 22\n\
+         frame 02000000010102000000000188b5\n\
          mode alone generation 2 pending 0 steps 22 entries 24\n";
     plays(&rt, rt.alloc(), script, 0, printed, "");
 }
