@@ -1,5 +1,5 @@
 //! Acknowledgements, failures, and what follows them: steps that are no member's.
-ghost use Rattle.std.specs.Prelude.{◌≡◌, ◌+◌, ◌++◌, ◌∷◌, [], None, Some, IfOk, OnOk, IfErr, OnErr};
+ghost use Rattle.std.specs.Prelude.{◌≡◌, ◌<◌, ◌+◌, ◌++◌, ◌∷◌, [], None, Some, IfOk, OnOk, IfErr, OnErr};
 ghost use Rattle.pair_history.specs.Landings.{landings};
 ghost use Rattle.growing_history.specs.Steps.{PrimaryFailed, BackupFailed, Protected, step};
 ghost use Rattle.pair_record.specs.EpochActs.{fail_within_done};
@@ -7,7 +7,7 @@ ghost use Rattle.pair_record.specs.declared.event.Reply.TheVariants as replies;
 ghost use Rattle.pair_record.specs.Protocol.{let_go, ack_done, fail_primary_done, begin_done};
 ghost use Rattle.pair_record.specs.Record.{ports_after_ack, ports_after_all};
 ghost use Rattle.pair_book.specs.Calls.{IsWhy};
-ghost use Rattle.pair_book.specs.Failures.{MakesAlone, AddsAlone, fail_primary_why, fail_backup_why, protect_why, ack_why};
+ghost use Rattle.pair_book.specs.Failures.{MakesAlone, AddsAlone, fail_primary_why, fail_backup_why, protect_why, ack_why, leaving_at};
 
 use crate::book::Book;
 use crate::gained::tell_alone;
@@ -64,6 +64,8 @@ impl<P: Pair> Book<P> {
             self.old self.new) }
         ensures free { OnOk result (ack_why self.old ack ≡ None) }
         ensures why { IfErr result (IsWhy (ack_why self.old ack)) }
+        // Memory is wanted only where frames leave.
+        ensures memory { OnErr result (ack_why self.old ack ≡ None → 0 < leaving_at self.old ack.number) }
         ensures refused { OnErr result (self.new ≡ self.old) }
     {
         if let Some(why) = self.ack_refusal(ack) {

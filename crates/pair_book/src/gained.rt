@@ -23,26 +23,26 @@ impl Tells for Gained<'_> {
 /// The keeper makes the step that adds what the record's history has gained since it had `before` entries, for the member whose seat is
 /// lent; where that step leads, the record is.
 pub(crate) fn tell<P: Pair>(
-    record: &PairRecord,
+    pair: &PairRecord,
     before: u64,
     seats: &mut Seats<P>,
     clock: &Clock<P>,
     member: &mut MemberSeat<P>,
 )
     requires tied { IsTied P.start (seats.old.steps
-        ++ step member.old.number (Added (drop before record.now.protocol.journal.history)) ∷ []) record.now.protocol record.now.ports }
+        ++ step member.old.number (Added (drop before pair.now.protocol.journal.history)) ∷ []) pair.now.protocol pair.now.ports }
     requires room { length seats.old.steps < number_limit }
-    ensures tied { IsTied P.start seats.new.steps record.now.protocol record.now.ports }
+    ensures tied { IsTied P.start seats.new.steps pair.now.protocol pair.now.ports }
     ensures seats { seats.new ≡ record seats.old {
-      steps = seats.old.steps ++ step member.old.number (Added (drop before record.now.protocol.journal.history)) ∷ [];
+      steps = seats.old.steps ++ step member.old.number (Added (drop before pair.now.protocol.journal.history)) ∷ [];
     } }
     ensures member { member.new ≡ record { number = member.old.number; steps = seats.new.steps } }
     ensures before { Begins member.old.steps seats.old.steps }
     ensures own { steps_by member.old.number member.new.steps ≡ steps_by member.old.number member.old.steps
-        ++ step member.old.number (Added (drop before record.now.protocol.journal.history)) ∷ [] }
+        ++ step member.old.number (Added (drop before pair.now.protocol.journal.history)) ∷ [] }
 {
     let gained = Gained {
-        history: record.history(),
+        history: pair.history(),
         before,
     };
     seats.step(clock, member, &gained);
@@ -50,21 +50,21 @@ pub(crate) fn tell<P: Pair>(
 
 /// The same where the step is no member's.
 pub(crate) fn tell_alone<P: Pair>(
-    record: &PairRecord,
+    pair: &PairRecord,
     before: u64,
     seats: &mut Seats<P>,
     clock: &Clock<P>,
 )
-    requires tied { IsTied P.start (seats.old.steps ++ step 0 (Added (drop before record.now.protocol.journal.history)) ∷ [])
-        record.now.protocol record.now.ports }
+    requires tied { IsTied P.start (seats.old.steps ++ step 0 (Added (drop before pair.now.protocol.journal.history)) ∷ [])
+        pair.now.protocol pair.now.ports }
     requires room { length seats.old.steps < number_limit }
-    ensures tied { IsTied P.start seats.new.steps record.now.protocol record.now.ports }
+    ensures tied { IsTied P.start seats.new.steps pair.now.protocol pair.now.ports }
     ensures seats { seats.new ≡ record seats.old {
-      steps = seats.old.steps ++ step 0 (Added (drop before record.now.protocol.journal.history)) ∷ [];
+      steps = seats.old.steps ++ step 0 (Added (drop before pair.now.protocol.journal.history)) ∷ [];
     } }
 {
     let gained = Gained {
-        history: record.history(),
+        history: pair.history(),
         before,
     };
     seats.step_alone(clock, &gained);
