@@ -15,6 +15,7 @@ use Rattle.std.proofs.Common.{
   get_or,
   Some,
   None,
+  refl,
   sym,
   ◌∙◌,
   ap,
@@ -65,3 +66,8 @@ module _ {X : Type 0} where
   pub removed_item : (xs : List X) (k : ℕ) → k < length xs → slice_get (drop k xs ++ take k xs) 0 ≡ slice_get xs k
   removed_item [] k inside = absurd (omega arith)
   removed_item (x ∷ xs) k inside = slice_get-rotated (x ∷ xs) k x inside ∙ sym (slice_get-get_or (x ∷ xs) k x inside)
+
+  -- what was put last is there
+  pub last_there : (xs : List X) (x : X) → slice_get (xs ++ x ∷ []) (length xs) ≡ Some x
+  last_there [] x = refl
+  last_there (y ∷ xs) x = last_there xs x

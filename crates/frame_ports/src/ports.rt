@@ -46,7 +46,7 @@ use crate::limits::{
     BOX_FRAMES, Frame, INBOX_FRAMES, MAX_CLIENTS, MAX_FRAME, MIN_FRAME, NUMBER_LIMIT,
 };
 use crate::numbers::{Numbers, raise, zeros};
-use crate::rings::{frame_of, put_last, remove_at, rings};
+use crate::rings::{frame_of, put_frame, put_last, remove_at, rings};
 use crate::targets::Targets;
 use circular_buffer::HeapCircularBuffer;
 use std::alloc::Global;
@@ -247,7 +247,7 @@ impl Ports {
         if landed.len() >= BOX_FRAMES {
             return Landing::Dropped;
         }
-        put_last(landed, frame_of(frame.as_slice()));
+        put_frame(landed, frame.as_slice());
         Landing::In
     }
 

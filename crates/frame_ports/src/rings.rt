@@ -31,6 +31,31 @@ pub(crate) fn put_last<T: Drop>(ring: &mut HeapCircularBuffer<T>, item: T)
     }
 }
 
+/// Puts these bytes into an empty frame, which has room for them.
+fn fill(frame: &mut Frame, bytes: &[u8])
+    requires few { length bytes.now ≤ 1514 }
+    requires empty { frame.old.items ≡ [] }
+    ensures { frame.new.items ≡ bytes.now }
+{
+    match frame.try_extend_from_slice(bytes) {
+        Ok(()) => {}
+        Err(_) => unreachable!(),
+    }
+}
+
+/// Puts the frame of these bytes last in a ring that has room for it. They are copied once, to where the frame lies then.
+pub(crate) fn put_frame(ring: &mut HeapCircularBuffer<Frame>, bytes: &[u8])
+    requires room { length ring.old.items < ring.old.capacity }
+    requires few { length bytes.now ≤ 1514 }
+    ensures { ring.new ≡ buffer (ring.old.items ++ record { items = bytes.now } ∷ []) ring.old.capacity }
+{
+    let last = ring.len();
+    put_last(ring, ArrayVec::new());
+    if let Some(frame) = ring.get_mut(last) {
+        fill(frame, bytes);
+    }
+}
+
 /// Moves the first `count` items to the end, one by one.
 fn rotate<T: Drop>(ring: &mut HeapCircularBuffer<T>, count: usize)
     requires within { count ≤ length ring.old.items }
