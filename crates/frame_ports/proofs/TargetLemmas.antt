@@ -2,6 +2,7 @@
 use Rattle.std.proofs.Common.{
   ◌≡◌,
   ℕ,
+  ◌+◌,
   ◌-◌,
   ◌*◌,
   ◌%◌,
@@ -33,7 +34,7 @@ use Rattle.std.proofs.Common.{
   if◌then◌else◌,
 }
 use Rattle.std.proofs.Math.Bool.{and-true, and-false, and_assoc, or-true, or-false}
-use Rattle.std.proofs.lemmas.Bool.{cases_lt, cases_eq, le-leb, lt-leb, eq-eqb, ne_eqb}
+use Rattle.std.proofs.lemmas.Bool.{cases_lt, cases_eq, le-leb, lt-leb, eq-eqb, eqb-true, ne_eqb}
 use Rattle.std.proofs.Math.Nat.{pow-le-pow_right, one-mul, mod-eq_of_lt}
 use Rattle.std.proofs.lemmas.Nat.Bits.{bit_at-zero, bit_at-pow_same, bit_at-pow_other, bit_at_ones, bit_at_ones_above}
 use Rattle.std.specs.Int.{bit_at}
@@ -182,3 +183,11 @@ routes_to_one n c d bytes few dpos dmost pos most named =
     (λ same. ap (λ b. b && nat_eq c d) (le-leb c n (omega arith)))
     (λ other. ap (λ b. nat_le c n && b) (ne_eqb c d other) ∙ and-false (nat_le c n) ∙ sym (ne_eqb c d other))
     (cases_eq c d))
+
+-- where this one bit is all of them, only one client is among them
+pub only_one : (bits zeros c : ℕ) → zeros < 16 → bits ≡ 1 * 2 ^ zeros % 65536 → 1 ≤ c → c ≤ 16 → has_target bits c ≡ true → c ≡ zeros + 1
+only_one bits zeros c few is pos most there =
+    let place : zeros + 1 - 1 ≡ zeros = omega arith in
+    let one = has_target-one (zeros + 1) c (omega arith) (omega arith) pos most in
+    eqb-true c (zeros + 1)
+    (sym one ∙ ap (λ k. has_target (1 * 2 ^ k % 65536) c) place ∙ ap (λ n. has_target n c) (sym is) ∙ there)

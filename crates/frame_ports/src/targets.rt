@@ -1,5 +1,5 @@
 //! To whom one frame goes.
-ghost use Rattle.std.specs.Prelude.{◌≡◌, ℕ, ◌≤◌, nat_le};
+ghost use Rattle.std.specs.Prelude.{◌≡◌, ℕ, ◌+◌, ◌<◌, ◌≤◌, nat_le, true};
 ghost use Rattle.frame_ports.specs.Limits.{max_clients};
 ghost use Rattle.frame_ports.specs.Targets.{has_target, AreTargets};
 
@@ -66,6 +66,23 @@ impl Targets {
         ensures { result ≡ has_target self client }
     {
         client >= 1 && client <= MAX_CLIENTS && (self.bits >> (client - 1)) & 1 == 1
+    }
+
+    /// Where to look for them: of `clients` clients, each that is among them has at least the first of these numbers, and a lower one than
+    /// the second. Where one alone is, no other has.
+    pub fn span(self, clients: u64) -> (u64, u64)
+        requires { clients ≤ max_clients }
+        ensures first { 1 ≤ result.0 }
+        ensures low { result.0 ≤ max_clients }
+        ensures end { result.1 ≤ clients + 1 }
+        ensures all { (c : ℕ) → 1 ≤ c → c ≤ clients → has_target self c ≡ true → (result.0 ≤ c) × (c < result.1) }
+    {
+        let zeros = self.bits.trailing_zeros();
+        if self.bits == 0 || self.bits != 1 << zeros {
+            return (1, clients + 1);
+        }
+        let client = u64::from(zeros) + 1;
+        (client, (client + 1).min(clients + 1))
     }
 
     /// The bits: bit c - 1 is set exactly where client c is among them.

@@ -24,7 +24,8 @@ fn count_receivers(ports: &Ports, frame: &Frame) -> u64
     let targets = ports.route(frame);
     let clients = ports.clients();
     let mut count = 0;
-    for client in 1..clients + 1 {
+    let (first, end) = targets.span(clients);
+    for client in first..end {
         if targets.contains(client) {
             count += 1;
         }
@@ -89,7 +90,8 @@ fn add_frame(history: &mut History, lengths: &mut Lengths, ports: &Ports, frame:
 {
     let targets = ports.route(frame);
     let clients = ports.clients();
-    for client in 1..clients + 1 {
+    let (first, end) = targets.span(clients);
+    for client in first..end {
         if targets.contains(client) {
             add_landing(history, lengths, client);
         }
@@ -140,7 +142,8 @@ fn land_frame(history: &mut History, ports: &mut Ports, number: u64, frame: &Fra
 {
     let targets = ports.route(frame);
     let clients = ports.clients();
-    for client in 1..clients + 1 {
+    let (first, end) = targets.span(clients);
+    for client in first..end {
         if targets.contains(client) {
             let landing = ports.land(client, number, frame);
             add_landed(history, client, landing);
@@ -220,7 +223,8 @@ fn count_new(ports: &Ports, number: u64, frame: &Frame) -> u64
     let targets = ports.route(frame);
     let clients = ports.clients();
     let mut count = 0;
-    for client in 1..clients + 1 {
+    let (first, end) = targets.span(clients);
+    for client in first..end {
         if targets.contains(client) {
             count += count_if_new(ports, client, number);
         }

@@ -7,5 +7,6 @@ abbrev pub invariant-loop-client : goal.invariant-loop-client
 invariant-loop-client l = record {
   first : 1 ≤ l.client;
   few : l.count + 1 ≤ l.client;
+  most : l.client ≤ 17;
   counted : l.count + length (from_on l.clients l.client l.frame.items) ≡ length (clients_of l.clients l.frame.items);
 }

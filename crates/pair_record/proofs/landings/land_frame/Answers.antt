@@ -1,12 +1,13 @@
-use Rattle.std.proofs.Common.{rules, ◌≡◌, ◌+◌, ◌≤◌, ◌++◌, length, ap, ◌∙◌, sym, arith, true, [], ◌∷◌, append_assoc, List}
-use Rattle.std.proofs.lemmas.List.{length-append}
+use Rattle.std.proofs.Common.{rules, ℕ, ◌≡◌, ◌+◌, ◌≤◌, ◌++◌, length, ap, ◌∙◌, sym, arith, true, [], ◌∷◌, append_assoc, List}
+use Rattle.std.proofs.lemmas.List.{append-nil, length-append}
+use Rattle.frame_ports.specs.Addresses.{clients_of}
 use Rattle.frame_ports.specs.{Numbers.{landing, after_landing}, Ports.PortsState, Targets.{AreTargets, has_target}}
 use Rattle.output_gate.specs.Landings.{clients_for, landed_for}
 use Rattle.output_gate.proofs.PortsAfterLaws.{boxes_count-for}
 use Rattle.pair_history.specs.{Entries.Entry, Log.Log}
 use Rattle.pair_record.specs.Kept.{entries_of_landing, entries_for}
-use Rattle.pair_record.proofs.Receivers.{from_on, next_yes, next_no, brought_more, brought_count, landed_more}
-use Rattle.pair_record.proofs.landings.land_frame.Goals.{then-contains, else-contains, After-contains, After-land-landing}
+use Rattle.pair_record.proofs.Receivers.{from_on, next_yes, next_no, brought_more, brought_count, landed_more, span_starts, span_ends}
+use Rattle.pair_record.proofs.landings.land_frame.Goals.{then-contains, else-contains, After-contains, After-land-landing, After-span-first}
 use Rattle.pair_record.proofs.landings.land_frame.Goals as goal
 
 most : (c : After-contains) → c.clients-clients.result ≤ 16
@@ -20,6 +21,39 @@ next : (c : After-contains) → has_target c.route-targets.result c.loop-client.
     ∷ from_on c.clients-clients.result (c.loop-client.client + 1) c.args.frame.now.items
 next c e = next_yes c.clients-clients.result c.loop-client.client c.args.frame.now.items c.route-targets.result (are c)
     c.loop-client.invariant.first (omega arith) (most c) e
+
+few : (c : After-span-first) → c.clients-clients.result ≤ 16
+few c = let p = c.clients-clients.ensures.ports in let q = p.clients.1 in let e = c.clients-clients.ensures.count in omega arith
+
+aim : (c : After-span-first) → AreTargets c.clients-clients.result c.args.frame.now.items c.route-targets.result
+aim c = rw c.clients-clients.ensures.count c.route-targets.ensures
+
+-- where the loop starts nothing is left out, and nothing remains where it ends
+starts : (c : After-span-first) → from_on c.clients-clients.result c.span-first.result.0 c.args.frame.now.items
+    ≡ clients_of c.clients-clients.result c.args.frame.now.items
+starts c = span_starts c.clients-clients.result c.args.frame.now.items c.route-targets.result c.span-first.result.0 c.span-first.result.1 (aim c)
+    (few c) c.span-first.ensures.all c.span-first.ensures.first
+
+ends : (c : After-span-first) → (client : ℕ) → 1 ≤ client → c.span-first.result.1 ≤ client
+    → from_on c.clients-clients.result client c.args.frame.now.items ≡ []
+ends c client least over = span_ends c.clients-clients.result c.args.frame.now.items c.route-targets.result c.span-first.result.0
+    c.span-first.result.1 (aim c) (few c) c.span-first.ensures.all client least over
+
+pub loop-client-init : goal.loop-client-init
+loop-client-init c =
+    let d = (goal.at.loop-client-init c).After-span-first in
+    let p = c.args.ports.now in
+    let f = c.args.frame.now in
+    let all : from_on c.clients-clients.result c.span-first.result.0 f.items ≡ clients_for p f =
+    starts d ∙ ap (λ n. clients_of n f.items) c.clients-clients.ensures.count in
+    let room = ap (λ cs. length (entries_for p cs c.args.number f)) all in
+    record {
+      first = c.span-first.ensures.first;
+      count = sym c.clients-clients.ensures.count;
+      ports = ap (λ cs. landed_for p cs c.args.number f) all;
+      entries = ap (λ cs. c.args.history.now.entries ++ entries_for p cs c.args.number f) all;
+      room = omega (arith, room);
+    }
 
 pub add_landed-requires-clause-room : goal.add_landed-requires-clause-room
 add_landed-requires-clause-room c =
@@ -106,5 +140,21 @@ loop-client-preserved c =
           }
     ]
 
+-- what remains where the loop ends
+none : (c : goal.After-loop-client) → from_on c.clients-clients.result c.loop-client.client c.args.frame.now.items ≡ []
+none c = ends (goal.at.returns-clause-entries c).After-span-first c.loop-client.client c.loop-client.invariant.first c.loop-client-test.false
+
+pub returns-clause-entries : goal.returns-clause-entries
+returns-clause-entries c =
+    let es = c.loop-client.history.entries in
+    sym (append-nil es) ∙ sym (ap (λ cs. es ++ entries_for c.loop-client.ports cs c.args.number c.args.frame.now) (none c))
+    ∙ c.loop-client.invariant.entries
+
 pub returns-clause-room : goal.returns-clause-room
-returns-clause-room c = search (arith, rules)
+returns-clause-room c =
+    let gone = ap (λ cs. length (entries_for c.loop-client.ports cs c.args.number c.args.frame.now)) (none c) in
+    omega (arith, gone, c.loop-client.invariant.room)
+
+pub returns-clause-ports : goal.returns-clause-ports
+returns-clause-ports c =
+    sym (ap (λ cs. landed_for c.loop-client.ports cs c.args.number c.args.frame.now) (none c)) ∙ c.loop-client.invariant.ports
