@@ -24,7 +24,8 @@ from pathlib import Path
 
 PROGRAM, TIMES = sys.argv[1], int(sys.argv[2])
 PAGE, SECTOR = 4096, 512
-FRAMES, LONGEST = 1024, 1514
+FRAMES, LONGEST, BOX = 1024, 1514, 64
+CACHES = 64 << 20
 
 
 def play(lines, wanted=()):
@@ -42,7 +43,7 @@ def play(lines, wanted=()):
             except BlockingIOError:
                 continue
             now = time.perf_counter()
-            printed += part
+            printed = printed[-100:] + part
             for text in wanted:
                 if text in printed:
                     when.setdefault(text, now)
@@ -67,22 +68,29 @@ def going_live(pages, sectors):
     return failing([f"boot {pages} {sectors} 1 beacon", "step 22", "cut", "send", "backup 0", "step 5"], b"live 2 steps 22\n")
 
 
-def landing_kept():
+def landing_kept(used):
     """The guest of guests/flood.c, but for 16 clients, which is one constant of its words: its loop ends at CLIENTS + 1. It sends until its
-    outbox is full, 256 frames an epoch, 16 of them to each client."""
+    outbox is full, 256 frames an epoch, 16 of them to each client. Four epochs are kept. Where boxes have been used, as many frames had
+    landed in each and were taken; else their memory is still to come from the system."""
     few, many = "00400813", "01100813"
     words = Path("guests/words/flood.words").read_text().strip()
     if words.count(few) != 1:
         sys.exit("guests/words/flood.words isn't the guest that this script knows")
     lines = [f"boot 2 1 16 words {words.replace(few, many)}"]
-    for epoch in range(4):
-        lines += ["step 30000", "cut", "send", f"backup {epoch}"]
+    for epoch in range(4 if used else 0):
+        lines += ["step 30000", "cut", "send", f"backup {epoch}", f"ack {epoch}"]
+    lines += [f"take {client}" for client in range(1, 17) for _ in range(BOX)]
+    lines += ["step 30000", "cut"] * 4 + ["send"] + [f"backup {packet + (4 if used else 0)}" for packet in range(4)]
     return failing(lines, b"\nlive 2 steps ")
 
 
-def copying(count):
-    """The time in which so many bytes are copied."""
-    source, target = memoryview(bytearray(b"x" * count)), bytearray(count)
+def copying(count, fresh=False):
+    """The time in which so many bytes are copied that no cache holds any longer, as those of frames that were kept some epochs ago: into
+    memory that is fresh from the system, or that isn't."""
+    source, target = memoryview(bytearray(b"x" * count)), mmap.mmap(-1, count)
+    if not fresh:
+        target[:] = source
+    bytearray(b"x" * CACHES)
     start = time.perf_counter()
     target[:] = source
     return time.perf_counter() - start
@@ -106,10 +114,11 @@ for pages, sectors in [(16, 64), (256, 2048), (4096, 32768)]:
     print(f"{pages:5} pages, {sectors:5} sectors: going live {live * 1e6:6.0f} us, copying them {copied * 1e6:6.0f} us, "
           f"giving back a machine's {given * 1e6:6.0f} us", flush=True)
 
-live = statistics.median(landing_kept() for _ in range(TIMES))
-copied = min(copying(FRAMES * LONGEST) for _ in range(TIMES))
-print(f"{FRAMES} kept frames of {LONGEST} bytes: going live {live * 1e6:6.0f} us, copying them {copied * 1e6:6.0f} us, "
-      f"ratio {live / copied:.2f}", flush=True)
+for used, boxes in [(True, "boxes that were used"), (False, "boxes fresh from the system")]:
+    live = statistics.median(landing_kept(used) for _ in range(TIMES))
+    copied = min(copying(FRAMES * LONGEST, not used) for _ in range(TIMES))
+    print(f"{FRAMES} kept frames of {LONGEST} bytes, {boxes}: going live {live * 1e6:6.0f} us, copying them {copied * 1e6:6.0f} us, "
+          f"ratio {live / copied:.2f}", flush=True)
 
 words = Path("bench/loops/arithmetic.words").read_text().strip()
 count, modes = 50_000_000, {"paired": [], "alone": ["fail backup"]}
