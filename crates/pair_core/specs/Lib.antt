@@ -1,5 +1,6 @@
 pub mod internal
 pub mod Kept
+pub mod Leaves
 pub mod Lines
 pub mod Nodes
 pub mod Texts

@@ -47,12 +47,13 @@ impl World {
     ghost use Rattle.pair_history.specs.HistoryState.{start_state};
     ghost use Rattle.pair_record.specs.Protocol.{outcome, step_outcome};
     ghost use Rattle.pair_core.specs.Answering.{Answers, MayWantMemory, step_reply};
+    ghost use Rattle.pair_core.specs.Leaves.{Leaves};
     ghost use Rattle.pair_core.specs.Pair.{Pair, OnRefused, IsConsistent};
-    ghost use Rattle.pair_core.specs.Lines.{Protocol, start_protocol, got, lines_after};
+    ghost use Rattle.pair_core.specs.Lines.{Protocol, start_protocol, got};
     ghost use Rattle.pair_core.specs.Along.{Along};
     ghost use Rattle.pair_core.specs.Runs.{Run, steps_outcome, with_steps};
     ghost use Rattle.pair_core.specs.Drops.{Drops};
-    ghost use Rattle.pair_core.specs.Replication.{KeepsBackup, Replicates, Leads};
+    ghost use Rattle.pair_core.specs.Replication.{Replicates, Leads};
     ghost use Rattle.pair_record.specs.declared.event.Event.{Event};
     ghost use Rattle.pair_record.specs.declared.event.Reply.{Reply};
     ghost use Rattle.pair_core.specs.Service.{HasServed, Serves, moment};
@@ -124,10 +125,7 @@ impl World {
     fn act(&mut self, event: Event<'_>) -> Result<Reply, MemoryWanted>
         ensures outcome { IfOk result (λ reply. (reply, self.new.protocol.state)
             ≡ outcome self.old.start self.old.protocol.state (got self.old.protocol.lines event.entry) event.entry) }
-        ensures start { self.new.start ≡ self.old.start }
-        ensures lines { IfOk result (λ reply. self.new.protocol.lines ≡ lines_after self.old.protocol reply) }
-        ensures replicates { IfOk result (λ reply. Replicates event.entry reply self.old.nodes self.new.nodes) }
-        ensures refused { IfOk result (λ reply. OnRefused reply self.old self.new) }
+        ensures leaves { IfOk result (λ reply. Leaves event.entry reply self.old self.new) }
         ensures memory { OnErr result (MayWantMemory self.old.protocol.state
             (outcome self.old.start self.old.protocol.state (got self.old.protocol.lines event.entry) event.entry)) }
         ensures err { OnErr result (self.new ≡ self.old) }
@@ -262,9 +260,8 @@ impl World {
     ghost use Rattle.pair_record.specs.Modes.{is_stopped as stopped, is_alone as alone, mode_refusal};
     ghost use Rattle.pair_record.specs.Protocol.{refused, allowed, step_outcome};
     ghost use Rattle.pair_core.specs.Answering.{MayWantMemory};
-    ghost use Rattle.pair_core.specs.Lines.{lines_after};
-    ghost use Rattle.pair_core.specs.Pair.{Pair, OnRefused};
-    ghost use Rattle.pair_core.specs.Replication.{KeepsBackup, Replicates};
+    ghost use Rattle.pair_core.specs.Leaves.{Leaves};
+    ghost use Rattle.pair_core.specs.Pair.{Pair};
     ghost use Rattle.pair_core.specs.Runs.{steps_outcome, with_steps};
 
     /// The running epoch ends: its checkpoint is sealed as a text, and its frames go to the gate.
@@ -272,10 +269,7 @@ impl World {
         requires { mode_refusal self.old.protocol.state.mode events.Cut ≡ None }
         ensures outcome { IfOk result (λ reply. (reply, self.new.protocol.state)
             ≡ allowed self.old.start self.old.protocol.state None events.Cut) }
-        ensures start { self.new.start ≡ self.old.start }
-        ensures lines { IfOk result (λ reply. self.new.protocol.lines ≡ lines_after self.old.protocol reply) }
-        ensures replicates { IfOk result (λ reply. Replicates events.Cut reply self.old.nodes self.new.nodes) }
-        ensures refused { IfOk result (λ reply. OnRefused reply self.old self.new) }
+        ensures leaves { IfOk result (λ reply. Leaves events.Cut reply self.old self.new) }
         ensures memory { OnErr result (MayWantMemory self.old.protocol.state
             (allowed self.old.start self.old.protocol.state None events.Cut)) }
         ensures err { OnErr result (self.new ≡ self.old) }
@@ -297,10 +291,7 @@ impl World {
         requires { mode_refusal self.old.protocol.state.mode events.Send ≡ None }
         ensures outcome { IfOk result (λ reply. (reply, self.new.protocol.state)
             ≡ allowed self.old.start self.old.protocol.state None events.Send) }
-        ensures start { self.new.start ≡ self.old.start }
-        ensures lines { IfOk result (λ reply. self.new.protocol.lines ≡ lines_after self.old.protocol reply) }
-        ensures backup { KeepsBackup self.old.nodes self.new.nodes }
-        ensures refused { IfOk result (λ reply. OnRefused reply self.old self.new) }
+        ensures leaves { IfOk result (λ reply. Leaves events.Send reply self.old self.new) }
         ensures memory { OnErr result (MayWantMemory self.old.protocol.state
             (allowed self.old.start self.old.protocol.state None events.Send)) }
         ensures err { OnErr result (self.new ≡ self.old) }
@@ -319,10 +310,7 @@ impl World {
         requires { mode_refusal self.old.protocol.state.mode (events.BackupGet k) ≡ None }
         ensures outcome { IfOk result (λ reply. (reply, self.new.protocol.state)
             ≡ allowed self.old.start self.old.protocol.state (slice_get self.old.protocol.lines.forward k) (events.BackupGet k)) }
-        ensures start { self.new.start ≡ self.old.start }
-        ensures lines { IfOk result (λ reply. self.new.protocol.lines ≡ lines_after self.old.protocol reply) }
-        ensures replicates { IfOk result (λ reply. Replicates (events.BackupGet k) reply self.old.nodes self.new.nodes) }
-        ensures refused { IfOk result (λ reply. OnRefused reply self.old self.new) }
+        ensures leaves { IfOk result (λ reply. Leaves (events.BackupGet k) reply self.old self.new) }
         ensures memory { OnErr result (MayWantMemory self.old.protocol.state
             (allowed self.old.start self.old.protocol.state (slice_get self.old.protocol.lines.forward k) (events.BackupGet k))) }
         ensures err { OnErr result (self.new ≡ self.old) }
@@ -354,10 +342,7 @@ impl World {
         requires { mode_refusal self.old.protocol.state.mode (events.AckGet k) ≡ None }
         ensures outcome { IfOk result (λ reply. (reply, self.new.protocol.state)
             ≡ allowed self.old.start self.old.protocol.state (slice_get self.old.protocol.lines.back k) (events.AckGet k)) }
-        ensures start { self.new.start ≡ self.old.start }
-        ensures lines { IfOk result (λ reply. self.new.protocol.lines ≡ lines_after self.old.protocol reply) }
-        ensures backup { KeepsBackup self.old.nodes self.new.nodes }
-        ensures refused { IfOk result (λ reply. OnRefused reply self.old self.new) }
+        ensures leaves { IfOk result (λ reply. Leaves (events.AckGet k) reply self.old self.new) }
         ensures memory { OnErr result (MayWantMemory self.old.protocol.state
             (allowed self.old.start self.old.protocol.state (slice_get self.old.protocol.lines.back k) (events.AckGet k))) }
         ensures err { OnErr result (self.new ≡ self.old) }

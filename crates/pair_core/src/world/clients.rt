@@ -3,9 +3,7 @@ ghost use Rattle.std.specs.Prelude.{◌≡◌, IfOk, OnErr, None};
 ghost use Rattle.pair_record.specs.declared.event.Event.TheVariants as events;
 ghost use Rattle.pair_record.specs.Protocol.{allowed};
 ghost use Rattle.pair_core.specs.Answering.{MayWantMemory};
-ghost use Rattle.pair_core.specs.Lines.{lines_after};
-ghost use Rattle.pair_core.specs.Pair.{OnRefused};
-ghost use Rattle.pair_core.specs.Replication.{KeepsBackup};
+ghost use Rattle.pair_core.specs.Leaves.{Leaves};
 
 use super::World;
 use memory_wanted::MemoryWanted;
@@ -16,10 +14,7 @@ impl World {
     pub(super) fn admit(&mut self, client: u64) -> Result<Reply, MemoryWanted>
         ensures outcome { IfOk result (λ reply. (reply, self.new.protocol.state)
             ≡ allowed self.old.start self.old.protocol.state None (events.Admit client)) }
-        ensures start { self.new.start ≡ self.old.start }
-        ensures lines { IfOk result (λ reply. self.new.protocol.lines ≡ lines_after self.old.protocol reply) }
-        ensures backup { KeepsBackup self.old.nodes self.new.nodes }
-        ensures refused { IfOk result (λ reply. OnRefused reply self.old self.new) }
+        ensures leaves { IfOk result (λ reply. Leaves (events.Admit client) reply self.old self.new) }
         ensures memory { OnErr result (MayWantMemory self.old.protocol.state
             (allowed self.old.start self.old.protocol.state None (events.Admit client))) }
         ensures err { OnErr result (self.new ≡ self.old) }
@@ -43,10 +38,7 @@ impl World {
     pub(super) fn deliver(&mut self, client: u64, bytes: &[u8]) -> Result<Reply, MemoryWanted>
         ensures outcome { IfOk result (λ reply. (reply, self.new.protocol.state)
             ≡ allowed self.old.start self.old.protocol.state None (events.Deliver client bytes.entry)) }
-        ensures start { self.new.start ≡ self.old.start }
-        ensures lines { IfOk result (λ reply. self.new.protocol.lines ≡ lines_after self.old.protocol reply) }
-        ensures backup { KeepsBackup self.old.nodes self.new.nodes }
-        ensures refused { IfOk result (λ reply. OnRefused reply self.old self.new) }
+        ensures leaves { IfOk result (λ reply. Leaves (events.Deliver client bytes.entry) reply self.old self.new) }
         ensures memory { OnErr result (MayWantMemory self.old.protocol.state
             (allowed self.old.start self.old.protocol.state None (events.Deliver client bytes.entry))) }
         ensures err { OnErr result (self.new ≡ self.old) }
@@ -64,10 +56,7 @@ impl World {
     pub(super) fn take(&mut self, client: u64) -> Result<Reply, MemoryWanted>
         ensures outcome { IfOk result (λ reply. (reply, self.new.protocol.state)
             ≡ allowed self.old.start self.old.protocol.state None (events.Take client)) }
-        ensures start { self.new.start ≡ self.old.start }
-        ensures lines { IfOk result (λ reply. self.new.protocol.lines ≡ lines_after self.old.protocol reply) }
-        ensures backup { KeepsBackup self.old.nodes self.new.nodes }
-        ensures refused { IfOk result (λ reply. OnRefused reply self.old self.new) }
+        ensures leaves { IfOk result (λ reply. Leaves (events.Take client) reply self.old self.new) }
         ensures memory { OnErr result (MayWantMemory self.old.protocol.state
             (allowed self.old.start self.old.protocol.state None (events.Take client))) }
         ensures err { OnErr result (self.new ≡ self.old) }

@@ -4,9 +4,7 @@ ghost use Rattle.pair_record.specs.declared.event.Event.TheVariants as events;
 ghost use Rattle.pair_record.specs.Modes.{mode_refusal};
 ghost use Rattle.pair_record.specs.Protocol.{allowed};
 ghost use Rattle.pair_core.specs.Answering.{MayWantMemory};
-ghost use Rattle.pair_core.specs.Lines.{lines_after};
-ghost use Rattle.pair_core.specs.Pair.{OnRefused};
-ghost use Rattle.pair_core.specs.Replication.{KeepsBackup, Replicates};
+ghost use Rattle.pair_core.specs.Leaves.{Leaves};
 
 use super::World;
 use memory_wanted::MemoryWanted;
@@ -17,10 +15,7 @@ impl World {
     pub(super) fn fail_primary(&mut self) -> Reply
         requires { mode_refusal self.old.protocol.state.mode events.FailPrimary ≡ None }
         ensures outcome { (result, self.new.protocol.state) ≡ allowed self.old.start self.old.protocol.state None events.FailPrimary }
-        ensures start { self.new.start ≡ self.old.start }
-        ensures lines { self.new.protocol.lines ≡ lines_after self.old.protocol result }
-        ensures backup { KeepsBackup self.old.nodes self.new.nodes }
-        ensures refused { OnRefused result self.old self.new }
+        ensures leaves { Leaves events.FailPrimary result self.old self.new }
     {
         self.record.fail_primary()
     }
@@ -30,10 +25,7 @@ impl World {
         requires { mode_refusal self.old.protocol.state.mode events.FailBackup ≡ None }
         ensures outcome { IfOk result (λ reply. (reply, self.new.protocol.state)
             ≡ allowed self.old.start self.old.protocol.state None events.FailBackup) }
-        ensures start { self.new.start ≡ self.old.start }
-        ensures lines { IfOk result (λ reply. self.new.protocol.lines ≡ lines_after self.old.protocol reply) }
-        ensures replicates { IfOk result (λ reply. Replicates events.FailBackup reply self.old.nodes self.new.nodes) }
-        ensures refused { IfOk result (λ reply. OnRefused reply self.old self.new) }
+        ensures leaves { IfOk result (λ reply. Leaves events.FailBackup reply self.old self.new) }
         ensures memory { OnErr result (MayWantMemory self.old.protocol.state
             (allowed self.old.start self.old.protocol.state None events.FailBackup)) }
         ensures err { OnErr result (self.new ≡ self.old) }
@@ -52,10 +44,7 @@ impl World {
         requires { mode_refusal self.old.protocol.state.mode events.GoLive ≡ None }
         ensures outcome { IfOk result (λ reply. (reply, self.new.protocol.state)
             ≡ allowed self.old.start self.old.protocol.state None events.GoLive) }
-        ensures start { self.new.start ≡ self.old.start }
-        ensures lines { IfOk result (λ reply. self.new.protocol.lines ≡ lines_after self.old.protocol reply) }
-        ensures replicates { IfOk result (λ reply. Replicates events.GoLive reply self.old.nodes self.new.nodes) }
-        ensures refused { IfOk result (λ reply. OnRefused reply self.old self.new) }
+        ensures leaves { IfOk result (λ reply. Leaves events.GoLive reply self.old self.new) }
         ensures memory { OnErr result (MayWantMemory self.old.protocol.state
             (allowed self.old.start self.old.protocol.state None events.GoLive)) }
         ensures err { OnErr result (self.new ≡ self.old) }
@@ -78,10 +67,7 @@ impl World {
         requires { mode_refusal self.old.protocol.state.mode events.Protect ≡ None }
         ensures outcome { IfOk result (λ reply. (reply, self.new.protocol.state)
             ≡ allowed self.old.start self.old.protocol.state None events.Protect) }
-        ensures start { self.new.start ≡ self.old.start }
-        ensures lines { IfOk result (λ reply. self.new.protocol.lines ≡ lines_after self.old.protocol reply) }
-        ensures replicates { IfOk result (λ reply. Replicates events.Protect reply self.old.nodes self.new.nodes) }
-        ensures refused { IfOk result (λ reply. OnRefused reply self.old self.new) }
+        ensures leaves { IfOk result (λ reply. Leaves events.Protect reply self.old self.new) }
         ensures memory { OnErr result (MayWantMemory self.old.protocol.state
             (allowed self.old.start self.old.protocol.state None events.Protect)) }
         ensures err { OnErr result (self.new ≡ self.old) }

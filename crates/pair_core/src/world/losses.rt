@@ -3,9 +3,7 @@ ghost use Rattle.std.specs.Prelude.{◌≡◌, IfOk, OnErr, None};
 ghost use Rattle.pair_record.specs.declared.event.Event.TheVariants as events;
 ghost use Rattle.pair_record.specs.Protocol.{allowed};
 ghost use Rattle.pair_core.specs.Answering.{MayWantMemory};
-ghost use Rattle.pair_core.specs.Lines.{lines_after};
-ghost use Rattle.pair_core.specs.Pair.{OnRefused};
-ghost use Rattle.pair_core.specs.Replication.{KeepsBackup};
+ghost use Rattle.pair_core.specs.Leaves.{Leaves};
 
 use super::World;
 use memory_wanted::MemoryWanted;
@@ -16,10 +14,7 @@ impl World {
     pub(super) fn lose_in(&mut self, client: u64, place: u64) -> Result<Reply, MemoryWanted>
         ensures outcome { IfOk result (λ reply. (reply, self.new.protocol.state)
             ≡ allowed self.old.start self.old.protocol.state None (events.LoseIn client place)) }
-        ensures start { self.new.start ≡ self.old.start }
-        ensures lines { IfOk result (λ reply. self.new.protocol.lines ≡ lines_after self.old.protocol reply) }
-        ensures backup { KeepsBackup self.old.nodes self.new.nodes }
-        ensures refused { IfOk result (λ reply. OnRefused reply self.old self.new) }
+        ensures leaves { IfOk result (λ reply. Leaves (events.LoseIn client place) reply self.old self.new) }
         ensures memory { OnErr result (MayWantMemory self.old.protocol.state
             (allowed self.old.start self.old.protocol.state None (events.LoseIn client place))) }
         ensures err { OnErr result (self.new ≡ self.old) }
@@ -41,10 +36,7 @@ impl World {
     pub(super) fn lose_out(&mut self, client: u64, place: u64) -> Result<Reply, MemoryWanted>
         ensures outcome { IfOk result (λ reply. (reply, self.new.protocol.state)
             ≡ allowed self.old.start self.old.protocol.state None (events.LoseOut client place)) }
-        ensures start { self.new.start ≡ self.old.start }
-        ensures lines { IfOk result (λ reply. self.new.protocol.lines ≡ lines_after self.old.protocol reply) }
-        ensures backup { KeepsBackup self.old.nodes self.new.nodes }
-        ensures refused { IfOk result (λ reply. OnRefused reply self.old self.new) }
+        ensures leaves { IfOk result (λ reply. Leaves (events.LoseOut client place) reply self.old self.new) }
         ensures memory { OnErr result (MayWantMemory self.old.protocol.state
             (allowed self.old.start self.old.protocol.state None (events.LoseOut client place))) }
         ensures err { OnErr result (self.new ≡ self.old) }

@@ -6,8 +6,8 @@ ghost use Rattle.pair_record.specs.Journal.{all_entries};
 ghost use Rattle.pair_record.specs.Modes as modes;
 ghost use Rattle.pair_record.specs.Protocol.{allowed, frames_run_out, refused, step_outcome, step_room};
 ghost use Rattle.pair_core.specs.Answering.{Answers, MayWantMemory, step_reply};
-ghost use Rattle.pair_core.specs.Lines.{lines_after};
-ghost use Rattle.pair_core.specs.Pair.{Pair, OnRefused, IsConsistent};
+ghost use Rattle.pair_core.specs.Leaves.{Leaves};
+ghost use Rattle.pair_core.specs.Pair.{Pair, IsConsistent};
 ghost use Rattle.pair_core.specs.Drops.{Drops};
 ghost use Rattle.pair_core.specs.Replication.{KeepsBackup};
 ghost use Rattle.pair_core.specs.Runs.{StepsAnswer, steps_outcome, with_steps};
@@ -77,10 +77,7 @@ impl World {
     /// One step, as a reply.
     pub(super) fn stepped(&mut self) -> Result<Reply, MemoryWanted>
         ensures outcome { IfOk result (λ reply. (reply, self.new.protocol.state) ≡ step_outcome self.old.start self.old.protocol.state) }
-        ensures start { self.new.start ≡ self.old.start }
-        ensures lines { IfOk result (λ reply. self.new.protocol.lines ≡ lines_after self.old.protocol reply) }
-        ensures backup { KeepsBackup self.old.nodes self.new.nodes }
-        ensures refused { IfOk result (λ reply. OnRefused reply self.old self.new) }
+        ensures leaves { IfOk result (λ reply. Leaves events.Step reply self.old self.new) }
         ensures memory { OnErr result (MayWantMemory self.old.protocol.state (step_outcome self.old.start self.old.protocol.state)) }
         ensures err { OnErr result (self.new ≡ self.old) }
     {

@@ -1,4 +1,4 @@
-use Rattle.std.proofs.Common.{rules, arith}
+use Rattle.std.proofs.Common.{rules, arith, ◌≡◌}
 use Rattle.pair_core.proofs.{PublicLaws.answers_by_outcome, ServiceLaws.serves, world.World.apply.Goals.After-answered}
 use Rattle.pair_core.specs.Answering.{Answers}
 use Rattle.pair_core.proofs.world.World.apply.Goals as goal
@@ -6,6 +6,9 @@ use Rattle.pair_core.proofs.world.World.apply.Goals as goal
 answers : (c : After-answered)
     → Answers c.args.self.now.start c.args.self.now.protocol c.args.event c.answered.result c.act-outcome.new.self.protocol
 answers c = search (arith, rules, answers_by_outcome)
+
+stays : (c : After-answered) → c.act-outcome.new.self.start ≡ c.args.self.now.start
+stays c = search (arith, rules)
 
 pub returns-clause-grows : goal.returns-clause-grows
 returns-clause-grows c =
@@ -20,5 +23,5 @@ pub returns-clause-serves : goal.returns-clause-serves
 returns-clause-serves c =
     let drops = c.keep_drops.ensures c.args.event c.answered.result c.act-outcome.new.self.protocol
     (answers (goal.at.returns-clause-serves c).After-answered) in
-    serves c.args.self.now c.act-outcome.new.self c.args.event c.answered.result c.act-outcome.ensures.start c.keep_consistent.ensures
+    serves c.args.self.now c.act-outcome.new.self c.args.event c.answered.result (stays (goal.at.returns-clause-serves c).After-answered) c.keep_consistent.ensures
     c.keep_consistent-2.ensures drops

@@ -107,8 +107,8 @@ invariant_of-self-2 c =
     })
     (commit_holds w c.self.invariant c.backup_refusal.ensures.record c.keep.ensures.numbers (two c.args.k c.self.view_is c.requires) more)
 
-pub returns-clause-replicates : goal.returns-clause-replicates
-returns-clause-replicates c =
+pub returns-clause-leaves : goal.returns-clause-leaves
+returns-clause-leaves c =
     let w = pair_of c.self.inside in
     let reply = ap (λ (o : Outcome). o.0) c.in_ok-reply.ensures.ok in
     let h = c.self.invariant in
@@ -119,8 +119,13 @@ returns-clause-replicates c =
     c.if-packet-number.false in
     let now = in_mode w h k in
     let then = in_mode (after_commit w) (commit_holds w h k c.keep.ensures.numbers alone more) (commit_record w.protocol.state k more) in
-    rw (← c.self.view_is) (subst (λ (o : Reply × Nodes). Replicates (BackupGet c.args.k) o.0 w.nodes o.1) (λ i. (
+    record {
+      start = search rules;
+      lines = search rules;
+      replicates = rw (← c.self.view_is) (subst (λ (o : Reply × Nodes). Replicates (BackupGet c.args.k) o.0 w.nodes o.1) (λ i. (
       sym reply i,
       sym
           c.commit-2.ensures i,
-    )) (commit_replicates w k alone now then more))
+    )) (commit_replicates w k alone now then more));
+      refused = search rules;
+    }

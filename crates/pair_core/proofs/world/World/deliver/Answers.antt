@@ -71,10 +71,12 @@ returns-in_default-why c =
       outcome =
           rw (← c.self.view_is) (deliver_stops w c.self.invariant c.args.client bytes c.deliver_refusal.result c.deliver_refusal.ensures why
           c.in_default-why.not-Full c.in-Some.is);
-      start = refl;
-      lines = refl;
-      backup = (refl, refl);
-      refused = subst (λ (v : Pair). AfterRefusal why v v) c.self.view_is (after_none w c.self.invariant why);
+      leaves = record {
+        start = refl;
+        lines = refl;
+        replicates = (refl, refl);
+        refused = subst (λ (v : Pair). AfterRefusal why v v) c.self.view_is (after_none w c.self.invariant why);
+      };
       memory = tt;
       err = tt;
     }

@@ -1,4 +1,4 @@
-use Rattle.std.proofs.Common.{◌∙◌, ◌+◌, [], ap, sym, subst}
+use Rattle.std.proofs.Common.{rules, ◌∙◌, ◌+◌, [], ap, sym, subst}
 use Rattle.guest_machine.specs.Guest.{Guest}
 use Rattle.frame_ports.specs.Limits.{number_limit}
 use Rattle.pair_record.specs.declared.event.Event.TheVariants.{Protect}
@@ -34,12 +34,17 @@ invariant_of-self-2 c =
     subst Holds (λ i. record w { protocol = record w.protocol { state = sym protocol i }; ports = sym c.in_ok-reply.ensures.ports i; nodes = sym nodes i })
     (protect_holds w c.self.invariant lone last text (makes (goal.at.invariant_of-self-2 c).In_ok-image))
 
-pub returns-clause-replicates : goal.returns-clause-replicates
-returns-clause-replicates c =
+pub returns-clause-leaves : goal.returns-clause-leaves
+returns-clause-leaves c =
     let w = pair_of c.self.inside in
     let text = c.in_ok-image.text.items in
     let reply = ap (λ (o : Outcome). o.0) c.in_ok-reply.ensures.ok in
     let nodes = c.protect-2.ensures ∙ ap (λ (x : Nodes). with_protected x text) c.full_checkpoint.ensures.nodes in
-    rw (← c.self.view_is) (subst (λ (o : Reply × Nodes). Replicates Protect o.0 w.nodes o.1) (λ i. (sym reply i, sym nodes i))
+    record {
+      start = search rules;
+      lines = search rules;
+      replicates = rw (← c.self.view_is) (subst (λ (o : Reply × Nodes). Replicates Protect o.0 w.nodes o.1) (λ i. (sym reply i, sym nodes i))
     (protect_replicates w.nodes (c.generation-generation.result + 1) text (λ (before : Guest). c.in_ok-image.ensures.text before
-    c.self.invariant.nodes.shape)))
+    c.self.invariant.nodes.shape)));
+      refused = search rules;
+    }
