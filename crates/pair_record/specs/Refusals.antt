@@ -2,7 +2,7 @@
 use Rattle.std.specs.Prelude.{ℕ, List, codes}
 use Rattle.pair_record.specs.declared.event.Refusal.{Refusal}
 use Rattle.pair_record.specs.declared.event.Refusal.TheVariants.{Full, BadFrame, NoClient, Stopped, Behind, NotPaired}
-use Rattle.pair_record.specs.declared.event.Refusal.TheVariants.{AlreadyPaired, NoImage, Stale, Gap, NoMemory, CutNeeded, Exhausted}
+use Rattle.pair_record.specs.declared.event.Refusal.TheVariants.{AlreadyPaired, NoImage, Stale, Gap, NoMemory, CutNeeded, Exhausted, OldVersion}
 
 abbrev pub number_of : Refusal → ℕ
 number_of Full = 1
@@ -18,6 +18,7 @@ number_of Gap = 10
 number_of (NoMemory _) = 12
 number_of CutNeeded = 13
 number_of Exhausted = 14
+number_of OldVersion = 15
 
 abbrev pub name_of : Refusal → List ℕ
 name_of Full = codes "Full"
@@ -33,3 +34,4 @@ name_of Gap = codes "Gap"
 name_of (NoMemory _) = codes "NoMemory"
 name_of CutNeeded = codes "CutNeeded"
 name_of Exhausted = codes "Exhausted"
+name_of OldVersion = codes "OldVersion"

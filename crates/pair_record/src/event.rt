@@ -83,6 +83,9 @@ pub enum Refusal {
     /// A number would reach 2^62.
     #[error("Exhausted")]
     Exhausted,
+    /// A delta of version 1, which carries no frames, was to be committed.
+    #[error("OldVersion")]
+    OldVersion,
 }
 
 impl Refusal {
@@ -106,6 +109,7 @@ impl Refusal {
             Refusal::NoMemory(_) => 12,
             Refusal::CutNeeded => 13,
             Refusal::Exhausted => 14,
+            Refusal::OldVersion => 15,
         }
     }
 
@@ -127,6 +131,7 @@ impl Refusal {
             Refusal::NoMemory(_) => "NoMemory",
             Refusal::CutNeeded => "CutNeeded",
             Refusal::Exhausted => "Exhausted",
+            Refusal::OldVersion => "OldVersion",
         }
     }
 }

@@ -17,7 +17,7 @@ use Rattle.memory_wanted.specs.Wanted.{wanted}
 use Rattle.pair_record.specs.Refusals.{number_of, name_of}
 use Rattle.pair_record.specs.declared.event.Refusal.{Refusal}
 use Rattle.pair_record.specs.declared.event.Refusal.TheVariants.{Full, BadFrame, NoClient, Stopped, Behind, NotPaired, AlreadyPaired}
-use Rattle.pair_record.specs.declared.event.Refusal.TheVariants.{NoImage, Stale, Gap, NoMemory, CutNeeded, Exhausted}
+use Rattle.pair_record.specs.declared.event.Refusal.TheVariants.{NoImage, Stale, Gap, NoMemory, CutNeeded, Exhausted, OldVersion}
 use Rattle.pair_record.specs.declared.event.Reply.{Reply}
 use Rattle.pair_record.specs.declared.event.Reply.TheVariants.{Steps, Cut, Sent, Committed, Again, Lost, Acked, Admitted, Empty}
 use Rattle.pair_record.specs.declared.event.Reply.TheVariants.{Delivered, Took, Dropped, Alone, Live, Protecting, Refused}
@@ -79,7 +79,7 @@ refusal_of n =
     (cond (n == 3) (Some NoClient) (cond (n == 4) (Some Stopped) (cond (n == 5) (Some Behind)
     (cond (n == 6) (Some NotPaired) (cond (n == 7) (Some AlreadyPaired) (cond (n == 8) (Some NoImage) (cond (n == 9) (Some Stale)
     (cond (n == 10) (Some Gap) (cond (n == 12) (Some (NoMemory wanted))
-    (cond (n == 13) (Some CutNeeded) (cond (n == 14) (Some Exhausted) None))))))))))))
+    (cond (n == 13) (Some CutNeeded) (cond (n == 14) (Some Exhausted) (cond (n == 15) (Some OldVersion) None)))))))))))))
 
 abbrev refused : List ℕ → Option Reply
 refused text = option_map (λ r. Refused r) (refusal_of (number_at 32 text).0)
@@ -139,6 +139,7 @@ refusal-back Gap = refl
 refusal-back (NoMemory w) = refl
 refusal-back CutNeeded = refl
 refusal-back Exhausted = refl
+refusal-back OldVersion = refl
 
 small : (r : Refusal) → number_of r < 2 ^ 64
 small Full = omega arith
@@ -154,6 +155,7 @@ small Gap = omega arith
 small (NoMemory w) = omega arith
 small CutNeeded = omega arith
 small Exhausted = omega arith
+small OldVersion = omega arith
 
 refused-back : (r : Refusal) (name : List ℕ) → refused ((decimal (number_of r) ++ 32 ∷ name) ++ 10 ∷ []) ≡ Some (Refused r)
 refused-back r name =

@@ -342,6 +342,7 @@ fn refusals_print_their_names(rt: HostRuntime) -> Result<(), Fail> {
         Refusal::from(wanted),
         Refusal::CutNeeded,
         Refusal::Exhausted,
+        Refusal::OldVersion,
     ] {
         let number = refusal.number();
         let name = refusal.name();
@@ -351,7 +352,8 @@ fn refusals_print_their_names(rt: HostRuntime) -> Result<(), Fail> {
         text.as_str(),
         "1 Full Full\n2 BadFrame BadFrame\n3 NoClient NoClient\n4 Stopped Stopped\n5 Behind Behind\n\
         6 NotPaired NotPaired\n7 AlreadyPaired AlreadyPaired\n8 NoImage NoImage\n9 Stale Stale\n10 Gap Gap\n\
-        12 NoMemory NoMemory\n13 CutNeeded CutNeeded\n14 Exhausted Exhausted\n"
+        12 NoMemory NoMemory\n13 CutNeeded CutNeeded\n14 Exhausted Exhausted\n\
+        15 OldVersion OldVersion\n"
     );
     Ok(())
 }
