@@ -8,6 +8,7 @@
 
 mod book;
 mod clients;
+mod commits;
 mod failures;
 mod gained;
 mod handing;

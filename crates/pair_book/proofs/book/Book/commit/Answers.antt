@@ -1,0 +1,38 @@
+use Rattle.std.proofs.Common.{rules, ◌≡◌, ap, false}
+use Rattle.pair_record.specs.Protocol.{Outcome}
+use Rattle.pair_book.specs.Commits.{is_earlier}
+use Rattle.pair_book.specs.internal.Tie.{book_state}
+use Rattle.pair_book.proofs.{CommitRows.commit_may, CommitTies.committed-tied}
+use Rattle.pair_book.proofs.book.Book.commit.Goals as goal
+
+pub step-requires-clause-room : goal.step-requires-clause-room
+step-requires-clause-room g c =
+    let change = c.in-Some-read.checkpoint.now in
+    let book = book_state c.self.inside.seats c.self.inside.record in
+    let later : is_earlier book change ≡ false = search rules in
+    (commit_may g.P.Pair.start book c.args.seat.now.number change (search rules) later).room
+
+pub step-requires-clause-legal : goal.step-requires-clause-legal
+step-requires-clause-legal g c =
+    let r = c.self.inside.record in
+    let now = c.commit.new.self in
+    let change = c.in-Some-read.checkpoint.now in
+    let book = book_state c.self.inside.seats r in
+    let later : is_earlier book change ≡ false = search rules in
+    let may = commit_may g.P.Pair.start book c.args.seat.now.number change (search rules) later in
+    (committed-tied g.P.Pair.start c.self.inside.seats.steps r.protocol now.protocol r.ports now.ports c.self.invariant
+    c.args.seat.now.number change c.keep.ensures.record may.mine may.pair may.generation may.number may.some
+    (ap (λ (o : Outcome). o.1) c.in_ok-reply.ensures.ok) c.in_ok-reply.ensures.ports).legal
+
+pub invariant_of-self-2 : goal.invariant_of-self-2
+invariant_of-self-2 g c =
+    let r = c.self.inside.record in
+    let now = c.commit.new.self in
+    let change = c.in-Some-read.checkpoint.now in
+    let book = book_state c.self.inside.seats r in
+    let later : is_earlier book change ≡ false = search rules in
+    let may = commit_may g.P.Pair.start book c.args.seat.now.number change (search rules) later in
+    let tied = committed-tied g.P.Pair.start c.self.inside.seats.steps r.protocol now.protocol r.ports now.ports c.self.invariant
+    c.args.seat.now.number change c.keep.ensures.record may.mine may.pair may.generation may.number may.some
+    (ap (λ (o : Outcome). o.1) c.in_ok-reply.ensures.ok) c.in_ok-reply.ensures.ports in
+    search (rules, tied)

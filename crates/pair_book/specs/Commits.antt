@@ -1,0 +1,64 @@
+-- What the backup's commits do, and why one is refused.
+use Rattle.std.specs.Prelude.{◌≡◌, ℕ, ◌==◌, ◌&&◌, not, nat_lt, nat_le, Bool, true, false, List, [], ◌∷◌, Option, None, Some}
+use Rattle.epoch_snapshot.specs.Checkpoints.{Change}
+use Rattle.checkpoint_stream.specs.Text.{text}
+use Rattle.pair_history.specs.HistoryState.{HistoryState}
+use Rattle.pair_record.specs.declared.event.Refusal.{Refusal}
+use Rattle.pair_record.specs.declared.event.Refusal.TheVariants.{Stopped, Stale, Gap, Exhausted, OldVersion}
+use Rattle.pair_record.specs.declared.event.Reply.TheVariants as replies
+use Rattle.pair_record.specs.Modes.{is_alone}
+use Rattle.pair_record.specs.Protocol.{Row, first_refusal, again_done, commit_done}
+use Rattle.growing_history.specs.Steps.{What, Committed}
+use Rattle.growing_history.specs.LogState.{state_at}
+use Rattle.growing_history.specs.Views.{Member}
+use Rattle.pair_book.specs.declared.failures.Ack.{Ack}
+use Rattle.pair_book.specs.Books.{BookState}
+use Rattle.pair_book.specs.Calls.{Makes, IsAsBefore, is_word_full}
+
+-- the step: the epoch of the checkpoint's generation and number is committed, of which this text was read
+abbrev pub commit_of : Change → What
+commit_of c = Committed c.generation c.number (text c)
+
+-- whether the backup whose seat has this number commits: it is the live one's, and no node is alone
+abbrev pub may_commit : HistoryState → BookState → ℕ → Bool
+may_commit start b number = number == (state_at start b.steps).backup && not (is_alone b.protocol.mode)
+
+-- a delta of version 1 carries no frames, so what its guest sent could never be said; a full checkpoint stands for no epoch
+abbrev pub is_old_delta : Change → Bool
+is_old_delta c = c.version == 1 && not (c.number == 0)
+
+-- whether it is the next one that is to be committed; or an earlier one
+abbrev pub is_next : BookState → Change → Bool
+is_next b c = c.number == b.protocol.window.to_commit
+
+abbrev pub is_earlier : BookState → Change → Bool
+is_earlier b c = nat_lt c.number b.protocol.window.to_commit
+
+-- WHY ONE IS REFUSED, where this checkpoint was read. The next one is beyond what is sealed where nothing is.
+abbrev pub commit_rows : HistoryState → BookState → ℕ → Change → List Row
+commit_rows start b number c =
+    (is_old_delta c, OldVersion)
+    ∷ (not (may_commit start b number), Stopped)
+    ∷ (not (c.generation == b.protocol.generation), Stale)
+    ∷ (nat_lt b.protocol.window.to_commit c.number, Gap)
+    ∷ (is_next b c && nat_le b.protocol.window.to_cut b.protocol.window.to_commit, Gap)
+    ∷ (is_next b c && is_word_full b, Exhausted)
+    ∷ []
+
+-- where none was read it is stale
+abbrev pub commit_why : HistoryState → BookState → ℕ → Option Change → Option Refusal
+commit_why start b number (Some c) = first_refusal (commit_rows start b number c)
+commit_why start b number None = first_refusal ((not (may_commit start b number), Stopped) ∷ (true, Stale) ∷ [])
+
+-- WHAT ONE LEAVES that was answered so. An earlier one: the last committed checkpoint's acknowledgement again, and all is as before. The
+-- next one: the protocol's commit, and the step that names the text that was read.
+abbrev pub AfterAgainOrNext : Bool → Change → Ack → BookState → BookState → Member → Member → Type 0
+AfterAgainOrNext true c ack old new seat seat' =
+    ((replies.Again ack.generation ack.number, new.protocol) ≡ again_done old.protocol) × IsAsBefore old new seat seat'
+AfterAgainOrNext false c ack old new seat seat' =
+    ((replies.Committed ack.generation ack.number, new.protocol) ≡ commit_done old.protocol)
+    × (new.ports ≡ old.ports)
+    × Makes (commit_of c) old new seat seat'
+
+abbrev pub AfterCommit : Change → Ack → BookState → BookState → Member → Member → Type 0
+AfterCommit c ack old new seat seat' = AfterAgainOrNext (is_earlier old c) c ack old new seat seat'

@@ -1,0 +1,128 @@
+//! What the backup calls.
+ghost use Rattle.std.specs.Prelude.{◌≡◌, ◌<◌, None, IfOk, OnOk, IfErr, OnErr, IfSome, option_map};
+ghost use Rattle.pair_record.specs.declared.event.Reply.TheVariants as replies;
+ghost use Rattle.pair_record.specs.Protocol.{again_done};
+ghost use Rattle.pair_book.specs.Calls.{IsWhy, IsAsBefore};
+ghost use Rattle.pair_book.specs.Commits.{may_commit, is_old_delta, commit_why, AfterCommit};
+
+use crate::book::Book;
+use crate::failures::Ack;
+use epoch_snapshot::Checkpoint;
+use growing_history::{BackupSeat, Clock, Pair, Tells};
+use pair_record::{Packet, Refusal, Reply, is_alone};
+
+/// A checkpoint that the backup read. It is announced as the commit of its epoch, with its text, which is what was read; nothing is
+/// copied.
+#[derive(Drop)]
+struct CommitOf<'a> {
+    checkpoint: &'a Checkpoint,
+}
+
+impl Tells for CommitOf<'_> {
+    ghost use Rattle.pair_book.specs.Commits.{commit_of};
+
+    ghost what = { λ c. commit_of c.checkpoint.now };
+}
+
+/// Whether it is a delta of version 1.
+fn is_old_delta(checkpoint: &Checkpoint) -> bool
+    ensures { result ≡ is_old_delta checkpoint.now }
+{
+    checkpoint.version() == 1 && checkpoint.number() != 0
+}
+
+impl<P: Pair> Book<P> {
+    /// Whether the backup of this seat is the live one, and no node is alone.
+    fn may_commit(&self, seat: &BackupSeat<P>) -> bool
+        ensures { result ≡ may_commit P.start self.now seat.now.number }
+    {
+        self.seats.count();
+        seat.number() == self.seats.backup() && !is_alone(self.record.mode())
+    }
+
+    /// Why the commit of what was read is refused.
+    fn commit_refusal(&self, seat: &BackupSeat<P>, read: Option<&Checkpoint>) -> Option<Refusal>
+        ensures { result ≡ commit_why P.start self.now seat.now.number (option_map (λ c. c.now) read.entry) }
+    {
+        let Some(checkpoint) = read else {
+            if self.may_commit(seat) {
+                return Some(Refusal::Stale);
+            }
+            return Some(Refusal::Stopped);
+        };
+        if is_old_delta(checkpoint) {
+            return Some(Refusal::OldVersion);
+        }
+        if !self.may_commit(seat) {
+            return Some(Refusal::Stopped);
+        }
+        let packet = Packet {
+            generation: checkpoint.generation(),
+            number: checkpoint.number(),
+        };
+        if let Some(why) = self.record.backup_refusal(packet) {
+            return Some(why);
+        }
+        if packet.number < self.record.to_commit() {
+            return None;
+        }
+        if self.record.to_cut() <= self.record.to_commit() {
+            return Some(Refusal::Gap);
+        }
+        if self.is_word_full() {
+            return Some(Refusal::Exhausted);
+        }
+        None
+    }
+
+    /// The acknowledgement of the last committed checkpoint.
+    fn last_ack(&self) -> Ack
+        requires { 0 < self.now.protocol.window.to_commit }
+        ensures { (replies.Again result.generation result.number, self.now.protocol) ≡ again_done self.now.protocol }
+    {
+        Ack {
+            generation: self.record.generation(),
+            number: self.record.to_commit() - 1,
+        }
+    }
+
+    /// The backup commits the checkpoint that it has read, none where it read none: where it is the next one, its epoch enters the
+    /// history, and a new backup's first one makes a pair. Answers the acknowledgement; where it is an earlier one, that of the last
+    /// committed checkpoint again, and nothing else happens.
+    ///
+    /// # Errors
+    ///
+    /// In this order: [`Refusal::OldVersion`] for a delta of version 1; [`Refusal::Stopped`] where this backup isn't the live one, or a
+    /// node is alone; [`Refusal::Stale`] for another generation, and where none was read; [`Refusal::Gap`] beyond the next number, and
+    /// where nothing is sealed under it; [`Refusal::Exhausted`] where the word would reach 2^62. [`Refusal::NoMemory`] where the room in
+    /// the history can't be had.
+    pub fn commit(
+        &mut self,
+        clock: &Clock<P>,
+        seat: &mut BackupSeat<P>,
+        read: Option<&Checkpoint>,
+    ) -> Result<Ack, Refusal>
+        ensures number { seat.new.number ≡ seat.old.number }
+        ensures done { IfOk result (λ ack. IfSome read.entry (λ c. AfterCommit c.now ack self.old self.new seat.old seat.new)) }
+        ensures free { OnOk result (commit_why P.start self.old seat.old.number (option_map (λ c. c.now) read.entry) ≡ None) }
+        ensures why { IfErr result (IsWhy (commit_why P.start self.old seat.old.number (option_map (λ c. c.now) read.entry))) }
+        ensures refused { OnErr result (IsAsBefore self.old self.new seat.old seat.new) }
+    {
+        if let Some(why) = self.commit_refusal(seat, read) {
+            return Err(why);
+        }
+        let Some(checkpoint) = read else {
+            unreachable!();
+        };
+        if checkpoint.number() < self.record.to_commit() {
+            return Ok(self.last_ack());
+        }
+        self.record.keep();
+        let reply = self.record.commit()?;
+        let Reply::Committed { generation, number } = reply else {
+            unreachable!();
+        };
+        self.seats.step(clock, seat, &CommitOf { checkpoint });
+        Ok(Ack { generation, number })
+    }
+}
