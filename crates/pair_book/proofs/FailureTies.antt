@@ -88,7 +88,7 @@ module _ (start : HistoryState) (steps : List Step) (r now : Record) (p q : Port
   s = state_at start steps
 
   -- the history's state is the one that clients see
-  shown : s.marked ≡ 0 → s.history ≡ shown_at start r
+  pub shown : s.marked ≡ 0 → s.history ≡ shown_at start r
   shown none = history-stands start steps ∙ ap (at start) (sym (t.history none))
 
   -- THE PRIMARY FAILS

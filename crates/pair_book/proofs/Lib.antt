@@ -2,11 +2,13 @@ pub mod Rows
 pub mod FailureRows
 pub mod CommitRows
 pub mod LiveLaws
+pub mod CommittedLaws
 pub mod Waits
 pub mod Ties
 pub mod ClientTies
 pub mod LossTies
 pub mod FailureTies
 pub mod CommitTies
+pub mod CommittedTies
 pub mod Start
 pub mod HandingLaws

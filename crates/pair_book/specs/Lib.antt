@@ -6,3 +6,4 @@ pub mod Commits
 pub mod Losses
 pub mod Opening
 pub mod Running
+pub mod Standing

@@ -27,12 +27,14 @@ pub struct Book<P: Pair> {
 impl<P: Pair> Model for Book<P> {
     ghost use Rattle.pair_book.specs.Books.{BookState};
     ghost use Rattle.pair_book.specs.internal.Tie.{IsTied, book_state};
+    ghost use Rattle.pair_book.specs.internal.Committed.{KeepsCommitted};
 
     ghost Value = { BookState };
 
     ghost view = { λ b. book_state b.seats b.record };
 
-    ghost invariant = { λ b. IsTied P.start b.seats.steps b.record.protocol b.record.ports };
+    ghost invariant = { λ b. IsTied P.start b.seats.steps b.record.protocol b.record.ports
+        × KeepsCommitted P.start b.seats.steps b.record.protocol b.record.ports };
 }
 
 impl<P: Pair> Book<P> {

@@ -148,6 +148,7 @@ impl<P: Pair> Book<P> {
         if let Some(why) = self.fail_backup_refusal() {
             return Err(why);
         }
+        self.record.keep();
         let reply = self.record.fail_backup_within()?;
         let Reply::Alone { landed, .. } = reply else {
             unreachable!();

@@ -3,6 +3,7 @@ ghost use Rattle.std.specs.Prelude.{◌≡◌, ◌<◌, ◌++◌, ◌∷◌, [],
 ghost use Rattle.frame_ports.specs.Limits.{number_limit};
 ghost use Rattle.growing_history.specs.Steps.{Added, step, Begins, steps_by};
 ghost use Rattle.pair_book.specs.internal.Tie.{IsTied};
+ghost use Rattle.pair_book.specs.internal.Committed.{KeepsCommitted};
 
 use crate::seats::Seats;
 use growing_history::{Clock, MemberSeat, Pair, Tells};
@@ -31,8 +32,11 @@ pub(crate) fn tell<P: Pair>(
 )
     requires tied { IsTied P.start (seats.old.steps
         ++ step member.old.number (Added (drop before pair.now.protocol.journal.history)) ∷ []) pair.now.protocol pair.now.ports }
+    requires committed { KeepsCommitted P.start (seats.old.steps
+        ++ step member.old.number (Added (drop before pair.now.protocol.journal.history)) ∷ []) pair.now.protocol pair.now.ports }
     requires room { length seats.old.steps < number_limit }
     ensures tied { IsTied P.start seats.new.steps pair.now.protocol pair.now.ports }
+    ensures committed { KeepsCommitted P.start seats.new.steps pair.now.protocol pair.now.ports }
     ensures seats { seats.new ≡ record seats.old {
       steps = seats.old.steps ++ step member.old.number (Added (drop before pair.now.protocol.journal.history)) ∷ [];
     } }
@@ -57,8 +61,11 @@ pub(crate) fn tell_alone<P: Pair>(
 )
     requires tied { IsTied P.start (seats.old.steps ++ step 0 (Added (drop before pair.now.protocol.journal.history)) ∷ [])
         pair.now.protocol pair.now.ports }
+    requires committed { KeepsCommitted P.start (seats.old.steps
+        ++ step 0 (Added (drop before pair.now.protocol.journal.history)) ∷ []) pair.now.protocol pair.now.ports }
     requires room { length seats.old.steps < number_limit }
     ensures tied { IsTied P.start seats.new.steps pair.now.protocol pair.now.ports }
+    ensures committed { KeepsCommitted P.start seats.new.steps pair.now.protocol pair.now.ports }
     ensures seats { seats.new ≡ record seats.old {
       steps = seats.old.steps ++ step 0 (Added (drop before pair.now.protocol.journal.history)) ∷ [];
     } }

@@ -58,6 +58,7 @@ impl<P: Pair> Model for NewBook<P> {
     ghost use Rattle.growing_history.specs.LogState.{line_seat, client_seat};
     ghost use Rattle.pair_book.specs.Books.{BookState};
     ghost use Rattle.pair_book.specs.internal.Tie.{IsTied, book_state};
+    ghost use Rattle.pair_book.specs.internal.Committed.{KeepsCommitted};
 
     ghost Value = { BookState };
 
@@ -67,7 +68,8 @@ impl<P: Pair> Model for NewBook<P> {
         × (b.keeper.steps ≡ [])
         × (line_seat ≤ b.keeper.enrolled)
         × (b.keeper.enrolled ≤ client_seat (length b.record.ports.boxes))
-        × (length b.record.ports.boxes ≤ max_clients) };
+        × (length b.record.ports.boxes ≤ max_clients)
+        × KeepsCommitted P.start b.keeper.steps b.record.protocol b.record.ports };
 }
 
 /// A book, the word that counts its keeper's steps, and the seats of the first runner, number 1, of the first backup, 2, and of the line,

@@ -18,3 +18,4 @@ pub mod LoneAccords
 pub mod HandedAccords
 pub mod LiveAccords
 pub mod ProtectAccords
+pub mod KeptLists

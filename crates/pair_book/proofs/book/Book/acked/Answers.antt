@@ -3,6 +3,7 @@ use Rattle.pair_record.specs.Protocol.{Outcome, Record}
 use Rattle.pair_book.specs.internal.Tie.{book_state}
 use Rattle.pair_book.proofs.FailureRows.{ack_may}
 use Rattle.pair_book.proofs.FailureTies.{landed_by, no-more, acked-gained, acked-tied, unmoved-tied}
+use Rattle.pair_book.proofs.CommittedTies.{acked-keeps, unmoved-keeps}
 use Rattle.pair_book.proofs.book.Book.acked.Goals as goal
 
 pub tell_alone-requires-clause-tied : goal.tell_alone-requires-clause-tied
@@ -17,8 +18,8 @@ tell_alone-requires-clause-tied g c =
     let ports = c.in_ok-reply.ensures.ports in
     search (
       rules,
-      acked-gained start steps r.protocol now.protocol r.ports now.ports c.self.invariant n c.keep.ensures.record rows.0 is ports,
-      acked-tied start steps r.protocol now.protocol r.ports now.ports c.self.invariant n c.keep.ensures.record rows.0 is ports,
+      acked-gained start steps r.protocol now.protocol r.ports now.ports c.self.invariant.0 n c.keep.ensures.record rows.0 is ports,
+      acked-tied start steps r.protocol now.protocol r.ports now.ports c.self.invariant.0 n c.keep.ensures.record rows.0 is ports,
     )
 
 pub invariant_of-self-else-len-before : goal.invariant_of-self-else-len-before
@@ -35,5 +36,25 @@ invariant_of-self-else-len-before g c =
     ap (λ (x : Record). x.journal.history) is in
     let none : landed_by r.ports.boxes r.protocol n ≡ [] =
     no-more r.protocol.journal.history now.protocol.journal.history (landed_by r.ports.boxes r.protocol n) grown
-    (search (rules, arith, c.if-len-before.false)) in
-    unmoved-tied start steps r.protocol now.protocol r.ports now.ports c.self.invariant n c.keep.ensures.record rows.0 is ports none
+    (search (rules, arith, c.if-len-before.false)) in (
+      unmoved-tied start steps r.protocol now.protocol r.ports now.ports c.self.invariant.0 n c.keep.ensures.record rows.0 is ports none,
+      unmoved-keeps start steps r.protocol now.protocol r.ports now.ports c.self.invariant.1 0 n c.keep.ensures.record
+          c.keep.ensures.numbers c.keep.ensures.clients rows.0 is ports,
+    )
+
+pub tell_alone-requires-clause-committed : goal.tell_alone-requires-clause-committed
+tell_alone-requires-clause-committed g c =
+    let start = g.P.Pair.start in
+    let steps = c.self.inside.seats.steps in
+    let r = c.self.inside.record in
+    let now = c.acknowledge.new.self in
+    let n = c.args.ack.number in
+    let rows = ack_may (book_state c.self.inside.seats r) c.args.ack (search rules) in
+    let is = ap (λ (o : Outcome). o.1) c.in_ok-reply.ensures.ok in
+    let ports = c.in_ok-reply.ensures.ports in
+    search (
+      rules,
+      acked-gained start steps r.protocol now.protocol r.ports now.ports c.self.invariant.0 n c.keep.ensures.record rows.0 is ports,
+      acked-keeps start steps r.protocol now.protocol r.ports now.ports c.self.invariant.1 0 n c.keep.ensures.record
+          c.keep.ensures.numbers c.keep.ensures.clients rows.0 is ports,
+    )

@@ -3,6 +3,7 @@ use Rattle.pair_record.specs.Protocol.{Outcome}
 use Rattle.pair_book.specs.Commits.{is_earlier}
 use Rattle.pair_book.specs.internal.Tie.{book_state}
 use Rattle.pair_book.proofs.{CommitRows.commit_may, CommitTies.committed-tied}
+use Rattle.pair_book.proofs.CommittedTies.{committed-keeps}
 use Rattle.pair_book.proofs.book.Book.commit.Goals as goal
 
 pub step-requires-clause-room : goal.step-requires-clause-room
@@ -20,7 +21,7 @@ step-requires-clause-legal g c =
     let book = book_state c.self.inside.seats r in
     let later : is_earlier book change ≡ false = search rules in
     let may = commit_may g.P.Pair.start book c.args.seat.now.number change (search rules) later in
-    (committed-tied g.P.Pair.start c.self.inside.seats.steps r.protocol now.protocol r.ports now.ports c.self.invariant
+    (committed-tied g.P.Pair.start c.self.inside.seats.steps r.protocol now.protocol r.ports now.ports c.self.invariant.0
     c.args.seat.now.number change c.keep.ensures.record may.mine may.pair may.generation may.number may.some
     (ap (λ (o : Outcome). o.1) c.in_ok-reply.ensures.ok) c.in_ok-reply.ensures.ports).legal
 
@@ -32,7 +33,10 @@ invariant_of-self-2 g c =
     let book = book_state c.self.inside.seats r in
     let later : is_earlier book change ≡ false = search rules in
     let may = commit_may g.P.Pair.start book c.args.seat.now.number change (search rules) later in
-    let tied = committed-tied g.P.Pair.start c.self.inside.seats.steps r.protocol now.protocol r.ports now.ports c.self.invariant
+    let tied = committed-tied g.P.Pair.start c.self.inside.seats.steps r.protocol now.protocol r.ports now.ports c.self.invariant.0
     c.args.seat.now.number change c.keep.ensures.record may.mine may.pair may.generation may.number may.some
     (ap (λ (o : Outcome). o.1) c.in_ok-reply.ensures.ok) c.in_ok-reply.ensures.ports in
-    search (rules, tied)
+    let keeps = committed-keeps g.P.Pair.start c.self.inside.seats.steps r.protocol now.protocol r.ports now.ports c.self.invariant.1
+    c.args.seat.now.number c.self.invariant.0 change c.keep.ensures.record c.keep.ensures.numbers may.pair may.some
+    (ap (λ (o : Outcome). o.1) c.in_ok-reply.ensures.ok) c.in_ok-reply.ensures.ports in
+    search (rules, tied, keeps)

@@ -5,6 +5,7 @@ use Rattle.pair_record.specs.Protocol.{Outcome}
 use Rattle.pair_book.specs.internal.Tie.{book_state}
 use Rattle.pair_book.proofs.FailureRows.{backup_may}
 use Rattle.pair_book.proofs.FailureTies.{backup-tied}
+use Rattle.pair_book.proofs.CommittedTies.{backup-keeps}
 use Rattle.pair_book.proofs.book.Book.fail_backup.Goals as goal
 
 pub step_alone-requires-clause-legal : goal.step_alone-requires-clause-legal
@@ -12,7 +13,7 @@ step_alone-requires-clause-legal g c =
     let r = c.self.inside.record in
     let now = c.fail_backup_within.new.self in
     let rows = backup_may (book_state c.self.inside.seats r) (search rules) in
-    (backup-tied g.P.Pair.start c.self.inside.seats.steps r.protocol now.protocol r.ports now.ports c.self.invariant rows.0
+    (backup-tied g.P.Pair.start c.self.inside.seats.steps r.protocol now.protocol r.ports now.ports c.self.invariant.0 rows.0
     (ap (λ (o : Outcome). o.1) c.in_ok-reply.ensures.ok) c.in_ok-reply.ensures.ports).legal
 
 pub invariant_of-self-2 : goal.invariant_of-self-2
@@ -20,6 +21,8 @@ invariant_of-self-2 g c =
     let r = c.self.inside.record in
     let now = c.fail_backup_within.new.self in
     let rows = backup_may (book_state c.self.inside.seats r) (search rules) in
-    let tied = backup-tied g.P.Pair.start c.self.inside.seats.steps r.protocol now.protocol r.ports now.ports c.self.invariant rows.0
+    let tied = backup-tied g.P.Pair.start c.self.inside.seats.steps r.protocol now.protocol r.ports now.ports c.self.invariant.0 rows.0
     (ap (λ (o : Outcome). o.1) c.in_ok-reply.ensures.ok) c.in_ok-reply.ensures.ports in
-    search (rules, tied)
+    let keeps = backup-keeps g.P.Pair.start c.self.inside.seats.steps r.protocol now.protocol r.ports now.ports c.self.invariant.1 0 c.keep.ensures.record
+    (ap (λ (o : Outcome). o.1) c.in_ok-reply.ensures.ok) in
+    search (rules, tied, keeps)

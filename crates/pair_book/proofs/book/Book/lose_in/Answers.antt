@@ -4,6 +4,8 @@ use Rattle.pair_history.specs.Entries.{DropIn}
 use Rattle.std.specs.Prelude.{slice_get}
 use Rattle.pair_book.proofs.Ties.{gained}
 use Rattle.pair_book.proofs.LossTies.{client_range, frame_at, lost-in-tied}
+use Rattle.growing_history.specs.LogState.{line_seat}
+use Rattle.pair_book.proofs.CommittedTies.{lost-in-keeps}
 use Rattle.pair_book.proofs.book.Book.lose_in.Goals as goal
 
 pub tell-requires-clause-tied : goal.tell-requires-clause-tied
@@ -14,7 +16,7 @@ tell-requires-clause-tied g c =
     let now = c.lose_in.new.self in
     let client = c.args.client in
     let place = c.args.place in
-    let tied = c.self.invariant in
+    let tied = c.self.invariant.0 in
     let range = client_range client (length r.ports.boxes) (sym c.client_refusal.ensures ∙ c.in_default.is) in
     let n = c.in_ok-lose_in.field-0 in
     let at = frame_at (slice_get (list_of r.ports.inboxes client) place) n c.in_ok-lose_in.ensures.number in
@@ -22,4 +24,17 @@ tell-requires-clause-tied g c =
       rules,
       gained c.len-before.result now.protocol.journal.history r.protocol now.protocol (DropIn n ∷ []),
       lost-in-tied start steps r.protocol now.protocol r.ports now.ports tied client place range.0 range.1 n at.0 at.1,
+    )
+
+pub tell-requires-clause-committed : goal.tell-requires-clause-committed
+tell-requires-clause-committed g c =
+    let start = g.P.Pair.start in
+    let steps = c.self.inside.seats.steps in
+    let r = c.self.inside.record in
+    let now = c.lose_in.new.self in
+    let n = c.in_ok-lose_in.field-0 in
+    search (
+      rules,
+      gained c.len-before.result now.protocol.journal.history r.protocol now.protocol (DropIn n ∷ []),
+      lost-in-keeps start steps r.protocol now.protocol r.ports now.ports c.self.invariant.1 line_seat c.args.client c.args.place n,
     )

@@ -7,6 +7,8 @@ use Rattle.pair_record.specs.Protocol.{lost_out}
 use Rattle.pair_book.specs.Books.{BookState}
 use Rattle.pair_book.proofs.Ties.{gained}
 use Rattle.pair_book.proofs.LossTies.{client_range, some_at, lost-out-tied}
+use Rattle.growing_history.specs.LogState.{line_seat}
+use Rattle.pair_book.proofs.CommittedTies.{lost-out-keeps}
 use Rattle.pair_book.proofs.book.Book.lose_out.Goals as goal
 
 pub tell-requires-clause-tied : goal.tell-requires-clause-tied
@@ -17,7 +19,7 @@ tell-requires-clause-tied g c =
     let now = c.lose_out.new.self in
     let client = c.args.client in
     let place = c.args.place in
-    let tied = c.self.invariant in
+    let tied = c.self.invariant.0 in
     let range = client_range client (length r.ports.boxes) (sym c.client_refusal.ensures ∙ c.in_default.is) in
     search (
       rules,
@@ -34,7 +36,7 @@ returns-clause-done g c =
     let now = c.lose_out.new.self in
     let client = c.args.client in
     let place = c.args.place in
-    let tied = c.self.invariant in
+    let tied = c.self.invariant.0 in
     let range = client_range client (length r.ports.boxes) (sym c.client_refusal.ensures ∙ c.in_default.is) in
     let book = c.args.self.now in
     let same : r.ports ≡ book.ports = ap (λ (b : BookState). b.ports) c.self.view_is in
@@ -45,3 +47,17 @@ returns-clause-done g c =
     subst (λ (p : PortsState). lost_out client (box_of p client) place ≡ Some (DropOut client place)) same is in
     let told = gained c.len-before.result now.protocol.journal.history r.protocol now.protocol (DropOut client place ∷ []) in
     (DropOut client place, lost, search (rules, told), search rules, search rules)
+
+pub tell-requires-clause-committed : goal.tell-requires-clause-committed
+tell-requires-clause-committed g c =
+    let start = g.P.Pair.start in
+    let steps = c.self.inside.seats.steps in
+    let r = c.self.inside.record in
+    let now = c.lose_out.new.self in
+    let client = c.args.client in
+    let place = c.args.place in
+    search (
+      rules,
+      gained c.len-before.result now.protocol.journal.history r.protocol now.protocol (DropOut client place ∷ []),
+      lost-out-keeps start steps r.protocol now.protocol r.ports now.ports c.self.invariant.1 line_seat client place,
+    )

@@ -4,6 +4,7 @@ use Rattle.pair_record.specs.Protocol.{first_refusal}
 use Rattle.pair_book.specs.{Books.BookState, Calls.{client_of, deliver_rows}, internal.Tie.book_state}
 use Rattle.pair_book.proofs.ClientTies.{is_client_of, refused-gained, refused-tied}
 use Rattle.pair_book.proofs.Rows.{found_full}
+use Rattle.pair_book.proofs.CommittedTies.{refused-keeps}
 use Rattle.pair_book.proofs.book.Book.tell_full.Goals as goal
 
 pub tell-requires-clause-tied : goal.tell-requires-clause-tied
@@ -14,7 +15,7 @@ tell-requires-clause-tied g c =
     let now = c.refuse_delivery.new.self in
     let by = c.args.seat.now.number in
     let bytes = c.args.bytes.now in
-    let tied = c.self.invariant in
+    let tied = c.self.invariant.0 in
     let client = is_client_of start steps r.protocol r.ports by tied c.requires.client in
     let book = book_state c.self.inside.seats r in
     let row =
@@ -24,4 +25,24 @@ tell-requires-clause-tied g c =
       rules,
       refused-gained start steps r.protocol now.protocol r.ports now.ports tied by c.requires.client bytes rows.1 rows.3,
       refused-tied start steps r.protocol now.protocol r.ports now.ports tied by c.requires.client bytes rows.1 rows.3,
+    )
+
+pub tell-requires-clause-committed : goal.tell-requires-clause-committed
+tell-requires-clause-committed g c =
+    let start = g.P.Pair.start in
+    let steps = c.self.inside.seats.steps in
+    let r = c.self.inside.record in
+    let now = c.refuse_delivery.new.self in
+    let by = c.args.seat.now.number in
+    let bytes = c.args.bytes.now in
+    let tied = c.self.invariant.0 in
+    let client = is_client_of start steps r.protocol r.ports by tied c.requires.client in
+    let book = book_state c.self.inside.seats r in
+    let row =
+    subst (λ (b : BookState). first_refusal (deliver_rows b (client_of by) bytes) ≡ Some Full) (sym c.self.view_is) c.requires.full in
+    let rows = found_full book (client_of by) bytes client.0 client.1 row in
+    search (
+      rules,
+      refused-gained start steps r.protocol now.protocol r.ports now.ports tied by c.requires.client bytes rows.1 rows.3,
+      refused-keeps start steps r.protocol now.protocol r.ports now.ports c.self.invariant.1 by (client_of by) (record { items = bytes }),
     )

@@ -2,8 +2,8 @@ use Rattle.std.proofs.Common.{rules, arith, ◌≡◌, [], List, length, sym, ap
 use Rattle.std.proofs.lemmas.List.{length-replicate}
 use Rattle.frame_ports.specs.Ports.{PortsState}
 use Rattle.growing_history.specs.Steps.{Step}
-use Rattle.pair_book.specs.{Opening.{IsBoot, Unnamed}, internal.Tie.IsTied}
-use Rattle.pair_book.proofs.Start.{start-tied}
+use Rattle.pair_book.specs.{Opening.{IsBoot, Unnamed}, internal.{Tie.IsTied, Committed.KeepsCommitted}}
+use Rattle.pair_book.proofs.{Start.{start-tied}, CommittedTies.start-keeps}
 use Rattle.pair_book.proofs.opening.UnnamedBook.named.Goals as goal
 
 pub invariant_of-result : goal.invariant_of-result
@@ -22,4 +22,6 @@ invariant_of-result g c =
       search (rules, arith),
       omega (arith, boxes, three, c.self.invariant.2),
       omega (arith, boxes, c.self.invariant.3),
+      subst (λ (steps : List Step). KeepsCommitted start steps r.protocol r.ports) (sym none)
+          (start-keeps start r.protocol r.ports c.self.invariant.0),
     )

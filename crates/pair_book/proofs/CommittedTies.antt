@@ -1,0 +1,181 @@
+-- What each call keeps of what the backup has committed.
+use Rattle.std.proofs.Common.{◌≡◌, ℕ, ◌+◌, ◌<◌, ◌≤◌, List, [], ◌∷◌, ◌++◌, length, take, drop, remove, refl, sym, ap, ◌∙◌, subst}
+use Rattle.std.proofs.Common.{◌-◌, false, arith, None}
+use Rattle.std.proofs.lemmas.List.{length-set}
+use Rattle.std.specs.Prelude.{slice_get}
+use Rattle.failover.specs.declared.change.Change.TheVariants as changes
+use Rattle.failover.specs.declared.mode.Mode.{Mode}
+use Rattle.epoch_snapshot.specs.Checkpoints.{Change}
+use Rattle.frame_ports.specs.{Lands.list_of, Ports.{PortsState, after_delivery}}
+use Rattle.output_gate.specs.Epochs.{frames_of}
+use Rattle.output_gate.proofs.KeptLaws.{risen-same}
+use Rattle.pair_history.specs.Entries.{Frame, Entry, Delivered, Refused, Took, DropIn, DropOut}
+use Rattle.pair_history.specs.HistoryState.{HistoryState, sent_along}
+use Rattle.pair_history.specs.internal.Moves.{entries_of, guest_along, frames_along}
+use Rattle.pair_history.proofs.Moves.{sent_along-moves}
+use Rattle.pair_record.specs.EpochActs.{fail_within_done}
+use Rattle.pair_record.specs.FailureActs.{first_uncommitted}
+use Rattle.pair_record.specs.Journal.{first_of, with_history}
+use Rattle.pair_record.specs.Kept.{all_frames, frames_by_epoch}
+use Rattle.pair_record.specs.Modes.{is_alone, change_refusal}
+use Rattle.pair_record.specs.Protocol.{Record, shown_at, ack_done, commit_done, fail_primary_done, begin_done}
+use Rattle.pair_record.specs.Protocol.{deliver_done, take_done, loss_done}
+use Rattle.pair_record.specs.Record.{IsRecord, AreNumbered, start_record, ports_after_ack}
+use Rattle.pair_record.specs.Record.{ports_after_take, ports_after_lose_in, ports_after_lose_out}
+use Rattle.pair_record.specs.Window.{committed_of}
+use Rattle.pair_record.specs.internal.Accords.{Accords}
+use Rattle.pair_record.proofs.AccordLaws.{first_is, can_first, first_sends, some_moves, some_held}
+use Rattle.growing_history.specs.Steps.{What, Added, PrimaryFailed, BackupFailed, Protected, Step, step}
+use Rattle.growing_history.specs.LogState as log
+use Rattle.growing_history.specs.LogState.{LogState, state_at}
+use Rattle.growing_history.proofs.LogLaws.{state-snoc, marked}
+use Rattle.pair_book.specs.Commits.{commit_of}
+use Rattle.pair_book.specs.Standing.{first_sent, commits_after, commits_of}
+use Rattle.pair_book.specs.internal.{Tie.IsTied, Committed.{AreOwed, KeepsCommitted}}
+use Rattle.pair_book.proofs.{CommittedLaws.{commits-nil, commits-snoc, owed_on, owed_committed, owed_acked}, CommitTies.{first-entries, some-first}}
+use Rattle.pair_book.proofs.FailureTies.{shown, is_paired}
+
+-- AT THE START
+pub start-keeps : (start : HistoryState) (r : Record) (p : PortsState) → r ≡ start_record → KeepsCommitted start [] r p
+start-keeps start r p is = record {
+  none = λ z. commits-nil start;
+  owed = λ m a c. record {
+    older = [];
+    all = commits-nil start ∙ ap (λ (y : Record). frames_by_epoch (committed_of y.window y.pending)) (sym is);
+    came = tt;
+    count = ap (λ (l : List (List Frame)). length (all_frames l) + 1) (commits-nil start) ∙ ap first_uncommitted (sym is);
+  };
+}
+
+module _ (start : HistoryState) (steps : List Step) (r now : Record) (p q : PortsState) (h : KeepsCommitted start steps r p) (by : ℕ) where
+  abbrev s : LogState
+  s = state_at start steps
+
+  abbrev lists : List (List Frame)
+  lists = commits_of start steps
+
+  -- A STEP, whatever it is
+  pub step-keeps : (what : What) → (now.window.to_commit ≡ 0 → commits_after s what lists ≡ [])
+      → (s.marked ≡ 0 → is_alone now.mode ≡ false → 1 ≤ now.window.to_cut → AreOwed now q (commits_after s what lists))
+      → KeepsCommitted start (steps ++ step by what ∷ []) now q
+  step-keeps what none owed =
+      let there = state-snoc start steps (step by what) in
+      let goes = commits-snoc start steps (step by what) in
+      let before : (state_at start (steps ++ step by what ∷ [])).marked ≡ 0 → s.marked ≡ 0 =
+      λ m. let least = marked s what in let same = ap (λ (u : LogState). u.marked) there in omega (arith, least, same, m) in
+      record {
+        none = λ z. goes ∙ none z;
+        owed = λ m a c. subst (AreOwed now q) (sym goes) (owed (before m) a c);
+      }
+
+  -- one that adds entries of clients or of the line
+  pub added-keeps : (es : List Entry) → now ≡ record r { journal = with_history r.journal es } → length q.boxes ≡ length p.boxes
+      → q.numbers ≡ p.numbers → KeepsCommitted start (steps ++ step by (Added es) ∷ []) now q
+  added-keeps es is boxes numbers =
+      step-keeps (Added es) (λ z. h.none (sym (ap (λ (y : Record). y.window.to_commit) is) ∙ z))
+      (λ m a c.
+      owed_on r p lists
+      (h.owed m (sym (ap (λ (y : Record). is_alone y.mode) is) ∙ a)
+      (subst (λ n. 1 ≤ n) (ap (λ (y : Record). y.window.to_cut) is) c))
+      now q (ap first_uncommitted is) (ap (λ (y : Record). committed_of y.window y.pending) is) (risen-same p q boxes numbers))
+
+  -- each call of a client, and each loss
+  pub took-keeps : (c : ℕ) → now ≡ (take_done p.boxes r c).1 → q ≡ ports_after_take p c
+      → KeepsCommitted start (steps ++ step by (Added (Took c (slice_get (list_of p.boxes c) 0) ∷ [])) ∷ []) now q
+  took-keeps c is ports =
+      added-keeps (Took c (slice_get (list_of p.boxes c) 0) ∷ []) is
+      (ap (λ (x : PortsState). length x.boxes) ports ∙ length-set p.boxes (c - 1) (drop 1 (list_of p.boxes c)))
+      (ap (λ (x : PortsState). x.numbers) ports)
+
+  pub delivered-keeps : (c : ℕ) (f : Frame) → now ≡ (deliver_done r c f p.next).1 → q ≡ after_delivery p c f.items
+      → KeepsCommitted start (steps ++ step by (Added (Delivered c f p.next ∷ [])) ∷ []) now q
+  delivered-keeps c f is ports =
+      added-keeps (Delivered c f p.next ∷ []) is (ap (λ (x : PortsState). length x.boxes) ports) (ap (λ (x : PortsState). x.numbers) ports)
+
+  pub refused-keeps : (c : ℕ) (f : Frame) → now ≡ record r { journal = with_history r.journal (Refused c f ∷ []) } → q ≡ p
+      → KeepsCommitted start (steps ++ step by (Added (Refused c f ∷ [])) ∷ []) now q
+  refused-keeps c f is ports =
+      added-keeps (Refused c f ∷ []) is (ap (λ (x : PortsState). length x.boxes) ports) (ap (λ (x : PortsState). x.numbers) ports)
+
+  pub lost-in-keeps : (c place n : ℕ) → now ≡ (loss_done r (DropIn n)).1 → q ≡ ports_after_lose_in p c place
+      → KeepsCommitted start (steps ++ step by (Added (DropIn n ∷ [])) ∷ []) now q
+  lost-in-keeps c place n is ports =
+      added-keeps (DropIn n ∷ []) is (ap (λ (x : PortsState). length x.boxes) ports) (ap (λ (x : PortsState). x.numbers) ports)
+
+  pub lost-out-keeps : (c place : ℕ) → now ≡ (loss_done r (DropOut c place)).1 → q ≡ ports_after_lose_out p c place
+      → KeepsCommitted start (steps ++ step by (Added (DropOut c place ∷ [])) ∷ []) now q
+  lost-out-keeps c place is ports =
+      added-keeps (DropOut c place ∷ []) is
+      (ap (λ (x : PortsState). length x.boxes) ports ∙ length-set p.boxes (c - 1) (remove (list_of p.boxes c) place))
+      (ap (λ (x : PortsState). x.numbers) ports)
+
+  -- AN ACKNOWLEDGEMENT, with a step or without
+  module _ (n : ℕ) (k : IsRecord r) (numbered : AreNumbered r p) (clients : length p.numbers ≡ length p.boxes)
+      (below : n < r.window.to_commit) (is : now ≡ (ack_done p.boxes r n).1) (ports : q ≡ ports_after_ack p r n) where
+    acked-none : now.window.to_commit ≡ 0 → lists ≡ []
+    acked-none z = h.none (sym (ap (λ (y : Record). y.window.to_commit) is) ∙ z)
+
+    acked-owed : s.marked ≡ 0 → is_alone now.mode ≡ false → 1 ≤ now.window.to_cut → AreOwed now q lists
+    acked-owed m a c =
+        let before =
+        h.owed m (sym (ap (λ (y : Record). is_alone y.mode) is) ∙ a) (subst (λ n. 1 ≤ n) (ap (λ (y : Record). y.window.to_cut) is) c) in
+        subst (λ (y : Record × PortsState). AreOwed y.0 y.1 lists) (λ i. (sym is i, sym ports i))
+        (owed_acked r p lists before k numbered clients n below)
+
+    pub acked-keeps : (es : List Entry) → KeepsCommitted start (steps ++ step by (Added es) ∷ []) now q
+    acked-keeps es = step-keeps (Added es) acked-none acked-owed
+
+    pub unmoved-keeps : KeepsCommitted start steps now q
+    unmoved-keeps = record { none = acked-none; owed = acked-owed }
+
+  -- THE PRIMARY FAILS
+  pub primary-keeps : change_refusal changes.FailPrimary r.mode ≡ None → now ≡ (fail_primary_done r).1 → q ≡ p
+      → KeepsCommitted start (steps ++ step by PrimaryFailed ∷ []) now q
+  primary-keeps free is ports =
+      step-keeps PrimaryFailed (λ z. h.none (sym (ap (λ (y : Record). y.window.to_commit) is) ∙ z))
+      (λ m a c.
+      owed_on r p lists
+      (h.owed m (ap is_alone (is_paired r.mode free)) (subst (λ n. 1 ≤ n) (ap (λ (y : Record). y.window.to_cut) is) c))
+      now q (ap first_uncommitted is) (ap (λ (y : Record). committed_of y.window y.pending) is)
+      (risen-same p q (ap (λ (x : PortsState). length x.boxes) ports) (ap (λ (x : PortsState). x.numbers) ports)))
+
+  -- THE BACKUP FAILS: a node is alone
+  pub backup-keeps : IsRecord r → now ≡ (fail_within_done p.boxes r).1 → KeepsCommitted start (steps ++ step by BackupFailed ∷ []) now q
+  backup-keeps k is =
+      step-keeps BackupFailed
+      (λ z. let cut = ap (λ (y : Record). y.window.to_commit) is in let w = k.window.cut in h.none (omega (arith, cut, w, z)))
+      (λ m a c. let alone = ap (λ (y : Record). is_alone y.mode) is in absurd (cc))
+
+  -- A NEW BACKUP has committed nothing
+  pub protected-keeps : (b : ℕ) → now ≡ (begin_done r).1 → KeepsCommitted start (steps ++ step by (Protected b) ∷ []) now q
+  protected-keeps b is =
+      step-keeps (Protected b) (λ z. refl)
+      (λ m a c. let cut = ap (λ (y : Record). y.window.to_cut) is in absurd (omega (arith, cut, c)))
+
+  -- A COMMIT
+  module _ (t : IsTied start steps r p) (c : Change) (k : IsRecord r) (numbered : AreNumbered r p) (pair : is_alone r.mode ≡ false)
+      (some : r.window.to_commit < r.window.to_cut) (is : now ≡ (commit_done r).1) (ports : q ≡ p) where
+    committed-owed : s.marked ≡ 0 → AreOwed now q (lists ++ first_sent s ∷ [])
+    committed-owed m =
+        let a = t.accords m in
+        let many = some_moves start r p a k some in
+        let moves = some-first a.journal.sealed_moves many in
+        let held = some_held start r p a k many in
+        let ms = moves.0 in
+        let here = shown start steps r r p p t m in
+        let entries : log.entries_of (take 1 s.sealed) ≡ entries_of ms =
+        sym (first-entries s.sealed) ∙ ap first_of (sym t.sealed) ∙ first_is start r p a k ms moves.1 moves.2 in
+        let sent : first_sent s ≡ held.0.frames =
+        (λ i. sent_along (here i) (entries i))
+        ∙ sent_along-moves (shown_at start r) ms (can_first start r p a k ms moves.1 moves.2)
+        ∙ sym (first_sends start r p a k ms moves.1 moves.2 held.0 held.1 held.2) in
+        let before = h.owed m pair (omega (arith, some)) in
+        subst (λ (y : Record × PortsState × List Frame). AreOwed y.0 y.1 (lists ++ y.2 ∷ []))
+        (λ i. (sym is i, sym ports i, sym sent i))
+        (owed_committed r p lists before k numbered.held held.0 held.1 held.2)
+
+    pub committed-keeps : KeepsCommitted start (steps ++ step by (commit_of c) ∷ []) now q
+    committed-keeps =
+        step-keeps (commit_of c)
+        (λ z. let next = ap (λ (y : Record). y.window.to_commit) is in absurd (omega (arith, next, z)))
+        (λ m a c. committed-owed m)
