@@ -1,5 +1,5 @@
 -- The numbers of what is sealed: the epochs follow one another up to the next checkpoint's, and a node that is alone has none.
-use Rattle.std.proofs.Common.{◌≡◌, ℕ, zero, suc, ◌+◌, List, [], ◌∷◌, ◌++◌, length, drop, refl, sym, ap, ◌∙◌, subst, arith, ◌<◌}
+use Rattle.std.proofs.Common.{◌≡◌, ℕ, zero, suc, ◌+◌, ◌-◌, List, [], ◌∷◌, ◌++◌, length, drop, refl, sym, ap, ◌∙◌, subst, arith, ◌<◌}
 use Rattle.std.proofs.lemmas.List.{length-append}
 use Rattle.failover.specs.declared.mode.Mode.{Mode}
 use Rattle.failover.specs.declared.mode.Mode.TheVariants.{Paired, Filling, Alone, Stopped}
@@ -76,7 +76,7 @@ sealed-step s by (Committed g n text) needs h =
     }
 sealed-step s by PrimaryFailed needs h = record { first = h.first; numbers = h.numbers; count = h.count; alone = λ a. absurd a }
 sealed-step s by BackupFailed needs h = record { first = s.next; numbers = tt; count = omega arith; alone = λ a. refl }
-sealed-step s by (WentLive r) needs h = record { first = s.next; numbers = tt; count = omega arith; alone = λ a. refl }
+sealed-step s by (WentLive r) needs h = record { first = s.next - length s.sealed; numbers = tt; count = omega arith; alone = λ a. refl }
 sealed-step s by (Protected b) needs h =
     let none = h.alone needs.may.1 in
     record {

@@ -1,5 +1,5 @@
 -- What the keeper's list of steps says of the pair: where its history stands, what is under way, and who is live.
-use Rattle.std.specs.Prelude.{◌≡◌, ℕ, zero, suc, ◌+◌, ◌<◌, nat_lt, Bool, true, false, if◌then◌else◌, nat_eq, List, [], ◌∷◌, ◌++◌, length}
+use Rattle.std.specs.Prelude.{◌≡◌, ℕ, zero, suc, ◌+◌, ◌-◌, ◌<◌, nat_lt, Bool, true, false, if◌then◌else◌, nat_eq, List, [], ◌∷◌, ◌++◌, length}
 use Rattle.std.specs.Prelude.{map, take, drop}
 use Rattle.std.specs.Cmp.Lexicographic.{pointwise}
 use Rattle.failover.specs.declared.mode.Mode.{Mode}
@@ -120,7 +120,7 @@ abbrev pub mark_of : List Epoch → List ℕ → ℕ
 mark_of [] text = 0
 mark_of (e ∷ es) text = if pointwise nat_eq e.text text then 0 else 1
 
--- what a step does
+-- What a step does. A backup that goes live goes on behind its last commit, and what was sealed after that counts for nothing.
 abbrev pub after : LogState → What → LogState
 after s (Added es) = record s { history = at s.history es }
 after s (Sealed g n epoch text) =
@@ -143,6 +143,7 @@ after s (WentLive r) = record s {
   mode = Alone;
   generation = s.generation + 1;
   sealed = [];
+  next = s.next - length s.sealed;
   handed = [];
   runner = r;
 }
