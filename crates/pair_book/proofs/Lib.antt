@@ -10,5 +10,7 @@ pub mod LossTies
 pub mod FailureTies
 pub mod CommitTies
 pub mod CommittedTies
+pub mod CommittedSeals
+pub mod StandingLaws
 pub mod Start
 pub mod HandingLaws

@@ -54,7 +54,6 @@ tell_alone-requires-clause-committed g c =
     let ports = c.in_ok-reply.ensures.ports in
     search (
       rules,
-      acked-gained start steps r.protocol now.protocol r.ports now.ports c.self.invariant.0 n c.keep.ensures.record rows.0 is ports,
       acked-keeps start steps r.protocol now.protocol r.ports now.ports c.self.invariant.1 0 n c.keep.ensures.record
           c.keep.ensures.numbers c.keep.ensures.clients rows.0 is ports,
     )

@@ -1,0 +1,75 @@
+-- A backup goes on standing: when it looks, and by its commits.
+use Rattle.std.proofs.Common.{◌≡◌, ℕ, ◌+◌, ◌-◌, ◌<◌, ◌≤◌, List, [], ◌∷◌, ◌++◌, length, take, drop, sym, ap, ◌∙◌, subst, refl, false, arith}
+use Rattle.std.proofs.lemmas.List.{append-nil, drop-append-le, drop-drop, length-append, length-drop}
+use Rattle.frame_ports.specs.Ports.{PortsState}
+use Rattle.pair_history.specs.Entries.{Frame}
+use Rattle.pair_history.specs.HistoryState.{HistoryState}
+use Rattle.pair_record.specs.Kept.{all_frames, Brings}
+use Rattle.pair_record.specs.Modes.{is_alone}
+use Rattle.pair_record.specs.Protocol.{Record}
+use Rattle.pair_record.specs.Record.{IsRecord, AreNumbered}
+use Rattle.pair_record.proofs.KeptLists.{all_frames-append}
+use Rattle.growing_history.specs.Steps.{Step, Begins, steps_by}
+use Rattle.growing_history.specs.LogState.{LogState, Legal, state_at, IsAlone}
+use Rattle.growing_history.specs.Views.{Member}
+use Rattle.growing_history.proofs.{LogLaws.{live-rise, marks-rise}, MissedByBackup.backup-misses-nothing}
+use Rattle.pair_book.specs.Standing.{commits_of, last_four, KeepsLast, IsLive, Stands}
+use Rattle.pair_book.specs.internal.{Committed.KeepsCommitted, Tie.IsTied}
+use Rattle.pair_book.proofs.{CommittedLaws.{commits-missed, owed_brings}, CommitTies.not-alone}
+
+-- IT LOOKS, and has made no step since
+module _ (start : HistoryState) (seat : Member) (now : List Step) (sent first : ℕ) (kept : List (List Frame))
+    (b : Begins seat.steps now) (l : Legal start now) (own : steps_by seat.number now ≡ steps_by seat.number seat.steps)
+    (h : Stands start seat sent first kept) where
+  abbrev looked : Member
+  looked = record { number = seat.number; steps = now }
+
+  rise : (state_at start seat.steps).backup ≤ (state_at start now).backup
+  rise = (live-rise start seat.steps now b l).1
+
+  pub stands-on : Stands start looked sent first kept
+  stands-on = record {
+    born = omega (arith, h.born, rise);
+    keeps = λ live none.
+        let was : (state_at start seat.steps).backup ≡ seat.number = omega (arith, h.born, rise, live.0) in
+        let stays = backup-misses-nothing start seat.steps now seat.number b l own was (sym live.0) live.1 in
+        let same = commits-missed start seat.steps now seat.number b l own was (sym live.0) in
+        let marks = marks-rise start seat.steps now b in
+        let before : (state_at start seat.steps).marked ≡ 0 = omega (arith, marks, none) in
+        subst (λ lists. KeepsLast lists sent first kept) (sym same) (h.keeps (sym was, stays.0) before);
+  }
+
+  -- so where the book's list is what it sees now, it brings what it should
+  pub stands-brings : (r : Record) (p : PortsState) → IsTied start now r p → KeepsCommitted start now r p → IsRecord r → AreNumbered r p
+      → is_alone r.mode ≡ false → 1 ≤ r.window.to_cut → seat.number ≡ (state_at start now).backup → (state_at start now).marked ≡ 0
+      → Brings r p first kept
+  stands-brings r p t c k numbered pair some mine none =
+      let paired : IsAlone (state_at start now).mode → ⊥ = subst (λ m. IsAlone m → ⊥) t.mode (not-alone r.mode pair) in
+      owed_brings r p (commits_of start now) (c.owed none pair some) k.window numbered sent first kept
+      (stands-on.keeps (mine, paired) none)
+
+-- IT COMMITS a checkpoint that carries these frames, and lets go of the oldest ones
+last-four-more : (lists : List (List Frame)) (fs : List Frame) → last_four (last_four lists ++ fs ∷ []) ≡ last_four (lists ++ fs ∷ [])
+last-four-more lists fs =
+    let n = length lists - 4 in
+    let few : n ≤ length lists = omega arith in
+    let kept : drop n (lists ++ fs ∷ []) ≡ last_four lists ++ fs ∷ [] = drop-append-le n lists (fs ∷ []) few in
+    let long = length-append (last_four lists) (fs ∷ []) in
+    let all = length-append lists (fs ∷ []) in
+    let less : length (last_four lists) ≡ length lists - n = length-drop n lists in
+    let m = length (last_four lists ++ fs ∷ []) - 4 in
+    let place : n + m ≡ length (lists ++ fs ∷ []) - 4 = omega (arith, long, all, less) in
+    ap (drop m) (sym kept) ∙ drop-drop m n (lists ++ fs ∷ []) ∙ ap (λ k. drop k (lists ++ fs ∷ [])) place
+
+pub keeps-more : (lists kept : List (List Frame)) (sent first : ℕ) (fs : List Frame) → KeepsLast lists sent first kept
+    → KeepsLast (lists ++ fs ∷ []) (sent + length fs)
+    ((sent + length fs) + 1 - length (all_frames (last_four (kept ++ fs ∷ [])))) (last_four (kept ++ fs ∷ []))
+keeps-more lists kept sent first fs h = record {
+  last = ap (λ (l : List (List Frame)). last_four (l ++ fs ∷ [])) h.last ∙ last-four-more lists fs;
+  count =
+      let all = ap (λ (gs : List Frame). length gs)
+      (all_frames-append lists (fs ∷ []) ∙ ap (λ (gs : List Frame). all_frames lists ++ gs) (append-nil fs))
+      ∙ length-append (all_frames lists) fs in
+      omega (arith, h.count, all);
+  number = refl;
+}
