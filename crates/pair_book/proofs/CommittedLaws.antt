@@ -19,7 +19,7 @@ use Rattle.growing_history.specs.Steps.{What, Committed, Protected, Step, Begins
 use Rattle.growing_history.specs.LogState.{LogState, start_of, after, Needs, state_after, LegalFrom, Legal, state_at}
 use Rattle.growing_history.proofs.Between.{none-first, none-between, same, later}
 use Rattle.growing_history.proofs.LogLaws.{numbers, numbers-rise}
-use Rattle.pair_book.specs.Standing.{commits_after, commits_from, commits_of, last_four, KeepsLast}
+use Rattle.pair_book.specs.Standing.{commits_after, commits_from, commits_of, KeepsLast}
 use Rattle.pair_book.specs.internal.Committed.{AreOwed}
 
 -- THE LISTS of a list of steps
@@ -55,7 +55,8 @@ commits-steps s (x ∷ xs) n lists l others is now =
     ap (commits_from t xs) (commits-step s x.by x.what n lists l.0 apart.0 is there) ∙ commits-steps t xs n lists l.1 apart.1 there now
 
 pub commits-missed : (h : HistoryState) (old now : List Step) (n : ℕ) (b : Begins old now) (l : Legal h now)
-    (own : steps_by n now ≡ steps_by n old) → (state_at h old).backup ≡ n → (state_at h now).backup ≡ n → commits_of h now ≡ commits_of h old
+    (own : steps_by n now ≡ steps_by n old) → (state_at h old).backup ≡ n → (state_at h now).backup ≡ n
+    → commits_of h now ≡ commits_of h old
 unfolding commits_of state_at
 commits-missed h old now n b l own was is =
     let s = state_after (start_of h) old in

@@ -1,16 +1,14 @@
 -- What the other steps keep of what the backup has committed: an epoch is sealed or enters the history, and the backup goes live.
-use Rattle.std.proofs.Common.{◌≡◌, ℕ, ◌+◌, ◌-◌, ◌<◌, ◌≤◌, List, [], ◌∷◌, ◌++◌, length, take, drop, sym, ap, ◌∙◌, subst, true, false, arith}
+use Rattle.std.proofs.Common.{◌≡◌, ℕ, ◌<◌, ◌≤◌, List, [], ◌∷◌, ◌++◌, length, take, drop, sym, ap, ◌∙◌, subst, true, false, arith}
 use Rattle.frame_ports.specs.Ports.{PortsState}
 use Rattle.output_gate.specs.Epochs.{Epoch, frames_of}
-use Rattle.output_gate.proofs.KeptLaws.{risen-same}
 use Rattle.pair_history.specs.Entries.{Frame, Entry}
 use Rattle.pair_history.specs.HistoryState.{HistoryState}
-use Rattle.pair_record.specs.Kept.{all_frames, frames_by_epoch}
+use Rattle.pair_record.specs.Kept.{frames_by_epoch}
 use Rattle.pair_record.specs.Modes.{is_alone}
 use Rattle.pair_record.specs.Protocol.{Record, seal_done, full_done}
-use Rattle.pair_record.specs.Window.{IsWindow, none_pending, committed_count}
+use Rattle.pair_record.specs.Window.{IsWindow, committed_count}
 use Rattle.growing_history.specs.Steps.{Sealed, RanAlone, WentLive, Step, step}
-use Rattle.growing_history.specs.LogState.{state_at}
 use Rattle.pair_book.specs.Standing.{commits_of}
 use Rattle.pair_book.specs.internal.Committed.{AreOwed, KeepsCommitted}
 use Rattle.pair_book.proofs.{CommittedLaws.owed_sealed, CommittedTies.step-keeps}

@@ -4,14 +4,12 @@ use Rattle.std.proofs.Common.{◌-◌, false, arith, None}
 use Rattle.std.proofs.lemmas.List.{length-set}
 use Rattle.std.specs.Prelude.{slice_get}
 use Rattle.failover.specs.declared.change.Change.TheVariants as changes
-use Rattle.failover.specs.declared.mode.Mode.{Mode}
 use Rattle.epoch_snapshot.specs.Checkpoints.{Change}
 use Rattle.frame_ports.specs.{Lands.list_of, Ports.{PortsState, after_delivery}}
-use Rattle.output_gate.specs.Epochs.{frames_of}
 use Rattle.output_gate.proofs.KeptLaws.{risen-same}
 use Rattle.pair_history.specs.Entries.{Frame, Entry, Delivered, Refused, Took, DropIn, DropOut}
 use Rattle.pair_history.specs.HistoryState.{HistoryState, sent_along}
-use Rattle.pair_history.specs.internal.Moves.{entries_of, guest_along, frames_along}
+use Rattle.pair_history.specs.internal.Moves.{entries_of}
 use Rattle.pair_history.proofs.Moves.{sent_along-moves}
 use Rattle.pair_record.specs.EpochActs.{fail_within_done}
 use Rattle.pair_record.specs.FailureActs.{first_uncommitted}
@@ -23,7 +21,6 @@ use Rattle.pair_record.specs.Protocol.{deliver_done, take_done, loss_done}
 use Rattle.pair_record.specs.Record.{IsRecord, AreNumbered, start_record, ports_after_ack}
 use Rattle.pair_record.specs.Record.{ports_after_take, ports_after_lose_in, ports_after_lose_out}
 use Rattle.pair_record.specs.Window.{committed_of}
-use Rattle.pair_record.specs.internal.Accords.{Accords}
 use Rattle.pair_record.proofs.AccordLaws.{first_is, can_first, first_sends, some_moves, some_held}
 use Rattle.growing_history.specs.Steps.{What, Added, PrimaryFailed, BackupFailed, Protected, Step, step}
 use Rattle.growing_history.specs.LogState as log
@@ -32,7 +29,8 @@ use Rattle.growing_history.proofs.LogLaws.{state-snoc, marked}
 use Rattle.pair_book.specs.Commits.{commit_of}
 use Rattle.pair_book.specs.Standing.{first_sent, commits_after, commits_of}
 use Rattle.pair_book.specs.internal.{Tie.IsTied, Committed.{AreOwed, KeepsCommitted}}
-use Rattle.pair_book.proofs.{CommittedLaws.{commits-nil, commits-snoc, owed_on, owed_committed, owed_acked}, CommitTies.{first-entries, some-first}}
+use Rattle.pair_book.proofs.CommittedLaws.{commits-nil, commits-snoc, owed_on, owed_committed, owed_acked}
+use Rattle.pair_book.proofs.CommitTies.{first-entries, some-first}
 use Rattle.pair_book.proofs.FailureTies.{shown, is_paired}
 
 -- AT THE START

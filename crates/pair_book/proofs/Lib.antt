@@ -12,5 +12,6 @@ pub mod CommitTies
 pub mod CommittedTies
 pub mod CommittedSeals
 pub mod StandingLaws
+pub mod LiveTies
 pub mod Start
 pub mod HandingLaws

@@ -1,5 +1,5 @@
 -- A backup goes on standing: when it looks, and by its commits.
-use Rattle.std.proofs.Common.{◌≡◌, ℕ, ◌+◌, ◌-◌, ◌<◌, ◌≤◌, List, [], ◌∷◌, ◌++◌, length, take, drop, sym, ap, ◌∙◌, subst, refl, false, arith}
+use Rattle.std.proofs.Common.{◌≡◌, ℕ, ◌+◌, ◌-◌, ◌≤◌, List, [], ◌∷◌, ◌++◌, length, drop, sym, ap, ◌∙◌, subst, refl, false, arith}
 use Rattle.std.proofs.lemmas.List.{append-nil, drop-append-le, drop-drop, length-append, length-drop}
 use Rattle.frame_ports.specs.Ports.{PortsState}
 use Rattle.pair_history.specs.Entries.{Frame}
@@ -10,10 +10,10 @@ use Rattle.pair_record.specs.Protocol.{Record}
 use Rattle.pair_record.specs.Record.{IsRecord, AreNumbered}
 use Rattle.pair_record.proofs.KeptLists.{all_frames-append}
 use Rattle.growing_history.specs.Steps.{Step, Begins, steps_by}
-use Rattle.growing_history.specs.LogState.{LogState, Legal, state_at, IsAlone}
+use Rattle.growing_history.specs.LogState.{Legal, state_at, IsAlone}
 use Rattle.growing_history.specs.Views.{Member}
 use Rattle.growing_history.proofs.{LogLaws.{live-rise, marks-rise}, MissedByBackup.backup-misses-nothing}
-use Rattle.pair_book.specs.Standing.{commits_of, last_four, KeepsLast, IsLive, Stands}
+use Rattle.pair_book.specs.Standing.{commits_of, last_four, KeepsLast, Stands}
 use Rattle.pair_book.specs.internal.{Committed.KeepsCommitted, Tie.IsTied}
 use Rattle.pair_book.proofs.{CommittedLaws.{commits-missed, owed_brings}, CommitTies.not-alone}
 

@@ -2,6 +2,7 @@ pub mod internal
 pub mod Books
 pub mod Calls
 pub mod Failures
+pub mod GoingLive
 pub mod Commits
 pub mod Losses
 pub mod Opening

@@ -11,6 +11,7 @@ mod clients;
 mod commits;
 mod failures;
 mod gained;
+mod going_live;
 mod handing;
 mod losses;
 mod opening;

@@ -95,6 +95,17 @@ impl<P: Pair> Seats<P> {
         self.keeper.step_alone(clock, what);
     }
 
+    /// Shows a member all the steps that were made.
+    pub(crate) fn meet(&mut self, clock: &Clock<P>, member: &mut MemberSeat<P>)
+        ensures keeper { self.new ≡ self.old }
+        ensures member { member.new ≡ record { number = member.old.number; steps = self.old.steps } }
+        ensures before { Begins member.old.steps self.old.steps }
+        ensures own { steps_by member.old.number self.old.steps ≡ steps_by member.old.number member.old.steps }
+        ensures legal { Legal P.start self.old.steps }
+    {
+        self.keeper.meet(clock, member);
+    }
+
     /// The live node gets a backup, whose seat this is.
     pub(crate) fn protect(&mut self, clock: &Clock<P>) -> BackupSeat<P>
         requires room { length self.old.steps < 2 ^ 62 }

@@ -2,7 +2,8 @@
 use Rattle.std.specs.Prelude.{ℕ, List, codes}
 use Rattle.pair_record.specs.declared.event.Refusal.{Refusal}
 use Rattle.pair_record.specs.declared.event.Refusal.TheVariants.{Full, BadFrame, NoClient, Stopped, Behind, NotPaired}
-use Rattle.pair_record.specs.declared.event.Refusal.TheVariants.{AlreadyPaired, NoImage, Stale, Gap, NoMemory, CutNeeded, Exhausted, OldVersion}
+use Rattle.pair_record.specs.declared.event.Refusal.TheVariants.{AlreadyPaired, NoImage, Stale, Gap, NoMemory, CutNeeded}
+use Rattle.pair_record.specs.declared.event.Refusal.TheVariants.{Exhausted, OldVersion}
 
 abbrev pub number_of : Refusal → ℕ
 number_of Full = 1

@@ -1,5 +1,5 @@
 -- What the backup has committed, beside the record: the frames that the gate may still owe are the last of them.
-use Rattle.std.specs.Prelude.{◌≡◌, ℕ, ◌+◌, ◌≤◌, false, List, [], ◌++◌, length}
+use Rattle.std.specs.Prelude.{◌≡◌, ◌+◌, ◌≤◌, false, List, [], ◌++◌, length}
 use Rattle.frame_ports.specs.Ports.{PortsState}
 use Rattle.output_gate.specs.Landings.{AreOld}
 use Rattle.pair_history.specs.Entries.{Frame}

@@ -1,0 +1,37 @@
+-- The backup goes live: what that does to the lent seat and to the keeper's list, and why it is refused.
+use Rattle.std.specs.Prelude.{◌≡◌, ℕ, ◌+◌, ◌==◌, not, Bool, List, [], ◌∷◌, ◌++◌, Option}
+use Rattle.pair_history.specs.Entries.{Frame}
+use Rattle.pair_history.specs.HistoryState.{HistoryState}
+use Rattle.pair_record.specs.declared.event.Event.TheVariants.{GoLive}
+use Rattle.pair_record.specs.declared.event.Refusal.{Refusal}
+use Rattle.pair_record.specs.declared.event.Refusal.TheVariants.{Stopped, Exhausted}
+use Rattle.pair_record.specs.Kept.{brought_refusals}
+use Rattle.pair_record.specs.Modes.{mode_refusal}
+use Rattle.pair_record.specs.Protocol.{Row}
+use Rattle.growing_history.specs.Steps.{WentLive, step, Begins}
+use Rattle.growing_history.specs.LogState.{state_at}
+use Rattle.growing_history.specs.Views.{Member}
+use Rattle.pair_book.specs.Books.{BookState}
+use Rattle.pair_book.specs.Calls.{is_word_full}
+use Rattle.pair_book.specs.Failures.{first_of}
+
+-- It makes one step, under no member's number, which gives the new runner the next number of a seat. The backup's seat has then seen the
+-- whole list, and what it had seen begins what was there before.
+pub record GoesLive (old new : BookState) (seat seat' : Member) : Type 0 where
+  pub steps : new.steps ≡ old.steps ++ step 0 (WentLive (old.enrolled + 1)) ∷ []
+  pub enrolled : new.enrolled ≡ old.enrolled + 1
+  pub sees : seat' ≡ record { number = seat.number; steps = new.steps }
+  pub saw : Begins seat.steps old.steps
+
+-- whether the seat of that number is the live backup's
+abbrev pub is_backup : HistoryState → BookState → ℕ → Bool
+is_backup start b number = number == (state_at start b.steps).backup
+
+-- why it is refused, where it brings these frames, the first of which has that number
+abbrev pub go_live_rows : HistoryState → BookState → ℕ → ℕ → List (List Frame) → List Row
+go_live_rows start b number first kept =
+    (not (is_backup start b number), Stopped)
+    ∷ (brought_refusals b.protocol b.ports first kept ++ (is_word_full b, Exhausted) ∷ [])
+
+abbrev pub go_live_why : HistoryState → BookState → ℕ → ℕ → List (List Frame) → Option Refusal
+go_live_why start b number first kept = first_of (mode_refusal b.protocol.mode GoLive) (go_live_rows start b number first kept)
