@@ -23,7 +23,7 @@ boxes-left s (DropOut c place) = by_test (nat_lt place (length (list_of s.boxes 
 boxes-left s (Took c answer) = rw length-set
 boxes-left s other = refl
 
-boxes-stay : (s : HistoryState) (es : List Entry) → length (at s es).boxes ≡ length s.boxes
+pub boxes-stay : (s : HistoryState) (es : List Entry) → length (at s es).boxes ≡ length s.boxes
 boxes-stay s [] = refl
 boxes-stay s (e ∷ es) = boxes-stay (history.after s e) es ∙ boxes-left s e
 

@@ -1,5 +1,6 @@
 //! An epoch of the guest as it is stored: its arrivals, each with the steps before it, and the steps after the last.
 ghost use Rattle.std.specs.Prelude.{◌≡◌, ◌+◌, ◌*◌, ◌^◌, ◌≤◌, ◌<◌, ◌++◌, [], length, map, take, drop, IfOk, OnOk, OnErr};
+ghost use Rattle.std.specs.Prelude.{vec_len, vec_capacity};
 ghost use Rattle.pair_record.specs.internal.Arrivals.{arrival_of, epoch_entries};
 ghost use Rattle.pair_record.specs.Journal.{joined};
 ghost use Rattle.pair_record.specs.internal.JournalFields.{epoch_of};
@@ -16,6 +17,19 @@ pub struct Arrival {
     pub steps: u64,
     /// The frame's number.
     pub number: u64,
+}
+
+/// Drops the first `count` of these; the room stays.
+fn drop_first(arrivals: &mut Vec<Arrival>, count: usize)
+    requires { count ≤ vec_len arrivals.old }
+    ensures items { arrivals.new.items ≡ drop count arrivals.old.items }
+    ensures room { vec_capacity arrivals.new ≡ vec_capacity arrivals.old }
+{
+    let rest = arrivals.len() - count;
+    if rest > 0 {
+        arrivals.rotate_left(count);
+    }
+    arrivals.truncate(rest);
 }
 
 /// An epoch: what happened to the guest between two cuts.
@@ -39,7 +53,8 @@ impl RunningEpoch {
         }
     }
 
-    /// Splits off so many arrivals, the first first, with so many steps after them. The others stay, and the steps behind the last.
+    /// Splits off so many arrivals, the first first, with so many steps after them. The others stay, and the steps behind the last; the
+    /// room for more is no less.
     pub(crate) fn split(
         &mut self,
         alloc: Global,
@@ -51,11 +66,11 @@ impl RunningEpoch {
         ensures steps { IfOk result (λ e. e.steps ≡ steps) }
         ensures others { OnOk result (self.new.arrivals.items ≡ drop arrivals self.old.arrivals.items) }
         ensures behind { self.new.steps ≡ self.old.steps }
+        ensures room { OnOk result (vec_capacity self.new.arrivals ≡ vec_capacity self.old.arrivals) }
         ensures err { OnErr result (self.new.arrivals.items ≡ self.old.arrivals.items) }
     {
-        let others = from_slice(alloc, &self.arrivals.as_slice()[arrivals..])?;
-        let mut first = std::mem::replace(&mut self.arrivals, others);
-        first.truncate(arrivals);
+        let first = from_slice(alloc, &self.arrivals.as_slice()[..arrivals])?;
+        drop_first(&mut self.arrivals, arrivals);
         Ok(RunningEpoch {
             arrivals: first,
             steps,

@@ -18,7 +18,7 @@ use crate::discards::{add_drops_in, count_arrivals, sorted_numbers};
 use crate::epochs::{Arrival, RunningEpoch, add_epoch, add_epochs, places_with};
 use crate::landings::{add_landings, land_lists};
 use frame_ports::{NUMBER_LIMIT, Ports};
-use memory_wanted::{MemoryWanted, reserve};
+use memory_wanted::{MemoryWanted, reserve, with_capacity};
 use pair_history::{Entry, Frame, History};
 use std::alloc::Global;
 use std::marker::Model;
@@ -144,6 +144,7 @@ impl Journal {
         ensures ok { OnOk result (self.new.journal
             ≡ sealed_as (guest_epoch arrivals steps self.old.journal.running) (behind arrivals self.old.journal.running)
             self.old.journal) }
+        ensures arrival_room { OnOk result (self.old.arrival_room ≤ self.new.arrival_room) }
         ensures err { OnErr result (self.new.journal ≡ self.old.journal) }
     {
         reserve(&mut self.sealed, 1)?;
@@ -167,6 +168,7 @@ impl Journal {
             ≡ entered (guest_epoch arrivals steps self.old.journal.running) (behind arrivals self.old.journal.running)
             self.old.journal) }
         ensures room { OnOk result (more ≤ self.new.room) }
+        ensures arrival_room { OnOk result (self.old.arrival_room ≤ self.new.arrival_room) }
         ensures err { OnErr result (self.new.journal ≡ self.old.journal) }
     {
         let first = &self.running.arrivals.as_slice()[..arrivals];
@@ -177,6 +179,31 @@ impl Journal {
         add_epoch(&mut self.history, epoch.arrivals.as_slice(), steps);
         let added = self.history.len() - before;
         self.kept = self.kept + steps - added;
+        Ok(())
+    }
+
+    /// The same, and then an empty epoch is sealed.
+    pub(crate) fn enter_epoch_and_seal_empty(
+        &mut self,
+        arrivals: usize,
+        steps: u64,
+        more: usize,
+    ) -> Result<(), MemoryWanted>
+        requires none { self.old.journal.sealed ≡ [] }
+        requires there { arrivals ≤ length (arrived_numbers self.old.journal.running) }
+        requires fits { length (all_entries self.old.journal) + steps < number_limit }
+        ensures ok { OnOk result (self.new.journal
+            ≡ sealed_as [] (behind arrivals self.old.journal.running)
+            (entered (guest_epoch arrivals steps self.old.journal.running) (behind arrivals self.old.journal.running)
+            self.old.journal)) }
+        ensures room { OnOk result (more ≤ self.new.room) }
+        ensures arrival_room { OnOk result (self.old.arrival_room ≤ self.new.arrival_room) }
+        ensures err { OnErr result (self.new.journal ≡ self.old.journal) }
+    {
+        let mut sealed = with_capacity(self.alloc, 1)?;
+        sealed.push(RunningEpoch::new(self.alloc)).unwrap();
+        self.enter_epoch(arrivals, steps, more)?;
+        self.sealed = sealed;
         Ok(())
     }
 
@@ -260,8 +287,9 @@ impl Journal {
     pub(crate) fn land(&mut self, ports: &Ports, frames: &[Frame])
         requires room { length (receivers (length ports.now.boxes) frames.now) ≤ self.old.room }
         requires fits { length (all_entries self.old.journal) + length (receivers (length ports.now.boxes) frames.now) < number_limit }
-        ensures { self.new.journal
+        ensures journal { self.new.journal
             ≡ with_history self.old.journal (landings ports.now.boxes (targets_of (length ports.now.boxes) frames.now)) }
+        ensures arrival_room { self.new.arrival_room ≡ self.old.arrival_room }
     {
         add_landings(&mut self.history, ports, frames);
     }
@@ -278,6 +306,13 @@ impl Journal {
     {
         self.history.run(steps);
         add_landings(&mut self.history, ports, frames);
+    }
+
+    /// How many frames arrived in the epoch that runs.
+    pub(crate) fn arrived(&self) -> usize
+        ensures { result ≡ length (arrived_numbers self.now.journal.running) }
+    {
+        self.running.arrivals.len()
     }
 
     /// How many frames the kept epochs took in.

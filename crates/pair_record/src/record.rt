@@ -16,6 +16,7 @@ ghost use Rattle.pair_record.specs.Record.{IsRecord, IsAsBefore, AreNumbered, st
 mod alone;
 mod clients;
 mod epochs;
+mod full;
 mod live;
 mod protect;
 

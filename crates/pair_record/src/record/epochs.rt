@@ -28,6 +28,13 @@ impl PairRecord {
         self.journal.reserve_arrivals(count)
     }
 
+    /// How many frames that were handed out stand in no epoch yet.
+    pub fn handed(&self) -> usize
+        ensures { result ≡ length (arrived_numbers self.now.protocol.journal.running) }
+    {
+        self.journal.arrived()
+    }
+
     /// The first frame of this client's inbox leaves it for the guest, with its number, whatever the mode: from then on it runs. This takes
     /// a place of those that [`PairRecord::reserve_arrivals`] made, and can't fail.
     pub fn hand_out(&mut self, client: u64) -> (u64, Frame)
@@ -64,6 +71,7 @@ impl PairRecord {
         requires frames { All IsFrame frames.now }
         ensures ok { IfOk result (λ reply. (reply, self.new.protocol) ≡ seal_epoch_done arrivals steps frames.now self.old.protocol) }
         ensures ports { self.new.ports ≡ self.old.ports }
+        ensures room { OnOk result (self.old.arrival_room ≤ self.new.arrival_room) }
         ensures err { OnErr result (IsAsBefore self.old self.new) }
     {
         self.journal.seal_epoch(arrivals, steps)?;
@@ -108,6 +116,7 @@ impl PairRecord {
         ensures protocol { OnOk result (self.new.protocol
             ≡ enter_epoch_done arrivals steps self.old.ports.boxes frames.now self.old.protocol) }
         ensures ports { OnOk result (self.new.ports ≡ ports_landed self.old.ports self.old.protocol.next_frame frames.now) }
+        ensures room { OnOk result (self.old.arrival_room ≤ self.new.arrival_room) }
         ensures err { OnErr result (IsAsBefore self.old self.new) }
     {
         let count = count_landings(&self.ports, frames);

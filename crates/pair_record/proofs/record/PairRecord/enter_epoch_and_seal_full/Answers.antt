@@ -1,0 +1,28 @@
+use Rattle.std.proofs.Common.{rules, arith, ◌≡◌, ◌∙◌, [], length, ap}
+use Rattle.frame_ports.specs.Numbers.{marked}
+use Rattle.pair_record.specs.{Journal.{Journal, all_entries}, internal.RecordFields.record_state}
+use Rattle.pair_record.proofs.{EpochLaws.all-entered, LengthLaws.length-receivers, NumberLaws.opened_lone, ProtectLaws.none_yet}
+use Rattle.pair_record.proofs.RecordLaws.{passed, has_room_for}
+use Rattle.pair_record.proofs.record.PairRecord.enter_epoch_and_seal_full.Goals as goal
+
+pub land-requires-clause-fits : goal.land-requires-clause-fits
+land-requires-clause-fits c =
+    let s = record_state c.self.inside in
+    let free = rw (← c.self.view_is) at c.requires.free in
+    let room = has_room_for s.protocol _ (passed _ _ _ free).0 in
+    let lands = length-receivers (length s.ports.boxes) c.args.frames.now in
+    let entered = ap (λ (j : Journal). length (all_entries j)) c.in_ok-enter_epoch_and_seal_empty.ensures.ok
+    ∙ all-entered c.args.arrivals c.args.steps s.protocol.journal in
+    omega arith
+
+pub returns-clause-ports : goal.returns-clause-ports
+returns-clause-ports c =
+    let s = record_state c.self.inside in
+    let filling = rw (← c.self.view_is) at c.requires.filling in
+    let first = rw (← c.self.view_is) at c.requires.first in
+    let none : s.protocol.pending ≡ [] = none_yet s.protocol c.self.invariant.is filling first in
+    let landed =
+    c.open_all-landed.ensures.ports
+    ∙ opened_lone s.protocol s.ports c.self.invariant.numbers c.self.inside.window.to_cut c.args.frames.now c.hold.new.self c.hold.ensures
+    none in
+    rw (← c.self.view_is) (c.mark.ensures ∙ ap marked landed)
