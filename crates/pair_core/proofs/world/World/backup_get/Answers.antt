@@ -123,9 +123,9 @@ returns-clause-leaves c =
       start = search rules;
       lines = search rules;
       replicates = rw (← c.self.view_is) (subst (λ (o : Reply × Nodes). Replicates (BackupGet c.args.k) o.0 w.nodes o.1) (λ i. (
-      sym reply i,
-      sym
-          c.commit-2.ensures i,
-    )) (commit_replicates w k alone now then more));
+        sym reply i,
+        sym
+            c.commit-2.ensures i,
+      )) (commit_replicates w k alone now then more));
       refused = search rules;
     }

@@ -59,7 +59,7 @@ returns-clause-leaves c =
       start = search rules;
       lines = search rules;
       replicates = rw (← c.self.view_is) (subst (λ (o : Reply × Nodes). Replicates Cut o.0 w.nodes o.1) (λ i. (sym reply i, sym nodes i)) (cut_replicates w
-    k alone now text then (live_is w h)));
+          k alone now text then (live_is w h)));
       refused = search rules;
     }
 

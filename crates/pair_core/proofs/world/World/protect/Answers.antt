@@ -44,7 +44,7 @@ returns-clause-leaves c =
       start = search rules;
       lines = search rules;
       replicates = rw (← c.self.view_is) (subst (λ (o : Reply × Nodes). Replicates Protect o.0 w.nodes o.1) (λ i. (sym reply i, sym nodes i))
-    (protect_replicates w.nodes (c.generation-generation.result + 1) text (λ (before : Guest). c.in_ok-image.ensures.text before
-    c.self.invariant.nodes.shape)));
+          (protect_replicates w.nodes (c.generation-generation.result + 1) text (λ (before : Guest). c.in_ok-image.ensures.text before
+          c.self.invariant.nodes.shape)));
       refused = search rules;
     }
