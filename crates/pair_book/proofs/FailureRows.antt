@@ -1,15 +1,14 @@
 -- The tables of refusals of failures, new backups and acknowledgements.
-use Rattle.std.proofs.Common.{◌≡◌, ℕ, ◌+◌, ◌<◌, ◌≤◌, List, [], ◌∷◌, ◌++◌, length, Bool, true, false, refl, ap, sym, ◌∙◌, Option, Some, None, arith}
+use Rattle.std.proofs.Common.{◌≡◌, ◌+◌, ◌<◌, List, [], ◌∷◌, ◌++◌, length, Bool, true, false, refl, ap, Option, Some, None, arith}
 use Rattle.std.proofs.lemmas.Bool.Decides.{nat_tests}
-use Rattle.std.specs.Prelude.{nat_le, nat_lt, not, ◌==◌, ◌&&◌}
+use Rattle.std.specs.Prelude.{nat_le, nat_lt, ◌&&◌}
 use Rattle.frame_ports.specs.Limits.{number_limit}
 use Rattle.failover.specs.declared.change.Change.TheVariants as changes
 use Rattle.pair_record.specs.Modes.{mode_refusal, change_refusal}
 use Rattle.pair_record.specs.declared.event.Event.TheVariants.{AckGet}
-use Rattle.pair_record.specs.declared.event.Packet.{Packet}
 use Rattle.pair_record.specs.declared.event.Refusal.{Refusal}
 use Rattle.pair_record.specs.declared.event.Refusal.TheVariants.{Stale, Gap, Exhausted}
-use Rattle.pair_record.specs.Protocol.{Row, first_refusal, exhausts, fail_backup_refusals, protect_refusals, ack_refusals}
+use Rattle.pair_record.specs.Protocol.{Row, first_refusal, fail_backup_refusals, protect_refusals, ack_refusals}
 use Rattle.pair_record.proofs.WindowLaws.{is_below}
 use Rattle.pair_book.specs.declared.failures.Ack.{Ack}
 use Rattle.pair_book.specs.Books.{BookState}

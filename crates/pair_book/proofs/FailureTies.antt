@@ -1,23 +1,23 @@
 -- What each failure, each new backup and each acknowledgement keeps of the tie.
-use Rattle.std.proofs.Common.{◌≡◌, ℕ, ◌+◌, ◌<◌, ◌≤◌, List, [], ◌∷◌, ◌++◌, length, map, refl, sym, ap, ◌∙◌, subst, append_assoc}
-use Rattle.std.proofs.Common.{Bool, true, false, cond, Option, None, Some, arith}
+use Rattle.std.proofs.Common.{◌≡◌, ℕ, ◌+◌, ◌<◌, ◌≤◌, List, [], ◌∷◌, ◌++◌, length, refl, sym, ap, ◌∙◌, subst, append_assoc}
+use Rattle.std.proofs.Common.{Bool, true, false, cond, None, arith}
 use Rattle.std.proofs.lemmas.List.{append-nil, length-append}
 use Rattle.failover.specs.declared.change.Change.TheVariants as changes
 use Rattle.failover.specs.declared.mode.Mode.{Mode}
 use Rattle.failover.specs.declared.mode.Mode.TheVariants.{Paired, Filling, Alone, Stopped}
 use Rattle.std.specs.Prelude.{nat_lt, drop}
 use Rattle.frame_ports.specs.{Lands.{has_room, landed_at}, Limits.box_frames, Ports.PortsState}
-use Rattle.pair_history.specs.Entries.{Frame, Entry, Arrive, Land, DropOut}
+use Rattle.pair_history.specs.Entries.{Frame, Entry, Land, DropOut}
 use Rattle.pair_history.specs.HistoryState.{HistoryState, at}
 use Rattle.pair_history.specs.HistoryState as history
 use Rattle.pair_history.specs.{Failures.all_land, Landings.{landings, DropsAtFull}}
 use Rattle.pair_history.specs.internal.Moves.{Move}
 use Rattle.pair_history.proofs.{States.at-append, LandingLaws.length-lands, Moves.moved, WaitsLaws.AreQuiet-landings}
-use Rattle.pair_record.specs.Journal.{joined, with_history}
+use Rattle.pair_record.specs.Journal.{joined}
 use Rattle.pair_record.specs.EpochActs.{fail_within_done}
 use Rattle.pair_record.specs.Modes.{change_refusal, is_alone}
 use Rattle.pair_record.specs.Protocol.{Record, shown_at, let_go, all_held, ack_done, fail_primary_done, begin_done}
-use Rattle.pair_record.specs.Record.{IsRecord, IsLone, ports_after_ack, ports_after_all}
+use Rattle.pair_record.specs.Record.{IsRecord, ports_after_ack, ports_after_all}
 use Rattle.pair_record.specs.internal.Accords.{Accords}
 use Rattle.pair_record.proofs.AccordLaws.{sealed_now, sealed_state, owed_with}
 use Rattle.pair_record.proofs.{ClientAccords.{ack_accords, ack_lands}, HandedAccords.fail_within_accords, ProtectAccords.begin_accords}

@@ -7,11 +7,11 @@ use native.Mathlib.Decide.{ℕ_discrete}
 use Rattle.std.proofs.lemmas.List.{get_or-set_same, get_or-set_other, length-append, length-set, append-nil, map-append, take-append-drop}
 use Rattle.std.specs.Prelude.{slice_get}
 use Rattle.frame_ports.specs.{Lands.list_of, Ports.PortsState}
-use Rattle.pair_history.specs.Entries.{Frame, Entry, Arrive}
-use Rattle.pair_record.specs.Journal.{Journal, all_entries, kept_entries, joined, with_running}
-use Rattle.pair_record.specs.{Protocol.Record, Record.ports_after_admit}
-use Rattle.pair_book.specs.internal.Handing.{Handing, handing, handed_one, handed_all, handed_out, firsts}
-use Rattle.pair_book.specs.internal.Handing.{arrivals_of, with_arrivals, HandsOut, HandsOutFirsts}
+use Rattle.pair_history.specs.Entries.{Frame, Arrive}
+use Rattle.pair_record.specs.Journal.{Journal, all_entries, joined, with_running}
+use Rattle.pair_record.specs.{Record.ports_after_admit}
+use Rattle.pair_book.specs.Handing.{Handing, handed_one, handed_all, handed_out, firsts}
+use Rattle.pair_book.specs.Handing.{arrivals_of, with_arrivals, HandsOut, HandsOutFirsts}
 
 -- a list whose first is x
 starts : {A : Type 0} (n : ℕ) (xs : List A) (x : A) → slice_get xs 0 ≡ Some x → take (suc n) xs ≡ x ∷ take n (drop 1 xs)
@@ -107,7 +107,7 @@ hands-then h a b xs ys first second =
       count = second.count ∙ first.count;
     }
 
-hands-all : (c : ℕ) (xs : List (ℕ × Frame)) (h : Handing) → HandsOut h xs (handed_all c xs h)
+pub hands-all : (c : ℕ) (xs : List (ℕ × Frame)) (h : Handing) → HandsOut h xs (handed_all c xs h)
 hands-all c [] h = hands-none h
 hands-all c (x ∷ xs) h =
     hands-then h (handed_one c x h) (handed_all c xs (handed_one c x h)) (x ∷ []) xs (hands-one c x h) (hands-all c xs (handed_one c x h))

@@ -15,3 +15,9 @@ pub mod StandingLaws
 pub mod LiveTies
 pub mod Start
 pub mod HandingLaws
+pub mod CommittedHanding
+pub mod EpochWords
+pub mod HandedNext
+pub mod SubmitTies
+pub mod SubmitEnds
+pub mod SubmitLaws

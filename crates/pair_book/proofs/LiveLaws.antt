@@ -1,9 +1,9 @@
 -- Whose seats are live, where others' steps are made.
-use Rattle.std.proofs.Common.{◌≡◌, ℕ, zero, suc, ◌+◌, ◌<◌, ◌≤◌, [], ◌∷◌, ◌++◌, length, refl, sym, ap, ◌∙◌, arith}
+use Rattle.std.proofs.Common.{◌≡◌, ℕ, zero, suc, ◌+◌, ◌≤◌, [], ◌∷◌, ◌++◌, length, refl, ap, ◌∙◌, arith}
 use Rattle.pair_history.specs.HistoryState.{HistoryState}
-use Rattle.growing_history.specs.Steps.{What, Sealed, WentLive, Protected, Step, step}
+use Rattle.growing_history.specs.Steps.{What, Sealed, WentLive, Protected, step}
 use Rattle.frame_ports.specs.Limits.{max_clients}
-use Rattle.growing_history.specs.LogState.{LogState, state_at, after, start_of, first_runner, first_backup, last_seat, client_seat, IsNew}
+use Rattle.growing_history.specs.LogState.{LogState, state_at, after, start_of, first_runner, first_backup, client_seat, IsNew}
 use Rattle.growing_history.specs.Views.{Keeper}
 use Rattle.growing_history.proofs.{LogLaws.{state-nil, state-snoc}, SeatNumbers.seats-last}
 use Rattle.pair_book.specs.internal.Live.{AreLive, LeavesLive}

@@ -1,12 +1,12 @@
 -- What each call does to what waits.
-use Rattle.std.proofs.Common.{rules, ◌≡◌, ◌≢◌, ℕ, zero, suc, ◌+◌, ◌-◌, ◌≤◌, Bool, cond, true, false, List, [], ◌∷◌, ◌++◌, length, remove}
+use Rattle.std.proofs.Common.{◌≡◌, ℕ, zero, suc, ◌+◌, ◌-◌, ◌≤◌, Bool, cond, List, [], ◌∷◌, ◌++◌, length, remove}
 use Rattle.std.proofs.Common.{take, drop, map, refl, sym, ap, ◌∙◌, subst, append_assoc, arith, Some}
 use Rattle.std.proofs.{lemmas.Bool.eq-eqb, lemmas.List.{append-nil, length-set, map-append}}
 use Rattle.std.specs.Prelude.{slice_get}
 use Rattle.frame_ports.specs.{Lands.{list_of, with_list}, Ports.{PortsState, after_delivery}}
 use Rattle.pair_history.specs.Entries.{Frame, Arrive, Delivered, DropIn}
 use Rattle.pair_history.specs.Failures.{arrived_numbers}
-use Rattle.pair_history.specs.HistoryState.{HistoryState, Waiting, inbox_of, frame_numbered, without_number, at}
+use Rattle.pair_history.specs.HistoryState.{HistoryState, Waiting, inbox_of, frame_numbered, without_number}
 use Rattle.pair_history.specs.Order.{AreGuests}
 use Rattle.pair_history.specs.internal.Moves.{AreRising}
 use Rattle.pair_history.specs.internal.Waits.{without_numbers, AllWait}
@@ -19,7 +19,7 @@ use Rattle.pair_record.proofs.AccordLaws.{AreInboxes-with, apart}
 use Rattle.growing_history.specs.Steps.{Added}
 use Rattle.growing_history.specs.LogState.{LogState, entries_of, under_way, after, first_frames, hands_out}
 use Rattle.growing_history.proofs.{WaitsAlong.{StillWait, taken, way-guests}, Arrivals.{firsts-wait, firsts-leave}}
-use Rattle.pair_book.specs.internal.{Handing.firsts, Waits.{AreWaiting, waits_at_last}}
+use Rattle.pair_book.specs.{Handing.firsts, internal.Waits.{AreWaiting, waits_at_last}}
 
 -- where nothing was delivered, dropped by the line or handed out
 pub still-waiting : (s t : LogState) (p q : PortsState) → AreWaiting s p → StillWait s t → q.next ≡ p.next → q.inboxes ≡ p.inboxes

@@ -1,5 +1,5 @@
 -- Failures and new backups, and acknowledgements: the steps that are no member's, and why they are refused.
-use Rattle.std.specs.Prelude.{◌≡◌, ℕ, ◌+◌, ◌==◌, ◌&&◌, not, nat_lt, nat_le, Bool, List, [], ◌∷◌, ◌++◌, length, Option, None, Some}
+use Rattle.std.specs.Prelude.{◌≡◌, ℕ, ◌+◌, ◌==◌, ◌&&◌, not, nat_lt, nat_le, List, [], ◌∷◌, ◌++◌, length, Option, None, Some}
 use Rattle.frame_ports.specs.Limits.{number_limit}
 use Rattle.pair_history.specs.Entries.{Entry}
 use Rattle.pair_record.specs.declared.event.Event.TheVariants.{AckGet, FailPrimary, FailBackup, Protect}

@@ -1,10 +1,13 @@
 pub mod internal
 pub mod Books
 pub mod Calls
+pub mod Commits
 pub mod Failures
 pub mod GoingLive
-pub mod Commits
+pub mod Handing
 pub mod Losses
 pub mod Opening
 pub mod Running
+pub mod Settled
 pub mod Standing
+pub mod Submitting

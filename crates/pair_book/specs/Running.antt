@@ -1,7 +1,7 @@
 -- What the live runner is asked for, and who may run.
-use Rattle.std.specs.Prelude.{ℕ, zero, suc, ◌==◌, ◌&&◌, not, Bool}
+use Rattle.std.specs.Prelude.{ℕ, zero, ◌==◌, ◌&&◌, not, Bool}
 use Rattle.failover.specs.declared.mode.Mode.{Mode}
-use Rattle.failover.specs.declared.mode.Mode.TheVariants.{Paired, Filling, Alone, Stopped}
+use Rattle.failover.specs.declared.mode.Mode.TheVariants.{Filling, Alone}
 use Rattle.pair_history.specs.HistoryState.{HistoryState}
 use Rattle.pair_record.specs.Modes.{is_stopped}
 use Rattle.growing_history.specs.LogState.{state_at}

@@ -1,6 +1,6 @@
 -- what only models, private functions and proofs cite
 pub mod Committed
-pub mod Handing
 pub mod Live
 pub mod Tie
+pub mod Told
 pub mod Waits

@@ -15,15 +15,19 @@ mod going_live;
 mod handing;
 mod losses;
 mod opening;
+mod prepared;
 mod runner;
 mod seats;
+mod submitting;
 
 pub use book::Book;
 pub use failures::Ack;
 pub use losses::Loss;
 pub use opening::{Members, NewBook, UnnamedBook};
 pub use pair_record::Refusal;
+pub use prepared::{Packet, Prepared};
 pub use runner::{Kind, Want};
+pub use submitting::OpenEpoch;
 
 #[cfg(test)]
 mod tests;

@@ -29,7 +29,7 @@ pub struct Want {
 
 impl<P: Pair> Book<P> {
     /// Whether the runner of this seat is the live one, and the primary hasn't stopped.
-    fn may_run(&self, seat: &RunnerSeat<P>) -> bool
+    pub(crate) fn may_run(&self, seat: &RunnerSeat<P>) -> bool
         ensures { result ≡ may_run P.start self.now seat.now.number }
     {
         self.seats.count();
@@ -37,7 +37,7 @@ impl<P: Pair> Book<P> {
     }
 
     /// Which kind of checkpoint is wanted.
-    fn kind_wanted(&self) -> Kind
+    pub(crate) fn kind_wanted(&self) -> Kind
         ensures { result ≡ kind_wanted self.now.protocol.mode self.now.protocol.window.to_cut }
     {
         match self.record.mode() {

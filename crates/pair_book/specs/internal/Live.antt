@@ -2,7 +2,7 @@
 use Rattle.std.specs.Prelude.{◌≡◌, ℕ, ◌+◌, ◌≤◌, length}
 use Rattle.pair_history.specs.HistoryState.{HistoryState}
 use Rattle.growing_history.specs.Steps.{What, WentLive, Protected}
-use Rattle.growing_history.specs.LogState.{LogState, state_at, client_seat}
+use Rattle.growing_history.specs.LogState.{state_at, client_seat}
 use Rattle.growing_history.specs.Views.{Keeper}
 
 -- How many numbers were given out beside one in each generation: at most 16 clients', the line's, and those of the first runner and backup,

@@ -1,7 +1,7 @@
 -- Who waits, whatever is marked.
-use Rattle.std.specs.Prelude.{◌≡◌, ℕ, List, length}
+use Rattle.std.specs.Prelude.{◌≡◌, List, length}
 use Rattle.frame_ports.specs.Ports.{PortsState}
-use Rattle.pair_history.specs.HistoryState.{HistoryState, Waiting, at}
+use Rattle.pair_history.specs.HistoryState.{Waiting, at}
 use Rattle.pair_history.specs.Failures.{arrived_numbers}
 use Rattle.pair_history.specs.Reached.{AreRising}
 use Rattle.pair_history.specs.internal.Waits.{AllWait}

@@ -1,7 +1,7 @@
-use Rattle.std.proofs.Common.{rules, ◌≡◌, ◌+◌, ◌-◌, ◌≤◌, ℕ, List, [], length, take, suc, sym, ap, ◌∙◌, subst, arith}
+use Rattle.std.proofs.Common.{◌≡◌, ◌+◌, ◌-◌, ◌≤◌, ℕ, take, suc, sym, ap, ◌∙◌, arith}
 use Rattle.frame_ports.specs.Lands.{list_of}
-use Rattle.pair_book.specs.internal.Handing.{Handing, handing, handed_all, handed_out, HandsOutFirsts}
-use Rattle.pair_book.proofs.HandingLaws.{as_many, hands-firsts}
+use Rattle.pair_book.specs.Handing.{Handing, handing, handed_all, handed_out}
+use Rattle.pair_book.proofs.HandingLaws.{as_many}
 use Rattle.pair_book.proofs.handing.hand_out.Goals as goal
 
 pub loop-client-preserved : goal.loop-client-preserved
@@ -37,17 +37,13 @@ loop-client-preserved c =
       room = omega (arith, e.len, e.room, v.room, few);
     }
 
-pub returns-clause-done : goal.returns-clause-done
-returns-clause-done c =
+pub returns : goal.returns
+returns c =
     let old = c.args.pair.now in
-    let n = length old.ports.boxes in
-    let before : Handing = handing old.protocol old.ports [] in
+    let before : Handing = handing old.protocol old.ports c.args.frames.now.items in
     let now : Handing = handing c.loop-client.pair.protocol c.loop-client.pair.ports c.loop-client.frames.items in
-    let kept = c.reserve_arrivals.ensures.same in
     let count = c.clients-clients.ensures.count in
     let over : (c.clients-clients.result + 1) - c.loop-client.client ≡ 0 = omega (arith, c.loop-client-test.false) in
-    let whole : now ≡ handed_out n 1 before =
     sym (ap (λ (k : ℕ). handed_out k c.loop-client.client now) over)
     ∙ c.loop-client.invariant.done
-    ∙ (λ i. handed_out (count i) 1 (handing (kept.0 i) (kept.1 i) [])) in
-    subst (HandsOutFirsts n 1 before) (sym whole) (hands-firsts n 1 before (omega arith) (omega (arith, c.requires.inboxes)))
+    ∙ ap (λ (k : ℕ). handed_out k 1 before) count

@@ -1,11 +1,8 @@
-use Rattle.std.proofs.Common.{rules, ◌≡◌, ◌+◌, ◌-◌, ◌≤◌, ℕ, List, [], ◌∷◌, ◌++◌, length, drop, take, suc, sym, ap, ◌∙◌, subst, arith}
+use Rattle.std.proofs.Common.{rules, ◌≡◌, ◌+◌, ◌-◌, ◌≤◌, ℕ, [], ◌∷◌, ◌++◌, length, drop, take, suc, sym, ap, ◌∙◌, subst, arith}
 use Rattle.std.proofs.lemmas.List.{length-set}
-use Rattle.std.specs.Prelude.{vec_len, vec_capacity}
 use Rattle.frame_ports.specs.{Lands.list_of, Ports.PortsState}
-use Rattle.pair_history.specs.Entries.{Frame}
 use Rattle.pair_record.specs.{Journal.all_entries, Protocol.Record}
-use Rattle.pair_record.specs.Record.{ports_after_admit}
-use Rattle.pair_book.specs.internal.Handing.{Handing, handing, handed_one, handed_all}
+use Rattle.pair_book.specs.Handing.{Handing, handing, handed_one, handed_all}
 use Rattle.pair_book.proofs.HandingLaws.{one-more, one-entry, still-there}
 use Rattle.pair_book.proofs.handing.hand_out_some.Goals as goal
 

@@ -2,7 +2,7 @@ use Rattle.std.proofs.Common.{◌≡◌, ◌+◌, ◌-◌, ◌≤◌, length, ta
 use Rattle.std.specs.Prelude.{vec_len, vec_capacity}
 use Rattle.frame_ports.specs.Lands.{list_of}
 use Rattle.pair_record.specs.Journal.{all_entries}
-use Rattle.pair_book.specs.internal.Handing.{handing, handed_all}
+use Rattle.pair_book.specs.Handing.{handing, handed_all}
 use Rattle.pair_book.proofs.handing.hand_out_some.Given as goal
 
 abbrev pub invariant-loop-place : goal.invariant-loop-place

@@ -1,6 +1,4 @@
-use Rattle.std.proofs.Common.{rules, ◌≡◌, ap, sym, ◌∙◌, None}
-use Rattle.failover.specs.declared.change.Change.TheVariants as changes
-use Rattle.pair_record.specs.Modes.{change_refusal}
+use Rattle.std.proofs.Common.{rules, ap}
 use Rattle.pair_record.specs.Protocol.{Outcome}
 use Rattle.pair_book.specs.internal.Tie.{book_state}
 use Rattle.pair_book.proofs.FailureRows.{backup_may}

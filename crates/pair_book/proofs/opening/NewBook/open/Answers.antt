@@ -1,9 +1,6 @@
-use Rattle.std.proofs.Common.{rules, arith, ◌≡◌, ◌≤◌, [], length, sym, ap, subst, ◌∙◌, List}
-use Rattle.growing_history.specs.LogState.{LogState, client_seat, state_at}
-use Rattle.growing_history.specs.Steps.{Step}
-use Rattle.growing_history.specs.Views.{Keeper}
-use Rattle.growing_history.proofs.LogLaws.{state-nil}
-use Rattle.pair_book.specs.internal.{Live.AreLive, Tie.IsTied}
+use Rattle.std.proofs.Common.{rules, arith, ◌≤◌, length, subst}
+use Rattle.growing_history.specs.LogState.{client_seat}
+use Rattle.pair_book.specs.internal.{Tie.IsTied}
 use Rattle.pair_book.proofs.LiveLaws.{first_live}
 use Rattle.pair_book.proofs.opening.NewBook.open.Goals as goal
 

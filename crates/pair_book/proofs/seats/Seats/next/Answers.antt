@@ -1,4 +1,3 @@
-use Rattle.std.proofs.Common.{rules}
 use Rattle.pair_book.proofs.LiveLaws.{next_is_new}
 use Rattle.pair_book.proofs.seats.Seats.next.Goals as goal
 

@@ -57,3 +57,21 @@ pub record HandsOutFirsts (m c : ℕ) (h now : Handing) : Type 0 where
   pub out : HandsOut h (firsts m c h.ports.inboxes) now
   pub lose : (d : ℕ) → c ≤ d → d < c + m → list_of now.ports.inboxes d ≡ drop 4 (list_of h.ports.inboxes d)
   pub stay : (d : ℕ) → 1 ≤ d → d < c → list_of now.ports.inboxes d ≡ list_of h.ports.inboxes d
+
+-- WHAT IS HANDED OUT ONCE AN EPOCH ENDED: nothing where some of what was handed out before has still to arrive
+
+-- once these were, where that is what still runs
+abbrev pub handed_behind : List Entry → Handing → Handing
+handed_behind [] h = handed_out (length h.ports.boxes) 1 h
+handed_behind (e ∷ es) h = h
+
+abbrev pub handed_next : Handing → Handing
+handed_next h = handed_behind h.protocol.journal.running h
+
+abbrev pub HandsBehind : List Entry → Handing → Handing → Type 0
+HandsBehind [] h now = HandsOutFirsts (length h.ports.boxes) 1 h now
+HandsBehind (e ∷ es) h now = now ≡ h
+
+-- the first four of each inbox, or none
+abbrev pub HandsNext : Handing → Handing → Type 0
+HandsNext h now = HandsBehind h.protocol.journal.running h now
