@@ -13,6 +13,8 @@ pub mod CommittedTies
 pub mod CommittedSeals
 pub mod StandingLaws
 pub mod LiveTies
+pub mod TextLaws
+pub mod NextTexts
 pub mod Start
 pub mod HandingLaws
 pub mod CommittedHanding

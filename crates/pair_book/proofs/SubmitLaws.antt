@@ -18,26 +18,28 @@ use Rattle.pair_record.specs.Modes.{is_alone, is_stopped, is_filling}
 use Rattle.pair_record.specs.Protocol.{Record}
 use Rattle.pair_record.specs.Record.{IsRecord, IsLone, SuitsMode, AreNumbered}
 use Rattle.pair_record.proofs.{ProtectLaws.none_yet, RecordLaws.{passed, generation_is}, WindowLaws.is_below}
-use Rattle.growing_history.specs.Steps.{Step, step, Begins, Sealed}
+use Rattle.pair_record.specs.{Limits.most_pending, Window.with_cut}
+use Rattle.growing_history.specs.Steps.{Step, step, Begins, Sealed, RanAlone}
 use Rattle.growing_history.specs.LogState.{LogState, state_at, sealed_state, Legal, IsEpoch, HasBackup, IsAlone, MaySeal}
 use Rattle.growing_history.specs.Views.{Member}
 use Rattle.growing_history.proofs.LogLaws.{live-rise, marks-rise}
-use Rattle.pair_book.specs.declared.prepared.Packet.{Packet}
 use Rattle.pair_book.specs.declared.prepared.Prepared.{Prepared}
 use Rattle.pair_book.specs.declared.prepared.Prepared.TheVariants as prepared
 use Rattle.pair_book.specs.declared.runner.Kind.{Kind}
 use Rattle.pair_book.specs.declared.runner.Kind.TheVariants.{Nothing, Delta, Full}
-use Rattle.pair_book.specs.Books.{BookState}
+use Rattle.pair_book.specs.{Books.BookState, Packets.PacketState}
 use Rattle.pair_book.specs.Handing.{Handing, handing, handed_next, handed_behind, HandsNext}
 use Rattle.pair_book.specs.Running.{kind_wanted}
 use Rattle.pair_book.specs.Settled.{IsSettled, epoch_of}
-use Rattle.pair_book.specs.Submitting.{protocol_ended, ports_ended, ended_as, ended, wanted_kind, told_as, told, submit_why, is_checkpoint, is_other}
-use Rattle.pair_book.specs.internal.{Committed.KeepsCommitted, Tie.IsTied}
+use Rattle.pair_book.specs.Submitting.{protocol_ended, ports_ended, texts_ended, ended_as, ended, wanted_kind, told_as, told}
+use Rattle.pair_book.specs.Submitting.{submit_why, is_checkpoint, is_other}
+use Rattle.pair_book.specs.internal.{Committed.KeepsCommitted, Texts.HasTexts, Tie.IsTied}
 use Rattle.pair_book.specs.internal.Told.{last_of, entered_there, sealed_there, epoch_there, found}
 use Rattle.pair_book.proofs.EpochWords.{own-epoch, epoch-is}
 use Rattle.pair_book.proofs.HandingLaws.{hands-firsts}
 use Rattle.pair_book.proofs.HandedNext.{hands-behind}
 use Rattle.pair_book.proofs.{CommittedHanding.behind-keeps, CommittedSeals.{sealed-keeps, full-keeps, lone-keeps}}
+use Rattle.pair_book.proofs.TextLaws.{texts-after, texts-once-sealed, as-many}
 use Rattle.pair_book.proofs.SubmitTies.{sealed-tied, alone-tied, full-tied}
 
 -- WHAT THE LIVE RUNNER KNEW when its seat last looked
@@ -70,7 +72,8 @@ module _ (start : HistoryState) (seat : Member) (log : List Step) (arrivals ran 
       let rise = marks-rise start seat.steps log begins in
       let unmarked : was-state.marked ≡ 0 = omega (arith, rise, none) in
       settled.sent was unmarked
-      ∙ sym (epoch-law was (sym live) none (epoch_of was-state.handed arrivals ran) (own-epoch was-state.handed arrivals ran was-state refl)).1
+      ∙ sym (epoch-law was (sym live) none (epoch_of was-state.handed arrivals ran)
+      (own-epoch was-state.handed arrivals ran was-state refl)).1
       ∙ ap (λ (hs : List ℕ). sent_along (sealed_state is-state) (epoch_of hs arrivals ran)) (sym still)
 
 -- WHERE NO ROW HOLDS
@@ -113,6 +116,7 @@ pub record Free (start : HistoryState) (b : BookState) (by : ℕ) (what : Prepar
   pub runs : is_stopped b.protocol.mode ≡ false
   pub suit : Suits b.protocol what
   pub word : length b.steps < number_limit
+  pub few : length b.protocol.pending < most_pending
 
 pub is-free : (start : HistoryState) (b : BookState) (by : ℕ) (what : Prepared) (ran : ℕ) (fs : List Frame)
     → submit_why start b by what ran fs ≡ None → Free start b by what
@@ -129,6 +133,7 @@ is-free start b by what ran fs e =
       runs = run.1;
       suit = suits b.protocol what three.0 four.0 five.0;
       word = is_below number_limit (length b.steps) six.0;
+      few = is_below most_pending (length b.protocol.pending) two.0;
     }
 
 -- WHICH KIND is wanted, where the primary hasn't stopped
@@ -186,9 +191,17 @@ behind-journal [] h same =
     (ap (λ (r : Record). r.journal.history) out, ap (λ (r : Record). r.journal.sealed) out)
 behind-journal (e ∷ es) h same = (refl, refl)
 
+behind-numbers : (es : List Entry) (h : Handing) → length h.ports.inboxes ≡ length h.ports.boxes
+    → ((handed_behind es h).protocol.generation ≡ h.protocol.generation) × ((handed_behind es h).protocol.window ≡ h.protocol.window)
+behind-numbers [] h same =
+    let out = (hands-firsts (length h.ports.boxes) 1 h (omega arith) (omega (arith, same))).out.protocol in
+    (ap (λ (r : Record). r.generation) out, ap (λ (r : Record). r.window) out)
+behind-numbers (e ∷ es) h same = (refl, refl)
+
 module _ (start : HistoryState) (b : BookState) (t : IsTied start b.steps b.protocol b.ports)
-    (keeps : KeepsCommitted start b.steps b.protocol b.ports) (k : IsRecord b.protocol) (numbered : AreNumbered b.protocol b.ports) (by : ℕ)
-    (what : Prepared) (free : Free start b by what) (arrivals ran : ℕ) (fs : List Frame)
+    (keeps : KeepsCommitted start b.steps b.protocol b.ports) (had : HasTexts start b.steps b.protocol b.texts.packets)
+    (k : IsRecord b.protocol) (numbered : AreNumbered b.protocol b.ports) (by : ℕ) (what : Prepared)
+    (free : Free start b by what) (arrivals ran : ℕ) (fs : List Frame)
     (held : arrivals ≤ length (state_at start b.steps).handed)
     (sent : (state_at start b.steps).marked ≡ 0
     → fs ≡ sent_along (sealed_state (state_at start b.steps)) (epoch_of (state_at start b.steps).handed arrivals ran))
@@ -234,13 +247,25 @@ module _ (start : HistoryState) (b : BookState) (t : IsTied start b.steps b.prot
     kept.1 ∙ ap (λ (x : Kind). (protocol_ended x arrivals ran fs r b.ports).journal.sealed) e,
   )
 
+  numbers-by : (kind : Kind) → wanted_kind b ≡ kind
+      → (now.generation ≡ (protocol_ended kind arrivals ran fs r b.ports).generation)
+      × (now.window ≡ (protocol_ended kind arrivals ran fs r b.ports).window)
+  numbers-by kind e =
+      let h = ended b arrivals ran fs in
+      let same = behind-numbers h.protocol.journal.running h long in (
+        ap (λ (x : Handing). x.protocol.generation) is ∙ same.0
+            ∙ ap (λ (x : Kind). (protocol_ended x arrivals ran fs r b.ports).generation) e,
+        ap (λ (x : Handing). x.protocol.window) is ∙ same.1 ∙ ap (λ (x : Kind). (protocol_ended x arrivals ran fs r b.ports).window) e,
+      )
+
   kept-committed : (kind : Kind) → wanted_kind b ≡ kind → (xs : List Step)
       → KeepsCommitted start xs (protocol_ended kind arrivals ran fs r b.ports) (ports_ended kind fs r b.ports)
       → KeepsCommitted start xs now q
   kept-committed kind e xs c =
       let h = ended_as kind arrivals ran fs r b.ports in
       let same =
-      subst (λ (x : Kind). length (ended_as x arrivals ran fs r b.ports).ports.inboxes ≡ length (ended_as x arrivals ran fs r b.ports).ports.boxes)
+      subst
+      (λ (x : Kind). length (ended_as x arrivals ran fs r b.ports).ports.inboxes ≡ length (ended_as x arrivals ran fs r b.ports).ports.boxes)
       e long in
       subst (λ (x : Handing). KeepsCommitted start xs x.protocol x.ports) (sym (ended-by kind e))
       (behind-keeps start xs h same h.protocol.journal.running c)
@@ -264,6 +289,7 @@ module _ (start : HistoryState) (b : BookState) (t : IsTied start b.steps b.prot
   record Done (x : Prepared) : Type 0 where
     pub tied : IsTied start (log (step by (told_as x epoch))) now q
     pub committed : KeepsCommitted start (log (step by (told_as x epoch))) now q
+    pub texts : HasTexts start (log (step by (told_as x epoch))) now (texts_ended x b.texts).packets
     pub found : epoch_there x now.journal before arrivals ran ≡ epoch
 
   paired-some : r.mode ≡ modes.Paired → 1 ≤ r.window.to_cut
@@ -283,12 +309,24 @@ module _ (start : HistoryState) (b : BookState) (t : IsTied start b.steps b.prot
             (ended-by Nothing kind);
         committed =
             kept-committed Nothing kind (log (step by (told_as prepared.Nothing epoch)))
-            (lone-keeps start b.steps r (protocol_ended Nothing arrivals ran fs r b.ports) b.ports (ports_ended Nothing fs r b.ports) keeps by
-            alone refl epoch);
+            (lone-keeps start b.steps r (protocol_ended Nothing arrivals ran fs r b.ports) b.ports (ports_ended Nothing fs r b.ports)
+            keeps by alone refl epoch);
+        texts =
+            let numbers = numbers-by Nothing kind in
+            texts-after start b.steps (log (step by (told_as prepared.Nothing epoch))) r now b.texts.packets had by (RanAlone epoch)
+            refl refl numbers.0 numbers.1;
         found = entered-found lone (kept-by Nothing kind).0;
       }
 
-  module _ (c : Packet) (suit : Suits r (prepared.Checkpoint c)) where
+  module _ (c : PacketState) (suit : Suits r (prepared.Checkpoint c)) where
+    text-pending : (kind : Kind) → wanted_kind b ≡ kind → (protocol_ended kind arrivals ran fs r b.ports).generation ≡ r.generation
+        → (protocol_ended kind arrivals ran fs r b.ports).window ≡ with_cut r.window
+        → HasTexts start (log (step by (told_as (prepared.Checkpoint c) epoch))) now (b.texts.packets ++ c ∷ [])
+    text-pending kind e generation window =
+        let numbers = numbers-by kind e in
+        texts-once-sealed start b.steps (log (step by (told_as (prepared.Checkpoint c) epoch))) r now b.texts.packets
+        (b.texts.packets ++ c ∷ []) had k by epoch c suit.1 suit.2 refl (numbers.0 ∙ generation) (numbers.1 ∙ window) refl
+
     full-done : IsFull r.mode r.window.to_cut → Done (prepared.Checkpoint c)
     full-done full =
         let none = none_yet r k full.filling full.number in
@@ -298,15 +336,16 @@ module _ (start : HistoryState) (b : BookState) (t : IsTied start b.steps b.prot
         let number : c.number ≡ 0 = suit.2 ∙ full.number in
         record {
           tied =
-              subst (λ (x : ℕ × ℕ). IsTied start (log (step by (Sealed x.0 x.1 epoch c.text.items))) now q)
+              subst (λ (x : ℕ × ℕ). IsTied start (log (step by (Sealed x.0 x.1 epoch c.text))) now q)
               (λ i. (sym suit.1 i, sym number i))
-              (full-tied start b.steps r b.ports t k by free.live arrivals ran fs sent lone c.text.items full.number full.may now q xs
+              (full-tied start b.steps r b.ports t k by free.live arrivals ran fs sent lone c.text full.number full.may now q xs
               (ended-by Full full.kind));
           committed =
               kept-committed Full full.kind (log (step by (told_as (prepared.Checkpoint c) epoch)))
               (full-keeps start b.steps r (protocol_ended Full arrivals ran fs r b.ports) b.ports (ports_ended Full fs r b.ports) keeps by
-              c.generation c.number epoch c.text.items (protocol_ended Nothing arrivals ran fs r b.ports) refl lone.1
+              c.generation c.number epoch c.text (protocol_ended Nothing arrivals ran fs r b.ports) refl lone.1
               (let w = k.window.cut in let z = full.number in omega (arith, w, z)) refl);
+          texts = text-pending Full full.kind refl refl;
           found =
               ap (λ n. sealed_there n now.journal before arrivals ran) number ∙ entered-found lone (kept-by Full full.kind).0;
         }
@@ -316,15 +355,16 @@ module _ (start : HistoryState) (b : BookState) (t : IsTied start b.steps b.prot
         let number : c.number ≡ suc delta.before = suit.2 ∙ delta.number in
         record {
           tied =
-              subst (λ (x : ℕ × ℕ). IsTied start (log (step by (Sealed x.0 x.1 epoch c.text.items))) now q)
+              subst (λ (x : ℕ × ℕ). IsTied start (log (step by (Sealed x.0 x.1 epoch c.text))) now q)
               (λ i. (sym suit.1 i, sym number i))
-              (sealed-tied start b.steps r b.ports t k by free.live arrivals ran fs sent delta.before c.text.items delta.number delta.pair now q xs
-              (ended-by Delta delta.kind));
+              (sealed-tied start b.steps r b.ports t k by free.live arrivals ran fs sent delta.before c.text delta.number delta.pair now
+              q xs (ended-by Delta delta.kind));
           committed =
               kept-committed Delta delta.kind (log (step by (told_as (prepared.Checkpoint c) epoch)))
-              (sealed-keeps start b.steps r (protocol_ended Delta arrivals ran fs r b.ports) b.ports (ports_ended Delta fs r b.ports) keeps by
-              c.generation c.number epoch c.text.items k.window numbered.held
+              (sealed-keeps start b.steps r (protocol_ended Delta arrivals ran fs r b.ports) b.ports (ports_ended Delta fs r b.ports)
+              keeps by c.generation c.number epoch c.text k.window numbered.held
               (let z = delta.number in omega (arith, z)) suit.0 epoch (behind arrivals r.journal.running) fs refl refl);
+          texts = text-pending Delta delta.kind refl refl;
           found =
               ap (λ n. sealed_there n now.journal before arrivals ran) number
               ∙ ap last_of (kept-by Delta delta.kind).1
@@ -348,6 +388,11 @@ module _ (start : HistoryState) (b : BookState) (t : IsTied start b.steps b.prot
 
   pub submitted-committed : KeepsCommitted start (b.steps ++ step by (found what now.journal before arrivals ran) ∷ []) now q
   submitted-committed = subst (λ x. KeepsCommitted start (log (step by x)) now q) (sym found-is) (done what free.suit).committed
+
+  pub submitted-texts : HasTexts start (b.steps ++ step by (found what now.journal before arrivals ran) ∷ []) now
+      (texts_ended what b.texts).packets
+  submitted-texts =
+      subst (λ x. HasTexts start (log (step by x)) now (texts_ended what b.texts).packets) (sym found-is) (done what free.suit).texts
 
   pub hands-next : HandsNext (ended b arrivals ran fs) (handing now q xs)
   hands-next =
@@ -381,13 +426,17 @@ pub record Submitted (start : HistoryState) (b : BookState) (by : ℕ) (what : P
     (now : Record) (q : PortsState) (xs : List (ℕ × Frame)) : Type 0 where
   pub tied : IsTied start (b.steps ++ step by (found what now.journal (length b.protocol.journal.history) came ran) ∷ []) now q
   pub committed : KeepsCommitted start (b.steps ++ step by (found what now.journal (length b.protocol.journal.history) came ran) ∷ []) now q
+  pub texts : HasTexts start (b.steps ++ step by (found what now.journal (length b.protocol.journal.history) came ran) ∷ []) now
+      (texts_ended what b.texts).packets
+  pub few : length b.texts.packets < most_pending
   pub told-is : found what now.journal (length b.protocol.journal.history) came ran ≡ told b arrivals ran what
   pub hands : HandsNext (ended b arrivals ran fs) (handing now q xs)
   pub word : length b.steps < number_limit
 
 module _ (start : HistoryState) (b : BookState) (t : IsTied start b.steps b.protocol b.ports)
-    (keeps : KeepsCommitted start b.steps b.protocol b.ports) (k : IsRecord b.protocol) (numbered : AreNumbered b.protocol b.ports)
-    (seat : Member) (what : Prepared) (arrivals ran came : ℕ) (fs : List Frame) (settled : IsSettled start seat arrivals ran fs)
+    (keeps : KeepsCommitted start b.steps b.protocol b.ports) (had : HasTexts start b.steps b.protocol b.texts.packets)
+    (k : IsRecord b.protocol) (numbered : AreNumbered b.protocol b.ports) (seat : Member) (what : Prepared)
+    (arrivals ran came : ℕ) (fs : List Frame) (settled : IsSettled start seat arrivals ran fs)
     (why : submit_why start b seat.number what ran fs ≡ None) (begins : Begins seat.steps b.steps)
     (handed-law : (state_at start seat.steps).runner ≡ seat.number → (state_at start b.steps).runner ≡ seat.number
     → (state_at start b.steps).handed ≡ (state_at start seat.steps).handed)
@@ -423,13 +472,21 @@ module _ (start : HistoryState) (b : BookState) (t : IsTied start b.steps b.prot
       record {
         tied =
             subst (λ (n : ℕ). IsTied start (b.steps ++ step by (found what now.journal before n ran) ∷ []) now q) (sym all)
-            (submitted-tied start b t keeps k numbered by what rows arrivals ran fs held sent-so now q xs is-so long-so);
+            (submitted-tied start b t keeps had k numbered by what rows arrivals ran fs held sent-so now q xs is-so long-so);
         committed =
             subst (λ (n : ℕ). KeepsCommitted start (b.steps ++ step by (found what now.journal before n ran) ∷ []) now q) (sym all)
-            (submitted-committed start b t keeps k numbered by what rows arrivals ran fs held sent-so now q xs is-so long-so);
+            (submitted-committed start b t keeps had k numbered by what rows arrivals ran fs held sent-so now q xs is-so long-so);
+        texts =
+            subst
+            (λ (n : ℕ). HasTexts start (b.steps ++ step by (found what now.journal before n ran) ∷ []) now (texts_ended what b.texts).packets)
+            (sym all)
+            (submitted-texts start b t keeps had k numbered by what rows arrivals ran fs held sent-so now q xs is-so long-so);
+        few =
+            let count = as-many start b.steps b.protocol b.texts.packets had k in
+            let less = rows.few in omega (arith, count, less);
         told-is =
             ap (λ (n : ℕ). found what now.journal before n ran) all
-            ∙ found-is start b t keeps k numbered by what rows arrivals ran fs held sent-so now q xs is-so long-so;
-        hands = hands-next start b t keeps k numbered by what rows arrivals ran fs held sent-so now q xs is-so long-so;
+            ∙ found-is start b t keeps had k numbered by what rows arrivals ran fs held sent-so now q xs is-so long-so;
+        hands = hands-next start b t keeps had k numbered by what rows arrivals ran fs held sent-so now q xs is-so long-so;
         word = rows.word;
       }

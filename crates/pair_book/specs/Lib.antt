@@ -7,7 +7,9 @@ pub mod GoingLive
 pub mod Handing
 pub mod Losses
 pub mod Opening
+pub mod Packets
 pub mod Running
 pub mod Settled
 pub mod Standing
 pub mod Submitting
+pub mod Texts

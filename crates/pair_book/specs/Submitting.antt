@@ -20,7 +20,9 @@ use Rattle.pair_book.specs.declared.runner.Kind.TheVariants.{Nothing, Delta, Ful
 use Rattle.pair_book.specs.Books.{BookState}
 use Rattle.pair_book.specs.Calls.{is_word_full}
 use Rattle.pair_book.specs.Handing.{Handing, handing}
+use Rattle.pair_book.specs.Packets.{TextsState}
 use Rattle.pair_book.specs.Running.{may_run, kind_wanted}
+use Rattle.pair_book.specs.Texts.{with_text}
 
 -- THE EPOCH ENDS, by what was wanted: where nothing was, it enters the history, and its frames land after it, under their numbers; with a
 -- delta it is sealed, and they are held; and with a full one it enters the history, they land, and then an empty epoch is sealed.
@@ -49,10 +51,15 @@ ended b arrivals steps frames = ended_as (wanted_kind b) arrivals steps frames b
 -- the step that tells of it: what was prepared says whether a checkpoint was sealed, under which generation and number, with which text
 abbrev pub told_as : Prepared → List Entry → What
 told_as prepared.Nothing epoch = RanAlone epoch
-told_as (prepared.Checkpoint c) epoch = Sealed c.generation c.number epoch c.text.items
+told_as (prepared.Checkpoint c) epoch = Sealed c.generation c.number epoch c.text
 
 abbrev pub told : BookState → ℕ → ℕ → Prepared → What
 told b arrivals steps what = told_as what (guest_epoch arrivals steps b.protocol.journal.running)
+
+-- the pending texts then: that of a checkpoint is the last of them
+abbrev pub texts_ended : Prepared → TextsState → TextsState
+texts_ended prepared.Nothing t = t
+texts_ended (prepared.Checkpoint c) t = with_text t c
 
 -- WHY ONE IS REFUSED
 

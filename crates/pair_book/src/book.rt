@@ -5,6 +5,7 @@ ghost use Rattle.growing_history.specs.LogState.{Legal, state_at, history_of};
 ghost use Rattle.pair_book.specs.Calls.{IsClientSeat, client_of, is_word_full};
 
 use crate::seats::Seats;
+use crate::texts::Texts;
 use frame_ports::NUMBER_LIMIT;
 use growing_history::{ClientSeat, Pair};
 use pair_record::PairRecord;
@@ -13,8 +14,9 @@ use std::marker::Model;
 /// The number of the line's seat; client c's is c more.
 pub(crate) const LINE_SEAT: u64 = 3;
 
-/// What all threads of a pair share. Contracts see it as a `BookState` of the specs: the steps that its keeper has made, the record and
-/// the clients' ports. Between any two calls the record is the one that the steps lead to.
+/// What all threads of a pair share. Contracts see it as a `BookState` of the specs: the steps that its keeper has made, the record,
+/// the clients' ports and the texts of pending checkpoints. Between any two calls the record is the one that the steps lead to, and each
+/// pending text was sealed in them.
 ///
 /// A call makes one step or none, as its clauses say, and after a refusal nothing has changed, the lent seat included; only a delivery
 /// refused [`Refusal::Full`](crate::Refusal::Full) is told by an entry.
@@ -22,19 +24,22 @@ pub(crate) const LINE_SEAT: u64 = 3;
 pub struct Book<P: Pair> {
     pub(crate) record: PairRecord,
     pub(crate) seats: Seats<P>,
+    pub(crate) texts: Texts,
 }
 
 impl<P: Pair> Model for Book<P> {
     ghost use Rattle.pair_book.specs.Books.{BookState};
-    ghost use Rattle.pair_book.specs.internal.Tie.{IsTied, book_state};
     ghost use Rattle.pair_book.specs.internal.Committed.{KeepsCommitted};
+    ghost use Rattle.pair_book.specs.internal.Texts.{HasTexts};
+    ghost use Rattle.pair_book.specs.internal.Tie.{IsTied, book_state};
 
     ghost Value = { BookState };
 
-    ghost view = { λ b. book_state b.seats b.record };
+    ghost view = { λ b. book_state b.seats b.record b.texts };
 
     ghost invariant = { λ b. IsTied P.start b.seats.steps b.record.protocol b.record.ports
-        × KeepsCommitted P.start b.seats.steps b.record.protocol b.record.ports };
+        × KeepsCommitted P.start b.seats.steps b.record.protocol b.record.ports
+        × HasTexts P.start b.seats.steps b.record.protocol b.texts.packets };
 }
 
 impl<P: Pair> Book<P> {

@@ -42,6 +42,7 @@ impl<P: Pair> Book<P> {
     ) -> Result<Option<Frame>, Refusal>
         requires client { IsClientSeat P.start seat.old.number }
         ensures number { seat.new.number ≡ seat.old.number }
+        ensures texts { self.new.texts ≡ self.old.texts }
         ensures done { IfOk result (λ f. (replies.Took f, self.new.protocol)
             ≡ take_done self.old.ports.boxes self.old.protocol (client_of seat.old.number)) }
         ensures ports { OnOk result (self.new.ports ≡ ports_after_take self.old.ports (client_of seat.old.number)) }
@@ -87,6 +88,7 @@ impl<P: Pair> Book<P> {
         requires client { IsClientSeat P.start seat.old.number }
         requires free { first_refusal (deliver_rows self.old (client_of seat.old.number) bytes.now) ≡ None }
         ensures number { seat.new.number ≡ seat.old.number }
+        ensures texts { self.new.texts ≡ self.old.texts }
         ensures done { IfOk result (λ n. (replies.Delivered n, self.new.protocol)
             ≡ deliver_done self.old.protocol (client_of seat.old.number) (record { items = bytes.now }) self.old.ports.next) }
         ensures ports { OnOk result (self.new.ports ≡ after_delivery self.old.ports (client_of seat.old.number) bytes.now) }
@@ -114,6 +116,7 @@ impl<P: Pair> Book<P> {
         requires client { IsClientSeat P.start seat.old.number }
         requires full { first_refusal (deliver_rows self.old (client_of seat.old.number) bytes.now) ≡ Some Refusal.Full }
         ensures number { seat.new.number ≡ seat.old.number }
+        ensures texts { self.new.texts ≡ self.old.texts }
         ensures ok { OnOk result (AfterRefusedDelivery (client_of seat.old.number) (record { items = bytes.now }) Refusal.Full
             self.old self.new seat.old seat.new) }
         ensures err { OnErr result (IsAsBefore self.old self.new seat.old seat.new) }
@@ -142,6 +145,7 @@ impl<P: Pair> Book<P> {
     ) -> Result<u64, Refusal>
         requires client { IsClientSeat P.start seat.old.number }
         ensures number { seat.new.number ≡ seat.old.number }
+        ensures texts { self.new.texts ≡ self.old.texts }
         ensures done { IfOk result (λ n. (replies.Delivered n, self.new.protocol)
             ≡ deliver_done self.old.protocol (client_of seat.old.number) (record { items = bytes.now }) self.old.ports.next) }
         ensures ports { OnOk result (self.new.ports ≡ after_delivery self.old.ports (client_of seat.old.number) bytes.now) }

@@ -103,6 +103,7 @@ impl<P: Pair> Book<P> {
         read: Option<&Checkpoint>,
     ) -> Result<Ack, Refusal>
         ensures number { seat.new.number ≡ seat.old.number }
+        ensures texts { self.new.texts ≡ self.old.texts }
         ensures done { IfOk result (λ ack. IfSome read.entry (λ c. AfterCommit c.now ack self.old self.new seat.old seat.new)) }
         ensures free { OnOk result (commit_why P.start self.old seat.old.number (option_map (λ c. c.now) read.entry) ≡ None) }
         ensures why { IfErr result (IsWhy (commit_why P.start self.old seat.old.number (option_map (λ c. c.now) read.entry))) }

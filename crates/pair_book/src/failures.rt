@@ -7,6 +7,8 @@ ghost use Rattle.pair_record.specs.declared.event.Reply.TheVariants as replies;
 ghost use Rattle.pair_record.specs.Protocol.{let_go, ack_done, fail_primary_done, begin_done};
 ghost use Rattle.pair_record.specs.Record.{ports_after_ack, ports_after_all};
 ghost use Rattle.pair_book.specs.Calls.{IsWhy};
+ghost use Rattle.pair_book.specs.Packets.{no_texts};
+ghost use Rattle.pair_book.specs.Texts.{texts_above};
 ghost use Rattle.pair_book.specs.Failures.{MakesAlone, AddsAlone, fail_primary_why, fail_backup_why, protect_why, ack_why, leaving_at};
 
 use crate::book::Book;
@@ -48,8 +50,8 @@ impl<P: Pair> Book<P> {
         None
     }
 
-    /// The backup has committed all checkpoints of the generation up to the acknowledged one: they are no longer pending, and their frames
-    /// land. Answers how many did, each counted for each client whose box took it.
+    /// The backup has committed all checkpoints of the generation up to the acknowledged one: they are no longer pending, with their texts,
+    /// and their frames land. Answers how many did, each counted for each client whose box took it.
     ///
     /// # Errors
     ///
@@ -60,6 +62,7 @@ impl<P: Pair> Book<P> {
         ensures done { IfOk result (λ landed. (replies.Acked ack.generation ack.number landed, self.new.protocol)
             ≡ ack_done self.old.ports.boxes self.old.protocol ack.number) }
         ensures ports { OnOk result (self.new.ports ≡ ports_after_ack self.old.ports self.old.protocol ack.number) }
+        ensures texts { OnOk result (self.new.texts ≡ texts_above ack.number self.old.texts) }
         ensures step { OnOk result (AddsAlone (landings self.old.ports.boxes (let_go self.old.ports.boxes self.old.protocol ack.number))
             self.old self.new) }
         ensures free { OnOk result (ack_why self.old ack ≡ None) }
@@ -81,6 +84,7 @@ impl<P: Pair> Book<P> {
         let Reply::Acked { landed, .. } = reply else {
             unreachable!();
         };
+        self.texts.drop_to(ack.number);
         if self.record.history().len() > before {
             tell_alone(&self.record, before, &mut self.seats, clock);
         }
@@ -96,6 +100,7 @@ impl<P: Pair> Book<P> {
     pub fn fail_primary(&mut self, clock: &Clock<P>) -> Result<(), Refusal>
         ensures done { OnOk result ((replies.Stopped, self.new.protocol) ≡ fail_primary_done self.old.protocol) }
         ensures ports { OnOk result (self.new.ports ≡ self.old.ports) }
+        ensures texts { self.new.texts ≡ self.old.texts }
         ensures step { OnOk result (MakesAlone PrimaryFailed self.old self.new) }
         ensures free { OnOk result (fail_primary_why self.old ≡ None) }
         ensures why { IfErr result (λ why. fail_primary_why self.old ≡ Some why) }
@@ -140,6 +145,7 @@ impl<P: Pair> Book<P> {
         ensures done { IfOk result (λ landed. (replies.Alone self.old.protocol.generation landed, self.new.protocol)
             ≡ fail_within_done self.old.ports.boxes self.old.protocol) }
         ensures ports { OnOk result (self.new.ports ≡ ports_after_all self.old.ports [] self.old.protocol) }
+        ensures texts { OnOk result (self.new.texts ≡ no_texts) }
         ensures step { OnOk result (MakesAlone BackupFailed self.old self.new) }
         ensures free { OnOk result (fail_backup_why self.old ≡ None) }
         ensures why { IfErr result (IsWhy (fail_backup_why self.old)) }
@@ -153,6 +159,7 @@ impl<P: Pair> Book<P> {
         let Reply::Alone { landed, .. } = reply else {
             unreachable!();
         };
+        self.texts.clear();
         self.seats.step_alone(clock, &What::BackupFailed);
         Ok(landed)
     }
@@ -183,6 +190,7 @@ impl<P: Pair> Book<P> {
         ensures done { OnOk result ((replies.Protecting (self.old.protocol.generation + 1), self.new.protocol)
             ≡ begin_done self.old.protocol) }
         ensures ports { OnOk result (self.new.ports ≡ self.old.ports) }
+        ensures texts { OnOk result (self.new.texts ≡ no_texts) }
         ensures step { OnOk result (self.new.steps ≡ self.old.steps ++ step 0 (Protected (self.old.enrolled + 1)) ∷ []) }
         ensures enrolled { OnOk result (self.new.enrolled ≡ self.old.enrolled + 1) }
         ensures seat { IfOk result (λ seat. seat ≡ record { number = self.new.enrolled; steps = self.new.steps }) }
@@ -196,6 +204,7 @@ impl<P: Pair> Book<P> {
         let _new = self.seats.next();
         self.record.keep();
         self.record.begin_protect();
+        self.texts.clear();
         Ok(self.seats.protect(clock))
     }
 }

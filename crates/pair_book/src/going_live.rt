@@ -6,6 +6,7 @@ ghost use Rattle.pair_record.specs.declared.event.Reply.TheVariants as replies;
 ghost use Rattle.pair_record.specs.Kept.{Brings, brought_done, ports_after_brought};
 ghost use Rattle.pair_book.specs.Calls.{IsWhy, IsAsBefore};
 ghost use Rattle.pair_book.specs.GoingLive.{GoesLive, go_live_why};
+ghost use Rattle.pair_book.specs.Packets.{no_texts};
 ghost use Rattle.pair_book.specs.Standing.{Stands};
 
 use crate::book::Book;
@@ -63,6 +64,7 @@ impl<P: Pair> Book<P> {
             ≡ brought_done self.old.protocol self.old.ports first (map (λ v. v.items) kept.now) steps) }
         ensures ports { OnOk result (self.new.ports
             ≡ ports_after_brought self.old.ports self.old.protocol first (map (λ v. v.items) kept.now)) }
+        ensures texts { OnOk result (self.new.texts ≡ no_texts) }
         // What it hands over ends with all that the clients are owed, unless a commit is marked.
         ensures owed { OnOk result ((state_at P.start self.old.steps).marked ≡ 0
             → Brings self.old.protocol self.old.ports first (map (λ v. v.items) kept.now)) }
@@ -78,6 +80,7 @@ impl<P: Pair> Book<P> {
         let _new = self.seats.next();
         self.record.keep();
         self.record.go_live(steps, first, kept)?;
+        self.texts.clear();
         self.seats.meet(clock, seat);
         let runner = self.seats.go_live(clock);
         self.seats.meet(clock, seat);

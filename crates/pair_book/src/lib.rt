@@ -1,9 +1,9 @@
 //! The book of a pair: what all its threads share, under one lock.
 //!
-//! A [`Book`] keeps the pair's record and the keeper's seat: mode and numbers, history and what is under way, gate, inboxes and boxes. It
-//! holds no machine, page or image. Who calls it lends its own seat, and has then seen the whole list of the keeper's steps. So far the
-//! book has the calls of clients and of the line, acknowledgements, failures and new backups, and says which checkpoint is wanted; nothing
-//! stands on it yet.
+//! A [`Book`] keeps the pair's record and the keeper's seat: mode and numbers, history and what is under way, gate, inboxes and boxes; and
+//! the texts of pending checkpoints. It holds no machine, page or image. Who calls it lends its own seat, and has then seen the whole list
+//! of the keeper's steps. It has the calls of clients, of the line, of the runner, of who sends checkpoints and of the backup,
+//! acknowledgements, failures and new backups; nothing stands on it yet.
 #![tactic(auto)]
 
 mod book;
@@ -15,19 +15,26 @@ mod going_live;
 mod handing;
 mod losses;
 mod opening;
+mod packet;
 mod prepared;
 mod runner;
 mod seats;
+mod sending;
+mod shared_bytes;
 mod submitting;
+mod texts;
 
 pub use book::Book;
 pub use failures::Ack;
 pub use losses::Loss;
 pub use opening::{Members, NewBook, UnnamedBook};
+pub use packet::Packet;
 pub use pair_record::Refusal;
-pub use prepared::{Packet, Prepared};
+pub use prepared::Prepared;
 pub use runner::{Kind, Want};
 pub use submitting::OpenEpoch;
 
+#[cfg(test)]
+mod packet_tests;
 #[cfg(test)]
 mod tests;

@@ -47,6 +47,7 @@ impl<P: Pair> Book<P> {
     ) -> Result<Loss, Refusal>
         requires line { seat.old.number ≡ line_seat }
         ensures number { seat.new.number ≡ seat.old.number }
+        ensures texts { self.new.texts ≡ self.old.texts }
         ensures done { IfOk result (λ loss. AfterLoss (lost_in (inbox_of self.old.ports client) place)
             (ports_after_lose_in self.old.ports client place) loss self.old self.new seat.old seat.new) }
         ensures why { IfErr result (IsWhyLoss (lost_in (inbox_of self.old.ports client) place)
@@ -82,6 +83,7 @@ impl<P: Pair> Book<P> {
     ) -> Result<Loss, Refusal>
         requires line { seat.old.number ≡ line_seat }
         ensures number { seat.new.number ≡ seat.old.number }
+        ensures texts { self.new.texts ≡ self.old.texts }
         ensures done { IfOk result (λ loss. AfterLoss (lost_out client (box_of self.old.ports client) place)
             (ports_after_lose_out self.old.ports client place) loss self.old self.new seat.old seat.new) }
         ensures why { IfErr result (IsWhyLoss (lost_out client (box_of self.old.ports client) place)

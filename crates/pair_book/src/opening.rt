@@ -8,6 +8,7 @@ ghost use Rattle.pair_book.specs.Opening.{IsBoot};
 
 use crate::book::{Book, LINE_SEAT};
 use crate::seats::Seats;
+use crate::texts::Texts;
 use growing_history::{
     BackupSeat, ClientSeat, Clock, KeeperSeat, LineSeat, Opened, Pair, RunnerSeat,
 };
@@ -25,6 +26,7 @@ const BACKUP_SEAT: u64 = 2;
 pub struct UnnamedBook {
     record: PairRecord,
     word: Opened,
+    texts: Texts,
     clients: u64,
 }
 
@@ -34,6 +36,7 @@ impl Model for UnnamedBook {
     ghost use Rattle.frame_ports.specs.Ports.{empty_ports};
     ghost use Rattle.frame_ports.specs.Limits.{max_clients};
     ghost use Rattle.pair_book.specs.Opening.{Unnamed, unnamed};
+    ghost use Rattle.pair_book.specs.Packets.{no_texts};
 
     ghost Value = { Unnamed };
 
@@ -42,7 +45,8 @@ impl Model for UnnamedBook {
     ghost invariant = { λ b. (b.record.protocol ≡ start_record)
         × (b.record.ports ≡ empty_ports b.clients)
         × (1 ≤ b.clients)
-        × (b.clients ≤ max_clients) };
+        × (b.clients ≤ max_clients)
+        × (b.texts ≡ no_texts) };
 }
 
 /// A book whose clients haven't all got their seats yet. Contracts see the book at its start.
@@ -50,6 +54,7 @@ impl Model for UnnamedBook {
 pub struct NewBook<P: Pair> {
     record: PairRecord,
     keeper: KeeperSeat<P>,
+    texts: Texts,
 }
 
 impl<P: Pair> Model for NewBook<P> {
@@ -57,19 +62,21 @@ impl<P: Pair> Model for NewBook<P> {
     ghost use Rattle.frame_ports.specs.Limits.{max_clients};
     ghost use Rattle.growing_history.specs.LogState.{line_seat, client_seat};
     ghost use Rattle.pair_book.specs.Books.{BookState};
-    ghost use Rattle.pair_book.specs.internal.Tie.{IsTied, book_state};
     ghost use Rattle.pair_book.specs.internal.Committed.{KeepsCommitted};
+    ghost use Rattle.pair_book.specs.internal.Texts.{HasTexts};
+    ghost use Rattle.pair_book.specs.internal.Tie.{IsTied, book_state};
 
     ghost Value = { BookState };
 
-    ghost view = { λ b. book_state b.keeper b.record };
+    ghost view = { λ b. book_state b.keeper b.record b.texts };
 
     ghost invariant = { λ b. IsTied P.start b.keeper.steps b.record.protocol b.record.ports
         × (b.keeper.steps ≡ [])
         × (line_seat ≤ b.keeper.enrolled)
         × (b.keeper.enrolled ≤ client_seat (length b.record.ports.boxes))
         × (length b.record.ports.boxes ≤ max_clients)
-        × KeepsCommitted P.start b.keeper.steps b.record.protocol b.record.ports };
+        × KeepsCommitted P.start b.keeper.steps b.record.protocol b.record.ports
+        × HasTexts P.start b.keeper.steps b.record.protocol b.texts.packets };
 }
 
 /// A book, the word that counts its keeper's steps, and the seats of the first runner, number 1, of the first backup, 2, and of the line,
@@ -97,10 +104,14 @@ impl UnnamedBook {
         let Ok(record) = PairRecord::new(alloc, clients) else {
             return Err(AllocError);
         };
+        let Ok(texts) = Texts::none(alloc) else {
+            return Err(AllocError);
+        };
         let word = Opened::new(alloc)?;
         Ok(UnnamedBook {
             record,
             word,
+            texts,
             clients,
         })
     }
@@ -122,6 +133,7 @@ impl UnnamedBook {
             book: NewBook {
                 record: self.record,
                 keeper,
+                texts: self.texts,
             },
             clock,
             runner,
@@ -154,10 +166,15 @@ impl<P: Pair> NewBook<P> {
         for _ in 0..self.record.clients() {
             let _not_asked_for = self.next_client(clock);
         }
-        let NewBook { record, keeper } = self;
+        let NewBook {
+            record,
+            keeper,
+            texts,
+        } = self;
         Book {
             record,
             seats: Seats::first(keeper, RUNNER_SEAT, BACKUP_SEAT),
+            texts,
         }
     }
 }

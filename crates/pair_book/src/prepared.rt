@@ -1,12 +1,8 @@
 //! What a runner prepares beside an epoch.
+ghost use Rattle.std.specs.Prelude.{◌≡◌, IfOk};
 
-/// A checkpoint's text, and the generation and number that it is taken under.
-#[derive(Drop)]
-pub struct Packet {
-    pub generation: u64,
-    pub number: u64,
-    pub text: Vec<u8>,
-}
+use crate::packet::Packet;
+use memory_wanted::MemoryWanted;
 
 /// What was prepared for the end of an epoch.
 #[derive(Drop)]
@@ -14,4 +10,20 @@ pub enum Prepared {
     /// No checkpoint: the node is alone.
     Nothing,
     Checkpoint(Packet),
+}
+
+impl Prepared {
+    /// The same, with one more handle to the text.
+    ///
+    /// # Errors
+    ///
+    /// [`MemoryWanted`] as in [`Packet::share`].
+    pub(crate) fn share(&self) -> Result<Prepared, MemoryWanted>
+        ensures { IfOk result (λ p. p ≡ self.now) }
+    {
+        match self {
+            Prepared::Nothing => Ok(Prepared::Nothing),
+            Prepared::Checkpoint(packet) => Ok(Prepared::Checkpoint(packet.share()?)),
+        }
+    }
 }

@@ -5,6 +5,7 @@ ghost use Rattle.frame_ports.specs.Limits.{number_limit};
 ghost use Rattle.pair_history.specs.Entries.{Arrive};
 ghost use Rattle.pair_history.specs.Failures.{arrived_numbers};
 ghost use Rattle.pair_record.specs.Journal.{all_entries};
+ghost use Rattle.pair_record.specs.Limits.{most_pending};
 ghost use Rattle.pair_record.specs.Modes.{is_stopped as stopped};
 ghost use Rattle.pair_record.specs.Protocol.{first_refusal};
 ghost use Rattle.pair_record.specs.Record.{IsAsBefore as IsRecordAsBefore};
@@ -14,7 +15,7 @@ ghost use Rattle.pair_book.specs.Handing.{handing, handed_next, HandsNext};
 ghost use Rattle.pair_book.specs.Running.{kind_wanted};
 ghost use Rattle.pair_book.specs.Settled.{IsSettled};
 ghost use Rattle.pair_book.specs.Submitting.{protocol_ended, ports_ended, ended_as, ended, told, submit_why, prepared_rows, ended_rows};
-ghost use Rattle.pair_book.specs.Submitting.{most_handed, wanted_kind};
+ghost use Rattle.pair_book.specs.Submitting.{most_handed, wanted_kind, texts_ended};
 ghost use Rattle.pair_book.specs.internal.Committed.{KeepsCommitted};
 ghost use Rattle.pair_book.specs.internal.Tie.{IsTied};
 ghost use Rattle.pair_book.specs.internal.Told.{found};
@@ -24,6 +25,7 @@ use crate::handing::{FRAMES_AT_ONCE, hand_out};
 use crate::prepared::Prepared;
 use crate::runner::Kind;
 use crate::seats::Seats;
+use crate::texts::Texts;
 use growing_history::{Clock, MemberSeat, Pair, RunnerSeat, Tells, live_members_miss_nothing};
 use memory_wanted::{MemoryWanted, with_capacity};
 use pair_history::Frame;
@@ -162,6 +164,17 @@ fn end_and_hand_out(
     Ok(next)
 }
 
+/// The text of what was prepared is pending behind the others.
+fn add_text(texts: &mut Texts, what: Prepared)
+    requires { length texts.old.packets < most_pending }
+    ensures { texts.new ≡ texts_ended what texts.old }
+{
+    match what {
+        Prepared::Nothing => {}
+        Prepared::Checkpoint(packet) => texts.push(packet),
+    }
+}
+
 impl<P: Pair> Book<P> {
     /// Why what was prepared isn't what is wanted.
     fn prepared_refusal(&self, what: &Prepared) -> Option<Refusal>
@@ -173,8 +186,8 @@ impl<P: Pair> Book<P> {
             Prepared::Nothing => Some(Refusal::AlreadyPaired),
             Prepared::Checkpoint(_) if alone => Some(Refusal::NotPaired),
             Prepared::Checkpoint(packet) => {
-                if packet.generation == self.record.generation()
-                    && packet.number == self.record.to_cut()
+                if packet.generation() == self.record.generation()
+                    && packet.number() == self.record.to_cut()
                 {
                     None
                 } else {
@@ -256,6 +269,7 @@ impl<P: Pair> Book<P> {
         ensures number { seat.new.number ≡ seat.old.number }
         ensures done { IfOk result (λ next. HandsNext (ended self.old epoch.arrivals epoch.steps frames.now)
             (handing self.new.protocol self.new.ports next.items)) }
+        ensures texts { OnOk result (self.new.texts ≡ texts_ended what.now self.old.texts) }
         ensures step { OnOk result (Makes (told self.old epoch.arrivals epoch.steps what.now) self.old self.new seat.old seat.new) }
         ensures free { OnOk result (submit_why P.start self.old seat.old.number what.now epoch.steps frames.now ≡ None) }
         ensures why { IfErr result (IsWhy (submit_why P.start self.old seat.old.number what.now epoch.steps frames.now)) }
@@ -267,6 +281,7 @@ impl<P: Pair> Book<P> {
         let kind = self.kind_wanted();
         self.record.keep();
         live_members_miss_nothing();
+        let shared = what.share()?;
         let before = self.record.history().len();
         // A settled runner names no more than were handed out to it. That is known only once its seat has looked, and it looks last.
         let came = OpenEpoch {
@@ -284,6 +299,7 @@ impl<P: Pair> Book<P> {
             clock,
             seat,
         );
+        add_text(&mut self.texts, shared);
         Ok(next)
     }
 }

@@ -118,6 +118,11 @@ impl<P: Pair> Desk<P> {
         self.book.acked(&self.clock, Ack { generation, number })
     }
 
+    /// What is to be sent next has this number.
+    fn next(&mut self) -> Result<Option<u64>, Refusal> {
+        Ok(self.book.next()?.map(|packet| packet.number()))
+    }
+
     fn lose_out(&mut self, client: u64, place: u64) -> Result<Loss, Refusal> {
         self.book
             .lose_out(&self.clock, &mut self.line, client, place)
@@ -164,11 +169,13 @@ fn lose_the_backup<P: Pair, R: Abort>(rt: &R, alloc: Global, book: UnnamedBook) 
 {
     let mut desk = opened::<P>(alloc, book)?;
     assert_eq!(rt; desk.ask(), Ok(want(Kind::Delta, 1, 1)));
+    assert_eq!(rt; desk.next(), Ok(None));
     assert_eq!(rt; desk.acked(1, 1), Err(Refusal::Gap));
     assert_eq!(rt; desk.acked(2, 1), Err(Refusal::Stale));
     assert!(rt; matches!(desk.protect(), Err(Refusal::AlreadyPaired)));
     assert_eq!(rt; desk.fail_backup(), Ok(0));
     assert_eq!(rt; desk.ask(), Ok(want(Kind::Nothing, 1, 0)));
+    assert_eq!(rt; desk.next(), Err(Refusal::NotPaired));
     assert_eq!(rt; desk.fail_backup(), Err(Refusal::NotPaired));
     assert_eq!(rt; desk.fail_primary(), Err(Refusal::NoImage));
     assert_eq!(rt; desk.acked(1, 0), Err(Refusal::NotPaired));
@@ -177,6 +184,7 @@ fn lose_the_backup<P: Pair, R: Abort>(rt: &R, alloc: Global, book: UnnamedBook) 
     };
     assert_eq!(rt; backup.number(), 6);
     assert_eq!(rt; desk.ask(), Ok(want(Kind::Full, 2, 0)));
+    assert_eq!(rt; desk.next(), Ok(None));
     assert_eq!(rt; desk.fail_primary(), Err(Refusal::NoImage));
     assert_eq!(rt; desk.acked(1, 0), Err(Refusal::Stale));
     assert_eq!(rt; desk.acked(2, 0), Err(Refusal::Gap));
@@ -190,6 +198,7 @@ fn stop_the_primary<P: Pair, R: Abort>(rt: &R, alloc: Global, book: UnnamedBook)
     let mut desk = opened::<P>(alloc, book)?;
     assert_eq!(rt; desk.fail_primary(), Ok(()));
     assert_eq!(rt; desk.ask(), Err(Refusal::Stopped));
+    assert_eq!(rt; desk.next(), Err(Refusal::Stopped));
     assert_eq!(rt; desk.fail_primary(), Err(Refusal::Stopped));
     assert_eq!(rt; desk.fail_backup(), Err(Refusal::Stopped));
     assert!(rt; matches!(desk.protect(), Err(Refusal::Stopped)));

@@ -10,10 +10,12 @@ use Rattle.growing_history.specs.Steps.{Step}
 use Rattle.growing_history.specs.LogState.{Legal, LogState, state_at, history_of}
 use Rattle.growing_history.specs.Views.{Keeper}
 use Rattle.pair_book.specs.Books.{BookState}
+use Rattle.pair_book.specs.Packets.{TextsState}
 use Rattle.pair_book.specs.internal.Waits.{AreWaiting}
 
-abbrev pub book_state : Keeper → RecordState → BookState
-book_state keeper r = record { steps = keeper.steps; enrolled = keeper.enrolled; protocol = r.protocol; ports = r.ports }
+abbrev pub book_state : Keeper → RecordState → TextsState → BookState
+book_state keeper r texts =
+    record { steps = keeper.steps; enrolled = keeper.enrolled; protocol = r.protocol; ports = r.ports; texts = texts }
 
 abbrev pub sealed_entries : LogState → List (List Entry)
 sealed_entries s = map (λ e. e.entries) s.sealed

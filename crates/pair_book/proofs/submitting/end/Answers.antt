@@ -11,7 +11,8 @@ use Rattle.pair_book.proofs.submitting.end.Goals as goal
 pub returns-in-Ok-clause-boxes : goal.returns-in-Ok-clause-boxes
 returns-in-Ok-clause-boxes c =
     let p = c.args.pair.now in
-    ap (λ (q : PortsState). length q.boxes) c.in-Ok.ensures.ports ∙ landed-long p.protocol p.ports c.args.epoch.arrivals c.args.epoch.steps c.args.frames.now
+    ap (λ (q : PortsState). length q.boxes) c.in-Ok.ensures.ports
+    ∙ landed-long p.protocol p.ports c.args.epoch.arrivals c.args.epoch.steps c.args.frames.now
 
 pub returns-in-Ok-clause-numbers : goal.returns-in-Ok-clause-numbers
 returns-in-Ok-clause-numbers c =

@@ -1,9 +1,11 @@
-use Rattle.std.proofs.Common.{rules, arith, ◌≡◌, ◌++◌, [], ap}
+use Rattle.std.proofs.Common.{rules, arith, ◌≡◌, ◌++◌, [], drop, refl, ap}
 use Rattle.pair_record.specs.Protocol.{Outcome, Record}
-use Rattle.pair_book.specs.internal.Tie.{book_state}
+use Rattle.growing_history.specs.Views.{Keeper}
+use Rattle.pair_book.specs.{Packets.TextsState, internal.Tie.book_state}
 use Rattle.pair_book.proofs.FailureRows.{ack_may}
 use Rattle.pair_book.proofs.FailureTies.{landed_by, no-more, acked-gained, acked-tied, unmoved-tied}
 use Rattle.pair_book.proofs.CommittedTies.{acked-keeps, unmoved-keeps}
+use Rattle.pair_book.proofs.TextLaws.{texts-left, texts-added}
 use Rattle.pair_book.proofs.book.Book.acked.Goals as goal
 
 pub tell_alone-requires-clause-tied : goal.tell_alone-requires-clause-tied
@@ -13,7 +15,7 @@ tell_alone-requires-clause-tied g c =
     let r = c.self.inside.record in
     let now = c.acknowledge.new.self in
     let n = c.args.ack.number in
-    let rows = ack_may (book_state c.self.inside.seats r) c.args.ack (search rules) in
+    let rows = ack_may (book_state c.self.inside.seats r c.self.inside.texts) c.args.ack (search rules) in
     let is = ap (λ (o : Outcome). o.1) c.in_ok-reply.ensures.ok in
     let ports = c.in_ok-reply.ensures.ports in
     search (
@@ -29,7 +31,7 @@ invariant_of-self-else-len-before g c =
     let r = c.self.inside.record in
     let now = c.acknowledge.new.self in
     let n = c.args.ack.number in
-    let rows = ack_may (book_state c.self.inside.seats r) c.args.ack (search rules) in
+    let rows = ack_may (book_state c.self.inside.seats r c.self.inside.texts) c.args.ack (search rules) in
     let is = ap (λ (o : Outcome). o.1) c.in_ok-reply.ensures.ok in
     let ports = c.in_ok-reply.ensures.ports in
     let grown : now.protocol.journal.history ≡ r.protocol.journal.history ++ landed_by r.ports.boxes r.protocol n =
@@ -40,6 +42,27 @@ invariant_of-self-else-len-before g c =
       unmoved-tied start steps r.protocol now.protocol r.ports now.ports c.self.invariant.0 n c.keep.ensures.record rows.0 is ports none,
       unmoved-keeps start steps r.protocol now.protocol r.ports now.ports c.self.invariant.1 0 n c.keep.ensures.record
           c.keep.ensures.numbers c.keep.ensures.clients rows.0 is ports,
+      texts-left start steps r.protocol now.protocol c.self.inside.texts.packets c.drop_to.new.self.packets c.self.invariant.2
+          c.keep.ensures.record n rows.0 (ap (λ (x : Record). x.generation) is) (ap (λ (x : Record). x.window) is)
+          (ap (λ (t : TextsState). t.packets) c.drop_to.ensures),
+    )
+
+pub invariant_of-self-then-len-before : goal.invariant_of-self-then-len-before
+invariant_of-self-then-len-before g c =
+    let start = g.P.Pair.start in
+    let steps = c.self.inside.seats.steps in
+    let r = c.self.inside.record in
+    let now = c.acknowledge.new.self in
+    let n = c.args.ack.number in
+    let rows = ack_may (book_state c.self.inside.seats r c.self.inside.texts) c.args.ack (search rules) in
+    let is = ap (λ (o : Outcome). o.1) c.in_ok-reply.ensures.ok in
+    let left = texts-left start steps r.protocol now.protocol c.self.inside.texts.packets c.drop_to.new.self.packets c.self.invariant.2
+    c.keep.ensures.record n rows.0 (ap (λ (x : Record). x.generation) is) (ap (λ (x : Record). x.window) is)
+    (ap (λ (t : TextsState). t.packets) c.drop_to.ensures) in (
+      c.tell_alone.ensures.tied,
+      c.tell_alone.ensures.committed,
+      texts-added start steps c.tell_alone.new.seats.steps now.protocol now.protocol c.drop_to.new.self.packets left 0
+          (drop c.len-before.result now.protocol.journal.history) (ap (λ (k : Keeper). k.steps) c.tell_alone.ensures.seats) refl refl,
     )
 
 pub tell_alone-requires-clause-committed : goal.tell_alone-requires-clause-committed
@@ -49,7 +72,7 @@ tell_alone-requires-clause-committed g c =
     let r = c.self.inside.record in
     let now = c.acknowledge.new.self in
     let n = c.args.ack.number in
-    let rows = ack_may (book_state c.self.inside.seats r) c.args.ack (search rules) in
+    let rows = ack_may (book_state c.self.inside.seats r c.self.inside.texts) c.args.ack (search rules) in
     let is = ap (λ (o : Outcome). o.1) c.in_ok-reply.ensures.ok in
     let ports = c.in_ok-reply.ensures.ports in
     search (

@@ -1,15 +1,18 @@
-use Rattle.std.proofs.Common.{rules, ◌≡◌, ap, false}
-use Rattle.pair_record.specs.Protocol.{Outcome}
-use Rattle.pair_book.specs.Commits.{is_earlier}
+use Rattle.std.proofs.Common.{rules, ◌≡◌, [], ◌∷◌, ◌++◌, ap, refl, false}
+use Rattle.pair_record.specs.Protocol.{Outcome, Record}
+use Rattle.checkpoint_stream.specs.Text.{text}
+use Rattle.growing_history.specs.Steps.{step}
+use Rattle.pair_book.specs.Commits.{commit_of, is_earlier}
 use Rattle.pair_book.specs.internal.Tie.{book_state}
 use Rattle.pair_book.proofs.{CommitRows.commit_may, CommitTies.committed-tied}
 use Rattle.pair_book.proofs.CommittedTies.{committed-keeps}
+use Rattle.pair_book.proofs.TextLaws.{texts-once-committed}
 use Rattle.pair_book.proofs.book.Book.commit.Goals as goal
 
 pub step-requires-clause-room : goal.step-requires-clause-room
 step-requires-clause-room g c =
     let change = c.in-Some-read.checkpoint.now in
-    let book = book_state c.self.inside.seats c.self.inside.record in
+    let book = book_state c.self.inside.seats c.self.inside.record c.self.inside.texts in
     let later : is_earlier book change ≡ false = search rules in
     (commit_may g.P.Pair.start book c.args.seat.now.number change (search rules) later).room
 
@@ -18,7 +21,7 @@ step-requires-clause-legal g c =
     let r = c.self.inside.record in
     let now = c.commit.new.self in
     let change = c.in-Some-read.checkpoint.now in
-    let book = book_state c.self.inside.seats r in
+    let book = book_state c.self.inside.seats r c.self.inside.texts in
     let later : is_earlier book change ≡ false = search rules in
     let may = commit_may g.P.Pair.start book c.args.seat.now.number change (search rules) later in
     (committed-tied g.P.Pair.start c.self.inside.seats.steps r.protocol now.protocol r.ports now.ports c.self.invariant.0
@@ -30,7 +33,7 @@ invariant_of-self-2 g c =
     let r = c.self.inside.record in
     let now = c.commit.new.self in
     let change = c.in-Some-read.checkpoint.now in
-    let book = book_state c.self.inside.seats r in
+    let book = book_state c.self.inside.seats r c.self.inside.texts in
     let later : is_earlier book change ≡ false = search rules in
     let may = commit_may g.P.Pair.start book c.args.seat.now.number change (search rules) later in
     let tied = committed-tied g.P.Pair.start c.self.inside.seats.steps r.protocol now.protocol r.ports now.ports c.self.invariant.0
@@ -39,4 +42,9 @@ invariant_of-self-2 g c =
     let keeps = committed-keeps g.P.Pair.start c.self.inside.seats.steps r.protocol now.protocol r.ports now.ports c.self.invariant.1
     c.args.seat.now.number c.self.invariant.0 change c.keep.ensures.record c.keep.ensures.numbers may.pair may.some
     (ap (λ (o : Outcome). o.1) c.in_ok-reply.ensures.ok) c.in_ok-reply.ensures.ports in
-    search (rules, tied, keeps)
+    let done = ap (λ (o : Outcome). o.1) c.in_ok-reply.ensures.ok in
+    let texts = texts-once-committed g.P.Pair.start c.self.inside.seats.steps
+    (c.self.inside.seats.steps ++ step c.args.seat.now.number (commit_of change) ∷ []) r.protocol now.protocol c.self.inside.texts.packets
+    c.self.invariant.2 c.keep.ensures.record c.args.seat.now.number change.generation change.number (text change) refl
+    (ap (λ (y : Record). y.generation) done) (ap (λ (y : Record). y.window) done) in
+    search (rules, tied, keeps, texts)

@@ -1,9 +1,9 @@
-use Rattle.std.proofs.Common.{rules, ◌≡◌, ap, None}
+use Rattle.std.proofs.Common.{rules, ◌≡◌, ◌∷◌, ◌++◌, [], ap, refl, None}
 use Rattle.failover.specs.declared.change.Change.TheVariants as changes
 use Rattle.pair_record.specs.Modes.{change_refusal}
-use Rattle.pair_record.specs.Protocol.{Outcome}
-use Rattle.pair_book.proofs.FailureTies.{primary-tied}
-use Rattle.pair_book.proofs.CommittedTies.{primary-keeps}
+use Rattle.pair_record.specs.Protocol.{Outcome, Record}
+use Rattle.growing_history.specs.Steps.{PrimaryFailed, step}
+use Rattle.pair_book.proofs.{FailureTies.primary-tied, CommittedTies.primary-keeps, TextLaws.texts-after}
 use Rattle.pair_book.proofs.book.Book.fail_primary.Goals as goal
 
 pub step_alone-requires-clause-legal : goal.step_alone-requires-clause-legal
@@ -21,6 +21,10 @@ invariant_of-self g c =
     let free : change_refusal changes.FailPrimary r.protocol.mode ≡ None = search rules in
     let tied = primary-tied g.P.Pair.start c.self.inside.seats.steps r.protocol now.protocol r.ports now.ports c.self.invariant.0 free
     (ap (λ (o : Outcome). o.1) c.fail_primary.ensures.protocol) c.fail_primary.ensures.ports in
+    let done = ap (λ (o : Outcome). o.1) c.fail_primary.ensures.protocol in
     let keeps = primary-keeps g.P.Pair.start c.self.inside.seats.steps r.protocol now.protocol r.ports now.ports c.self.invariant.1 0 free
-    (ap (λ (o : Outcome). o.1) c.fail_primary.ensures.protocol) c.fail_primary.ensures.ports in
-    search (rules, tied, keeps)
+    done c.fail_primary.ensures.ports in
+    let texts = texts-after g.P.Pair.start c.self.inside.seats.steps (c.self.inside.seats.steps ++ step 0 PrimaryFailed ∷ []) r.protocol
+    now.protocol c.self.inside.texts.packets c.self.invariant.2 0 PrimaryFailed refl refl (ap (λ (y : Record). y.generation) done)
+    (ap (λ (y : Record). y.window) done) in
+    search (rules, tied, keeps, texts)

@@ -1,13 +1,14 @@
 use Rattle.std.proofs.Common.{rules, ◌≡◌, ◌+◌, List, [], ◌∷◌, ◌++◌, map, sym, ap, subst, ◌∙◌}
 use Rattle.pair_history.specs.Entries.{Frame}
 use Rattle.pair_record.specs.Kept.{Brings}
-use Rattle.pair_record.specs.Protocol.{Outcome}
+use Rattle.pair_record.specs.Protocol.{Outcome, Record}
 use Rattle.growing_history.specs.Steps.{Step, WentLive, step}
 use Rattle.growing_history.specs.LogState.{Legal, state_at}
 use Rattle.growing_history.specs.Views.{Keeper}
-use Rattle.pair_book.specs.Books.{BookState}
+use Rattle.pair_book.specs.{Books.BookState, Packets.TextsState}
 use Rattle.pair_book.specs.internal.{Committed.KeepsCommitted, Tie.{IsTied, book_state}}
 use Rattle.pair_book.proofs.LiveTies.{live_may, brings, live-tied, went-live-keeps}
+use Rattle.pair_book.proofs.TextLaws.{no-texts}
 use Rattle.pair_book.proofs.book.Book.go_live.Goals as goal
 
 pub go_live-runner-requires-clause-legal : goal.go_live-runner-requires-clause-legal
@@ -18,7 +19,7 @@ go_live-runner-requires-clause-legal g c =
     let now = c.go_live.new.self in
     let seat = c.args.seat.now in
     let kept : List (List Frame) = map (λ v. v.items) c.args.kept.now in
-    let may = live_may start (book_state c.self.inside.seats r) seat.number c.args.first kept (search rules) in
+    let may = live_may start (book_state c.self.inside.seats r c.self.inside.texts) seat.number c.args.first kept (search rules) in
     let tied = live-tied start steps r.protocol now.protocol r.ports now.ports c.self.invariant.0 c.self.invariant.1
     c.keep.ensures.record c.keep.ensures.numbers may.free seat may.mine c.meet.ensures.before c.meet.ensures.own c.requires.stands.0
     c.args.first kept c.requires.stands.1
@@ -34,7 +35,7 @@ invariant_of-self-2 g c =
     let now = c.go_live.new.self in
     let seat = c.args.seat.now in
     let kept : List (List Frame) = map (λ v. v.items) c.args.kept.now in
-    let may = live_may start (book_state c.self.inside.seats r) seat.number c.args.first kept (search rules) in
+    let may = live_may start (book_state c.self.inside.seats r c.self.inside.texts) seat.number c.args.first kept (search rules) in
     let tied = live-tied start steps r.protocol now.protocol r.ports now.ports c.self.invariant.0 c.self.invariant.1
     c.keep.ensures.record c.keep.ensures.numbers may.free seat may.mine c.meet.ensures.before c.meet.ensures.own c.requires.stands.0
     c.args.first kept c.requires.stands.1
@@ -48,8 +49,16 @@ invariant_of-self-2 g c =
     let there : c.meet-2.new.self.steps ≡ steps ++ step 0 (WentLive (c.self.inside.seats.enrolled + 1)) ∷ [] =
     ap (λ (k : Keeper). k.steps) (c.meet-2.ensures.keeper ∙ c.go_live-runner.ensures.keeper)
     ∙ ap (λ (k : Keeper). k.steps ++ step 0 (WentLive (k.enrolled + 1)) ∷ []) c.meet.ensures.keeper in
-    subst (λ (xs : List Step). IsTied start xs now.protocol now.ports × KeepsCommitted start xs now.protocol now.ports) (sym there)
-    (tied, keeps)
+    let done = ap (λ (o : Outcome). o.1) c.in_ok-go_live.ensures.ok in
+    let here : IsTied start c.meet-2.new.self.steps now.protocol now.ports =
+    subst (λ (xs : List Step). IsTied start xs now.protocol now.ports) (sym there) tied in (
+      here,
+      subst (λ (xs : List Step). KeepsCommitted start xs now.protocol now.ports) (sym there) keeps,
+      no-texts start c.meet-2.new.self.steps now.protocol now.ports c.clear.new.self.packets here
+          (ap (λ (y : Record). y.journal.sealed) done)
+          (ap (λ (y : Record). y.window.to_acknowledge) done ∙ sym (ap (λ (y : Record). y.window.to_cut) done))
+          (ap (λ (t : TextsState). t.packets) c.clear.ensures),
+    )
 
 pub returns-clause-owed : goal.returns-clause-owed
 returns-clause-owed g c =
@@ -59,7 +68,7 @@ returns-clause-owed g c =
     let now = c.go_live.new.self in
     let seat = c.args.seat.now in
     let kept : List (List Frame) = map (λ v. v.items) c.args.kept.now in
-    let may = live_may start (book_state c.self.inside.seats r) seat.number c.args.first kept (search rules) in
+    let may = live_may start (book_state c.self.inside.seats r c.self.inside.texts) seat.number c.args.first kept (search rules) in
     subst (λ (b : BookState). (state_at start b.steps).marked ≡ 0 → Brings b.protocol b.ports c.args.first kept) c.self.view_is
     (brings start steps r.protocol now.protocol r.ports now.ports c.self.invariant.0 c.self.invariant.1
     c.keep.ensures.record c.keep.ensures.numbers may.free seat may.mine c.meet.ensures.before c.meet.ensures.own c.requires.stands.0

@@ -1,12 +1,14 @@
-use Rattle.std.proofs.Common.{rules, ◌≡◌, ◌∷◌, [], sym, ap, subst, ◌∙◌, length, arith, Some}
+use Rattle.std.proofs.Common.{rules, ◌≡◌, ◌∷◌, [], sym, ap, subst, ◌∙◌, length, arith, Some, drop}
 use Rattle.frame_ports.specs.Lands.{list_of}
 use Rattle.pair_history.specs.Entries.{Frame, DropOut}
 use Rattle.std.specs.Prelude.{option_map}
 use Rattle.frame_ports.specs.Ports.{PortsState, box_of}
-use Rattle.pair_record.specs.Protocol.{lost_out}
 use Rattle.pair_book.specs.Books.{BookState}
 use Rattle.pair_book.proofs.Ties.{gained}
 use Rattle.pair_book.proofs.LossTies.{client_range, some_at, lost-out-tied}
+use Rattle.pair_record.specs.Protocol.{Record, lost_out}
+use Rattle.growing_history.specs.Views.{Keeper}
+use Rattle.pair_book.proofs.TextLaws.{texts-added}
 use Rattle.growing_history.specs.LogState.{line_seat}
 use Rattle.pair_book.proofs.CommittedTies.{lost-out-keeps}
 use Rattle.pair_book.proofs.book.Book.lose_out.Goals as goal
@@ -60,4 +62,16 @@ tell-requires-clause-committed g c =
       rules,
       gained c.len-before.result now.protocol.journal.history r.protocol now.protocol (DropOut client place ∷ []),
       lost-out-keeps start steps r.protocol now.protocol r.ports now.ports c.self.invariant.1 line_seat client place,
+    )
+
+pub invariant_of-self-2 : goal.invariant_of-self-2
+invariant_of-self-2 g c =
+    let now = c.lose_out.new.self.protocol in
+    let more = drop c.len-before.result now.journal.history in
+    let done = c.in_ok-lose_out.ensures.protocol in (
+      c.tell.ensures.tied,
+      c.tell.ensures.committed,
+      texts-added g.P.Pair.start c.self.inside.seats.steps c.tell.new.seats.steps c.self.inside.record.protocol now
+          c.self.inside.texts.packets c.self.invariant.2 c.args.seat.now.number more (ap (λ (k : Keeper). k.steps) c.tell.ensures.seats)
+          (ap (λ (y : Record). y.generation) done) (ap (λ (y : Record). y.window) done),
     )

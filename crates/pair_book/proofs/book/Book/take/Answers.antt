@@ -1,5 +1,8 @@
-use Rattle.std.proofs.Common.{rules}
+use Rattle.std.proofs.Common.{rules, ap, drop}
 use Rattle.pair_book.proofs.ClientTies.{took-gained, took-tied}
+use Rattle.pair_record.specs.Protocol.{Outcome, Record}
+use Rattle.growing_history.specs.Views.{Keeper}
+use Rattle.pair_book.proofs.TextLaws.{texts-added}
 use Rattle.pair_book.proofs.CommittedTies.{took-keeps}
 use Rattle.pair_book.specs.Calls.{client_of}
 use Rattle.pair_book.proofs.book.Book.take.Goals as goal
@@ -30,4 +33,16 @@ tell-requires-clause-committed g c =
       rules,
       took-gained start steps r.protocol now.protocol r.ports now.ports tied by c.requires.client,
       took-keeps start steps r.protocol now.protocol r.ports now.ports c.self.invariant.1 by (client_of by),
+    )
+
+pub invariant_of-self-2 : goal.invariant_of-self-2
+invariant_of-self-2 g c =
+    let now = c.take.new.self.protocol in
+    let more = drop c.len-before.result now.journal.history in
+    let done = ap (λ (o : Outcome). o.1) c.in_ok-reply.ensures.ok in (
+      c.tell.ensures.tied,
+      c.tell.ensures.committed,
+      texts-added g.P.Pair.start c.self.inside.seats.steps c.tell.new.seats.steps c.self.inside.record.protocol now
+          c.self.inside.texts.packets c.self.invariant.2 c.args.seat.now.number more (ap (λ (k : Keeper). k.steps) c.tell.ensures.seats)
+          (ap (λ (y : Record). y.generation) done) (ap (λ (y : Record). y.window) done),
     )
