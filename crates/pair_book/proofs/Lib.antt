@@ -16,6 +16,7 @@ pub mod LiveTies
 pub mod TextLaws
 pub mod NextTexts
 pub mod Start
+pub mod StartSeats
 pub mod HandingLaws
 pub mod CommittedHanding
 pub mod EpochWords

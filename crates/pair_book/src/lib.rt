@@ -35,6 +35,8 @@ pub use runner::{Kind, Want};
 pub use submitting::OpenEpoch;
 
 #[cfg(test)]
+mod checkpoint_tests;
+#[cfg(test)]
 mod packet_tests;
 #[cfg(test)]
 mod tests;
