@@ -55,6 +55,3 @@ pub use paged_memory::PAGE_BYTES;
 pub use shapes::Shape;
 pub use virtio_mmio::DeviceState;
 pub use virtqueue::Queue;
-
-#[cfg(test)]
-mod tests;

@@ -9,8 +9,6 @@ mod laws;
 mod lines;
 mod mode_laws;
 mod nodes;
-#[cfg(test)]
-mod tests;
 mod world;
 
 pub use guest_machine::{SECTOR_BYTES, Shape};

@@ -13,8 +13,6 @@ mod landings;
 mod limits;
 mod modes;
 mod record;
-#[cfg(test)]
-mod tests;
 mod window;
 
 pub use event::{Event, Packet, Refusal, Reply, Show};

@@ -28,6 +28,3 @@ pub use plans::Plan;
 pub use prepared::{Prepared, plan_prepared, prepare};
 pub use register::{Register, Regs};
 pub use width::Width;
-
-#[cfg(test)]
-mod tests;

@@ -1,0 +1,105 @@
+//! Whole runs of small guests, with the values that the rules give.
+
+mod asserts;
+mod disk;
+mod disk_interrupts;
+mod hostile;
+mod images;
+mod interrupts;
+mod laps;
+mod loads;
+mod network;
+mod paces;
+mod ping;
+mod program_words;
+mod programs;
+mod refusals;
+mod traps;
+
+use guest_machine::{Machine, PAGE_BYTES, Shape};
+use asserts::assert_run;
+use std::alloc::{AllocError, Global};
+use std::process::Abort;
+use std::test::Fail;
+
+/// The guest that sends one frame to client 1: it sets up queue 1 with one descriptor, notifies it in step 22, and then loops.
+const BEACON: [u32; 23] = [
+    0x100012b7, 0x00100313, 0x0662a823, 0x00300393, 0x0672a823, 0x0262a223, 0x0262a023, 0x00b00393,
+    0x0672a823, 0x0702a403, 0x0262a823, 0x0262ac23, 0x800013b7, 0x0872a023, 0x04038393, 0x0872a823,
+    0x04038393, 0x0a72a023, 0x0462a223, 0x00f00393, 0x0672a823, 0x0462a823, 0x0000006f,
+];
+
+/// The beacon's frame: to 02:00:00:00:01:01, from 02:00:00:00:00:01, of type 88b5.
+const FRAME: [u8; 14] = [2, 0, 0, 0, 1, 1, 2, 0, 0, 0, 0, 1, 0x88, 0xb5];
+
+/// Where the beacon keeps its descriptor, its available ring, its used ring and its buffer.
+const DESCRIPTOR: usize = 0x1000;
+
+const AVAILABLE: usize = 0x1040;
+
+const USED: usize = 0x1080;
+
+const BUFFER: usize = 0x1100;
+
+fn put(image: &mut Vec<u8>, at: usize, bytes: &[u8]) {
+    for (i, b) in bytes.iter().enumerate() {
+        if at < image.len() && i < image.len() - at {
+            image[at + i] = *b;
+        }
+    }
+}
+
+fn put_words(image: &mut Vec<u8>, first: usize, words: &[u32]) {
+    for (i, word) in words.iter().enumerate() {
+        if i < 1024 && first < 2048 {
+            put(image, 4 * (first + i), &word.to_le_bytes());
+        }
+    }
+}
+
+/// The beacon's image.
+fn beacon(alloc: Global) -> Result<Vec<u8>, AllocError> {
+    let mut image = vec![in alloc; 0u8; 2 * PAGE_BYTES]?;
+    put_words(&mut image, 0, &BEACON);
+    put(
+        &mut image,
+        DESCRIPTOR,
+        &[0x00, 0x11, 0x00, 0x80, 0, 0, 0, 0, 26],
+    );
+    put(&mut image, AVAILABLE, &[0, 0, 1, 0]);
+    put(&mut image, BUFFER + 12, &FRAME);
+    Ok(image)
+}
+
+/// The image of some words alone.
+fn words(alloc: Global, list: &[u32]) -> Result<Vec<u8>, AllocError> {
+    let mut image = vec![in alloc; 0u8; PAGE_BYTES]?;
+    put_words(&mut image, 0, list);
+    Ok(image)
+}
+
+/// The machine of two pages and one sector with this image.
+fn boot(rt: &impl Abort, alloc: Global, image: &[u8]) -> Result<Box<Machine>, Fail> {
+    let shape = Shape {
+        pages: 2,
+        sectors: 1,
+    };
+    boot_shape(rt, alloc, shape, image)
+}
+
+/// The machine of this shape with this image, in a box: it's large, and a test that holds it by value is slow to prove.
+fn boot_shape(
+    rt: &impl Abort,
+    alloc: Global,
+    shape: Shape,
+    image: &[u8],
+) -> Result<Box<Machine>, Fail> {
+    assert!(rt; image.len() <= PAGE_BYTES * shape.pages as usize);
+    let machine = Machine::boot(alloc, shape, image)?;
+    Ok(Box::new(alloc, machine)?)
+}
+
+/// So many steps, none of which is refused.
+fn run(rt: &impl Abort, machine: &mut Machine, steps: u64) {
+    assert_run(rt, machine, steps, steps);
+}

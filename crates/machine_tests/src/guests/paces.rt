@@ -1,0 +1,75 @@
+//! Runs that a pace may hold.
+
+use super::asserts::assert_steps;
+use super::boot;
+use guest_machine::{Machine, Pace};
+use std::process::Abort;
+use std::test::Fail;
+
+/// Holds the guest at one step.
+#[derive(Drop)]
+struct Until {
+    step: u64,
+}
+
+impl Pace for Until {
+    ghost use Rattle.std.specs.Prelude.{◌≡◌, nat_lt};
+    ghost use Rattle.std.proofs.Common.{rules};
+
+    ghost STRETCH = { 1 };
+
+    ghost answers = { λ before made yes after. (yes ≡ nat_lt made before.step) × (after ≡ before) };
+
+    const STRETCH: u64 = 1;
+
+    fn go_on(&mut self, made: u64) -> bool {
+        made < self.step
+    }
+
+    ghost some = { Prim.search rules };
+}
+
+/// Lets all steps by.
+#[derive(Drop)]
+struct Always;
+
+impl Pace for Always {
+    ghost use Rattle.std.specs.Prelude.{◌≡◌, true};
+    ghost use Rattle.std.proofs.Common.{rules};
+
+    ghost STRETCH = { 18446744073709551615 };
+
+    ghost answers = { λ before made yes after. yes ≡ true };
+
+    const STRETCH: u64 = u64::MAX;
+
+    fn go_on(&mut self, _made: u64) -> bool {
+        true
+    }
+
+    ghost some = { Prim.search rules };
+}
+
+/// A run of at most `count` steps makes so many at a pace.
+fn assert_paced<P: Pace + Drop>(
+    rt: &impl Abort,
+    machine: &mut Machine,
+    count: u64,
+    mut pace: P,
+    made: u64,
+) {
+    assert_eq!(rt; machine.run_paced(count, &mut pace), made);
+}
+
+#[test]
+fn a_pace_holds_the_guest(rt: HostRuntime) -> Result<(), Fail> {
+    // JAL x0, 0
+    let mut machine = boot(&rt, rt.alloc(), &[0x6f, 0, 0, 0])?;
+    assert_paced(&rt, &mut machine, 100, Until { step: 10 }, 10);
+    assert_steps(&rt, &machine, 10);
+    assert_paced(&rt, &mut machine, 100, Until { step: 0 }, 0);
+    assert_paced(&rt, &mut machine, 5, Until { step: 10 }, 5);
+    assert_paced(&rt, &mut machine, 1 << 40, Always, 1 << 40);
+    assert_steps(&rt, &machine, (1 << 40) + 15);
+    Ok(())
+}

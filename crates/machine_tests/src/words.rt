@@ -1,0 +1,259 @@
+//! The worked examples, run: each public call with values from outside.
+
+mod disassembly;
+mod walk;
+mod kinds;
+
+use rv64_core::{
+    CsrOp, Division, Instr, Multiplication, Operation, Plan, Register, Regs, Width, WordOperation,
+    decode, encode, plan,
+};
+use std::process::Abort;
+use std::test::Fail;
+
+/// The register of a number below 32.
+fn x(number: u32) -> Register {
+    Register::from_low_bits(number)
+}
+
+/// What an instruction on x1 and x2 puts into its register, or 0 for any other plan.
+fn value(instr: Instr, a: u64, b: u64) -> u64 {
+    let mut regs = Regs::new();
+    regs.set(x(1), a);
+    regs.set(x(2), b);
+    match plan(&regs, 0x8000_0000, instr) {
+        Plan::Next { value, .. } => value,
+        _ => 0,
+    }
+}
+
+fn divide(op: Division, a: u64, b: u64) -> u64 {
+    value(
+        Instr::Div {
+            op,
+            rd: x(3),
+            rs1: x(1),
+            rs2: x(2),
+        },
+        a,
+        b,
+    )
+}
+
+fn divide_word(op: Division, a: u64, b: u64) -> u64 {
+    value(
+        Instr::DivWord {
+            op,
+            rd: x(3),
+            rs1: x(1),
+            rs2: x(2),
+        },
+        a,
+        b,
+    )
+}
+
+fn multiply(op: Multiplication, a: u64, b: u64) -> u64 {
+    value(
+        Instr::Mul {
+            op,
+            rd: x(3),
+            rs1: x(1),
+            rs2: x(2),
+        },
+        a,
+        b,
+    )
+}
+
+/// A word that says this instruction.
+fn says(rt: &impl Abort, word: u32, instr: Instr) {
+    let again = instr;
+    assert_eq!(rt; decode(word), Some(instr), "{word:x}");
+    assert_eq!(rt; encode(again), word);
+}
+
+#[test]
+fn words_are_read_and_written(rt: HostRuntime) {
+    says_of_numbers(&rt);
+    says_of_memory(&rt);
+    says_of_the_system(&rt);
+}
+
+fn says_of_numbers(rt: &impl Abort) {
+    let lui = Instr::Lui {
+        rd: x(5),
+        imm: 0x1000_1000,
+    };
+    says(rt, 0x1000_12b7, lui);
+    let addi = Instr::OpImm {
+        op: Operation::Add,
+        rd: x(6),
+        rs1: x(0),
+        imm: 1,
+    };
+    says(rt, 0x0010_0313, addi);
+    let sraiw = Instr::OpImmWord {
+        op: WordOperation::Sra,
+        rd: x(3),
+        rs1: x(1),
+        imm: 31,
+    };
+    says(rt, 0x41f0_d19b, sraiw);
+}
+
+fn says_of_memory(rt: &impl Abort) {
+    let sw = Instr::Store {
+        rs1: x(5),
+        rs2: x(6),
+        offset: 112,
+        width: Width::Word,
+    };
+    says(rt, 0x0662_a823, sw);
+    let lw = Instr::Load {
+        rd: x(8),
+        rs1: x(5),
+        offset: 112,
+        width: Width::Word,
+        signed: true,
+    };
+    says(rt, 0x0702_a403, lw);
+}
+
+fn says_of_the_system(rt: &impl Abort) {
+    let jal = Instr::Jal {
+        rd: x(0),
+        offset: 0,
+    };
+    says(rt, 0x0000_006f, jal);
+    let csrrw = Instr::Csr {
+        op: CsrOp::Write,
+        rd: x(0),
+        rs1: x(0),
+        csr: 0xf14,
+    };
+    says(rt, 0xf140_1073, csrrw);
+    says(rt, 0x3020_0073, Instr::Mret);
+    says(rt, 0x1050_0073, Instr::Wfi);
+}
+
+#[test]
+fn other_words_say_nothing(rt: HostRuntime) {
+    for word in [
+        0x0000_0000,
+        0xffff_ffff,
+        0x0000_100f,
+        0x0200_101b,
+        0x0000_7003,
+        0x0000_4073,
+    ] {
+        assert_eq!(rt; decode(word), None, "{word:x}");
+    }
+}
+
+/// The least number and the one with all bits set.
+const LEAST: u64 = 0x8000_0000_0000_0000;
+
+const ONES: u64 = 0xffff_ffff_ffff_ffff;
+
+fn assert_divides(rt: &impl Abort, op: Division, a: u64, b: u64, wanted: u64) {
+    assert_eq!(rt; divide(op, a, b), wanted);
+}
+
+fn assert_divides_words(rt: &impl Abort, op: Division, a: u64, b: u64, wanted: u64) {
+    assert_eq!(rt; divide_word(op, a, b), wanted);
+}
+
+fn assert_multiplies(rt: &impl Abort, op: Multiplication, a: u64, b: u64, wanted: u64) {
+    assert_eq!(rt; multiply(op, a, b), wanted);
+}
+
+fn assert_shifts_a_word(rt: &impl Abort, a: u64, wanted: u64) {
+    let shift = Instr::OpImmWord {
+        op: WordOperation::Sra,
+        rd: x(3),
+        rs1: x(1),
+        imm: 31,
+    };
+    assert_eq!(rt; value(shift, a, 0), wanted);
+}
+
+#[test]
+fn arithmetic_at_its_corners(rt: HostRuntime) {
+    assert_divides(&rt, Division::Div, LEAST, ONES, LEAST);
+    assert_divides(&rt, Division::Rem, LEAST, ONES, 0);
+    assert_divides(&rt, Division::Div, 7, 0, ONES);
+    assert_divides(&rt, Division::Rem, 7, 0, 7);
+    assert_divides(&rt, Division::Divu, 7, 0, ONES);
+    assert_divides(&rt, Division::Remu, 7, 0, 7);
+    assert_divides_words(&rt, Division::Remu, 0xffff_ffff, 0, ONES);
+    assert_divides_words(&rt, Division::Div, 0x8000_0000, ONES, 0xffff_ffff_8000_0000);
+    assert_divides_words(&rt, Division::Rem, 0x8000_0000, ONES, 0);
+    assert_multiplies(&rt, Multiplication::Mulhsu, ONES, ONES, ONES);
+    assert_multiplies(
+        &rt,
+        Multiplication::Mulh,
+        LEAST,
+        LEAST,
+        0x4000_0000_0000_0000,
+    );
+    assert_shifts_a_word(&rt, 0x8000_0000, ONES);
+}
+
+/// What an instruction does where x1 is 0x80000001.
+fn assert_plan(rt: &impl Abort, pc: u64, instr: Instr, wanted: Plan) {
+    let mut regs = Regs::new();
+    regs.set(x(1), 0x8000_0001);
+    assert_eq!(rt; plan(&regs, pc, instr), wanted);
+}
+
+/// What a word does.
+fn assert_word_plan(rt: &impl Abort, pc: u64, word: u32, wanted: Plan) -> Result<(), Fail> {
+    let instr = decode(word).ok_or("it is an instruction")?;
+    assert_plan(rt, pc, instr, wanted);
+    Ok(())
+}
+
+/// A trap with this cause and value.
+fn trap(cause: u64, value: u64) -> Plan {
+    Plan::Trap { cause, value }
+}
+
+/// On to this pc, with a value in a register.
+fn on(pc: u64, rd: Register, value: u64) -> Plan {
+    Plan::Next { pc, rd, value }
+}
+
+#[test]
+fn jumps_and_traps(rt: HostRuntime) -> Result<(), Fail> {
+    let jalr = Instr::Jalr {
+        rd: x(5),
+        rs1: x(1),
+        offset: 0x100,
+    };
+    assert_plan(&rt, 0x8000_0000, jalr, on(0x8000_0100, x(5), 0x8000_0004));
+    let stays = on(0x8000_0004, Register::zero(), 0);
+    assert_word_plan(&rt, 0x8000_0000, 0x0000_1163, stays)?;
+    assert_word_plan(&rt, 0x8000_0004, 0x0000_0163, trap(0, 0x8000_0006))?;
+    assert_plan(&rt, 0x8000_0000, Instr::Ecall, trap(11, 0));
+    assert_plan(&rt, 0x8000_0000, Instr::Ebreak, trap(3, 0x8000_0000));
+    Ok(())
+}
+
+/// Registers, by their numbers, have these values.
+fn assert_registers(rt: &impl Abort, regs: &Regs) {
+    assert_eq!(rt; regs.get(Register::zero()), 0);
+    assert_eq!(rt; regs.get(x(31)), 6);
+}
+
+#[test]
+fn registers_keep_their_values(rt: HostRuntime) {
+    let mut regs = Regs::new();
+    regs.set(x(0), 5);
+    regs.set(x(31), 6);
+    assert_registers(&rt, &regs);
+    assert_eq!(rt; Register::new(31), Some(x(31)));
+    assert_eq!(rt; Register::new(32), None);
+    assert_eq!(rt; x(37).number(), 5);
+    assert_eq!(rt; Width::Half.bytes(), 2);
+}

@@ -1,0 +1,63 @@
+//! A walk over the opcode space: what each word says, compared with what binutils' objdump says of it.
+
+use super::disassembly::text;
+use super::kinds::{COMPUTATIONS, ILLEGAL, JUMPS, MEMORY, SYSTEM, UPPER};
+use rv64_core::{decode, encode};
+use std::alloc::Global;
+use std::process::Abort;
+use std::test::Fail;
+
+/// The number that 8 hexadecimal digits spell.
+fn word_of(digits: &str) -> Result<u32, Fail> {
+    let word = u32::from_str_radix(digits, 16).ok().ok_or("no word")?;
+    Ok(word)
+}
+
+/// What a line says of a word, by its digits: it is read so, and written again.
+fn assert_says(rt: &impl Abort, alloc: Global, digits: &str, said: &str) -> Result<(), Fail> {
+    let word = word_of(digits)?;
+    let instr = decode(word).ok_or("it is an instruction")?;
+    assert_eq!(rt; text(alloc, instr)?.as_str(), said, "{digits}");
+    assert_eq!(rt; encode(instr), word);
+    Ok(())
+}
+
+/// All lines of a part. Answers how many there are.
+fn assert_lines(rt: &impl Abort, alloc: Global, part: &str) -> Result<u64, Fail> {
+    let mut count = 0u64;
+    for line in part.lines() {
+        let (digits, said) = line.split_once(' ').ok_or("no instruction")?;
+        assert_says(rt, alloc, digits, said)?;
+        count = count.saturating_add(1);
+    }
+    Ok(count)
+}
+
+#[test]
+fn each_word_says_what_objdump_reads(rt: HostRuntime) -> Result<(), Fail> {
+    let mut count = 0u64;
+    for part in [UPPER, JUMPS, MEMORY, COMPUTATIONS, SYSTEM] {
+        count = count.saturating_add(assert_lines(&rt, rt.alloc(), part)?);
+    }
+    assert!(rt; count > 800, "the walk has {count} words");
+    Ok(())
+}
+
+/// A word, by its digits, is no instruction.
+fn assert_illegal(rt: &impl Abort, digits: &str) -> Result<(), Fail> {
+    assert_eq!(rt; decode(word_of(digits)?), None, "{digits}");
+    Ok(())
+}
+
+#[test]
+fn what_objdump_does_not_read_is_illegal(rt: HostRuntime) -> Result<(), Fail> {
+    let mut count = 0u64;
+    for line in ILLEGAL.lines() {
+        for digits in line.split(' ') {
+            assert_illegal(&rt, digits)?;
+            count = count.saturating_add(1);
+        }
+    }
+    assert!(rt; count > 3000, "the walk has {count} words");
+    Ok(())
+}

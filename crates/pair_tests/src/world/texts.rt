@@ -1,0 +1,54 @@
+//! Checkpoints on their way, as bytes.
+use super::{SHAPE, answers, beacon, idle_pair, paired};
+use checkpoint_stream::encode;
+use epoch_snapshot::cut_delta;
+use guest_machine::Machine;
+use pair_core::{Event, Shape};
+use std::alloc::Global;
+use std::test::Fail;
+
+/// The machine of the beacon. It stands in a box, so that a test holds no large value.
+fn beacon_machine(alloc: Global) -> Result<Box<Machine>, Fail> {
+    let image = beacon(alloc)?;
+    let (pages, sectors) = SHAPE;
+    if image.len() > 4096 * 2 {
+        return Err("the image is larger than the guest".into());
+    }
+    let machine = Machine::boot(alloc, Shape { pages, sectors }, image.as_slice())?;
+    Ok(Box::new(alloc, machine)?)
+}
+
+#[test]
+fn the_beacons_checkpoint_on_its_way_has_630_bytes(rt: HostRuntime) -> Result<(), Fail> {
+    let mut machine = beacon_machine(rt.alloc())?;
+    let made = machine.run_to_frame(22);
+    let text = encode(rt.alloc(), &cut_delta(rt.alloc(), &machine, 1, 1)?)?;
+    assert_eq!(rt; (made, text.len()), (22, 630));
+    Ok(())
+}
+
+#[test]
+fn an_idle_pair_goes_on_for_three_hundred_acknowledged_epochs(rt: HostRuntime) -> Result<(), Fail> {
+    let mut world = idle_pair(rt.alloc())?;
+    let mut events = Vec::new(rt.alloc());
+    for k in 0..300u64 {
+        events.extend_from_slice(&[
+            Event::Step,
+            Event::Cut,
+            Event::Send,
+            Event::BackupGet(k),
+            Event::AckGet(k),
+        ])?;
+    }
+    drop(world.run(events.as_slice())?);
+    assert!(rt; world.show() == paired(0, 300, 300));
+    assert!(rt;
+        answers(
+            rt.alloc(),
+            &mut world,
+            &[Event::AckGet(299), Event::BackupGet(299)],
+            "Acked { generation: 1, number: 300, landed: 0 }\nAgain { generation: 1, number: 300 }\n",
+        )?
+    );
+    Ok(())
+}
