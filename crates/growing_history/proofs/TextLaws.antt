@@ -1,9 +1,9 @@
--- Where each text was sealed rightly, those that are still to be committed make their guests in turn.
+-- Where each text was sealed rightly, those that are still to be committed make their guests in turn, and carry what these send.
 use Rattle.std.proofs.Common.{◌≡◌, ℕ, zero, suc, List, [], ◌∷◌, ◌++◌, map, take, drop, refl, sym, ap, ◌∙◌, subst, append_assoc, arith}
 use Rattle.std.proofs.lemmas.List.{append-nil}
 use Rattle.guest_machine.specs.Guest.{Guest}
-use Rattle.pair_history.specs.Entries.{Entry, Arrive}
-use Rattle.pair_history.specs.HistoryState.{HistoryState, at}
+use Rattle.pair_history.specs.Entries.{Frame, Entry, Arrive}
+use Rattle.pair_history.specs.HistoryState.{HistoryState, at, sent_along}
 use Rattle.pair_history.specs.HistoryState as history
 use Rattle.pair_history.specs.Order.{AreGuests}
 use Rattle.growing_history.specs.Steps.{What, Added, Sealed, RanAlone, Committed, PrimaryFailed, BackupFailed, WentLive, Protected, Step}
@@ -14,7 +14,7 @@ use Rattle.growing_history.specs.LogState.{under_way, IsAlone, HasBackup, MaySea
 use Rattle.growing_history.specs.LogState.{state_at}
 use Rattle.growing_history.specs.SealedTexts.{Reading, Makes, IsMade, AreMadeFrom, AreMade, MakeInTurn}
 use Rattle.growing_history.proofs.LogLaws.{at-append, legal-first, marked, marks-stay, way-after}
-use Rattle.growing_history.proofs.Epochs.{guests-append, guests-first, guests-second, takes-first}
+use Rattle.growing_history.proofs.Epochs.{guests-append, guests-first, guests-second, takes-first, same_sent}
 use Rattle.growing_history.proofs.OwnEntries.{entries-append, sealed-guests}
 use Rattle.growing_history.proofs.LinesFirst.{GoesFirst, lines-guest}
 
@@ -50,11 +50,34 @@ alone-empty s by BackupFailed needs e a = refl
 alone-empty s by (WentLive r) needs e a = refl
 alone-empty s by (Protected b) needs e a = absurd a
 
+-- entries of the clients' lines leave what the guest sends along an epoch that comes after others
+sent-added : GoesFirst → (by : ℕ) (es : List Entry) (h : HistoryState) (before epoch later : List Entry) → AreGuests before
+    → AreGuests epoch → AreOwn by es → AreKnown (before ++ (epoch ++ later)) h by es → history.Legal h es
+    → history.Legal h (before ++ (epoch ++ later)) → sent_along (at (at h es) before) epoch ≡ sent_along (at h before) epoch
+sent-added go by es h before epoch later gb ge o k l way =
+    same_sent epoch (at (at h es) before) (at h before) ge
+    (λ p q is.
+    let target = before ++ p in
+    let rest = q ++ later in
+    let apart : before ++ (epoch ++ later) ≡ target ++ rest =
+    ap (λ (es : List Entry). before ++ (es ++ later)) is
+    ∙ ap (λ (es : List Entry). before ++ es) (append_assoc p q later)
+    ∙ sym (append_assoc before p rest) in
+    let gt : AreGuests target = guests-append before p gb (guests-first p q (subst AreGuests is ge)) in
+    let k' : AreKnown (target ++ rest) h by es = subst (λ w. AreKnown w h by es) apart k in
+    let way' : history.Legal h (target ++ rest) = subst (history.Legal h) apart way in
+    ap (λ (x : HistoryState). x.guest) (sym (at-append (at h es) before p))
+    ∙ lines-guest (target ++ rest) target (λ n. takes-first n target rest) go by es h gt o k' l (legal-first h target rest way')
+    ∙ ap (λ (x : HistoryState). x.guest) (at-append h before p))
+
 module _ (reads : Reading) where
-  -- the guests of both ends may be named otherwise
-  makes-same : (n : ℕ) (text : List ℕ) (a b c d : Guest) → a ≡ b → c ≡ d → Makes reads n text a c → Makes reads n text b d
-  makes-same zero text a b c d p q m = λ base. subst (reads text base) q (m base)
-  makes-same (suc n) text a b c d p q m = subst (λ (x : Guest × Guest). reads text x.0 x.1) (λ i. (p i, q i)) m
+  -- the guests of both ends, and the frames, may be named otherwise
+  pub makes-same : (n : ℕ) (text : List ℕ) (fs gs : List Frame) (a b c d : Guest) → fs ≡ gs → a ≡ b → c ≡ d → Makes reads n text fs a c
+      → Makes reads n text gs b d
+  makes-same zero text fs gs a b c d r p q m =
+      λ base. subst (λ (x : List Frame × Guest). reads text x.0 base x.1) (λ i. (r i, q i)) (m base)
+  makes-same (suc n) text fs gs a b c d r p q m =
+      subst (λ (x : List Frame × Guest × Guest). reads text x.0 x.1 x.2) (λ i. (r i, p i, q i)) m
 
   -- entries of the clients' lines leave it so
   turn-added : GoesFirst → (by : ℕ) (es : List Entry) (h : HistoryState) (sealed : List Epoch) (before more : List Entry) → AreGuests before
@@ -66,15 +89,19 @@ module _ (reads : Reading) where
       let rest = entries_of sealed ++ more in
       let next = before ++ e.entries in
       let all = before ++ ((e.entries ++ entries_of sealed) ++ more) in
-      let apart : all ≡ next ++ rest =
-      ap (λ l. before ++ l) (append_assoc e.entries (entries_of sealed) more) ∙ sym (append_assoc before e.entries rest) in
-      let gn : AreGuests next = guests-append before e.entries gb (guests-first e.entries (entries_of sealed) gs) in
+      let own : AreGuests e.entries = guests-first e.entries (entries_of sealed) gs in
+      let split : all ≡ before ++ (e.entries ++ rest) = ap (λ l. before ++ l) (append_assoc e.entries (entries_of sealed) more) in
+      let apart : all ≡ next ++ rest = split ∙ sym (append_assoc before e.entries rest) in
+      let gn : AreGuests next = guests-append before e.entries gb own in
       let k' : AreKnown (next ++ rest) h by es = subst (λ w. AreKnown w h by es) apart k in
       let way' : history.Legal h (next ++ rest) = subst (history.Legal h) apart way in
+      let sends =
+      sent-added go by es h before e.entries rest gb own o (subst (λ w. AreKnown w h by es) split k) l
+      (subst (history.Legal h) split way) in
       let here = lines-guest all before (λ n. takes-first n before ((e.entries ++ entries_of sealed) ++ more)) go by es h gb o k l
       (legal-first h before _ way) in
       let there = lines-guest (next ++ rest) next (λ n. takes-first n next rest) go by es h gn o k' l (legal-first h next rest way') in (
-        makes-same e.number e.text _ _ _ _ (sym here) (sym there) m.0,
+        makes-same e.number e.text _ _ _ _ _ _ (sym sends) (sym here) (sym there) m.0,
         turn-added go by es h sealed next more gn (guests-second e.entries (entries_of sealed) gs) o k' l way' m.1,
       )
 
@@ -83,7 +110,8 @@ module _ (reads : Reading) where
       → MakeInTurn reads (at h first) before sealed
   turn-shift h first before [] m = tt
   turn-shift h first before (e ∷ es) m = (
-    makes-same e.number e.text _ _ _ _ (ap (λ (g : HistoryState). g.guest) (at-append h first before))
+    makes-same e.number e.text _ _ _ _ _ _ (ap (λ g. sent_along g e.entries) (at-append h first before))
+        (ap (λ (g : HistoryState). g.guest) (at-append h first before))
         (ap (λ l. (at h l).guest) (append_assoc first before e.entries)
         ∙ ap (λ (g : HistoryState). g.guest) (at-append h first (before ++ e.entries))) m.0,
     turn-shift h first (before ++ e.entries) es (subst (λ l. MakeInTurn reads h l es) (append_assoc first before e.entries) m.1),
@@ -91,17 +119,20 @@ module _ (reads : Reading) where
 
   -- one more comes last
   turn-last : (h : HistoryState) (before : List Entry) (sealed : List Epoch) (e : Epoch) → MakeInTurn reads h before sealed
-      → Makes reads e.number e.text (at h (before ++ entries_of sealed)).guest (at h ((before ++ entries_of sealed) ++ e.entries)).guest
+      → Makes reads e.number e.text (sent_along (at h (before ++ entries_of sealed)) e.entries) (at h (before ++ entries_of sealed)).guest
+      (at h ((before ++ entries_of sealed) ++ e.entries)).guest
       → MakeInTurn reads h before (sealed ++ e ∷ [])
   turn-last h before [] e m n = (
-    makes-same e.number e.text _ _ _ _ (ap (λ l. (at h l).guest) (append-nil before))
+    makes-same e.number e.text _ _ _ _ _ _ (ap (λ l. sent_along (at h l) e.entries) (append-nil before))
+        (ap (λ l. (at h l).guest) (append-nil before))
         (ap (λ l. (at h (l ++ e.entries)).guest) (append-nil before)) n,
     tt,
   )
   turn-last h before (x ∷ xs) e m n = (
     m.0,
     turn-last h (before ++ x.entries) xs e m.1
-        (subst (λ l. Makes reads e.number e.text (at h l).guest (at h (l ++ e.entries)).guest)
+        (subst
+        (λ l. Makes reads e.number e.text (sent_along (at h l) e.entries) (at h l).guest (at h (l ++ e.entries)).guest)
         (sym (append_assoc before x.entries (entries_of xs))) n),
   )
 
@@ -117,7 +148,8 @@ module _ (reads : Reading) where
       let e : Epoch = record { number = suc n; entries = epoch; text = text } in
       let all : entries_of (s.sealed ++ e ∷ []) ≡ entries_of s.sealed ++ epoch =
       entries-append s.sealed (e ∷ []) ∙ ap (λ l. entries_of s.sealed ++ l) (append-nil epoch) in
-      turn-last s.history [] s.sealed e m (makes-same (suc n) text _ _ _ _ refl (ap (λ l. (at s.history l).guest) all) (made none))
+      turn-last s.history [] s.sealed e m
+      (makes-same (suc n) text _ _ _ _ _ _ refl refl (ap (λ l. (at s.history l).guest) all) (made none))
   turn-step go s by (RanAlone epoch) needs g way none empty made m =
       subst (λ es. MakeInTurn reads (after s (RanAlone epoch)).history [] es) (sym (empty needs.may.1)) tt
   turn-step go s by (Committed x n text) needs g way none empty made m = first_gone s.sealed m

@@ -21,9 +21,10 @@ ghost use Rattle.growing_history.specs.Lives.{life, marked_life};
 
 use pair_history::{client_entries_go_first, released_frames_were_sent};
 
-/// What a text makes of a guest: of the text, the guest that it is read over, and the guest that it makes of that.
+/// What a text makes of a guest: of the text, the frames that it carries, the guest that it is read over, and the guest that it makes of
+/// that.
 pub trait Texts {
-    ghost reads: { List ℕ → Guest → Guest → Type 0 };
+    ghost reads: { List ℕ → List Frame → Guest → Guest → Type 0 };
 }
 
 /// A list of steps goes on by what the next step needs and does, and the history with it. A beginning of a legal list is legal, and
@@ -130,8 +131,9 @@ pub fn live_members_miss_nothing()
 }
 
 /// Where each text was sealed rightly (`AreMade`: unless a commit was marked before, it makes the guest of the sealed state after it
-/// of the one before it, a full one of any guest), those that are still to be committed make their guests in turn, from the guest of
-/// the history: so a backup that stands at the history, and reads the text that was sealed, stands at the history after its commit.
+/// of the one before it, a full one of any guest, and carries what the guest sends along its epoch), those that are still to be committed
+/// make their guests in turn, from the guest of the history, and carry what it sends: so a backup that stands at the history, and reads
+/// the text that was sealed, stands at the history after its commit, and has the frames of the epoch.
 pub fn sealed_texts_make_their_guests<T: Texts>()
     ensures start { (h : HistoryState) → AreMade T.reads h [] }
     ensures goes_on { (h : HistoryState) (xs : List Step) (x : Step) → AreMade T.reads h xs → IsMade T.reads (state_at h xs) x.what

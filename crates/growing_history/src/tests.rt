@@ -25,7 +25,7 @@ fn a_step_is_told_across_threads(rt: HostRuntime) -> Result<(), Fail> {
 struct Unread;
 
 impl Texts for Unread {
-    ghost reads = { λ text from to. Unit {0} };
+    ghost reads = { λ text sent from to. Unit {0} };
 }
 
 #[test]

@@ -28,5 +28,6 @@ module _ (start : HistoryState) (steps : List Step) (h : Handing) (same : length
             (subst (λ (n : ℕ). 1 ≤ n) (ap (λ (y : Record). y.window.to_cut) to) d))
             now.protocol now.ports (ap first_uncommitted to) (ap (λ (y : Record). committed_of y.window y.pending) to)
             (risen-same h.ports now.ports (ap length out.boxes) out.numbers);
+        made = c.made;
       }
   behind-keeps (e ∷ es) c = c

@@ -9,18 +9,21 @@ use Rattle.pair_record.specs.Modes.{is_alone}
 use Rattle.pair_record.specs.Protocol.{Record, seal_done, full_done}
 use Rattle.pair_record.specs.Window.{IsWindow, committed_count}
 use Rattle.growing_history.specs.Steps.{Sealed, RanAlone, WentLive, Step, step}
+use Rattle.growing_history.specs.{LogState.state_at, SealedTexts.IsMade}
+use Rattle.pair_book.specs.Made.{Reads}
 use Rattle.pair_book.specs.Standing.{commits_of}
 use Rattle.pair_book.specs.internal.Committed.{AreOwed, KeepsCommitted}
 use Rattle.pair_book.proofs.{CommittedLaws.owed_sealed, CommittedTies.step-keeps}
 
 module _ (start : HistoryState) (steps : List Step) (r now : Record) (p q : PortsState) (h : KeepsCommitted start steps r p) (by : ℕ)
-    (g n : ℕ) (epoch : List Entry) (text : List ℕ) where
+    (g n : ℕ) (epoch : List Entry) (text : List ℕ)
+    (made : IsMade (Reads start) (state_at start steps) (Sealed g n epoch text)) where
   -- A DELTA IS SEALED: what is sealed isn't committed
   pub sealed-keeps : IsWindow r.window r.pending → length (frames_of r.pending) < r.next_frame → 1 ≤ r.window.to_cut
       → is_alone r.mode ≡ false → (es rest : List Entry) (fs : List Frame) → now ≡ (seal_done es rest fs r).1 → q ≡ p
       → KeepsCommitted start (steps ++ step by (Sealed g n epoch text) ∷ []) now q
   sealed-keeps k held some pair es rest fs is ports =
-      step-keeps start steps r now p q h by (Sealed g n epoch text)
+      step-keeps start steps r now p q h by (Sealed g n epoch text) made
       (λ z. h.none (sym (ap (λ (y : Record). y.window.to_commit) is) ∙ z))
       (λ m a c.
       subst (λ (y : Record × PortsState). AreOwed y.0 y.1 (commits_of start steps)) (λ i. (sym is i, sym ports i))
@@ -53,7 +56,7 @@ module _ (start : HistoryState) (steps : List Step) (r now : Record) (p q : Port
     pub full-keeps : KeepsCommitted start (steps ++ step by (Sealed g n epoch text) ∷ []) now q
     full-keeps =
         let none = h.none first in
-        step-keeps start steps r now p q h by (Sealed g n epoch text) (λ z. none)
+        step-keeps start steps r now p q h by (Sealed g n epoch text) made (λ z. none)
         (λ m a c. subst (AreOwed now q) (sym none) full-owed)
 
 module _ (start : HistoryState) (steps : List Step) (r now : Record) (p q : PortsState) (h : KeepsCommitted start steps r p) (by : ℕ)
@@ -61,9 +64,9 @@ module _ (start : HistoryState) (steps : List Step) (r now : Record) (p q : Port
   -- THE NODE RAN ALONE
   pub lone-keeps : (epoch : List Entry) → KeepsCommitted start (steps ++ step by (RanAlone epoch) ∷ []) now q
   lone-keeps epoch =
-      step-keeps start steps r now p q h by (RanAlone epoch) (λ z. h.none (sym same ∙ z)) (λ m a c. absurd (cc (alone, a)))
+      step-keeps start steps r now p q h by (RanAlone epoch) tt (λ z. h.none (sym same ∙ z)) (λ m a c. absurd (cc (alone, a)))
 
   -- THE BACKUP GOES LIVE: a node is alone
   pub live-keeps : (runner : ℕ) → KeepsCommitted start (steps ++ step by (WentLive runner) ∷ []) now q
   live-keeps runner =
-      step-keeps start steps r now p q h by (WentLive runner) (λ z. h.none (sym same ∙ z)) (λ m a c. absurd (cc (alone, a)))
+      step-keeps start steps r now p q h by (WentLive runner) tt (λ z. h.none (sym same ∙ z)) (λ m a c. absurd (cc (alone, a)))

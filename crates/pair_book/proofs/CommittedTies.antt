@@ -25,8 +25,9 @@ use Rattle.pair_record.proofs.AccordLaws.{first_is, can_first, first_sends, some
 use Rattle.growing_history.specs.Steps.{What, Added, PrimaryFailed, BackupFailed, Protected, Step, step}
 use Rattle.growing_history.specs.LogState as log
 use Rattle.growing_history.specs.LogState.{LogState, state_at}
-use Rattle.growing_history.proofs.LogLaws.{state-snoc, marked}
-use Rattle.pair_book.specs.Commits.{commit_of}
+use Rattle.growing_history.specs.SealedTexts.{IsMade}
+use Rattle.growing_history.proofs.{LogLaws.{state-snoc, marked}, TextLaws.{made-nil, made-goes-on}}
+use Rattle.pair_book.specs.{Commits.commit_of, Made.Reads}
 use Rattle.pair_book.specs.Standing.{first_sent, commits_after, commits_of}
 use Rattle.pair_book.specs.internal.{Tie.IsTied, Committed.{AreOwed, KeepsCommitted}}
 use Rattle.pair_book.proofs.CommittedLaws.{commits-nil, commits-snoc, owed_on, owed_committed, owed_acked}
@@ -43,6 +44,7 @@ start-keeps start r p is = record {
     came = tt;
     count = ap (λ (l : List (List Frame)). length (all_frames l) + 1) (commits-nil start) ∙ ap first_uncommitted (sym is);
   };
+  made = made-nil (Reads start) start;
 }
 
 module _ (start : HistoryState) (steps : List Step) (r now : Record) (p q : PortsState) (h : KeepsCommitted start steps r p) (by : ℕ) where
@@ -52,11 +54,11 @@ module _ (start : HistoryState) (steps : List Step) (r now : Record) (p q : Port
   abbrev lists : List (List Frame)
   lists = commits_of start steps
 
-  -- A STEP, whatever it is
-  pub step-keeps : (what : What) → (now.window.to_commit ≡ 0 → commits_after s what lists ≡ [])
+  -- A STEP, whatever it is: one that seals a text must make what it should
+  pub step-keeps : (what : What) → IsMade (Reads start) s what → (now.window.to_commit ≡ 0 → commits_after s what lists ≡ [])
       → (s.marked ≡ 0 → is_alone now.mode ≡ false → 1 ≤ now.window.to_cut → AreOwed now q (commits_after s what lists))
       → KeepsCommitted start (steps ++ step by what ∷ []) now q
-  step-keeps what none owed =
+  step-keeps what made none owed =
       let there = state-snoc start steps (step by what) in
       let goes = commits-snoc start steps (step by what) in
       let before : (state_at start (steps ++ step by what ∷ [])).marked ≡ 0 → s.marked ≡ 0 =
@@ -64,13 +66,14 @@ module _ (start : HistoryState) (steps : List Step) (r now : Record) (p q : Port
       record {
         none = λ z. goes ∙ none z;
         owed = λ m a c. subst (AreOwed now q) (sym goes) (owed (before m) a c);
+        made = made-goes-on (Reads start) start steps (step by what) h.made made;
       }
 
   -- one that adds entries of clients or of the line
   pub added-keeps : (es : List Entry) → now ≡ record r { journal = with_history r.journal es } → length q.boxes ≡ length p.boxes
       → q.numbers ≡ p.numbers → KeepsCommitted start (steps ++ step by (Added es) ∷ []) now q
   added-keeps es is boxes numbers =
-      step-keeps (Added es) (λ z. h.none (sym (ap (λ (y : Record). y.window.to_commit) is) ∙ z))
+      step-keeps (Added es) tt (λ z. h.none (sym (ap (λ (y : Record). y.window.to_commit) is) ∙ z))
       (λ m a c.
       owed_on r p lists
       (h.owed m (sym (ap (λ (y : Record). is_alone y.mode) is) ∙ a)
@@ -121,16 +124,16 @@ module _ (start : HistoryState) (steps : List Step) (r now : Record) (p q : Port
         (owed_acked r p lists before k numbered clients n below)
 
     pub acked-keeps : (es : List Entry) → KeepsCommitted start (steps ++ step by (Added es) ∷ []) now q
-    acked-keeps es = step-keeps (Added es) acked-none acked-owed
+    acked-keeps es = step-keeps (Added es) tt acked-none acked-owed
 
     pub unmoved-keeps : KeepsCommitted start steps now q
-    unmoved-keeps = record { none = acked-none; owed = acked-owed }
+    unmoved-keeps = record { none = acked-none; owed = acked-owed; made = h.made }
 
   -- THE PRIMARY FAILS
   pub primary-keeps : change_refusal changes.FailPrimary r.mode ≡ None → now ≡ (fail_primary_done r).1 → q ≡ p
       → KeepsCommitted start (steps ++ step by PrimaryFailed ∷ []) now q
   primary-keeps free is ports =
-      step-keeps PrimaryFailed (λ z. h.none (sym (ap (λ (y : Record). y.window.to_commit) is) ∙ z))
+      step-keeps PrimaryFailed tt (λ z. h.none (sym (ap (λ (y : Record). y.window.to_commit) is) ∙ z))
       (λ m a c.
       owed_on r p lists
       (h.owed m (ap is_alone (is_paired r.mode free)) (subst (λ n. 1 ≤ n) (ap (λ (y : Record). y.window.to_cut) is) c))
@@ -140,14 +143,14 @@ module _ (start : HistoryState) (steps : List Step) (r now : Record) (p q : Port
   -- THE BACKUP FAILS: a node is alone
   pub backup-keeps : IsRecord r → now ≡ (fail_within_done p.boxes r).1 → KeepsCommitted start (steps ++ step by BackupFailed ∷ []) now q
   backup-keeps k is =
-      step-keeps BackupFailed
+      step-keeps BackupFailed tt
       (λ z. let cut = ap (λ (y : Record). y.window.to_commit) is in let w = k.window.cut in h.none (omega (arith, cut, w, z)))
       (λ m a c. let alone = ap (λ (y : Record). is_alone y.mode) is in absurd (cc))
 
   -- A NEW BACKUP has committed nothing
   pub protected-keeps : (b : ℕ) → now ≡ (begin_done r).1 → KeepsCommitted start (steps ++ step by (Protected b) ∷ []) now q
   protected-keeps b is =
-      step-keeps (Protected b) (λ z. refl)
+      step-keeps (Protected b) tt (λ z. refl)
       (λ m a c. let cut = ap (λ (y : Record). y.window.to_cut) is in absurd (omega (arith, cut, c)))
 
   -- A COMMIT
@@ -174,6 +177,6 @@ module _ (start : HistoryState) (steps : List Step) (r now : Record) (p q : Port
 
     pub committed-keeps : KeepsCommitted start (steps ++ step by (commit_of c) ∷ []) now q
     committed-keeps =
-        step-keeps (commit_of c)
+        step-keeps (commit_of c) tt
         (λ z. let next = ap (λ (y : Record). y.window.to_commit) is in absurd (omega (arith, next, z)))
         (λ m a c. committed-owed m)

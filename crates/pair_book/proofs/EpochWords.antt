@@ -43,10 +43,10 @@ module _ (handed : List ℕ) (arrivals steps : ℕ) where
   abbrev own : List Entry
   own = epoch_of handed arrivals steps
 
-  own-guests : AreGuests own
+  pub own-guests : AreGuests own
   own-guests = guests-append (map Arrive (take arrivals handed)) (replicate steps Ran) (AreGuests-arrivals (take arrivals handed)) (steps-guests steps)
 
-  own-arrived : arrived_numbers own ≡ take arrivals handed
+  pub own-arrived : arrived_numbers own ≡ take arrivals handed
   own-arrived =
       arrived_numbers-append (map Arrive (take arrivals handed)) (replicate steps Ran)
       ∙ (λ i. arrived_numbers-arrivals (take arrivals handed) i ++ steps-arrived steps i)

@@ -24,10 +24,10 @@ use Rattle.pair_record.proofs.LiveAccords.{entries_are, live_accords}
 use Rattle.growing_history.specs.Steps.{Step, step, WentLive, Begins, steps_by}
 use Rattle.growing_history.specs.LogState.{LogState, Epoch, state_at, added, after, IsNew}
 use Rattle.growing_history.specs.Views.{Member}
-use Rattle.pair_book.specs.{Books.BookState, Calls.is_word_full, Failures.first_of, Standing.Stands}
+use Rattle.pair_book.specs.{Books.BookState, Calls.is_word_full, Failures.first_of, Standing.KeepsFrames}
 use Rattle.pair_book.specs.GoingLive.{is_backup, go_live_rows, go_live_why}
 use Rattle.pair_book.specs.internal.{Committed.KeepsCommitted, Tie.IsTied, Waits.AreWaiting}
-use Rattle.pair_book.proofs.{CommittedSeals.live-keeps, FailureTies.shown, StandingLaws.stands-brings, Ties.{step-tied, tied-still, way-is}}
+use Rattle.pair_book.proofs.{CommittedSeals.live-keeps, FailureTies.shown, StandingLaws.frames-bring, Ties.{step-tied, tied-still, way-is}}
 
 pub has_stopped : (m : Mode) → change_refusal changes.GoLive m ≡ None → m ≡ Stopped
 has_stopped Paired e = absurd (cc)
@@ -88,7 +88,7 @@ module _ (start : HistoryState) (steps : List Step) (r now : Record) (p q : Port
     (c : KeepsCommitted start steps r p) (k : IsRecord r) (numbered : AreNumbered r p) (free : change_refusal changes.GoLive r.mode ≡ None)
     (seat : Member) (mine : seat.number ≡ (state_at start steps).backup) (b : Begins seat.steps steps)
     (own : steps_by seat.number steps ≡ steps_by seat.number seat.steps)
-    (sent first : ℕ) (kept : List (List Frame)) (stands : Stands start seat sent first kept) where
+    (sent first : ℕ) (kept : List (List Frame)) (stands : KeepsFrames start seat sent first kept) where
   abbrev s : LogState
   s = state_at start steps
 
@@ -99,7 +99,7 @@ module _ (start : HistoryState) (steps : List Step) (r now : Record) (p q : Port
   pub brings : s.marked ≡ 0 → Brings r p first kept
   brings none =
       let filled : 1 ≤ r.window.to_commit = subst (λ (m : Mode). SuitsMode m r.window) stopped k.suits in
-      stands-brings start seat steps sent first kept b t.legal own stands r p t c k numbered (ap is_alone stopped)
+      frames-bring start seat steps sent first kept b t.legal own stands r p t c k numbered (ap is_alone stopped)
       (omega (arith, filled, k.window.cut)) mine none
 
   module _ (runner done : ℕ) (new : IsNew s runner) (is : now ≡ (brought_done r p first kept done).1)

@@ -1,7 +1,8 @@
 -- A backup goes on standing: when it looks, and by its commits.
-use Rattle.std.proofs.Common.{◌≡◌, ℕ, ◌+◌, ◌-◌, ◌≤◌, List, [], ◌∷◌, ◌++◌, length, drop, sym, ap, ◌∙◌, subst, refl, false, arith}
+use Rattle.std.proofs.Common.{◌≡◌, ℕ, ◌+◌, ◌-◌, ◌≤◌, List, [], ◌∷◌, ◌++◌, length, drop, sym, ap, ◌∙◌, subst, refl, false, arith, Option}
 use Rattle.std.proofs.lemmas.List.{append-nil, drop-append-le, drop-drop, length-append, length-drop}
 use Rattle.frame_ports.specs.Ports.{PortsState}
+use Rattle.guest_machine.specs.Guest.{Guest}
 use Rattle.pair_history.specs.Entries.{Frame}
 use Rattle.pair_history.specs.HistoryState.{HistoryState}
 use Rattle.pair_record.specs.Kept.{all_frames, Brings}
@@ -10,25 +11,26 @@ use Rattle.pair_record.specs.Protocol.{Record}
 use Rattle.pair_record.specs.Record.{IsRecord, AreNumbered}
 use Rattle.pair_record.proofs.KeptLists.{all_frames-append}
 use Rattle.growing_history.specs.Steps.{Step, Begins, steps_by}
-use Rattle.growing_history.specs.LogState.{Legal, state_at, IsAlone}
+use Rattle.growing_history.specs.LogState.{LogState, Legal, state_at, IsAlone, is_filling}
 use Rattle.growing_history.specs.Views.{Member}
 use Rattle.growing_history.proofs.{LogLaws.{live-rise, marks-rise}, MissedByBackup.backup-misses-nothing}
-use Rattle.pair_book.specs.Standing.{commits_of, last_four, KeepsLast, Stands}
+use Rattle.pair_book.specs.declared.failures.Ack.{Ack}
+use Rattle.pair_book.specs.Standing.{commits_of, last_four, KeepsLast, KeepsFrames, Stands}
 use Rattle.pair_book.specs.internal.{Committed.KeepsCommitted, Tie.IsTied}
-use Rattle.pair_book.proofs.{CommittedLaws.{commits-missed, owed_brings}, CommitTies.not-alone}
+use Rattle.pair_book.proofs.{AckLaws.acks-missed, CommittedLaws.{commits-missed, owed_brings}, CommitTies.not-alone}
 
 -- IT LOOKS, and has made no step since
 module _ (start : HistoryState) (seat : Member) (now : List Step) (sent first : ℕ) (kept : List (List Frame))
     (b : Begins seat.steps now) (l : Legal start now) (own : steps_by seat.number now ≡ steps_by seat.number seat.steps)
-    (h : Stands start seat sent first kept) where
+    (h : KeepsFrames start seat sent first kept) where
   abbrev looked : Member
   looked = record { number = seat.number; steps = now }
 
   rise : (state_at start seat.steps).backup ≤ (state_at start now).backup
   rise = (live-rise start seat.steps now b l).1
 
-  pub stands-on : Stands start looked sent first kept
-  stands-on = record {
+  pub frames-on : KeepsFrames start looked sent first kept
+  frames-on = record {
     born = omega (arith, h.born, rise);
     keeps = λ live none.
         let was : (state_at start seat.steps).backup ≡ seat.number = omega (arith, h.born, rise, live.0) in
@@ -40,13 +42,40 @@ module _ (start : HistoryState) (seat : Member) (now : List Step) (sent first : 
   }
 
   -- so where the book's list is what it sees now, it brings what it should
-  pub stands-brings : (r : Record) (p : PortsState) → IsTied start now r p → KeepsCommitted start now r p → IsRecord r → AreNumbered r p
+  pub frames-bring : (r : Record) (p : PortsState) → IsTied start now r p → KeepsCommitted start now r p → IsRecord r → AreNumbered r p
       → is_alone r.mode ≡ false → 1 ≤ r.window.to_cut → seat.number ≡ (state_at start now).backup → (state_at start now).marked ≡ 0
       → Brings r p first kept
-  stands-brings r p t c k numbered pair some mine none =
+  frames-bring r p t c k numbered pair some mine none =
       let paired : IsAlone (state_at start now).mode → ⊥ = subst (λ m. IsAlone m → ⊥) t.mode (not-alone r.mode pair) in
       owed_brings r p (commits_of start now) (c.owed none pair some) k.window numbered sent first kept
-      (stands-on.keeps (mine, paired) none)
+      (frames-on.keeps (mine, paired) none)
+
+-- its image, too
+module _ (start : HistoryState) (seat : Member) (now : List Step) (image : Guest) (last : Option Ack) (sent first : ℕ)
+    (kept : List (List Frame)) (b : Begins seat.steps now) (l : Legal start now)
+    (own : steps_by seat.number now ≡ steps_by seat.number seat.steps) (h : Stands start seat image last sent first kept) where
+  abbrev s : LogState
+  s = state_at start seat.steps
+
+  abbrev t : LogState
+  t = state_at start now
+
+  was : seat.number ≡ t.backup → s.backup ≡ seat.number
+  was live = let rise = (live-rise start seat.steps now b l).1 in omega (arith, h.frames.born, rise, live)
+
+  pub stands-on : Stands start (record { number = seat.number; steps = now }) image last sent first kept
+  stands-on = record {
+    frames = frames-on start seat now sent first kept b l own h.frames;
+    committed = λ live.
+        let stays = backup-misses-nothing start seat.steps now seat.number b l own (was live.0) (sym live.0) live.1 in
+        h.committed (sym (was live.0), stays.0)
+        ∙ sym (acks-missed start seat.steps now seat.number b l own (was live.0) (sym live.0) live.1);
+    guest = λ live none filled.
+        let stays = backup-misses-nothing start seat.steps now seat.number b l own (was live.0) (sym live.0) live.1 in
+        let before : is_filling s.mode ≡ false = sym stays.1 ∙ filled in
+        let unmarked : s.marked ≡ 0 = let marks = marks-rise start seat.steps now b in omega (arith, marks, none) in
+        h.guest (sym (was live.0), stays.0) unmarked before ∙ sym (stays.2 before);
+  }
 
 -- IT COMMITS a checkpoint that carries these frames, and lets go of the oldest ones
 last-four-more : (lists : List (List Frame)) (fs : List Frame) → last_four (last_four lists ++ fs ∷ []) ≡ last_four (lists ++ fs ∷ [])

@@ -22,12 +22,13 @@ use Rattle.pair_record.specs.{Limits.most_pending, Window.with_cut}
 use Rattle.growing_history.specs.Steps.{Step, step, Begins, Sealed, RanAlone}
 use Rattle.growing_history.specs.LogState.{LogState, state_at, sealed_state, Legal, IsEpoch, HasBackup, IsAlone, MaySeal}
 use Rattle.growing_history.specs.Views.{Member}
-use Rattle.growing_history.proofs.LogLaws.{live-rise, marks-rise}
+use Rattle.growing_history.specs.SealedTexts.{IsMade}
+use Rattle.growing_history.proofs.{LogLaws.{live-rise, marks-rise}, TextLaws.makes-same}
 use Rattle.pair_book.specs.declared.prepared.Prepared.{Prepared}
 use Rattle.pair_book.specs.declared.prepared.Prepared.TheVariants as prepared
 use Rattle.pair_book.specs.declared.runner.Kind.{Kind}
 use Rattle.pair_book.specs.declared.runner.Kind.TheVariants.{Nothing, Delta, Full}
-use Rattle.pair_book.specs.{Books.BookState, Packets.PacketState}
+use Rattle.pair_book.specs.{Books.BookState, Made.{Reads, carried, MakesEpoch, IsPrepared}, Packets.PacketState}
 use Rattle.pair_book.specs.Handing.{Handing, handing, handed_next, handed_behind, HandsNext}
 use Rattle.pair_book.specs.Running.{kind_wanted}
 use Rattle.pair_book.specs.Settled.{IsSettled, epoch_of}
@@ -40,6 +41,7 @@ use Rattle.pair_book.proofs.HandingLaws.{hands-firsts}
 use Rattle.pair_book.proofs.HandedNext.{hands-behind}
 use Rattle.pair_book.proofs.{CommittedHanding.behind-keeps, CommittedSeals.{sealed-keeps, full-keeps, lone-keeps}}
 use Rattle.pair_book.proofs.TextLaws.{texts-after, texts-once-sealed, as-many}
+use Rattle.pair_book.proofs.MadeLaws.{none-before, sealed-made}
 use Rattle.pair_book.proofs.SubmitTies.{sealed-tied, alone-tied, full-tied}
 
 -- WHAT THE LIVE RUNNER KNEW when its seat last looked
@@ -76,6 +78,24 @@ module _ (start : HistoryState) (seat : Member) (log : List Step) (arrivals ran 
       (own-epoch was-state.handed arrivals ran was-state refl)).1
       ∙ ap (λ (hs : List ℕ). sent_along (sealed_state is-state) (epoch_of hs arrivals ran)) (sym still)
 
+  -- what was prepared there makes the epoch here
+  pub makes-now : (what : Prepared) → IsPrepared start seat arrivals ran fs what → MakesEpoch start is-state arrivals ran fs what
+  makes-now prepared.Nothing made = tt
+  makes-now (prepared.Checkpoint c) made =
+      λ none.
+      let rise = marks-rise start seat.steps log begins in
+      let unmarked : was-state.marked ≡ 0 = omega (arith, rise, none) in
+      let law = epoch-law was (sym live) none in
+      let own = epoch_of was-state.handed arrivals ran in
+      let far = sealed_state is-state in
+      makes-same (Reads start) c.number c.text (carried c.number fs) (carried c.number fs)
+      (sealed_state was-state).guest far.guest
+      (at (sealed_state was-state) own).guest (at far (epoch_of is-state.handed arrivals ran)).guest refl
+      (sym (law [] (tt, (was-state.handed, refl))).0)
+      (sym (law own (own-epoch was-state.handed arrivals ran was-state refl)).0
+      ∙ ap (λ (hs : List ℕ). (at far (epoch_of hs arrivals ran)).guest) (sym still))
+      (made was unmarked)
+
 -- WHERE NO ROW HOLDS
 
 may : (s t : Bool) → not (s && not t) ≡ false → (not s ≡ false) × (t ≡ false)
@@ -97,7 +117,7 @@ both true false e = absurd (cc)
 both false t e = absurd (cc)
 
 -- what was prepared is what is wanted
-abbrev Suits : Record → Prepared → Type 0
+abbrev pub Suits : Record → Prepared → Type 0
 Suits r prepared.Nothing = is_alone r.mode ≡ true
 Suits r (prepared.Checkpoint c) = (is_alone r.mode ≡ false) × (c.generation ≡ r.generation) × (c.number ≡ r.window.to_cut)
 
@@ -138,7 +158,7 @@ is-free start b by what ran fs e =
 
 -- WHICH KIND is wanted, where the primary hasn't stopped
 
-alone-mode : (m : Mode) → is_alone m ≡ true → m ≡ modes.Alone
+pub alone-mode : (m : Mode) → is_alone m ≡ true → m ≡ modes.Alone
 alone-mode modes.Alone e = refl
 alone-mode other e = absurd (cc)
 
@@ -205,6 +225,7 @@ module _ (start : HistoryState) (b : BookState) (t : IsTied start b.steps b.prot
     (held : arrivals ≤ length (state_at start b.steps).handed)
     (sent : (state_at start b.steps).marked ≡ 0
     → fs ≡ sent_along (sealed_state (state_at start b.steps)) (epoch_of (state_at start b.steps).handed arrivals ran))
+    (made : MakesEpoch start (state_at start b.steps) arrivals ran fs what)
     (now : Record) (q : PortsState) (xs : List (ℕ × Frame)) (is : handing now q xs ≡ handed_next (ended b arrivals ran fs))
     (long : length (ended b arrivals ran fs).ports.inboxes ≡ length (ended b arrivals ran fs).ports.boxes) where
   abbrev r : Record
@@ -318,7 +339,14 @@ module _ (start : HistoryState) (b : BookState) (t : IsTied start b.steps b.prot
         found = entered-found lone (kept-by Nothing kind).0;
       }
 
-  module _ (c : PacketState) (suit : Suits r (prepared.Checkpoint c)) where
+  module _ (c : PacketState) (suit : Suits r (prepared.Checkpoint c))
+      (makes : MakesEpoch start (state_at start b.steps) arrivals ran fs (prepared.Checkpoint c)) where
+    text-made : IsMade (Reads start) (state_at start b.steps) (Sealed c.generation c.number epoch c.text)
+    text-made =
+        sealed-made start (state_at start b.steps) c epoch arrivals ran fs
+        (epoch-is (state_at start b.steps).handed arrivals ran r.journal.running t.running)
+        (none-before start b.steps t.legal c.number (suit.2 ∙ t.next)) sent makes
+
     text-pending : (kind : Kind) → wanted_kind b ≡ kind → (protocol_ended kind arrivals ran fs r b.ports).generation ≡ r.generation
         → (protocol_ended kind arrivals ran fs r b.ports).window ≡ with_cut r.window
         → HasTexts start (log (step by (told_as (prepared.Checkpoint c) epoch))) now (b.texts.packets ++ c ∷ [])
@@ -343,7 +371,7 @@ module _ (start : HistoryState) (b : BookState) (t : IsTied start b.steps b.prot
           committed =
               kept-committed Full full.kind (log (step by (told_as (prepared.Checkpoint c) epoch)))
               (full-keeps start b.steps r (protocol_ended Full arrivals ran fs r b.ports) b.ports (ports_ended Full fs r b.ports) keeps by
-              c.generation c.number epoch c.text (protocol_ended Nothing arrivals ran fs r b.ports) refl lone.1
+              c.generation c.number epoch c.text text-made (protocol_ended Nothing arrivals ran fs r b.ports) refl lone.1
               (let w = k.window.cut in let z = full.number in omega (arith, w, z)) refl);
           texts = text-pending Full full.kind refl refl;
           found =
@@ -362,7 +390,7 @@ module _ (start : HistoryState) (b : BookState) (t : IsTied start b.steps b.prot
           committed =
               kept-committed Delta delta.kind (log (step by (told_as (prepared.Checkpoint c) epoch)))
               (sealed-keeps start b.steps r (protocol_ended Delta arrivals ran fs r b.ports) b.ports (ports_ended Delta fs r b.ports)
-              keeps by c.generation c.number epoch c.text k.window numbered.held
+              keeps by c.generation c.number epoch c.text text-made k.window numbered.held
               (let z = delta.number in omega (arith, z)) suit.0 epoch (behind arrivals r.journal.running) fs refl refl);
           texts = text-pending Delta delta.kind refl refl;
           found =
@@ -375,24 +403,24 @@ module _ (start : HistoryState) (b : BookState) (t : IsTied start b.steps b.prot
     checkpoint-done (inl full) = full-done full
     checkpoint-done (inr delta) = delta-done delta
 
-  done : (x : Prepared) → Suits r x → Done x
-  done prepared.Nothing suit = alone-done suit
-  done (prepared.Checkpoint c) suit =
-      checkpoint-done c suit (which r.mode r.window.to_cut suit.0 free.runs paired-some)
+  done : (x : Prepared) → Suits r x → MakesEpoch start (state_at start b.steps) arrivals ran fs x → Done x
+  done prepared.Nothing suit makes = alone-done suit
+  done (prepared.Checkpoint c) suit makes =
+      checkpoint-done c suit makes (which r.mode r.window.to_cut suit.0 free.runs paired-some)
 
   pub found-is : found what now.journal before arrivals ran ≡ told b arrivals ran what
-  found-is = ap (told_as what) (done what free.suit).found
+  found-is = ap (told_as what) (done what free.suit made).found
 
   pub submitted-tied : IsTied start (b.steps ++ step by (found what now.journal before arrivals ran) ∷ []) now q
-  submitted-tied = subst (λ x. IsTied start (log (step by x)) now q) (sym found-is) (done what free.suit).tied
+  submitted-tied = subst (λ x. IsTied start (log (step by x)) now q) (sym found-is) (done what free.suit made).tied
 
   pub submitted-committed : KeepsCommitted start (b.steps ++ step by (found what now.journal before arrivals ran) ∷ []) now q
-  submitted-committed = subst (λ x. KeepsCommitted start (log (step by x)) now q) (sym found-is) (done what free.suit).committed
+  submitted-committed = subst (λ x. KeepsCommitted start (log (step by x)) now q) (sym found-is) (done what free.suit made).committed
 
   pub submitted-texts : HasTexts start (b.steps ++ step by (found what now.journal before arrivals ran) ∷ []) now
       (texts_ended what b.texts).packets
   submitted-texts =
-      subst (λ x. HasTexts start (log (step by x)) now (texts_ended what b.texts).packets) (sym found-is) (done what free.suit).texts
+      subst (λ x. HasTexts start (log (step by x)) now (texts_ended what b.texts).packets) (sym found-is) (done what free.suit made).texts
 
   pub hands-next : HandsNext (ended b arrivals ran fs) (handing now q xs)
   hands-next =
@@ -437,6 +465,7 @@ module _ (start : HistoryState) (b : BookState) (t : IsTied start b.steps b.prot
     (keeps : KeepsCommitted start b.steps b.protocol b.ports) (had : HasTexts start b.steps b.protocol b.texts.packets)
     (k : IsRecord b.protocol) (numbered : AreNumbered b.protocol b.ports) (seat : Member) (what : Prepared)
     (arrivals ran came : ℕ) (fs : List Frame) (settled : IsSettled start seat arrivals ran fs)
+    (made : IsPrepared start seat arrivals ran fs what)
     (why : submit_why start b seat.number what ran fs ≡ None) (begins : Begins seat.steps b.steps)
     (handed-law : (state_at start seat.steps).runner ≡ seat.number → (state_at start b.steps).runner ≡ seat.number
     → (state_at start b.steps).handed ≡ (state_at start seat.steps).handed)
@@ -462,6 +491,9 @@ module _ (start : HistoryState) (b : BookState) (t : IsTied start b.steps b.prot
       → fs ≡ sent_along (sealed_state (state_at start b.steps)) (epoch_of (state_at start b.steps).handed arrivals ran)
   sent-so = sent-now start seat b.steps arrivals ran fs settled begins t.legal rows.live handed-law epoch-law
 
+  made-so : MakesEpoch start (state_at start b.steps) arrivals ran fs what
+  made-so = makes-now start seat b.steps arrivals ran fs settled begins t.legal rows.live handed-law epoch-law what made
+
   long-so : length (ended b arrivals ran fs).ports.inboxes ≡ length (ended b arrivals ran fs).ports.boxes
   long-so = ended-inboxes (wanted_kind b) arrivals ran fs b.protocol b.ports t.waits.count
 
@@ -472,21 +504,21 @@ module _ (start : HistoryState) (b : BookState) (t : IsTied start b.steps b.prot
       record {
         tied =
             subst (λ (n : ℕ). IsTied start (b.steps ++ step by (found what now.journal before n ran) ∷ []) now q) (sym all)
-            (submitted-tied start b t keeps had k numbered by what rows arrivals ran fs held sent-so now q xs is-so long-so);
+            (submitted-tied start b t keeps had k numbered by what rows arrivals ran fs held sent-so made-so now q xs is-so long-so);
         committed =
             subst (λ (n : ℕ). KeepsCommitted start (b.steps ++ step by (found what now.journal before n ran) ∷ []) now q) (sym all)
-            (submitted-committed start b t keeps had k numbered by what rows arrivals ran fs held sent-so now q xs is-so long-so);
+            (submitted-committed start b t keeps had k numbered by what rows arrivals ran fs held sent-so made-so now q xs is-so long-so);
         texts =
             subst
             (λ (n : ℕ). HasTexts start (b.steps ++ step by (found what now.journal before n ran) ∷ []) now (texts_ended what b.texts).packets)
             (sym all)
-            (submitted-texts start b t keeps had k numbered by what rows arrivals ran fs held sent-so now q xs is-so long-so);
+            (submitted-texts start b t keeps had k numbered by what rows arrivals ran fs held sent-so made-so now q xs is-so long-so);
         few =
             let count = as-many start b.steps b.protocol b.texts.packets had k in
             let less = rows.few in omega (arith, count, less);
         told-is =
             ap (λ (n : ℕ). found what now.journal before n ran) all
-            ∙ found-is start b t keeps had k numbered by what rows arrivals ran fs held sent-so now q xs is-so long-so;
-        hands = hands-next start b t keeps had k numbered by what rows arrivals ran fs held sent-so now q xs is-so long-so;
+            ∙ found-is start b t keeps had k numbered by what rows arrivals ran fs held sent-so made-so now q xs is-so long-so;
+        hands = hands-next start b t keeps had k numbered by what rows arrivals ran fs held sent-so made-so now q xs is-so long-so;
         word = rows.word;
       }

@@ -30,7 +30,7 @@ use Rattle.pair_book.specs.internal.{Tie.IsTied, Waits.AreWaiting}
 use Rattle.pair_book.proofs.EpochWords.{epoch-is, rest-is, epoch-guests, is-epoch, handed-parts, entered-wait}
 use Rattle.pair_book.proofs.{HandedNext.{Hands, hands}, Ties.{step-tied, sealed-joined, tied-guests}, Waits.still-waiting}
 
-entries-push : (es : List Epoch) (e : Epoch) → entries_of (es ++ e ∷ []) ≡ entries_of es ++ e.entries
+pub entries-push : (es : List Epoch) (e : Epoch) → entries_of (es ++ e ∷ []) ≡ entries_of es ++ e.entries
 entries-push [] e = append-nil e.entries
 entries-push (x ∷ es) e = ap (λ l. x.entries ++ l) (entries-push es e) ∙ sym (append_assoc x.entries (entries_of es) e.entries)
 

@@ -1,8 +1,15 @@
 -- What the backup's commits do, and why one is refused.
-use Rattle.std.specs.Prelude.{◌≡◌, ℕ, ◌==◌, ◌&&◌, not, nat_lt, nat_le, Bool, true, false, List, [], ◌∷◌, Option, None, Some}
+use Rattle.std.specs.Prelude.{◌≡◌, ℕ, ◌+◌, ◌-◌, ◌==◌, ◌&&◌, not, nat_lt, nat_le, Bool, true, false, if◌then◌else◌, List, [], ◌∷◌, ◌++◌}
+use Rattle.std.specs.Prelude.{length, Option, None, Some}
+use Rattle.guest_machine.specs.Guest.{Guest}
 use Rattle.epoch_snapshot.specs.Checkpoints.{Change}
+use Rattle.epoch_snapshot.specs.Images.{image_of}
+use Rattle.checkpoint_stream.specs.Readings.{begun, fed}
+use Rattle.checkpoint_stream.specs.Sound.{change_in}
 use Rattle.checkpoint_stream.specs.Text.{text}
+use Rattle.pair_history.specs.Entries.{Frame}
 use Rattle.pair_history.specs.HistoryState.{HistoryState}
+use Rattle.pair_record.specs.Kept.{all_frames}
 use Rattle.pair_record.specs.declared.event.Refusal.{Refusal}
 use Rattle.pair_record.specs.declared.event.Refusal.TheVariants.{Stopped, Stale, Gap, Exhausted, OldVersion}
 use Rattle.pair_record.specs.declared.event.Reply.TheVariants as replies
@@ -14,6 +21,8 @@ use Rattle.growing_history.specs.Views.{Member}
 use Rattle.pair_book.specs.declared.failures.Ack.{Ack}
 use Rattle.pair_book.specs.Books.{BookState}
 use Rattle.pair_book.specs.Calls.{Makes, IsAsBefore, is_word_full}
+use Rattle.pair_book.specs.Made.{IsShape}
+use Rattle.pair_book.specs.Standing.{last_four, Stands}
 
 -- the step: the epoch of the checkpoint's generation and number is committed, of which this text was read
 abbrev pub commit_of : Change → What
@@ -62,3 +71,29 @@ AfterAgainOrNext false c ack old new seat seat' =
 
 abbrev pub AfterCommit : Change → Ack → BookState → BookState → Member → Member → Type 0
 AfterCommit c ack old new seat seat' = AfterAgainOrNext (is_earlier old c) c ack old new seat seat'
+
+-- WHAT THE BACKUP STANDS ON THEN: the checkpoint applied to its image, and its frames behind those that it kept, of which the last four
+-- lists are kept. A full one begins anew.
+
+abbrev pub kept_with : Change → List (List Frame) → List (List Frame)
+kept_with c kept = last_four ((if c.number == 0 then [] else kept) ++ c.frames ∷ [])
+
+abbrev pub sent_with : Change → ℕ → ℕ
+sent_with c sent = (if c.number == 0 then 0 else sent) + length c.frames
+
+-- the number of the first frame that is kept then
+abbrev pub first_with : Change → ℕ → List (List Frame) → ℕ
+first_with c sent kept = sent_with c sent + 1 - length (all_frames (kept_with c kept))
+
+-- the checkpoint is what its own text reads as, wherever that stood in its stream
+abbrev pub WasRead : Change → Type 0
+WasRead c = (offset : ℕ) × (change_in (fed (begun c.shape offset) (text c)) ≡ c)
+
+-- Where the next checkpoint was read, and is of the pair's shape, a backup that stood stands by it, and by the answer.
+abbrev pub StandsBy : HistoryState → Change → Ack → Member → Member → Type 0
+StandsBy start c ack seat seat' =
+    WasRead c
+    → IsShape start c.shape
+    → (image : Guest) (last : Option Ack) (sent first : ℕ) (kept : List (List Frame))
+    → Stands start seat image last sent first kept
+    → Stands start seat' (image_of c image) (Some ack) (sent_with c sent) (first_with c sent kept) (kept_with c kept)

@@ -1,5 +1,6 @@
 -- The backup goes live: what that does to the lent seat and to the keeper's list, and why it is refused.
 use Rattle.std.specs.Prelude.{◌≡◌, ℕ, ◌+◌, ◌==◌, not, Bool, List, [], ◌∷◌, ◌++◌, Option}
+use Rattle.guest_machine.specs.Guest.{Guest}
 use Rattle.pair_history.specs.Entries.{Frame}
 use Rattle.pair_history.specs.HistoryState.{HistoryState}
 use Rattle.pair_record.specs.declared.event.Event.TheVariants.{GoLive}
@@ -11,9 +12,12 @@ use Rattle.pair_record.specs.Protocol.{Row}
 use Rattle.growing_history.specs.Steps.{WentLive, step, Begins}
 use Rattle.growing_history.specs.LogState.{state_at}
 use Rattle.growing_history.specs.Views.{Member}
+use Rattle.pair_book.specs.declared.failures.Ack.{Ack}
 use Rattle.pair_book.specs.Books.{BookState}
 use Rattle.pair_book.specs.Calls.{is_word_full}
 use Rattle.pair_book.specs.Failures.{first_of}
+use Rattle.pair_book.specs.Settled.{just_settled, Runs}
+use Rattle.pair_book.specs.Standing.{Stands}
 
 -- It makes one step, under no member's number, which gives the new runner the next number of a seat. The backup's seat has then seen the
 -- whole list, and what it had seen begins what was there before.
@@ -35,3 +39,9 @@ go_live_rows start b number first kept =
 
 abbrev pub go_live_why : HistoryState → BookState → ℕ → ℕ → List (List Frame) → Option Refusal
 go_live_why start b number first kept = first_of (mode_refusal b.protocol.mode GoLive) (go_live_rows start b number first kept)
+
+-- A backup that stands, which hands over these frames, hands over its image: the runner of that seat begins with it.
+abbrev pub BeginsWithImage : HistoryState → Member → Member → ℕ → List (List Frame) → Type 0
+BeginsWithImage start seat runner first kept =
+    (image : Guest) (last : Option Ack) (sent : ℕ) → Stands start seat image last sent first kept
+    → Runs start runner (just_settled image [])

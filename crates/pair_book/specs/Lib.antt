@@ -6,6 +6,7 @@ pub mod Failures
 pub mod GoingLive
 pub mod Handing
 pub mod Losses
+pub mod Made
 pub mod Opening
 pub mod Packets
 pub mod Running

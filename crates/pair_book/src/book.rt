@@ -3,6 +3,7 @@ ghost use Rattle.std.specs.Prelude.{◌≡◌, ◌+◌, length};
 ghost use Rattle.frame_ports.specs.Ports.{IsClient};
 ghost use Rattle.growing_history.specs.LogState.{Legal, state_at, history_of};
 ghost use Rattle.pair_book.specs.Calls.{IsClientSeat, client_of, is_word_full};
+ghost use Rattle.pair_book.specs.Made.{AreMade};
 
 use crate::seats::Seats;
 use crate::texts::Texts;
@@ -15,8 +16,8 @@ use std::marker::Model;
 pub(crate) const LINE_SEAT: u64 = 3;
 
 /// What all threads of a pair share. Contracts see it as a `BookState` of the specs: the steps that its keeper has made, the record,
-/// the clients' ports and the texts of pending checkpoints. Between any two calls the record is the one that the steps lead to, and each
-/// pending text was sealed in them.
+/// the clients' ports and the texts of pending checkpoints. Between any two calls the record is the one that the steps lead to, each
+/// pending text was sealed in them, and each sealed text makes the guest after its epoch of the guest before it.
 ///
 /// A call makes one step or none, as its clauses say, and after a refusal nothing has changed, the lent seat included; only a delivery
 /// refused [`Refusal::Full`](crate::Refusal::Full) is told by an entry.
@@ -50,6 +51,7 @@ impl<P: Pair> Book<P> {
         ensures history { (state_at P.start self.now.steps).marked ≡ 0
             → self.now.protocol.journal.history ≡ history_of P.start self.now.steps }
         ensures legal { Legal P.start self.now.steps }
+        ensures made { AreMade P.start self.now.steps }
         ensures clients { length self.now.ports.boxes ≡ length P.start.boxes }
     {
         self.seats.count();

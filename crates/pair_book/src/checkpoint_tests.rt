@@ -1,8 +1,10 @@
 //! What no clause says of the calls of the runner, of who sends and of the backup: that they succeed where there is memory. The guest makes
 //! no step here, so what it sends is known without running it.
-ghost use Rattle.std.specs.Prelude.{◌≡◌, [], OnErr};
+ghost use Rattle.std.specs.Prelude.{◌≡◌, ℕ, [], IfOk, OnErr};
+ghost use Rattle.guest_machine.specs.Guest.{boot_guest};
 ghost use Rattle.pair_history.specs.HistoryState.{start_state};
-ghost use Rattle.growing_history.specs.LogState.{first_runner, first_backup};
+ghost use Rattle.growing_history.specs.LogState.{start_of, first_runner, first_backup};
+ghost use Rattle.pair_book.specs.Made.{MakesEpoch};
 
 use super::*;
 use epoch_snapshot::{Checkpoint, cut_delta, cut_full};
@@ -68,7 +70,8 @@ fn started<P: Pair>(alloc: Global, book: UnnamedBook) -> Result<Box<Start<P>>, F
     )?)
 }
 
-/// The first runner submits an epoch of no arrival and no step. It answers the number of the first frame that is handed out.
+/// The first runner submits an epoch of no arrival and no step, with what was prepared over the guest at the start. It answers the number
+/// of the first frame that is handed out.
 fn end_first<P: Pair>(
     alloc: Global,
     clock: &Clock<P>,
@@ -76,7 +79,8 @@ fn end_first<P: Pair>(
     runner: &mut RunnerSeat<P>,
     what: &Prepared,
 ) -> Result<Option<u64>, Refusal>
-    requires { runner.old ≡ record { number = first_runner; steps = [] } }
+    requires seat { runner.old ≡ record { number = first_runner; steps = [] } }
+    requires made { MakesEpoch P.start (start_of P.start) 0 0 [] what.now }
     ensures { OnErr result (runner.new ≡ runner.old) }
 {
     let epoch = OpenEpoch {
@@ -98,7 +102,13 @@ fn go_live_first<P: Pair>(
     book.go_live(clock, backup, 0, 1, &[])
 }
 
-fn machine(alloc: Global) -> Result<Machine, Fail> {
+/// The machine of the guest at the start, which has made no step.
+fn machine(alloc: Global) -> Result<Machine, Fail>
+    ensures guest { IfOk result (λ m. m.guest ≡ boot_guest 1 1 []) }
+    ensures outbox { IfOk result (λ m. m.outbox ≡ []) }
+    ensures dirty { IfOk result (λ m. m.dirty ≡ []) }
+    ensures settled { IfOk result (λ m. m.settled ≡ m.guest.ram) }
+{
     let shape = Shape {
         pages: 1,
         sectors: 1,
@@ -107,14 +117,20 @@ fn machine(alloc: Global) -> Result<Machine, Fail> {
 }
 
 /// The first delta of generation 1.
-fn delta(alloc: Global) -> Result<(Checkpoint, Prepared), Fail> {
+fn delta(alloc: Global) -> Result<(Checkpoint, Prepared), Fail>
+    ensures { IfOk result (λ x. (clients : ℕ)
+        → MakesEpoch (start_state 1 1 [] clients) (start_of (start_state 1 1 [] clients)) 0 0 [] x.1) }
+{
     let checkpoint = cut_delta(alloc, &machine(alloc)?, 1, 1)?;
     let packet = Packet::new(alloc, &checkpoint)?;
     Ok((checkpoint, Prepared::Checkpoint(packet)))
 }
 
 /// The full checkpoint of generation 2.
-fn full(alloc: Global) -> Result<(Checkpoint, Prepared), Fail> {
+fn full(alloc: Global) -> Result<(Checkpoint, Prepared), Fail>
+    ensures { IfOk result (λ x. (clients : ℕ)
+        → MakesEpoch (start_state 1 1 [] clients) (start_of (start_state 1 1 [] clients)) 0 0 [] x.1) }
+{
     let checkpoint = cut_full(alloc, &machine(alloc)?, 2)?;
     let packet = Packet::new(alloc, &checkpoint)?;
     Ok((checkpoint, Prepared::Checkpoint(packet)))

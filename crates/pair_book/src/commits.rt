@@ -1,14 +1,14 @@
 //! What the backup calls.
-ghost use Rattle.std.specs.Prelude.{◌≡◌, ◌<◌, None, IfOk, OnOk, IfErr, OnErr, IfSome, option_map};
+ghost use Rattle.std.specs.Prelude.{◌≡◌, ◌<◌, false, None, IfOk, OnOk, IfErr, OnErr, IfSome, option_map};
 ghost use Rattle.pair_record.specs.declared.event.Reply.TheVariants as replies;
 ghost use Rattle.pair_record.specs.Protocol.{again_done};
 ghost use Rattle.pair_book.specs.Calls.{IsWhy, IsAsBefore};
-ghost use Rattle.pair_book.specs.Commits.{may_commit, is_old_delta, commit_why, AfterCommit};
+ghost use Rattle.pair_book.specs.Commits.{may_commit, is_old_delta, is_earlier, commit_why, AfterCommit, StandsBy};
 
 use crate::book::Book;
 use crate::failures::Ack;
 use epoch_snapshot::Checkpoint;
-use growing_history::{BackupSeat, Clock, Pair, Tells};
+use growing_history::{BackupSeat, Clock, Pair, Tells, Texts, sealed_texts_make_their_guests};
 use pair_record::{Packet, Refusal, Reply, is_alone};
 
 /// A checkpoint that the backup read. It is announced as the commit of its epoch, with its text, which is what was read; nothing is
@@ -22,6 +22,14 @@ impl Tells for CommitOf<'_> {
     ghost use Rattle.pair_book.specs.Commits.{commit_of};
 
     ghost what = { λ c. commit_of c.checkpoint.now };
+}
+
+/// What a text of the pair makes of a guest: it reads back as a checkpoint of the pair's shape, which carries the frames and makes the one
+/// guest of the other.
+impl<P: Pair> Texts for Book<P> {
+    ghost use Rattle.pair_book.specs.Made.{Reads};
+
+    ghost reads = { Reads P.start };
 }
 
 /// Whether it is a delta of version 1.
@@ -90,6 +98,9 @@ impl<P: Pair> Book<P> {
     /// history, and a new backup's first one makes a pair. Answers the acknowledgement; where it is an earlier one, that of the last
     /// committed checkpoint again, and nothing else happens.
     ///
+    /// A backup that stood (`Stands` of the specs) stands after it where the checkpoint was read and is of the pair's shape: its image then
+    /// is the checkpoint applied to the one before. So it has to apply it before it calls the book again.
+    ///
     /// # Errors
     ///
     /// In this order: [`Refusal::OldVersion`] for a delta of version 1; [`Refusal::Stopped`] where this backup isn't the live one, or a
@@ -105,6 +116,9 @@ impl<P: Pair> Book<P> {
         ensures number { seat.new.number ≡ seat.old.number }
         ensures texts { self.new.texts ≡ self.old.texts }
         ensures done { IfOk result (λ ack. IfSome read.entry (λ c. AfterCommit c.now ack self.old self.new seat.old seat.new)) }
+        // A backup that stood at the image before stands after the next one, by what it read.
+        ensures stands { IfOk result (λ ack. IfSome read.entry (λ c. is_earlier self.old c.now ≡ false
+            → StandsBy P.start c.now ack seat.old seat.new)) }
         ensures free { OnOk result (commit_why P.start self.old seat.old.number (option_map (λ c. c.now) read.entry) ≡ None) }
         ensures why { IfErr result (IsWhy (commit_why P.start self.old seat.old.number (option_map (λ c. c.now) read.entry))) }
         ensures refused { OnErr result (IsAsBefore self.old self.new seat.old seat.new) }
@@ -119,6 +133,7 @@ impl<P: Pair> Book<P> {
             return Ok(self.last_ack());
         }
         self.record.keep();
+        sealed_texts_make_their_guests::<Book<P>>();
         let reply = self.record.commit()?;
         let Reply::Committed { generation, number } = reply else {
             unreachable!();

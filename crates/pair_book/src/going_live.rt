@@ -5,9 +5,9 @@ ghost use Rattle.growing_history.specs.LogState.{state_at};
 ghost use Rattle.pair_record.specs.declared.event.Reply.TheVariants as replies;
 ghost use Rattle.pair_record.specs.Kept.{Brings, brought_done, ports_after_brought};
 ghost use Rattle.pair_book.specs.Calls.{IsWhy, IsAsBefore};
-ghost use Rattle.pair_book.specs.GoingLive.{GoesLive, go_live_why};
+ghost use Rattle.pair_book.specs.GoingLive.{GoesLive, BeginsWithImage, go_live_why};
 ghost use Rattle.pair_book.specs.Packets.{no_texts};
-ghost use Rattle.pair_book.specs.Standing.{Stands};
+ghost use Rattle.pair_book.specs.Standing.{KeepsFrames};
 
 use crate::book::Book;
 use growing_history::{BackupSeat, Clock, Pair, RunnerSeat};
@@ -58,7 +58,7 @@ impl<P: Pair> Book<P> {
         kept: &[Vec<Frame>],
     ) -> Result<RunnerSeat<P>, Refusal>
         requires frames { All (λ v. All IsFrame v.items) kept.now }
-        requires stands { (sent : ℕ) × Stands P.start seat.old sent first (map (λ v. v.items) kept.now) }
+        requires stands { (sent : ℕ) × KeepsFrames P.start seat.old sent first (map (λ v. v.items) kept.now) }
         ensures number { seat.new.number ≡ seat.old.number }
         ensures done { OnOk result ((replies.Live (self.old.protocol.generation + 1) steps, self.new.protocol)
             ≡ brought_done self.old.protocol self.old.ports first (map (λ v. v.items) kept.now) steps) }
@@ -70,6 +70,7 @@ impl<P: Pair> Book<P> {
             → Brings self.old.protocol self.old.ports first (map (λ v. v.items) kept.now)) }
         ensures step { OnOk result (GoesLive self.old self.new seat.old seat.new) }
         ensures runner { IfOk result (λ runner. runner ≡ record { number = self.new.enrolled; steps = self.new.steps }) }
+        ensures runs { IfOk result (λ runner. BeginsWithImage P.start seat.old runner first (map (λ v. v.items) kept.now)) }
         ensures free { OnOk result (go_live_why P.start self.old seat.old.number first (map (λ v. v.items) kept.now) ≡ None) }
         ensures why { IfErr result (IsWhy (go_live_why P.start self.old seat.old.number first (map (λ v. v.items) kept.now))) }
         ensures refused { OnErr result (IsAsBefore self.old self.new seat.old seat.new) }

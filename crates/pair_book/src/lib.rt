@@ -13,6 +13,7 @@ mod failures;
 mod gained;
 mod going_live;
 mod handing;
+mod laws;
 mod losses;
 mod opening;
 mod packet;
@@ -26,6 +27,7 @@ mod texts;
 
 pub use book::Book;
 pub use failures::Ack;
+pub use laws::{members_begin, members_go_on, runners_bring_what_they_have};
 pub use losses::Loss;
 pub use opening::{Members, NewBook, UnnamedBook};
 pub use packet::Packet;

@@ -1,4 +1,5 @@
--- What the backup has committed, beside the record: the frames that the gate may still owe are the last of them.
+-- What the backup has committed and is to commit, beside the record: the frames that the gate may still owe are the last that it has, and
+-- the texts that were sealed for it make what they should.
 use Rattle.std.specs.Prelude.{◌≡◌, ◌+◌, ◌≤◌, false, List, [], ◌++◌, length}
 use Rattle.frame_ports.specs.Ports.{PortsState}
 use Rattle.output_gate.specs.Landings.{AreOld}
@@ -11,6 +12,7 @@ use Rattle.pair_record.specs.Protocol.{Record}
 use Rattle.pair_record.specs.Window.{committed_of}
 use Rattle.growing_history.specs.Steps.{Step}
 use Rattle.growing_history.specs.LogState.{state_at}
+use Rattle.pair_book.specs.Made.{AreMade}
 use Rattle.pair_book.specs.Standing.{commits_of}
 
 -- These lists end with what the gate holds of committed checkpoints, epoch by epoch; the frames of the older ones, which are numbered from
@@ -26,3 +28,4 @@ pub record AreOwed (r : Record) (p : PortsState) (lists : List (List Frame)) : T
 pub record KeepsCommitted (start : HistoryState) (steps : List Step) (r : Record) (p : PortsState) : Type 0 where
   pub none : r.window.to_commit ≡ 0 → commits_of start steps ≡ []
   pub owed : (state_at start steps).marked ≡ 0 → is_alone r.mode ≡ false → 1 ≤ r.window.to_cut → AreOwed r p (commits_of start steps)
+  pub made : AreMade start steps

@@ -1,11 +1,15 @@
-use Rattle.std.proofs.Common.{rules, ◌≡◌, [], ◌∷◌, ◌++◌, ap, refl, false}
-use Rattle.pair_record.specs.Protocol.{Outcome, Record}
+use Rattle.std.proofs.Common.{rules, ◌≡◌, [], ◌∷◌, ◌++◌, ap, ◌∙◌, subst, refl, false}
+use Rattle.pair_record.specs.declared.event.Reply.TheVariants as replies
+use Rattle.pair_record.specs.Protocol.{Outcome, Record, commit_done}
 use Rattle.checkpoint_stream.specs.Text.{text}
-use Rattle.growing_history.specs.Steps.{step}
-use Rattle.pair_book.specs.Commits.{commit_of, is_earlier}
+use Rattle.growing_history.specs.Steps.{step, steps_by}
+use Rattle.growing_history.specs.Views.{Member, Keeper}
+use Rattle.pair_book.specs.declared.failures.Ack.{Ack}
+use Rattle.pair_book.specs.Commits.{commit_of, is_earlier, StandsBy}
 use Rattle.pair_book.specs.internal.Tie.{book_state}
 use Rattle.pair_book.proofs.{CommitRows.commit_may, CommitTies.committed-tied}
 use Rattle.pair_book.proofs.CommittedTies.{committed-keeps}
+use Rattle.pair_book.proofs.StandingCommits.{answered, stands-by}
 use Rattle.pair_book.proofs.TextLaws.{texts-once-committed}
 use Rattle.pair_book.proofs.book.Book.commit.Goals as goal
 
@@ -48,3 +52,33 @@ invariant_of-self-2 g c =
     c.self.invariant.2 c.keep.ensures.record c.args.seat.now.number change.generation change.number (text change) refl
     (ap (λ (y : Record). y.generation) done) (ap (λ (y : Record). y.window) done) in
     search (rules, tied, keeps, texts)
+
+pub returns-clause-stands : goal.returns-clause-stands
+returns-clause-stands g c =
+    let start = g.P.Pair.start in
+    let r = c.self.inside.record in
+    let now = c.commit.new.self in
+    let seat = c.args.seat.now in
+    let change = c.in-Some-read.checkpoint.now in
+    let book = book_state c.self.inside.seats r c.self.inside.texts in
+    let later : is_earlier book change ≡ false = search rules in
+    let may = commit_may start book seat.number change (search rules) later in
+    let turn = c.sealed_texts_make_their_guests.ensures.in_turn start c.self.inside.seats.steps c.self.invariant.0.legal
+    c.self.invariant.1.made in
+    let steps = c.self.inside.seats.steps in
+    let grown : c.step.new.self.steps ≡ steps ++ step seat.number (commit_of change) ∷ [] =
+    ap (λ (x : Keeper). x.steps) c.step.ensures.keeper in
+    let sees : c.step.new.member ≡ record { number = seat.number; steps = steps ++ step seat.number (commit_of change) ∷ [] } =
+    c.step.ensures.member ∙ (λ i. record { number = seat.number; steps = grown i }) in
+    let own : steps_by seat.number (steps ++ step seat.number (commit_of change) ∷ [])
+    ≡ steps_by seat.number seat.steps ++ step seat.number (commit_of change) ∷ [] =
+    subst
+    (λ (m : Member). steps_by seat.number m.steps ≡ steps_by seat.number seat.steps ++ step seat.number (commit_of change) ∷ [])
+    sees c.step.ensures.own in
+    let ack : Ack = record { generation = c.in-Committed.generation; number = c.in-Committed.number } in
+    let told : (replies.Committed ack.generation ack.number, now.protocol) ≡ commit_done r.protocol = search rules in
+    let stands : is_earlier c.args.self.now change ≡ false → StandsBy start change ack seat c.step.new.member =
+    λ next.
+    stands-by start steps r.protocol r.ports c.self.invariant.0 c.self.invariant.1 c.keep.ensures.record seat c.step.new.member change
+    may.mine may.pair may.number may.some turn c.step.ensures.before own sees ack (answered ack r.protocol now.protocol told) in
+    rw c.in-Some-read.is stands

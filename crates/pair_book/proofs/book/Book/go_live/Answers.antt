@@ -7,7 +7,8 @@ use Rattle.growing_history.specs.LogState.{Legal, state_at}
 use Rattle.growing_history.specs.Views.{Keeper}
 use Rattle.pair_book.specs.{Books.BookState, Packets.TextsState}
 use Rattle.pair_book.specs.internal.{Committed.KeepsCommitted, Tie.{IsTied, book_state}}
-use Rattle.pair_book.proofs.LiveTies.{live_may, brings, live-tied, went-live-keeps}
+use Rattle.pair_book.proofs.LiveTies.{has_stopped, live_may, brings, live-tied, went-live-keeps}
+use Rattle.pair_book.proofs.{RunLaws.runs-live, StandingLaws.stands-on}
 use Rattle.pair_book.proofs.TextLaws.{no-texts}
 use Rattle.pair_book.proofs.book.Book.go_live.Goals as goal
 
@@ -73,3 +74,21 @@ returns-clause-owed g c =
     (brings start steps r.protocol now.protocol r.ports now.ports c.self.invariant.0 c.self.invariant.1
     c.keep.ensures.record c.keep.ensures.numbers may.free seat may.mine c.meet.ensures.before c.meet.ensures.own c.requires.stands.0
     c.args.first kept c.requires.stands.1)
+
+pub returns-clause-runs : goal.returns-clause-runs
+returns-clause-runs g c =
+    let start = g.P.Pair.start in
+    let seats = c.self.inside.seats in
+    let steps = seats.steps in
+    let r = c.self.inside.record in
+    let seat = c.args.seat.now in
+    let kept : List (List Frame) = map (λ v. v.items) c.args.kept.now in
+    let may = live_may start (book_state seats r c.self.inside.texts) seat.number c.args.first kept (search rules) in
+    let mode = sym c.self.invariant.0.mode ∙ has_stopped r.protocol.mode may.free in
+    let is : c.go_live-runner.result
+    ≡ record { number = seats.enrolled + 1; steps = steps ++ step 0 (WentLive (seats.enrolled + 1)) ∷ [] } =
+    search (rules, c.go_live-runner.ensures, c.meet.ensures.keeper) in
+    λ image last sent stands.
+    runs-live start steps seat.number may.mine mode image last sent c.args.first kept
+    (stands-on start seat steps image last sent c.args.first kept c.meet.ensures.before c.self.invariant.0.legal c.meet.ensures.own stands)
+    (seats.enrolled + 1) c.go_live-runner.result is

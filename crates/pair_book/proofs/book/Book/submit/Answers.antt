@@ -2,14 +2,14 @@ use Rattle.std.proofs.Common.{rules, ◌≡◌, ℕ, List, [], ◌∷◌, ◌++�
 use Rattle.std.specs.Prelude.{min}
 use Rattle.pair_history.specs.Entries.{Entry}
 use Rattle.pair_history.specs.Failures.{arrived_numbers}
-use Rattle.growing_history.specs.Steps.{Step, step}
+use Rattle.growing_history.specs.Steps.{What, Step, step}
 use Rattle.growing_history.specs.Views.{Member, Keeper}
 use Rattle.pair_book.specs.declared.prepared.Prepared.{Prepared}
 use Rattle.pair_book.specs.declared.runner.Kind.{Kind}
 use Rattle.pair_book.specs.{Books.BookState, Handing.{handing, handed_next, HandsNext}, Packets.TextsState}
 use Rattle.pair_book.specs.internal.{Committed.KeepsCommitted, Texts.HasTexts, Tie.{IsTied, book_state}, Told.found}
 use Rattle.pair_book.specs.Submitting.{submit_why, wanted_kind, ended, ended_as, told, texts_ended}
-use Rattle.pair_book.proofs.SubmitLaws.{only-arrivals, submitted}
+use Rattle.pair_book.proofs.{RunEnds.runs-submitted, SubmitLaws.{only-arrivals, is-free, submitted}}
 use Rattle.pair_book.proofs.book.Book.submit.Goals as goal
 
 pub end_and_hand_out-requires-clause-only : goal.end_and_hand_out-requires-clause-only
@@ -40,7 +40,7 @@ tell_ended-requires-clause-tied g c =
     c.min.ensures ∙ ap (min c.args.epoch.arrivals) c.handed.ensures in
     let all =
     submitted start b c.self.invariant.0 c.self.invariant.1 c.self.invariant.2 c.keep.ensures.record c.keep.ensures.numbers
-    seat what c.args.epoch.arrivals ran c.min.result fs c.requires.settled why before
+    seat what c.args.epoch.arrivals ran c.min.result fs c.requires.settled c.requires.prepared why before
     (law.handed start seat.steps seats.steps seat.number before legal own)
     (law.epoch start seat.steps seats.steps seat.number before legal own)
     came pair.protocol pair.ports c.in_ok-next.next.items is in
@@ -77,7 +77,7 @@ tell_ended-requires-clause-committed g c =
     c.min.ensures ∙ ap (min c.args.epoch.arrivals) c.handed.ensures in
     let all =
     submitted start b c.self.invariant.0 c.self.invariant.1 c.self.invariant.2 c.keep.ensures.record c.keep.ensures.numbers
-    seat what c.args.epoch.arrivals ran c.min.result fs c.requires.settled why before
+    seat what c.args.epoch.arrivals ran c.min.result fs c.requires.settled c.requires.prepared why before
     (law.handed start seat.steps seats.steps seat.number before legal own)
     (law.epoch start seat.steps seats.steps seat.number before legal own)
     came pair.protocol pair.ports c.in_ok-next.next.items is in
@@ -114,7 +114,7 @@ returns-clause-done g c =
     c.min.ensures ∙ ap (min c.args.epoch.arrivals) c.handed.ensures in
     let all =
     submitted start b c.self.invariant.0 c.self.invariant.1 c.self.invariant.2 c.keep.ensures.record c.keep.ensures.numbers
-    seat what c.args.epoch.arrivals ran c.min.result fs c.requires.settled why before
+    seat what c.args.epoch.arrivals ran c.min.result fs c.requires.settled c.requires.prepared why before
     (law.handed start seat.steps seats.steps seat.number before legal own)
     (law.epoch start seat.steps seats.steps seat.number before legal own)
     came pair.protocol pair.ports c.in_ok-next.next.items is in
@@ -150,7 +150,7 @@ returns-clause-step g c =
     c.min.ensures ∙ ap (min c.args.epoch.arrivals) c.handed.ensures in
     let all =
     submitted start b c.self.invariant.0 c.self.invariant.1 c.self.invariant.2 c.keep.ensures.record c.keep.ensures.numbers
-    seat what c.args.epoch.arrivals ran c.min.result fs c.requires.settled why before
+    seat what c.args.epoch.arrivals ran c.min.result fs c.requires.settled c.requires.prepared why before
     (law.handed start seat.steps seats.steps seat.number before legal own)
     (law.epoch start seat.steps seats.steps seat.number before legal own)
     came pair.protocol pair.ports c.in_ok-next.next.items is in
@@ -188,7 +188,7 @@ add_text-requires g c =
     c.min.ensures ∙ ap (min c.args.epoch.arrivals) c.handed.ensures in
     let all =
     submitted start b c.self.invariant.0 c.self.invariant.1 c.self.invariant.2 c.keep.ensures.record c.keep.ensures.numbers
-    seat what c.args.epoch.arrivals ran c.min.result fs c.requires.settled why before
+    seat what c.args.epoch.arrivals ran c.min.result fs c.requires.settled c.requires.prepared why before
     (law.handed start seat.steps seats.steps seat.number before legal own)
     (law.epoch start seat.steps seats.steps seat.number before legal own)
     came pair.protocol pair.ports c.in_ok-next.next.items is in
@@ -222,7 +222,7 @@ invariant_of-self-2 g c =
     c.min.ensures ∙ ap (min c.args.epoch.arrivals) c.handed.ensures in
     let all =
     submitted start b c.self.invariant.0 c.self.invariant.1 c.self.invariant.2 c.keep.ensures.record c.keep.ensures.numbers
-    seat what c.args.epoch.arrivals ran c.min.result fs c.requires.settled why before
+    seat what c.args.epoch.arrivals ran c.min.result fs c.requires.settled c.requires.prepared why before
     (law.handed start seat.steps seats.steps seat.number before legal own)
     (law.epoch start seat.steps seats.steps seat.number before legal own)
     came pair.protocol pair.ports c.in_ok-next.next.items is in
@@ -240,3 +240,51 @@ invariant_of-self-2 g c =
       c.tell_ended.ensures.committed,
       subst (λ (x : List Step × TextsState). HasTexts start x.0 pair.protocol x.1.packets) (λ i. (sym grown i, sym texts i)) all.texts,
     )
+
+pub returns-clause-runs : goal.returns-clause-runs
+returns-clause-runs g c =
+    let start = g.P.Pair.start in
+    let seats = c.self.inside.seats in
+    let b : BookState = book_state seats c.self.inside.record c.self.inside.texts in
+    let seat = c.args.seat.now in
+    let pair = c.end_and_hand_out.new.pair in
+    let what = c.args.what.now in
+    let ran = c.args.epoch.steps in
+    let fs = c.args.frames.now in
+    let law = c.live_members_miss_nothing.ensures in
+    let before = c.meet.ensures.before in
+    let own = c.meet.ensures.own in
+    let legal = c.self.invariant.0.legal in
+    let why : submit_why start b seat.number what ran fs ≡ None =
+    subst (λ (x : BookState). submit_why start x seat.number what ran fs ≡ None) (sym c.self.view_is)
+    (sym c.submit_refusal.ensures ∙ c.in_default.is) in
+    let kind : c.kind_wanted-kind.result ≡ wanted_kind b = c.kind_wanted-kind.ensures ∙ ap wanted_kind (sym c.self.view_is) in
+    let is : handing pair.protocol pair.ports c.in_ok-next.next.items ≡ handed_next (ended b c.min.result ran fs) =
+    c.in_ok-next.ensures.done ∙ ap (λ (x : Kind). handed_next (ended_as x c.min.result ran fs b.protocol b.ports)) kind in
+    let came : c.min.result ≡ min c.args.epoch.arrivals (length (arrived_numbers b.protocol.journal.running)) =
+    c.min.ensures ∙ ap (min c.args.epoch.arrivals) c.handed.ensures in
+    let all =
+    submitted start b c.self.invariant.0 c.self.invariant.1 c.self.invariant.2 c.keep.ensures.record c.keep.ensures.numbers
+    seat what c.args.epoch.arrivals ran c.min.result fs c.requires.settled c.requires.prepared why before
+    (law.handed start seat.steps seats.steps seat.number before legal own)
+    (law.epoch start seat.steps seats.steps seat.number before legal own)
+    came pair.protocol pair.ports c.in_ok-next.next.items is in
+    let len : c.len-before.result ≡ length b.protocol.journal.history =
+    c.len-before.ensures ∙ ap (λ (es : List Entry). length es) c.history.ensures in
+    let number : c.meet.new.member.number ≡ seat.number = ap (λ (m : Member). m.number) c.meet.ensures.member in
+    let steps : c.meet.new.self.steps ≡ seats.steps = ap (λ (x : Keeper). x.steps) c.meet.ensures.keeper in
+    let tell : found what pair.protocol.journal c.len-before.result c.min.result ran ≡ told b c.args.epoch.arrivals ran what =
+    ap (λ (n : ℕ). found what pair.protocol.journal n c.min.result ran) len ∙ all.told-is in
+    let grown : c.tell_ended.new.seats.steps ≡ seats.steps ++ step seat.number (told b c.args.epoch.arrivals ran what) ∷ [] =
+    ap (λ (x : Keeper). x.steps) c.tell_ended.ensures.seats ∙ (λ i. steps i ++ step (number i) (tell i) ∷ []) in
+    let sees : c.tell_ended.new.member
+    ≡ record { number = seat.number; steps = seats.steps ++ step seat.number (told b c.args.epoch.arrivals ran what) ∷ [] } =
+    c.tell_ended.ensures.member ∙ (λ i. record { number = number i; steps = grown i }) in
+    runs-submitted start b c.self.invariant.0 seat c.tell_ended.new.member what (is-free start b seat.number what ran fs why)
+    c.args.epoch.arrivals ran fs before
+    (law.handed start seat.steps seats.steps seat.number before legal own)
+    (law.frames start seat.steps seats.steps seat.number before legal own)
+    (law.epoch start seat.steps seats.steps seat.number before legal own)
+    pair.protocol pair.ports c.in_ok-next.next.items
+    (subst (λ (w : What). IsTied start (b.steps ++ step seat.number w ∷ []) pair.protocol pair.ports) all.told-is all.tied)
+    all.hands sees
