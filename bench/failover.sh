@@ -24,7 +24,7 @@ from pathlib import Path
 
 PROGRAM, TIMES = sys.argv[1], int(sys.argv[2])
 PAGE, SECTOR = 4096, 512
-FRAMES, LONGEST, BOX = 1024, 1514, 64
+FRAMES, LONGEST, BOX = 1024, 1514, 256
 CACHES = 64 << 20
 
 
@@ -70,17 +70,17 @@ def going_live(pages, sectors):
 
 def landing_kept(used):
     """The guest of guests/flood.c, but for 16 clients, which is one constant of its words: its loop ends at CLIENTS + 1. It sends until its
-    outbox is full, 256 frames an epoch, 16 of them to each client. Four epochs are kept. Where boxes have been used, as many frames had
-    landed in each and were taken; else their memory is still to come from the system."""
+    outbox is full, 256 frames an epoch, 16 of them to each client. Four epochs are kept. Where boxes have been used, each was full once,
+    and all was taken; else their memory is still to come from the system."""
     few, many = "00400813", "01100813"
     words = Path("guests/words/flood.words").read_text().strip()
     if words.count(few) != 1:
         sys.exit("guests/words/flood.words isn't the guest that this script knows")
-    lines = [f"boot 2 1 16 words {words.replace(few, many)}"]
-    for epoch in range(4 if used else 0):
+    lines, before = [f"boot 2 1 16 words {words.replace(few, many)}"], BOX // 16 if used else 0
+    for epoch in range(before):
         lines += ["step 30000", "cut", "send", f"backup {epoch}", f"ack {epoch}"]
     lines += [f"take {client}" for client in range(1, 17) for _ in range(BOX)]
-    lines += ["step 30000", "cut"] * 4 + ["send"] + [f"backup {packet + (4 if used else 0)}" for packet in range(4)]
+    lines += ["step 30000", "cut"] * 4 + ["send"] + [f"backup {before + packet}" for packet in range(4)]
     return failing(lines, b"\nlive 2 steps ")
 
 

@@ -10,6 +10,7 @@ from oracle.sender import Sender
 
 
 STRIDE = 1009  # a prime that divides no count of broken scripts
+PLACES = [0, 0, 0, 1, 2, 5, 63, 64, 255, 256, NUMBERS_END - 1]  # of frames that are to be lost
 
 
 class Writer:
@@ -107,7 +108,7 @@ class Writer:
         if word in (b"admit", b"take"):
             return word + b" " + self.text(self.client())
         if word in (b"losein", b"loseout"):
-            return word + b" " + self.text(self.client()) + b" " + self.text(self.rng.choice([0, 0, 0, 1, 2, 5, 63, 64, NUMBERS_END - 1]))
+            return word + b" " + self.text(self.client()) + b" " + self.text(self.rng.choice(PLACES))
         if word == b"sector":
             return b"sector " + self.text(self.rng.choice([0, pair.sectors - 1, self.rng.randrange(pair.sectors)]))
         if word == b"#":
@@ -222,6 +223,25 @@ def losses(w, _):
     w.add(b"show", *[b"admit 1"] * rng.choice([1, 3, count]), b"show", b"cut", b"send", b"losein 1 0", b"backup 1", b"show")
 
 
+def full_boxes(w, _):
+    """Client 1's box filled by 255, 256 or 257 frames, in a pair or where a node is alone, so that it drops none or one; then losses at
+    places 64, 255 and 256 of it, what lands after that, and what the client gets."""
+    rng, sender = w.rng, Sender(w.rng.choices([0, 1], k=8), 1, 0)
+    count, first = rng.choice([255, 256, 257]), rng.choice([64, 100, 192])
+    w.add(b"boot 2 1 %d words " % rng.choice([1, 2, 16]) + sender.words())
+    if rng.random() < 0.3:
+        w.add(b"fail backup", b"step %d" % sender.steps_of(count))
+    else:
+        w.add(b"step %d" % sender.steps_of(first), b"cut", b"step %d" % (sender.steps_of(count) - sender.steps_of(first)), b"cut", b"send",
+              b"backup 0", b"backup 1", b"ack 0",
+              *rng.choice([[b"ack 1"], [b"ack 1"], [b"fail backup"], [b"fail primary", b"golive"]]))
+    w.add(b"show")
+    for _ in range(rng.randint(1, 4)):
+        w.add(b"loseout 1 %d" % rng.choice([0, 64, 64, 254, 255, 255, 256, 256]), b"step %d" % rng.choice([5, 6, 12]))
+        w.some(rng.randint(0, 3), step=0, take=4)
+    w.add(b"cut", b"send", w.line(b"backup"), w.line(b"ack"), b"show", *[b"take 1"] * rng.choice([1, 64, 258]), b"show")
+
+
 def events(w, _):
     """60 events of all kinds; what there is after many of them is shown."""
     rng, w.fails = w.rng, True
@@ -245,7 +265,7 @@ def generations(w, _):
         w.add(b"protect", *rng.choices([b"show", b"protect", b"golive", b"fail primary", b"sector 0"], k=rng.choice([0, 0, 1, 3])))
         filling(w)
     w.some(rng.randint(0, 10), **dict.fromkeys(CHANGES, 0.3))
-    w.add(b"show", *[b"take 1"] * rng.choice([0, 3, 70]), b"cut", b"send", b"show")
+    w.add(b"show", *[b"take 1"] * rng.choice([0, 3, 260]), b"cut", b"send", b"show")
 
 
 def calm(w, count, **weights):
@@ -305,7 +325,7 @@ def failures(w, _):
         w.add(name, b"show")
         w.some(rng.randint(0, 6), backup=4, **none)
     w.some(rng.randint(0, 20), take=3)
-    w.add(b"show", *[b"take 1"] * rng.choice([0, 3, 70]), *[name.encode() for name in CHANGES], b"show")
+    w.add(b"show", *[b"take 1"] * rng.choice([0, 3, 260]), *[name.encode() for name in CHANGES], b"show")
 
 
 def disks(w, _):
@@ -406,7 +426,8 @@ def bare(w, turn):
 
 # Enough of `bad` and `boots` that 1000 scripts try all their lines.
 KINDS = [wild, bad, packets, boots, orderly, bad, beacons, mutants, wild, boots, crowded, bad, packets, behind, edges, disks,
-         bad, beacons, losses, bad, boots, events, failures, bad, generations, broken, events, boots, failures, bad, generations, bare]
+         bad, beacons, losses, bad, boots, events, failures, bad, generations, broken, events, boots, failures, bad, generations,
+         full_boxes, bare]
 
 
 def named(name):

@@ -4,7 +4,7 @@ from the tables of docs/PROTOCOL.md, and sharing nothing with the program.
 An entry is a tuple: its name, and what it names. Steps stand as `("Ran", count)`, which is so many of them."""
 import copy
 
-MOST_WAITING, BOX_FRAMES = 64, 64
+MOST_WAITING, BOX_FRAMES = 64, 256
 EVERYONE, CLIENTS_FRONT = b"\xff" * 6, bytes.fromhex("0200000001")
 
 

@@ -71,10 +71,13 @@ class Sender:
         memory[REST:REST + 2] = TYPE
         return b" ".join(b"%08x" % word for word in struct.unpack(f"<{len(memory) // 4}I", memory))
 
+    def steps_of(self, rounds):
+        """How many steps so many rounds take, up to the one of the last of them that sends."""
+        return len(SET_UP) + NOTIFIES + (rounds - 1) * (ROUND + self.idle)
+
     def sending_step(self, steps):
         """The first step after so many that sends, and its round."""
-        period = ROUND + self.idle
-        first = len(SET_UP) + NOTIFIES
+        period, first = ROUND + self.idle, self.steps_of(1)
         rounds = max(0, -((first - 1 - steps) // period)) if steps >= first else 0
         return first + rounds * period, rounds + 1
 

@@ -18,9 +18,9 @@ max_clients = 16
 abbrev pub inbox_frames : ℕ
 inbox_frames = 64
 
--- the pair's rules: at most 64 frames lie in a client's box, and a landing beyond them is dropped
+-- the pair's rules: at most 256 frames lie in a client's box, and a landing beyond them is dropped
 abbrev pub box_frames : ℕ
-box_frames = 64
+box_frames = 256
 
 -- the pair's rules: frames, checkpoints, generations and the entries of a history have numbers below 2^62
 abbrev pub number_limit : ℕ

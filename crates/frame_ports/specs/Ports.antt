@@ -56,7 +56,7 @@ with_inbox s c xs = record s { inboxes = with_list s.inboxes c xs }
 abbrev pub with_box : PortsState → ℕ → List (ArrayVec ℕ) → PortsState
 with_box s c xs = record s { boxes = with_list s.boxes c xs }
 
--- an inbox, and a box: at most 64 frames
+-- an inbox: at most 64 frames; and a box: at most 256
 abbrev pub IsInbox : List (ℕ × ArrayVec ℕ) → Type 0
 IsInbox xs = (length xs ≤ inbox_frames) × All (λ x. IsFrame x.1) xs
 

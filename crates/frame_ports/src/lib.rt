@@ -5,7 +5,7 @@
 //! goes to the client that its first six bytes name, or to all clients; where it lands is the client's box. The
 //! guest numbers its frames in the order sent, and for each client the last one that came is kept here: a frame
 //! up to that number doesn't land again.
-//! Each inbox and each box holds at most 64 frames. All memory is reserved by [`Ports::new`].
+//! An inbox holds at most 64 frames, and a box at most 256. All memory is reserved by [`Ports::new`].
 #![tactic(auto)]
 
 mod errors;

@@ -21,7 +21,7 @@ pub const MAX_CLIENTS: u64 = 16;
 pub const INBOX_FRAMES: usize = 64;
 
 /// How many frames one client's box holds.
-pub const BOX_FRAMES: usize = 64;
+pub const BOX_FRAMES: usize = 256;
 
 /// Frame numbers are below this, 2^62.
 pub const NUMBER_LIMIT: u64 = 1 << 62;

@@ -213,7 +213,7 @@ impl Ports {
         self.inboxes[(client - 1) as usize].len()
     }
 
-    /// How many frames lie in the client's box, at most 64.
+    /// How many frames lie in the client's box, at most 256.
     pub fn box_len(&self, client: u64) -> usize
         requires { IsClient self.now client }
         ensures len { result ≡ length (box_of self.now client) }
@@ -230,7 +230,7 @@ impl Ports {
         self.numbers[(client - 1) as usize] < number
     }
 
-    /// Lands the guest's frame of that number for a client: it goes last in the client's box. A box of 64 frames
+    /// Lands the guest's frame of that number for a client: it goes last in the client's box. A box of 256 frames
     /// drops it, and its number is the client's all the same. A frame whose number isn't above the client's came
     /// before, and changes nothing.
     pub fn land(&mut self, client: u64, number: u64, frame: &Frame) -> Landing

@@ -122,14 +122,14 @@ fn a_frame_lands_once_until_the_ports_are_marked(rt: HostRuntime) -> Result<(), 
 fn the_number_of_a_dropped_frame_counts(rt: HostRuntime) -> Result<(), Fail> {
     let mut ports = Ports::new(rt.alloc(), 1)?;
     let frame = frame(&frame_to(1)).ok_or("too long")?;
-    for number in 1..65u64 {
+    for number in 1..257u64 {
         assert_eq!(rt; landing(&mut ports, 1, number, &frame), Some(Landing::In));
     }
-    assert_eq!(rt; landing(&mut ports, 1, 65, &frame), Some(Landing::Dropped));
-    // There is room for it now, and still it doesn't land.
+    assert_eq!(rt; landing(&mut ports, 1, 257, &frame), Some(Landing::Dropped));
+    // There is room for it now, and still it doesn't land: the client's number is 257.
     assert!(rt; ports.take(1)?.is_some());
-    assert_eq!(rt; landing(&mut ports, 1, 65, &frame), Some(Landing::Old));
-    assert_eq!(rt; landing(&mut ports, 1, 66, &frame), Some(Landing::In));
+    assert_eq!(rt; landing(&mut ports, 1, 257, &frame), Some(Landing::Old));
+    assert_eq!(rt; landing(&mut ports, 1, 258, &frame), Some(Landing::In));
     Ok(())
 }
 

@@ -64,6 +64,6 @@ going_live_lands_it f = refl
 
 -- and a full box drops it
 pub a_full_box_drops_it : (f : Frame)
-    → added (run_from (start_of (record two_clients { out = (2, f) ∷ []; boxes = [] ∷ replicate 64 f ∷ [] })) (PrimaryFailed ∷ []))
-    (WentLive 6) ≡ DropOut 2 64 ∷ []
+    → added (run_from (start_of (record two_clients { out = (2, f) ∷ []; boxes = [] ∷ replicate 256 f ∷ [] })) (PrimaryFailed ∷ []))
+    (WentLive 6) ≡ DropOut 2 256 ∷ []
 a_full_box_drops_it f = refl

@@ -127,7 +127,7 @@ fn a_frame_lands_only_where_it_has_not_come_before(rt: HostRuntime) -> Result<()
 fn a_full_box_drops_and_a_frame_for_no_client_doesnt_count(rt: HostRuntime) -> Result<(), Fail> {
     let mut ports = Ports::new(rt.alloc(), 1)?;
     let mut gate = Gate::new(rt.alloc())?;
-    for sent in 0..64 {
+    for sent in 0..256 {
         gate.begin(2 * sent);
         gate.hold(1, &[frame_to(1, 1), frame_to(9, 1)]);
         assert_eq!(rt;
@@ -138,7 +138,7 @@ fn a_full_box_drops_and_a_frame_for_no_client_doesnt_count(rt: HostRuntime) -> R
             }
         );
     }
-    gate.begin(128);
+    gate.begin(512);
     gate.hold(1, &[frame_to(1, 1), frame_to(1, 2)]);
     assert_eq!(rt;
         gate.ack(1, &mut ports),

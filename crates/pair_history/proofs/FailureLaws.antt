@@ -75,7 +75,7 @@ AreGuests-moves (Arrives n f ∷ ms) = (tt, AreGuests-moves ms)
 -- two clients, the first of whom has a full box, and a frame on its way to the first between two to the second
 pub two_clients : (s : HistoryState) (b : List Frame) (f g h : Frame) → length b ≡ box_frames → s.boxes ≡ b ∷ [] ∷ []
     → s.out ≡ (2, f) ∷ (1, g) ∷ (2, h) ∷ []
-    → go_live_entries s (Ran ∷ Arrive 5 ∷ Ran ∷ Arrive 3 ∷ []) ≡ DropIn 3 ∷ DropIn 5 ∷ Land 2 ∷ DropOut 1 64 ∷ Land 2 ∷ []
+    → go_live_entries s (Ran ∷ Arrive 5 ∷ Ran ∷ Arrive 3 ∷ []) ≡ DropIn 3 ∷ DropIn 5 ∷ Land 2 ∷ DropOut 1 256 ∷ Land 2 ∷ []
 two_clients s b f g h full boxes out = rw (boxes, out, full) refl
 
 -- which frames are dropped before they arrive

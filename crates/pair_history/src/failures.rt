@@ -52,9 +52,9 @@ pub fn going_live_lands_what_is_owed()
     ensures any_sort { (s : HistoryState) (kept : List Entry) (ns : List ℕ) → IsPermutation (arrived_numbers kept) ns → IsNonDecreasing ns
         → go_live_entries s kept ≡ map DropIn ns ++ all_land s }
     // Two clients, the first of whom has a full box, and a frame on its way to the first between two to the second.
-    ensures example { (s : HistoryState) (b : List Frame) (f g h : Frame) → length b ≡ 64 → s.boxes ≡ b ∷ [] ∷ []
+    ensures example { (s : HistoryState) (b : List Frame) (f g h : Frame) → length b ≡ 256 → s.boxes ≡ b ∷ [] ∷ []
         → s.out ≡ (2, f) ∷ (1, g) ∷ (2, h) ∷ []
-        → go_live_entries s (Ran ∷ Arrive 5 ∷ Ran ∷ Arrive 3 ∷ []) ≡ DropIn 3 ∷ DropIn 5 ∷ Land 2 ∷ DropOut 1 64 ∷ Land 2 ∷ [] }
+        → go_live_entries s (Ran ∷ Arrive 5 ∷ Ran ∷ Arrive 3 ∷ []) ≡ DropIn 3 ∷ DropIn 5 ∷ Land 2 ∷ DropOut 1 256 ∷ Land 2 ∷ [] }
 {}
 
 /// Where the backup fails, all that was kept stays in the history, and then all that is on its way lands, in the order sent: it goes

@@ -12,7 +12,7 @@ fn a_history_counts_each_step(rt: HostRuntime) -> Result<(), Fail> {
     history.add(Entry::Ran(0));
     history.add(Entry::DropOut {
         client: 1,
-        place: 64,
+        place: 256,
     });
     assert_eq!(rt; (history.len(), history.entries().count()), (23, 4));
     assert!(rt; !history.is_empty());

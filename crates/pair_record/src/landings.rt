@@ -2,9 +2,10 @@
 //! gate lands so; what a backup kept does where it hadn't come yet.
 ghost use Rattle.std.specs.Prelude.{◌≡◌, ℕ, ◌+◌, ◌-◌, ◌*◌, ◌^◌, ◌≤◌, ◌<◌, ◌++◌, [], ◌∷◌, All, length, map, take, IsTrue, ◌↔◌};
 ghost use Rattle.frame_ports.specs.Addresses.{IsFrame, clients_of, targets_of};
-ghost use Rattle.frame_ports.specs.Limits.{number_limit};
+ghost use Rattle.frame_ports.specs.Limits.{box_frames, number_limit};
 ghost use Rattle.frame_ports.specs.Ports.{IsClient};
 ghost use Rattle.output_gate.specs.Landings.{clients_for, landed_for, ports_after};
+ghost use Rattle.pair_history.specs.Entries.{DropOut};
 ghost use Rattle.pair_history.specs.Landings.{landings};
 ghost use Rattle.pair_record.specs.internal.Lengths.{receivers, landing_by, landings_by, lengths_at, lengths_after, AreLengths};
 ghost use Rattle.pair_record.specs.internal.NewFrames.{new_one, new_for, new_after};
@@ -57,6 +58,19 @@ fn box_lengths(ports: &Ports) -> Lengths
     lengths
 }
 
+/// Adds that a frame for this client is dropped, since the box is full.
+fn add_drop(history: &mut History, client: u64)
+    requires room { 0 < history.old.room }
+    requires fits { length history.old.entries + 1 < 2 ^ 62 }
+    ensures entries { history.new.entries ≡ history.old.entries ++ DropOut client box_frames ∷ [] }
+    ensures room { history.old.room ≤ history.new.room + 1 }
+{
+    history.add(Entry::DropOut {
+        client,
+        place: BOX_FRAMES as u64,
+    });
+}
+
 /// Adds what becomes of one frame for one client.
 fn add_landing(history: &mut History, lengths: &mut Lengths, client: u64)
     requires low { 1 ≤ client }
@@ -72,10 +86,7 @@ fn add_landing(history: &mut History, lengths: &mut Lengths, client: u64)
         lengths[place] += 1;
         history.add(Entry::Land(client));
     } else {
-        history.add(Entry::DropOut {
-            client,
-            place: BOX_FRAMES as u64,
-        });
+        add_drop(history, client);
     }
 }
 
@@ -120,10 +131,7 @@ fn add_landed(history: &mut History, client: u64, landing: Landing)
 {
     match landing {
         Landing::In => history.add(Entry::Land(client)),
-        Landing::Dropped => history.add(Entry::DropOut {
-            client,
-            place: BOX_FRAMES as u64,
-        }),
+        Landing::Dropped => add_drop(history, client),
         Landing::Old => {}
     }
 }

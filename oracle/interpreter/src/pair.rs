@@ -5,7 +5,8 @@ use crate::hart::Machine;
 use std::collections::VecDeque;
 
 const CLIENT_MAC: [u8; 5] = [2, 0, 0, 0, 1];
-const BOX_FRAMES: usize = 64;
+const INBOX_FRAMES: usize = 64;
+const BOX_FRAMES: usize = 256;
 const MOST_PENDING: usize = 4;
 const STEP_FRAMES: usize = 192;
 
@@ -273,7 +274,7 @@ impl Pair {
             return Err(BAD_FRAME);
         }
         self.entries += 1;
-        if self.inboxes[client].len() >= BOX_FRAMES {
+        if self.inboxes[client].len() >= INBOX_FRAMES {
             return Err(FULL);
         }
         self.delivered += 1;
