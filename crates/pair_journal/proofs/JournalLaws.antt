@@ -2,8 +2,9 @@
 use Rattle.std.proofs.Common.{rules, arith, ◌≡◌, ℕ, ◌+◌, List, [], ◌∷◌, ◌++◌, length, sym, ap, ◌∙◌, append_assoc}
 use Rattle.std.proofs.lemmas.List.{append-nil, length-append, replicate-append-replicate}
 use Rattle.pair_history.specs.Entries.{Entry, Ran, Arrive}
-use Rattle.pair_record.specs.{declared.epochs.Arrival.Arrival, internal.Arrivals.{steps_of, arrival_of, arrivals_of, epoch_entries}}
-use Rattle.pair_record.specs.Journal.{Journal, joined, kept_entries, all_entries}
+use Rattle.pair_journal.specs.declared.epochs.Arrival.{Arrival}
+use Rattle.pair_journal.specs.internal.Arrivals.{steps_of, arrival_of, arrivals_of, epoch_entries}
+use Rattle.pair_journal.specs.Journal.{Journal, joined, kept_entries, all_entries}
 
 -- an epoch goes on by steps, or by an arrival
 

@@ -1,8 +1,9 @@
--- What frames that a backup kept add where they land: those that came before nothing, and the others what frames add that leave the gate.
+-- What frames add to the history that land under numbers: those that came before nothing, and the others what frames add that leave the
+-- gate. And what lists of frames have in parts.
 use Rattle.std.proofs.Common.{◌≡◌, ℕ, zero, suc, ◌+◌, ◌-◌, ◌<◌, ◌≤◌, List, [], ◌∷◌, ◌++◌, length}
 use Rattle.std.proofs.Common.{take, drop, get_or, refl, sym, ap, ◌∙◌, arith, append_assoc}
 use Rattle.std.proofs.Math.Seq.{drop-cons}
-use Rattle.std.proofs.{Common.{Bool, true, false, cond}, lemmas.List.{length-append, length-take, take_all}}
+use Rattle.std.proofs.{Common.{Bool, true, false, cond}, lemmas.List.{length-take}}
 use Rattle.std.proofs.lemmas.List.Elements.{All-head, All-tail}
 use Rattle.std.specs.Prelude.{All}
 use Rattle.frame_ports.specs.Addresses.{paired_with, targets_of}
@@ -10,15 +11,11 @@ use Rattle.frame_ports.specs.Lands.{has_room, landed_at, lands}
 use Rattle.frame_ports.specs.{Limits.box_frames, Numbers.{number_of, landing, after_landing}, Ports.PortsState}
 use Rattle.frame_ports.specs.declared.landing.Landing.TheVariants.{In, Dropped}
 use Rattle.frame_ports.proofs.NumberLaws.{landing-new, landing-old, new_from, old_from}
-use Rattle.output_gate.specs.{Epochs.frames_of, Landings.{clients_for, landed_for, ports_after, AreBelow, AreOld}}
-use Rattle.output_gate.proofs.LandedLaws.{AreRising, ports_after-old, same_after, new_here, new_later}
-use Rattle.output_gate.proofs.LandedLaws.{rising, new, boxes-frame, count-frame, below-frame}
-use Rattle.output_gate.proofs.PortsAfterLaws.{after_frame, ports_after-append}
+use Rattle.output_gate.specs.Landings.{clients_for, landed_for, ports_after, AreBelow, AreOld}
+use Rattle.output_gate.proofs.LandedLaws.{AreRising, same_after, new_here, new_later, rising, new, boxes-frame, count-frame, below-frame}
+use Rattle.output_gate.proofs.PortsAfterLaws.{after_frame}
 use Rattle.pair_history.specs.{Entries.{Frame, Land, DropOut}, Landings.landings}
-use Rattle.pair_record.specs.{Kept.{all_frames, Brings, entries_of_landing, entries_for, entries_after}}
-use Rattle.pair_record.specs.{FailureActs.first_uncommitted, Kept.{brought, brought_entries, ports_after_brought}}
-use Rattle.pair_record.specs.{Record.{AreNumbered, first_held, owed_to, ports_after_live}, Tables.Record, Window.committed_of}
-use Rattle.pair_record.proofs.NumberLaws.{each_below, first_positive, in_two, landed_ports}
+use Rattle.pair_journal.specs.LandedEntries.{all_frames, entries_of_landing, entries_for, entries_after}
 
 landings-append : (b : List (List Frame)) (ps qs : List (ℕ × Frame)) → landings b (ps ++ qs) ≡ landings b ps ++ landings (lands b ps) qs
 landings-append b [] qs = refl
@@ -61,12 +58,12 @@ module _ (n : ℕ) (f : Frame) where
 
   all_for : (p : PortsState) (cs : List ℕ) → AreRising cs → All (λ c. number_of p c < n) cs
       → entries_for p cs n f ≡ landings p.boxes (paired_with cs f)
-  all_for p [] rising new = refl
-  all_for p (c ∷ cs) rising new =
-      ap (λ es. es ++ entries_for (after_landing p c n f) cs n f) (one_for p c (All-head (λ c. number_of p c < n) c cs new))
+  all_for p [] rises fresh = refl
+  all_for p (c ∷ cs) rises fresh =
+      ap (λ es. es ++ entries_for (after_landing p c n f) cs n f) (one_for p c (All-head (λ c. number_of p c < n) c cs fresh))
       ∙ ap (λ es. cond (has_room p.boxes c) (Land c) (DropOut c box_frames) ∷ es)
-      (all_for (after_landing p c n f) cs rising.2 (new_later n f p c cs rising new)
-      ∙ ap (λ (b : List (List Frame)). landings b (paired_with cs f)) (new_here n f p c cs new))
+      (all_for (after_landing p c n f) cs rises.2 (new_later n f p c cs rises fresh)
+      ∙ ap (λ (b : List (List Frame)). landings b (paired_with cs f)) (new_here n f p c cs fresh))
 
 pub entries-new : (p : PortsState) (first : ℕ) (fs : List Frame) → AreBelow p first
     → entries_after p first fs ≡ landings p.boxes (targets_of (length p.boxes) fs)
@@ -95,6 +92,10 @@ entries-append p first next (f ∷ fs) gs e =
 
 -- LISTS, one after another
 
+pub all_frames-append : (xs ys : List (List Frame)) → all_frames (xs ++ ys) ≡ all_frames xs ++ all_frames ys
+all_frames-append [] ys = refl
+all_frames-append (x ∷ xs) ys = ap (λ t. x ++ t) (all_frames-append xs ys) ∙ sym (append_assoc x (all_frames xs) (all_frames ys))
+
 pub list_more : (fss : List (List Frame)) (i : ℕ) (fs : List Frame) → i < length fss → fs ≡ get_or fss i fs
     → all_frames (drop i fss) ≡ fs ++ all_frames (drop (i + 1) fss)
 list_more fss i fs within is =
@@ -117,35 +118,3 @@ cut-parts end number fs gs =
     let long = length-take (end - number) fs in
     let rest : (end - number) - length fs ≡ end - (number + length (take (end - number) fs)) = omega arith in
     take-parts (end - number) fs gs ∙ ap (λ n. take (end - number) fs ++ take n gs) rest
-
--- WHAT A BACKUP BRINGS
-
-module _ (r : Record) (p : PortsState) (h : AreNumbered r p) (first : ℕ) (lists : List (List Frame)) (b : Brings r p first lists) where
-  abbrev owed : List Frame
-  owed = frames_of (committed_of r.window r.pending)
-
-  -- all of it was committed
-  brought_all : brought r first lists ≡ b.older ++ owed
-  brought_all =
-      let all = ap (λ (fs : List Frame). length fs) b.all ∙ length-append b.older owed in
-      let a = b.number in
-      let c = in_two r in
-      let d = h.held in
-      take_all (first_uncommitted r - first) (all_frames lists) (omega arith) ∙ b.all
-
-  -- what lands, and where
-  pub brought_ports : ports_after_brought p r first lists ≡ ports_after_live p r
-  brought_ports =
-      ap (ports_after p first) brought_all
-      ∙ ports_after-append p first b.older owed
-      ∙ ap (λ n. ports_after (ports_after p first b.older) n owed) b.number
-      ∙ ap (λ (q : PortsState). ports_after q (first_held r) owed) (ports_after-old p first b.older b.came)
-      ∙ landed_ports r p h owed
-
-  pub brought_landings : brought_entries r p first lists ≡ landings p.boxes (owed_to r p)
-  brought_landings =
-      ap (entries_after p first) brought_all
-      ∙ entries-append p first (first_held r) b.older owed (sym b.number)
-      ∙ ap (λ es. es ++ entries_after (ports_after p first b.older) (first_held r) owed) (entries-old p first b.older b.came)
-      ∙ ap (λ (q : PortsState). entries_after q (first_held r) owed) (ports_after-old p first b.older b.came)
-      ∙ entries-new p (first_held r) owed (each_below p (first_held r) (first_positive r p h) h.new)

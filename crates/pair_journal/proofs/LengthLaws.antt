@@ -1,12 +1,13 @@
 -- Landings by the lengths of the boxes are landings.
-use Rattle.std.proofs.Common.{rules, ◌≡◌, ℕ, zero, suc, ◌+◌, ◌-◌, ◌<◌, ◌≤◌, List, [], ◌∷◌, ◌++◌, length, get_or, set, refl, sym, ap, ◌∙◌}
+use Rattle.std.proofs.Common.{rules, ◌≡◌, ℕ, suc, ◌+◌, ◌-◌, ◌<◌, ◌≤◌, List, [], ◌∷◌, ◌++◌, length, get_or, set, refl, sym, ap, ◌∙◌}
 use Rattle.std.proofs.{Common.{subst, arith, Bool, true, false, cond, inl, inr}, lemmas.List.{get_or-set_same, get_or-set_other}}
+use Rattle.std.proofs.lemmas.List.{length-append, length-map}
 use Rattle.std.proofs.lemmas.Bool.Decides.{eqb_tells}
 use Rattle.std.specs.Prelude.{map, nat_lt}
 use Rattle.frame_ports.specs.{Addresses.{targets_of, paired_with, clients_of}, Lands.{list_of, with_list, has_room, landed_at}}
 use Rattle.frame_ports.specs.Limits.{box_frames}
 use Rattle.pair_history.specs.{Entries.Frame, Landings.landings}
-use Rattle.pair_record.specs.internal.Lengths.{receivers, has_space, lengths_at, lengths_after, landing_by, landings_by, AreLengths}
+use Rattle.pair_journal.specs.internal.Lengths.{receivers, has_space, lengths_at, lengths_after, landing_by, landings_by, AreLengths}
 use Rattle.pair_history.proofs.LandingLaws.{AllClients, AllClients-targets, length-landed_at, length-set'}
 
 -- the clients of frames are those of their targets
@@ -19,21 +20,8 @@ firsts-targets n [] = refl
 firsts-targets n (f ∷ fs) = firsts-paired (clients_of n f.items) f (targets_of n fs)
     ∙ ap (λ t. clients_of n f.items ++ t) (firsts-targets n fs)
 
-length-firsts : (ps : List (ℕ × Frame)) → length (map (λ p. p.0) ps) ≡ length ps
-length-firsts [] = refl
-length-firsts (p ∷ ps) = ap suc (length-firsts ps)
-
 pub length-receivers : (n : ℕ) (fs : List Frame) → length (receivers n fs) ≡ length (targets_of n fs)
-length-receivers n fs = ap length (sym (firsts-targets n fs)) ∙ length-firsts (targets_of n fs)
-
-length-push : (xs : List Frame) (f : Frame) → length (xs ++ f ∷ []) ≡ length xs + 1
-length-push [] f = refl
-length-push (x ∷ xs) f = let e = length-push xs f in omega arith
-
-length-set-ℕ : (xs : List ℕ) (i v : ℕ) → length (set xs i v) ≡ length xs
-length-set-ℕ [] i v = refl
-length-set-ℕ (x ∷ xs) zero v = refl
-length-set-ℕ (x ∷ xs) (suc i) v = ap suc (length-set-ℕ xs i v)
+length-receivers n fs = ap length (sym (firsts-targets n fs)) ∙ length-map (targets_of n fs) (λ (p : ℕ × Frame). p.0)
 
 module _ (lengths : List ℕ) (boxes : List (List Frame)) (are : AreLengths lengths boxes) (c : ℕ) (f : Frame) (low : 1 ≤ c)
     (high : c ≤ length boxes) where
@@ -45,7 +33,7 @@ module _ (lengths : List ℕ) (boxes : List (List Frame)) (are : AreLengths leng
 
   with_room : AreLengths (set lengths (c - 1) (get_or lengths (c - 1) 0 + 1)) (with_list boxes c (list_of boxes c ++ f ∷ []))
   with_room = record {
-    places = let p = are.places in let e = length-set-ℕ lengths (c - 1) (get_or lengths (c - 1) 0 + 1) in let d = length-set' boxes (c - 1)
+    places = let p = are.places in let e = length-set' lengths (c - 1) (get_or lengths (c - 1) 0 + 1) in let d = length-set' boxes (c - 1)
         (list_of boxes c ++ f ∷ []) in omega arith;
     each = λ k l. at_place k (let d = length-set' boxes (c - 1) (list_of boxes c ++ f ∷ []) in omega arith);
   }
@@ -61,7 +49,7 @@ module _ (lengths : List ℕ) (boxes : List (List Frame)) (are : AreLengths leng
             ap (λ j. get_or (set lengths (c - 1) (get_or lengths (c - 1) 0 + 1)) j 0) is
             ∙ get_or-set_same lengths (c - 1) (get_or lengths (c - 1) 0 + 1) 0 in_lengths
             ∙ ap (λ n. n + 1) here
-            ∙ sym (length-push (list_of boxes c) f)
+            ∙ sym (length-append (list_of boxes c) (f ∷ []))
             ∙ ap length (sym (get_or-set_same boxes (c - 1) (list_of boxes c ++ f ∷ []) [] in_boxes))
             ∙ ap (λ j. length (get_or (with_list boxes c (list_of boxes c ++ f ∷ [])) j [])) (sym is)
         | inr apart ↦

@@ -11,8 +11,8 @@ use Rattle.output_gate.specs.Landings.{clients_for, landed_for}
 use Rattle.output_gate.proofs.LandedLaws.{AreRising, rising}
 use Rattle.output_gate.proofs.PortsAfterLaws.{boxes_count-for, number_at_most-for, number_rises-for}
 use Rattle.pair_history.specs.Entries.{Frame}
-use Rattle.pair_record.specs.Kept.{entries_of_landing, entries_for, entries_after}
-use Rattle.pair_record.specs.internal.NewFrames.{new_one, new_for, new_after}
+use Rattle.pair_journal.specs.LandedEntries.{entries_of_landing, entries_for, entries_after}
+use Rattle.pair_journal.specs.internal.NewFrames.{new_one, new_for, new_after}
 
 -- ONE FRAME
 
@@ -100,15 +100,6 @@ new-append p first next [] gs e =
 new-append p first next (f ∷ fs) gs e =
     let rest = new-append p (first + 1) next fs gs (omega arith) in
     omega arith
-
--- one client more
-pub new_more : (p : PortsState) (n count one total c : ℕ) (rest now : List ℕ) → now ≡ c ∷ rest → one ≡ new_one p c n
-    → count + new_for p now n ≡ total → count + one + new_for p rest n ≡ total
-new_more p n count one total c rest now e is h = let l = ap (λ cs. new_for p cs n) e in omega arith
-
-pub new_as_before : (p : PortsState) (n count total : ℕ) (rest now : List ℕ) → now ≡ rest → count + new_for p now n ≡ total
-    → count + new_for p rest n ≡ total
-new_as_before p n count total rest now e h = let l = ap (λ cs. new_for p cs n) e in omega arith
 
 -- one frame more
 pub new_next : (p : PortsState) (n : ℕ) (fs : List Frame) (i : ℕ) (f : Frame) → i < length fs → f ≡ get_or fs i f

@@ -1,15 +1,15 @@
 -- Laws of the clients to whom frames go, as the loops over them want them.
 use Rattle.std.proofs.Common.{rules, ◌≡◌, ℕ, zero, suc, ◌+◌, ◌-◌, ◌<◌, ◌≤◌, List, [], ◌∷◌, ◌++◌, length, drop, get_or, refl, sym, ap, ◌∙◌}
-use Rattle.std.proofs.{Common.{arith, append_assoc, Bool, true, false, cond, ⊎_elim}, lemmas.Bool.{cases_lt, Decides.nat_tests}}
-use Rattle.std.specs.Prelude.{nat_le, ◌&&◌}
+use Rattle.std.proofs.Common.{arith, append_assoc, Bool, true, false, cond, ⊎_elim}
+use Rattle.std.proofs.lemmas.{Bool.{cases_lt, le-leb}, List.{append-nil, drop_all, drop_more, length-append}}
+use Rattle.std.specs.Prelude.{◌&&◌}
 use Rattle.frame_ports.specs.{Addresses.{addressed, clients_from, clients_of}, Targets.{has_target, AreTargets}}
-use Rattle.pair_history.specs.Entries.{Frame, Entry}
-use Rattle.pair_record.specs.internal.Lengths.{receivers, landing_by, landings_by, lengths_at, lengths_after}
 use Rattle.frame_ports.specs.{Numbers.{landing, after_landing}, Ports.PortsState}
 use Rattle.output_gate.specs.Landings.{clients_for, landed_for, ports_after}
-use Rattle.pair_record.specs.Kept.{entries_of_landing, entries_for, entries_after}
-use Rattle.pair_record.proofs.LengthLaws.{landings_by-append}
-use Rattle.std.proofs.{lemmas.List.length-append, Math.Seq.drop-cons}
+use Rattle.pair_history.specs.Entries.{Frame, Entry}
+use Rattle.pair_journal.specs.internal.Lengths.{receivers, landing_by, landings_by, lengths_at, lengths_after}
+use Rattle.pair_journal.specs.LandedEntries.{entries_of_landing, entries_for, entries_after}
+use Rattle.pair_journal.proofs.LengthLaws.{landings_by-append}
 
 -- the clients from c on, of n
 abbrev pub from_on : ℕ → ℕ → List ℕ → List ℕ
@@ -24,10 +24,7 @@ next n c bytes h = ap (λ k. clients_from k c bytes) (step_count n c h)
 
 module _ (n c : ℕ) (bytes : List ℕ) (targets : ℕ) (are : AreTargets n bytes targets) (low : 1 ≤ c) (high : c ≤ n) (most : n ≤ 16) where
   is_addressed : has_target targets c ≡ addressed bytes c
-  is_addressed = are c low (omega arith) ∙ ap (λ t. t && addressed bytes c) (le_yes c n high)
-    where
-      le_yes : (a b : ℕ) → a ≤ b → nat_le a b ≡ true
-      le_yes a b h = grind (arith, nat_tests)
+  is_addressed = are c low (omega arith) ∙ ap (λ t. t && addressed bytes c) (le-leb c n high)
 
   pub next_yes : has_target targets c ≡ true → from_on n c bytes ≡ c ∷ from_on n (c + 1) bytes
   next_yes e = next n c bytes high ∙ ap (λ t. cond t (c ∷ from_on n (c + 1) bytes) (from_on n (c + 1) bytes)) (sym is_addressed ∙ e)
@@ -71,29 +68,19 @@ module _ (n : ℕ) (bytes : List ℕ) (targets a b : ℕ) (are : AreTargets n by
   span_ends i low over =
       skip (n + 1) i low (λ d x y z w. absurd (omega (arith, x, w, over))) ∙ gone (i + (n + 1)) (omega arith)
 
--- the receivers of the frames from place i on
-behind : (n : ℕ) (fs : List Frame) (i : ℕ) (d : Frame) → i < length fs
-    → receivers n (drop i fs) ≡ clients_of n (get_or fs i d).items ++ receivers n (drop (suc i) fs)
-behind n [] i d h = absurd (omega arith)
-behind n (f ∷ fs) zero d h = refl
-behind n (f ∷ fs) (suc i) d h = behind n fs i d (omega arith)
-
-pub receivers-next : (n : ℕ) (fs : List Frame) (i : ℕ) (d : Frame) → i < length fs
-    → receivers n (drop i fs) ≡ clients_of n (get_or fs i d).items ++ receivers n (drop (i + 1) fs)
-receivers-next n fs i d h = let e : suc i ≡ i + 1 = omega arith in behind n fs i d h
-    ∙ ap (λ j. clients_of n (get_or fs i d).items ++ receivers n (drop j fs)) e
+-- the receivers of one frame, which are these, and of the later ones; and none where no frame is left
+pub receivers-more : (n : ℕ) (fs : List Frame) (i : ℕ) (f : Frame) (cs : List ℕ) → i < length fs → f ≡ get_or fs i f
+    → cs ≡ clients_of n f.items → receivers n (drop i fs) ≡ cs ++ receivers n (drop (i + 1) fs)
+receivers-more n fs i f cs within is are =
+    let rest = receivers n (drop (i + 1) fs) in
+    ap (receivers n) (drop_more fs i f within)
+    ∙ ap (λ (x : Frame). clients_of n x.items ++ rest) (sym is)
+    ∙ ap (λ l. l ++ rest) (sym are)
 
 pub receivers-none : (n : ℕ) (fs : List Frame) (i : ℕ) → length fs ≤ i → receivers n (drop i fs) ≡ []
-receivers-none n [] zero h = refl
-receivers-none n [] (suc i) h = refl
-receivers-none n (f ∷ fs) zero h = absurd (omega arith)
-receivers-none n (f ∷ fs) (suc i) h = receivers-none n fs i (omega arith)
+receivers-none n fs i h = ap (receivers n) (drop_all i fs h)
 
--- one client more, in the count and in the entries
-pub counted_more : (count total : ℕ) (c : ℕ) (rest now : List ℕ) → now ≡ c ∷ rest → count + length now ≡ total
-    → count + 1 + length rest ≡ total
-counted_more count total c rest now e h = let l = ap length e in omega arith
-
+-- one client more
 pub entries_more : (old new : List Entry) (lengths after : List ℕ) (c : ℕ) (rest now : List ℕ) (total : List Entry) → now ≡ c ∷ rest
     → new ≡ old ++ landing_by lengths c ∷ [] → after ≡ lengths_at lengths c
     → old ++ landings_by lengths now ≡ total → new ++ landings_by after rest ≡ total
@@ -107,11 +94,7 @@ frames_more old new lengths after cs rest now total e n a h = search (arith, rul
 
 pub nil-append : (old : List Entry) (lengths now : List ℕ) (total : List Entry) → now ≡ [] → old ++ landings_by lengths now ≡ total
     → old ≡ total
-nil-append old lengths now total e h = sym (none old) ∙ ap (λ t. old ++ landings_by lengths t) (sym e) ∙ h
-  where
-    none : (xs : List Entry) → xs ++ [] ≡ xs
-    none [] = refl
-    none (x ∷ xs) = ap (λ t. x ∷ t) (none xs)
+nil-append old lengths now total e h = sym (append-nil old) ∙ ap (λ t. old ++ landings_by lengths t) (sym e) ∙ h
 
 pub landings_length : (lengths cs : List ℕ) → length (landings_by lengths cs) ≡ length cs
 landings_length lengths [] = refl
@@ -134,9 +117,7 @@ module _ (p : PortsState) (n : ℕ) (f : Frame) (c : ℕ) (rest now : List ℕ) 
 -- one frame more
 module _ (p : PortsState) (n : ℕ) (fs : List Frame) (i : ℕ) (f : Frame) (within : i < length fs) (is : f ≡ get_or fs i f) where
   next_frame : drop i fs ≡ f ∷ drop (i + 1) fs
-  next_frame =
-      let e : suc i ≡ i + 1 = omega arith in
-      drop-cons fs i f within ∙ (λ k. sym is k ∷ drop (e k) fs)
+  next_frame = drop_more fs i f within ∙ ap (λ (x : Frame). x ∷ drop (i + 1) fs) (sym is)
 
   pub frame_more : entries_after p n (drop i fs)
       ≡ entries_for p (clients_for p f) n f ++ entries_after (landed_for p (clients_for p f) n f) (n + 1) (drop (i + 1) fs)

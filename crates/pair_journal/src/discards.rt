@@ -2,7 +2,7 @@
 ghost use Rattle.std.specs.Prelude.{◌≡◌, ◌+◌, ◌^◌, ◌≤◌, ◌<◌, ◌++◌, length, map, IfOk, OnOk};
 ghost use Rattle.std.specs.List.Sorted.{IsNonDecreasing, IsPermutation};
 ghost use Rattle.pair_history.specs.Entries.{DropIn};
-ghost use Rattle.pair_record.specs.internal.Arrivals.{numbers_of, numbers_in};
+ghost use Rattle.pair_journal.specs.internal.Arrivals.{numbers_of, numbers_in};
 
 use crate::epochs::{Arrival, RunningEpoch};
 use memory_wanted::{MemoryWanted, push, with_capacity};

@@ -1,10 +1,10 @@
 //! An epoch of the guest as it is stored: its arrivals, each with the steps before it, and the steps after the last.
 ghost use Rattle.std.specs.Prelude.{◌≡◌, ◌+◌, ◌*◌, ◌^◌, ◌≤◌, ◌<◌, ◌++◌, [], length, map, take, drop, IfOk, OnOk, OnErr};
 ghost use Rattle.std.specs.Prelude.{vec_len, vec_capacity};
-ghost use Rattle.pair_record.specs.internal.Arrivals.{arrival_of, epoch_entries};
-ghost use Rattle.pair_record.specs.Journal.{joined};
-ghost use Rattle.pair_record.specs.internal.JournalFields.{epoch_of};
-ghost use Rattle.pair_record.specs.internal.Places.{places_of};
+ghost use Rattle.pair_journal.specs.internal.Arrivals.{arrival_of, epoch_entries};
+ghost use Rattle.pair_journal.specs.Journal.{joined};
+ghost use Rattle.pair_journal.specs.internal.JournalFields.{epoch_of};
+ghost use Rattle.pair_journal.specs.internal.Places.{places_of};
 
 use memory_wanted::{MemoryWanted, from_slice};
 use pair_history::{Entry, History};

@@ -8,11 +8,10 @@ ghost use Rattle.output_gate.specs.Landings.{ports_after};
 ghost use Rattle.pair_history.specs.Failures.{arrived_numbers, drops_of_taken_in};
 ghost use Rattle.pair_history.specs.Landings.{landings};
 ghost use Rattle.pair_history.specs.Log.{expanded, frame_bytes};
-ghost use Rattle.pair_record.specs.Journal.{all_entries, kept_entries, empty_journal, with_history, with_running, sealed_off, committed};
-ghost use Rattle.pair_record.specs.Journal.{all_committed, discarded, sealed_as, entered};
-ghost use Rattle.pair_record.specs.EpochActs.{guest_epoch, behind};
-ghost use Rattle.pair_record.specs.internal.Lengths.{receivers};
-ghost use Rattle.pair_record.specs.Kept.{all_frames, entries_after};
+ghost use Rattle.pair_journal.specs.Journal.{all_entries, kept_entries, empty_journal, with_history, with_running, sealed_off, committed};
+ghost use Rattle.pair_journal.specs.Journal.{all_committed, discarded, sealed_as, entered};
+ghost use Rattle.pair_journal.specs.Epochs.{guest_epoch, behind};
+ghost use Rattle.pair_journal.specs.LandedEntries.{all_frames, entries_after};
 
 use crate::discards::{add_drops_in, count_arrivals, sorted_numbers};
 use crate::epochs::{Arrival, RunningEpoch, add_epoch, add_epochs, places_with};
@@ -34,11 +33,11 @@ pub struct Journal {
 }
 
 impl Model for Journal {
-    ghost use Rattle.pair_record.specs.Journal.{Stored};
+    ghost use Rattle.pair_journal.specs.Journal.{Stored};
 
     ghost Value = { Stored };
 
-    ghost use Rattle.pair_record.specs.internal.JournalFields.{stored, AreFields};
+    ghost use Rattle.pair_journal.specs.internal.JournalFields.{stored, AreFields};
 
     ghost view = { stored };
 
@@ -47,7 +46,7 @@ impl Model for Journal {
 
 impl Journal {
     /// A journal in which nothing happened yet.
-    pub(crate) fn new(alloc: Global) -> Journal
+    pub fn new(alloc: Global) -> Journal
         ensures { result.journal ≡ empty_journal }
     {
         Journal {
@@ -60,21 +59,21 @@ impl Journal {
     }
 
     /// The history.
-    pub(crate) fn history(&self) -> &History
+    pub fn history(&self) -> &History
         ensures { result.now.entries ≡ self.now.journal.history }
     {
         &self.history
     }
 
     /// How many more entries have numbers.
-    pub(crate) fn entries_left(&self) -> u64
+    pub fn entries_left(&self) -> u64
         ensures { length (all_entries self.now.journal) + (result + 1) ≡ number_limit }
     {
         NUMBER_LIMIT - 1 - (self.history.len() + self.kept)
     }
 
     /// The guest made so many steps.
-    pub(crate) fn run(&mut self, steps: u64)
+    pub fn run(&mut self, steps: u64)
         requires fits { length (all_entries self.old.journal) + steps < number_limit }
         ensures { self.new.journal ≡ with_running self.old.journal (replicate steps Ran) }
     {
@@ -83,7 +82,7 @@ impl Journal {
     }
 
     /// Makes room for one more arrival, in the running epoch and in the history.
-    pub(crate) fn reserve_arrival(&mut self) -> Result<(), MemoryWanted>
+    pub fn reserve_arrival(&mut self) -> Result<(), MemoryWanted>
         ensures journal { self.new.journal ≡ self.old.journal }
         ensures arrival_room { OnOk result (0 < self.new.arrival_room) }
         ensures room { OnOk result (0 < self.new.room) }
@@ -93,7 +92,7 @@ impl Journal {
     }
 
     /// Makes room for so many more arrivals in the running epoch.
-    pub(crate) fn reserve_arrivals(&mut self, count: usize) -> Result<(), MemoryWanted>
+    pub fn reserve_arrivals(&mut self, count: usize) -> Result<(), MemoryWanted>
         ensures journal { self.new.journal ≡ self.old.journal }
         ensures arrival_room { OnOk result (count ≤ self.new.arrival_room) }
     {
@@ -101,7 +100,7 @@ impl Journal {
     }
 
     /// The frame of this number arrived at the guest.
-    pub(crate) fn arrive(&mut self, number: u64)
+    pub fn arrive(&mut self, number: u64)
         requires room { 0 < self.old.arrival_room }
         requires fits { length (all_entries self.old.journal) + 1 < number_limit }
         ensures journal { self.new.journal ≡ with_running self.old.journal (Arrive number ∷ []) }
@@ -117,7 +116,7 @@ impl Journal {
     }
 
     /// The running epoch is sealed, and the next one begins.
-    pub(crate) fn seal(&mut self) -> Result<(), MemoryWanted>
+    pub fn seal(&mut self) -> Result<(), MemoryWanted>
         ensures ok { OnOk result (self.new.journal ≡ sealed_off self.old.journal) }
         ensures err { OnErr result (self.new.journal ≡ self.old.journal) }
     {
@@ -128,7 +127,7 @@ impl Journal {
     }
 
     /// An empty epoch is sealed, and the one that runs goes on.
-    pub(crate) fn seal_empty(&mut self) -> Result<(), MemoryWanted>
+    pub fn seal_empty(&mut self) -> Result<(), MemoryWanted>
         ensures ok { OnOk result (self.new.journal ≡ sealed_as [] self.old.journal.running self.old.journal) }
         ensures err { OnErr result (self.new.journal ≡ self.old.journal) }
     {
@@ -138,7 +137,7 @@ impl Journal {
     }
 
     /// So many arrivals of those that run, the first first, and so many steps after them are sealed, and what is behind runs on.
-    pub(crate) fn seal_epoch(&mut self, arrivals: usize, steps: u64) -> Result<(), MemoryWanted>
+    pub fn seal_epoch(&mut self, arrivals: usize, steps: u64) -> Result<(), MemoryWanted>
         requires there { arrivals ≤ length (arrived_numbers self.old.journal.running) }
         requires fits { length (all_entries self.old.journal) + steps < number_limit }
         ensures ok { OnOk result (self.new.journal
@@ -155,7 +154,7 @@ impl Journal {
     }
 
     /// Where nothing is sealed they go to the history, where so many more stored entries have room then, and what is behind runs on.
-    pub(crate) fn enter_epoch(
+    pub fn enter_epoch(
         &mut self,
         arrivals: usize,
         steps: u64,
@@ -183,7 +182,7 @@ impl Journal {
     }
 
     /// The same, and then an empty epoch is sealed.
-    pub(crate) fn enter_epoch_and_seal_empty(
+    pub fn enter_epoch_and_seal_empty(
         &mut self,
         arrivals: usize,
         steps: u64,
@@ -208,7 +207,7 @@ impl Journal {
     }
 
     /// What is sealed moves to the history, where so many more stored entries have room then, and the epoch that runs goes on.
-    pub(crate) fn commit_sealed(&mut self, more: usize) -> Result<(), MemoryWanted>
+    pub fn commit_sealed(&mut self, more: usize) -> Result<(), MemoryWanted>
         ensures ok { OnOk result (self.new.journal ≡ entered [] self.old.journal.running self.old.journal) }
         ensures room { OnOk result (more ≤ self.new.room) }
         ensures err { OnErr result (self.new.journal ≡ self.old.journal) }
@@ -223,7 +222,7 @@ impl Journal {
     }
 
     /// The oldest sealed epoch moves to the history.
-    pub(crate) fn commit(&mut self) -> Result<(), MemoryWanted>
+    pub fn commit(&mut self) -> Result<(), MemoryWanted>
         requires { 0 < length self.old.journal.sealed }
         ensures ok { OnOk result (self.new.journal ≡ committed self.old.journal) }
         ensures err { OnErr result (self.new.journal ≡ self.old.journal) }
@@ -238,7 +237,7 @@ impl Journal {
     }
 
     /// All that is kept moves to the history, where so many more stored entries have room then.
-    pub(crate) fn commit_all(&mut self, more: usize) -> Result<(), MemoryWanted>
+    pub fn commit_all(&mut self, more: usize) -> Result<(), MemoryWanted>
         ensures ok { OnOk result (self.new.journal ≡ all_committed self.old.journal) }
         ensures room { OnOk result (more ≤ self.new.room) }
         ensures err { OnErr result (self.new.journal ≡ self.old.journal) }
@@ -255,7 +254,7 @@ impl Journal {
     }
 
     /// Makes room for so many more stored entries in the history.
-    pub(crate) fn reserve(&mut self, additional: usize) -> Result<(), MemoryWanted>
+    pub fn reserve(&mut self, additional: usize) -> Result<(), MemoryWanted>
         ensures journal { self.new.journal ≡ self.old.journal }
         ensures room { OnOk result (additional ≤ self.new.room) }
         ensures full { OnErr result (self.old.room < additional) }
@@ -264,7 +263,7 @@ impl Journal {
     }
 
     /// Makes room for one more stored entry in the history, with a frame of so many bytes.
-    pub(crate) fn reserve_frame(&mut self, bytes: usize) -> Result<(), MemoryWanted>
+    pub fn reserve_frame(&mut self, bytes: usize) -> Result<(), MemoryWanted>
         ensures journal { self.new.journal ≡ self.old.journal }
         ensures room { OnOk result (0 < self.new.room) }
         ensures byte_room { OnOk result (bytes ≤ self.new.byte_room) }
@@ -274,7 +273,7 @@ impl Journal {
     }
 
     /// Adds an entry of a client's to the history, in the room that was reserved.
-    pub(crate) fn add(&mut self, entry: Entry)
+    pub fn add(&mut self, entry: Entry)
         requires room { 0 < self.old.room }
         requires byte_room { length (frame_bytes entry) ≤ self.old.byte_room }
         requires fits { length (all_entries self.old.journal) + length (expanded entry) < number_limit }
@@ -284,9 +283,9 @@ impl Journal {
     }
 
     /// Adds what becomes of the frames once they land in these ports, in the room that was reserved.
-    pub(crate) fn land(&mut self, ports: &Ports, frames: &[Frame])
-        requires room { length (receivers (length ports.now.boxes) frames.now) ≤ self.old.room }
-        requires fits { length (all_entries self.old.journal) + length (receivers (length ports.now.boxes) frames.now) < number_limit }
+    pub fn land(&mut self, ports: &Ports, frames: &[Frame])
+        requires room { length (targets_of (length ports.now.boxes) frames.now) ≤ self.old.room }
+        requires fits { length (all_entries self.old.journal) + length (targets_of (length ports.now.boxes) frames.now) < number_limit }
         ensures journal { self.new.journal
             ≡ with_history self.old.journal (landings ports.now.boxes (targets_of (length ports.now.boxes) frames.now)) }
         ensures arrival_room { self.new.arrival_room ≡ self.old.arrival_room }
@@ -296,9 +295,9 @@ impl Journal {
 
     /// The guest of a node that is alone made so many steps, the last of which sent these frames, and they land in these ports: that goes
     /// into the history, in the room that was reserved.
-    pub(crate) fn run_alone(&mut self, steps: u64, ports: &Ports, frames: &[Frame])
-        requires room { length (receivers (length ports.now.boxes) frames.now) < self.old.room }
-        requires fits { length (all_entries self.old.journal) + (steps + length (receivers (length ports.now.boxes) frames.now))
+    pub fn run_alone(&mut self, steps: u64, ports: &Ports, frames: &[Frame])
+        requires room { length (targets_of (length ports.now.boxes) frames.now) < self.old.room }
+        requires fits { length (all_entries self.old.journal) + (steps + length (targets_of (length ports.now.boxes) frames.now))
             < number_limit }
         ensures { self.new.journal
             ≡ with_history self.old.journal
@@ -309,14 +308,14 @@ impl Journal {
     }
 
     /// How many frames arrived in the epoch that runs.
-    pub(crate) fn arrived(&self) -> usize
+    pub fn arrived(&self) -> usize
         ensures { result ≡ length (arrived_numbers self.now.journal.running) }
     {
         self.running.arrivals.len()
     }
 
     /// How many frames the kept epochs took in.
-    pub(crate) fn taken_in(&self) -> u64
+    pub fn taken_in(&self) -> u64
         ensures count { result ≡ length (arrived_numbers (kept_entries self.now.journal)) }
         ensures fits { length self.now.journal.history + result < number_limit }
     {
@@ -324,7 +323,7 @@ impl Journal {
     }
 
     /// What is kept is discarded: the frames that it took in are dropped, and the history has room for so many more stored entries then.
-    pub(crate) fn go_live(&mut self, more: usize) -> Result<(), MemoryWanted>
+    pub fn go_live(&mut self, more: usize) -> Result<(), MemoryWanted>
         requires fits { length self.old.journal.history + length (arrived_numbers (kept_entries self.old.journal)) + more < number_limit }
         ensures ok { OnOk result (self.new.journal
             ≡ with_history (discarded self.old.journal) (drops_of_taken_in (kept_entries self.old.journal))) }
@@ -343,13 +342,7 @@ impl Journal {
 
     /// Those frames of these lists land at these ports that have a number below `end`, where the first of all has the number `first`, and
     /// what becomes of them goes to the history, in the room that was reserved.
-    pub(crate) fn land_kept(
-        &mut self,
-        ports: &mut Ports,
-        first: u64,
-        end: u64,
-        lists: &[Vec<Frame>],
-    )
+    pub fn land_kept(&mut self, ports: &mut Ports, first: u64, end: u64, lists: &[Vec<Frame>])
         requires frames { All (λ v. All IsFrame v.items) lists.now }
         requires room { length (entries_after ports.old first (take (end - first) (all_frames (map (λ v. v.items) lists.now))))
             ≤ self.old.room }

@@ -1,47 +1,32 @@
 //! What landings add to the history: for each frame and each of its clients, that it lands, or is dropped at a full box. What leaves the
 //! gate lands so; what a backup kept does where it hadn't come yet.
-ghost use Rattle.std.specs.Prelude.{◌≡◌, ℕ, ◌+◌, ◌-◌, ◌*◌, ◌^◌, ◌≤◌, ◌<◌, ◌++◌, [], ◌∷◌, All, length, map, take, IsTrue, ◌↔◌};
-ghost use Rattle.frame_ports.specs.Addresses.{IsFrame, clients_of, targets_of};
+ghost use Rattle.std.specs.Prelude.{◌≡◌, ◌+◌, ◌-◌, ◌*◌, ◌^◌, ◌≤◌, ◌<◌, ◌++◌, [], ◌∷◌, All, length, map, take};
+ghost use Rattle.frame_ports.specs.Addresses.{IsFrame, targets_of};
 ghost use Rattle.frame_ports.specs.Limits.{number_limit};
 ghost use Rattle.frame_ports.specs.Ports.{IsClient};
-ghost use Rattle.output_gate.specs.Landings.{clients_for, landed_for, ports_after};
+ghost use Rattle.output_gate.specs.Landings.{landed_for, ports_after};
 ghost use Rattle.pair_history.specs.Landings.{landings};
-ghost use Rattle.pair_record.specs.internal.Lengths.{receivers, landing_by, landings_by, lengths_at, lengths_after, AreLengths};
-ghost use Rattle.pair_record.specs.internal.NewFrames.{new_one, new_for, new_after};
-ghost use Rattle.pair_record.specs.Kept.{all_frames, entries_of_landing, entries_for, entries_after};
+ghost use Rattle.pair_journal.specs.internal.Lengths.{landing_by, landings_by, lengths_at, lengths_after, AreLengths};
+ghost use Rattle.pair_journal.specs.internal.NewFrames.{new_one, new_for, new_after};
+ghost use Rattle.pair_journal.specs.LandedEntries.{all_frames, entries_of_landing, entries_for, entries_after};
 
-use frame_ports::{BOX_FRAMES, Landing, MAX_CLIENTS, NUMBER_LIMIT, Ports};
+use crate::routes::receivers_of;
+use frame_ports::{BOX_FRAMES, Landing, NUMBER_LIMIT, Ports};
 use pair_history::{Entry, Frame, History};
 
 /// A place for the length of each client's box.
 type Lengths = [usize; 16];
 
-/// To how many clients the frame goes.
-fn count_receivers(ports: &Ports, frame: &Frame) -> u64
-    ensures count { result ≡ length (clients_of (length ports.now.boxes) frame.now.items) }
-    ensures few { result ≤ 16 }
-{
-    let targets = ports.route(frame);
-    let clients = ports.clients();
-    let mut count = 0;
-    let (first, end) = targets.span(clients);
-    for client in first..end {
-        if targets.contains(client) {
-            count += 1;
-        }
-    }
-    count
-}
-
 /// To how many clients the frames go, all in all.
-pub(crate) fn count_landings(ports: &Ports, frames: &[Frame]) -> u64
+pub fn count_landings(ports: &Ports, frames: &[Frame]) -> u64
     requires { length frames.now ≤ 2 ^ 58 }
-    ensures count { result ≡ length (receivers (length ports.now.boxes) frames.now) }
+    ensures count { result ≡ length (targets_of (length ports.now.boxes) frames.now) }
     ensures few { result ≤ 16 * length frames.now }
 {
     let mut count = 0;
     for frame in frames {
-        count += count_receivers(ports, frame);
+        let clients = receivers_of(ports, frame);
+        count += clients.as_slice().len() as u64;
     }
     count
 }
@@ -79,35 +64,31 @@ fn add_landing(history: &mut History, lengths: &mut Lengths, client: u64)
     }
 }
 
-/// Adds what becomes of one frame, for each of its clients.
-fn add_frame(history: &mut History, lengths: &mut Lengths, ports: &Ports, frame: &Frame)
-    requires room { length (clients_of (length ports.now.boxes) frame.now.items) ≤ history.old.room }
-    requires fits { length history.old.entries + length (clients_of (length ports.now.boxes) frame.now.items) < 2 ^ 62 }
-    ensures entries { history.new.entries
-        ≡ history.old.entries ++ landings_by lengths.old (clients_of (length ports.now.boxes) frame.now.items) }
-    ensures room { history.old.room ≤ history.new.room + length (clients_of (length ports.now.boxes) frame.now.items) }
-    ensures lengths { lengths.new ≡ lengths_after lengths.old (clients_of (length ports.now.boxes) frame.now.items) }
+/// Adds what becomes of one frame, for each of these clients.
+fn add_frame(history: &mut History, lengths: &mut Lengths, clients: &[u64])
+    requires known { All (λ c. (1 ≤ c) × (c ≤ 16)) clients.now }
+    requires room { length clients.now ≤ history.old.room }
+    requires fits { length history.old.entries + length clients.now < 2 ^ 62 }
+    ensures entries { history.new.entries ≡ history.old.entries ++ landings_by lengths.old clients.now }
+    ensures room { history.old.room ≤ history.new.room + length clients.now }
+    ensures lengths { lengths.new ≡ lengths_after lengths.old clients.now }
 {
-    let targets = ports.route(frame);
-    let clients = ports.clients();
-    let (first, end) = targets.span(clients);
-    for client in first..end {
-        if targets.contains(client) {
-            add_landing(history, lengths, client);
-        }
+    for client in clients {
+        add_landing(history, lengths, *client);
     }
 }
 
 /// Adds what becomes of all the frames once they land in these ports.
 pub(crate) fn add_landings(history: &mut History, ports: &Ports, frames: &[Frame])
-    requires room { length (receivers (length ports.now.boxes) frames.now) ≤ history.old.room }
-    requires fits { length history.old.entries + length (receivers (length ports.now.boxes) frames.now) < 2 ^ 62 }
+    requires room { length (targets_of (length ports.now.boxes) frames.now) ≤ history.old.room }
+    requires fits { length history.old.entries + length (targets_of (length ports.now.boxes) frames.now) < 2 ^ 62 }
     ensures { history.new.entries
         ≡ history.old.entries ++ landings ports.now.boxes (targets_of (length ports.now.boxes) frames.now) }
 {
     let mut lengths = box_lengths(ports);
     for frame in frames {
-        add_frame(history, &mut lengths, ports, frame);
+        let clients = receivers_of(ports, frame);
+        add_frame(history, &mut lengths, clients.as_slice());
     }
 }
 
@@ -128,26 +109,19 @@ fn add_landed(history: &mut History, client: u64, landing: Landing)
     }
 }
 
-/// Lands one frame, under its number, for each of its clients, and adds what became of it.
-fn land_frame(history: &mut History, ports: &mut Ports, number: u64, frame: &Frame)
+/// Lands one frame, under its number, for each of these clients, and adds what became of it.
+fn land_frame(history: &mut History, ports: &mut Ports, clients: &[u64], number: u64, frame: &Frame)
+    requires known { All (IsClient ports.old) clients.now }
     requires frame { IsFrame frame.now }
-    requires room { length (entries_for ports.old (clients_for ports.old frame.now) number frame.now) ≤ history.old.room }
-    requires fits { length history.old.entries
-        + length (entries_for ports.old (clients_for ports.old frame.now) number frame.now) < 2 ^ 62 }
-    ensures entries { history.new.entries
-        ≡ history.old.entries ++ entries_for ports.old (clients_for ports.old frame.now) number frame.now }
-    ensures room { history.old.room
-        ≤ history.new.room + length (entries_for ports.old (clients_for ports.old frame.now) number frame.now) }
-    ensures ports { ports.new ≡ landed_for ports.old (clients_for ports.old frame.now) number frame.now }
+    requires room { length (entries_for ports.old clients.now number frame.now) ≤ history.old.room }
+    requires fits { length history.old.entries + length (entries_for ports.old clients.now number frame.now) < 2 ^ 62 }
+    ensures entries { history.new.entries ≡ history.old.entries ++ entries_for ports.old clients.now number frame.now }
+    ensures room { history.old.room ≤ history.new.room + length (entries_for ports.old clients.now number frame.now) }
+    ensures ports { ports.new ≡ landed_for ports.old clients.now number frame.now }
 {
-    let targets = ports.route(frame);
-    let clients = ports.clients();
-    let (first, end) = targets.span(clients);
-    for client in first..end {
-        if targets.contains(client) {
-            let landing = ports.land(client, number, frame);
-            add_landed(history, client, landing);
-        }
+    for client in clients {
+        let landing = ports.land(*client, number, frame);
+        add_landed(history, *client, landing);
     }
 }
 
@@ -163,7 +137,8 @@ fn land_frames(history: &mut History, ports: &mut Ports, first: u64, frames: &[F
 {
     let mut number = first;
     for frame in frames {
-        land_frame(history, ports, number, frame);
+        let clients = receivers_of(ports, frame);
+        land_frame(history, ports, clients.as_slice(), number, frame);
         number += 1;
     }
 }
@@ -210,24 +185,22 @@ pub(crate) fn land_lists(
 /// 1 where the frame of that number is new for the client, and else 0.
 fn count_if_new(ports: &Ports, client: u64, number: u64) -> u64
     requires { IsClient ports.now client }
-    ensures { result ≡ new_one ports.now client number }
+    ensures count { result ≡ new_one ports.now client number }
+    ensures few { result ≤ 1 }
 {
     if ports.is_new(client, number) { 1 } else { 0 }
 }
 
-/// For how many of its clients the frame of that number is new.
-fn count_new(ports: &Ports, number: u64, frame: &Frame) -> u64
-    ensures count { result ≡ new_for ports.now (clients_for ports.now frame.now) number }
+/// For how many of these clients the frame of that number is new.
+fn count_new(ports: &Ports, clients: &[u64], number: u64) -> u64
+    requires known { All (IsClient ports.now) clients.now }
+    requires few { length clients.now ≤ 16 }
+    ensures count { result ≡ new_for ports.now clients.now number }
     ensures few { result ≤ 16 }
 {
-    let targets = ports.route(frame);
-    let clients = ports.clients();
     let mut count = 0;
-    let (first, end) = targets.span(clients);
-    for client in first..end {
-        if targets.contains(client) {
-            count += count_if_new(ports, client, number);
-        }
+    for client in clients {
+        count += count_if_new(ports, *client, number);
     }
     count
 }
@@ -242,14 +215,15 @@ fn count_new_frames(ports: &Ports, first: u64, frames: &[Frame]) -> u64
     let mut number = first;
     let mut count = 0;
     for frame in frames {
-        count = NUMBER_LIMIT.min(count + count_new(ports, number, frame));
+        let clients = receivers_of(ports, frame);
+        count = NUMBER_LIMIT.min(count + count_new(ports, clients.as_slice(), number));
         number += 1;
     }
     count
 }
 
 /// How many entries [`land_lists`] of these lists adds: as many as it does, but at most 2^62.
-pub(crate) fn count_lists(ports: &Ports, first: u64, end: u64, lists: &[Vec<Frame>]) -> u64
+pub fn count_lists(ports: &Ports, first: u64, end: u64, lists: &[Vec<Frame>]) -> u64
     ensures limit { result ≤ number_limit }
     ensures most { result ≤ length (entries_after ports.now first (take (end - first) (all_frames (map (λ v. v.items) lists.now)))) }
     ensures exact { result < number_limit

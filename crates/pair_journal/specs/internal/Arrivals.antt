@@ -1,7 +1,7 @@
 -- How an epoch is stored: its arrivals, each with the steps since the one before, and the steps behind the last.
 use Rattle.std.specs.Prelude.{ℕ, List, [], ◌∷◌, ◌++◌, replicate, map, flat_map}
-use Rattle.pair_record.specs.declared.epochs.Arrival.{Arrival}
-use Rattle.pair_record.specs.declared.epochs.RunningEpoch.{RunningEpoch}
+use Rattle.pair_journal.specs.declared.epochs.Arrival.{Arrival}
+use Rattle.pair_journal.specs.declared.epochs.RunningEpoch.{RunningEpoch}
 use Rattle.pair_history.specs.Entries.{Entry, Ran, Arrive}
 
 abbrev pub steps_of : ℕ → List Entry

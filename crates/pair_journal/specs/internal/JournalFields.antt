@@ -2,10 +2,10 @@
 use Rattle.std.specs.Prelude.{◌≡◌, ◌+◌, ◌-◌, ◌<◌, List, length, map, vec_len, vec_capacity}
 use Rattle.frame_ports.specs.Limits.{number_limit}
 use Rattle.pair_history.specs.Entries.{Entry}
-use Rattle.pair_record.specs.declared.epochs.RunningEpoch.{RunningEpoch}
-use Rattle.pair_record.specs.declared.journal.Journal.TheInside.{Inside}
-use Rattle.pair_record.specs.internal.Arrivals.{epoch_entries}
-use Rattle.pair_record.specs.Journal.{Stored, kept_entries}
+use Rattle.pair_journal.specs.declared.epochs.RunningEpoch.{RunningEpoch}
+use Rattle.pair_journal.specs.declared.journal.Journal.TheInside.{Inside}
+use Rattle.pair_journal.specs.internal.Arrivals.{epoch_entries}
+use Rattle.pair_journal.specs.Journal.{Stored, kept_entries}
 
 abbrev pub epoch_of : RunningEpoch → List Entry
 epoch_of e = epoch_entries e.arrivals.items e.steps

@@ -1,6 +1,6 @@
 -- How many places of the stored history epochs take.
 use Rattle.std.specs.Prelude.{ℕ, ◌+◌, ◌*◌, List, [], ◌∷◌, length}
-use Rattle.pair_record.specs.declared.epochs.RunningEpoch.{RunningEpoch}
+use Rattle.pair_journal.specs.declared.epochs.RunningEpoch.{RunningEpoch}
 
 -- at most two for each arrival, one for its steps and one for itself, and one for the steps behind the last
 abbrev pub places_of : List RunningEpoch → ℕ

@@ -1,7 +1,7 @@
 use Rattle.std.proofs.Common.{◌≡◌, ◌+◌, ◌≤◌, ◌++◌, length, drop}
 use Rattle.std.specs.Prelude.{map}
 use Rattle.pair_history.specs.Entries.{DropIn}
-use Rattle.pair_record.proofs.discards.add_drops_in.Given as goal
+use Rattle.pair_journal.proofs.discards.add_drops_in.Given as goal
 
 abbrev pub invariant-loop-number : goal.invariant-loop-number
 invariant-loop-number l = record {

@@ -1,6 +1,6 @@
 use Rattle.std.proofs.Common.{◌≡◌, ◌++◌, drop}
-use Rattle.pair_record.specs.internal.Arrivals.{numbers_in}
-use Rattle.pair_record.proofs.discards.push_all_numbers.Given as goal
+use Rattle.pair_journal.specs.internal.Arrivals.{numbers_in}
+use Rattle.pair_journal.proofs.discards.push_all_numbers.Given as goal
 
 abbrev pub invariant-loop-epoch : goal.invariant-loop-epoch
 invariant-loop-epoch l = record {

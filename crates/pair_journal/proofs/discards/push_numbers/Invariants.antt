@@ -1,6 +1,6 @@
 use Rattle.std.proofs.Common.{◌≡◌, ◌++◌, drop}
-use Rattle.pair_record.specs.internal.Arrivals.{numbers_of}
-use Rattle.pair_record.proofs.discards.push_numbers.Given as goal
+use Rattle.pair_journal.specs.internal.Arrivals.{numbers_of}
+use Rattle.pair_journal.proofs.discards.push_numbers.Given as goal
 
 abbrev pub invariant-loop-arrival : goal.invariant-loop-arrival
 invariant-loop-arrival l = record {

@@ -1,6 +1,6 @@
 use Rattle.std.proofs.Common.{◌≡◌, ◌+◌, ◌*◌, ◌≤◌, ◌++◌, length, drop}
-use Rattle.pair_record.specs.internal.Arrivals.{epoch_entries}
-use Rattle.pair_record.proofs.epochs.add_epoch.Given as goal
+use Rattle.pair_journal.specs.internal.Arrivals.{epoch_entries}
+use Rattle.pair_journal.proofs.epochs.add_epoch.Given as goal
 
 abbrev pub invariant-loop-arrival : goal.invariant-loop-arrival
 invariant-loop-arrival l = record {

@@ -1,7 +1,9 @@
 use Rattle.std.proofs.Common.{◌≡◌, ◌+◌, ◌≤◌, ◌++◌, drop}
 use Rattle.std.specs.Prelude.{map}
-use Rattle.pair_record.specs.{Journal.joined, internal.JournalFields.epoch_of, internal.Places.places_of}
-use Rattle.pair_record.proofs.epochs.add_epochs.Given as goal
+use Rattle.pair_journal.specs.Journal.{joined}
+use Rattle.pair_journal.specs.internal.JournalFields.{epoch_of}
+use Rattle.pair_journal.specs.internal.Places.{places_of}
+use Rattle.pair_journal.proofs.epochs.add_epochs.Given as goal
 
 abbrev pub invariant-loop-epoch : goal.invariant-loop-epoch
 invariant-loop-epoch l = record {

@@ -1,7 +1,7 @@
 use Rattle.std.proofs.Common.{arith, ◌≡◌, ◌+◌, ◌-◌, ◌^◌, ◌<◌, ℕ, min}
 use Rattle.std.proofs.lemmas.List.{at_drop_more}
-use Rattle.pair_record.specs.internal.Places.{places_of}
-use Rattle.pair_record.proofs.epochs.places_with.Goals as goal
+use Rattle.pair_journal.specs.internal.Places.{places_of}
+use Rattle.pair_journal.proofs.epochs.places_with.Goals as goal
 
 -- a sum that a list has room for is none that was cut
 whole : (places more sum : ℕ) → sum ≡ min (places + more) (2 ^ 64 - 1) → sum < 2 ^ 63 → sum ≡ places + more

@@ -1,19 +1,13 @@
-use Rattle.std.proofs.Common.{◌≡◌, ◌+◌, ◌≤◌, ◌++◌, length}
-use Rattle.frame_ports.specs.Addresses.{clients_of}
-use Rattle.pair_record.specs.internal.Lengths.{landings_by, lengths_after}
-use Rattle.pair_record.proofs.Receivers.{from_on}
-use Rattle.pair_record.proofs.landings.add_frame.Given as goal
+use Rattle.std.proofs.Common.{◌≡◌, ◌+◌, ◌≤◌, ◌++◌, length, drop}
+use Rattle.pair_journal.specs.internal.Lengths.{landings_by, lengths_after}
+use Rattle.pair_journal.proofs.landings.add_frame.Given as goal
 
 abbrev pub invariant-loop-client : goal.invariant-loop-client
 invariant-loop-client l = record {
-  first : 1 ≤ l.client;
   places : length l.lengths ≡ 16;
-  entries : l.history.entries ++ landings_by l.lengths (from_on l.clients l.client l.frame.items)
-      ≡ l.initial.history.entries ++ landings_by l.initial.lengths (clients_of l.clients l.frame.items);
-  lengths : lengths_after l.lengths (from_on l.clients l.client l.frame.items)
-      ≡ lengths_after l.initial.lengths (clients_of l.clients l.frame.items);
-  size : length l.history.entries + length (from_on l.clients l.client l.frame.items)
-      ≡ length l.initial.history.entries + length (clients_of l.clients l.frame.items);
-  room : l.initial.history.room + length (from_on l.clients l.client l.frame.items)
-      ≤ l.history.room + length (clients_of l.clients l.frame.items);
+  entries : l.history.entries ++ landings_by l.lengths (drop l.client-index l.clients)
+      ≡ l.initial.history.entries ++ landings_by l.initial.lengths l.clients;
+  lengths : lengths_after l.lengths (drop l.client-index l.clients) ≡ lengths_after l.initial.lengths l.clients;
+  size : length l.history.entries ≡ length l.initial.history.entries + l.client-index;
+  room : l.initial.history.room ≤ l.history.room + l.client-index;
 }

@@ -1,6 +1,6 @@
 use Rattle.std.proofs.Common.{◌≡◌, ◌+◌, ◌≤◌, ◌++◌, length, drop}
-use Rattle.pair_record.specs.internal.Lengths.{receivers, landings_by}
-use Rattle.pair_record.proofs.landings.add_landings.Given as goal
+use Rattle.pair_journal.specs.internal.Lengths.{receivers, landings_by}
+use Rattle.pair_journal.proofs.landings.add_landings.Given as goal
 
 abbrev pub invariant-loop-frame : goal.invariant-loop-frame
 invariant-loop-frame l = record {

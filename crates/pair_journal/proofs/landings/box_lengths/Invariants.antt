@@ -1,5 +1,5 @@
 use Rattle.std.proofs.Common.{◌≡◌, ℕ, ◌+◌, ◌<◌, ◌≤◌, [], length, get_or}
-use Rattle.pair_record.proofs.landings.box_lengths.Given as goal
+use Rattle.pair_journal.proofs.landings.box_lengths.Given as goal
 
 abbrev pub invariant-loop-client : goal.invariant-loop-client
 invariant-loop-client l = record {

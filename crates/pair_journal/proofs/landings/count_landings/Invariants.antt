@@ -1,6 +1,6 @@
 use Rattle.std.proofs.Common.{◌≡◌, ◌+◌, ◌*◌, ◌≤◌, length, drop}
-use Rattle.pair_record.specs.internal.Lengths.{receivers}
-use Rattle.pair_record.proofs.landings.count_landings.Given as goal
+use Rattle.pair_journal.specs.internal.Lengths.{receivers}
+use Rattle.pair_journal.proofs.landings.count_landings.Given as goal
 
 abbrev pub invariant-loop-frame : goal.invariant-loop-frame
 invariant-loop-frame l = record {

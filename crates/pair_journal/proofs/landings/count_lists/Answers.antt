@@ -2,10 +2,12 @@ use Rattle.std.proofs.Common.{◌≡◌, ◌+◌, ◌-◌, ◌++◌, [], List, l
 use Rattle.std.proofs.Common.{ap, ◌∙◌, sym, arith, map}
 use Rattle.std.proofs.lemmas.List.{drop_all, get_or-map, length-map, take_all}
 use Rattle.pair_history.specs.Entries.{Frame}
-use Rattle.pair_record.specs.{internal.NewFrames.new_after, Kept.all_frames}
-use Rattle.pair_record.proofs.{BroughtLaws.{cut-parts, list_more}, NewFrameLaws.{new_is, new-append}}
-use Rattle.pair_record.proofs.landings.count_lists.Goals.{After-up_to-known}
-use Rattle.pair_record.proofs.landings.count_lists.Goals as goal
+use Rattle.pair_journal.specs.internal.NewFrames.{new_after}
+use Rattle.pair_journal.specs.LandedEntries.{all_frames}
+use Rattle.pair_journal.proofs.LandedEntryLaws.{cut-parts, list_more}
+use Rattle.pair_journal.proofs.NewFrameLaws.{new_is, new-append}
+use Rattle.pair_journal.proofs.landings.count_lists.Goals.{After-up_to-known}
+use Rattle.pair_journal.proofs.landings.count_lists.Goals as goal
 
 abbrev lists : (c : After-up_to-known) → List (List Frame)
 lists c = map (λ v. v.items) c.args.lists.now

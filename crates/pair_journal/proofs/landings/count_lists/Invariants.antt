@@ -1,8 +1,9 @@
 -- What remains to be counted from this list on.
 use Rattle.std.proofs.Common.{◌≡◌, ◌+◌, ◌-◌, ◌≤◌, ◌<◌, take, drop, map}
 use Rattle.frame_ports.specs.Limits.{number_limit}
-use Rattle.pair_record.specs.{internal.NewFrames.new_after, Kept.all_frames}
-use Rattle.pair_record.proofs.landings.count_lists.Given as goal
+use Rattle.pair_journal.specs.internal.NewFrames.{new_after}
+use Rattle.pair_journal.specs.LandedEntries.{all_frames}
+use Rattle.pair_journal.proofs.landings.count_lists.Given as goal
 
 abbrev pub invariant-loop-frames : goal.invariant-loop-frames
 invariant-loop-frames l = record {

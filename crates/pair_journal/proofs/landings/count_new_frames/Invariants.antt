@@ -1,8 +1,8 @@
 -- What remains to be counted from this frame on.
 use Rattle.std.proofs.Common.{◌≡◌, ◌+◌, ◌≤◌, ◌<◌, drop}
 use Rattle.frame_ports.specs.Limits.{number_limit}
-use Rattle.pair_record.specs.internal.NewFrames.{new_after}
-use Rattle.pair_record.proofs.landings.count_new_frames.Given as goal
+use Rattle.pair_journal.specs.internal.NewFrames.{new_after}
+use Rattle.pair_journal.proofs.landings.count_new_frames.Given as goal
 
 abbrev pub invariant-loop-frame : goal.invariant-loop-frame
 invariant-loop-frame l = record {

@@ -1,8 +1,8 @@
 -- What remains to be done for the frames from this one on.
 use Rattle.std.proofs.Common.{◌≡◌, ◌+◌, ◌≤◌, ◌++◌, length, drop}
 use Rattle.output_gate.specs.Landings.{ports_after}
-use Rattle.pair_record.specs.Kept.{entries_after}
-use Rattle.pair_record.proofs.landings.land_frames.Given as goal
+use Rattle.pair_journal.specs.LandedEntries.{entries_after}
+use Rattle.pair_journal.proofs.landings.land_frames.Given as goal
 
 abbrev pub invariant-loop-frame : goal.invariant-loop-frame
 invariant-loop-frame l = record {

@@ -7,10 +7,10 @@ use Rattle.frame_ports.specs.{Addresses.IsFrame, Ports.PortsState}
 use Rattle.output_gate.specs.Landings.{ports_after}
 use Rattle.output_gate.proofs.PortsAfterLaws.{ports_after-append}
 use Rattle.pair_history.specs.Entries.{Frame, Entry}
-use Rattle.pair_record.specs.Kept.{all_frames, entries_after}
-use Rattle.pair_record.proofs.BroughtLaws.{cut-parts, entries-append, list_more}
-use Rattle.pair_record.proofs.landings.land_lists.Goals.{After-up_to-known}
-use Rattle.pair_record.proofs.landings.land_lists.Goals as goal
+use Rattle.pair_journal.specs.LandedEntries.{all_frames, entries_after}
+use Rattle.pair_journal.proofs.LandedEntryLaws.{cut-parts, entries-append, list_more}
+use Rattle.pair_journal.proofs.landings.land_lists.Goals.{After-up_to-known}
+use Rattle.pair_journal.proofs.landings.land_lists.Goals as goal
 
 abbrev lists : (c : After-up_to-known) → List (List Frame)
 lists c = map (λ v. v.items) c.args.lists.now

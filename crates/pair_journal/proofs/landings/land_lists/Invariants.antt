@@ -1,8 +1,8 @@
 -- What remains to be done for the lists from this one on.
 use Rattle.std.proofs.Common.{◌≡◌, ◌+◌, ◌-◌, ◌≤◌, ◌++◌, length, take, drop, map}
 use Rattle.output_gate.specs.Landings.{ports_after}
-use Rattle.pair_record.specs.Kept.{all_frames, entries_after}
-use Rattle.pair_record.proofs.landings.land_lists.Given as goal
+use Rattle.pair_journal.specs.LandedEntries.{all_frames, entries_after}
+use Rattle.pair_journal.proofs.landings.land_lists.Given as goal
 
 abbrev pub invariant-loop-frames : goal.invariant-loop-frames
 invariant-loop-frames l = record {

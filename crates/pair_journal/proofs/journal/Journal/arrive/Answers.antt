@@ -1,8 +1,9 @@
 use Rattle.std.proofs.{Common.{rules, ◌≡◌, ◌++◌, ◌∷◌, [], arith}, lemmas.List.length-append}
 use Rattle.pair_history.specs.Entries.{Arrive}
-use Rattle.pair_record.specs.internal.Arrivals.{epoch_entries}
-use Rattle.pair_record.proofs.{JournalLaws.{epoch-arrives, length-all}, journal.Journal.arrive.Goals.After-unwrap}
-use Rattle.pair_record.proofs.journal.Journal.arrive.Goals as goal
+use Rattle.pair_journal.specs.internal.Arrivals.{epoch_entries}
+use Rattle.pair_journal.proofs.JournalLaws.{epoch-arrives, length-all}
+use Rattle.pair_journal.proofs.journal.Journal.arrive.Goals.{After-unwrap}
+use Rattle.pair_journal.proofs.journal.Journal.arrive.Goals as goal
 
 running_is : (c : After-unwrap) → epoch_entries c.push.new.self.items 0
     ≡ epoch_entries c.self.inside.running.arrivals.items c.self.inside.running.steps ++ Arrive c.args.number ∷ []

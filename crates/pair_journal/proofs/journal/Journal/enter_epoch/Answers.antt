@@ -1,11 +1,14 @@
 use Rattle.std.proofs.Common.{rules, arith, ◌≡◌, ◌∙◌, ◌+◌, ◌≤◌, ◌++◌, [], length, sym, ap}
 use Rattle.std.proofs.lemmas.List.{length-append}
-use Rattle.pair_record.specs.{EpochActs.{guest_epoch, behind}, Journal.joined, internal.Arrivals.epoch_entries}
-use Rattle.pair_record.specs.internal.JournalFields.{epoch_of, stored}
-use Rattle.pair_record.proofs.{EpochLaws.{first-is, others-are, length-parted}, JournalLaws.{length-all, length-kept}}
-use Rattle.pair_record.proofs.LiveLaws.{arrived-count}
-use Rattle.pair_record.proofs.journal.Journal.enter_epoch.Goals.{After-as_slice-2}
-use Rattle.pair_record.proofs.journal.Journal.enter_epoch.Goals as goal
+use Rattle.pair_journal.specs.Epochs.{guest_epoch, behind}
+use Rattle.pair_journal.specs.Journal.{joined}
+use Rattle.pair_journal.specs.internal.Arrivals.{epoch_entries}
+use Rattle.pair_journal.specs.internal.JournalFields.{epoch_of, stored}
+use Rattle.pair_journal.proofs.EpochLaws.{first-is, others-are, length-parted}
+use Rattle.pair_journal.proofs.JournalLaws.{length-all, length-kept}
+use Rattle.pair_journal.proofs.ArrivedLaws.{arrived-count}
+use Rattle.pair_journal.proofs.journal.Journal.enter_epoch.Goals.{After-as_slice-2}
+use Rattle.pair_journal.proofs.journal.Journal.enter_epoch.Goals as goal
 
 pub slice_bounds-first-end : goal.slice_bounds-first-end
 slice_bounds-first-end c = search (arith, rules, arrived-count)

@@ -1,11 +1,12 @@
 use Rattle.std.proofs.{Common.{rules, ◌≡◌, ◌++◌, length, sym, ap, arith}, lemmas.List.length-append}
 use Rattle.std.specs.Prelude.{map}
 use Rattle.pair_history.specs.Failures.{drops_of_taken_in}
-use Rattle.pair_record.specs.{internal.Arrivals.epoch_entries, Journal.{joined, kept_entries}}
-use Rattle.pair_record.specs.internal.JournalFields.{stored, epoch_of}
-use Rattle.pair_record.proofs.LiveLaws.{as_many, length-drops, live_history}
-use Rattle.pair_record.proofs.journal.Journal.go_live.Goals.{After-as_slice-2, After-add_drops_in}
-use Rattle.pair_record.proofs.journal.Journal.go_live.Goals as goal
+use Rattle.pair_journal.specs.internal.Arrivals.{epoch_entries}
+use Rattle.pair_journal.specs.Journal.{joined, kept_entries}
+use Rattle.pair_journal.specs.internal.JournalFields.{stored, epoch_of}
+use Rattle.pair_journal.proofs.ArrivedLaws.{as_many, length-drops, live_history}
+use Rattle.pair_journal.proofs.journal.Journal.go_live.Goals.{After-as_slice-2, After-add_drops_in}
+use Rattle.pair_journal.proofs.journal.Journal.go_live.Goals as goal
 
 -- as many numbers as were counted
 numbers : (c : After-as_slice-2) → length c.as_slice-2.result.now ≡ c.taken_in-count.result

@@ -1,11 +1,14 @@
 use Rattle.std.proofs.Common.{rules, arith, ◌≡◌, ◌≤◌, ◌++◌, ◌∷◌, [], length}
 use Rattle.std.proofs.lemmas.List.{map-append}
 use Rattle.std.specs.Prelude.{map}
-use Rattle.pair_record.specs.{EpochActs.{guest_epoch, behind}, Journal.{joined, kept_entries, sealed_as}}
-use Rattle.pair_record.specs.internal.JournalFields.{epoch_of, stored}
-use Rattle.pair_record.proofs.{EpochLaws.{first-is, others-are, kept-sealed}, JournalLaws.{length-all, length-kept}, LiveLaws.arrived-count}
-use Rattle.pair_record.proofs.journal.Journal.seal_epoch.Goals.{After-self-1}
-use Rattle.pair_record.proofs.journal.Journal.seal_epoch.Goals as goal
+use Rattle.pair_journal.specs.Epochs.{guest_epoch, behind}
+use Rattle.pair_journal.specs.Journal.{joined, kept_entries, sealed_as}
+use Rattle.pair_journal.specs.internal.JournalFields.{epoch_of, stored}
+use Rattle.pair_journal.proofs.EpochLaws.{first-is, others-are, kept-sealed}
+use Rattle.pair_journal.proofs.JournalLaws.{length-all, length-kept}
+use Rattle.pair_journal.proofs.ArrivedLaws.{arrived-count}
+use Rattle.pair_journal.proofs.journal.Journal.seal_epoch.Goals.{After-self-1}
+use Rattle.pair_journal.proofs.journal.Journal.seal_epoch.Goals as goal
 
 pub split-requires : goal.split-requires
 split-requires c = search (arith, rules, arrived-count)

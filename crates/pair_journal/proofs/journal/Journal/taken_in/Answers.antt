@@ -1,6 +1,6 @@
 use Rattle.std.proofs.Common.{rules, arith}
-use Rattle.pair_record.proofs.LiveLaws.{taken_in-count, taken_in-few}
-use Rattle.pair_record.proofs.journal.Journal.taken_in.Goals as goal
+use Rattle.pair_journal.proofs.ArrivedLaws.{taken_in-count, taken_in-few}
+use Rattle.pair_journal.proofs.journal.Journal.taken_in.Goals as goal
 
 pub count_arrivals-requires : goal.count_arrivals-requires
 count_arrivals-requires c = search (arith, rules, taken_in-count, taken_in-few)
