@@ -15,6 +15,7 @@ use Rattle.pair_record.specs.Record.{ports_after_lose_in, ports_after_lose_out}
 use Rattle.pair_record.specs.internal.Accords.{Accords}
 use Rattle.pair_record.proofs.AccordLaws.{kept_now, left_now, kept_is}
 use Rattle.pair_record.proofs.ClientAccords.{lose_in_accords, lose_out_accords}
+pub use Rattle.pair_record.proofs.ClientLaws.{frame_at, some_at}
 use Rattle.growing_history.specs.Steps.{Step, step, Added}
 use Rattle.growing_history.specs.LogState.{line_seat, state_at, after, under_way, AreOwn, AreKnown}
 use Rattle.pair_book.specs.internal.{Tie.IsTied, Waits.AreWaiting}
@@ -27,17 +28,6 @@ client_range c count e = by_test (not (is_among c count)) refl e
     by_test : (t : Bool) → not (is_among c count) ≡ t → first_refusal ((t, NoClient) ∷ []) ≡ None → (1 ≤ c) × (c ≤ count)
     by_test true is e = absurd (cc)
     by_test false is e = grind (arith, nat_tests)
-
--- the frame that has that number
-pub frame_at : (o : Option (ℕ × Frame)) (n : ℕ) → option_map (λ (x : ℕ × Frame). x.0) o ≡ Some n → (f : Frame) × (o ≡ Some (n, f))
-frame_at None n e = absurd (cc)
-frame_at (Some (m, f)) n e = let same : m ≡ n = cc in (f, ap (λ (k : ℕ). Some (k, f)) same)
-
--- the frame at a place where there is one
-pub some_at : {A : Type 0} (xs : List A) (place : ℕ) → place < length xs → (x : A) × (slice_get xs place ≡ Some x)
-some_at [] place l = absurd (omega arith)
-some_at (x ∷ xs) zero l = (x, refl)
-some_at (x ∷ xs) (suc place) l = some_at xs place (omega arith)
 
 -- moves that can be made where the frame of that number doesn't wait don't take it in
 none-takes : (n first end : ℕ) (ws : List Waiting) (ms : List Move) → AreRising first end ws → AllCan ws ms → frame_numbered n ws ≡ None

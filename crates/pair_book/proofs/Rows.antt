@@ -5,7 +5,7 @@ use Rattle.std.specs.Prelude.{not, ◌&&◌, nat_le, length}
 use Rattle.frame_ports.specs.{Addresses.IsFrame, Limits.{inbox_frames, number_limit}, Ports.inbox_of}
 use Rattle.pair_record.specs.declared.event.Refusal.TheVariants.{Full, BadFrame, NoClient, Exhausted}
 use Rattle.pair_record.specs.Protocol.{Row, first_refusal, deliver_refusals, exhausts, is_among, is_bad_length}
-use Rattle.pair_record.proofs.WindowLaws.{is_from, is_below}
+use Rattle.pair_record.proofs.{ClientLaws.frame_range, WindowLaws.{is_from, is_below}}
 use Rattle.pair_book.specs.Books.{BookState}
 use Rattle.pair_book.specs.Calls.{deliver_rows, is_word_full}
 
@@ -41,9 +41,6 @@ at_full false false true full last e = absurd (cc)
 at_full false false false true last e = (refl, refl, refl)
 at_full false false false false true e = absurd (cc)
 at_full false false false false false e = absurd (cc)
-
-frame_range : (bytes : List ℕ) → is_bad_length (length bytes) ≡ false → IsFrame (record { items = bytes })
-frame_range bytes e = grind (arith, nat_tests)
 
 module _ (b : BookState) (c : ℕ) (bytes : List ℕ) (low : 1 ≤ c) (high : c ≤ length b.ports.boxes) where
   abbrev bad : Bool

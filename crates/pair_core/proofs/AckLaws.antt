@@ -7,6 +7,7 @@ use Rattle.std.specs.Prelude.{All, nat_le, nat_lt, remove}
 use Rattle.failover.specs.declared.mode.Mode.TheVariants.{Paired}
 use Rattle.frame_ports.specs.{Addresses.targets_of, Lands.{list_of, with_list}}
 use Rattle.output_gate.specs.Epochs.{Epoch, epoch, frames_of, frames_to, after_number}
+use Rattle.output_gate.proofs.EpochLaws.{frames_to-append}
 use Rattle.pair_history.specs.Entries.{Frame, Entry, Ran, Arrive, Land, DropOut, Took}
 use Rattle.pair_history.specs.{HistoryState.{HistoryState, after, at, out_of}, Landings.DropsAreKnown}
 use Rattle.pair_history.specs.{Leaving.{LeaveInOrder, NotGivenUp, leaving, frames_left}, Released.{sent_to, IsFresh}}
@@ -53,20 +54,10 @@ parts n m a (e ∷ es) p l = by_test (nat_le e.number n) refl (parts n m (a + 1)
         let none = none_below n (a + 1) es p.1 (omega arith) in
         rw is (rw (none.0, none.1) refl)
 
-to-append : (m : ℕ) (es fs : List Epoch) → frames_to m (es ++ fs) ≡ frames_to m es ++ frames_to m fs
-to-append m [] fs = refl
-to-append m (e ∷ es) fs = by_test (nat_le e.number m) (to-append m es fs)
-  where
-    by_test : (t : Bool) → frames_to m (es ++ fs) ≡ frames_to m es ++ frames_to m fs
-        → cond t (e.frames ++ frames_to m (es ++ fs)) (frames_to m (es ++ fs))
-        ≡ cond t (e.frames ++ frames_to m es) (frames_to m es) ++ frames_to m fs
-    by_test true more = ap (λ t. e.frames ++ t) more ∙ sym (append_assoc e.frames (frames_to m es) (frames_to m fs))
-    by_test false more = more
-
 to-later : (m n : ℕ) (es : List Epoch) (fs : List Frame) → m < n → frames_to m (es ++ epoch n fs ∷ []) ≡ frames_to m es
 to-later m n es fs l =
     let none : nat_le n m ≡ false = grind (arith, nat_tests) in
-    to-append m es (epoch n fs ∷ []) ∙ rw none (append-nil (frames_to m es))
+    frames_to-append m es (epoch n fs ∷ []) ∙ rw none (append-nil (frames_to m es))
 
 -- ONE EVENT
 
@@ -405,7 +396,7 @@ module _ (c : ℕ) where
         let long = w.count in
         let fits : r.window.to_acknowledge + length r.pending ≤ m = omega arith in
         let own : frames_to m (r.pending ++ last ∷ []) ≡ frames_of r.pending ++ outbox_of old.start r =
-        to-append m r.pending (last ∷ [])
+        frames_to-append m r.pending (last ∷ [])
         ∙ (λ i. frames_to-all m r.window.to_acknowledge r.pending w.numbers (omega arith) i ++ to-itself m (outbox_of old.start r) i) in
         record {
           cut = omega arith;

@@ -3,6 +3,7 @@ use Rattle.std.proofs.Common.{rules, ◌≡◌, ℕ, zero, suc, ◌+◌, ◌-◌
 use Rattle.std.proofs.Common.{arith, append_assoc, Bool, true, false, cond, inl, inr, Result, Ok, Err}
 use Rattle.std.proofs.lemmas.List.{append-nil, length-append, length-replicate}
 use Rattle.guest_machine.specs.{Guest.Guest, Step.{next, sent}, Runs.{after_steps, sent_in}}
+use Rattle.guest_machine.proofs.RunLemmas.{after_steps-last, no_steps, none_sent, sent_in-last}
 use Rattle.std.specs.Prelude.{nat_lt, ◌&&◌}
 use Rattle.frame_ports.specs.{Addresses.targets_of, Limits.number_limit}
 use Rattle.pair_history.specs.{Entries.{Frame, Ran}, HistoryState.HistoryState, Landings.landings}
@@ -15,15 +16,8 @@ use Rattle.pair_core.specs.{Pair.Pair, Answering.{Answers, step_reply}, Lines.{P
 use Rattle.pair_core.specs.Runs.{StepsAnswer, goes_on, steps_outcome}
 use Rattle.pair_record.proofs.ModeLaws.{alone_not_stopped}
 use Rattle.pair_core.proofs.{AllLands.at_once_holds, Consistent.{live_is, alone_is}}
-use Rattle.pair_core.proofs.StepRuns.{steps_stand, step_goes, no-steps, none-sent, no-steps-answered, more-answered, after_steps-last}
-use Rattle.pair_core.proofs.StepRuns.{replicate-last, one-step-answered}
+use Rattle.pair_core.proofs.StepRuns.{steps_stand, step_goes, no-steps-answered, more-answered, replicate-last, one-step-answered}
 use Rattle.pair_record.specs.declared.event.Reply.TheVariants as replies
-
-sent_in-last : (n : ℕ) (g : Guest) → sent_in (suc n) g ≡ sent_in n g ++ sent (after_steps n g)
-unfolding sent_in after_steps
-sent_in-last zero g = append-nil (sent g)
-sent_in-last (suc n) g = ap (λ (t : List Frame). sent g ++ t) (sent_in-last n (next g))
-    ∙ sym (append_assoc (sent g) (sent_in n (next g)) (sent (after_steps n (next g))))
 
 both_empty : {A : Type 0} (xs ys : List A) → xs ++ ys ≡ [] → (xs ≡ []) × (ys ≡ [])
 both_empty [] ys e = (refl, e)
@@ -99,7 +93,7 @@ module _ (w : Pair) where
     quiet_answered : (n : ℕ) → sent_in n w.nodes.live.guest ≡ [] → length (all_entries w.protocol.state.journal) + (n + 1024) < number_limit
         → frames_run_out w.protocol.state ≡ false
         → (replies.Steps (after_steps n w.nodes.live.guest).steps, (quiet n).protocol.state) ≡ steps_outcome w.start w.protocol.state n
-    quiet_answered zero e fits numbers = search (arith, rules, append-nil, live_is, no-steps, no-steps-answered)
+    quiet_answered zero e fits numbers = search (arith, rules, append-nil, live_is, no_steps, no-steps-answered)
     quiet_answered (suc n) e fits numbers =
         let parts = both_empty (sent_in n w.nodes.live.guest) (sent (after_steps n w.nodes.live.guest))
         (sym (sent_in-last n w.nodes.live.guest) ∙ e) in
@@ -113,7 +107,7 @@ module _ (w : Pair) where
         → length (all_entries w.protocol.state.journal) + (n + 1024) < number_limit → frames_run_out w.protocol.state ≡ false
         → (replies.Steps (after_steps n w.nodes.live.guest).steps, (after_alone n (sent_in n w.nodes.live.guest)).protocol.state)
         ≡ steps_outcome w.start w.protocol.state n
-    alone_answered zero e fits numbers = search (arith, rules, none-sent, quiet_answered)
+    alone_answered zero e fits numbers = search (arith, rules, none_sent, quiet_answered)
     alone_answered (suc n) e fits numbers = search (arith, rules, one_more, quiet_answered, sent_in-last)
 
 -- steps after steps

@@ -14,27 +14,6 @@ use Rattle.pair_core.specs.Answering.{MayWantMemory}
 use Rattle.pair_core.proofs.Outcomes.{seen, stops, goes, client_range, inbox_is}
 use Rattle.pair_record.specs.declared.event.Reply.TheVariants as replies
 
--- a place within a list, and one beyond it
-pub some_at : {A : Type 0} (xs : List A) (i : ℕ) → i < length xs → (x : A) × (slice_get xs i ≡ Some x)
-some_at [] i l = absurd (omega arith)
-some_at (x ∷ xs) zero l = (x, refl)
-some_at (x ∷ xs) (suc i) l = some_at xs i (omega arith)
-
-pub none_at : {A : Type 0} (xs : List A) (i : ℕ) → length xs ≤ i → slice_get xs i ≡ None
-none_at [] i l = refl
-none_at (x ∷ xs) zero l = absurd (omega arith)
-none_at (x ∷ xs) (suc i) l = none_at xs i (omega arith)
-
-pub within : {A : Type 0} (xs : List A) (i : ℕ) (x : A) → slice_get xs i ≡ Some x → i < length xs
-within [] i x e = absurd (cc)
-within (y ∷ xs) zero x e = omega arith
-within (y ∷ xs) (suc i) x e = let l = within xs i x e in omega arith
-
--- a frame whose number is known
-pub numbered : (o : Option (ℕ × Frame)) (n : ℕ) → option_map (λ (x : ℕ × Frame). x.0) o ≡ Some n → (f : Frame) × (o ≡ Some (n, f))
-numbered None n e = absurd (cc)
-numbered (Some x) n e = let is : x.0 ≡ n = cc in (x.1, λ i. Some (is i, x.1))
-
 -- what it looks at
 
 module _ (w : Pair) (h : Holds w) where

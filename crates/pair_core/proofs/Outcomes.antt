@@ -45,10 +45,6 @@ some_first (x ∷ xs) h = (x, refl)
 pub client_range : (c count : ℕ) → not (is_among c count) ≡ false → (1 ≤ c) × (c ≤ count)
 client_range c count e = grind (arith, nat_tests)
 
--- a frame's length, likewise
-pub frame_range : (bytes : List ℕ) → is_bad_length (length bytes) ≡ false → IsFrame (record { items = bytes })
-frame_range bytes e = grind (arith, nat_tests)
-
 -- of a full inbox the rows before don't apply
 pub full_rows : (a b c d e : Bool)
     → first_refusal ((a, NoClient) ∷ (b, BadFrame) ∷ (c, Exhausted) ∷ (d, Full) ∷ (e, Exhausted) ∷ []) ≡ Some Full

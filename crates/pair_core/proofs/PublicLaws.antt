@@ -24,7 +24,7 @@ use Rattle.pair_record.proofs.{ClientAccords.{ack_lands, ack_leaves}, LiveAccord
 use Rattle.pair_core.proofs.Ends.{Ends, answers_end, at_once}
 use Rattle.pair_core.proofs.LineLaws.{below_at}
 use Rattle.pair_core.specs.Lines.{Protocol, got, lines_after}
-use Rattle.pair_core.proofs.LossOutcomes.{within}
+use Rattle.std.proofs.lemmas.Option.{slice_get_within}
 use Rattle.pair_record.specs.declared.event.Reply.TheVariants as replies
 
 -- Each event lets the history grow by entries that drop what it may drop.
@@ -62,7 +62,7 @@ module _ (w : Pair) (h : Holds w) (k : IsRecord w.protocol.state) where
     deliver = λ c bytes. tt;
     take = λ c. by_frame c (slice_get (list_of boxes c) 0);
     lose_in = λ c place x is. (x.0, x.1, is, refl);
-    lose_out = λ c place f is. (within (list_of boxes c) place f is, refl);
+    lose_out = λ c place f is. (slice_get_within (list_of boxes c) place f is, refl);
     fail_primary = λ goes. tt;
     fail_backup = failure_drops w.start w.protocol.state w.ports h.accords;
     go_live = refl;
@@ -133,7 +133,7 @@ module _ (w : Pair) (h : Holds w) (k : IsRecord w.protocol.state) where
     deliver = λ c bytes d. (refl, All-nil NotGivenUp);
     take = λ c d. (refl, All-nil NotGivenUp);
     lose_in = λ c place x is d. (refl, All-nil NotGivenUp);
-    lose_out = λ c place f is. boxed-out c place (within (list_of boxes c) place f is);
+    lose_out = λ c place f is. boxed-out c place (slice_get_within (list_of boxes c) place f is);
     fail_primary = λ goes. none_out;
     fail_backup = tt;
     go_live = go_live_leaves s (kept_entries w.protocol.state.journal) (all_clients w.start w.protocol.state w.ports h.accords)

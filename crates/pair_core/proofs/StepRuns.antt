@@ -1,9 +1,10 @@
 -- What so many steps of the guest leave, and what the protocol answers to them.
 use Rattle.std.proofs.Common.{rules, ◌≡◌, ℕ, zero, suc, ◌+◌, ◌<◌, ◌≤◌, List, [], ◌∷◌, ◌++◌, length, replicate, refl, sym, ap, ◌∙◌, subst}
 use Rattle.std.proofs.Common.{arith, append_assoc, Bool, true, false, cond, Option, None, Some, Result, Ok, Err, OnErr}
-use Rattle.std.proofs.{lemmas.Bool.Decides.nat_tests, lemmas.List.{append-nil, length-append, length-replicate}}
+use Rattle.std.proofs.{lemmas.Bool.{le-ltb, Decides.nat_tests}, lemmas.List.{append-nil, length-append, length-replicate}}
 use Rattle.std.specs.Prelude.{nat_lt, ◌&&◌}
 use Rattle.guest_machine.specs.{Guest.Guest, Step.{next, sent}, Runs.{after_steps, sent_in, marked_in, HaveRoom}}
+use Rattle.guest_machine.proofs.RunLemmas.{after_steps-last, no_steps, none_sent}
 use Rattle.frame_ports.specs.Limits.{number_limit}
 use Rattle.pair_history.specs.{Entries.{Frame, Ran}, HistoryState.HistoryState}
 use Rattle.pair_history.specs.internal.Moves.{Steps, guest_along, frames_along}
@@ -24,22 +25,9 @@ use Rattle.pair_record.specs.declared.event.Reply.TheVariants as replies
 
 -- Runs of the guest alone
 
-pub no-steps : (g : Guest) → after_steps 0 g ≡ g
-unfolding after_steps
-no-steps g = refl
-
-pub none-sent : (g : Guest) → sent_in 0 g ≡ []
-unfolding sent_in
-none-sent g = refl
-
 none-marked : (g : Guest) (ds : List ℕ) → marked_in 0 g ds ≡ ds
 unfolding marked_in
 none-marked g ds = refl
-
-pub after_steps-last : (n : ℕ) (g : Guest) → after_steps (suc n) g ≡ next (after_steps n g)
-unfolding after_steps
-after_steps-last zero g = refl
-after_steps-last (suc n) g = after_steps-last n (next g)
 
 -- the last of several steps has room, and so have those before it
 room-last : (n : ℕ) (g : Guest) (o : List Frame) → HaveRoom (suc n) g o → length (o ++ sent_in n g) ≤ 192
@@ -86,7 +74,7 @@ replicate-last zero = refl
 replicate-last (suc n) = ap (λ t. Ran ∷ t) (replicate-last n)
 
 pub with_no_steps : (w : Pair) → with_steps 0 w ≡ w
-with_no_steps w = search (arith, rules, append-nil, no-steps, none-marked, none-sent)
+with_no_steps w = search (arith, rules, append-nil, no_steps, none-marked, none_sent)
 
 -- each step is one entry more
 pub steps-counted : (n : ℕ) (w : Pair) → length (all_entries (with_steps n w).protocol.state.journal) ≡ length (all_entries w.protocol.state.journal)
@@ -115,12 +103,9 @@ none_applies : (r : Record) (outbox : List Frame) → is_stopped r.mode ≡ fals
     → length (all_entries r.journal) + step_room r.mode < number_limit → (is_alone r.mode && frames_run_out r) ≡ false
     → first_refusal (step_refusals outbox r) ≡ None
 none_applies r outbox runs few room numbers =
-    λ i. cond (runs i) (Some Stopped) (cond (no_lt 192 (length outbox) few i) (Some CutNeeded)
+    λ i. cond (runs i) (Some Stopped) (cond (le-ltb 192 (length outbox) few i) (Some CutNeeded)
     (cond (test_below number_limit (length (all_entries r.journal) + step_room r.mode) room i)
     (Some Exhausted) (cond (numbers i) (Some Exhausted) None)))
-  where
-    no_lt : (a b : ℕ) → b ≤ a → nat_lt a b ≡ false
-    no_lt a b l = grind (arith, nat_tests)
 
 pub step_goes : (w : Pair) → Holds w → is_stopped w.protocol.state.mode ≡ false → length w.nodes.live.outbox ≤ 192
     → length (all_entries w.protocol.state.journal) + step_room w.protocol.state.mode < number_limit
@@ -150,7 +135,7 @@ pub steps_answered :
     → HaveRoom n w.nodes.live.guest w.nodes.live.outbox
     → (replies.Steps (after_steps n w.nodes.live.guest).steps, (with_steps n w).protocol.state) ≡ steps_outcome w.start w.protocol.state n
 steps_answered zero w h two runs fits room =
-    ap (λ (g : Guest). (replies.Steps g.steps, (with_steps 0 w).protocol.state)) (no-steps w.nodes.live.guest ∙ sym (live_is w h))
+    ap (λ (g : Guest). (replies.Steps g.steps, (with_steps 0 w).protocol.state)) (no_steps w.nodes.live.guest ∙ sym (live_is w h))
     ∙ ap (λ (v : Pair). (replies.Steps (live_at w.start w.protocol.state).guest.steps, v.protocol.state)) (with_no_steps w)
     ∙ sym (no-steps-answered w.start w.protocol.state)
 steps_answered (suc n) w h two runs fits room =

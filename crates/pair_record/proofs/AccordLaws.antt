@@ -9,27 +9,24 @@ use Rattle.guest_machine.specs.Guest.{Guest}
 use Rattle.frame_ports.specs.{Addresses.targets_of, Lands.{list_of, with_list}, Ports.{PortsState, empty_ports}}
 use Rattle.failover.specs.declared.mode.Mode.{Mode}
 use Rattle.output_gate.specs.Epochs.{Epoch, frames_of}
+pub use Rattle.output_gate.proofs.EpochLaws.{frames_of-append}
 use Rattle.pair_history.specs.Entries.{Frame, Entry}
 use Rattle.pair_history.specs.HistoryState.{HistoryState, Waiting, inbox_of, without_number, at, Legal, start_state}
 use Rattle.pair_history.specs.Landings.{BoxesFit, DropsAreAskedOrFull}
 use Rattle.pair_history.specs.internal.Moves.{Move, Arrives, entry_of, entries_of, guest_along, frames_along, left, AllCan}
 use Rattle.pair_history.proofs.States.{at-append, Legal-append, targets_of-append}
-use Rattle.pair_history.proofs.Waiting.{Leaves, StandsAt, leaves-at}
+use Rattle.pair_history.proofs.{ReachedLaws.BoxesFit-empty, Waiting.{Leaves, StandsAt, leaves-at}}
 use Rattle.pair_history.proofs.Moves.{guest_along-append, frames_along-append, left-append, AllCan-append, AllCan-front, AllCan-back, moved}
 use Rattle.pair_history.proofs.{Moves.{at-moves, Legal-moves, sent_along-moves}, Losses.AreRising-left}
 use Rattle.pair_history.proofs.{DropLaws.{DropsAreAskedOrFull-append, DropsAreAskedOrFull-guests}, FailureLaws.AreGuests-moves}
 use Rattle.pair_record.specs.internal.Accords.{all_moves, epoch_frames, frames_by_epoch, kept_moves, AreInboxes, AreClients}
 use Rattle.pair_record.specs.internal.Accords.{Accords}
-use Rattle.pair_record.specs.Journal.{joined, first_of, rest_of, kept_entries, with_running}
+use Rattle.pair_journal.specs.Journal.{joined, first_of, rest_of, kept_entries, with_running}
 use Rattle.pair_record.specs.Record.{IsRecord, start_record, first_held, ports_after_admit}
 use Rattle.pair_record.specs.Protocol.{Record, shown_at, live_at, outbox_of, commit_done}
 use Rattle.pair_record.specs.Window.{committed_of, uncommitted_of, committed_count}
 
 -- Lists of epochs
-
-pub frames_of-append : (xs ys : List Epoch) → frames_of (xs ++ ys) ≡ frames_of xs ++ frames_of ys
-frames_of-append [] ys = refl
-frames_of-append (x ∷ xs) ys = ap (λ t. x.frames ++ t) (frames_of-append xs ys) ∙ sym (append_assoc x.frames (frames_of xs) (frames_of ys))
 
 -- the first of the epochs that come after so many
 pub next_epoch : (n : ℕ) (xs : List Epoch) (e : Epoch) (us : List Epoch) → drop n xs ≡ e ∷ us → (take (suc n) xs ≡ take n xs ++ e ∷ [])
@@ -371,10 +368,6 @@ numbered_accords start r p h next ns = record {
 
 -- WHERE A RECORD STARTS
 
-pub empty_fit : (n : ℕ) → BoxesFit (replicate n [])
-empty_fit zero = tt
-empty_fit (suc n) = (omega arith, empty_fit n)
-
 pub nothing : {A : Type 0} (n i : ℕ) → get_or (replicate {A = List A} n []) i [] ≡ []
 nothing zero i = refl
 nothing (suc n) zero = refl
@@ -391,7 +384,7 @@ start_accords pages sectors image clients = record {
     count = length-replicate clients [] ∙ sym (length-replicate clients []);
     inboxes = λ c low high. nothing clients (c - 1);
     boxes = refl;
-    fit = empty_fit clients;
+    fit = BoxesFit-empty clients;
   };
   owed = refl;
 }

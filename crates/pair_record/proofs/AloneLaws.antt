@@ -1,16 +1,19 @@
 -- Laws of a node that is alone: what the gate held lands, followed by the outbox, and nothing is kept or pending.
 use Rattle.std.proofs.Common.{rules, ◌≡◌, ℕ, ◌+◌, ◌*◌, ◌≤◌, List, [], ◌∷◌, ◌++◌, length, refl, sym, ap, ◌∙◌, arith, Bool, cond, Some, None}
 use Rattle.std.specs.Prelude.{nat_le, min}
-use Rattle.frame_ports.specs.Limits.{number_limit}
+use Rattle.frame_ports.specs.{Addresses.targets_of, Limits.number_limit}
 use Rattle.std.proofs.{Common.{append_assoc, mul-le-mul_right}, lemmas.{Bool.Decides.nat_tests, List.{length-append, append-nil}}}
-use Rattle.frame_ports.proofs.AddressLaws.{length-targets_of}
+use Rattle.frame_ports.proofs.AddressLaws.{length-targets_of, targets_of-append}
 use Rattle.output_gate.specs.Epochs.{Epoch, epoch, frames_of, frames_to}
 use Rattle.pair_history.specs.Entries.{Frame, Entry}
-use Rattle.pair_record.specs.{internal.Lengths.receivers, Protocol.{Record, all_held, failure_done}, Record.IsRecord}
+use Rattle.pair_record.specs.Protocol.{Record, all_held, failure_done}
+use Rattle.pair_record.specs.Record.{IsRecord}
 use Rattle.pair_record.specs.Protocol.{exhausts, frames_run_out, first_refusal}
-use Rattle.pair_record.specs.{EpochActs.enter_epoch_refusals, Journal.all_entries, Window.NumberedFrom}
+use Rattle.pair_record.specs.EpochActs.{enter_epoch_refusals}
+use Rattle.pair_journal.specs.Journal.{all_entries}
+use Rattle.pair_record.specs.Window.{NumberedFrom}
 use Rattle.pair_record.specs.declared.event.Refusal.TheVariants.{Exhausted}
-use Rattle.pair_record.proofs.{LengthLaws.length-receivers, WindowLaws.{NumberedFrom-push, test_from}}
+use Rattle.pair_record.proofs.WindowLaws.{NumberedFrom-push, test_from}
 
 -- the frames of all epochs, where none has a number above n
 pub frames_to-all : (n m : ℕ) (es : List Epoch) → NumberedFrom m es → m + length es ≤ n + 1 → frames_to n es ≡ frames_of es
@@ -22,19 +25,13 @@ frames_of-push [] e = append-nil e.frames
 frames_of-push (x ∷ es) e =
     ap (λ (t : List Frame). x.frames ++ t) (frames_of-push es e) ∙ sym (append_assoc x.frames (frames_of es) e.frames)
 
-receivers-append : (n : ℕ) (fs gs : List Frame) → receivers n (fs ++ gs) ≡ receivers n fs ++ receivers n gs
-receivers-append n [] gs = refl
-receivers-append n (f ∷ fs) gs = search (arith, rules, append_assoc, receivers-append n fs gs)
-
 -- to how many clients all that is held goes, and then the outbox
 pub count-all : (boxes : List (List Frame)) (outbox : List Frame) (r : Record)
-    → length (receivers (length boxes) (frames_of r.pending)) + length (receivers (length boxes) outbox) ≡ length (all_held boxes outbox r)
+    → length (targets_of (length boxes) (frames_of r.pending)) + length (targets_of (length boxes) outbox) ≡ length (all_held boxes outbox r)
 count-all boxes outbox r =
     let n = length boxes in
     let fs = frames_of r.pending in
-    sym (length-append (receivers n fs) (receivers n outbox))
-    ∙ ap length (sym (receivers-append n fs outbox))
-    ∙ length-receivers n (fs ++ outbox)
+    sym (length-append (targets_of n fs) (targets_of n outbox)) ∙ ap length (sym (targets_of-append n fs outbox))
 
 module _ (r : Record) (h : IsRecord r) where
   -- all that the gate holds has numbers below the next one
@@ -58,8 +55,8 @@ module _ (r : Record) (h : IsRecord r) where
   failure_record epoch rest boxes frames = search (arith, rules)
 
 -- 64 frames go to 64 times as many as there are clients, at most
-pub few_receivers : (n : ℕ) (fs : List Frame) → length fs ≤ 64 → length (receivers n fs) ≤ 64 * n
-few_receivers n fs few = search (arith, rules, length-receivers, length-targets_of, mul-le-mul_right)
+pub few_targets : (n : ℕ) (fs : List Frame) → length fs ≤ 64 → length (targets_of n fs) ≤ 64 * n
+few_targets n fs few = search (arith, rules, length-targets_of, mul-le-mul_right)
 
 -- The row of an epoch that enters the history, where the sum of what it adds was cut off at a number that is beyond all entries
 
@@ -67,9 +64,9 @@ capped : (used more : ℕ) → nat_le number_limit (used + min more 184467440737
 capped used more = grind (arith, nat_tests)
 
 pub enter_row : (boxes : List (List Frame)) (r : Record) (steps count sum : ℕ) (fs : List Frame) (t : Bool)
-    → count ≡ length (receivers (length boxes) fs) → sum ≡ min (steps + count) 18446744073709551615 → t ≡ exhausts r sum
+    → count ≡ length (targets_of (length boxes) fs) → sum ≡ min (steps + count) 18446744073709551615 → t ≡ exhausts r sum
     → cond t (Some Exhausted) (cond (frames_run_out r) (Some Exhausted) None) ≡ first_refusal (enter_epoch_refusals steps boxes fs r)
 enter_row boxes r steps count sum fs t counted summed row =
     ap (λ b. cond b (Some Exhausted) (cond (frames_run_out r) (Some Exhausted) None))
     (row ∙ ap (exhausts r) summed ∙ capped (length (all_entries r.journal)) (steps + count)
-    ∙ ap (λ k. exhausts r (steps + k)) (counted ∙ length-receivers (length boxes) fs))
+    ∙ ap (λ k. exhausts r (steps + k)) counted)

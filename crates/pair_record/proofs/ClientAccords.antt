@@ -16,7 +16,8 @@ use Rattle.pair_history.proofs.{Losses.{AreRising-left, LeavesBefore, leaves-bef
 use Rattle.pair_history.proofs.LandingLaws.{length-lands, BoxesFit-set, BoxesFit-at, BoxesFit-lands, AllClients-targets, landings-land}
 use Rattle.pair_history.specs.Leaving.{LeaveInOrder}
 use Rattle.pair_history.proofs.{LandingLaws.{AllLand, AllClients}, LeavingLaws.landings-leave}
-use Rattle.pair_record.specs.{declared.window.Window.Window, Journal.with_history}
+use Rattle.pair_record.specs.declared.window.Window.{Window}
+use Rattle.pair_journal.specs.Journal.{with_history}
 use Rattle.pair_record.specs.internal.Accords.{epoch_frames, frames_by_epoch, AreClients, Accords}
 use Rattle.pair_record.specs.Protocol.{Record, shown_at, ack_done, deliver_done, take_done, loss_done, let_go}
 use Rattle.pair_record.specs.Record.{IsRecord, ports_after_ack, ports_after_take, ports_after_lose_in, ports_after_lose_out}

@@ -13,7 +13,9 @@ use Rattle.pair_history.proofs.{States.{at-append, Legal-append}, Losses.AreRisi
 use Rattle.pair_history.proofs.DropLaws.{DropsAreAskedOrFull-append, DropsAreAskedOrFull-guests, at_full-asked}
 use Rattle.pair_history.proofs.Moves.{moved, at-moves, Legal-moves, AllCan-front, AllCan-back, left-append}
 use Rattle.pair_history.proofs.LandingLaws.{length-lands, BoxesFit-lands, AllClients-targets, landings-land, AllLand, AllClients}
-use Rattle.pair_record.specs.{declared.window.Window.Window, Journal.joined, Record.ports_after_all}
+use Rattle.pair_record.specs.declared.window.Window.{Window}
+use Rattle.pair_journal.specs.Journal.{joined}
+use Rattle.pair_record.specs.Record.{ports_after_all}
 use Rattle.pair_record.specs.internal.Accords.{all_moves, epoch_frames, frames_by_epoch, AreInboxes, AreClients, Accords}
 use Rattle.pair_record.specs.Protocol.{Record, shown_at, all_held, seal_done, landed_after}
 use Rattle.pair_record.specs.Window.{committed_count}

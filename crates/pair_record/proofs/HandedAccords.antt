@@ -7,7 +7,8 @@ use Rattle.pair_history.specs.{Entries.{Frame, Entry}, HistoryState.{HistoryStat
 use Rattle.pair_history.specs.internal.Moves.{Move, Steps, entry_of, entries_of, guest_along, frames_along, left, AllCan}
 use Rattle.pair_history.proofs.Moves.{moved, AllCan-append, AllCan-front, AllCan-back, left-append, sent_along-moves}
 use Rattle.pair_record.specs.internal.Accords.{Accords}
-use Rattle.pair_record.specs.EpochActs.{behind, guest_epoch, epoch_sent, seal_epoch_done, enter_epoch_done, fail_within_done}
+use Rattle.pair_journal.specs.Epochs.{behind, guest_epoch}
+use Rattle.pair_record.specs.EpochActs.{epoch_sent, seal_epoch_done, enter_epoch_done, fail_within_done}
 use Rattle.pair_record.specs.Protocol.{Record, shown_at, landed_after}
 use Rattle.pair_record.specs.{Record.{IsRecord, IsLone, first_held, ports_landed, ports_after_all}, Window.none_pending}
 use Rattle.pair_record.proofs.AccordLaws.{sealed_now, left_now, sealed_state, first_lone}

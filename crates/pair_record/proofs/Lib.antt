@@ -1,7 +1,4 @@
 pub mod ModeLaws
-pub mod LengthLaws
-pub mod Receivers
-pub mod JournalLaws
 pub mod WindowLaws
 pub mod RecordLaws
 pub mod LiveLaws
@@ -11,11 +8,15 @@ pub mod EpochLaws
 pub mod AccordLaws
 pub mod NumberLaws
 pub mod BroughtLaws
-pub mod NewFrameLaws
 pub mod EpochAccords
+pub mod ClientLaws
 pub mod ClientAccords
 pub mod LoneAccords
 pub mod HandedAccords
 pub mod LiveAccords
 pub mod ProtectAccords
 pub mod KeptLists
+pub mod OwedLaws
+-- what crates above cite of the journal's
+pub use Rattle.pair_journal.proofs.JournalLaws
+pub use Rattle.pair_journal.proofs.LengthLaws

@@ -8,7 +8,9 @@ use Rattle.pair_history.specs.{internal.Moves.left, Order.AreGuests}
 use Rattle.pair_history.proofs.{DropLaws.{DropsAreAskedOrFull-append, go_live-asked}, FailureLaws.{goes_live, AreGuests-moves}}
 use Rattle.pair_history.proofs.LandingLaws.{AllClients, AllClients-targets, BoxesFit-lands, length-lands}
 use Rattle.pair_history.proofs.{Losses.AreRising-left, Moves.Legal-moves, States.{at-append, Legal-append}}
-use Rattle.pair_record.specs.{internal.Accords.{AreClients, AreInboxes, Accords}, Kept.frames_by_epoch, Journal.kept_entries}
+use Rattle.pair_record.specs.internal.Accords.{AreClients, AreInboxes, Accords}
+use Rattle.pair_record.specs.Kept.{frames_by_epoch}
+use Rattle.pair_journal.specs.Journal.{kept_entries}
 use Rattle.pair_record.specs.Protocol.{Record, shown_at, live_entries, go_live_done}
 use Rattle.pair_record.specs.{Record.ports_after_live, Window.{committed_of, committed_count, none_pending}}
 use Rattle.pair_record.proofs.{EpochAccords.{take-none, drop-none}, AccordLaws.{kept_now, left_now, kept_is, live_waiting}}

@@ -1,74 +1,18 @@
--- What going live adds to the history, as the loops over it want it; and what is true of the record after it.
-use Rattle.std.proofs.Common.{rules, ◌≡◌, ℕ, zero, suc, ◌+◌, ◌-◌, ◌<◌, ◌≤◌, List, [], ◌∷◌, ◌++◌, length, refl, sym}
-use Rattle.std.proofs.{Common.{ap, ◌∙◌, arith, append_assoc, Bool, true, cond, Some, None}}
-use Rattle.std.proofs.lemmas.List.{append-nil, length-append, length-map, length-take-le, nil_from_length}
-use Rattle.std.proofs.lemmas.List.Sorted.{length_permutation}
-use Rattle.std.specs.{Prelude.{map, nat_le}, List.Sorted.{IsPermutation, IsNonDecreasing}}
-use Rattle.frame_ports.specs.{Lands.landed_at}
+-- What going live adds to the history, and what is true of the record after it.
+use Rattle.std.proofs.Common.{rules, ◌≡◌, ℕ, ◌+◌, ◌-◌, ◌<◌, ◌≤◌, List, [], ◌++◌, length, sym, ap, ◌∙◌, arith, append_assoc}
+use Rattle.std.proofs.Common.{Bool, true, cond, Some, None}
+use Rattle.std.proofs.lemmas.List.{append-nil, length-append, length-take-le, nil_from_length}
+use Rattle.std.specs.Prelude.{nat_le}
 use Rattle.frame_ports.specs.Limits.{number_limit}
 use Rattle.output_gate.specs.Epochs.{Epoch, frames_of, frames_to}
-use Rattle.pair_history.specs.Entries.{Frame, Entry, Arrive, DropIn}
-use Rattle.pair_history.specs.{Failures.{arrived_numbers, rising, drops_of_taken_in}, Landings.landings}
-use Rattle.pair_history.proofs.{SortedLaws.rising-sorted, TakenInLaws.IsPermutation-rising}
-use Rattle.pair_record.specs.{declared.epochs.Arrival.Arrival, declared.epochs.RunningEpoch.RunningEpoch}
-use Rattle.pair_record.specs.{declared.event.Refusal.TheVariants.Exhausted}
-use Rattle.pair_record.specs.{declared.journal.Journal.TheInside.Inside, declared.window.Window.Window}
-use Rattle.pair_record.specs.{Journal.{Journal, joined, kept_entries, with_history}, internal.JournalFields.{epoch_of, stored, AreFields}}
+use Rattle.pair_history.specs.{Entries.Entry, Failures.{arrived_numbers, drops_of_taken_in}}
+use Rattle.pair_journal.specs.Journal.{Journal, kept_entries, with_history}
+use Rattle.pair_journal.proofs.ArrivedLaws.{length-drops}
+use Rattle.pair_record.specs.{declared.event.Refusal.TheVariants.Exhausted, declared.window.Window.Window}
 use Rattle.pair_record.specs.{FailureActs.{entries_with, live_refusals, live_done}, Protocol.{Record, first_refusal}}
 use Rattle.pair_record.specs.{Record.{IsRecord}, Window.{IsWindow, first_after, committed_count, committed_of}}
-use Rattle.pair_record.specs.internal.Arrivals.{steps_of, arrivals_of, epoch_entries, numbers_of, numbers_in}
 use Rattle.pair_record.proofs.{RecordLaws.passed}
 use Rattle.pair_record.proofs.WindowLaws.{within, leaves, gone, is_below, test_from, test_below}
-
--- The numbers of the frames that arrived
-
-arrived-append : (es fs : List Entry) → arrived_numbers (es ++ fs) ≡ arrived_numbers es ++ arrived_numbers fs
-arrived-append [] fs = refl
-arrived-append (Arrive n ∷ es) fs = ap (λ ns. n ∷ ns) (arrived-append es fs)
-arrived-append (other ∷ es) fs = arrived-append es fs
-
-pub arrived-few : (es : List Entry) → length (arrived_numbers es) ≤ length es
-arrived-few [] = omega arith
-arrived-few (Arrive n ∷ es) = let l = arrived-few es in omega arith
-arrived-few (other ∷ es) = let l = arrived-few es in omega arith
-
-arrived-steps : (k : ℕ) → arrived_numbers (steps_of k) ≡ []
-arrived-steps zero = refl
-arrived-steps (suc k) = arrived-steps k
-
-arrived-arrivals : (arrivals : List Arrival) → arrived_numbers (arrivals_of arrivals) ≡ numbers_of arrivals
-arrived-arrivals [] = refl
-arrived-arrivals (a ∷ arrivals) = search (arith, rules, arrived-append, arrived-steps, arrived-arrivals arrivals)
-
-arrived-epoch : (arrivals : List Arrival) (k : ℕ) → arrived_numbers (epoch_entries arrivals k) ≡ numbers_of arrivals
-arrived-epoch arrivals k = search (arith, rules, append-nil, arrived-append, arrived-arrivals, arrived-steps)
-
-pub arrived-count : (arrivals : List Arrival) (k : ℕ) → length (arrived_numbers (epoch_entries arrivals k)) ≡ length arrivals
-arrived-count arrivals k = ap length (arrived-epoch arrivals k) ∙ length-map arrivals (λ (a : Arrival). a.number)
-
-arrived-joined : (es : List RunningEpoch) → arrived_numbers (joined (map epoch_of es)) ≡ numbers_in es
-arrived-joined [] = refl
-arrived-joined (e ∷ es) = search (arith, rules, arrived-append, arrived-epoch, arrived-joined es)
-
-pub arrived-kept : (a : Inside)
-    → arrived_numbers (kept_entries (stored a).journal) ≡ numbers_in a.sealed.items ++ numbers_of a.running.arrivals.items
-arrived-kept a = search (arith, rules, arrived-append, arrived-epoch, arrived-joined)
-
--- What is added
-
--- however the numbers are sorted
-pub drops-are : (j : Journal) (ns : List ℕ) → IsPermutation (arrived_numbers (kept_entries j)) ns → IsNonDecreasing ns
-    → drops_of_taken_in (kept_entries j) ≡ map DropIn ns
-drops-are j ns same sorted = ap (map DropIn) (sym (rising-sorted (arrived_numbers (kept_entries j)) ns same sorted))
-
-pub length-landings : (boxes : List (List Frame)) (ps : List (ℕ × Frame)) → length (landings boxes ps) ≡ length ps
-length-landings boxes [] = refl
-length-landings boxes (p ∷ ps) = ap suc (length-landings (landed_at boxes p.0 p.1) ps)
-
-pub length-drops : (j : Journal) → length (drops_of_taken_in (kept_entries j)) ≡ length (arrived_numbers (kept_entries j))
-length-drops j =
-    let ns = arrived_numbers (kept_entries j) in
-    length-map (rising ns) DropIn ∙ length_permutation ns (rising ns) (IsPermutation-rising ns)
 
 pub length-live : (landed : List Entry) (j : Journal)
     → length (entries_with landed j) ≡ length (arrived_numbers (kept_entries j)) + length landed
@@ -136,31 +80,3 @@ goes_on_twice j es fs = λ i. record j { history = append_assoc j.history es fs 
 
 pub live_record : (r : Record) → IsRecord r → (landed : List Entry) (steps : ℕ) → IsRecord (live_done landed steps r).1
 live_record r h landed steps = search (arith, rules)
-
--- The journal
-
-module _ (a : Inside) where
-  -- the frames that the kept epochs took in, in number
-  pub taken_in-count : length (numbers_in a.sealed.items) + length a.running.arrivals.items
-      ≡ length (arrived_numbers (kept_entries (stored a).journal))
-  taken_in-count = search (arith, rules, arrived-kept, length-append, length-map)
-
-  pub taken_in-few : AreFields a → length a.history.entries + length (arrived_numbers (kept_entries (stored a).journal)) < number_limit
-  taken_in-few h = search (arith, rules, arrived-few)
-
-  module _ (sealed : List RunningEpoch) (ns : List ℕ) (is : sealed ≡ a.sealed.items)
-      (same : IsPermutation (numbers_in sealed ++ numbers_of a.running.arrivals.items) ns) where
-    pub same_numbers : IsPermutation (arrived_numbers (kept_entries (stored a).journal)) ns
-    same_numbers =
-        rw (ap (λ (es : List RunningEpoch). numbers_in es ++ numbers_of a.running.arrivals.items) is ∙ sym (arrived-kept a)) at same
-
-    pub as_many : length ns ≡ length (arrived_numbers (kept_entries (stored a).journal))
-    as_many = length_permutation (arrived_numbers (kept_entries (stored a).journal)) ns same_numbers
-
-    -- the history after the frames that were taken in are dropped
-    pub live_history : (slice : List ℕ) (first second : List Entry) → IsNonDecreasing ns → slice ≡ ns → first ≡ a.history.entries
-        → second ≡ first ++ map DropIn slice
-        → second ≡ a.history.entries ++ drops_of_taken_in (kept_entries (stored a).journal)
-    live_history slice first second sorted e f g =
-        g ∙ (λ i. f i ++ map DropIn (e i))
-        ∙ ap (λ es. a.history.entries ++ es) (sym (drops-are (stored a).journal ns same_numbers sorted))

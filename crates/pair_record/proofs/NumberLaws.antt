@@ -13,7 +13,8 @@ use Rattle.output_gate.specs.Gate.{GateState, first_held as gate_first}
 use Rattle.output_gate.proofs.{LandedLaws.{boxes-after, landed_count-new}, PortsAfterLaws.rest_same-after}
 use Rattle.pair_history.specs.Entries.{Frame, Entry}
 use Rattle.pair_record.specs.{declared.event.Refusal.Refusal, declared.event.Refusal.TheVariants.{Behind, Exhausted}}
-use Rattle.pair_record.specs.{Journal.Journal, Limits.{last_frame, most_pending}}
+use Rattle.pair_journal.specs.Journal.{Journal}
+use Rattle.pair_record.specs.Limits.{last_frame, most_pending}
 use Rattle.pair_record.specs.Window.{committed_of, uncommitted_of, committed_count}
 use Rattle.pair_record.specs.{FailureActs.{first_uncommitted, live_done}, Protocol.{Record, first_refusal, cut_refusals, frames_run_out}}
 use Rattle.pair_record.specs.Protocol.{all_held, seal_done, commit_done, ack_done, failure_done, begin_done, full_done, protect_done}

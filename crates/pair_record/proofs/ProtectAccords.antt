@@ -4,7 +4,10 @@ use Rattle.frame_ports.specs.{Addresses.targets_of, Numbers.marked, Ports.PortsS
 use Rattle.output_gate.specs.Epochs.{Epoch, frames_of}
 use Rattle.pair_history.specs.HistoryState.{HistoryState, at}
 use Rattle.std.proofs.lemmas.List.{append-nil}
-use Rattle.pair_record.specs.{internal.Accords.{frames_by_epoch, Accords}, Journal.{joined}, Limits.first_frame, Record.IsLone}
+use Rattle.pair_record.specs.internal.Accords.{frames_by_epoch, Accords}
+use Rattle.pair_journal.specs.Journal.{joined}
+use Rattle.pair_record.specs.Limits.{first_frame}
+use Rattle.pair_record.specs.Record.{IsLone}
 use Rattle.pair_record.specs.Protocol.{Record, shown_at, live_at, begin_done, full_done, protect_done}
 use Rattle.pair_record.specs.Window.{committed_count}
 use Rattle.pair_record.proofs.{AccordLaws.{numbered_accords}, EpochAccords.{take-none, drop-none, seal_accords}}

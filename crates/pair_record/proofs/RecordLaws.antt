@@ -8,7 +8,8 @@ use Rattle.frame_ports.specs.Limits.{number_limit}
 use Rattle.output_gate.specs.Epochs.{Epoch, after_number}
 use Rattle.pair_history.specs.Entries.{Frame, Entry}
 use Rattle.pair_record.specs.{declared.event.Packet.Packet, declared.event.Refusal.TheVariants.Exhausted, declared.window.Window.Window}
-use Rattle.pair_record.specs.{Journal.{all_entries, rest_of, with_history}, Protocol.landed_after}
+use Rattle.pair_journal.specs.Journal.{all_entries, rest_of, with_history}
+use Rattle.pair_record.specs.Protocol.{landed_after}
 use Rattle.pair_record.specs.Protocol.{commit_done, ack_done, Record, first_refusal, cut_refusals, ack_refusals, let_go, exhausts, cut_done}
 use Rattle.pair_record.specs.{Record.{IsRecord, IsLone, SuitsMode}, Modes.{is_alone, is_filling, filled}}
 use Rattle.pair_record.specs.{Protocol.seal_done, Limits.most_pending, Window.{with_commit, with_acknowledged}}

@@ -8,7 +8,7 @@ use Rattle.pair_history.specs.Entries as entries
 use Rattle.pair_record.specs.declared.event.Refusal.{Refusal}
 use Rattle.pair_record.specs.declared.event.Refusal.TheVariants.{Full, BadFrame, NoClient, Stopped, Exhausted}
 use Rattle.pair_record.specs.declared.event.Reply.TheVariants as replies
-use Rattle.pair_record.specs.Journal.{with_history, with_moves}
+use Rattle.pair_journal.specs.Journal.{with_history, with_moves}
 use Rattle.pair_record.specs.Modes.{is_stopped, is_alone}
 use Rattle.pair_record.specs.Tables.{Record, Sight, Outcome, Row, first_refusal, refused, or_else, unless, exhausts, is_among}
 

@@ -1,40 +1,17 @@
 -- What happens to epochs of a guest that runs elsewhere: the epoch that runs is then the arrivals of the frames that were handed out to it,
 -- and so many of them, the first first, and the steps after them make an epoch. `X_done` is what a call leaves, with its reply if it has
 -- one; the events of a pair whose guest is at hand stand on the same spellings.
-use Rattle.std.specs.Prelude.{ℕ, zero, suc, ◌+◌, ◌++◌, Bool, true, false, if◌then◌else◌, List, [], ◌∷◌, length, replicate}
+use Rattle.std.specs.Prelude.{ℕ, ◌+◌, ◌++◌, false, List, [], ◌∷◌, length}
 use Rattle.frame_ports.specs.Addresses.{targets_of}
-use Rattle.pair_history.specs.Entries.{Frame, Entry, Ran, Arrive}
+use Rattle.pair_history.specs.Entries.{Frame}
 use Rattle.pair_history.specs.HistoryState.{HistoryState, at, sent_along}
 use Rattle.pair_record.specs.declared.event.Refusal.TheVariants.{Exhausted}
 use Rattle.pair_record.specs.ClientActs.{arrival_done}
 use Rattle.pair_record.specs.FailureActs.{landed_after, failure_done}
-use Rattle.pair_record.specs.Journal.{joined}
+pub use Rattle.pair_journal.specs.Epochs.{is_arrival, to_come, up_to, behind, guest_epoch}
+use Rattle.pair_journal.specs.Journal.{joined}
 use Rattle.pair_record.specs.GuestActs.{seal_done}
 use Rattle.pair_record.specs.Tables.{Record, Outcome, Row, exhausts, frames_run_out}
-
--- THE EPOCH: what runs up to so many arrivals, and what comes after them
-
-abbrev pub is_arrival : Entry → Bool
-is_arrival (Arrive n) = true
-is_arrival other = false
-
--- how many arrivals are still to come once this entry has
-abbrev pub to_come : ℕ → Entry → ℕ
-to_come n e = if is_arrival e then n else suc n
-
-abbrev pub up_to : ℕ → List Entry → List Entry
-up_to zero es = []
-up_to (suc n) [] = []
-up_to (suc n) (e ∷ es) = e ∷ up_to (to_come n e) es
-
-abbrev pub behind : ℕ → List Entry → List Entry
-behind zero es = es
-behind (suc n) [] = []
-behind (suc n) (e ∷ es) = behind (to_come n e) es
-
--- so many arrivals, and so many steps after them
-abbrev pub guest_epoch : ℕ → ℕ → List Entry → List Entry
-guest_epoch arrivals steps es = up_to arrivals es ++ replicate steps Ran
 
 -- the frames that the guest sent along it, behind what is sealed
 abbrev pub epoch_sent : HistoryState → Record → ℕ → ℕ → List Frame

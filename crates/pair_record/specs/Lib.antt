@@ -1,5 +1,4 @@
 pub mod internal
-pub mod Journal
 pub mod Window
 pub mod Modes
 pub mod Tables
@@ -14,6 +13,7 @@ pub mod Kept
 pub mod Limits
 pub mod Refusals
 -- what public clauses cite of lower crates
+pub use Rattle.pair_journal.specs.Journal
 pub use Rattle.pair_history.specs.Entries
 pub use Rattle.pair_history.specs.HistoryState
 pub use Rattle.failover.specs.Changes

@@ -1,8 +1,3 @@
 -- what only models, private functions and proofs cite
 pub mod Accords
-pub mod Arrivals
-pub mod JournalFields
-pub mod Lengths
-pub mod NewFrames
-pub mod Places
 pub mod RecordFields

@@ -5,11 +5,7 @@
 //! spells it.
 #![tactic(auto)]
 
-mod discards;
-mod epochs;
 mod event;
-mod journal;
-mod landings;
 mod limits;
 mod modes;
 mod record;

@@ -5,7 +5,7 @@ ghost use Rattle.frame_ports.specs.Addresses.{IsFrame};
 ghost use Rattle.frame_ports.specs.Ports.{empty_ports};
 ghost use Rattle.frame_ports.specs.Limits.{max_clients, number_limit};
 ghost use Rattle.pair_history.specs.Entries.{Ran};
-ghost use Rattle.pair_record.specs.Journal.{all_entries, with_running};
+ghost use Rattle.pair_journal.specs.Journal.{all_entries, with_running};
 ghost use Rattle.pair_record.specs.Modes.{is_stopped as stopped, is_alone as alone, change_refusal};
 ghost use Rattle.failover.specs.declared.change.Change.TheVariants as changes;
 ghost use Rattle.pair_record.specs.Protocol.{exhausts, frames_run_out as runs_out, is_among, first_refusal};
@@ -21,8 +21,6 @@ mod live;
 mod protect;
 
 use crate::event::{Packet, Refusal, Reply};
-use crate::journal::Journal;
-use crate::landings::count_landings;
 use crate::limits::{FIRST_GENERATION, LAST_FRAME, MOST_PENDING, STEP_ROOM};
 use crate::modes::{filled, is_alone, is_stopped, step_room};
 use crate::window::Window;
@@ -31,6 +29,7 @@ use frame_ports::{NUMBER_LIMIT, PortError, Ports};
 use memory_wanted::MemoryWanted;
 use output_gate::{Gate, GateError};
 use pair_history::{Frame, History};
+use pair_journal::{Journal, count_landings};
 use std::alloc::Global;
 use std::marker::Model;
 

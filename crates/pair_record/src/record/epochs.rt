@@ -12,12 +12,12 @@ ghost use Rattle.pair_record.specs.Record.{IsAsBefore, IsLone, ports_landed, por
 
 use super::PairRecord;
 use crate::event::{Refusal, Reply};
-use crate::landings::count_landings;
 use crate::limits::FULL_CHECKPOINT;
 use crate::window::Window;
 use failover::Mode;
 use memory_wanted::MemoryWanted;
 use pair_history::Frame;
+use pair_journal::count_landings;
 
 impl PairRecord {
     /// Makes room for so many frames to be handed out.

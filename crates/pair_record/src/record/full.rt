@@ -10,9 +10,9 @@ ghost use Rattle.pair_record.specs.Record.{IsAsBefore, ports_landed};
 
 use super::PairRecord;
 use crate::event::Reply;
-use crate::landings::count_landings;
 use memory_wanted::MemoryWanted;
 use pair_history::Frame;
+use pair_journal::count_landings;
 
 impl PairRecord {
     /// An epoch of the guest goes to the history, and what it sent along it lands, as [`PairRecord::enter_epoch`] says; and then the full

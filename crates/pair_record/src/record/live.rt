@@ -12,13 +12,13 @@ ghost use Rattle.pair_record.specs.Window.{IsWindow, committed_of};
 
 use super::PairRecord;
 use crate::event::{Refusal, Reply};
-use crate::landings::count_lists;
 use crate::window::Window;
 use failover::Mode;
 use frame_ports::NUMBER_LIMIT;
 use memory_wanted::MemoryWanted;
 use output_gate::Gate;
 use pair_history::Frame;
+use pair_journal::count_lists;
 
 /// What the gate holds of committed checkpoints, where this is the window of those that it holds.
 fn committed_frames(window: Window, gate: &Gate) -> &[Frame]

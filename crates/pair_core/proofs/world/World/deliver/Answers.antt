@@ -5,8 +5,8 @@ use Rattle.pair_core.specs.Pair.{Pair, AfterRefusal}
 use Rattle.pair_record.specs.Protocol.{Outcome, allowed, deliver_done, delivery_refused}
 use Rattle.pair_core.specs.internal.WorldFields.{pair_of}
 use Rattle.pair_core.proofs.{Calls.{on_ok, on_err, answered_so, after_call}, ClientEvents.{deliver_holds, full_holds}}
-use Rattle.pair_core.proofs.Outcomes.{after_none, client_range, frame_range, full_rows, deliver_goes, deliver_full, deliver_stops}
-use Rattle.pair_record.proofs.{RecordLaws.passed, WindowLaws.is_from}
+use Rattle.pair_core.proofs.Outcomes.{after_none, client_range, full_rows, deliver_goes, deliver_full, deliver_stops}
+use Rattle.pair_record.proofs.{ClientLaws.frame_range, RecordLaws.passed, WindowLaws.is_from}
 use Rattle.pair_core.proofs.world.World.deliver.Goals as goal
 
 pub invariant_of-self : goal.invariant_of-self

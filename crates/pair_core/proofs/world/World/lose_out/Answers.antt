@@ -5,8 +5,8 @@ use Rattle.pair_history.specs.Entries.{Frame, DropOut}
 use Rattle.pair_record.specs.{declared.event.Event.TheVariants.LoseOut, Protocol.lost_out}
 use Rattle.pair_core.specs.internal.Invariant.{Holds}
 use Rattle.pair_core.specs.{internal.WorldFields.pair_of}
-use Rattle.pair_core.proofs.{ClientEvents.lose_out_holds, LossOutcomes.{some_at, lose_out_sight, loss_goes}, Outcomes.client_range}
-use Rattle.pair_record.proofs.RecordLaws.{passed}
+use Rattle.pair_core.proofs.{ClientEvents.lose_out_holds, LossOutcomes.{lose_out_sight, loss_goes}, Outcomes.client_range}
+use Rattle.pair_record.proofs.{ClientLaws.some_at, RecordLaws.passed}
 use Rattle.pair_record.specs.declared.event.Reply.TheVariants as replies
 use Rattle.pair_core.proofs.world.World.lose_out.Goals as goal
 

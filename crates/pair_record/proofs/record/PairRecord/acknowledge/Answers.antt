@@ -4,20 +4,19 @@ use Rattle.pair_history.specs.Entries.{Frame}
 use Rattle.output_gate.specs.Epochs.{frames_to}
 use Rattle.pair_record.specs.{Protocol.ack_done, Record.ports_after_ack, internal.RecordFields.record_state}
 use Rattle.pair_record.proofs.NumberLaws.{ack_numbers, landed_ports, landed_counted, same_numbers}
-use Rattle.pair_record.proofs.{LengthLaws.length-receivers, RecordLaws.{passed, has_room_for, ack_record, same_record}}
+use Rattle.pair_record.proofs.RecordLaws.{passed, has_room_for, ack_record, same_record}
 use Rattle.pair_record.proofs.record.PairRecord.acknowledge.Goals as goal
 
 pub land-requires-clause-room : goal.land-requires-clause-room
 land-requires-clause-room c =
     let n = length c.self.inside.ports.boxes in
-    let lands = length-receivers n c.held.result.now in
     let held = ap (λ (fs : List Frame). length (targets_of n fs)) c.held.ensures.held in
     let count = rw (← c.self.view_is) at c.leaving-count.ensures in
     let room = c.in_ok-reserve.ensures.room in
     omega arith
 
 pub land-requires-clause-fits : goal.land-requires-clause-fits
-land-requires-clause-fits c = search (arith, rules, has_room_for, length-receivers, passed)
+land-requires-clause-fits c = search (arith, rules, has_room_for, passed)
 
 pub invariant_of-self-2 : goal.invariant_of-self-2
 invariant_of-self-2 c =
@@ -47,4 +46,4 @@ returns-clause-ok c =
     search (arith, rules, put)
 
 pub returns-in_err-reserve-clause-some : goal.returns-in_err-reserve-clause-some
-returns-in_err-reserve-clause-some c = search (arith, rules, length-receivers)
+returns-in_err-reserve-clause-some c = search (arith, rules)

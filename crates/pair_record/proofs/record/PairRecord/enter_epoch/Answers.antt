@@ -1,9 +1,12 @@
 use Rattle.std.proofs.Common.{rules, arith, ◌≡◌, ◌∙◌, ◌+◌, length, ap, sym}
 use Rattle.frame_ports.specs.Addresses.{targets_of}
-use Rattle.pair_record.specs.{EpochActs.{behind, guest_epoch}, Journal.{Journal, all_entries}, Protocol.landed_after, Record.ports_landed}
+use Rattle.pair_journal.specs.Epochs.{behind, guest_epoch}
+use Rattle.pair_journal.specs.Journal.{Journal, all_entries}
+use Rattle.pair_record.specs.Protocol.{landed_after}
+use Rattle.pair_record.specs.Record.{ports_landed}
 use Rattle.pair_record.specs.internal.RecordFields.{record_state}
 use Rattle.pair_record.proofs.NumberLaws.{lone_numbers, opened_lone, same_numbers}
-use Rattle.pair_record.proofs.{EpochLaws.all-entered, LengthLaws.length-receivers}
+use Rattle.pair_journal.proofs.EpochLaws.{all-entered}
 use Rattle.pair_record.proofs.RecordLaws.{entered_record, passed, has_room_for, same_record}
 use Rattle.pair_record.proofs.record.PairRecord.enter_epoch.Goals as goal
 
@@ -12,7 +15,6 @@ land-requires-clause-fits c =
     let s = record_state c.self.inside in
     let free = rw (← c.self.view_is) at c.requires.free in
     let room = has_room_for s.protocol _ (passed _ _ _ free).0 in
-    let lands = length-receivers (length s.ports.boxes) c.args.frames.now in
     let entered = ap (λ (j : Journal). length (all_entries j)) c.in_ok-enter_epoch.ensures.ok
     ∙ all-entered c.args.arrivals c.args.steps s.protocol.journal in
     omega arith

@@ -1,7 +1,10 @@
 use Rattle.std.proofs.Common.{rules, arith, ◌≡◌, ◌∙◌, [], length, ap}
 use Rattle.frame_ports.specs.Numbers.{marked}
-use Rattle.pair_record.specs.{Journal.{Journal, all_entries}, internal.RecordFields.record_state}
-use Rattle.pair_record.proofs.{EpochLaws.all-entered, LengthLaws.length-receivers, NumberLaws.opened_lone, ProtectLaws.none_yet}
+use Rattle.pair_journal.specs.Journal.{Journal, all_entries}
+use Rattle.pair_record.specs.internal.RecordFields.{record_state}
+use Rattle.pair_journal.proofs.EpochLaws.{all-entered}
+use Rattle.pair_record.proofs.NumberLaws.{opened_lone}
+use Rattle.pair_record.proofs.ProtectLaws.{none_yet}
 use Rattle.pair_record.proofs.RecordLaws.{passed, has_room_for}
 use Rattle.pair_record.proofs.record.PairRecord.enter_epoch_and_seal_full.Goals as goal
 
@@ -10,7 +13,6 @@ land-requires-clause-fits c =
     let s = record_state c.self.inside in
     let free = rw (← c.self.view_is) at c.requires.free in
     let room = has_room_for s.protocol _ (passed _ _ _ free).0 in
-    let lands = length-receivers (length s.ports.boxes) c.args.frames.now in
     let entered = ap (λ (j : Journal). length (all_entries j)) c.in_ok-enter_epoch_and_seal_empty.ensures.ok
     ∙ all-entered c.args.arrivals c.args.steps s.protocol.journal in
     omega arith

@@ -1,5 +1,7 @@
 use Rattle.std.proofs.Common.{◌≡◌, ◌∙◌, length, ap, sym, Bool, cond, Some, None}
-use Rattle.pair_record.specs.{declared.event.Refusal.TheVariants.Exhausted, internal.Lengths.receivers, Record.RecordState}
+use Rattle.pair_record.specs.declared.event.Refusal.TheVariants.{Exhausted}
+use Rattle.frame_ports.specs.Addresses.{targets_of}
+use Rattle.pair_record.specs.Record.{RecordState}
 use Rattle.pair_record.specs.{EpochActs.enter_epoch_refusals, Protocol.{frames_run_out, first_refusal}}
 use Rattle.pair_record.proofs.AloneLaws.{enter_row}
 use Rattle.pair_record.proofs.record.PairRecord.enter_epoch_refusal.Goals.{After-is_exhausted_by}
@@ -13,7 +15,7 @@ table c =
     let s = c.args.self.now in
     enter_row s.ports.boxes s.protocol c.args.steps c.count_landings.result c.saturating_add-entries.result c.args.frames.now
     c.is_exhausted_by.result
-    (c.count_landings.ensures.count ∙ ap (λ (t : RecordState). length (receivers (length t.ports.boxes) c.args.frames.now)) c.self.view_is)
+    (c.count_landings.ensures.count ∙ ap (λ (t : RecordState). length (targets_of (length t.ports.boxes) c.args.frames.now)) c.self.view_is)
     c.saturating_add-entries.ensures c.is_exhausted_by.ensures
 
 pub returns-then-is_exhausted_by : goal.returns-then-is_exhausted_by

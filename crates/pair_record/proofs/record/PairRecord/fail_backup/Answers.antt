@@ -2,9 +2,11 @@ use Rattle.std.proofs.{Common.{rules, ◌≡◌, ◌∙◌, ◌+◌, [], ◌++�
 use Rattle.output_gate.specs.{Epochs.{frames_of, frames_to}, Gate.GateState}
 use Rattle.frame_ports.specs.Lands.{put_count}
 use Rattle.pair_history.specs.Landings.{landings}
-use Rattle.pair_record.specs.{Journal.{all_committed, with_history}, internal.Lengths.receivers, Protocol.{all_held, fail_backup_done}}
+use Rattle.pair_journal.specs.Journal.{all_committed, with_history}
+use Rattle.frame_ports.specs.Addresses.{targets_of}
+use Rattle.pair_record.specs.Protocol.{all_held, fail_backup_done}
 use Rattle.pair_record.specs.{Record.ports_after_all, internal.RecordFields.record_state}
-use Rattle.pair_record.proofs.{AloneLaws.{all_are, failure_record}, LengthLaws.length-receivers}
+use Rattle.pair_record.proofs.AloneLaws.{all_are, failure_record}
 use Rattle.pair_record.proofs.NumberLaws.{failure_numbers, opened_count, opened_ports, same_numbers}
 use Rattle.pair_record.proofs.RecordLaws.{passed, has_room_for, rising, same_record}
 use Rattle.pair_record.proofs.record.PairRecord.fail_backup.Goals.{After-held, After-none_pending-self-inside}
@@ -19,8 +21,8 @@ held_is c =
     ∙ ap (λ (g : GateState). frames_to c.self.inside.window.to_cut g.epochs) c.hold.ensures
     ∙ all_are (record_state c.self.inside).protocol c.self.invariant.is c.args.outbox.now
 
-count_is : (c : After-held) → length (receivers (length c.self.inside.ports.boxes) c.held.result.now) ≡ c.count_all-count.result
-count_is c = search (arith, rules, held_is, length-receivers)
+count_is : (c : After-held) → length (targets_of (length c.self.inside.ports.boxes) c.held.result.now) ≡ c.count_all-count.result
+count_is c = search (arith, rules, held_is)
 
 journal_is : (c : After-none_pending-self-inside)
     → c.held.result.now ≡ frames_of c.self.inside.gate.epochs ++ c.args.outbox.now

@@ -2,9 +2,10 @@ use Rattle.std.proofs.{Common.{rules, ◌≡◌, ◌∙◌, ◌+◌, List, [], �
 use Rattle.output_gate.specs.{Epochs.frames_of}
 use Rattle.frame_ports.specs.Lands.{put_count}
 use Rattle.pair_history.specs.Entries.{Frame}
-use Rattle.pair_record.specs.{EpochActs.fail_within_done, internal.Lengths.receivers, Protocol.{all_held, landed_after}}
+use Rattle.pair_record.specs.EpochActs.{fail_within_done}
+use Rattle.pair_record.specs.Protocol.{all_held, landed_after}
 use Rattle.pair_record.specs.{Record.{first_held, ports_landed, ports_after_all}, internal.RecordFields.record_state}
-use Rattle.pair_record.proofs.{AloneLaws.{held_are, failure_record}, LengthLaws.length-receivers}
+use Rattle.pair_record.proofs.AloneLaws.{held_are, failure_record}
 use Rattle.pair_record.proofs.NumberLaws.{failure_numbers, landed_counted, landed_ports, same_numbers}
 use Rattle.pair_record.proofs.RecordLaws.{passed, has_room_for, same_record}
 use Rattle.pair_record.proofs.record.PairRecord.fail_backup_within.Goals.{After-held, After-none_pending-self-inside}
@@ -19,8 +20,8 @@ held_is c =
     c.held.ensures.held ∙ held_are (record_state c.self.inside).protocol c.self.invariant.is
     ∙ sym (append-nil (frames_of c.self.inside.gate.epochs))
 
-count_is : (c : After-held) → length (receivers (length c.self.inside.ports.boxes) c.held.result.now) ≡ c.count_all-count.result
-count_is c = search (arith, rules, held_is, length-receivers)
+count_is : (c : After-held) → length (targets_of (length c.self.inside.ports.boxes) c.held.result.now) ≡ c.count_all-count.result
+count_is c = search (arith, rules, held_is)
 
 journal_is : (c : After-none_pending-self-inside)
     → c.held.result.now ≡ frames_of c.self.inside.gate.epochs ++ []

@@ -1,16 +1,18 @@
 use Rattle.std.proofs.Common.{rules, ◌≡◌, ◌∙◌, ◌+◌, ◌++◌, length, replicate, sym, arith}
 use Rattle.frame_ports.specs.Addresses.{targets_of}
 use Rattle.pair_history.specs.{Entries.Ran, Landings.landings}
-use Rattle.pair_record.specs.{Journal.with_history, Record.ports_landed, internal.RecordFields.record_state}
-use Rattle.pair_record.proofs.{AloneLaws.few_receivers, NumberLaws.{lone_numbers, opened_lone, same_numbers}}
+use Rattle.pair_journal.specs.Journal.{with_history}
+use Rattle.pair_record.specs.Record.{ports_landed}
+use Rattle.pair_record.specs.internal.RecordFields.{record_state}
+use Rattle.pair_record.proofs.{AloneLaws.few_targets, NumberLaws.{lone_numbers, opened_lone, same_numbers}}
 use Rattle.pair_record.proofs.RecordLaws.{history_record, same_record}
 use Rattle.pair_record.proofs.record.PairRecord.run_alone.Goals as goal
 
 pub run_alone-requires-clause-room : goal.run_alone-requires-clause-room
-run_alone-requires-clause-room c = search (arith, rules, few_receivers)
+run_alone-requires-clause-room c = search (arith, rules, few_targets)
 
 pub run_alone-requires-clause-fits : goal.run_alone-requires-clause-fits
-run_alone-requires-clause-fits c = search (arith, rules, few_receivers)
+run_alone-requires-clause-fits c = search (arith, rules, few_targets)
 
 pub invariant_of-self : goal.invariant_of-self
 invariant_of-self c =
