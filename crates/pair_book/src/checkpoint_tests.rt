@@ -99,7 +99,7 @@ fn go_live_first<P: Pair>(
 ) -> Result<RunnerSeat<P>, Refusal>
     requires { backup.old ≡ record { number = first_backup; steps = [] } }
 {
-    book.go_live(clock, backup, 0, 1, &[])
+    book.go_live(clock, backup, 1, &[])
 }
 
 /// The machine of the guest at the start, which has made no step.

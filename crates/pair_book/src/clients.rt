@@ -29,6 +29,32 @@ impl<P: Pair> Book<P> {
         }
     }
 
+    /// The first frame of the client's box leaves it, or none is there.
+    fn take_first(
+        &mut self,
+        clock: &Clock<P>,
+        seat: &mut ClientSeat<P>,
+    ) -> Result<Option<Frame>, MemoryWanted>
+        requires client { IsClientSeat P.start seat.old.number }
+        requires free { first_refusal (entry_rows self.old) ≡ None }
+        ensures number { seat.new.number ≡ seat.old.number }
+        ensures texts { self.new.texts ≡ self.old.texts }
+        ensures done { IfOk result (λ f. (replies.Took f, self.new.protocol)
+            ≡ take_done self.old.ports.boxes self.old.protocol (client_of seat.old.number)) }
+        ensures ports { OnOk result (self.new.ports ≡ ports_after_take self.old.ports (client_of seat.old.number)) }
+        ensures step { IfOk result (λ f. Makes (Added (Took (client_of seat.old.number) f ∷ [])) self.old self.new seat.old seat.new) }
+        ensures err { OnErr result (IsAsBefore self.old self.new seat.old seat.new) }
+    {
+        let client = self.client_number(seat);
+        let before = self.record.history().len();
+        let reply = self.record.take(client)?;
+        let Reply::Took(taken) = reply else {
+            unreachable!();
+        };
+        tell(&self.record, before, &mut self.seats, clock, seat);
+        Ok(taken)
+    }
+
     /// The client takes the first frame of its box, or finds none.
     ///
     /// # Errors
@@ -52,16 +78,10 @@ impl<P: Pair> Book<P> {
         ensures refused { IfErr result (λ _. IsAsBefore self.old self.new seat.old seat.new) }
     {
         let client = self.client_number(seat);
-        if let Some(why) = self.take_refusal(client) {
-            return Err(why);
+        match self.take_refusal(client) {
+            None => Ok(self.take_first(clock, seat)?),
+            Some(why) => Err(why),
         }
-        let before = self.record.history().len();
-        let reply = self.record.take(client)?;
-        let Reply::Took(taken) = reply else {
-            unreachable!();
-        };
-        tell(&self.record, before, &mut self.seats, clock, seat);
-        Ok(taken)
     }
 
     /// Why a frame of a client that is one isn't taken in.

@@ -39,10 +39,9 @@ impl<P: Pair> Book<P> {
         None
     }
 
-    /// The primary has stopped, and the backup goes on alone, in the next generation, from its guest, which has made so many steps. What
-    /// wasn't committed is discarded, with the frames that it took in and those that were handed out; then, of the frames of its last
-    /// commits, which it hands over, and the first of which has the number `first`, those land that haven't come yet. Answers the seat of
-    /// the runner of its guest.
+    /// The primary has stopped, and the backup goes on alone, in the next generation, from its guest. What wasn't committed is discarded,
+    /// with the frames that it took in and those that were handed out; then, of the frames of its last commits, which it hands over, and
+    /// the first of which has the number `first`, those land that haven't come yet. Answers the seat of the runner of its guest.
     ///
     /// # Errors
     ///
@@ -53,14 +52,14 @@ impl<P: Pair> Book<P> {
         &mut self,
         clock: &Clock<P>,
         seat: &mut BackupSeat<P>,
-        steps: u64,
         first: u64,
         kept: &[Vec<Frame>],
     ) -> Result<RunnerSeat<P>, Refusal>
         requires frames { All (λ v. All IsFrame v.items) kept.now }
         requires stands { (sent : ℕ) × KeepsFrames P.start seat.old sent first (map (λ v. v.items) kept.now) }
         ensures number { seat.new.number ≡ seat.old.number }
-        ensures done { OnOk result ((replies.Live (self.old.protocol.generation + 1) steps, self.new.protocol)
+        // However many steps the backup's guest has made.
+        ensures done { OnOk result ((steps : ℕ) → (replies.Live (self.old.protocol.generation + 1) steps, self.new.protocol)
             ≡ brought_done self.old.protocol self.old.ports first (map (λ v. v.items) kept.now) steps) }
         ensures ports { OnOk result (self.new.ports
             ≡ ports_after_brought self.old.ports self.old.protocol first (map (λ v. v.items) kept.now)) }
@@ -80,7 +79,8 @@ impl<P: Pair> Book<P> {
         }
         let _new = self.seats.next();
         self.record.keep();
-        self.record.go_live(steps, first, kept)?;
+        // Its count of steps stands in the record's answer alone, which the book doesn't give.
+        self.record.go_live(0, first, kept)?;
         self.texts.clear();
         self.seats.meet(clock, seat);
         let runner = self.seats.go_live(clock);

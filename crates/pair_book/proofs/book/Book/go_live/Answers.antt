@@ -24,7 +24,7 @@ go_live-runner-requires-clause-legal g c =
     let tied = live-tied start steps r.protocol now.protocol r.ports now.ports c.self.invariant.0 c.self.invariant.1
     c.keep.ensures.record c.keep.ensures.numbers may.free seat may.mine c.meet.ensures.before c.meet.ensures.own c.requires.stands.0
     c.args.first kept c.requires.stands.1
-    (c.self.inside.seats.enrolled + 1) c.args.steps (search (rules, c.next-new.ensures.new))
+    (c.self.inside.seats.enrolled + 1) 0 (search (rules, c.next-new.ensures.new))
     (ap (λ (o : Outcome). o.1) c.in_ok-go_live.ensures.ok) c.in_ok-go_live.ensures.ports in
     subst (λ (k : Keeper). Legal start (k.steps ++ step 0 (WentLive (k.enrolled + 1)) ∷ [])) (sym c.meet.ensures.keeper) tied.legal
 
@@ -40,12 +40,12 @@ invariant_of-self-2 g c =
     let tied = live-tied start steps r.protocol now.protocol r.ports now.ports c.self.invariant.0 c.self.invariant.1
     c.keep.ensures.record c.keep.ensures.numbers may.free seat may.mine c.meet.ensures.before c.meet.ensures.own c.requires.stands.0
     c.args.first kept c.requires.stands.1
-    (c.self.inside.seats.enrolled + 1) c.args.steps (search (rules, c.next-new.ensures.new))
+    (c.self.inside.seats.enrolled + 1) 0 (search (rules, c.next-new.ensures.new))
     (ap (λ (o : Outcome). o.1) c.in_ok-go_live.ensures.ok) c.in_ok-go_live.ensures.ports in
     let keeps = went-live-keeps start steps r.protocol now.protocol r.ports now.ports c.self.invariant.0 c.self.invariant.1
     c.keep.ensures.record c.keep.ensures.numbers may.free seat may.mine c.meet.ensures.before c.meet.ensures.own c.requires.stands.0
     c.args.first kept c.requires.stands.1
-    (c.self.inside.seats.enrolled + 1) c.args.steps (search (rules, c.next-new.ensures.new))
+    (c.self.inside.seats.enrolled + 1) 0 (search (rules, c.next-new.ensures.new))
     (ap (λ (o : Outcome). o.1) c.in_ok-go_live.ensures.ok) c.in_ok-go_live.ensures.ports in
     let there : c.meet-2.new.self.steps ≡ steps ++ step 0 (WentLive (c.self.inside.seats.enrolled + 1)) ∷ [] =
     ap (λ (k : Keeper). k.steps) (c.meet-2.ensures.keeper ∙ c.go_live-runner.ensures.keeper)

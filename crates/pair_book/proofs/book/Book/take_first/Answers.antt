@@ -5,7 +5,7 @@ use Rattle.growing_history.specs.Views.{Keeper}
 use Rattle.pair_book.proofs.TextLaws.{texts-added}
 use Rattle.pair_book.proofs.CommittedTies.{took-keeps}
 use Rattle.pair_book.specs.Calls.{client_of}
-use Rattle.pair_book.proofs.book.Book.take.Goals as goal
+use Rattle.pair_book.proofs.book.Book.take_first.Goals as goal
 
 pub tell-requires-clause-tied : goal.tell-requires-clause-tied
 tell-requires-clause-tied g c =
