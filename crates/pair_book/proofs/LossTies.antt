@@ -1,7 +1,7 @@
 -- What each loss of the line keeps of the tie.
-use Rattle.std.proofs.Common.{◌≡◌, ◌≢◌, ℕ, zero, suc, ◌-◌, ◌<◌, ◌≤◌, List, [], ◌∷◌, ◌++◌, length, remove, refl, sym, ap, ◌∙◌, subst, arith}
-use Rattle.std.proofs.{Common.{true, false, cond, Option, Some, None, Bool}, lemmas.{Bool.lt-ltb, Bool.Decides.nat_tests, List.length-set}}
-use Rattle.std.specs.Prelude.{slice_get, nat_lt, not, option_map}
+use Rattle.std.proofs.Common.{◌≡◌, ◌≢◌, ℕ, ◌-◌, ◌<◌, ◌≤◌, List, [], ◌∷◌, ◌++◌, length, remove, refl, sym, ap, ◌∙◌, subst, arith}
+use Rattle.std.proofs.{Common.{true, false, cond, Some, None, Bool}, lemmas.{Bool.lt-ltb, Bool.Decides.nat_tests, List.length-set}}
+use Rattle.std.specs.Prelude.{slice_get, nat_lt, not}
 use Rattle.frame_ports.specs.{Lands.{list_of}, Ports.{PortsState}, Limits.{box_frames}}
 use Rattle.pair_history.specs.Entries.{Frame, DropIn, DropOut}
 use Rattle.pair_history.specs.HistoryState.{HistoryState, Waiting, frame_numbered, without_number}

@@ -58,7 +58,8 @@ loop-frame-preserved c =
     let added = ap length c.add_frame.ensures.entries in
     record {
       places = c.add_frame.array_long;
-      entries = frames_more old c.add_frame.new.history.entries c.loop-frame.lengths c.add_frame.new.lengths cs rest (receivers n (drop i fs))
+      entries = frames_more old c.add_frame.new.history.entries c.loop-frame.lengths c.add_frame.new.lengths cs rest
+          (receivers n (drop i fs))
           (c.args.history.now.entries ++ landings_by c.box_lengths-lengths.result (receivers n fs))
           e c.add_frame.ensures.entries c.add_frame.ensures.lengths c.loop-frame.invariant.entries;
       size =

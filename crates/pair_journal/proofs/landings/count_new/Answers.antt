@@ -7,7 +7,8 @@ count_if_new-count-requires c = c.requires.known c.loop-client.client-index 0 (o
 
 pub loop-client-preserved : goal.loop-client-preserved
 loop-client-preserved c =
-    let more = ap (λ cs. new_for c.args.ports.now cs c.args.number) (drop_more c.args.clients.now c.loop-client.client-index 0 (omega arith)) in
+    let more = ap (λ cs. new_for c.args.ports.now cs c.args.number)
+    (drop_more c.args.clients.now c.loop-client.client-index 0 (omega arith)) in
     let one = c.count_if_new-count.ensures in
     let v = c.loop-client.invariant in
     record { few = omega arith; counted = omega arith }
