@@ -121,7 +121,8 @@ fn delta(alloc: Global) -> Result<(Checkpoint, Prepared), Fail>
     ensures { IfOk result (λ x. (clients : ℕ)
         → MakesEpoch (start_state 1 1 [] clients) (start_of (start_state 1 1 [] clients)) 0 0 [] x.1) }
 {
-    let checkpoint = cut_delta(alloc, &machine(alloc)?, 1, 1)?;
+    let machine = machine(alloc)?;
+    let checkpoint = cut_delta(alloc, &machine, 1, 1)?;
     let packet = Packet::new(alloc, &checkpoint)?;
     Ok((checkpoint, Prepared::Checkpoint(packet)))
 }
@@ -131,7 +132,8 @@ fn full(alloc: Global) -> Result<(Checkpoint, Prepared), Fail>
     ensures { IfOk result (λ x. (clients : ℕ)
         → MakesEpoch (start_state 1 1 [] clients) (start_of (start_state 1 1 [] clients)) 0 0 [] x.1) }
 {
-    let checkpoint = cut_full(alloc, &machine(alloc)?, 2)?;
+    let machine = machine(alloc)?;
+    let checkpoint = cut_full(alloc, &machine, 2)?;
     let packet = Packet::new(alloc, &checkpoint)?;
     Ok((checkpoint, Prepared::Checkpoint(packet)))
 }
