@@ -1,6 +1,6 @@
 #!/usr/bin/env bash
-# What a checkpoint costs: one epoch (change, cut, encode, read, stage and commit) in which 1, 64 or 4096 pages of 4096 change, one block of
-# each or all 64, beside the same in plain Rust (oracle/interpreter); an epoch of one block in machines of other sizes, beside that of the
+# What a checkpoint costs: one epoch (change, cut, encode, read, stage and commit) in which 1, 64 or 16384 pages of 16384 change, one block
+# of each or all 64, beside the same in plain Rust (oracle/interpreter); an epoch of one block in machines of other sizes, beside that of the
 # smallest; an epoch's text of one block and so many frames, encoded and read, beside
 # plain Rust; and how many bytes a second `remus check-stream` reads of files of 100 MB and more. Processor time, the best of three; a run of
 # no epochs, which only boots, is taken off. REMUS names another program to measure in the place of the repository's own.
@@ -24,7 +24,7 @@ seconds() {
 }
 
 for blocks in 1 64; do
-    for pages in 1 64 4096; do
+    for pages in 1 64 16384; do
         rounds=$((400000 / (pages * blocks + 20) + 20))
         proved=$("$epochs" measure "$pages" "$blocks" "$rounds")
         plain=$("$interpreter" checkpoints "$pages" "$blocks" "$rounds")
@@ -38,7 +38,7 @@ for blocks in 1 64; do
             -v start="$(seconds "$interpreter" checkpoints "$pages" "$blocks" 0)" 'BEGIN {
             a = (proved - boot) / rounds
             b = (plain - start) / rounds
-            printf "%4d pages, %2d blocks each, %8d bytes: %9.1f us an epoch, plain Rust %9.1f us, ratio %.2f\n",
+            printf "%5d pages, %2d blocks each, %8d bytes: %9.1f us an epoch, plain Rust %9.1f us, ratio %.2f\n",
                 pages, blocks, bytes / rounds, a * 1e6, b * 1e6, a / b
         }'
     done
@@ -51,15 +51,15 @@ flat() {
         'BEGIN { print (all - boot) / rounds * 1e6 }'
 }
 small=$(flat 16 64)
-for size in "4096 64" "16 32768"; do
+for size in "16384 64" "16 32768"; do
     read -r pages sectors <<<"$size"
     awk -v pages="$pages" -v sectors="$sectors" -v here="$(flat "$pages" "$sectors")" -v small="$small" 'BEGIN {
-        printf "one block, %4d pages and %5d sectors: %9.1f us an epoch, %9.1f us with 16 and 64, ratio %.2f\n",
+        printf "one block, %5d pages and %5d sectors: %9.1f us an epoch, %9.1f us with 16 and 64, ratio %.2f\n",
             pages, sectors, here, small, here / small
     }'
 done
 
-# Streams of whole pages, of one block a page, of sectors, of the beacon's checkpoint again and again, and of 256 long frames each.
+# Streams of whole pages, of as many as there can be and of fewer, of one block a page, of sectors, of the beacon's checkpoint again and again, and of 256 long frames each.
 python3 bench/streams.py "$folder"
 for frames in 0x64 1x64 16x64 256x64 1x1514 16x1514 256x1514; do
     rounds=$((40000000 / (${frames%x*} * ${frames#*x} + 1000)))
@@ -74,7 +74,7 @@ for frames in 0x64 1x64 16x64 256x64 1x1514 16x1514 256x1514; do
         printf "frames %8s: %9.2f us encoded and read, plain Rust %9.2f us, ratio %.2f\n", frames, a / rounds * 1e6, b / rounds * 1e6, a / b
     }'
 done
-for stream in pages:4096:32768 blocks:4096:32768 sectors:4096:32768 beacons:2:1 frames:2:1; do
+for stream in largest:16384:32768 pages:4096:32768 blocks:4096:32768 sectors:4096:32768 beacons:2:1 frames:2:1; do
     IFS=: read -r name pages sectors <<<"$stream"
     file=$folder/$name
     awk -v name="$name" -v bytes="$(stat -c %s "$file")" -v s="$(seconds "$program" check-stream "$file" --pages "$pages" --sectors "$sectors")" \

@@ -1,5 +1,5 @@
 #!/usr/bin/env bash
-# How long the backup takes to go live, at three sizes of memory and disk, beside a copy of as many bytes, and beside what the system
+# How long the backup takes to go live, at four sizes of memory and disk, beside a copy of as many bytes, and beside what the system
 # takes to be given back the memory of a machine, as that of the stopped primary is then; the same where it has kept 1024 frames of 1514
 # bytes, which land for 16 clients, beside a copy of these; how fast a loop of arithmetic runs where a node is alone, beside the same
 # loop in a pair; and the most memory that 20 million steps take there. Going live is the middle of TIMES (20 if left out) times, where
@@ -107,7 +107,7 @@ def giving_back(pages, sectors):
     return time.perf_counter() - start
 
 
-for pages, sectors in [(16, 64), (256, 2048), (4096, 32768)]:
+for pages, sectors in [(16, 64), (256, 2048), (4096, 32768), (16384, 32768)]:
     live = statistics.median(going_live(pages, sectors) for _ in range(TIMES))
     copied = min(copying(pages * PAGE + sectors * SECTOR) for _ in range(TIMES))
     given = min(giving_back(pages, sectors) for _ in range(TIMES))

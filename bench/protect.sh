@@ -1,5 +1,5 @@
 #!/usr/bin/env bash
-# What it takes that a node gets a new backup, in a machine of 4096 pages, of which none, 16 or all aren't zero, and on a disk of which no
+# What it takes that a node gets a new backup, in a machine of 16384 pages, of which none, 16 or all aren't zero, and on a disk of which no
 # sector or every one is written, beside the same in plain Rust (oracle/interpreter). First the full checkpoint, as tests/epochs cuts and encodes
 # it: all is compared with zeros, and what isn't zero is copied and encoded. Then the whole line `protect`, which makes the new backup's empty
 # machine besides; plain Rust writes as many zeros. There both take all large memory anew from the system (MALLOC_MMAP_THRESHOLD_), and
@@ -30,7 +30,7 @@ from oracle.sender import addi, i_type, jump, s_type, upper
 
 PROGRAM, EPOCHS, TIMES = sys.argv[1], sys.argv[2], int(sys.argv[3])
 INTERPRETER = "oracle/interpreter/target/release/interpreter"
-PAGES, BLOCK, PAGE = 4096, 64, 4096
+PAGES, BLOCK, PAGE = 16384, 64, 4096
 # So many bytes of checkpoints are made in one run, but no more rounds than that.
 BYTES, ROUNDS = 400_000_000, 100
 
@@ -132,8 +132,8 @@ FEW, MANY = 64, 32768
 measure("nothing but zeros, 64 sectors", nothing(), FEW)
 measure("16 pages of one block, 64 sectors", filler(16, 1), FEW)
 measure("16 whole pages, 64 sectors", filler(16, 64), FEW)
-measure("4096 pages of one block, 64 sectors", filler(PAGES, 1), FEW)
-measure("4096 whole pages, 64 sectors", filler(PAGES, 64), FEW)
+measure("16384 pages of one block, 64 sectors", filler(PAGES, 1), FEW)
+measure("16384 whole pages, 64 sectors", filler(PAGES, 64), FEW)
 measure("16 whole pages, 32768 sectors of zeros", filler(16, 64), MANY)
 measure("a driver's pages, 32768 sectors that aren't zero", stream(), MANY)
 PYTHON

@@ -19,6 +19,7 @@ def main(folder):
     whole = {i: bytes([i + 1]) * BLOCK for i in range(64)}
     one = {5: b"\1" + bytes(BLOCK - 1)}
     streams = {
+        "largest": Checkpoint(16384, 32768, page_records={page: whole for page in range(16384)}),
         "pages": Checkpoint(4096, 32768, page_records={page: whole for page in range(4096)}),
         "blocks": Checkpoint(4096, 32768, page_records={page: one for page in range(4096)}),
         "sectors": Checkpoint(4096, 32768, sector_records={sector: b"\xab" * SECTOR for sector in range(32768)}),

@@ -9,11 +9,12 @@ NO_HEX = [b"0", b"020", b"0" * 29, b"0" * 27, b"AB" * 14, b"0A" * 14, b"0g" * 14
           b"00:" * 13 + b"00", b"\xff" * 14, b"+0" * 14, b"", b"00" * 1514 + b"0", b"A0" * 1515]
 
 GOOD_BOOTS = (
-    b"1 1 1 idle|4096 32768 16 idle|4096 1 1 beacon|2 32768 16 beacon|2 1 1 beacon|02 0001 016 beacon|2 4 1 disk 0 ab|2 4 1 disk 3 00|"
+    b"1 1 1 idle|16384 32768 16 idle|16384 1 1 beacon|4096 1 1 idle|4097 1 1 idle|2 32768 16 beacon|2 1 1 beacon|02 0001 016 beacon|"
+    b"2 4 1 disk 0 ab|2 4 1 disk 3 00|"
     b"2 4 1 disk 4 ff|2 32768 1 disk 32767 5a|2 32768 1 disk 32768 5a|2 1 2 disk 0 01|2 1 1 disk 4294967296 ab|"
     b"2 1 1 disk 18446744073709551615 ab|1 1 1 words 0000006f|1 1 1 words 00000000").split(b"|")
 BAD_BOOTS = (
-    b"0 1 1 idle|4097 1 1 idle|1 0 1 idle|1 32769 1 idle|1 1 0 idle|1 1 17 idle|1 1 1 beacon|0 1 1 beacon|4097 1 1 beacon|1 1 1 disk 0 ab|"
+    b"0 1 1 idle|16385 1 1 idle|1 0 1 idle|1 32769 1 idle|1 1 0 idle|1 1 17 idle|1 1 1 beacon|0 1 1 beacon|16385 1 1 beacon|1 1 1 disk 0 ab|"
     b"18446744073709551615 1 1 idle|1 18446744073709551615 1 idle|1 1 18446744073709551615 idle|18446744073709551616 1 1 idle|"
     b"1 18446744073709551617 1 idle|1 1 18446744073709551617 idle|4294967297 1 1 idle|1 65537 1 idle|1 1 257 idle||2|2 1|2 1 1|2 1 1 |"
     b"2 1 1 idle | 2 1 1 idle|2  1 1 idle|2 1 1  idle|2 1 1 idle 0|2 1 1 beacon 1|2 1 1 Idle|2 1 1 echo|2 1 1 counter|2 1 1 idl|"

@@ -36,8 +36,8 @@ compile() {
     keep "words/$name.words"
 }
 
-# Those on two pages have their zeroed memory in the second; sha256's answer stands at its start.
-for name in sort crc32 sha256 division flood; do
+# Those on two pages have their zeroed memory in the second; sha256's answer stands at its start. memory writes far beyond these.
+for name in sort crc32 sha256 division flood memory; do
     compile $name --pages 2 --data 0x80001000
 done
 for name in account tally disk counter stream; do

@@ -22,6 +22,8 @@ from pathlib import Path
 
 MAGICS = {1: b"RMC1", 2: b"RMC2"}
 MOST_FRAMES, SHORTEST, LONGEST = 256, 14, 1514
+# Pages of a machine, at most, and of one whose checkpoint is of version 1.
+MOST_PAGES, MOST_OLD_PAGES = 16384, 4096
 BLOCK, PAGE, SECTOR = 64, 4096, 512
 QUEUE_SIZES = (0, 1, 2, 4, 8, 16, 32, 64)
 
@@ -139,7 +141,7 @@ def read_device(units, queues):
 def read_one(units, pages, sectors):
     versions = {int.from_bytes(magic, "little"): version for version, magic in MAGICS.items()}
     version = versions[units.take(4, lambda n: n in versions)]
-    units.take(4, lambda n: n == pages)
+    units.take(4, lambda n: n == pages and (version == 2 or n <= MOST_OLD_PAGES))
     units.take(4, lambda n: n == sectors)
     c = Checkpoint(pages, sectors, version=version)
     c.generation = units.take(8, lambda n: 1 <= n < 2**62)
@@ -269,7 +271,7 @@ def random_checkpoint(r, pages, sectors):
     for sector in r.sample(range(sectors), r.randrange(min(sectors, 4) + 1)):
         zeros = number and r.random() < 0.3
         c.sector_records[sector] = bytes(SECTOR) if zeros else random_bytes(r, SECTOR)
-    c.version = r.choice((1, 2, 2))
+    c.version = r.choice((1, 2, 2)) if pages <= MOST_OLD_PAGES else 2
     if c.version == 2 and number:
         for _ in range(r.choice((0, 0, 1, 2, 3, r.randrange(20), MOST_FRAMES))):
             c.frames.append(r.randbytes(r.choice((SHORTEST, 60, LONGEST, r.randrange(SHORTEST, LONGEST + 1)))))
@@ -278,7 +280,7 @@ def random_checkpoint(r, pages, sectors):
 
 def random_shape(seed):
     r = random.Random(f"shape {seed}")
-    return r.choice((1, 2, 3, 17, 300, 4096)), r.choice((1, 2, 5, 64, 32768))
+    return r.choice((1, 2, 3, 17, 300, MOST_OLD_PAGES, MOST_OLD_PAGES + 1, MOST_PAGES)), r.choice((1, 2, 5, 64, 32768))
 
 
 def random_stream(seed):

@@ -14,7 +14,7 @@ from oracle.sender import sender_of
 BEACON_STEP, BEACON_FRAME = 22, bytes.fromhex("02000000010102000000000188b5")
 DISK_STEP = 23
 SECTOR_BYTES, PAGE_WORDS = 512, 1024
-MOST_PAGES, MOST_SECTORS, MOST_CLIENTS = 4096, 32768, 16
+MOST_PAGES, MOST_SECTORS, MOST_CLIENTS = 16384, 32768, 16
 NUMBERS_END = 2**64
 # The lines by which nodes stop, go live and get a new backup.
 CHANGES = ["fail primary", "fail backup", "golive", "protect"]

@@ -6,7 +6,7 @@ OUTPUT_ARCH(riscv)
 ENTRY(start)
 PROVIDE(stack_bytes = 512);
 MEMORY {
-    ram : ORIGIN = 0x80000000, LENGTH = 4096 * 4096
+    ram : ORIGIN = 0x80000000, LENGTH = 16384 * 4096
 }
 SECTIONS {
     .image : {

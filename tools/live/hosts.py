@@ -238,5 +238,5 @@ def why_not_booted(boot, answer):
     if answer.startswith("refused"):
         return f"there is no memory for this guest ({answer}): give its boot line fewer pages or sectors"
     pages, words = boot.split(" ")[1], len(boot.split(" ")[5:])
-    return (f"the boot line is bad: {words} words for {pages} pages; at most 1024 words fit into a page, of which there are 1 to 4096, "
+    return (f"the boot line is bad: {words} words for {pages} pages; at most 1024 words fit into a page, of which there are 1 to 16384, "
             "with 1 to 32768 sectors and 1 to 16 clients")

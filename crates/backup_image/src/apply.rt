@@ -3,6 +3,7 @@ ghost use Rattle.std.specs.Prelude.{◌≡◌, ◌+◌, ◌*◌, ◌<◌, ◌≤
 ghost use Rattle.guest_machine.specs.Blocks.{with_sector};
 ghost use Rattle.guest_machine.specs.Dirty.{Rises};
 ghost use Rattle.guest_machine.specs.Guest.{sector_count};
+ghost use Rattle.guest_machine.specs.Limits.{page_bytes};
 ghost use Rattle.epoch_snapshot.specs.Blocks.{block_numbers, set_blocks};
 ghost use Rattle.epoch_snapshot.specs.Checkpoints.{block_count};
 ghost use Rattle.epoch_snapshot.specs.Images.{base_ram, base_sectors, image_of, with_blocks, with_sectors};
@@ -17,7 +18,7 @@ const PAGE_BLOCKS: u32 = 64;
 /// XORs the blocks that a mask names into a page, in turn. No page counts as written, before as after.
 fn put_page(machine: &mut Machine, page: u32, mask: u64, blocks: &[Block])
     requires inside { page + 1 ≤ length machine.old.written }
-    requires whole { length machine.old.guest.ram ≡ 4096 * length machine.old.written }
+    requires whole { length machine.old.guest.ram ≡ page_bytes * length machine.old.written }
     requires settled { machine.old.written ≡ replicate (length machine.old.written) false }
     requires enough { count_ones mask ≤ length blocks.now }
     ensures guest { machine.new.guest ≡ record machine.old.guest {
@@ -40,7 +41,7 @@ fn put_page(machine: &mut Machine, page: u32, mask: u64, blocks: &[Block])
 /// there is a block. No page counts as written, before as after.
 fn put_pages(machine: &mut Machine, pages: &[PageChange], blocks: &[Block])
     requires inside { Rises 0 (length machine.old.written) (map (λ p. p.page) pages.now) }
-    requires whole { length machine.old.guest.ram ≡ 4096 * length machine.old.written }
+    requires whole { length machine.old.guest.ram ≡ page_bytes * length machine.old.written }
     requires settled { machine.old.written ≡ replicate (length machine.old.written) false }
     requires enough { block_count pages.now ≤ length blocks.now }
     ensures guest { machine.new.guest ≡ record machine.old.guest {
@@ -82,7 +83,7 @@ fn put_sectors(machine: &mut Machine, sectors: &[SectorChange])
 /// Turns a machine into the just settled one of the checkpoint's image. The machine has the checkpoint's shape, and holds what the
 /// checkpoint stands over: zeros, where it is a full one.
 pub(crate) fn apply(machine: &mut Machine, checkpoint: &Checkpoint)
-    requires pages { length machine.old.guest.ram ≡ 4096 * checkpoint.now.shape.pages }
+    requires pages { length machine.old.guest.ram ≡ page_bytes * checkpoint.now.shape.pages }
     requires flags { length machine.old.written ≡ checkpoint.now.shape.pages }
     requires sectors { length machine.old.guest.sectors ≡ 512 * checkpoint.now.shape.sectors }
     requires memory { base_ram checkpoint.now machine.old.guest.ram ≡ machine.old.guest.ram }

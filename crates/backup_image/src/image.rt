@@ -2,6 +2,7 @@
 ghost use Rattle.std.specs.Prelude.{◌≡◌, ◌↔◌, ◌+◌, ◌*◌, ◌<◌, ◌≤◌, length, replicate, slice_range, IfOk, IfErr, OnErr, IsErr, Some};
 ghost use Rattle.std.specs.Prelude.{None, Err};
 ghost use Rattle.memory_wanted.specs.Wanted.{wanted};
+ghost use Rattle.guest_machine.specs.Limits.{page_bytes};
 ghost use Rattle.backup_image.specs.Images.{booted, empty_image, answer_at, stage_answer, after_stage, committed, settled_machine};
 
 use crate::apply::apply;
@@ -51,7 +52,7 @@ impl Image {
     /// # Errors
     /// `NoMemory` where memory is refused.
     pub fn boot(alloc: Global, shape: Shape, image: &[u8]) -> Result<Image, ImageError>
-        requires { length image.now ≤ 4096 * shape.pages }
+        requires { length image.now ≤ page_bytes * shape.pages }
         ensures ok { IfOk result (λ i. i ≡ booted shape image.now) }
         ensures err { OnErr result (result ≡ Err (ImageError.NoMemory wanted)) }
     {
@@ -183,7 +184,7 @@ impl Image {
     /// How large its guest is.
     pub fn shape(&self) -> Shape
         ensures value { result ≡ self.now.shape }
-        ensures pages { length self.now.guest.ram ≡ 4096 * result.pages }
+        ensures pages { length self.now.guest.ram ≡ page_bytes * result.pages }
         ensures sectors { length self.now.guest.sectors ≡ 512 * result.sectors }
     {
         self.shape

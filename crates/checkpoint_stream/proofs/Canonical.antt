@@ -8,7 +8,7 @@ use Rattle.checkpoint_stream.specs.{Readings.{Reading, is_whole, is_full, has_fr
 use Rattle.checkpoint_stream.specs.Sound.{AllPass, StandsAt, FramesAt, change_in, state_from, version_from}
 use Rattle.guest_machine.specs.{declared.shapes.Shape.Shape, MachineStates.IsMachineState}
 use Rattle.virtio_mmio.specs.States.{is_queue_size, IsQueueRecord}
-use Rattle.epoch_snapshot.specs.Checkpoints.{IsCanonical}
+use Rattle.epoch_snapshot.specs.{Checkpoints.IsCanonical, Limits.most_old_pages}
 
 AllPass-at : (shape : Shape) (before : ℕ) (rows : List Row) (ns : List ℕ) (k : ℕ) (d : Row) → k < length ns → AllPass shape before rows ns →
     IsTrue (passes shape (get_or rows k d).rule (get_or (before ∷ ns) k 0) (get_or ns k 0))
@@ -100,6 +100,23 @@ number-within : (r : Reading) → IsHead r → r.known ≡ 80 → (0 ≤ get_or 
 unfolding passes head_table
 number-within r h known = within 0 _ 0x3fffffffffffffff (rule-at r 4 h known (lit< tt))
 
+few-pages : (n pages : ℕ) → IsTrue (n == pages && nat_le n most_old_pages) → pages ≤ most_old_pages
+few-pages n pages h = grind (arith, nat_tests)
+
+old-within : (n pages before : ℕ) → version_from before ≡ 1 →
+    IsTrue (n == pages && (before == 0x32434d52 || nat_le n most_old_pages)) → pages ≤ most_old_pages
+old-within n pages before old h = by-version (before == 0x32434d52) (version_from before) refl old h
+  where
+    by-version : (new : Bool) (version : ℕ) → version ≡ (if new then 2 else 1) → version ≡ 1 →
+        IsTrue (n == pages && (new || nat_le n most_old_pages)) → pages ≤ most_old_pages
+    by-version true version e f h = absurd (omega (arith, e, f))
+    by-version false version e f h = few-pages n pages h
+
+-- version 1 speaks of few pages
+pages-within : (r : Reading) → IsHead r → r.known ≡ 80 → version_from (get_or r.head 0 0) ≡ 1 → r.shape.pages ≤ most_old_pages
+unfolding passes head_table
+pages-within r h known old = old-within _ r.shape.pages (get_or r.head 0 0) old (rule-at r 1 h known (lit< tt))
+
 version-within : (magic : ℕ) → (1 ≤ version_from magic) × (version_from magic ≤ 2)
 version-within magic =
     elim (magic == 0x32434d52) as (λ (new : Bool). (1 ≤ (if new then 2 else 1)) × ((if new then 2 else 1) ≤ 2)) [
@@ -141,6 +158,7 @@ canonical r h whole =
         frames = frames.each;
         frame_count = omega (arith, frames.count);
         old_frames = λ e. nil_from_length r.frames (omega (arith, frames.old (old-carries r records.known e)));
+        old_pages = λ e. pages-within r h.head records.known e;
         full_frames = λ e. nil_from_length r.frames (omega (arith, frames.full (full-test r records.known e)));
       },
     )

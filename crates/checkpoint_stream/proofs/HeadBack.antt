@@ -1,4 +1,5 @@
 -- The head's numbers of a checkpoint that was read whole are those that were read.
+use Rattle.epoch_snapshot.specs.Limits.{most_old_pages}
 use Rattle.checkpoint_stream.proofs.{StateRead.{low_half, low_quarter, numbers-back}, Numbers.limit_of, Canonical.rule-at}
 use Rattle.checkpoint_stream.specs.{declared.rules.{Row.Row, Width.TheVariants.Four, Rule.TheVariants.Magic}, HeadTable.head_table}
 use Rattle.checkpoint_stream.specs.{HeadTable.{passes, number}, Readings.Reading, Sound.{IsHead, change_in, version_from, queue_from}}
@@ -32,6 +33,9 @@ flag n size h = grind (arith, nat_tests)
 
 equal : (m n : ℕ) → IsTrue (m == n) → n ≡ m
 equal m n h = grind (arith, nat_tests)
+
+same-pages : (n pages before : ℕ) → IsTrue (n == pages && (before == 0x32434d52 || nat_le n most_old_pages)) → pages ≡ n
+same-pages n pages before h = grind (arith, nat_tests)
 
 queue-kept : (xs rest later : List ℕ) (i : ℕ) → slice_index xs i < 2 ^ 32 →
     IsTrue (slice_index xs (i + 1) == 0 || (slice_index xs (i + 1) == 1 && nat_le 1 (slice_index xs i))) →
@@ -95,7 +99,7 @@ head-kept r h known narrow =
     let count : 80 ≡ length xs = omega (arith, h.known, known) in
     let at : (k : ℕ) → k < 80 → slice_index xs k < limit_of (get_or head_table k (number Four Magic)).width
     = λ (k : ℕ) (lt : k < 80). Narrow-at head_table xs k (number Four Magic) (omega (arith, lt, count)) narrow in
-    before-kept xs _ _ _ _ _ _ _ _ _ _ (magic-back _ (rule-at r 0 h known (lit< tt))) (equal _ _ (rule-at r 1 h known (lit< tt)))
+    before-kept xs _ _ _ _ _ _ _ _ _ _ (magic-back _ (rule-at r 0 h known (lit< tt))) (same-pages _ _ _ (rule-at r 1 h known (lit< tt)))
     (equal _ _ (rule-at r 2 h known (lit< tt))) (low_half _ (at 45 (lit< tt)))
     (device-kept xs _ _ 47 (queue_from xs 53 ∷ queue_from xs 60 ∷ [])
     (at 47 (lit< tt)) (at 48 (lit< tt)) (at 49 (lit< tt)) (at 51 (lit< tt)) (at 52 (lit< tt))

@@ -2,7 +2,7 @@
 use Rattle.std.proofs.Common.{◌≡◌, ℕ, ◌<◌, ◌≤◌, ◌^◌, ◌==◌, ◌&&◌, ◌||◌, IsTrue, Bool, true, false, arith, refl, if◌then◌else◌, nat_le, lit<}
 use Rattle.std.proofs.{Common.get_or, lemmas.Bool.Decides.nat_tests}
 use Rattle.virtio_mmio.specs.States.{queue_at}
-use Rattle.epoch_snapshot.specs.Checkpoints.{Change, IsCanonical}
+use Rattle.epoch_snapshot.specs.{Checkpoints.{Change, IsCanonical}, Limits.most_old_pages}
 use Rattle.checkpoint_stream.specs.{HeadTable.{head_table, passes}, Sound.AllPass, Text.{magic, head_numbers}, Widths.HasWidths}
 use Rattle.checkpoint_stream.proofs.Numbers.{AllFit}
 
@@ -32,6 +32,24 @@ ready-test : (ready : Bool) (n : ℕ) → (ready ≡ true → 0 < n) →
 ready-test false n h = refl
 ready-test true n h = sized-test n (h refl)
 
+old-pages : (n : ℕ) → n ≤ most_old_pages → IsTrue (n == n && nat_le n most_old_pages)
+old-pages n h = grind (arith, nat_tests)
+
+all-pages : (n : ℕ) → IsTrue (n == n && true)
+all-pages n = grind (arith, nat_tests)
+
+is-one : (n : ℕ) → (n == 1) ≡ true → n ≡ 1
+is-one n e = grind (arith, nat_tests)
+
+pages-test : (version pages : ℕ) → (version ≡ 1 → pages ≤ most_old_pages) →
+    IsTrue (pages == pages && (magic version == 0x32434d52 || nat_le pages most_old_pages))
+pages-test version pages few =
+    elim (version == 1) as (λ (old : Bool). (version == 1) ≡ old →
+    IsTrue (pages == pages && ((if old then 0x31434d52 else 0x32434d52) == 0x32434d52 || nat_le pages most_old_pages))) [
+      | true ↦ λ (e : (version == 1) ≡ true). old-pages pages (few (is-one version e))
+      | false ↦ λ (e : (version == 1) ≡ false). all-pages pages
+    ] refl
+
 magic-test : (version : ℕ) → IsTrue (magic version == 0x31434d52 || magic version == 0x32434d52)
 magic-test version =
     elim (version == 1) as (λ (old : Bool). IsTrue ((if old then 0x31434d52 else 0x32434d52) == 0x31434d52
@@ -43,7 +61,7 @@ magic-test version =
 pub head-passes : (c : Change) → IsCanonical c → AllPass c.shape 0 head_table (head_numbers c)
 unfolding passes head_table head_numbers
 head-passes c h =
-    magic-test c.version ⨾ eq-self c.shape.pages ⨾ eq-self c.shape.sectors ⨾
+    magic-test c.version ⨾ pages-test c.version c.shape.pages h.old_pages ⨾ eq-self c.shape.sectors ⨾
     within-test 1 c.generation 0x3fffffffffffffff h.first_generation (omega (arith, h.last_generation)) ⨾
     within-test 0 c.number 0x3fffffffffffffff (omega arith) (omega (arith, h.last_number)) ⨾ refl ⨾ refl ⨾ refl ⨾ refl ⨾ refl ⨾ refl ⨾
     refl ⨾ refl ⨾ refl ⨾ refl ⨾ refl ⨾ refl ⨾ refl ⨾ refl ⨾ refl ⨾ refl ⨾ refl ⨾ refl ⨾ refl ⨾ refl ⨾ refl ⨾ refl ⨾ refl ⨾ refl ⨾

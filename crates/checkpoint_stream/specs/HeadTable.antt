@@ -6,6 +6,7 @@ use Rattle.std.specs.Int.{w16, w32, w64, from_le_bytes, to_le_bytes}
 use Rattle.mtraps.specs.CsrTable.{legal_value}
 use Rattle.virtio_mmio.specs.States.{is_queue_size}
 use Rattle.guest_machine.specs.declared.shapes.Shape.{Shape}
+use Rattle.epoch_snapshot.specs.Limits.{most_old_pages}
 use Rattle.checkpoint_stream.specs.declared.rules.Width.{Width}
 use Rattle.checkpoint_stream.specs.declared.rules.Width.TheVariants.{Two, Four, Eight}
 use Rattle.checkpoint_stream.specs.declared.rules.Rule.{Rule}
@@ -50,11 +51,12 @@ head_table =
     -- the network card and its two queues, the disk and its queue
     ∷ device_rows (queue_rows (queue_rows (device_rows (queue_rows [])))))
 
--- whether a number may stand where its rule is this, after the number before it
+-- whether a number may stand where its rule is this, after the number before it. The number of pages stands after the version: it is the
+-- shape's, and without "RMC2" at most as many as there could be while version 1 was written
 unfoldable pub passes : Shape → Rule → ℕ → ℕ → Bool
 passes shape Any before n = true
 passes shape Magic before n = n == 0x31434d52 || n == 0x32434d52
-passes shape Pages before n = n == shape.pages
+passes shape Pages before n = n == shape.pages && (before == 0x32434d52 || nat_le n most_old_pages)
 passes shape Sectors before n = n == shape.sectors
 passes shape (Within least most) before n = nat_le least n && nat_le n most
 passes shape Aligned before n = n % 4 == 0

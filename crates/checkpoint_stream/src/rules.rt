@@ -4,6 +4,7 @@ ghost use Rattle.std.specs.Prelude.{◌≡◌, ◌<◌, length};
 ghost use Rattle.checkpoint_stream.specs.HeadTable.{row_at, passes, number_of, bytes_in};
 ghost use Rattle.checkpoint_stream.specs.declared.rules.Width.TheVariants.{Four};
 
+use epoch_snapshot::MOST_OLD_PAGES;
 use guest_machine::Shape;
 use mtraps::legal_value;
 
@@ -35,7 +36,7 @@ pub enum Rule {
     Any,
     /// The bytes `RMC1` or `RMC2`.
     Magic,
-    /// As many pages as the reader's shape has.
+    /// As many pages as the reader's shape has, and in version 1 at most 4096.
     Pages,
     /// As many sectors as the reader's shape has.
     Sectors,
@@ -198,7 +199,9 @@ pub(crate) fn passes(shape: Shape, rule: Rule, before: u64, n: u64) -> bool
     match rule {
         Rule::Any => true,
         Rule::Magic => n == OLD_MAGIC || n == NEW_MAGIC,
-        Rule::Pages => n == u64::from(shape.pages),
+        Rule::Pages => {
+            n == u64::from(shape.pages) && (before == NEW_MAGIC || n <= u64::from(MOST_OLD_PAGES))
+        }
         Rule::Sectors => n == u64::from(shape.sectors),
         Rule::Within { least, most } => least <= n && n <= most,
         Rule::Aligned => n % 4 == 0,

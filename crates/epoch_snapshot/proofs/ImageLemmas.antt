@@ -39,6 +39,7 @@ IsCanonical-cut old listed sent m generation number c cut least most below state
       frames = subst (All IsFrame) (sym cut.frames) frames;
       frame_count = omega (arith, ap length cut.frames, few);
       old_frames = λ one. absurd (omega (arith, one, cut.version));
+      old_pages = λ one. absurd (omega (arith, one, cut.version));
       full_frames = λ z. cut.frames ∙ none z;
     }
 

@@ -5,6 +5,7 @@ use Rattle.std.proofs.{lemmas.{Bool.{eq-eqb, ne_eqb, true≢false}, Nat.Bits.bit
 use Rattle.std.proofs.Common.{◌<◌, ◌≤◌, ◌==◌, ◌||◌, not, lit<, Bool, true, false, cond, List, [], ◌∷◌, ◌++◌, length, take, drop, replicate}
 use Rattle.std.proofs.Common.{map, refl, sym, ap, ◌∙◌, arith, subst, length-append}
 use Rattle.std.specs.{Prelude.{slice_range, ◌↔◌, IsTrue}, List.{range_with_len, filter}, Int.bit_at}
+use Rattle.guest_machine.specs.Pages.{AreUnwritten, page_of}
 use Rattle.epoch_snapshot.specs.{declared.changes.PageChange.PageChange, Blocks.{set_blocks, block_numbers, xored, differ, block_in}}
 use Rattle.epoch_snapshot.specs.{Blocks.changed_mask, Cuts.{page_change, is_changed, changed_pages, block_change, changed_blocks}}
 use Rattle.epoch_snapshot.proofs.{MaskLemmas.mask_from_bits, RangeLemmas.range-append}
@@ -81,6 +82,24 @@ changed_pages-skip old new n m e none =
 pub changed_pages-same : (old new : List ℕ) (n : ℕ) → slice_range new (4096 * n) (4096 * n + 4096) ≡
     slice_range old (4096 * n) (4096 * n + 4096) → changed_pages old new (n + 1) ≡ changed_pages old new n
 changed_pages-same old new n same = changed_pages-skip old new n 0 (mask-same old new n same) refl
+
+-- pages that are the same add none
+same_pages : (old new : List ℕ) (from n : ℕ) →
+    ((page : ℕ) → from ≤ page → page < from + n → page_of new page ≡ page_of old page) →
+    changed_pages old new (from + n) ≡ changed_pages old new from
+same_pages old new from zero same = let none : from + zero ≡ from = omega arith in ap (changed_pages old new) none
+same_pages old new from (suc n) same =
+    let last : from + suc n ≡ (from + n) + 1 = omega arith in
+    ap (changed_pages old new) last
+    ∙ changed_pages-same old new (from + n) (same (from + n) (omega arith) (omega arith))
+    ∙ same_pages old new from n (λ page low high. same page low (omega (arith, high)))
+
+pub changed_pages-same_between : (old new : List ℕ) (flags : List Bool) (from end last : ℕ) → from ≤ last → last ≤ end →
+    AreUnwritten new old flags from end → changed_pages old new last ≡ changed_pages old new from
+changed_pages-same_between old new flags from end last first below unwritten =
+    let sum : from + (last - from) ≡ last = omega arith in
+    ap (changed_pages old new) (sym sum)
+    ∙ same_pages old new from (last - from) (λ page low high. unwritten.same page low (omega (arith, high, sum, below)))
 
 pub no_pages : (old new : List ℕ) → [] ≡ changed_pages old new 0
 unfolding changed_pages

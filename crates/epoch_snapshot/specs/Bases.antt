@@ -4,6 +4,7 @@ use Rattle.guest_machine.specs.Dirty.{is_in}
 use Rattle.guest_machine.specs.Guest.{Guest, sector_count}
 use Rattle.guest_machine.specs.MachineStates.{state_of}
 use Rattle.guest_machine.specs.Guest.{State}
+use Rattle.guest_machine.specs.Limits.{page_bytes}
 use Rattle.epoch_snapshot.specs.declared.memory.Over.{Over}
 use Rattle.epoch_snapshot.specs.declared.memory.Over.TheVariants.{Settled, Zero}
 use Rattle.arrayvec.specs.ArrayVec.{ArrayVec}
@@ -19,7 +20,7 @@ old_ram Zero m = replicate (length m.guest.ram) 0
 -- exactly these frames, in order; g is its generation and n its number
 pub record IsCut (old : List ℕ) (listed : List ℕ) (sent : List (ArrayVec ℕ)) (m : State) (g n : ℕ) (c : Change) : Type 0 where
   pub version : c.version ≡ 2
-  pub pages_size : length m.guest.ram ≡ 4096 * c.shape.pages
+  pub pages_size : length m.guest.ram ≡ page_bytes * c.shape.pages
   pub sectors_size : length m.guest.sectors ≡ 512 * c.shape.sectors
   pub generation : c.generation ≡ g
   pub number : c.number ≡ n

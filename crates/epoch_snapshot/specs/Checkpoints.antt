@@ -10,6 +10,7 @@ use Rattle.epoch_snapshot.specs.declared.changes.SectorChange.{SectorChange}
 use Rattle.net_device.specs.Frames.{IsFrame}
 use Rattle.arrayvec.specs.ArrayVec.{ArrayVec}
 use Rattle.epoch_snapshot.specs.Blocks.{is_zero}
+use Rattle.epoch_snapshot.specs.Limits.{most_old_pages}
 
 -- the version of the form that it is written in; the machine's shape, the pair's generation and the checkpoint's number in it, where 0 is
 -- a full one; the machine's state; which blocks of which pages change, and these blocks, the old XOR the new, page by page and in each from
@@ -43,7 +44,8 @@ abbrev pub block_count : List PageChange → ℕ
 block_count pages = sum_by (λ p. count_ones p.mask) pages
 
 -- what is true of each checkpoint, so that one change has one of them. Numbers stay below 2^62, as in all of the pair's protocol. As many
--- frames as an outbox holds belong to a delta of version 2; version 1 has none, and a full checkpoint stands for no epoch
+-- frames as an outbox holds belong to a delta of version 2; version 1 has none, and a full checkpoint stands for no epoch. Version 1
+-- speaks of no more pages than there could be while it was written
 pub record IsCanonical (c : Change) : Type 0 where
   pub first_version : 1 ≤ c.version
   pub last_version : c.version ≤ 2
@@ -60,4 +62,5 @@ pub record IsCanonical (c : Change) : Type 0 where
   pub frames : All IsFrame c.frames
   pub frame_count : length c.frames ≤ 256
   pub old_frames : c.version ≡ 1 → c.frames ≡ []
+  pub old_pages : c.version ≡ 1 → c.shape.pages ≤ most_old_pages
   pub full_frames : c.number ≡ 0 → c.frames ≡ []

@@ -1,6 +1,7 @@
 -- What a checkpoint makes of a guest.
 use Rattle.std.specs.Prelude.{ℕ, ◌*◌, ◌==◌, if◌then◌else◌, List, [], ◌∷◌, replicate}
 use Rattle.guest_machine.specs.Guest.{Guest}
+use Rattle.guest_machine.specs.Limits.{page_bytes}
 use Rattle.guest_machine.specs.MachineStates.{with_state}
 use Rattle.epoch_snapshot.specs.declared.changes.SectorChange.{SectorChange}
 use Rattle.guest_machine.specs.Bytes.{with_bytes, with_xored}
@@ -20,7 +21,7 @@ with_sectors bytes (s ∷ ss) = with_sectors (with_bytes bytes (512 * s.sector) 
 
 -- the memory and the disk that a checkpoint changes: the base's, or all zero where it is a full one
 abbrev pub base_ram : Change → List ℕ → List ℕ
-base_ram c ram = if c.number == 0 then replicate (4096 * c.shape.pages) 0 else ram
+base_ram c ram = if c.number == 0 then replicate (page_bytes * c.shape.pages) 0 else ram
 
 abbrev pub base_sectors : Change → List ℕ → List ℕ
 base_sectors c sectors = if c.number == 0 then replicate (512 * c.shape.sectors) 0 else sectors

@@ -5,12 +5,16 @@ use crate::changes::{Block, PageChange, SectorChange};
 use guest_machine::{Frame, MachineState, Shape};
 use std::marker::Model;
 
+/// Pages of the machine of a checkpoint of version 1, at most.
+pub const MOST_OLD_PAGES: u32 = 4096;
+
 /// What a cut keeps of a machine: of a delta, what changed since the last cut and what the guest sent since, and of a full one, all.
 ///
-/// It is canonical by its type. The version is 1 or 2. The generation is 1 to 2^62 - 1, the number below 2^62, and 0 says that it is full.
-/// The state meets the rules of a machine's state. The pages rise and are the machine's, and each changes at least one block; the blocks
-/// stand page by page, in each from the lowest on, and none is all zero. The sectors rise and are the disk's; in a full one none is all
-/// zero. There are at most 256 frames, each of 14 to 1514 bytes, and none in version 1 and in a full one.
+/// It is canonical by its type. The version is 1 or 2, and 1 only of a machine of at most 4096 pages. The generation is 1 to 2^62 - 1, the
+/// number below 2^62, and 0 says that it is full. The state meets the rules of a machine's state. The pages rise and are the machine's, and
+/// each changes at least one block; the blocks stand page by page, in each from the lowest on, and none is all zero. The sectors rise and
+/// are the disk's; in a full one none is all zero. There are at most 256 frames, each of 14 to 1514 bytes, and none in version 1 and in a
+/// full one.
 #[derive(Drop)]
 pub struct Checkpoint {
     version: u32,

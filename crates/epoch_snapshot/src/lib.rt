@@ -15,7 +15,7 @@ mod memory;
 mod sectors;
 
 pub use changes::{BLOCK_BYTES, Block, PageChange, SectorChange};
-pub use checkpoint::Checkpoint;
+pub use checkpoint::{Checkpoint, MOST_OLD_PAGES};
 pub use cut::{cut_delta, cut_full};
 pub use errors::SnapshotError;
 pub use limits::limits_are_the_rules;

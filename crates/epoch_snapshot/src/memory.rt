@@ -1,5 +1,6 @@
 //! What a cut records of memory.
 ghost use Rattle.std.specs.Prelude.{◌≡◌, ℕ, ◌+◌, ◌*◌, ◌<◌, ◌≤◌, ◌^◌, false, length, [], ◌∷◌, ◌++◌, map, vec_capacity, OnOk};
+ghost use Rattle.guest_machine.specs.Limits.{page_bytes};
 ghost use Rattle.epoch_snapshot.specs.Blocks.{set_blocks, xored, block_in, changed_mask};
 ghost use Rattle.epoch_snapshot.specs.Cuts.{changed_pages, changed_blocks};
 ghost use Rattle.epoch_snapshot.specs.Bases.{old_ram};
@@ -7,7 +8,10 @@ ghost use Rattle.epoch_snapshot.specs.Bases.{old_ram};
 use crate::changes::{BLOCK_BYTES, Block, PageChange};
 use guest_machine::Machine;
 use memory_wanted::{MemoryWanted, push, reserve};
-use page_lanes::{Page, mask, xor_blocks};
+use page_lanes::{PAGE_SIZE, Page, mask, xor_blocks};
+
+/// Where at most so many pages were written, the next of them is found in their list, and else by the flags of all pages.
+const FEW_WRITTEN: usize = 16;
 
 /// How many pages are passed over in one go where none of them was written.
 const GROUP_PAGES: u32 = 256;
@@ -16,7 +20,7 @@ const GROUP_PAGES: u32 = 256;
 const FEW_PAGES: u32 = 16;
 
 /// A page of zeros.
-static ZERO_PAGE: Page = [0; 4096];
+static ZERO_PAGE: Page = [0; PAGE_SIZE];
 
 /// What a checkpoint is cut over.
 #[derive(Clone, Copy)]
@@ -29,7 +33,7 @@ pub(crate) enum Over {
 
 /// A page of what the checkpoint is cut over.
 fn old_page(machine: &Machine, over: Over, page: u32) -> &Page
-    requires { 4096 * page + 4096 ≤ length machine.now.guest.ram }
+    requires { page_bytes * page + page_bytes ≤ length machine.now.guest.ram }
     ensures { (i : ℕ) → i < 64 → block_in result.now i ≡ block_in (old_ram over machine.now) (64 * page + i) }
 {
     match over {
@@ -40,7 +44,7 @@ fn old_page(machine: &Machine, over: Over, page: u32) -> &Page
 
 /// Which blocks of a page change.
 fn page_mask(machine: &Machine, over: Over, page: u32) -> u64
-    requires { 4096 * page + 4096 ≤ length machine.now.guest.ram }
+    requires { page_bytes * page + page_bytes ≤ length machine.now.guest.ram }
     ensures { result ≡ changed_mask (old_ram over machine.now) machine.now.guest.ram page }
 {
     mask(old_page(machine, over, page), machine.page(page))
@@ -50,7 +54,7 @@ fn page_mask(machine: &Machine, over: Over, page: u32) -> u64
 /// at in one go.
 fn some_written(machine: &Machine, from: u32, end: u32) -> bool
     requires ordered { from ≤ end }
-    requires size { 4096 * end ≤ length machine.now.guest.ram }
+    requires size { page_bytes * end ≤ length machine.now.guest.ram }
     ensures { result ≡ false →
         changed_pages machine.now.settled machine.now.guest.ram end ≡ changed_pages machine.now.settled machine.now.guest.ram from }
 {
@@ -65,7 +69,7 @@ fn some_written(machine: &Machine, from: u32, end: u32) -> bool
 /// knows.
 fn end_of_unwritten(machine: &Machine, from: u32, pages: u32) -> u32
     requires some { from < pages }
-    requires size { 4096 * pages ≤ length machine.now.guest.ram }
+    requires size { page_bytes * pages ≤ length machine.now.guest.ram }
     requires here { changed_pages machine.now.settled machine.now.guest.ram (from + 1) ≡
         changed_pages machine.now.settled machine.now.guest.ram from }
     ensures first { from < result }
@@ -92,7 +96,7 @@ fn end_of_unwritten(machine: &Machine, from: u32, pages: u32) -> u32
 /// The first page from `from` on that was written since the last settle, or `pages` where none of the first `pages` was.
 fn next_written(machine: &Machine, from: u32, pages: u32) -> u32
     requires ordered { from ≤ pages }
-    requires size { 4096 * pages ≤ length machine.now.guest.ram }
+    requires size { page_bytes * pages ≤ length machine.now.guest.ram }
     ensures first { from ≤ result }
     ensures last { result ≤ pages }
     ensures same { changed_pages machine.now.settled machine.now.guest.ram result ≡
@@ -105,17 +109,45 @@ fn next_written(machine: &Machine, from: u32, pages: u32) -> u32
     page
 }
 
+/// The same, found in the list of the pages that were written.
+fn next_listed(machine: &Machine, from: u32, pages: u32) -> u32
+    requires ordered { from ≤ pages }
+    requires size { page_bytes * pages ≤ length machine.now.guest.ram }
+    ensures first { from ≤ result }
+    ensures last { result ≤ pages }
+    ensures same { changed_pages machine.now.settled machine.now.guest.ram result ≡
+        changed_pages machine.now.settled machine.now.guest.ram from }
+{
+    machine.next_dirty(from).min(pages)
+}
+
+/// The same, by whichever of both takes less time.
+fn next_of_written(machine: &Machine, from: u32, pages: u32) -> u32
+    requires ordered { from ≤ pages }
+    requires size { page_bytes * pages ≤ length machine.now.guest.ram }
+    ensures first { from ≤ result }
+    ensures last { result ≤ pages }
+    ensures same { changed_pages machine.now.settled machine.now.guest.ram result ≡
+        changed_pages machine.now.settled machine.now.guest.ram from }
+{
+    if machine.dirty_count() <= FEW_WRITTEN {
+        next_listed(machine, from, pages)
+    } else {
+        next_written(machine, from, pages)
+    }
+}
+
 /// A page from `from` on such that none before it changes, or `pages` where none of the first `pages` does.
 fn next_page(machine: &Machine, over: Over, from: u32, pages: u32) -> u32
     requires ordered { from ≤ pages }
-    requires size { 4096 * pages ≤ length machine.now.guest.ram }
+    requires size { page_bytes * pages ≤ length machine.now.guest.ram }
     ensures first { from ≤ result }
     ensures last { result ≤ pages }
     ensures same { changed_pages (old_ram over machine.now) machine.now.guest.ram result ≡
         changed_pages (old_ram over machine.now) machine.now.guest.ram from }
 {
     match over {
-        Over::Settled => next_written(machine, from, pages),
+        Over::Settled => next_of_written(machine, from, pages),
         Over::Zero => from,
     }
 }
@@ -158,7 +190,7 @@ fn push_page(
     pages: &mut Vec<PageChange>,
     blocks: &mut Vec<Block>,
 ) -> Result<(), MemoryWanted>
-    requires { 4096 * change.page + 4096 ≤ length machine.now.guest.ram }
+    requires { page_bytes * change.page + page_bytes ≤ length machine.now.guest.ram }
     ensures pages { OnOk result (pages.new.items ≡ pages.old.items ++ change ∷ []) }
     ensures blocks { OnOk result (blocks.new.items
         ≡ blocks.old.items ++ changed_blocks (old_ram over machine.now) machine.now.guest.ram (change ∷ [])) }
@@ -183,7 +215,7 @@ pub(crate) fn push_pages(
     pages: &mut Vec<PageChange>,
     blocks: &mut Vec<Block>,
 ) -> Result<(), MemoryWanted>
-    requires size { 4096 * count ≤ length machine.now.guest.ram }
+    requires size { page_bytes * count ≤ length machine.now.guest.ram }
     requires no_pages { pages.old.items ≡ [] }
     requires no_blocks { blocks.old.items ≡ [] }
     ensures pages { OnOk result (pages.new.items ≡ changed_pages (old_ram over machine.now) machine.now.guest.ram count) }

@@ -2,10 +2,11 @@
 use Rattle.std.specs.Prelude.{ℕ, ◌+◌, ◌*◌, List}
 use Rattle.paged_memory.specs.Bytes.{with_bytes, with_xored}
 use Rattle.guest_machine.specs.Guest.{Guest}
+use Rattle.guest_machine.specs.Limits.{page_bytes}
 
 -- where a block of a page begins in memory
 abbrev pub block_place : ℕ → ℕ → ℕ
-block_place page block = 4096 * page + 64 * block
+block_place page block = page_bytes * page + 64 * block
 
 -- a guest with a block XORed into one of its memory
 abbrev pub with_block : Guest → ℕ → ℕ → List ℕ → Guest

@@ -4,7 +4,7 @@ ghost use Rattle.memory_wanted.specs.Wanted.{wanted};
 ghost use Rattle.net_device.specs.Receive.{received};
 ghost use Rattle.guest_machine.specs.Flags.{KeepsFlags};
 ghost use Rattle.guest_machine.specs.Guest.{boot_guest};
-ghost use Rattle.guest_machine.specs.Limits.{stepping_frames};
+ghost use Rattle.guest_machine.specs.Limits.{page_bytes, stepping_frames};
 ghost use Rattle.guest_machine.specs.Runs.{after_steps, sent_in, marked_in, HaveRoom};
 ghost use Rattle.guest_machine.specs.Step.{next, sent, marked, arrived};
 
@@ -61,7 +61,7 @@ impl Machine {
     /// `NoMemory` where memory is refused.
     #[tactic(auto, unfolding(crate::specs::Guest::boot_guest))]
     pub fn boot(alloc: Global, shape: Shape, image: &[u8]) -> Result<Machine, MachineError>
-        requires { length image.now ≤ 4096 * shape.pages }
+        requires { length image.now ≤ page_bytes * shape.pages }
         ensures guest { IfOk result (λ machine. machine.guest ≡ boot_guest shape.pages shape.sectors image.now) }
         ensures outbox { IfOk result (λ machine. machine.outbox ≡ []) }
         ensures dirty { IfOk result (λ machine. machine.dirty ≡ []) }

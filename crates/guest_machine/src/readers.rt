@@ -6,6 +6,7 @@ ghost use Rattle.virtio_mmio.specs.declared.kinds.DeviceKind.TheVariants.{Networ
 ghost use Rattle.virtio_mmio.specs.States.{IsDeviceRecord};
 ghost use Rattle.net_device.specs.Frames.{IsFrame};
 ghost use Rattle.guest_machine.specs.Guest.{sector_count, disk_kind};
+ghost use Rattle.guest_machine.specs.Limits.{page_bytes, most_pages};
 
 use crate::machine::Machine;
 use mtraps::CsrValues;
@@ -92,11 +93,11 @@ impl Machine {
         self.devices.sectors()
     }
 
-    /// How many bytes of memory the guest has: 1 to 4096 pages.
+    /// How many bytes of memory the guest has: 1 to 16384 pages.
     pub fn ram_size(&self) -> usize
         ensures value { result ≡ length self.now.guest.ram }
-        ensures least { 4096 ≤ result }
-        ensures most { result ≤ 4096 * 4096 }
+        ensures least { page_bytes ≤ result }
+        ensures most { result ≤ page_bytes * most_pages }
     {
         self.ram.memory.size()
     }

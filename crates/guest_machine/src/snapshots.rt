@@ -1,9 +1,10 @@
 //! What a checkpoint states of a machine, and how one is put back.
-ghost use Rattle.std.specs.Prelude.{◌≡◌, ◌+◌, ◌*◌, ◌<◌, ◌≤◌, ◌↔◌, false, length, replicate, All, IsTrue};
+ghost use Rattle.std.specs.Prelude.{◌≡◌, ◌+◌, ◌*◌, ◌<◌, ◌≤◌, ◌↔◌, false, true, length, replicate, All, IsTrue};
 ghost use Rattle.block_device.specs.Dirty.{Rises, with_written};
-ghost use Rattle.paged_memory.specs.Pages.{page_of, is_written, marked};
+ghost use Rattle.paged_memory.specs.Pages.{AreUnwritten, page_of, is_written, written_pages, marked};
 ghost use Rattle.guest_machine.specs.Blocks.{block_place, with_block, with_sector};
 ghost use Rattle.guest_machine.specs.Guest.{sector_count, sector_of};
+ghost use Rattle.guest_machine.specs.Limits.{page_bytes};
 ghost use Rattle.guest_machine.specs.MachineStates.{IsMachineState, state_of, with_state};
 
 use crate::blocks::BLOCK_BYTES;
@@ -18,9 +19,9 @@ use paged_memory::PAGE_BYTES;
 impl Machine {
     /// How large the machine is.
     pub fn shape(&self) -> Shape
-        ensures pages { length self.now.guest.ram ≡ 4096 * result.pages }
+        ensures pages { length self.now.guest.ram ≡ page_bytes * result.pages }
         ensures flags { length self.now.written ≡ result.pages }
-        ensures settled { length self.now.settled ≡ 4096 * result.pages }
+        ensures settled { length self.now.settled ≡ page_bytes * result.pages }
         ensures sectors { length self.now.guest.sectors ≡ 512 * result.sectors }
     {
         Shape {
@@ -49,7 +50,7 @@ impl Machine {
 
     /// The 4096 bytes of a page of memory; the guest has it, as the caller knows.
     pub fn page(&self, page: u32) -> &[u8; PAGE_BYTES]
-        requires { 4096 * page + 4096 ≤ length self.now.guest.ram }
+        requires { page_bytes * page + page_bytes ≤ length self.now.guest.ram }
         ensures { result.now ≡ page_of self.now.guest.ram page }
     {
         self.ram.memory.page(page)
@@ -58,16 +59,38 @@ impl Machine {
     /// Whether a page was written since the last settle, or since boot, also where its bytes are the same as then. One that wasn't
     /// has the bytes that it had then. The guest has the page, as the caller knows.
     pub fn dirty(&self, page: u32) -> bool
-        requires { 4096 * page + 4096 ≤ length self.now.guest.ram }
+        requires { page_bytes * page + page_bytes ≤ length self.now.guest.ram }
         ensures value { result ≡ is_written self.now.written page }
         ensures same { result ≡ false → page_of self.now.guest.ram page ≡ page_of self.now.settled page }
     {
         self.ram.memory.dirty(page)
     }
 
+    /// How many pages were written since the last settle, or since boot.
+    pub fn dirty_count(&self) -> usize
+        ensures { result ≡ written_pages self.now.written }
+    {
+        self.ram.memory.dirty_count()
+    }
+
+    /// The first page from `from` on that was written since the last settle, or since boot; where none was, how many pages the guest has.
+    /// The pages before it, from `from` on, have the bytes that they had then. It goes over the pages that were written, and over no
+    /// others. `from` is at most the number of the guest's pages, as the caller knows.
+    pub fn next_dirty(&self, from: u32) -> u32
+        requires { page_bytes * from ≤ length self.now.guest.ram }
+        ensures first { from ≤ result }
+        ensures last { page_bytes * result ≤ length self.now.guest.ram }
+
+        // Beyond the last page each counts as written.
+        ensures here { is_written self.now.written result ≡ true }
+        ensures before { AreUnwritten self.now.guest.ram self.now.settled self.now.written from result }
+    {
+        self.ram.memory.next_dirty(from)
+    }
+
     /// The 4096 bytes that a page had at the last settle, or at boot; the guest has the page, as the caller knows.
     pub fn original(&self, page: u32) -> &[u8; PAGE_BYTES]
-        requires { 4096 * page + 4096 ≤ length self.now.guest.ram }
+        requires { page_bytes * page + page_bytes ≤ length self.now.guest.ram }
         ensures value { result.now ≡ page_of self.now.settled page }
         ensures size { length self.now.settled ≡ length self.now.guest.ram }
     {
@@ -117,7 +140,7 @@ impl Machine {
 
     /// XORs 64 bytes into one of the 64 blocks of a page, which then counts as written. The guest has the page, as the caller knows.
     pub fn xor_block(&mut self, page: u32, block: u32, change: &[u8; BLOCK_BYTES])
-        requires page { 4096 * page + 4096 ≤ length self.old.guest.ram }
+        requires page { page_bytes * page + page_bytes ≤ length self.old.guest.ram }
         requires block { block < 64 }
         ensures { self.new ≡ record self.old {
           guest = with_block self.old.guest page block change.now;
@@ -131,7 +154,7 @@ impl Machine {
     /// page counts as written, before as after, so that the memory of the last settle changes along, and no page is copied. The guest
     /// has the page, and no page counts as written, as the caller knows.
     pub fn xor_settled(&mut self, page: u32, block: u32, change: &[u8; BLOCK_BYTES])
-        requires page { 4096 * page + 4096 ≤ length self.old.guest.ram }
+        requires page { page_bytes * page + page_bytes ≤ length self.old.guest.ram }
         requires block { block < 64 }
         requires settled { self.old.written ≡ replicate (length self.old.written) false }
         ensures { self.new ≡ record self.old {

@@ -1,9 +1,13 @@
--- The pages of a list lose their flags one after another.
+-- The pages of a list lose their flags one after another, and the next of them is found.
+use Rattle.std.proofs.lemmas.Bool.{cond_both, Decides.nat_tests}
+use Rattle.std.proofs.lemmas.List.Elements.{Contains-get_or}
+use Rattle.std.proofs.Common.{ap, if◌then◌else◌, ◌&&◌, nat_le, nat_lt}
 use Rattle.std.proofs.lemmas.{Bool.{true≢false, cases_eq}, List.{ext_get_or, drop_all, length-set, length-replicate, get_or-replicate}}
 use Rattle.std.proofs.{lemmas.{List.get_or-set_other, Grind.get_or-set_at}, Common.{◌≡◌, ℕ, zero, suc, ◌+◌, ◌<◌, ◌≤◌, inl, inr, Bool, true}}
 use Rattle.std.proofs.Common.{false, List, [], ◌∷◌, length, replicate, drop, get_or, Contains, refl, sym, ◌∙◌, subst, add-one, arith}
 use Rattle.std.proofs.Math.{ListN.set, Seq.drop-cons}
 use Rattle.paged_memory.specs.Pages.{is_written}
+use Rattle.paged_memory.specs.Listed.{IsLeast}
 
 -- each page with a flag is yet to come in the list
 pub record AreAhead (flags : List Bool) (pages : List ℕ) (index number : ℕ) : Type 0 where
@@ -53,3 +57,66 @@ all_cleared flags pages index number end is =
         let Has : List ℕ → Type 0 = λ xs. Contains xs page in
         let found : Contains [] page = subst Has (drop_all index pages end) (is.ahead page below is_f) in
         absurd (none_has page found.0 found.1)
+
+-- ---- the least of the numbers of a list that isn't below a bound
+
+pub least_of_none : (numbers : List ℕ) (from end : ℕ) → from ≤ end → IsLeast numbers from end 0 end
+least_of_none numbers from end ordered = record {
+  first = ordered;
+  last = omega arith;
+  found = inl refl;
+  below = λ k none. absurd (omega (arith, none));
+}
+
+both : (from n least : ℕ) → (nat_le from n && nat_lt n least) ≡ true → (from ≤ n) × (n < least)
+both from n least h = grind (arith, nat_tests)
+
+either : (from n least : ℕ) → (nat_le from n && nat_lt n least) ≡ false → from ≤ n → least ≤ n
+either from n least h above = grind (arith, nat_tests)
+
+-- one number more was looked at
+pub one_looked_at : (numbers : List ℕ) (from end index least next : ℕ) → index < length numbers →
+    next ≡ (if nat_le from (get_or numbers index 0) && nat_lt (get_or numbers index 0) least then get_or numbers index 0 else least) →
+    IsLeast numbers from end index least → IsLeast numbers from end (index + 1) next
+one_looked_at numbers from end index least next here is so_far =
+    let n : ℕ = get_or numbers index 0 in
+    subst (λ (k : ℕ). IsLeast numbers from end (index + 1) k) (sym is)
+    (cond_both (nat_le from n && nat_lt n least) n least (λ (k : ℕ). IsLeast numbers from end (index + 1) k) taken left)
+  where
+    taken : (nat_le from (get_or numbers index 0) && nat_lt (get_or numbers index 0) least) ≡ true →
+        IsLeast numbers from end (index + 1) (get_or numbers index 0)
+    taken test =
+        let is_near : (from ≤ get_or numbers index 0) × (get_or numbers index 0 < least) = both from (get_or numbers index 0) least test in
+        record {
+          first = is_near.0;
+          last = omega (arith, is_near.1, so_far.last);
+          found = inr (Contains-get_or numbers index 0 here);
+          below = λ k low high. elim (cases_eq k index) [
+            | inl same ↦ omega (arith, ap (λ (j : ℕ). get_or numbers j 0) same)
+            | inr apart ↦ omega (arith, so_far.below k (omega (arith, low, apart)) high, is_near.1)
+          ];
+        }
+
+    left : (nat_le from (get_or numbers index 0) && nat_lt (get_or numbers index 0) least) ≡ false →
+        IsLeast numbers from end (index + 1) least
+    left test = record {
+      first = so_far.first;
+      last = so_far.last;
+      found = so_far.found;
+      below = λ k low high. elim (cases_eq k index) [
+        | inl same ↦
+            let at : get_or numbers k 0 ≡ get_or numbers index 0 = ap (λ (j : ℕ). get_or numbers j 0) same in
+            omega (arith, at, either from (get_or numbers index 0) least test (omega (arith, at, high)))
+        | inr apart ↦ so_far.below k (omega (arith, low, apart)) high
+      ];
+    }
+
+-- all were
+pub all_looked_at : (numbers : List ℕ) (from end index least : ℕ) → length numbers ≤ index → IsLeast numbers from end index least →
+    IsLeast numbers from end (length numbers) least
+all_looked_at numbers from end index least ended is = record {
+  first = is.first;
+  last = is.last;
+  found = is.found;
+  below = λ k low high. is.below k (omega (arith, low, ended)) high;
+}

@@ -2,12 +2,15 @@
 use Rattle.std.proofs.Common.{◌≡◌, ℕ, ◌+◌, ◌-◌, ◌*◌, ◌/◌, ◌%◌, ◌^◌, ◌<◌, ◌≤◌, ◌++◌, Bool, true, false, List, length, replicate, take, drop}
 use Rattle.std.proofs.{Common.{refl, sym, ap, ◌∙◌, arith}, Math.{ListN.set, Nat.{mod-eq_of_lt, mod-add-div', add-mul-mod_self_right}}}
 use Rattle.std.proofs.lemmas.List.{set-get_or}
+use Rattle.std.proofs.Common.{get_or, Contains, inl, inr}
+use Rattle.std.proofs.lemmas.{Bool.cases_Bool, List.{get_or_past, get_or_default, Elements.All-contains}}
 use Rattle.byteorder.specs.Endian.{little_bytes}
+use Rattle.paged_memory.specs.{Listed.IsLeast, Pages.AreUnwritten}
 use Rattle.paged_memory.specs.{Bytes.with_number, Pages.{Paged, IsPaged, page_of, is_written, written_pages, flagged, marked, with_flags}}
 use Rattle.paged_memory.specs.{Pages.{with_written, settled_at}, Stored.{settled_bytes, seen, IsStored}}
 use Rattle.paged_memory.proofs.{BytesLemmas.length_overwritten, FlagLemmas.{one_more, no_pages, few_marked, marked_none}}
 use Rattle.paged_memory.proofs.{PageLemmas.length_marked, StoredLemmas.{settled_by_keep, settled_by_write, settled_afresh, stored_by_write}}
-use Rattle.paged_memory.proofs.StoredLemmas.{one_page_more}
+use Rattle.paged_memory.proofs.StoredLemmas.{one_page_more, paged}
 
 -- a page is kept
 pub seen_by_keep : (m : Paged) (b o x : List ℕ) (w : List Bool) (p q d : List ℕ) (space capacity copies page : ℕ) →
@@ -170,3 +173,36 @@ one_kept_below m s t from page ordered within flag step below =
           ∙ ap with_total count;
       more = omega (arith, ap (λ (q : Paged). written_pages q.written) step);
     }
+
+-- ---- the next page that was written
+
+-- it is the first from a page on
+pub record IsNext (m : Paged) (from least : ℕ) : Type 0 where
+  pub here : is_written m.written least ≡ true
+  pub before : AreUnwritten m.bytes m.settled m.written from least
+
+-- the least of the listed pages is
+pub next_is : (b o : List ℕ) (w : List Bool) (p d : List ℕ) (space capacity copies from end least : ℕ) → end ≡ length w →
+    IsStored b o w p d space capacity copies → IsLeast d from end (length d) least → IsNext (seen b o w p copies) from least
+next_is b o w p d space capacity copies from end least pages is next = record {
+  here = elim next.found [
+    | inl none ↦ get_or_past w least true (omega (arith, none, pages))
+    | inr listed ↦ All-contains (λ page. is_written w page ≡ true) d least is.only listed
+  ];
+  before = record {
+    unwritten = unwritten;
+    same = λ page low high. rules.kept.same page (unwritten page low high);
+  };
+}
+  where
+    rules : IsPaged (seen b o w p copies)
+    rules = paged b o w p d space capacity copies is
+
+    unwritten : (page : ℕ) → from ≤ page → page < least → is_written w page ≡ false
+    unwritten page low high = elim (cases_Bool (is_written w page)) [
+      | inl flag ↦
+          let found : Contains d page = is.listed page (omega (arith, high, next.last, pages)) flag in
+          let at : get_or d found.0 0 ≡ page = get_or_default d found.0 0 page found.1 ∙ found.2 in
+          absurd (omega (arith, at, high, next.below found.0 found.1 (omega (arith, at, low))))
+      | inr clear ↦ clear
+    ]

@@ -2,11 +2,12 @@
 use Rattle.std.proofs.Common.{rules}
 use Rattle.std.proofs.lemmas.{Bool.{true≢false, cases_eq}, List.{ext_get_or, get_or_append_left, get_or-append_right, length-take-le}}
 use Rattle.std.proofs.lemmas.List.{length-set, length-replicate, length_push, length-append, get_or-drop, get_or-take, get_or-replicate}
-use Rattle.std.proofs.lemmas.List.{get_or-set_other, Elements.{Contains-append_left, Contains-push, All-push, All-nil}}
+use Rattle.std.proofs.lemmas.List.{get_or-set_other, Elements.{Contains-append_left, Contains-push, All-push, All-nil, All-weaker}}
 use Rattle.std.proofs.lemmas.List.{Sums.{count_by-le-length, sum_by-set}, Folds.sum_by-replicate, FromFn.get_or-map-range_with_len}
 use Rattle.std.proofs.{lemmas.{List.FromFn.length-map-range_with_len, Grind.get_or-set_at}, Common.{◌≡◌, ℕ, zero, suc, ◌+◌, ◌-◌, ◌*◌, ◌/◌}}
 use Rattle.std.proofs.Common.{◌%◌, ◌^◌, ◌<◌, ◌≤◌, ◌++◌, inl, inr, Bool, true, false, if◌then◌else◌, cond, List, [], ◌∷◌, length, replicate}
 use Rattle.std.proofs.{Common.{take, drop, get_or, All, Contains, refl, sym, ap, ◌∙◌, subst, zero-add, add-zero, arith}, Math.ListN.set}
+use Rattle.paged_memory.specs.Limits.{most_pages}
 use Rattle.paged_memory.specs.{Pages.{IsPaged, page_of, is_written, written_pages, flagged, marked}, Stored.{original_byte, settled_bytes}}
 use Rattle.paged_memory.{specs.Stored.{seen, IsStored}, proofs.{BytesLemmas.length_overwritten, FlagLemmas.{no_new_flag, marked_some}}}
 use Rattle.paged_memory.proofs.PageLemmas.{nothing_written, length-page}
@@ -241,6 +242,13 @@ one_page_more w page none =
 none_written : (n : ℕ) → written_pages (replicate n false) ≡ 0
 none_written n = let all : written_pages (replicate n false) ≡ n * 0 = sum_by-replicate (λ (f : Bool). cond f 1 0) n false in omega arith
 
+-- a page that was written stays so
+still_written : (w : List Bool) (page : ℕ) → page < length w → (q : ℕ) → is_written w q ≡ true → is_written (set w page true) q ≡ true
+still_written w page here q flag = elim (cases_eq q page) [
+  | inl equal ↦ get_or-set_at w page q true true equal here
+  | inr apart ↦ get_or-set_other w page q true true apart ∙ flag
+]
+
 stored_with : (b o x : List ℕ) (w : List Bool) (p d : List ℕ) (space capacity space_now capacity_now copies more page : ℕ) →
     page < length w → is_written w page ≡ false → length x ≡ length o + 4096 → space ≤ space_now → capacity_now ≡ capacity →
     more < 2 ^ 64 → IsStored b o w p d space capacity copies →
@@ -249,7 +257,7 @@ stored_with b o x w p d space capacity space_now capacity_now copies more page h
     let same : length (set w page true) ≡ length w = length-set w page true in
     let whole : length b ≡ 4096 * length w = is.whole in
     let least : 1 ≤ length w = is.least in
-    let most : length w ≤ 4096 = is.most in
+    let most : length w ≤ most_pages = is.most in
     let room : length w ≤ capacity = is.room in
     let region : 4096 * length w ≤ space = is.region in
     let numbered : length p ≡ length w = is.numbered in
@@ -276,6 +284,9 @@ stored_with b o x w p d space capacity space_now capacity_now copies more page h
             Contains-append_left d (page ∷ []) q (is.listed q (omega arith) (sym (get_or-set_other w page q true true apart) ∙ flag))
       ];
       inside = subst Below (sym same) (All-push (λ q. q < length w) d page is.inside here);
+      only = All-push (λ q. is_written (set w page true) q ≡ true) d page
+          (All-weaker (λ q. is_written w q ≡ true) (λ q. is_written (set w page true) q ≡ true) (still_written w page here) d is.only)
+          (get_or-set_at w page page true true refl here);
       count = pushed ∙ ap (λ (k : ℕ). k + 1) is.count ∙ sym (one_page_more w page none);
       region = omega arith;
       room = omega arith;
@@ -304,7 +315,7 @@ stored_by_write b c o w p d space capacity copies long is =
 
 -- nothing is written yet
 pub stored_afresh : (b o : List ℕ) (w : List Bool) (p d : List ℕ) (n space capacity copies : ℕ) → length b ≡ 4096 * n → 1 ≤ n →
-    n ≤ 4096 → o ≡ [] → w ≡ replicate n false → length p ≡ n → d ≡ [] → 4096 * n ≤ space → n ≤ capacity → copies < 2 ^ 64 →
+    n ≤ most_pages → o ≡ [] → w ≡ replicate n false → length p ≡ n → d ≡ [] → 4096 * n ≤ space → n ≤ capacity → copies < 2 ^ 64 →
     IsStored b o w p d space capacity copies
 stored_afresh b o w p d n space capacity copies whole least most bare flags numbered empty wide room small =
     let count : length w ≡ n = ap length flags ∙ length-replicate n false in
@@ -318,6 +329,8 @@ stored_afresh b o w p d n space capacity copies whole least most bare flags numb
       listed = λ page inside flag. absurd (unmarked page (omega arith) flag);
       inside = let Fits : List ℕ → Type 0 = λ xs. All (λ page. page < length w) xs in
           subst Fits (sym empty) (All-nil (λ page. page < length w));
+      only = let Has : List ℕ → Type 0 = λ xs. All (λ page. is_written w page ≡ true) xs in
+          subst Has (sym empty) (All-nil (λ page. is_written w page ≡ true));
       count = ap length empty ∙ sym (ap written_pages flags ∙ none_written n);
       region = omega arith;
       room = omega arith;

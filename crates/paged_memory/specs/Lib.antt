@@ -1,4 +1,5 @@
 pub mod Bytes
 pub mod Limits
+pub mod Listed
 pub mod Pages
 pub mod Stored

@@ -6,6 +6,6 @@ use Rattle.std.specs.Prelude.{ℕ}
 abbrev pub page_bytes : ℕ
 page_bytes = 4096
 
--- the machine's rules: its memory has 1 to 4096 pages
+-- the machine's rules: its memory has 1 to 16384 pages
 abbrev pub most_pages : ℕ
-most_pages = 4096
+most_pages = 16384

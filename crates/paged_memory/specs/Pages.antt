@@ -1,5 +1,5 @@
 -- A memory in pages of 4096 bytes, and which of them were written since it was last settled.
-use Rattle.std.specs.Prelude.{◌≡◌, ℕ, ◌+◌, ◌-◌, ◌*◌, ◌/◌, ◌%◌, ◌^◌, ◌≤◌, ◌==◌, Bool, true, false, if◌then◌else◌, List, ◌++◌}
+use Rattle.std.specs.Prelude.{◌≡◌, ℕ, ◌+◌, ◌-◌, ◌*◌, ◌/◌, ◌%◌, ◌^◌, ◌<◌, ◌≤◌, ◌==◌, Bool, true, false, if◌then◌else◌, List, ◌++◌}
 use Rattle.std.specs.Prelude.{length, replicate, take, drop, slice_range, slice_index_or, count_by}
 use Rattle.paged_memory.specs.Limits.{page_bytes, most_pages}
 
@@ -23,7 +23,12 @@ is_written flags page = slice_index_or flags page true
 pub record AreKept (bytes settled : List ℕ) (flags : List Bool) : Type 0 where
   pub same : (page : ℕ) → is_written flags page ≡ false → page_of bytes page ≡ page_of settled page
 
--- what is true of each memory: it has 1 to 4096 whole pages, and what wasn't written is kept
+-- the pages from one up to another were not written, and are as they were at the last settle
+pub record AreUnwritten (bytes settled : List ℕ) (flags : List Bool) (from end : ℕ) : Type 0 where
+  pub unwritten : (page : ℕ) → from ≤ page → page < end → is_written flags page ≡ false
+  pub same : (page : ℕ) → from ≤ page → page < end → page_of bytes page ≡ page_of settled page
+
+-- what is true of each memory: it has 1 to 16384 whole pages, and what wasn't written is kept
 pub record IsPaged (m : Paged) : Type 0 where
   pub whole : length m.bytes ≡ page_bytes * length m.written
   pub least : 1 ≤ length m.written

@@ -24,7 +24,7 @@ abbrev pub seen : List ℕ → List ℕ → List Bool → List ℕ → ℕ → P
 seen bytes originals written places copies =
     record { bytes = bytes; settled = settled_bytes bytes originals written places; written = written; copies = copies }
 
--- what is true of what is stored: 1 to 4096 whole pages, a list of exactly the written ones, as many originals, each written page's
+-- what is true of what is stored: 1 to 16384 whole pages, a list of exactly the written ones, as many originals, each written page's
 -- place among them, and room in the list and in the originals for every page
 pub record IsStored (bytes originals : List ℕ) (written : List Bool) (places dirty : List ℕ) (space capacity copies : ℕ) : Type 0 where
   pub whole : length bytes ≡ page_bytes * length written
@@ -35,6 +35,7 @@ pub record IsStored (bytes originals : List ℕ) (written : List Bool) (places d
   pub placed : (page : ℕ) → page < length written → is_written written page ≡ true → slice_index places page < length dirty
   pub listed : (page : ℕ) → page < length written → is_written written page ≡ true → Contains dirty page
   pub inside : All (λ page. page < length written) dirty
+  pub only : All (λ page. is_written written page ≡ true) dirty
   pub count : length dirty ≡ written_pages written
   pub region : page_bytes * length written ≤ space
   pub room : length written ≤ capacity

@@ -13,7 +13,7 @@ use std::marker::Model;
 /// Bytes in a page.
 pub const PAGE_BYTES: usize = 4096;
 
-/// Memory of 1 to 4096 pages. All memory that its calls need is reserved at boot.
+/// Memory of 1 to 16384 pages. All memory that its calls need is reserved at boot.
 #[derive(Drop)]
 pub struct Memory {
     pub(crate) bytes: Vec<u8>,
@@ -76,7 +76,7 @@ impl Memory {
         })
     }
 
-    /// How many bytes there are: 1 to 4096 whole pages.
+    /// How many bytes there are: 1 to 16384 whole pages.
     #[inline]
     pub fn size(&self) -> usize
         ensures value { result ≡ length self.now.bytes }
@@ -87,7 +87,7 @@ impl Memory {
         self.bytes.len()
     }
 
-    /// How many pages there are: 1 to 4096.
+    /// How many pages there are: 1 to 16384.
     #[inline]
     pub fn pages(&self) -> u32
         ensures value { result ≡ length self.now.written }

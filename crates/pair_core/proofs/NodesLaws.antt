@@ -4,7 +4,7 @@ use Rattle.std.proofs.{Common.{◌∙◌, subst, arith, Bool, true, false}, Math
 use Rattle.std.proofs.lemmas.List.{append-nil, length-append, length-replicate}
 use Rattle.std.specs.Prelude.{slice_range}
 use Rattle.guest_machine.specs.{Dirty.is_in, declared.shapes.Shape.Shape, Guest.{Guest, State, boot_guest}, Step.{next, sent, arrived}}
-use Rattle.guest_machine.specs.Runs.{after_steps, marked_in, sent_in}
+use Rattle.guest_machine.specs.{Limits.most_pages, Runs.{after_steps, marked_in, sent_in}}
 use Rattle.guest_machine.proofs.{ApartLemmas.arrived-apart, ListedLemmas.run-listed}
 use Rattle.guest_machine.proofs.MemoryLemmas.{boot-kept, next-kept, arrived-kept, next-disk_bytes}
 use Rattle.epoch_snapshot.specs.{Bases.{IsBase, IsCut}, Checkpoints.Change, Cuts.sector_of, Images.image_of}
@@ -100,14 +100,14 @@ module _ (shape : Shape) (generation n : ℕ) (before after : Guest) (sent : Lis
   reads-frames = ap (λ (c : Change). c.frames) reads-as ∙ h.frames
 
 -- a shape is its two numbers
-abbrev made : (pages sectors : ℕ) → 1 ≤ pages → pages ≤ 4096 → 1 ≤ sectors → sectors ≤ 32768 → Shape
+abbrev made : (pages sectors : ℕ) → 1 ≤ pages → pages ≤ most_pages → 1 ≤ sectors → sectors ≤ 32768 → Shape
 made pages sectors a b c d = record { pages = pages; sectors = sectors; some_pages = a; most_pages = b; some_sectors = c; most_sectors = d }
 
-same-pages : (m n k : ℕ) (a : 1 ≤ m) (b : m ≤ 4096) (c : 1 ≤ k) (d : k ≤ 32768) → m ≡ n → (a' : 1 ≤ n) (b' : n ≤ 4096)
+same-pages : (m n k : ℕ) (a : 1 ≤ m) (b : m ≤ most_pages) (c : 1 ≤ k) (d : k ≤ 32768) → m ≡ n → (a' : 1 ≤ n) (b' : n ≤ most_pages)
     → made m k a b c d ≡ made n k a' b' c d
-same-pages m n k a b c d e = rw (← e) (λ a' b'. λ i. made m k (le_prop {n = 1} {m = m} a a' i) (le_prop {n = m} {m = 4096} b b' i) c d)
+same-pages m n k a b c d e = rw (← e) (λ a' b'. λ i. made m k (le_prop {n = 1} {m = m} a a' i) (le_prop {n = m} {m = most_pages} b b' i) c d)
 
-same-sectors : (m n k : ℕ) (a : 1 ≤ k) (b : k ≤ 4096) (c : 1 ≤ m) (d : m ≤ 32768) → m ≡ n → (c' : 1 ≤ n) (d' : n ≤ 32768)
+same-sectors : (m n k : ℕ) (a : 1 ≤ k) (b : k ≤ most_pages) (c : 1 ≤ m) (d : m ≤ 32768) → m ≡ n → (c' : 1 ≤ n) (d' : n ≤ 32768)
     → made k m a b c d ≡ made k n a b c' d'
 same-sectors m n k a b c d e = rw (← e) (λ c' d'. λ i. made k m a b (le_prop {n = 1} {m = m} c c' i) (le_prop {n = m} {m = 32768} d d' i))
 

@@ -2,6 +2,7 @@
 use Rattle.std.specs.Prelude.{◌≡◌, ◌≢◌, ℕ, ◌*◌, None, List, [], ◌∷◌, ◌++◌, length}
 use Rattle.guest_machine.specs.declared.shapes.Shape.{Shape}
 use Rattle.guest_machine.specs.Guest.{Guest, State, HasDeviceRecords, boot_guest}
+use Rattle.guest_machine.specs.Limits.{page_bytes}
 use Rattle.guest_machine.specs.Step.{arrived}
 use Rattle.guest_machine.specs.Runs.{after_steps, sent_in, marked_in}
 use Rattle.epoch_snapshot.specs.Checkpoints.{Change}
@@ -33,7 +34,7 @@ just_settled g = record { guest = g; outbox = []; dirty = []; settled = g.ram }
 -- a guest has the size of a machine of this shape, and what its devices keep meets the rules of their records
 pub record HasShape (shape : Shape) (g : Guest) : Type 0 where
   pub records : HasDeviceRecords g
-  pub ram : length g.ram ≡ 4096 * shape.pages
+  pub ram : length g.ram ≡ page_bytes * shape.pages
   pub sectors : length g.sectors ≡ 512 * shape.sectors
 
 pub record Nodes : Type 0 where

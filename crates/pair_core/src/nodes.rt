@@ -4,6 +4,7 @@ ghost use Rattle.std.specs.Prelude.{◌≡◌, ◌+◌, ◌^◌, ◌≤◌, ◌<
 ghost use Rattle.std.specs.Prelude.{option_map, ◌-◌, ◌*◌};
 ghost use Rattle.frame_ports.specs.Addresses.{IsFrame};
 ghost use Rattle.guest_machine.specs.Guest.{Guest, boot_guest, sector_in};
+ghost use Rattle.guest_machine.specs.Limits.{page_bytes};
 ghost use Rattle.guest_machine.specs.Step.{arrived};
 ghost use Rattle.guest_machine.specs.Runs.{HaveRoom, sent_in};
 ghost use Rattle.epoch_snapshot.specs.Bases.{IsBase};
@@ -52,7 +53,7 @@ impl Model for Nodes {
 impl Nodes {
     /// Both nodes boot from this image.
     pub(crate) fn boot(alloc: Global, shape: Shape, image: &[u8]) -> Result<Nodes, MemoryWanted>
-        requires { length image.now ≤ 4096 * shape.pages }
+        requires { length image.now ≤ page_bytes * shape.pages }
         ensures { IfOk result (λ n. n.nodes ≡ start_nodes shape image.now) }
     {
         let live = match Machine::boot(alloc, shape, image) {

@@ -42,6 +42,7 @@ impl Model for World {
 impl World {
     ghost use Rattle.std.specs.Prelude.{option_map};
     ghost use Rattle.guest_machine.specs.Guest.{sector_in};
+    ghost use Rattle.guest_machine.specs.Limits.{page_bytes};
     ghost use Rattle.frame_ports.specs.Limits.{max_clients};
     ghost use Rattle.pair_history.specs.Entries.{Begins};
     ghost use Rattle.pair_history.specs.HistoryState.{start_state};
@@ -68,7 +69,7 @@ impl World {
     pub fn boot(alloc: Global, shape: Shape, clients: u64, image: &[u8]) -> Result<World, Refusal>
         requires some { 1 ≤ clients }
         requires few { clients ≤ max_clients }
-        requires fits { length image.now ≤ 4096 * shape.pages }
+        requires fits { length image.now ≤ page_bytes * shape.pages }
         ensures start { IfOk result (λ w. w.start ≡ start_state shape.pages shape.sectors image.now clients) }
         ensures protocol { IfOk result (λ w. w.protocol ≡ start_protocol) }
         ensures consistent { IfOk result IsConsistent }

@@ -6,12 +6,13 @@ use Rattle.std.specs.List.{join_with_byte}
 use Rattle.remus.specs.Fields.{text_after, number_of, operand_of}
 use Rattle.remus.specs.Guests.{IsGuest, NamedGuest, named_guest}
 use Rattle.remus.specs.Boot.{IsBoot, BootLine, boot_line}
+use Rattle.remus.specs.Limits.{most_pages}
 use Rattle.remus.specs.internal.Head.{in_limits, head_of}
 use Rattle.remus.specs.declared.boot.Guest.{Guest}
 use Rattle.remus.proofs.FieldLemmas.{text_after-some, operand_of-spelled, operand_of-read}
 use Rattle.remus.proofs.OptionLemmas.{some_same, and_then_some}
 
--- what stands before the guest: 1 to 4096 pages, 1 to 32768 sectors, 1 to 16 clients
+-- what stands before the guest: 1 to 16384 pages, 1 to 32768 sectors, 1 to 16 clients
 record IsHead (text : List ℕ) (pages sectors clients : ℕ) (guest : List ℕ) : Type 0 where
   p : List ℕ
   s : List ℕ
@@ -20,7 +21,7 @@ record IsHead (text : List ℕ) (pages sectors clients : ℕ) (guest : List ℕ)
   pages_written : number_of p ≡ Some pages
   sectors_written : number_of s ≡ Some sectors
   clients_written : number_of c ≡ Some clients
-  pages_range : (1 ≤ pages) × (pages ≤ 4096)
+  pages_range : (1 ≤ pages) × (pages ≤ most_pages)
   sectors_range : (1 ≤ sectors) × (sectors ≤ 32768)
   clients_range : (1 ≤ clients) × (clients ≤ 16)
 
@@ -77,7 +78,7 @@ head_of-spelled text pages sectors clients guest h =
     ap head_of h.shape ∙ rw (p1, p2, p3, inside) refl
 
 limits : (pages sectors clients : ℕ) → in_limits pages sectors clients ≡ true
-    → ((1 ≤ pages) × (pages ≤ 4096)) × ((1 ≤ sectors) × (sectors ≤ 32768)) × ((1 ≤ clients) × (clients ≤ 16))
+    → ((1 ≤ pages) × (pages ≤ most_pages)) × ((1 ≤ sectors) × (sectors ≤ 32768)) × ((1 ≤ clients) × (clients ≤ 16))
 limits pages sectors clients h =
     ((grind (arith, h), grind (arith, h)), (grind (arith, h), grind (arith, h)), (grind (arith, h), grind (arith, h)))
 

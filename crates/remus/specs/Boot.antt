@@ -14,7 +14,7 @@ pub record BootLine : Type 0 where
   pub clients : ℕ
   pub guest : NamedGuest
 
--- 1 to 4096 pages, 1 to 32768 sectors, 1 to 16 clients, and a guest that fits in the pages
+-- 1 to 16384 pages, 1 to 32768 sectors, 1 to 16 clients, and a guest that fits in the pages
 pub record IsInLimits (line : BootLine) : Type 0 where
   pub pages : (1 ≤ line.pages) × (line.pages ≤ most_pages)
   pub sectors : (1 ≤ line.sectors) × (line.sectors ≤ most_sectors)

@@ -8,6 +8,7 @@ use Rattle.guest_kit.specs.Idle.{idle_program}
 use Rattle.guest_kit.specs.Beacon.{beacon_program}
 use Rattle.guest_kit.specs.Disk.{disk_program}
 use Rattle.remus.specs.Fields.{number_of}
+use Rattle.remus.specs.Limits.{page_bytes}
 use Rattle.remus.specs.declared.boot.Guest.{Guest}
 use Rattle.remus.specs.declared.boot.Guest.TheVariants as guests
 
@@ -44,12 +45,12 @@ NamesGuest text beacon = text ≡ codes "beacon"
 NamesGuest text (disk sector byte) = IsDisk text sector byte
 NamesGuest text (words ws) = (fields : List ℕ) × (text ≡ codes "words" ++ fields) × IsWords fields ws
 
--- the pages of 4096 bytes that each needs: a guest with a driver 2, words as many as hold their 4 bytes each
+-- the pages that each needs: a guest with a driver 2, words as many as hold their 4 bytes each
 abbrev pub GuestFits : ℕ → NamedGuest → Type 0
 GuestFits pages idle = Unit {0}
 GuestFits pages beacon = 2 ≤ pages
 GuestFits pages (disk sector byte) = 2 ≤ pages
-GuestFits pages (words ws) = 4 * length ws ≤ 4096 * pages
+GuestFits pages (words ws) = 4 * length ws ≤ page_bytes * pages
 
 -- a text names a guest that fits in so many pages
 abbrev pub IsGuest : ℕ → List ℕ → NamedGuest → Type 0

@@ -2,9 +2,13 @@
 -- code's constants are they is the law `limits_are_the_rules`.
 use Rattle.std.specs.Prelude.{ℕ}
 
--- the guest's rules: its memory has 1 to 4096 pages
+-- the machine's rules: a page of memory has 4096 bytes
+abbrev pub page_bytes : ℕ
+page_bytes = 4096
+
+-- the guest's rules: its memory has 1 to 16384 pages
 abbrev pub most_pages : ℕ
-most_pages = 4096
+most_pages = 16384
 
 -- the guest's rules: its disk has 1 to 32768 sectors
 abbrev pub most_sectors : ℕ

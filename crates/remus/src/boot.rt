@@ -41,7 +41,7 @@ pub enum Guest {
 /// What a boot line says.
 #[derive(Debug, Drop)]
 pub struct Boot {
-    /// Pages of 4096 bytes of RAM, 1 to 4096.
+    /// Pages of 4096 bytes of RAM, 1 to 16384.
     pub pages: u32,
     /// Sectors of 512 bytes of the disk, 1 to 32768.
     pub sectors: u32,

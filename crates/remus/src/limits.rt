@@ -3,7 +3,7 @@ ghost use Rattle.std.specs.Prelude.{◌≡◌};
 ghost use Rattle.remus.specs.Limits.{most_pages, most_sectors, most_clients, most_line_bytes};
 
 /// Pages of memory, at most.
-pub(crate) const MOST_PAGES: u32 = 4096;
+pub(crate) const MOST_PAGES: u32 = 16384;
 
 /// Sectors of the disk, at most.
 pub(crate) const MOST_SECTORS: u32 = 32768;

@@ -3,6 +3,7 @@
 ghost use Rattle.std.specs.Prelude.{◌≡◌, ◌*◌, ◌≤◌, IfOk, IfSome, IfNone, OnErr, [], false, length};
 ghost use Rattle.remus.specs.Boot.{BootLine, IsBoot, IsInLimits, boot_line};
 ghost use Rattle.remus.specs.Guests.{guest_image, named_guest};
+ghost use Rattle.remus.specs.Limits.{page_bytes};
 ghost use Rattle.remus.specs.Meaning.{IsReady, is_silent, unbooted, playing};
 ghost use Rattle.remus.specs.internal.Playing.{IsStep, stage_of};
 
@@ -147,7 +148,7 @@ fn start(alloc: Global, boot: &Boot) -> Result<Box<World>, MemoryWanted>
 /// The bytes of a guest's program.
 fn image(alloc: Global, boot: &Boot) -> Result<Vec<u8>, MemoryWanted>
     requires { IsInLimits (boot_line boot.now) }
-    ensures fits { IfOk result (λ image. length image.items ≤ 4096 * boot.now.pages) }
+    ensures fits { IfOk result (λ image. length image.items ≤ page_bytes * boot.now.pages) }
     ensures bytes { IfOk result (λ image. image.items ≡ guest_image (named_guest boot.now.guest)) }
 {
     match &boot.guest {

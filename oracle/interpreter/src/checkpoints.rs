@@ -4,7 +4,7 @@
 pub const PAGE: usize = 4096;
 pub const BLOCK: usize = 64;
 pub const SECTOR: usize = 512;
-const PAGES: usize = 4096;
+const PAGES: usize = 16384;
 /// The bytes of the head, before the count of the page records.
 const HEAD: usize = 524;
 

@@ -4,6 +4,7 @@ use Rattle.std.specs.declared.vec.Vec.{Vec}
 use Rattle.arrayvec.specs.ArrayVec.{ArrayVec}
 use Rattle.guest_machine.specs.declared.shapes.Shape.{Shape}
 use Rattle.guest_machine.specs.Guest.{State, boot_guest}
+use Rattle.guest_machine.specs.Limits.{page_bytes}
 use Rattle.epoch_snapshot.specs.Checkpoints.{Change}
 use Rattle.backup_image.specs.declared.standing.Standing.{Standing}
 use Rattle.backup_image.specs.declared.standing.Staged.TheVariants.{New}
@@ -30,7 +31,7 @@ state_of shape machine standing staged kept = record {
 -- shape, is what comes next, and its frames have numbers
 pub record IsImage (shape : Shape) (machine : State) (standing : Option Standing) (staged : Option Change) (sent : ℕ) : Type 0 where
   pub settled : machine ≡ settled_machine shape machine.guest
-  pub pages : length machine.guest.ram ≡ 4096 * shape.pages
+  pub pages : length machine.guest.ram ≡ page_bytes * shape.pages
   pub sectors : length machine.guest.sectors ≡ 512 * shape.sectors
   pub empty : standing ≡ None → machine.guest ≡ boot_guest shape.pages shape.sectors []
   pub numbers : (at : Standing) → standing ≡ Some at → at.number < 2 ^ 62

@@ -21,7 +21,7 @@ fn bad_lines_in_place_of_the_boot_line(rt: HostRuntime) {
         b"boot 2 1 1 idle\r",
         b"boot 2 1 1 idle beacon",
         b"boot 0 1 1 idle",
-        b"boot 4097 1 1 idle",
+        b"boot 16385 1 1 idle",
         b"boot 2 0 1 idle",
         b"boot 2 32769 1 idle",
         b"boot 2 1 0 idle",

@@ -2,7 +2,7 @@
 use crate::command_line::{Invocation, read};
 use std::test::Fail;
 
-/// Whether the words name this file, and where they ask for its checkpoints, 4096 pages and 7 sectors.
+/// Whether the words name this file, and where they ask for its checkpoints, 16384 pages and 7 sectors.
 fn names(rt: &HostRuntime, words: &[&str], file: &str) -> Result<bool, Fail> {
     let mut owned = Vec::new(rt.alloc());
     for word in words {
@@ -11,7 +11,7 @@ fn names(rt: &HostRuntime, words: &[&str], file: &str) -> Result<bool, Fail> {
     let found = match read(rt.alloc(), owned.as_slice()) {
         Ok(Some(Invocation::Sim(found))) => found == file,
         Ok(Some(Invocation::CheckStream(found, shape))) => {
-            found == file && shape.pages == 4096 && shape.sectors == 7
+            found == file && shape.pages == 16384 && shape.sectors == 7
         }
         Ok(Some(Invocation::Live)) => file.is_empty(),
         Ok(None) => false,
@@ -30,7 +30,7 @@ fn command_lines(rt: HostRuntime) -> Result<(), Fail> {
         "check-stream",
         "a",
         "--pages",
-        "4096",
+        "16384",
         "--sectors",
         "7",
     ];
@@ -51,7 +51,7 @@ fn command_lines(rt: HostRuntime) -> Result<(), Fail> {
             "check-stream",
             "a",
             "--pages",
-            "4097",
+            "16385",
             "--sectors",
             "1",
         ],

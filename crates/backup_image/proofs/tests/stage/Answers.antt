@@ -1,20 +1,20 @@
 -- Shapes that compare equal are the same.
 use Rattle.std.proofs.{Common.{rules, ◌≡◌, ℕ, ◌≤◌, ◌==◌, true, sym, ◌∙◌, subst}, Math.Bridge.le_prop, lemmas.Bool.{and_parts, eqb-true}}
-use Rattle.guest_machine.specs.declared.shapes.Shape.{Shape}
+use Rattle.guest_machine.specs.{declared.shapes.Shape.Shape, Limits.most_pages}
 use Rattle.backup_image.proofs.tests.stage.Goals as goal
 
 -- the shape of these numbers, which are in range
-shape : (p s : ℕ) → 1 ≤ p → p ≤ 4096 → 1 ≤ s → s ≤ 32768 → Shape
+shape : (p s : ℕ) → 1 ≤ p → p ≤ most_pages → 1 ≤ s → s ≤ 32768 → Shape
 shape p s a b c d = record { pages = p; sectors = s; some_pages = a; most_pages = b; some_sectors = c; most_sectors = d }
 
-same_pages : (p q s : ℕ) (a : 1 ≤ p) (b : p ≤ 4096) (c : 1 ≤ s) (d : s ≤ 32768) → p ≡ q → (x : 1 ≤ q) (y : q ≤ 4096) →
+same_pages : (p q s : ℕ) (a : 1 ≤ p) (b : p ≤ most_pages) (c : 1 ≤ s) (d : s ≤ 32768) → p ≡ q → (x : 1 ≤ q) (y : q ≤ most_pages) →
     shape p s a b c d ≡ shape q s x y c d
 unfolding shape
 same_pages p q s a b c d e =
-    subst (λ (n : ℕ). (x : 1 ≤ n) (y : n ≤ 4096) → shape p s a b c d ≡ shape n s x y c d) e
+    subst (λ (n : ℕ). (x : 1 ≤ n) (y : n ≤ most_pages) → shape p s a b c d ≡ shape n s x y c d) e
     (λ x y. λ i. shape p s (le_prop a x i) (le_prop b y i) c d)
 
-same_sectors : (p s t : ℕ) (a : 1 ≤ p) (b : p ≤ 4096) (c : 1 ≤ s) (d : s ≤ 32768) → s ≡ t → (x : 1 ≤ t) (y : t ≤ 32768) →
+same_sectors : (p s t : ℕ) (a : 1 ≤ p) (b : p ≤ most_pages) (c : 1 ≤ s) (d : s ≤ 32768) → s ≡ t → (x : 1 ≤ t) (y : t ≤ 32768) →
     shape p s a b c d ≡ shape p t a b x y
 unfolding shape
 same_sectors p s t a b c d e =
