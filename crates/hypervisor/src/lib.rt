@@ -1,7 +1,7 @@
 //! The members of a pair in threads, above one lock.
 //!
-//! All members share the pair's [`Book`](pair_book::Book) behind a mutex, and the word that counts the steps of its keeper. A [`Client`] and
-//! the line, [`Loss`], have a seat each: contracts see by it what the member has seen of one growing history. A call that is passed a
+//! All members share the pair's [`Book`](pair_book::Book) behind a mutex, and the word that counts the steps of its keeper. A [`Client`]
+//! and the line, [`Loss`], have a seat each: contracts see by it what the member has seen of one growing history. A call that is passed a
 //! handle [`Wait`](std::sync::Wait) takes the lock, and lets go of it before it answers; a call that isn't takes none.
 #![tactic(auto)]
 

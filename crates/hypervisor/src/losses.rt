@@ -82,8 +82,8 @@ impl<P: Pair> Loss<P> {
     ///
     /// # Errors
     ///
-    /// [`Refusal::NoClient`] for a number that is no client's; where a frame is there [`Refusal::Exhausted`] if the history or the word would
-    /// reach 2^62, and [`Refusal::NoMemory`] if the room for its entry can't be had. What the line's seat has seen is as before.
+    /// [`Refusal::NoClient`] for a number that is no client's; where a frame is there [`Refusal::Exhausted`] if the history or the word
+    /// would reach 2^62, and [`Refusal::NoMemory`] if the room for its entry can't be had. What the line's seat has seen is as before.
     pub fn lose_in<R: Wait>(&mut self, rt: &R, client: u64, place: u64) -> Result<Lost, Refusal>
         ensures done { IfOk result (λ lost. AfterLossIn P.start lost self.old self.new) }
         ensures why { IfErr result (IsWhyLoss P.start client) }

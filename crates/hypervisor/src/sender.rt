@@ -32,8 +32,8 @@ impl<P: Pair> Sender<P> {
         Sender { shared }
     }
 
-    /// The text of the pending checkpoint of the least number above the one given last in this generation, else of the least; `None` exactly
-    /// where none is pending. So who calls again and again sends all of them, one after another, until they are acknowledged.
+    /// The text of the pending checkpoint of the least number above the one given last in this generation, else of the least; `None`
+    /// exactly where none is pending. So who calls again and again sends all of them, one after another, until they are acknowledged.
     ///
     /// # Errors
     ///

@@ -50,14 +50,14 @@ impl<P: Pair> Warden<P> {
     }
 
     /// This node stops, for good. Where it is the primary nothing else changes, until the backup goes live. Where it is the backup the
-    /// primary goes on alone: sealed epochs enter the history, and what is held lands. Answers how many frames landed, each counted for each
-    /// client whose box took it: 0 where the primary fails.
+    /// primary goes on alone: sealed epochs enter the history, and what is held lands. Answers how many frames landed, each counted for
+    /// each client whose box took it: 0 where the primary fails.
     ///
     /// # Errors
     ///
     /// [`Refusal::Stopped`] where the primary has stopped already. Where a node is alone [`Refusal::NoImage`] for the primary, also where
-    /// its backup has no image yet, and [`Refusal::NotPaired`] for the backup. [`Refusal::Exhausted`] where the history with what is kept, or
-    /// the word, would reach 2^62. [`Refusal::NoMemory`] where the backup fails and the room in the history can't be had. Nothing has
+    /// its backup has no image yet, and [`Refusal::NotPaired`] for the backup. [`Refusal::Exhausted`] where the history with what is kept,
+    /// or the word, would reach 2^62. [`Refusal::NoMemory`] where the backup fails and the room in the history can't be had. Nothing has
     /// changed then.
     pub fn fail<R: Wait>(&mut self, rt: &R, node: Node) -> Result<u64, Refusal>
         ensures landed { IfOk result (λ landed. node ≡ Node.Primary → landed ≡ 0) }
