@@ -1,0 +1,41 @@
+-- Which refusals the first row of a loss's table may be.
+use Rattle.std.proofs.Common.{◌≡◌, ℕ, [], ◌∷◌, length, Bool, true, false, subst, Ok, Err, Result, Option, Some, None}
+use Rattle.std.specs.Prelude.{IfErr, not}
+use Rattle.pair_history.specs.Entries.{Entry}
+use Rattle.pair_history.specs.HistoryState.{HistoryState}
+use Rattle.pair_record.specs.declared.event.Refusal.{Refusal}
+use Rattle.pair_record.specs.declared.event.Refusal.TheVariants.{NoClient, Exhausted}
+use Rattle.pair_record.specs.Protocol.{first_refusal, exhausts, is_among}
+use Rattle.pair_book.specs.declared.losses.Loss.{Loss}
+use Rattle.pair_book.specs.Books.{BookState}
+use Rattle.pair_book.specs.Calls.{is_word_full}
+use Rattle.pair_book.specs.Losses.{loss_rows}
+use Rattle.pair_book.specs.Losses.{IsWhyLoss as AtBook}
+use Rattle.hypervisor.specs.Refusals.{IsWhyUnless, IsWhyLoss, entry_refusals}
+use Rattle.hypervisor.proofs.Whys.{entry-why}
+
+of-some : (other out word : Bool) (e : Entry) (why : Refusal)
+    → AtBook (Some e) (first_refusal ((other, NoClient) ∷ (out, Exhausted) ∷ (word, Exhausted) ∷ [])) why
+    → IsWhyUnless other NoClient entry_refusals why
+of-some true out word e why is = is
+of-some false true word e why is = entry-why true word why is
+of-some false false true e why is = entry-why false true why is
+of-some false false false e why is = entry-why false false why is
+
+of-none : (other : Bool) (why : Refusal) → AtBook None (first_refusal ((other, NoClient) ∷ [])) why
+    → IsWhyUnless other NoClient entry_refusals why
+of-none true why is = is
+of-none false why is = absurd is
+
+by-entry : (b : BookState) (c : ℕ) (entry : Option Entry) (why : Refusal) → AtBook entry (first_refusal (loss_rows b c entry)) why
+    → IsWhyUnless (not (is_among c (length b.ports.boxes))) NoClient entry_refusals why
+by-entry b c None why is = of-none (not (is_among c (length b.ports.boxes))) why is
+by-entry b c (Some e) why is =
+    of-some (not (is_among c (length b.ports.boxes))) (exhausts b.protocol 1) (is_word_full b) e why is
+
+pub loss-why : (start : HistoryState) (b : BookState) (c : ℕ) (entry : Option Entry) (r : Result Loss Refusal)
+    → length b.ports.boxes ≡ length start.boxes → IfErr r (AtBook entry (first_refusal (loss_rows b c entry)))
+    → IfErr r (IsWhyLoss start c)
+loss-why start b c entry (Ok l) count is = tt
+loss-why start b c entry (Err why) count is =
+    subst (λ (n : ℕ). IsWhyUnless (not (is_among c n)) NoClient entry_refusals why) count (by-entry b c entry why is)
