@@ -7,6 +7,3 @@ mod shared;
 
 pub use backup::Backup;
 pub use runner::Runner;
-
-#[cfg(test)]
-mod machine_tests;
