@@ -6,3 +6,8 @@ pub mod FailureWhys
 pub mod LossLaws
 pub mod Start
 pub mod Points
+pub mod Cutting
+pub mod Suiting
+pub mod AskLaws
+pub mod ReadShapes
+pub mod FeedLaws

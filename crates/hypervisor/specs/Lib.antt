@@ -5,3 +5,8 @@ pub mod Losses
 pub mod Failures
 pub mod Opening
 pub mod Service
+pub mod Preparing
+pub mod Runners
+pub mod Runs
+pub mod Backups
+pub mod Feeding

@@ -1,0 +1,7 @@
+use Rattle.hypervisor.proofs.Cutting.{delta_carried}
+use Rattle.hypervisor.proofs.runner.delta.Goals as goal
+
+pub returns : goal.returns
+returns c =
+    delta_carried _ _ _ _ _ c.in-Ok.ensures.parts c.in-Ok.ensures.image c.in_ok-packet.ensures.generation c.in_ok-packet.ensures.number
+    c.in_ok-packet.ensures.text c.in_ok-packet.ensures.read

@@ -1,0 +1,231 @@
+//! The runner: it has the machine that runs, and the guest makes its steps with no lock held.
+ghost use Rattle.std.specs.Prelude.{◌≡◌, ◌<◌, ◌≤◌, ◌++◌, [], length, All, None, IfOk, OnOk, IfErr, OnErr};
+ghost use Rattle.frame_ports.specs.Addresses.{IsFrame};
+ghost use Rattle.frame_ports.specs.Limits.{number_limit};
+ghost use Rattle.guest_machine.specs.Limits.{stepping_frames};
+ghost use Rattle.guest_machine.specs.Paces.{Lets, Holds};
+ghost use Rattle.pair_record.specs.Protocol.{first_refusal};
+ghost use Rattle.pair_book.specs.Running.{wanted_of};
+ghost use Rattle.pair_book.specs.Submitting.{prepared_rows};
+ghost use Rattle.pair_book.specs.declared.prepared.Prepared.{Prepared};
+ghost use Rattle.hypervisor.specs.Preparing.{CarriesDelta, CarriesFull, is_possible, IsMadeFor, IsOfKind, Suits};
+ghost use Rattle.hypervisor.specs.Runners.{new_runner};
+ghost use Rattle.hypervisor.specs.Runs.{after_arrivals, frames_of, steps_asked, HasRun};
+
+use crate::shared::Shared;
+use epoch_snapshot::{SnapshotError, cut_delta, cut_full};
+use frame_ports::NUMBER_LIMIT;
+use growing_history::{Pair, RunnerSeat};
+use guest_machine::{Machine, Pace};
+use memory_wanted::MemoryWanted;
+use pair_book::{Book, Kind, OpenEpoch, Packet, Prepared, Refusal, Want};
+use pair_history::Frame;
+use std::alloc::Global;
+use std::marker::Model;
+use std::sync::{Arc, Wait};
+
+/// A node's machine, and what its guest has done since the last submit. Contracts see it as a `RunnerState` of the specs.
+///
+/// Its guest runs, and checkpoints are made, with no lock held.
+#[derive(Drop)]
+pub struct Runner<P: Pair> {
+    alloc: Global,
+    shared: Arc<Shared<P>>,
+    machine: Machine,
+    held: Vec<(u64, Frame)>,
+    epoch: OpenEpoch,
+    prepared: Prepared,
+    seat: RunnerSeat<P>,
+}
+
+impl<P: Pair> Model for Runner<P> {
+    ghost use Rattle.hypervisor.specs.Runners.{RunnerState, runner_state, IsRunner};
+
+    ghost Value = { RunnerState };
+
+    ghost view = { λ r. runner_state r.machine r.held.items r.epoch.arrivals r.epoch.steps r.prepared r.seat };
+
+    ghost invariant = { λ r. IsRunner (runner_state r.machine r.held.items r.epoch.arrivals r.epoch.steps r.prepared r.seat) };
+}
+
+impl<P: Pair> Runner<P> {
+    /// The runner of this machine, with an epoch of which nothing has run yet. It takes no memory.
+    pub(crate) fn new(
+        alloc: Global,
+        shared: Arc<Shared<P>>,
+        machine: Machine,
+        seat: RunnerSeat<P>,
+    ) -> Runner<P>
+        ensures { result ≡ new_runner machine seat }
+    {
+        Runner {
+            alloc,
+            shared,
+            machine,
+            held: Vec::new(alloc),
+            epoch: OpenEpoch {
+                arrivals: 0,
+                steps: 0,
+            },
+            prepared: Prepared::Nothing,
+            seat,
+        }
+    }
+
+    /// The machine, as it is now.
+    pub fn machine(&self) -> &Machine
+        ensures { result.now ≡ self.now.machine }
+    {
+        &self.machine
+    }
+
+    /// What stands prepared for the next submit: of the machine as it is now, and nothing after each run.
+    pub fn prepared(&self) -> &Prepared
+        ensures value { result.now ≡ self.now.what }
+        // What is true of every runner.
+        ensures suits { Suits self.now.machine self.now.what }
+    {
+        &self.prepared
+    }
+
+    /// The frames that the runner holds arrive at the guest, and then it makes steps: `steps` of them, or fewer where the next one finds
+    /// more than 192 frames in the outbox, so that fewer than 64 of its places are free, or where the pace says no. An epoch has 2^62
+    /// steps at most, since no submit takes more. The answer is how many were made. What was prepared is dropped. It takes no memory.
+    pub fn run<G: Pace>(&mut self, steps: u64, pace: &mut G) -> u64
+        ensures run { HasRun result self.old self.new }
+        ensures most { result ≤ steps_asked steps self.old }
+        // Why it stopped: the pace let all of these steps by, and then no more were asked for, or the outbox had no room; or it said no.
+        ensures all { result ≡ steps_asked steps self.old → Lets G.answers G.STRETCH result pace.old pace.new }
+        ensures full { stepping_frames < length self.new.machine.outbox → Lets G.answers G.STRETCH result pace.old pace.new }
+        ensures stopped { result < steps_asked steps self.old → length self.new.machine.outbox ≤ stepping_frames
+            → Holds G.answers G.STRETCH result pace.old pace.new }
+    {
+        take_in(&mut self.machine, &self.held);
+        self.epoch.arrivals += self.held.len();
+        self.held.clear();
+        self.prepared = Prepared::Nothing;
+        let asked = steps.min(NUMBER_LIMIT - self.epoch.steps);
+        let made = self.machine.run_paced(asked, pace);
+        self.epoch.steps += made;
+        made
+    }
+
+    /// What the runner is to prepare for its next submit: nothing where the node is alone; the full checkpoint, number 0, of a new backup
+    /// until it is sealed; else a delta under the next number.
+    ///
+    /// # Errors
+    ///
+    /// [`Refusal::Stopped`] where another runner is live, or the primary has stopped.
+    pub fn ask<R: Wait>(&self, rt: &R) -> Result<Want, Refusal>
+        ensures { IfErr result (λ why. why ≡ Refusal.Stopped) }
+    {
+        let shared = &*self.shared;
+        let held = shared.book.lock(rt);
+        ask(&*held, &self.seat)
+    }
+
+    /// Makes what is wanted for the next submit, as text: nothing; a delta, which carries the frames that the guest sent; or a full
+    /// checkpoint. It stands in the place of what was prepared before. Where no checkpoint can have the wanted generation or number, which
+    /// are 1 to 2^62 - 1, nothing is made.
+    ///
+    /// # Errors
+    ///
+    /// [`MemoryWanted`] where the room for it can't be had. What was prepared stands.
+    pub fn prepare(&mut self, want: Want) -> Result<(), MemoryWanted>
+        ensures made { OnOk result (IsMadeFor want.kind want.generation want.number self.old.machine self.new.what) }
+        ensures same { OnOk result (self.new ≡ record self.old { what = self.new.what }) }
+        ensures err { OnErr result (self.new ≡ self.old) }
+    {
+        let prepared = made_for(self.alloc, &self.machine, want)?;
+        self.prepared = prepared;
+        Ok(())
+    }
+}
+
+/// What is named is what no submit refuses at this book for being a checkpoint, or none, or for its numbers.
+fn ask<P: Pair>(book: &Book<P>, seat: &RunnerSeat<P>) -> Result<Want, Refusal>
+    ensures done { IfOk result (λ want. want ≡ wanted_of book.now) }
+    ensures free { IfOk result (λ want. (what : Prepared) → IsOfKind want what
+        → first_refusal (prepared_rows book.now.protocol what) ≡ None) }
+    ensures why { IfErr result (λ why. why ≡ Refusal.Stopped) }
+{
+    book.ask(seat)
+}
+
+/// These frames arrive at the machine's guest, the first first.
+fn take_in(machine: &mut Machine, held: &[(u64, Frame)])
+    requires { All (λ x. IsFrame x.1) held.now }
+    ensures guest { machine.new.guest ≡ after_arrivals machine.old.guest (frames_of held.now) }
+    ensures outbox { machine.new.outbox ≡ machine.old.outbox }
+    ensures dirty { machine.new.dirty ≡ machine.old.dirty }
+    ensures settled { machine.new.settled ≡ machine.old.settled }
+{
+    for given in held {
+        let _taken = machine.arrive(&given.1);
+    }
+}
+
+/// Whether a checkpoint can be of this generation, or a delta have this number.
+fn is_possible(number: u64) -> bool
+    ensures { result ≡ is_possible number }
+{
+    1 <= number && number < NUMBER_LIMIT
+}
+
+/// The machine's delta, as its text.
+fn delta(
+    alloc: Global,
+    machine: &Machine,
+    generation: u64,
+    number: u64,
+) -> Result<Packet, MemoryWanted>
+    requires first_generation { 1 ≤ generation }
+    requires last_generation { generation < number_limit }
+    requires first_number { 1 ≤ number }
+    requires last_number { number < number_limit }
+    ensures { IfOk result (λ p. CarriesDelta machine.now generation number p) }
+{
+    let checkpoint = match cut_delta(alloc, machine, generation, number) {
+        Ok(checkpoint) => checkpoint,
+        Err(SnapshotError::NoMemory(wanted)) => return Err(wanted),
+    };
+    let packet = Packet::new(alloc, &checkpoint)?;
+    Ok(packet)
+}
+
+/// The machine's full checkpoint, as its text.
+fn full(alloc: Global, machine: &Machine, generation: u64) -> Result<Packet, MemoryWanted>
+    requires first_generation { 1 ≤ generation }
+    requires last_generation { generation < number_limit }
+    ensures { IfOk result (λ p. CarriesFull machine.now generation p) }
+{
+    let checkpoint = match cut_full(alloc, machine, generation) {
+        Ok(checkpoint) => checkpoint,
+        Err(SnapshotError::NoMemory(wanted)) => return Err(wanted),
+    };
+    let packet = Packet::new(alloc, &checkpoint)?;
+    Ok(packet)
+}
+
+/// What is prepared of a machine for what is wanted.
+fn made_for(alloc: Global, machine: &Machine, want: Want) -> Result<Prepared, MemoryWanted>
+    ensures { IfOk result (λ what. IsMadeFor want.kind want.generation want.number machine.now what) }
+{
+    match want.kind {
+        Kind::Nothing => Ok(Prepared::Nothing),
+        Kind::Delta => {
+            if !(is_possible(want.generation) && is_possible(want.number)) {
+                return Ok(Prepared::Nothing);
+            }
+            let packet = delta(alloc, machine, want.generation, want.number)?;
+            Ok(Prepared::Checkpoint(packet))
+        }
+        Kind::Full => {
+            if !is_possible(want.generation) {
+                return Ok(Prepared::Nothing);
+            }
+            let packet = full(alloc, machine, want.generation)?;
+            Ok(Prepared::Checkpoint(packet))
+        }
+    }
+}
