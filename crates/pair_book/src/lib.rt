@@ -3,7 +3,7 @@
 //! A [`Book`] keeps the pair's record and the keeper's seat: mode and numbers, history and what is under way, gate, inboxes and boxes; and
 //! the texts of pending checkpoints. It holds no machine, page or image. Who calls it lends its own seat, and has then seen the whole list
 //! of the keeper's steps. It has the calls of clients, of the line, of the runner, of who sends checkpoints and of the backup,
-//! acknowledgements, failures and new backups; nothing stands on it yet.
+//! acknowledgements, failures and new backups. The members who call it stand in `hypervisor`.
 #![tactic(auto)]
 
 mod book;
