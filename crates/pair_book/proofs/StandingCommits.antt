@@ -45,7 +45,7 @@ same_shape s t e f = λ i. record {
   pages = e i;
   sectors = f i;
   some_pages = is_prop→PathP (λ j. 1 ≤ e j) (λ j x y. le_prop x y) s.some_pages t.some_pages i;
-  most_pages = is_prop→PathP (λ j. e j ≤ 4096) (λ j x y. le_prop x y) s.most_pages t.most_pages i;
+  most_pages = is_prop→PathP (λ j. e j ≤ 16384) (λ j x y. le_prop x y) s.most_pages t.most_pages i;
   some_sectors = is_prop→PathP (λ j. 1 ≤ f j) (λ j x y. le_prop x y) s.some_sectors t.some_sectors i;
   most_sectors = is_prop→PathP (λ j. f j ≤ 32768) (λ j x y. le_prop x y) s.most_sectors t.most_sectors i;
 }
