@@ -16,8 +16,8 @@ mod programs;
 mod refusals;
 mod traps;
 
-use guest_machine::{Machine, PAGE_BYTES, Shape};
 use asserts::assert_run;
+use guest_machine::{Machine, PAGE_BYTES, Shape};
 use std::alloc::{AllocError, Global};
 use std::process::Abort;
 use std::test::Fail;

@@ -4,6 +4,5 @@
 
 #[cfg(test)]
 mod guests;
-
 #[cfg(test)]
 mod words;

@@ -1,8 +1,8 @@
 //! The worked examples, run: each public call with values from outside.
 
 mod disassembly;
-mod walk;
 mod kinds;
+mod walk;
 
 use rv64_core::{
     CsrOp, Division, Instr, Multiplication, Operation, Plan, Register, Regs, Width, WordOperation,

@@ -4,6 +4,5 @@
 
 #[cfg(test)]
 mod record;
-
 #[cfg(test)]
 mod world;

@@ -3,8 +3,8 @@
 ghost use Rattle.std.specs.Prelude.{All, IfOk};
 ghost use Rattle.frame_ports.specs.Addresses.{IsFrame};
 
-use pair_record::{Event, Frame, Mode, PairRecord, Reply, is_alone, mode_refusal};
 use arrayvec::ArrayVec;
+use pair_record::{Event, Frame, Mode, PairRecord, Reply, is_alone, mode_refusal};
 use std::alloc::Global;
 use std::test::Fail;
 

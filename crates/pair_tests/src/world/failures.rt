@@ -1,7 +1,7 @@
 //! What is answered where a node fails, and after it: what the backup goes on from, and what lands.
 use super::{FRAME, answers, beacon_pair, idle_pair, is_filled, paired, writer_pair};
-use pair_core::{Event, Mode, Refusal, Show};
 use memory_wanted::reserve;
+use pair_core::{Event, Mode, Refusal, Show};
 use std::fmt::Write;
 use std::test::Fail;
 
