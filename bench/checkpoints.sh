@@ -1,9 +1,9 @@
 #!/usr/bin/env bash
 # What a checkpoint costs: one epoch (change, cut, encode, read, stage and commit) in which 1, 64 or 16384 pages of 16384 change, one block
 # of each or all 64, beside the same in plain Rust (oracle/interpreter); an epoch of one block in machines of other sizes, beside that of the
-# smallest; an epoch's text of one block and so many frames, encoded and read, beside
-# plain Rust; and how many bytes a second `remus check-stream` reads of files of 100 MB and more. Processor time, the best of three; a run of
-# no epochs, which only boots, is taken off. REMUS names another program to measure in the place of the repository's own.
+# smallest; an epoch's text of one block and so many frames, encoded and read, beside plain Rust; and how many bytes a second
+# `remus check-stream` reads of files of 100 MB and more. Processor time, the best of three; a run of no
+# epochs, which only boots, is taken off. REMUS names another program to measure in the place of the repository's own.
 set -eu
 cd "$(dirname "$0")/.."
 epochs=$(tests/epochs/build.sh)
@@ -15,17 +15,22 @@ trap 'rm -rf "$folder"' EXIT
 [ -n "${REMUS:-}" ] || ./remus sim /dev/null
 (cd oracle/interpreter && cargo build --release --quiet)
 
-# The least seconds of processor time that a command takes in three runs, its output aside.
-seconds() {
+# The seconds of processor time that a command takes, the user's and the system's, its output aside.
+once() {
     local TIMEFORMAT='%U %S'
+    { time "$@" >/dev/null; } 2>&1
+}
+
+# The least seconds of processor time that a command takes in three runs.
+seconds() {
     for _ in 1 2 3; do
-        { time "$@" >/dev/null; } 2>&1
+        once "$@"
     done | awk '{ s = $1 + $2; if (NR == 1 || s < least) least = s } END { print least }'
 }
 
 for blocks in 1 64; do
     for pages in 1 64 16384; do
-        rounds=$((400000 / (pages * blocks + 20) + 20))
+        rounds=$((20000000 / (pages * (blocks + 40) + 100) + 20))
         proved=$("$epochs" measure "$pages" "$blocks" "$rounds")
         plain=$("$interpreter" checkpoints "$pages" "$blocks" "$rounds")
         [ "$proved" = "$plain" ] || {
@@ -44,22 +49,22 @@ for blocks in 1 64; do
     done
 done
 
-# The time of an epoch in which one block changes, in a machine of so many pages and sectors.
-flat() {
-    local rounds=20000
-    awk -v all="$(seconds "$epochs" flat "$1" "$2" "$rounds")" -v boot="$(seconds "$epochs" flat "$1" "$2" 0)" -v rounds="$rounds" \
-        'BEGIN { print (all - boot) / rounds * 1e6 }'
-}
-small=$(flat 16 64)
-for size in "16384 64" "16 32768"; do
-    read -r pages sectors <<<"$size"
-    awk -v pages="$pages" -v sectors="$sectors" -v here="$(flat "$pages" "$sectors")" -v small="$small" 'BEGIN {
-        printf "one block, %5d pages and %5d sectors: %9.1f us an epoch, %9.1f us with 16 and 64, ratio %.2f\n",
-            pages, sectors, here, small, here / small
-    }'
-done
+# An epoch in which one block changes, in machines of so many pages and sectors, beside the smallest: each turn measures all three, and
+# the middle ratio of nine turns counts, since the processor's own speed changes from turn to turn.
+rounds=100000
+for _ in 1 2 3 4 5 6 7 8 9; do
+    for size in "16 64" "16384 64" "16 32768"; do
+        read -r pages sectors <<<"$size"
+        echo "$size $(once "$epochs" flat "$pages" "$sectors" "$rounds") $(once "$epochs" flat "$pages" "$sectors" 0)"
+    done
+done | awk -v rounds="$rounds" '{ here = ($3 + $4 - $5 - $6) / rounds * 1e6 }
+    NR % 3 == 1 { small = here; next }
+    { printf "%d %d %.2f %.3f\n", $1, $2, here, here / small }' | sort -k1,1n -k4,4n | awk '{ count[$1]++; line[$1, count[$1]] = $0 }
+    END { for (pages in count) { split(line[pages, 5], part, " ")
+        printf "one block, %5d pages and %5d sectors: %9.1f us an epoch, %.2f times that with 16 and 64\n", part[1], part[2], part[3], part[4] } }'
 
-# Streams of whole pages, of as many as there can be and of fewer, of one block a page, of sectors, of the beacon's checkpoint again and again, and of 256 long frames each.
+# Streams of whole pages, of as many as there can be and of fewer, of one block a page, of sectors, of the beacon's checkpoint again and
+# again, and of 256 long frames each.
 python3 bench/streams.py "$folder"
 for frames in 0x64 1x64 16x64 256x64 1x1514 16x1514 256x1514; do
     rounds=$((40000000 / (${frames%x*} * ${frames#*x} + 1000)))
