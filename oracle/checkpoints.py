@@ -85,7 +85,7 @@ def device_text(d):
 
 def text(c):
     """The one spelling of a checkpoint."""
-    out = MAGICS[c.version] + struct.pack("<IIQQQ", c.pages, c.sectors, c.generation, c.number, c.steps)
+    out = bytearray(MAGICS[c.version] + struct.pack("<IIQQQ", c.pages, c.sectors, c.generation, c.number, c.steps))
     out += struct.pack("<31Q", *c.registers) + struct.pack("<Q", c.pc) + struct.pack("<7Q", *c.csrs)
     out += struct.pack("<IQ", c.msip, c.mtimecmp) + device_text(c.net) + device_text(c.disk)
     out += struct.pack("<I", len(c.page_records))
@@ -98,7 +98,7 @@ def text(c):
     if c.version == 2:
         out += struct.pack("<I", len(c.frames))
         out += b"".join(struct.pack("<I", len(frame)) + frame for frame in c.frames)
-    return out
+    return bytes(out)
 
 
 class Malformed(Exception):
