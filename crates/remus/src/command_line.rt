@@ -2,9 +2,9 @@
 
 ghost use Rattle.std.specs.Prelude.{◌<◌, ◌≤◌, IfSome, length};
 
-use crate::limits::{MOST_PAGES, MOST_SECTORS};
 use clap::{Arg, ArgMatches, Command, Error};
 use pair_core::Shape;
+use script_player::limits::{MOST_PAGES, MOST_SECTORS};
 use std::alloc::Global;
 
 /// What the command line asks for.

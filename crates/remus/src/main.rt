@@ -1,32 +1,17 @@
 //! The programs of the pair.
 #![tactic(auto)]
 
-mod answers;
-mod boot;
-mod check_stream;
 mod command_line;
-mod delivery;
-mod fields;
-mod laws;
-mod limits;
-mod lines;
-mod live;
-mod output;
-mod player;
-mod replies;
-mod script;
-mod sim;
-mod streams;
-#[cfg(test)]
-mod tests;
-mod text;
 
 use command_line::Invocation;
 use pair_core::Shape;
+use script_player::check_stream::check_stream;
+use script_player::live::live;
+use script_player::sim::sim;
+use script_player::streams::{CheckedReader, CheckedWriter};
 use std::io::BufWriter;
 use std::process::ExitCode;
 use std::{env, fs, io};
-use streams::{CheckedReader, CheckedWriter};
 
 /// The exit status of a refusal.
 const REFUSED: u8 = 1;
@@ -65,14 +50,14 @@ fn play_script(rt: &HostRuntime, file: &str) -> io::Result<u8> {
     };
     let mut out = CheckedWriter::new(out);
     let mut err = CheckedWriter::new(rt.stderr());
-    Ok(sim::sim(alloc, source.as_slice(), &mut out, &mut err))
+    Ok(sim(alloc, source.as_slice(), &mut out, &mut err))
 }
 
 /// Plays the lines of standard input as they come. Answers the exit status. Nothing stands between an answer and standard output.
 fn play_lines(rt: &HostRuntime) -> u8 {
     let mut input = CheckedReader::new(rt.stdin());
     let mut out = CheckedWriter::new(rt.stdout());
-    live::live(rt.alloc(), &mut input, &mut out)
+    live(rt.alloc(), &mut input, &mut out)
 }
 
 /// Lists the checkpoints of this file. Answers the exit status.
@@ -85,7 +70,7 @@ fn list_stream(rt: &HostRuntime, file: &str, shape: Shape) -> io::Result<u8> {
         return refuse_memory(rt);
     };
     let mut err = rt.stderr();
-    Ok(check_stream::check_stream(alloc, source.as_slice(), shape, &mut out, &mut err))
+    Ok(check_stream(alloc, source.as_slice(), shape, &mut out, &mut err))
 }
 
 /// Answers the status of a file that can't be read, and says that it can't.

@@ -1,6 +1,0 @@
-use Rattle.std.proofs.Common.{refl, sym, ◌∙◌}
-use Rattle.remus.specs.Meaning.{is_silence}
-use Rattle.remus.proofs.player.Player.step.Goals as goal
-
-pub returns-then-is_silent : goal.returns-then-is_silent
-returns-then-is_silent c = is_silence (sym c.is_silent.ensures ∙ c.if-is_silent.true) c.clear.ensures refl

@@ -1,0 +1,58 @@
+-- What check-stream prints of a file of checkpoints, and its exit status (docs/CHECKPOINT.md, "Checking a file").
+use Rattle.std.specs.Prelude.{◌≡◌, ◌≢◌, ℕ, zero, suc, false, ◌⊎◌, List, [], ◌++◌, length, drop, Option, Some}
+use Rattle.std.specs.Io.KnownBytes.{Appends, Keeps}
+use Rattle.checkpoint_stream.specs.declared.errors.StreamError.{StreamError}
+use Rattle.checkpoint_stream.specs.declared.errors.StreamError.TheVariants.{Malformed, NoMemory}
+use Rattle.checkpoint_stream.specs.declared.place.Place.TheVariants.{Whole}
+use Rattle.checkpoint_stream.specs.Readings.{Reading, begun, fed, taken, is_closed, failure_at}
+use Rattle.checkpoint_stream.specs.Sound.{change_in}
+use Rattle.script_player.specs.Output.{AppendsFront}
+use Rattle.script_player.specs.StreamLines.{checkpoint_line, short_line, stream_refusal_line}
+
+-- how a file ends: with the last byte of a checkpoint, or with no bytes at all; inside a checkpoint; or where it can't be read on
+pub data FileEnd : Type 0 where
+  complete : FileEnd
+  inside : FileEnd
+  stopped : StreamError → FileEnd
+
+-- the next checkpoint begins where this one ended
+abbrev pub next_after : Reading → Reading
+next_after r = begun r.shape r.offset
+
+-- No whole checkpoint is left: these bytes, which are read from here on, are the end of the file. Memory may be refused wherever it is.
+abbrev pub EndsFile : Reading → List ℕ → FileEnd → Type 0
+EndsFile r bytes complete = bytes ≡ []
+EndsFile r bytes inside = (bytes ≢ []) × (is_closed (fed r bytes).place ≡ false)
+EndsFile r bytes (stopped (Malformed offset)) = failure_at (fed r bytes).place ≡ Some offset
+EndsFile r bytes (stopped (NoMemory _)) = Unit {0}
+
+-- what the end of a file of so many bytes prints
+abbrev pub end_line : ℕ → FileEnd → List ℕ
+end_line len complete = []
+end_line len inside = short_line len
+end_line len (stopped error) = stream_refusal_line error
+
+-- Of a file of len bytes these are left, read from here on: so many whole checkpoints, each of which prints its line, and then the end.
+abbrev pub Lists : ℕ → ℕ → Reading → List ℕ → List ℕ → FileEnd → Type 0
+Lists len zero r bytes out end = EndsFile r bytes end × (out ≡ end_line len end)
+Lists len (suc count) r bytes out end =
+    ((fed r bytes).place ≡ Whole)
+    × (rest : List ℕ) × (out ≡ checkpoint_line (change_in (fed r bytes)) ++ rest)
+    × Lists len count (next_after (fed r bytes)) (drop (taken r bytes) bytes) rest end
+
+-- a file, read from this start on, prints this, and ends so
+abbrev pub IsListing : Reading → List ℕ → List ℕ → FileEnd → Type 0
+IsListing start bytes out end = (count : ℕ) × Lists (length bytes) count start bytes out end
+
+-- the exit status
+abbrev pub end_status : FileEnd → ℕ
+end_status complete = 0
+end_status end = 1
+
+-- A file is listed: standard output gets all that the file prints, and the status says how the file ended; or a write failed, and
+-- standard output gets a beginning of it, and the status is 1. Standard error gets nothing.
+abbrev pub IsListed : Reading → List ℕ → Option (List ℕ) → Option (List ℕ) → Option (List ℕ) → Option (List ℕ) → ℕ → Type 0
+IsListed start bytes out out' err err' status =
+    (text : List ℕ) × (end : FileEnd) × IsListing start bytes text end
+    × ((Appends out out' text × (status ≡ end_status end)) ⊎ (AppendsFront out out' text × (status ≡ 1)))
+    × Keeps err err'

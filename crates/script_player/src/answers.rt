@@ -1,0 +1,119 @@
+//! What a line after the boot line does to the pair, and what is printed of it.
+
+ghost use Rattle.std.specs.Prelude.{◌≡◌, [], true, option_map};
+ghost use Rattle.pair_core.specs.Pair.{IsConsistent};
+ghost use Rattle.pair_core.specs.Replication.{KeepsBackup};
+ghost use Rattle.pair_core.specs.Runs.{StepsAnswer};
+ghost use Rattle.pair_core.specs.Service.{ServesSteps, moment};
+ghost use Rattle.script_player.specs.Lines.{line_of, order};
+ghost use Rattle.script_player.specs.Meaning.{Happens};
+ghost use Rattle.script_player.specs.internal.Playing.{IsDone};
+ghost use Rattle.script_player.specs.Printed.{named_sector};
+
+use crate::lines::Line;
+use crate::replies::{write_reply, write_sector, write_show};
+use crate::script::Command;
+use crate::text::Text;
+use pair_core::{Event, Reply, SECTOR_BYTES, World};
+
+/// Does what a line says, and prints the answer into `text`, which is emptied first. Says whether there is one: a line that
+/// asks for a sector beyond the disk has none, and does nothing.
+pub fn answer(world: &mut World, line: &Line, text: &mut Text) -> bool
+    ensures { IsDone world.old (line_of line.now) result text.new.items world.new }
+{
+    text.clear();
+    match line {
+        Line::Order(command) => obey(world, *command, text),
+        Line::Delivery(delivery) => {
+            let event = Event::Deliver(delivery.client, delivery.bytes.as_slice());
+            happen(world, event, text)
+        }
+    }
+}
+
+/// Does what a command says, and prints the answer.
+fn obey(world: &mut World, command: Command, text: &mut Text) -> bool
+    requires { text.old.items ≡ [] }
+    ensures { IsDone world.old (order command) result text.new.items world.new }
+{
+    match command {
+        Command::Step(count) => step(world, count, text),
+        Command::Cut => happen(world, Event::Cut, text),
+        Command::Send => happen(world, Event::Send, text),
+        Command::Backup(packet) => happen(world, Event::BackupGet(packet), text),
+        Command::Ack(packet) => happen(world, Event::AckGet(packet), text),
+        Command::Admit(client) => happen(world, Event::Admit(client), text),
+        Command::Take(client) => happen(world, Event::Take(client), text),
+        Command::LoseIn(client, place) => happen(world, Event::LoseIn(client, place), text),
+        Command::LoseOut(client, place) => happen(world, Event::LoseOut(client, place), text),
+        Command::FailPrimary => happen(world, Event::FailPrimary, text),
+        Command::FailBackup => happen(world, Event::FailBackup, text),
+        Command::GoLive => happen(world, Event::GoLive, text),
+        Command::Protect => happen(world, Event::Protect, text),
+        Command::Sector(sector) => print_sector(world, sector, text),
+        Command::Show => print_show(world, text),
+    }
+}
+
+/// An event happens to the pair, and its reply is printed.
+fn happen(world: &mut World, event: Event<'_>, text: &mut Text) -> bool
+    requires { text.old.items ≡ [] }
+    ensures answered { result ≡ true }
+    ensures happens { Happens world.old event.entry text.new.items world.new }
+{
+    let reply = world.apply(event);
+    write_reply(text, &reply);
+    true
+}
+
+/// The guest makes so many steps, and the last reply is printed.
+fn step(world: &mut World, count: u64, text: &mut Text) -> bool
+    requires { text.old.items ≡ [] }
+    ensures { IsDone world.old (order (Command.Step count)) result text.new.items world.new }
+{
+    let reply = run_steps(world, count);
+    write_reply(text, &reply);
+    true
+}
+
+/// The last of `count` steps' replies, or the first refusal.
+fn run_steps(world: &mut World, count: u64) -> Reply
+    ensures outcome { StepsAnswer world.old.start world.old.protocol count result world.new.protocol }
+    ensures start { world.new.start ≡ world.old.start }
+    ensures backup { KeepsBackup world.old.nodes world.new.nodes }
+    ensures consistent { IsConsistent world.new }
+    ensures serves { ServesSteps world.old.start (moment world.old) count result (moment world.new) }
+{
+    match world.run_steps(count) {
+        Ok(steps) => Reply::Steps(steps),
+        Err(refusal) => Reply::Refused(refusal),
+    }
+}
+
+/// Prints the state of the pair.
+fn print_show(world: &World, text: &mut Text) -> bool
+    requires { text.old.items ≡ [] }
+    ensures { IsDone world.now (order Command.Show) result text.new.items world.now }
+{
+    write_show(text, &world.show());
+    true
+}
+
+/// Prints a sector of the disk, if the disk has it.
+fn print_sector(world: &World, sector: u64, text: &mut Text) -> bool
+    requires { text.old.items ≡ [] }
+    ensures { IsDone world.now (order (Command.Sector sector)) result text.new.items world.now }
+{
+    let Some(bytes) = sector_of(world, sector) else {
+        return false;
+    };
+    write_sector(text, sector, bytes);
+    true
+}
+
+/// The bytes of the sector that a number names.
+fn sector_of(world: &World, sector: u64) -> Option<&[u8; SECTOR_BYTES]>
+    ensures value { option_map (λ bytes. bytes.now) result ≡ named_sector world.now sector }
+{
+    world.sector(u32::try_from(sector).ok()?)
+}
