@@ -17,6 +17,3 @@ pub use laws::{
 };
 pub use limits::limits_are_the_rules;
 pub use storage::SECTOR_BYTES;
-
-#[cfg(test)]
-mod tests;

@@ -78,20 +78,3 @@ fn words() -> [u32; 20]
         mret(),
     ]
 }
-
-#[cfg(test)]
-mod tests {
-    use super::*;
-    use std::test::Fail;
-
-    #[test]
-    fn eighty_bytes(rt: HostRuntime) -> Result<(), Fail> {
-        let image = counter(rt.alloc())?;
-        assert_eq!(rt; image.len(), 80);
-        assert_eq!(rt;
-            &image[..8],
-            [0x17, 0x14, 0x00, 0x00, 0xb7, 0xc2, 0x00, 0x02].as_slice()
-        );
-        Ok(())
-    }
-}

@@ -103,22 +103,3 @@ fn words() -> [u32; 24]
         jal(X0, 0),
     ]
 }
-
-#[cfg(test)]
-mod tests {
-    use super::*;
-    use std::test::Fail;
-
-    #[test]
-    fn the_request_and_its_data(rt: HostRuntime) -> Result<(), Fail> {
-        let image = disk_once(rt.alloc(), 7, 0xab)?;
-        assert_eq!(rt; image.len(), 0x1400);
-        assert_eq!(rt;
-            &image[0x1100..0x1111],
-            [1, 0, 0, 0, 0, 0, 0, 0, 7, 0, 0, 0, 0, 0, 0, 0, 0xff].as_slice()
-        );
-        assert_eq!(rt; &image[0x1200..0x1204], [0xab; 4].as_slice());
-        assert_eq!(rt; image[0x13ff], 0xab);
-        Ok(())
-    }
-}

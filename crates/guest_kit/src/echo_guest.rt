@@ -246,24 +246,3 @@ fn send() -> [u32; 24]
         jal(X0, 0),
     ]
 }
-
-#[cfg(test)]
-mod tests {
-    use super::*;
-    use std::test::Fail;
-
-    #[test]
-    fn the_first_words_and_the_last_ring(rt: HostRuntime) -> Result<(), Fail> {
-        let image = echo(rt.alloc())?;
-        assert_eq!(rt; image.len(), 0x1144);
-        assert_eq!(rt;
-            &image[..8],
-            [0x97, 0x14, 0x00, 0x00, 0xb7, 0x12, 0x00, 0x10].as_slice()
-        );
-        assert_eq!(rt;
-            &image[0x1040..0x104c],
-            [1, 0, 4, 0, 0, 0, 1, 0, 2, 0, 3, 0].as_slice()
-        );
-        Ok(())
-    }
-}

@@ -22,15 +22,3 @@ pub fn idle(alloc: Global) -> Result<Vec<u8>, MemoryWanted>
     push_words(&mut image, &[jal(X0, 0)])?;
     Ok(image)
 }
-
-#[cfg(test)]
-mod tests {
-    use super::*;
-    use std::test::Fail;
-
-    #[test]
-    fn a_jump_to_itself(rt: HostRuntime) -> Result<(), Fail> {
-        assert_eq!(rt; idle(rt.alloc())?.as_slice(), [0x6f, 0, 0, 0].as_slice());
-        Ok(())
-    }
-}

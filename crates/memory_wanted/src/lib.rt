@@ -10,9 +10,6 @@ ghost use Rattle.std.specs.Vec.{vec_len, vec_capacity};
 ghost use Rattle.circular_buffer.specs.Buffer.{buffer};
 ghost use Rattle.memory_wanted.specs.Wanted.{wanted};
 
-#[cfg(test)]
-mod tests;
-
 use circular_buffer::HeapCircularBuffer;
 use std::alloc::Global;
 use thiserror::Error;

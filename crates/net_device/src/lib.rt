@@ -20,6 +20,3 @@ pub use laws::{
     transmit_breaks,
 };
 pub use limits::limits_are_the_rules;
-
-#[cfg(test)]
-mod tests;

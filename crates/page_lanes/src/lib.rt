@@ -11,8 +11,6 @@ mod bytes;
 mod limits;
 mod pages;
 mod slices;
-#[cfg(test)]
-mod tests;
 
 pub use blocks::{BLOCK_SIZE, Block, xor_block_at, xor_blocks};
 pub use limits::limits_are_the_rules;

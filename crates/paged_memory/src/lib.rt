@@ -16,6 +16,3 @@ mod numbers;
 pub use limits::limits_are_the_rules;
 pub use memory::{Memory, PAGE_BYTES};
 pub use page_lanes::BLOCK_SIZE as BLOCK_BYTES;
-
-#[cfg(test)]
-mod tests;

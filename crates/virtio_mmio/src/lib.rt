@@ -20,6 +20,3 @@ pub use laws::kept_records;
 pub use serving::ChainHandler;
 pub use states::DeviceState;
 pub use transport::Transport;
-
-#[cfg(test)]
-mod tests;

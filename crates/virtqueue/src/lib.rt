@@ -20,6 +20,3 @@ pub use limits::limits_are_the_rules;
 pub use memory::{GuestRam, RAM_START};
 pub use plain_ram::PlainRam;
 pub use rings::Queue;
-
-#[cfg(test)]
-mod tests;

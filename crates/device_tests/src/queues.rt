@@ -1,14 +1,13 @@
 //! A queue of one to four descriptors in a RAM of 4096 bytes: the table at its start, the available ring at
-//! 0x40, the used ring at 0x80 and buffers from 0x100 on.
+//! 0x40, the used ring at 0x80 and buffers from 0x100 on. Each reading stands with its comparison in a small function, since a long test is
+//! slow to prove.
 
 ghost use Rattle.std.specs.Prelude.{◌≡◌, ◌≤◌, length, take, drop};
 ghost use Rattle.virtqueue.specs.Areas.{IsSized};
 
-use crate::broken::Broken;
-use crate::memory::GuestRam;
-use crate::plain_ram::PlainRam;
-use crate::rings::Queue;
+use std::process::Abort;
 use std::test::Fail;
+use virtqueue::{Broken, Chain, GuestRam, PlainRam, Queue};
 
 /// A queue of four descriptors.
 fn four() -> Queue
@@ -48,20 +47,43 @@ const WRITABLE: [u8; 16] = [2, 2, 0, 0x80, 0, 0, 0, 0, 2, 0, 0, 0, 2, 0, 0, 0];
 
 const EMPTY: [u8; 16] = [0; 16];
 
+/// A chain has so many parts, and so many readable and writable bytes.
+fn assert_lengths(rt: &impl Abort, chain: &Chain, parts: usize, readable: u64, writable: u64) {
+    assert_eq!(rt; chain.parts().len(), parts);
+    assert_eq!(rt; chain.readable_len(), readable);
+    assert_eq!(rt; chain.writable_len(), writable);
+}
+
+/// Whether all of a chain is readable, and whether all of it is writable.
+fn assert_directions(rt: &impl Abort, chain: &Chain, readable: bool, writable: bool) {
+    assert_eq!(rt; chain.is_all_readable(), readable);
+    assert_eq!(rt; chain.is_all_writable(), writable);
+}
+
+/// RAM has these bytes from a place on.
+fn assert_bytes(rt: &impl Abort, ram: &PlainRam, at: usize, bytes: &[u8]) {
+    assert!(rt; at <= 4096 && bytes.len() <= 4096 - at);
+    assert_eq!(rt; &ram.bytes[at..at + bytes.len()], bytes);
+}
+
 #[test]
 fn one_readable_buffer(rt: HostRuntime) -> Result<(), Fail> {
     let mut ram = ram_with(&READABLE, &EMPTY);
     ram.write(0x100, &[7, 8, 9]);
     let chain = four().next_chain(&ram)?.ok_or("no chain")?;
     assert_eq!(rt; chain.head(), 0);
-    assert_eq!(rt; chain.parts().len(), 1);
-    assert!(rt; chain.is_all_readable());
-    assert!(rt; !chain.is_all_writable());
-    assert_eq!(rt; chain.writable_len(), 0);
-    assert_eq!(rt; chain.readable_len(), 26);
+    assert_directions(&rt, &chain, true, false);
+    assert_lengths(&rt, &chain, 1, 26, 0);
+    assert_gathered(&rt, &ram, [8, 9])
+}
+
+/// The second and the third byte of the next chain.
+fn assert_gathered(rt: &impl Abort, ram: &PlainRam, bytes: [u8; 2]) -> Result<(), Fail> {
+    let chain = four().next_chain(ram)?.ok_or("no chain")?;
+    assert!(rt; chain.readable_len() >= 3);
     let mut two = [0; 2];
-    Queue::gather(&chain, &ram, 1, &mut two);
-    assert_eq!(rt; two, [8, 9]);
+    Queue::gather(&chain, ram, 1, &mut two);
+    assert_eq!(rt; two, bytes);
     Ok(())
 }
 
@@ -72,10 +94,7 @@ fn later_writes_stand(rt: HostRuntime) -> Result<(), Fail> {
     assert!(rt; chain.is_all_writable());
     assert_eq!(rt; chain.writable_len(), 5);
     Queue::scatter(&chain, &mut ram, 1, &[1, 2, 3, 4]);
-    assert_eq!(rt; ram.bytes[0x200], 0);
-    assert_eq!(rt; ram.bytes[0x201], 1);
-    assert_eq!(rt; ram.bytes[0x202], 3);
-    assert_eq!(rt; ram.bytes[0x203], 4);
+    assert_bytes(&rt, &ram, 0x200, &[0, 1, 3, 4]);
     Ok(())
 }
 
@@ -87,58 +106,56 @@ fn a_used_chain_stands_in_the_ring(rt: HostRuntime) -> Result<(), Fail> {
     queue.next_available = 0xffff;
     assert_eq!(rt; queue.available(&ram)?, 2);
     queue.put_used(&mut ram, 2, 0x0304);
-    assert_eq!(rt; queue.next_used, 0);
-    assert_eq!(rt; queue.next_available, 0);
-    let mut ring = [0; 40];
-    ram.read(0x80, &mut ring);
-    assert_eq!(rt; &ring[28..36], [2, 0, 0, 0, 4, 3, 0, 0].as_slice());
-    assert_eq!(rt; &ring[..4], [0, 0, 0, 0].as_slice());
+    assert_eq!(rt; (queue.next_used, queue.next_available), (0, 0));
+    assert_bytes(&rt, &ram, 0x80, &[0, 0, 0, 0]);
+    assert_bytes(&rt, &ram, 0x9c, &[2, 0, 0, 0, 4, 3, 0, 0]);
     Ok(())
 }
 
 /// What is wrong with a queue or its next chain.
-fn found(queue: Queue, ram: &PlainRam) -> Option<Broken>
+fn assert_found(rt: &impl Abort, queue: Queue, ram: &PlainRam, found: Option<Broken>)
     requires { IsSized queue }
 {
-    queue.next_chain(ram).err()
+    assert_eq!(rt; queue.next_chain(ram).err(), found);
+}
+
+/// What is wrong where RAM with one readable buffer has these bytes at a place.
+fn assert_found_with(rt: &impl Abort, at: usize, bytes: &[u8], found: Option<Broken>) {
+    assert!(rt; at <= 4096 && bytes.len() <= 4096 - at);
+    let mut ram = ram_with(&READABLE, &EMPTY);
+    ram.write(at, bytes);
+    assert_found(rt, four(), &ram, found);
+}
+
+#[test]
+fn a_queue_that_does_not_fit_has_its_name(rt: HostRuntime) {
+    let good = ram_with(&READABLE, &EMPTY);
+    assert_found(&rt, four(), &good, None);
+    let mut queue = four();
+    queue.driver = 0x8000_0041;
+    assert_found(&rt, queue, &good, Some(Broken::Misaligned));
+    let mut queue = four();
+    queue.desc = 0x8000_0fd0;
+    assert_found(&rt, queue, &good, Some(Broken::AreaOutside));
+    let mut queue = four();
+    queue.next_available = 0xffc0;
+    assert_found(&rt, queue, &good, Some(Broken::TooMany));
 }
 
 #[test]
 fn each_malformation_has_its_name(rt: HostRuntime) -> Result<(), Fail> {
-    let good = ram_with(&READABLE, &EMPTY);
-    assert_eq!(rt; found(four(), &good), None);
-    let mut queue = four();
-    queue.driver = 0x8000_0041;
-    assert_eq!(rt; found(queue, &good), Some(Broken::Misaligned));
-    let mut queue = four();
-    queue.desc = 0x8000_0fd0;
-    assert_eq!(rt; found(queue, &good), Some(Broken::AreaOutside));
-    let mut queue = four();
-    queue.next_available = 0xffc0;
-    assert_eq!(rt; found(queue, &good), Some(Broken::TooMany));
-    let mut bad = ram_with(&READABLE, &EMPTY);
-    bad.write(0x44, &[4]);
-    assert_eq!(rt; found(four(), &bad), Some(Broken::BadIndex));
-    let mut bad = ram_with(&READABLE, &EMPTY);
-    bad.write(12, &[4]);
-    assert_eq!(rt; found(four(), &bad), Some(Broken::Indirect));
-    let mut bad = ram_with(&READABLE, &EMPTY);
-    bad.write(0, &[0xe7, 0x0f]);
-    assert_eq!(rt; found(four(), &bad), Some(Broken::Outside));
-    bad.write(0, &[0xe6]);
-    assert_eq!(rt; found(four(), &bad), None);
-    assert_eq!(rt;
-        found(four(), &ram_with(&WRITABLE_THEN, &READABLE)),
-        Some(Broken::Order)
-    );
-    assert_eq!(rt;
-        found(four(), &ram_with(&READABLE_THEN, &READABLE_THEN)),
-        Some(Broken::Loop)
-    );
-    let mut bad = ram_with(&EMPTY, &EMPTY);
-    assert_eq!(rt; found(four(), &bad), None);
-    bad.write(0x42, &[0]);
-    assert!(rt; four().next_chain(&bad)?.is_none());
+    assert_found_with(&rt, 0x44, &[4], Some(Broken::BadIndex));
+    assert_found_with(&rt, 12, &[4], Some(Broken::Indirect));
+    assert_found_with(&rt, 0, &[0xe7, 0x0f], Some(Broken::Outside));
+    assert_found_with(&rt, 0, &[0xe6, 0x0f], None);
+    let order = ram_with(&WRITABLE_THEN, &READABLE);
+    assert_found(&rt, four(), &order, Some(Broken::Order));
+    let circle = ram_with(&READABLE_THEN, &READABLE_THEN);
+    assert_found(&rt, four(), &circle, Some(Broken::Loop));
+    let mut empty = ram_with(&EMPTY, &EMPTY);
+    assert_found(&rt, four(), &empty, None);
+    empty.write(0x42, &[0]);
+    assert!(rt; four().next_chain(&empty)?.is_none());
     Ok(())
 }
 

@@ -1,7 +1,7 @@
 //! Each call with ample memory, and where flags are set. Each reading stands with its comparison in a small function: a test that holds
 //! a memory by value, or reads it itself time after time, is slow to prove.
 
-use crate::{BLOCK_BYTES, Memory, PAGE_BYTES};
+use paged_memory::{BLOCK_BYTES, Memory, PAGE_BYTES};
 use std::alloc::Global;
 use std::process::Abort;
 use std::test::Fail;

@@ -1,7 +1,9 @@
-//! What no clause says: each kernel at lengths round a block's, with answers counted by hand.
+//! What no clause of [`page_lanes`] says: each kernel at lengths round a block's, with answers counted by hand.
 ghost use Rattle.std.specs.Prelude.{◌≤◌};
 
-use super::*;
+use page_lanes::{
+    BLOCK_SIZE, PAGE_SIZE, Page, count_differing, equal, is_zero, mask, xor_blocks, xor_into,
+};
 use std::process::Abort;
 use std::test::Fail;
 

@@ -1,13 +1,13 @@
 //! A card over a RAM of 4096 bytes, as a driver sets it up: 2 descriptors at 0x80000000, the available ring at 0x80000040
-//! and the used ring at 0x80000080 of the queue that is tried; buffers from 0x80000100 on.
+//! and the used ring at 0x80000080 of the queue that is tried; buffers from 0x80000100 on. Each reading stands with its comparison in a
+//! small function, since a long test is slow to prove.
 
 ghost use Rattle.std.specs.Prelude.{◌≡◌, ◌≤◌, length, take, drop};
 ghost use Rattle.virtio_mmio.specs.declared.kinds.DeviceKind.TheVariants.{Network};
 
-use crate::device::NetDevice;
-use crate::errors::OutboxError;
-use crate::frames::{Frame, Outbox};
 use memory_wanted::reserve;
+use net_device::{Frame, NetDevice, Outbox, OutboxError};
+use std::process::Abort;
 use std::test::Fail;
 use virtqueue::{GuestRam, PlainRam};
 
@@ -54,18 +54,27 @@ const SHORT_PACKET: [u8; 16] = [0, 1, 0, 0x80, 0, 0, 0, 0, 25, 0, 0, 0, 0, 0, 0,
 /// 32 writable bytes at 0x80000100.
 const ROOM: [u8; 16] = [0, 1, 0, 0x80, 0, 0, 0, 0, 32, 0, 0, 0, 2, 0, 0, 0];
 
-/// The bytes of the used ring: its idx and its two entries.
-fn used_ring(ram: &PlainRam) -> [u8; 18] {
-    let mut bytes = [0; 18];
-    bytes.copy_from_slice(&ram.bytes[0x82..0x94]);
-    bytes
+/// What the used ring has in its idx and its two entries.
+fn assert_used_ring(rt: &impl Abort, ram: &PlainRam, bytes: [u8; 18]) {
+    assert_eq!(rt; &ram.bytes[0x82..0x94], bytes.as_slice());
 }
 
 /// The 28 bytes at 0x80000100.
-fn buffer(ram: &PlainRam) -> [u8; 28] {
-    let mut bytes = [0; 28];
-    bytes.copy_from_slice(&ram.bytes[0x100..0x11c]);
-    bytes
+fn assert_buffer(rt: &impl Abort, ram: &PlainRam, bytes: [u8; 28]) {
+    assert_eq!(rt; &ram.bytes[0x100..0x11c], bytes.as_slice());
+}
+
+/// What the card's Status and InterruptStatus are.
+fn assert_status(rt: &impl Abort, net: &NetDevice, status: u64, interrupt: u64) {
+    assert_eq!(rt; net.transport.load(0x070, 4), Some(status));
+    assert_eq!(rt; net.transport.load(0x060, 4), Some(interrupt));
+}
+
+/// A frame of the outbox by its place.
+fn assert_frame(rt: &impl Abort, outbox: &Outbox, at: usize, bytes: &[u8]) {
+    let frames = outbox.frames();
+    assert!(rt; at < frames.len());
+    assert_eq!(rt; frames[at].as_slice(), bytes);
 }
 
 /// Notifies the transmit queue, if the outbox has room.
@@ -85,16 +94,19 @@ fn two_packets_are_sent(rt: HostRuntime) -> Result<(), Fail> {
     let mut outbox = Outbox::new(rt.alloc())?;
     transmit(&mut net, &mut ram, &mut outbox);
     assert_eq!(rt; outbox.len(), 2);
-    assert_eq!(rt;
-        outbox.frames()[0].as_slice(),
-        [1, 2, 3, 4, 5, 6, 7, 8, 9, 10, 11, 12, 13, 14].as_slice()
+    assert_frame(
+        &rt,
+        &outbox,
+        0,
+        &[1, 2, 3, 4, 5, 6, 7, 8, 9, 10, 11, 12, 13, 14],
     );
-    assert_eq!(rt; outbox.frames()[1].as_slice(), [0; 14].as_slice());
-    assert_eq!(rt;
-        used_ring(&ram),
-        [2, 0, 0, 0, 0, 0, 0, 0, 0, 0, 1, 0, 0, 0, 0, 0, 0, 0]
+    assert_frame(&rt, &outbox, 1, &[0; 14]);
+    assert_used_ring(
+        &rt,
+        &ram,
+        [2, 0, 0, 0, 0, 0, 0, 0, 0, 0, 1, 0, 0, 0, 0, 0, 0, 0],
     );
-    assert_eq!(rt; net.transport.load(0x060, 4), Some(1));
+    assert_status(&rt, &net, 0x0f, 1);
     Ok(())
 }
 
@@ -105,12 +117,12 @@ fn a_short_packet_is_used_and_lost(rt: HostRuntime) -> Result<(), Fail> {
     let mut outbox = Outbox::new(rt.alloc())?;
     transmit(&mut net, &mut ram, &mut outbox);
     assert_eq!(rt; outbox.len(), 0);
-    assert_eq!(rt;
-        used_ring(&ram),
-        [1, 0, 0, 0, 0, 0, 0, 0, 0, 0, 0, 0, 0, 0, 0, 0, 0, 0]
+    assert_used_ring(
+        &rt,
+        &ram,
+        [1, 0, 0, 0, 0, 0, 0, 0, 0, 0, 0, 0, 0, 0, 0, 0, 0, 0],
     );
-    assert_eq!(rt; net.transport.load(0x060, 4), Some(3));
-    assert_eq!(rt; net.transport.load(0x070, 4), Some(0x4f));
+    assert_status(&rt, &net, 0x4f, 3);
     Ok(())
 }
 
@@ -122,20 +134,22 @@ fn a_frame_is_received(rt: HostRuntime) -> Result<(), Fail> {
     let mut frame = Frame::new();
     frame.try_extend_from_slice(&[1, 2, 3, 4, 5, 6, 7, 8, 9, 10, 11, 12, 13, 14])?;
     assert!(rt; net.receive(&mut ram, &frame));
-    assert_eq!(rt;
-        buffer(&ram),
+    assert_status(&rt, &net, 0x0f, 1);
+    assert_buffer(
+        &rt,
+        &ram,
         [
             0, 0, 0, 0, 0, 0, 0, 0, 0, 0, 1, 0, 1, 2, 3, 4, 5, 6, 7, 8, 9, 10, 11, 12, 13, 14,
-            0xff, 0xff
-        ]
+            0xff, 0xff,
+        ],
     );
-    assert_eq!(rt;
-        used_ring(&ram),
-        [1, 0, 0, 0, 0, 0, 26, 0, 0, 0, 0, 0, 0, 0, 0, 0, 0, 0]
+    assert_used_ring(
+        &rt,
+        &ram,
+        [1, 0, 0, 0, 0, 0, 26, 0, 0, 0, 0, 0, 0, 0, 0, 0, 0, 0],
     );
-    assert_eq!(rt; net.transport.load(0x060, 4), Some(1));
     assert!(rt; !net.receive(&mut ram, &frame));
-    assert_eq!(rt; net.transport.load(0x070, 4), Some(0x0f));
+    assert_status(&rt, &net, 0x0f, 1);
     Ok(())
 }
 
@@ -144,8 +158,7 @@ fn a_readable_buffer_takes_no_frame(rt: HostRuntime) {
     let mut ram = ram_with(&PACKET, &ROOM, 1);
     let mut net = running(0);
     assert!(rt; !net.receive(&mut ram, &Frame::new()));
-    assert_eq!(rt; net.transport.load(0x070, 4), Some(0x4f));
-    assert_eq!(rt; net.transport.load(0x060, 4), Some(2));
+    assert_status(&rt, &net, 0x4f, 2);
 }
 
 #[test]
@@ -154,8 +167,8 @@ fn an_outbox_keeps_frames_in_order(rt: HostRuntime) -> Result<(), Fail> {
     outbox.push(&[1; 14]);
     outbox.push(&[2; 1514]);
     assert_eq!(rt; outbox.len(), 2);
-    assert_eq!(rt; outbox.frames()[0].as_slice(), [1; 14].as_slice());
-    assert_eq!(rt; outbox.frames()[1].len(), 1514);
+    assert_frame(&rt, &outbox, 0, &[1; 14]);
+    assert_frame(&rt, &outbox, 1, &[2; 1514]);
     outbox.clear();
     assert_eq!(rt; outbox.len(), 0);
     Ok(())

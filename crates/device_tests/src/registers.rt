@@ -1,23 +1,41 @@
-//! A driver's first steps with a device (virtio 1.1, 3.1.1 and 4.2.3), and the worked values of the table.
+//! A driver's first steps with a device (virtio 1.1, 3.1.1 and 4.2.3), and the worked values of the table. Each reading stands with its
+//! comparison in a small function, since a long test is slow to prove.
 
 ghost use Rattle.std.specs.Prelude.{◌≡◌, ℕ, ◌+◌, ◌-◌, ◌^◌, ◌≤◌, length, take, drop, Ok, Err, if◌then◌else◌};
 ghost use Rattle.virtqueue.specs.Parts.{all_readable};
 ghost use Rattle.virtqueue.specs.declared.broken.Broken.TheVariants.{Direction};
 
-use crate::actions::Action;
-use crate::kinds::DeviceKind;
-use crate::serving::ChainHandler;
-use crate::transport::Transport;
+use std::process::Abort;
+use virtio_mmio::{Action, ChainHandler, DeviceKind, Transport};
 use virtqueue::{Broken, Chain, GuestRam, PlainRam};
+
+/// A load of a register of 4 bytes.
+fn assert_register(rt: &impl Abort, device: &Transport, offset: u64, value: u64) {
+    assert_load(rt, device, offset, 4, Some(value));
+}
+
+/// A load of any width.
+fn assert_load(rt: &impl Abort, device: &Transport, offset: u64, width: u8, value: Option<u64>) {
+    assert_eq!(rt; device.load(offset, width), value, "at {offset:x}");
+}
+
+/// What a store of 4 bytes makes the device do.
+fn assert_action(rt: &impl Abort, device: &mut Transport, offset: u64, value: u64, action: Action) {
+    assert_eq!(rt;
+        device.store(offset, 4, value),
+        Some(action),
+        "at {offset:x}"
+    );
+}
 
 #[test]
 fn the_device_names_itself(rt: HostRuntime) {
     let device = Transport::boot(DeviceKind::Network);
-    assert_eq!(rt; device.load(0x000, 4), Some(0x7472_6976));
-    assert_eq!(rt; device.load(0x004, 4), Some(2));
-    assert_eq!(rt; device.load(0x008, 4), Some(1));
-    assert_eq!(rt; device.load(0x010, 4), Some(0x20));
-    assert_eq!(rt; device.load(0x034, 4), Some(64));
+    assert_register(&rt, &device, 0x000, 0x7472_6976);
+    assert_register(&rt, &device, 0x004, 2);
+    assert_register(&rt, &device, 0x008, 1);
+    assert_register(&rt, &device, 0x010, 0x20);
+    assert_register(&rt, &device, 0x034, 64);
 }
 
 /// A device whose driver stored these words at these registers, in order.
@@ -35,7 +53,7 @@ fn features_without_version_1_are_refused(rt: HostRuntime) {
         DeviceKind::Network,
         &[(0x070, 3), (0x020, 0x20), (0x070, 11)],
     );
-    assert_eq!(rt; device.load(0x070, 4), Some(3));
+    assert_register(&rt, &device, 0x070, 3);
     let device = driven(
         DeviceKind::Network,
         &[
@@ -46,7 +64,7 @@ fn features_without_version_1_are_refused(rt: HostRuntime) {
             (0x070, 11),
         ],
     );
-    assert_eq!(rt; device.load(0x070, 4), Some(11));
+    assert_register(&rt, &device, 0x070, 11);
     assert_eq!(rt; device.state().driver_features, 0x1_0000_0020);
 }
 
@@ -66,65 +84,77 @@ const START: [(u64, u64); 9] = [
 #[test]
 fn a_started_queue_is_served(rt: HostRuntime) {
     let mut device = driven(DeviceKind::Network, &START);
-    assert!(rt; device.can_serve(1));
-    assert!(rt; !device.can_serve(0));
+    assert_eq!(rt; (device.can_serve(1), device.can_serve(0)), (true, false));
     assert_eq!(rt; device.queue_in_service(1), Some(device.queue(1)));
-    assert_eq!(rt; device.queue(1).num, 8);
-    assert_eq!(rt; device.queue(1).desc, 0x8000_1000);
-    assert_eq!(rt; device.store(0x050, 4, 1), Some(Action::Notify(1)));
-    assert_eq!(rt; device.store(0x050, 4, 2), Some(Action::None));
+    let queue = device.queue(1);
+    assert_eq!(rt; (queue.num, queue.desc), (8, 0x8000_1000));
+    assert_action(&rt, &mut device, 0x050, 1, Action::Notify(1));
+    assert_action(&rt, &mut device, 0x050, 2, Action::None);
+}
+
+/// A device whose driver was told of a used chain, and which then met a malformation.
+fn broken() -> Transport {
+    let mut device = driven(DeviceKind::Network, &START);
+    device.put_counters(1, 1, 1);
+    device.signal_used();
+    device.need_reset();
+    device
+}
+
+#[test]
+fn a_used_chain_is_signalled(rt: HostRuntime) {
+    let mut device = driven(DeviceKind::Network, &START);
+    device.put_counters(1, 1, 1);
+    device.signal_used();
+    assert_register(&rt, &device, 0x060, 1);
 }
 
 #[test]
 fn a_broken_device_waits_for_its_reset(rt: HostRuntime) {
-    let mut device = driven(DeviceKind::Network, &START);
-    device.put_counters(1, 1, 1);
-    device.signal_used();
-    assert_eq!(rt; device.load(0x060, 4), Some(1));
-    device.need_reset();
-    assert_eq!(rt; device.load(0x060, 4), Some(3));
-    assert_eq!(rt; device.load(0x070, 4), Some(0x4f));
+    let mut device = broken();
+    assert_register(&rt, &device, 0x060, 3);
+    assert_register(&rt, &device, 0x070, 0x4f);
     assert!(rt; !device.can_serve(1));
-    assert_eq!(rt; device.store(0x064, 4, 1), Some(Action::None));
-    assert_eq!(rt; device.load(0x060, 4), Some(2));
-    assert_eq!(rt; device.store(0x070, 4, 0), Some(Action::Reset));
+    assert_action(&rt, &mut device, 0x064, 1, Action::None);
+    assert_register(&rt, &device, 0x060, 2);
+    assert_action(&rt, &mut device, 0x070, 0, Action::Reset);
     assert!(rt; device == Transport::boot(DeviceKind::Network));
 }
 
 #[test]
 fn a_queue_without_a_size_is_never_ready(rt: HostRuntime) {
     let device = driven(DeviceKind::Network, &[(0x038, 3), (0x044, 1)]);
-    assert_eq!(rt; device.load(0x044, 4), Some(0));
+    assert_register(&rt, &device, 0x044, 0);
 }
 
 #[test]
 fn the_configuration_space_is_bytes(rt: HostRuntime) {
     let network = Transport::boot(DeviceKind::Network);
-    assert_eq!(rt; network.load(0x100, 1), Some(2));
-    assert_eq!(rt; network.load(0x105, 1), Some(1));
-    assert_eq!(rt; network.load(0x106, 1), Some(0));
-    assert_eq!(rt; network.load(0x104, 2), Some(0x0100));
-    assert_eq!(rt; network.load(0x100, 4), Some(2));
-    assert_eq!(rt; network.load(0xff8, 8), Some(0));
+    assert_load(&rt, &network, 0x100, 1, Some(2));
+    assert_load(&rt, &network, 0x105, 1, Some(1));
+    assert_load(&rt, &network, 0x106, 1, Some(0));
+    assert_load(&rt, &network, 0x104, 2, Some(0x0100));
+    assert_load(&rt, &network, 0x100, 4, Some(2));
+    assert_load(&rt, &network, 0xff8, 8, Some(0));
     let block = Transport::boot(DeviceKind::Block {
         capacity: 0x1_0000_0008,
     });
-    assert_eq!(rt; block.load(0x100, 8), Some(0x1_0000_0008));
-    assert_eq!(rt; block.load(0x104, 4), Some(1));
-    assert_eq!(rt; block.load(0x108, 8), Some(0));
+    assert_load(&rt, &block, 0x100, 8, Some(0x1_0000_0008));
+    assert_load(&rt, &block, 0x104, 4, Some(1));
+    assert_load(&rt, &block, 0x108, 8, Some(0));
 }
 
 #[test]
 fn other_widths_are_access_faults(rt: HostRuntime) {
     let mut device = Transport::boot(DeviceKind::Block { capacity: 8 });
-    assert_eq!(rt; device.load(0x0fc, 8), None);
-    assert_eq!(rt; device.load(0x000, 1), None);
-    assert_eq!(rt; device.load(0x100, 3), None);
+    assert_load(&rt, &device, 0x0fc, 8, None);
+    assert_load(&rt, &device, 0x000, 1, None);
+    assert_load(&rt, &device, 0x100, 3, None);
     assert_eq!(rt; device.store(0x070, 2, 1), None);
     assert_eq!(rt; device.store(0x100, 8, 1), Some(Action::None));
-    assert_eq!(rt; device.load(0x034, 4), Some(64));
-    assert_eq!(rt; device.store(0x030, 4, 1), Some(Action::None));
-    assert_eq!(rt; device.load(0x034, 4), Some(0));
+    assert_register(&rt, &device, 0x034, 64);
+    assert_action(&rt, &mut device, 0x030, 1, Action::None);
+    assert_register(&rt, &device, 0x034, 0);
 }
 
 /// A device that counts readable chains, and says that it wrote 5 bytes.
@@ -188,25 +218,29 @@ fn put_one(device: &mut Transport, ram: &mut PlainRam) {
     }
 }
 
-/// What a used ring of 0x80 has in its idx and its two entries.
-fn used_ring(ram: &PlainRam) -> [u8; 18] {
-    let mut bytes = [0; 18];
-    bytes.copy_from_slice(&ram.bytes[0x82..0x94]);
-    bytes
+/// What the used ring has in its idx and its two entries.
+fn assert_used_ring(rt: &impl Abort, ram: &PlainRam, bytes: [u8; 18]) {
+    assert_eq!(rt; &ram.bytes[0x82..0x94], bytes.as_slice());
+}
+
+/// Has the device serve its queue. So many chains were handled.
+fn assert_serves(rt: &impl Abort, device: &mut Transport, ram: &mut PlainRam, chains: u32) {
+    let mut counter = Counter { chains: 0 };
+    device.serve(0, ram, &mut counter);
+    assert_eq!(rt; counter.chains, chains);
 }
 
 #[test]
 fn a_chain_is_served(rt: HostRuntime) {
     let mut device = served_device();
     let mut ram = ram_with(1);
-    let mut counter = Counter { chains: 0 };
-    device.serve(0, &mut ram, &mut counter);
-    assert_eq!(rt; counter.chains, 1);
-    assert_eq!(rt;
-        used_ring(&ram),
-        [1, 0, 0, 0, 0, 0, 5, 0, 0, 0, 0, 0, 0, 0, 0, 0, 0, 0]
+    assert_serves(&rt, &mut device, &mut ram, 1);
+    assert_used_ring(
+        &rt,
+        &ram,
+        [1, 0, 0, 0, 0, 0, 5, 0, 0, 0, 0, 0, 0, 0, 0, 0, 0, 0],
     );
-    assert_eq!(rt; device.load(0x060, 4), Some(1));
+    assert_register(&rt, &device, 0x060, 1);
     assert_eq!(rt; device.queue(0).next_available, 1);
 }
 
@@ -214,15 +248,14 @@ fn a_chain_is_served(rt: HostRuntime) {
 fn a_malformed_chain_ends_the_serving(rt: HostRuntime) {
     let mut device = served_device();
     let mut ram = ram_with(2);
-    let mut counter = Counter { chains: 0 };
-    device.serve(0, &mut ram, &mut counter);
-    assert_eq!(rt; counter.chains, 1);
-    assert_eq!(rt;
-        used_ring(&ram),
-        [1, 0, 0, 0, 0, 0, 5, 0, 0, 0, 0, 0, 0, 0, 0, 0, 0, 0]
+    assert_serves(&rt, &mut device, &mut ram, 1);
+    assert_used_ring(
+        &rt,
+        &ram,
+        [1, 0, 0, 0, 0, 0, 5, 0, 0, 0, 0, 0, 0, 0, 0, 0, 0, 0],
     );
-    assert_eq!(rt; device.load(0x060, 4), Some(3));
-    assert_eq!(rt; device.load(0x070, 4), Some(0x4f));
+    assert_register(&rt, &device, 0x060, 3);
+    assert_register(&rt, &device, 0x070, 0x4f);
     put_one(&mut device, &mut ram);
     assert_eq!(rt; device.queue(0).next_used, 1);
 }
@@ -232,9 +265,10 @@ fn a_used_chain_is_told(rt: HostRuntime) {
     let mut device = served_device();
     let mut ram = ram_with(2);
     put_one(&mut device, &mut ram);
-    assert_eq!(rt;
-        used_ring(&ram),
-        [1, 0, 1, 0, 0, 0, 3, 0, 0, 0, 0, 0, 0, 0, 0, 0, 0, 0]
+    assert_used_ring(
+        &rt,
+        &ram,
+        [1, 0, 1, 0, 0, 0, 3, 0, 0, 0, 0, 0, 0, 0, 0, 0, 0, 0],
     );
-    assert_eq!(rt; device.load(0x060, 4), Some(1));
+    assert_register(&rt, &device, 0x060, 1);
 }

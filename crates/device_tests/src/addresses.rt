@@ -1,0 +1,31 @@
+//! The address map, at both ends of each part.
+
+use bus_map::{Place, TimerRegister, place};
+
+#[test]
+fn each_part_and_what_lies_beside_it(rt: HostRuntime) {
+    let cases = [
+        (0x0000_0000, 4, Place::Fault),
+        (0x01ff_ffff, 1, Place::Fault),
+        (0x0200_0000, 4, Place::Clint(TimerRegister::Msip)),
+        (0x0200_0000, 8, Place::Fault),
+        (0x0200_0004, 4, Place::Fault),
+        (0x0200_4000, 8, Place::Clint(TimerRegister::Mtimecmp)),
+        (0x0200_4000, 4, Place::Fault),
+        (0x0200_4004, 4, Place::Fault),
+        (0x0200_bff8, 8, Place::Clint(TimerRegister::Mtime)),
+        (0x0200_bffc, 4, Place::Fault),
+        (0x1000_0fff, 1, Place::Fault),
+        (0x1000_1000, 4, Place::Net(0)),
+        (0x1000_1fff, 1, Place::Net(4095)),
+        (0x1000_2000, 1, Place::Block(0)),
+        (0x1000_2ff8, 8, Place::Block(4088)),
+        (0x1000_3000, 8, Place::Fault),
+        (0x7fff_ffff, 1, Place::Fault),
+        (0x8000_0000, 8, Place::Ram(0)),
+        (0xffff_ffff_ffff_ffff, 1, Place::Ram(0xffff_ffff_7fff_ffff)),
+    ];
+    for (addr, width, want) in cases {
+        assert_eq!(rt; place(addr, width), want, "at {addr:x}, {width} bytes");
+    }
+}
