@@ -22,10 +22,3 @@ pub use laws::{
 };
 pub use limits::{MAX_KEPT, NUMBER_LIMIT, limits_are_the_rules};
 pub use standing::{Staged, Standing};
-
-#[cfg(test)]
-mod kept_tests;
-#[cfg(test)]
-mod tests;
-#[cfg(test)]
-mod version_tests;

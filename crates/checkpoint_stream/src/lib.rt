@@ -16,10 +16,6 @@ mod reader;
 mod rules;
 mod runs;
 mod states;
-#[cfg(test)]
-mod tests;
-#[cfg(test)]
-mod version_tests;
 mod widths;
 
 pub use encoding::encode;

@@ -19,8 +19,3 @@ pub use checkpoint::{Checkpoint, MOST_OLD_PAGES};
 pub use cut::{cut_delta, cut_full};
 pub use errors::SnapshotError;
 pub use limits::limits_are_the_rules;
-
-#[cfg(test)]
-mod frame_tests;
-#[cfg(test)]
-mod tests;

@@ -1,7 +1,7 @@
 //! The beacon's checkpoint of version 2, with its frame, and what becomes of it where bytes are set otherwise or come in pieces.
 
-use crate::tests::{BEACON, MALFORMATIONS, read, shape};
-use crate::{Reader, encode};
+use super::{BEACON, MALFORMATIONS, read, shape};
+use checkpoint_stream::{Reader, encode};
 use std::alloc::{AllocError, Global};
 use std::test::Fail;
 

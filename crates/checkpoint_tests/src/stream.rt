@@ -1,16 +1,19 @@
 //! The bytes of the beacon's checkpoint, written by oracle/checkpoints.py, and what becomes of them where one is set otherwise.
 
 mod hostile;
+mod versions;
 
-use super::*;
+use checkpoint_stream::{Reader, StreamError};
+use epoch_snapshot::Checkpoint;
 use guest_machine::Shape;
 use memory_wanted::reserve;
 use std::alloc::Global;
-use std::test::*;
+use std::process::Abort;
+use std::test::Fail;
 
 /// The checkpoint of the beacon after 22 steps, on 2 pages and 1 sector, of version 1.
 #[rattlefmt::skip]
-pub(crate) static BEACON: [u8; 608] = [
+static BEACON: [u8; 608] = [
     0x52, 0x4d, 0x43, 0x31, 2, 0, 0, 0, 1, 0, 0, 0, 1, 0, 0, 0, 0, 0, 0, 0, 1, 0, 0, 0, 0, 0, 0, 0, 0x16, 0, 0, 0, 0,
     0, 0, 0, 0, 0, 0, 0, 0, 0, 0, 0, 0, 0, 0, 0, 0, 0, 0, 0, 0, 0, 0, 0, 0, 0, 0, 0, 0, 0, 0, 0, 0, 0, 0, 0, 0, 0x10,
     0, 0x10, 0, 0, 0, 0, 1, 0, 0, 0, 0, 0, 0, 0, 0xf, 0, 0, 0, 0, 0, 0, 0, 0xb, 0, 0, 0, 0, 0, 0, 0, 0, 0, 0, 0, 0,
@@ -31,7 +34,7 @@ pub(crate) static BEACON: [u8; 608] = [
 ];
 
 /// Bytes to be set in the beacon's checkpoint, and the offset of the unit that then breaks its rule.
-pub(crate) static MALFORMATIONS: [(usize, u8, u64); 14] = [
+static MALFORMATIONS: [(usize, u8, u64); 14] = [
     (0, 0, 0),
     (4, 3, 4),
     (12, 0, 12),
@@ -48,7 +51,7 @@ pub(crate) static MALFORMATIONS: [(usize, u8, u64); 14] = [
     (604, 2, 604),
 ];
 
-pub(crate) fn shape() -> Shape {
+fn shape() -> Shape {
     Shape {
         pages: 2,
         sectors: 1,
@@ -56,7 +59,7 @@ pub(crate) fn shape() -> Shape {
 }
 
 /// Feeds bytes in pieces of so many, over each checkpoint that comes whole. Answers how many came, and the offset of a malformation.
-pub(crate) fn read(alloc: Global, bytes: &[u8], size: usize) -> Result<(u64, Option<u64>), Fail> {
+fn read(alloc: Global, bytes: &[u8], size: usize) -> Result<(u64, Option<u64>), Fail> {
     let mut reader = Reader::new(alloc, shape());
     let mut found = 0u64;
     for piece in bytes.chunks(size.max(1)) {
@@ -83,34 +86,43 @@ pub(crate) fn read(alloc: Global, bytes: &[u8], size: usize) -> Result<(u64, Opt
     Ok((found, None))
 }
 
+/// Feeds a piece, of which the reader takes so many bytes.
+fn assert_feeds(rt: &impl Abort, reader: &mut Reader, piece: &[u8], count: usize) {
+    assert!(rt; matches!(reader.feed(piece), Ok(taken) if taken == count));
+}
+
+/// A checkpoint has so many pages, blocks, sectors and frames.
+fn assert_counts(rt: &impl Abort, checkpoint: &Checkpoint, counts: [usize; 4]) {
+    let found = [
+        checkpoint.pages().len(),
+        checkpoint.blocks().len(),
+        checkpoint.sectors().len(),
+        checkpoint.frames().len(),
+    ];
+    assert_eq!(rt; found, counts);
+}
+
+/// It is the beacon's first one, after 22 steps.
+fn assert_beacon(rt: &impl Abort, checkpoint: &Checkpoint, version: u32) {
+    assert_eq!(rt; checkpoint.version(), version);
+    assert_eq!(rt; (checkpoint.generation(), checkpoint.number()), (1, 1));
+    let state = checkpoint.state();
+    assert_eq!(rt; (state.steps, state.pc), (22, 0x8000_0058));
+    assert_eq!(rt; state.net.status, 15);
+}
+
 #[test]
 fn the_old_beacon_is_read(rt: HostRuntime) -> Result<(), Fail> {
     let mut reader = Reader::new(rt.alloc(), shape());
-    let front = reader.feed(&BEACON[..607]).ok().ok_or("the front is read")?;
-    assert_eq!(rt; front, 607);
+    assert_feeds(&rt, &mut reader, &BEACON[..607], 607);
     assert!(rt; reader.next().is_none());
-    let last = reader
-        .feed(&BEACON[607..])
-        .ok()
-        .ok_or("the last byte is read")?;
-    assert_eq!(rt; last, 1);
-    let more = reader
-        .feed(&[1, 2, 3])
-        .ok()
-        .ok_or("nothing is taken while one stands")?;
-    assert_eq!(rt; more, 0);
+    assert_feeds(&rt, &mut reader, &BEACON[607..], 1);
+    // Nothing is taken while one stands.
+    assert_feeds(&rt, &mut reader, &[1, 2, 3], 0);
     let checkpoint = reader.next().ok_or("a checkpoint stands")?;
     assert!(rt; reader.next().is_none());
-    assert_eq!(rt; checkpoint.version(), 1);
-    assert_eq!(rt; checkpoint.generation(), 1);
-    assert_eq!(rt; checkpoint.number(), 1);
-    assert_eq!(rt; checkpoint.state().steps, 22);
-    assert_eq!(rt; checkpoint.state().pc, 0x8000_0058);
-    assert_eq!(rt; checkpoint.state().net.status, 15);
-    assert_eq!(rt; checkpoint.pages().len(), 1);
-    assert_eq!(rt; checkpoint.blocks().len(), 1);
-    assert_eq!(rt; checkpoint.sectors().len(), 0);
-    assert_eq!(rt; checkpoint.frames().len(), 0);
+    assert_beacon(&rt, &checkpoint, 1);
+    assert_counts(&rt, &checkpoint, [1, 1, 0, 0]);
     Ok(())
 }
 

@@ -1,7 +1,7 @@
 -- Shapes that compare equal are the same.
 use Rattle.std.proofs.{Common.{rules, ◌≡◌, ℕ, ◌≤◌, ◌==◌, true, sym, ◌∙◌, subst}, Math.Bridge.le_prop, lemmas.Bool.{and_parts, eqb-true}}
 use Rattle.guest_machine.specs.{declared.shapes.Shape.Shape, Limits.most_pages}
-use Rattle.backup_image.proofs.tests.stage.Goals as goal
+use Rattle.checkpoint_tests.proofs.image.stage.Goals as goal
 
 -- the shape of these numbers, which are in range
 shape : (p s : ℕ) → 1 ≤ p → p ≤ most_pages → 1 ≤ s → s ≤ 32768 → Shape

@@ -1,107 +1,22 @@
 //! Two small guests at both nodes: what the backup's image is at each point.
 
-pub(crate) mod stops;
+mod kept;
+mod stops;
+mod versions;
 
-use crate::{Image, ImageError, Staged, Standing};
+use crate::guests::{BYTE, SECTOR, disk_after, run, shape};
+use backup_image::{Image, ImageError, Staged, Standing};
 use epoch_snapshot::{Checkpoint, cut_delta, cut_full};
-use guest_machine::{Machine, PAGE_BYTES, Shape};
+use guest_kit::{beacon, disk_once};
+use guest_machine::{Machine, PAGE_BYTES};
 use memory_wanted::reserve;
-use std::alloc::{AllocError, Global};
+use std::alloc::Global;
 use std::process::Abort;
 use std::test::Fail;
 use stops::{delta_text, follow};
 
-/// The guest that sends one frame: it notifies queue 1 of its network card in step 22.
-const BEACON: [u32; 23] = [
-    0x100012b7, 0x00100313, 0x0662a823, 0x00300393, 0x0672a823, 0x0262a223, 0x0262a023, 0x00b00393,
-    0x0672a823, 0x0702a403, 0x0262a823, 0x0262ac23, 0x800013b7, 0x0872a023, 0x04038393, 0x0872a823,
-    0x04038393, 0x0a72a023, 0x0462a223, 0x00f00393, 0x0672a823, 0x0462a823, 0x0000006f,
-];
-
-/// The guest that writes one sector: it notifies the disk's queue in step 23.
-const DISK: [u32; 24] = [
-    0x100022b7, 0x00100313, 0x0662a823, 0x00300393, 0x0672a823, 0x0262a223, 0x0262a023, 0x00b00393,
-    0x0672a823, 0x0702a403, 0x0202a823, 0x00400393, 0x0272ac23, 0x800013b7, 0x0872a023, 0x04038393,
-    0x0872a823, 0x04038393, 0x0a72a023, 0x0462a223, 0x00f00393, 0x0672a823, 0x0402a823, 0x0000006f,
-];
-
-fn put(image: &mut Vec<u8>, at: usize, bytes: &[u8]) {
-    for (i, b) in bytes.iter().enumerate() {
-        if at < image.len() && i < image.len() - at {
-            image[at + i] = *b;
-        }
-    }
-}
-
-/// Two pages that begin with these words.
-fn image(alloc: Global, words: &[u32]) -> Result<Vec<u8>, AllocError> {
-    let mut image = vec![in alloc; 0u8; 2 * PAGE_BYTES]?;
-    for (i, word) in words.iter().enumerate() {
-        if i < 1024 {
-            put(&mut image, 4 * i, &word.to_le_bytes());
-        }
-    }
-    Ok(image)
-}
-
-fn beacon(alloc: Global) -> Result<Vec<u8>, AllocError> {
-    let mut image = image(alloc, &BEACON)?;
-    put(&mut image, 0x1000, &[0, 0x11, 0, 0x80, 0, 0, 0, 0, 26]);
-    put(&mut image, 0x1042, &[1, 0]);
-    put(
-        &mut image,
-        0x110c,
-        &[2, 0, 0, 0, 1, 1, 2, 0, 0, 0, 0, 1, 0x88, 0xb5],
-    );
-    Ok(image)
-}
-
-fn disk(alloc: Global) -> Result<Vec<u8>, AllocError> {
-    let mut image = image(alloc, &DISK)?;
-    put(
-        &mut image,
-        0x1000,
-        &[0, 0x11, 0, 0x80, 0, 0, 0, 0, 16, 0, 0, 0, 1, 0, 1, 0],
-    );
-    put(
-        &mut image,
-        0x1010,
-        &[0, 0x12, 0, 0x80, 0, 0, 0, 0, 0, 2, 0, 0, 1, 0, 2, 0],
-    );
-    put(
-        &mut image,
-        0x1020,
-        &[0x10, 0x11, 0, 0x80, 0, 0, 0, 0, 1, 0, 0, 0, 2, 0, 0, 0],
-    );
-    put(&mut image, 0x1042, &[1, 0]);
-    put(&mut image, 0x1100, &[1]);
-    put(&mut image, 0x1108, &[3]);
-    put(&mut image, 0x1110, &[0xff]);
-    put(&mut image, 0x1200, &[0xab; 512]);
-    Ok(image)
-}
-
-/// The shape of two pages and of this many sectors.
-fn shape(rt: &impl Abort, sectors: u32) -> Shape {
-    assert!(rt; 1 <= sectors && sectors <= 32768);
-    Shape { pages: 2, sectors }
-}
-
-/// The machine of this many sectors at boot, in a box: it's large, and a test that holds it by value is slow to prove.
-pub(crate) fn boot_machine(
-    rt: &impl Abort,
-    alloc: Global,
-    sectors: u32,
-    bytes: &[u8],
-) -> Result<Box<Machine>, Fail> {
-    let shape = shape(rt, sectors);
-    assert!(rt; bytes.len() <= PAGE_BYTES * shape.pages as usize);
-    let machine = Machine::boot(alloc, shape, bytes)?;
-    Ok(Box::new(alloc, machine)?)
-}
-
-/// Its image at boot.
-pub(crate) fn boot_image(
+/// The image of this many sectors at boot.
+fn boot_image(
     rt: &impl Abort,
     alloc: Global,
     sectors: u32,
@@ -114,49 +29,20 @@ pub(crate) fn boot_image(
 }
 
 /// An empty image of this many sectors.
-pub(crate) fn empty_image(
-    rt: &impl Abort,
-    alloc: Global,
-    sectors: u32,
-) -> Result<Box<Image>, Fail> {
+fn empty_image(rt: &impl Abort, alloc: Global, sectors: u32) -> Result<Box<Image>, Fail> {
     let image = Image::empty(alloc, shape(rt, sectors))?;
     Ok(Box::new(alloc, image)?)
 }
 
-/// So many steps, none of which is refused.
-fn run(rt: &impl Abort, machine: &mut Machine, steps: u64) {
-    assert_eq!(rt; machine.run(steps), steps);
-}
-
-/// The beacon at the primary, after so many steps.
-pub(crate) fn beacon_after(
-    rt: &impl Abort,
-    alloc: Global,
-    steps: u64,
-) -> Result<Box<Machine>, Fail> {
-    let bytes = beacon(alloc)?;
-    let mut machine = boot_machine(rt, alloc, 1, bytes.as_slice())?;
-    run(rt, &mut machine, steps);
-    Ok(machine)
-}
-
 /// The beacon's image at boot.
-pub(crate) fn beacon_image(rt: &impl Abort, alloc: Global) -> Result<Box<Image>, Fail> {
+fn beacon_image(rt: &impl Abort, alloc: Global) -> Result<Box<Image>, Fail> {
     let bytes = beacon(alloc)?;
     boot_image(rt, alloc, 1, bytes.as_slice())
 }
 
-/// The guest that writes a sector, after it did so, at the primary.
-fn disk_machine(rt: &impl Abort, alloc: Global) -> Result<Box<Machine>, Fail> {
-    let bytes = disk(alloc)?;
-    let mut machine = boot_machine(rt, alloc, 8, bytes.as_slice())?;
-    run(rt, &mut machine, 23);
-    Ok(machine)
-}
-
-/// Its image at boot.
+/// The image of the guest that writes a sector at boot.
 fn disk_image(rt: &impl Abort, alloc: Global) -> Result<Box<Image>, Fail> {
-    let bytes = disk(alloc)?;
+    let bytes = disk_once(alloc, SECTOR, BYTE)?;
     boot_image(rt, alloc, 8, bytes.as_slice())
 }
 
@@ -167,7 +53,7 @@ fn stage(rt: &impl Abort, image: &mut Image, checkpoint: Checkpoint) -> Result<S
 }
 
 /// What an image answers to a checkpoint.
-pub(crate) fn assert_answer(
+fn assert_answer(
     rt: &impl Abort,
     image: &mut Image,
     checkpoint: Checkpoint,
@@ -208,7 +94,7 @@ fn assert_full(
 }
 
 /// An image stands there and has made so many steps, and a sector of it is full of this byte.
-pub(crate) fn assert_image(
+fn assert_image(
     rt: &impl Abort,
     image: &Image,
     standing: Option<Standing>,
@@ -224,7 +110,7 @@ pub(crate) fn assert_image(
     }
 }
 
-pub(crate) fn at(generation: u64, number: u64) -> Option<Standing> {
+fn at(generation: u64, number: u64) -> Option<Standing> {
     Some(Standing { generation, number })
 }
 
@@ -252,7 +138,7 @@ fn assert_commits(rt: &impl Abort, image: &mut Image, generation: u64, number: u
 #[test]
 fn a_delta_counts_from_its_commit_on(rt: HostRuntime) -> Result<(), Fail> {
     let alloc = rt.alloc();
-    let machine = disk_machine(&rt, alloc)?;
+    let machine = disk_after(&rt, alloc, 23)?;
     let mut image = disk_image(&rt, alloc)?;
     assert_stays(
         &rt,
@@ -290,7 +176,7 @@ fn handed_back(rt: &impl Abort, alloc: Global, image: Box<Image>) -> Result<Box<
 }
 
 /// The machine that an image resumes to.
-pub(crate) fn resumed(alloc: Global, image: Box<Image>) -> Result<Box<Machine>, Fail> {
+fn resumed(alloc: Global, image: Box<Image>) -> Result<Box<Machine>, Fail> {
     match Box::into_inner(image).resume() {
         Ok(resumed) => Ok(Box::new(alloc, resumed.machine)?),
         Err(_) => Err("the image has a machine".into()),
@@ -309,7 +195,7 @@ fn assert_goes_on(rt: &impl Abort, machine: &mut Machine) {
 #[test]
 fn an_empty_image_is_filled(rt: HostRuntime) -> Result<(), Fail> {
     let alloc = rt.alloc();
-    let machine = disk_machine(&rt, alloc)?;
+    let machine = disk_after(&rt, alloc, 23)?;
     let empty = empty_image(&rt, alloc, 8)?;
     assert_image(&rt, &empty, None, 0, 3, 0);
     let mut image = handed_back(&rt, alloc, empty)?;

@@ -1,8 +1,9 @@
 //! What an image answers to checkpoints of version 1, which carry no frames.
 
-use crate::tests::stops::put_version_1;
-use crate::tests::{assert_answer, assert_image, at, beacon_after, beacon_image, empty_image};
-use crate::{Image, ImageError, Staged};
+use super::stops::put_version_1;
+use super::{assert_answer, assert_image, at, beacon_image, empty_image};
+use crate::guests::beacon_after;
+use backup_image::{Image, ImageError, Staged};
 use checkpoint_stream::{Reader, encode};
 use epoch_snapshot::{Checkpoint, cut_delta, cut_full};
 use guest_machine::{Machine, Shape};
@@ -18,7 +19,7 @@ fn older(alloc: Global, shape: Shape, mut text: Vec<u8>, tail: usize) -> Result<
 }
 
 /// The checkpoint of a text.
-pub(crate) fn read_whole(alloc: Global, shape: Shape, text: &[u8]) -> Result<Checkpoint, Fail> {
+pub(super) fn read_whole(alloc: Global, shape: Shape, text: &[u8]) -> Result<Checkpoint, Fail> {
     let mut reader = Reader::new(alloc, shape);
     if reader.feed(text)? != text.len() {
         return Err("it is read whole".into());

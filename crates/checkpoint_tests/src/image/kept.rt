@@ -1,9 +1,10 @@
 //! The frames that an image keeps, each of bytes that are its number.
 
-use crate::tests::stops::delta_text;
-use crate::tests::{assert_answer, beacon_after, beacon_image, empty_image};
-use crate::version_tests::read_whole;
-use crate::{Image, KeptFrames, Staged};
+use super::stops::delta_text;
+use super::versions::read_whole;
+use super::{assert_answer, beacon_image, empty_image};
+use crate::guests::beacon_after;
+use backup_image::{Image, KeptFrames, Staged};
 use epoch_snapshot::{Checkpoint, cut_full};
 use std::alloc::Global;
 use std::process::Abort;

@@ -1,7 +1,7 @@
 //! Streams cut in two at each place, and what comes after a malformation.
 
 use super::{BEACON, MALFORMATIONS, shape};
-use crate::{Reader, StreamError, encode};
+use checkpoint_stream::{Reader, StreamError, encode};
 use guest_machine::Shape;
 use std::alloc::{AllocError, Global};
 use std::process::Abort;

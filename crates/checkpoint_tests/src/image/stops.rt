@@ -1,7 +1,8 @@
 //! A stream that stops inside a checkpoint leaves the guest of boot: memory, disk and devices.
 
-use super::{assert_answer, assert_image, at, beacon_after, beacon_image, resumed};
-use crate::{Image, ImageError, Staged};
+use super::{assert_answer, assert_image, at, beacon_image, resumed};
+use crate::guests::beacon_after;
+use backup_image::{Image, ImageError, Staged};
 use checkpoint_stream::{Reader, encode};
 use epoch_snapshot::{Checkpoint, cut_delta, cut_full};
 use guest_machine::Machine;
@@ -29,7 +30,7 @@ fn guest_after(rt: &impl Abort, alloc: Global, steps: u64) -> Result<Vec<u8>, Fa
 }
 
 /// The beacon's first checkpoint, in which it sends its frame.
-pub(crate) fn delta_text(rt: &impl Abort, alloc: Global) -> Result<Vec<u8>, Fail> {
+pub(super) fn delta_text(rt: &impl Abort, alloc: Global) -> Result<Vec<u8>, Fail> {
     let machine = beacon_after(rt, alloc, 22)?;
     let delta = cut_delta(alloc, &machine, 1, 1)?;
     text_of(alloc, &delta)
@@ -43,7 +44,7 @@ fn old_delta_text(rt: &impl Abort, alloc: Global) -> Result<Vec<u8>, Fail> {
 }
 
 /// Makes a text of version 2 one of version 1, which has so many bytes.
-pub(crate) fn put_version_1(text: &mut Vec<u8>, count: usize) {
+pub(super) fn put_version_1(text: &mut Vec<u8>, count: usize) {
     text.truncate(count);
     if let Some(version) = text.get_mut(3) {
         *version = b'1';
@@ -63,7 +64,7 @@ fn assert_next(
 }
 
 /// Takes in the bytes of a stream, and commits the checkpoint that stands whole, if one does and it's staged.
-pub(crate) fn follow(
+pub(super) fn follow(
     rt: &impl Abort,
     alloc: Global,
     image: &mut Image,
