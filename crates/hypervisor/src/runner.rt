@@ -6,10 +6,11 @@ ghost use Rattle.guest_machine.specs.Limits.{stepping_frames};
 ghost use Rattle.guest_machine.specs.Paces.{Lets, Holds};
 ghost use Rattle.pair_record.specs.Protocol.{first_refusal};
 ghost use Rattle.pair_book.specs.Running.{wanted_of};
+ghost use Rattle.pair_book.specs.Settled.{just_settled, Runs};
 ghost use Rattle.pair_book.specs.Submitting.{prepared_rows};
 ghost use Rattle.pair_book.specs.declared.prepared.Prepared.{Prepared};
 ghost use Rattle.hypervisor.specs.Preparing.{CarriesDelta, CarriesFull, is_possible, IsMadeFor, IsOfKind, Suits};
-ghost use Rattle.hypervisor.specs.Runners.{new_runner};
+ghost use Rattle.hypervisor.specs.Runners.{new_runner, IsSized};
 ghost use Rattle.hypervisor.specs.Runs.{after_arrivals, frames_of, steps_asked, HasRun};
 
 use crate::shared::Shared;
@@ -45,17 +46,22 @@ impl<P: Pair> Model for Runner<P> {
 
     ghost view = { λ r. runner_state r.machine r.held.items r.epoch.arrivals r.epoch.steps r.prepared r.seat };
 
-    ghost invariant = { λ r. IsRunner (runner_state r.machine r.held.items r.epoch.arrivals r.epoch.steps r.prepared r.seat) };
+    ghost invariant = { λ r. IsRunner P.start (runner_state r.machine r.held.items r.epoch.arrivals r.epoch.steps r.prepared r.seat) };
 }
 
 impl<P: Pair> Runner<P> {
-    /// The runner of this machine, with an epoch of which nothing has run yet. It takes no memory.
+    /// The runner of this machine, which is just settled, with an epoch of which nothing has run yet. The machine is of the pair's size,
+    /// and its guest is the one from which the runner of this seat begins, as the caller knows. It takes no memory.
     pub(crate) fn new(
         alloc: Global,
         shared: Arc<Shared<P>>,
         machine: Machine,
         seat: RunnerSeat<P>,
     ) -> Runner<P>
+        requires outbox { machine.outbox ≡ [] }
+        requires settled { machine.settled ≡ machine.guest.ram }
+        requires sized { IsSized P.start machine.guest }
+        requires runs { Runs P.start seat (just_settled machine.guest []) }
         ensures { result ≡ new_runner machine seat }
     {
         Runner {
