@@ -3,7 +3,6 @@ pub mod Prefixes
 pub mod Fitting
 pub mod Moves
 pub mod Members
-pub mod Examples
 pub mod LogLaws
 pub mod Between
 pub mod Epochs

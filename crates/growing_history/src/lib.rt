@@ -23,6 +23,3 @@ pub use laws::{
 };
 pub use seats::{BackupSeat, Badge, ClientSeat, KeeperSeat, LineSeat, MemberSeat, RunnerSeat};
 pub use what::{Tells, What};
-
-#[cfg(test)]
-mod tests;

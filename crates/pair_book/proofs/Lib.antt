@@ -19,7 +19,6 @@ pub mod TextLaws
 pub mod NextTexts
 pub mod Start
 pub mod StartSeats
-pub mod MadeAtStart
 pub mod HandingLaws
 pub mod CommittedHanding
 pub mod EpochWords

@@ -35,10 +35,3 @@ pub use pair_record::Refusal;
 pub use prepared::Prepared;
 pub use runner::{Kind, Want};
 pub use submitting::OpenEpoch;
-
-#[cfg(test)]
-mod checkpoint_tests;
-#[cfg(test)]
-mod packet_tests;
-#[cfg(test)]
-mod tests;

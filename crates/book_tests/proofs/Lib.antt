@@ -1,0 +1,2 @@
+pub mod MadeAtStart
+pub mod CallsInTurn

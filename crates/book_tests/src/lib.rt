@@ -1,0 +1,12 @@
+//! Tests of the book and of the growing history, by what [`pair_book`] and [`growing_history`] have for everyone. They stand in a crate of
+//! their own since a crate that has tests is proved once more with them.
+#![tactic(auto)]
+
+#[cfg(test)]
+mod calls;
+#[cfg(test)]
+mod checkpoints;
+#[cfg(test)]
+mod packets;
+#[cfg(test)]
+mod seats;

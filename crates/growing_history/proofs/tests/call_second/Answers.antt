@@ -1,5 +1,0 @@
-use Rattle.growing_history.proofs.Examples.{second-legal}
-use Rattle.growing_history.proofs.tests.call_second.Goals as goal
-
-pub step-requires-clause-legal : goal.step-requires-clause-legal
-step-requires-clause-legal g c = second-legal _ _ _ c.requires.start c.requires.keeper c.requires.second
