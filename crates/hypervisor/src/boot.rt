@@ -14,9 +14,10 @@ use crate::shared::Shared;
 use crate::warden::Warden;
 use growing_history::{BackupSeat, Clock, Pair, RunnerSeat, steps_go_on};
 use pair_book::{NewBook, UnnamedBook};
+use pair_history::reached_states;
 use std::alloc::{AllocError, Global};
 use std::marker::Model;
-use std::sync::{Arc, Mutex};
+use std::sync::Arc;
 
 /// A pair that has no name yet. Contracts see its word, and how many clients it has.
 #[derive(Drop)]
@@ -117,6 +118,7 @@ impl UnnamedPair {
         ensures runner { IfOk result (λ p. p.runner ≡ record { number = first_runner; steps = [] }) }
         ensures backup { IfOk result (λ p. p.backup ≡ record { number = first_backup; steps = [] }) }
     {
+        reached_states();
         steps_go_on();
         let UnnamedPair {
             alloc,
@@ -125,14 +127,8 @@ impl UnnamedPair {
         } = self;
         let mut members = book.named::<P>();
         let seats = client_seats(alloc, &members.clock, &mut members.book, clients)?;
-        let book = Mutex::new(members.book.open(&members.clock));
-        let shared = Arc::new(
-            alloc,
-            Shared {
-                clock: members.clock,
-                book,
-            },
-        )?;
+        let book = members.book.open(&members.clock);
+        let shared = Arc::new(alloc, Shared::new(members.clock, book))?;
         Ok(Parts {
             clients: seated(alloc, &shared, seats)?,
             sender: Sender::of(Arc::try_clone(&shared)?),

@@ -1,7 +1,8 @@
 //! The book.
-ghost use Rattle.std.specs.Prelude.{◌≡◌, ◌+◌, length};
+ghost use Rattle.std.specs.Prelude.{◌≡◌, ◌+◌, length, map};
 ghost use Rattle.frame_ports.specs.Ports.{IsClient};
 ghost use Rattle.growing_history.specs.LogState.{Legal, state_at, history_of};
+ghost use Rattle.pair_history.specs.Entries.{Arrive};
 ghost use Rattle.pair_book.specs.Calls.{IsClientSeat, client_of, is_word_full};
 ghost use Rattle.pair_book.specs.Made.{AreMade};
 
@@ -53,6 +54,7 @@ impl<P: Pair> Book<P> {
         ensures legal { Legal P.start self.now.steps }
         ensures made { AreMade P.start self.now.steps }
         ensures clients { length self.now.ports.boxes ≡ length P.start.boxes }
+        ensures running { self.now.protocol.journal.running ≡ map Arrive (state_at P.start self.now.steps).handed }
     {
         self.seats.count();
         self.record.history().len()

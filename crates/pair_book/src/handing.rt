@@ -1,5 +1,6 @@
 //! Frames are handed out to the runner.
-ghost use Rattle.std.specs.Prelude.{◌≡◌, ◌+◌, ◌*◌, ◌<◌, ◌≤◌, take, length, vec_len, vec_capacity};
+ghost use Rattle.std.specs.Prelude.{◌≡◌, ◌+◌, ◌*◌, ◌<◌, ◌≤◌, take, length, All, vec_len, vec_capacity};
+ghost use Rattle.frame_ports.specs.Addresses.{IsFrame};
 ghost use Rattle.frame_ports.specs.Limits.{number_limit};
 ghost use Rattle.frame_ports.specs.Ports.{IsClient, inbox_of};
 ghost use Rattle.pair_record.specs.Journal.{all_entries};
@@ -19,6 +20,7 @@ fn hand_out_some(pair: &mut PairRecord, client: u64, count: usize, frames: &mut 
     requires numbers { length (all_entries pair.old.protocol.journal) + count < number_limit }
     requires arrival_room { count ≤ pair.old.arrival_room }
     requires room { vec_len frames.old + count ≤ vec_capacity frames.old }
+    requires frames { All (λ x. IsFrame x.1) frames.old.items }
     ensures done { handing pair.new.protocol pair.new.ports frames.new.items
         ≡ handed_all client (take count (inbox_of pair.old.ports client)) (handing pair.old.protocol pair.old.ports frames.old.items) }
     ensures boxes { length pair.new.ports.boxes ≡ length pair.old.ports.boxes }
@@ -27,6 +29,7 @@ fn hand_out_some(pair: &mut PairRecord, client: u64, count: usize, frames: &mut 
     ensures arrival_room { pair.old.arrival_room ≤ pair.new.arrival_room + count }
     ensures len { vec_len frames.new ≡ vec_len frames.old + count }
     ensures room { vec_capacity frames.old ≤ vec_capacity frames.new }
+    ensures frames { All (λ x. IsFrame x.1) frames.new.items }
 {
     for place in 0..count {
         let frame = pair.hand_out(client);
@@ -41,8 +44,10 @@ pub(crate) fn hand_out(pair: &mut PairRecord, frames: &mut Vec<(u64, Frame)>)
     requires numbers { length (all_entries pair.old.protocol.journal) + 4 * length pair.old.ports.boxes < number_limit }
     requires arrival_room { 4 * length pair.old.ports.boxes ≤ pair.old.arrival_room }
     requires room { vec_len frames.old + 4 * length pair.old.ports.boxes ≤ vec_capacity frames.old }
-    ensures { handing pair.new.protocol pair.new.ports frames.new.items
+    requires frames { All (λ x. IsFrame x.1) frames.old.items }
+    ensures done { handing pair.new.protocol pair.new.ports frames.new.items
         ≡ handed_out (length pair.old.ports.boxes) 1 (handing pair.old.protocol pair.old.ports frames.old.items) }
+    ensures frames { All (λ x. IsFrame x.1) frames.new.items }
 {
     let clients = pair.clients();
     for client in 1..clients + 1 {

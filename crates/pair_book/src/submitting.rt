@@ -153,6 +153,7 @@ fn end_and_hand_out(
     requires only { pair.old.protocol.journal.running ≡ map Arrive (arrived_numbers pair.old.protocol.journal.running) }
     ensures done { IfOk result (λ v. handing pair.new.protocol pair.new.ports v.items
         ≡ handed_next (ended_as kind epoch.arrivals epoch.steps frames.now pair.old.protocol pair.old.ports)) }
+    ensures are_frames { IfOk result (λ v. All (λ x. IsFrame x.1) v.items) }
     ensures err { OnErr result (IsRecordAsBefore pair.old pair.new) }
 {
     let most = FRAMES_AT_ONCE * pair.clients() as usize;
@@ -271,6 +272,7 @@ impl<P: Pair> Book<P> {
         ensures number { seat.new.number ≡ seat.old.number }
         ensures done { IfOk result (λ next. HandsNext (ended self.old epoch.arrivals epoch.steps frames.now)
             (handing self.new.protocol self.new.ports next.items)) }
+        ensures are_frames { IfOk result (λ next. All (λ x. IsFrame x.1) next.items) }
         ensures texts { OnOk result (self.new.texts ≡ texts_ended what.now self.old.texts) }
         ensures step { OnOk result (Makes (told self.old epoch.arrivals epoch.steps what.now) self.old self.new seat.old seat.new) }
         ensures runs { IfOk result (λ next. RunsOn P.start seat.old seat.new epoch.arrivals epoch.steps frames.now next.items) }

@@ -35,10 +35,11 @@ loop-client-preserved c =
       numbers = omega (arith, e.numbers, v.numbers, few);
       arrival_room = omega (arith, e.arrival_room, v.arrival_room, few);
       room = omega (arith, e.len, e.room, v.room, few);
+      frames = e.frames;
     }
 
-pub returns : goal.returns
-returns c =
+pub returns-clause-done : goal.returns-clause-done
+returns-clause-done c =
     let old = c.args.pair.now in
     let before : Handing = handing old.protocol old.ports c.args.frames.now.items in
     let now : Handing = handing c.loop-client.pair.protocol c.loop-client.pair.ports c.loop-client.frames.items in

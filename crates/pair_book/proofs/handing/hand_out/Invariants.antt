@@ -1,6 +1,7 @@
-use Rattle.std.proofs.Common.{◌≡◌, ◌+◌, ◌-◌, ◌*◌, ◌<◌, ◌≤◌, length}
-use Rattle.std.specs.Prelude.{vec_len, vec_capacity}
-use Rattle.frame_ports.specs.Limits.{number_limit}
+use Rattle.std.proofs.Common.{◌≡◌, ℕ, ◌+◌, ◌-◌, ◌*◌, ◌<◌, ◌≤◌, length}
+use Rattle.std.specs.Prelude.{vec_len, vec_capacity, All}
+use Rattle.frame_ports.specs.{Addresses.IsFrame, Limits.number_limit}
+use Rattle.pair_history.specs.Entries.{Frame}
 use Rattle.pair_record.specs.Journal.{all_entries}
 use Rattle.pair_book.specs.Handing.{handing, handed_out}
 use Rattle.pair_book.proofs.handing.hand_out.Given as goal
@@ -15,4 +16,5 @@ invariant-loop-client l = record {
   numbers : length (all_entries l.pair.protocol.journal) + 4 * (l.clients + 1) < number_limit + 4 * l.client;
   arrival_room : 4 * (l.clients + 1) ≤ l.pair.arrival_room + 4 * l.client;
   room : vec_len l.frames + 4 * (l.clients + 1) ≤ vec_capacity l.frames + 4 * l.client;
+  frames : All (λ (x : ℕ × Frame). IsFrame x.1) l.frames.items;
 }

@@ -1,6 +1,9 @@
 use Rattle.std.proofs.Common.{rules, ◌≡◌, ◌+◌, ◌-◌, ◌≤◌, ℕ, [], ◌∷◌, ◌++◌, length, drop, take, suc, sym, ap, ◌∙◌, subst, arith}
 use Rattle.std.proofs.lemmas.List.{length-set}
-use Rattle.frame_ports.specs.{Lands.list_of, Ports.PortsState}
+use Rattle.std.proofs.lemmas.List.Elements.{All-push}
+use Rattle.std.specs.Prelude.{All}
+use Rattle.frame_ports.specs.{Addresses.IsFrame, Lands.list_of, Ports.PortsState}
+use Rattle.pair_history.specs.Entries.{Frame}
 use Rattle.pair_record.specs.{Journal.all_entries, Protocol.Record}
 use Rattle.pair_book.specs.Handing.{Handing, handing, handed_one, handed_all}
 use Rattle.pair_book.proofs.HandingLaws.{one-more, one-entry, still-there}
@@ -41,4 +44,8 @@ loop-place-preserved c =
       arrival_room = omega (arith, c.hand_out-frame.ensures.room, v.arrival_room);
       len = search (arith, rules);
       room = search (arith, rules);
+      frames =
+          let IsOne : ℕ × Frame → Type 0 = λ y. IsFrame y.1 in
+          subst (All IsOne) (sym items)
+          (All-push IsOne c.loop-place.frames.items x v.frames c.hand_out-frame.ensures.frame);
     }

@@ -1,6 +1,8 @@
-use Rattle.std.proofs.Common.{◌≡◌, ◌+◌, ◌-◌, ◌≤◌, length, take}
-use Rattle.std.specs.Prelude.{vec_len, vec_capacity}
+use Rattle.std.proofs.Common.{◌≡◌, ℕ, ◌+◌, ◌-◌, ◌≤◌, length, take}
+use Rattle.std.specs.Prelude.{vec_len, vec_capacity, All}
+use Rattle.frame_ports.specs.Addresses.{IsFrame}
 use Rattle.frame_ports.specs.Lands.{list_of}
+use Rattle.pair_history.specs.Entries.{Frame}
 use Rattle.pair_record.specs.Journal.{all_entries}
 use Rattle.pair_book.specs.Handing.{handing, handed_all}
 use Rattle.pair_book.proofs.handing.hand_out_some.Given as goal
@@ -18,4 +20,5 @@ invariant-loop-place l = record {
   arrival_room : l.initial.pair.arrival_room ≤ l.pair.arrival_room + l.place;
   len : vec_len l.frames ≡ vec_len l.initial.frames + l.place;
   room : vec_capacity l.initial.frames ≤ vec_capacity l.frames;
+  frames : All (λ (x : ℕ × Frame). IsFrame x.1) l.frames.items;
 }
