@@ -10,4 +10,9 @@ pub mod Cutting
 pub mod Suiting
 pub mod AskLaws
 pub mod ReadShapes
+pub mod ReadsOnLaws
 pub mod FeedLaws
+pub mod StandLaws
+pub mod CommitLaws
+pub mod GoLiveLaws
+pub mod OpeningLaws

@@ -10,3 +10,5 @@ pub mod Runners
 pub mod Runs
 pub mod Backups
 pub mod Feeding
+pub mod Commits
+pub mod GoingLive
