@@ -9,6 +9,10 @@ pub mod Points
 pub mod Cutting
 pub mod Suiting
 pub mod AskLaws
+pub mod Arriving
+pub mod RunningOn
+pub mod RunSizes
+pub mod Submitting
 pub mod ReadShapes
 pub mod ReadsOnLaws
 pub mod FeedLaws

@@ -8,6 +8,7 @@ pub mod Service
 pub mod Preparing
 pub mod Runners
 pub mod Runs
+pub mod Submits
 pub mod Backups
 pub mod Feeding
 pub mod Commits

@@ -5,7 +5,7 @@ use Rattle.memory_wanted.specs.Wanted.{wanted}
 use Rattle.pair_history.specs.HistoryState.{HistoryState}
 use Rattle.pair_record.specs.declared.event.Refusal.{Refusal}
 use Rattle.pair_record.specs.declared.event.Refusal.TheVariants.{Full, BadFrame, NoClient, Stopped, NotPaired, AlreadyPaired, NoImage}
-use Rattle.pair_record.specs.declared.event.Refusal.TheVariants.{Stale, Gap, NoMemory, Exhausted}
+use Rattle.pair_record.specs.declared.event.Refusal.TheVariants.{Behind, Stale, Gap, NoMemory, Exhausted}
 use Rattle.pair_record.specs.Protocol.{is_bad_length, is_among}
 use Rattle.hypervisor.specs.declared.warden.Node.{Node}
 use Rattle.hypervisor.specs.declared.warden.Node.TheVariants.{Primary, Backup}
@@ -16,6 +16,10 @@ delivery_refusals = Full ∷ Exhausted ∷ NoMemory wanted ∷ []
 
 abbrev pub entry_refusals : List Refusal
 entry_refusals = Exhausted ∷ NoMemory wanted ∷ []
+
+-- what ends the runner's epoch
+abbrev pub submit_refusals : List Refusal
+submit_refusals = Stopped ∷ Behind ∷ NotPaired ∷ AlreadyPaired ∷ Stale ∷ Exhausted ∷ NoMemory wanted ∷ []
 
 -- what the sender calls
 abbrev pub next_refusals : List Refusal

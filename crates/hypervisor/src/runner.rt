@@ -1,26 +1,38 @@
 //! The runner: it has the machine that runs, and the guest makes its steps with no lock held.
-ghost use Rattle.std.specs.Prelude.{◌≡◌, ◌<◌, ◌≤◌, ◌++◌, [], length, All, None, IfOk, OnOk, IfErr, OnErr};
+ghost use Rattle.std.specs.Prelude.{◌≡◌, ℕ, ◌+◌, ◌<◌, ◌≤◌, ◌++◌, [], length, All, None, IfOk, OnOk, IfErr, OnErr};
+ghost use Rattle.std.specs.List.{Contains};
 ghost use Rattle.frame_ports.specs.Addresses.{IsFrame};
 ghost use Rattle.frame_ports.specs.Limits.{number_limit};
+ghost use Rattle.guest_machine.specs.Guest.{HasDeviceRecords};
 ghost use Rattle.guest_machine.specs.Limits.{stepping_frames};
 ghost use Rattle.guest_machine.specs.Paces.{Lets, Holds};
+ghost use Rattle.growing_history.specs.LogState.{Legal, state_at};
+ghost use Rattle.pair_history.specs.Reached.{IsReached};
 ghost use Rattle.pair_record.specs.Protocol.{first_refusal};
+ghost use Rattle.pair_book.specs.Calls.{IsWhy};
 ghost use Rattle.pair_book.specs.Running.{wanted_of};
-ghost use Rattle.pair_book.specs.Settled.{just_settled, Runs};
-ghost use Rattle.pair_book.specs.Submitting.{prepared_rows};
+ghost use Rattle.pair_book.specs.Settled.{just_settled, numbers_of, Runs};
+ghost use Rattle.pair_book.specs.Submitting.{prepared_rows, submit_why};
 ghost use Rattle.pair_book.specs.declared.prepared.Prepared.{Prepared};
 ghost use Rattle.hypervisor.specs.Preparing.{CarriesDelta, CarriesFull, is_possible, IsMadeFor, IsOfKind, Suits};
-ghost use Rattle.hypervisor.specs.Runners.{new_runner, IsSized};
+ghost use Rattle.hypervisor.specs.Refusals.{submit_refusals};
+ghost use Rattle.hypervisor.specs.Runners.{RunnerState, runner_state, new_runner, IsSized, RunsFromSettled, IsRunner};
 ghost use Rattle.hypervisor.specs.Runs.{after_arrivals, frames_of, steps_asked, HasRun};
+ghost use Rattle.hypervisor.specs.Submits.{Submits, BeginsEpoch};
 
 use crate::shared::Shared;
 use epoch_snapshot::{SnapshotError, cut_delta, cut_full};
 use frame_ports::NUMBER_LIMIT;
-use growing_history::{Pair, RunnerSeat};
-use guest_machine::{Machine, Pace};
+use growing_history::{Clock, Pair, RunnerSeat, steps_go_on, unmarked_histories_are_legal};
+use guest_machine::{
+    Machine, Pace, changed_sectors_are_listed, devices_apart, kept_disk, kept_memory,
+};
 use memory_wanted::MemoryWanted;
-use pair_book::{Book, Kind, OpenEpoch, Packet, Prepared, Refusal, Want};
-use pair_history::Frame;
+use pair_book::{
+    Book, Kind, OpenEpoch, Packet, Prepared, Refusal, Want, members_go_on,
+    runners_bring_what_they_have,
+};
+use pair_history::{Frame, reached_states};
 use std::alloc::Global;
 use std::marker::Model;
 use std::sync::{Arc, Wait};
@@ -80,7 +92,10 @@ impl<P: Pair> Runner<P> {
 
     /// The machine, as it is now.
     pub fn machine(&self) -> &Machine
-        ensures { result.now ≡ self.now.machine }
+        ensures value { result.now ≡ self.now.machine }
+        // What is true of every runner.
+        ensures sized { IsSized P.start self.now.machine.guest }
+        ensures runs { RunsFromSettled P.start self.now }
     {
         &self.machine
     }
@@ -106,6 +121,10 @@ impl<P: Pair> Runner<P> {
         ensures stopped { result < steps_asked steps self.old → length self.new.machine.outbox ≤ stepping_frames
             → Holds G.answers G.STRETCH result pace.old pace.new }
     {
+        self.shared.keep();
+        self.seat.number();
+        has_records(&self.machine);
+        runs_go_on::<P>();
         take_in(&mut self.machine, &self.held);
         self.epoch.arrivals += self.held.len();
         self.held.clear();
@@ -145,6 +164,120 @@ impl<P: Pair> Runner<P> {
         let prepared = made_for(self.alloc, &self.machine, want)?;
         self.prepared = prepared;
         Ok(())
+    }
+
+    /// The epoch ends: what arrived and the steps since the last submit. With a checkpoint prepared it is sealed with that, and is pending;
+    /// where the node is alone, and nothing was prepared, it enters the history. The machine is settled then, and the next epoch begins:
+    /// nothing stands prepared, and the runner holds the frames that are handed out to it, which arrive with its next [`run`](Runner::run).
+    /// Answers how many were: where all that was handed out before has arrived, the first four frames of each client's inbox, or as many
+    /// as there are; else none.
+    ///
+    /// # Errors
+    ///
+    /// In this order: [`Refusal::Stopped`] where another runner is live, or the primary has stopped; [`Refusal::Behind`] where 4
+    /// checkpoints are pending; [`Refusal::NotPaired`] for a checkpoint where the node is alone; [`Refusal::AlreadyPaired`] for none in a
+    /// pair; [`Refusal::Stale`] for another generation or number than the wanted; [`Refusal::Exhausted`] where the word, the history with
+    /// what is kept, or a number, would reach 2^62. [`Refusal::NoMemory`] where the room for any of it can't be had. Everything is as
+    /// before then: what was prepared stands.
+    pub fn submit<R: Wait>(&mut self, rt: &R) -> Result<usize, Refusal>
+        ensures added { OnOk result (Submits P.start self.old self.new.seat) }
+        ensures next { IfOk result (λ count. BeginsEpoch P.start count self.old self.new) }
+        ensures why { IfErr result (Contains submit_refusals) }
+        ensures refused { OnErr result (self.new ≡ self.old) }
+    {
+        let next = {
+            let shared = &*self.shared;
+            let mut book = shared.book.lock(rt);
+            submit(
+                self.alloc,
+                &mut *book,
+                &shared.clock,
+                &mut self.seat,
+                &self.machine,
+                &self.held,
+                self.epoch,
+                &self.prepared,
+            )?
+        };
+        let count = next.len();
+        self.machine.settle();
+        hold(&mut self.held, next);
+        self.epoch = OpenEpoch {
+            arrivals: 0,
+            steps: 0,
+        };
+        self.prepared = Prepared::Nothing;
+        Ok(count)
+    }
+}
+
+/// A run leaves a runner's machine as large as it was, and last settled where it was; and the runner runs on.
+fn runs_go_on<P: Pair>()
+    ensures sized { (old new : RunnerState) (made : ℕ) → HasRun made old new → HasDeviceRecords old.machine.guest
+        → IsSized P.start old.machine.guest → IsSized P.start new.machine.guest }
+    ensures runs { (old new : RunnerState) (made : ℕ) → HasRun made old new → IsReached P.start → Legal P.start old.seat.steps
+        → (0 < old.arrivals + old.steps → old.held ≡ []) → RunsFromSettled P.start old → RunsFromSettled P.start new }
+{
+    reached_states();
+    unmarked_histories_are_legal();
+    kept_memory();
+    kept_disk();
+    changed_sectors_are_listed();
+    devices_apart();
+}
+
+/// What a machine's devices keep meets the rules of their records.
+fn has_records(machine: &Machine)
+    ensures { HasDeviceRecords machine.now.guest }
+{
+    machine.net();
+    machine.disk();
+}
+
+/// The epoch of a runner, of this machine and what it holds, ends at the book. Answers the frames that are handed out then: none where
+/// some of those that it holds have still to arrive.
+fn submit<P: Pair>(
+    alloc: Global,
+    book: &mut Book<P>,
+    clock: &Clock<P>,
+    seat: &mut RunnerSeat<P>,
+    machine: &Machine,
+    held: &[(u64, Frame)],
+    epoch: OpenEpoch,
+    what: &Prepared,
+) -> Result<Vec<(u64, Frame)>, Refusal>
+    requires { IsRunner P.start (runner_state machine.now held.now epoch.arrivals epoch.steps what.now seat.old) }
+    ensures added { OnOk result (Submits P.start
+        (runner_state machine.now held.now epoch.arrivals epoch.steps what.now seat.old) seat.new) }
+    ensures runs { IfOk result (λ next. Runs P.start seat.new (just_settled machine.now.guest (held.now ++ next.items))) }
+    ensures frames { IfOk result (λ next. All (λ x. IsFrame x.1) next.items) }
+    ensures rest { IfOk result (λ next. 0 < length held.now → next.items ≡ []) }
+    ensures handed { IfOk result (λ next. numbers_of (held.now ++ next.items) ≡ (state_at P.start seat.new.steps).handed) }
+    ensures number { seat.new.number ≡ seat.old.number }
+    ensures why { IfErr result (IsWhy (submit_why P.start book.old seat.old.number what.now epoch.steps machine.now.outbox)) }
+    ensures among { IfErr result (Contains submit_refusals) }
+    ensures refused { OnErr result ((seat.new ≡ seat.old) × (book.new ≡ book.old)) }
+{
+    book.entries();
+    seat.number();
+    steps_go_on();
+    members_go_on();
+    runners_bring_what_they_have();
+    let next = match book.submit(alloc, clock, seat, epoch, machine.outbox(), what) {
+        Ok(next) => next,
+        Err(why) => return Err(why),
+    };
+    seat.number();
+    Ok(next)
+}
+
+/// These frames are held too. There are none where some are held already, as the caller knows, so it takes no memory.
+fn hold(held: &mut Vec<(u64, Frame)>, next: Vec<(u64, Frame)>)
+    requires { 0 < length held.old.items → next.items ≡ [] }
+    ensures { held.new.items ≡ held.old.items ++ next.items }
+{
+    if held.is_empty() {
+        *held = next;
     }
 }
 

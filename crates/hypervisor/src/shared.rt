@@ -39,5 +39,7 @@ impl<P: Pair> Shared<P> {
     /// What is true of every pair is true of this one.
     pub(crate) fn keep(&self)
         ensures { IsReached P.start }
-    {}
+    {
+        let _ = &self.clock;
+    }
 }
