@@ -58,19 +58,26 @@ backup-why b (Ok t) e = tt
 backup-why b (Err why) e =
     backup-by-mode b.protocol.mode (exhausts b.protocol (length (all_held b.ports.boxes [] b.protocol))) (is_word_full b) why e
 
+after-memory : (why : Refusal) → Contains (AlreadyPaired ∷ Exhausted ∷ []) why → Contains protect_refusals why
+after-memory why h =
+    later why (NoMemory wanted) (Stopped ∷ AlreadyPaired ∷ Exhausted ∷ []) (later why Stopped (AlreadyPaired ∷ Exhausted ∷ []) h)
+
+second-of-protect : (why : Refusal) → why ≡ AlreadyPaired → Contains protect_refusals why
+second-of-protect why e = after-memory why (first why AlreadyPaired (Exhausted ∷ []) e)
+
+last-of-protect : (why : Refusal) → why ≡ Exhausted → Contains protect_refusals why
+last-of-protect why e = after-memory why (later why AlreadyPaired (Exhausted ∷ []) (first why Exhausted [] e))
+
 protect-by-mode : (mode : Mode) (most word : Bool) (why : Refusal)
     → first_of (change_refusal changes.Protect mode) ((most, Exhausted) ∷ (word, Exhausted) ∷ []) ≡ Some why
     → Contains protect_refusals why
-protect-by-mode modes.Alone true word why e =
-    later why Stopped (AlreadyPaired ∷ Exhausted ∷ []) (later why AlreadyPaired (Exhausted ∷ []) (first why Exhausted [] (cc)))
-protect-by-mode modes.Alone false true why e =
-    later why Stopped (AlreadyPaired ∷ Exhausted ∷ []) (later why AlreadyPaired (Exhausted ∷ []) (first why Exhausted [] (cc)))
+protect-by-mode modes.Alone true word why e = last-of-protect why (cc)
+protect-by-mode modes.Alone false true why e = last-of-protect why (cc)
 protect-by-mode modes.Alone false false why e = absurd (cc)
-protect-by-mode modes.Paired most word why e =
-    later why Stopped (AlreadyPaired ∷ Exhausted ∷ []) (first why AlreadyPaired (Exhausted ∷ []) (cc))
-protect-by-mode modes.Filling most word why e =
-    later why Stopped (AlreadyPaired ∷ Exhausted ∷ []) (first why AlreadyPaired (Exhausted ∷ []) (cc))
-protect-by-mode modes.Stopped most word why e = first why Stopped (AlreadyPaired ∷ Exhausted ∷ []) (cc)
+protect-by-mode modes.Paired most word why e = second-of-protect why (cc)
+protect-by-mode modes.Filling most word why e = second-of-protect why (cc)
+protect-by-mode modes.Stopped most word why e =
+    later why (NoMemory wanted) (Stopped ∷ AlreadyPaired ∷ Exhausted ∷ []) (first why Stopped (AlreadyPaired ∷ Exhausted ∷ []) (cc))
 
 pub protect-refused : {T : Type 0} (b : BookState) (r : Result T Refusal) → IfErr r (λ why. protect_why b ≡ Some why)
     → IfErr r (Contains protect_refusals)

@@ -1,6 +1,6 @@
 -- What bytes make of a backup, and that it stays one.
 use Rattle.std.proofs.Common.{◌≡◌, ℕ, List, true, false, Bool, refl, sym, ap, ◌∙◌, subst}
-use Rattle.std.specs.Prelude.{IfSome, IfNone, Option, None, Some, Result, Ok, Err}
+use Rattle.std.specs.Prelude.{All, ◌<◌, IfSome, IfNone, Option, None, Some, Result, Ok, Err}
 use Rattle.checkpoint_stream.specs.Answers.{Answers}
 use Rattle.checkpoint_stream.specs.declared.errors.StreamError.{StreamError}
 use Rattle.checkpoint_stream.specs.declared.errors.StreamError.TheVariants.{Malformed, NoMemory}
@@ -12,9 +12,12 @@ use Rattle.epoch_snapshot.specs.Checkpoints.{Change}
 use Rattle.guest_machine.specs.declared.shapes.Shape.{Shape}
 use Rattle.backup_image.specs.Images.{ImageState}
 use Rattle.growing_history.specs.Views.{Member}
-use Rattle.hypervisor.specs.Backups.{BackupState, backup_state, IsBackup}
+use Rattle.pair_book.specs.Commits.{WasRead}
+use Rattle.pair_history.specs.HistoryState.{HistoryState}
+use Rattle.hypervisor.specs.Backups.{BackupState, backup_state, ReadsOn, IsBackup}
 use Rattle.hypervisor.specs.Feeding.{with_reading, after_reading, Feeds}
 use Rattle.hypervisor.proofs.ReadShapes.{fed_shape, change_shape}
+use Rattle.hypervisor.proofs.ReadsOnLaws.{TextLaw, nothing-came, more-came, whole-was-read}
 
 -- the checkpoint that the reader gives, once it has read so far, and what it has read of the next one
 abbrev pub GivesWhole : Reading → Option Change → Reading → Type 0
@@ -56,36 +59,51 @@ read-shape : (shape : Shape) (r : Reading) (bytes : List ℕ) (c : Change) → r
 read-shape shape r bytes c same is =
     ap (λ (x : Change). x.shape) is ∙ change_shape (fed r bytes) ∙ fed_shape r bytes ∙ same
 
-pub stays_fed : (image : ImageState) (reading r now : Reading) (old read : Option Change) (seat : Member) (bytes : List ℕ) (count : ℕ)
-    → IsBackup (backup_state image reading old seat) → Answers reading bytes (Ok count) r → GivesWhole r read now → GivesNone r read now
-    → IsBackup (backup_state image now read seat)
-stays_fed image reading r now old (Some c) seat bytes count h a some none = record {
-  unstaged = h.unstaged;
-  unfinished = ap (λ (x : Reading). is_whole x.place) some.2;
-  shape = ap (λ (x : Reading). x.shape) some.2 ∙ ap (λ (x : Reading). x.shape) a.0 ∙ fed_shape reading bytes ∙ h.shape;
-  read_shape = λ d is.
-      let same : d ≡ c = one-of d c is in
-      ap (λ (x : Change). x.shape) same ∙ read-shape image.shape reading bytes c h.shape (some.1 ∙ ap change_in a.0);
-}
-  where
-    one-of : (d c : Change) → Some c ≡ Some d → d ≡ c
-    one-of d c e = cc
-stays_fed image reading r now old None seat bytes count h a some none = record {
-  unstaged = h.unstaged;
-  unfinished = ap (λ (x : Reading). is_whole x.place) none.1 ∙ none.0;
-  shape = ap (λ (x : Reading). x.shape) none.1 ∙ ap (λ (x : Reading). x.shape) a.0 ∙ fed_shape reading bytes ∙ h.shape;
-  read_shape = λ d is. absurd (cc);
-}
+one-of : (c d : Change) → Some c ≡ Some d → d ≡ c
+one-of c d e = cc
 
-pub stays_failed : (image : ImageState) (reading r : Reading) (read : Option Change) (seat : Member) (bytes : List ℕ) (e : StreamError)
-    → IsBackup (backup_state image reading read seat) → Answers reading bytes (Err e) r → IsBackup (backup_state image r read seat)
-stays_failed image reading r read seat bytes (Malformed offset) h a = record {
-  unstaged = h.unstaged;
-  unfinished =
-      ap (λ (x : Reading). is_whole x.place) a.0
-      ∙ not-whole (fed reading bytes).place offset (ap (λ (x : Reading). failure_at x.place) (sym a.0) ∙ a.1);
-  shape = ap (λ (x : Reading). x.shape) a.0 ∙ fed_shape reading bytes ∙ h.shape;
-  read_shape = h.read_shape;
-}
-stays_failed image reading r read seat bytes (NoMemory w) h a =
-    subst (λ (x : Reading). IsBackup (backup_state image x read seat)) (sym a) h
+module _ (start : HistoryState) (image : ImageState) (seat : Member) (bytes : List ℕ) (small : All (λ b. b < 256) bytes) where
+  pub stays_fed : (reading r now : Reading) (old read : Option Change) (count : ℕ) → TextLaw
+      → IsBackup start (backup_state image reading old seat) → Answers reading bytes (Ok count) r → GivesWhole r read now
+      → GivesNone r read now → IsBackup start (backup_state image now read seat)
+  stays_fed reading r now old (Some c) count law h a some none = record {
+    unstaged = h.unstaged;
+    unfinished = ap (λ (x : Reading). is_whole x.place) some.2;
+    shape = ap (λ (x : Reading). x.shape) some.2 ∙ ap (λ (x : Reading). x.shape) a.0 ∙ fed_shape reading bytes ∙ h.shape;
+    reads_on = subst ReadsOn (sym some.2) (nothing-came r.shape r.offset);
+    read_shape = λ d is.
+        ap (λ (x : Change). x.shape) (one-of c d is)
+        ∙ read-shape image.shape reading bytes c h.shape (some.1 ∙ ap change_in a.0);
+    was_read = λ d is.
+        subst WasRead (sym (one-of c d is))
+        (whole-was-read r c law (more-came reading r bytes small h.reads_on a.0) some.0 some.1);
+    pair_shape = h.pair_shape;
+    stands = h.stands;
+  }
+  stays_fed reading r now old None count law h a some none = record {
+    unstaged = h.unstaged;
+    unfinished = ap (λ (x : Reading). is_whole x.place) none.1 ∙ none.0;
+    shape = ap (λ (x : Reading). x.shape) none.1 ∙ ap (λ (x : Reading). x.shape) a.0 ∙ fed_shape reading bytes ∙ h.shape;
+    reads_on = subst ReadsOn (sym none.1) (more-came reading r bytes small h.reads_on a.0);
+    read_shape = λ d is. absurd (cc);
+    was_read = λ d is. absurd (cc);
+    pair_shape = h.pair_shape;
+    stands = h.stands;
+  }
+
+  pub stays_failed : (reading r : Reading) (read : Option Change) (e : StreamError) → IsBackup start (backup_state image reading read seat)
+      → Answers reading bytes (Err e) r → IsBackup start (backup_state image r read seat)
+  stays_failed reading r read (Malformed offset) h a = record {
+    unstaged = h.unstaged;
+    unfinished =
+        ap (λ (x : Reading). is_whole x.place) a.0
+        ∙ not-whole (fed reading bytes).place offset (ap (λ (x : Reading). failure_at x.place) (sym a.0) ∙ a.1);
+    shape = ap (λ (x : Reading). x.shape) a.0 ∙ fed_shape reading bytes ∙ h.shape;
+    reads_on = more-came reading r bytes small h.reads_on a.0;
+    read_shape = h.read_shape;
+    was_read = h.was_read;
+    pair_shape = h.pair_shape;
+    stands = h.stands;
+  }
+  stays_failed reading r read (NoMemory w) h a =
+      subst (λ (x : Reading). IsBackup start (backup_state image x read seat)) (sym a) h

@@ -14,4 +14,9 @@ pub mod RunningOn
 pub mod RunSizes
 pub mod Submitting
 pub mod ReadShapes
+pub mod ReadsOnLaws
 pub mod FeedLaws
+pub mod StandLaws
+pub mod CommitLaws
+pub mod GoLiveLaws
+pub mod OpeningLaws

@@ -11,3 +11,5 @@ pub mod Runs
 pub mod Submits
 pub mod Backups
 pub mod Feeding
+pub mod Commits
+pub mod GoingLive

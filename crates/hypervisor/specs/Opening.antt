@@ -1,8 +1,48 @@
--- The members of a pair at its start: nothing happened yet.
+-- A pair at its start: nothing happened yet.
 use Rattle.std.specs.Prelude.{◌≡◌, ℕ, zero, suc, ◌+◌, List, [], ◌∷◌, ◌++◌}
-use Rattle.pair_history.specs.HistoryState.{HistoryState}
+use Rattle.atomic_table.specs.Seated.{TableId}
+use Rattle.backup_image.specs.Images.{ImageState, booted, settled_machine}
+use Rattle.growing_history.specs.Views.{Member}
+use Rattle.guest_machine.specs.declared.shapes.Shape.{Shape}
+use Rattle.guest_machine.specs.Guest.{Guest, State, boot_guest}
+use Rattle.pair_book.specs.Opening.{Unnamed}
+use Rattle.pair_history.specs.HistoryState.{HistoryState, start_state}
 use Rattle.growing_history.specs.LogState.{history_of}
 use Rattle.hypervisor.specs.Clients.{ClientState, own}
+
+-- A PAIR WITHOUT A NAME: its word, how many clients there are, how large its guest is, and the guest at boot
+
+pub record UnnamedState : Type 0 where
+  pub word : TableId
+  pub clients : ℕ
+  pub shape : Shape
+  pub guest : Guest
+
+-- by its book and its image
+abbrev pub unnamed_state : Unnamed → ImageState → UnnamedState
+unnamed_state book image =
+    record { word = book.word; clients = book.clients; shape = image.shape; guest = image.guest }
+
+-- where the history starts from that guest, with an empty box for each client
+abbrev pub start_with : Guest → ℕ → HistoryState
+start_with g clients = record (start_state 1 1 [] clients) { guest = g }
+
+-- the image of that guest at boot, which counts as committed under number 0
+abbrev pub first_image : Shape → Guest → ImageState
+first_image shape g = record (booted shape []) { guest = g }
+
+-- Machine and image are of the one guest at boot, and nothing has run.
+pub record IsUnnamed (clients : ℕ) (book : Unnamed) (machine : State) (image : ImageState) : Type 0 where
+  pub count : clients ≡ book.clients
+  pub settled : machine ≡ settled_machine image.shape image.guest
+  pub first : image ≡ first_image image.shape image.guest
+  pub bytes : List ℕ
+  pub boot : image.guest ≡ boot_guest image.shape.pages image.shape.sectors bytes
+
+-- THE MEMBERS: who has seen nothing
+
+abbrev pub unseen : ℕ → Member
+unseen number = record { number = number; steps = [] }
 
 -- a client that has seen nothing
 abbrev pub new_client : ℕ → ClientState

@@ -28,13 +28,13 @@ next_refusals = Stopped ∷ NotPaired ∷ NoMemory wanted ∷ []
 abbrev pub ack_refusals : List Refusal
 ack_refusals = Stopped ∷ NotPaired ∷ Stale ∷ Gap ∷ Exhausted ∷ NoMemory wanted ∷ []
 
--- the failure of a node, and a new backup
+-- the failure of a node; and a new backup, whose memory comes first
 abbrev pub fail_refusals : Node → List Refusal
 fail_refusals Primary = Stopped ∷ NoImage ∷ Exhausted ∷ []
 fail_refusals Backup = Stopped ∷ NotPaired ∷ Exhausted ∷ NoMemory wanted ∷ []
 
 abbrev pub protect_refusals : List Refusal
-protect_refusals = Stopped ∷ AlreadyPaired ∷ Exhausted ∷ []
+protect_refusals = NoMemory wanted ∷ Stopped ∷ AlreadyPaired ∷ Exhausted ∷ []
 
 -- What the caller can know comes first: bytes that are no frame, and a number that is no client's.
 

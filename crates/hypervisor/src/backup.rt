@@ -1,22 +1,33 @@
 //! The backup: it reads the checkpoints that come, and has the image of the last commit.
-ghost use Rattle.std.specs.Prelude.{◌≡◌, ◌<◌, ◌≤◌, false, length, option_map, IfOk, IsSome, None};
+ghost use Rattle.std.specs.Prelude.{◌≡◌, ◌<◌, ◌≤◌, false, length, option_map, All, IfOk, OnOk, IfErr, IsSome, IfSome, None};
+ghost use Rattle.std.specs.List.{Contains};
 ghost use Rattle.checkpoint_stream.specs.Readings.{is_closed};
-ghost use Rattle.hypervisor.specs.Backups.{new_backup};
+ghost use Rattle.pair_book.specs.Commits.{WasRead};
+ghost use Rattle.pair_book.specs.Made.{IsShape};
+ghost use Rattle.hypervisor.specs.Backups.{new_backup, StandsWith, HasHistorysGuest};
+ghost use Rattle.hypervisor.specs.Commits.{Commits, IsWhyCommit, AfterRefusedCommit, gives_up};
 ghost use Rattle.hypervisor.specs.Feeding.{Feeds};
+ghost use Rattle.hypervisor.specs.GoingLive.{BecomesLive, live_refusals};
 
+use crate::backup_calls::{Committed, commit, go_live, take_in};
+use crate::runner::Runner;
+use crate::shared::Shared;
 use backup_image::Image;
-use checkpoint_stream::{Reader, StreamError};
+use checkpoint_stream::{Reader, StreamError, read_is_its_text};
 use epoch_snapshot::Checkpoint;
 use growing_history::{BackupSeat, Pair};
+use pair_book::{Ack, Refusal};
 use std::alloc::Global;
 use std::marker::Model;
+use std::sync::{Arc, Wait};
 
 /// A node's image of the guest as of the last commit, and what was read of the checkpoint that comes next. Contracts see it as a
 /// `BackupState` of the specs.
 ///
-/// Checkpoints are read with no lock held.
+/// Checkpoints are read, and taken into the image, with no lock held.
 #[derive(Drop)]
 pub struct Backup<P: Pair> {
+    shared: Arc<Shared<P>>,
     image: Image,
     reader: Reader,
     read: Option<Checkpoint>,
@@ -30,17 +41,26 @@ impl<P: Pair> Model for Backup<P> {
 
     ghost view = { λ b. backup_state b.image b.reader b.read b.seat };
 
-    ghost invariant = { λ b. IsBackup (backup_state b.image b.reader b.read b.seat) };
+    ghost invariant = { λ b. IsBackup P.start (backup_state b.image b.reader b.read b.seat) };
 }
 
 impl<P: Pair> Backup<P> {
-    /// The backup of this image, which has read nothing yet. Nothing is staged in the image, as the caller knows. It takes no memory.
-    pub(crate) fn new(alloc: Global, image: Image, seat: BackupSeat<P>) -> Backup<P>
-        requires { image.staged ≡ None }
+    /// The backup of this image, which has read nothing yet. Nothing is staged in the image, which is of the pair's shape, and the backup of
+    /// that seat stands with it, as the caller knows. It takes no memory.
+    pub(crate) fn new(
+        alloc: Global,
+        shared: Arc<Shared<P>>,
+        image: Image,
+        seat: BackupSeat<P>,
+    ) -> Backup<P>
+        requires unstaged { image.staged ≡ None }
+        requires shape { IsShape P.start image.shape }
+        requires stands { StandsWith P.start seat image }
         ensures { result ≡ new_backup image seat }
     {
         let reader = Reader::new(alloc, image.shape());
         Backup {
+            shared,
             image,
             reader,
             read: None,
@@ -50,14 +70,19 @@ impl<P: Pair> Backup<P> {
 
     /// The image of the last commit.
     pub fn image(&self) -> &Image
-        ensures { result.now ≡ self.now.image }
+        ensures value { result.now ≡ self.now.image }
+        // What is true of every backup.
+        ensures guest { HasHistorysGuest P.start self.now }
+        ensures shape { IsShape P.start self.now.image.shape }
     {
         &self.image
     }
 
     /// The checkpoint that was read whole, and isn't committed or given up; `None` where there is none.
     pub fn read(&self) -> Option<&Checkpoint>
-        ensures { option_map (λ c. c.now) result ≡ self.now.read }
+        ensures value { option_map (λ c. c.now) result ≡ self.now.read }
+        // It is what its own text reads as.
+        ensures was { IfSome result (λ c. WasRead c.now) }
     {
         self.read.as_ref()
     }
@@ -80,8 +105,112 @@ impl<P: Pair> Backup<P> {
         if self.read.is_some() {
             return Ok(0);
         }
+        byte_widths(bytes);
+        read_is_its_text();
         let count = self.reader.feed(bytes)?;
         self.read = self.reader.next();
         Ok(count)
     }
+
+    /// Commits the checkpoint that was read whole. Where it is the next one its epoch enters the history, and then the image takes it in,
+    /// with no lock held: the image then is the checkpoint read over the image before. An earlier one changes nothing. In both cases what
+    /// was read is given up. Answers the acknowledgement: of the next one, or of the last one that was committed. It takes no memory but
+    /// room in the history.
+    ///
+    /// # Errors
+    ///
+    /// In this order: [`Refusal::OldVersion`] for a delta of version 1; [`Refusal::Stopped`] where this backup isn't the live one, or a
+    /// node is alone; [`Refusal::Stale`] for another generation, and where none was read; [`Refusal::Gap`] beyond the next number, and
+    /// where nothing is sealed under it; [`Refusal::Exhausted`] where the word would reach 2^62, and last where the number of the
+    /// checkpoint's last frame, as the image counts them, would. [`Refusal::NoMemory`] where the room in the history can't be had. What was
+    /// read is given up at `OldVersion`, `Stale` and `Gap`, since it can't be committed any more, and stands at the others; all else is as
+    /// before.
+    pub fn commit<R: Wait>(&mut self, rt: &R) -> Result<Ack, Refusal>
+        ensures some { OnOk result (IsSome self.old.read) }
+        ensures done { IfOk result (λ ack. IfSome self.old.read (λ c. Commits P.start c ack self.old self.new)) }
+        ensures why { IfErr result (IsWhyCommit self.old.read) }
+        ensures refused { IfErr result (λ why. AfterRefusedCommit why self.old self.new) }
+    {
+        let answer = {
+            let shared = &*self.shared;
+            let mut held = shared.book.lock(rt);
+            commit(
+                &mut *held,
+                &shared.clock,
+                &mut self.seat,
+                &self.image,
+                self.read.as_ref(),
+            )
+        };
+        match answer {
+            Ok(Committed { ack, is_next }) => {
+                let Some(checkpoint) = self.read.take() else {
+                    unreachable!();
+                };
+                if is_next {
+                    take_in(&mut self.image, checkpoint);
+                }
+                Ok(ack)
+            }
+            Err(why) => {
+                if gives_up(&why) {
+                    self.read = None;
+                }
+                Err(why)
+            }
+        }
+    }
+
+    /// The backup goes live, as [`Warden::go_live`](crate::Warden::go_live) says.
+    pub(crate) fn go_live<R: Wait>(
+        self,
+        rt: &R,
+        alloc: Global,
+    ) -> Result<Runner<P>, (Backup<P>, Refusal)>
+        ensures live { IfOk result (BecomesLive P.start self) }
+        ensures back { IfErr result (λ refused. refused.0 ≡ self) }
+        ensures why { IfErr result (λ refused. Contains live_refusals refused.1) }
+    {
+        let Backup {
+            shared,
+            image,
+            reader,
+            read,
+            mut seat,
+        } = self;
+        let answer = {
+            let mut held = shared.book.lock(rt);
+            go_live(&mut *held, &shared.clock, &mut seat, &image)
+        };
+        match answer {
+            Ok(runner) => {
+                let Ok(resumed) = image.resume() else {
+                    unreachable!();
+                };
+                Ok(Runner::new(alloc, shared, resumed.machine, runner))
+            }
+            Err(why) => Err((
+                Backup {
+                    shared,
+                    image,
+                    reader,
+                    read,
+                    seat,
+                },
+                why,
+            )),
+        }
+    }
 }
+
+/// Whether what was read can't be committed any more after this refusal of its commit.
+fn gives_up(why: &Refusal) -> bool
+    ensures { result ≡ gives_up why.now }
+{
+    matches!(why, Refusal::OldVersion | Refusal::Stale | Refusal::Gap)
+}
+
+/// Each byte is below 256.
+fn byte_widths(bytes: &[u8])
+    ensures { All (λ b. b < 256) bytes.now }
+{}

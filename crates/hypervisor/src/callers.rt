@@ -9,12 +9,9 @@ ghost use Rattle.hypervisor.specs.Clients.{client_state, Calls, AfterRefusedDeli
 ghost use Rattle.hypervisor.specs.Refusals.{IsWhyDelivery, entry_refusals};
 
 use growing_history::{Badge, ClientSeat, Clock, Pair, a_call_is_a_point_of_one_history};
-use pair_book::{Book, Refusal};
+use pair_book::{Book, LINE_SEAT, Refusal};
 use pair_history::Frame;
 use std::marker::Model;
-
-/// The number of the line's seat; client c's is c more.
-const LINE_SEAT: u64 = 3;
 
 /// The seat of a client. Contracts see the client's number, and what it has seen.
 #[derive(Drop)]

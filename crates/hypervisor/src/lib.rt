@@ -7,6 +7,7 @@
 #![tactic(auto)]
 
 mod backup;
+mod backup_calls;
 mod boot;
 mod callers;
 mod clients;

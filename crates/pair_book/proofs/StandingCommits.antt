@@ -187,6 +187,12 @@ module _ (start : HistoryState) (steps : List Step) (r : Record) (p : PortsState
       ∙ ap (ack_before s.generation) next
       ∙ ap last_ack (sym there)
 
+  pub stood-before : c.generation ≡ r.generation → last ≡ ack_before c.generation c.number
+  stood-before generation =
+      let own : s.generation ≡ c.generation = sym t.generation ∙ sym generation in
+      let place : s.next - length s.sealed ≡ c.number = omega (arith, number, long, k.sealed, t.next) in
+      stood.committed live ∙ (λ i. ack_before (own i) (place i))
+
   pub stands-then : (ack : Ack) → ack ≡ next_ack r
       → Stands start seat' (image_of c image) (Some ack) (sent_with c sent) (first_with c sent kept) (kept_with c kept)
   stands-then ack is = record {
@@ -206,7 +212,7 @@ module _ (start : HistoryState) (steps : List Step) (r : Record) (p : PortsState
 
 pub stands-by : (start : HistoryState) (steps : List Step) (r : Record) (p : PortsState) → IsTied start steps r p
     → KeepsCommitted start steps r p → IsRecord r → (seat after : Member) (c : Change) → seat.number ≡ (state_at start steps).backup
-    → is_alone r.mode ≡ false → c.number ≡ r.window.to_commit → r.window.to_commit < r.window.to_cut
+    → is_alone r.mode ≡ false → c.generation ≡ r.generation → c.number ≡ r.window.to_commit → r.window.to_commit < r.window.to_cut
     → ((state_at start steps).marked ≡ 0
     → MakeInTurn (Reads start) (state_at start steps).history [] (state_at start steps).sealed)
     → Begins seat.steps steps
@@ -214,14 +220,18 @@ pub stands-by : (start : HistoryState) (steps : List Step) (r : Record) (p : Por
     ≡ steps_by seat.number seat.steps ++ step seat.number (commit_of c) ∷ []
     → after ≡ record { number = seat.number; steps = steps ++ step seat.number (commit_of c) ∷ [] }
     → (ack : Ack) → ack ≡ next_ack r → StandsBy start c ack seat after
-stands-by start steps r p t keeps k seat after c mine pair number some turn begins own is ack ack-is read shape image last sent first
-    kept stood =
+stands-by start steps r p t keeps k seat after c mine pair generation number some turn begins own is ack ack-is read shape image last sent
+    first kept stood =
     let x = step seat.number (commit_of c) in
     let none : steps_by seat.number steps ≡ steps_by seat.number seat.steps =
     append_cancel_right (steps_by seat.number steps) (steps_by seat.number seat.steps) (x ∷ [])
     (sym (steps_by-own seat.number steps x refl) ∙ own) in
-    subst
-    (λ (m : Member). Stands start m (image_of c image) (Some ack) (sent_with c sent) (first_with c sent kept) (kept_with c kept))
-    (sym is)
-    (stands-then start steps r p t keeps k seat.number c mine pair number some turn read shape image last sent first kept
-    (stands-on start seat steps image last sent first kept begins t.legal none stood) ack ack-is)
+    let stood-on = stands-on start seat steps image last sent first kept begins t.legal none stood in (
+      stood-before start steps r p t keeps k seat.number c mine pair number some turn read shape image last sent first kept stood-on
+          generation,
+      subst
+          (λ (m : Member). Stands start m (image_of c image) (Some ack) (sent_with c sent) (first_with c sent kept) (kept_with c kept))
+          (sym is)
+          (stands-then start steps r p t keeps k seat.number c mine pair number some turn read shape image last sent first kept stood-on
+          ack ack-is),
+    )

@@ -1,21 +1,25 @@
 -- A backup goes on standing: when it looks, and by its commits.
-use Rattle.std.proofs.Common.{◌≡◌, ℕ, ◌+◌, ◌-◌, ◌≤◌, List, [], ◌∷◌, ◌++◌, length, drop, sym, ap, ◌∙◌, subst, refl, false, arith, Option}
-use Rattle.std.proofs.lemmas.List.{append-nil, drop-append-le, drop-drop, length-append, length-drop}
+use Rattle.std.proofs.Common.{◌≡◌, ℕ, zero, suc, ◌+◌, ◌-◌, ◌≤◌, List, [], ◌∷◌, ◌++◌, length, drop, sym, ap, ◌∙◌, subst, refl, false, arith}
+use Rattle.std.proofs.Common.{Option, Some}
+use Rattle.std.proofs.lemmas.List.{append-nil, drop-append-le, drop-drop, length-append, length-drop, length-map}
+use Rattle.std.specs.Prelude.{IsSome}
+use Rattle.failover.specs.declared.mode.Mode.{Mode}
+use Rattle.failover.specs.declared.mode.Mode.TheVariants.{Stopped}
 use Rattle.frame_ports.specs.Ports.{PortsState}
 use Rattle.guest_machine.specs.Guest.{Guest}
-use Rattle.pair_history.specs.Entries.{Frame}
+use Rattle.pair_history.specs.Entries.{Frame, Entry}
 use Rattle.pair_history.specs.HistoryState.{HistoryState}
 use Rattle.pair_record.specs.Kept.{all_frames, Brings}
 use Rattle.pair_record.specs.Modes.{is_alone}
 use Rattle.pair_record.specs.Protocol.{Record}
-use Rattle.pair_record.specs.Record.{IsRecord, AreNumbered}
+use Rattle.pair_record.specs.Record.{IsRecord, AreNumbered, SuitsMode}
 use Rattle.pair_record.proofs.KeptLists.{all_frames-append}
 use Rattle.growing_history.specs.Steps.{Step, Begins, steps_by}
-use Rattle.growing_history.specs.LogState.{LogState, Legal, state_at, IsAlone, is_filling}
+use Rattle.growing_history.specs.LogState.{LogState, Epoch, Legal, state_at, IsAlone, is_filling}
 use Rattle.growing_history.specs.Views.{Member}
 use Rattle.growing_history.proofs.{LogLaws.{live-rise, marks-rise}, MissedByBackup.backup-misses-nothing}
 use Rattle.pair_book.specs.declared.failures.Ack.{Ack}
-use Rattle.pair_book.specs.Standing.{commits_of, last_four, KeepsLast, KeepsFrames, Stands}
+use Rattle.pair_book.specs.Standing.{commits_of, last_four, KeepsLast, KeepsFrames, ack_before, Stands}
 use Rattle.pair_book.specs.internal.{Committed.KeepsCommitted, Tie.IsTied}
 use Rattle.pair_book.proofs.{AckLaws.acks-missed, CommittedLaws.{commits-missed, owed_brings}, CommitTies.not-alone}
 
@@ -76,6 +80,34 @@ module _ (start : HistoryState) (seat : Member) (now : List Step) (image : Guest
         let unmarked : s.marked ≡ 0 = let marks = marks-rise start seat.steps now b in omega (arith, marks, none) in
         h.guest (sym (was live.0), stays.0) unmarked before ∙ sym (stays.2 before);
   }
+
+-- WHERE ITS PRIMARY HAS STOPPED in a pair, something was committed to its image
+some-ack : (g n : ℕ) (last : Option Ack) → 1 ≤ n → last ≡ ack_before g n → IsSome last
+some-ack g zero last low is = absurd (omega (arith, low))
+some-ack g (suc n) last low is = subst (λ (l : Option Ack). IsSome l) (sym is) refl
+
+pub has-image : (start : HistoryState) (steps : List Step) (r : Record) (p : PortsState) → IsTied start steps r p → IsRecord r
+    → r.mode ≡ Stopped → (number : ℕ) → number ≡ (state_at start steps).backup → (image : Guest) (last : Option Ack) (sent first : ℕ)
+    (kept : List (List Frame)) → Stands start (record { number = number; steps = steps }) image last sent first kept → IsSome last
+has-image start steps r p t k stopped number mine image last sent first kept stood =
+    let s = state_at start steps in
+    let pair : IsAlone s.mode → ⊥ = subst (λ (m : Mode). IsAlone m → ⊥) (sym stopped ∙ t.mode) (λ a. a) in
+    let low : 1 ≤ r.window.to_commit = subst (λ (m : Mode). SuitsMode m r.window) stopped k.suits in
+    let long : length r.journal.sealed ≡ length s.sealed =
+    ap (λ (l : List (List Entry)). length l) t.sealed ∙ length-map s.sealed (λ (e : Epoch). e.entries) in
+    some-ack s.generation (s.next - length s.sealed) last (omega (arith, low, long, k.sealed, t.next)) (stood.committed (mine, pair))
+
+-- and unless a commit is marked it was the guest of the history when it looked last
+pub seen-guest : (start : HistoryState) (seat : Member) (now : List Step) → Begins seat.steps now → Legal start now
+    → steps_by seat.number now ≡ steps_by seat.number seat.steps → (state_at start now).mode ≡ Stopped
+    → seat.number ≡ (state_at start now).backup → (image : Guest) (last : Option Ack) (sent first : ℕ) (kept : List (List Frame))
+    → Stands start seat image last sent first kept → (state_at start seat.steps).marked ≡ 0
+    → image ≡ (state_at start seat.steps).history.guest
+seen-guest start seat now b l own stopped mine image last sent first kept h none =
+    let pair : IsAlone (state_at start now).mode → ⊥ = subst (λ (m : Mode). IsAlone m → ⊥) (sym stopped) (λ a. a) in
+    let live = was start seat now image last sent first kept b l own h mine in
+    let stays = backup-misses-nothing start seat.steps now seat.number b l own live (sym mine) pair in
+    h.guest (sym live, stays.0) none (sym stays.1 ∙ ap is_filling stopped)
 
 -- IT COMMITS a checkpoint that carries these frames, and lets go of the oldest ones
 last-four-more : (lists : List (List Frame)) (fs : List Frame) → last_four (last_four lists ++ fs ∷ []) ≡ last_four (lists ++ fs ∷ [])

@@ -1,5 +1,5 @@
 -- What the backup's commits do, and why one is refused.
-use Rattle.std.specs.Prelude.{◌≡◌, ℕ, ◌+◌, ◌-◌, ◌==◌, ◌&&◌, not, nat_lt, nat_le, Bool, true, false, if◌then◌else◌, List, [], ◌∷◌, ◌++◌}
+use Rattle.std.specs.Prelude.{◌≡◌, ℕ, ◌+◌, ◌-◌, ◌≤◌, ◌==◌, ◌&&◌, not, nat_lt, nat_le, Bool, true, false, if◌then◌else◌, List, [], ◌∷◌, ◌++◌}
 use Rattle.std.specs.Prelude.{length, Option, None, Some}
 use Rattle.guest_machine.specs.Guest.{Guest}
 use Rattle.epoch_snapshot.specs.Checkpoints.{Change}
@@ -22,7 +22,7 @@ use Rattle.pair_book.specs.declared.failures.Ack.{Ack}
 use Rattle.pair_book.specs.Books.{BookState}
 use Rattle.pair_book.specs.Calls.{Makes, IsAsBefore, is_word_full}
 use Rattle.pair_book.specs.Made.{IsShape}
-use Rattle.pair_book.specs.Standing.{last_four, Stands}
+use Rattle.pair_book.specs.Standing.{last_four, ack_before, Stands}
 
 -- the step: the epoch of the checkpoint's generation and number is committed, of which this text was read
 abbrev pub commit_of : Change → What
@@ -72,6 +72,11 @@ AfterAgainOrNext false c ack old new seat seat' =
 abbrev pub AfterCommit : Change → Ack → BookState → BookState → Member → Member → Type 0
 AfterCommit c ack old new seat seat' = AfterAgainOrNext (is_earlier old c) c ack old new seat seat'
 
+-- WHICH ONE IS ACKNOWLEDGED: of its generation, for an earlier one that number or a later one, else the next one itself
+abbrev pub Acknowledges : Bool → Change → Ack → Type 0
+Acknowledges true c ack = (ack.generation ≡ c.generation) × (c.number ≤ ack.number)
+Acknowledges false c ack = ack ≡ record { generation = c.generation; number = c.number }
+
 -- WHAT THE BACKUP STANDS ON THEN: the checkpoint applied to its image, and its frames behind those that it kept, of which the last four
 -- lists are kept. A full one begins anew.
 
@@ -89,11 +94,13 @@ first_with c sent kept = sent_with c sent + 1 - length (all_frames (kept_with c 
 abbrev pub WasRead : Change → Type 0
 WasRead c = (offset : ℕ) × (change_in (fed (begun c.shape offset) (text c)) ≡ c)
 
--- Where the next checkpoint was read, and is of the pair's shape, a backup that stood stands by it, and by the answer.
+-- Where the next checkpoint was read, and is of the pair's shape, a backup that stood did so at the number before it, at none where it is a
+-- full one; and it stands by it then, and by the answer.
 abbrev pub StandsBy : HistoryState → Change → Ack → Member → Member → Type 0
 StandsBy start c ack seat seat' =
     WasRead c
     → IsShape start c.shape
     → (image : Guest) (last : Option Ack) (sent first : ℕ) (kept : List (List Frame))
     → Stands start seat image last sent first kept
-    → Stands start seat' (image_of c image) (Some ack) (sent_with c sent) (first_with c sent kept) (kept_with c kept)
+    → (last ≡ ack_before c.generation c.number)
+    × Stands start seat' (image_of c image) (Some ack) (sent_with c sent) (first_with c sent kept) (kept_with c kept)

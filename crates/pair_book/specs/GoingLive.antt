@@ -1,5 +1,5 @@
 -- The backup goes live: what that does to the lent seat and to the keeper's list, and why it is refused.
-use Rattle.std.specs.Prelude.{◌≡◌, ℕ, ◌+◌, ◌==◌, not, Bool, List, [], ◌∷◌, ◌++◌, Option}
+use Rattle.std.specs.Prelude.{◌≡◌, ℕ, ◌+◌, ◌==◌, not, Bool, List, [], ◌∷◌, ◌++◌, Option, IsSome}
 use Rattle.guest_machine.specs.Guest.{Guest}
 use Rattle.pair_history.specs.Entries.{Frame}
 use Rattle.pair_history.specs.HistoryState.{HistoryState}
@@ -40,8 +40,11 @@ go_live_rows start b number first kept =
 abbrev pub go_live_why : HistoryState → BookState → ℕ → ℕ → List (List Frame) → Option Refusal
 go_live_why start b number first kept = first_of (mode_refusal b.protocol.mode GoLive) (go_live_rows start b number first kept)
 
--- A backup that stands, which hands over these frames, hands over its image: the runner of that seat begins with it.
+-- A backup that stands, which hands over these frames, hands over its image. Something was committed to it, and unless a commit is marked
+-- it is the guest of the history that the backup had seen. The runner of that seat begins with it.
 abbrev pub BeginsWithImage : HistoryState → Member → Member → ℕ → List (List Frame) → Type 0
 BeginsWithImage start seat runner first kept =
     (image : Guest) (last : Option Ack) (sent : ℕ) → Stands start seat image last sent first kept
-    → Runs start runner (just_settled image [])
+    → IsSome last
+    × ((state_at start seat.steps).marked ≡ 0 → image ≡ (state_at start seat.steps).history.guest)
+    × Runs start runner (just_settled image [])

@@ -14,7 +14,7 @@ use pair_record::PairRecord;
 use std::marker::Model;
 
 /// The number of the line's seat; client c's is c more.
-pub(crate) const LINE_SEAT: u64 = 3;
+pub const LINE_SEAT: u64 = 3;
 
 /// What all threads of a pair share. Contracts see it as a `BookState` of the specs: the steps that its keeper has made, the record,
 /// the clients' ports and the texts of pending checkpoints. Between any two calls the record is the one that the steps lead to, each

@@ -3,7 +3,7 @@ ghost use Rattle.std.specs.Prelude.{◌≡◌, ◌<◌, false, None, IfOk, OnOk,
 ghost use Rattle.pair_record.specs.declared.event.Reply.TheVariants as replies;
 ghost use Rattle.pair_record.specs.Protocol.{again_done};
 ghost use Rattle.pair_book.specs.Calls.{IsWhy, IsAsBefore};
-ghost use Rattle.pair_book.specs.Commits.{may_commit, is_old_delta, is_earlier, commit_why, AfterCommit, StandsBy};
+ghost use Rattle.pair_book.specs.Commits.{may_commit, is_old_delta, is_earlier, commit_why, AfterCommit, Acknowledges, StandsBy};
 
 use crate::book::Book;
 use crate::failures::Ack;
@@ -48,8 +48,15 @@ impl<P: Pair> Book<P> {
         seat.number() == self.seats.backup() && !is_alone(self.record.mode())
     }
 
-    /// Why the commit of what was read is refused.
-    fn commit_refusal(&self, seat: &BackupSeat<P>, read: Option<&Checkpoint>) -> Option<Refusal>
+    /// Whether it is of an earlier number than the next that is to be committed.
+    pub fn is_earlier(&self, checkpoint: &Checkpoint) -> bool
+        ensures { result ≡ is_earlier self.now checkpoint.now }
+    {
+        checkpoint.number() < self.record.to_commit()
+    }
+
+    /// Why the commit of what was read would be refused, as [`Book::commit`] says, but for want of memory; `None` where nothing refuses it.
+    pub fn commit_refusal(&self, seat: &BackupSeat<P>, read: Option<&Checkpoint>) -> Option<Refusal>
         ensures { result ≡ commit_why P.start self.now seat.now.number (option_map (λ c. c.now) read.entry) }
     {
         let Some(checkpoint) = read else {
@@ -71,7 +78,7 @@ impl<P: Pair> Book<P> {
         if let Some(why) = self.record.backup_refusal(packet) {
             return Some(why);
         }
-        if packet.number < self.record.to_commit() {
+        if self.is_earlier(checkpoint) {
             return None;
         }
         if self.record.to_cut() <= self.record.to_commit() {
@@ -116,6 +123,7 @@ impl<P: Pair> Book<P> {
         ensures number { seat.new.number ≡ seat.old.number }
         ensures texts { self.new.texts ≡ self.old.texts }
         ensures done { IfOk result (λ ack. IfSome read.entry (λ c. AfterCommit c.now ack self.old self.new seat.old seat.new)) }
+        ensures acknowledged { IfOk result (λ ack. IfSome read.entry (λ c. Acknowledges (is_earlier self.old c.now) c.now ack)) }
         // A backup that stood at the image before stands after the next one, by what it read.
         ensures stands { IfOk result (λ ack. IfSome read.entry (λ c. is_earlier self.old c.now ≡ false
             → StandsBy P.start c.now ack seat.old seat.new)) }
@@ -129,7 +137,7 @@ impl<P: Pair> Book<P> {
         let Some(checkpoint) = read else {
             unreachable!();
         };
-        if checkpoint.number() < self.record.to_commit() {
+        if self.is_earlier(checkpoint) {
             return Ok(self.last_ack());
         }
         self.record.keep();

@@ -25,7 +25,7 @@ mod shared_bytes;
 mod submitting;
 mod texts;
 
-pub use book::Book;
+pub use book::{Book, LINE_SEAT};
 pub use failures::Ack;
 pub use laws::{members_begin, members_go_on, runners_bring_what_they_have};
 pub use losses::Loss;

@@ -80,5 +80,5 @@ returns-clause-stands g c =
     let stands : is_earlier c.args.self.now change ≡ false → StandsBy start change ack seat c.step.new.member =
     λ next.
     stands-by start steps r.protocol r.ports c.self.invariant.0 c.self.invariant.1 c.keep.ensures.record seat c.step.new.member change
-    may.mine may.pair may.number may.some turn c.step.ensures.before own sees ack (answered ack r.protocol now.protocol told) in
+    may.mine may.pair may.generation may.number may.some turn c.step.ensures.before own sees ack (answered ack r.protocol now.protocol told) in
     rw c.in-Some-read.is stands

@@ -8,7 +8,7 @@ use Rattle.growing_history.specs.Views.{Keeper}
 use Rattle.pair_book.specs.{Books.BookState, Packets.TextsState}
 use Rattle.pair_book.specs.internal.{Committed.KeepsCommitted, Tie.{IsTied, book_state}}
 use Rattle.pair_book.proofs.LiveTies.{has_stopped, live_may, brings, live-tied, went-live-keeps}
-use Rattle.pair_book.proofs.{RunLaws.runs-live, StandingLaws.stands-on}
+use Rattle.pair_book.proofs.{RunLaws.runs-live, StandingLaws.{has-image, seen-guest, stands-on}}
 use Rattle.pair_book.proofs.TextLaws.{no-texts}
 use Rattle.pair_book.proofs.book.Book.go_live.Goals as goal
 
@@ -84,11 +84,19 @@ returns-clause-runs g c =
     let seat = c.args.seat.now in
     let kept : List (List Frame) = map (λ v. v.items) c.args.kept.now in
     let may = live_may start (book_state seats r c.self.inside.texts) seat.number c.args.first kept (search rules) in
-    let mode = sym c.self.invariant.0.mode ∙ has_stopped r.protocol.mode may.free in
+    let stopped = has_stopped r.protocol.mode may.free in
     let is : c.go_live-runner.result
     ≡ record { number = seats.enrolled + 1; steps = steps ++ step 0 (WentLive (seats.enrolled + 1)) ∷ [] } =
     search (rules, c.go_live-runner.ensures, c.meet.ensures.keeper) in
     λ image last sent stands.
-    runs-live start steps seat.number may.mine mode image last sent c.args.first kept
-    (stands-on start seat steps image last sent c.args.first kept c.meet.ensures.before c.self.invariant.0.legal c.meet.ensures.own stands)
-    (seats.enrolled + 1) c.go_live-runner.result is
+    let begins = c.meet.ensures.before in
+    let legal = c.self.invariant.0.legal in
+    let own = c.meet.ensures.own in
+    let mode = sym c.self.invariant.0.mode ∙ stopped in
+    let stood = stands-on start seat steps image last sent c.args.first kept begins legal own stands in (
+      has-image start steps r.protocol r.ports c.self.invariant.0 c.keep.ensures.record stopped seat.number may.mine image last sent
+          c.args.first kept stood,
+      seen-guest start seat steps begins legal own mode may.mine image last sent c.args.first kept stands,
+      runs-live start steps seat.number may.mine mode image last sent c.args.first kept stood
+          (seats.enrolled + 1) c.go_live-runner.result is,
+    )

@@ -1,0 +1,115 @@
+//! What a backup calls at the book, which is lent to it, and how its image takes a checkpoint in.
+ghost use Rattle.std.specs.Prelude.{◌≡◌, ◌<◌, IfOk, OnOk, IfErr, OnErr, IfSome, IsSome, None, Some, Ok, nat_lt, option_map};
+ghost use Rattle.std.specs.List.{Contains};
+ghost use Rattle.backup_image.specs.Images.{ImageState, applied, stage_answer, settled_machine};
+ghost use Rattle.backup_image.specs.Kept.{sent_with};
+ghost use Rattle.backup_image.specs.Limits.{number_limit};
+ghost use Rattle.backup_image.specs.declared.standing.Staged.TheVariants.{New};
+ghost use Rattle.pair_book.specs.Commits.{WasRead};
+ghost use Rattle.pair_book.specs.Made.{IsShape};
+ghost use Rattle.hypervisor.specs.Backups.{StandsWith};
+ghost use Rattle.hypervisor.specs.Commits.{why_not, AtBook, IsWhyCommit};
+ghost use Rattle.hypervisor.specs.GoingLive.{GoesLiveWith, live_refusals};
+
+use backup_image::{Image, NUMBER_LIMIT, Staged};
+use epoch_snapshot::Checkpoint;
+use growing_history::{BackupSeat, Clock, Pair, RunnerSeat, steps_go_on};
+use pair_book::{Ack, Book, Refusal};
+
+/// What is acknowledged, and whether the checkpoint was the next one; else it was an earlier one, and nothing happened.
+pub(crate) struct Committed {
+    pub(crate) ack: Ack,
+    pub(crate) is_next: bool,
+}
+
+/// Whether the image has numbers for this checkpoint's frames.
+fn has_numbers(image: &Image, checkpoint: &Checkpoint) -> bool
+    ensures { result ≡ nat_lt (sent_with checkpoint.now image.now.sent) number_limit }
+{
+    let frames = checkpoint.frames().len() as u64;
+    let before = if checkpoint.is_full() {
+        0
+    } else {
+        image.kept().sent()
+    };
+    before + frames < NUMBER_LIMIT
+}
+
+/// Why the commit of this checkpoint is refused to the backup with this image.
+fn refusal<P: Pair>(
+    book: &Book<P>,
+    seat: &BackupSeat<P>,
+    image: &Image,
+    checkpoint: &Checkpoint,
+) -> Option<Refusal>
+    ensures { result ≡ why_not P.start book.now seat.now.number image.now checkpoint.now }
+{
+    if let Some(why) = book.commit_refusal(seat, Some(checkpoint)) {
+        return Some(why);
+    }
+    if !book.is_earlier(checkpoint) && !has_numbers(image, checkpoint) {
+        return Some(Refusal::Exhausted);
+    }
+    None
+}
+
+/// The backup with this image commits what it has read, as [`Book::commit`] says. Where nothing else refuses it, but the image has no
+/// numbers for its frames, it is refused as Exhausted: so the image can take in what is committed.
+pub(crate) fn commit<P: Pair>(
+    book: &mut Book<P>,
+    clock: &Clock<P>,
+    seat: &mut BackupSeat<P>,
+    image: &Image,
+    read: Option<&Checkpoint>,
+) -> Result<Committed, Refusal>
+    requires shape { IsShape P.start image.now.shape }
+    requires same_shape { IfSome read (λ c. c.now.shape ≡ image.now.shape) }
+    requires was_read { IfSome read (λ c. WasRead c.now) }
+    requires stands { StandsWith P.start seat.old image.now }
+    ensures some { OnOk result (IsSome read.entry) }
+    ensures done { IfOk result (λ done. IfSome read.entry (λ c. AtBook done.is_next P.start c.now done.ack image.now seat.old seat.new)) }
+    ensures why { IfErr result (IsWhyCommit (option_map (λ c. c.now) read.entry)) }
+    ensures refused { OnErr result (seat.new ≡ seat.old) }
+{
+    let Some(checkpoint) = read else {
+        let _none = book.commit(clock, seat, None)?;
+        unreachable!();
+    };
+    if let Some(why) = refusal(book, seat, image, checkpoint) {
+        return Err(why);
+    }
+    let is_next = !book.is_earlier(checkpoint);
+    let ack = book.commit(clock, seat, Some(checkpoint))?;
+    book.entries();
+    Ok(Committed { ack, is_next })
+}
+
+/// The image takes in this checkpoint, which is its next one, as the caller knows.
+pub(crate) fn take_in(image: &mut Image, checkpoint: Checkpoint)
+    requires shape { checkpoint.shape ≡ image.old.shape }
+    requires unstaged { image.old.staged ≡ None }
+    requires new { stage_answer image.old checkpoint ≡ Ok New }
+    ensures { image.new ≡ applied image.old (Some checkpoint) }
+{
+    let _new = image.stage(checkpoint);
+    image.commit();
+}
+
+/// The backup of this image goes live, as [`Book::go_live`] says. It hands over the frames that the image keeps.
+pub(crate) fn go_live<P: Pair>(
+    book: &mut Book<P>,
+    clock: &Clock<P>,
+    seat: &mut BackupSeat<P>,
+    image: &Image,
+) -> Result<RunnerSeat<P>, Refusal>
+    requires stands { StandsWith P.start seat.old image.now }
+    ensures live { IfOk result (GoesLiveWith P.start image.now seat.old) }
+    ensures why { IfErr result (Contains live_refusals) }
+    ensures refused { OnErr result (seat.new ≡ seat.old) }
+{
+    steps_go_on();
+    let kept = image.kept();
+    let runner = book.go_live(clock, seat, kept.first(), kept.epochs())?;
+    book.entries();
+    Ok(runner)
+}
