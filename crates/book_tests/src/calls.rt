@@ -1,11 +1,10 @@
 //! What no clause says: that the calls succeed where there is memory, and that threads can share a book under a lock.
 ghost use Rattle.std.specs.Prelude.{◌≡◌, []};
 ghost use Rattle.pair_history.specs.HistoryState.{start_state};
-ghost use Rattle.growing_history.specs.LogState.{line_seat};
 ghost use Rattle.pair_book.specs.Calls.{IsClientSeat};
 
-use growing_history::{BackupSeat, Badge, ClientSeat, Clock, LineSeat, Pair, RunnerSeat};
-use pair_book::{Ack, Book, Kind, Loss, Refusal, UnnamedBook, Want};
+use growing_history::{BackupSeat, Badge, ClientSeat, Clock, Pair, RunnerSeat};
+use pair_book::{Ack, Book, Kind, LineSeat, Loss, Refusal, UnnamedBook, Want};
 use pair_history::Frame;
 use std::alloc::Global;
 use std::marker::Brand;
@@ -51,7 +50,6 @@ struct Desk<P: Pair> {
     line: LineSeat<P>,
     first: ClientSeat<P>,
     second: ClientSeat<P>,
-    ghost line_is: { line.number ≡ line_seat },
     ghost first_is: { IsClientSeat P.start first.number },
     ghost second_is: { IsClientSeat P.start second.number },
 }

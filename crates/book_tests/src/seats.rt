@@ -5,7 +5,7 @@ ghost use Rattle.growing_history.specs.Steps.{Added, Begins};
 ghost use Rattle.growing_history.specs.Examples.{two_clients, found_empty};
 
 use growing_history::{
-    BackupSeat, Badge, ClientSeat, Clock, KeeperSeat, LineSeat, Opened, Pair, RunnerSeat, Tells,
+    BackupSeat, Badge, ClientSeat, Clock, KeeperSeat, MemberSeat, Opened, Pair, RunnerSeat, Tells,
     Texts, What, sealed_texts_make_their_guests,
 };
 use pair_history::Entry;
@@ -41,7 +41,7 @@ struct Members<P: Pair> {
     keeper: KeeperSeat<P>,
     runner: RunnerSeat<P>,
     backup: BackupSeat<P>,
-    line: LineSeat<P>,
+    line: MemberSeat<P>,
     first: ClientSeat<P>,
     second: ClientSeat<P>,
 }

@@ -21,5 +21,5 @@ pub use laws::{
     own_entries_are_announced, sealed_texts_make_their_guests, steps_go_on,
     unmarked_histories_are_legal,
 };
-pub use seats::{BackupSeat, Badge, ClientSeat, KeeperSeat, LineSeat, MemberSeat, RunnerSeat};
+pub use seats::{BackupSeat, Badge, ClientSeat, KeeperSeat, MemberSeat, RunnerSeat};
 pub use what::{Tells, What};

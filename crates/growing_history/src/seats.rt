@@ -339,6 +339,3 @@ pub type RunnerSeat<P> = MemberSeat<P>;
 
 /// A backup's seat, whose steps commit epochs.
 pub type BackupSeat<P> = MemberSeat<P>;
-
-/// The line's seat, whose steps drop frames.
-pub type LineSeat<P> = MemberSeat<P>;

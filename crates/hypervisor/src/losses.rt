@@ -1,12 +1,11 @@
 //! The line's losses.
 ghost use Rattle.std.specs.Prelude.{◌≡◌, IfOk, IfErr};
-ghost use Rattle.growing_history.specs.LogState.{line_seat};
 ghost use Rattle.hypervisor.specs.Losses.{AfterLossIn, AfterLossOut};
 ghost use Rattle.hypervisor.specs.Refusals.{IsWhyLoss};
 
 use crate::shared::Shared;
-use growing_history::{Clock, LineSeat, Pair};
-use pair_book::{Book, Loss as Lost, Refusal};
+use growing_history::{Clock, Pair};
+use pair_book::{Book, LineSeat, Loss as Lost, Refusal};
 use std::marker::Model;
 use std::sync::{Arc, Wait};
 
@@ -18,15 +17,12 @@ pub struct Loss<P: Pair> {
 }
 
 impl<P: Pair> Model for Loss<P> {
-    ghost use Rattle.std.specs.Prelude.{◌≡◌, List};
+    ghost use Rattle.std.specs.Prelude.{List};
     ghost use Rattle.growing_history.specs.Steps.{Step};
-    ghost use Rattle.growing_history.specs.LogState.{line_seat};
 
     ghost Value = { List Step };
 
     ghost view = { λ l. l.line.steps };
-
-    ghost invariant = { λ l. l.line.number ≡ line_seat };
 }
 
 /// The line drops the frame at this place of this client's inbox, as [`Book::lose_in`] says.
@@ -37,7 +33,6 @@ fn lose_in<P: Pair>(
     client: u64,
     place: u64,
 ) -> Result<Lost, Refusal>
-    requires line { line.old.number ≡ line_seat }
     ensures number { line.new.number ≡ line.old.number }
     ensures done { IfOk result (λ lost. AfterLossIn P.start lost line.old.steps line.new.steps) }
     ensures why { IfErr result (IsWhyLoss P.start client) }
@@ -57,7 +52,6 @@ fn lose_out<P: Pair>(
     client: u64,
     place: u64,
 ) -> Result<Lost, Refusal>
-    requires line { line.old.number ≡ line_seat }
     ensures number { line.new.number ≡ line.old.number }
     ensures done { IfOk result (λ lost. AfterLossOut P.start client place lost line.old.steps line.new.steps) }
     ensures why { IfErr result (IsWhyLoss P.start client) }
@@ -71,7 +65,6 @@ fn lose_out<P: Pair>(
 
 impl<P: Pair> Loss<P> {
     pub(crate) fn of(shared: Arc<Shared<P>>, line: LineSeat<P>) -> Loss<P>
-        requires { line.number ≡ line_seat }
         ensures { result ≡ line.steps }
     {
         Loss { shared, line }

@@ -28,7 +28,7 @@ mod texts;
 pub use book::{Book, LINE_SEAT};
 pub use failures::Ack;
 pub use laws::{members_begin, members_go_on, runners_bring_what_they_have};
-pub use losses::Loss;
+pub use losses::{LineSeat, Loss};
 pub use opening::{Members, NewBook, UnnamedBook};
 pub use packet::Packet;
 pub use pair_record::Refusal;

@@ -1,16 +1,17 @@
 //! What the line loses.
-ghost use Rattle.std.specs.Prelude.{◌≡◌, IfOk, IfErr};
+ghost use Rattle.std.specs.Prelude.{◌≡◌, None, IfOk, OnOk, IfErr};
 ghost use Rattle.frame_ports.specs.Ports.{inbox_of, box_of};
 ghost use Rattle.pair_record.specs.Protocol.{first_refusal, lost_in, lost_out};
 ghost use Rattle.pair_record.specs.Record.{ports_after_lose_in, ports_after_lose_out};
-ghost use Rattle.growing_history.specs.LogState.{line_seat};
+ghost use Rattle.growing_history.specs.LogState.{Legal, line_seat};
 ghost use Rattle.pair_book.specs.Calls.{IsAsBefore, entry_rows};
 ghost use Rattle.pair_book.specs.Losses.{loss_rows, IsWhyLoss, AfterLoss};
 
 use crate::book::Book;
 use crate::gained::tell;
-use growing_history::{Clock, LineSeat, Pair};
+use growing_history::{Clock, MemberSeat, Pair};
 use pair_record::Refusal;
+use std::marker::Model;
 
 /// What became of a loss that was asked for.
 #[derive(Clone, Copy, Debug, PartialEq, Eq)]
@@ -19,6 +20,45 @@ pub enum Loss {
     Dropped,
     /// No frame was there: nothing happened.
     Empty,
+}
+
+/// The line's seat, whose steps drop frames: only who has it makes the line lose any. Contracts see its number and the steps that it has
+/// seen.
+#[derive(Drop)]
+pub struct LineSeat<P: Pair> {
+    member: MemberSeat<P>,
+}
+
+impl<P: Pair> Model for LineSeat<P> {
+    ghost use Rattle.std.specs.Prelude.{◌≡◌};
+    ghost use Rattle.growing_history.specs.LogState.{line_seat};
+    ghost use Rattle.growing_history.specs.Views.{Member};
+
+    ghost Value = { Member };
+
+    ghost view = { λ s. s.member };
+
+    ghost invariant = { λ s. s.member.number ≡ line_seat };
+}
+
+impl<P: Pair> LineSeat<P> {
+    /// The seat that the line is given at the start.
+    pub(crate) fn of(member: MemberSeat<P>) -> LineSeat<P>
+        requires { member.number ≡ line_seat }
+        ensures { result ≡ member }
+    {
+        LineSeat { member }
+    }
+
+    /// The number under which its steps are made, 3.
+    pub fn number(&self) -> u64
+        ensures number { result ≡ self.now.number }
+        // What is true of every line's seat.
+        ensures line { self.now.number ≡ line_seat }
+        ensures legal { Legal P.start self.now.steps }
+    {
+        self.member.number()
+    }
 }
 
 impl<P: Pair> Book<P> {
@@ -45,11 +85,12 @@ impl<P: Pair> Book<P> {
         client: u64,
         place: u64,
     ) -> Result<Loss, Refusal>
-        requires line { seat.old.number ≡ line_seat }
         ensures number { seat.new.number ≡ seat.old.number }
         ensures texts { self.new.texts ≡ self.old.texts }
         ensures done { IfOk result (λ loss. AfterLoss (lost_in (inbox_of self.old.ports client) place)
             (ports_after_lose_in self.old.ports client place) loss self.old self.new seat.old seat.new) }
+        ensures free { OnOk result (first_refusal
+            (loss_rows self.old client (lost_in (inbox_of self.old.ports client) place)) ≡ None) }
         ensures why { IfErr result (IsWhyLoss (lost_in (inbox_of self.old.ports client) place)
             (first_refusal (loss_rows self.old client (lost_in (inbox_of self.old.ports client) place)))) }
         ensures refused { IfErr result (λ _. IsAsBefore self.old self.new seat.old seat.new) }
@@ -65,7 +106,13 @@ impl<P: Pair> Book<P> {
         }
         let before = self.record.history().len();
         self.record.lose_in(client, place)?;
-        tell(&self.record, before, &mut self.seats, clock, seat);
+        tell(
+            &self.record,
+            before,
+            &mut self.seats,
+            clock,
+            &mut seat.member,
+        );
         Ok(Loss::Dropped)
     }
 
@@ -81,11 +128,12 @@ impl<P: Pair> Book<P> {
         client: u64,
         place: u64,
     ) -> Result<Loss, Refusal>
-        requires line { seat.old.number ≡ line_seat }
         ensures number { seat.new.number ≡ seat.old.number }
         ensures texts { self.new.texts ≡ self.old.texts }
         ensures done { IfOk result (λ loss. AfterLoss (lost_out client (box_of self.old.ports client) place)
             (ports_after_lose_out self.old.ports client place) loss self.old self.new seat.old seat.new) }
+        ensures free { OnOk result (first_refusal
+            (loss_rows self.old client (lost_out client (box_of self.old.ports client) place)) ≡ None) }
         ensures why { IfErr result (IsWhyLoss (lost_out client (box_of self.old.ports client) place)
             (first_refusal (loss_rows self.old client (lost_out client (box_of self.old.ports client) place)))) }
         ensures refused { IfErr result (λ _. IsAsBefore self.old self.new seat.old seat.new) }
@@ -101,7 +149,13 @@ impl<P: Pair> Book<P> {
         }
         let before = self.record.history().len();
         self.record.lose_out(client, place)?;
-        tell(&self.record, before, &mut self.seats, clock, seat);
+        tell(
+            &self.record,
+            before,
+            &mut self.seats,
+            clock,
+            &mut seat.member,
+        );
         Ok(Loss::Dropped)
     }
 }

@@ -7,11 +7,10 @@ ghost use Rattle.pair_book.specs.Calls.{IsClientSeat};
 ghost use Rattle.pair_book.specs.Opening.{IsBoot};
 
 use crate::book::{Book, LINE_SEAT};
+use crate::losses::LineSeat;
 use crate::seats::Seats;
 use crate::texts::Texts;
-use growing_history::{
-    BackupSeat, ClientSeat, Clock, KeeperSeat, LineSeat, Opened, Pair, RunnerSeat,
-};
+use growing_history::{BackupSeat, ClientSeat, Clock, KeeperSeat, Opened, Pair, RunnerSeat};
 use pair_record::PairRecord;
 use std::alloc::{AllocError, Global};
 use std::marker::Model;
@@ -138,7 +137,7 @@ impl UnnamedBook {
             clock,
             runner,
             backup,
-            line,
+            line: LineSeat::of(line),
         }
     }
 }

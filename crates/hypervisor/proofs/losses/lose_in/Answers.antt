@@ -1,3 +1,4 @@
+use Rattle.std.proofs.Common.{sym, ◌∙◌}
 use Rattle.frame_ports.specs.Ports.{inbox_of}
 use Rattle.pair_record.specs.Protocol.{lost_in}
 use Rattle.pair_record.specs.Record.{ports_after_lose_in}
@@ -8,8 +9,9 @@ use Rattle.hypervisor.proofs.losses.lose_in.Goals as goal
 pub returns-clause-done : goal.returns-clause-done
 returns-clause-done g c =
     let p = c.args.book.now.ports in
-    lost-in g.P.Pair.start c.args.book.now c.lose_in-lost.new.self c.args.line.now c.lose_in-lost.new.seat c.requires.line
-    c.number.ensures.legal (ports_after_lose_in p c.args.client c.args.place) (inbox_of p c.args.client) c.args.place
+    lost-in g.P.Pair.start c.args.book.now c.lose_in-lost.new.self c.args.line.now c.lose_in-lost.new.seat
+    (sym c.lose_in-lost.ensures.number ∙ c.number.ensures.line) c.number.ensures.legal
+    (ports_after_lose_in p c.args.client c.args.place) (inbox_of p c.args.client) c.args.place
     c.lose_in-lost.result c.lose_in-lost.ensures.done
 
 pub returns-clause-why : goal.returns-clause-why

@@ -1,3 +1,4 @@
+use Rattle.std.proofs.Common.{sym, ◌∙◌}
 use Rattle.frame_ports.specs.Ports.{box_of}
 use Rattle.pair_record.specs.Protocol.{lost_out}
 use Rattle.pair_record.specs.Record.{ports_after_lose_out}
@@ -8,8 +9,9 @@ use Rattle.hypervisor.proofs.losses.lose_out.Goals as goal
 pub returns-clause-done : goal.returns-clause-done
 returns-clause-done g c =
     let p = c.args.book.now.ports in
-    lost-out g.P.Pair.start c.args.book.now c.lose_out-lost.new.self c.args.line.now c.lose_out-lost.new.seat c.requires.line
-    c.number.ensures.legal (ports_after_lose_out p c.args.client c.args.place) c.args.client (box_of p c.args.client) c.args.place
+    lost-out g.P.Pair.start c.args.book.now c.lose_out-lost.new.self c.args.line.now c.lose_out-lost.new.seat
+    (sym c.lose_out-lost.ensures.number ∙ c.number.ensures.line) c.number.ensures.legal
+    (ports_after_lose_out p c.args.client c.args.place) c.args.client (box_of p c.args.client) c.args.place
     c.lose_out-lost.result c.lose_out-lost.ensures.done
 
 pub returns-clause-why : goal.returns-clause-why

@@ -72,6 +72,6 @@ invariant_of-self-2 g c =
       c.tell.ensures.tied,
       c.tell.ensures.committed,
       texts-added g.P.Pair.start c.self.inside.seats.steps c.tell.new.seats.steps c.self.inside.record.protocol now
-          c.self.inside.texts.packets c.self.invariant.2 c.args.seat.now.number more (ap (λ (k : Keeper). k.steps) c.tell.ensures.seats)
+          c.self.inside.texts.packets c.self.invariant.2 c.seat.inside.member.number more (ap (λ (k : Keeper). k.steps) c.tell.ensures.seats)
           (ap (λ (y : Record). y.generation) done) (ap (λ (y : Record). y.window) done),
     )
