@@ -1,0 +1,4 @@
+pub mod FieldSplits
+pub mod ActionLemmas
+pub mod ReadingLemmas
+pub mod PrintingLemmas

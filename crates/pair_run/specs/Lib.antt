@@ -1,0 +1,4 @@
+pub mod internal
+pub mod RunFile
+pub mod Views
+pub mod RunPrinted

@@ -1,0 +1,2 @@
+-- what only private functions and proofs cite
+pub mod Reading
