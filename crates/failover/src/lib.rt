@@ -20,8 +20,6 @@
 mod change;
 mod errors;
 mod mode;
-#[cfg(test)]
-mod tests;
 
 pub use change::Change;
 pub use errors::FailoverError;

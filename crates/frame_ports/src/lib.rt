@@ -15,8 +15,6 @@ mod numbers;
 mod ports;
 mod rings;
 mod targets;
-#[cfg(test)]
-mod tests;
 
 pub use errors::PortError;
 pub use landing::Landing;

@@ -8,8 +8,6 @@
 
 mod errors;
 mod line;
-#[cfg(test)]
-mod tests;
 
 pub use errors::LineError;
 pub use line::Line;

@@ -15,8 +15,6 @@ mod laws;
 mod limits;
 mod marks;
 mod room;
-#[cfg(test)]
-mod tests;
 
 pub use errors::GateError;
 pub use gate::Gate;

@@ -9,8 +9,6 @@ mod fates;
 mod history;
 mod laws;
 mod stored;
-#[cfg(test)]
-mod tests;
 
 pub use failures::{
     failing_backup_lets_all_land, going_live_lands_what_is_owed, reached_states,

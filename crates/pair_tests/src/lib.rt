@@ -1,7 +1,17 @@
-//! Tests of the pair and of its record, by what [`pair_core`] and [`pair_record`] have for everyone. They stand in a crate of their own
-//! since a crate that has tests is proved once more with them.
+//! Tests of the pair and of its parts, from the modes, the line and the ports up to the record and the world, by what their crates have for
+//! everyone. They stand in a crate of their own since a crate that has tests is proved once more with them.
 #![tactic(auto)]
 
+#[cfg(test)]
+mod gate;
+#[cfg(test)]
+mod history;
+#[cfg(test)]
+mod line;
+#[cfg(test)]
+mod modes;
+#[cfg(test)]
+mod ports;
 #[cfg(test)]
 mod record;
 #[cfg(test)]

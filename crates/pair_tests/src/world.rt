@@ -5,38 +5,17 @@ mod late_packets;
 mod protection;
 mod texts;
 
+use guest_kit::{beacon, disk_once};
 use pair_core::{Event, Mode, Refusal, Reply, Shape, Show, World};
 use std::alloc::Global;
 use std::fmt::Write;
+use std::process::Abort;
 use std::test::Fail;
 
-/// The words of the guest that sends one frame to client 1, and then runs on the spot.
-const BEACON: [u32; 23] = [
-    0x100012b7, 0x00100313, 0x0662a823, 0x00300393, 0x0672a823, 0x0262a223, 0x0262a023, 0x00b00393,
-    0x0672a823, 0x0702a403, 0x0262a823, 0x0262ac23, 0x800013b7, 0x0872a023, 0x04038393, 0x0872a823,
-    0x04038393, 0x0a72a023, 0x0462a223, 0x00f00393, 0x0672a823, 0x0462a823, 0x0000006f,
-];
-
-/// The frame that it sends.
+/// The frame that the beacon sends.
 const FRAME: [u8; 14] = [2, 0, 0, 0, 1, 1, 2, 0, 0, 0, 0, 1, 0x88, 0xb5];
 
 const SHAPE: (u32, u32) = (2, 8);
-
-/// The beacon's image: its words, a descriptor, an available ring with one entry, and the frame behind 12 bytes of header.
-fn beacon(alloc: Global) -> Result<Vec<u8>, Fail> {
-    let mut image = Vec::new(alloc);
-    for word in BEACON {
-        image.extend_from_slice(&word.to_le_bytes())?;
-    }
-    fill(&mut image, 0x1000)?;
-    image.extend_from_slice(&0x8000_1100u64.to_le_bytes())?;
-    image.extend_from_slice(&26u32.to_le_bytes())?;
-    fill(&mut image, 0x1042)?;
-    image.extend_from_slice(&1u16.to_le_bytes())?;
-    fill(&mut image, 0x110c)?;
-    image.extend_from_slice(&FRAME)?;
-    Ok(image)
-}
 
 /// A pair whose guest is the beacon.
 fn beacon_pair(alloc: Global) -> Result<Box<World>, Fail> {
@@ -47,14 +26,6 @@ fn beacon_pair(alloc: Global) -> Result<Box<World>, Fail> {
 /// A pair whose guest runs on the spot.
 fn idle_pair(alloc: Global) -> Result<Box<World>, Fail> {
     pair(alloc, &[0x6f, 0, 0, 0])
-}
-
-fn fill(image: &mut Vec<u8>, end: usize) -> Result<(), Fail> {
-    if image.len() < end {
-        let more = end - image.len();
-        image.resize(image.len() + more, 0)?;
-    }
-    Ok(())
 }
 
 /// A pair with two clients whose guest has this image. It stands in a box, so that a test holds no large value.
@@ -76,15 +47,27 @@ fn printed(alloc: Global, world: &mut World, events: &[Event<'_>]) -> Result<Str
     Ok(text)
 }
 
-/// Whether the replies to these events print so.
-fn answers(
+/// The replies to these events print so.
+fn assert_answers(
+    rt: &impl Abort,
     alloc: Global,
     world: &mut World,
     events: &[Event<'_>],
     wanted: &str,
-) -> Result<bool, Fail> {
+) -> Result<(), Fail> {
     let text = printed(alloc, world, events)?;
-    Ok(text.as_str() == wanted)
+    assert_eq!(rt; text.as_str(), wanted);
+    Ok(())
+}
+
+/// So many steps are made, after which there were so many in all.
+fn assert_steps(rt: &impl Abort, world: &mut World, count: u64, steps: u64) {
+    assert_eq!(rt; world.run_steps(count), Ok(steps));
+}
+
+/// The world shows this.
+fn assert_shows(rt: &impl Abort, world: &World, show: Show) {
+    assert_eq!(rt; world.show(), show);
 }
 
 /// A pair in its first generation.
@@ -144,8 +127,14 @@ fn the_beacons_frame_reaches_client_1_after_its_acknowledgement(
         Acked { generation: 1, number: 1, landed: 1 }\n\
         Took(Some([2, 0, 0, 0, 1, 1, 2, 0, 0, 0, 0, 1, 136, 181]))\nTook(None)\n",
     )?;
-    assert!(rt; answers(rt.alloc(), &mut world, events.as_slice(), wanted.as_str())?);
-    assert_eq!(rt; world.show(), paired(0, 22, 27));
+    assert_answers(
+        &rt,
+        rt.alloc(),
+        &mut world,
+        events.as_slice(),
+        wanted.as_str(),
+    )?;
+    assert_shows(&rt, &world, paired(0, 22, 27));
     Ok(())
 }
 
@@ -173,7 +162,7 @@ fn packets_out_of_order_and_a_fifth_checkpoint(rt: HostRuntime) -> Result<(), Fa
         Committed { generation: 1, number: 1 }\nAgain { generation: 1, number: 1 }\nLost\n\
         Acked { generation: 1, number: 1, landed: 0 }\nCut { generation: 1, number: 5 }\n\
         Refused(NoClient)\nRefused(NoClient)\n";
-    assert!(rt; answers(rt.alloc(), &mut world, &events, wanted)?);
+    assert_answers(&rt, rt.alloc(), &mut world, &events, wanted)?;
     Ok(())
 }
 
@@ -182,8 +171,8 @@ fn a_delivered_frame_arrives_at_the_guest(rt: HostRuntime) -> Result<(), Fail> {
     let mut world = idle_pair(rt.alloc())?;
     let events = [Event::Deliver(1, &FRAME), Event::Admit(1), Event::Admit(1)];
     let wanted = "Delivered(1)\nAdmitted(1)\nEmpty\n";
-    assert!(rt; answers(rt.alloc(), &mut world, &events, wanted)?);
-    assert_eq!(rt; world.show(), paired(0, 0, 1));
+    assert_answers(&rt, rt.alloc(), &mut world, &events, wanted)?;
+    assert_shows(&rt, &world, paired(0, 0, 1));
     Ok(())
 }
 
@@ -201,8 +190,8 @@ fn the_second_of_two_deliveries_is_lost(rt: HostRuntime) -> Result<(), Fail> {
     ];
     let wanted =
         "Delivered(1)\nDelivered(2)\nDropped\nEmpty\nAdmitted(1)\nEmpty\nRefused(NoClient)\n";
-    assert!(rt; answers(rt.alloc(), &mut world, &events, wanted)?);
-    assert_eq!(rt; world.show(), paired(0, 0, 3));
+    assert_answers(&rt, rt.alloc(), &mut world, &events, wanted)?;
+    assert_shows(&rt, &world, paired(0, 0, 3));
     Ok(())
 }
 
@@ -223,8 +212,8 @@ fn an_inbox_holds_64_frames(rt: HostRuntime) -> Result<(), Fail> {
     assert!(rt; are_numbered(&mut world, 64));
     let events = [Event::Deliver(1, &FRAME), Event::Take(1)];
     let wanted = "Refused(Full)\nTook(None)\n";
-    assert!(rt; answers(rt.alloc(), &mut world, &events, wanted)?);
-    assert_eq!(rt; world.show(), paired(0, 0, 66));
+    assert_answers(&rt, rt.alloc(), &mut world, &events, wanted)?;
+    assert_shows(&rt, &world, paired(0, 0, 66));
     Ok(())
 }
 
@@ -268,21 +257,23 @@ fn clients_have_the_numbers_from_1(rt: HostRuntime) -> Result<(), Fail> {
     ];
     let wanted =
         "Refused(NoClient)\nRefused(NoClient)\nDelivered(1)\nRefused(NoClient)\nRefused(NoClient)\n";
-    assert!(rt; answers(rt.alloc(), &mut world, &events, wanted)?);
+    assert_answers(&rt, rt.alloc(), &mut world, &events, wanted)?;
     Ok(())
+}
+
+/// One step is made, after which there were so many in all.
+fn assert_step(rt: &impl Abort, world: &mut World, steps: u64) {
+    assert_eq!(rt; world.step(), Ok(steps));
 }
 
 #[test]
 fn many_steps_are_made_in_one_call(rt: HostRuntime) -> Result<(), Fail> {
     let mut world = beacon_pair(rt.alloc())?;
-    let counts = [
-        world.run_steps(22),
-        world.run_steps(1000),
-        world.run_steps(0),
-        world.step(),
-    ];
-    assert_eq!(rt; counts, [Ok(22), Ok(1022), Ok(1022), Ok(1023)]);
-    assert_eq!(rt; world.show(), paired(0, 1023, 0));
+    assert_steps(&rt, &mut world, 22, 22);
+    assert_steps(&rt, &mut world, 1000, 1022);
+    assert_steps(&rt, &mut world, 0, 1022);
+    assert_step(&rt, &mut world, 1023);
+    assert_shows(&rt, &world, paired(0, 1023, 0));
     Ok(())
 }
 
@@ -304,7 +295,7 @@ fn the_last_of_16_clients_delivers_and_takes(rt: HostRuntime) -> Result<(), Fail
         Event::Take(17),
     ];
     let wanted = "Delivered(1)\nAdmitted(1)\nTook(None)\nRefused(NoClient)\n";
-    assert!(rt; answers(rt.alloc(), &mut world, &events, wanted)?);
+    assert_answers(&rt, rt.alloc(), &mut world, &events, wanted)?;
     Ok(())
 }
 
@@ -314,45 +305,13 @@ fn a_list_of_10001_events_is_answered_to_its_end(rt: HostRuntime) -> Result<(), 
     let events = after_steps(rt.alloc(), 10_000, &[Event::Cut])?;
     let replies = world.run(events.as_slice())?;
     assert_eq!(rt; replies.len(), 10_001);
-    assert_eq!(rt; world.show(), paired(1, 10_000, 0));
+    assert_shows(&rt, &world, paired(1, 10_000, 0));
     Ok(())
 }
 
-/// The words of the guest that writes ab into each byte of sector 7, and then runs on the spot.
-const WRITER: [u32; 24] = [
-    0x100022b7, 0x00100313, 0x0662a823, 0x00300393, 0x0672a823, 0x0262a223, 0x0262a023, 0x00b00393,
-    0x0672a823, 0x0702a403, 0x0202a823, 0x00400393, 0x0272ac23, 0x800013b7, 0x0872a023, 0x04038393,
-    0x0872a823, 0x04038393, 0x0a72a023, 0x0462a223, 0x00f00393, 0x0672a823, 0x0402a823, 0x0000006f,
-];
-
-/// Its descriptors: the head of the request and the data, which the disk reads, and the status byte, which it writes.
-const REQUEST: [u32; 12] = [
-    0x80001100, 0, 16, 0x10001, 0x80001200, 0, 512, 0x20001, 0x80001110, 0, 1, 2,
-];
-
-/// Its image: the words, the descriptors, an available ring with one entry, the head of a write to sector 7, and the data.
-fn writer(alloc: Global) -> Result<Vec<u8>, Fail> {
-    let mut image = Vec::new(alloc);
-    put_words(&mut image, 0, &WRITER)?;
-    put_words(&mut image, 0x1000, &REQUEST)?;
-    put_words(&mut image, 0x1040, &[0x10000])?;
-    put_words(&mut image, 0x1100, &[1, 0, 7, 0, 0xff])?;
-    fill(&mut image, 0x1200)?;
-    image.extend_from_slice(&repeated(alloc, 0xab, 512)?)?;
-    Ok(image)
-}
-
-fn put_words(image: &mut Vec<u8>, place: usize, words: &[u32]) -> Result<(), Fail> {
-    fill(image, place)?;
-    for word in words {
-        image.extend_from_slice(&word.to_le_bytes())?;
-    }
-    Ok(())
-}
-
-/// A pair whose guest writes sector 7.
+/// A pair whose guest writes ab into each byte of sector 7 with its 23rd step.
 fn writer_pair(alloc: Global) -> Result<Box<World>, Fail> {
-    let image = writer(alloc)?;
+    let image = disk_once(alloc, 7, 0xab)?;
     pair(alloc, &image)
 }
 
@@ -369,13 +328,24 @@ fn is_filled(world: &World, sector: u32, byte: u8) -> bool {
     true
 }
 
+/// The disk has this sector, and each of its bytes is this one.
+fn assert_filled(rt: &impl Abort, world: &World, sector: u32, byte: u8) {
+    assert!(rt; is_filled(world, sector, byte));
+}
+
+/// The disk has only the sectors before this one.
+fn assert_sectors(rt: &impl Abort, world: &World, count: u32) {
+    assert!(rt; world.sector(count).is_none());
+}
+
 #[test]
 fn a_sector_is_the_live_guests(rt: HostRuntime) -> Result<(), Fail> {
     let mut world = writer_pair(rt.alloc())?;
-    let ready = world.run_steps(22).is_ok();
-    assert!(rt; ready && is_filled(&world, 7, 0));
-    let written = world.step().is_ok();
-    assert!(rt; written && is_filled(&world, 7, 0xab) && is_filled(&world, 6, 0));
-    assert!(rt; world.sector(8).is_none());
+    assert_steps(&rt, &mut world, 22, 22);
+    assert_filled(&rt, &world, 7, 0);
+    assert_step(&rt, &mut world, 23);
+    assert_filled(&rt, &world, 7, 0xab);
+    assert_filled(&rt, &world, 6, 0);
+    assert_sectors(&rt, &world, 8);
     Ok(())
 }

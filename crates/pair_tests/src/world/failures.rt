@@ -1,8 +1,12 @@
 //! What is answered where a node fails, and after it: what the backup goes on from, and what lands.
-use super::{FRAME, answers, beacon_pair, idle_pair, is_filled, paired, writer_pair};
+use super::{
+    FRAME, assert_answers, assert_filled, assert_sectors, assert_shows, assert_steps, beacon_pair,
+    idle_pair, paired, writer_pair,
+};
 use memory_wanted::reserve;
-use pair_core::{Event, Mode, Refusal, Show};
+use pair_core::{Event, Mode, Refusal, Show, World};
 use std::fmt::Write;
+use std::process::Abort;
 use std::test::Fail;
 
 /// The printed reply to a client that takes the beacon's frame.
@@ -33,28 +37,34 @@ pub(super) fn alone(generation: u64, steps: u64, entries: u64) -> Show {
 #[test]
 fn the_backup_goes_on_from_its_image_in_mid_epoch(rt: HostRuntime) -> Result<(), Fail> {
     let mut world = beacon_pair(rt.alloc())?;
-    assert_eq!(rt; world.run_steps(10), Ok(10));
+    assert_steps(&rt, &mut world, 10, 10);
     let events = [Event::Cut, Event::Send, Event::BackupGet(0)];
     let wanted =
         "Cut { generation: 1, number: 1 }\nSent(1)\nCommitted { generation: 1, number: 1 }\n";
-    assert!(rt; answers(rt.alloc(), &mut world, &events, wanted)?);
-    assert_eq!(rt; world.run_steps(12), Ok(22));
-    assert!(rt; answers(rt.alloc(), &mut world, &[Event::FailPrimary], "Stopped\n")?);
-    assert_eq!(rt; world.show(), stopped(1, 10, 10));
+    assert_answers(&rt, rt.alloc(), &mut world, &events, wanted)?;
+    assert_steps(&rt, &mut world, 12, 22);
+    assert_answers(
+        &rt,
+        rt.alloc(),
+        &mut world,
+        &[Event::FailPrimary],
+        "Stopped\n",
+    )?;
+    assert_shows(&rt, &world, stopped(1, 10, 10));
     let events = [Event::GoLive, Event::Take(1)];
     let wanted = "Live { generation: 2, steps: 10 }\nTook(None)\n";
-    assert!(rt; answers(rt.alloc(), &mut world, &events, wanted)?);
-    assert_eq!(rt; world.show(), alone(2, 10, 11));
-    assert_eq!(rt; world.run_steps(12), Ok(22));
-    assert!(rt; answers(rt.alloc(), &mut world, &[Event::Take(1)], TOOK_FRAME)?);
-    assert_eq!(rt; world.show(), alone(2, 22, 25));
+    assert_answers(&rt, rt.alloc(), &mut world, &events, wanted)?;
+    assert_shows(&rt, &world, alone(2, 10, 11));
+    assert_steps(&rt, &mut world, 12, 22);
+    assert_answers(&rt, rt.alloc(), &mut world, &[Event::Take(1)], TOOK_FRAME)?;
+    assert_shows(&rt, &world, alone(2, 22, 25));
     Ok(())
 }
 
 #[test]
 fn a_committed_frame_without_its_acknowledgement_lands(rt: HostRuntime) -> Result<(), Fail> {
     let mut world = beacon_pair(rt.alloc())?;
-    assert_eq!(rt; world.run_steps(22), Ok(22));
+    assert_steps(&rt, &mut world, 22, 22);
     let events = [
         Event::Cut,
         Event::Send,
@@ -65,16 +75,16 @@ fn a_committed_frame_without_its_acknowledgement_lands(rt: HostRuntime) -> Resul
     let wanted =
         "Cut { generation: 1, number: 1 }\nSent(1)\nCommitted { generation: 1, number: 1 }\n\
         Stopped\nLive { generation: 2, steps: 22 }\n";
-    assert!(rt; answers(rt.alloc(), &mut world, &events, wanted)?);
-    assert!(rt; answers(rt.alloc(), &mut world, &[Event::Take(1)], TOOK_FRAME)?);
-    assert_eq!(rt; world.show(), alone(2, 22, 24));
+    assert_answers(&rt, rt.alloc(), &mut world, &events, wanted)?;
+    assert_answers(&rt, rt.alloc(), &mut world, &[Event::Take(1)], TOOK_FRAME)?;
+    assert_shows(&rt, &world, alone(2, 22, 24));
     Ok(())
 }
 
 #[test]
 fn a_frame_that_landed_doesnt_land_again(rt: HostRuntime) -> Result<(), Fail> {
     let mut world = beacon_pair(rt.alloc())?;
-    assert_eq!(rt; world.run_steps(22), Ok(22));
+    assert_steps(&rt, &mut world, 22, 22);
     let events = [
         Event::Cut,
         Event::Send,
@@ -86,28 +96,34 @@ fn a_frame_that_landed_doesnt_land_again(rt: HostRuntime) -> Result<(), Fail> {
     let wanted =
         "Cut { generation: 1, number: 1 }\nSent(1)\nCommitted { generation: 1, number: 1 }\n\
         Acked { generation: 1, number: 1, landed: 1 }\nStopped\nLive { generation: 2, steps: 22 }\n";
-    assert!(rt; answers(rt.alloc(), &mut world, &events, wanted)?);
-    assert!(rt; answers(rt.alloc(), &mut world, &[Event::Take(1)], TOOK_FRAME)?);
-    assert!(rt; answers(rt.alloc(), &mut world, &[Event::Take(1)], "Took(None)\n")?);
-    assert_eq!(rt; world.show(), alone(2, 22, 25));
+    assert_answers(&rt, rt.alloc(), &mut world, &events, wanted)?;
+    assert_answers(&rt, rt.alloc(), &mut world, &[Event::Take(1)], TOOK_FRAME)?;
+    assert_answers(
+        &rt,
+        rt.alloc(),
+        &mut world,
+        &[Event::Take(1)],
+        "Took(None)\n",
+    )?;
+    assert_shows(&rt, &world, alone(2, 22, 25));
     Ok(())
 }
 
 #[test]
 fn a_sector_written_after_the_image_is_lost(rt: HostRuntime) -> Result<(), Fail> {
     let mut world = writer_pair(rt.alloc())?;
-    assert_eq!(rt; world.run_steps(23), Ok(23));
+    assert_steps(&rt, &mut world, 23, 23);
     let events = [Event::Cut, Event::FailPrimary, Event::GoLive];
     let wanted = "Cut { generation: 1, number: 1 }\nStopped\nLive { generation: 2, steps: 0 }\n";
-    assert!(rt; answers(rt.alloc(), &mut world, &events, wanted)?);
-    assert!(rt; is_filled(&world, 7, 0));
+    assert_answers(&rt, rt.alloc(), &mut world, &events, wanted)?;
+    assert_filled(&rt, &world, 7, 0);
     Ok(())
 }
 
 #[test]
 fn a_sector_written_before_the_image_stays(rt: HostRuntime) -> Result<(), Fail> {
     let mut world = writer_pair(rt.alloc())?;
-    assert_eq!(rt; world.run_steps(23), Ok(23));
+    assert_steps(&rt, &mut world, 23, 23);
     let events = [
         Event::Cut,
         Event::Send,
@@ -118,23 +134,25 @@ fn a_sector_written_before_the_image_stays(rt: HostRuntime) -> Result<(), Fail> 
     let wanted =
         "Cut { generation: 1, number: 1 }\nSent(1)\nCommitted { generation: 1, number: 1 }\n\
         Stopped\nLive { generation: 2, steps: 23 }\n";
-    assert!(rt; answers(rt.alloc(), &mut world, &events, wanted)?);
-    assert!(rt; is_filled(&world, 7, 0xab));
+    assert_answers(&rt, rt.alloc(), &mut world, &events, wanted)?;
+    assert_filled(&rt, &world, 7, 0xab);
     Ok(())
 }
 
 #[test]
 fn a_sector_of_a_stopped_pair_is_the_images(rt: HostRuntime) -> Result<(), Fail> {
     let mut world = writer_pair(rt.alloc())?;
-    assert_eq!(rt; world.run_steps(23), Ok(23));
-    assert!(rt; is_filled(&world, 7, 0xab));
+    assert_steps(&rt, &mut world, 23, 23);
+    assert_filled(&rt, &world, 7, 0xab);
     let events = [Event::Cut, Event::Send, Event::FailPrimary];
     let wanted = "Cut { generation: 1, number: 1 }\nSent(1)\nStopped\n";
-    assert!(rt; answers(rt.alloc(), &mut world, &events, wanted)?);
-    assert!(rt; is_filled(&world, 7, 0) && world.sector(8).is_none());
+    assert_answers(&rt, rt.alloc(), &mut world, &events, wanted)?;
+    assert_filled(&rt, &world, 7, 0);
+    assert_sectors(&rt, &world, 8);
     let wanted = "Committed { generation: 1, number: 1 }\n";
-    assert!(rt; answers(rt.alloc(), &mut world, &[Event::BackupGet(0)], wanted)?);
-    assert!(rt; is_filled(&world, 7, 0xab) && is_filled(&world, 6, 0));
+    assert_answers(&rt, rt.alloc(), &mut world, &[Event::BackupGet(0)], wanted)?;
+    assert_filled(&rt, &world, 7, 0xab);
+    assert_filled(&rt, &world, 6, 0);
     Ok(())
 }
 
@@ -142,19 +160,18 @@ fn a_sector_of_a_stopped_pair_is_the_images(rt: HostRuntime) -> Result<(), Fail>
 fn a_frame_that_no_commit_covers_never_arrived(rt: HostRuntime) -> Result<(), Fail> {
     let mut world = idle_pair(rt.alloc())?;
     let events = [Event::Deliver(1, &FRAME), Event::Admit(1)];
-    assert!(rt;
-        answers(
-            rt.alloc(),
-            &mut world,
-            &events,
-            "Delivered(1)\nAdmitted(1)\n"
-        )?
-    );
-    assert_eq!(rt; world.show(), paired(0, 0, 1));
+    assert_answers(
+        &rt,
+        rt.alloc(),
+        &mut world,
+        &events,
+        "Delivered(1)\nAdmitted(1)\n",
+    )?;
+    assert_shows(&rt, &world, paired(0, 0, 1));
     let events = [Event::FailPrimary, Event::GoLive, Event::Admit(1)];
     let wanted = "Stopped\nLive { generation: 2, steps: 0 }\nEmpty\n";
-    assert!(rt; answers(rt.alloc(), &mut world, &events, wanted)?);
-    assert_eq!(rt; world.show(), alone(2, 0, 2));
+    assert_answers(&rt, rt.alloc(), &mut world, &events, wanted)?;
+    assert_shows(&rt, &world, alone(2, 0, 2));
     Ok(())
 }
 
@@ -173,8 +190,8 @@ fn a_frame_that_waits_stays_for_the_backup(rt: HostRuntime) -> Result<(), Fail> 
     let wanted =
         "Delivered(1)\nDelivered(2)\nAdmitted(1)\nStopped\nLive { generation: 2, steps: 0 }\n\
         Admitted(2)\nEmpty\n";
-    assert!(rt; answers(rt.alloc(), &mut world, &events, wanted)?);
-    assert_eq!(rt; world.show(), alone(2, 0, 4));
+    assert_answers(&rt, rt.alloc(), &mut world, &events, wanted)?;
+    assert_shows(&rt, &world, alone(2, 0, 4));
     Ok(())
 }
 
@@ -198,14 +215,20 @@ fn what_needs_another_mode_is_refused(rt: HostRuntime) -> Result<(), Fail> {
     let wanted = "Refused(AlreadyPaired)\nStopped\nRefused(Stopped)\nRefused(Stopped)\n\
         Live { generation: 2, steps: 0 }\nRefused(NoImage)\nRefused(NotPaired)\nRefused(NotPaired)\n\
         Refused(NotPaired)\nRefused(NotPaired)\nRefused(NotPaired)\nRefused(NotPaired)\n";
-    assert!(rt; answers(rt.alloc(), &mut world, &events, wanted)?);
+    assert_answers(&rt, rt.alloc(), &mut world, &events, wanted)?;
     Ok(())
+}
+
+/// Neither a step nor many are made, since the primary has stopped.
+fn assert_makes_no_step(rt: &impl Abort, world: &mut World) {
+    assert_eq!(rt; world.step(), Err(Refusal::Stopped));
+    assert_eq!(rt; world.run_steps(5), Err(Refusal::Stopped));
 }
 
 #[test]
 fn a_stopped_primary_does_nothing(rt: HostRuntime) -> Result<(), Fail> {
     let mut world = idle_pair(rt.alloc())?;
-    assert_eq!(rt; world.run_steps(3), Ok(3));
+    assert_steps(&rt, &mut world, 3, 3);
     let events = [
         Event::Cut,
         Event::Send,
@@ -221,19 +244,16 @@ fn a_stopped_primary_does_nothing(rt: HostRuntime) -> Result<(), Fail> {
     let wanted =
         "Cut { generation: 1, number: 1 }\nSent(1)\nStopped\nRefused(Stopped)\nRefused(Stopped)\n\
         Refused(Stopped)\nRefused(Stopped)\nRefused(Stopped)\nRefused(NoClient)\nRefused(Stopped)\n";
-    assert!(rt; answers(rt.alloc(), &mut world, &events, wanted)?);
-    assert_eq!(rt;
-        [world.step(), world.run_steps(5)],
-        [Err(Refusal::Stopped), Err(Refusal::Stopped)]
-    );
-    assert_eq!(rt; world.show(), stopped(1, 0, 0));
+    assert_answers(&rt, rt.alloc(), &mut world, &events, wanted)?;
+    assert_makes_no_step(&rt, &mut world);
+    assert_shows(&rt, &world, stopped(1, 0, 0));
     Ok(())
 }
 
 #[test]
 fn a_stopped_pair_still_commits_and_serves_its_clients(rt: HostRuntime) -> Result<(), Fail> {
     let mut world = idle_pair(rt.alloc())?;
-    assert_eq!(rt; world.run_steps(3), Ok(3));
+    assert_steps(&rt, &mut world, 3, 3);
     let events = [
         Event::Cut,
         Event::Send,
@@ -249,32 +269,32 @@ fn a_stopped_pair_still_commits_and_serves_its_clients(rt: HostRuntime) -> Resul
     let wanted =
         "Cut { generation: 1, number: 1 }\nSent(1)\nStopped\nCommitted { generation: 1, number: 1 }\n\
         Again { generation: 1, number: 1 }\nLost\nDelivered(1)\nDropped\nEmpty\nTook(None)\n";
-    assert!(rt; answers(rt.alloc(), &mut world, &events, wanted)?);
-    assert_eq!(rt; world.show(), stopped(1, 3, 6));
+    assert_answers(&rt, rt.alloc(), &mut world, &events, wanted)?;
+    assert_shows(&rt, &world, stopped(1, 3, 6));
     Ok(())
 }
 
 #[test]
 fn what_the_gate_held_lands_where_the_backup_fails(rt: HostRuntime) -> Result<(), Fail> {
     let mut world = beacon_pair(rt.alloc())?;
-    assert_eq!(rt; world.run_steps(22), Ok(22));
+    assert_steps(&rt, &mut world, 22, 22);
     let events = [Event::Cut, Event::Take(1), Event::FailBackup];
     let wanted =
         "Cut { generation: 1, number: 1 }\nTook(None)\nAlone { generation: 1, landed: 1 }\n";
-    assert!(rt; answers(rt.alloc(), &mut world, &events, wanted)?);
-    assert_eq!(rt; world.show(), alone(1, 22, 24));
-    assert!(rt; answers(rt.alloc(), &mut world, &[Event::Take(1)], TOOK_FRAME)?);
+    assert_answers(&rt, rt.alloc(), &mut world, &events, wanted)?;
+    assert_shows(&rt, &world, alone(1, 22, 24));
+    assert_answers(&rt, rt.alloc(), &mut world, &[Event::Take(1)], TOOK_FRAME)?;
     Ok(())
 }
 
 #[test]
 fn the_outbox_lands_where_the_backup_fails(rt: HostRuntime) -> Result<(), Fail> {
     let mut world = beacon_pair(rt.alloc())?;
-    assert_eq!(rt; world.run_steps(22), Ok(22));
+    assert_steps(&rt, &mut world, 22, 22);
     let wanted = "Alone { generation: 1, landed: 1 }\n";
-    assert!(rt; answers(rt.alloc(), &mut world, &[Event::FailBackup], wanted)?);
-    assert!(rt; answers(rt.alloc(), &mut world, &[Event::Take(1)], TOOK_FRAME)?);
-    assert_eq!(rt; world.show(), alone(1, 22, 24));
+    assert_answers(&rt, rt.alloc(), &mut world, &[Event::FailBackup], wanted)?;
+    assert_answers(&rt, rt.alloc(), &mut world, &[Event::Take(1)], TOOK_FRAME)?;
+    assert_shows(&rt, &world, alone(1, 22, 24));
     Ok(())
 }
 
@@ -282,25 +302,31 @@ fn the_outbox_lands_where_the_backup_fails(rt: HostRuntime) -> Result<(), Fail> 
 fn what_a_node_alone_sends_lands_at_once(rt: HostRuntime) -> Result<(), Fail> {
     let mut world = beacon_pair(rt.alloc())?;
     let wanted = "Alone { generation: 1, landed: 0 }\n";
-    assert!(rt; answers(rt.alloc(), &mut world, &[Event::FailBackup], wanted)?);
-    assert_eq!(rt; world.run_steps(21), Ok(21));
+    assert_answers(&rt, rt.alloc(), &mut world, &[Event::FailBackup], wanted)?;
+    assert_steps(&rt, &mut world, 21, 21);
     let events = [Event::Take(1), Event::Step];
-    assert!(rt; answers(rt.alloc(), &mut world, &events, "Took(None)\nSteps(22)\n")?);
-    assert!(rt; answers(rt.alloc(), &mut world, &[Event::Take(1)], TOOK_FRAME)?);
-    assert_eq!(rt; world.show(), alone(1, 22, 25));
+    assert_answers(
+        &rt,
+        rt.alloc(),
+        &mut world,
+        &events,
+        "Took(None)\nSteps(22)\n",
+    )?;
+    assert_answers(&rt, rt.alloc(), &mut world, &[Event::Take(1)], TOOK_FRAME)?;
+    assert_shows(&rt, &world, alone(1, 22, 25));
     Ok(())
 }
 
 #[test]
 fn many_steps_alone_are_few_stored_entries(rt: HostRuntime) -> Result<(), Fail> {
     let mut world = idle_pair(rt.alloc())?;
-    assert!(rt; world.run_steps(100) == Ok(100));
+    assert_steps(&rt, &mut world, 100, 100);
     drop(world.apply(Event::FailBackup));
     for _ in 0..100 {
         drop(world.step());
     }
-    assert!(rt; world.run_steps(100_000) == Ok(100_200));
-    assert_eq!(rt; world.show(), alone(1, 100_200, 100_200));
+    assert_steps(&rt, &mut world, 100_000, 100_200);
+    assert_shows(&rt, &world, alone(1, 100_200, 100_200));
     let history = world.history();
     assert_eq!(rt; (history.len(), history.entries().count()), (100_200, 1));
     Ok(())
@@ -310,15 +336,12 @@ fn many_steps_alone_are_few_stored_entries(rt: HostRuntime) -> Result<(), Fail> 
 fn many_steps_of_a_node_alone_are_made_in_one_call(rt: HostRuntime) -> Result<(), Fail> {
     let mut world = beacon_pair(rt.alloc())?;
     let wanted = "Alone { generation: 1, landed: 0 }\n";
-    assert!(rt; answers(rt.alloc(), &mut world, &[Event::FailBackup], wanted)?);
-    let counts = [
-        world.run_steps(22),
-        world.run_steps(12_000),
-        world.run_steps(0),
-    ];
-    assert_eq!(rt; counts, [Ok(22), Ok(12_022), Ok(12_022)]);
-    assert_eq!(rt; world.show(), alone(1, 12_022, 12_023));
-    assert!(rt; answers(rt.alloc(), &mut world, &[Event::Take(1)], TOOK_FRAME)?);
+    assert_answers(&rt, rt.alloc(), &mut world, &[Event::FailBackup], wanted)?;
+    assert_steps(&rt, &mut world, 22, 22);
+    assert_steps(&rt, &mut world, 12_000, 12_022);
+    assert_steps(&rt, &mut world, 0, 12_022);
+    assert_shows(&rt, &world, alone(1, 12_022, 12_023));
+    assert_answers(&rt, rt.alloc(), &mut world, &[Event::Take(1)], TOOK_FRAME)?;
     Ok(())
 }
 

@@ -1,6 +1,6 @@
 //! Packets that come late, again and again, or out of order, and acknowledgements of a generation that has ended.
 
-use super::{answers, beacon_pair, counted, idle_pair};
+use super::{assert_answers, assert_shows, beacon_pair, counted, idle_pair};
 use pair_core::{Event, Mode, Refusal, Reply, Show, World};
 use std::alloc::Global;
 use std::process::Abort;
@@ -67,7 +67,7 @@ fn packets_that_come_again_do_nothing(rt: HostRuntime) -> Result<(), Fail> {
         steps: 4,
         entries: 4,
     };
-    assert_eq!(rt; world.show(), shown);
+    assert_shows(&rt, &world, shown);
     Ok(())
 }
 
@@ -75,7 +75,13 @@ fn packets_that_come_again_do_nothing(rt: HostRuntime) -> Result<(), Fail> {
 fn an_acknowledgement_of_an_old_generation_is_stale(rt: HostRuntime) -> Result<(), Fail> {
     let mut world = beacon_pair(rt.alloc())?;
     let steps = counted(rt.alloc(), 22)?;
-    assert!(rt; answers(rt.alloc(), &mut world, &[Event::Step; 22], steps.as_str())?);
+    assert_answers(
+        &rt,
+        rt.alloc(),
+        &mut world,
+        &[Event::Step; 22],
+        steps.as_str(),
+    )?;
     let events = [
         Event::Cut,
         Event::Cut,
@@ -95,6 +101,6 @@ fn an_acknowledgement_of_an_old_generation_is_stale(rt: HostRuntime) -> Result<(
         Sent(3)\nCommitted { generation: 1, number: 1 }\nCommitted { generation: 1, number: 2 }\n\
         Committed { generation: 1, number: 3 }\nAlone { generation: 1, landed: 1 }\nProtecting(2)\nRefused(Stale)\n\
         Took(Some([2, 0, 0, 0, 1, 1, 2, 0, 0, 0, 0, 1, 136, 181]))\nTook(None)\n";
-    assert!(rt; answers(rt.alloc(), &mut world, &events, wanted)?);
+    assert_answers(&rt, rt.alloc(), &mut world, &events, wanted)?;
     Ok(())
 }

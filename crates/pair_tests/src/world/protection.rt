@@ -1,6 +1,9 @@
 //! What is answered where a node that is alone gets a new backup: generations, and what is held in them.
 use super::failures::{TOOK_FRAME, alone};
-use super::{FRAME, answers, beacon_pair, idle_pair, is_filled, writer_pair};
+use super::{
+    FRAME, assert_answers, assert_filled, assert_shows, assert_steps, beacon_pair, idle_pair,
+    writer_pair,
+};
 use pair_core::{Event, Mode, Show};
 use std::test::Fail;
 
@@ -19,16 +22,15 @@ fn shown(mode: Mode, generation: u64, pending: u64, steps: u64, entries: u64) ->
 fn a_new_backup_takes_the_full_checkpoint_first(rt: HostRuntime) -> Result<(), Fail> {
     let mut world = beacon_pair(rt.alloc())?;
     let events = [Event::FailBackup, Event::Protect];
-    assert!(rt;
-        answers(
-            rt.alloc(),
-            &mut world,
-            &events,
-            "Alone { generation: 1, landed: 0 }\nProtecting(2)\n"
-        )?
-    );
-    assert_eq!(rt; world.show(), shown(Mode::Filling, 2, 1, 0, 0));
-    assert_eq!(rt; world.run_steps(22), Ok(22));
+    assert_answers(
+        &rt,
+        rt.alloc(),
+        &mut world,
+        &events,
+        "Alone { generation: 1, landed: 0 }\nProtecting(2)\n",
+    )?;
+    assert_shows(&rt, &world, shown(Mode::Filling, 2, 1, 0, 0));
+    assert_steps(&rt, &mut world, 22, 22);
     let events = [
         Event::Cut,
         Event::Send,
@@ -37,8 +39,8 @@ fn a_new_backup_takes_the_full_checkpoint_first(rt: HostRuntime) -> Result<(), F
     ];
     let wanted = "Cut { generation: 2, number: 1 }\nSent(2)\nRefused(Gap)\n\
         Committed { generation: 2, number: 0 }\n";
-    assert!(rt; answers(rt.alloc(), &mut world, &events, wanted)?);
-    assert_eq!(rt; world.show(), shown(Mode::Paired, 2, 2, 22, 0));
+    assert_answers(&rt, rt.alloc(), &mut world, &events, wanted)?;
+    assert_shows(&rt, &world, shown(Mode::Paired, 2, 2, 22, 0));
     let events = [
         Event::AckGet(0),
         Event::Take(1),
@@ -50,8 +52,8 @@ fn a_new_backup_takes_the_full_checkpoint_first(rt: HostRuntime) -> Result<(), F
         Committed { generation: 2, number: 1 }\nAcked { generation: 2, number: 1, landed: 1 }\n";
     let mut all = String::from_str(rt.alloc(), wanted)?;
     all.push_str(TOOK_FRAME)?;
-    assert!(rt; answers(rt.alloc(), &mut world, &events, all.as_str())?);
-    assert_eq!(rt; world.show(), shown(Mode::Paired, 2, 0, 22, 25));
+    assert_answers(&rt, rt.alloc(), &mut world, &events, all.as_str())?;
+    assert_shows(&rt, &world, shown(Mode::Paired, 2, 0, 22, 25));
     Ok(())
 }
 
@@ -77,7 +79,7 @@ fn messages_of_the_generation_before_are_stale(rt: HostRuntime) -> Result<(), Fa
         Alone { generation: 1, landed: 0 }\nProtecting(2)\nSent(1)\nRefused(Stale)\nRefused(Stale)\n\
         Committed { generation: 2, number: 0 }\nRefused(Stale)\n\
         Acked { generation: 2, number: 0, landed: 0 }\nRefused(Stale)\n";
-    assert!(rt; answers(rt.alloc(), &mut world, &events, wanted)?);
+    assert_answers(&rt, rt.alloc(), &mut world, &events, wanted)?;
     Ok(())
 }
 
@@ -96,25 +98,24 @@ fn what_a_filling_pair_took_in_stays_where_its_backup_fails(rt: HostRuntime) -> 
     let wanted =
         "Alone { generation: 1, landed: 0 }\nProtecting(2)\nDelivered(1)\nAdmitted(1)\nRefused(NoImage)\n\
         Refused(AlreadyPaired)\nRefused(AlreadyPaired)\n";
-    assert!(rt; answers(rt.alloc(), &mut world, &events, wanted)?);
-    assert_eq!(rt; world.show(), shown(Mode::Filling, 2, 1, 0, 1));
+    assert_answers(&rt, rt.alloc(), &mut world, &events, wanted)?;
+    assert_shows(&rt, &world, shown(Mode::Filling, 2, 1, 0, 1));
     let events = [Event::FailBackup, Event::Admit(1)];
-    assert!(rt;
-        answers(
-            rt.alloc(),
-            &mut world,
-            &events,
-            "Alone { generation: 2, landed: 0 }\nEmpty\n"
-        )?
-    );
-    assert_eq!(rt; world.show(), alone(2, 0, 2));
+    assert_answers(
+        &rt,
+        rt.alloc(),
+        &mut world,
+        &events,
+        "Alone { generation: 2, landed: 0 }\nEmpty\n",
+    )?;
+    assert_shows(&rt, &world, alone(2, 0, 2));
     Ok(())
 }
 
 #[test]
 fn a_new_backup_goes_on_with_the_disk(rt: HostRuntime) -> Result<(), Fail> {
     let mut world = writer_pair(rt.alloc())?;
-    assert_eq!(rt; world.run_steps(23), Ok(23));
+    assert_steps(&rt, &mut world, 23, 23);
     let events = [
         Event::FailBackup,
         Event::Protect,
@@ -124,11 +125,12 @@ fn a_new_backup_goes_on_with_the_disk(rt: HostRuntime) -> Result<(), Fail> {
     ];
     let wanted = "Alone { generation: 1, landed: 0 }\nProtecting(2)\nSent(1)\n\
         Committed { generation: 2, number: 0 }\nStopped\n";
-    assert!(rt; answers(rt.alloc(), &mut world, &events, wanted)?);
-    assert!(rt; is_filled(&world, 7, 0xab) && is_filled(&world, 6, 0));
+    assert_answers(&rt, rt.alloc(), &mut world, &events, wanted)?;
+    assert_filled(&rt, &world, 7, 0xab);
+    assert_filled(&rt, &world, 6, 0);
     let events = [Event::Protect, Event::GoLive, Event::Protect];
     let wanted = "Refused(Stopped)\nLive { generation: 3, steps: 23 }\nProtecting(4)\n";
-    assert!(rt; answers(rt.alloc(), &mut world, &events, wanted)?);
-    assert!(rt; is_filled(&world, 7, 0xab));
+    assert_answers(&rt, rt.alloc(), &mut world, &events, wanted)?;
+    assert_filled(&rt, &world, 7, 0xab);
     Ok(())
 }

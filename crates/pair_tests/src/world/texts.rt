@@ -1,7 +1,8 @@
 //! Checkpoints on their way, as bytes.
-use super::{SHAPE, answers, beacon, idle_pair, paired};
+use super::{SHAPE, assert_answers, assert_shows, idle_pair, paired};
 use checkpoint_stream::encode;
 use epoch_snapshot::cut_delta;
+use guest_kit::beacon;
 use guest_machine::Machine;
 use pair_core::{Event, Shape};
 use std::alloc::Global;
@@ -41,14 +42,13 @@ fn an_idle_pair_goes_on_for_three_hundred_acknowledged_epochs(rt: HostRuntime) -
         ])?;
     }
     drop(world.run(events.as_slice())?);
-    assert!(rt; world.show() == paired(0, 300, 300));
-    assert!(rt;
-        answers(
-            rt.alloc(),
-            &mut world,
-            &[Event::AckGet(299), Event::BackupGet(299)],
-            "Acked { generation: 1, number: 300, landed: 0 }\nAgain { generation: 1, number: 300 }\n",
-        )?
-    );
+    assert_shows(&rt, &world, paired(0, 300, 300));
+    assert_answers(
+        &rt,
+        rt.alloc(),
+        &mut world,
+        &[Event::AckGet(299), Event::BackupGet(299)],
+        "Acked { generation: 1, number: 300, landed: 0 }\nAgain { generation: 1, number: 300 }\n",
+    )?;
     Ok(())
 }

@@ -1,5 +1,6 @@
-//! What no clause says: that calls succeed where there is memory, and that a reservation that can't be met is refused.
-use crate::{Entry, History};
+//! What no clause of [`pair_history`] says: that calls succeed where there is memory, and that a reservation that can't be met is refused.
+
+use pair_history::{Entry, History};
 use std::test::Fail;
 
 #[test]

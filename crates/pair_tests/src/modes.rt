@@ -1,5 +1,6 @@
-//! What no clause says: printed words, a pair's life in order, and the table once more by its numbers.
-use super::*;
+//! What no clause of [`failover`] says: printed words, a pair's life in order, and the table once more by its numbers.
+
+use failover::{Change, FailoverError, Mode};
 use std::process::Abort;
 use std::test::Fail;
 

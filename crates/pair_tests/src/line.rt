@@ -1,6 +1,8 @@
-//! What no clause says: a line at concrete types, through its bound, and a refusal of memory.
-use super::*;
+//! What no clause of [`lossy_line`] says: a line at concrete types, through its bound, and a refusal of memory.
+
+use lossy_line::{Line, LineError};
 use std::alloc::{AllocError, Global};
+use std::process::Abort;
 use std::test::Fail;
 
 /// A line on which these packets were sent, and the numbers that they were given.
@@ -16,25 +18,38 @@ fn sent<P: Drop + Copy>(alloc: Global, packets: &[P]) -> Result<(Line<P>, Vec<u6
     Ok((line, numbers))
 }
 
+/// The packet of a number, where it is to be had.
+fn assert_got(rt: &impl Abort, line: &Line<u8>, number: u64, packet: Option<u8>) {
+    assert_eq!(rt; line.get(number), packet.as_ref(), "packet {number}");
+}
+
 #[test]
 fn a_packet_comes_as_it_was_sent_however_often(rt: HostRuntime) -> Result<(), Fail> {
     let (mut line, numbers) = sent(rt.alloc(), &[70u8, 71, 72])?;
     assert_eq!(rt; numbers.as_slice(), [0, 1, 2].as_slice());
     assert_eq!(rt; line.len(), 3);
-    assert_eq!(rt; line.get(2), Some(&72));
-    assert_eq!(rt; line.get(0), Some(&70));
-    assert_eq!(rt; line.get(2), Some(&72));
-    assert_eq!(rt; line.get(3), None);
-    assert_eq!(rt; line.get(u64::MAX), None);
+    assert_got(&rt, &line, 2, Some(72));
+    assert_got(&rt, &line, 0, Some(70));
+    assert_got(&rt, &line, 2, Some(72));
+    assert_got(&rt, &line, 3, None);
+    assert_got(&rt, &line, u64::MAX, None);
+    assert_eq!(rt; line.send(73)?, 3);
+    assert_got(&rt, &line, 3, Some(73));
+    Ok(())
+}
+
+#[test]
+fn a_dropped_packet_never_comes(rt: HostRuntime) -> Result<(), Fail> {
+    let (mut line, _) = sent(rt.alloc(), &[70u8, 71, 72])?;
     line.drop(1);
-    assert_eq!(rt; line.get(1), None);
-    assert_eq!(rt; line.get(0), Some(&70));
-    assert_eq!(rt; line.get(2), Some(&72));
+    assert_got(&rt, &line, 1, None);
+    assert_got(&rt, &line, 0, Some(70));
+    assert_got(&rt, &line, 2, Some(72));
     line.drop(1);
     line.drop(7);
     assert_eq!(rt; line.len(), 3);
     assert_eq!(rt; line.send(73)?, 3);
-    assert_eq!(rt; line.get(3), Some(&73));
+    assert_got(&rt, &line, 3, Some(73));
     Ok(())
 }
 
@@ -87,7 +102,7 @@ fn four_packets_come_a_hundred_times_each_in_either_order(rt: HostRuntime) -> Re
     for order in [rising, reversed] {
         for _ in 0..100u8 {
             for (number, packet) in order {
-                assert_eq!(rt; line.get(number), Some(&packet), "packet {number}");
+                assert_got(&rt, &line, number, Some(packet));
             }
         }
     }
