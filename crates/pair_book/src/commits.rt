@@ -90,13 +90,6 @@ impl<P: Pair> Book<P> {
         None
     }
 
-    /// Whether this checkpoint's number is below the next one that is to be committed: one of the current generation was committed then.
-    pub fn is_earlier(&self, checkpoint: &Checkpoint) -> bool
-        ensures { result ≡ is_earlier self.now checkpoint.now }
-    {
-        checkpoint.number() < self.record.to_commit()
-    }
-
     /// The acknowledgement of the last committed checkpoint.
     fn last_ack(&self) -> Ack
         requires { 0 < self.now.protocol.window.to_commit }
