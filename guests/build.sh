@@ -43,6 +43,7 @@ done
 for name in account tally disk counter stream; do
     compile $name
 done
+compile caller --pages 3
 compile ping lib/interrupts.s
 
 # The loops of bench/loops.sh are assembled as they stand.
