@@ -178,9 +178,12 @@ impl<P: Pair> Backup<P> {
             read,
             mut seat,
         } = self;
-        let answer = {
+        // The texts that were pending are given back after the lock.
+        let (answer, _texts) = {
             let mut held = shared.book.lock(rt);
-            go_live(&mut *held, &shared.clock, &mut seat, &image)
+            let texts = held.keep_texts();
+            let answer = go_live(&mut *held, &shared.clock, &mut seat, &image);
+            (answer, texts)
         };
         match answer {
             Ok(runner) => {

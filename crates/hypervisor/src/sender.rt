@@ -59,7 +59,12 @@ impl<P: Pair> Sender<P> {
         ensures { IfErr result (Contains ack_refusals) }
     {
         let shared = &*self.shared;
-        let mut held = shared.book.lock(rt);
-        acked(&mut *held, &shared.clock, ack)
+        // The texts that are no longer pending are given back after the lock.
+        let (answer, _texts) = {
+            let mut held = shared.book.lock(rt);
+            let texts = held.keep_texts();
+            (acked(&mut *held, &shared.clock, ack), texts)
+        };
+        answer
     }
 }

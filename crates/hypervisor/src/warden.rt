@@ -108,13 +108,21 @@ impl<P: Pair> Warden<P> {
         ensures why { IfErr result (Contains (fail_refusals node)) }
     {
         let shared = &*self.shared;
-        let mut held = shared.book.lock(rt);
         match node {
             Node::Primary => {
+                let mut held = shared.book.lock(rt);
                 fail_primary(&mut *held, &shared.clock)?;
                 Ok(0)
             }
-            Node::Backup => fail_backup(&mut *held, &shared.clock),
+            Node::Backup => {
+                // The texts that were pending are given back after the lock.
+                let (answer, _texts) = {
+                    let mut held = shared.book.lock(rt);
+                    let texts = held.keep_texts();
+                    (fail_backup(&mut *held, &shared.clock), texts)
+                };
+                answer
+            }
         }
     }
 

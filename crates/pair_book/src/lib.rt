@@ -13,6 +13,7 @@ mod failures;
 mod gained;
 mod going_live;
 mod handing;
+mod kept_texts;
 mod laws;
 mod losses;
 mod opening;
@@ -27,6 +28,7 @@ mod texts;
 
 pub use book::{Book, LINE_SEAT};
 pub use failures::Ack;
+pub use kept_texts::KeptTexts;
 pub use laws::{members_begin, members_go_on, runners_bring_what_they_have};
 pub use losses::{LineSeat, Loss};
 pub use opening::{Members, NewBook, UnnamedBook};

@@ -100,6 +100,17 @@ impl Packet {
             text: one_more(self.alloc, &self.text)?,
         })
     }
+
+    /// A handle to the text, where one can be had without a copy: all but always.
+    pub(crate) fn handle(&self) -> Option<Arc<Vec<u8>, Global>> {
+        let SharedBytes::Shared(handle) = &self.text else {
+            return None;
+        };
+        match Arc::try_clone(handle) {
+            Ok(other) => Some(other),
+            Err(_) => None,
+        }
+    }
 }
 
 /// A handle to these bytes.

@@ -10,7 +10,7 @@ use std::alloc::Global;
 use std::marker::Model;
 
 /// How many checkpoints are pending at most.
-const MOST_PENDING: usize = 4;
+pub(crate) const MOST_PENDING: usize = 4;
 
 /// The packets of the pending checkpoints, by rising number, and the number of the one that was given last in this generation. The places
 /// of all are reserved at the start: of the calls only [`Texts::next`] may want memory.
@@ -41,6 +41,13 @@ impl Texts {
             packets: with_capacity(alloc, MOST_PENDING)?,
             given: None,
         })
+    }
+
+    /// The packets, the least number first.
+    pub(crate) fn packets(&self) -> &[Packet]
+        ensures { result.now ≡ self.now.packets }
+    {
+        &self.packets
     }
 
     /// One more checkpoint is pending: it was sealed with this packet's text.
