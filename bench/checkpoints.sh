@@ -67,15 +67,15 @@ done | awk -v rounds="$rounds" '{ here = ($3 + $4 - $5 - $6) / rounds * 1e6 }
 # again, and of 256 long frames each.
 python3 bench/streams.py "$folder"
 for frames in 0x64 1x64 16x64 256x64 1x1514 16x1514 256x1514; do
-    rounds=$((40000000 / (${frames%x*} * ${frames#*x} + 1000)))
+    rounds=$((400000000 / (${frames%x*} * ${frames#*x} + 1000)))
     proved=$("$epochs" frames "$folder/$frames" 2 1 "$rounds")
-    plain=$("$interpreter" frames "$folder/$frames" "$rounds")
+    plain=$("$interpreter" frames "$folder/$frames" 2 1 "$rounds")
     [ "$proved" = "$plain" ] || {
         echo "$frames: $proved bytes, and $plain in plain Rust" >&2
         exit 1
     }
     awk -v frames="$frames" -v rounds="$rounds" -v a="$(seconds "$epochs" frames "$folder/$frames" 2 1 "$rounds")" \
-        -v b="$(seconds "$interpreter" frames "$folder/$frames" "$rounds")" 'BEGIN {
+        -v b="$(seconds "$interpreter" frames "$folder/$frames" 2 1 "$rounds")" 'BEGIN {
         printf "frames %8s: %9.2f us encoded and read, plain Rust %9.2f us, ratio %.2f\n", frames, a / rounds * 1e6, b / rounds * 1e6, a / b
     }'
 done

@@ -1,7 +1,7 @@
 //! The frames of a checkpoint: their count, and of each its length and its bytes. With the count their places are reserved, so that none of
 //! them takes memory, and a reader never goes back from one.
 
-ghost use Rattle.std.specs.Prelude.{◌≡◌, ◌<◌, ◌≤◌, ◌+◌, ◌++◌, length, take, OnOk, OnErr};
+ghost use Rattle.std.specs.Prelude.{◌≡◌, ◌<◌, ◌≤◌, ◌+◌, ◌++◌, ◌∷◌, [], length, take, vec_capacity, OnOk, OnErr};
 ghost use Rattle.checkpoint_stream.specs.Readings.{most_frames, moved, frame_count_judged, frame_length_judged, frame_judged};
 ghost use Rattle.checkpoint_stream.specs.Taken.{Takes};
 ghost use Rattle.checkpoint_stream.specs.declared.place.Place.TheVariants.{FrameCount, FrameLength, FrameBytes};
@@ -72,7 +72,7 @@ impl Parts {
     {
         let held = self.part.len();
         if held == 0 && len as usize <= rest.len() {
-            self.keep_frame(left, len, frame_of(&rest[..len as usize]));
+            self.keep_bytes(left, len, &rest[..len as usize]);
             return len as usize;
         }
         let taken = (len as usize - held).min(rest.len());
@@ -82,6 +82,20 @@ impl Parts {
             self.keep_frame(left, len, frame);
         }
         taken
+    }
+
+    /// Keeps the frame of these bytes, which are as many as were due.
+    #[tactic(auto, unfolding(crate::specs::Readings::frame_judged))]
+    fn keep_bytes(&mut self, left: u32, len: u32, bytes: &[u8])
+        requires place { self.old.place ≡ FrameBytes left len }
+        requires whole { length bytes.now ≡ len }
+        ensures { self.new ≡ frame_judged self.old left len bytes.now }
+    {
+        put_frame(&mut self.frames, bytes);
+        self.offset = self.offset.wrapping_add(u64::from(len));
+        self.place = frames_due(left);
+        self.filled = 0;
+        self.part.clear();
     }
 
     /// Keeps a frame, which has as many bytes as were due.
@@ -99,14 +113,16 @@ impl Parts {
     }
 }
 
-/// The frame of these bytes.
-fn frame_of(bytes: &[u8]) -> Frame
-    requires { length bytes.now ≤ 1514 }
-    ensures { result ≡ record { items = bytes.now } }
+/// Puts the frame of these bytes last, in a place that was reserved. They are copied once, to where the frame lies then.
+fn put_frame(frames: &mut Vec<Frame>, bytes: &[u8])
+    requires room { length frames.old.items < vec_capacity frames.old }
+    requires few { length bytes.now ≤ 1514 }
+    ensures last { frames.new.items ≡ frames.old.items ++ record { items = bytes.now } ∷ [] }
+    ensures kept { vec_capacity frames.new ≡ vec_capacity frames.old }
 {
-    let mut frame = Frame::new();
-    put_in(&mut frame, bytes);
-    frame
+    let last = frames.len();
+    frames.push_reserved(Frame::new());
+    put_in(&mut frames[last], bytes);
 }
 
 /// Puts bytes at the end of a frame that has room for them.

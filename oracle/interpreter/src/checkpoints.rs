@@ -1,12 +1,12 @@
 //! Epochs of a checkpoint in plain Rust: pages change, and those that were written are compared with what they were, XORed, encoded,
-//! decoded and applied to a second memory. The bytes are those of docs/CHECKPOINT.md, with a head of zeros but for its counts.
+//! decoded and applied to a second memory. The bytes are those of docs/CHECKPOINT.md, of a guest at boot.
+
+use crate::head::{self, Head};
 
 pub const PAGE: usize = 4096;
 pub const BLOCK: usize = 64;
 pub const SECTOR: usize = 512;
 const PAGES: usize = 16384;
-/// The bytes of the head, before the count of the page records.
-const HEAD: usize = 524;
 
 type Block = [u8; BLOCK];
 
@@ -16,42 +16,55 @@ struct Memory {
     written: Vec<bool>,
 }
 
-/// The page records, their blocks, the sector records, and the frames.
-#[derive(Default)]
+/// The head, the page records, their blocks, the sector records, and the frames.
 pub struct Delta {
+    pub head: Head,
     pub pages: Vec<(u32, u64)>,
     pub blocks: Vec<Block>,
     pub sectors: Vec<(u32, [u8; SECTOR])>,
     pub frames: Vec<Vec<u8>>,
 }
 
+impl Delta {
+    /// A checkpoint without records and frames.
+    pub fn new(head: Head) -> Delta {
+        Delta {
+            head,
+            pages: Vec::new(),
+            blocks: Vec::new(),
+            sectors: Vec::new(),
+            frames: Vec::new(),
+        }
+    }
+}
+
 /// Runs so many epochs, in each of which so many blocks of so many pages change. Answers how many bytes their checkpoints had.
 pub fn run(pages: usize, blocks: usize, rounds: u64) -> u64 {
     let mut live = Memory::new();
     let mut image = vec![0; PAGES * PAGE];
-    let mut bytes = 0;
-    for _ in 0..rounds {
+    let (mut bytes, shape) = (0, [PAGES as u64, 1]);
+    for number in 1..=rounds {
         live.change(pages, blocks);
-        let text = encode(&live.cut());
+        let text = encode(&live.cut(head::head(shape, number)));
         live.settle();
         bytes += text.len() as u64;
         apply(
             &mut image,
-            &decode(&text).expect("what was encoded is read back"),
+            &decode(&text, shape).expect("what was encoded is read back"),
         );
     }
     assert!(image == live.bytes, "the image is the memory");
     bytes
 }
 
-/// Encodes and reads a checkpoint so many times. Answers how many bytes its texts had.
-pub fn copy(text: &[u8], rounds: u64) -> u64 {
-    let mut delta = decode(text).expect("a checkpoint");
+/// Encodes and reads a checkpoint of that many pages and sectors so many times. Answers how many bytes its texts had.
+pub fn copy(text: &[u8], shape: [u64; 2], rounds: u64) -> u64 {
+    let mut delta = decode(text, shape).expect("a checkpoint");
     let mut bytes = 0;
     for _ in 0..rounds {
         let text = std::hint::black_box(encode(&delta));
         bytes += text.len() as u64;
-        delta = decode(&text).expect("what was encoded is read back");
+        delta = decode(&text, shape).expect("what was encoded is read back");
     }
     bytes
 }
@@ -77,8 +90,8 @@ impl Memory {
         }
     }
 
-    fn cut(&self) -> Delta {
-        let mut delta = Delta::default();
+    fn cut(&self, head: Head) -> Delta {
+        let mut delta = Delta::new(head);
         for page in 0..PAGES {
             if !self.written[page] {
                 continue;
@@ -123,13 +136,14 @@ fn xor_into(bytes: &mut [u8], change: &Block) {
 
 pub fn encode(delta: &Delta) -> Vec<u8> {
     let mut text = Vec::with_capacity(
-        HEAD + 12
+        head::BYTES
+            + 12
             + 12 * delta.pages.len()
             + BLOCK * delta.blocks.len()
             + (4 + SECTOR) * delta.sectors.len()
             + delta.frames.iter().map(|frame| 4 + frame.len()).sum::<usize>(),
     );
-    text.resize(HEAD, 0);
+    head::put(&mut text, &delta.head);
     text.extend_from_slice(&(delta.pages.len() as u32).to_le_bytes());
     let mut blocks = delta.blocks.iter();
     for (page, mask) in &delta.pages {
@@ -152,9 +166,10 @@ pub fn encode(delta: &Delta) -> Vec<u8> {
     text
 }
 
-fn decode(text: &[u8]) -> Option<Delta> {
-    let mut delta = Delta::default();
-    let (count, mut rest) = text.get(HEAD..)?.split_first_chunk::<4>()?;
+fn decode(text: &[u8], shape: [u64; 2]) -> Option<Delta> {
+    let (head, rest) = head::split(text, shape)?;
+    let mut delta = Delta::new(head);
+    let (count, mut rest) = rest.split_first_chunk::<4>()?;
     let mut from = 0;
     for _ in 0..u32::from_le_bytes(*count) {
         let (page, after) = rest.split_first_chunk::<4>()?;

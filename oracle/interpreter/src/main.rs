@@ -5,7 +5,8 @@
 //! `interpreter until WORDS MOST` runs until the guest jumps to itself, and says after how many steps that is.
 //! `interpreter sim SCRIPT` plays a script of `remus sim` whose guest is given as words.
 //! `interpreter copy BYTES TIMES` copies so many bytes in memory so often.
-//! `interpreter frames FILE ROUNDS` encodes and reads the checkpoint of a file again and again, and prints the bytes of all texts.
+//! `interpreter frames FILE PAGES SECTORS ROUNDS` encodes and reads the checkpoint of a file, of such a machine, again and again, and prints
+//! the bytes of all texts.
 //! `interpreter checkpoints PAGES BLOCKS ROUNDS` runs epochs in which so many blocks of so many pages change, and prints their bytes.
 //! `interpreter images COUNT` runs images from a fixed sequence, 1000 steps each, and prints one number of all that they leave.
 //! `interpreter protect PAGES SECTORS WORDS STEPS ZEROS ROUNDS` runs words for so many steps, makes an empty backup and a full checkpoint so
@@ -16,6 +17,7 @@
 mod checkpoints;
 mod csrs;
 mod hart;
+mod head;
 mod images;
 mod pair;
 mod protect;
@@ -51,10 +53,11 @@ fn main() {
                 rounds.parse().expect("a number of rounds"),
             )
         ),
-        ["frames", file, rounds] => println!(
+        ["frames", file, pages, sectors, rounds] => println!(
             "{}",
             checkpoints::copy(
                 &std::fs::read(file).expect("a file"),
+                [pages, sectors].map(|count| count.parse().expect("a size")),
                 rounds.parse().expect("a number of rounds"),
             )
         ),

@@ -1,9 +1,9 @@
 //! What a node does in plain Rust where it gets a new backup: an empty machine is made, all memory and the disk are compared with zeros,
-//! and what isn't zero is copied and encoded. The bytes are those of a full checkpoint of docs/CHECKPOINT.md, with a head of zeros but for
-//! its counts.
+//! and what isn't zero is copied and encoded. The bytes are those of a full checkpoint of docs/CHECKPOINT.md, of a guest at boot.
 
 use crate::checkpoints::{encode, Delta, BLOCK, PAGE, SECTOR};
 use crate::hart::Machine;
+use crate::head::head;
 use std::hint::black_box;
 
 /// How the zeros of an empty machine come to be.
@@ -45,7 +45,8 @@ fn empty(memory: usize, disk: usize, zeros: Zeros) -> [Vec<u8>; 3] {
 
 /// All that isn't zero.
 fn cut(ram: &[u8], disk: &[u8]) -> Delta {
-    let mut delta = Delta::default();
+    let shape = [ram.len() / PAGE, disk.len() / SECTOR].map(|count| count as u64);
+    let mut delta = Delta::new(head(shape, 0));
     for (i, page) in ram.chunks_exact(PAGE).enumerate() {
         if page != [0; PAGE] {
             let mut mask = 0;

@@ -17,10 +17,9 @@ returns-then-len-rest-clause-read c =
     let begun : m.partial ≡ []
     = partial ∙ nil_from_length c.self.inside.part.items (omega (arith, c.len-held.ensures.value, c.if-held-eq0.true)) in
     let whole : length unit ≡ c.args.len = length-take-le c.args.len c.args.rest.now (omega (arith, c.if-len-rest.true)) in
-    Takes-unit m c.keep_frame.new.self unit (ap is_closed c.requires.place) begun (omega (arith, whole, at.1))
+    Takes-unit m c.keep_bytes.new.self unit (ap is_closed c.requires.place) begun (omega (arith, whole, at.1))
     (whole ∙ sym (ap (λ (p : Place). width_at p m.known) c.requires.place))
-    (c.keep_frame.ensures ∙ (λ i. frame_judged m c.args.left c.args.len (c.frame_of.ensures i).items)
-    ∙ sym (judged-frame m unit c.args.left c.args.len c.requires.place))
+    (c.keep_bytes.ensures ∙ sym (judged-frame m unit c.args.left c.args.len c.requires.place))
 
 pub returns-then-held-taken-clause-read : goal.returns-then-held-taken-clause-read
 returns-then-held-taken-clause-read c =
@@ -34,11 +33,11 @@ returns-then-held-taken-clause-read c =
     let count : length bytes ≡ c.min-taken.result = length-take-le c.min-taken.result c.args.rest.now (omega (arith, c.min-taken.ensures)) in
     let held : length m.partial ≡ c.len-held.result = ap length partial ∙ sym c.len-held.ensures.value in
     let wide : width_of m ≡ c.args.len = ap (λ (p : Place). width_at p m.known) c.requires.place in
-    Takes-end m c.keep_frame-then-held-taken.new.self bytes c.replace-frame.result.items (ap is_closed c.requires.place)
+    Takes-end m c.keep_frame.new.self bytes c.replace-frame.result.items (ap is_closed c.requires.place)
     (omega (arith, count, c.min-taken.ensures, at.1, c.len-held.ensures.value, c.requires.some))
     (omega (arith, held, count, wide, c.if-held-taken.true))
     ((λ i. (c.replace-frame.ensures.value i).items) ∙ c.put_in.ensures ∙ ap (λ (l : List ℕ). l ++ bytes) (sym partial))
-    (c.keep_frame-then-held-taken.ensures
+    (c.keep_frame.ensures
     ∙ frame_judged-part (the_view c.self.inside) m _ c.args.left c.args.len c.replace-frame.result.items c.self.view_is
     ∙ sym (judged-frame m c.replace-frame.result.items c.args.left c.args.len c.requires.place))
 
