@@ -1,10 +1,9 @@
 #!/usr/bin/env bash
 # What a checkpoint costs: one epoch (change, cut, encode, read, stage and commit) in which 1, 64 or 16384 pages of 16384 change, one block
 # of each or all 64, beside the same in plain Rust (oracle/interpreter); an epoch of one block in machines of other sizes, beside that of the
-# smallest; an epoch's text of one block and so many frames, encoded and read, beside plain Rust; an epoch of a guest that sends so many
-# frames, its steps among it, beside plain Rust; and how many bytes a second `remus check-stream` reads of files of 100 MB and more.
-# Processor time, the best of three; a run of no epochs, which only boots, is taken off in the first two. REMUS names another program to
-# measure in the place of the repository's own.
+# smallest; an epoch's text of one block and so many frames, encoded and read, beside plain Rust; and how many bytes a second
+# `remus check-stream` reads of files of 100 MB and more. Processor time, the best of three; a run of no
+# epochs, which only boots, is taken off. REMUS names another program to measure in the place of the repository's own.
 set -eu
 cd "$(dirname "$0")/.."
 epochs=$(tests/epochs/build.sh)
@@ -78,23 +77,6 @@ for frames in 0x64 1x64 16x64 256x64 1x1514 16x1514 256x1514; do
     awk -v frames="$frames" -v rounds="$rounds" -v a="$(seconds "$epochs" frames "$folder/$frames" 2 1 "$rounds")" \
         -v b="$(seconds "$interpreter" frames "$folder/$frames" 2 1 "$rounds")" 'BEGIN {
         printf "frames %8s: %9.2f us encoded and read, plain Rust %9.2f us, ratio %.2f\n", frames, a / rounds * 1e6, b / rounds * 1e6, a / b
-    }'
-done
-# Epochs of a guest that sends so many frames in each, beside the same in plain Rust: its steps, then as above.
-python3 bench/senders.py "$folder"
-for frames in 1x64 16x64 256x64 1x1514 16x1514 256x1514; do
-    rounds=$((400000000 / (${frames%x*} * (${frames#*x} + 1000) + 10000)))
-    steps=$(cat "$folder/$frames.steps")
-    words=(sending "$folder/$frames.image" 1 1 "$steps")
-    proved=$("$epochs" "${words[@]}" "$rounds")
-    plain=$("$interpreter" "${words[@]}" "$rounds")
-    [ "$proved" = "$plain" ] || {
-        echo "epochs of $frames: $proved bytes, and $plain in plain Rust" >&2
-        exit 1
-    }
-    awk -v frames="$frames" -v rounds="$rounds" -v a="$(seconds "$epochs" "${words[@]}" "$rounds")" \
-        -v b="$(seconds "$interpreter" "${words[@]}" "$rounds")" 'BEGIN {
-        printf "sends %9s: %9.2f us an epoch, plain Rust %9.2f us, ratio %.2f\n", frames, a / rounds * 1e6, b / rounds * 1e6, a / b
     }'
 done
 for stream in largest:16384:32768 pages:4096:32768 blocks:4096:32768 sectors:4096:32768 beacons:2:1 frames:2:1; do

@@ -85,11 +85,7 @@ impl Device {
 
     /// Folds the record.
     pub fn fold(&self, fold: &mut Fold) {
-        for value in [
-            self.status,
-            self.device_features_sel,
-            self.driver_features_sel,
-        ] {
+        for value in [self.status, self.device_features_sel, self.driver_features_sel] {
             fold.add(value.into());
         }
         fold.add(self.driver_features);
