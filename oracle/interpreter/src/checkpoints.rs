@@ -141,7 +141,11 @@ pub fn encode(delta: &Delta) -> Vec<u8> {
             + 12 * delta.pages.len()
             + BLOCK * delta.blocks.len()
             + (4 + SECTOR) * delta.sectors.len()
-            + delta.frames.iter().map(|frame| 4 + frame.len()).sum::<usize>(),
+            + delta
+                .frames
+                .iter()
+                .map(|frame| 4 + frame.len())
+                .sum::<usize>(),
     );
     head::put(&mut text, &delta.head);
     text.extend_from_slice(&(delta.pages.len() as u32).to_le_bytes());
