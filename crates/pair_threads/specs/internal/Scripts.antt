@@ -1,5 +1,6 @@
 -- What a client's thread has.
-use Rattle.std.specs.Prelude.{◌≡◌, ◌≤◌, List, [], ◌∷◌, ◌++◌, length, Vec, Global, vec_capacity}
+use Rattle.std.specs.Prelude.{◌≡◌, ◌≤◌, List, [], ◌∷◌, ◌++◌, length, Vec, vec_capacity}
+use Rattle.std.specs.Global.{Global}
 use Rattle.pair_history.specs.HistoryState.{HistoryState}
 use Rattle.pair_record.specs.declared.event.Reply.{Reply}
 use Rattle.pair_run.specs.declared.printing.Answered.{Answered}
