@@ -1,2 +1,4 @@
 pub mod MadeAtStart
 pub mod CallsInTurn
+pub mod HostLaws
+pub mod FirstSteps

@@ -3,10 +3,18 @@
 #![tactic(auto)]
 
 #[cfg(test)]
+mod beacon;
+#[cfg(test)]
 mod calls;
 #[cfg(test)]
-mod checkpoints;
+mod hosts;
 #[cfg(test)]
 mod packets;
 #[cfg(test)]
+mod prepared;
+#[cfg(test)]
+mod refusals;
+#[cfg(test)]
 mod seats;
+#[cfg(test)]
+mod threads;

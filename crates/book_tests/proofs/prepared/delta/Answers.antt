@@ -1,0 +1,12 @@
+use Rattle.std.proofs.Common.{refl, ◌∙◌}
+use Rattle.book_tests.proofs.MadeAtStart.{base-at, delta-made}
+use Rattle.book_tests.proofs.prepared.delta.Goals as goal
+
+pub returns : goal.returns
+returns c = λ clients.
+    let m = c.in_some-machine.machine in
+    let boot = c.in_some-machine.ensures in
+    let parts = c.in-Ok-checkpoint.ensures.parts in
+    delta-made m boot.guest c.in-Ok-checkpoint.checkpoint c.in-Ok-packet.packet c.in-Ok-packet.ensures.read parts.pages_size
+    parts.sectors_size (parts.frames ∙ boot.outbox) clients c.args.number c.requires.numbers.0
+    (c.in-Ok-packet.ensures.number ∙ parts.number) (c.in-Ok-checkpoint.ensures.image m.guest (base-at m boot.settled)) _ refl
