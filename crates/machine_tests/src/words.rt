@@ -137,6 +137,10 @@ fn says_of_the_system(rt: &impl Abort) {
     says(rt, 0x1050_0073, Instr::Wfi);
 }
 
+fn assert_says_nothing(rt: &impl Abort, word: u32) {
+    assert!(rt; decode(word).is_none(), "{word:x}");
+}
+
 #[test]
 fn other_words_say_nothing(rt: HostRuntime) {
     for word in [
@@ -147,7 +151,7 @@ fn other_words_say_nothing(rt: HostRuntime) {
         0x0000_7003,
         0x0000_4073,
     ] {
-        assert_eq!(rt; decode(word), None, "{word:x}");
+        assert_says_nothing(&rt, word);
     }
 }
 
@@ -209,7 +213,9 @@ fn assert_plan(rt: &impl Abort, pc: u64, instr: Instr, wanted: Plan) {
 
 /// What a word does.
 fn assert_word_plan(rt: &impl Abort, pc: u64, word: u32, wanted: Plan) -> Result<(), Fail> {
-    let instr = decode(word).ok_or("it is an instruction")?;
+    let Some(instr) = decode(word) else {
+        return Err("it is an instruction".into());
+    };
     assert_plan(rt, pc, instr, wanted);
     Ok(())
 }
@@ -240,20 +246,35 @@ fn jumps_and_traps(rt: HostRuntime) -> Result<(), Fail> {
     Ok(())
 }
 
-/// Registers, by their numbers, have these values.
-fn assert_registers(rt: &impl Abort, regs: &Regs) {
-    assert_eq!(rt; regs.get(Register::zero()), 0);
-    assert_eq!(rt; regs.get(x(31)), 6);
+/// A register by its number has this value.
+fn assert_register(rt: &impl Abort, regs: &Regs, number: u32, value: u64) {
+    assert_eq!(rt; regs.get(x(number)), value);
+}
+
+/// Registers where some were set.
+fn set_registers() -> Regs {
+    let mut regs = Regs::new();
+    regs.set(x(0), 5);
+    regs.set(x(31), 6);
+    regs
+}
+
+/// Register numbers: 31 is one, 32 isn't, and of 37 the low bits are 5.
+fn assert_numbers(rt: &impl Abort) {
+    assert!(rt; Register::new(31) == Some(x(31)));
+    assert!(rt; Register::new(32).is_none());
+    assert_eq!(rt; x(37).number(), 5);
+}
+
+fn assert_half(rt: &impl Abort) {
+    assert_eq!(rt; Width::Half.bytes(), 2);
 }
 
 #[test]
 fn registers_keep_their_values(rt: HostRuntime) {
-    let mut regs = Regs::new();
-    regs.set(x(0), 5);
-    regs.set(x(31), 6);
-    assert_registers(&rt, &regs);
-    assert_eq!(rt; Register::new(31), Some(x(31)));
-    assert_eq!(rt; Register::new(32), None);
-    assert_eq!(rt; x(37).number(), 5);
-    assert_eq!(rt; Width::Half.bytes(), 2);
+    let regs = set_registers();
+    assert_register(&rt, &regs, 0, 0);
+    assert_register(&rt, &regs, 31, 6);
+    assert_numbers(&rt);
+    assert_half(&rt);
 }

@@ -224,17 +224,28 @@ fn any_words(alloc: Global, sequence: &mut Sequence) -> Result<Vec<u8>, AllocErr
 /// Words that decode, behind the start, and the rings.
 fn good_words(alloc: Global, sequence: &mut Sequence) -> Result<Vec<u8>, AllocError> {
     let mut image = Vec::new(alloc);
-    push_words(&mut image, &START)?;
-    for _ in 0..WORDS {
-        push_words(&mut image, &[sequence.word()])?;
-    }
-    image.resize(0x1000, 0)?;
-    sequence.rings(&mut image)?;
-    image.resize(0x1400, 0)?;
-    sequence.rings(&mut image)?;
-    image.resize(0x1800, 0)?;
-    sequence.heads(&mut image)?;
+    put_words(&mut image, sequence)?;
+    put_rings(&mut image, sequence)?;
     Ok(image)
+}
+
+/// The start and the words.
+fn put_words(image: &mut Vec<u8>, sequence: &mut Sequence) -> Result<(), AllocError> {
+    push_words(image, &START)?;
+    for _ in 0..WORDS {
+        push_words(image, &[sequence.word()])?;
+    }
+    Ok(())
+}
+
+/// The rings of both devices, and what heads of requests there are, each at its place.
+fn put_rings(image: &mut Vec<u8>, sequence: &mut Sequence) -> Result<(), AllocError> {
+    image.resize(0x1000, 0)?;
+    sequence.rings(image)?;
+    image.resize(0x1400, 0)?;
+    sequence.rings(image)?;
+    image.resize(0x1800, 0)?;
+    sequence.heads(image)
 }
 
 fn image(alloc: Global, index: u64) -> Result<Vec<u8>, AllocError> {

@@ -1,7 +1,7 @@
 //! Runs that a pace may hold.
 
-use super::asserts::assert_steps;
-use super::boot;
+use super::PROGRAM;
+use super::play::{Part, booted};
 use guest_machine::{Machine, Pace};
 use std::process::Abort;
 use std::test::Fail;
@@ -61,10 +61,15 @@ fn assert_paced<P: Pace + Drop>(
     assert_eq!(rt; machine.run_paced(count, &mut pace), made);
 }
 
+/// So many steps were made.
+fn assert_steps(rt: &impl Abort, machine: &Machine, steps: u64) {
+    assert_eq!(rt; machine.steps(), steps);
+}
+
 #[test]
 fn a_pace_holds_the_guest(rt: HostRuntime) -> Result<(), Fail> {
     // JAL x0, 0
-    let mut machine = boot(&rt, rt.alloc(), &[0x6f, 0, 0, 0])?;
+    let mut machine = booted(&rt, rt.alloc(), &PROGRAM, &[Part::Word(0, 0x6f)])?;
     assert_paced(&rt, &mut machine, 100, Until { step: 10 }, 10);
     assert_steps(&rt, &machine, 10);
     assert_paced(&rt, &mut machine, 100, Until { step: 0 }, 0);

@@ -9,8 +9,10 @@ use std::test::Fail;
 
 /// The number that 8 hexadecimal digits spell.
 fn word_of(digits: &str) -> Result<u32, Fail> {
-    let word = u32::from_str_radix(digits, 16).ok().ok_or("no word")?;
-    Ok(word)
+    match u32::from_str_radix(digits, 16) {
+        Ok(word) => Ok(word),
+        Err(_) => Err("no word".into()),
+    }
 }
 
 /// What a line says of a word, by its digits: it is read so, and written again.
@@ -33,31 +35,44 @@ fn assert_lines(rt: &impl Abort, alloc: Global, part: &str) -> Result<u64, Fail>
     Ok(count)
 }
 
+/// The walk has more words than this.
+fn assert_more(rt: &impl Abort, count: u64, least: u64) {
+    assert!(rt; count > least, "the walk has {count} words");
+}
+
 #[test]
 fn each_word_says_what_objdump_reads(rt: HostRuntime) -> Result<(), Fail> {
     let mut count = 0u64;
     for part in [UPPER, JUMPS, MEMORY, COMPUTATIONS, SYSTEM] {
         count = count.saturating_add(assert_lines(&rt, rt.alloc(), part)?);
     }
-    assert!(rt; count > 800, "the walk has {count} words");
+    assert_more(&rt, count, 800);
     Ok(())
 }
 
 /// A word, by its digits, is no instruction.
 fn assert_illegal(rt: &impl Abort, digits: &str) -> Result<(), Fail> {
-    assert_eq!(rt; decode(word_of(digits)?), None, "{digits}");
+    let word = word_of(digits)?;
+    assert!(rt; decode(word).is_none(), "{digits}");
     Ok(())
+}
+
+/// So are all words of a line. Answers how many there are.
+fn assert_illegal_line(rt: &impl Abort, line: &str) -> Result<u64, Fail> {
+    let mut count = 0u64;
+    for digits in line.split(' ') {
+        assert_illegal(rt, digits)?;
+        count = count.saturating_add(1);
+    }
+    Ok(count)
 }
 
 #[test]
 fn what_objdump_does_not_read_is_illegal(rt: HostRuntime) -> Result<(), Fail> {
     let mut count = 0u64;
     for line in ILLEGAL.lines() {
-        for digits in line.split(' ') {
-            assert_illegal(&rt, digits)?;
-            count = count.saturating_add(1);
-        }
+        count = count.saturating_add(assert_illegal_line(&rt, line)?);
     }
-    assert!(rt; count > 3000, "the walk has {count} words");
+    assert_more(&rt, count, 3000);
     Ok(())
 }
