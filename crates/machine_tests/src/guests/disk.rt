@@ -1,6 +1,6 @@
 //! The disk in the machine: requests of guests, what breaks the disk, its reset, and its registers.
 
-use super::play::{Guest, Line, Part, Reading, booted, play, plays};
+use super::play::{Guest, Line, Part, Reading, plays};
 use super::{AVAILABLE, DESCRIPTOR, USED};
 use guest_machine::PAGE_BYTES;
 use std::alloc::Global;
@@ -96,13 +96,6 @@ fn a_sector_is_written_in_step_23(rt: HostRuntime) -> Result<(), Fail> {
     plays(&rt, rt.alloc(), &REQUEST, &[], &WRITES)
 }
 
-/// No sector is written.
-const ANSWERED: [Line; 3] = [
-    Line::LastSector(0),
-    Line::Written(&[]),
-    Line::Is(Reading::DiskStatus, 0x0f),
-];
-
 /// The guest's one request, with some parts changed, is answered by this status byte and this used length, and no sector is written.
 fn answers(
     rt: &impl Abort,
@@ -111,11 +104,15 @@ fn answers(
     status: u64,
     len: u16,
 ) -> Result<(), Fail> {
-    let mut machine = booted(rt, alloc, &REQUEST, changes)?;
-    let status = Line::Is(Reading::Byte(STATUS), status);
-    play(rt, &mut machine, &[Line::Run(23), status, Line::Used(len)]);
-    play(rt, &mut machine, &ANSWERED);
-    Ok(())
+    let lines = [
+        Line::Run(23),
+        Line::Is(Reading::Byte(STATUS), status),
+        Line::Used(len),
+        Line::LastSector(0),
+        Line::Written(&[]),
+        Line::Is(Reading::DiskStatus, 0x0f),
+    ];
+    plays(rt, alloc, &REQUEST, changes, &lines)
 }
 
 /// Requests by their type and sector, and the status byte that answers each.

@@ -136,13 +136,21 @@ fn breaks_alone(
     Ok(())
 }
 
+fn card_breaks(rt: &impl Abort, alloc: Global, row: Row) -> Result<(), Fail> {
+    breaks_alone(rt, alloc, &BEACON_GUEST, row, 21, Device::Card)
+}
+
+fn disk_breaks(rt: &impl Abort, alloc: Global, row: Row) -> Result<(), Fail> {
+    breaks_alone(rt, alloc, &REQUEST, row, 22, Device::Disk)
+}
+
 #[test]
 fn malformed_rings_break_their_device(rt: HostRuntime) -> Result<(), Fail> {
     for row in CARD {
-        breaks_alone(&rt, rt.alloc(), &BEACON_GUEST, row, 21, Device::Card)?;
+        card_breaks(&rt, rt.alloc(), row)?;
     }
     for row in DISK {
-        breaks_alone(&rt, rt.alloc(), &REQUEST, row, 22, Device::Disk)?;
+        disk_breaks(&rt, rt.alloc(), row)?;
     }
     Ok(())
 }
@@ -225,10 +233,10 @@ const CARD_SENDS: [Line; 3] = [
     Line::Frame(&FRAME),
 ];
 
-/// Where a row's word stands behind a setup of so many words: those of the program are moved.
-fn moved(at: usize, words: usize) -> usize {
-    if at < PAGE_BYTES && words < 32 {
-        at + 4 * words
+/// Where a row's word stands behind the disk's setup of 23 words: those of the program are moved.
+fn moved(at: usize) -> usize {
+    if at < 4096 {
+        at.saturating_add(4 * 23)
     } else {
         at
     }
@@ -240,7 +248,7 @@ fn card_breaks_after_the_disk(
     alloc: Global,
     (name, at, word): Row,
 ) -> Result<(), Fail> {
-    let change = [Part::Word(moved(at, 23), word)];
+    let change = [Part::Word(moved(at), word)];
     let mut machine = booted(rt, alloc, &DISK_FIRST, &change)?;
     breaks(rt, &mut machine, 23 + 21, Device::Card, name);
     let broken = machine.net();
@@ -293,19 +301,25 @@ const RECEIVING_GUEST: Guest = Guest {
     ],
 };
 
-/// The notify did nothing, and the frame that arrives is lost.
-const LOSES: [Line; 3] = [
+/// The notify did nothing, and the frame that arrives is lost, and breaks the card. What the disk keeps is as at boot.
+const LOSES: [Line; 10] = [
     Line::Run(23),
     Line::Is(Reading::CardStatus, 0x0f),
     Line::Lost(&FROM_CLIENT),
+    Line::Is(Reading::CardStatus, 0x4f),
+    Line::Is(Reading::CardInterrupt, 2),
+    Line::Is(Reading::Number(USED + 2), 0),
+    Line::Is(Reading::Frames, 0),
+    Line::Written(&[]),
+    Line::Blank,
+    Line::BootDisk,
 ];
 
-/// The frame that arrives is lost, and breaks the card; the notify before it did nothing.
+/// A frame breaks the card of the row's guest.
 fn breaks_at_a_frame(rt: &impl Abort, alloc: Global, (name, at, word): Row) -> Result<(), Fail> {
-    let mut machine = booted(rt, alloc, &RECEIVING_GUEST, &[Part::Word(at, word)])?;
+    let change = [Part::Word(at, word)];
+    let mut machine = booted(rt, alloc, &RECEIVING_GUEST, &change)?;
     play_named(rt, &mut machine, &LOSES, name);
-    play_named(rt, &mut machine, &BROKEN_CARD, name);
-    play_named(rt, &mut machine, &[Line::BootDisk], name);
     Ok(())
 }
 

@@ -1,6 +1,6 @@
 //! Interrupts: which is taken, where its handler is, and how often the timer's comes.
 
-use super::play::{Line, Part, Reading, booted, number, play};
+use super::play::{Line, Part, Reading, booted, number, play, plays};
 use super::{BEACON_GUEST, PROGRAM};
 use std::alloc::Global;
 use std::process::Abort;
@@ -23,18 +23,7 @@ const OF_THE_TIMER: Part = Part::Words(
     ],
 );
 
-/// The timer interrupt is taken in step 10.
-const TIMER_TAKEN: [Line; 7] = [
-    Line::Run(9),
-    Line::Is(Reading::Mstatus, 0x1808),
-    Line::Is(Reading::Mcause, 0),
-    Line::Run(1),
-    Line::Trap(0x8000000000000007, 0, 0x80000024),
-    Line::Is(Reading::Mstatus, 0x1880),
-    Line::Is(Reading::Steps, 10),
-];
-
-/// The interrupt goes to this handler, where the guest's second word is this one.
+/// The timer interrupt is taken in step 10, and goes to this handler, where the guest's second word is this one.
 fn takes_timer_interrupt(
     rt: &impl Abort,
     alloc: Global,
@@ -42,10 +31,17 @@ fn takes_timer_interrupt(
     handler: u64,
 ) -> Result<(), Fail> {
     let program = [OF_THE_TIMER, Part::Word(4, sets_mtvec)];
-    let mut machine = booted(rt, alloc, &PROGRAM, &program)?;
-    play(rt, &mut machine, &TIMER_TAKEN);
-    play(rt, &mut machine, &[Line::Is(Reading::Pc, handler)]);
-    Ok(())
+    let lines = [
+        Line::Run(9),
+        Line::Is(Reading::Mstatus, 0x1808),
+        Line::Is(Reading::Mcause, 0),
+        Line::Run(1),
+        Line::Trap(0x8000000000000007, 0, 0x80000024),
+        Line::Is(Reading::Mstatus, 0x1880),
+        Line::Is(Reading::Steps, 10),
+        Line::Is(Reading::Pc, handler),
+    ];
+    plays(rt, alloc, &PROGRAM, &program, &lines)
 }
 
 #[test]
@@ -71,20 +67,17 @@ const ALL_PENDING: Part = Part::Words(
     ],
 );
 
-const ENABLED: [Line; 4] = [
-    Line::Run(30),
-    Line::Is(Reading::Register(10), 0x888),
-    Line::Is(Reading::Pc, 0x80000078),
-    Line::Run(1),
-];
-
 /// With all three pending and the mie that a word sets in x9, the step after enabling them has this cause.
 fn first_taken(rt: &impl Abort, alloc: Global, sets_mie: u32, cause: u64) -> Result<(), Fail> {
     let program = [ALL_PENDING, Part::Word(4 * 26, sets_mie)];
-    let mut machine = booted(rt, alloc, &BEACON_GUEST, &program)?;
-    play(rt, &mut machine, &ENABLED);
-    play(rt, &mut machine, &[Line::Is(Reading::Mcause, cause)]);
-    Ok(())
+    let lines = [
+        Line::Run(30),
+        Line::Is(Reading::Register(10), 0x888),
+        Line::Is(Reading::Pc, 0x80000078),
+        Line::Run(1),
+        Line::Is(Reading::Mcause, cause),
+    ];
+    plays(rt, alloc, &BEACON_GUEST, &program, &lines)
 }
 
 #[test]

@@ -1,7 +1,7 @@
 //! Loads and stores: of memory, of the timer's registers and of the devices' registers, and their widths.
 
 use super::PROGRAM;
-use super::play::{Line, Part, Reading, booted, play, plays};
+use super::play::{Line, Part, Reading, booted, plays};
 use guest_machine::PAGE_BYTES;
 use std::alloc::Global;
 use std::process::Abort;
@@ -70,10 +70,8 @@ fn faults(
     (sets, access, cause, address): (u32, u32, u64, u64),
 ) -> Result<(), Fail> {
     let program = [Part::Word(0, sets), Part::Word(4, access)];
-    let mut machine = booted(rt, alloc, &PROGRAM, &program)?;
-    let trap = Line::Trap(cause, address, 0x80000004);
-    play(rt, &mut machine, &[Line::Run(2), trap]);
-    Ok(())
+    let lines = [Line::Run(2), Line::Trap(cause, address, 0x80000004)];
+    plays(rt, alloc, &PROGRAM, &program, &lines)
 }
 
 #[test]

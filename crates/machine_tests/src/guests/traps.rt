@@ -1,25 +1,21 @@
 //! Exceptions and their causes, the trap's way back, and the CSRs.
 
 use super::PROGRAM;
-use super::play::{Line, Part, Reading, booted, play, plays};
+use super::play::{Line, Part, Reading, plays};
 use std::alloc::Global;
 use std::process::Abort;
 use std::test::Fail;
 
-/// After the one step of a trap the pc is 0, and so are all registers.
-const TRAPPED: [Line; 3] = [
-    Line::Is(Reading::Pc, 0),
-    Line::Is(Reading::Steps, 1),
-    Line::Registers(0, &[0; 32]),
-];
-
-/// After one step of a word the trap registers hold these values.
+/// After one step of a word the trap registers hold these values, the pc is 0, and so are all registers.
 fn traps(rt: &impl Abort, alloc: Global, word: u32, cause: u64, value: u64) -> Result<(), Fail> {
-    let mut machine = booted(rt, alloc, &PROGRAM, &[Part::Word(0, word)])?;
-    let trap = Line::Trap(cause, value, 0x80000000);
-    play(rt, &mut machine, &[Line::Run(1), trap]);
-    play(rt, &mut machine, &TRAPPED);
-    Ok(())
+    let lines = [
+        Line::Run(1),
+        Line::Trap(cause, value, 0x80000000),
+        Line::Is(Reading::Pc, 0),
+        Line::Is(Reading::Steps, 1),
+        Line::Registers(0, &[0; 32]),
+    ];
+    plays(rt, alloc, &PROGRAM, &[Part::Word(0, word)], &lines)
 }
 
 /// Words, and the cause and the value of the trap that each is.

@@ -2,7 +2,7 @@
 
 use super::disassembly::text;
 use super::kinds::{COMPUTATIONS, ILLEGAL, JUMPS, MEMORY, SYSTEM, UPPER};
-use rv64_core::{decode, encode};
+use rv64_core::{Instr, decode, encode};
 use std::alloc::Global;
 use std::process::Abort;
 use std::test::Fail;
@@ -15,13 +15,33 @@ fn word_of(digits: &str) -> Result<u32, Fail> {
     }
 }
 
+/// An instruction says this text. The digits of its word name it.
+fn assert_text(
+    rt: &impl Abort,
+    alloc: Global,
+    instr: Instr,
+    said: &str,
+    digits: &str,
+) -> Result<(), Fail> {
+    let text = text(alloc, instr)?;
+    assert!(rt; text.as_str() == said, "{digits} says {text}");
+    Ok(())
+}
+
+/// An instruction is written as this word.
+fn assert_written(rt: &impl Abort, instr: Instr, word: u32) {
+    assert_eq!(rt; encode(instr), word);
+}
+
 /// What a line says of a word, by its digits: it is read so, and written again.
 fn assert_says(rt: &impl Abort, alloc: Global, digits: &str, said: &str) -> Result<(), Fail> {
     let word = word_of(digits)?;
-    let instr = decode(word).ok_or("it is an instruction")?;
-    assert_eq!(rt; text(alloc, instr)?.as_str(), said, "{digits}");
-    assert_eq!(rt; encode(instr), word);
-    Ok(())
+    let Some(instr) = decode(word) else {
+        return Err("it is an instruction".into());
+    };
+    let again = instr;
+    assert_written(rt, again, word);
+    assert_text(rt, alloc, instr, said, digits)
 }
 
 /// All lines of a part. Answers how many there are.
