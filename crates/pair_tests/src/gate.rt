@@ -1,10 +1,10 @@
 //! What no clause of [`output_gate`] says: worked cases, and each call once with ample memory. Each reading stands with its comparison in
-//! a small function, since a long test is slow to prove.
+//! a small function, since a long test is slow to prove: a test is a table of rows.
 ghost use Rattle.frame_ports.specs.Addresses.{IsFrame};
 
+use crate::refusals::{assert_named, refused};
 use arrayvec::ArrayVec;
 use frame_ports::{Frame, Ports};
-use memory_wanted::reserve;
 use output_gate::{Gate, GateError, Landed, land_numbered};
 use std::alloc::Global;
 use std::process::Abort;
@@ -21,13 +21,37 @@ fn frame_to(client: u8, mark: u8) -> Frame
     }
 }
 
+/// What is asked of a gate and the ports behind it, and what comes of it.
+enum Row {
+    /// The client takes the frame with this last byte; 0 where its box is empty.
+    Taken(u64, u8),
+    /// So many frames are held of checkpoints up to this one.
+    Held(u64, usize),
+    /// The acknowledgement of this number lands and drops so many.
+    Acked(u64, u64, u64),
+    /// All that is held lands, so many times.
+    Opened(u64),
+    /// The next frame gets this number.
+    Next(u64),
+    /// What is held is given up.
+    Discarded,
+    /// The gate begins anew after so many sent frames, and holds one of the checkpoint of this number, for this client with this last
+    /// byte.
+    Anew(u64, u64, u8, u8),
+}
+
 /// The last byte of the frame that the client takes, 0 where its box is empty.
+fn taken(ports: &mut Ports, client: u64) -> Result<u8, Fail> {
+    match ports.take(client)? {
+        Some(frame) => Ok(frame.as_slice()[13]),
+        None => Ok(0),
+    }
+}
+
+/// The client takes the frame with this last byte; 0 where its box is empty.
 fn assert_taken(rt: &impl Abort, ports: &mut Ports, client: u64, mark: u8) -> Result<(), Fail> {
-    let taken = match ports.take(client)? {
-        Some(frame) => frame.as_slice()[13],
-        None => 0,
-    };
-    assert_eq!(rt; taken, mark);
+    let found = taken(ports, client)?;
+    assert_eq!(rt; found, mark);
     Ok(())
 }
 
@@ -36,20 +60,63 @@ fn assert_held(rt: &impl Abort, gate: &Gate, number: u64, count: usize) {
     assert_eq!(rt; gate.held(number).len(), count);
 }
 
-/// An acknowledgement lands and drops so many.
-fn assert_acked(
-    rt: &impl Abort,
-    gate: &mut Gate,
-    ports: &mut Ports,
-    number: u64,
-    (landed, dropped): (u64, u64),
-) {
-    assert_eq!(rt; gate.ack(number, ports), Landed { landed, dropped });
+/// So many frames landed, and so many were dropped.
+fn assert_counts(rt: &impl Abort, found: (u64, u64), wanted: (u64, u64)) {
+    assert_eq!(rt; found, wanted);
 }
 
-/// All that is held lands, so many times.
-fn assert_opened(rt: &impl Abort, gate: &mut Gate, ports: &mut Ports, landed: u64) {
-    assert_eq!(rt; gate.open_all(ports), Landed { landed, dropped: 0 });
+/// What an acknowledgement lands and drops.
+fn acked(gate: &mut Gate, ports: &mut Ports, number: u64) -> (u64, u64) {
+    let counts = gate.ack(number, ports);
+    (counts.landed, counts.dropped)
+}
+
+/// What lands and is dropped where all that is held lands.
+fn opened(gate: &mut Gate, ports: &mut Ports) -> (u64, u64) {
+    let counts = gate.open_all(ports);
+    (counts.landed, counts.dropped)
+}
+
+/// The next frame gets this number.
+fn assert_next(rt: &impl Abort, gate: &Gate, number: u64) {
+    assert_eq!(rt; gate.next(), number);
+}
+
+/// The gate begins anew after so many sent frames, and holds one of the checkpoint of this number.
+fn hold_anew(rt: &impl Abort, gate: &mut Gate, sent: u64, number: u64, frame: Frame)
+    requires { IsFrame frame }
+{
+    assert!(rt; sent < 1000);
+    gate.begin(sent);
+    assert_next(rt, gate, sent + 1);
+    gate.hold(number, &[frame]);
+}
+
+/// Plays one row.
+fn play(rt: &impl Abort, gate: &mut Gate, ports: &mut Ports, row: &Row) -> Result<(), Fail> {
+    match row {
+        Row::Taken(client, mark) => return assert_taken(rt, ports, *client, *mark),
+        Row::Held(number, count) => assert_held(rt, gate, *number, *count),
+        Row::Acked(number, landed, dropped) => {
+            assert_counts(rt, acked(gate, ports, *number), (*landed, *dropped));
+        }
+        Row::Opened(landed) => assert_counts(rt, opened(gate, ports), (*landed, 0)),
+        Row::Next(number) => assert_next(rt, gate, *number),
+        Row::Discarded => gate.discard(),
+        Row::Anew(sent, number, client, mark) => {
+            hold_anew(rt, gate, *sent, *number, frame_to(*client, *mark));
+        }
+    }
+    Ok(())
+}
+
+/// Plays the rows, one after the other, with the ports of two clients.
+fn plays(rt: &impl Abort, alloc: Global, gate: &mut Gate, rows: &[Row]) -> Result<(), Fail> {
+    let mut ports = Ports::new(alloc, 2)?;
+    for row in rows {
+        play(rt, gate, &mut ports, row)?;
+    }
+    Ok(())
 }
 
 /// A gate that holds four epochs: one with a frame for each of two clients, one with none, and two with a frame for client 1.
@@ -64,35 +131,37 @@ fn four_epochs(alloc: Global) -> Result<Gate, GateError> {
 
 #[test]
 fn frames_land_at_their_acknowledgement(rt: HostRuntime) -> Result<(), Fail> {
-    let mut ports = Ports::new(rt.alloc(), 2)?;
+    static ROWS: [Row; 13] = [
+        Row::Taken(1, 0),
+        Row::Held(0, 0),
+        Row::Held(2, 2),
+        Row::Held(3, 3),
+        Row::Acked(3, 3, 0),
+        Row::Taken(1, 1),
+        Row::Taken(1, 3),
+        Row::Taken(1, 0),
+        Row::Taken(2, 2),
+        Row::Held(9, 1),
+        Row::Opened(1),
+        Row::Taken(1, 4),
+        Row::Held(9, 0),
+    ];
     let mut gate = four_epochs(rt.alloc())?;
-    assert_taken(&rt, &mut ports, 1, 0)?;
-    assert_held(&rt, &gate, 0, 0);
-    assert_held(&rt, &gate, 2, 2);
-    assert_held(&rt, &gate, 3, 3);
-    assert_acked(&rt, &mut gate, &mut ports, 3, (3, 0));
-    assert_taken(&rt, &mut ports, 1, 1)?;
-    assert_taken(&rt, &mut ports, 1, 3)?;
-    assert_taken(&rt, &mut ports, 1, 0)?;
-    assert_taken(&rt, &mut ports, 2, 2)?;
-    assert_held(&rt, &gate, 9, 1);
-    assert_opened(&rt, &mut gate, &mut ports, 1);
-    assert_taken(&rt, &mut ports, 1, 4)?;
-    assert_held(&rt, &gate, 9, 0);
-    Ok(())
+    plays(&rt, rt.alloc(), &mut gate, &ROWS)
 }
 
 #[test]
 fn what_is_discarded_never_lands(rt: HostRuntime) -> Result<(), Fail> {
-    let mut ports = Ports::new(rt.alloc(), 2)?;
+    static ROWS: [Row; 6] = [
+        Row::Anew(4, 1, 1, 5),
+        Row::Next(6),
+        Row::Discarded,
+        Row::Next(6),
+        Row::Opened(0),
+        Row::Taken(1, 0),
+    ];
     let mut gate = Gate::new(rt.alloc())?;
-    gate.begin(4);
-    gate.hold(1, &[frame_to(1, 5)]);
-    assert_eq!(rt; gate.next(), 6);
-    gate.discard();
-    assert_eq!(rt; gate.next(), 6);
-    assert_opened(&rt, &mut gate, &mut ports, 0);
-    assert_taken(&rt, &mut ports, 1, 0)
+    plays(&rt, rt.alloc(), &mut gate, &ROWS)
 }
 
 /// A frame of 14 bytes from the guest to every client.
@@ -106,23 +175,29 @@ fn frame_to_all() -> Frame
     }
 }
 
-#[test]
-fn a_rolled_back_number_is_given_anew(rt: HostRuntime) -> Result<(), Fail> {
-    let mut ports = Ports::new(rt.alloc(), 2)?;
-    let mut gate = Gate::new(rt.alloc())?;
-    // Frames 1 to 4, of which the third goes nowhere. The first two land.
+/// A gate that holds the frames 1 to 4 of two epochs, of which the third goes nowhere.
+fn two_epochs(alloc: Global) -> Result<Gate, GateError> {
+    let mut gate = Gate::new(alloc)?;
     gate.hold(1, &[frame_to(1, 1), frame_to(2, 2)]);
     gate.hold(2, &[frame_to(9, 3), frame_to(1, 4)]);
-    assert_eq!(rt; gate.next(), 5);
-    assert_acked(&rt, &mut gate, &mut ports, 1, (2, 0));
-    // Frames 1 to 3 were committed, so that frame 4 is rolled back, and the next one has its number.
-    gate.begin(3);
-    assert_eq!(rt; gate.next(), 4);
-    gate.hold(3, &[frame_to(1, 5)]);
-    assert_opened(&rt, &mut gate, &mut ports, 1);
-    assert_taken(&rt, &mut ports, 1, 1)?;
-    assert_taken(&rt, &mut ports, 1, 5)?;
-    assert_taken(&rt, &mut ports, 1, 0)
+    Ok(gate)
+}
+
+#[test]
+fn a_rolled_back_number_is_given_anew(rt: HostRuntime) -> Result<(), Fail> {
+    static ROWS: [Row; 7] = [
+        Row::Next(5),
+        // The first two land.
+        Row::Acked(1, 2, 0),
+        // Frames 1 to 3 were committed, so that frame 4 is rolled back, and the next one has its number.
+        Row::Anew(3, 3, 1, 5),
+        Row::Opened(1),
+        Row::Taken(1, 1),
+        Row::Taken(1, 5),
+        Row::Taken(1, 0),
+    ];
+    let mut gate = two_epochs(rt.alloc())?;
+    plays(&rt, rt.alloc(), &mut gate, &ROWS)
 }
 
 #[test]
@@ -143,30 +218,37 @@ fn a_frame_lands_only_where_it_has_not_come_before(rt: HostRuntime) -> Result<()
     Ok(())
 }
 
+/// Two frames of the first checkpoint are held after so many sent ones, for client 1 and for this one. What lands of them, and what is
+/// dropped.
+fn landed_of_two(
+    rt: &impl Abort,
+    gate: &mut Gate,
+    ports: &mut Ports,
+    sent: u64,
+    client: u8,
+) -> (u64, u64) {
+    assert!(rt; sent < 1000);
+    gate.begin(sent);
+    gate.hold(1, &[frame_to(1, 1), frame_to(client, 2)]);
+    acked(gate, ports, 1)
+}
+
 #[test]
 fn a_full_box_drops_and_a_frame_for_no_client_doesnt_count(rt: HostRuntime) -> Result<(), Fail> {
     let mut ports = Ports::new(rt.alloc(), 1)?;
     let mut gate = Gate::new(rt.alloc())?;
     for sent in 0..256 {
-        gate.begin(2 * sent);
-        gate.hold(1, &[frame_to(1, 1), frame_to(9, 1)]);
-        assert_acked(&rt, &mut gate, &mut ports, 1, (1, 0));
+        let counts = landed_of_two(&rt, &mut gate, &mut ports, 2 * sent, 9);
+        assert_counts(&rt, counts, (1, 0));
     }
-    gate.begin(512);
-    gate.hold(1, &[frame_to(1, 1), frame_to(1, 2)]);
-    assert_acked(&rt, &mut gate, &mut ports, 1, (0, 2));
+    let counts = landed_of_two(&rt, &mut gate, &mut ports, 512, 1);
+    assert_counts(&rt, counts, (0, 2));
     Ok(())
 }
 
 #[test]
 fn the_refusal_is_that_of_the_table(rt: HostRuntime) -> Result<(), Fail> {
-    let Err(wanted) = reserve(&mut Vec::<u64>::new(rt.alloc()), usize::MAX) else {
-        return Err("no machine has that much".into());
-    };
-    let error = GateError::from(wanted);
-    assert_eq!(rt; error.number(), 12);
-    assert_eq!(rt; error.name(), "NoMemory");
-    let text = format!(in rt.alloc(); "{error}")?;
-    assert_eq!(rt; text.as_str(), "NoMemory");
-    Ok(())
+    let error = GateError::from(refused(rt.alloc())?);
+    let found = (error.number(), error.name());
+    assert_named(&rt, rt.alloc(), &error, found, (12, "NoMemory"))
 }

@@ -1,12 +1,13 @@
 //! What no clause of [`pair_history`] says: that calls succeed where there is memory, and that a reservation that can't be met is refused.
 
-use pair_history::{Entry, History};
+use pair_history::{Entries, Entry, History};
+use std::alloc::Global;
+use std::process::Abort;
 use std::test::Fail;
 
-#[test]
-fn a_history_counts_each_step(rt: HostRuntime) -> Result<(), Fail> {
-    let mut history = History::new(rt.alloc());
-    assert!(rt; history.is_empty());
+/// A history of 21 steps, an arrival, no step, and a frame that a full box dropped.
+fn steps_and_more(alloc: Global) -> Result<History, Fail> {
+    let mut history = History::new(alloc);
     history.reserve(4)?;
     history.add(Entry::Ran(21));
     history.add(Entry::Arrive(1));
@@ -15,33 +16,86 @@ fn a_history_counts_each_step(rt: HostRuntime) -> Result<(), Fail> {
         client: 1,
         place: 256,
     });
-    assert_eq!(rt; (history.len(), history.entries().count()), (23, 4));
+    Ok(history)
+}
+
+/// The history has so many entries, of which so many are stored.
+fn assert_counts(rt: &impl Abort, history: &History, entries: u64, stored: usize) {
+    assert_eq!(rt; history.len(), entries);
+    assert_eq!(rt; history.entries().count(), stored);
+}
+
+#[test]
+fn a_history_counts_each_step(rt: HostRuntime) -> Result<(), Fail> {
+    assert!(rt; History::new(rt.alloc()).is_empty());
+    let history = steps_and_more(rt.alloc())?;
+    assert_counts(&rt, &history, 23, 4);
     assert!(rt; !history.is_empty());
     Ok(())
 }
 
-#[test]
-fn frames_come_back_as_they_were_added(rt: HostRuntime) -> Result<(), Fail> {
-    let short: &[u8] = b"fourteen bytes";
-    let other: &[u8] = b"and one byte mo";
-    let long: &[u8] = &[7; 1514];
-    let mut history = History::new(rt.alloc());
+const SHORT: &[u8] = b"fourteen bytes";
+
+const OTHER: &[u8] = b"and one byte mo";
+
+/// The longest frame.
+const LONG: &[u8] = &[7; 1514];
+
+/// A history with three frames of three lengths.
+fn frames(alloc: Global) -> Result<History, Fail> {
+    let mut history = History::new(alloc);
     history.reserve_frame(14)?;
-    history.add(Entry::Delivered(1, short, 1));
+    history.add(Entry::Delivered(1, SHORT, 1));
     history.reserve_frame(1514)?;
-    history.add(Entry::Refused(2, long));
+    history.add(Entry::Refused(2, LONG));
     history.reserve(1)?;
     history.add(Entry::Took(3, None));
     history.reserve_frame(15)?;
-    history.add(Entry::Took(4, Some(other)));
+    history.add(Entry::Took(4, Some(OTHER)));
+    Ok(history)
+}
+
+/// The next entry is a delivery by client 1 of this frame, which got number 1.
+fn assert_delivered(rt: &impl Abort, entries: &mut Entries<'_>, frame: &[u8]) {
+    let is_right = match entries.next() {
+        Some(Entry::Delivered(1, bytes, 1)) => bytes == frame,
+        _ => false,
+    };
+    assert!(rt; is_right);
+}
+
+/// The next entry is a delivery by client 2 of this frame, which was refused.
+fn assert_refused(rt: &impl Abort, entries: &mut Entries<'_>, frame: &[u8]) {
+    let is_right = match entries.next() {
+        Some(Entry::Refused(2, bytes)) => bytes == frame,
+        _ => false,
+    };
+    assert!(rt; is_right);
+}
+
+/// The next entry is that client 3 took nothing.
+fn assert_took_nothing(rt: &impl Abort, entries: &mut Entries<'_>) {
+    let next = entries.next();
+    assert!(rt; matches!(next, Some(Entry::Took(3, None))));
+}
+
+/// The next entry is that client 4 took this frame.
+fn assert_took(rt: &impl Abort, entries: &mut Entries<'_>, frame: &[u8]) {
+    let is_right = match entries.next() {
+        Some(Entry::Took(4, Some(bytes))) => bytes == frame,
+        _ => false,
+    };
+    assert!(rt; is_right);
+}
+
+#[test]
+fn frames_come_back_as_they_were_added(rt: HostRuntime) -> Result<(), Fail> {
+    let history = frames(rt.alloc())?;
     let mut entries = history.entries();
-    let delivered = entries.next();
-    assert!(rt; matches!(delivered, Some(Entry::Delivered(1, bytes, 1)) if bytes == short));
-    let refused = entries.next();
-    assert!(rt; matches!(refused, Some(Entry::Refused(2, bytes)) if bytes == long));
-    assert!(rt; matches!(entries.next(), Some(Entry::Took(3, None))));
-    let took = entries.next();
-    assert!(rt; matches!(took, Some(Entry::Took(4, Some(bytes))) if bytes == other));
+    assert_delivered(&rt, &mut entries, SHORT);
+    assert_refused(&rt, &mut entries, LONG);
+    assert_took_nothing(&rt, &mut entries);
+    assert_took(&rt, &mut entries, OTHER);
     assert!(rt; entries.next().is_none());
     Ok(())
 }

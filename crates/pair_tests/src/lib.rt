@@ -15,4 +15,6 @@ mod ports;
 #[cfg(test)]
 mod record;
 #[cfg(test)]
+mod refusals;
+#[cfg(test)]
 mod world;

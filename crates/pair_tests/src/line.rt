@@ -1,71 +1,145 @@
 //! What no clause of [`lossy_line`] says: a line at concrete types, through its bound, and a refusal of memory.
 
-use lossy_line::{Line, LineError};
-use std::alloc::{AllocError, Global};
+use crate::refusals::assert_named;
+use lossy_line::Line;
+use std::alloc::Global;
 use std::process::Abort;
 use std::test::Fail;
 
-/// A line on which these packets were sent, and the numbers that they were given.
-fn sent<P: Drop + Copy>(alloc: Global, packets: &[P]) -> Result<(Line<P>, Vec<u64>), AllocError> {
-    let mut line = Line::new(alloc);
-    let mut numbers = Vec::new(alloc);
-    for packet in packets {
-        match line.send(*packet) {
-            Ok(number) => numbers.push(number)?,
-            Err(LineError::NoMemory(_)) => return Err(AllocError),
-        }
-    }
-    Ok((line, numbers))
+/// What is done to a line, and what comes of it.
+enum Row {
+    /// This packet is sent, and given this number.
+    Sent(u8, u64),
+    /// The packet of a number, where it is to be had.
+    Got(u64, Option<u8>),
+    /// The packet of this number is dropped.
+    Dropped(u64),
+    /// So many packets were sent.
+    Count(u64),
+}
+
+/// This packet is sent, and given this number.
+fn assert_sent(rt: &impl Abort, line: &mut Line<u8>, packet: u8, number: u64) -> Result<(), Fail> {
+    let given = line.send(packet)?;
+    assert_eq!(rt; given, number);
+    Ok(())
 }
 
 /// The packet of a number, where it is to be had.
+fn got(line: &Line<u8>, number: u64) -> Option<u8> {
+    match line.get(number) {
+        Some(packet) => Some(*packet),
+        None => None,
+    }
+}
+
+/// The packet of a number is this one, where it is to be had.
 fn assert_got(rt: &impl Abort, line: &Line<u8>, number: u64, packet: Option<u8>) {
-    assert_eq!(rt; line.get(number), packet.as_ref(), "packet {number}");
+    assert_eq!(rt; got(line, number), packet, "packet {number}");
+}
+
+/// So many packets were sent.
+fn assert_count(rt: &impl Abort, line: &Line<u8>, count: u64) {
+    assert_eq!(rt; line.len(), count);
+}
+
+/// Plays one row.
+fn play(rt: &impl Abort, line: &mut Line<u8>, row: &Row) -> Result<(), Fail> {
+    match row {
+        Row::Sent(packet, number) => return assert_sent(rt, line, *packet, *number),
+        Row::Got(number, packet) => assert_got(rt, line, *number, *packet),
+        Row::Dropped(number) => line.drop(*number),
+        Row::Count(count) => assert_count(rt, line, *count),
+    }
+    Ok(())
+}
+
+/// Plays the rows on a line, one after the other.
+fn plays(rt: &impl Abort, line: &mut Line<u8>, rows: &[Row]) -> Result<(), Fail> {
+    for row in rows {
+        play(rt, line, row)?;
+    }
+    Ok(())
 }
 
 #[test]
 fn a_packet_comes_as_it_was_sent_however_often(rt: HostRuntime) -> Result<(), Fail> {
-    let (mut line, numbers) = sent(rt.alloc(), &[70u8, 71, 72])?;
-    assert_eq!(rt; numbers.as_slice(), [0, 1, 2].as_slice());
-    assert_eq!(rt; line.len(), 3);
-    assert_got(&rt, &line, 2, Some(72));
-    assert_got(&rt, &line, 0, Some(70));
-    assert_got(&rt, &line, 2, Some(72));
-    assert_got(&rt, &line, 3, None);
-    assert_got(&rt, &line, u64::MAX, None);
-    assert_eq!(rt; line.send(73)?, 3);
-    assert_got(&rt, &line, 3, Some(73));
-    Ok(())
+    static ROWS: [Row; 11] = [
+        Row::Sent(70, 0),
+        Row::Sent(71, 1),
+        Row::Sent(72, 2),
+        Row::Count(3),
+        Row::Got(2, Some(72)),
+        Row::Got(0, Some(70)),
+        Row::Got(2, Some(72)),
+        Row::Got(3, None),
+        Row::Got(u64::MAX, None),
+        Row::Sent(73, 3),
+        Row::Got(3, Some(73)),
+    ];
+    plays(&rt, &mut Line::new(rt.alloc()), &ROWS)
 }
 
 #[test]
 fn a_dropped_packet_never_comes(rt: HostRuntime) -> Result<(), Fail> {
-    let (mut line, _) = sent(rt.alloc(), &[70u8, 71, 72])?;
-    line.drop(1);
-    assert_got(&rt, &line, 1, None);
-    assert_got(&rt, &line, 0, Some(70));
-    assert_got(&rt, &line, 2, Some(72));
-    line.drop(1);
-    line.drop(7);
-    assert_eq!(rt; line.len(), 3);
-    assert_eq!(rt; line.send(73)?, 3);
-    assert_got(&rt, &line, 3, Some(73));
+    static ROWS: [Row; 12] = [
+        Row::Sent(70, 0),
+        Row::Sent(71, 1),
+        Row::Sent(72, 2),
+        Row::Dropped(1),
+        Row::Got(1, None),
+        Row::Got(0, Some(70)),
+        Row::Got(2, Some(72)),
+        Row::Dropped(1),
+        Row::Dropped(7),
+        Row::Count(3),
+        Row::Sent(73, 3),
+        Row::Got(3, Some(73)),
+    ];
+    plays(&rt, &mut Line::new(rt.alloc()), &ROWS)
+}
+
+/// These bytes are sent, and given this number.
+fn assert_bytes_sent(
+    rt: &impl Abort,
+    alloc: Global,
+    line: &mut Line<Vec<u8>>,
+    bytes: &[u8],
+    number: u64,
+) -> Result<(), Fail> {
+    let packet = Vec::from_slice(alloc, bytes)?;
+    let given = line.send(packet)?;
+    assert_eq!(rt; given, number);
     Ok(())
+}
+
+/// The bytes of a number are these, where they are to be had.
+fn assert_bytes(rt: &impl Abort, line: &Line<Vec<u8>>, number: u64, wanted: Option<&[u8]>) {
+    let is_right = match (line.get(number), wanted) {
+        (Some(bytes), Some(wanted)) => bytes.as_slice() == wanted,
+        (None, None) => true,
+        _ => false,
+    };
+    assert!(rt; is_right, "packet {number}");
 }
 
 #[test]
 fn a_packet_may_own_memory(rt: HostRuntime) -> Result<(), Fail> {
     let mut line = Line::new(rt.alloc());
-    assert_eq!(rt; line.is_empty(), true);
-    assert_eq!(rt; line.send(Vec::from_slice(rt.alloc(), &[1u8, 2])?)?, 0);
-    assert_eq!(rt; line.send(Vec::from_slice(rt.alloc(), &[3u8])?)?, 1);
-    assert_eq!(rt; line.is_empty(), false);
+    assert!(rt; line.is_empty());
+    assert_bytes_sent(&rt, rt.alloc(), &mut line, &[1, 2], 0)?;
+    assert_bytes_sent(&rt, rt.alloc(), &mut line, &[3], 1)?;
+    assert!(rt; !line.is_empty());
     line.drop(0);
-    assert_eq!(rt; line.get(0).is_none(), true);
-    match line.get(1) {
-        Some(bytes) => assert_eq!(rt; bytes.as_slice(), [3u8].as_slice()),
-        None => assert_eq!(rt; 1, 0),
-    }
+    assert_bytes(&rt, &line, 0, None);
+    assert_bytes(&rt, &line, 1, Some(&[3]));
+    Ok(())
+}
+
+/// The packet i is sent as the one of number i.
+fn assert_sends(rt: &impl Abort, line: &mut Line<u64>, i: u64) -> Result<(), Fail> {
+    let given = line.send(i)?;
+    assert_eq!(rt; given, i);
     Ok(())
 }
 
@@ -74,7 +148,7 @@ fn room_for_as_many_sends_as_were_reserved(rt: HostRuntime) -> Result<(), Fail> 
     let mut line = Line::new(rt.alloc());
     line.reserve(100)?;
     for i in 0..100 {
-        assert_eq!(rt; line.send(i)?, i);
+        assert_sends(&rt, &mut line, i)?;
     }
     assert_eq!(rt; line.get(99), Some(&99));
     Ok(())
@@ -86,25 +160,38 @@ fn the_refusal_is_that_of_the_table(rt: HostRuntime) -> Result<(), Fail> {
     let Err(error) = line.reserve(usize::MAX) else {
         return Err("no machine has that much".into());
     };
-    assert_eq!(rt; line.len(), 0);
-    assert_eq!(rt; error.number(), 12);
-    assert_eq!(rt; error.name(), "NoMemory");
-    let text = format!(in rt.alloc(); "{error}")?;
-    assert_eq!(rt; text.as_str(), "NoMemory");
-    Ok(())
+    assert!(rt; line.is_empty());
+    let found = (error.number(), error.name());
+    assert_named(&rt, rt.alloc(), &error, found, (12, "NoMemory"))
 }
 
 #[test]
 fn four_packets_come_a_hundred_times_each_in_either_order(rt: HostRuntime) -> Result<(), Fail> {
-    let (line, _) = sent(rt.alloc(), &[70u8, 71, 72, 73])?;
-    let rising = [(0, 70), (1, 71), (2, 72), (3, 73)];
-    let reversed = [(3, 73), (2, 72), (1, 71), (0, 70)];
-    for order in [rising, reversed] {
-        for _ in 0..100u8 {
-            for (number, packet) in order {
-                assert_got(&rt, &line, number, Some(packet));
-            }
-        }
+    static SENT: [Row; 4] = [
+        Row::Sent(70, 0),
+        Row::Sent(71, 1),
+        Row::Sent(72, 2),
+        Row::Sent(73, 3),
+    ];
+    static RISING: [Row; 4] = [
+        Row::Got(0, Some(70)),
+        Row::Got(1, Some(71)),
+        Row::Got(2, Some(72)),
+        Row::Got(3, Some(73)),
+    ];
+    static REVERSED: [Row; 4] = [
+        Row::Got(3, Some(73)),
+        Row::Got(2, Some(72)),
+        Row::Got(1, Some(71)),
+        Row::Got(0, Some(70)),
+    ];
+    let mut line = Line::new(rt.alloc());
+    plays(&rt, &mut line, &SENT)?;
+    for _ in 0..100u8 {
+        plays(&rt, &mut line, &RISING)?;
+    }
+    for _ in 0..100u8 {
+        plays(&rt, &mut line, &REVERSED)?;
     }
     Ok(())
 }

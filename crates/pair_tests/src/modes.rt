@@ -1,5 +1,6 @@
 //! What no clause of [`failover`] says: printed words, a pair's life in order, and the table once more by its numbers.
 
+use crate::refusals::assert_named;
 use failover::{Change, FailoverError, Mode};
 use std::process::Abort;
 use std::test::Fail;
@@ -22,37 +23,43 @@ fn refusal_number(mode: Mode, change: Change) -> u8 {
     }
 }
 
-/// The mode and the generation's number after a change that isn't to be refused, or those before it.
-fn made(rt: &impl Abort, (mode, number): (Mode, u64), change: Change) -> (Mode, u64) {
+/// The mode and the generation's number after a change, where it isn't refused.
+fn made((mode, number): (Mode, u64), change: Change) -> Option<(Mode, u64)> {
     match mode.after(change) {
-        Ok((next, raise)) => (next, number.wrapping_add(raise)),
-        Err(error) => {
-            assert_eq!(rt; error.name(), "none");
-            (mode, number)
-        }
+        Ok((next, raise)) => Some((next, number.wrapping_add(raise))),
+        Err(_) => None,
     }
+}
+
+/// A change leads from one mode and generation to another.
+fn assert_made(rt: &impl Abort, from: (Mode, u64), change: Change, to: (Mode, u64)) {
+    assert_eq!(rt; made(from, change), Some(to));
 }
 
 #[test]
 fn a_pair_fails_over_and_is_protected_again(rt: HostRuntime) {
     let pair = (Mode::Paired, 1);
-    let stopped = made(&rt, pair, Change::FailPrimary);
-    assert_eq!(rt; stopped, (Mode::Stopped, 1));
-    let alone = made(&rt, stopped, Change::GoLive);
-    assert_eq!(rt; alone, (Mode::Alone, 2));
-    let filling = made(&rt, alone, Change::Protect);
-    assert_eq!(rt; filling, (Mode::Filling, 3));
-    let again = made(&rt, filling, Change::FailBackup);
-    assert_eq!(rt; again, (Mode::Alone, 3));
-    assert_eq!(rt; made(&rt, pair, Change::FailBackup), (Mode::Alone, 1));
+    let stopped = (Mode::Stopped, 1);
+    let alone = (Mode::Alone, 2);
+    let filling = (Mode::Filling, 3);
+    assert_made(&rt, pair, Change::FailPrimary, stopped);
+    assert_made(&rt, stopped, Change::GoLive, alone);
+    assert_made(&rt, alone, Change::Protect, filling);
+    assert_made(&rt, filling, Change::FailBackup, (Mode::Alone, 3));
+    assert_made(&rt, pair, Change::FailBackup, (Mode::Alone, 1));
+}
+
+/// The changes are refused in this mode by these numbers.
+fn assert_told(rt: &impl Abort, mode: Mode, numbers: [u8; 4]) {
+    assert_eq!(rt; told(mode), numbers);
 }
 
 #[test]
 fn what_each_mode_refuses(rt: HostRuntime) {
-    assert_eq!(rt; told(Mode::Paired), [0, 0, 7, 7]);
-    assert_eq!(rt; told(Mode::Filling), [8, 0, 7, 7]);
-    assert_eq!(rt; told(Mode::Alone), [8, 6, 6, 0]);
-    assert_eq!(rt; told(Mode::Stopped), [4, 4, 0, 4]);
+    assert_told(&rt, Mode::Paired, [0, 0, 7, 7]);
+    assert_told(&rt, Mode::Filling, [8, 0, 7, 7]);
+    assert_told(&rt, Mode::Alone, [8, 6, 6, 0]);
+    assert_told(&rt, Mode::Stopped, [4, 4, 0, 4]);
 }
 
 #[test]
@@ -70,17 +77,15 @@ fn the_words_are_those_of_the_programs(rt: HostRuntime) -> Result<(), Fail> {
 
 #[test]
 fn the_refusals_are_those_of_the_table(rt: HostRuntime) -> Result<(), Fail> {
-    let errors = [
+    static ERRORS: [(FailoverError, u8, &str); 4] = [
         (FailoverError::Stopped, 4, "Stopped"),
         (FailoverError::NotPaired, 6, "NotPaired"),
         (FailoverError::AlreadyPaired, 7, "AlreadyPaired"),
         (FailoverError::NoImage, 8, "NoImage"),
     ];
-    for (error, number, name) in errors {
-        assert_eq!(rt; error.number(), number);
-        assert_eq!(rt; error.name(), name);
-        let text = format!(in rt.alloc(); "{error}")?;
-        assert_eq!(rt; text.as_str(), name);
+    for (error, number, name) in &ERRORS {
+        let found = (error.number(), error.name());
+        assert_named(&rt, rt.alloc(), error, found, (*number, *name))?;
     }
     Ok(())
 }

@@ -1,24 +1,71 @@
 //! What no clause of [`frame_ports`] says: worked cases, and each call once with ample memory. Each reading stands with its comparison in
-//! a small function, since a long test is slow to prove.
+//! a small function, since a long test is slow to prove: a test is a table of rows.
 
+use crate::refusals::{assert_named, refused};
 use arrayvec::ArrayVec;
-use frame_ports::{Frame, Landing, PortError, Ports};
-use memory_wanted::reserve;
+use frame_ports::{Frame, Landing, PortError, Ports, Targets};
+use std::alloc::Global;
 use std::process::Abort;
 use std::test::Fail;
 
-/// A frame of 14 bytes from the guest to `client`.
-fn frame_to(client: u8) -> [u8; 14] {
-    [2, 0, 0, 0, 1, client, 2, 0, 0, 0, 0, 1, 0x88, 0xb5]
+/// A frame of 14 bytes from the guest to client 1, 3 and 4, to none, and to all.
+const TO_1: [u8; 14] = [2, 0, 0, 0, 1, 1, 2, 0, 0, 0, 0, 1, 0x88, 0xb5];
+
+const TO_3: [u8; 14] = [2, 0, 0, 0, 1, 3, 2, 0, 0, 0, 0, 1, 0x88, 0xb5];
+
+const TO_4: [u8; 14] = [2, 0, 0, 0, 1, 4, 2, 0, 0, 0, 0, 1, 0x88, 0xb5];
+
+const TO_0: [u8; 14] = [2, 0, 0, 0, 1, 0, 2, 0, 0, 0, 0, 1, 0x88, 0xb5];
+
+const TO_ALL: [u8; 14] = [0xff; 14];
+
+/// What is done to ports, and what comes of it.
+enum Row {
+    /// What this client's delivery is answered: the frame's number, or the refusal's.
+    Delivered(u64, &'static [u8], Result<u64, u8>),
+    /// What the delivery of so many bytes 7 is answered.
+    Length(u64, usize, Result<u64, u8>),
+    /// The deliveries of a frame are given the numbers from 1 on, before this one.
+    Numbered(u64),
+    /// So many frames wait for the client.
+    Waiting(u64, usize),
+    /// Whether the client takes a frame.
+    Taken(u64, bool),
+    /// There is no such client to take one.
+    Unknown(u64),
+    /// What a loss at a place of an inbox is answered: the number of the frame that was lost, or the refusal's.
+    LostIn(u64, u64, Result<Option<u64>, u8>),
+    /// The client's first frame is admitted, with this number and these bytes.
+    Admitted(u64, u64, &'static [u8]),
+    /// What becomes of the sent frame at the client, under this number.
+    Lands(u64, u64, Landing),
+    /// The sent frame lands at client 1 under the numbers from 1 on, before this one.
+    LandsUpTo(u64),
+    /// So many frames lie in the client's box.
+    Boxed(u64, usize),
+    /// A loss at a place of a client's box: whether there was a frame.
+    LostLanded(u64, u64, bool),
+    /// The numbers are counted anew.
+    Marked,
 }
 
-fn frame(bytes: &[u8]) -> Option<Frame> {
+fn frame(bytes: &[u8]) -> Result<Frame, Fail> {
     let mut frame = ArrayVec::new();
-    frame.try_extend_from_slice(bytes).ok()?;
-    Some(frame)
+    match frame.try_extend_from_slice(bytes) {
+        Ok(()) => Ok(frame),
+        Err(_) => Err("too long".into()),
+    }
 }
 
 /// What a delivery is answered: the frame's number, or the refusal's.
+fn delivered(ports: &mut Ports, client: u64, bytes: &[u8]) -> Result<u64, u8> {
+    match ports.deliver(client, bytes) {
+        Ok(number) => Ok(number),
+        Err(error) => Err(error.number()),
+    }
+}
+
+/// A delivery is answered so.
 fn assert_delivered(
     rt: &impl Abort,
     ports: &mut Ports,
@@ -26,10 +73,28 @@ fn assert_delivered(
     bytes: &[u8],
     answer: Result<u64, u8>,
 ) {
-    assert_eq!(rt;
-        ports.deliver(client, bytes).map_err(|e| e.number()),
-        answer
-    );
+    assert_eq!(rt; delivered(ports, client, bytes), answer);
+}
+
+/// The delivery of so many bytes 7 is answered so.
+fn assert_length(
+    rt: &impl Abort,
+    alloc: Global,
+    ports: &mut Ports,
+    (client, count): (u64, usize),
+    answer: Result<u64, u8>,
+) -> Result<(), Fail> {
+    let mut bytes = Vec::new(alloc);
+    bytes.resize(count, 7)?;
+    assert_delivered(rt, ports, client, bytes.as_slice(), answer);
+    Ok(())
+}
+
+/// The deliveries of a frame are given the numbers from 1 on, before this one.
+fn assert_numbered(rt: &impl Abort, ports: &mut Ports, end: u64) {
+    for number in 1..end {
+        assert_delivered(rt, ports, 1, &TO_1, Ok(number));
+    }
 }
 
 /// So many frames wait for the client.
@@ -40,32 +105,25 @@ fn assert_waiting(rt: &impl Abort, ports: &Ports, client: u64, count: usize) {
 
 /// Whether the client takes a frame.
 fn assert_taken(rt: &impl Abort, ports: &mut Ports, client: u64, some: bool) -> Result<(), Fail> {
-    assert_eq!(rt; ports.take(client)?.is_some(), some);
+    let taken = ports.take(client)?;
+    assert!(rt; taken.is_some() == some);
     Ok(())
 }
 
-#[test]
-fn frames_of_too_few_or_too_many_bytes_are_refused(rt: HostRuntime) -> Result<(), Fail> {
-    let mut ports = Ports::new(rt.alloc(), 1)?;
-    let long = vec![in rt.alloc(); 7u8; 1515]?;
-    assert_delivered(&rt, &mut ports, 1, &long[..13], Err(2));
-    assert_delivered(&rt, &mut ports, 1, &long[..1515], Err(2));
-    assert_delivered(&rt, &mut ports, 1, &long[..1514], Ok(1));
-    Ok(())
-}
-
-#[test]
-fn an_inbox_is_full_at_64(rt: HostRuntime) -> Result<(), Fail> {
-    let mut ports = Ports::new(rt.alloc(), 1)?;
-    for number in 1..65u64 {
-        assert_delivered(&rt, &mut ports, 1, &frame_to(1), Ok(number));
-    }
-    assert_delivered(&rt, &mut ports, 1, &frame_to(1), Err(1));
-    assert_waiting(&rt, &ports, 1, 64);
-    assert_taken(&rt, &mut ports, 1, false)
+/// There is no such client to take a frame.
+fn assert_unknown(rt: &impl Abort, ports: &mut Ports, client: u64) {
+    assert!(rt; ports.take(client).is_err());
 }
 
 /// What a loss in an inbox is answered: the number of the frame that was lost, or the refusal's.
+fn lost_in(ports: &mut Ports, client: u64, place: u64) -> Result<Option<u64>, u8> {
+    match ports.lose_in(client, place) {
+        Ok(number) => Ok(number),
+        Err(error) => Err(error.number()),
+    }
+}
+
+/// A loss in an inbox is answered so.
 fn assert_lost_in(
     rt: &impl Abort,
     ports: &mut Ports,
@@ -73,10 +131,20 @@ fn assert_lost_in(
     place: u64,
     answer: Result<Option<u64>, u8>,
 ) {
-    assert_eq!(rt;
-        ports.lose_in(client, place).map_err(|e| e.number()),
-        answer
-    );
+    assert_eq!(rt; lost_in(ports, client, place), answer);
+}
+
+/// The client's first frame, which is admitted, with its number.
+fn admitted(ports: &mut Ports, client: u64) -> Result<(u64, Frame), Fail> {
+    match ports.admit(client)? {
+        Some(admitted) => Ok(admitted),
+        None => Err("a frame waits".into()),
+    }
+}
+
+/// The frame has these bytes.
+fn assert_frame(rt: &impl Abort, frame: &Frame, bytes: &[u8]) {
+    assert!(rt; frame.as_slice() == bytes);
 }
 
 /// The client's first frame is admitted, with this number and these bytes.
@@ -87,23 +155,9 @@ fn assert_admitted(
     number: u64,
     bytes: &[u8],
 ) -> Result<(), Fail> {
-    let (found, frame) = ports.admit(client)?.ok_or("a frame waits")?;
+    let (found, frame) = admitted(ports, client)?;
     assert_eq!(rt; found, number);
-    assert_eq!(rt; frame.as_slice(), bytes);
-    Ok(())
-}
-
-#[test]
-fn a_frame_waits_and_is_lost(rt: HostRuntime) -> Result<(), Fail> {
-    let mut ports = Ports::new(rt.alloc(), 3)?;
-    assert_eq!(rt; ports.clients(), 3);
-    assert_delivered(&rt, &mut ports, 2, &[9; 14], Ok(1));
-    assert_delivered(&rt, &mut ports, 2, &[8; 15], Ok(2));
-    assert_delivered(&rt, &mut ports, 2, &[7; 16], Ok(3));
-    assert_lost_in(&rt, &mut ports, 2, 1, Ok(Some(2)));
-    assert_lost_in(&rt, &mut ports, 2, 2, Ok(None));
-    assert_admitted(&rt, &mut ports, 2, 1, &[9; 14])?;
-    assert_waiting(&rt, &ports, 2, 1);
+    assert_frame(rt, &frame, bytes);
     Ok(())
 }
 
@@ -121,118 +175,240 @@ fn assert_lands(
     assert_eq!(rt; ports.land(client, number, frame), landing);
 }
 
+/// The frame lands at client 1 under the numbers from 1 on, before this one.
+fn assert_all_land(rt: &impl Abort, ports: &mut Ports, end: u64, frame: &Frame) {
+    for number in 1..end {
+        assert_lands(rt, ports, 1, number, frame, Landing::In);
+    }
+}
+
 /// So many frames lie in the client's box.
 fn assert_box(rt: &impl Abort, ports: &Ports, client: u64, count: usize) {
     assert!(rt; 1 <= client && client <= ports.clients());
     assert_eq!(rt; ports.box_len(client), count);
 }
 
+/// Whether there was a frame at a place of a client's box, which is lost.
+fn lost_landed(ports: &mut Ports, client: u64, place: u64) -> Result<bool, u8> {
+    match ports.lose_landed(client, place) {
+        Ok(lost) => Ok(lost),
+        Err(error) => Err(error.number()),
+    }
+}
+
 /// A loss in a client's box: whether there was a frame at that place.
 fn assert_lost_landed(rt: &impl Abort, ports: &mut Ports, client: u64, place: u64, lost: bool) {
-    assert_eq!(rt;
-        ports.lose_landed(client, place).map_err(|e| e.number()),
-        Ok(lost)
-    );
+    assert_eq!(rt; lost_landed(ports, client, place), Ok(lost));
+}
+
+/// Plays one row. The sent frame is this one.
+fn play(
+    rt: &impl Abort,
+    alloc: Global,
+    ports: &mut Ports,
+    sent: &Frame,
+    row: &Row,
+) -> Result<(), Fail> {
+    match row {
+        Row::Delivered(client, bytes, answer) => {
+            assert_delivered(rt, ports, *client, bytes, *answer);
+        }
+        Row::Length(client, count, answer) => {
+            return assert_length(rt, alloc, ports, (*client, *count), *answer);
+        }
+        Row::Numbered(end) => assert_numbered(rt, ports, *end),
+        Row::Waiting(client, count) => assert_waiting(rt, ports, *client, *count),
+        Row::Taken(client, some) => return assert_taken(rt, ports, *client, *some),
+        Row::Unknown(client) => assert_unknown(rt, ports, *client),
+        Row::LostIn(client, place, answer) => assert_lost_in(rt, ports, *client, *place, *answer),
+        Row::Admitted(client, number, bytes) => {
+            return assert_admitted(rt, ports, *client, *number, bytes);
+        }
+        Row::Lands(client, number, landing) => {
+            assert_lands(rt, ports, *client, *number, sent, *landing);
+        }
+        Row::LandsUpTo(end) => assert_all_land(rt, ports, *end, sent),
+        Row::Boxed(client, count) => assert_box(rt, ports, *client, *count),
+        Row::LostLanded(client, place, lost) => {
+            assert_lost_landed(rt, ports, *client, *place, *lost);
+        }
+        Row::Marked => ports.mark(),
+    }
+    Ok(())
+}
+
+/// Plays the rows with the ports of so many clients, one after the other. The sent frame has these bytes.
+fn plays(
+    rt: &impl Abort,
+    alloc: Global,
+    clients: u64,
+    sent: &[u8],
+    rows: &[Row],
+) -> Result<(), Fail> {
+    if clients < 1 || clients > 16 {
+        return Err("there are no such ports".into());
+    }
+    let sent = frame(sent)?;
+    let mut ports = Ports::new(alloc, clients)?;
+    assert_eq!(rt; ports.clients(), clients);
+    for row in rows {
+        play(rt, alloc, &mut ports, &sent, row)?;
+    }
+    Ok(())
+}
+
+#[test]
+fn frames_of_too_few_or_too_many_bytes_are_refused(rt: HostRuntime) -> Result<(), Fail> {
+    static ROWS: [Row; 3] = [
+        Row::Length(1, 13, Err(2)),
+        Row::Length(1, 1515, Err(2)),
+        Row::Length(1, 1514, Ok(1)),
+    ];
+    plays(&rt, rt.alloc(), 1, &TO_1, &ROWS)
+}
+
+#[test]
+fn an_inbox_is_full_at_64(rt: HostRuntime) -> Result<(), Fail> {
+    static ROWS: [Row; 4] = [
+        Row::Numbered(65),
+        Row::Delivered(1, &TO_1, Err(1)),
+        Row::Waiting(1, 64),
+        Row::Taken(1, false),
+    ];
+    plays(&rt, rt.alloc(), 1, &TO_1, &ROWS)
+}
+
+#[test]
+fn a_frame_waits_and_is_lost(rt: HostRuntime) -> Result<(), Fail> {
+    static ROWS: [Row; 7] = [
+        Row::Delivered(2, &[9; 14], Ok(1)),
+        Row::Delivered(2, &[8; 15], Ok(2)),
+        Row::Delivered(2, &[7; 16], Ok(3)),
+        Row::LostIn(2, 1, Ok(Some(2))),
+        Row::LostIn(2, 2, Ok(None)),
+        Row::Admitted(2, 1, &[9; 14]),
+        Row::Waiting(2, 1),
+    ];
+    plays(&rt, rt.alloc(), 3, &TO_1, &ROWS)
 }
 
 #[test]
 fn a_frame_lands_and_is_lost(rt: HostRuntime) -> Result<(), Fail> {
-    let mut ports = Ports::new(rt.alloc(), 3)?;
-    let broadcast = frame(&[0xff; 14]).ok_or("too long")?;
-    assert_eq!(rt; broadcast.len(), 14);
-    assert!(rt; ports.take(4).is_err());
-    assert_lands(&rt, &mut ports, 3, 1, &broadcast, Landing::In);
-    assert_box(&rt, &ports, 3, 1);
-    assert_lost_landed(&rt, &mut ports, 3, 1, false);
-    assert_lost_landed(&rt, &mut ports, 3, 0, true);
-    assert_taken(&rt, &mut ports, 3, false)
+    static ROWS: [Row; 6] = [
+        Row::Unknown(4),
+        Row::Lands(3, 1, Landing::In),
+        Row::Boxed(3, 1),
+        Row::LostLanded(3, 1, false),
+        Row::LostLanded(3, 0, true),
+        Row::Taken(3, false),
+    ];
+    plays(&rt, rt.alloc(), 3, &TO_ALL, &ROWS)
 }
 
 #[test]
 fn a_frame_lands_once_until_the_ports_are_marked(rt: HostRuntime) -> Result<(), Fail> {
-    let mut ports = Ports::new(rt.alloc(), 2)?;
-    let frame = frame(&[0xff; 14]).ok_or("too long")?;
-    for (client, number, landing) in [
+    static ROWS: [Row; 14] = [
         // No frame has the number 0.
-        (1, 0, Landing::Old),
-        (1, 5, Landing::In),
-        (1, 5, Landing::Old),
-        (1, 4, Landing::Old),
-        (2, 4, Landing::In),
-        (2, 5, Landing::In),
-        (1, 6, Landing::In),
-    ] {
-        assert_lands(&rt, &mut ports, client, number, &frame, landing);
-    }
-    // Two have landed for client 1. What it has taken came all the same.
-    assert_taken(&rt, &mut ports, 1, true)?;
-    assert_taken(&rt, &mut ports, 1, true)?;
-    assert_taken(&rt, &mut ports, 1, false)?;
-    assert_lands(&rt, &mut ports, 1, 6, &frame, Landing::Old);
-    ports.mark();
-    assert_lands(&rt, &mut ports, 1, 1, &frame, Landing::In);
-    assert_lands(&rt, &mut ports, 2, 1, &frame, Landing::In);
-    Ok(())
+        Row::Lands(1, 0, Landing::Old),
+        Row::Lands(1, 5, Landing::In),
+        Row::Lands(1, 5, Landing::Old),
+        Row::Lands(1, 4, Landing::Old),
+        Row::Lands(2, 4, Landing::In),
+        Row::Lands(2, 5, Landing::In),
+        Row::Lands(1, 6, Landing::In),
+        // Two have landed for client 1. What it has taken came all the same.
+        Row::Taken(1, true),
+        Row::Taken(1, true),
+        Row::Taken(1, false),
+        Row::Lands(1, 6, Landing::Old),
+        Row::Marked,
+        Row::Lands(1, 1, Landing::In),
+        Row::Lands(2, 1, Landing::In),
+    ];
+    plays(&rt, rt.alloc(), 2, &TO_ALL, &ROWS)
 }
 
 #[test]
 fn the_number_of_a_dropped_frame_counts(rt: HostRuntime) -> Result<(), Fail> {
-    let mut ports = Ports::new(rt.alloc(), 1)?;
-    let frame = frame(&frame_to(1)).ok_or("too long")?;
-    for number in 1..257u64 {
-        assert_lands(&rt, &mut ports, 1, number, &frame, Landing::In);
-    }
-    assert_lands(&rt, &mut ports, 1, 257, &frame, Landing::Dropped);
-    // There is room for it now, and still it doesn't land: the client's number is 257.
-    assert_taken(&rt, &mut ports, 1, true)?;
-    assert_lands(&rt, &mut ports, 1, 257, &frame, Landing::Old);
-    assert_lands(&rt, &mut ports, 1, 258, &frame, Landing::In);
-    Ok(())
+    static ROWS: [Row; 5] = [
+        Row::LandsUpTo(257),
+        Row::Lands(1, 257, Landing::Dropped),
+        // There is room for it now, and still it doesn't land: the client's number is 257.
+        Row::Taken(1, true),
+        Row::Lands(1, 257, Landing::Old),
+        Row::Lands(1, 258, Landing::In),
+    ];
+    plays(&rt, rt.alloc(), 1, &TO_1, &ROWS)
 }
 
-/// A frame of these bytes goes to the clients of these bits, client 1 lowest.
-fn assert_route(rt: &impl Abort, ports: &Ports, bytes: &[u8], bits: u16) -> Result<(), Fail> {
-    let frame = frame(bytes).ok_or("too long")?;
-    let targets = ports.route(&frame);
+/// Whether the client is one of the targets.
+fn assert_contains(rt: &impl Abort, targets: Targets, client: u64, some: bool) {
+    assert!(rt; targets.contains(client) == some);
+}
+
+/// The targets are the clients of these bits, client 1 lowest.
+fn assert_targets(rt: &impl Abort, targets: Targets, bits: u16) {
     assert_eq!(rt; targets.bits(), bits);
-    assert_eq!(rt; targets.contains(1), bits & 1 == 1);
-    assert_eq!(rt; targets.contains(3), bits & 4 == 4);
-    assert_eq!(rt; targets.contains(0), false);
+    assert_contains(rt, targets, 1, bits & 1 == 1);
+    assert_contains(rt, targets, 3, bits & 4 == 4);
+    assert_contains(rt, targets, 0, false);
+}
+
+/// A frame of these bytes goes to the clients of these bits.
+fn assert_route(rt: &impl Abort, ports: &Ports, bytes: &[u8], bits: u16) -> Result<(), Fail> {
+    let frame = frame(bytes)?;
+    assert_targets(rt, ports.route(&frame), bits);
     Ok(())
 }
 
 #[test]
 fn frames_go_where_their_address_says(rt: HostRuntime) -> Result<(), Fail> {
+    static ROUTES: [(&[u8], u16); 8] = [
+        (&TO_1, 0b001),
+        (&TO_3, 0b100),
+        (&TO_4, 0),
+        (&TO_0, 0),
+        (&TO_ALL, 0b111),
+        (&[0xff; 5], 0),
+        // The guest's own address, and a multicast one.
+        (&[2, 0, 0, 0, 0, 1, 2, 0, 0, 0, 1, 1, 0x88, 0xb5], 0),
+        (&[1, 0, 0x5e, 0, 0, 1, 2, 0, 0, 0, 1, 1, 0x88, 0xb5], 0),
+    ];
     let ports = Ports::new(rt.alloc(), 3)?;
-    assert_route(&rt, &ports, &frame_to(1), 0b001)?;
-    assert_route(&rt, &ports, &frame_to(3), 0b100)?;
-    assert_route(&rt, &ports, &frame_to(4), 0)?;
-    assert_route(&rt, &ports, &frame_to(0), 0)?;
-    assert_route(&rt, &ports, &[0xff; 14], 0b111)?;
-    assert_route(&rt, &ports, &[0xff; 5], 0)?;
-    // The guest's own address, and a multicast one.
-    let own = [2, 0, 0, 0, 0, 1, 2, 0, 0, 0, 1, 1, 0x88, 0xb5];
-    assert_route(&rt, &ports, &own, 0)?;
-    let multicast = [1, 0, 0x5e, 0, 0, 1, 2, 0, 0, 0, 1, 1, 0x88, 0xb5];
-    assert_route(&rt, &ports, &multicast, 0)
+    for (bytes, bits) in &ROUTES {
+        assert_route(&rt, &ports, bytes, *bits)?;
+    }
+    Ok(())
+}
+
+/// The refusal has this number and this name.
+fn assert_refusal(
+    rt: &impl Abort,
+    alloc: Global,
+    error: &PortError,
+    number: u8,
+    name: &str,
+) -> Result<(), Fail> {
+    assert_named(
+        rt,
+        alloc,
+        error,
+        (error.number(), error.name()),
+        (number, name),
+    )
 }
 
 #[test]
 fn refusals_are_those_of_the_table(rt: HostRuntime) -> Result<(), Fail> {
-    let Err(wanted) = reserve(&mut Vec::<u64>::new(rt.alloc()), usize::MAX) else {
-        return Err("no machine has that much".into());
-    };
-    for (error, number, name) in [
+    static ERRORS: [(PortError, u8, &str); 4] = [
         (PortError::Full, 1, "Full"),
         (PortError::BadFrame, 2, "BadFrame"),
         (PortError::NoClient, 3, "NoClient"),
-        (PortError::NoMemory(wanted), 12, "NoMemory"),
         (PortError::Exhausted, 14, "Exhausted"),
-    ] {
-        assert_eq!(rt; error.number(), number);
-        assert_eq!(rt; error.name(), name);
-        let text = format!(in rt.alloc(); "{error}")?;
-        assert_eq!(rt; text.as_str(), name);
+    ];
+    for (error, number, name) in &ERRORS {
+        assert_refusal(&rt, rt.alloc(), error, *number, name)?;
     }
-    Ok(())
+    let error = PortError::NoMemory(refused(rt.alloc())?);
+    assert_refusal(&rt, rt.alloc(), &error, 12, "NoMemory")
 }

@@ -1,8 +1,7 @@
 //! Packets that come late, again and again, or out of order, and acknowledgements of a generation that has ended.
 
-use super::{assert_answers, assert_shows, beacon_pair, counted, idle_pair};
-use pair_core::{Event, Mode, Refusal, Reply, Show, World};
-use std::alloc::Global;
+use super::rows::{Guest, Row, pair, plays, plays_on};
+use pair_core::{Event, Mode, Refusal, Reply, World};
 use std::process::Abort;
 use std::test::Fail;
 
@@ -27,80 +26,84 @@ fn count(rt: &impl Abort, world: &mut World, packet: u64, counts: &mut Counts) {
     }
 }
 
-/// An idle pair with four checkpoints under way, a step before each cut.
-fn four_cuts(alloc: Global) -> Result<Box<World>, Fail> {
-    let mut world = idle_pair(alloc)?;
-    let mut events = Vec::new(alloc);
-    for _ in 0..4u8 {
-        events.extend_from_slice(&[Event::Step, Event::Cut])?;
-    }
-    events.push(Event::Send)?;
-    world.run(events.as_slice())?;
-    Ok(world)
-}
-
-#[test]
-fn packets_that_come_again_do_nothing(rt: HostRuntime) -> Result<(), Fail> {
-    let mut world = four_cuts(rt.alloc())?;
+/// The counts of all packets got in reversed order, a hundred times.
+fn counted(rt: &impl Abort, world: &mut World) -> Counts {
     let mut counts = Counts {
         committed: 0,
         again: 0,
         gap: 0,
     };
     for _ in 0..100u8 {
-        for packet in [3, 2, 1, 0] {
-            count(&rt, &mut world, packet, &mut counts);
+        for packet in 1..5u64 {
+            count(rt, world, 4 - packet, &mut counts);
         }
     }
+    counts
+}
+
+/// A hundred times the four packets, of which the first is got last, are answered so.
+fn assert_counted(rt: &impl Abort, world: &mut World) {
     let wanted = Counts {
         committed: 4,
         again: 390,
         gap: 6,
     };
-    assert_eq!(rt; counts, wanted);
-    // the image has made each step once
-    world.apply(Event::FailPrimary);
-    let shown = Show {
-        mode: Mode::Stopped,
-        generation: 1,
-        pending: 4,
-        steps: 4,
-        entries: 4,
-    };
-    assert_shows(&rt, &world, shown);
-    Ok(())
+    assert_eq!(rt; counted(rt, world), wanted);
+}
+
+#[test]
+fn packets_that_come_again_do_nothing(rt: HostRuntime) -> Result<(), Fail> {
+    // Four checkpoints are under way, a step before each cut.
+    static CUTS: [Row; 1] = [Row::Told(
+        &[
+            Event::Step,
+            Event::Cut,
+            Event::Step,
+            Event::Cut,
+            Event::Step,
+            Event::Cut,
+            Event::Step,
+            Event::Cut,
+            Event::Send,
+        ],
+        "Steps(1)\nCut { generation: 1, number: 1 }\nSteps(2)\nCut { generation: 1, number: 2 }\n\
+        Steps(3)\nCut { generation: 1, number: 3 }\nSteps(4)\nCut { generation: 1, number: 4 }\nSent(4)\n",
+    )];
+    // The image has made each step once.
+    static IMAGE: [Row; 2] = [
+        Row::Told(&[Event::FailPrimary], "Stopped\n"),
+        Row::Shows(Mode::Stopped, 1, 4, 4, 4),
+    ];
+    let mut world = pair(rt.alloc(), Guest::Idle, 2)?;
+    plays_on(&rt, rt.alloc(), &mut world, &CUTS)?;
+    assert_counted(&rt, &mut world);
+    plays_on(&rt, rt.alloc(), &mut world, &IMAGE)
 }
 
 #[test]
 fn an_acknowledgement_of_an_old_generation_is_stale(rt: HostRuntime) -> Result<(), Fail> {
-    let mut world = beacon_pair(rt.alloc())?;
-    let steps = counted(rt.alloc(), 22)?;
-    assert_answers(
-        &rt,
-        rt.alloc(),
-        &mut world,
-        &[Event::Step; 22],
-        steps.as_str(),
-    )?;
-    let events = [
-        Event::Cut,
-        Event::Cut,
-        Event::Cut,
-        Event::Send,
-        Event::BackupGet(0),
-        Event::BackupGet(1),
-        Event::BackupGet(2),
-        Event::FailBackup,
-        Event::Protect,
-        Event::AckGet(2),
-        Event::Take(1),
-        Event::Take(1),
-    ];
-    let wanted =
-        "Cut { generation: 1, number: 1 }\nCut { generation: 1, number: 2 }\nCut { generation: 1, number: 3 }\n\
+    static ROWS: [Row; 2] = [
+        Row::Counted(0, 22),
+        Row::Told(
+            &[
+                Event::Cut,
+                Event::Cut,
+                Event::Cut,
+                Event::Send,
+                Event::BackupGet(0),
+                Event::BackupGet(1),
+                Event::BackupGet(2),
+                Event::FailBackup,
+                Event::Protect,
+                Event::AckGet(2),
+                Event::Take(1),
+                Event::Take(1),
+            ],
+            "Cut { generation: 1, number: 1 }\nCut { generation: 1, number: 2 }\nCut { generation: 1, number: 3 }\n\
         Sent(3)\nCommitted { generation: 1, number: 1 }\nCommitted { generation: 1, number: 2 }\n\
         Committed { generation: 1, number: 3 }\nAlone { generation: 1, landed: 1 }\nProtecting(2)\nRefused(Stale)\n\
-        Took(Some([2, 0, 0, 0, 1, 1, 2, 0, 0, 0, 0, 1, 136, 181]))\nTook(None)\n";
-    assert_answers(&rt, rt.alloc(), &mut world, &events, wanted)?;
-    Ok(())
+        Took(Some([2, 0, 0, 0, 1, 1, 2, 0, 0, 0, 0, 1, 136, 181]))\nTook(None)\n",
+        ),
+    ];
+    plays(&rt, rt.alloc(), Guest::Beacon, &ROWS)
 }

@@ -1,10 +1,10 @@
 //! Checkpoints on their way, as bytes.
-use super::{SHAPE, assert_answers, assert_shows, idle_pair, paired};
+use super::rows::{Guest, Row, SHAPE, plays};
 use checkpoint_stream::encode;
 use epoch_snapshot::cut_delta;
 use guest_kit::beacon;
 use guest_machine::Machine;
-use pair_core::{Event, Shape};
+use pair_core::{Event, Mode, Shape};
 use std::alloc::Global;
 use std::test::Fail;
 
@@ -30,25 +30,13 @@ fn the_beacons_checkpoint_on_its_way_has_630_bytes(rt: HostRuntime) -> Result<()
 
 #[test]
 fn an_idle_pair_goes_on_for_three_hundred_acknowledged_epochs(rt: HostRuntime) -> Result<(), Fail> {
-    let mut world = idle_pair(rt.alloc())?;
-    let mut events = Vec::new(rt.alloc());
-    for k in 0..300u64 {
-        events.extend_from_slice(&[
-            Event::Step,
-            Event::Cut,
-            Event::Send,
-            Event::BackupGet(k),
-            Event::AckGet(k),
-        ])?;
-    }
-    drop(world.run(events.as_slice())?);
-    assert_shows(&rt, &world, paired(0, 300, 300));
-    assert_answers(
-        &rt,
-        rt.alloc(),
-        &mut world,
-        &[Event::AckGet(299), Event::BackupGet(299)],
-        "Acked { generation: 1, number: 300, landed: 0 }\nAgain { generation: 1, number: 300 }\n",
-    )?;
-    Ok(())
+    static ROWS: [Row; 3] = [
+        Row::Epochs(300),
+        Row::Shows(Mode::Paired, 1, 0, 300, 300),
+        Row::Told(
+            &[Event::AckGet(299), Event::BackupGet(299)],
+            "Acked { generation: 1, number: 300, landed: 0 }\nAgain { generation: 1, number: 300 }\n",
+        ),
+    ];
+    plays(&rt, rt.alloc(), Guest::Idle, &ROWS)
 }
