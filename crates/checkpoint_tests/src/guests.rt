@@ -1,5 +1,6 @@
 //! Two small guests, whose checkpoints are known byte by byte.
 
+use crate::asserts::same;
 use guest_kit::{beacon, disk_once};
 use guest_machine::{Machine, PAGE_BYTES, Shape};
 use std::alloc::Global;
@@ -32,7 +33,7 @@ fn boot_machine(
 
 /// So many steps, none of which is refused.
 pub(super) fn run(rt: &impl Abort, machine: &mut Machine, steps: u64) {
-    assert_eq!(rt; machine.run(steps), steps);
+    same(rt, "steps", machine.run(steps), steps);
 }
 
 /// The machine of this many sectors with this image, after so many steps.

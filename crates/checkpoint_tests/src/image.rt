@@ -4,12 +4,13 @@ mod kept;
 mod stops;
 mod versions;
 
+use crate::asserts::{as_many, holds, same};
 use crate::guests::{BYTE, SECTOR, disk_after, run, shape};
+use crate::refusals::{assert_named, refused};
 use backup_image::{Image, ImageError, Staged, Standing};
 use epoch_snapshot::{Checkpoint, cut_delta, cut_full};
 use guest_kit::{beacon, disk_once};
 use guest_machine::{Machine, PAGE_BYTES};
-use memory_wanted::reserve;
 use std::alloc::Global;
 use std::process::Abort;
 use std::test::Fail;
@@ -57,9 +58,10 @@ fn assert_answer(
     rt: &impl Abort,
     image: &mut Image,
     checkpoint: Checkpoint,
-    answer: Result<Staged, ImageError>,
+    answer: &Result<Staged, ImageError>,
 ) {
-    assert!(rt; stage(rt, image, checkpoint) == answer);
+    let is_right = stage(rt, image, checkpoint) == *answer;
+    holds(rt, "the answer", is_right);
 }
 
 /// What an image answers to the delta of this machine, of this generation and number.
@@ -69,7 +71,7 @@ fn assert_delta(
     machine: &Machine,
     image: &mut Image,
     (generation, number): (u64, u64),
-    answer: Result<Staged, ImageError>,
+    answer: &Result<Staged, ImageError>,
 ) -> Result<(), Fail> {
     assert!(rt; 1 <= generation && generation < 1 << 62);
     assert!(rt; 1 <= number && number < 1 << 62);
@@ -85,12 +87,22 @@ fn assert_full(
     machine: &Machine,
     image: &mut Image,
     generation: u64,
-    answer: Result<Staged, ImageError>,
+    answer: &Result<Staged, ImageError>,
 ) -> Result<(), Fail> {
     assert!(rt; 1 <= generation && generation < 1 << 62);
     let full = cut_full(alloc, machine, generation)?;
     assert_answer(rt, image, full, answer);
     Ok(())
+}
+
+/// Whether each of these bytes is this one.
+fn are_all(bytes: &[u8], byte: u8) -> bool {
+    for held in bytes {
+        if *held != byte {
+            return false;
+        }
+    }
+    true
 }
 
 /// An image stands there and has made so many steps, and a sector of it is full of this byte.
@@ -102,66 +114,80 @@ fn assert_image(
     sector: u32,
     byte: u8,
 ) {
-    assert!(rt; image.standing() == standing);
-    assert_eq!(rt; image.steps(), steps);
+    holds(rt, "the standing", image.standing() == standing);
+    same(rt, "steps", image.steps(), steps);
     assert!(rt; sector < image.shape().sectors);
-    for found in image.sector(sector).iter() {
-        assert_eq!(rt; *found, byte);
-    }
+    holds(rt, "the sector", are_all(image.sector(sector), byte));
 }
 
 fn at(generation: u64, number: u64) -> Option<Standing> {
     Some(Standing { generation, number })
 }
 
-/// The disk guest's delta is answered so, and the image stays at boot, also where the delta is staged.
-fn assert_stays(
+/// What is asked of an image, and what comes of it.
+enum Row {
+    /// What is answered to the machine's delta of this generation and number.
+    Delta(u64, u64, Result<Staged, ImageError>),
+    /// What is answered to the machine's full checkpoint of this generation.
+    Full(u64, Result<Staged, ImageError>),
+    /// What is staged is committed.
+    Commit,
+    /// The image stands at this generation and number, has made so many steps, and sector 3 is full of this byte.
+    Stands(u64, u64, u64, u8),
+}
+
+/// Plays one row.
+fn play(
     rt: &impl Abort,
     alloc: Global,
     machine: &Machine,
     image: &mut Image,
-    place: (u64, u64),
-    answer: Result<Staged, ImageError>,
+    row: &Row,
 ) -> Result<(), Fail> {
-    assert_delta(rt, alloc, machine, image, place, answer)?;
-    assert_image(rt, image, at(1, 0), 0, 3, 0);
+    match row {
+        Row::Delta(generation, number, answer) => {
+            return assert_delta(rt, alloc, machine, image, (*generation, *number), answer);
+        }
+        Row::Full(generation, answer) => {
+            return assert_full(rt, alloc, machine, image, *generation, answer);
+        }
+        Row::Commit => image.commit(),
+        Row::Stands(generation, number, steps, byte) => {
+            assert_image(rt, image, at(*generation, *number), *steps, 3, *byte);
+        }
+    }
     Ok(())
 }
 
-/// After a commit the disk guest's image stands there, with the sector written.
-fn assert_commits(rt: &impl Abort, image: &mut Image, generation: u64, number: u64) {
-    image.commit();
-    assert_image(rt, image, at(generation, number), 23, 3, 0xab);
+/// Plays the rows on the image, with the disk guest after its 23 steps.
+fn plays(rt: &impl Abort, alloc: Global, image: &mut Image, rows: &[Row]) -> Result<(), Fail> {
+    let machine = disk_after(rt, alloc, 23)?;
+    for row in rows {
+        play(rt, alloc, &machine, image, row)?;
+    }
+    Ok(())
 }
 
 /// The disk guest's delta is in the image from its commit on, not from its staging on. What comes out of turn is answered otherwise.
 #[test]
 fn a_delta_counts_from_its_commit_on(rt: HostRuntime) -> Result<(), Fail> {
-    let alloc = rt.alloc();
-    let machine = disk_after(&rt, alloc, 23)?;
-    let mut image = disk_image(&rt, alloc)?;
-    assert_stays(
-        &rt,
-        alloc,
-        &machine,
-        &mut image,
-        (1, 2),
-        Err(ImageError::Gap),
-    )?;
-    assert_stays(
-        &rt,
-        alloc,
-        &machine,
-        &mut image,
-        (2, 1),
-        Err(ImageError::Stale),
-    )?;
-    assert_stays(&rt, alloc, &machine, &mut image, (1, 1), Ok(Staged::New))?;
-    assert_stays(&rt, alloc, &machine, &mut image, (1, 1), Ok(Staged::New))?;
-    assert_commits(&rt, &mut image, 1, 1);
-    assert_full(&rt, alloc, &machine, &mut image, 1, Ok(Staged::Again))?;
-    assert_commits(&rt, &mut image, 1, 1);
-    Ok(())
+    static ROWS: [Row; 13] = [
+        Row::Delta(1, 2, Err(ImageError::Gap)),
+        Row::Stands(1, 0, 0, 0),
+        Row::Delta(2, 1, Err(ImageError::Stale)),
+        Row::Stands(1, 0, 0, 0),
+        Row::Delta(1, 1, Ok(Staged::New)),
+        Row::Stands(1, 0, 0, 0),
+        Row::Delta(1, 1, Ok(Staged::New)),
+        Row::Stands(1, 0, 0, 0),
+        Row::Commit,
+        Row::Stands(1, 1, 23, 0xab),
+        Row::Full(1, Ok(Staged::Again)),
+        Row::Commit,
+        Row::Stands(1, 1, 23, 0xab),
+    ];
+    let mut image = disk_image(&rt, rt.alloc())?;
+    plays(&rt, rt.alloc(), &mut image, &ROWS)
 }
 
 /// An empty image has no machine, and is handed back.
@@ -169,7 +195,7 @@ fn handed_back(rt: &impl Abort, alloc: Global, image: Box<Image>) -> Result<Box<
     match Box::into_inner(image).resume() {
         Ok(_) => Err("an empty image has no machine".into()),
         Err((image, refusal)) => {
-            assert!(rt; refusal == ImageError::NoImage);
+            holds(rt, "the refusal", refusal == ImageError::NoImage);
             Ok(Box::new(alloc, image)?)
         }
     }
@@ -185,33 +211,39 @@ fn resumed(alloc: Global, image: Box<Image>) -> Result<Box<Machine>, Fail> {
 
 /// The disk guest goes on where it was after 23 steps, with nothing in its outbox.
 fn assert_goes_on(rt: &impl Abort, machine: &mut Machine) {
-    assert!(rt; machine.outbox().is_empty());
+    holds(rt, "an empty outbox", machine.outbox().is_empty());
     run(rt, machine, 5);
-    assert_eq!(rt; machine.steps(), 28);
-    assert_eq!(rt; machine.pc(), 0x8000_005c);
+    same(rt, "steps", machine.steps(), 28);
+    same(rt, "the pc", machine.pc(), 0x8000_005c);
+}
+
+/// An empty image with a disk, which was asked for its machine.
+fn asked_image(rt: &impl Abort, alloc: Global) -> Result<Box<Image>, Fail> {
+    let empty = empty_image(rt, alloc, 8)?;
+    assert_image(rt, &empty, None, 0, 3, 0);
+    handed_back(rt, alloc, empty)
 }
 
 /// An empty image takes a full checkpoint only, and gives no machine before. The machine that it then gives goes on where the other was.
 #[test]
 fn an_empty_image_is_filled(rt: HostRuntime) -> Result<(), Fail> {
-    let alloc = rt.alloc();
-    let machine = disk_after(&rt, alloc, 23)?;
-    let empty = empty_image(&rt, alloc, 8)?;
-    assert_image(&rt, &empty, None, 0, 3, 0);
-    let mut image = handed_back(&rt, alloc, empty)?;
-    assert_delta(
-        &rt,
-        alloc,
-        &machine,
-        &mut image,
-        (2, 1),
-        Err(ImageError::NoImage),
-    )?;
-    assert_full(&rt, alloc, &machine, &mut image, 2, Ok(Staged::New))?;
-    assert_commits(&rt, &mut image, 2, 0);
-    let mut machine = resumed(alloc, image)?;
+    static ROWS: [Row; 4] = [
+        Row::Delta(2, 1, Err(ImageError::NoImage)),
+        Row::Full(2, Ok(Staged::New)),
+        Row::Commit,
+        Row::Stands(2, 0, 23, 0xab),
+    ];
+    let mut image = asked_image(&rt, rt.alloc())?;
+    plays(&rt, rt.alloc(), &mut image, &ROWS)?;
+    let mut machine = resumed(rt.alloc(), image)?;
     assert_goes_on(&rt, &mut machine);
     Ok(())
+}
+
+/// The image is the beacon's after so many bytes of its checkpoint of 630.
+fn assert_part(rt: &impl Abort, image: &Image, count: usize) {
+    let whole = u64::from(count == 630);
+    assert_image(rt, image, at(1, whole), 22 * whole, 0, 0);
 }
 
 /// The beacon's checkpoint, stopped after each of its bytes but the last, leaves the image at boot.
@@ -220,32 +252,39 @@ fn part_of_a_checkpoint_leaves_the_image(rt: HostRuntime) -> Result<(), Fail> {
     let alloc = rt.alloc();
     let text = delta_text(&rt, alloc)?;
     let mut image = beacon_image(&rt, alloc)?;
-    assert_eq!(rt; text.len(), 630);
+    as_many(&rt, "bytes", text.len(), 630);
     for count in 0..631usize {
         let part = text.as_slice().get(..count).ok_or("it has them")?;
-        follow(&rt, alloc, &mut image, part, Ok(Staged::New))?;
-        let whole = u64::from(count == 630);
-        assert_image(&rt, &image, at(1, whole), 22 * whole, 0, 0);
+        follow(&rt, alloc, &mut image, part, &Ok(Staged::New))?;
+        assert_part(&rt, &image, count);
     }
     Ok(())
 }
 
+/// The refusal has this number and this name.
+fn assert_refusal(
+    rt: &impl Abort,
+    alloc: Global,
+    refusal: &ImageError,
+    number: u32,
+    name: &str,
+) -> Result<(), Fail> {
+    let found = (refusal.number(), refusal.name());
+    assert_named(rt, alloc, refusal, found, (number, name))
+}
+
 #[test]
 fn refusals_have_numbers_and_names(rt: HostRuntime) -> Result<(), Fail> {
-    let Err(wanted) = reserve(&mut Vec::<u64>::new(rt.alloc()), usize::MAX) else {
-        return Err("no machine has that much".into());
-    };
-    for (refusal, number, name) in [
+    static REFUSALS: [(ImageError, u32, &str); 5] = [
         (ImageError::NoImage, 8, "NoImage"),
         (ImageError::Stale, 9, "Stale"),
         (ImageError::Gap, 10, "Gap"),
-        (ImageError::from(wanted), 12, "NoMemory"),
         (ImageError::Exhausted, 14, "Exhausted"),
         (ImageError::OldVersion, 15, "OldVersion"),
-    ] {
-        assert_eq!(rt; refusal.number(), number);
-        assert_eq!(rt; refusal.name(), name);
-        assert_eq!(rt; format!(in rt.alloc(); "{refusal}")?.as_str(), name);
+    ];
+    for (refusal, number, name) in &REFUSALS {
+        assert_refusal(&rt, rt.alloc(), refusal, *number, name)?;
     }
-    Ok(())
+    let refusal = ImageError::from(refused(rt.alloc())?);
+    assert_refusal(&rt, rt.alloc(), &refusal, 12, "NoMemory")
 }

@@ -4,9 +4,13 @@
 #![tactic(auto)]
 
 #[cfg(test)]
+mod asserts;
+#[cfg(test)]
 mod guests;
 #[cfg(test)]
 mod image;
+#[cfg(test)]
+mod refusals;
 #[cfg(test)]
 mod snapshots;
 #[cfg(test)]

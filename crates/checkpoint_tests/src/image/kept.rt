@@ -3,9 +3,11 @@
 use super::stops::delta_text;
 use super::versions::read_whole;
 use super::{assert_answer, beacon_image, empty_image};
+use crate::asserts::{as_many, same};
 use crate::guests::beacon_after;
 use backup_image::{Image, KeptFrames, Staged};
 use epoch_snapshot::{Checkpoint, cut_full};
+use guest_machine::Frame;
 use std::alloc::Global;
 use std::process::Abort;
 use std::test::Fail;
@@ -42,7 +44,7 @@ fn commit_delta(
     count: u8,
 ) -> Result<(), Fail> {
     let delta = delta(rt, alloc, image, number, first, count)?;
-    assert_answer(rt, image, delta, Ok(Staged::New));
+    assert_answer(rt, image, delta, &Ok(Staged::New));
     image.commit();
     Ok(())
 }
@@ -51,27 +53,44 @@ fn commit_delta(
 fn commit_full(rt: &impl Abort, alloc: Global, image: &mut Image) -> Result<(), Fail> {
     let machine = beacon_after(rt, alloc, 22)?;
     let full = cut_full(alloc, &machine, 1)?;
-    assert_answer(rt, image, full, Ok(Staged::New));
+    assert_answer(rt, image, full, &Ok(Staged::New));
     image.commit();
     Ok(())
 }
 
-/// So many frames are kept of each commit, and their bytes are their numbers.
-fn assert_kept(rt: &impl Abort, kept: &KeptFrames, first: u64, sent: u64, counts: &[usize]) {
-    assert_eq!(rt; kept.first(), first);
-    assert_eq!(rt; kept.sent(), sent);
-    assert_eq!(rt; kept.epochs().len(), counts.len());
+/// The frame has 14 bytes, which are its number.
+fn assert_frame(rt: &impl Abort, frame: &Frame, number: u64) {
+    as_many(rt, "bytes", frame.len(), 14);
+    for byte in frame.as_slice() {
+        same(rt, "the byte", u64::from(*byte), number);
+    }
+}
+
+/// These frames are so many, and have the numbers from this one on. Answers the next number.
+fn assert_epoch(rt: &impl Abort, epoch: &[Frame], count: usize, first: u64) -> u64 {
+    as_many(rt, "frames", epoch.len(), count);
+    let mut number = first;
+    for frame in epoch {
+        assert_frame(rt, frame, number);
+        number = number.wrapping_add(1);
+    }
+    number
+}
+
+/// So many frames are kept of each commit, and have the numbers from this one on.
+fn assert_epochs(rt: &impl Abort, kept: &KeptFrames, first: u64, counts: &[usize]) {
+    as_many(rt, "epochs", kept.epochs().len(), counts.len());
     let mut number = first;
     for (epoch, count) in kept.epochs().iter().zip(counts.iter()) {
-        assert_eq!(rt; epoch.len(), *count);
-        for frame in epoch.iter() {
-            assert_eq!(rt; frame.len(), 14);
-            for byte in frame.as_slice() {
-                assert_eq!(rt; u64::from(*byte), number);
-            }
-            number = number.wrapping_add(1);
-        }
+        number = assert_epoch(rt, epoch.as_slice(), *count, number);
     }
+}
+
+/// So many frames are kept of each commit, and their bytes are their numbers.
+fn assert_kept(rt: &impl Abort, kept: &KeptFrames, first: u64, sent: u64, counts: &[usize]) {
+    same(rt, "the first", kept.first(), first);
+    same(rt, "sent", kept.sent(), sent);
+    assert_epochs(rt, kept, first, counts);
 }
 
 /// What a node that goes on with an image's guest gets of its frames.
@@ -85,18 +104,18 @@ fn resumed_kept(image: Box<Image>) -> Result<KeptFrames, Fail> {
 /// Of six commits, with 1, 2, 0, 3, 1 and 2 frames, the last four are kept.
 #[test]
 fn six_commits_leave_the_last_four(rt: HostRuntime) -> Result<(), Fail> {
-    let alloc = rt.alloc();
-    let mut image = beacon_image(&rt, alloc)?;
-    assert_kept(&rt, image.kept(), 1, 0, &[]);
-    for (number, first, count) in [
+    static COMMITS: [(u8, u8, u8); 6] = [
         (1, 1, 1),
         (2, 2, 2),
         (3, 4, 0),
         (4, 4, 3),
         (5, 7, 1),
         (6, 8, 2),
-    ] {
-        commit_delta(&rt, alloc, &mut image, number, first, count)?;
+    ];
+    let mut image = beacon_image(&rt, rt.alloc())?;
+    assert_kept(&rt, image.kept(), 1, 0, &[]);
+    for (number, first, count) in &COMMITS {
+        commit_delta(&rt, rt.alloc(), &mut image, *number, *first, *count)?;
     }
     assert_kept(&rt, image.kept(), 4, 9, &[0, 3, 1, 2]);
     assert_kept(&rt, &resumed_kept(image)?, 4, 9, &[0, 3, 1, 2]);
@@ -123,7 +142,7 @@ fn staged_frames_are_not_kept(rt: HostRuntime) -> Result<(), Fail> {
     let mut image = beacon_image(&rt, alloc)?;
     commit_delta(&rt, alloc, &mut image, 1, 1, 1)?;
     let staged = delta(&rt, alloc, &image, 2, 2, 2)?;
-    assert_answer(&rt, &mut image, staged, Ok(Staged::New));
+    assert_answer(&rt, &mut image, staged, &Ok(Staged::New));
     assert_kept(&rt, image.kept(), 1, 1, &[1]);
     assert_kept(&rt, &resumed_kept(image)?, 1, 1, &[1]);
     Ok(())

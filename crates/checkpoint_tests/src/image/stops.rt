@@ -1,6 +1,7 @@
 //! A stream that stops inside a checkpoint leaves the guest of boot: memory, disk and devices.
 
 use super::{assert_answer, assert_image, at, beacon_image, resumed};
+use crate::asserts::as_many;
 use crate::guests::beacon_after;
 use backup_image::{Image, ImageError, Staged};
 use checkpoint_stream::{Reader, encode};
@@ -56,7 +57,7 @@ fn assert_next(
     rt: &impl Abort,
     image: &mut Image,
     reader: &mut Reader,
-    answer: Result<Staged, ImageError>,
+    answer: &Result<Staged, ImageError>,
 ) {
     if let Some(checkpoint) = reader.next() {
         assert_answer(rt, image, checkpoint, answer);
@@ -69,10 +70,11 @@ pub(super) fn follow(
     alloc: Global,
     image: &mut Image,
     bytes: &[u8],
-    answer: Result<Staged, ImageError>,
+    answer: &Result<Staged, ImageError>,
 ) -> Result<(), Fail> {
     let mut reader = Reader::new(alloc, image.shape());
-    assert_eq!(rt; reader.feed(bytes)?, bytes.len());
+    let taken = reader.feed(bytes)?;
+    as_many(rt, "bytes", taken, bytes.len());
     assert_next(rt, image, &mut reader, answer);
     image.commit();
     Ok(())
@@ -83,7 +85,7 @@ fn image_after(
     rt: &impl Abort,
     alloc: Global,
     bytes: &[u8],
-    answer: Result<Staged, ImageError>,
+    answer: &Result<Staged, ImageError>,
 ) -> Result<Box<Image>, Fail> {
     let mut image = beacon_image(rt, alloc)?;
     follow(rt, alloc, &mut image, bytes, answer)?;
@@ -109,7 +111,7 @@ fn assert_leaves(
     rt: &impl Abort,
     alloc: Global,
     bytes: &[u8],
-    answer: Result<Staged, ImageError>,
+    answer: &Result<Staged, ImageError>,
     guest: &[u8],
 ) -> Result<(), Fail> {
     let image = image_after(rt, alloc, bytes, answer)?;
@@ -122,14 +124,14 @@ fn assert_stops_leave(rt: &impl Abort, alloc: Global, text: &[u8]) -> Result<(),
     let guest = guest_after(rt, alloc, 0)?;
     for count in 0..text.len() {
         let front = text.get(..count).unwrap_or(&[]);
-        assert_leaves(rt, alloc, front, Ok(Staged::New), &guest)?;
+        assert_leaves(rt, alloc, front, &Ok(Staged::New), &guest)?;
     }
     Ok(())
 }
 
 /// The whole text of a delta takes the image on, to the guest of the primary.
 fn assert_whole_takes_on(rt: &impl Abort, alloc: Global, text: &[u8]) -> Result<(), Fail> {
-    let image = image_after(rt, alloc, text, Ok(Staged::New))?;
+    let image = image_after(rt, alloc, text, &Ok(Staged::New))?;
     assert_image(rt, &image, at(1, 1), 22, 0, 0);
     let guest = guest_after(rt, alloc, 22)?;
     assert_resumes(rt, alloc, image, &guest, text.len())
@@ -138,7 +140,7 @@ fn assert_whole_takes_on(rt: &impl Abort, alloc: Global, text: &[u8]) -> Result<
 #[test]
 fn a_stop_leaves_the_guest_of_boot(rt: HostRuntime) -> Result<(), Fail> {
     let text = delta_text(&rt, rt.alloc())?;
-    assert_eq!(rt; text.len(), 630);
+    as_many(&rt, "bytes", text.len(), 630);
     assert_stops_leave(&rt, rt.alloc(), &text)?;
     // and the last byte takes it on
     assert_whole_takes_on(&rt, rt.alloc(), &text)
@@ -147,7 +149,7 @@ fn a_stop_leaves_the_guest_of_boot(rt: HostRuntime) -> Result<(), Fail> {
 /// A whole text that is refused leaves the guest of boot too.
 fn assert_refused_leaves(rt: &impl Abort, alloc: Global, text: &[u8]) -> Result<(), Fail> {
     let guest = guest_after(rt, alloc, 0)?;
-    assert_leaves(rt, alloc, text, Err(ImageError::OldVersion), &guest)
+    assert_leaves(rt, alloc, text, &Err(ImageError::OldVersion), &guest)
 }
 
 /// A whole delta of version 1 is refused, so that leaves it too.

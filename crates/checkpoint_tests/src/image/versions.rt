@@ -2,6 +2,7 @@
 
 use super::stops::put_version_1;
 use super::{assert_answer, assert_image, at, beacon_image, empty_image};
+use crate::asserts::same;
 use crate::guests::beacon_after;
 use backup_image::{Image, ImageError, Staged};
 use checkpoint_stream::{Reader, encode};
@@ -34,10 +35,10 @@ fn assert_old_answer(
     image: &mut Image,
     text: Vec<u8>,
     tail: usize,
-    answer: Result<Staged, ImageError>,
+    answer: &Result<Staged, ImageError>,
 ) -> Result<(), Fail> {
     let old = older(alloc, image.shape(), text, tail)?;
-    assert!(rt; old.version() == 1);
+    same(rt, "the version", u64::from(old.version()), 1);
     assert_answer(rt, image, old, answer);
     Ok(())
 }
@@ -60,7 +61,7 @@ fn assert_refused(
     image: &mut Image,
 ) -> Result<(), Fail> {
     let text = delta_text(alloc, machine)?;
-    assert_old_answer(rt, alloc, image, text, 22, Err(ImageError::OldVersion))
+    assert_old_answer(rt, alloc, image, text, 22, &Err(ImageError::OldVersion))
 }
 
 /// The beacon's delta of version 1 is refused before anything else is asked of it, by an image at boot as by an empty one.
@@ -83,7 +84,7 @@ fn an_old_full_checkpoint_is_taken(rt: HostRuntime) -> Result<(), Fail> {
     let machine = beacon_after(&rt, alloc, 22)?;
     let text = full_text(alloc, &machine)?;
     let mut image = empty_image(&rt, alloc, 1)?;
-    assert_old_answer(&rt, alloc, &mut image, text, 4, Ok(Staged::New))?;
+    assert_old_answer(&rt, alloc, &mut image, text, 4, &Ok(Staged::New))?;
     image.commit();
     assert_image(&rt, &image, at(3, 0), 22, 0, 0);
     Ok(())

@@ -1,6 +1,6 @@
 //! Streams cut in two at each place, and what comes after a malformation.
 
-use super::{BEACON, MALFORMATIONS, shape};
+use super::{BEACON, MALFORMATIONS, assert_none, old_beacon, set, shape};
 use checkpoint_stream::{Reader, StreamError, encode};
 use guest_machine::Shape;
 use std::alloc::{AllocError, Global};
@@ -15,10 +15,7 @@ fn assert_refuses(rt: &impl Abort, reader: &mut Reader, piece: &[u8], at: u64) {
         "malformed at {at}, and then {} bytes",
         piece.len()
     );
-    assert!(rt;
-        reader.next().is_none(),
-        "malformed at {at}, and then a checkpoint"
-    );
+    assert_none(rt, reader);
 }
 
 /// It answers so whatever comes: nothing, one byte, a good checkpoint; and again.
@@ -48,17 +45,27 @@ fn refuses_in_two(rt: &impl Abort, alloc: Global, bytes: &[u8], cut: usize, at: 
     assert_stays_refused(rt, &mut reader, at);
 }
 
-#[test]
-fn a_malformed_stream_is_refused_for_good_wherever_it_is_cut(rt: HostRuntime) {
-    for (place, value, wanted) in &MALFORMATIONS {
-        let mut bytes = BEACON;
-        if let Some(byte) = bytes.get_mut(*place) {
-            *byte = *value;
-        }
-        for cut in 0..609usize {
-            refuses_in_two(&rt, rt.alloc(), &bytes, cut, *wanted);
-        }
+/// With this byte set to this value, the beacon's checkpoint is refused at this offset wherever it is cut.
+fn refuses_wherever(
+    rt: &impl Abort,
+    alloc: Global,
+    (place, value): (usize, u8),
+    at: u64,
+) -> Result<(), Fail> {
+    let mut bytes = old_beacon(alloc)?;
+    set(&mut bytes, place, value);
+    for cut in 0..609usize {
+        refuses_in_two(rt, alloc, bytes.as_slice(), cut, at);
     }
+    Ok(())
+}
+
+#[test]
+fn a_malformed_stream_is_refused_for_good_wherever_it_is_cut(rt: HostRuntime) -> Result<(), Fail> {
+    for (place, value, wanted) in &MALFORMATIONS {
+        refuses_wherever(&rt, rt.alloc(), (*place, *value), *wanted)?;
+    }
+    Ok(())
 }
 
 /// The checkpoint of the guest that writes sector 3, as examples/sector.stream has it.
@@ -120,9 +127,7 @@ fn text_of_next(alloc: Global, reader: &mut Reader) -> Result<Vec<u8>, Fail> {
 /// The same checkpoint in version 2: another first number, and no frames at the end.
 fn in_version_2(alloc: Global, text: &[u8]) -> Result<Vec<u8>, AllocError> {
     let mut bytes = Vec::from_slice(alloc, text)?;
-    if let Some(number) = bytes.get_mut(3) {
-        *number = 0x32;
-    }
+    set(&mut bytes, 3, 0x32);
     bytes.extend_from_slice(&[0; 4])?;
     Ok(bytes)
 }
@@ -149,12 +154,17 @@ fn reads_in_two(
     Ok(())
 }
 
-/// So does one that comes byte by byte.
+/// A byte of a text is taken, before which no checkpoint stands.
+fn takes_byte(rt: &impl Abort, reader: &mut Reader, byte: &[u8]) {
+    assert_none(rt, reader);
+    assert!(rt; takes(reader, byte));
+}
+
+/// A text that comes byte by byte gives that checkpoint too.
 fn reads_by_bytes(rt: &impl Abort, alloc: Global, shape: Shape, text: &[u8]) -> Result<(), Fail> {
     let mut reader = Reader::new(alloc, shape);
     for byte in text.chunks(1) {
-        assert!(rt; reader.next().is_none());
-        assert!(rt; takes(&mut reader, byte));
+        takes_byte(rt, &mut reader, byte);
     }
     let read = text_of_next(alloc, &mut reader)?;
     assert!(rt; read.as_slice() == text);

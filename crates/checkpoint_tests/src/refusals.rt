@@ -1,0 +1,39 @@
+//! What a refusal is called: its number, its name, and its text, which is its name.
+
+use memory_wanted::{MemoryWanted, reserve};
+use std::alloc::Global;
+use std::fmt::Display;
+use std::process::Abort;
+use std::test::Fail;
+
+/// A refused wish for memory.
+pub(crate) fn refused(alloc: Global) -> Result<MemoryWanted, Fail> {
+    match reserve(&mut Vec::<u64>::new(alloc), usize::MAX) {
+        Ok(()) => Err("no machine has that much".into()),
+        Err(wanted) => Ok(wanted),
+    }
+}
+
+/// The refusal's text is this name.
+fn assert_text(
+    rt: &impl Abort,
+    alloc: Global,
+    refusal: &impl Display,
+    name: &str,
+) -> Result<(), Fail> {
+    let text = format!(in alloc; "{refusal}")?;
+    assert_eq!(rt; text.as_str(), name);
+    Ok(())
+}
+
+/// The refusal, whose number and name were found to be these, has this number and this name.
+pub(crate) fn assert_named(
+    rt: &impl Abort,
+    alloc: Global,
+    refusal: &impl Display,
+    found: (u32, &str),
+    wanted: (u32, &str),
+) -> Result<(), Fail> {
+    assert_eq!(rt; found, wanted);
+    assert_text(rt, alloc, refusal, wanted.1)
+}
