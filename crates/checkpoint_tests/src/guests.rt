@@ -1,4 +1,4 @@
-//! Two small guests, whose checkpoints are known byte by byte.
+//! Small guests, whose checkpoints are known byte by byte.
 
 use guest_kit::{beacon, disk_once};
 use guest_machine::{Machine, PAGE_BYTES, Shape};
@@ -6,25 +6,45 @@ use std::alloc::Global;
 use std::process::Abort;
 use std::test::Fail;
 
-/// The sector that the guest with a disk writes, and the byte that it writes.
-pub(super) const SECTOR: u64 = 3;
+/// AUIPC x5, 1; SW x0, 0(x5); JAL x0, 0: it writes four zeros at the start of the second page, where zeros stand.
+const SAME: [u8; 12] = [0x97, 0x12, 0, 0, 0x23, 0xa0, 0x02, 0, 0x6f, 0, 0, 0];
 
-pub(super) const BYTE: u8 = 0xab;
+/// A guest, and after how many steps it has done what it does.
+#[derive(Clone, Copy)]
+pub(super) enum Guest {
+    /// It sends one frame: it notifies queue 1 of its network card in step 22.
+    Beacon,
+    /// It writes ab into sector 3: it notifies the disk's queue in step 23.
+    Disk,
+    /// It writes the bytes that a page had, with its second step.
+    Same,
+}
 
-/// The shape of two pages and of this many sectors.
-pub(super) fn shape(rt: &impl Abort, sectors: u32) -> Shape {
-    assert!(rt; 1 <= sectors && sectors <= 32768);
+/// The guest's two pages, and its sectors.
+pub(super) fn shape(guest: Guest) -> Shape {
+    let sectors = match guest {
+        Guest::Disk => 8,
+        Guest::Beacon | Guest::Same => 1,
+    };
     Shape { pages: 2, sectors }
 }
 
-/// The machine of this many sectors at boot, in a box: it's large, and a test that holds it by value is slow to prove.
-fn boot_machine(
+/// What stands in its memory at boot.
+pub(super) fn bytes(alloc: Global, guest: Guest) -> Result<Vec<u8>, Fail> {
+    match guest {
+        Guest::Beacon => Ok(beacon(alloc)?),
+        Guest::Disk => Ok(disk_once(alloc, 3, 0xab)?),
+        Guest::Same => Ok(Vec::from_slice(alloc, &SAME)?),
+    }
+}
+
+/// The machine at boot, in a box: it's large, and a test that holds it by value is slow to prove.
+fn booted(
     rt: &impl Abort,
     alloc: Global,
-    sectors: u32,
+    shape: Shape,
     bytes: &[u8],
 ) -> Result<Box<Machine>, Fail> {
-    let shape = shape(rt, sectors);
     assert!(rt; bytes.len() <= PAGE_BYTES * shape.pages as usize);
     let machine = Machine::boot(alloc, shape, bytes)?;
     Ok(Box::new(alloc, machine)?)
@@ -32,34 +52,18 @@ fn boot_machine(
 
 /// So many steps, none of which is refused.
 pub(super) fn run(rt: &impl Abort, machine: &mut Machine, steps: u64) {
-    assert_eq!(rt; machine.run(steps), steps);
+    assert!(rt; machine.run(steps) == steps);
 }
 
-/// The machine of this many sectors with this image, after so many steps.
+/// The guest's machine after so many steps.
 pub(super) fn machine_after(
     rt: &impl Abort,
     alloc: Global,
-    sectors: u32,
-    bytes: &[u8],
+    guest: Guest,
     steps: u64,
 ) -> Result<Box<Machine>, Fail> {
-    let mut machine = boot_machine(rt, alloc, sectors, bytes)?;
+    let bytes = bytes(alloc, guest)?;
+    let mut machine = booted(rt, alloc, shape(guest), bytes.as_slice())?;
     run(rt, &mut machine, steps);
     Ok(machine)
-}
-
-/// The guest that sends one frame, after so many steps: it notifies queue 1 of its network card in step 22.
-pub(super) fn beacon_after(
-    rt: &impl Abort,
-    alloc: Global,
-    steps: u64,
-) -> Result<Box<Machine>, Fail> {
-    let bytes = beacon(alloc)?;
-    machine_after(rt, alloc, 1, bytes.as_slice(), steps)
-}
-
-/// The guest that writes one sector, after so many steps: it notifies the disk's queue in step 23.
-pub(super) fn disk_after(rt: &impl Abort, alloc: Global, steps: u64) -> Result<Box<Machine>, Fail> {
-    let bytes = disk_once(alloc, SECTOR, BYTE)?;
-    machine_after(rt, alloc, 8, bytes.as_slice(), steps)
 }

@@ -3,11 +3,12 @@
 mod hostile;
 mod versions;
 
+use crate::checkpoints::{Row, assert_rows};
+use crate::refusals::{assert_called, refused};
+use crate::texts::{next, set, stands, takes};
 use checkpoint_stream::{Reader, StreamError};
-use epoch_snapshot::Checkpoint;
 use guest_machine::Shape;
-use memory_wanted::reserve;
-use std::alloc::Global;
+use std::alloc::{AllocError, Global};
 use std::process::Abort;
 use std::test::Fail;
 
@@ -58,115 +59,167 @@ fn shape() -> Shape {
     }
 }
 
-/// Feeds bytes in pieces of so many, over each checkpoint that comes whole. Answers how many came, and the offset of a malformation.
-fn read(alloc: Global, bytes: &[u8], size: usize) -> Result<(u64, Option<u64>), Fail> {
-    let mut reader = Reader::new(alloc, shape());
-    let mut found = 0u64;
-    for piece in bytes.chunks(size.max(1)) {
-        let mut rest = piece;
-        for _ in 0..3u8 {
-            match reader.feed(rest) {
-                Ok(count) => rest = rest.get(count..).ok_or("no more than the piece is taken")?,
-                Err(StreamError::Malformed(at)) => {
-                    let again =
-                        matches!(reader.feed(&[]), Err(StreamError::Malformed(same)) if same == at);
-                    return if again {
-                        Ok((found, Some(at)))
-                    } else {
-                        Err("the refusal stays".into())
-                    };
-                }
-                Err(StreamError::NoMemory(_)) => return Err("there is memory".into()),
-            }
-            if reader.next().is_some() {
-                found = found.saturating_add(1);
-            }
-        }
+/// Feeds a piece, over each checkpoint that comes whole, and counts these.
+fn read_piece(
+    rt: &impl Abort,
+    reader: &mut Reader,
+    piece: &[u8],
+    found: &mut u64,
+) -> Result<(), StreamError> {
+    let mut rest = piece;
+    for _ in 0..3u8 {
+        let count = reader.feed(rest)?;
+        assert!(rt; count <= rest.len());
+        rest = &rest[count..];
+        *found = found.saturating_add(u64::from(stands(reader)));
     }
-    Ok((found, None))
+    Ok(())
 }
 
-/// Feeds a piece, of which the reader takes so many bytes.
-fn assert_feeds(rt: &impl Abort, reader: &mut Reader, piece: &[u8], count: usize) {
-    assert!(rt; matches!(reader.feed(piece), Ok(taken) if taken == count));
+/// Feeds bytes in pieces of so many, and counts the checkpoints that come whole.
+fn read_pieces(
+    rt: &impl Abort,
+    reader: &mut Reader,
+    bytes: &[u8],
+    size: usize,
+    found: &mut u64,
+) -> Result<(), StreamError> {
+    for piece in bytes.chunks(size.max(1)) {
+        read_piece(rt, reader, piece, found)?;
+    }
+    Ok(())
 }
 
-/// A checkpoint has so many pages, blocks, sectors and frames.
-fn assert_counts(rt: &impl Abort, checkpoint: &Checkpoint, counts: [usize; 4]) {
-    let found = [
-        checkpoint.pages().len(),
-        checkpoint.blocks().len(),
-        checkpoint.sectors().len(),
-        checkpoint.frames().len(),
-    ];
-    assert_eq!(rt; found, counts);
+/// Whether a reader that refused a stream at this offset does so again.
+fn refuses(reader: &mut Reader, piece: &[u8], at: u64) -> bool {
+    matches!(reader.feed(piece), Err(StreamError::Malformed(same)) if same == at)
 }
 
-/// It is the beacon's first one, after 22 steps.
-fn assert_beacon(rt: &impl Abort, checkpoint: &Checkpoint, version: u32) {
-    assert_eq!(rt; checkpoint.version(), version);
-    assert_eq!(rt; (checkpoint.generation(), checkpoint.number()), (1, 1));
-    let state = checkpoint.state();
-    assert_eq!(rt; (state.steps, state.pc), (22, 0x8000_0058));
-    assert_eq!(rt; state.net.status, 15);
+/// Feeds bytes in pieces of so many. Answers how many checkpoints came, and the offset of a malformation, which stays.
+fn read(
+    rt: &impl Abort,
+    alloc: Global,
+    bytes: &[u8],
+    size: usize,
+) -> Result<(u64, Option<u64>), Fail> {
+    let mut reader = Reader::new(alloc, shape());
+    let mut found = 0;
+    match read_pieces(rt, &mut reader, bytes, size, &mut found) {
+        Ok(()) => Ok((found, None)),
+        Err(StreamError::Malformed(at)) => {
+            assert!(rt; refuses(&mut reader, &[], at));
+            Ok((found, Some(at)))
+        }
+        Err(StreamError::NoMemory(_)) => Err("there is memory".into()),
+    }
+}
+
+/// In pieces of each of these sizes so many checkpoints come, and there is a malformation, or none.
+fn assert_reads(
+    rt: &impl Abort,
+    alloc: Global,
+    bytes: &[u8],
+    sizes: &[usize],
+    wanted: (u64, Option<u64>),
+) -> Result<(), Fail> {
+    for size in sizes {
+        let found = read(rt, alloc, bytes, *size)?;
+        assert!(rt; found == wanted, "in pieces of {size}");
+    }
+    Ok(())
+}
+
+/// A text after another, with a byte set otherwise.
+fn changed(
+    alloc: Global,
+    before: &[u8],
+    text: &[u8],
+    (place, value): (usize, u8),
+) -> Result<Vec<u8>, AllocError> {
+    let mut bytes = Vec::from_slice(alloc, before)?;
+    bytes.extend_from_slice(text)?;
+    set(&mut bytes, before.len().saturating_add(place), value);
+    Ok(bytes)
+}
+
+/// So it's read.
+fn assert_changed(
+    rt: &impl Abort,
+    alloc: Global,
+    (before, text): (&[u8], &[u8]),
+    change: (usize, u8),
+    sizes: &[usize],
+    wanted: (u64, Option<u64>),
+) -> Result<(), Fail> {
+    let bytes = changed(alloc, before, text, change)?;
+    assert_reads(rt, alloc, bytes.as_slice(), sizes, wanted)
+}
+
+/// Each malformation of a text is met at its unit, also after a whole checkpoint.
+fn assert_malformations(
+    rt: &impl Abort,
+    alloc: Global,
+    text: &[u8],
+    sizes: &[usize],
+) -> Result<(), Fail> {
+    for (place, value, wanted) in &MALFORMATIONS {
+        let change = (*place, *value);
+        let second = wanted.saturating_add(text.len() as u64);
+        assert_changed(rt, alloc, (&[], text), change, sizes, (0, Some(*wanted)))?;
+        assert_changed(rt, alloc, (text, text), change, sizes, (1, Some(second)))?;
+    }
+    Ok(())
+}
+
+/// The old beacon's text but its last byte, then that one, and then what isn't taken while a checkpoint stands.
+fn feed_old_beacon(rt: &impl Abort, reader: &mut Reader) {
+    assert!(rt; takes(reader, &BEACON[..607]));
+    assert!(rt; !stands(reader));
+    assert!(rt; takes(reader, &BEACON[607..]));
+    assert!(rt; matches!(reader.feed(&[1, 2, 3]), Ok(0)));
 }
 
 #[test]
 fn the_old_beacon_is_read(rt: HostRuntime) -> Result<(), Fail> {
+    static ROWS: [Row; 3] = [
+        Row::Head([1, 1, 1, 0]),
+        Row::State([2, 22, 0x8000_0058, 15]),
+        Row::Counts([1, 1, 0, 0]),
+    ];
     let mut reader = Reader::new(rt.alloc(), shape());
-    assert_feeds(&rt, &mut reader, &BEACON[..607], 607);
-    assert!(rt; reader.next().is_none());
-    assert_feeds(&rt, &mut reader, &BEACON[607..], 1);
-    // Nothing is taken while one stands.
-    assert_feeds(&rt, &mut reader, &[1, 2, 3], 0);
-    let checkpoint = reader.next().ok_or("a checkpoint stands")?;
-    assert!(rt; reader.next().is_none());
-    assert_beacon(&rt, &checkpoint, 1);
-    assert_counts(&rt, &checkpoint, [1, 1, 0, 0]);
+    feed_old_beacon(&rt, &mut reader);
+    let checkpoint = next(rt.alloc(), &mut reader)?;
+    assert!(rt; !stands(&mut reader));
+    assert_rows(&rt, &checkpoint, &ROWS);
     Ok(())
 }
 
 #[test]
 fn each_malformation_is_met_at_its_unit(rt: HostRuntime) -> Result<(), Fail> {
-    let alloc = rt.alloc();
-    for (place, value, wanted) in &MALFORMATIONS {
-        let mut bytes = BEACON;
-        if let Some(byte) = bytes.get_mut(*place) {
-            *byte = *value;
-        }
-        let mut after_one = Vec::from_slice(alloc, &BEACON)?;
-        after_one.extend_from_slice(&bytes)?;
-        for size in [1, 7, 64, 512, 2000] {
-            let alone = read(alloc, &bytes, size)?;
-            assert!(rt; alone == (0, Some(*wanted)));
-            let second = read(alloc, after_one.as_slice(), size)?;
-            assert!(rt; second == (1, Some(wanted.saturating_add(608))));
-        }
-    }
-    Ok(())
+    assert_malformations(&rt, rt.alloc(), &BEACON, &[1, 7, 64, 512, 2000])
 }
 
 #[test]
 fn a_stream_comes_in_any_pieces(rt: HostRuntime) -> Result<(), Fail> {
-    let alloc = rt.alloc();
-    let mut two = Vec::from_slice(alloc, &BEACON)?;
+    static SIZES: [usize; 10] = [1, 2, 3, 63, 64, 65, 607, 608, 609, 1216];
+    let mut two = Vec::from_slice(rt.alloc(), &BEACON)?;
     two.extend_from_slice(&BEACON)?;
-    for size in [1, 2, 3, 63, 64, 65, 607, 608, 609, 1216] {
-        let found = read(alloc, two.as_slice(), size)?;
-        assert!(rt; found == (2, None));
-    }
-    Ok(())
+    assert_reads(&rt, rt.alloc(), two.as_slice(), &SIZES, (2, None))
 }
 
 #[test]
 fn refusals_have_numbers_and_names(rt: HostRuntime) -> Result<(), Fail> {
-    let Err(wanted) = reserve(&mut Vec::<u64>::new(rt.alloc()), usize::MAX) else {
-        return Err("no machine has that much".into());
-    };
-    let refused = StreamError::from(wanted);
-    assert_eq!(rt; StreamError::Malformed(7).number(), 11);
-    assert_eq!(rt; StreamError::Malformed(7).name(), "Malformed");
-    assert_eq!(rt; refused.number(), 12);
-    assert_eq!(rt; refused.name(), "NoMemory");
+    let malformed = StreamError::Malformed(7);
+    assert_called(
+        &rt,
+        (u32::from(malformed.number()), malformed.name()),
+        (11, "Malformed"),
+    );
+    let refused = StreamError::from(refused(rt.alloc())?);
+    assert_called(
+        &rt,
+        (u32::from(refused.number()), refused.name()),
+        (12, "NoMemory"),
+    );
     Ok(())
 }

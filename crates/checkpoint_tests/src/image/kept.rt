@@ -1,130 +1,79 @@
 //! The frames that an image keeps, each of bytes that are its number.
 
-use super::stops::delta_text;
-use super::versions::read_whole;
-use super::{assert_answer, beacon_image, empty_image};
-use crate::guests::beacon_after;
-use backup_image::{Image, KeptFrames, Staged};
-use epoch_snapshot::{Checkpoint, cut_full};
-use std::alloc::Global;
-use std::process::Abort;
+use super::rows::{End, Handed, Row, Start, plays};
+use crate::checkpoints::Cut;
+use crate::guests::Guest;
+use backup_image::Staged;
 use std::test::Fail;
-
-/// The beacon's delta of generation 1, of this number, with so many frames of 14 bytes from that number on in place of its own.
-fn delta(
-    rt: &impl Abort,
-    alloc: Global,
-    image: &Image,
-    number: u8,
-    first: u8,
-    count: u8,
-) -> Result<Checkpoint, Fail> {
-    let mut text = delta_text(rt, alloc)?;
-    text.truncate(608);
-    if let Some(low) = text.get_mut(20) {
-        *low = number;
-    }
-    text.extend_from_slice(&[count, 0, 0, 0])?;
-    for frame in 0..count {
-        text.extend_from_slice(&[14, 0, 0, 0])?;
-        text.extend_from_slice(&[first.wrapping_add(frame); 14])?;
-    }
-    read_whole(alloc, image.shape(), &text)
-}
-
-/// An image takes and commits such a delta.
-fn commit_delta(
-    rt: &impl Abort,
-    alloc: Global,
-    image: &mut Image,
-    number: u8,
-    first: u8,
-    count: u8,
-) -> Result<(), Fail> {
-    let delta = delta(rt, alloc, image, number, first, count)?;
-    assert_answer(rt, image, delta, Ok(Staged::New));
-    image.commit();
-    Ok(())
-}
-
-/// An empty image takes and commits the full checkpoint of the beacon, of generation 1.
-fn commit_full(rt: &impl Abort, alloc: Global, image: &mut Image) -> Result<(), Fail> {
-    let machine = beacon_after(rt, alloc, 22)?;
-    let full = cut_full(alloc, &machine, 1)?;
-    assert_answer(rt, image, full, Ok(Staged::New));
-    image.commit();
-    Ok(())
-}
-
-/// So many frames are kept of each commit, and their bytes are their numbers.
-fn assert_kept(rt: &impl Abort, kept: &KeptFrames, first: u64, sent: u64, counts: &[usize]) {
-    assert_eq!(rt; kept.first(), first);
-    assert_eq!(rt; kept.sent(), sent);
-    assert_eq!(rt; kept.epochs().len(), counts.len());
-    let mut number = first;
-    for (epoch, count) in kept.epochs().iter().zip(counts.iter()) {
-        assert_eq!(rt; epoch.len(), *count);
-        for frame in epoch.iter() {
-            assert_eq!(rt; frame.len(), 14);
-            for byte in frame.as_slice() {
-                assert_eq!(rt; u64::from(*byte), number);
-            }
-            number = number.wrapping_add(1);
-        }
-    }
-}
-
-/// What a node that goes on with an image's guest gets of its frames.
-fn resumed_kept(image: Box<Image>) -> Result<KeptFrames, Fail> {
-    match Box::into_inner(image).resume() {
-        Ok(resumed) => Ok(resumed.kept),
-        Err(_) => Err("the image has a machine".into()),
-    }
-}
 
 /// Of six commits, with 1, 2, 0, 3, 1 and 2 frames, the last four are kept.
 #[test]
 fn six_commits_leave_the_last_four(rt: HostRuntime) -> Result<(), Fail> {
-    let alloc = rt.alloc();
-    let mut image = beacon_image(&rt, alloc)?;
-    assert_kept(&rt, image.kept(), 1, 0, &[]);
-    for (number, first, count) in [
-        (1, 1, 1),
-        (2, 2, 2),
-        (3, 4, 0),
-        (4, 4, 3),
-        (5, 7, 1),
-        (6, 8, 2),
-    ] {
-        commit_delta(&rt, alloc, &mut image, number, first, count)?;
-    }
-    assert_kept(&rt, image.kept(), 4, 9, &[0, 3, 1, 2]);
-    assert_kept(&rt, &resumed_kept(image)?, 4, 9, &[0, 3, 1, 2]);
-    Ok(())
+    static ROWS: [Row; 14] = [
+        Row::Kept(1, 0, &[]),
+        Row::Given(Handed::Framed(1, 1, 1), Ok(Staged::New)),
+        Row::Commit,
+        Row::Given(Handed::Framed(2, 2, 2), Ok(Staged::New)),
+        Row::Commit,
+        Row::Given(Handed::Framed(3, 4, 0), Ok(Staged::New)),
+        Row::Commit,
+        Row::Given(Handed::Framed(4, 4, 3), Ok(Staged::New)),
+        Row::Commit,
+        Row::Given(Handed::Framed(5, 7, 1), Ok(Staged::New)),
+        Row::Commit,
+        Row::Given(Handed::Framed(6, 8, 2), Ok(Staged::New)),
+        Row::Commit,
+        Row::Kept(4, 9, &[0, 3, 1, 2]),
+    ];
+    static LAST: End = End::Kept(4, 9, &[0, 3, 1, 2]);
+    plays(
+        &rt,
+        rt.alloc(),
+        (Guest::Beacon, 22),
+        Start::Boot,
+        &ROWS,
+        &LAST,
+    )
 }
 
 /// The commit of a full checkpoint counts as one without frames, and frames count from 1 after it.
 #[test]
 fn a_full_checkpoint_begins_anew(rt: HostRuntime) -> Result<(), Fail> {
-    let alloc = rt.alloc();
-    let mut image = empty_image(&rt, alloc, 1)?;
-    assert_kept(&rt, image.kept(), 1, 0, &[]);
-    commit_full(&rt, alloc, &mut image)?;
-    assert_kept(&rt, image.kept(), 1, 0, &[0]);
-    commit_delta(&rt, alloc, &mut image, 1, 1, 2)?;
-    assert_kept(&rt, image.kept(), 1, 2, &[0, 2]);
-    Ok(())
+    static ROWS: [Row; 7] = [
+        Row::Kept(1, 0, &[]),
+        Row::Given(Handed::Cut(Cut::Full(1)), Ok(Staged::New)),
+        Row::Commit,
+        Row::Kept(1, 0, &[0]),
+        Row::Given(Handed::Framed(1, 1, 2), Ok(Staged::New)),
+        Row::Commit,
+        Row::Kept(1, 2, &[0, 2]),
+    ];
+    plays(
+        &rt,
+        rt.alloc(),
+        (Guest::Beacon, 22),
+        Start::Empty,
+        &ROWS,
+        &End::Left,
+    )
 }
 
 /// What is staged isn't kept yet, and a node that goes on doesn't get it.
 #[test]
 fn staged_frames_are_not_kept(rt: HostRuntime) -> Result<(), Fail> {
-    let alloc = rt.alloc();
-    let mut image = beacon_image(&rt, alloc)?;
-    commit_delta(&rt, alloc, &mut image, 1, 1, 1)?;
-    let staged = delta(&rt, alloc, &image, 2, 2, 2)?;
-    assert_answer(&rt, &mut image, staged, Ok(Staged::New));
-    assert_kept(&rt, image.kept(), 1, 1, &[1]);
-    assert_kept(&rt, &resumed_kept(image)?, 1, 1, &[1]);
-    Ok(())
+    static ROWS: [Row; 4] = [
+        Row::Given(Handed::Framed(1, 1, 1), Ok(Staged::New)),
+        Row::Commit,
+        Row::Given(Handed::Framed(2, 2, 2), Ok(Staged::New)),
+        Row::Kept(1, 1, &[1]),
+    ];
+    static LAST: End = End::Kept(1, 1, &[1]);
+    plays(
+        &rt,
+        rt.alloc(),
+        (Guest::Beacon, 22),
+        Start::Boot,
+        &ROWS,
+        &LAST,
+    )
 }

@@ -1,34 +1,45 @@
 //! The frames that a delta carries, and that a full checkpoint doesn't.
 
-use crate::guests::beacon_after;
-use epoch_snapshot::{cut_delta, cut_full};
+use crate::checkpoints::{Cut, Row, assert_cut, assert_frames, assert_rows, cut_of};
+use crate::guests::{Guest, machine_after};
+use epoch_snapshot::Checkpoint;
+use std::alloc::Global;
+use std::process::Abort;
 use std::test::Fail;
 
-/// The frame that the beacon sends: a header to client 1, from the guest, of a type for experiments.
-const FRAME: [u8; 14] = [2, 0, 0, 0, 1, 1, 2, 0, 0, 0, 0, 1, 0x88, 0xb5];
+/// What the beacon's checkpoint is taken apart into: its frame.
+fn assert_taken_apart(rt: &impl Abort, checkpoint: Box<Checkpoint>) {
+    let frames = Box::into_inner(checkpoint).into_frames();
+    assert!(rt; frames.len() == 1);
+    assert_frames(rt, frames.as_slice());
+}
 
-#[test]
-fn delta_carries_the_beacons_frame(rt: HostRuntime) -> Result<(), Fail> {
-    let mut machine = beacon_after(&rt, rt.alloc(), 22)?;
-    let checkpoint = cut_delta(rt.alloc(), &machine, 1, 1)?;
-    assert_eq!(rt; checkpoint.version(), 2);
-    assert_eq!(rt; checkpoint.frames().len(), 1);
-    for frame in checkpoint.frames() {
-        assert!(rt; frame.as_slice() == FRAME.as_slice());
-    }
-    for frame in &checkpoint.into_frames() {
-        assert!(rt; frame.as_slice() == FRAME.as_slice());
-    }
+/// The beacon's next checkpoint, once its machine is settled, carries no frame.
+fn assert_settles(rt: &impl Abort, alloc: Global) -> Result<(), Fail> {
+    static ROWS: [Row; 1] = [Row::Counts([0, 0, 0, 0])];
+    let mut machine = machine_after(rt, alloc, Guest::Beacon, 22)?;
     machine.settle();
-    assert_eq!(rt; cut_delta(rt.alloc(), &machine, 1, 2)?.frames().len(), 0);
+    let checkpoint = cut_of(rt, alloc, &machine, Cut::Delta(1, 2))?;
+    assert_rows(rt, &checkpoint, &ROWS);
     Ok(())
 }
 
 #[test]
+fn delta_carries_the_beacons_frame(rt: HostRuntime) -> Result<(), Fail> {
+    static ROWS: [Row; 3] = [
+        Row::Head([2, 1, 1, 0]),
+        Row::Counts([1, 1, 0, 1]),
+        Row::Frames,
+    ];
+    let machine = machine_after(&rt, rt.alloc(), Guest::Beacon, 22)?;
+    let checkpoint = cut_of(&rt, rt.alloc(), &machine, Cut::Delta(1, 1))?;
+    assert_rows(&rt, &checkpoint, &ROWS);
+    assert_taken_apart(&rt, checkpoint);
+    assert_settles(&rt, rt.alloc())
+}
+
+#[test]
 fn full_checkpoint_carries_none(rt: HostRuntime) -> Result<(), Fail> {
-    let machine = beacon_after(&rt, rt.alloc(), 22)?;
-    let checkpoint = cut_full(rt.alloc(), &machine, 1)?;
-    assert_eq!(rt; checkpoint.version(), 2);
-    assert_eq!(rt; checkpoint.frames().len(), 0);
-    Ok(())
+    static ROWS: [Row; 2] = [Row::Head([2, 1, 0, 1]), Row::Frames];
+    assert_cut(&rt, rt.alloc(), (Guest::Beacon, 22), Cut::Full(1), &ROWS)
 }

@@ -1,7 +1,8 @@
 //! Streams cut in two at each place, and what comes after a malformation.
 
-use super::{BEACON, MALFORMATIONS, shape};
-use checkpoint_stream::{Reader, StreamError, encode};
+use super::{BEACON, MALFORMATIONS, changed, refuses, shape};
+use crate::texts::{back, front, next, set, stands, takes, text_of};
+use checkpoint_stream::Reader;
 use guest_machine::Shape;
 use std::alloc::{AllocError, Global};
 use std::process::Abort;
@@ -9,15 +10,9 @@ use std::test::Fail;
 
 /// What one more piece is answered by a reader that refused a stream at this offset: the same, and no checkpoint.
 fn assert_refuses(rt: &impl Abort, reader: &mut Reader, piece: &[u8], at: u64) {
-    let refused = matches!(reader.feed(piece), Err(StreamError::Malformed(same)) if same == at);
     assert!(rt;
-        refused,
-        "malformed at {at}, and then {} bytes",
-        piece.len()
-    );
-    assert!(rt;
-        reader.next().is_none(),
-        "malformed at {at}, and then a checkpoint"
+        refuses(reader, piece, at) && !stands(reader),
+        "malformed at {at}"
     );
 }
 
@@ -30,35 +25,35 @@ fn assert_stays_refused(rt: &impl Abort, reader: &mut Reader, at: u64) {
     }
 }
 
-/// Feeds a piece. Answers whether the reader took all of it.
-fn takes(reader: &mut Reader, piece: &[u8]) -> bool {
-    matches!(reader.feed(piece), Ok(count) if count == piece.len())
-}
-
 /// A malformed checkpoint, cut in two at this place, is refused at this offset, and stays so.
-fn refuses_in_two(rt: &impl Abort, alloc: Global, bytes: &[u8], cut: usize, at: u64) {
+fn assert_refused_in_two(rt: &impl Abort, alloc: Global, bytes: &[u8], cut: usize, at: u64) {
     let mut reader = Reader::new(alloc, shape());
-    let (front, back) = (
-        bytes.get(..cut).unwrap_or(&[]),
-        bytes.get(cut..).unwrap_or(&[]),
-    );
-    if takes(&mut reader, front) {
-        assert_refuses(rt, &mut reader, back, at);
+    if takes(&mut reader, front(bytes, cut)) {
+        assert_refuses(rt, &mut reader, back(bytes, cut), at);
     }
     assert_stays_refused(rt, &mut reader, at);
 }
 
-#[test]
-fn a_malformed_stream_is_refused_for_good_wherever_it_is_cut(rt: HostRuntime) {
-    for (place, value, wanted) in &MALFORMATIONS {
-        let mut bytes = BEACON;
-        if let Some(byte) = bytes.get_mut(*place) {
-            *byte = *value;
-        }
-        for cut in 0..609usize {
-            refuses_in_two(&rt, rt.alloc(), &bytes, cut, *wanted);
-        }
+/// So it is wherever it is cut.
+fn assert_refused(
+    rt: &impl Abort,
+    alloc: Global,
+    change: (usize, u8),
+    at: u64,
+) -> Result<(), Fail> {
+    let bytes = changed(alloc, &[], &BEACON, change)?;
+    for cut in 0..609usize {
+        assert_refused_in_two(rt, alloc, bytes.as_slice(), cut, at);
     }
+    Ok(())
+}
+
+#[test]
+fn a_malformed_stream_is_refused_for_good_wherever_it_is_cut(rt: HostRuntime) -> Result<(), Fail> {
+    for (place, value, wanted) in &MALFORMATIONS {
+        assert_refused(&rt, rt.alloc(), (*place, *value), *wanted)?;
+    }
+    Ok(())
 }
 
 /// The checkpoint of the guest that writes sector 3, as examples/sector.stream has it.
@@ -108,23 +103,26 @@ static SECTOR_STREAM: [(usize, &[u8]); 29] = [
     (0x2a0, &[3]),
 ];
 
-/// The bytes of the checkpoint that stands whole in a reader.
-fn text_of_next(alloc: Global, reader: &mut Reader) -> Result<Vec<u8>, Fail> {
-    let checkpoint = reader.next().ok_or("a checkpoint stands")?;
-    if checkpoint.version() != 2 {
-        return Err("it is of version 2".into());
-    }
-    encode(alloc, &checkpoint).map_err(|_| "there is memory".into())
-}
-
 /// The same checkpoint in version 2: another first number, and no frames at the end.
 fn in_version_2(alloc: Global, text: &[u8]) -> Result<Vec<u8>, AllocError> {
     let mut bytes = Vec::from_slice(alloc, text)?;
-    if let Some(number) = bytes.get_mut(3) {
-        *number = 0x32;
-    }
+    set(&mut bytes, 3, 0x32);
     bytes.extend_from_slice(&[0; 4])?;
     Ok(bytes)
+}
+
+/// The checkpoint that stands whole in a reader is the one whose text this is.
+pub(super) fn assert_next(
+    rt: &impl Abort,
+    alloc: Global,
+    reader: &mut Reader,
+    text: &[u8],
+    cut: usize,
+) -> Result<(), Fail> {
+    let checkpoint = next(alloc, reader)?;
+    let read = text_of(alloc, &checkpoint)?;
+    assert!(rt; read.as_slice() == text, "cut at {cut}");
+    Ok(())
 }
 
 /// A text that comes in two pieces, cut at this place, gives the checkpoint whose text it is.
@@ -136,48 +134,42 @@ fn reads_in_two(
     cut: usize,
 ) -> Result<(), Fail> {
     let mut reader = Reader::new(alloc, shape);
-    assert!(rt;
-        takes(&mut reader, text.get(..cut).unwrap_or(&[])),
-        "the front, cut at {cut}"
-    );
-    assert!(rt;
-        takes(&mut reader, text.get(cut..).unwrap_or(&[])),
-        "the back, cut at {cut}"
-    );
-    let read = text_of_next(alloc, &mut reader)?;
-    assert!(rt; read.as_slice() == text, "cut at {cut}");
-    Ok(())
+    assert!(rt; takes(&mut reader, front(text, cut)) && takes(&mut reader, back(text, cut)));
+    assert_next(rt, alloc, &mut reader, text, cut)
+}
+
+/// Feeds bytes one by one, before each of which no checkpoint stands.
+fn feed_bytes(rt: &impl Abort, reader: &mut Reader, text: &[u8]) {
+    for byte in text.chunks(1) {
+        assert!(rt; !stands(reader));
+        assert!(rt; takes(reader, byte));
+    }
 }
 
 /// So does one that comes byte by byte.
 fn reads_by_bytes(rt: &impl Abort, alloc: Global, shape: Shape, text: &[u8]) -> Result<(), Fail> {
     let mut reader = Reader::new(alloc, shape);
-    for byte in text.chunks(1) {
-        assert!(rt; reader.next().is_none());
-        assert!(rt; takes(&mut reader, byte));
-    }
-    let read = text_of_next(alloc, &mut reader)?;
-    assert!(rt; read.as_slice() == text);
-    Ok(())
+    feed_bytes(rt, &mut reader, text);
+    assert_next(rt, alloc, &mut reader, text, 0)
 }
 
+/// The text of a version-1 checkpoint, in version 2, is read in any pieces.
 fn reads_in_pieces(rt: &impl Abort, alloc: Global, shape: Shape, text: &[u8]) -> Result<(), Fail> {
-    reads_by_bytes(rt, alloc, shape, text)?;
+    let text = in_version_2(alloc, text)?;
+    reads_by_bytes(rt, alloc, shape, text.as_slice())?;
     for cut in 1..text.len() {
-        reads_in_two(rt, alloc, shape, text, cut)?;
+        reads_in_two(rt, alloc, shape, text.as_slice(), cut)?;
     }
     Ok(())
 }
 
 #[test]
 fn a_text_in_pieces_is_the_checkpoint_of_the_whole(rt: HostRuntime) -> Result<(), Fail> {
-    let beacon = in_version_2(rt.alloc(), &BEACON)?;
-    reads_in_pieces(&rt, rt.alloc(), shape(), beacon.as_slice())?;
-    let sector = sector_stream(rt.alloc())?;
-    let text = in_version_2(rt.alloc(), sector.as_slice())?;
     let eight = Shape {
         pages: 2,
         sectors: 8,
     };
-    reads_in_pieces(&rt, rt.alloc(), eight, text.as_slice())
+    reads_in_pieces(&rt, rt.alloc(), shape(), &BEACON)?;
+    let sector = sector_stream(rt.alloc())?;
+    reads_in_pieces(&rt, rt.alloc(), eight, sector.as_slice())
 }

@@ -1,0 +1,283 @@
+//! What is done to an image, row by row, and what has to come of it.
+
+use super::stage;
+use crate::checkpoints::{Cut, are_all, cut_of};
+use crate::guests::{Guest, bytes, machine_after, run, shape};
+use crate::texts::{cut_text, push_frames, put_version_1, read_whole, set};
+use backup_image::{Image, ImageError, KeptFrames, Staged, Standing};
+use epoch_snapshot::Checkpoint;
+use guest_machine::{Frame, Machine, PAGE_BYTES, Shape};
+use std::alloc::Global;
+use std::process::Abort;
+use std::test::Fail;
+
+/// What an image answers to a checkpoint.
+pub(super) type Answer = Result<Staged, ImageError>;
+
+/// A checkpoint of the guest's machine.
+pub(super) enum Handed {
+    /// As it is cut.
+    Cut(Cut),
+    /// In version 1, which is without what follows the sector records, so many bytes.
+    Old(Cut, usize),
+    /// The delta of generation 1 and this number, with so many frames of 14 bytes in place of its own: number, first frame, count.
+    Framed(u8, u8, u8),
+}
+
+/// What is done to an image, or what it is.
+pub(super) enum Row {
+    /// The checkpoint is answered so.
+    Given(Handed, Answer),
+    /// What is staged is committed.
+    Commit,
+    /// It stands at this generation and number, has made so many steps, and this sector is full of this byte.
+    Stands((u64, u64), u64, (u32, u8)),
+    /// It's empty, and this sector is full of zeros.
+    Empty(u32),
+    /// The frames from this one on are kept, of so many that were sent, and so many of each commit.
+    Kept(u8, u64, &'static [usize]),
+}
+
+/// The image that rows begin with.
+#[derive(Clone, Copy)]
+pub(super) enum Start {
+    Boot,
+    Empty,
+    /// An empty one that was asked for its machine, and was handed back.
+    HandedBack,
+}
+
+/// What becomes of the image in the end.
+pub(super) enum End {
+    Left,
+    /// Its machine goes on where the disk guest was after 23 steps.
+    GoesOn,
+    /// A node that goes on with its guest gets these frames.
+    Kept(u8, u64, &'static [usize]),
+}
+
+/// These frames are so many, and have the numbers from this one on. Answers the next number.
+fn assert_epoch(rt: &impl Abort, epoch: &[Frame], count: usize, first: u8) -> u8 {
+    assert!(rt; epoch.len() == count);
+    let mut number = first;
+    for frame in epoch {
+        assert!(rt; are_all(frame.as_slice(), 14, number));
+        number = number.wrapping_add(1);
+    }
+    number
+}
+
+/// So many frames are kept of each commit, and their bytes are their numbers.
+fn assert_kept(rt: &impl Abort, kept: &KeptFrames, first: u8, sent: u64, counts: &[usize]) {
+    assert!(rt; kept.first() == u64::from(first) && kept.sent() == sent);
+    assert!(rt; kept.epochs().len() == counts.len());
+    let mut number = first;
+    for (epoch, count) in kept.epochs().iter().zip(counts.iter()) {
+        number = assert_epoch(rt, epoch.as_slice(), *count, number);
+    }
+}
+
+fn booted(rt: &impl Abort, alloc: Global, shape: Shape, bytes: &[u8]) -> Result<Box<Image>, Fail> {
+    assert!(rt; bytes.len() <= PAGE_BYTES * shape.pages as usize);
+    let image = Image::boot(alloc, shape, bytes)?;
+    Ok(Box::new(alloc, image)?)
+}
+
+fn boot(rt: &impl Abort, alloc: Global, guest: Guest) -> Result<Box<Image>, Fail> {
+    let bytes = bytes(alloc, guest)?;
+    booted(rt, alloc, shape(guest), bytes.as_slice())
+}
+
+fn empty(alloc: Global, guest: Guest) -> Result<Box<Image>, Fail> {
+    let image = Image::empty(alloc, shape(guest))?;
+    Ok(Box::new(alloc, image)?)
+}
+
+/// An empty image has no machine, and is handed back.
+fn handed_back(rt: &impl Abort, alloc: Global, image: Box<Image>) -> Result<Box<Image>, Fail> {
+    match Box::into_inner(image).resume() {
+        Ok(_) => Err("an empty image has no machine".into()),
+        Err((image, refusal)) => {
+            assert!(rt; refusal == ImageError::NoImage);
+            Ok(Box::new(alloc, image)?)
+        }
+    }
+}
+
+/// The image that rows begin with.
+pub(super) fn begun(
+    rt: &impl Abort,
+    alloc: Global,
+    guest: Guest,
+    start: Start,
+) -> Result<Box<Image>, Fail> {
+    match start {
+        Start::Boot => boot(rt, alloc, guest),
+        Start::Empty => empty(alloc, guest),
+        Start::HandedBack => handed_back(rt, alloc, empty(alloc, guest)?),
+    }
+}
+
+/// The machine that an image resumes to.
+pub(super) fn resumed(alloc: Global, image: Box<Image>) -> Result<Box<Machine>, Fail> {
+    match Box::into_inner(image).resume() {
+        Ok(resumed) => Ok(Box::new(alloc, resumed.machine)?),
+        Err(_) => Err("the image has a machine".into()),
+    }
+}
+
+/// What a node that goes on with an image's guest gets of its frames.
+fn resumed_kept(image: Box<Image>) -> Result<KeptFrames, Fail> {
+    match Box::into_inner(image).resume() {
+        Ok(resumed) => Ok(resumed.kept),
+        Err(_) => Err("the image has a machine".into()),
+    }
+}
+
+/// The disk guest goes on where it was after 23 steps, with nothing in its outbox.
+fn assert_goes_on(rt: &impl Abort, machine: &mut Machine) {
+    assert!(rt; machine.outbox().is_empty());
+    run(rt, machine, 5);
+    assert!(rt; machine.steps() == 28 && machine.pc() == 0x8000_005c);
+}
+
+/// What becomes of the image.
+fn finish(rt: &impl Abort, alloc: Global, image: Box<Image>, end: &End) -> Result<(), Fail> {
+    match end {
+        End::Left => {}
+        End::GoesOn => {
+            let mut machine = resumed(alloc, image)?;
+            assert_goes_on(rt, &mut machine);
+        }
+        End::Kept(first, sent, counts) => {
+            let kept = resumed_kept(image)?;
+            assert_kept(rt, &kept, *first, *sent, counts);
+        }
+    }
+    Ok(())
+}
+
+/// The machine's checkpoint in version 1.
+fn old(
+    rt: &impl Abort,
+    alloc: Global,
+    machine: &Machine,
+    which: Cut,
+    tail: usize,
+) -> Result<Box<Checkpoint>, Fail> {
+    let mut text = cut_text(rt, alloc, machine, which)?;
+    let count = text.len().saturating_sub(tail);
+    put_version_1(&mut text, count);
+    let checkpoint = read_whole(alloc, machine.shape(), text.as_slice())?;
+    assert!(rt; checkpoint.version() == 1);
+    Ok(checkpoint)
+}
+
+/// The beacon's delta with so many frames, the bytes of which are their numbers.
+fn framed(
+    rt: &impl Abort,
+    alloc: Global,
+    machine: &Machine,
+    (number, first, count): (u8, u8, u8),
+) -> Result<Box<Checkpoint>, Fail> {
+    let mut text = cut_text(rt, alloc, machine, Cut::Delta(1, 1))?;
+    text.truncate(608);
+    set(&mut text, 20, number);
+    push_frames(&mut text, (u32::from(count), 14), first, 1)?;
+    read_whole(alloc, machine.shape(), text.as_slice())
+}
+
+/// The machine's checkpoint that is handed over.
+fn checkpoint_of(
+    rt: &impl Abort,
+    alloc: Global,
+    machine: &Machine,
+    handed: &Handed,
+) -> Result<Box<Checkpoint>, Fail> {
+    match handed {
+        Handed::Cut(which) => cut_of(rt, alloc, machine, *which),
+        Handed::Old(which, tail) => old(rt, alloc, machine, *which, *tail),
+        Handed::Framed(number, first, count) => {
+            framed(rt, alloc, machine, (*number, *first, *count))
+        }
+    }
+}
+
+/// An image answers so to a checkpoint.
+pub(super) fn assert_answer(
+    rt: &impl Abort,
+    image: &mut Image,
+    checkpoint: Box<Checkpoint>,
+    answer: &Answer,
+) {
+    let given = stage(rt, image, Box::into_inner(checkpoint));
+    assert!(rt; given == *answer);
+}
+
+pub(super) fn at(generation: u64, number: u64) -> Option<Standing> {
+    Some(Standing { generation, number })
+}
+
+/// An image stands there and has made so many steps, and a sector of it is full of this byte.
+pub(super) fn assert_image(
+    rt: &impl Abort,
+    image: &Image,
+    standing: Option<Standing>,
+    steps: u64,
+    (sector, byte): (u32, u8),
+) {
+    assert!(rt; image.standing() == standing);
+    assert!(rt; image.steps() == steps);
+    assert!(rt; sector < image.shape().sectors);
+    assert!(rt; are_all(image.sector(sector), 512, byte));
+}
+
+fn play(
+    rt: &impl Abort,
+    alloc: Global,
+    machine: &Machine,
+    image: &mut Image,
+    row: &Row,
+) -> Result<(), Fail> {
+    match row {
+        Row::Given(handed, answer) => {
+            let checkpoint = checkpoint_of(rt, alloc, machine, handed)?;
+            assert_answer(rt, image, checkpoint, answer);
+        }
+        Row::Commit => image.commit(),
+        Row::Stands((generation, number), steps, full) => {
+            assert_image(rt, image, at(*generation, *number), *steps, *full);
+        }
+        Row::Empty(sector) => assert_image(rt, image, None, 0, (*sector, 0)),
+        Row::Kept(first, sent, counts) => assert_kept(rt, image.kept(), *first, *sent, counts),
+    }
+    Ok(())
+}
+
+fn play_all(
+    rt: &impl Abort,
+    alloc: Global,
+    (guest, steps): (Guest, u64),
+    image: &mut Image,
+    rows: &[Row],
+) -> Result<(), Fail> {
+    let machine = machine_after(rt, alloc, guest, steps)?;
+    for row in rows {
+        play(rt, alloc, &machine, image, row)?;
+    }
+    Ok(())
+}
+
+/// Plays rows with an image of the guest, and with its machine after so many steps.
+pub(super) fn plays(
+    rt: &impl Abort,
+    alloc: Global,
+    (guest, steps): (Guest, u64),
+    start: Start,
+    rows: &[Row],
+    last: &End,
+) -> Result<(), Fail> {
+    let mut image = begun(rt, alloc, guest, start)?;
+    play_all(rt, alloc, (guest, steps), &mut image, rows)?;
+    finish(rt, alloc, image, last)
+}
