@@ -8,6 +8,7 @@ pub mod Examples
 pub mod Flags
 pub mod Guest
 pub mod KeptWords
+pub mod Leaves
 pub mod Limits
 pub mod MachineStates
 pub mod Paces

@@ -31,6 +31,7 @@ mod quick_steps;
 mod ram;
 mod readers;
 mod shapes;
+mod slow_loads;
 mod snapshots;
 mod step;
 mod stores;

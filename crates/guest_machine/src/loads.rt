@@ -1,8 +1,9 @@
 //! Loads from memory and from the devices.
-ghost use Rattle.std.specs.Prelude.{◌≡◌, ℕ, List, ◌%◌, ◌==◌};
+ghost use Rattle.std.specs.Prelude.{◌≡◌, ℕ, List, ◌%◌, ◌==◌, true, false, if◌then◌else◌};
 ghost use Rattle.rv64_core.specs.Widths.{width_bytes};
 ghost use Rattle.guest_machine.specs.Parts.{Attached, guest_of};
-ghost use Rattle.guest_machine.specs.Step.{quiet, extended, timer_loaded, loaded_from, load_done};
+ghost use Rattle.guest_machine.specs.Leaves.{LeavesInterrupts};
+ghost use Rattle.guest_machine.specs.Step.{quiet, trapped, extended, timer_loaded, loaded_from, load_done};
 
 use crate::devices::Devices;
 use crate::hart::Hart;
@@ -29,17 +30,50 @@ pub(crate) fn load(
     ensures { load_done (guest_of hart.old ram.now.memory.bytes devices.now) rd address signed (width_bytes width)
         ≡ quiet (guest_of hart.new ram.now.memory.bytes devices.now) }
 {
-    if !is_aligned(address, width) {
-        hart.trap(LOAD_MISALIGNED, address);
-        return;
+    if !load_served(hart, ram, devices, rd, address, width, signed) {
+        let cause = if is_aligned(address, width) {
+            LOAD_ACCESS_FAULT
+        } else {
+            LOAD_MISALIGNED
+        };
+        hart.trap(cause, address);
     }
-    let place = place(address, width.bytes() as u8);
-    match read(hart, ram, devices, place, width) {
+}
+
+/// A load that is no exception: its value into a register. Where it is one the answer is no, and nothing changes.
+#[inline]
+pub(crate) fn load_served(
+    hart: &mut Hart,
+    ram: &Ram,
+    devices: &Devices,
+    rd: Register,
+    address: u64,
+    width: Width,
+    signed: bool,
+) -> bool
+    ensures went { result ≡ true → load_done (guest_of hart.old ram.now.memory.bytes devices.now) rd address signed (width_bytes width)
+        ≡ quiet (guest_of hart.new ram.now.memory.bytes devices.now) }
+    ensures trapped { result ≡ false → load_done (guest_of hart.old ram.now.memory.bytes devices.now) rd address signed (width_bytes width)
+        ≡ trapped (guest_of hart.old ram.now.memory.bytes devices.now) (if address % width_bytes width == 0 then 5 else 4) address }
+    ensures unchanged { result ≡ false → hart.new ≡ hart.old }
+    ensures leaves { LeavesInterrupts hart.old hart.new }
+{
+    if !is_aligned(address, width) {
+        return false;
+    }
+    match read(
+        hart,
+        ram,
+        devices,
+        place(address, width.bytes() as u8),
+        width,
+    ) {
         Some(value) => {
             hart.regs.set(rd, extend(value, width, signed));
             hart.pass();
+            true
         }
-        None => hart.trap(LOAD_ACCESS_FAULT, address),
+        None => false,
     }
 }
 
