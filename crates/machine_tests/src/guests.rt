@@ -41,7 +41,7 @@ const USED: usize = 0x1080;
 const BUFFER: usize = 0x1100;
 
 /// The guest whose image is the beacon's. Its machine has two pages and one sector.
-const BEACON_GUEST: Guest = Guest {
+static BEACON_GUEST: Guest = Guest {
     pages: 2,
     sectors: 1,
     bytes: 2 * PAGE_BYTES,
@@ -54,7 +54,7 @@ const BEACON_GUEST: Guest = Guest {
 };
 
 /// The guest of a program alone: a machine as the beacon's, whose image is a page of zeros until a test puts its words there.
-const PROGRAM: Guest = Guest {
+static PROGRAM: Guest = Guest {
     pages: 2,
     sectors: 1,
     bytes: PAGE_BYTES,
@@ -65,6 +65,10 @@ const PROGRAM: Guest = Guest {
 fn boot_shape(rt: &impl Abort, alloc: Global, shape: Shape, image: &[u8]) -> Box<Machine> {
     assert!(rt; image.len() <= PAGE_BYTES * shape.pages as usize);
     let machine = Machine::boot(alloc, shape, image).expect(rt, "memory for the machine");
+    in_box(rt, alloc, machine)
+}
+
+fn in_box(rt: &impl Abort, alloc: Global, machine: Machine) -> Box<Machine> {
     Box::new(alloc, machine)
         .ok()
         .expect(rt, "memory for its box")

@@ -56,7 +56,7 @@ pub(super) const WRITE: u32 = 1;
 const FLUSH: u32 = 4;
 
 /// The guest of one request: it writes sector 7 of a disk of 8 sectors, with 512 bytes 0xab.
-pub(super) const REQUEST: Guest = Guest {
+pub(super) static REQUEST: Guest = Guest {
     pages: 2,
     sectors: 8,
     bytes: DATA + 512,
@@ -69,7 +69,7 @@ pub(super) const REQUEST: Guest = Guest {
     ],
 };
 
-const WRITES: [Line; 17] = [
+static WRITES: [Line; 17] = [
     Line::Run(22),
     Line::LastSector(0),
     Line::Written(&[]),
@@ -159,13 +159,13 @@ fn data_of_wrong_lengths_are_refused(rt: HostRuntime) {
 }
 
 /// A read, into data that the disk may write.
-const TO_READ: [Part; 2] = [
+static TO_READ: [Part; 2] = [
     Part::Word(HEAD, READ),
     // NEXT and WRITE
     Part::Bytes(DATA_FLAGS, &[3]),
 ];
 
-const READS: [Line; 5] = [
+static READS: [Line; 5] = [
     Line::Run(23),
     Line::Bytes(DATA, &[0; 512]),
     Line::Bytes(STATUS, &[0]),
@@ -179,7 +179,7 @@ fn a_sector_is_read(rt: HostRuntime) {
 }
 
 /// The head lies in two buffers, of 5 bytes and of 11.
-const TWO_BUFFERS: [Part; 1] = [Part::Words(
+static TWO_BUFFERS: [Part; 1] = [Part::Words(
     DESCRIPTOR,
     &[
         0x80001100, 0, 5, 0x00030001, 0x80001200, 0, 512, 0x00020001, 0x80001110, 0, 1, 0x00000002,
@@ -187,7 +187,7 @@ const TWO_BUFFERS: [Part; 1] = [Part::Words(
     ],
 )];
 
-const WRITES_ALL_THE_SAME: [Line; 4] = [
+static WRITES_ALL_THE_SAME: [Line; 4] = [
     Line::Run(23),
     Line::LastSector(0xab),
     Line::Bytes(STATUS, &[0]),
@@ -207,7 +207,7 @@ fn a_head_may_lie_in_two_buffers(rt: HostRuntime) {
 
 /// The disk is broken in step 23: Status 0x4f, InterruptStatus 2, no used entry, no answer and no sector written; and nothing of
 /// the network card is changed.
-const BREAKS: [Line; 9] = [
+static BREAKS: [Line; 9] = [
     Line::Run(23),
     Line::Is(Reading::DiskStatus, 0x4f),
     Line::Is(Reading::DiskInterrupt, 2),
@@ -273,7 +273,7 @@ fn malformed_requests_break_the_disk(rt: HostRuntime) {
 
 /// Ring entry 4 of a queue of 4. What stands behind the notify mends it, notifies again, and then resets the disk and sets it up
 /// anew.
-const MEND_AND_RESET: [Part; 2] = [
+static MEND_AND_RESET: [Part; 2] = [
     Part::Bytes(AVAILABLE + 4, &[4]),
     Part::Words(
         BEHIND,
@@ -287,7 +287,7 @@ const MEND_AND_RESET: [Part; 2] = [
     ),
 ];
 
-const SERVES_AGAIN: [Line; 10] = [
+static SERVES_AGAIN: [Line; 10] = [
     Line::Run(26),
     Line::Is(Reading::Number(AVAILABLE + 4), 0),
     Line::Is(Reading::DiskStatus, 0x4f),
@@ -306,9 +306,9 @@ fn a_broken_disk_serves_nothing_until_its_reset(rt: HostRuntime) {
 }
 
 /// SW x0, 0x70(x5): Status
-const RESET: [Part; 1] = [Part::Words(BEHIND, &[0x0602a823])];
+static RESET: [Part; 1] = [Part::Words(BEHIND, &[0x0602a823])];
 
-const SECTORS_STAY: [Line; 4] = [
+static SECTORS_STAY: [Line; 4] = [
     Line::Run(24),
     Line::BootDisk,
     Line::LastSector(0xab),
@@ -321,7 +321,7 @@ fn a_reset_leaves_the_sectors(rt: HostRuntime) {
 }
 
 /// A guest of 8 sectors that reads the registers.
-const REGISTERS: Guest = Guest {
+static REGISTERS: Guest = Guest {
     pages: 2,
     sectors: 8,
     bytes: PAGE_BYTES,
@@ -351,7 +351,7 @@ const READS_REGISTERS: [u32; 20] = [
     0x1000b883, // LD x17, 0x100(x1): the capacity
 ];
 
-const REGISTERS_READ: [Line; 3] = [
+static REGISTERS_READ: [Line; 3] = [
     Line::Run(20),
     Line::Registers(
         2,

@@ -5,7 +5,7 @@ use super::disk::{BEHIND, REQUEST};
 use super::play::{Line, Part, Reading, plays};
 
 /// What stands behind the notify to read mip and InterruptStatus, acknowledge the interrupt, and read them again.
-const ACKNOWLEDGE: [Part; 1] = [Part::Words(
+static ACKNOWLEDGE: [Part; 1] = [Part::Words(
     BEHIND,
     &[
         0x34402573, // CSRRS x10, mip, x0
@@ -16,7 +16,7 @@ const ACKNOWLEDGE: [Part; 1] = [Part::Words(
     ],
 )];
 
-const ACKNOWLEDGED: [Line; 6] = [
+static ACKNOWLEDGED: [Line; 6] = [
     Line::Run(28),
     Line::Is(Reading::Register(10), 0x800),
     Line::Is(Reading::Register(11), 1),
@@ -32,7 +32,7 @@ fn an_answer_is_told_by_an_interrupt(rt: HostRuntime) {
 
 /// Behind the request the beacon, whose queue of 1 the disk's chain breaks, since its first next is 1. What stands behind both notifies
 /// reads mip, acknowledges the card's interrupt, and then the disk's.
-const ACKNOWLEDGE_BOTH: [Part; 2] = [
+static ACKNOWLEDGE_BOTH: [Part; 2] = [
     Part::Words(BEHIND, &BEACON),
     Part::Words(
         BEHIND + 4 * 22,
@@ -48,7 +48,7 @@ const ACKNOWLEDGE_BOTH: [Part; 2] = [
     ),
 ];
 
-const BOTH_ACKNOWLEDGED: [Line; 10] = [
+static BOTH_ACKNOWLEDGED: [Line; 10] = [
     Line::Run(45),
     Line::Is(Reading::CardStatus, 0x4f),
     Line::Is(Reading::CardInterrupt, 2),
@@ -74,7 +74,7 @@ fn either_device_makes_the_interrupt_pending(rt: HostRuntime) {
 }
 
 /// What stands behind the notify to enable external interrupts.
-const ENABLE_EXTERNAL: [Part; 1] = [Part::Words(
+static ENABLE_EXTERNAL: [Part; 1] = [Part::Words(
     BEHIND,
     &[
         0x00001537, // LUI x10, 1
@@ -84,7 +84,7 @@ const ENABLE_EXTERNAL: [Part; 1] = [Part::Words(
     ],
 )];
 
-const EXTERNAL_TAKEN: [Line; 4] = [
+static EXTERNAL_TAKEN: [Line; 4] = [
     Line::Run(28),
     Line::Is(Reading::Mcause, 0x8000_0000_0000_000b),
     Line::Is(Reading::Mepc, 0x8000_006c),

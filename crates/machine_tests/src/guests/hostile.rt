@@ -82,7 +82,7 @@ impl Device {
 }
 
 /// The next step breaks the card: Status 0x4f, InterruptStatus 2, used idx 0, no frame in the outbox, and no sector written.
-const CARD_BREAKS: [Line; 7] = [
+static CARD_BREAKS: [Line; 7] = [
     Line::Run(1),
     Line::Is(Reading::CardStatus, 0x4f),
     Line::Is(Reading::CardInterrupt, 2),
@@ -93,7 +93,7 @@ const CARD_BREAKS: [Line; 7] = [
 ];
 
 /// The next step breaks the disk.
-const DISK_BREAKS: [Line; 7] = [
+static DISK_BREAKS: [Line; 7] = [
     Line::Run(1),
     Line::Is(Reading::DiskStatus, 0x4f),
     Line::Is(Reading::DiskInterrupt, 2),
@@ -164,7 +164,7 @@ const SETS_CARD_UP: [u32; 22] = [
 ];
 
 /// The beacon behind the setup of the disk, with a request that writes sector 0, which is notified last.
-const DISK_FIRST: Guest = Guest {
+static DISK_FIRST: Guest = Guest {
     pages: 2,
     sectors: 1,
     bytes: 2 * PAGE_BYTES,
@@ -190,7 +190,7 @@ const DISK_FIRST: Guest = Guest {
 };
 
 /// The guest of one request behind the setup of the card, with the beacon's frame, which is notified last.
-const CARD_FIRST: Guest = Guest {
+static CARD_FIRST: Guest = Guest {
     pages: 2,
     sectors: 8,
     bytes: DATA + 512,
@@ -210,14 +210,14 @@ const CARD_FIRST: Guest = Guest {
 };
 
 /// The disk, which was set up before the card, writes a sector.
-const DISK_SERVES: [Line; 3] = [
+static DISK_SERVES: [Line; 3] = [
     Line::Run(2),
     Line::Is(Reading::Number(FIRST + 0x82), 1),
     Line::Sector(0, 0xab),
 ];
 
 /// The card, which was set up before the disk, sends its frame.
-const CARD_SENDS: [Line; 3] = [
+static CARD_SENDS: [Line; 3] = [
     Line::Run(2),
     Line::Is(Reading::Number(FIRST + 0x82), 1),
     Line::Frame(&FRAME),
@@ -262,7 +262,7 @@ fn a_malformed_ring_leaves_the_other_device(rt: HostRuntime) {
 }
 
 /// A guest that gives queue 0 of its card one buffer, in step 23 at the latest.
-const RECEIVING_GUEST: Guest = Guest {
+static RECEIVING_GUEST: Guest = Guest {
     pages: 2,
     sectors: 1,
     bytes: 2 * PAGE_BYTES,
@@ -281,7 +281,7 @@ const RECEIVING_GUEST: Guest = Guest {
 };
 
 /// The notify did nothing, and the frame that arrives is lost, and breaks the card. What the disk keeps is as at boot.
-const LOSES: [Line; 10] = [
+static LOSES: [Line; 10] = [
     Line::Run(23),
     Line::Is(Reading::CardStatus, 0x0f),
     Line::Lost(&FROM_CLIENT),

@@ -85,7 +85,7 @@ fn interrupts_are_taken_in_their_order(rt: HostRuntime) {
 }
 
 /// The guest that counts timer interrupts at 0x80001000, each 100 steps after the one before (crate `guest_kit`).
-const COUNTER: [Part; 1] = [Part::Words(
+static COUNTER: [Part; 1] = [Part::Words(
     0,
     &[
         0x00001417, 0x0200c2b7, 0x02004337, 0x00000397, 0x02838393, 0x30539073, 0xff82b383,
@@ -94,7 +94,7 @@ const COUNTER: [Part; 1] = [Part::Words(
     ],
 )];
 
-const COUNTED: [Line; 2] = [Line::Run(10_000), Line::Bytes(0x1002, &[0, 0, 0, 0, 0, 0])];
+static COUNTED: [Line; 2] = [Line::Run(10_000), Line::Bytes(0x1002, &[0, 0, 0, 0, 0, 0])];
 
 #[test]
 fn the_counter_counts_timer_interrupts(rt: HostRuntime) {

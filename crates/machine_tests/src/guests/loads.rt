@@ -5,7 +5,7 @@ use super::play::{Line, Part, Reading, plays};
 use std::alloc::Global;
 use std::process::Abort;
 
-const OF_THE_TIMER: [Part; 1] = [Part::Words(
+static OF_THE_TIMER: [Part; 1] = [Part::Words(
     0,
     &[
         0x020000b7, // LUI x1, 0x2000
@@ -22,7 +22,7 @@ const OF_THE_TIMER: [Part; 1] = [Part::Words(
     ],
 )];
 
-const TIMER_READ: [Line; 8] = [
+static TIMER_READ: [Line; 8] = [
     Line::Run(11),
     Line::Is(Reading::Register(3), 1),
     Line::Is(Reading::Register(5), 0xffffffffffffffff),
@@ -76,9 +76,9 @@ fn other_widths_are_access_faults(rt: HostRuntime) {
 }
 
 /// JAL x1, +4: x1 is 0x80000004; LUI x2, 0x80000; SW x2, 0x100(x1); LW x3, 0x100(x1)
-const OF_A_WORD: [Part; 1] = [Part::Words(0, &[0x004000ef, 0x80000137, 0x1020a023, 0x1000a183])];
+static OF_A_WORD: [Part; 1] = [Part::Words(0, &[0x004000ef, 0x80000137, 0x1020a023, 0x1000a183])];
 
-const WORD_READ: [Line; 7] = [
+static WORD_READ: [Line; 7] = [
     Line::Run(4),
     Line::Is(Reading::Register(3), 0xffffffff80000000),
     Line::Is(Reading::Number(0x104), 0),

@@ -5,7 +5,7 @@ use super::{AVAILABLE, BEACON, BEACON_GUEST, BUFFER, DESCRIPTOR, FRAME, PROGRAM,
 use guest_machine::PAGE_BYTES;
 
 /// The frame is sent in step 22, and the loop behind it sends nothing more.
-const SENDS: [Line; 16] = [
+static SENDS: [Line; 16] = [
     Line::Run(21),
     Line::Is(Reading::Frames, 0),
     Line::Run(1),
@@ -31,7 +31,7 @@ fn beacon_sends_one_frame_in_step_22(rt: HostRuntime) {
 }
 
 /// Changes of the beacon that break its card.
-const MALFORMED: [Part; 8] = [
+static MALFORMED: [Part; 8] = [
     // 65 available
     Part::Bytes(AVAILABLE + 2, &[65]),
     // ring entry 1 of a queue of 1
@@ -48,7 +48,7 @@ const MALFORMED: [Part; 8] = [
 ];
 
 /// The card is broken in step 22: Status 0x4f, InterruptStatus 2, no frame, no used entry. What the disk keeps is as at boot.
-const BREAKS: [Line; 7] = [
+static BREAKS: [Line; 7] = [
     Line::Run(22),
     Line::Is(Reading::CardStatus, 0x4f),
     Line::Is(Reading::CardInterrupt, 2),
@@ -60,24 +60,24 @@ const BREAKS: [Line; 7] = [
 
 #[test]
 fn malformed_chains_break_the_card(rt: HostRuntime) {
-    for change in MALFORMED {
-        plays(&rt, rt.alloc(), &BEACON_GUEST, &[change], &BREAKS);
+    for change in &MALFORMED {
+        plays(&rt, rt.alloc(), &BEACON_GUEST, &[*change], &BREAKS);
     }
 }
 
 /// A buffer that ends with memory holds 14 zero bytes of frame.
-const AT_THE_END: [Part; 1] = [Part::Bytes(DESCRIPTOR, &[0xe6, 0x1f])];
+static AT_THE_END: [Part; 1] = [Part::Bytes(DESCRIPTOR, &[0xe6, 0x1f])];
 
-const SENDS_ZEROS: [Line; 3] = [
+static SENDS_ZEROS: [Line; 3] = [
     Line::Run(22),
     Line::Is(Reading::CardStatus, 0x0f),
     Line::Frame(&[0; 14]),
 ];
 
 /// A buffer of no bytes lies anywhere, and its frame is lost.
-const NOWHERE: [Part; 1] = [Part::Bytes(DESCRIPTOR, &[0; 12])];
+static NOWHERE: [Part; 1] = [Part::Bytes(DESCRIPTOR, &[0; 12])];
 
-const SENDS_NOTHING: [Line; 4] = [
+static SENDS_NOTHING: [Line; 4] = [
     Line::Run(22),
     Line::Is(Reading::CardStatus, 0x0f),
     Line::Is(Reading::CardInterrupt, 1),
@@ -94,9 +94,9 @@ fn buffers_at_the_edge_are_whole(rt: HostRuntime) {
 pub(super) const FROM_CLIENT: [u8; 14] = [2, 0, 0, 0, 0, 1, 2, 0, 0, 0, 1, 1, 0x88, 0xb5];
 
 /// JAL x0, 0.
-const STAY: [Part; 1] = [Part::Words(0, &[0x0000006f])];
+static STAY: [Part; 1] = [Part::Words(0, &[0x0000006f])];
 
-const LOST: [Line; 6] = [
+static LOST: [Line; 6] = [
     Line::Run(3),
     Line::Lost(&FROM_CLIENT),
     Line::BootCard,
@@ -112,7 +112,7 @@ fn a_frame_is_lost_at_a_guest_with_no_queue(rt: HostRuntime) {
 
 /// The beacon with a receive queue in the place of its transmit queue, whose one buffer the device may write: it has 26
 /// bytes. Behind the setup the guest reads mip into x10.
-pub(super) const RECEIVER: Guest = Guest {
+pub(super) static RECEIVER: Guest = Guest {
     pages: 2,
     sectors: 1,
     bytes: 2 * PAGE_BYTES,
@@ -131,7 +131,7 @@ pub(super) const RECEIVER: Guest = Guest {
     ],
 };
 
-const RECEIVES: [Line; 13] = [
+static RECEIVES: [Line; 13] = [
     Line::Run(22),
     Line::Taken(&FROM_CLIENT),
     // ten zero bytes, le16 1, and the frame
@@ -156,9 +156,9 @@ fn a_frame_arrives_in_the_receive_queue(rt: HostRuntime) {
     plays(&rt, rt.alloc(), &RECEIVER, &[], &RECEIVES);
 }
 
-const TOO_SHORT: [Part; 1] = [Part::Bytes(DESCRIPTOR + 8, &[25])];
+static TOO_SHORT: [Part; 1] = [Part::Bytes(DESCRIPTOR + 8, &[25])];
 
-const RECEIVES_NOTHING: [Line; 7] = [
+static RECEIVES_NOTHING: [Line; 7] = [
     Line::Run(22),
     Line::Lost(&FROM_CLIENT),
     Line::Is(Reading::Number(USED + 2), 0),
@@ -200,7 +200,7 @@ const ECHO_SEND_RINGS: [u32; 24] = [
     0x00000001, 0, 0, 0, 0, 0, 0, 0,
 ];
 
-const ECHO_GUEST: Guest = Guest {
+static ECHO_GUEST: Guest = Guest {
     pages: 4,
     sectors: 1,
     bytes: 2 * PAGE_BYTES,
@@ -212,7 +212,7 @@ const ECHO_GUEST: Guest = Guest {
 };
 
 /// The addresses of the frame that is sent back are turned round.
-const SENDS_BACK: [Line; 5] = [
+static SENDS_BACK: [Line; 5] = [
     Line::Run(5000),
     Line::Is(Reading::Frames, 0),
     Line::Taken(&FROM_CLIENT),

@@ -57,12 +57,12 @@ fn assert_paced<P: Pace + Drop>(
     mut pace: P,
     made: u64,
 ) {
-    assert_eq!(rt; machine.run_paced(count, &mut pace), made);
+    assert!(rt; machine.run_paced(count, &mut pace) == made);
 }
 
 /// So many steps were made.
 fn assert_steps(rt: &impl Abort, machine: &Machine, steps: u64) {
-    assert_eq!(rt; machine.steps(), steps);
+    assert!(rt; machine.steps() == steps);
 }
 
 #[test]

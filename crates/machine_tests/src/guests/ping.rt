@@ -53,14 +53,14 @@ const OTHERS_REQUEST: [u8; 58] = [
 ];
 
 /// The guest, with a disk of two sectors.
-const PING_GUEST: Guest = Guest {
+static PING_GUEST: Guest = Guest {
     pages: 32,
     sectors: 2,
     bytes: PAGE_BYTES,
     parts: &[Part::Words(0, &PING)],
 };
 
-const ANSWERS: [Line; 16] = [
+static ANSWERS: [Line; 16] = [
     Line::Run(5000),
     Line::Is(Reading::Frames, 0),
     Line::Taken(&ARP_REQUEST),
@@ -94,9 +94,9 @@ fn plays_and_goes_back(rt: &impl Abort, machine: &mut Machine, lines: &[Line]) {
 }
 
 /// The guest only waits, so its memory stays as it is.
-const WAITS: [Line; 2] = [Line::Run(10), Line::Is(Reading::Steps, 5010)];
+static WAITS: [Line; 2] = [Line::Run(10), Line::Is(Reading::Steps, 5010)];
 
-const ANSWERS_ARP: [Line; 4] = [
+static ANSWERS_ARP: [Line; 4] = [
     Line::Is(Reading::Steps, 5000),
     Line::Taken(&ARP_REQUEST),
     Line::Run(2000),
@@ -133,12 +133,12 @@ fn word_at(rt: &impl Abort, machine: &Machine, at: usize) -> u32 {
 fn assert_words(rt: &impl Abort, machine: &Machine, turned: bool) {
     for (i, word) in PING.iter().enumerate() {
         let want = if turned && i / 16 == 1 { !*word } else { *word };
-        assert_eq!(rt; word_at(rt, machine, 4 * i), want);
+        assert!(rt; word_at(rt, machine, 4 * i) == want);
     }
 }
 
 /// The first page counts as written, and the second doesn't.
-const FIRST_WRITTEN: [Line; 2] = [
+static FIRST_WRITTEN: [Line; 2] = [
     Line::Is(Reading::Dirty(0), 1),
     Line::Is(Reading::Dirty(1), 0),
 ];
@@ -162,7 +162,7 @@ fn turn_settled_block(rt: &impl Abort, machine: &mut Machine) {
 }
 
 /// No page counts as written, and the first word of the block is the one of the last settle.
-const UNWRITTEN: [Line; 2] = [
+static UNWRITTEN: [Line; 2] = [
     Line::Is(Reading::Dirty(0), 0),
     Line::Is(Reading::Original(64), !PING[16] as u64),
 ];
@@ -181,7 +181,7 @@ fn put_sector(rt: &impl Abort, machine: &mut Machine, sector: u32, byte: u8) {
     machine.put_sector(sector, &[byte; 512]);
 }
 
-const SECTOR_PUT: [Line; 4] = [
+static SECTOR_PUT: [Line; 4] = [
     Line::Written(&[1]),
     Line::Is(Reading::Sectors, 2),
     Line::Sector(0, 0),

@@ -16,7 +16,7 @@ const A0: Reading = Reading::Register(10);
 /// The place in memory of what a program answers beside its register.
 const ANSWER: usize = 0x1000;
 
-const SORTED: [Line; 3] = [
+static SORTED: [Line; 3] = [
     Line::Run(16136),
     Line::Is(Reading::Pc, STOP),
     Line::Is(A0, 0xdeb9_69f6_7aa6_1aa2),
@@ -27,7 +27,7 @@ fn sorts_a_hundred_numbers(rt: HostRuntime) {
     plays(&rt, rt.alloc(), &PROGRAM, &[Part::Words(0, &SORT)], &SORTED);
 }
 
-const CHECKED: [Line; 3] = [
+static CHECKED: [Line; 3] = [
     Line::Run(532),
     Line::Is(Reading::Pc, STOP),
     Line::Is(A0, 0xcbf4_3926),
@@ -44,7 +44,7 @@ fn checksum_of_nine_digits(rt: HostRuntime) {
     );
 }
 
-const DIGESTED: [Line; 4] = [
+static DIGESTED: [Line; 4] = [
     Line::Run(5909),
     Line::Is(Reading::Pc, STOP),
     Line::Is(A0, 0xba78_16bf_8f01_cfea),
@@ -69,7 +69,7 @@ fn digest_of_three_letters(rt: HostRuntime) {
     );
 }
 
-const DIVIDED: [Line; 3] = [
+static DIVIDED: [Line; 3] = [
     Line::Run(725_971),
     Line::Is(Reading::Pc, STOP),
     Line::Is(A0, 0x02a8_7200_df38_d16b),
@@ -95,14 +95,14 @@ const REPORT: [u8; 30] = [
     0x07, 0x6e, 0xe0, 0x16,
 ];
 
-const DISK_GUEST: Guest = Guest {
+static DISK_GUEST: Guest = Guest {
     pages: 32,
     sectors: 200,
     bytes: PAGE_BYTES,
     parts: &[Part::Words(0, &DISK)],
 };
 
-const WRITTEN_AND_READ: [Line; 5] = [
+static WRITTEN_AND_READ: [Line; 5] = [
     Line::Run(1_342_483),
     Line::Is(Reading::Pc, STOP),
     Line::Is(A0, HASH),
@@ -127,7 +127,7 @@ impl Places {
 fn assert_next(rt: &impl Abort, machine: &Machine, sector: u32, places: &mut Places) {
     assert!(rt; sector < machine.sectors());
     for byte in machine.sector(sector) {
-        assert_eq!(rt; *byte, places.next());
+        assert!(rt; *byte == places.next());
     }
 }
 
@@ -135,7 +135,7 @@ fn assert_next(rt: &impl Abort, machine: &Machine, sector: u32, places: &mut Pla
 fn writes_200_sectors_and_reads_them_back(rt: HostRuntime) {
     let mut machine = booted(&rt, rt.alloc(), &DISK_GUEST, &[]);
     play(&rt, &mut machine, &WRITTEN_AND_READ);
-    assert_eq!(rt; machine.dirty_sectors().len(), 200);
+    assert!(rt; machine.dirty_sectors().len() == 200);
     let mut places = Places { factor: 0 };
     for sector in 0..200 {
         assert_next(&rt, &machine, sector, &mut places);

@@ -26,12 +26,12 @@ const NOTIFY_MORE: [u32; 13] = [
 ];
 
 /// The beacon with 64 chains available at its first notify.
-const MORE: [Part; 2] = [
+static MORE: [Part; 2] = [
     Part::Bytes(AVAILABLE + 2, &[64]),
     Part::Words(4 * 22, &NOTIFY_MORE),
 ];
 
-const REFUSED: [Line; 15] = [
+static REFUSED: [Line; 15] = [
     Line::RunMakes(31, 31),
     Line::Is(Reading::Frames, 192),
     // at 192 frames steps go on, and the third of these sends one more
@@ -59,7 +59,7 @@ fn a_step_needs_64_free_places(rt: HostRuntime) {
     plays(&rt, rt.alloc(), &BEACON_GUEST, &MORE, &REFUSED);
 }
 
-const STOPS: [Line; 12] = [
+static STOPS: [Line; 12] = [
     Line::RunToFrameMakes(21, 21),
     Line::Is(Reading::Frames, 0),
     Line::RunToFrameMakes(u64::MAX, 1),

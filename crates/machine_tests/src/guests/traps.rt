@@ -61,7 +61,7 @@ fn illegal_accesses_to_csrs_trap(rt: HostRuntime) {
     }
 }
 
-const OF_CSRS: [Part; 1] = [Part::Words(
+static OF_CSRS: [Part; 1] = [Part::Words(
     0,
     &[
         0x301020f3, // CSRRS x1, misa, x0
@@ -77,7 +77,7 @@ const OF_CSRS: [Part; 1] = [Part::Words(
     ],
 )];
 
-const CSRS_READ: [Line; 5] = [
+static CSRS_READ: [Line; 5] = [
     Line::Run(10),
     Line::Registers(
         1,
@@ -104,9 +104,9 @@ fn csrs_are_read_and_written(rt: HostRuntime) {
 }
 
 /// AUIPC x1, 0; ADDI x1, x1, 0x102; CSRRW x0, mepc, x1: bit 1 isn't kept; MRET
-const OF_MRET: [Part; 1] = [Part::Words(0, &[0x00000097, 0x10208093, 0x34109073, 0x30200073])];
+static OF_MRET: [Part; 1] = [Part::Words(0, &[0x00000097, 0x10208093, 0x34109073, 0x30200073])];
 
-const GONE_BACK: [Line; 3] = [
+static GONE_BACK: [Line; 3] = [
     Line::Run(4),
     Line::Is(Reading::Pc, 0x80000100),
     // MIE is MPIE, which was 0, and MPIE is 1
@@ -119,9 +119,9 @@ fn mret_goes_back(rt: HostRuntime) {
 }
 
 /// BNE x0, x0, 2 and BEQ x0, x0, 2
-const OF_BRANCHES: [Part; 1] = [Part::Words(0, &[0x00001163, 0x00000163])];
+static OF_BRANCHES: [Part; 1] = [Part::Words(0, &[0x00001163, 0x00000163])];
 
-const TAKEN_BRANCH: [Line; 7] = [
+static TAKEN_BRANCH: [Line; 7] = [
     Line::Run(1),
     Line::Is(Reading::Pc, 0x80000004),
     Line::Run(1),
@@ -137,9 +137,9 @@ fn a_branch_traps_on_itself_only_where_it_is_taken(rt: HostRuntime) {
 }
 
 /// AUIPC x1, 0; ADDI x1, x1, 1; JALR x5, 0x100(x1)
-const OF_JALR: [Part; 1] = [Part::Words(0, &[0x00000097, 0x00108093, 0x100082e7])];
+static OF_JALR: [Part; 1] = [Part::Words(0, &[0x00000097, 0x00108093, 0x100082e7])];
 
-const JUMPED: [Line; 3] = [
+static JUMPED: [Line; 3] = [
     Line::Run(3),
     Line::Is(Reading::Pc, 0x80000100),
     Line::Is(Reading::Register(5), 0x8000000c),
@@ -151,9 +151,9 @@ fn jalr_clears_bit_0(rt: HostRuntime) {
 }
 
 /// JAL x1, -8 writes x1 and jumps below memory.
-const OF_JAL: [Part; 1] = [Part::Words(0, &[0xff9ff0ef])];
+static OF_JAL: [Part; 1] = [Part::Words(0, &[0xff9ff0ef])];
 
-const OUTSIDE: [Line; 8] = [
+static OUTSIDE: [Line; 8] = [
     Line::Run(1),
     Line::Is(Reading::Pc, 0x7ffffff8),
     Line::Is(Reading::Register(1), 0x80000004),
