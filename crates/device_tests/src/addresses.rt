@@ -1,6 +1,12 @@
 //! The address map, at both ends of each part.
 
 use bus_map::{Place, TimerRegister, place};
+use std::process::Abort;
+
+/// Where an access of so many bytes at an address goes.
+fn assert_place(rt: &impl Abort, addr: u64, width: u8, wanted: Place) {
+    assert!(rt; place(addr, width) == wanted, "at {addr:x}, {width} bytes");
+}
 
 #[test]
 fn each_part_and_what_lies_beside_it(rt: HostRuntime) {
@@ -26,6 +32,6 @@ fn each_part_and_what_lies_beside_it(rt: HostRuntime) {
         (0xffff_ffff_ffff_ffff, 1, Place::Ram(0xffff_ffff_7fff_ffff)),
     ];
     for (addr, width, want) in cases {
-        assert_eq!(rt; place(addr, width), want, "at {addr:x}, {width} bytes");
+        assert_place(&rt, addr, width, want);
     }
 }

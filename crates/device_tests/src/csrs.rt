@@ -7,20 +7,24 @@ use std::process::Abort;
 /// A guest that takes timer interrupts in vectored mode, at the base 0x80000200.
 fn with_timer() -> Csrs {
     let mut csrs = Csrs::boot();
-    let _ = csrs.write(numbers::MSTATUS, 8);
-    let _ = csrs.write(numbers::MIE, 1 << 7);
-    let _ = csrs.write(numbers::MTVEC, 0x8000_0201);
+    for (number, value) in [
+        (numbers::MSTATUS, 8),
+        (numbers::MIE, 1 << 7),
+        (numbers::MTVEC, 0x8000_0201),
+    ] {
+        let _ = csrs.write(number, value);
+    }
     csrs
 }
 
 /// What the CSR of this number reads, where there is one.
 fn assert_read(rt: &impl Abort, csrs: &Csrs, number: u16, value: Option<u64>) {
-    assert_eq!(rt; csrs.read(number), value, "at {number:x}");
+    assert!(rt; csrs.read(number) == value, "at {number:x}");
 }
 
 /// The interrupt that is taken where these are pending.
 fn assert_taken(rt: &impl Abort, csrs: &Csrs, pending: u64, cause: Option<u64>) {
-    assert_eq!(rt; csrs.pending(pending), cause);
+    assert!(rt; csrs.pending(pending) == cause);
 }
 
 #[test]
@@ -40,18 +44,23 @@ fn boot_values(rt: HostRuntime) {
     }
 }
 
+/// A write to the CSR of this number is made.
+fn assert_writes(rt: &impl Abort, csrs: &mut Csrs, number: u16, value: u64) {
+    assert!(rt; csrs.write(number, value).is_some(), "at {number:x}");
+}
+
 /// A write of all ones leaves this of a CSR.
 fn assert_kept(rt: &impl Abort, number: u16, kept: u64) {
     let mut csrs = Csrs::boot();
-    assert_eq!(rt; csrs.write(number, u64::MAX), Some(()), "at {number:x}");
+    assert_writes(rt, &mut csrs, number, u64::MAX);
     assert_read(rt, &csrs, number, Some(kept));
 }
 
 /// A write to the CSR of this number is refused, and changes nothing.
 fn assert_refused(rt: &impl Abort, number: u16) {
     let mut csrs = with_timer();
-    assert_eq!(rt; csrs.write(number, u64::MAX), None, "at {number:x}");
-    assert_eq!(rt; csrs, with_timer(), "at {number:x}");
+    assert!(rt; csrs.write(number, u64::MAX).is_none(), "at {number:x}");
+    assert!(rt; csrs == with_timer(), "at {number:x}");
 }
 
 #[test]
@@ -74,24 +83,34 @@ fn writes_of_all_ones(rt: HostRuntime) {
     }
 }
 
+/// A trap of this cause and value, at this pc, goes on at a handler.
+fn assert_enters(rt: &impl Abort, csrs: &mut Csrs, (cause, value, pc): (u64, u64, u64), to: u64) {
+    assert!(rt; csrs.enter(cause, value, pc) == to);
+}
+
+/// MRET goes back to this pc.
+fn assert_returns(rt: &impl Abort, csrs: &mut Csrs, pc: u64) {
+    assert!(rt; csrs.mret() == pc);
+}
+
 #[test]
 fn a_timer_interrupt_and_its_return(rt: HostRuntime) {
     let mut csrs = with_timer();
     let cause = 0x8000_0000_0000_0007;
     assert_taken(&rt, &csrs, TIMER, Some(cause));
-    assert_eq!(rt; csrs.enter(cause, 0, 0x8000_0048), 0x8000_021c);
+    assert_enters(&rt, &mut csrs, (cause, 0, 0x8000_0048), 0x8000_021c);
     assert_read(&rt, &csrs, 0x342, Some(cause));
     assert_read(&rt, &csrs, 0x341, Some(0x8000_0048));
     assert_read(&rt, &csrs, 0x300, Some(0x1880));
     assert_taken(&rt, &csrs, TIMER, None);
-    assert_eq!(rt; csrs.mret(), 0x8000_0048);
+    assert_returns(&rt, &mut csrs, 0x8000_0048);
     assert_read(&rt, &csrs, 0x300, Some(0x1888));
 }
 
 #[test]
 fn an_exception_goes_to_the_base(rt: HostRuntime) {
     let mut csrs = with_timer();
-    assert_eq!(rt; csrs.enter(2, 0xf140_1073, 0x8000_0010), 0x8000_0200);
+    assert_enters(&rt, &mut csrs, (2, 0xf140_1073, 0x8000_0010), 0x8000_0200);
     assert_read(&rt, &csrs, 0x342, Some(2));
     assert_read(&rt, &csrs, 0x343, Some(0xf140_1073));
 }
@@ -100,7 +119,7 @@ fn an_exception_goes_to_the_base(rt: HostRuntime) {
 fn interrupts_are_taken_in_their_order(rt: HostRuntime) {
     let mut csrs = with_timer();
     assert_taken(&rt, &csrs, SOFTWARE | EXTERNAL, None);
-    assert_eq!(rt; csrs.write(0x304, 0x888), Some(()));
+    assert_writes(&rt, &mut csrs, 0x304, 0x888);
     let all = SOFTWARE | TIMER | EXTERNAL;
     assert_taken(&rt, &csrs, all, Some(INTERRUPT + 11));
     assert_taken(&rt, &csrs, SOFTWARE | TIMER, Some(INTERRUPT + 3));

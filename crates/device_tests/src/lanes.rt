@@ -5,7 +5,6 @@ use page_lanes::{
     BLOCK_SIZE, PAGE_SIZE, Page, count_differing, equal, is_zero, mask, xor_blocks, xor_into,
 };
 use std::process::Abort;
-use std::test::Fail;
 
 /// What the kernels say of the first `len` bytes of two pages: whether they are equal, how many differ, and whether
 /// the exclusive or of the two is all 0.
@@ -21,59 +20,78 @@ fn said(len: usize, a: &Page, b: &Page) -> (bool, usize, bool)
     )
 }
 
-/// Two slices of this length that are equal, differ everywhere, or at one end.
-fn at_length(rt: &impl Abort, len: usize) -> Result<(), Fail>
-    requires { len ≤ 4096 }
-{
+fn assert_said(rt: &impl Abort, len: usize, a: &Page, b: &Page, wanted: (bool, usize, bool)) {
+    assert!(rt; len <= PAGE_SIZE);
+    assert!(rt; said(len, a, b) == wanted, "{len} bytes");
+}
+
+/// A page that has these bytes, each at its place, and else 0.
+fn page_with(bytes: &[(usize, u8)]) -> Page {
+    let mut page = [0; PAGE_SIZE];
+    for (at, byte) in bytes {
+        if *at < PAGE_SIZE {
+            page[*at] = *byte;
+        }
+    }
+    page
+}
+
+/// Two slices of this length that are equal, or differ everywhere.
+fn at_length(rt: &impl Abort, len: usize) {
     let zeros = [0; PAGE_SIZE];
     let ones = [0xff; PAGE_SIZE];
-    assert_eq!(rt; said(len, &zeros, &zeros), (true, 0, true));
-    assert_eq!(rt; said(len, &ones, &ones), (true, 0, true));
-    assert_eq!(rt; said(len, &ones, &zeros), (len == 0, len, len == 0));
-    if len > 0 {
-        let mut first = zeros;
-        first[0] = 1;
-        assert_eq!(rt; said(len, &first, &zeros), (false, 1, false));
-        let mut last = zeros;
-        last[len - 1] = 0x80;
-        assert_eq!(rt; said(len, &zeros, &last), (false, 1, false));
-    }
-    Ok(())
+    assert_said(rt, len, &zeros, &zeros, (true, 0, true));
+    assert_said(rt, len, &ones, &ones, (true, 0, true));
+    assert_said(rt, len, &ones, &zeros, (len == 0, len, len == 0));
 }
 
-#[test]
-fn every_length_round_a_block(rt: HostRuntime) -> Result<(), Fail> {
-    at_length(&rt, 0)?;
-    at_length(&rt, 1)?;
-    at_length(&rt, 63)?;
-    at_length(&rt, 64)?;
-    at_length(&rt, 65)?;
-    at_length(&rt, 127)?;
-    at_length(&rt, 4096)
-}
-
-#[test]
-fn a_byte_sets_the_bit_of_its_block(rt: HostRuntime) -> Result<(), Fail> {
+/// Two slices of this length that differ at one end.
+fn at_an_end(rt: &impl Abort, len: usize) {
     let zeros = [0; PAGE_SIZE];
-    let mut other = zeros;
-    assert_eq!(rt; mask(&zeros, &other), 0);
-    other[4095] = 1;
-    assert_eq!(rt; mask(&zeros, &other), 0x8000_0000_0000_0000);
-    other[64] = 0x80;
-    assert_eq!(rt; mask(&other, &zeros), 0x8000_0000_0000_0002);
-    other[63] = 7;
-    assert_eq!(rt; mask(&other, &zeros), 0x8000_0000_0000_0003);
-    assert_eq!(rt; mask(&zeros, &[0xff; PAGE_SIZE]), u64::MAX);
-    Ok(())
+    let first = page_with(&[(0, 1)]);
+    assert_said(rt, len, &first, &zeros, (false, 1, false));
+    let last = page_with(&[(len.saturating_sub(1), 0x80)]);
+    assert_said(rt, len, &zeros, &last, (false, 1, false));
 }
 
 #[test]
-fn the_exclusive_or_of_two_blocks(rt: HostRuntime) -> Result<(), Fail> {
+fn every_length_round_a_block(rt: HostRuntime) {
+    at_length(&rt, 0);
+    for len in [1, 63, 64, 65, 127, 4096] {
+        at_length(&rt, len);
+        at_an_end(&rt, len);
+    }
+}
+
+/// The bytes of a page that aren't 0, each with its place, and which blocks differ from those of a page of zeros.
+const MASKS: [(&[(usize, u8)], u64); 4] = [
+    (&[], 0),
+    (&[(4095, 1)], 0x8000_0000_0000_0000),
+    (&[(4095, 1), (64, 0x80)], 0x8000_0000_0000_0002),
+    (&[(4095, 1), (64, 0x80), (63, 7)], 0x8000_0000_0000_0003),
+];
+
+fn assert_mask(rt: &impl Abort, a: &Page, b: &Page, wanted: u64) {
+    assert!(rt; mask(a, b) == wanted);
+}
+
+#[test]
+fn a_byte_sets_the_bit_of_its_block(rt: HostRuntime) {
+    let zeros = [0; PAGE_SIZE];
+    for (bytes, wanted) in MASKS {
+        let page = page_with(bytes);
+        assert_mask(&rt, &zeros, &page, wanted);
+        assert_mask(&rt, &page, &zeros, wanted);
+    }
+    assert_mask(&rt, &zeros, &[0xff; PAGE_SIZE], u64::MAX);
+}
+
+#[test]
+fn the_exclusive_or_of_two_blocks(rt: HostRuntime) {
     let mut a = [0x0f; BLOCK_SIZE];
     a[63] = 0x55;
     let joined = xor_blocks(&a, &[0x3c; BLOCK_SIZE]);
-    assert_eq!(rt; joined[0], 0x33);
-    assert_eq!(rt; joined[62], 0x33);
-    assert_eq!(rt; joined[63], 0x69);
-    Ok(())
+    assert!(rt; joined[0] == 0x33);
+    assert!(rt; joined[62] == 0x33);
+    assert!(rt; joined[63] == 0x69);
 }

@@ -1,214 +1,321 @@
-//! Each call with ample memory, and where flags are set. Each reading stands with its comparison in a small function: a test that holds
-//! a memory by value, or reads it itself time after time, is slow to prove.
+//! Each call with ample memory, and where flags are set. A test is a list of lines, which one function plays: a test that writes and
+//! reads a memory itself, time after time, is slow to prove.
+
+ghost use Rattle.std.specs.Prelude.{◌≤◌, ◌+◌, length};
 
 use paged_memory::{BLOCK_BYTES, Memory, PAGE_BYTES};
 use std::alloc::Global;
 use std::process::Abort;
-use std::test::Fail;
 
 /// The bytes of the memories here: three pages.
 const BYTES: usize = 3 * PAGE_BYTES;
 
+/// What can be read of a memory as a number.
+#[derive(Clone, Copy)]
+enum Reading {
+    /// How many bytes it has.
+    Size,
+    /// The byte at a place.
+    Byte(usize),
+    /// The number of one, two, four or eight bytes at a place.
+    U8(usize),
+    U16(usize),
+    U32(usize),
+    U64(usize),
+    /// The first byte of a page.
+    Page(u32),
+    /// A byte that a page had at the last settle.
+    Original(u32, usize),
+    /// How many pages were copied.
+    Copies,
+}
+
+/// A line of a test: what is written, or what the memory then has.
+#[derive(Clone, Copy)]
+enum Line {
+    Write(usize, &'static [u8]),
+    /// A number of one, two, four or eight bytes is written at a place.
+    WriteU8(usize, u8),
+    WriteU16(usize, u16),
+    WriteU32(usize, u32),
+    WriteU64(usize, u64),
+    /// A block is XORed into memory, whose bytes are all the same.
+    XorBlock(usize, u8),
+    /// From now on nothing counts as written.
+    Settle,
+    /// This reading is this number.
+    Is(Reading, u64),
+    /// Which of the three pages were written.
+    Flags([bool; 3]),
+    /// Four bytes of memory.
+    Read(usize, [u8; 4]),
+}
+
 /// A memory of three pages with these bytes at its start, in a box.
-fn booted(rt: &impl Abort, alloc: Global, image: &[u8]) -> Result<Box<Memory>, Fail> {
+fn booted(rt: &impl Abort, alloc: Global, image: &[u8]) -> Box<Memory> {
     assert!(rt; image.len() <= BYTES);
-    let memory = Memory::boot(alloc, 3, image)?;
-    Ok(Box::new(alloc, memory)?)
+    let memory = Memory::boot(alloc, 3, image).expect(rt, "memory for three pages");
+    Box::new(alloc, memory)
+        .ok()
+        .expect(rt, "memory for their box")
 }
 
-/// Which of the first three pages were written.
-fn assert_flags(rt: &impl Abort, memory: &Memory, flags: [bool; 3]) {
-    assert_eq!(rt; memory.pages(), 3);
-    assert_eq!(rt; [memory.dirty(0), memory.dirty(1), memory.dirty(2)], flags);
+/// Boots a memory with these bytes, and plays the lines.
+fn plays(rt: &impl Abort, alloc: Global, image: &[u8], lines: &[Line]) {
+    let mut memory = booted(rt, alloc, image);
+    play(rt, &mut memory, lines);
 }
 
-/// A byte of memory.
-fn assert_byte(rt: &impl Abort, memory: &Memory, at: usize, byte: u8) {
-    assert!(rt; at < memory.size());
-    assert_eq!(rt; memory.byte(at), byte);
+/// Plays the lines. The message of a line that fails has its place, counted from 0.
+fn play(rt: &impl Abort, memory: &mut Memory, lines: &[Line]) {
+    for (at, line) in lines.iter().enumerate() {
+        play_line(rt, memory, line, at);
+    }
 }
 
-/// The first byte of a page.
-fn assert_page(rt: &impl Abort, memory: &Memory, page: u32, byte: u8) {
-    assert!(rt; page < memory.pages());
-    assert_eq!(rt; memory.page(page)[0], byte);
+fn play_line(rt: &impl Abort, memory: &mut Memory, line: &Line, at: usize) {
+    if let Line::Is(reading, number) = *line {
+        assert_eq!(rt; read(rt, memory, reading), number, "line {at}");
+    } else {
+        assert!(rt; does(rt, memory, line), "line {at}");
+    }
 }
 
-/// A byte that a page had at the last settle.
-fn assert_original(rt: &impl Abort, memory: &Memory, page: u32, at: usize, byte: u8) {
-    assert!(rt; page < memory.pages() && at < PAGE_BYTES);
-    assert_eq!(rt; memory.original(page)[at], byte);
+/// Does what a line says, or compares. Says whether it is as the line says.
+fn does(rt: &impl Abort, memory: &mut Memory, line: &Line) -> bool {
+    match *line {
+        Line::Write(at, bytes) => write(rt, memory, at, bytes),
+        Line::WriteU8(at, value) => write_u8(rt, memory, at, value),
+        Line::WriteU16(at, value) => write_u16(rt, memory, at, value),
+        Line::WriteU32(at, value) => write_u32(rt, memory, at, value),
+        Line::WriteU64(at, value) => write_u64(rt, memory, at, value),
+        Line::XorBlock(at, byte) => xor_block(rt, memory, at, byte),
+        Line::Settle => settle(memory),
+        Line::Is(reading, number) => read(rt, memory, reading) == number,
+        Line::Flags(flags) => has_flags(memory, flags),
+        Line::Read(at, bytes) => has_bytes(rt, memory, at, bytes),
+    }
 }
 
-/// How many pages were copied.
-fn assert_copies(rt: &impl Abort, memory: &Memory, copies: u64) {
-    assert_eq!(rt; memory.copies(), copies);
+/// So many bytes from a place on lie in memory.
+fn assert_inside(rt: &impl Abort, memory: &Memory, at: usize, len: usize)
+    ensures { at + len ≤ length memory.now.bytes }
+{
+    assert!(rt; at <= BYTES);
+    assert!(rt; len <= BYTES);
+    assert!(rt; at + len <= memory.size());
 }
 
-/// Numbers of each width.
-fn assert_u16(rt: &impl Abort, memory: &Memory, at: usize, value: u16) {
-    assert!(rt; at < BYTES && at + 2 <= memory.size());
-    assert_eq!(rt; memory.read_u16(at), value);
+fn write(rt: &impl Abort, memory: &mut Memory, at: usize, bytes: &[u8]) -> bool {
+    assert_inside(rt, memory, at, bytes.len());
+    memory.write(at, bytes);
+    true
 }
 
-fn assert_u32(rt: &impl Abort, memory: &Memory, at: usize, value: u32) {
-    assert!(rt; at < BYTES && at + 4 <= memory.size());
-    assert_eq!(rt; memory.read_u32(at), value);
+fn write_u8(rt: &impl Abort, memory: &mut Memory, at: usize, value: u8) -> bool {
+    assert_inside(rt, memory, at, 1);
+    memory.write_u8(at, value);
+    true
 }
 
-fn assert_u64(rt: &impl Abort, memory: &Memory, at: usize, value: u64) {
-    assert!(rt; at < BYTES && at + 8 <= memory.size());
-    assert_eq!(rt; memory.read_u64(at), value);
+fn write_u16(rt: &impl Abort, memory: &mut Memory, at: usize, value: u16) -> bool {
+    assert_inside(rt, memory, at, 2);
+    memory.write_u16(at, value);
+    true
 }
 
-fn assert_u8(rt: &impl Abort, memory: &Memory, at: usize, value: u8) {
-    assert!(rt; at < BYTES && at < memory.size());
-    assert_eq!(rt; memory.read_u8(at), value);
+fn write_u32(rt: &impl Abort, memory: &mut Memory, at: usize, value: u32) -> bool {
+    assert_inside(rt, memory, at, 4);
+    memory.write_u32(at, value);
+    true
 }
 
-/// Four bytes of memory.
-fn assert_read(rt: &impl Abort, memory: &Memory, at: usize, bytes: [u8; 4]) {
-    assert!(rt; at < BYTES && at + 4 <= memory.size());
+fn write_u64(rt: &impl Abort, memory: &mut Memory, at: usize, value: u64) -> bool {
+    assert_inside(rt, memory, at, 8);
+    memory.write_u64(at, value);
+    true
+}
+
+fn xor_block(rt: &impl Abort, memory: &mut Memory, at: usize, byte: u8) -> bool {
+    assert_inside(rt, memory, at, BLOCK_BYTES);
+    memory.xor_block(at, &[byte; BLOCK_BYTES]);
+    true
+}
+
+fn settle(memory: &mut Memory) -> bool {
+    memory.settle();
+    true
+}
+
+fn has_flags(memory: &Memory, flags: [bool; 3]) -> bool {
+    memory.pages() == 3 && [memory.dirty(0), memory.dirty(1), memory.dirty(2)] == flags
+}
+
+fn has_bytes(rt: &impl Abort, memory: &Memory, at: usize, bytes: [u8; 4]) -> bool {
+    assert_inside(rt, memory, at, 4);
     let mut found = [0; 4];
     memory.read(at, &mut found);
-    assert_eq!(rt; found, bytes);
+    found == bytes
 }
 
-/// Writes bytes.
-fn write(rt: &impl Abort, memory: &mut Memory, at: usize, bytes: &[u8]) {
-    assert!(rt; at <= BYTES && bytes.len() <= BYTES);
-    assert!(rt; at + bytes.len() <= memory.size());
-    memory.write(at, bytes);
+/// What is read of a memory.
+fn read(rt: &impl Abort, memory: &Memory, reading: Reading) -> u64 {
+    match reading {
+        Reading::Size => memory.size() as u64,
+        Reading::Byte(at) => byte(rt, memory, at).into(),
+        Reading::U8(at) => read_u8(rt, memory, at).into(),
+        Reading::U16(at) => read_u16(rt, memory, at).into(),
+        Reading::U32(at) => read_u32(rt, memory, at).into(),
+        Reading::U64(at) => read_u64(rt, memory, at),
+        Reading::Page(page) => first_byte(rt, memory, page).into(),
+        Reading::Original(page, at) => original(rt, memory, page, at).into(),
+        Reading::Copies => memory.copies(),
+    }
 }
 
-/// Writes a number of each width.
-fn write_u8(rt: &impl Abort, memory: &mut Memory, at: usize, value: u8) {
-    assert!(rt; at < BYTES && at < memory.size());
-    memory.write_u8(at, value);
+fn byte(rt: &impl Abort, memory: &Memory, at: usize) -> u8 {
+    assert_inside(rt, memory, at, 1);
+    memory.byte(at)
 }
 
-fn write_u16(rt: &impl Abort, memory: &mut Memory, at: usize, value: u16) {
-    assert!(rt; at < BYTES && at + 2 <= memory.size());
-    memory.write_u16(at, value);
+fn read_u8(rt: &impl Abort, memory: &Memory, at: usize) -> u8 {
+    assert_inside(rt, memory, at, 1);
+    memory.read_u8(at)
 }
 
-fn write_u32(rt: &impl Abort, memory: &mut Memory, at: usize, value: u32) {
-    assert!(rt; at < BYTES && at + 4 <= memory.size());
-    memory.write_u32(at, value);
+fn read_u16(rt: &impl Abort, memory: &Memory, at: usize) -> u16 {
+    assert_inside(rt, memory, at, 2);
+    memory.read_u16(at)
 }
 
-fn write_u64(rt: &impl Abort, memory: &mut Memory, at: usize, value: u64) {
-    assert!(rt; at < BYTES && at + 8 <= memory.size());
-    memory.write_u64(at, value);
+fn read_u32(rt: &impl Abort, memory: &Memory, at: usize) -> u32 {
+    assert_inside(rt, memory, at, 4);
+    memory.read_u32(at)
 }
 
-/// XORs a block into memory.
-fn xor_block(rt: &impl Abort, memory: &mut Memory, at: usize, block: &[u8; BLOCK_BYTES]) {
-    assert!(rt; at < BYTES && at + BLOCK_BYTES <= memory.size());
-    memory.xor_block(at, block);
+fn read_u64(rt: &impl Abort, memory: &Memory, at: usize) -> u64 {
+    assert_inside(rt, memory, at, 8);
+    memory.read_u64(at)
 }
 
-/// From now on nothing counts as written.
-fn settle(memory: &mut Memory) {
-    memory.settle();
+fn first_byte(rt: &impl Abort, memory: &Memory, page: u32) -> u8 {
+    assert!(rt; page < memory.pages());
+    memory.page(page)[0]
 }
 
-#[test]
-fn a_write_marks_the_pages_it_lies_in(rt: HostRuntime) -> Result<(), Fail> {
-    let mut memory = booted(&rt, rt.alloc(), &[7, 8, 9])?;
-    assert_eq!(rt; memory.size(), BYTES);
-    assert_byte(&rt, &memory, 1, 8);
-    assert_u32(&rt, &memory, 0, 0x0009_0807);
-    assert_flags(&rt, &memory, [false, false, false]);
-    write(&rt, &mut memory, 5000, &[]);
-    assert_flags(&rt, &memory, [false, false, false]);
-    write(&rt, &mut memory, 4095, &[0]);
-    assert_flags(&rt, &memory, [true, false, false]);
-    write_u64(&rt, &mut memory, 8188, 0x0807_0605_0403_0201);
-    assert_flags(&rt, &memory, [true, true, true]);
-    assert_read(&rt, &memory, 8190, [3, 4, 5, 6]);
-    assert_u64(&rt, &memory, 8188, 0x0807_0605_0403_0201);
-    assert_u16(&rt, &memory, 8191, 0x0504);
-    assert_u8(&rt, &memory, 8195, 8);
-    Ok(())
+fn original(rt: &impl Abort, memory: &Memory, page: u32, at: usize) -> u8 {
+    assert!(rt; page < memory.pages());
+    assert!(rt; at < PAGE_BYTES);
+    memory.original(page)[at]
 }
 
-#[test]
-fn originals_are_those_of_the_last_settle(rt: HostRuntime) -> Result<(), Fail> {
-    let mut memory = booted(&rt, rt.alloc(), &[7])?;
-    write_u8(&rt, &mut memory, 0, 1);
-    write_u32(&rt, &mut memory, 4096, 2);
-    assert_page(&rt, &memory, 0, 1);
-    assert_original(&rt, &memory, 0, 0, 7);
-    assert_original(&rt, &memory, 2, 0, 0);
-    settle(&mut memory);
-    assert_flags(&rt, &memory, [false, false, false]);
-    assert_original(&rt, &memory, 0, 0, 1);
-    assert_original(&rt, &memory, 1, 0, 2);
-    write_u16(&rt, &mut memory, 4096, 3);
-    write_u16(&rt, &mut memory, 4096, 4);
-    assert_flags(&rt, &memory, [false, true, false]);
-    assert_page(&rt, &memory, 1, 4);
-    assert_original(&rt, &memory, 1, 0, 2);
-    Ok(())
-}
+const MARKS: [Line; 14] = [
+    Line::Is(Reading::Size, 3 * 4096),
+    Line::Is(Reading::Byte(1), 8),
+    Line::Is(Reading::U32(0), 0x0009_0807),
+    Line::Flags([false, false, false]),
+    Line::Write(5000, &[]),
+    Line::Flags([false, false, false]),
+    Line::Write(4095, &[0]),
+    Line::Flags([true, false, false]),
+    Line::WriteU64(8188, 0x0807_0605_0403_0201),
+    Line::Flags([true, true, true]),
+    Line::Read(8190, [3, 4, 5, 6]),
+    Line::Is(Reading::U64(8188), 0x0807_0605_0403_0201),
+    Line::Is(Reading::U16(8191), 0x0504),
+    Line::Is(Reading::U8(8195), 8),
+];
 
 #[test]
-fn each_page_has_its_own_original_in_whatever_order_they_are_written(
-    rt: HostRuntime,
-) -> Result<(), Fail> {
-    let mut memory = booted(&rt, rt.alloc(), &[7])?;
-    write_u8(&rt, &mut memory, 8192, 3);
-    write_u8(&rt, &mut memory, 0, 1);
-    assert_original(&rt, &memory, 2, 0, 0);
-    assert_original(&rt, &memory, 0, 0, 7);
-    settle(&mut memory);
+fn a_write_marks_the_pages_it_lies_in(rt: HostRuntime) {
+    plays(&rt, rt.alloc(), &[7, 8, 9], &MARKS);
+}
+
+const ORIGINALS: [Line; 14] = [
+    Line::WriteU8(0, 1),
+    Line::WriteU32(4096, 2),
+    Line::Is(Reading::Page(0), 1),
+    Line::Is(Reading::Original(0, 0), 7),
+    Line::Is(Reading::Original(2, 0), 0),
+    Line::Settle,
+    Line::Flags([false, false, false]),
+    Line::Is(Reading::Original(0, 0), 1),
+    Line::Is(Reading::Original(1, 0), 2),
+    Line::WriteU16(4096, 3),
+    Line::WriteU16(4096, 4),
+    Line::Flags([false, true, false]),
+    Line::Is(Reading::Page(1), 4),
+    Line::Is(Reading::Original(1, 0), 2),
+];
+
+#[test]
+fn originals_are_those_of_the_last_settle(rt: HostRuntime) {
+    plays(&rt, rt.alloc(), &[7], &ORIGINALS);
+}
+
+const ORDERS: [Line; 11] = [
+    Line::WriteU8(8192, 3),
+    Line::WriteU8(0, 1),
+    Line::Is(Reading::Original(2, 0), 0),
+    Line::Is(Reading::Original(0, 0), 7),
+    Line::Settle,
     // Now the first page comes first.
-    write_u8(&rt, &mut memory, 0, 4);
-    write_u8(&rt, &mut memory, 8192, 5);
-    write_u8(&rt, &mut memory, 4096, 6);
-    assert_original(&rt, &memory, 0, 0, 1);
-    assert_original(&rt, &memory, 1, 0, 0);
-    assert_original(&rt, &memory, 2, 0, 3);
-    Ok(())
-}
+    Line::WriteU8(0, 4),
+    Line::WriteU8(8192, 5),
+    Line::WriteU8(4096, 6),
+    Line::Is(Reading::Original(0, 0), 1),
+    Line::Is(Reading::Original(1, 0), 0),
+    Line::Is(Reading::Original(2, 0), 3),
+];
 
 #[test]
-fn a_page_is_copied_at_its_first_write_after_a_settle(rt: HostRuntime) -> Result<(), Fail> {
-    let mut memory = booted(&rt, rt.alloc(), &[])?;
-    assert_copies(&rt, &memory, 0);
-    write_u64(&rt, &mut memory, 4092, 1);
-    assert_copies(&rt, &memory, 2);
-    write(&rt, &mut memory, 0, &[5]);
-    write_u8(&rt, &mut memory, 4095, 6);
-    assert_copies(&rt, &memory, 2);
-    settle(&mut memory);
-    assert_copies(&rt, &memory, 2);
-    xor_block(&rt, &mut memory, 4032, &[1; BLOCK_BYTES]);
-    assert_copies(&rt, &memory, 3);
-    assert_byte(&rt, &memory, 4095, 7);
-    assert_original(&rt, &memory, 0, 4095, 6);
-    Ok(())
+fn each_page_has_its_own_original_in_whatever_order_they_are_written(rt: HostRuntime) {
+    plays(&rt, rt.alloc(), &[7], &ORDERS);
+}
+
+const COPIES: [Line; 12] = [
+    Line::Is(Reading::Copies, 0),
+    Line::WriteU64(4092, 1),
+    Line::Is(Reading::Copies, 2),
+    Line::Write(0, &[5]),
+    Line::WriteU8(4095, 6),
+    Line::Is(Reading::Copies, 2),
+    Line::Settle,
+    Line::Is(Reading::Copies, 2),
+    Line::XorBlock(4032, 1),
+    Line::Is(Reading::Copies, 3),
+    Line::Is(Reading::Byte(4095), 7),
+    Line::Is(Reading::Original(0, 4095), 6),
+];
+
+#[test]
+fn a_page_is_copied_at_its_first_write_after_a_settle(rt: HostRuntime) {
+    plays(&rt, rt.alloc(), &[], &COPIES);
 }
 
 /// A memory into which two blocks were taken, the second in two pages.
-fn taken_in(alloc: Global) -> Result<Box<Memory>, Fail> {
-    let mut memory = Memory::boot(alloc, 3, &[7, 8, 9])?;
+fn taken_in(rt: &impl Abort, alloc: Global) -> Box<Memory> {
+    let mut memory = Memory::boot(alloc, 3, &[7, 8, 9]).expect(rt, "memory for three pages");
     memory.xor_settled(0, &[1; BLOCK_BYTES]);
     memory.xor_settled(4064, &[5; BLOCK_BYTES]);
-    Ok(Box::new(alloc, memory)?)
+    Box::new(alloc, memory)
+        .ok()
+        .expect(rt, "memory for their box")
 }
 
+const TAKEN_IN: [Line; 8] = [
+    Line::Is(Reading::U32(0), 0x0108_0906),
+    Line::Is(Reading::U64(4124), 0x0505_0505),
+    Line::Flags([false, false, false]),
+    Line::Is(Reading::Copies, 0),
+    Line::Is(Reading::Original(0, 0), 6),
+    Line::WriteU8(0, 2),
+    Line::Is(Reading::Copies, 1),
+    Line::Is(Reading::Original(0, 0), 6),
+];
+
 #[test]
-fn a_block_that_is_taken_in_marks_and_copies_no_page(rt: HostRuntime) -> Result<(), Fail> {
-    let mut memory = taken_in(rt.alloc())?;
-    assert_u32(&rt, &memory, 0, 0x0108_0906);
-    assert_u64(&rt, &memory, 4124, 0x0505_0505);
-    assert_flags(&rt, &memory, [false, false, false]);
-    assert_copies(&rt, &memory, 0);
-    assert_original(&rt, &memory, 0, 0, 6);
-    write_u8(&rt, &mut memory, 0, 2);
-    assert_copies(&rt, &memory, 1);
-    assert_original(&rt, &memory, 0, 0, 6);
-    Ok(())
+fn a_block_that_is_taken_in_marks_and_copies_no_page(rt: HostRuntime) {
+    let mut memory = taken_in(&rt, rt.alloc());
+    play(&rt, &mut memory, &TAKEN_IN);
 }

@@ -5,6 +5,7 @@
 ghost use Rattle.std.specs.Prelude.{◌≡◌, ◌≤◌, length, take, drop};
 ghost use Rattle.virtqueue.specs.Areas.{IsSized};
 
+use std::alloc::Global;
 use std::process::Abort;
 use std::test::Fail;
 use virtqueue::{Broken, Chain, GuestRam, PlainRam, Queue};
@@ -49,21 +50,21 @@ const EMPTY: [u8; 16] = [0; 16];
 
 /// A chain has so many parts, and so many readable and writable bytes.
 fn assert_lengths(rt: &impl Abort, chain: &Chain, parts: usize, readable: u64, writable: u64) {
-    assert_eq!(rt; chain.parts().len(), parts);
-    assert_eq!(rt; chain.readable_len(), readable);
-    assert_eq!(rt; chain.writable_len(), writable);
+    assert!(rt; chain.parts().len() == parts);
+    assert!(rt; chain.readable_len() == readable);
+    assert!(rt; chain.writable_len() == writable);
 }
 
 /// Whether all of a chain is readable, and whether all of it is writable.
 fn assert_directions(rt: &impl Abort, chain: &Chain, readable: bool, writable: bool) {
-    assert_eq!(rt; chain.is_all_readable(), readable);
-    assert_eq!(rt; chain.is_all_writable(), writable);
+    assert!(rt; chain.is_all_readable() == readable);
+    assert!(rt; chain.is_all_writable() == writable);
 }
 
 /// RAM has these bytes from a place on.
 fn assert_bytes(rt: &impl Abort, ram: &PlainRam, at: usize, bytes: &[u8]) {
     assert!(rt; at <= 4096 && bytes.len() <= 4096 - at);
-    assert_eq!(rt; &ram.bytes[at..at + bytes.len()], bytes);
+    assert!(rt; &ram.bytes[at..at + bytes.len()] == bytes);
 }
 
 #[test]
@@ -71,7 +72,7 @@ fn one_readable_buffer(rt: HostRuntime) -> Result<(), Fail> {
     let mut ram = ram_with(&READABLE, &EMPTY);
     ram.write(0x100, &[7, 8, 9]);
     let chain = four().next_chain(&ram)?.ok_or("no chain")?;
-    assert_eq!(rt; chain.head(), 0);
+    assert!(rt; chain.head() == 0);
     assert_directions(&rt, &chain, true, false);
     assert_lengths(&rt, &chain, 1, 26, 0);
     assert_gathered(&rt, &ram, [8, 9])
@@ -83,7 +84,7 @@ fn assert_gathered(rt: &impl Abort, ram: &PlainRam, bytes: [u8; 2]) -> Result<()
     assert!(rt; chain.readable_len() >= 3);
     let mut two = [0; 2];
     Queue::gather(&chain, ram, 1, &mut two);
-    assert_eq!(rt; two, bytes);
+    assert!(rt; two == bytes);
     Ok(())
 }
 
@@ -92,7 +93,7 @@ fn later_writes_stand(rt: HostRuntime) -> Result<(), Fail> {
     let mut ram = ram_with(&WRITABLE_THEN, &WRITABLE);
     let chain = four().next_chain(&ram)?.ok_or("no chain")?;
     assert!(rt; chain.is_all_writable());
-    assert_eq!(rt; chain.writable_len(), 5);
+    assert!(rt; chain.writable_len() == 5);
     Queue::scatter(&chain, &mut ram, 1, &[1, 2, 3, 4]);
     assert_bytes(&rt, &ram, 0x200, &[0, 1, 3, 4]);
     Ok(())
@@ -104,9 +105,10 @@ fn a_used_chain_stands_in_the_ring(rt: HostRuntime) -> Result<(), Fail> {
     let mut queue = four();
     queue.next_used = 0xffff;
     queue.next_available = 0xffff;
-    assert_eq!(rt; queue.available(&ram)?, 2);
+    assert!(rt; queue.available(&ram)? == 2);
     queue.put_used(&mut ram, 2, 0x0304);
-    assert_eq!(rt; (queue.next_used, queue.next_available), (0, 0));
+    assert!(rt; queue.next_used == 0);
+    assert!(rt; queue.next_available == 0);
     assert_bytes(&rt, &ram, 0x80, &[0, 0, 0, 0]);
     assert_bytes(&rt, &ram, 0x9c, &[2, 0, 0, 0, 4, 3, 0, 0]);
     Ok(())
@@ -116,7 +118,7 @@ fn a_used_chain_stands_in_the_ring(rt: HostRuntime) -> Result<(), Fail> {
 fn assert_found(rt: &impl Abort, queue: Queue, ram: &PlainRam, found: Option<Broken>)
     requires { IsSized queue }
 {
-    assert_eq!(rt; queue.next_chain(ram).err(), found);
+    assert!(rt; queue.next_chain(ram).err() == found);
 }
 
 /// What is wrong where RAM with one readable buffer has these bytes at a place.
@@ -127,19 +129,26 @@ fn assert_found_with(rt: &impl Abort, at: usize, bytes: &[u8], found: Option<Bro
     assert_found(rt, four(), &ram, found);
 }
 
+/// What is wrong with a queue of these places and of this count of chains taken, where RAM is good.
+fn assert_found_of(
+    rt: &impl Abort,
+    (desc, driver, next_available): (u64, u64, u16),
+    found: Option<Broken>,
+) {
+    let mut queue = four();
+    queue.desc = desc;
+    queue.driver = driver;
+    queue.next_available = next_available;
+    assert_found(rt, queue, &ram_with(&READABLE, &EMPTY), found);
+}
+
 #[test]
 fn a_queue_that_does_not_fit_has_its_name(rt: HostRuntime) {
-    let good = ram_with(&READABLE, &EMPTY);
-    assert_found(&rt, four(), &good, None);
-    let mut queue = four();
-    queue.driver = 0x8000_0041;
-    assert_found(&rt, queue, &good, Some(Broken::Misaligned));
-    let mut queue = four();
-    queue.desc = 0x8000_0fd0;
-    assert_found(&rt, queue, &good, Some(Broken::AreaOutside));
-    let mut queue = four();
-    queue.next_available = 0xffc0;
-    assert_found(&rt, queue, &good, Some(Broken::TooMany));
+    let (desc, driver) = (0x8000_0000, 0x8000_0040);
+    assert_found_of(&rt, (desc, driver, 0), None);
+    assert_found_of(&rt, (desc, 0x8000_0041, 0), Some(Broken::Misaligned));
+    assert_found_of(&rt, (0x8000_0fd0, driver, 0), Some(Broken::AreaOutside));
+    assert_found_of(&rt, (desc, driver, 0xffc0), Some(Broken::TooMany));
 }
 
 #[test]
@@ -159,25 +168,26 @@ fn each_malformation_has_its_name(rt: HostRuntime) -> Result<(), Fail> {
     Ok(())
 }
 
+/// A malformation prints this name.
+fn assert_name(rt: &impl Abort, alloc: Global, broken: Broken, name: &str) {
+    let text = format!(in alloc; "{broken}").expect(rt, "memory for the text");
+    assert!(rt; text.as_str() == name);
+}
+
 #[test]
-fn a_malformation_prints_its_name(rt: HostRuntime) -> Result<(), Fail> {
-    let alloc = rt.alloc();
-    let names = format!(in alloc;
-        "{} {} {} {} {} {} {} {} {} {}",
-        Broken::Misaligned,
-        Broken::AreaOutside,
-        Broken::TooMany,
-        Broken::BadIndex,
-        Broken::Indirect,
-        Broken::Outside,
-        Broken::Order,
-        Broken::Loop,
-        Broken::Direction,
-        Broken::Short
-    )?;
-    assert_eq!(rt;
-        names.as_str(),
-        "Misaligned AreaOutside TooMany BadIndex Indirect Outside Order Loop Direction Short"
-    );
-    Ok(())
+fn a_malformation_prints_its_name(rt: HostRuntime) {
+    for (broken, name) in [
+        (Broken::Misaligned, "Misaligned"),
+        (Broken::AreaOutside, "AreaOutside"),
+        (Broken::TooMany, "TooMany"),
+        (Broken::BadIndex, "BadIndex"),
+        (Broken::Indirect, "Indirect"),
+        (Broken::Outside, "Outside"),
+        (Broken::Order, "Order"),
+        (Broken::Loop, "Loop"),
+        (Broken::Direction, "Direction"),
+        (Broken::Short, "Short"),
+    ] {
+        assert_name(&rt, rt.alloc(), broken, name);
+    }
 }

@@ -1,5 +1,5 @@
-//! A driver's first steps with a device (virtio 1.1, 3.1.1 and 4.2.3), and the worked values of the table. Each reading stands with its
-//! comparison in a small function, since a long test is slow to prove.
+//! A driver's first steps with a device (virtio 1.1, 3.1.1 and 4.2.3), and the worked values of the table. A test is a list of lines,
+//! which one function plays, since a long test is slow to prove.
 
 ghost use Rattle.std.specs.Prelude.{◌≡◌, ℕ, ◌+◌, ◌-◌, ◌^◌, ◌≤◌, length, take, drop, Ok, Err, if◌then◌else◌};
 ghost use Rattle.virtqueue.specs.Parts.{all_readable};
@@ -9,152 +9,122 @@ use std::process::Abort;
 use virtio_mmio::{Action, ChainHandler, DeviceKind, Transport};
 use virtqueue::{Broken, Chain, GuestRam, PlainRam};
 
-/// A load of a register of 4 bytes.
-fn assert_register(rt: &impl Abort, device: &Transport, offset: u64, value: u64) {
-    assert_load(rt, device, offset, 4, Some(value));
+/// A line of a test: what is done with a device and the RAM, or what they then have.
+#[derive(Clone, Copy)]
+enum Line {
+    /// Stores of words, whatever they make the device do.
+    Stores(&'static [(u64, u64)]),
+    /// What a store of 4 bytes makes the device do; or of any width, where it may be refused.
+    Store(u64, u64, Action),
+    StoreOf(u64, u8, u64, Option<Action>),
+    /// A load of a register of 4 bytes, and of any width.
+    Register(u64, u64),
+    Load(u64, u8, Option<u64>),
+    DriverFeatures(u64),
+    /// Whether a queue can be served; and that it is then the one in service.
+    CanServe(u32, bool),
+    InService(u32),
+    /// A queue's size and the address of its table; how many chains were taken from it; and how many were used.
+    Queue(u32, u32, u64),
+    Available(u32, u16),
+    Used(u32, u16),
+    /// The driver is told of a used chain, one of queue 1.
+    SignalUsed,
+    /// The device met a malformation.
+    NeedReset,
+    /// All that a network card keeps is as at boot.
+    Boot,
+    /// The device serves queue 0; so many chains were handled.
+    Serves(u32),
+    /// A chain whose first descriptor is 1 is put into the used ring, with 3 bytes written.
+    PutUsed,
+    /// The used ring has this idx and these two entries.
+    UsedRing([u8; 18]),
 }
 
-/// A load of any width.
-fn assert_load(rt: &impl Abort, device: &Transport, offset: u64, width: u8, value: Option<u64>) {
-    assert_eq!(rt; device.load(offset, width), value, "at {offset:x}");
-}
-
-/// What a store of 4 bytes makes the device do.
-fn assert_action(rt: &impl Abort, device: &mut Transport, offset: u64, value: u64, action: Action) {
-    assert_eq!(rt;
-        device.store(offset, 4, value),
-        Some(action),
-        "at {offset:x}"
-    );
-}
-
-#[test]
-fn the_device_names_itself(rt: HostRuntime) {
-    let device = Transport::boot(DeviceKind::Network);
-    assert_register(&rt, &device, 0x000, 0x7472_6976);
-    assert_register(&rt, &device, 0x004, 2);
-    assert_register(&rt, &device, 0x008, 1);
-    assert_register(&rt, &device, 0x010, 0x20);
-    assert_register(&rt, &device, 0x034, 64);
-}
-
-/// A device whose driver stored these words at these registers, in order.
-fn driven(kind: DeviceKind, stores: &[(u64, u64)]) -> Transport {
+/// Plays the lines with a device at boot and RAM of which so many chains are available.
+fn plays(rt: &impl Abort, kind: DeviceKind, available: u8, lines: &[Line]) {
     let mut device = Transport::boot(kind);
+    let mut ram = ram_with(available);
+    play(rt, &mut device, &mut ram, lines);
+}
+
+/// Plays the lines. The message of a line that fails has its place, counted from 0.
+fn play(rt: &impl Abort, device: &mut Transport, ram: &mut PlainRam, lines: &[Line]) {
+    for (at, line) in lines.iter().enumerate() {
+        play_line(rt, device, ram, line, at);
+    }
+}
+
+fn play_line(rt: &impl Abort, device: &mut Transport, ram: &mut PlainRam, line: &Line, at: usize) {
+    assert!(rt; does(device, ram, line), "line {at}");
+}
+
+/// Does what a line says, or compares. Says whether it is as the line says.
+fn does(device: &mut Transport, ram: &mut PlainRam, line: &Line) -> bool {
+    match *line {
+        Line::Stores(stores) => store_all(device, stores),
+        Line::Store(offset, value, action) => device.store(offset, 4, value) == Some(action),
+        Line::StoreOf(offset, width, value, action) => {
+            device.store(offset, width, value) == action
+        }
+        Line::SignalUsed => signal_used(device),
+        Line::NeedReset => need_reset(device),
+        Line::Serves(chains) => serves(device, ram, chains),
+        Line::PutUsed => put_one(device, ram),
+        _ => has(device, ram, line),
+    }
+}
+
+fn store_all(device: &mut Transport, stores: &[(u64, u64)]) -> bool {
     for (offset, value) in stores {
         let _ = device.store(*offset, 4, *value);
     }
-    device
+    true
 }
 
-#[test]
-fn features_without_version_1_are_refused(rt: HostRuntime) {
-    let device = driven(
-        DeviceKind::Network,
-        &[(0x070, 3), (0x020, 0x20), (0x070, 11)],
-    );
-    assert_register(&rt, &device, 0x070, 3);
-    let device = driven(
-        DeviceKind::Network,
-        &[
-            (0x070, 3),
-            (0x020, 0x20),
-            (0x024, 1),
-            (0x020, 1),
-            (0x070, 11),
-        ],
-    );
-    assert_register(&rt, &device, 0x070, 11);
-    assert_eq!(rt; device.state().driver_features, 0x1_0000_0020);
-}
-
-/// A driver's whole start: features, the transmit queue of 8 at 0x80001000, DRIVER_OK.
-const START: [(u64, u64); 9] = [
-    (0x070, 3),
-    (0x024, 1),
-    (0x020, 1),
-    (0x070, 11),
-    (0x030, 1),
-    (0x038, 8),
-    (0x080, 0x8000_1000),
-    (0x044, 1),
-    (0x070, 15),
-];
-
-#[test]
-fn a_started_queue_is_served(rt: HostRuntime) {
-    let mut device = driven(DeviceKind::Network, &START);
-    assert_eq!(rt; (device.can_serve(1), device.can_serve(0)), (true, false));
-    assert_eq!(rt; device.queue_in_service(1), Some(device.queue(1)));
-    let queue = device.queue(1);
-    assert_eq!(rt; (queue.num, queue.desc), (8, 0x8000_1000));
-    assert_action(&rt, &mut device, 0x050, 1, Action::Notify(1));
-    assert_action(&rt, &mut device, 0x050, 2, Action::None);
-}
-
-/// A device whose driver was told of a used chain, and which then met a malformation.
-fn broken() -> Transport {
-    let mut device = driven(DeviceKind::Network, &START);
+fn signal_used(device: &mut Transport) -> bool {
     device.put_counters(1, 1, 1);
     device.signal_used();
+    true
+}
+
+fn need_reset(device: &mut Transport) -> bool {
     device.need_reset();
-    device
+    true
 }
 
-#[test]
-fn a_used_chain_is_signalled(rt: HostRuntime) {
-    let mut device = driven(DeviceKind::Network, &START);
-    device.put_counters(1, 1, 1);
-    device.signal_used();
-    assert_register(&rt, &device, 0x060, 1);
+fn serves(device: &mut Transport, ram: &mut PlainRam, chains: u32) -> bool {
+    let mut counter = Counter { chains: 0 };
+    device.serve(0, ram, &mut counter);
+    counter.chains == chains
 }
 
-#[test]
-fn a_broken_device_waits_for_its_reset(rt: HostRuntime) {
-    let mut device = broken();
-    assert_register(&rt, &device, 0x060, 3);
-    assert_register(&rt, &device, 0x070, 0x4f);
-    assert!(rt; !device.can_serve(1));
-    assert_action(&rt, &mut device, 0x064, 1, Action::None);
-    assert_register(&rt, &device, 0x060, 2);
-    assert_action(&rt, &mut device, 0x070, 0, Action::Reset);
-    assert!(rt; device == Transport::boot(DeviceKind::Network));
+fn put_one(device: &mut Transport, ram: &mut PlainRam) -> bool {
+    let Some(queue) = device.queue_in_service(0) else {
+        return true;
+    };
+    if queue.available(ram).is_ok() {
+        device.put_used(0, ram, 1, 3);
+    }
+    true
 }
 
-#[test]
-fn a_queue_without_a_size_is_never_ready(rt: HostRuntime) {
-    let device = driven(DeviceKind::Network, &[(0x038, 3), (0x044, 1)]);
-    assert_register(&rt, &device, 0x044, 0);
-}
-
-#[test]
-fn the_configuration_space_is_bytes(rt: HostRuntime) {
-    let network = Transport::boot(DeviceKind::Network);
-    assert_load(&rt, &network, 0x100, 1, Some(2));
-    assert_load(&rt, &network, 0x105, 1, Some(1));
-    assert_load(&rt, &network, 0x106, 1, Some(0));
-    assert_load(&rt, &network, 0x104, 2, Some(0x0100));
-    assert_load(&rt, &network, 0x100, 4, Some(2));
-    assert_load(&rt, &network, 0xff8, 8, Some(0));
-    let block = Transport::boot(DeviceKind::Block {
-        capacity: 0x1_0000_0008,
-    });
-    assert_load(&rt, &block, 0x100, 8, Some(0x1_0000_0008));
-    assert_load(&rt, &block, 0x104, 4, Some(1));
-    assert_load(&rt, &block, 0x108, 8, Some(0));
-}
-
-#[test]
-fn other_widths_are_access_faults(rt: HostRuntime) {
-    let mut device = Transport::boot(DeviceKind::Block { capacity: 8 });
-    assert_load(&rt, &device, 0x0fc, 8, None);
-    assert_load(&rt, &device, 0x000, 1, None);
-    assert_load(&rt, &device, 0x100, 3, None);
-    assert_eq!(rt; device.store(0x070, 2, 1), None);
-    assert_eq!(rt; device.store(0x100, 8, 1), Some(Action::None));
-    assert_register(&rt, &device, 0x034, 64);
-    assert_action(&rt, &mut device, 0x030, 1, Action::None);
-    assert_register(&rt, &device, 0x034, 0);
+/// Says whether device and RAM have what a line says.
+fn has(device: &Transport, ram: &PlainRam, line: &Line) -> bool {
+    match *line {
+        Line::Register(offset, value) => device.load(offset, 4) == Some(value),
+        Line::Load(offset, width, value) => device.load(offset, width) == value,
+        Line::DriverFeatures(features) => device.state().driver_features == features,
+        Line::CanServe(queue, can) => device.can_serve(queue) == can,
+        Line::InService(queue) => is_in_service(device, queue),
+        Line::Queue(queue, num, desc) => has_queue(device, queue, num, desc),
+        Line::Available(queue, count) => device.queue(queue).next_available == count,
+        Line::Used(queue, count) => device.queue(queue).next_used == count,
+        Line::Boot => *device == Transport::boot(DeviceKind::Network),
+        Line::UsedRing(bytes) => has_used_ring(ram, bytes),
+        _ => false,
+    }
 }
 
 /// A device that counts readable chains, and says that it wrote 5 bytes.
@@ -189,86 +159,215 @@ fn ram_with(available: u8) -> PlainRam {
     ram
 }
 
-/// A running block device with that queue.
-fn served_device() -> Transport {
-    driven(
-        DeviceKind::Block { capacity: 8 },
-        &[
-            (0x070, 3),
-            (0x024, 1),
-            (0x020, 1),
-            (0x070, 11),
-            (0x038, 2),
-            (0x080, 0x8000_0000),
-            (0x090, 0x8000_0040),
-            (0x0a0, 0x8000_0080),
-            (0x044, 1),
-            (0x070, 15),
-        ],
-    )
+fn is_in_service(device: &Transport, number: u32) -> bool {
+    device.queue_in_service(number) == Some(device.queue(number))
 }
 
-/// Puts a chain whose first descriptor is 1 into the used ring, with 3 bytes written.
-fn put_one(device: &mut Transport, ram: &mut PlainRam) {
-    let Some(queue) = device.queue_in_service(0) else {
-        return;
+fn has_queue(device: &Transport, number: u32, num: u32, desc: u64) -> bool {
+    let queue = device.queue(number);
+    queue.num == num && queue.desc == desc
+}
+
+fn has_used_ring(ram: &PlainRam, bytes: [u8; 18]) -> bool {
+    let found = &ram.bytes[0x82..0x94];
+    found == bytes.as_slice()
+}
+
+const NAMES: [Line; 5] = [
+    Line::Register(0x000, 0x7472_6976),
+    Line::Register(0x004, 2),
+    Line::Register(0x008, 1),
+    Line::Register(0x010, 0x20),
+    Line::Register(0x034, 64),
+];
+
+#[test]
+fn the_device_names_itself(rt: HostRuntime) {
+    plays(&rt, DeviceKind::Network, 0, &NAMES);
+}
+
+const WITHOUT_VERSION_1: [Line; 2] = [
+    Line::Stores(&[(0x070, 3), (0x020, 0x20), (0x070, 11)]),
+    Line::Register(0x070, 3),
+];
+
+const WITH_VERSION_1: [Line; 3] = [
+    Line::Stores(&[
+        (0x070, 3),
+        (0x020, 0x20),
+        (0x024, 1),
+        (0x020, 1),
+        (0x070, 11),
+    ]),
+    Line::Register(0x070, 11),
+    Line::DriverFeatures(0x1_0000_0020),
+];
+
+#[test]
+fn features_without_version_1_are_refused(rt: HostRuntime) {
+    plays(&rt, DeviceKind::Network, 0, &WITHOUT_VERSION_1);
+    plays(&rt, DeviceKind::Network, 0, &WITH_VERSION_1);
+}
+
+/// A driver's whole start: features, the transmit queue of 8 at 0x80001000, DRIVER_OK.
+const START: [(u64, u64); 9] = [
+    (0x070, 3),
+    (0x024, 1),
+    (0x020, 1),
+    (0x070, 11),
+    (0x030, 1),
+    (0x038, 8),
+    (0x080, 0x8000_1000),
+    (0x044, 1),
+    (0x070, 15),
+];
+
+const STARTED: [Line; 7] = [
+    Line::Stores(&START),
+    Line::CanServe(1, true),
+    Line::CanServe(0, false),
+    Line::InService(1),
+    Line::Queue(1, 8, 0x8000_1000),
+    Line::Store(0x050, 1, Action::Notify(1)),
+    Line::Store(0x050, 2, Action::None),
+];
+
+#[test]
+fn a_started_queue_is_served(rt: HostRuntime) {
+    plays(&rt, DeviceKind::Network, 0, &STARTED);
+}
+
+const SIGNALLED: [Line; 3] = [
+    Line::Stores(&START),
+    Line::SignalUsed,
+    Line::Register(0x060, 1),
+];
+
+#[test]
+fn a_used_chain_is_signalled(rt: HostRuntime) {
+    plays(&rt, DeviceKind::Network, 0, &SIGNALLED);
+}
+
+/// A device whose driver was told of a used chain, and which then met a malformation.
+const BROKEN: [Line; 10] = [
+    Line::Stores(&START),
+    Line::SignalUsed,
+    Line::NeedReset,
+    Line::Register(0x060, 3),
+    Line::Register(0x070, 0x4f),
+    Line::CanServe(1, false),
+    Line::Store(0x064, 1, Action::None),
+    Line::Register(0x060, 2),
+    Line::Store(0x070, 0, Action::Reset),
+    Line::Boot,
+];
+
+#[test]
+fn a_broken_device_waits_for_its_reset(rt: HostRuntime) {
+    plays(&rt, DeviceKind::Network, 0, &BROKEN);
+}
+
+const WITHOUT_SIZE: [Line; 2] = [
+    Line::Stores(&[(0x038, 3), (0x044, 1)]),
+    Line::Register(0x044, 0),
+];
+
+#[test]
+fn a_queue_without_a_size_is_never_ready(rt: HostRuntime) {
+    plays(&rt, DeviceKind::Network, 0, &WITHOUT_SIZE);
+}
+
+const NETWORK_SPACE: [Line; 6] = [
+    Line::Load(0x100, 1, Some(2)),
+    Line::Load(0x105, 1, Some(1)),
+    Line::Load(0x106, 1, Some(0)),
+    Line::Load(0x104, 2, Some(0x0100)),
+    Line::Load(0x100, 4, Some(2)),
+    Line::Load(0xff8, 8, Some(0)),
+];
+
+const BLOCK_SPACE: [Line; 3] = [
+    Line::Load(0x100, 8, Some(0x1_0000_0008)),
+    Line::Load(0x104, 4, Some(1)),
+    Line::Load(0x108, 8, Some(0)),
+];
+
+#[test]
+fn the_configuration_space_is_bytes(rt: HostRuntime) {
+    plays(&rt, DeviceKind::Network, 0, &NETWORK_SPACE);
+    let block = DeviceKind::Block {
+        capacity: 0x1_0000_0008,
     };
-    if queue.available(ram).is_ok() {
-        device.put_used(0, ram, 1, 3);
-    }
+    plays(&rt, block, 0, &BLOCK_SPACE);
 }
 
-/// What the used ring has in its idx and its two entries.
-fn assert_used_ring(rt: &impl Abort, ram: &PlainRam, bytes: [u8; 18]) {
-    assert_eq!(rt; &ram.bytes[0x82..0x94], bytes.as_slice());
+const OTHER_WIDTHS: [Line; 8] = [
+    Line::Load(0x0fc, 8, None),
+    Line::Load(0x000, 1, None),
+    Line::Load(0x100, 3, None),
+    Line::StoreOf(0x070, 2, 1, None),
+    Line::StoreOf(0x100, 8, 1, Some(Action::None)),
+    Line::Register(0x034, 64),
+    Line::Store(0x030, 1, Action::None),
+    Line::Register(0x034, 0),
+];
+
+#[test]
+fn other_widths_are_access_faults(rt: HostRuntime) {
+    plays(&rt, DeviceKind::Block { capacity: 8 }, 0, &OTHER_WIDTHS);
 }
 
-/// Has the device serve its queue. So many chains were handled.
-fn assert_serves(rt: &impl Abort, device: &mut Transport, ram: &mut PlainRam, chains: u32) {
-    let mut counter = Counter { chains: 0 };
-    device.serve(0, ram, &mut counter);
-    assert_eq!(rt; counter.chains, chains);
-}
+/// A driver's whole start with the queue in RAM.
+const START_IN_RAM: [(u64, u64); 10] = [
+    (0x070, 3),
+    (0x024, 1),
+    (0x020, 1),
+    (0x070, 11),
+    (0x038, 2),
+    (0x080, 0x8000_0000),
+    (0x090, 0x8000_0040),
+    (0x0a0, 0x8000_0080),
+    (0x044, 1),
+    (0x070, 15),
+];
+
+const SERVED: [Line; 5] = [
+    Line::Stores(&START_IN_RAM),
+    Line::Serves(1),
+    Line::UsedRing([1, 0, 0, 0, 0, 0, 5, 0, 0, 0, 0, 0, 0, 0, 0, 0, 0, 0]),
+    Line::Register(0x060, 1),
+    Line::Available(0, 1),
+];
 
 #[test]
 fn a_chain_is_served(rt: HostRuntime) {
-    let mut device = served_device();
-    let mut ram = ram_with(1);
-    assert_serves(&rt, &mut device, &mut ram, 1);
-    assert_used_ring(
-        &rt,
-        &ram,
-        [1, 0, 0, 0, 0, 0, 5, 0, 0, 0, 0, 0, 0, 0, 0, 0, 0, 0],
-    );
-    assert_register(&rt, &device, 0x060, 1);
-    assert_eq!(rt; device.queue(0).next_available, 1);
+    plays(&rt, DeviceKind::Block { capacity: 8 }, 1, &SERVED);
 }
+
+const MALFORMED: [Line; 7] = [
+    Line::Stores(&START_IN_RAM),
+    Line::Serves(1),
+    Line::UsedRing([1, 0, 0, 0, 0, 0, 5, 0, 0, 0, 0, 0, 0, 0, 0, 0, 0, 0]),
+    Line::Register(0x060, 3),
+    Line::Register(0x070, 0x4f),
+    // a broken device's queue isn't in service
+    Line::PutUsed,
+    Line::Used(0, 1),
+];
 
 #[test]
 fn a_malformed_chain_ends_the_serving(rt: HostRuntime) {
-    let mut device = served_device();
-    let mut ram = ram_with(2);
-    assert_serves(&rt, &mut device, &mut ram, 1);
-    assert_used_ring(
-        &rt,
-        &ram,
-        [1, 0, 0, 0, 0, 0, 5, 0, 0, 0, 0, 0, 0, 0, 0, 0, 0, 0],
-    );
-    assert_register(&rt, &device, 0x060, 3);
-    assert_register(&rt, &device, 0x070, 0x4f);
-    put_one(&mut device, &mut ram);
-    assert_eq!(rt; device.queue(0).next_used, 1);
+    plays(&rt, DeviceKind::Block { capacity: 8 }, 2, &MALFORMED);
 }
+
+const TOLD: [Line; 4] = [
+    Line::Stores(&START_IN_RAM),
+    Line::PutUsed,
+    Line::UsedRing([1, 0, 1, 0, 0, 0, 3, 0, 0, 0, 0, 0, 0, 0, 0, 0, 0, 0]),
+    Line::Register(0x060, 1),
+];
 
 #[test]
 fn a_used_chain_is_told(rt: HostRuntime) {
-    let mut device = served_device();
-    let mut ram = ram_with(2);
-    put_one(&mut device, &mut ram);
-    assert_used_ring(
-        &rt,
-        &ram,
-        [1, 0, 1, 0, 0, 0, 3, 0, 0, 0, 0, 0, 0, 0, 0, 0, 0, 0],
-    );
-    assert_register(&rt, &device, 0x060, 1);
+    plays(&rt, DeviceKind::Block { capacity: 8 }, 2, &TOLD);
 }

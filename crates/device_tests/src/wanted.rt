@@ -13,16 +13,16 @@ fn what_can_be_had_is_given(rt: HostRuntime) -> Result<(), Fail> {
     push(&mut list, 7)?;
     extend_from_slice(&mut list, &[8, 9])?;
     resize(&mut list, 5, 1)?;
-    assert_eq!(rt; list.as_slice(), [7, 8, 9, 1, 1].as_slice());
+    assert!(rt; list.as_slice() == [7, 8, 9, 1, 1].as_slice());
     Ok(())
 }
 
 #[test]
 fn so_are_a_copy_a_box_and_a_ring(rt: HostRuntime) -> Result<(), Fail> {
     let copy = from_slice(rt.alloc(), &[7u64, 8])?;
-    assert_eq!(rt; copy.as_slice(), [7, 8].as_slice());
+    assert!(rt; copy.as_slice() == [7, 8].as_slice());
     let own = boxed(rt.alloc(), 6u64)?;
-    assert_eq!(rt; *own, 6);
+    assert!(rt; *own == 6);
     let mut ring: HeapCircularBuffer<u64> = ring(rt.alloc(), 1)?;
     assert!(rt; ring.try_push_back(3).is_ok());
     assert!(rt; ring.try_push_back(4).is_err());
@@ -36,6 +36,6 @@ fn what_no_machine_has_is_refused(rt: HostRuntime) -> Result<(), Fail> {
     let mut list: Vec<u64> = Vec::new(rt.alloc());
     assert!(rt; reserve(&mut list, usize::MAX).is_err());
     assert!(rt; resize(&mut list, usize::MAX, 0).is_err());
-    assert_eq!(rt; list.len(), 0);
+    assert!(rt; list.len() == 0);
     Ok(())
 }

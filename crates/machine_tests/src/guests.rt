@@ -1,6 +1,5 @@
 //! Whole runs of small guests, with the values that the rules give.
 
-mod asserts;
 mod disk;
 mod disk_interrupts;
 mod hostile;
@@ -11,16 +10,16 @@ mod loads;
 mod network;
 mod paces;
 mod ping;
+mod play;
 mod program_words;
 mod programs;
 mod refusals;
 mod traps;
 
-use asserts::assert_run;
 use guest_machine::{Machine, PAGE_BYTES, Shape};
-use std::alloc::{AllocError, Global};
+use play::{Guest, Part};
+use std::alloc::Global;
 use std::process::Abort;
-use std::test::Fail;
 
 /// The guest that sends one frame to client 1: it sets up queue 1 with one descriptor, notifies it in step 22, and then loops.
 const BEACON: [u32; 23] = [
@@ -41,65 +40,36 @@ const USED: usize = 0x1080;
 
 const BUFFER: usize = 0x1100;
 
-fn put(image: &mut Vec<u8>, at: usize, bytes: &[u8]) {
-    for (i, b) in bytes.iter().enumerate() {
-        if at < image.len() && i < image.len() - at {
-            image[at + i] = *b;
-        }
-    }
-}
+/// The guest whose image is the beacon's. Its machine has two pages and one sector.
+static BEACON_GUEST: Guest = Guest {
+    pages: 2,
+    sectors: 1,
+    bytes: 2 * PAGE_BYTES,
+    parts: &[
+        Part::Words(0, &BEACON),
+        Part::Bytes(DESCRIPTOR, &[0x00, 0x11, 0x00, 0x80, 0, 0, 0, 0, 26]),
+        Part::Bytes(AVAILABLE, &[0, 0, 1, 0]),
+        Part::Bytes(BUFFER + 12, &FRAME),
+    ],
+};
 
-fn put_words(image: &mut Vec<u8>, first: usize, words: &[u32]) {
-    for (i, word) in words.iter().enumerate() {
-        if i < 1024 && first < 2048 {
-            put(image, 4 * (first + i), &word.to_le_bytes());
-        }
-    }
-}
-
-/// The beacon's image.
-fn beacon(alloc: Global) -> Result<Vec<u8>, AllocError> {
-    let mut image = vec![in alloc; 0u8; 2 * PAGE_BYTES]?;
-    put_words(&mut image, 0, &BEACON);
-    put(
-        &mut image,
-        DESCRIPTOR,
-        &[0x00, 0x11, 0x00, 0x80, 0, 0, 0, 0, 26],
-    );
-    put(&mut image, AVAILABLE, &[0, 0, 1, 0]);
-    put(&mut image, BUFFER + 12, &FRAME);
-    Ok(image)
-}
-
-/// The image of some words alone.
-fn words(alloc: Global, list: &[u32]) -> Result<Vec<u8>, AllocError> {
-    let mut image = vec![in alloc; 0u8; PAGE_BYTES]?;
-    put_words(&mut image, 0, list);
-    Ok(image)
-}
-
-/// The machine of two pages and one sector with this image.
-fn boot(rt: &impl Abort, alloc: Global, image: &[u8]) -> Result<Box<Machine>, Fail> {
-    let shape = Shape {
-        pages: 2,
-        sectors: 1,
-    };
-    boot_shape(rt, alloc, shape, image)
-}
+/// The guest of a program alone: a machine as the beacon's, whose image is a page of zeros until a test puts its words there.
+static PROGRAM: Guest = Guest {
+    pages: 2,
+    sectors: 1,
+    bytes: PAGE_BYTES,
+    parts: &[],
+};
 
 /// The machine of this shape with this image, in a box: it's large, and a test that holds it by value is slow to prove.
-fn boot_shape(
-    rt: &impl Abort,
-    alloc: Global,
-    shape: Shape,
-    image: &[u8],
-) -> Result<Box<Machine>, Fail> {
+fn boot_shape(rt: &impl Abort, alloc: Global, shape: Shape, image: &[u8]) -> Box<Machine> {
     assert!(rt; image.len() <= PAGE_BYTES * shape.pages as usize);
-    let machine = Machine::boot(alloc, shape, image)?;
-    Ok(Box::new(alloc, machine)?)
+    let machine = Machine::boot(alloc, shape, image).expect(rt, "memory for the machine");
+    in_box(rt, alloc, machine)
 }
 
-/// So many steps, none of which is refused.
-fn run(rt: &impl Abort, machine: &mut Machine, steps: u64) {
-    assert_run(rt, machine, steps, steps);
+fn in_box(rt: &impl Abort, alloc: Global, machine: Machine) -> Box<Machine> {
+    Box::new(alloc, machine)
+        .ok()
+        .expect(rt, "memory for its box")
 }

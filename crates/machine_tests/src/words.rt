@@ -9,7 +9,6 @@ use rv64_core::{
     decode, encode, plan,
 };
 use std::process::Abort;
-use std::test::Fail;
 
 /// The register of a number below 32.
 fn x(number: u32) -> Register {
@@ -27,50 +26,45 @@ fn value(instr: Instr, a: u64, b: u64) -> u64 {
     }
 }
 
-fn divide(op: Division, a: u64, b: u64) -> u64 {
-    value(
-        Instr::Div {
-            op,
-            rd: x(3),
-            rs1: x(1),
-            rs2: x(2),
-        },
-        a,
-        b,
-    )
+/// A computation on x1 and x2.
+#[derive(Clone, Copy)]
+enum Computation {
+    Divide(Division),
+    DivideWord(Division),
+    Multiply(Multiplication),
+    /// x1 as a signed word, shifted right by 31 places.
+    ShiftWord,
 }
 
-fn divide_word(op: Division, a: u64, b: u64) -> u64 {
-    value(
-        Instr::DivWord {
-            op,
-            rd: x(3),
-            rs1: x(1),
-            rs2: x(2),
+/// What puts a computation into x3.
+fn into_x3(computation: Computation) -> Instr {
+    let (rd, rs1, rs2) = (x(3), x(1), x(2));
+    match computation {
+        Computation::Divide(op) => Instr::Div { op, rd, rs1, rs2 },
+        Computation::DivideWord(op) => Instr::DivWord { op, rd, rs1, rs2 },
+        Computation::Multiply(op) => Instr::Mul { op, rd, rs1, rs2 },
+        Computation::ShiftWord => Instr::OpImmWord {
+            op: WordOperation::Sra,
+            rd,
+            rs1,
+            imm: 31,
         },
-        a,
-        b,
-    )
-}
-
-fn multiply(op: Multiplication, a: u64, b: u64) -> u64 {
-    value(
-        Instr::Mul {
-            op,
-            rd: x(3),
-            rs1: x(1),
-            rs2: x(2),
-        },
-        a,
-        b,
-    )
+    }
 }
 
 /// A word that says this instruction.
 fn says(rt: &impl Abort, word: u32, instr: Instr) {
     let again = instr;
-    assert_eq!(rt; decode(word), Some(instr), "{word:x}");
-    assert_eq!(rt; encode(again), word);
+    assert_read(rt, word, instr);
+    assert_written(rt, word, again);
+}
+
+fn assert_read(rt: &impl Abort, word: u32, instr: Instr) {
+    assert!(rt; decode(word) == Some(instr), "{word:x}");
+}
+
+fn assert_written(rt: &impl Abort, word: u32, instr: Instr) {
+    assert!(rt; encode(instr) == word);
 }
 
 #[test]
@@ -137,6 +131,10 @@ fn says_of_the_system(rt: &impl Abort) {
     says(rt, 0x1050_0073, Instr::Wfi);
 }
 
+fn assert_says_nothing(rt: &impl Abort, word: u32) {
+    assert!(rt; decode(word).is_none(), "{word:x}");
+}
+
 #[test]
 fn other_words_say_nothing(rt: HostRuntime) {
     for word in [
@@ -147,7 +145,7 @@ fn other_words_say_nothing(rt: HostRuntime) {
         0x0000_7003,
         0x0000_4073,
     ] {
-        assert_eq!(rt; decode(word), None, "{word:x}");
+        assert_says_nothing(&rt, word);
     }
 }
 
@@ -156,62 +154,64 @@ const LEAST: u64 = 0x8000_0000_0000_0000;
 
 const ONES: u64 = 0xffff_ffff_ffff_ffff;
 
-fn assert_divides(rt: &impl Abort, op: Division, a: u64, b: u64, wanted: u64) {
-    assert_eq!(rt; divide(op, a, b), wanted);
-}
+/// Computations of two numbers, and what each gives.
+const CORNERS: [(Computation, u64, u64, u64); 12] = [
+    (Computation::Divide(Division::Div), LEAST, ONES, LEAST),
+    (Computation::Divide(Division::Rem), LEAST, ONES, 0),
+    (Computation::Divide(Division::Div), 7, 0, ONES),
+    (Computation::Divide(Division::Rem), 7, 0, 7),
+    (Computation::Divide(Division::Divu), 7, 0, ONES),
+    (Computation::Divide(Division::Remu), 7, 0, 7),
+    (
+        Computation::DivideWord(Division::Remu),
+        0xffff_ffff,
+        0,
+        ONES,
+    ),
+    (
+        Computation::DivideWord(Division::Div),
+        0x8000_0000,
+        ONES,
+        0xffff_ffff_8000_0000,
+    ),
+    (Computation::DivideWord(Division::Rem), 0x8000_0000, ONES, 0),
+    (
+        Computation::Multiply(Multiplication::Mulhsu),
+        ONES,
+        ONES,
+        ONES,
+    ),
+    (
+        Computation::Multiply(Multiplication::Mulh),
+        LEAST,
+        LEAST,
+        0x4000_0000_0000_0000,
+    ),
+    (Computation::ShiftWord, 0x8000_0000, 0, ONES),
+];
 
-fn assert_divides_words(rt: &impl Abort, op: Division, a: u64, b: u64, wanted: u64) {
-    assert_eq!(rt; divide_word(op, a, b), wanted);
-}
-
-fn assert_multiplies(rt: &impl Abort, op: Multiplication, a: u64, b: u64, wanted: u64) {
-    assert_eq!(rt; multiply(op, a, b), wanted);
-}
-
-fn assert_shifts_a_word(rt: &impl Abort, a: u64, wanted: u64) {
-    let shift = Instr::OpImmWord {
-        op: WordOperation::Sra,
-        rd: x(3),
-        rs1: x(1),
-        imm: 31,
-    };
-    assert_eq!(rt; value(shift, a, 0), wanted);
+fn assert_value(rt: &impl Abort, instr: Instr, a: u64, b: u64, wanted: u64) {
+    assert!(rt; value(instr, a, b) == wanted);
 }
 
 #[test]
 fn arithmetic_at_its_corners(rt: HostRuntime) {
-    assert_divides(&rt, Division::Div, LEAST, ONES, LEAST);
-    assert_divides(&rt, Division::Rem, LEAST, ONES, 0);
-    assert_divides(&rt, Division::Div, 7, 0, ONES);
-    assert_divides(&rt, Division::Rem, 7, 0, 7);
-    assert_divides(&rt, Division::Divu, 7, 0, ONES);
-    assert_divides(&rt, Division::Remu, 7, 0, 7);
-    assert_divides_words(&rt, Division::Remu, 0xffff_ffff, 0, ONES);
-    assert_divides_words(&rt, Division::Div, 0x8000_0000, ONES, 0xffff_ffff_8000_0000);
-    assert_divides_words(&rt, Division::Rem, 0x8000_0000, ONES, 0);
-    assert_multiplies(&rt, Multiplication::Mulhsu, ONES, ONES, ONES);
-    assert_multiplies(
-        &rt,
-        Multiplication::Mulh,
-        LEAST,
-        LEAST,
-        0x4000_0000_0000_0000,
-    );
-    assert_shifts_a_word(&rt, 0x8000_0000, ONES);
+    for (computation, a, b, wanted) in CORNERS {
+        assert_value(&rt, into_x3(computation), a, b, wanted);
+    }
 }
 
 /// What an instruction does where x1 is 0x80000001.
 fn assert_plan(rt: &impl Abort, pc: u64, instr: Instr, wanted: Plan) {
     let mut regs = Regs::new();
     regs.set(x(1), 0x8000_0001);
-    assert_eq!(rt; plan(&regs, pc, instr), wanted);
+    assert!(rt; plan(&regs, pc, instr) == wanted);
 }
 
 /// What a word does.
-fn assert_word_plan(rt: &impl Abort, pc: u64, word: u32, wanted: Plan) -> Result<(), Fail> {
-    let instr = decode(word).ok_or("it is an instruction")?;
+fn assert_word_plan(rt: &impl Abort, pc: u64, word: u32, wanted: Plan) {
+    let instr = decode(word).expect(rt, "it is an instruction");
     assert_plan(rt, pc, instr, wanted);
-    Ok(())
 }
 
 /// A trap with this cause and value.
@@ -225,7 +225,7 @@ fn on(pc: u64, rd: Register, value: u64) -> Plan {
 }
 
 #[test]
-fn jumps_and_traps(rt: HostRuntime) -> Result<(), Fail> {
+fn jumps_and_traps(rt: HostRuntime) {
     let jalr = Instr::Jalr {
         rd: x(5),
         rs1: x(1),
@@ -233,17 +233,23 @@ fn jumps_and_traps(rt: HostRuntime) -> Result<(), Fail> {
     };
     assert_plan(&rt, 0x8000_0000, jalr, on(0x8000_0100, x(5), 0x8000_0004));
     let stays = on(0x8000_0004, Register::zero(), 0);
-    assert_word_plan(&rt, 0x8000_0000, 0x0000_1163, stays)?;
-    assert_word_plan(&rt, 0x8000_0004, 0x0000_0163, trap(0, 0x8000_0006))?;
+    assert_word_plan(&rt, 0x8000_0000, 0x0000_1163, stays);
+    assert_word_plan(&rt, 0x8000_0004, 0x0000_0163, trap(0, 0x8000_0006));
     assert_plan(&rt, 0x8000_0000, Instr::Ecall, trap(11, 0));
     assert_plan(&rt, 0x8000_0000, Instr::Ebreak, trap(3, 0x8000_0000));
-    Ok(())
 }
 
-/// Registers, by their numbers, have these values.
-fn assert_registers(rt: &impl Abort, regs: &Regs) {
-    assert_eq!(rt; regs.get(Register::zero()), 0);
-    assert_eq!(rt; regs.get(x(31)), 6);
+/// A register by its number has this value.
+fn assert_register(rt: &impl Abort, regs: &Regs, number: u32, value: u64) {
+    assert!(rt; regs.get(x(number)) == value);
+}
+
+/// Register numbers: 31 is one, 32 isn't, and of 37 the low bits are 5.
+fn assert_numbers(rt: &impl Abort) {
+    assert!(rt; Register::new(31) == Some(x(31)));
+    assert!(rt; Register::new(32).is_none());
+    assert!(rt; x(37).number() == 5);
+    assert!(rt; Width::Half.bytes() == 2);
 }
 
 #[test]
@@ -251,9 +257,7 @@ fn registers_keep_their_values(rt: HostRuntime) {
     let mut regs = Regs::new();
     regs.set(x(0), 5);
     regs.set(x(31), 6);
-    assert_registers(&rt, &regs);
-    assert_eq!(rt; Register::new(31), Some(x(31)));
-    assert_eq!(rt; Register::new(32), None);
-    assert_eq!(rt; x(37).number(), 5);
-    assert_eq!(rt; Width::Half.bytes(), 2);
+    assert_register(&rt, &regs, 0, 0);
+    assert_register(&rt, &regs, 31, 6);
+    assert_numbers(&rt);
 }

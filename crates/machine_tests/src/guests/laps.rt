@@ -1,17 +1,16 @@
 //! Runs that count laps, and programs whose words change under the table of prepared ones. What they leave is what single steps leave,
 //! which a look for a lap doesn't count.
 
-use super::asserts::{assert_pc, assert_register, assert_steps, assert_taken};
-use super::disk::{BEHIND, DATA, DATA_FLAGS, READ, request};
-use super::network::{FROM_CLIENT, receiver};
-use super::{DESCRIPTOR, boot, boot_shape, put, put_words, run};
+use super::disk::{BEHIND, DATA, DATA_FLAGS, HEAD, READ, REQUEST};
+use super::network::RECEIVER;
+use super::play::{Guest, Line, Part, Reading, booted, play, plays, put, put_words};
+use super::{DESCRIPTOR, PROGRAM, boot_shape};
 use guest_machine::{Machine, PAGE_BYTES, SECTOR_BYTES, Shape};
 use std::alloc::{AllocError, Global};
 use std::process::Abort;
-use std::test::Fail;
 
 /// The register that the programs count in.
-const COUNTER: u8 = 12;
+const COUNTER: Reading = Reading::Register(12);
 
 /// ADDI x12, x12, 1 and ADDI x12, x12, 16.
 const ONE: u32 = 0x0016_0613;
@@ -38,13 +37,14 @@ fn lap(rt: &impl Abort, alloc: Global, length: usize) -> Result<Vec<u8>, AllocEr
     assert!(rt; 1 <= length && length <= 130);
     let mut image = vec![in alloc; 0u8; PAGE_BYTES]?;
     for i in 0..length - 1 {
-        put_words(&mut image, i, &[TURN]);
+        put(&mut image, 4 * i, &TURN.to_le_bytes());
     }
     if length % 2 == 0 {
         // ADDI x0, x0, 0
-        put_words(&mut image, 0, &[0x0000_0013]);
+        put(&mut image, 0, &[0x13, 0, 0, 0]);
     }
-    put_words(&mut image, length - 1, &[jump_back(rt, length - 1)]);
+    let jump = jump_back(rt, length - 1);
+    put(&mut image, 4 * (length - 1), &jump.to_le_bytes());
     Ok(image)
 }
 
@@ -71,11 +71,15 @@ const WAITING: [u32; 18] = [
     0x30200073, // MRET
 ];
 
-/// The machine of an image, at this count of steps.
-fn boot_at(rt: &impl Abort, alloc: Global, image: &[u8], count: u64) -> Result<Box<Machine>, Fail> {
-    let mut machine = boot(rt, alloc, image)?;
+/// The machine of two pages with this image, at this count of steps.
+fn boot_at(rt: &impl Abort, alloc: Global, image: &[u8], count: u64) -> Box<Machine> {
+    let shape = Shape {
+        pages: 2,
+        sectors: 1,
+    };
+    let mut machine = boot_shape(rt, alloc, shape, image);
     put_count(&mut machine, count);
-    Ok(machine)
+    machine
 }
 
 /// Sets the count of steps.
@@ -87,14 +91,21 @@ fn put_count(machine: &mut Machine, count: u64) {
 
 /// Two machines of two pages are the same guest.
 fn assert_same(rt: &impl Abort, one: &Machine, other: &Machine) {
-    assert_eq!(rt; one.state(), other.state());
+    assert!(rt; one.state() == other.state());
     assert_same_page(rt, one, other, 0);
     assert_same_page(rt, one, other, 1);
 }
 
 fn assert_same_page(rt: &impl Abort, one: &Machine, other: &Machine, page: u32) {
-    assert!(rt; page < 2 && one.ram_size() >= 8192 && other.ram_size() >= 8192);
-    assert!(rt; one.page(page) == other.page(page), "page {page}");
+    assert!(rt; page < 2);
+    assert!(rt; one.ram_size() >= 8192);
+    assert!(rt; other.ram_size() >= 8192);
+    assert!(rt; one.page(page) == other.page(page));
+}
+
+/// So many steps, none of which is refused.
+fn run(rt: &impl Abort, machine: &mut Machine, steps: u64) {
+    assert!(rt; machine.run(steps) == steps);
 }
 
 /// Steps one by one.
@@ -104,53 +115,64 @@ fn run_singly(rt: &impl Abort, machine: &mut Machine, steps: u64) {
     }
 }
 
-/// Each number of steps from the first to below the last, made in one run from this count on, leads where so many single steps do.
-fn assert_runs(
+/// So many steps, made in one run from this count on, lead where single steps led.
+fn assert_run(
     rt: &impl Abort,
     alloc: Global,
     image: &[u8],
     count: u64,
-    first: u64,
-    last: u64,
-) -> Result<(), Fail> {
-    let mut singly = boot_at(rt, alloc, image, count)?;
+    steps: u64,
+    singly: &Machine,
+) {
+    let mut whole = boot_at(rt, alloc, image, count);
+    run(rt, &mut whole, steps);
+    assert_same(rt, singly, &whole);
+}
+
+/// Each number of steps from the first to below the last, made in one run from this count on, leads where so many single steps do.
+fn assert_runs(rt: &impl Abort, alloc: Global, image: &[u8], count: u64, first: u64, last: u64) {
+    let mut singly = boot_at(rt, alloc, image, count);
     run_singly(rt, &mut singly, first);
     for steps in first..last {
-        let mut whole = boot_at(rt, alloc, image, count)?;
-        run(rt, &mut whole, steps);
-        assert_same(rt, &singly, &whole);
+        assert_run(rt, alloc, image, count, steps, &singly);
         run(rt, &mut singly, 1);
     }
-    Ok(())
 }
 
 #[test]
-fn laps_of_each_length_end_where_single_steps_do(rt: HostRuntime) -> Result<(), Fail> {
+fn laps_of_each_length_end_where_single_steps_do(rt: HostRuntime) {
     for length in 1..131 {
-        let image = lap(&rt, rt.alloc(), length)?;
-        assert_runs(&rt, rt.alloc(), &image, 0, 0, 301)?;
+        let image = lap(&rt, rt.alloc(), length).expect(&rt, "memory for the image");
+        assert_runs(&rt, rt.alloc(), &image, 0, 0, 301);
     }
-    Ok(())
 }
 
-#[test]
-fn laps_that_push_and_wait_end_where_single_steps_do(rt: HostRuntime) -> Result<(), Fail> {
-    let mut image = vec![in rt.alloc(); 0u8; PAGE_BYTES]?;
+/// The image of the lap that waits.
+fn waiting(alloc: Global) -> Result<Vec<u8>, AllocError> {
+    let mut image = vec![in alloc; 0u8; PAGE_BYTES]?;
     put_words(&mut image, 0, &WAITING);
-    // round the first look that finds the lap, and round the step at which the count is mtimecmp, 2^64 - 1, and then wraps
-    assert_runs(&rt, rt.alloc(), &image, u64::MAX - 900, 500, 560)?;
-    assert_runs(&rt, rt.alloc(), &image, u64::MAX - 900, 880, 930)
+    Ok(image)
 }
 
 #[test]
-fn the_count_of_a_guest_that_waits_wraps(rt: HostRuntime) -> Result<(), Fail> {
-    let mut image = vec![in rt.alloc(); 0u8; PAGE_BYTES]?;
-    put_words(&mut image, 0, &[STAY]);
-    let mut machine = boot_at(&rt, rt.alloc(), &image, u64::MAX - 100)?;
-    run(&rt, &mut machine, 1 << 40);
-    assert_steps(&rt, &machine, (1 << 40) - 101);
-    assert_pc(&rt, &machine, 0x8000_0000);
-    Ok(())
+fn laps_that_push_and_wait_end_where_single_steps_do(rt: HostRuntime) {
+    let image = waiting(rt.alloc()).expect(&rt, "memory for the image");
+    // round the first look that finds the lap, and round the step at which the count is mtimecmp, 2^64 - 1, and then wraps
+    assert_runs(&rt, rt.alloc(), &image, u64::MAX - 900, 500, 560);
+    assert_runs(&rt, rt.alloc(), &image, u64::MAX - 900, 880, 930);
+}
+
+static WRAPS: [Line; 3] = [
+    Line::Run(1 << 40),
+    Line::Is(Reading::Steps, (1 << 40) - 101),
+    Line::Is(Reading::Pc, 0x8000_0000),
+];
+
+#[test]
+fn the_count_of_a_guest_that_waits_wraps(rt: HostRuntime) {
+    let mut machine = booted(&rt, rt.alloc(), &PROGRAM, &[Part::Word(0, STAY)]);
+    put_count(&mut machine, u64::MAX - 100);
+    play(&rt, &mut machine, &WRAPS);
 }
 
 /// Writes the word behind its store: what stood there, and then ADDI x12, x12, 16 in its place.
@@ -164,105 +186,112 @@ const WRITES_THE_NEXT: [u32; 7] = [
     SIXTEEN,
 ];
 
-/// This program from a place on, to which the first word jumps.
-fn writes_the_next(rt: &impl Abort, alloc: Global, jump: u32, word: usize) -> Result<(), Fail> {
-    let mut image = vec![in alloc; 0u8; 2 * PAGE_BYTES]?;
-    put_words(&mut image, 0, &[jump]);
-    put_words(&mut image, word, &WRITES_THE_NEXT);
-    let mut machine = boot(rt, alloc, &image)?;
-    run(rt, &mut machine, 3 + 4 * 10);
-    assert_register(rt, &machine, COUNTER, 1 + 9 * 16);
-    Ok(())
-}
+/// This program, to which the first word jumps: JAL x0, 4; and JAL x0, 0xff4, to where the store is the last word of its page.
+const NEXT_WORDS: [&[Part]; 2] = [
+    &[Part::Word(0, 0x0040_006f), Part::Words(4, &WRITES_THE_NEXT)],
+    &[
+        Part::Word(0, 0x7f50_006f),
+        Part::Words(4 * 1021, &WRITES_THE_NEXT),
+    ],
+];
+
+/// A guest whose image has two pages, of zeros until a test puts its words there.
+static TWO_PAGES: Guest = Guest {
+    pages: 2,
+    sectors: 1,
+    bytes: 2 * PAGE_BYTES,
+    parts: &[],
+};
+
+static COUNTED: [Line; 2] = [Line::Run(3 + 4 * 10), Line::Is(COUNTER, 1 + 9 * 16)];
 
 #[test]
-fn a_guest_writes_its_next_instruction(rt: HostRuntime) -> Result<(), Fail> {
-    // JAL x0, 4; and JAL x0, 0xff4, from where the store is the last word of its page
-    writes_the_next(&rt, rt.alloc(), 0x0040_006f, 1)?;
-    writes_the_next(&rt, rt.alloc(), 0x7f50_006f, 1021)
-}
-
-#[test]
-fn two_addresses_of_one_place_have_their_own_words(rt: HostRuntime) -> Result<(), Fail> {
-    // the table has 16,384 places, so words 64 KiB apart share one
-    let mut image = vec![in rt.alloc(); 0u8; 17 * PAGE_BYTES]?;
-    put_words(&mut image, 0, &[ONE, 0x7fd0_f06f]);
-    put(&mut image, 0x1_0000, &SIXTEEN.to_le_bytes());
-    put(&mut image, 0x1_0004, &0xffde_f06f_u32.to_le_bytes());
-    let shape = Shape {
-        pages: 17,
-        sectors: 1,
-    };
-    let mut machine = boot_shape(&rt, rt.alloc(), shape, &image)?;
-    run(&rt, &mut machine, 4000);
-    assert_register(&rt, &machine, COUNTER, 17_000);
-    Ok(())
-}
-
-/// Has the guest go on at this place of memory.
-fn put_place(rt: &impl Abort, machine: &mut Machine, place: u64) {
-    assert!(rt; place < 0x2000 && place % 4 == 0);
-    let mut state = machine.state();
-    state.pc = 0x8000_0000 + place;
-    machine.put_state(&state);
-}
-
-/// Puts words at the front of a sector.
-fn put_code(rt: &impl Abort, machine: &mut Machine, sector: u32, code: &[u8]) {
-    let mut bytes = [0; SECTOR_BYTES];
-    assert!(rt; code.len() <= 8);
-    for (i, byte) in code.iter().enumerate() {
-        if i < SECTOR_BYTES {
-            bytes[i] = *byte;
-        }
+fn a_guest_writes_its_next_instruction(rt: HostRuntime) {
+    for program in NEXT_WORDS {
+        plays(&rt, rt.alloc(), &TWO_PAGES, program, &COUNTED);
     }
-    assert!(rt; sector < machine.sectors());
-    machine.put_sector(sector, &bytes);
+}
+
+/// The table has 16,384 places, so words 64 KiB apart share one.
+static SEVENTEEN_PAGES: Guest = Guest {
+    pages: 17,
+    sectors: 1,
+    bytes: 17 * PAGE_BYTES,
+    parts: &[
+        Part::Words(0, &[ONE, 0x7fd0_f06f]),
+        Part::Words(0x1_0000, &[SIXTEEN, 0xffde_f06f]),
+    ],
+};
+
+static COUNTED_FAR: [Line; 2] = [Line::Run(4000), Line::Is(COUNTER, 17_000)];
+
+#[test]
+fn two_addresses_of_one_place_have_their_own_words(rt: HostRuntime) {
+    plays(&rt, rt.alloc(), &SEVENTEEN_PAGES, &[], &COUNTED_FAR);
+}
+
+/// Has the guest go on at 0x80001200.
+fn go_to_data(machine: &mut Machine) {
+    let mut state = machine.state();
+    state.pc = 0x8000_1200;
+    machine.put_state(&state);
 }
 
 /// ADDI x12, x12, 16 and JAL x0, 0.
 const CODE: [u8; 8] = [0x13, 0x06, 0x06, 0x01, 0x6f, 0, 0, 0];
 
-#[test]
-fn code_arrives_by_the_disk(rt: HostRuntime) -> Result<(), Fail> {
-    // it reads a sector over ADDI x12, x12, 1 and a jump to its first word, where it began, and jumps there again
-    let mut image = request(rt.alloc(), READ, 7, 0)?;
-    put(&mut image, DATA_FLAGS, &[3]);
-    put_words(&mut image, DATA / 4, &[ONE, 0xdfdf_e06f]);
-    put_words(&mut image, BEHIND, &[0x1a40_106f]);
-    let shape = Shape {
-        pages: 2,
-        sectors: 8,
-    };
-    let mut machine = boot_shape(&rt, rt.alloc(), shape, &image)?;
-    put_code(&rt, &mut machine, 7, &CODE);
-    put_place(&rt, &mut machine, 0x1200);
-    run(&rt, &mut machine, 1000);
-    assert_register(&rt, &machine, COUNTER, 17);
-    assert_pc(&rt, &machine, 0x8000_1204);
-    Ok(())
+/// Puts these words at the front of sector 7.
+fn put_code(rt: &impl Abort, machine: &mut Machine) {
+    let mut bytes = [0; SECTOR_BYTES];
+    put(&mut bytes, 0, &CODE);
+    assert!(rt; 7 < machine.sectors());
+    machine.put_sector(7, &bytes);
 }
 
+/// The guest reads a sector over ADDI x12, x12, 1 and a jump to its first word, where it began, and jumps there again.
+static READS_CODE: [Part; 5] = [
+    Part::Word(HEAD, READ),
+    Part::Bytes(DATA_FLAGS, &[3]),
+    Part::Sector(DATA, 0),
+    Part::Words(DATA, &[ONE, 0xdfdf_e06f]),
+    Part::Words(BEHIND, &[0x1a40_106f]),
+];
+
+static CODE_READ: [Line; 3] = [
+    Line::Run(1000),
+    Line::Is(COUNTER, 17),
+    Line::Is(Reading::Pc, 0x8000_1204),
+];
+
 #[test]
-fn code_arrives_by_a_frame(rt: HostRuntime) -> Result<(), Fail> {
-    // it waits in laps at the word that the frame's first word behind its type overwrites
-    let mut image = receiver(rt.alloc(), 34)?;
-    put(&mut image, DESCRIPTOR, &[0x06]);
-    put_words(&mut image, 23, &[0x0c40_106f]);
-    put_words(&mut image, 0x1120 / 4, &[STAY]);
-    let mut machine = boot(&rt, rt.alloc(), &image)?;
-    run(&rt, &mut machine, 1000);
-    assert_pc(&rt, &machine, 0x8000_1120);
-    let mut frame = [0; 22];
-    for i in 0..14 {
-        frame[i] = FROM_CLIENT[i];
-    }
-    for i in 0..8 {
-        frame[14 + i] = CODE[i];
-    }
-    assert_taken(&rt, &mut machine, &frame);
-    run(&rt, &mut machine, 1000);
-    assert_register(&rt, &machine, COUNTER, 16);
-    assert_pc(&rt, &machine, 0x8000_1124);
-    Ok(())
+fn code_arrives_by_the_disk(rt: HostRuntime) {
+    let mut machine = booted(&rt, rt.alloc(), &REQUEST, &READS_CODE);
+    put_code(&rt, &mut machine);
+    go_to_data(&mut machine);
+    play(&rt, &mut machine, &CODE_READ);
+}
+
+/// The guest waits in laps at the word that the frame's first word behind its type overwrites.
+static WAITS_FOR_CODE: [Part; 4] = [
+    Part::Bytes(DESCRIPTOR + 8, &[34]),
+    Part::Bytes(DESCRIPTOR, &[0x06]),
+    Part::Words(4 * 23, &[0x0c40_106f]),
+    Part::Words(0x1120, &[STAY]),
+];
+
+/// The frame is one of client 1, as [`super::network::FROM_CLIENT`], with that code behind its type.
+static CODE_TAKEN: [Line; 6] = [
+    Line::Run(1000),
+    Line::Is(Reading::Pc, 0x8000_1120),
+    Line::Taken(&[
+        2, 0, 0, 0, 0, 1, 2, 0, 0, 0, 1, 1, 0x88, 0xb5, 0x13, 0x06, 0x06, 0x01, 0x6f, 0, 0, 0,
+    ]),
+    Line::Run(1000),
+    Line::Is(COUNTER, 16),
+    Line::Is(Reading::Pc, 0x8000_1124),
+];
+
+#[test]
+fn code_arrives_by_a_frame(rt: HostRuntime) {
+    plays(&rt, rt.alloc(), &RECEIVER, &WAITS_FOR_CODE, &CODE_TAKEN);
 }

@@ -1,162 +1,176 @@
 //! The network card: what the beacon sends, what breaks it, and frames that arrive.
 
-use super::asserts::{
-    assert_boot_card, assert_boot_disk, assert_bytes, assert_card_interrupt, assert_card_status,
-    assert_frame, assert_frames, assert_lost, assert_number, assert_pc, assert_register,
-    assert_steps, assert_taken, assert_written,
-};
-use super::{
-    AVAILABLE, BUFFER, DESCRIPTOR, FRAME, USED, beacon, boot, boot_shape, put, put_words, run,
-    words,
-};
-use guest_machine::{PAGE_BYTES, Shape};
-use std::alloc::{AllocError, Global};
-use std::process::Abort;
-use std::test::Fail;
+use super::play::{Guest, Line, Part, Reading, plays};
+use super::{AVAILABLE, BEACON, BEACON_GUEST, BUFFER, DESCRIPTOR, FRAME, PROGRAM, USED};
+use guest_machine::PAGE_BYTES;
 
-#[test]
-fn beacon_sends_one_frame_in_step_22(rt: HostRuntime) -> Result<(), Fail> {
-    let image = beacon(rt.alloc())?;
-    let mut machine = boot(&rt, rt.alloc(), &image)?;
-    run(&rt, &mut machine, 21);
-    assert_frames(&rt, &machine, 0);
-    run(&rt, &mut machine, 1);
-    assert_steps(&rt, &machine, 22);
-    assert_frame(&rt, &machine, &FRAME);
+/// The frame is sent in step 22, and the loop behind it sends nothing more.
+static SENDS: [Line; 16] = [
+    Line::Run(21),
+    Line::Is(Reading::Frames, 0),
+    Line::Run(1),
+    Line::Is(Reading::Steps, 22),
+    Line::Frame(&FRAME),
     // the used ring: flags 0, idx 1, then the descriptor's number 0 and length 0
-    assert_number(&rt, &machine, USED, 0);
-    assert_number(&rt, &machine, USED + 2, 1);
-    assert_number(&rt, &machine, USED + 4, 0);
-    assert_number(&rt, &machine, USED + 8, 0);
-    assert_card_status(&rt, &machine, 0x0f);
-    assert_card_interrupt(&rt, &machine, 1);
-    // the loop sends nothing more
-    run(&rt, &mut machine, 100);
-    assert_frames(&rt, &machine, 1);
-    assert_pc(&rt, &machine, 0x80000058);
-    machine.settle();
-    assert_frames(&rt, &machine, 0);
-    Ok(())
-}
-
-/// The beacon with some bytes changed breaks its card in step 22: Status 0x4f, InterruptStatus 2, no frame, no used entry. What
-/// the disk keeps is as at boot.
-fn breaks(rt: &impl Abort, alloc: Global, at: usize, bytes: &[u8]) -> Result<(), Fail> {
-    let mut image = beacon(alloc)?;
-    put(&mut image, at, bytes);
-    let mut machine = boot(rt, alloc, &image)?;
-    run(rt, &mut machine, 22);
-    assert_card_status(rt, &machine, 0x4f);
-    assert_card_interrupt(rt, &machine, 2);
-    assert_frames(rt, &machine, 0);
-    assert_number(rt, &machine, USED + 2, 0);
-    assert_boot_disk(rt, &machine);
-    assert_written(rt, &machine, &[]);
-    Ok(())
-}
+    Line::Is(Reading::Number(USED), 0),
+    Line::Is(Reading::Number(USED + 2), 1),
+    Line::Is(Reading::Number(USED + 4), 0),
+    Line::Is(Reading::Number(USED + 8), 0),
+    Line::Is(Reading::CardStatus, 0x0f),
+    Line::Is(Reading::CardInterrupt, 1),
+    Line::Run(100),
+    Line::Is(Reading::Frames, 1),
+    Line::Is(Reading::Pc, 0x80000058),
+    Line::Settle,
+    Line::Is(Reading::Frames, 0),
+];
 
 #[test]
-fn malformed_chains_break_the_card(rt: HostRuntime) -> Result<(), Fail> {
+fn beacon_sends_one_frame_in_step_22(rt: HostRuntime) {
+    plays(&rt, rt.alloc(), &BEACON_GUEST, &[], &SENDS);
+}
+
+/// Changes of the beacon that break its card.
+static MALFORMED: [Part; 8] = [
     // 65 available
-    breaks(&rt, rt.alloc(), AVAILABLE + 2, &[65])?;
+    Part::Bytes(AVAILABLE + 2, &[65]),
     // ring entry 1 of a queue of 1
-    breaks(&rt, rt.alloc(), AVAILABLE + 4, &[1])?;
+    Part::Bytes(AVAILABLE + 4, &[1]),
     // flags NEXT, WRITE and INDIRECT
-    breaks(&rt, rt.alloc(), DESCRIPTOR + 12, &[1])?;
-    breaks(&rt, rt.alloc(), DESCRIPTOR + 12, &[2])?;
-    breaks(&rt, rt.alloc(), DESCRIPTOR + 12, &[4])?;
+    Part::Bytes(DESCRIPTOR + 12, &[1]),
+    Part::Bytes(DESCRIPTOR + 12, &[2]),
+    Part::Bytes(DESCRIPTOR + 12, &[4]),
     // a buffer that ends one byte behind memory
-    breaks(&rt, rt.alloc(), DESCRIPTOR, &[0xe7, 0x1f])?;
+    Part::Bytes(DESCRIPTOR, &[0xe7, 0x1f]),
     // rings at addresses that aren't aligned, and outside memory: words 15 and 13
-    breaks(&rt, rt.alloc(), 4 * 14, &0x04138393_u32.to_le_bytes())?;
-    breaks(&rt, rt.alloc(), 4 * 12, &0x800023b7_u32.to_le_bytes())
-}
+    Part::Words(4 * 14, &[0x04138393]),
+    Part::Words(4 * 12, &[0x800023b7]),
+];
+
+/// The card is broken in step 22: Status 0x4f, InterruptStatus 2, no frame, no used entry. What the disk keeps is as at boot.
+static BREAKS: [Line; 7] = [
+    Line::Run(22),
+    Line::Is(Reading::CardStatus, 0x4f),
+    Line::Is(Reading::CardInterrupt, 2),
+    Line::Is(Reading::Frames, 0),
+    Line::Is(Reading::Number(USED + 2), 0),
+    Line::BootDisk,
+    Line::Written(&[]),
+];
 
 #[test]
-fn buffers_at_the_edge_are_whole(rt: HostRuntime) -> Result<(), Fail> {
-    // one that ends with memory holds 14 zero bytes of frame
-    let mut image = beacon(rt.alloc())?;
-    put(&mut image, DESCRIPTOR, &[0xe6, 0x1f]);
-    let mut machine = boot(&rt, rt.alloc(), &image)?;
-    run(&rt, &mut machine, 22);
-    assert_card_status(&rt, &machine, 0x0f);
-    assert_frame(&rt, &machine, &[0; 14]);
-    // one of no bytes lies anywhere, and its frame is lost
-    let mut image = beacon(rt.alloc())?;
-    put(&mut image, DESCRIPTOR, &[0; 12]);
-    let mut machine = boot(&rt, rt.alloc(), &image)?;
-    run(&rt, &mut machine, 22);
-    assert_card_status(&rt, &machine, 0x0f);
-    assert_card_interrupt(&rt, &machine, 1);
-    assert_frames(&rt, &machine, 0);
-    Ok(())
+fn malformed_chains_break_the_card(rt: HostRuntime) {
+    for change in &MALFORMED {
+        plays(&rt, rt.alloc(), &BEACON_GUEST, &[*change], &BREAKS);
+    }
+}
+
+/// A buffer that ends with memory holds 14 zero bytes of frame.
+static AT_THE_END: [Part; 1] = [Part::Bytes(DESCRIPTOR, &[0xe6, 0x1f])];
+
+static SENDS_ZEROS: [Line; 3] = [
+    Line::Run(22),
+    Line::Is(Reading::CardStatus, 0x0f),
+    Line::Frame(&[0; 14]),
+];
+
+/// A buffer of no bytes lies anywhere, and its frame is lost.
+static NOWHERE: [Part; 1] = [Part::Bytes(DESCRIPTOR, &[0; 12])];
+
+static SENDS_NOTHING: [Line; 4] = [
+    Line::Run(22),
+    Line::Is(Reading::CardStatus, 0x0f),
+    Line::Is(Reading::CardInterrupt, 1),
+    Line::Is(Reading::Frames, 0),
+];
+
+#[test]
+fn buffers_at_the_edge_are_whole(rt: HostRuntime) {
+    plays(&rt, rt.alloc(), &BEACON_GUEST, &AT_THE_END, &SENDS_ZEROS);
+    plays(&rt, rt.alloc(), &BEACON_GUEST, &NOWHERE, &SENDS_NOTHING);
 }
 
 /// A frame from client 1 to the guest: to 02:00:00:00:00:01, from 02:00:00:00:01:01, of type 88b5.
 pub(super) const FROM_CLIENT: [u8; 14] = [2, 0, 0, 0, 0, 1, 2, 0, 0, 0, 1, 1, 0x88, 0xb5];
 
+/// JAL x0, 0.
+static STAY: [Part; 1] = [Part::Words(0, &[0x0000006f])];
+
+static LOST: [Line; 6] = [
+    Line::Run(3),
+    Line::Lost(&FROM_CLIENT),
+    Line::BootCard,
+    Line::Is(Reading::Steps, 3),
+    Line::Is(Reading::Pc, 0x80000000),
+    Line::Is(Reading::Frames, 0),
+];
+
 #[test]
-fn a_frame_is_lost_at_a_guest_with_no_queue(rt: HostRuntime) -> Result<(), Fail> {
-    let image = words(rt.alloc(), &[0x0000006f])?;
-    let mut machine = boot(&rt, rt.alloc(), &image)?;
-    run(&rt, &mut machine, 3);
-    assert_lost(&rt, &mut machine, &FROM_CLIENT);
-    assert_boot_card(&rt, &machine);
-    assert_steps(&rt, &machine, 3);
-    assert_pc(&rt, &machine, 0x80000000);
-    assert_frames(&rt, &machine, 0);
-    Ok(())
+fn a_frame_is_lost_at_a_guest_with_no_queue(rt: HostRuntime) {
+    plays(&rt, rt.alloc(), &PROGRAM, &STAY, &LOST);
 }
 
-/// The beacon with a receive queue in the place of its transmit queue, whose one buffer the device may write: it has `len`
+/// The beacon with a receive queue in the place of its transmit queue, whose one buffer the device may write: it has 26
 /// bytes. Behind the setup the guest reads mip into x10.
-pub(super) fn receiver(alloc: Global, len: u16) -> Result<Vec<u8>, AllocError> {
-    let mut image = beacon(alloc)?;
-    // SW x0, 0x30(x5): QueueSel 0; CSRRS x10, mip, x0; JAL x0, 0
-    put_words(&mut image, 10, &[0x0202a823]);
-    put_words(&mut image, 22, &[0x34402573, 0x0000006f]);
-    put(&mut image, DESCRIPTOR + 8, &len.to_le_bytes());
-    // WRITE
-    put(&mut image, DESCRIPTOR + 12, &[2]);
-    Ok(image)
-}
+pub(super) static RECEIVER: Guest = Guest {
+    pages: 2,
+    sectors: 1,
+    bytes: 2 * PAGE_BYTES,
+    parts: &[
+        Part::Words(0, &BEACON),
+        // SW x0, 0x30(x5): QueueSel 0; CSRRS x10, mip, x0; JAL x0, 0
+        Part::Words(4 * 10, &[0x0202a823]),
+        Part::Words(4 * 22, &[0x34402573, 0x0000006f]),
+        // WRITE
+        Part::Bytes(
+            DESCRIPTOR,
+            &[0x00, 0x11, 0x00, 0x80, 0, 0, 0, 0, 26, 0, 0, 0, 2],
+        ),
+        Part::Bytes(AVAILABLE, &[0, 0, 1, 0]),
+        Part::Bytes(BUFFER + 12, &FRAME),
+    ],
+};
 
-#[test]
-fn a_frame_arrives_in_the_receive_queue(rt: HostRuntime) -> Result<(), Fail> {
-    let image = receiver(rt.alloc(), 26)?;
-    let mut machine = boot(&rt, rt.alloc(), &image)?;
-    run(&rt, &mut machine, 22);
-    assert_taken(&rt, &mut machine, &FROM_CLIENT);
+static RECEIVES: [Line; 13] = [
+    Line::Run(22),
+    Line::Taken(&FROM_CLIENT),
     // ten zero bytes, le16 1, and the frame
-    assert_bytes(&rt, &machine, BUFFER, &[0, 0, 0, 0, 0, 0, 0, 0, 0, 0, 1, 0]);
-    assert_bytes(&rt, &machine, BUFFER + 12, &FROM_CLIENT);
+    Line::Bytes(BUFFER, &[0, 0, 0, 0, 0, 0, 0, 0, 0, 0, 1, 0]),
+    Line::Bytes(BUFFER + 12, &FROM_CLIENT),
     // the used ring: flags 0, idx 1, then the descriptor's number 0 and length 26
-    assert_bytes(&rt, &machine, USED, &[0, 0, 1, 0, 0, 0, 0, 0, 26, 0, 0, 0]);
-    assert_card_status(&rt, &machine, 0x0f);
-    assert_card_interrupt(&rt, &machine, 1);
-    assert_steps(&rt, &machine, 22);
-    assert_frames(&rt, &machine, 0);
+    Line::Bytes(USED, &[0, 0, 1, 0, 0, 0, 0, 0, 26, 0, 0, 0]),
+    Line::Is(Reading::CardStatus, 0x0f),
+    Line::Is(Reading::CardInterrupt, 1),
+    Line::Is(Reading::Steps, 22),
+    Line::Is(Reading::Frames, 0),
     // the card's interrupt is pending
-    run(&rt, &mut machine, 1);
-    assert_register(&rt, &machine, 10, 0x800);
+    Line::Run(1),
+    Line::Is(Reading::Register(10), 0x800),
     // no chain is left
-    assert_lost(&rt, &mut machine, &FROM_CLIENT);
-    assert_number(&rt, &machine, USED + 2, 1);
-    Ok(())
-}
+    Line::Lost(&FROM_CLIENT),
+    Line::Is(Reading::Number(USED + 2), 1),
+];
 
 #[test]
-fn a_frame_is_lost_where_the_buffer_is_too_short(rt: HostRuntime) -> Result<(), Fail> {
-    let image = receiver(rt.alloc(), 25)?;
-    let mut machine = boot(&rt, rt.alloc(), &image)?;
-    run(&rt, &mut machine, 22);
-    assert_lost(&rt, &mut machine, &FROM_CLIENT);
-    assert_number(&rt, &machine, USED + 2, 0);
-    assert_bytes(&rt, &machine, BUFFER + 12, &FRAME);
-    assert_card_interrupt(&rt, &machine, 0);
-    run(&rt, &mut machine, 1);
-    assert_register(&rt, &machine, 10, 0);
-    Ok(())
+fn a_frame_arrives_in_the_receive_queue(rt: HostRuntime) {
+    plays(&rt, rt.alloc(), &RECEIVER, &[], &RECEIVES);
+}
+
+static TOO_SHORT: [Part; 1] = [Part::Bytes(DESCRIPTOR + 8, &[25])];
+
+static RECEIVES_NOTHING: [Line; 7] = [
+    Line::Run(22),
+    Line::Lost(&FROM_CLIENT),
+    Line::Is(Reading::Number(USED + 2), 0),
+    Line::Bytes(BUFFER + 12, &FRAME),
+    Line::Is(Reading::CardInterrupt, 0),
+    Line::Run(1),
+    Line::Is(Reading::Register(10), 0),
+];
+
+#[test]
+fn a_frame_is_lost_where_the_buffer_is_too_short(rt: HostRuntime) {
+    plays(&rt, rt.alloc(), &RECEIVER, &TOO_SHORT, &RECEIVES_NOTHING);
 }
 
 /// The guest that sends each frame back to where it came from, from 0x80000000 on (crate `guest_kit`).
@@ -186,22 +200,27 @@ const ECHO_SEND_RINGS: [u32; 24] = [
     0x00000001, 0, 0, 0, 0, 0, 0, 0,
 ];
 
+static ECHO_GUEST: Guest = Guest {
+    pages: 4,
+    sectors: 1,
+    bytes: 2 * PAGE_BYTES,
+    parts: &[
+        Part::Words(0, &ECHO),
+        Part::Words(0x1000, &ECHO_RINGS),
+        Part::Words(0x1100, &ECHO_SEND_RINGS),
+    ],
+};
+
+/// The addresses of the frame that is sent back are turned round.
+static SENDS_BACK: [Line; 5] = [
+    Line::Run(5000),
+    Line::Is(Reading::Frames, 0),
+    Line::Taken(&FROM_CLIENT),
+    Line::Run(5000),
+    Line::Frame(&FRAME),
+];
+
 #[test]
-fn the_echo_sends_a_frame_back(rt: HostRuntime) -> Result<(), Fail> {
-    let mut image = vec![in rt.alloc(); 0u8; 2 * PAGE_BYTES]?;
-    put_words(&mut image, 0, &ECHO);
-    put_words(&mut image, 0x1000 / 4, &ECHO_RINGS);
-    put_words(&mut image, 0x1100 / 4, &ECHO_SEND_RINGS);
-    let shape = Shape {
-        pages: 4,
-        sectors: 1,
-    };
-    let mut machine = boot_shape(&rt, rt.alloc(), shape, &image)?;
-    run(&rt, &mut machine, 5000);
-    assert_frames(&rt, &machine, 0);
-    assert_taken(&rt, &mut machine, &FROM_CLIENT);
-    run(&rt, &mut machine, 5000);
-    // its addresses are turned round
-    assert_frame(&rt, &machine, &FRAME);
-    Ok(())
+fn the_echo_sends_a_frame_back(rt: HostRuntime) {
+    plays(&rt, rt.alloc(), &ECHO_GUEST, &[], &SENDS_BACK);
 }

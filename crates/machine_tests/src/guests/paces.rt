@@ -1,10 +1,9 @@
 //! Runs that a pace may hold.
 
-use super::asserts::assert_steps;
-use super::boot;
+use super::PROGRAM;
+use super::play::{Part, booted};
 use guest_machine::{Machine, Pace};
 use std::process::Abort;
-use std::test::Fail;
 
 /// Holds the guest at one step.
 #[derive(Drop)]
@@ -58,18 +57,22 @@ fn assert_paced<P: Pace + Drop>(
     mut pace: P,
     made: u64,
 ) {
-    assert_eq!(rt; machine.run_paced(count, &mut pace), made);
+    assert!(rt; machine.run_paced(count, &mut pace) == made);
+}
+
+/// So many steps were made.
+fn assert_steps(rt: &impl Abort, machine: &Machine, steps: u64) {
+    assert!(rt; machine.steps() == steps);
 }
 
 #[test]
-fn a_pace_holds_the_guest(rt: HostRuntime) -> Result<(), Fail> {
+fn a_pace_holds_the_guest(rt: HostRuntime) {
     // JAL x0, 0
-    let mut machine = boot(&rt, rt.alloc(), &[0x6f, 0, 0, 0])?;
+    let mut machine = booted(&rt, rt.alloc(), &PROGRAM, &[Part::Word(0, 0x6f)]);
     assert_paced(&rt, &mut machine, 100, Until { step: 10 }, 10);
     assert_steps(&rt, &machine, 10);
     assert_paced(&rt, &mut machine, 100, Until { step: 0 }, 0);
     assert_paced(&rt, &mut machine, 5, Until { step: 10 }, 5);
     assert_paced(&rt, &mut machine, 1 << 40, Always, 1 << 40);
     assert_steps(&rt, &machine, (1 << 40) + 15);
-    Ok(())
 }

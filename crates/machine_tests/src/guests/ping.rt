@@ -1,17 +1,10 @@
 //! The guest of `guests/ping.c`, which its card's interrupts drive. The frames are those of `examples/ping.sim`, and the answers those
 //! of `examples/ping.expected`: Python's (`tools/write_examples`).
 
-use super::asserts::{
-    assert_bytes, assert_card_interrupt, assert_card_status, assert_dirty, assert_frame,
-    assert_frames, assert_original, assert_sector, assert_sectors, assert_steps, assert_taken,
-    assert_written,
-};
+use super::play::{Guest, Line, Part, Reading, booted, play, plays};
 use super::program_words::PING;
-use super::{boot_shape, run, words};
-use guest_machine::{Machine, Shape};
-use std::alloc::Global;
+use guest_machine::{Machine, PAGE_BYTES};
 use std::process::Abort;
-use std::test::Fail;
 
 /// Who has 10.0.0.1? The broadcast of 10.0.0.2, which is client 1.
 const ARP_REQUEST: [u8; 42] = [
@@ -59,60 +52,64 @@ const OTHERS_REQUEST: [u8; 58] = [
     0x6f, 0x6e, 0x65, 0x20, 0x74, 0x68, 0x65, 0x72, 0x65, 0x3f,
 ];
 
-/// The guest at boot, with a disk of two sectors.
-fn booted(rt: &impl Abort, alloc: Global) -> Result<Box<Machine>, Fail> {
-    let image = words(alloc, &PING)?;
-    let shape = Shape {
-        pages: 32,
-        sectors: 2,
-    };
-    boot_shape(rt, alloc, shape, &image)
-}
+/// The guest, with a disk of two sectors.
+static PING_GUEST: Guest = Guest {
+    pages: 32,
+    sectors: 2,
+    bytes: PAGE_BYTES,
+    parts: &[Part::Words(0, &PING)],
+};
 
-/// The outbox holds one frame, of these bytes; a cut takes it out.
-fn sent(rt: &impl Abort, machine: &mut Machine, bytes: &[u8]) {
-    assert_frame(rt, machine, bytes);
-    machine.settle();
-}
-
-#[test]
-fn answers_arp_and_pings(rt: HostRuntime) -> Result<(), Fail> {
-    let mut machine = booted(&rt, rt.alloc())?;
-    run(&rt, &mut machine, 5000);
-    assert_frames(&rt, &machine, 0);
-    assert_taken(&rt, &mut machine, &ARP_REQUEST);
-    run(&rt, &mut machine, 2000);
-    sent(&rt, &mut machine, &ARP_REPLY);
-    assert_taken(&rt, &mut machine, &ECHO_REQUEST);
-    run(&rt, &mut machine, 3000);
-    sent(&rt, &mut machine, &ECHO_REPLY);
-    assert_taken(&rt, &mut machine, &DAMAGED_REQUEST);
-    assert_taken(&rt, &mut machine, &OTHERS_REQUEST);
-    run(&rt, &mut machine, 5000);
-    assert_frames(&rt, &machine, 0);
+static ANSWERS: [Line; 16] = [
+    Line::Run(5000),
+    Line::Is(Reading::Frames, 0),
+    Line::Taken(&ARP_REQUEST),
+    Line::Run(2000),
+    Line::Frame(&ARP_REPLY),
+    Line::Settle,
+    Line::Taken(&ECHO_REQUEST),
+    Line::Run(3000),
+    Line::Frame(&ECHO_REPLY),
+    Line::Settle,
+    Line::Taken(&DAMAGED_REQUEST),
+    Line::Taken(&OTHERS_REQUEST),
+    Line::Run(5000),
+    Line::Is(Reading::Frames, 0),
     // the driver acknowledged the last interrupt, and the card isn't broken
-    assert_card_interrupt(&rt, &machine, 0);
-    assert_card_status(&rt, &machine, 0x0f);
-    Ok(())
-}
+    Line::Is(Reading::CardInterrupt, 0),
+    Line::Is(Reading::CardStatus, 0x0f),
+];
 
 #[test]
-fn a_state_is_put_back(rt: HostRuntime) -> Result<(), Fail> {
-    let mut machine = booted(&rt, rt.alloc())?;
-    run(&rt, &mut machine, 5000);
+fn answers_arp_and_pings(rt: HostRuntime) {
+    plays(&rt, rt.alloc(), &PING_GUEST, &[], &ANSWERS);
+}
+
+/// Plays the lines, and puts the state before them back.
+fn plays_and_goes_back(rt: &impl Abort, machine: &mut Machine, lines: &[Line]) {
     let state = machine.state();
+    play(rt, machine, lines);
     machine.put_state(&state);
-    assert_eq!(rt; machine.state(), state);
-    // the guest only waits, so its memory stays as it is
-    run(&rt, &mut machine, 10);
-    assert_steps(&rt, &machine, 5010);
-    machine.put_state(&state);
-    assert_steps(&rt, &machine, 5000);
-    assert_eq!(rt; machine.state(), state);
-    assert_taken(&rt, &mut machine, &ARP_REQUEST);
-    run(&rt, &mut machine, 2000);
-    sent(&rt, &mut machine, &ARP_REPLY);
-    Ok(())
+    assert!(rt; machine.state() == state);
+}
+
+/// The guest only waits, so its memory stays as it is.
+static WAITS: [Line; 2] = [Line::Run(10), Line::Is(Reading::Steps, 5010)];
+
+static ANSWERS_ARP: [Line; 4] = [
+    Line::Is(Reading::Steps, 5000),
+    Line::Taken(&ARP_REQUEST),
+    Line::Run(2000),
+    Line::Frame(&ARP_REPLY),
+];
+
+#[test]
+fn a_state_is_put_back(rt: HostRuntime) {
+    let mut machine = booted(&rt, rt.alloc(), &PING_GUEST, &[]);
+    play(&rt, &mut machine, &[Line::Run(5000)]);
+    plays_and_goes_back(&rt, &mut machine, &[]);
+    plays_and_goes_back(&rt, &mut machine, &WAITS);
+    play(&rt, &mut machine, &ANSWERS_ARP);
 }
 
 /// Turns each bit of the second block of the first page.
@@ -121,47 +118,61 @@ fn turn_block(rt: &impl Abort, machine: &mut Machine) {
     machine.xor_block(0, 1, &[0xff; 64]);
 }
 
-/// The first page counts as written, and the second doesn't.
-fn assert_first_written(rt: &impl Abort, machine: &Machine) {
-    assert_dirty(rt, machine, 0, true);
-    assert_dirty(rt, machine, 1, false);
+/// The word at a place of memory.
+fn word_at(rt: &impl Abort, machine: &Machine, at: usize) -> u32 {
+    assert!(rt; at < 4096 && machine.ram_size() >= 8192);
+    u32::from_le_bytes([
+        machine.byte(at),
+        machine.byte(at + 1),
+        machine.byte(at + 2),
+        machine.byte(at + 3),
+    ])
 }
+
+/// The words in memory are those of the program, with each bit turned in the second block or in none.
+fn assert_words(rt: &impl Abort, machine: &Machine, turned: bool) {
+    for (i, word) in PING.iter().enumerate() {
+        let want = if turned && i / 16 == 1 { !*word } else { *word };
+        assert!(rt; word_at(rt, machine, 4 * i) == want);
+    }
+}
+
+/// The first page counts as written, and the second doesn't.
+static FIRST_WRITTEN: [Line; 2] = [
+    Line::Is(Reading::Dirty(0), 1),
+    Line::Is(Reading::Dirty(1), 0),
+];
 
 #[test]
-fn a_block_is_turned_and_turned_back(rt: HostRuntime) -> Result<(), Fail> {
-    let mut machine = booted(&rt, rt.alloc())?;
+fn a_block_is_turned_and_turned_back(rt: HostRuntime) {
+    let mut machine = booted(&rt, rt.alloc(), &PING_GUEST, &[]);
     turn_block(&rt, &mut machine);
-    for (i, word) in PING.iter().enumerate() {
-        let want = if i / 16 == 1 { !*word } else { *word };
-        assert_bytes(&rt, &machine, 4 * i, &want.to_le_bytes());
-    }
-    assert_first_written(&rt, &machine);
+    assert_words(&rt, &machine, true);
+    play(&rt, &mut machine, &FIRST_WRITTEN);
     turn_block(&rt, &mut machine);
-    for (i, word) in PING.iter().enumerate() {
-        assert_bytes(&rt, &machine, 4 * i, &word.to_le_bytes());
-    }
-    assert_first_written(&rt, &machine);
-    Ok(())
+    assert_words(&rt, &machine, false);
+    play(&rt, &mut machine, &FIRST_WRITTEN);
 }
 
-/// Settles the machine, and turns each bit of the second block of the first page.
+/// Turns each bit of the second block of the first page, where nothing counts as written.
 fn turn_settled_block(rt: &impl Abort, machine: &mut Machine) {
     assert!(rt; machine.ram_size() >= 8192);
     machine.settle();
     machine.xor_settled(0, 1, &[0xff; 64]);
 }
 
+/// No page counts as written, and the first word of the block is the one of the last settle.
+static UNWRITTEN: [Line; 2] = [
+    Line::Is(Reading::Dirty(0), 0),
+    Line::Is(Reading::Original(64), !PING[16] as u64),
+];
+
 #[test]
-fn a_block_is_turned_in_an_image(rt: HostRuntime) -> Result<(), Fail> {
-    let mut machine = booted(&rt, rt.alloc())?;
+fn a_block_is_turned_in_an_image(rt: HostRuntime) {
+    let mut machine = booted(&rt, rt.alloc(), &PING_GUEST, &[]);
     turn_settled_block(&rt, &mut machine);
-    for (i, word) in PING.iter().enumerate() {
-        let want = if i / 16 == 1 { !*word } else { *word };
-        assert_bytes(&rt, &machine, 4 * i, &want.to_le_bytes());
-    }
-    assert_dirty(&rt, &machine, 0, false);
-    assert_original(&rt, &machine, 64, !PING[16]);
-    Ok(())
+    assert_words(&rt, &machine, true);
+    play(&rt, &mut machine, &UNWRITTEN);
 }
 
 /// Puts 512 times a byte in the place of a sector's.
@@ -170,13 +181,16 @@ fn put_sector(rt: &impl Abort, machine: &mut Machine, sector: u32, byte: u8) {
     machine.put_sector(sector, &[byte; 512]);
 }
 
+static SECTOR_PUT: [Line; 4] = [
+    Line::Written(&[1]),
+    Line::Is(Reading::Sectors, 2),
+    Line::Sector(0, 0),
+    Line::Sector(1, 0xab),
+];
+
 #[test]
-fn a_sector_is_put(rt: HostRuntime) -> Result<(), Fail> {
-    let mut machine = booted(&rt, rt.alloc())?;
+fn a_sector_is_put(rt: HostRuntime) {
+    let mut machine = booted(&rt, rt.alloc(), &PING_GUEST, &[]);
     put_sector(&rt, &mut machine, 1, 0xab);
-    assert_written(&rt, &machine, &[1]);
-    assert_sectors(&rt, &machine, 2);
-    assert_sector(&rt, &machine, 0, 0);
-    assert_sector(&rt, &machine, 1, 0xab);
-    Ok(())
+    play(&rt, &mut machine, &SECTOR_PUT);
 }

@@ -1,14 +1,11 @@
 //! Steps that are refused until the next settle, runs that stop at a frame, and the numbers and names of refusals.
-use super::asserts::{
-    assert_dirty, assert_frames, assert_number, assert_pc, assert_run, assert_run_to_frame,
-    assert_steps, number,
-};
-use super::{AVAILABLE, USED, beacon, boot, put, put_words};
+
+use super::play::{Line, Part, Reading, plays};
+use super::{AVAILABLE, BEACON_GUEST, USED};
 use guest_machine::MachineError;
 use memory_wanted::reserve;
 use std::alloc::Global;
 use std::process::Abort;
-use std::test::Fail;
 
 /// What stands behind the beacon's first notify (in the place of its loop) to make 64 more chains available and notify
 /// again, twice, and then one chain more: from 192 frames in the outbox to 193.
@@ -28,74 +25,79 @@ const NOTIFY_MORE: [u32; 13] = [
     0x0000006f, // JAL x0, 0
 ];
 
-#[test]
-fn a_step_needs_64_free_places(rt: HostRuntime) -> Result<(), Fail> {
-    let mut image = beacon(rt.alloc())?;
-    put(&mut image, AVAILABLE + 2, &[64]);
-    put_words(&mut image, 22, &NOTIFY_MORE);
-    let mut machine = boot(&rt, rt.alloc(), &image)?;
-    assert_run(&rt, &mut machine, 31, 31);
-    assert_frames(&rt, &machine, 192);
+/// The beacon with 64 chains available at its first notify.
+static MORE: [Part; 2] = [
+    Part::Bytes(AVAILABLE + 2, &[64]),
+    Part::Words(4 * 22, &NOTIFY_MORE),
+];
+
+static REFUSED: [Line; 15] = [
+    Line::RunMakes(31, 31),
+    Line::Is(Reading::Frames, 192),
     // at 192 frames steps go on, and the third of these sends one more
-    assert_run(&rt, &mut machine, u64::MAX, 3);
-    assert_frames(&rt, &machine, 193);
-    assert_steps(&rt, &machine, 34);
+    Line::RunMakes(u64::MAX, 3),
+    Line::Is(Reading::Frames, 193),
+    Line::Is(Reading::Steps, 34),
+    Line::Is(Reading::Pc, LAST),
     // at 193 a step is refused, and nothing is changed
-    let pc = machine.pc();
-    assert_run(&rt, &mut machine, 2, 0);
-    assert_eq!(rt; machine.step(), Err(MachineError::CutNeeded));
-    assert_steps(&rt, &machine, 34);
-    assert_pc(&rt, &machine, pc);
-    assert_frames(&rt, &machine, 193);
-    assert_number(&rt, &machine, USED + 2, 193);
-    machine.settle();
-    assert_eq!(rt; machine.step(), Ok(()));
-    assert_steps(&rt, &machine, 35);
-    Ok(())
-}
+    Line::RunMakes(2, 0),
+    Line::StepRefused,
+    Line::Is(Reading::Steps, 34),
+    Line::Is(Reading::Pc, LAST),
+    Line::Is(Reading::Frames, 193),
+    Line::Is(Reading::Number(USED + 2), 193),
+    Line::Settle,
+    Line::StepMade,
+    Line::Is(Reading::Steps, 35),
+];
+
+/// The address of the last of those words.
+const LAST: u64 = 0x8000_0000 + 4 * 34;
 
 #[test]
-fn a_run_stops_after_a_step_that_sent_frames(rt: HostRuntime) -> Result<(), Fail> {
-    let mut image = beacon(rt.alloc())?;
-    put(&mut image, AVAILABLE + 2, &[64]);
-    put_words(&mut image, 22, &NOTIFY_MORE);
-    let mut machine = boot(&rt, rt.alloc(), &image)?;
-    assert_run_to_frame(&rt, &mut machine, 21, 21);
-    assert_frames(&rt, &machine, 0);
-    assert_run_to_frame(&rt, &mut machine, u64::MAX, 1);
-    assert_frames(&rt, &machine, 64);
-    assert_run_to_frame(&rt, &mut machine, 5, 0);
-    assert_steps(&rt, &machine, 22);
-    machine.clear_outbox();
-    assert_frames(&rt, &machine, 0);
+fn a_step_needs_64_free_places(rt: HostRuntime) {
+    plays(&rt, rt.alloc(), &BEACON_GUEST, &MORE, &REFUSED);
+}
+
+static STOPS: [Line; 12] = [
+    Line::RunToFrameMakes(21, 21),
+    Line::Is(Reading::Frames, 0),
+    Line::RunToFrameMakes(u64::MAX, 1),
+    Line::Is(Reading::Frames, 64),
+    Line::RunToFrameMakes(5, 0),
+    Line::Is(Reading::Steps, 22),
+    Line::ClearOutbox,
+    Line::Is(Reading::Frames, 0),
     // the used ring was written, and still counts so
-    assert_dirty(&rt, &machine, 1, true);
-    assert_run_to_frame(&rt, &mut machine, u64::MAX, 6);
-    assert_frames(&rt, &machine, 64);
-    assert_steps(&rt, &machine, 28);
-    Ok(())
+    Line::Is(Reading::Dirty(1), 1),
+    Line::RunToFrameMakes(u64::MAX, 6),
+    Line::Is(Reading::Frames, 64),
+    Line::Is(Reading::Steps, 28),
+];
+
+#[test]
+fn a_run_stops_after_a_step_that_sent_frames(rt: HostRuntime) {
+    plays(&rt, rt.alloc(), &BEACON_GUEST, &MORE, &STOPS);
 }
 
 /// A refusal has this number, this name, and this text.
-fn assert_name(
-    rt: &impl Abort,
-    alloc: Global,
-    error: MachineError,
-    number: u32,
-    name: &str,
-) -> Result<(), Fail> {
-    assert_eq!(rt; error.number(), number);
-    assert_eq!(rt; error.name(), name);
-    let text = format!(in alloc; "{error}")?;
-    assert_eq!(rt; text.as_str(), name);
-    Ok(())
+fn assert_name(rt: &impl Abort, alloc: Global, error: MachineError, number: u32, name: &str) {
+    assert!(rt; error.number() == number);
+    assert!(rt; error.name() == name);
+    assert_text(rt, alloc, &error, name);
+}
+
+fn assert_text(rt: &impl Abort, alloc: Global, error: &MachineError, name: &str) {
+    let text = format!(in alloc; "{error}").expect(rt, "memory for the text");
+    assert!(rt; text.as_str() == name);
 }
 
 #[test]
-fn refusals_have_their_numbers_and_names(rt: HostRuntime) -> Result<(), Fail> {
-    let Err(wanted) = reserve(&mut Vec::<u64>::new(rt.alloc()), usize::MAX) else {
-        return Err("no machine has that much".into());
-    };
-    assert_name(&rt, rt.alloc(), MachineError::from(wanted), 12, "NoMemory")?;
-    assert_name(&rt, rt.alloc(), MachineError::CutNeeded, 13, "CutNeeded")
+fn refusals_have_their_numbers_and_names(rt: HostRuntime) {
+    let wanted = reserve(&mut Vec::<u64>::new(rt.alloc()), usize::MAX).expect_err(
+        &rt,
+        "no machine has that much",
+    );
+    assert_name(&rt, rt.alloc(), MachineError::from(wanted), 12, "NoMemory");
+    assert_name(&rt, rt.alloc(), MachineError::CutNeeded, 13, "CutNeeded");
 }

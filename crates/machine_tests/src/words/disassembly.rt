@@ -50,7 +50,7 @@ fn csr_access(
 
 /// The 20 bits of an immediate that a word holds.
 fn upper(imm: u64) -> i64 {
-    (imm / 0x1000 % 0x10_0000).cast_signed()
+    (imm >> 12 & 0xf_ffff).cast_signed()
 }
 
 /// What an instruction says: registers and CSRs by their numbers, immediates as signed numbers, and of LUI and AUIPC the
