@@ -94,18 +94,23 @@ fn lines_before_a_failed_read_are_answered(rt: HostRuntime) {
     );
 }
 
+/// The status of a session whose answers have so much room.
+fn status_in(alloc: Global, room: usize) -> u8 {
+    let pieces: [&[u8]; 1] = [b"boot 2 1 1 idle\ncut\n"];
+    let mut input = CheckedReader::new(Pieces {
+        pieces: &pieces,
+        next: 0,
+        fails: false,
+    });
+    let mut out = CheckedWriter::new(Short(room));
+    live(alloc, &mut input, &mut out)
+}
+
 #[test]
 fn a_failed_write_gives_status_1(rt: HostRuntime) {
     // `booted` and `cut 1 1`, each with its newline, are 15 bytes.
     for room in 0..17usize {
-        let pieces: [&[u8]; 1] = [b"boot 2 1 1 idle\ncut\n"];
-        let mut input = CheckedReader::new(Pieces {
-            pieces: &pieces,
-            next: 0,
-            fails: false,
-        });
-        let mut out = CheckedWriter::new(Short(room));
-        let status = live(rt.alloc(), &mut input, &mut out);
+        let status = status_in(rt.alloc(), room);
         assert_eq!(rt; status, if room < 15 { 1 } else { 0 }, "room for {room}");
     }
 }

@@ -3,6 +3,7 @@ use pair_record::Reply;
 use pair_run::{Action, Answered, ClientLine, RunFile, Unread, read_run, write_run};
 use script_player::streams::CheckedWriter;
 use std::alloc::Global;
+use std::process::Abort;
 use std::test::Fail;
 
 /// The number of the bad line of this file, where one is bad.
@@ -14,9 +15,14 @@ fn bad_line(alloc: Global, source: &[u8]) -> Option<u64> {
     }
 }
 
+/// The line of this number is the file's bad one.
+fn assert_bad(rt: &impl Abort, alloc: Global, source: &[u8], number: u64) {
+    assert_eq!(rt; bad_line(alloc, source), Some(number));
+}
+
 #[test]
 fn bad_lines_of_a_file_of_a_run(rt: HostRuntime) {
-    let rows: [(&[u8], u64); 16] = [
+    static ROWS: [(&[u8], u64); 16] = [
         (b"", 1),
         (b"boot 2 1 1 idle", 1),
         (b"boot 2 1 1 idle\n", 2),
@@ -40,8 +46,8 @@ fn bad_lines_of_a_file_of_a_run(rt: HostRuntime) {
             3,
         ),
     ];
-    for (source, number) in rows {
-        assert_eq!(rt; bad_line(rt.alloc(), source), Some(number));
+    for (source, number) in &ROWS {
+        assert_bad(&rt, rt.alloc(), source, *number);
     }
 }
 

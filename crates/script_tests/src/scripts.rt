@@ -10,8 +10,10 @@ use std::alloc::Global;
 use std::process::Abort;
 use std::test::Fail;
 
-/// The answer that is sent to client 1 by the beacon.
-const FRAME: &str = "02000000010102000000000188b5";
+/// What was printed, or said, is this text.
+fn assert_text(rt: &impl Abort, how: &str, printed: &[u8], wanted: &str) {
+    assert_eq!(rt; str::from_utf8(printed), Ok(wanted), "{how}");
+}
 
 /// Plays a script, and compares its status and all that it prints.
 fn plays(
@@ -25,12 +27,8 @@ fn plays(
     let mut out = CheckedWriter::new(Vec::new(alloc));
     let mut err = CheckedWriter::new(Vec::new(alloc));
     let answer = sim(alloc, script, &mut out, &mut err);
-    assert_eq!(rt;
-        str::from_utf8(out.inner.as_slice()),
-        Ok(printed),
-        "printed"
-    );
-    assert_eq!(rt; str::from_utf8(err.inner.as_slice()), Ok(complaint), "said");
+    assert_text(rt, "printed", out.inner.as_slice(), printed);
+    assert_text(rt, "said", err.inner.as_slice(), complaint);
     assert_eq!(rt; answer, status, "status");
 }
 
@@ -41,15 +39,13 @@ fn shows_a_new_pair(rt: HostRuntime) {
 }
 
 #[test]
-fn beacon_frame_reaches_client_1(rt: HostRuntime) -> Result<(), Fail> {
+fn beacon_frame_reaches_client_1(rt: HostRuntime) {
     let script =
         b"boot 2 1 1 beacon\nstep 22\ncut\ntake 1\nsend\nbackup 0\ntake 1\nack 0\ntake 1\ntake 1\nshow\n";
-    let printed = format!(in rt.alloc();
+    let printed =
         "booted\nsteps 22\ncut 1 1\nnone\nsent 1\ncommitted 1 1\nnone\nacked 1 1 landed 1\n\
-         frame {FRAME}\nnone\nmode paired generation 1 pending 0 steps 22 entries 27\n"
-    )?;
-    plays(&rt, rt.alloc(), script, 0, printed.as_str(), "");
-    Ok(())
+         frame 02000000010102000000000188b5\nnone\nmode paired generation 1 pending 0 steps 22 entries 27\n";
+    plays(&rt, rt.alloc(), script, 0, printed, "");
 }
 
 #[test]
@@ -86,14 +82,12 @@ fn a_refusal_does_not_end_a_script(rt: HostRuntime) {
 }
 
 #[test]
-fn a_delivered_frame_is_admitted(rt: HostRuntime) -> Result<(), Fail> {
-    let script = format!(in rt.alloc();
-        "boot 2 1 1 idle\ndeliver 1 {FRAME}\nadmit 1\nadmit 1\nshow\n"
-    )?;
+fn a_delivered_frame_is_admitted(rt: HostRuntime) {
+    let script =
+        "boot 2 1 1 idle\ndeliver 1 02000000010102000000000188b5\nadmit 1\nadmit 1\nshow\n";
     let printed =
         "booted\ndelivered 1\nadmitted 1\nempty\nmode paired generation 1 pending 0 steps 0 entries 1\n";
     plays(&rt, rt.alloc(), script.as_bytes(), 0, printed, "");
-    Ok(())
 }
 
 #[test]
@@ -128,6 +122,14 @@ fn the_guest_of_the_disk_boots(rt: HostRuntime) {
     }
 }
 
+/// A part of what is printed.
+enum Part {
+    /// This text.
+    Text(&'static str),
+    /// The line of a sector that is filled with the byte of these two digits.
+    Sector(u64, &'static str),
+}
+
 /// Prints the line of a sector that is filled with the byte of these two digits.
 fn push_sector(printed: &mut String, sector: u64, digits: &str) -> Result<(), Fail> {
     write!(printed, "sector {sector} ")?;
@@ -138,39 +140,77 @@ fn push_sector(printed: &mut String, sector: u64, digits: &str) -> Result<(), Fa
     Ok(())
 }
 
-#[test]
-fn the_disk_guest_fills_a_sector(rt: HostRuntime) -> Result<(), Fail> {
-    let script =
-        b"boot 2 8 1 disk 7 ab\nstep 22\nsector 7\nstep 1\nsector 7\nsector 0006\nsector 0\ncut\nsector 7\n";
-    let mut printed = String::from_str(rt.alloc(), "booted\nsteps 22\n")?;
-    push_sector(&mut printed, 7, "00")?;
-    printed.push_str("steps 23\n")?;
-    push_sector(&mut printed, 7, "ab")?;
-    push_sector(&mut printed, 6, "00")?;
-    push_sector(&mut printed, 0, "00")?;
-    printed.push_str("cut 1 1\n")?;
-    push_sector(&mut printed, 7, "ab")?;
-    plays(&rt, rt.alloc(), script, 0, printed.as_str(), "");
+/// Prints a part.
+fn push_part(printed: &mut String, part: &Part) -> Result<(), Fail> {
+    match part {
+        Part::Text(text) => Ok(printed.push_str(text)?),
+        Part::Sector(sector, digits) => push_sector(printed, *sector, digits),
+    }
+}
+
+/// All parts, one after the other.
+fn joined(alloc: Global, parts: &[Part]) -> Result<String, Fail> {
+    let mut printed = String::new(alloc);
+    for part in parts {
+        push_part(&mut printed, part)?;
+    }
+    Ok(printed)
+}
+
+/// Plays a script, and compares its status and all that it prints, which are these parts.
+fn plays_parts(
+    rt: &impl Abort,
+    alloc: Global,
+    script: &[u8],
+    status: u8,
+    parts: &[Part],
+    complaint: &str,
+) -> Result<(), Fail> {
+    let printed = joined(alloc, parts)?;
+    plays(rt, alloc, script, status, printed.as_str(), complaint);
     Ok(())
 }
 
 #[test]
+fn the_disk_guest_fills_a_sector(rt: HostRuntime) -> Result<(), Fail> {
+    static PRINTED: [Part; 8] = [
+        Part::Text("booted\nsteps 22\n"),
+        Part::Sector(7, "00"),
+        Part::Text("steps 23\n"),
+        Part::Sector(7, "ab"),
+        Part::Sector(6, "00"),
+        Part::Sector(0, "00"),
+        Part::Text("cut 1 1\n"),
+        Part::Sector(7, "ab"),
+    ];
+    let script =
+        b"boot 2 8 1 disk 7 ab\nstep 22\nsector 7\nstep 1\nsector 7\nsector 0006\nsector 0\ncut\nsector 7\n";
+    plays_parts(&rt, rt.alloc(), script, 0, &PRINTED, "")
+}
+
+#[test]
 fn a_request_beyond_the_disk_writes_nothing(rt: HostRuntime) -> Result<(), Fail> {
+    static PRINTED: [Part; 9] = [
+        Part::Text("booted\nsteps 23\n"),
+        Part::Sector(0, "00"),
+        Part::Sector(1, "00"),
+        Part::Sector(2, "00"),
+        Part::Sector(3, "00"),
+        Part::Sector(4, "00"),
+        Part::Sector(5, "00"),
+        Part::Sector(6, "00"),
+        Part::Sector(7, "00"),
+    ];
     let script =
         b"boot 2 8 1 disk 8 ab\nstep 23\nsector 0\nsector 1\nsector 2\nsector 3\nsector 4\nsector 5\nsector 6\nsector 7\nsector 8\nshow\n";
-    let mut printed = String::from_str(rt.alloc(), "booted\nsteps 23\n")?;
-    for sector in 0..8u64 {
-        push_sector(&mut printed, sector, "00")?;
-    }
-    plays(
+    plays_parts(
         &rt,
         rt.alloc(),
         script,
         1,
-        printed.as_str(),
+        &PRINTED,
         "remus: line 11: bad\n",
-    );
-    Ok(())
+    )
 }
 
 #[test]

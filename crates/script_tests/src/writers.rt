@@ -23,37 +23,36 @@ impl Write for Short {
     }
 }
 
+/// A script played to a writer with so much room, of which it needs so much. Nothing is said.
+fn assert_status(rt: &impl Abort, alloc: Global, script: &[u8], room: usize, needs: usize) {
+    let mut out = CheckedWriter::new(Short(room));
+    let mut err = CheckedWriter::new(Vec::new(alloc));
+    let status = sim(alloc, script, &mut out, &mut err);
+    assert_eq!(rt; status, if room < needs { 1 } else { 0 }, "room for {room}");
+    assert_eq!(rt; err.inner.len(), 0);
+}
+
+/// A bad line that can't be named gives status 1 too.
+fn assert_unsaid(rt: &impl Abort, alloc: Global) {
+    let mut out = CheckedWriter::new(Vec::new(alloc));
+    let mut err = CheckedWriter::new(Short(0));
+    assert_eq!(rt; sim(alloc, b"cut", &mut out, &mut err), 1);
+}
+
 #[test]
 fn a_write_that_fails_gives_status_1(rt: HostRuntime) {
+    static ROOMS: [usize; 6] = [7, 15, 16, 1039, 1040, 1041];
+    // `booted`, `cut 1 1` and `none`, each with its newline, are 20 bytes.
     for room in 0..21usize {
-        let mut out = CheckedWriter::new(Short(room));
-        let mut err = CheckedWriter::new(Vec::new(rt.alloc()));
-        let status = sim(
-            rt.alloc(),
-            b"boot 2 1 1 idle\ncut\ntake 1\n",
-            &mut out,
-            &mut err,
-        );
-        // `booted`, `cut 1 1` and `none`, each with its newline, are 20 bytes.
-        assert_eq!(rt; status, if room < 20 { 1 } else { 0 }, "room for {room}");
-        assert_eq!(rt; err.inner.len(), 0);
+        let script = b"boot 2 1 1 idle\ncut\ntake 1\n";
+        assert_status(&rt, rt.alloc(), script, room, 20);
     }
     // `booted` and the sector's line, each with its newline, are 1041 bytes.
-    for room in [7usize, 15, 16, 1039, 1040, 1041] {
-        let mut out = CheckedWriter::new(Short(room));
-        let mut err = CheckedWriter::new(Vec::new(rt.alloc()));
-        let status = sim(
-            rt.alloc(),
-            b"boot 2 1 1 idle\nsector 0\n",
-            &mut out,
-            &mut err,
-        );
-        assert_eq!(rt; status, if room < 1041 { 1 } else { 0 }, "room for {room}");
-        assert_eq!(rt; err.inner.len(), 0);
+    for room in &ROOMS {
+        let script = b"boot 2 1 1 idle\nsector 0\n";
+        assert_status(&rt, rt.alloc(), script, *room, 1041);
     }
-    let mut out = CheckedWriter::new(Vec::new(rt.alloc()));
-    let mut err = CheckedWriter::new(Short(0));
-    assert_eq!(rt; sim(rt.alloc(), b"cut", &mut out, &mut err), 1);
+    assert_unsaid(&rt, rt.alloc());
 }
 
 /// A writer that counts bytes, and notes the count at each flush. The flush of the number `fails`, from 0, fails.
@@ -80,18 +79,23 @@ impl Write for Flushed {
     }
 }
 
-/// Plays a script whose answers are written out at these counts of bytes, and says the status where one fails.
+/// Plays a script whose answers are written out at these counts of bytes, of which the one of this number fails, if there is one.
+fn flushes_to(rt: &impl Abort, alloc: Global, script: &[u8], at: &[usize], fails: usize) {
+    let mut out = CheckedWriter::new(Flushed {
+        bytes: 0,
+        at: Vec::new(alloc),
+        fails,
+    });
+    let mut err = CheckedWriter::new(Vec::new(alloc));
+    let status = sim(alloc, script, &mut out, &mut err);
+    assert_eq!(rt; Some(out.inner.at.as_slice()), at.get(..fails));
+    assert_eq!(rt; status, if fails < at.len() { 1 } else { 0 });
+}
+
+/// Plays it with each of them failing, and with none.
 fn flushes(rt: &impl Abort, alloc: Global, script: &[u8], at: &[usize]) {
     for fails in 0..at.len() + 1 {
-        let mut out = CheckedWriter::new(Flushed {
-            bytes: 0,
-            at: Vec::new(alloc),
-            fails,
-        });
-        let mut err = CheckedWriter::new(Vec::new(alloc));
-        let status = sim(alloc, script, &mut out, &mut err);
-        assert_eq!(rt; out.inner.at.as_slice(), &at[..fails]);
-        assert_eq!(rt; status, if fails < at.len() { 1 } else { 0 });
+        flushes_to(rt, alloc, script, at, fails);
     }
 }
 

@@ -1,10 +1,12 @@
 //! Lines of no known form.
 use super::plays;
+use std::alloc::Global;
+use std::process::Abort;
 use std::test::Fail;
 
 #[test]
 fn bad_lines_in_place_of_the_boot_line(rt: HostRuntime) {
-    let lines: [&[u8]; 59] = [
+    static LINES: [&[u8]; 59] = [
         b"cut",
         b"boot",
         b"boot ",
@@ -65,14 +67,30 @@ fn bad_lines_in_place_of_the_boot_line(rt: HostRuntime) {
         b"boot 2 1 1 words 0000006f,0000006f",
         b"boot 2 1 1 words \xc3\xa9000006f",
     ];
-    for line in lines {
+    for line in &LINES {
         plays(&rt, rt.alloc(), line, 1, "", "remus: line 1: bad\n");
     }
 }
 
+/// This line is bad as the fifth one, behind a comment, an empty line, the boot line and a cut, and before one.
+fn assert_fifth_bad(rt: &impl Abort, alloc: Global, line: &[u8]) -> Result<(), Fail> {
+    let mut script = Vec::from_slice(alloc, b"# first\n\nboot 2 1 1 idle\ncut\n")?;
+    script.extend_from_slice(line)?;
+    script.extend_from_slice(b"\ncut\n")?;
+    plays(
+        rt,
+        alloc,
+        script.as_slice(),
+        1,
+        "booted\ncut 1 1\n",
+        "remus: line 5: bad\n",
+    );
+    Ok(())
+}
+
 #[test]
 fn bad_lines_after_the_boot_line(rt: HostRuntime) -> Result<(), Fail> {
-    let lines: [&[u8]; 64] = [
+    static LINES: [&[u8]; 64] = [
         b"boot 2 1 1 idle",
         b"step",
         b"step ",
@@ -138,38 +156,28 @@ fn bad_lines_after_the_boot_line(rt: HostRuntime) -> Result<(), Fail> {
         b"cu\xff",
         b"\xef\xbb\xbfcut",
     ];
-    for line in lines {
-        let mut script = Vec::from_slice(rt.alloc(), b"# first\n\nboot 2 1 1 idle\ncut\n")?;
-        script.extend_from_slice(line)?;
-        script.extend_from_slice(b"\ncut\n")?;
-        plays(
-            &rt,
-            rt.alloc(),
-            script.as_slice(),
-            1,
-            "booted\ncut 1 1\n",
-            "remus: line 5: bad\n",
-        );
+    for line in &LINES {
+        assert_fifth_bad(&rt, rt.alloc(), line)?;
     }
     Ok(())
 }
 
-#[test]
-fn words_that_fit(rt: HostRuntime) -> Result<(), Fail> {
-    let mut script = Vec::from_slice(rt.alloc(), b"boot 1 1 1 words")?;
-    for _ in 0..1024 {
+/// A machine of one page, with so many words.
+fn script_of_words(alloc: Global, count: usize) -> Result<Vec<u8>, Fail> {
+    let mut script = Vec::from_slice(alloc, b"boot 1 1 1 words")?;
+    for _ in 0..count {
         script.extend_from_slice(b" 0000006f")?;
     }
-    plays(&rt, rt.alloc(), script.as_slice(), 0, "booted\n", "");
-    script.extend_from_slice(b" 0000006f")?;
-    plays(
-        &rt,
-        rt.alloc(),
-        script.as_slice(),
-        1,
-        "",
-        "remus: line 1: bad\n",
-    );
+    Ok(script)
+}
+
+#[test]
+fn words_that_fit(rt: HostRuntime) -> Result<(), Fail> {
+    let fit = script_of_words(rt.alloc(), 1024)?;
+    plays(&rt, rt.alloc(), fit.as_slice(), 0, "booted\n", "");
+    let more = script_of_words(rt.alloc(), 1025)?;
+    let complaint = "remus: line 1: bad\n";
+    plays(&rt, rt.alloc(), more.as_slice(), 1, "", complaint);
     Ok(())
 }
 

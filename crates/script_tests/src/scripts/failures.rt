@@ -1,5 +1,5 @@
 //! Lines of failures.
-use super::{FRAME, plays, push_sector};
+use super::{Part, plays, plays_parts};
 use std::test::Fail;
 
 #[test]
@@ -36,40 +36,43 @@ fn the_backup_commits_what_was_sent(rt: HostRuntime) {
 
 #[test]
 fn a_sector_is_the_images_where_the_primary_stopped(rt: HostRuntime) -> Result<(), Fail> {
+    static PRINTED: [Part; 6] = [
+        Part::Text("booted\nsteps 23\n"),
+        Part::Sector(3, "ab"),
+        Part::Text("cut 1 1\nsent 1\nstopped primary\n"),
+        Part::Sector(3, "00"),
+        Part::Text("committed 1 1\n"),
+        Part::Sector(3, "ab"),
+    ];
     let script =
         b"boot 2 8 1 disk 3 ab\nstep 23\nsector 3\ncut\nsend\nfail primary\nsector 3\nbackup 0\nsector 3\nsector 8\n";
-    let mut printed = String::from_str(rt.alloc(), "booted\nsteps 23\n")?;
-    push_sector(&mut printed, 3, "ab")?;
-    printed.push_str("cut 1 1\nsent 1\nstopped primary\n")?;
-    push_sector(&mut printed, 3, "00")?;
-    printed.push_str("committed 1 1\n")?;
-    push_sector(&mut printed, 3, "ab")?;
-    plays(
+    plays_parts(
         &rt,
         rt.alloc(),
         script,
         1,
-        printed.as_str(),
+        &PRINTED,
         "remus: line 10: bad\n",
-    );
-    Ok(())
+    )
 }
 
 #[test]
 fn a_disk_goes_back_to_what_was_committed(rt: HostRuntime) -> Result<(), Fail> {
+    static FIRST: [Part; 2] = [
+        Part::Text("booted\nsteps 23\ncut 1 1\nstopped primary\nlive 2 steps 0\n"),
+        Part::Sector(3, "00"),
+    ];
+    static SECOND: [Part; 2] = [
+        Part::Text(
+            "booted\nsteps 23\ncut 1 1\nsent 1\ncommitted 1 1\nstopped primary\nlive 2 steps 23\n",
+        ),
+        Part::Sector(3, "ab"),
+    ];
     let script = b"boot 2 8 1 disk 3 ab\nstep 23\ncut\nfail primary\ngolive\nsector 3\n";
-    let lines = "booted\nsteps 23\ncut 1 1\nstopped primary\nlive 2 steps 0\n";
-    let mut printed = String::from_str(rt.alloc(), lines)?;
-    push_sector(&mut printed, 3, "00")?;
-    plays(&rt, rt.alloc(), script, 0, printed.as_str(), "");
+    plays_parts(&rt, rt.alloc(), script, 0, &FIRST, "")?;
     let script =
         b"boot 2 8 1 disk 3 ab\nstep 23\ncut\nsend\nbackup 0\nfail primary\ngolive\nsector 3\n";
-    let lines =
-        "booted\nsteps 23\ncut 1 1\nsent 1\ncommitted 1 1\nstopped primary\nlive 2 steps 23\n";
-    let mut printed = String::from_str(rt.alloc(), lines)?;
-    push_sector(&mut printed, 3, "ab")?;
-    plays(&rt, rt.alloc(), script, 0, printed.as_str(), "");
-    Ok(())
+    plays_parts(&rt, rt.alloc(), script, 0, &SECOND, "")
 }
 
 #[test]
@@ -115,36 +118,29 @@ fn refusals_of_failures(rt: HostRuntime) {
 }
 
 #[test]
-fn what_is_held_lands_where_the_backup_fails(rt: HostRuntime) -> Result<(), Fail> {
-    let printed = format!(in rt.alloc();
-        "booted\nsteps 22\nnone\nalone 1 landed 1\nframe {FRAME}\n\
-         mode alone generation 1 pending 0 steps 22 entries 25\n"
-    )?;
+fn what_is_held_lands_where_the_backup_fails(rt: HostRuntime) {
+    let printed = "booted\nsteps 22\nnone\nalone 1 landed 1\nframe 02000000010102000000000188b5\n\
+         mode alone generation 1 pending 0 steps 22 entries 25\n";
     let script = b"boot 2 1 1 beacon\nstep 22\ntake 1\nfail backup\ntake 1\nshow\n";
-    plays(&rt, rt.alloc(), script, 0, printed.as_str(), "");
-    let printed = format!(in rt.alloc();
-        "booted\nsteps 22\ncut 1 1\nsteps 23\ncut 1 2\nalone 1 landed 1\nframe {FRAME}\n\
-         mode alone generation 1 pending 0 steps 23 entries 25\n"
-    )?;
+    plays(&rt, rt.alloc(), script, 0, printed, "");
+    let printed =
+        "booted\nsteps 22\ncut 1 1\nsteps 23\ncut 1 2\nalone 1 landed 1\nframe 02000000010102000000000188b5\n\
+         mode alone generation 1 pending 0 steps 23 entries 25\n";
     let script = b"boot 2 1 1 beacon\nstep 22\ncut\nstep 1\ncut\nfail backup\ntake 1\nshow\n";
-    plays(&rt, rt.alloc(), script, 0, printed.as_str(), "");
-    Ok(())
+    plays(&rt, rt.alloc(), script, 0, printed, "");
 }
 
 #[test]
-fn a_node_that_is_alone_lets_its_frames_go_at_once(rt: HostRuntime) -> Result<(), Fail> {
-    let printed = format!(in rt.alloc();
-        "booted\nalone 1 landed 0\nsteps 21\nnone\nsteps 22\nframe {FRAME}\nnone\n\
-         mode alone generation 1 pending 0 steps 22 entries 26\n"
-    )?;
+fn a_node_that_is_alone_lets_its_frames_go_at_once(rt: HostRuntime) {
+    let printed =
+        "booted\nalone 1 landed 0\nsteps 21\nnone\nsteps 22\nframe 02000000010102000000000188b5\nnone\n\
+         mode alone generation 1 pending 0 steps 22 entries 26\n";
     let script = b"boot 2 1 1 beacon\nfail backup\nstep 21\ntake 1\nstep 1\ntake 1\ntake 1\nshow\n";
-    plays(&rt, rt.alloc(), script, 0, printed.as_str(), "");
-    let printed = format!(in rt.alloc();
-        "booted\nsteps 22\nstopped primary\nlive 2 steps 0\nnone\nsteps 30\nframe {FRAME}\n\
-         mode alone generation 2 pending 0 steps 30 entries 33\n"
-    )?;
+    plays(&rt, rt.alloc(), script, 0, printed, "");
+    let printed =
+        "booted\nsteps 22\nstopped primary\nlive 2 steps 0\nnone\nsteps 30\nframe 02000000010102000000000188b5\n\
+         mode alone generation 2 pending 0 steps 30 entries 33\n";
     let script =
         b"boot 2 1 1 beacon\nstep 22\nfail primary\ngolive\ntake 1\nstep 30\ntake 1\nshow\n";
-    plays(&rt, rt.alloc(), script, 0, printed.as_str(), "");
-    Ok(())
+    plays(&rt, rt.alloc(), script, 0, printed, "");
 }

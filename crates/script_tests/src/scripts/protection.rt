@@ -1,5 +1,5 @@
 //! What is printed where a node that is alone gets a new backup.
-use super::{FRAME, plays};
+use super::{Part, plays, plays_parts};
 use std::test::Fail;
 
 #[test]
@@ -13,29 +13,25 @@ fn an_acknowledgement_of_the_generation_before_is_stale(rt: HostRuntime) {
 }
 
 #[test]
-fn what_came_after_the_full_checkpoint_is_held(rt: HostRuntime) -> Result<(), Fail> {
+fn what_came_after_the_full_checkpoint_is_held(rt: HostRuntime) {
     let script =
         b"boot 2 1 1 beacon\nfail backup\nprotect\nstep 22\nsend\nbackup 0\nack 0\ntake 1\nfail primary\ngolive\n\
         take 1\nstep 22\ntake 1\nshow\n";
-    let printed = format!(in rt.alloc();
+    let printed =
         "booted\nalone 1 landed 0\nprotecting 2\nsteps 22\nsent 1\ncommitted 2 0\nacked 2 0 landed 0\nnone\n\
-         stopped primary\nlive 3 steps 0\nnone\nsteps 22\nframe {FRAME}\n\
-         mode alone generation 3 pending 0 steps 22 entries 26\n"
-    )?;
-    plays(&rt, rt.alloc(), script, 0, printed.as_str(), "");
-    Ok(())
+         stopped primary\nlive 3 steps 0\nnone\nsteps 22\nframe 02000000010102000000000188b5\n\
+         mode alone generation 3 pending 0 steps 22 entries 26\n";
+    plays(&rt, rt.alloc(), script, 0, printed, "");
 }
 
 #[test]
-fn what_is_held_lands_where_a_new_backup_fails(rt: HostRuntime) -> Result<(), Fail> {
+fn what_is_held_lands_where_a_new_backup_fails(rt: HostRuntime) {
     let script =
         b"boot 2 1 1 beacon\nfail backup\nprotect\nstep 22\ntake 1\nfail backup\ntake 1\nshow\n";
-    let printed = format!(in rt.alloc();
-        "booted\nalone 1 landed 0\nprotecting 2\nsteps 22\nnone\nalone 2 landed 1\nframe {FRAME}\n\
-         mode alone generation 2 pending 0 steps 22 entries 25\n"
-    )?;
-    plays(&rt, rt.alloc(), script, 0, printed.as_str(), "");
-    Ok(())
+    let printed =
+        "booted\nalone 1 landed 0\nprotecting 2\nsteps 22\nnone\nalone 2 landed 1\nframe 02000000010102000000000188b5\n\
+         mode alone generation 2 pending 0 steps 22 entries 25\n";
+    plays(&rt, rt.alloc(), script, 0, printed, "");
 }
 
 #[test]
@@ -53,15 +49,15 @@ fn refusals_of_protection(rt: HostRuntime) {
 
 #[test]
 fn a_new_backup_has_the_disk(rt: HostRuntime) -> Result<(), Fail> {
+    static PRINTED: [Part; 4] = [
+        Part::Text(
+            "booted\nsteps 23\nalone 1 landed 0\nprotecting 2\nsent 1\ncommitted 2 0\nstopped primary\n",
+        ),
+        Part::Sector(3, "ab"),
+        Part::Text("live 3 steps 23\n"),
+        Part::Sector(3, "ab"),
+    ];
     let script =
         b"boot 2 8 1 disk 3 ab\nstep 23\nfail backup\nprotect\nsend\nbackup 0\nfail primary\nsector 3\ngolive\nsector 3\n";
-    let mut printed = String::from_str(
-        rt.alloc(),
-        "booted\nsteps 23\nalone 1 landed 0\nprotecting 2\nsent 1\ncommitted 2 0\nstopped primary\n",
-    )?;
-    super::push_sector(&mut printed, 3, "ab")?;
-    printed.push_str("live 3 steps 23\n")?;
-    super::push_sector(&mut printed, 3, "ab")?;
-    plays(&rt, rt.alloc(), script, 0, printed.as_str(), "");
-    Ok(())
+    plays_parts(&rt, rt.alloc(), script, 0, &PRINTED, "")
 }
