@@ -100,8 +100,8 @@ fn put_head(out: &mut Vec<u8>, head: &[u64; HEAD_NUMBERS]) -> Result<(), MemoryW
     extend_from_slice(out, &bytes[..count])
 }
 
-/// Puts the head's numbers at the front of these bytes. Answers how many they take. Of each all eight bytes are written, and the next number
-/// over those that its width leaves out.
+/// Puts the head's numbers at the front of these bytes. Answers how many they take. Of each all eight bytes are written, and the next
+/// number over those that its width leaves out.
 fn spell_head(bytes: &mut [u8; MOST_HEAD_BYTES], head: &[u64; HEAD_NUMBERS]) -> usize
     ensures count { result ≤ 640 }
     ensures spelled { take result bytes.new ≡ joined (number_units head_table head.now) }

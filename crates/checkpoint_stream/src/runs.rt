@@ -23,8 +23,10 @@ pub struct Between {
     pub offset: u64,
 }
 
-/// Reads numbers of the head as long as they keep their rules and there are bytes for the widest one. Answers where reading stands then, and
-/// how many bytes they had.
+/// Reads numbers of the head as long as they keep their rules and there are bytes for the widest one. Where reading stands is kept in
+/// locals from number to number. Answers where that is then, and how many bytes were read. It isn't made part of its caller, whose loop over
+/// units would be slower.
+#[inline(never)]
 fn read_numbers(
     shape: Shape,
     head: &mut [u64; HEAD_NUMBERS],
@@ -63,8 +65,8 @@ fn read_numbers(
 }
 
 impl Parts {
-    /// Takes the numbers of the head that come next, as long as they keep their rules and there are bytes for the widest one. Answers how
-    /// many bytes.
+    /// Takes the numbers of the head that come next, as long as they keep their rules and there are bytes for the widest one; the one that
+    /// comes then is left to `take`. Answers how many bytes.
     pub(crate) fn take_numbers(&mut self, rest: &[u8]) -> usize
         ensures count { result ≤ length rest.now }
         ensures read { Takes self.old (take result rest.now) self.new }

@@ -1,5 +1,6 @@
-use Rattle.std.proofs.{Common.{◌≡◌, ◌≤◌, ◌+◌, ◌∙◌, ◌++◌, ℕ, List, ap, sym, get_or, take, drop, length, refl, arith}, lemmas.List.Elements.All-more}
-use Rattle.std.{proofs.Common.{◌-◌, append_assoc, take-append-drop, length-take-le, length-append, length-drop}, specs.Int.{w64, to_le_bytes}}
+use Rattle.std.proofs.Common.{◌≡◌, ◌≤◌, ◌+◌, ◌-◌, ◌∙◌, ◌++◌, ℕ, List, ap, sym, get_or, take, drop, length, refl, arith}
+use Rattle.std.proofs.Common.{append_assoc, take-append-drop, length-take-le, length-append, length-drop}
+use Rattle.std.{proofs.lemmas.List.Elements.All-more, specs.Int.{w64, to_le_bytes}}
 use Rattle.checkpoint_stream.specs.{HeadTable.{head_table, row_at, bytes_of, bytes_in}, declared.rules.{Row.Row, Width.Width}}
 use Rattle.checkpoint_stream.specs.declared.rules.Width.TheVariants.{Two, Four, Eight}
 use Rattle.checkpoint_stream.proofs.{HeadFits.IsWord, RunLemmas.width-most, Feeding.take-filled}
