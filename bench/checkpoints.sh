@@ -1,9 +1,10 @@
 #!/usr/bin/env bash
 # What a checkpoint costs: one epoch (change, cut, encode, read, stage and commit) in which 1, 64 or 16384 pages of 16384 change, one block
 # of each or all 64, beside the same in plain Rust (oracle/interpreter); an epoch of one block in machines of other sizes, beside that of the
-# smallest; an epoch's text of one block and so many frames, encoded and read, beside plain Rust; and how many bytes a second
-# `remus check-stream` reads of files of 100 MB and more. Processor time, the best of three; a run of no
-# epochs, which only boots, is taken off. REMUS names another program to measure in the place of the repository's own.
+# smallest; an epoch's text of one block and so many frames, encoded and read, beside plain Rust; an epoch of a guest that sends so many
+# frames, with its steps and without them, beside plain Rust; and how many bytes a second `remus check-stream` reads of files of 100 MB and
+# more. Processor time, the best of three, or the middle ratio of nine turns where frames are; a run of no epochs, which only boots, is
+# taken off in the first two. REMUS names another program to measure in the place of the repository's own.
 set -eu
 cd "$(dirname "$0")/.."
 epochs=$(tests/epochs/build.sh)
@@ -63,21 +64,51 @@ done | awk -v rounds="$rounds" '{ here = ($3 + $4 - $5 - $6) / rounds * 1e6 }
     END { for (pages in count) { split(line[pages, 5], part, " ")
         printf "one block, %5d pages and %5d sectors: %9.1f us an epoch, %.2f times that with 16 and 64\n", part[1], part[2], part[3], part[4] } }'
 
-# Streams of whole pages, of as many as there can be and of fewer, of one block a page, of sectors, of the beacon's checkpoint again and
-# again, and of 256 long frames each.
-python3 bench/streams.py "$folder"
-for frames in 0x64 1x64 16x64 256x64 1x1514 16x1514 256x1514; do
-    rounds=$((400000000 / (${frames%x*} * ${frames#*x} + 1000)))
-    proved=$("$epochs" frames "$folder/$frames" 2 1 "$rounds")
-    plain=$("$interpreter" frames "$folder/$frames" 2 1 "$rounds")
+# What both programs take for a command line, nine times in turn: the seconds of the proved one, user's and system's, and plain Rust's.
+turns() {
+    for _ in 1 2 3 4 5 6 7 8 9; do
+        echo "$(once "$epochs" "$@") $(once "$interpreter" "$@")"
+    done
+}
+
+# Of turns of so many rounds, each less what the same rounds take without epochs where two more pairs of numbers say that, the middle ratio.
+middle() {
+    awk -v rounds="$1" '{
+        a = ($1 + $2 - $5 - $6) / rounds
+        b = ($3 + $4 - $7 - $8) / rounds
+        printf "%9.2f us, plain Rust %9.2f us, ratio %.2f\n", a * 1e6, b * 1e6, a / b
+    }' | sort -g -k 8 | sed -n 5p
+}
+
+# Both programs print the same.
+agree() {
+    local proved plain
+    proved=$("$epochs" "$@")
+    plain=$("$interpreter" "$@")
     [ "$proved" = "$plain" ] || {
-        echo "$frames: $proved bytes, and $plain in plain Rust" >&2
+        echo "$*: $proved bytes, and $plain in plain Rust" >&2
         exit 1
     }
-    awk -v frames="$frames" -v rounds="$rounds" -v a="$(seconds "$epochs" frames "$folder/$frames" 2 1 "$rounds")" \
-        -v b="$(seconds "$interpreter" frames "$folder/$frames" 2 1 "$rounds")" 'BEGIN {
-        printf "frames %8s: %9.2f us encoded and read, plain Rust %9.2f us, ratio %.2f\n", frames, a / rounds * 1e6, b / rounds * 1e6, a / b
-    }'
+}
+
+# Streams of whole pages, of as many as there can be and of fewer, of one block a page, of sectors, of the beacon's checkpoint again and
+# again, and of 256 long frames each; and guests that send frames.
+python3 bench/streams.py "$folder"
+python3 bench/senders.py "$folder"
+for frames in 0x64 1x64 16x64 256x64 1x1514 16x1514 256x1514; do
+    rounds=$((400000000 / (${frames%x*} * ${frames#*x} + 1000)))
+    words=(frames "$folder/$frames" 2 1 "$rounds")
+    agree "${words[@]}"
+    printf 'frames %8s, encoded and read: %s\n' "$frames" "$(turns "${words[@]}" | middle "$rounds")"
+done
+for frames in 0x64 1x64 16x64 256x64 1x1514 16x1514 256x1514; do
+    rounds=$((2000000000 / (${frames%x*} * (${frames#*x} + 1000) + 10000)))
+    words=(sending "$folder/$frames.image" 1 1 "$(cat "$folder/$frames.steps")" "$rounds")
+    agree "${words[@]}" "$rounds"
+    turns "${words[@]}" "$rounds" >"$folder/with"
+    printf 'frames %8s, an epoch with the steps that send them: %s\n' "$frames" "$(middle "$rounds" <"$folder/with")"
+    turns "${words[@]}" 0 >"$folder/without"
+    printf 'frames %8s, an epoch without the steps: %s\n' "$frames" "$(paste -d ' ' "$folder/with" "$folder/without" | middle "$rounds")"
 done
 for stream in largest:16384:32768 pages:4096:32768 blocks:4096:32768 sectors:4096:32768 beacons:2:1 frames:2:1; do
     IFS=: read -r name pages sectors <<<"$stream"

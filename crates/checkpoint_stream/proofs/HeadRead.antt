@@ -46,7 +46,7 @@ left k row rows e = record {
   count = omega (arith, ap length e, length-drop k head_table, length-head_table);
 }
 
-going-on : (k : ℕ) → k < 80 → after_number k ≡ Head
+pub going-on : (k : ℕ) → k < 80 → after_number k ≡ Head
 going-on k h = let other : (k == 80) ≡ false = grind (arith, nat_tests) in rw other refl
 
 number_units-cons : (row : Row) (rows : List Row) (n : ℕ) (ns : List ℕ) →

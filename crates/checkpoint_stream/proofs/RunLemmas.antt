@@ -1,10 +1,13 @@
 -- Units of one kind, one after another.
-use Rattle.std.proofs.Common.{◌≡◌, ℕ, ◌+◌, ◌<◌, ◌≤◌, List, ◌++◌, take, drop, ap, sym, ◌∙◌, subst, append_assoc, lit<, lit≤}
-use Rattle.std.proofs.Math.Seq.{take-add}
+use Rattle.std.proofs.Common.{◌≡◌, ℕ, ◌+◌, ◌%◌, ◌^◌, ◌<◌, ◌≤◌, List, [], ◌++◌, Bool, true, length, take, drop, set, ap, sym, ◌∙◌, subst}
+use Rattle.std.proofs.Common.{refl, append_assoc, arith, length-drop, lit<, lit≤}
+use Rattle.std.proofs.{Math.Seq.{take-add}, lemmas.List.{length-take-le, take_more_set}}
+use Rattle.guest_machine.specs.declared.shapes.Shape.{Shape}
 use Rattle.checkpoint_stream.specs.declared.{place.Place.{Place, TheVariants.{Head, Block}}, rules.Width.{Width, TheVariants.{Two, Four}}}
-use Rattle.checkpoint_stream.specs.{declared.rules.Width.TheVariants.Eight, HeadTable.{row_at, number_of, bytes_in}, Readings.Reading}
-use Rattle.checkpoint_stream.specs.{Readings.{judged, judged_at, number_judged, block_judged}, Taken.{Takes, Extends}}
-use Rattle.checkpoint_stream.proofs.Feeding.{Takes-append}
+use Rattle.checkpoint_stream.specs.declared.{rules.{Row.Row, Width.TheVariants.Eight}, runs.Between.{Between}}
+use Rattle.checkpoint_stream.specs.{HeadTable.{row_at, passes, number_of, bytes_in}, Readings.{Reading, is_closed, width_at}}
+use Rattle.checkpoint_stream.specs.Readings.{judged, judged_at, after_number, kept_number, number_judged, block_judged}
+use Rattle.checkpoint_stream.{specs.Taken.{Takes, Extends, numbered}, proofs.{Feeding.{Takes-append, Takes-unit}, HeadRead.going-on}}
 
 pub judged-number : (r : Reading) (unit : List ℕ) → r.place ≡ Head →
     judged r unit ≡ number_judged r (row_at r.known) (number_of (row_at r.known).width unit)
@@ -30,6 +33,84 @@ pub Takes-next : (r m s : Reading) (at count : ℕ) (bytes : List ℕ) → Takes
     Takes m (take count (drop at bytes)) s → Takes r (take (at + count) bytes) s
 Takes-next r m s at count bytes front back =
     subst (λ (l : List ℕ). Takes r l s) (sym (take-add at count bytes)) (Takes-append r m s _ _ front back)
+
+between : ℕ → ℕ → ℕ → Between
+between known before offset = record { known = known; before = before; offset = offset }
+
+-- a number of the head that keeps its rule
+kept-numbered : (r : Reading) (shape : Shape) (head : List ℕ) (known before offset n : ℕ) (row : Row) (keeps : Bool) → keeps ≡ true →
+    known < length head → kept_number keeps (numbered r shape head (between known before offset)) row n
+    ≡ numbered r shape (set head known n) (between (known + 1) n ((offset + bytes_in row.width) % 2 ^ 64))
+unfolding kept_number between
+kept-numbered r shape head known before offset n row keeps e less =
+    ap (λ (k : Bool). kept_number k (numbered r shape head (between known before offset)) row n) e
+    ∙ ap (λ (l : List ℕ). record r {
+      shape = shape;
+      offset = (offset + bytes_in row.width) % 2 ^ 64;
+      place = after_number (known + 1);
+      known = known + 1;
+      head = l;
+      before = n;
+      partial = [];
+    }) (sym (take_more_set head known n less))
+
+pub numbered-next : (r s : Reading) (shape : Shape) (head : List ℕ) (known before offset at w n : ℕ) (bytes : List ℕ) (row : Row) →
+    known < 80 → length head ≡ 80 → row ≡ row_at known → w ≡ bytes_in row.width → at + 8 ≤ length bytes →
+    n ≡ number_of row.width (take w (drop at bytes)) → passes shape row.rule before n ≡ true →
+    Takes s (take at bytes) (numbered r shape head (record { known = known; before = before; offset = offset })) →
+    Takes s (take (at + w) bytes)
+    (numbered r shape (set head known n) (record { known = known + 1; before = n; offset = (offset + w) % 2 ^ 64 }))
+unfolding between
+numbered-next r s shape head known before offset at w n bytes row less long is width enough number passed front =
+    let m : Reading = numbered r shape head (between known before offset) in
+    let unit : List ℕ = take w (drop at bytes) in
+    let place : after_number known ≡ Head = going-on known less in
+    let some : 0 < w = omega (arith, width, width-least row.width) in
+    let whole : length unit ≡ w
+    = length-take-le w (drop at bytes) (omega (arith, enough, width, width-most row.width, length-drop at bytes)) in
+    let wide : w ≡ bytes_in (row_at known).width = width ∙ ap (λ (q : Row). bytes_in q.width) is in
+    let same : number_of (row_at known).width unit ≡ n = sym (number ∙ ap (λ (q : Row). number_of q.width unit) is) in
+    let keeps : passes shape (row_at known).rule before n ≡ true = sym (ap (λ (q : Row). passes shape q.rule before n) is) ∙ passed in
+    let judges : judged m unit ≡ numbered r shape (set head known n) (between (known + 1) n ((offset + w) % 2 ^ 64))
+    = judged-number m unit place
+    ∙ ap (λ (k : ℕ). number_judged m (row_at known) k) same
+    ∙ kept-numbered r shape head known before offset n (row_at known) _ keeps (omega (arith, less, long))
+    ∙ ap (λ (k : ℕ). numbered r shape (set head known n) (between (known + 1) n ((offset + k) % 2 ^ 64))) (sym wide) in
+    Takes-next s m _ at w bytes front
+    (Takes-unit m _ unit (ap is_closed place) refl (omega (arith, whole, some))
+    (whole ∙ wide ∙ sym (ap (λ (p : Place). width_at p known) place)) (sym judges))
+
+-- a reading before a run of numbers, and after it
+pub run-taken : (v m : Reading) (head later : List ℕ) (to : Between) (place : Place) (bytes : List ℕ) → v ≡ m → v.known < 80 →
+    v.place ≡ Head → v.partial ≡ [] → v.head ≡ take v.known head → place ≡ after_number to.known →
+    Takes (numbered v v.shape head (record { known = v.known; before = v.before; offset = v.offset })) bytes (numbered v v.shape later to) →
+    Takes m bytes
+    (record v { offset = to.offset; place = place; known = to.known; head = take to.known later; before = to.before })
+run-taken v m head later to place bytes same less at begun is next run =
+    let from : numbered v v.shape head (record { known = v.known; before = v.before; offset = v.offset }) ≡ m
+    = ap (λ (p : Place). record v { place = p; head = take v.known head; partial = [] }) (going-on v.known less ∙ sym at)
+    ∙ ap (λ (l : List ℕ). record v { head = l; partial = [] }) (sym is)
+    ∙ ap (λ (l : List ℕ). record v { partial = l }) (sym begun)
+    ∙ same in
+    let end : numbered v v.shape later to
+    ≡ record v { offset = to.offset; place = place; known = to.known; head = take to.known later; before = to.before }
+    = ap (λ (p : Place). record v {
+      offset = to.offset;
+      place = p;
+      known = to.known;
+      head = take to.known later;
+      before = to.before;
+      partial = [];
+    }) (sym next)
+    ∙ ap (λ (l : List ℕ). record v {
+      offset = to.offset;
+      place = place;
+      known = to.known;
+      head = take to.known later;
+      before = to.before;
+      partial = l;
+    }) (sym begun) in
+    subst (λ (s : Reading). Takes m bytes s) end (subst (λ (s : Reading). Takes s bytes (numbered v v.shape later to)) from run)
 
 more-of : {X : Type 0} (a b c m n : List X) → b ≡ a ++ m → c ≡ b ++ n → c ≡ a ++ (m ++ n)
 more-of a b c m n e f = f ∙ ap (λ l. l ++ n) e ∙ append_assoc a m n

@@ -9,7 +9,7 @@ use Rattle.checkpoint_stream.specs.Readings.{Reading, failed, moved, moved_if, k
 use Rattle.checkpoint_stream.specs.Readings.{sectors_due, after_number, is_closed, judged_at, width_at, has_frames, after_sectors}
 use Rattle.checkpoint_stream.specs.{Readings.{frames_due, frame_judged}, Sound.{IsHead, HasRecords, HasFrames, StandsAt, FramesAt}}
 use Rattle.checkpoint_stream.specs.Text.{joined, number_units, page_units, sector_units, frame_units}
-use Rattle.std.proofs.Common.{◌≡◌, ◌≢◌, ℕ, suc, zero, ◌+◌, ◌-◌, ◌<◌, ◌≤◌, ◌==◌, List, [], ◌∷◌, ◌++◌, length, Bool, true, false, refl, sym}
+use Rattle.std.proofs.Common.{◌≡◌, ◌≢◌, ℕ, suc, zero, ◌+◌, ◌<◌, ◌≤◌, ◌==◌, List, [], ◌∷◌, ◌++◌, length, Bool, true, false, refl, sym}
 use Rattle.std.proofs.{Common.{◌∙◌, ap, arith, append_assoc, count_ones, if◌then◌else◌, length-append, All, get_or}, lemmas.List.append-nil}
 use Rattle.std.proofs.lemmas.{List.length-map, Bool.Decides.nat_tests, Nat.zero_from_ones}
 use Rattle.epoch_snapshot.specs.{declared.changes.{PageChange.PageChange, SectorChange.SectorChange}, Checkpoints.block_count}

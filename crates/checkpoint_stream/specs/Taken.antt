@@ -6,12 +6,26 @@ use Rattle.arrayvec.specs.ArrayVec.{ArrayVec}
 use Rattle.checkpoint_stream.specs.declared.place.Place.{Place}
 use Rattle.checkpoint_stream.specs.declared.place.Place.TheVariants.{Head, FrameLength, FrameBytes, Whole, Failed}
 use Rattle.checkpoint_stream.specs.declared.marks.Mark.{Mark}
-use Rattle.checkpoint_stream.specs.Readings.{Reading, fed, taken, width_at}
+use Rattle.guest_machine.specs.declared.shapes.Shape.{Shape}
+use Rattle.checkpoint_stream.specs.declared.runs.Between.{Between}
+use Rattle.checkpoint_stream.specs.Readings.{Reading, fed, taken, width_at, after_number}
 
 -- the reading after the bytes is this, and all of them were taken
 pub record Takes (r : Reading) (bytes : List ℕ) (after : Reading) : Type 0 where
   pub reading : fed r bytes ≡ after
   pub count : taken r bytes ≡ length bytes
+
+-- a reading between two numbers of the head, or after the last, of which these are the first that are known
+abbrev pub numbered : Reading → Shape → List ℕ → Between → Reading
+numbered r shape head at = record r {
+  shape = shape;
+  offset = at.offset;
+  place = after_number at.known;
+  known = at.known;
+  head = take at.known head;
+  before = at.before;
+  partial = [];
+}
 
 -- a reading goes on from another: the lists of its parts begin with those of the other
 pub record Extends (old new : Reading) : Type 0 where

@@ -1,6 +1,6 @@
 //! A checkpoint as its text.
 
-ghost use Rattle.std.specs.Prelude.{◌≡◌, ◌<◌, ◌≤◌, ◌^◌, ◌++◌, length, All, IfOk, OnOk, OnErr, Err};
+ghost use Rattle.std.specs.Prelude.{◌≡◌, ◌<◌, ◌≤◌, ◌^◌, ◌++◌, length, take, All, IfOk, OnOk, OnErr, Err};
 ghost use Rattle.memory_wanted.specs.Wanted.{wanted};
 ghost use Rattle.epoch_snapshot.specs.Checkpoints.{block_count};
 ghost use Rattle.checkpoint_stream.specs.ReadBack.{ReadsBack};
@@ -19,6 +19,9 @@ use std::alloc::Global;
 
 /// The bytes of a checkpoint without records and frames: the head and the three counts.
 const LEAST_BYTES: usize = 536;
+
+/// As many bytes as the head would have if each number took eight.
+const MOST_HEAD_BYTES: usize = 8 * HEAD_NUMBERS;
 
 /// The text of a checkpoint of version 2, as the caller knows: its one spelling as bytes, in memory reserved once to its exact size.
 ///
@@ -92,10 +95,24 @@ fn put_head(out: &mut Vec<u8>, head: &[u64; HEAD_NUMBERS]) -> Result<(), MemoryW
     ensures put { OnOk result (out.new.items ≡ out.old.items ++ joined (number_units head_table head.now)) }
     ensures width { OnOk result (All (λ n. n < 2 ^ 64) head.now) }
 {
+    let mut bytes = [0; MOST_HEAD_BYTES];
+    let count = spell_head(&mut bytes, head);
+    extend_from_slice(out, &bytes[..count])
+}
+
+/// Puts the head's numbers at the front of these bytes. Answers how many they take. Of each all eight bytes are written, and the next
+/// number over those that its width leaves out.
+fn spell_head(bytes: &mut [u8; MOST_HEAD_BYTES], head: &[u64; HEAD_NUMBERS]) -> usize
+    ensures count { result ≤ 640 }
+    ensures spelled { take result bytes.new ≡ joined (number_units head_table head.now) }
+    ensures width { All (λ n. n < 2 ^ 64) head.now }
+{
+    let mut at = 0;
     for (i, n) in head.iter().enumerate() {
-        put(out, head_row(i).width, *n)?;
+        bytes[at..at + 8].copy_from_slice(&n.to_le_bytes());
+        at += head_row(i).width.bytes();
     }
-    Ok(())
+    at
 }
 
 /// The page records at the end, with their blocks.

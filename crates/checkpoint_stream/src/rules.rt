@@ -191,9 +191,22 @@ pub(crate) fn head_row(index: usize) -> Row
     HEAD[index]
 }
 
-/// Whether `n` may stand where its rule is this, after the number `before`.
+/// Whether `n` may stand where its rule is this, after the number `before`. Most rules are `Any`, which is asked first, in the caller.
+#[inline(always)]
 #[tactic(auto, unfolding(crate::specs::HeadTable::passes))]
 pub(crate) fn passes(shape: Shape, rule: Rule, before: u64, n: u64) -> bool
+    ensures { result ≡ passes shape rule before n }
+{
+    match rule {
+        Rule::Any => true,
+        _ => keeps(shape, rule, before, n),
+    }
+}
+
+/// Whether `n` keeps this rule, after the number `before`.
+#[inline(never)]
+#[tactic(auto, unfolding(crate::specs::HeadTable::passes))]
+fn keeps(shape: Shape, rule: Rule, before: u64, n: u64) -> bool
     ensures { result ≡ passes shape rule before n }
 {
     match rule {

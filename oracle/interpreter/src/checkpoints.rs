@@ -1,12 +1,16 @@
 //! Epochs of a checkpoint in plain Rust: pages change, and those that were written are compared with what they were, XORed, encoded,
 //! decoded and applied to a second memory. The bytes are those of docs/CHECKPOINT.md, of a guest at boot.
 
+use crate::hart::Machine;
 use crate::head::{self, Head};
+use std::collections::VecDeque;
 
 pub const PAGE: usize = 4096;
 pub const BLOCK: usize = 64;
 pub const SECTOR: usize = 512;
 const PAGES: usize = 16384;
+/// How many commits' frames a backup keeps.
+const KEPT: usize = 4;
 
 type Block = [u8; BLOCK];
 
@@ -57,6 +61,43 @@ pub fn run(pages: usize, blocks: usize, rounds: u64) -> u64 {
     bytes
 }
 
+/// Runs so many rounds of a guest, of so many steps each, and the first as epochs. Answers how many bytes their checkpoints had.
+pub fn send(machine: &mut Machine, sectors: u64, steps: u64, rounds: u64, cuts: u64) -> u64 {
+    let shape = [(machine.ram.len() / PAGE) as u64, sectors];
+    let (mut originals, mut image) = (machine.ram.clone(), machine.ram.clone());
+    let (mut kept, mut bytes) = (VecDeque::new(), 0);
+    for number in 1..=rounds {
+        machine.run(steps);
+        if number <= cuts {
+            let text = encode(&cut_sent(machine, &originals, head::head(shape, number)));
+            originals.copy_from_slice(&machine.ram);
+            bytes += text.len() as u64;
+            let delta = decode(&text, shape).expect("what was encoded is read back");
+            apply(&mut image, &delta);
+            if kept.len() == KEPT {
+                kept.pop_front();
+            }
+            kept.push_back(delta.frames);
+        }
+        machine.sent.clear();
+    }
+    assert!(
+        cuts < rounds || image == machine.ram,
+        "the image is the memory"
+    );
+    bytes
+}
+
+/// What changed of a guest's memory, and the frames that it sent.
+fn cut_sent(machine: &Machine, originals: &[u8], head: Head) -> Delta {
+    let mut delta = Delta::new(head);
+    for page in 0..machine.ram.len() / PAGE {
+        cut_page(&mut delta, page, originals, &machine.ram);
+    }
+    delta.frames = machine.sent.clone();
+    delta
+}
+
 /// Encodes and reads a checkpoint of that many pages and sectors so many times. Answers how many bytes its texts had.
 pub fn copy(text: &[u8], shape: [u64; 2], rounds: u64) -> u64 {
     let mut delta = decode(text, shape).expect("a checkpoint");
@@ -93,26 +134,8 @@ impl Memory {
     fn cut(&self, head: Head) -> Delta {
         let mut delta = Delta::new(head);
         for page in 0..PAGES {
-            if !self.written[page] {
-                continue;
-            }
-            let range = page * PAGE..(page + 1) * PAGE;
-            let (old, new) = (&self.originals[range.clone()], &self.bytes[range]);
-            let mut mask = 0;
-            for (i, (old, new)) in old
-                .chunks_exact(BLOCK)
-                .zip(new.chunks_exact(BLOCK))
-                .enumerate()
-            {
-                if old != new {
-                    mask |= 1u64 << i;
-                    let mut block: Block = new.try_into().expect("a block");
-                    xor_into(&mut block, old.try_into().expect("a block"));
-                    delta.blocks.push(block);
-                }
-            }
-            if mask != 0 {
-                delta.pages.push((page as u32, mask));
+            if self.written[page] {
+                cut_page(&mut delta, page, &self.originals, &self.bytes);
             }
         }
         delta
@@ -125,6 +148,28 @@ impl Memory {
                 self.originals[range.clone()].copy_from_slice(&self.bytes[range]);
             }
         }
+    }
+}
+
+/// Adds what changed of a page.
+fn cut_page(delta: &mut Delta, page: usize, originals: &[u8], bytes: &[u8]) {
+    let range = page * PAGE..(page + 1) * PAGE;
+    let (old, new) = (&originals[range.clone()], &bytes[range]);
+    let mut mask = 0;
+    for (i, (old, new)) in old
+        .chunks_exact(BLOCK)
+        .zip(new.chunks_exact(BLOCK))
+        .enumerate()
+    {
+        if old != new {
+            mask |= 1u64 << i;
+            let mut block: Block = new.try_into().expect("a block");
+            xor_into(&mut block, old.try_into().expect("a block"));
+            delta.blocks.push(block);
+        }
+    }
+    if mask != 0 {
+        delta.pages.push((page as u32, mask));
     }
 }
 

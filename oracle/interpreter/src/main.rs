@@ -8,6 +8,8 @@
 //! `interpreter frames FILE PAGES SECTORS ROUNDS` encodes and reads the checkpoint of a file, of such a machine, again and again, and prints
 //! the bytes of all texts.
 //! `interpreter checkpoints PAGES BLOCKS ROUNDS` runs epochs in which so many blocks of so many pages change, and prints their bytes.
+//! `interpreter sending IMAGE PAGES SECTORS STEPS ROUNDS CUTS` runs the guest of a file for rounds of so many steps, the first CUTS of them
+//! as epochs, and prints the bytes of these.
 //! `interpreter images COUNT` runs images from a fixed sequence, 1000 steps each, and prints one number of all that they leave.
 //! `interpreter protect PAGES SECTORS WORDS STEPS ZEROS ROUNDS` runs words for so many steps, makes an empty backup and a full checkpoint so
 //! many times, and prints the checkpoint's bytes; ZEROS is `asked` or `written`, which is how the backup's zeros come to be, or `unmade`,
@@ -61,6 +63,29 @@ fn main() {
                 rounds.parse().expect("a number of rounds"),
             )
         ),
+        ["sending", file, pages, sectors, steps, rounds, cuts] => {
+            let number = |text: &str| text.parse::<u64>().expect("a number");
+            let image = std::fs::read(file).expect("a file");
+            let words: Vec<u32> = image
+                .chunks(4)
+                .map(|bytes| {
+                    bytes
+                        .iter()
+                        .rev()
+                        .fold(0, |word, byte| word << 8 | u32::from(*byte))
+                })
+                .collect();
+            let mut machine =
+                Machine::boot(number(pages) as usize, number(sectors) as usize, &words);
+            let bytes = checkpoints::send(
+                &mut machine,
+                number(sectors),
+                number(steps),
+                number(rounds),
+                number(cuts),
+            );
+            println!("{bytes}");
+        }
         ["states", file, runs, seed] => states::print(
             &mut Machine::boot(PAGES, SECTORS, &words_of(&read(file))),
             runs.parse().expect("a number of runs"),

@@ -1,6 +1,6 @@
-use Rattle.std.proofs.{lemmas.List.{nil_from_length, length-take-le}, Common.{◌≡◌, ◌+◌, ◌++◌, ℕ, List, [], length, take, sym, ◌∙◌, ap}}
+use Rattle.std.proofs.{lemmas.List.{nil_from_length, length-take-le}, Common.{◌≡◌, ◌++◌, ℕ, List, [], length, take, sym, ◌∙◌, ap}}
 use Rattle.std.proofs.Common.{arith, append_assoc}
-use Rattle.checkpoint_stream.specs.{declared.place.Place.Place, Readings.{Reading, is_closed, width_of, width_at, frame_judged}}
+use Rattle.checkpoint_stream.specs.{declared.place.Place.Place, Readings.{Reading, is_closed, width_of, width_at}}
 use Rattle.checkpoint_stream.{specs.contracts.parts.Parts.the_view, proofs.Feeding.{Takes-unit, Takes-part, Takes-end, with_more-at}}
 use Rattle.checkpoint_stream.proofs.PlaceLemmas.{at-bytes, judged-frame, frame_judged-part}
 use Rattle.checkpoint_stream.proofs.parts.Parts.take_frame.Goals as goal

@@ -1,13 +1,19 @@
-use Rattle.std.proofs.Common.{arith}
-use Rattle.checkpoint_stream.proofs.Feeding.{Takes-nothing, Takes-more, count-inside}
+use Rattle.std.proofs.Common.{rules, ◌≡◌, ◌<◌, ◌++◌, [], take, IsTrue, refl, ◌∙◌, ap}
+use Rattle.checkpoint_stream.specs.{contracts.parts.Parts.the_view, declared.place.Place.TheVariants.Head, Readings.Reading}
+use Rattle.checkpoint_stream.proofs.{Feeding.Takes-nothing, RunLemmas.run-taken}
 use Rattle.checkpoint_stream.proofs.parts.Parts.take_numbers.Goals as goal
 
-pub loop-at-init : goal.loop-at-init
-loop-at-init c = record { inside = omega arith; read = Takes-nothing c.args.self.now }
+pub returns-then-not-is_at_number-clause-read : goal.returns-then-not-is_at_number-clause-read
+returns-then-not-is_at_number-clause-read c = Takes-nothing c.args.self.now
 
-pub loop-at-preserved : goal.loop-at-preserved
-loop-at-preserved c = record {
-  inside = count-inside c.loop-at.at _ c.args.rest.now c.loop-at.invariant.inside c.take_whole_number-at.ensures.count.1;
-  read = Takes-more c.args.self.now c.loop-at.self c.take_whole_number-at.new.self c.loop-at.at _ c.args.rest.now c.loop-at.invariant.read
-      c.take_whole_number-at.ensures.read;
-}
+pub returns-clause-read : goal.returns-clause-read
+returns-clause-read c =
+    let is : IsTrue c.is_at_number.result = search rules in
+    let at = c.is_at_number.ensures is in
+    let place : c.self.inside.place ≡ Head = ap (λ (r : Reading). r.place) c.self.view_is ∙ at.0 in
+    let begun : take c.self.inside.filled c.self.inside.buffer ++ c.self.inside.part.items ≡ []
+    = ap (λ (r : Reading). r.partial) c.self.view_is ∙ at.1 in
+    let known : c.self.inside.known < 80 = c.self.invariant.1 place in
+    run-taken (the_view c.self.inside) c.args.self.now c.self.inside.head c.read_numbers-bytes.new.head c.read_numbers-bytes.result.0
+    c.after_number-self-inside.result _ c.self.view_is known place begun refl c.after_number-self-inside.ensures.value
+    (c.read_numbers-bytes.ensures.read (the_view c.self.inside))
