@@ -1,4 +1,4 @@
-//! The command line: `remus sim FILE`, `remus check-stream FILE --pages P --sectors S`, and `remus live`.
+//! The command line: `remus sim FILE`, `remus run FILE`, `remus check-stream FILE --pages P --sectors S`, and `remus live`.
 
 ghost use Rattle.std.specs.Prelude.{◌<◌, ◌≤◌, IfSome, length};
 
@@ -12,6 +12,8 @@ use std::alloc::Global;
 pub enum Invocation<'a> {
     /// To play the script of this file.
     Sim(&'a str),
+    /// To run the pair of this file in threads.
+    Run(&'a str),
     /// To list the checkpoints of this file, of a machine of this shape.
     CheckStream(&'a str, Shape),
     /// To play lines as they come.
@@ -25,6 +27,7 @@ pub enum Invocation<'a> {
 /// Where the words are no command line of `remus`, or ask for help.
 pub fn read<'a>(alloc: Global, words: &'a [String]) -> Result<Option<Invocation<'a>>, Error> {
     let sim = Command::new(alloc, "sim").arg(file_argument(alloc))?;
+    let run = Command::new(alloc, "run").arg(file_argument(alloc))?;
     let check_stream = Command::new(alloc, "check-stream")
         .arg(file_argument(alloc))?
         .arg(Arg::new(alloc, "pages").long("pages").required(true))?
@@ -32,11 +35,15 @@ pub fn read<'a>(alloc: Global, words: &'a [String]) -> Result<Option<Invocation<
     let command = Command::new(alloc, "remus")
         .subcommand_required(true)
         .subcommand(sim)?
+        .subcommand(run)?
         .subcommand(check_stream)?
         .subcommand(Command::new(alloc, "live"))?;
     let matches = command.try_get_matches_from(words)?;
     if let Some(sim) = matches.subcommand_matches("sim") {
         return Ok(file_of(sim).map(Invocation::Sim));
+    }
+    if let Some(run) = matches.subcommand_matches("run") {
+        return Ok(file_of(run).map(Invocation::Run));
     }
     if let Some(check) = matches.subcommand_matches("check-stream") {
         return Ok(check_stream_of(check));

@@ -5,12 +5,15 @@ mod command_line;
 
 use command_line::Invocation;
 use pair_core::Shape;
+use pair_threads::run as run_pair;
 use script_player::check_stream::check_stream;
 use script_player::live::live;
 use script_player::sim::sim;
 use script_player::streams::{CheckedReader, CheckedWriter};
 use std::io::BufWriter;
 use std::process::ExitCode;
+use std::sync::Wait;
+use std::thread::Threads;
 use std::{env, fs, io};
 
 /// The exit status of a refusal.
@@ -20,19 +23,20 @@ const REFUSED: u8 = 1;
 const BAD_COMMAND_LINE: u8 = 2;
 
 fn main(rt: HostRuntime) -> ExitCode {
-    match run(&rt) {
+    match run(&rt, &rt) {
         Ok(status) => ExitCode::from(status),
         Err(_) => ExitCode::from(REFUSED),
     }
 }
 
-/// Does what the command line asks for. Answers the exit status.
-fn run(rt: &HostRuntime) -> io::Result<u8> {
+/// Does what the command line asks for, if need be in threads. Answers the exit status.
+fn run<T: Threads + Wait + Sync>(rt: &HostRuntime, threads: &T) -> io::Result<u8> {
     let Ok(words) = arguments(rt) else {
         return refuse_command_line(rt);
     };
     match command_line::read(rt.alloc(), words.as_slice()) {
         Ok(Some(Invocation::Sim(file))) => play_script(rt, file),
+        Ok(Some(Invocation::Run(file))) => run_file(rt, threads, file),
         Ok(Some(Invocation::CheckStream(file, shape))) => list_stream(rt, file, shape),
         Ok(Some(Invocation::Live)) => Ok(play_lines(rt)),
         _ => refuse_command_line(rt),
@@ -51,6 +55,20 @@ fn play_script(rt: &HostRuntime, file: &str) -> io::Result<u8> {
     let mut out = CheckedWriter::new(out);
     let mut err = CheckedWriter::new(rt.stderr());
     Ok(sim(alloc, source.as_slice(), &mut out, &mut err))
+}
+
+/// Runs the pair of this file in threads. Answers the exit status.
+fn run_file<T: Threads + Wait + Sync>(rt: &HostRuntime, threads: &T, file: &str) -> io::Result<u8> {
+    let alloc = rt.alloc();
+    let Ok(source) = fs::read(rt, file) else {
+        return refuse_file(rt, file);
+    };
+    let Ok(out) = BufWriter::new(alloc, rt.stdout()) else {
+        return refuse_memory(rt);
+    };
+    let mut out = CheckedWriter::new(out);
+    let mut err = CheckedWriter::new(rt.stderr());
+    Ok(run_pair(threads, alloc, source.as_slice(), &mut out, &mut err))
 }
 
 /// Plays the lines of standard input as they come. Answers the exit status. Nothing stands between an answer and standard output.

@@ -1,0 +1,88 @@
+-- The lines of a file, answered.
+use Rattle.std.proofs.Common.{◌≡◌, ℕ, suc, ◌-◌, ◌≤◌, ◌<◌, List, [], ◌∷◌, ◌++◌, map, length, Option, None, set, slice_index_or, refl, sym}
+use Rattle.std.proofs.Common.{ap, subst, ◌∙◌, arith, append_assoc, append-nil}
+use Rattle.pair_history.specs.HistoryState.{HistoryState}
+use Rattle.pair_run.specs.declared.run_file.ClientLine.{ClientLine}
+use Rattle.hypervisor.specs.Clients.{ClientState, own}
+use Rattle.hypervisor.specs.Opening.{new_client}
+use Rattle.pair_threads.specs.Lines.{clients_of}
+use Rattle.pair_threads.specs.Seats.{AreSeated, sits}
+use Rattle.pair_threads.specs.Served.{AreServed}
+use Rattle.pair_threads.specs.Told.{AreAnswered, IsAnswered, HasMade, told_by}
+use Rattle.pair_threads.specs.internal.Scripts.{ScriptState, IsPlayed, IsScript, AreScripts, answered_of}
+use Rattle.pair_threads.proofs.SeatLemmas.{taken}
+
+-- one script more
+pub more-scripts : (lines : List ClientLine) (scripts : List ScriptState) (line : ClientLine) (script : ScriptState) → AreScripts lines scripts
+    → IsScript line script → AreScripts (lines ++ line ∷ []) (scripts ++ script ∷ [])
+more-scripts [] [] line script are is = (is, tt)
+more-scripts [] (s ∷ ss) line script are is = absurd are
+more-scripts (l ∷ ls) [] line script are is = absurd are
+more-scripts (l ∷ ls) (s ∷ ss) line script are is = (are.0, more-scripts ls ss line script are.1 is)
+
+module _ (start : HistoryState) (unseen : (c : ℕ) → own start (new_client c) ≡ []) where
+  one-answered : (line : ClientLine) (script ended : ScriptState) → IsScript line script → IsPlayed start script ended
+      → IsAnswered start line (answered_of ended)
+  one-answered line script ended is played =
+      let same : ended.line ≡ line = played.0 ∙ is.line in
+      let made = played.1 is.room in
+      let first : script.client.number ≡ line.client = ap (λ c. c.number) is.client in
+      let number : ended.client.number ≡ line.client = made.number ∙ first in
+      let does = ap (λ l. l.actions.items) is.line in
+      let nothing : own start script.client ≡ [] = ap (own start) is.client ∙ unseen line.client in
+      record {
+        client = ap (λ l. l.client) same;
+        all = made.all ∙ ap length does;
+        seen = ended.client.seen;
+        own = ap (λ n. own start (record { number = n; seen = ended.client.seen })) (sym number)
+            ∙ (made.own
+            ∙ (ap (λ es. es ++ told_by script.client.number script.line.actions.items ended.replies.items) nothing
+            ∙ (ap (λ n. told_by n script.line.actions.items ended.replies.items) first
+            ∙ ap (λ acts. told_by line.client acts ended.replies.items) does)));
+        legal = made.legal;
+        guest = made.guest;
+      }
+
+  pub answered-all : (lines : List ClientLine) (scripts ended : List ScriptState) → AreScripts lines scripts
+      → AreServed (IsPlayed start) scripts ended → AreAnswered start lines (map answered_of ended)
+  answered-all [] [] [] are served = tt
+  answered-all [] [] (e ∷ es) are served = absurd (omega (arith, served.0))
+  answered-all [] (s ∷ ss) ended are served = absurd are
+  answered-all (l ∷ ls) [] ended are served = absurd are
+  answered-all (l ∷ ls) (s ∷ ss) [] are served = absurd (omega (arith, served.0))
+  answered-all (l ∷ ls) (s ∷ ss) (e ∷ es) are served = (
+    one-answered l s e are.0 (served.1 0 s (omega arith)),
+    answered-all ls ss es are.1 (omega (arith, served.0), λ i x low. served.1 (suc i) x (omega arith)),
+  )
+
+-- ---- a line more
+
+pub sits-first : (seats : List (Option ClientState)) (left rest : List ClientLine) (line : ClientLine) → left ≡ line ∷ rest
+    → AreSeated seats (clients_of left) → (1 ≤ line.client) × sits seats line.client
+sits-first seats left rest line is seated =
+    let first = subst (λ ls. AreSeated seats (clients_of ls)) is seated in
+    (first.0, first.1)
+
+pub seated-on : (seats seats' : List (Option ClientState)) (left rest : List ClientLine) (line : ClientLine) → left ≡ line ∷ rest
+    → AreSeated seats (clients_of left) → seats' ≡ set seats (line.client - 1) None → AreSeated seats' (clients_of rest)
+seated-on seats seats' left rest line is seated left' =
+    let first = subst (λ ls. AreSeated seats (clients_of ls)) is seated in
+    subst (λ ss. AreSeated ss (clients_of rest)) (sym left') (taken seats (clients_of rest) line.client first.0 first.2 first.3)
+
+-- the lines so far have their scripts, of all these lines
+abbrev pub HaveScripts : List ClientLine → List ClientLine → List ScriptState → Type 0
+HaveScripts all left scripts = (done : List ClientLine) × (done ++ left ≡ all) × AreScripts done scripts
+
+pub scripts-on : (all left rest : List ClientLine) (line : ClientLine) (scripts scripts' : List ScriptState) (script : ScriptState)
+    → left ≡ line ∷ rest → HaveScripts all left scripts → IsScript line script → scripts' ≡ scripts ++ script ∷ []
+    → HaveScripts all rest scripts'
+scripts-on all left rest line scripts scripts' script is have one more = (
+  have.0 ++ line ∷ [],
+  append_assoc have.0 (line ∷ []) rest ∙ (ap (λ ls. have.0 ++ ls) (sym is) ∙ have.1),
+  subst (AreScripts (have.0 ++ line ∷ [])) (sym more) (more-scripts have.0 scripts line script have.2 one),
+)
+
+pub scripts-all : (all left : List ClientLine) (scripts : List ScriptState) → left ≡ [] → HaveScripts all left scripts
+    → AreScripts all scripts
+scripts-all all left scripts none have =
+    subst (λ ls. AreScripts ls scripts) (sym (append-nil have.0) ∙ (ap (λ ls. have.0 ++ ls) (sym none) ∙ have.1)) have.2

@@ -1,0 +1,5 @@
+pub mod LineLemmas
+pub mod SeatLemmas
+pub mod ToldLemmas
+pub mod AnswerLemmas
+pub mod RunLemmas

@@ -1,0 +1,51 @@
+-- What was printed of a run.
+use Rattle.std.proofs.Common.{◌≡◌, ℕ, ◌⊎◌, inl, inr, List, [], ◌++◌, Result, Ok, Err, subst, sym, ap, ◌∙◌, append_assoc, append-nil}
+use Rattle.std.specs.Io.KnownBytes.{Appends}
+use Rattle.std.proofs.KnownBytes.{Appends-trans}
+use Rattle.script_player.specs.Streams.{Writing, Writes, WritesFront, IsPut}
+use Rattle.pair_run.specs.RunPrinted.{IsWritten, run_text}
+use Rattle.pair_run.specs.declared.printing.Answered.{Answered}
+use Rattle.pair_run.specs.declared.run_file.RunFile.{RunFile}
+use Rattle.pair_threads.specs.Runs.{IsPlayed, IsRun, IsRunOf, IsSaid, whole, cut_short, is_bad, unread}
+use Rattle.pair_threads.specs.internal.Shown.{IsShown, IsTold}
+use Rattle.pair_run.specs.Views.{IsReadAs}
+use Rattle.pair_run.specs.declared.run_file.Unread.{Unread}
+use Rattle.pair_run.specs.declared.run_file.Unread.TheVariants.{Bad, NoMemory}
+
+pub written-said : {T E : Type 0} (old new : Writing) (r : Result T E) (bytes : List ℕ) → IsWritten old new r bytes → IsSaid old new bytes
+written-said old new (Ok done) bytes w = inl w
+written-said old new (Err e) bytes w = inr w
+
+pub put-said : {T E : Type 0} (old new : Writing) (r : Result T E) (bytes : List ℕ) → IsPut old new r bytes → IsSaid old new bytes
+put-said old new (Ok done) bytes p = inl p.0
+put-said old new (Err e) bytes p = inr p
+
+-- what was put is written out
+pub put-shown : {T E : Type 0} (old mid new : Writing) (r : Result T E) (bytes : List ℕ) → Writes old mid bytes → IsPut mid new r []
+    → IsWritten old new r bytes
+put-shown old mid new (Ok done) bytes w p = record {
+  all = subst (Appends old.bytes new.bytes) (append-nil bytes) (Appends-trans old.bytes mid.bytes new.bytes bytes [] w.all p.0.all);
+  well = p.0.well;
+}
+put-shown old mid new (Err e) bytes w p =
+    let front = p.front.0 in
+    let rest = p.front.1 in
+    record {
+      front = (
+        bytes ++ front,
+        rest,
+        sym (append-nil bytes) ∙ (ap (λ l. bytes ++ l) p.front.2 ∙ sym (append_assoc bytes front rest)),
+        Appends-trans old.bytes mid.bytes new.bytes bytes front w.all p.front.3,
+      );
+      badly = p.badly;
+    }
+
+pub shown-played : (file : RunFile) (clients : List Answered) (entries : ℕ) (old new : Writing) (status : ℕ) → IsRunOf file clients
+    → IsShown (run_text clients entries) old new status → IsPlayed file old new status
+shown-played file clients entries old new status is (inl shown) = whole clients entries is shown.0 shown.1
+shown-played file clients entries old new status is (inr shown) = cut_short clients entries is shown.0 shown.1
+
+pub told-run : (source : List ℕ) (why : Unread) (out out' err err' : Writing) (status : ℕ) → IsReadAs source (Err why)
+    → IsTold why out out' err err' status → IsRun source out out' err err' status
+told-run source (Bad number) out out' err err' status means told = is_bad number means told.0 told.1 told.2
+told-run source (NoMemory wanted) out out' err err' status means told = unread told.0 told.1 told.2

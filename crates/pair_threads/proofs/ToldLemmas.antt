@@ -1,0 +1,97 @@
+-- What a client's answers tell, action by action.
+use Rattle.std.proofs.Common.{◌≡◌, ℕ, ◌+◌, ◌≤◌, ◌<◌, suc, List, [], ◌∷◌, ◌++◌, length, take, get_or, refl, sym, ap, subst, ◌∙◌, arith}
+use Rattle.std.proofs.Common.{append_assoc, append-nil, length-append, add-one, Vec, Global}
+use Rattle.std.proofs.Math.Seq.{take-suc}
+use Rattle.std.proofs.lemmas.List.{length-take-le}
+use Rattle.pair_history.specs.Entries as entries
+use Rattle.pair_history.specs.Entries.{Entry}
+use Rattle.pair_history.specs.HistoryState.{HistoryState}
+use Rattle.pair_record.specs.declared.event.Refusal.{Refusal}
+use Rattle.pair_record.specs.declared.event.Refusal.TheVariants.{Full, BadFrame, NoClient, Stopped, Behind, NotPaired, AlreadyPaired}
+use Rattle.pair_record.specs.declared.event.Refusal.TheVariants.{NoImage, Stale, Gap, NoMemory, CutNeeded, Exhausted, OldVersion}
+use Rattle.pair_record.specs.declared.event.Reply.{Reply}
+use Rattle.pair_record.specs.declared.event.Reply.TheVariants as replies
+use Rattle.pair_run.specs.declared.run_file.Action.{Action}
+use Rattle.pair_run.specs.declared.run_file.Action.TheVariants as actions
+use Rattle.growing_history.specs.Entries.{own_entries}
+use Rattle.growing_history.specs.LogState.{history_of}
+use Rattle.hypervisor.specs.Clients.{ClientState, own, Calls, AfterRefusedDelivery}
+use Rattle.pair_threads.specs.Told.{told, told_by}
+use Rattle.pair_threads.specs.internal.Scripts.{Tells}
+
+-- a call's entry is one more of the client's own
+pub called : (start : HistoryState) (e : Entry) (old new : ClientState) → Calls start e old new → own start new ≡ own start old ++ e ∷ []
+called start e old new is = ap (λ n. own_entries n (history_of start new.seen)) is.number ∙ is.entry.mine
+
+-- after a refusal there is none
+pub uncalled : (start : HistoryState) (old new : ClientState) → new ≡ old → own start new ≡ own start old ++ []
+uncalled start old new same = ap (own start) same ∙ sym (append-nil (own start old))
+
+module _ (start : HistoryState) (old new : ClientState) where
+  as-before : new ≡ old → (new.number ≡ old.number) × (own start new ≡ own start old ++ [])
+  as-before same = (ap (λ c. c.number) same, uncalled start old new same)
+
+  -- of a delivery that was refused
+  pub not-delivered : (bytes : Vec ℕ Global) (why : Refusal) → AfterRefusedDelivery start (record { items = bytes.items }) why old new
+      → Tells start (actions.Deliver bytes) (replies.Refused why) old new
+  not-delivered bytes Full a = (a.number, called start (entries.Refused old.number (record { items = bytes.items })) old new a)
+  not-delivered bytes BadFrame a = as-before a
+  not-delivered bytes NoClient a = as-before a
+  not-delivered bytes Stopped a = as-before a
+  not-delivered bytes Behind a = as-before a
+  not-delivered bytes NotPaired a = as-before a
+  not-delivered bytes AlreadyPaired a = as-before a
+  not-delivered bytes NoImage a = as-before a
+  not-delivered bytes Stale a = as-before a
+  not-delivered bytes Gap a = as-before a
+  not-delivered bytes (NoMemory m) a = as-before a
+  not-delivered bytes CutNeeded a = as-before a
+  not-delivered bytes Exhausted a = as-before a
+  not-delivered bytes OldVersion a = as-before a
+
+-- one action more
+told-more : (c : ℕ) (does : List Action) (action : Action) (answers : List Reply) (reply : Reply) → length answers ≡ length does
+    → told_by c (does ++ action ∷ []) (answers ++ reply ∷ []) ≡ told_by c does answers ++ told c action reply
+told-more c [] action [] reply same = append-nil (told c action reply)
+told-more c [] action (r ∷ rs) reply same = absurd (cc)
+told-more c (d ∷ ds) action [] reply same = absurd (cc)
+told-more c (d ∷ ds) action (r ∷ rs) reply same =
+    ap (λ es. told c d r ++ es) (told-more c ds action rs reply (omega (arith, same)))
+    ∙ sym (append_assoc (told c d r) (told_by c ds rs) (told c action reply))
+
+-- So many actions were made, and this is what the answers to them tell.
+pub record HasMadeSome (start : HistoryState) (does : List Action) (count : ℕ) (answers : List Reply) (old new : ClientState) : Type 0 where
+  pub number : new.number ≡ old.number
+  pub some : length answers ≡ count
+  pub own : own start new ≡ own start old ++ told_by old.number (take count does) answers
+
+pub none-made : (start : HistoryState) (does : List Action) (answers : List Reply) (client : ClientState) → answers ≡ []
+    → HasMadeSome start does 0 answers client client
+none-made start does answers client none = record {
+  number = refl;
+  some = ap length none;
+  own = sym (append-nil (own start client));
+}
+
+pub one-more-made : (start : HistoryState) (does : List Action) (count : ℕ) (answers : List Reply) (old now new : ClientState)
+    (action : Action) (reply : Reply) → HasMadeSome start does count answers old now → count < length does → action ≡ get_or does count action
+    → Tells start action reply now new
+    → HasMadeSome start does (count + 1) (answers ++ reply ∷ []) old new
+one-more-made start does count answers old now new action reply made low is tells =
+    let some = made.some in
+    let before = take count does in
+    let all : take (suc count) does ≡ before ++ action ∷ [] =
+    take-suc does count action low ∙ ap (λ (x : Action). before ++ x ∷ []) (sym is) in
+    let more : told_by old.number (take (suc count) does) (answers ++ reply ∷ []) ≡ told_by old.number before answers ++ told old.number action reply =
+    ap (λ (xs : List Action). told_by old.number xs (answers ++ reply ∷ [])) all
+    ∙ told-more old.number before action answers reply (some ∙ sym (length-take-le count does (omega arith))) in
+    let here : told now.number action reply ≡ told old.number action reply = ap (λ n. told n action reply) made.number in
+    record {
+      number = tells.0 ∙ made.number;
+      some = omega (arith, length-append answers (reply ∷ []));
+      own = tells.1
+          ∙ (ap (λ es. own start now ++ es) here
+          ∙ (ap (λ es. es ++ told old.number action reply) made.own
+          ∙ (append_assoc (own start old) (told_by old.number before answers) (told old.number action reply)
+          ∙ ap (λ es. own start old ++ es) (sym (ap (λ k. told_by old.number (take k does) (answers ++ reply ∷ [])) (add-one count) ∙ more)))));
+    }

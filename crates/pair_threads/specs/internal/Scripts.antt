@@ -1,0 +1,51 @@
+-- What a client's thread has.
+use Rattle.std.specs.Prelude.{◌≡◌, ◌≤◌, List, [], ◌∷◌, ◌++◌, length, Vec, vec_capacity}
+use Rattle.std.specs.Global.{Global}
+use Rattle.pair_history.specs.HistoryState.{HistoryState}
+use Rattle.pair_record.specs.declared.event.Reply.{Reply}
+use Rattle.pair_run.specs.declared.printing.Answered.{Answered}
+use Rattle.pair_run.specs.declared.run_file.Action.{Action}
+use Rattle.pair_run.specs.declared.run_file.ClientLine.{ClientLine}
+use Rattle.hypervisor.specs.Clients.{ClientState, own}
+use Rattle.hypervisor.specs.Opening.{new_client}
+use Rattle.pair_threads.specs.Told.{HasMade, told}
+
+pub record ScriptState : Type 0 where
+  pub client : ClientState
+  pub line : ClientLine
+  -- what the client was answered so far
+  pub replies : Vec Reply Global
+
+abbrev pub script_state : ClientState → ClientLine → Vec Reply Global → ScriptState
+script_state client line replies = record { client = client; line = line; replies = replies }
+
+-- nothing was answered yet, and there is room for an answer to each action
+pub record HasRoom (script : ScriptState) : Type 0 where
+  pub none : script.replies.items ≡ []
+  pub enough : length script.line.actions.items ≤ vec_capacity script.replies
+
+-- one action was answered so: the client's own entries are those before and what the answer tells
+abbrev pub Tells : HistoryState → Action → Reply → ClientState → ClientState → Type 0
+Tells start action reply old new =
+    (new.number ≡ old.number) × (own start new ≡ own start old ++ told old.number action reply)
+
+-- the thread has made all actions, where there was room for the answers
+abbrev pub IsPlayed : HistoryState → ScriptState → ScriptState → Type 0
+IsPlayed start old new =
+    (new.line ≡ old.line)
+    × (HasRoom old → HasMade start old.line.actions.items new.replies.items old.client new.client)
+
+-- the script of a line, with the client, who has seen nothing
+pub record IsScript (read : ClientLine) (script : ScriptState) : Type 0 where
+  pub client : script.client ≡ new_client read.client
+  pub line : script.line ≡ read
+  pub room : HasRoom script
+
+abbrev pub AreScripts : List ClientLine → List ScriptState → Type 0
+AreScripts [] [] = Unit {0}
+AreScripts [] (script ∷ scripts) = ⊥
+AreScripts (line ∷ lines) [] = ⊥
+AreScripts (line ∷ lines) (script ∷ scripts) = IsScript line script × AreScripts lines scripts
+
+abbrev pub answered_of : ScriptState → Answered
+answered_of script = record { client = script.line.client; replies = script.replies }

@@ -1,0 +1,175 @@
+//! `remus run FILE`.
+ghost use Rattle.std.specs.Prelude.{◌≡◌, ◌⊎◌, IfOk, codes};
+ghost use Rattle.hypervisor.specs.Opening.{start_with};
+ghost use Rattle.pair_run.specs.RunPrinted.{IsWritten, run_text};
+ghost use Rattle.pair_threads.specs.Lines.{AreClients, clients_of};
+ghost use Rattle.pair_threads.specs.Told.{AreAnswered};
+ghost use Rattle.pair_threads.specs.Runs.{IsPlayed, IsRun, IsRunOf, IsSaid};
+ghost use Rattle.pair_threads.specs.internal.Shown.{IsShown, IsTold};
+ghost use Rattle.script_player.specs.Boot.{IsInLimits, boot_line};
+
+use crate::booting::boot_pair;
+use crate::scripts::{answered, scripts_of};
+use crate::threads::{members_of, run_members};
+use hypervisor::{Pair, UnnamedPair};
+use memory_wanted::{MemoryWanted, with_capacity};
+use pair_run::{Answered, ClientLine, RunFile, Unread, read_run, write_run};
+use script_player::sim::tell_bad_line;
+use script_player::streams::{Failed, Sink};
+use std::alloc::{AllocError, Global};
+use std::marker::Brand;
+use std::sync::Wait;
+use std::thread::Threads;
+
+/// What came of a run.
+#[derive(Drop)]
+struct Played {
+    clients: Vec<Answered>,
+    entries: u64,
+    is_whole: bool,
+}
+
+/// There is no memory for a run, or no thread can be made.
+#[derive(Drop)]
+struct Unplayed;
+
+impl From<AllocError> for Unplayed {
+    fn from(_: AllocError) -> Unplayed {
+        Unplayed
+    }
+}
+
+impl From<MemoryWanted> for Unplayed {
+    fn from(_: MemoryWanted) -> Unplayed {
+        Unplayed
+    }
+}
+
+/// Runs the pair of the file `source` in threads, and prints on `out` what each client was answered, and on `err` a bad line. Answers the
+/// exit status: 0, or 1 after a bad line, a refused boot line, a run that ended early or a write that failed.
+pub fn run<R: Threads + Wait + Sync, O: Sink, E: Sink>(
+    rt: &R,
+    alloc: Global,
+    source: &[u8],
+    out: &mut O,
+    err: &mut E,
+) -> u8
+    ensures { IsRun source.now (O.written out.old) (O.written out.new) (E.written err.old) (E.written err.new) result }
+{
+    match read_run(alloc, source) {
+        Ok(file) => run_file(rt, alloc, file, out),
+        Err(why) => tell(&why, out, err),
+    }
+}
+
+/// Tells why a file isn't read. Answers the exit status.
+fn tell<O: Sink, E: Sink>(why: &Unread, out: &mut O, err: &mut E) -> u8
+    ensures { IsTold why.now (O.written out.old) (O.written out.new) (E.written err.old) (E.written err.new) result }
+{
+    match why {
+        Unread::Bad(number) => {
+            let _ = tell_bad_line(*number, err);
+            1
+        }
+        Unread::NoMemory(_) => refuse(out),
+    }
+}
+
+/// Runs what a file says, and prints what came of it. Answers the exit status.
+fn run_file<R: Threads + Wait + Sync, O: Sink>(
+    rt: &R,
+    alloc: Global,
+    file: RunFile,
+    out: &mut O,
+) -> u8
+    requires limits { IsInLimits (boot_line file.boot) }
+    requires clients { AreClients file.boot.clients (clients_of file.clients.items) }
+    ensures { IsPlayed file (O.written out.old) (O.written out.new) result }
+{
+    match play(rt, alloc, file) {
+        Ok(played) => print(&played, out),
+        Err(Unplayed) => refuse(out),
+    }
+}
+
+/// Prints what came of a run. Answers the exit status.
+fn print<O: Sink>(played: &Played, out: &mut O) -> u8
+    ensures { IsShown (run_text played.now.clients.items played.now.entries) (O.written out.old) (O.written out.new) result }
+{
+    match write_run(played.clients.as_slice(), played.entries, out) {
+        Ok(()) => status_of(played.is_whole),
+        Err(Failed) => 1,
+    }
+}
+
+/// The exit status of a run that is printed.
+fn status_of(is_whole: bool) -> u8
+    ensures { (result ≡ 0) ⊎ (result ≡ 1) }
+{
+    if is_whole { 0 } else { 1 }
+}
+
+/// Prints that there is no memory. Answers the exit status.
+fn refuse<O: Sink>(out: &mut O) -> u8
+    ensures status { result ≡ 1 }
+    ensures said { IsSaid (O.written out.old) (O.written out.new) (codes "refused 12 NoMemory\n") }
+{
+    let _ = write_refused(out);
+    1
+}
+
+/// Writes out that there is no memory.
+///
+/// # Errors
+///
+/// Where a write fails.
+fn write_refused<O: Sink>(out: &mut O) -> Result<(), Failed>
+    ensures { IsWritten (O.written out.old) (O.written out.new) result (codes "refused 12 NoMemory\n") }
+{
+    out.put(b"refused 12 NoMemory\n")?;
+    out.show()
+}
+
+/// Boots the pair that a file asks for, and runs it.
+///
+/// # Errors
+///
+/// [`Unplayed`] where there is no memory for it, or a thread can't be made.
+fn play<R: Threads + Wait + Sync>(rt: &R, alloc: Global, file: RunFile) -> Result<Played, Unplayed>
+    requires limits { IsInLimits (boot_line file.boot) }
+    requires clients { AreClients file.boot.clients (clients_of file.clients.items) }
+    ensures { IfOk result (λ played. IsRunOf file played.clients.items) }
+{
+    let pair = boot_pair(alloc, &file.boot)?;
+    play_named::<Brand, _>(rt, alloc, pair, file.epochs, file.steps, file.clients)
+}
+
+/// Names the pair, and runs it.
+///
+/// # Errors
+///
+/// [`Unplayed`] where there is no memory for it, or a thread can't be made.
+fn play_named<P: Pair + Send + Sync, R: Threads + Wait + Sync>(
+    rt: &R,
+    alloc: Global,
+    pair: UnnamedPair,
+    epochs: u64,
+    steps: u64,
+    lines: Vec<ClientLine>,
+) -> Result<Played, Unplayed>
+    requires word { pair.word ≡ P.word }
+    requires start { P.start ≡ start_with pair.guest pair.clients }
+    requires clients { AreClients pair.clients (clients_of lines.items) }
+    ensures { IfOk result (λ played. AreAnswered P.start lines.items played.clients.items) }
+{
+    let mut list = with_capacity(alloc, lines.len())?;
+    let (clients, members) = members_of::<P>(alloc, pair)?;
+    let scripts = scripts_of(alloc, clients, lines)?;
+    let ended = run_members(rt, alloc, members, epochs, steps, scripts)?;
+    answered(ended.sessions, &mut list)?;
+    Ok(Played {
+        clients: list,
+        entries: ended.entries,
+        is_whole: ended.is_whole,
+    })
+}

@@ -1,0 +1,184 @@
+//! What the clients of a file do.
+ghost use Rattle.std.specs.Prelude.{◌≡◌, ◌≤◌, ◌-◌, [], IfOk, OnOk, None, Some, length, map, set, vec_capacity};
+ghost use Rattle.hypervisor.specs.Opening.{new_client};
+ghost use Rattle.pair_run.specs.declared.run_file.Action.TheVariants.{Deliver, Take};
+ghost use Rattle.pair_threads.specs.Lines.{clients_of};
+ghost use Rattle.pair_threads.specs.Seats.{AreSeated, sits};
+ghost use Rattle.pair_threads.specs.Told.{HasMade};
+ghost use Rattle.pair_threads.specs.internal.Scripts.{AreScripts, Tells, answered_of};
+
+use crate::sessions::Session;
+use hypervisor::{Client, Pair, answers_are_of_one_guest};
+use memory_wanted::{MemoryWanted, push, with_capacity};
+use pair_record::Reply;
+use pair_run::{Action, Answered, ClientLine};
+use std::alloc::Global;
+use std::marker::Model;
+use std::sync::Wait;
+
+/// A client, its line, and what it was answered so far. Contracts see it as a `ScriptState` of the specs.
+#[derive(Drop)]
+pub(crate) struct Script<P: Pair> {
+    client: Client<P>,
+    line: ClientLine,
+    replies: Vec<Reply>,
+}
+
+impl<P: Pair> Model for Script<P> {
+    ghost use Rattle.pair_threads.specs.internal.Scripts.{ScriptState, script_state};
+
+    ghost Value = { ScriptState };
+
+    ghost view = { λ s. script_state s.client s.line s.replies };
+}
+
+impl<P: Pair + Send + Sync> Session for Script<P> {
+    ghost use Rattle.pair_threads.specs.internal.Scripts.{IsPlayed};
+
+    ghost served = { IsPlayed P.start };
+
+    /// Makes the line's actions in their order.
+    fn serve<R: Wait>(&mut self, rt: &R) -> bool {
+        let Script {
+            client,
+            line,
+            replies,
+        } = self;
+        play(rt, client, line.actions.as_slice(), replies)
+    }
+}
+
+/// The client makes these actions, one after another, and keeps what it is answered. Answers whether there was room for all answers.
+fn play<P: Pair, R: Wait>(
+    rt: &R,
+    client: &mut Client<P>,
+    actions: &[Action],
+    replies: &mut Vec<Reply>,
+) -> bool
+    ensures { replies.old.items ≡ [] → length actions.now ≤ vec_capacity replies.old
+        → HasMade P.start actions.now replies.new.items client.old client.new }
+{
+    for action in actions {
+        let reply = act(rt, client, action);
+        let Ok(()) = push(replies, reply) else {
+            return false;
+        };
+    }
+    client.number();
+    answers_are_of_one_guest(client);
+    true
+}
+
+/// Makes one action. Answers what it was answered.
+fn act<P: Pair, R: Wait>(rt: &R, client: &mut Client<P>, action: &Action) -> Reply
+    ensures { Tells P.start action.now result client.old client.new }
+{
+    match action {
+        Action::Take => take(rt, client),
+        Action::Deliver(bytes) => deliver(rt, client, bytes),
+    }
+}
+
+/// Takes a frame.
+fn take<P: Pair, R: Wait>(rt: &R, client: &mut Client<P>) -> Reply
+    ensures { Tells P.start Take result client.old client.new }
+{
+    match client.take(rt) {
+        Ok(frame) => Reply::Took(frame),
+        Err(why) => Reply::Refused(why),
+    }
+}
+
+/// Delivers these bytes.
+fn deliver<P: Pair, R: Wait>(rt: &R, client: &mut Client<P>, bytes: &Vec<u8>) -> Reply
+    ensures { Tells P.start (Deliver bytes.now) result client.old client.new }
+{
+    match client.deliver(rt, bytes.as_slice()) {
+        Ok(number) => Reply::Delivered(number),
+        Err(why) => Reply::Refused(why),
+    }
+}
+
+/// Each client at its place, client 1 at the first.
+///
+/// # Errors
+///
+/// [`MemoryWanted`] where the room for the places can't be had.
+fn seats_of<P: Pair>(
+    alloc: Global,
+    clients: Vec<Client<P>>,
+) -> Result<Vec<Option<Client<P>>>, MemoryWanted>
+    ensures { IfOk result (λ seats. seats.items ≡ map Some clients.items) }
+{
+    let mut seats = with_capacity(alloc, clients.len())?;
+    for client in clients {
+        push(&mut seats, Some(client))?;
+    }
+    Ok(seats)
+}
+
+/// Takes this client from its place.
+fn take_client<P: Pair>(seats: &mut Vec<Option<Client<P>>>, number: u64) -> Client<P>
+    requires one { 1 ≤ number }
+    requires sits { sits seats.old.items number }
+    ensures client { result ≡ new_client number }
+    ensures seats { seats.new.items ≡ set seats.old.items (number - 1) None }
+{
+    let at = (number - 1) as usize;
+    let Some(client) = seats[at].take() else {
+        unreachable!();
+    };
+    client
+}
+
+/// The scripts of these lines, in their order, with room for all answers.
+///
+/// # Errors
+///
+/// [`MemoryWanted`] where that room can't be had.
+pub(crate) fn scripts_of<P: Pair>(
+    alloc: Global,
+    clients: Vec<Client<P>>,
+    lines: Vec<ClientLine>,
+) -> Result<Vec<Script<P>>, MemoryWanted>
+    requires { AreSeated (map Some clients.items) (clients_of lines.items) }
+    ensures { IfOk result (λ scripts. AreScripts lines.items scripts.items) }
+{
+    let mut seats = seats_of(alloc, clients)?;
+    let mut scripts = with_capacity(alloc, lines.len())?;
+    for line in lines {
+        let replies = with_capacity(alloc, line.actions.len())?;
+        let client = take_client(&mut seats, line.client);
+        let script = Script {
+            client,
+            line,
+            replies,
+        };
+        push(&mut scripts, script)?;
+    }
+    Ok(scripts)
+}
+
+/// What they were answered. There is room for all of it in the list.
+///
+/// # Errors
+///
+/// [`MemoryWanted`] where there isn't.
+pub(crate) fn answered<P: Pair>(
+    scripts: Vec<Script<P>>,
+    list: &mut Vec<Answered>,
+) -> Result<(), MemoryWanted>
+    requires { list.old.items ≡ [] }
+    ensures { OnOk result (list.new.items ≡ map answered_of scripts.items) }
+{
+    for script in scripts {
+        push(
+            list,
+            Answered {
+                client: script.line.client,
+                replies: script.replies,
+            },
+        )?;
+    }
+    Ok(())
+}

@@ -1,0 +1,75 @@
+//! The sender's thread.
+
+use crate::messages::{Answer, is_last};
+use crate::signals::Signals;
+use crossbeam_channel as channel;
+use hypervisor::{Ack, Packet, Pair, Sender};
+use std::sync::Wait;
+use std::thread;
+
+/// The sender's ends of the two channels.
+#[derive(Drop)]
+pub(crate) struct SenderEnds {
+    pub(crate) packets: channel::Sender<Packet>,
+    pub(crate) answers: channel::Receiver<Answer>,
+}
+
+/// Sends each checkpoint that is pending, and hands in what is acknowledged, until the runner has ended and none is pending. Where it
+/// can't go on, the run is to end.
+pub(crate) fn send_all<P: Pair, R: Wait>(
+    rt: &R,
+    sender: &mut Sender<P>,
+    ends: SenderEnds,
+    signals: &Signals,
+) {
+    for _ in rt.forever() {
+        if signals.is_stopped() {
+            return;
+        }
+        // Asked for first: what was submitted before the runner ended is then pending.
+        let has_runner_ended = signals.has_runner_ended();
+        match sender.next(rt) {
+            Ok(Some(packet)) => {
+                if !send(rt, sender, &ends, packet) {
+                    signals.stop();
+                    return;
+                }
+            }
+            Ok(None) => {
+                if has_runner_ended {
+                    return;
+                }
+                thread::yield_now();
+            }
+            Err(_) => {
+                signals.stop();
+                return;
+            }
+        }
+    }
+}
+
+/// Sends a packet, and waits for what is answered to it. Answers whether the sender can go on: not where a channel's other end is gone.
+fn send<P: Pair, R: Wait>(
+    rt: &R,
+    sender: &mut Sender<P>,
+    ends: &SenderEnds,
+    packet: Packet,
+) -> bool {
+    if ends.packets.send(rt, packet).is_err() {
+        return false;
+    }
+    match ends.answers.recv(rt) {
+        Ok(Answer::Committed(ack)) => hand_in(rt, sender, ack),
+        Ok(Answer::Refused) => true,
+        Err(_) => false,
+    }
+}
+
+/// Hands in an acknowledgement. Answers whether the sender can go on.
+fn hand_in<P: Pair, R: Wait>(rt: &R, sender: &mut Sender<P>, ack: Ack) -> bool {
+    match sender.acked(rt, ack) {
+        Ok(_landed) => true,
+        Err(why) => !is_last(&why),
+    }
+}
