@@ -1,12 +1,11 @@
 -- Actions, as they are read one by one.
-use Rattle.std.proofs.Common.{◌≡◌, ◌≤◌, ◌<◌, ◌+◌, ℕ, List, [], ◌∷◌, ◌++◌, length, Option, Some, None, Bor, MatchOption, IfSome}
-use Rattle.std.proofs.Common.{refl, sym, ap, subst, ◌∙◌, arith, append-nil, append_assoc}
+use Rattle.std.proofs.Common.{◌≡◌, ◌<◌, ◌+◌, ℕ, List, [], ◌∷◌, ◌++◌, length, Option, Some, None, Bor, MatchOption, IfSome}
+use Rattle.std.{proofs.Common.{refl, sym, ap, ◌∙◌, arith, append-nil, append_assoc}, specs.Option.option_map}
 use Rattle.pair_run.specs.RunFile.{Action, AreActions, IsAction, fields_of}
 
 -- a text that a slice lends
 abbrev pub texts : Option (Bor (List ℕ)) → Option (List ℕ)
-texts None = None
-texts (Some text) = Some text.now
+texts left = option_map (λ text. text.now) left
 
 -- the fields that are left, and how many bytes they are
 abbrev pub fields_left : Option (List ℕ) → List (List ℕ)
@@ -34,7 +33,7 @@ first-action field others (action ∷ rest) h = (action, rest, refl, h.0, h.1)
 pub one-read : (fields : List (List ℕ)) (done : List Action) (field : List ℕ) (others : List (List ℕ)) (action : Action)
     → AreRead fields done (field ∷ others) → IsAction field action → AreRead fields (done ++ action ∷ []) others
 one-read fields done field others action before is = record {
-  all = λ more h. subst (λ acts. AreActions fields acts) (sym (append_assoc done (action ∷ []) more)) (before.all (action ∷ more) (is, h));
+  all = λ more h. rw append_assoc (before.all (action ∷ more) (is, h));
   some = λ actions h.
       let rest = before.some actions h in
       let first = first-action field others rest.0 rest.1 in (first.1, first.4);
@@ -49,16 +48,17 @@ not-read fields done field others before none actions h =
     let first = first-action field others rest.0 rest.1 in none first.0 first.3
 
 -- the fields that are left once the first was read
-pub after-field : (text field : List ℕ) (r : Option (Bor (List ℕ)))
-    → MatchOption r (fields_of text ≡ field ∷ []) (λ rest. fields_of text ≡ field ∷ fields_of rest.now)
-    → fields_of text ≡ field ∷ fields_left (texts r)
-after-field text field None e = e
-after-field text field (Some rest) e = e
+module _ (left : Option (Bor (List ℕ))) (text : Bor (List ℕ)) (is : left ≡ Some text) where
+  pub at-field : (field : List ℕ) (r : Option (Bor (List ℕ)))
+      → MatchOption r (fields_of text.now ≡ field ∷ []) (λ rest. fields_of text.now ≡ field ∷ fields_of rest.now)
+      → fields_left (texts left) ≡ field ∷ fields_left (texts r)
+  at-field field None e = rw is e
+  at-field field (Some rest) e = rw is e
 
-pub fewer : (text : List ℕ) (r : Option (Bor (List ℕ))) → IfSome r (λ rest. length rest.now < length text)
-    → most_fields (texts r) ≤ length text
-fewer text None h = omega arith
-fewer text (Some rest) h = omega arith
+  pub fewer : (r : Option (Bor (List ℕ))) → IfSome r (λ rest. length rest.now < length text.now)
+      → most_fields (texts r) < most_fields (texts left)
+  fewer None h = rw is (omega arith)
+  fewer (Some rest) h = rw is (omega arith)
 
 -- the actions of fields, of which these were read and those are left
 abbrev pub Comes : List (List ℕ) → List Action → List (List ℕ) → Type 0
@@ -85,6 +85,3 @@ pub all-come : (fields : List (List ℕ)) (done : List Action) → Comes fields 
     → done ≡ actions
 all-come fields done before actions h =
     let rest = before actions h in sym (rest.2 ∙ no-more done rest.0 rest.1)
-
-pub same-value : {A : Type 0} {x y : A} → Some x ≡ Some y → x ≡ y
-same-value h = cc

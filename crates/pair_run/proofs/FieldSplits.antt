@@ -1,17 +1,12 @@
 -- The fields of a text, one by one.
 use Rattle.std.proofs.Common.{◌≡◌, ◌<◌, ◌==◌, ℕ, Bool, true, false, cond, List, [], ◌∷◌, length, Option, Some, None}
-use Rattle.std.proofs.Common.{subst, refl, sym, ap, arith, ◌∙◌}
-use Rattle.std.specs.Option.{option_map}
-use Rattle.std.specs.List.{onto_first}
+use Rattle.std.{proofs.Common.{subst, refl, sym, ap, arith, ◌∙◌}, specs.{Option.option_map, List.onto_first}}
 use Rattle.std.proofs.lemmas.List.Splits.{slice_split-cons_yes, slice_split-cons_no}
 use Rattle.script_player.specs.Fields.{parted}
 use Rattle.pair_run.specs.RunFile.{fields_of}
 
 abbrev is_space : ℕ → Bool
 is_space byte = byte == 32
-
-some_same : {A : Type 0} {x y : A} → Some x ≡ Some y → x ≡ y
-some_same h = cc
 
 -- what a text's first space says of its fields
 abbrev Splits : List ℕ → Option (List ℕ × List ℕ) → Type 0

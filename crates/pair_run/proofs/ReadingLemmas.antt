@@ -1,11 +1,11 @@
 -- A file of a run, as it is read line by line.
-use Rattle.std.proofs.Common.{◌≡◌, ◌≤◌, ◌<◌, ◌+◌, ℕ, List, [], ◌∷◌, ◌++◌, map, length, Option, Some, None, Bor, MatchOption, IfSome}
-use Rattle.std.proofs.Common.{◌==◌, ◌||◌, Bool, true, false, not, Result, Ok, Err, IsErr, Vec, Global, refl, sym, ap, subst, ◌∙◌, arith}
+use Rattle.std.proofs.Common.{◌≡◌, ◌<◌, ◌+◌, ℕ, List, [], ◌∷◌, ◌++◌, map, length, Option, Some, None, Bor, MatchOption, IfSome}
+use Rattle.std.proofs.Common.{◌==◌, ◌||◌, Bool, true, false, Result, Ok, Err, IsErr, Vec, Global, refl, sym, ap, subst, ◌∙◌, arith}
 use Rattle.std.proofs.lemmas.List.{map-append}
 use Rattle.std.specs.List.{list_any}
 use Rattle.std.specs.Result.{IsErrAnd}
 use Rattle.memory_wanted.specs.declared.MemoryWanted.{MemoryWanted}
-use Rattle.script_player.specs.Boot.{IsBoot, IsInLimits, boot_line}
+use Rattle.script_player.specs.Boot.{IsInLimits, boot_line}
 use Rattle.script_player.specs.declared.boot.Boot.{Boot}
 use Rattle.script_player.specs.Meaning.{lines_of}
 use Rattle.pair_run.specs.RunFile.{Stage, unbooted, booted, told, Outcome, refused, bad, GoesOn, is_silence, boots, tells, adds}
@@ -26,31 +26,32 @@ abbrev pub HasRead : List ℕ → Stage → ℕ → List (List ℕ) → Type 0
 HasRead source stage count left = (outcome : Outcome) → Means stage count left outcome → Means unbooted 0 (lines_of source) outcome
 
 -- the lines that are left once the first was read
-pub after-line : (text line : List ℕ) (r : Option (Bor (List ℕ)))
-    → MatchOption r (lines_of text ≡ line ∷ []) (λ rest. lines_of text ≡ line ∷ lines_of rest.now)
-    → lines_of text ≡ line ∷ lines_left (texts r)
-after-line text line None e = e
-after-line text line (Some rest) e = e
+module _ (left : Option (Bor (List ℕ))) (text : Bor (List ℕ)) (is : left ≡ Some text) where
+  pub at-line : (line : List ℕ) (r : Option (Bor (List ℕ)))
+      → MatchOption r (lines_of text.now ≡ line ∷ []) (λ rest. lines_of text.now ≡ line ∷ lines_of rest.now)
+      → lines_left (texts left) ≡ line ∷ lines_left (texts r)
+  at-line line None e = rw is e
+  at-line line (Some rest) e = rw is e
 
-pub fewer-lines : (text : List ℕ) (r : Option (Bor (List ℕ))) → IfSome r (λ rest. length rest.now < length text)
-    → most_lines (texts r) ≤ length text
-fewer-lines text None h = omega arith
-fewer-lines text (Some rest) h = omega arith
+  pub fewer-lines : (r : Option (Bor (List ℕ))) → IfSome r (λ rest. length rest.now < length text.now)
+      → most_lines (texts r) < most_lines (texts left)
+  fewer-lines None h = rw is (omega arith)
+  fewer-lines (Some rest) h = rw is (omega arith)
 
 module _ (source : List ℕ) (stage : Stage) (count : ℕ) (line : List ℕ) (left others : List (List ℕ)) (is : left ≡ line ∷ others)
     (before : HasRead source stage count left) where
   pub one-line : (next : Stage) → GoesOn stage line next → HasRead source next (count + 1) others
-  one-line next g outcome m =
-      before outcome (subst (λ ls. Means stage count ls outcome) (sym is) (goes_on stage next count line others outcome g m))
+  one-line next g outcome m = before outcome (rw is (goes_on stage next count line others outcome g m))
 
   -- the file isn't read on
-  pub given-up : (error : Unread) → IsLineRead stage (count + 1) line (Err error) → IsReadAs source (Err error)
-  given-up (unread.Bad number) h =
-      let last = before (bad (count + 1)) (subst (λ ls. Means stage count ls (bad (count + 1))) (sym is)
-      (ends_badly stage count line others h.0)) in
-      subst (λ n. Means unbooted 0 (lines_of source) (bad n)) (sym h.1) last
-  given-up (unread.NoMemory wanted) h =
-      before refused (subst (λ ls. Means stage count ls refused) (sym is) (ends_refused stage count line others h))
+  given-up : (error : Unread) → IsLineRead stage (count + 1) line (Err error) → IsReadAs source (Err error)
+  given-up (unread.Bad number) h = rw h.1 (before (bad (count + 1)) (rw is (ends_badly stage count line others h.0)))
+  given-up (unread.NoMemory wanted) h = before refused (rw is (ends_refused stage count line others h))
+
+  pub given-up-as : (error : Unread) → IsLineRead stage (count + 1) line (Err error) → (r : Result ReadRunFile Unread)
+      → IsErrAnd r (λ e. e ≡ error) → IsReadAs source r
+  given-up-as error h (Ok file) e = absurd e
+  given-up-as error h (Err again) e = subst (λ (u : Unread). IsReadAs source (Err u)) (sym e) (given-up error h)
 
 -- ---- a client's line
 
@@ -83,9 +84,6 @@ pub refused-line : (stage : Stage) (number : ℕ) (text : List ℕ) (r : Result 
 refused-line stage number text (Ok next) wanted e h = absurd e
 refused-line stage number text (Err error) wanted e h = subst (λ (u : Unread). IsLineRead stage number text (Err u)) (sym e) h
 
-pub none-is-some : {A : Type 0} {x : A} → None ≡ Some x → ⊥
-none-is-some h = cc
-
 -- ---- what can be booted
 
 abbrev pub IsWithin : Stage → Type 0
@@ -101,26 +99,10 @@ still-within stage text next (adds file line e is free n) h = subst IsWithin (sy
 
 -- ---- the end
 
-pub ended-file : (source : List ℕ) (stage last : Stage) (count : ℕ) (left : List (List ℕ)) (outcome : Outcome)
-    → HasRead source stage count left → left ≡ [] → stage ≡ last → Means last count [] outcome → Means unbooted 0 (lines_of source) outcome
-ended-file source stage last count left outcome before none is m =
-    before outcome (subst (λ ls. Means stage count ls outcome) (sym none) (subst (λ s. Means s count [] outcome) (sym is) m))
-
-module _ (source : List ℕ) (stage : Stage) (count : ℕ) (line : List ℕ) (left others : List (List ℕ)) (is : left ≡ line ∷ others)
-    (before : HasRead source stage count left) where
-  pub given-up-as : (error : Unread) → IsLineRead stage (count + 1) line (Err error) → (r : Result ReadRunFile Unread)
-      → IsErrAnd r (λ e. e ≡ error) → IsReadAs source r
-  given-up-as error h (Ok file) e = absurd e
-  given-up-as error h (Err again) e =
-      subst (λ (u : Unread). IsReadAs source (Err u)) (sym e) (given-up source stage count line left others is before error h)
-
-pub not-true : (b : Bool) → not b ≡ true → b ≡ false
-not-true true h = cc
-not-true false h = refl
-
-pub not-false : (b : Bool) → not b ≡ false → b ≡ false → ⊥
-not-false true h e = cc
-not-false false h e = cc
+pub ended-file : (source : List ℕ) {stage last : Stage} {count : ℕ} {left : Option (Bor (List ℕ))} {outcome : Outcome}
+    → HasRead source stage count (lines_left (texts left)) → left ≡ None → stage ≡ last → Means last count [] outcome
+    → Means unbooted 0 (lines_of source) outcome
+ended-file source before none is m = before _ (rw (none, is) m)
 
 pub added-none : (E : Type 0) (old : RunFile) (text : List ℕ) (b : Bool) (new : RunFile) → b ≡ false
     → IsAdded {E = E} old text (Ok b) new → (line : ClientLine) → IsClient text line → IsFree old line.client → ⊥
@@ -132,10 +114,6 @@ pub added-one : (E : Type 0) (old : RunFile) (text : List ℕ) (b : Bool) (new :
     → (line : ClientLine) × IsClient text line × IsFree old line.client × (new ≡ with_client old line)
 added-one E old text true new e h = h
 added-one E old text false new e h = absurd (cc)
-
-pub boot-found : (text : List ℕ) (found : Option Boot) (boot : Boot) → found ≡ Some boot
-    → IfSome found (λ b. IsBoot text (boot_line b)) → IsBoot text (boot_line boot)
-boot-found text found boot e h = subst (λ (o : Option Boot). IfSome o (λ b. IsBoot text (boot_line b))) e h
 
 -- a file of which no client's line was read
 pub told-first : (boot : Boot) (epochs steps : ℕ) (none : Vec ReadClientLine Global) → none.items ≡ []

@@ -1,37 +1,30 @@
 -- What stands after a front, and the number that digits write.
-use Rattle.std.proofs.Common.{◌≡◌, ◌≢◌, ◌<◌, ◌^◌, ℕ, suc, Bool, true, false, cond, List, [], ◌∷◌, ◌++◌, length, Option, Some, None}
-use Rattle.std.proofs.Common.{MatchOption, MatchResult, Bor, take, drop, not, add-one, ◌+◌, ◌-◌, Result, Ok, Err, refl, sym, ap, arith}
-use Rattle.std.proofs.Common.{◌==◌, ◌&&◌, nat_eq, nat_lt, get_or, ◌∙◌}
-use Rattle.std.specs.Result.{OkIff, result_ok}
-use Rattle.std.proofs.lemmas.List.{take_rest}
-use Rattle.std.specs.Option.{option_map, option_and_then}
-use Rattle.std.specs.List.{position_or_len, position}
-use Rattle.std.specs.Cmp.Lexicographic.{pointwise}
-use Rattle.std.specs.Str.{all_ascii_digits, IsAscii, IsUtf8}
-use Rattle.std.proofs.lemmas.Str.{IsUtf8-from_ascii}
-use Rattle.std.specs.Char.{is_ascii_digit}
-use Rattle.std.specs.Str.Parse.{digits_value, ParsesUnsigned}
-use Rattle.std.proofs.lemmas.Str.Parse.{IsNumeralModel, numerals_by_value, tells_all_ascii_digits, parse_plain}
-use Rattle.std.proofs.lemmas.Str.Ascii.{IsAscii-nil, IsAscii-cons}
-use Rattle.std.proofs.lemmas.Bool.{and_parts, and_from}
-use Rattle.script_player.specs.Fields.{text_after, number_of, number_in, operand_of, parted}
-use Rattle.script_player.proofs.OptionLemmas.{some_same, pair_parts}
+use Rattle.std.proofs.Common.{◌≡◌, ◌≢◌, ◌<◌, ◌≤◌, ◌^◌, ℕ, zero, suc, Bool, true, false, cond, List, [], ◌∷◌, ◌++◌, length, Option, Some}
+use Rattle.std.proofs.Common.{None, MatchOption, Bor, take, drop, add-one, ◌+◌, ◌-◌, Result, Ok, Err, refl, sym, ap, arith, subst, ◌==◌}
+use Rattle.std.proofs.{Common.{◌&&◌, nat_eq, nat_lt, get_or, ◌∙◌}, lemmas.List.{take_rest, Quantifiers.position-Some}}
+use Rattle.std.proofs.lemmas.{List.Sums.fails_before_first, Grind.common_steps, Str.{IsUtf8-from_ascii, Parse.IsNumeralModel}}
+use Rattle.std.proofs.lemmas.Str.{Parse.{numerals_by_value, tells_all_ascii_digits, parse_plain}, Ascii.{IsAscii-nil, IsAscii-cons}}
+use Rattle.std.{proofs.lemmas.Bool.{and_parts, and_from, false_from_ne_true}, specs.{Result.{OkIff, result_ok}, Option.option_map}}
+use Rattle.std.specs.{Option.option_and_then, List.{position, position_or_len}, Cmp.Lexicographic.pointwise, Str.all_ascii_digits}
+use Rattle.std.specs.{Str.{IsAscii, IsUtf8, Parse.{digits_value, ParsesUnsigned}}, Char.is_ascii_digit}
+use Rattle.script_player.{specs.Fields.{text_after, number_of, number_in, operand_of, parted}, proofs.OptionLemmas.{some_same, pair_parts}}
+use Rattle.script_player.proofs.OptionLemmas.{and_then_some, map_some}
 
 -- a front is found again
 pub text_after-append : (front rest : List ℕ) → text_after front (front ++ rest) ≡ Some rest
 text_after-append [] rest = refl
 text_after-append (f ∷ front) rest = let same : (f == f) ≡ true = grind arith in rw same (text_after-append front rest)
 
-same_head : (f c : ℕ) (front text rest : List ℕ) (again : text_after front text ≡ Some rest → text ≡ front ++ rest) (b : Bool)
-    → (f == c) ≡ b → cond b (text_after front text) None ≡ Some rest → (c ∷ text) ≡ (f ∷ front) ++ rest
-same_head f c front text rest again true e h = let same : f ≡ c = grind arith in let tail : text ≡ front ++ rest = again h in cc
-same_head f c front text rest again false e h = cc
-
 -- what has something after a front begins with it
 pub text_after-some : (front text rest : List ℕ) → text_after front text ≡ Some rest → text ≡ front ++ rest
 text_after-some [] text rest h = cc
 text_after-some (f ∷ front) [] rest h = cc
-text_after-some (f ∷ front) (c ∷ text) rest h = same_head f c front text rest (text_after-some front text rest) (f == c) refl h
+text_after-some (f ∷ front) (c ∷ text) rest h = by-test (f == c) refl (text_after-some front text rest) h
+  where
+    by-test : (b : Bool) → (f == c) ≡ b → (text_after front text ≡ Some rest → text ≡ front ++ rest)
+        → cond b (text_after front text) None ≡ Some rest → (c ∷ text) ≡ (f ∷ front) ++ rest
+    by-test true e again h = let same : f ≡ c = grind arith in let tail : text ≡ front ++ rest = again h in cc
+    by-test false e again h = cc
 
 none_after : (front text : List ℕ) → ((rest : List ℕ) → text ≢ front ++ rest) → (o : Option (List ℕ)) → text_after front text ≡ o → o ≡ None
 none_after front text apart None e = refl
@@ -44,11 +37,9 @@ pub after_cases : (front text : List ℕ) (found : Option (Bor (List ℕ)))
 after_cases front text None h = none_after front text h (text_after front text) refl
 after_cases front text (Some rest) h = ap (text_after front) h ∙ text_after-append front rest.now
 
-other_head : (b : Bool) → (b && true) ≡ false → b ≡ false
-other_head true h = h
-other_head false h = refl
+-- ---- the number that digits write
 
-own : IsNumeralModel (λ ds. all_ascii_digits ds ≡ true) (digits_value 10)
+pub own : IsNumeralModel (λ ds. all_ascii_digits ds ≡ true) (digits_value 10)
 own = numerals_by_value _ tells_all_ascii_digits
 
 digits_are_ascii : (text : List ℕ) → all_ascii_digits text ≡ true → IsAscii text
@@ -63,21 +54,14 @@ writes text = nat_lt 0 (length text) && all_ascii_digits text && nat_lt (digits_
 abbrev Writes : List ℕ → Type 0
 Writes text = (all_ascii_digits text ≡ true) × (0 < length text) × (digits_value 10 text < 2 ^ 64)
 
-writes_from : (text : List ℕ) → Writes text → writes text ≡ true
-writes_from text h = and_from _ _ (and_from _ _ (grind (arith, h.1)) h.0) (grind (arith, h.2))
-
 writes_to : (text : List ℕ) → writes text ≡ true → Writes text
 writes_to text h =
     let last = and_parts (nat_lt 0 (length text) && all_ascii_digits text) (nat_lt (digits_value 10 text) (2 ^ 64)) h in
     let front = and_parts (nat_lt 0 (length text)) (all_ascii_digits text) last.0 in
     (front.1, grind (arith, front.0), grind (arith, last.1))
 
-not_true : (b : Bool) → (b ≡ true → ⊥) → b ≡ false
-not_true true h = absurd (h refl)
-not_true false h = refl
-
 no_number : (text : List ℕ) → ¬ (Writes text) → number_of text ≡ None
-no_number text apart = let off : writes text ≡ false = not_true (writes text) (λ h. apart (writes_to text h)) in rw off refl
+no_number text apart = rw (false_from_ne_true (writes text) (λ h. apart (writes_to text h))) refl
 
 -- text that isn't UTF-8 writes no number
 pub number-not_utf8 : (text : List ℕ) → ¬ (IsUtf8 text) → number_of text ≡ None
@@ -85,105 +69,71 @@ number-not_utf8 text apart = no_number text (λ h. apart (IsUtf8-from_ascii text
 
 number_read : {E : Type 0} (text : List ℕ) (parsed : Result ℕ E) → OkIff parsed (Writes text) (digits_value 10 text)
     → result_ok parsed ≡ number_of text
-number_read text (Ok n) h = let on : writes text ≡ true = writes_from text h.0 in rw on (ap Some h.1)
+number_read text (Ok n) h =
+    let some : nat_lt 0 (length text) ≡ true = grind (arith, h.0.1) in
+    let fits : nat_lt (digits_value 10 text) (2 ^ 64) ≡ true = grind (arith, h.0.2) in
+    let on : writes text ≡ true = and_from _ _ (and_from _ _ some h.0.0) fits in
+    rw on (ap Some h.1)
 number_read text (Err e) h = sym (no_number text h)
 
 -- what `parse` answers, where no plus stands first
-pub number-parsed : {E : Type 0} (text : List ℕ) (parsed : Result ℕ E) → ParsesUnsigned 64 10 text parsed → get_or text 0 0 ≢ 43
-    → result_ok parsed ≡ number_of text
-number-parsed text parsed h plus = number_read text parsed (parse_plain own 64 text parsed h plus)
+pub number-parsed : {E : Type 0} (text : List ℕ) (parsed : Result ℕ E) → ParsesUnsigned 64 10 text parsed
+    → pointwise nat_eq (43 ∷ []) (take 1 text) ≡ false → result_ok parsed ≡ number_of text
+number-parsed text parsed h plus = number_read text parsed (parse_plain own 64 text parsed h (no_plus text plus))
+  where
+    no_plus : (text : List ℕ) → pointwise nat_eq (43 ∷ []) (take 1 text) ≡ false → get_or text 0 0 ≢ 43
+    no_plus [] h e = absurd (omega arith)
+    no_plus (c ∷ cs) h e = grind arith
 
--- what the test for a plus at the front says
-pub no_plus : (text : List ℕ) → pointwise nat_eq (43 ∷ []) (take 1 text) ≡ false → get_or text 0 0 ≢ 43
-no_plus [] h e = absurd (omega arith)
-no_plus (c ∷ cs) h e = let other : (43 == c) ≡ false = other_head (43 == c) h in grind arith
+-- ---- the text before and after the first space
 
--- what `from_utf8` and `ok` say of the text
-pub utf8_fails : {E S : Type 0} (A : S → Type 0) (P : Type 0) (Q : E → Type 0) (checked : Result S E)
-    → MatchResult checked A (λ e. ¬ P × Q e) → result_ok checked ≡ None → ¬ P
-utf8_fails A P Q (Ok s) h e = cc
-utf8_fails A P Q (Err e) h _ = h.0
-
-pub utf8_gives : {E : Type 0} (P : Type 0) (Q : E → Type 0) (bytes : List ℕ) (checked : Result (Bor (List ℕ)) E) (text : Bor (List ℕ))
-    → MatchResult checked (λ s. (s.now ≡ bytes) × P) Q → result_ok checked ≡ Some text → text.now ≡ bytes
-utf8_gives P Q bytes (Ok s) text h e = let same : s ≡ text = cc in ap (λ (r : Bor (List ℕ)). r.now) (sym same) ∙ h.0
-utf8_gives P Q bytes (Err e) text h w = cc
-
--- the text around the place of its first space, where one stands there
-abbrev around : ℕ → List ℕ → Option (List ℕ × List ℕ)
-around place text = cond (nat_lt place (length text)) (Some (take place text, drop (suc place) text)) None
-
-around_more : (c place : ℕ) (text : List ℕ) (b : Bool) → nat_lt place (length text) ≡ b
-    → option_map (λ (parts : List ℕ × List ℕ). (c ∷ parts.0, parts.1)) (cond b (Some (take place text, drop (suc place) text)) None) ≡
-    around (suc place) (c ∷ text)
-around_more c place text true e = let inside : nat_lt (suc place) (suc (length text)) ≡ true = grind arith in rw inside refl
-around_more c place text false e = let outside : nat_lt (suc place) (suc (length text)) ≡ false = grind arith in rw outside refl
-
-parted_step : (c : ℕ) (text : List ℕ) (again : parted text ≡ around (position_or_len (λ d. d == 32) text) text) (b : Bool) → (c == 32) ≡ b
-    → cond b (Some ([], text)) (option_map (λ (parts : List ℕ × List ℕ). (c ∷ parts.0, parts.1)) (parted text)) ≡ around
-    (cond (not b) (1 + position_or_len (λ d. d == 32) text) 0) (c ∷ text)
-parted_step c text again true e = let inside : nat_lt 0 (suc (length text)) ≡ true = grind arith in rw inside refl
-parted_step c text again false e = let place = position_or_len (λ d. d == 32) text in
-    let next : 1 + place ≡ suc place = omega arith in
-    rw (again, next) (around_more c place text (nat_lt place (length text)) refl)
-
--- a text is parted at its first space
-pub parted-at : (text : List ℕ) → parted text ≡ around (position_or_len (λ d. d == 32) text) text
-parted-at [] = refl
-parted-at (c ∷ text) = parted_step c text (parted-at text) (c == 32) refl
-
-no_place : (b : Bool) (place : ℕ) (parts : List ℕ × List ℕ) → cond b (Some place) None ≡ None → cond b (Some parts) None ≡ None
-no_place true place parts h = cc
-no_place false place parts h = refl
-
-abbrev sides : ℕ → List ℕ → List ℕ × List ℕ
-sides place text = (take place text, drop (suc place) text)
-
-the_place : (b : Bool) (place i : ℕ) (text : List ℕ) → cond b (Some place) None ≡ Some i
-    → cond b (Some (sides place text)) None ≡ Some (sides i text)
-the_place true place i text h = let same : place ≡ i = cc in ap (λ n. Some (sides n text)) same
-the_place false place i text h = cc
-
--- no space, and no parts
-pub parted-none : (text : List ℕ) → position (λ c. c == 32) text ≡ None → parted text ≡ None
-parted-none text h = parted-at text ∙ no_place _ _ _ h
-
-last_side : (text : List ℕ) (i j : ℕ) → j ≡ suc i → Some (sides i text) ≡ Some (take i text, take (length text - j) (drop j text))
-last_side text i j e = rw (e, take_rest text (suc i)) refl
-
--- the parts around the first space
-pub parted-some : (text : List ℕ) (i : ℕ) → position (λ c. c == 32) text ≡ Some i
-    → parted text ≡ Some (take i text, take (length text - (i + 1)) (drop (i + 1) text))
-parted-some text i h = parted-at text ∙ the_place _ _ i text h ∙ last_side text i (i + 1) (add-one i)
-
-map_parts : {n : ℕ} {back rest : List ℕ} (number : Option ℕ) → option_map {U = ℕ × List ℕ} (λ m. (m, back)) number ≡ Some (n, rest)
-    → (number ≡ Some n) × (back ≡ rest)
-map_parts (Some m) h = let both = pair_parts (some_same h) in (ap Some both.0, both.1)
-map_parts None h = cc
-
-shape_step : (c : ℕ) (text front rest : List ℕ) (again : (f r : List ℕ) → parted text ≡ Some (f, r) → text ≡ f ++ 32 ∷ r)
-    (parts : Option (List ℕ × List ℕ)) → parted text ≡ parts
-    → option_map {U = List ℕ × List ℕ} (λ (p : List ℕ × List ℕ). (c ∷ p.0, p.1)) parts ≡ Some (front, rest)
-    → (c ∷ text) ≡ front ++ 32 ∷ rest
-shape_step c text front rest again (Some (f, r)) e h =
-    let both = pair_parts (some_same h) in
-    let tail : text ≡ f ++ 32 ∷ r = again f r e in
-    ap (λ t. c ∷ t) tail ∙ ap (λ t. t ++ 32 ∷ r) both.0 ∙ ap (λ t. front ++ 32 ∷ t) both.1
-shape_step c text front rest again None e h = cc
-
-shape_test : (c : ℕ) (text front rest : List ℕ) (again : (f r : List ℕ) → parted text ≡ Some (f, r) → text ≡ f ++ 32 ∷ r) (b : Bool)
-    → (c == 32) ≡ b → cond {A = Option (List ℕ × List ℕ)} b (Some ([], text))
-    (option_map (λ (p : List ℕ × List ℕ). (c ∷ p.0, p.1)) (parted text)) ≡ Some (front, rest) → (c ∷ text) ≡ front ++ 32 ∷ rest
-shape_test c text front rest again true e h =
-    let both = pair_parts (some_same h) in
-    let space : c ≡ 32 = grind arith in
-    ap (λ d. d ∷ text) space ∙ ap (λ t. 32 ∷ t) both.1 ∙ ap (λ t. t ++ 32 ∷ rest) both.0
-shape_test c text front rest again false e h = shape_step c text front rest again (parted text) refl h
+abbrev Parts : Type 0
+Parts = List ℕ × List ℕ
 
 -- a text that is parted is its parts with a space between them
-pub parted-shape : (text front rest : List ℕ) → parted text ≡ Some (front, rest) → text ≡ front ++ 32 ∷ rest
-parted-shape [] front rest h = cc
-parted-shape (c ∷ text) front rest h = shape_test c text front rest (parted-shape text) (c == 32) refl h
+pub parted-shape : (text : List ℕ) (parts : Parts) → parted text ≡ Some parts → text ≡ parts.0 ++ 32 ∷ parts.1
+parted-shape [] parts h = cc
+parted-shape (c ∷ text) parts h = by-test (c == 32) refl (parted-shape text) h
+  where
+    by-test : (b : Bool) → (c == 32) ≡ b → ((p : Parts) → parted text ≡ Some p → text ≡ p.0 ++ 32 ∷ p.1)
+        → cond {A = Option Parts} b (Some ([], text)) (option_map (λ p. (c ∷ p.0, p.1)) (parted text)) ≡ Some parts
+        → (c ∷ text) ≡ parts.0 ++ 32 ∷ parts.1
+    by-test true e again h =
+        let space : c ≡ 32 = grind arith in
+        subst (λ (p : Parts). (c ∷ text) ≡ p.0 ++ 32 ∷ p.1) (some_same h) (ap (λ d. d ∷ text) space)
+    by-test false e again h =
+        let more = map_some {B = Parts} (λ p. (c ∷ p.0, p.1)) (parted text) parts h in
+        subst (λ (p : Parts). (c ∷ text) ≡ p.0 ++ 32 ∷ p.1) more.2 (ap (λ t. c ∷ t) (again more.0 more.1))
+
+abbrev is_space : ℕ → Bool
+is_space c = c == 32
+
+no-space : (text : List ℕ) → ((k : ℕ) → k < length text → is_space (get_or text k 0) ≡ false) → parted text ≡ None
+no-space [] h = refl
+no-space (c ∷ text) h =
+    let apart : (c == 32) ≡ false = h 0 (omega arith) in
+    rw (apart, no-space text (λ k l. h (suc k) (omega arith))) refl
+
+-- no space, and no parts
+pub parted-none : (text : List ℕ) → position is_space text ≡ None → parted text ≡ None
+parted-none text h =
+    let past : length text ≤ position_or_len is_space text = grind (arith, common_steps) in
+    no-space text (λ k l. fails_before_first is_space text k 0 (omega arith))
+
+space-at : (text : List ℕ) (i : ℕ) → i < length text → is_space (get_or text i 0) ≡ true
+    → ((k : ℕ) → k < i → is_space (get_or text k 0) ≡ false) → parted text ≡ Some (take i text, drop (suc i) text)
+space-at [] i within is before = absurd (omega arith)
+space-at (c ∷ text) zero within is before = let here : (c == 32) ≡ true = is in rw here refl
+space-at (c ∷ text) (suc i) within is before =
+    let apart : (c == 32) ≡ false = before 0 (omega arith) in
+    rw (apart, space-at text i (omega arith) is (λ k l. before (suc k) (omega arith))) refl
+
+-- the parts around the first space
+pub parted-some : (text : List ℕ) (i : ℕ) → position is_space text ≡ Some i
+    → parted text ≡ Some (take i text, take (length text - (i + 1)) (drop (i + 1) text))
+parted-some text i h =
+    let found = position-Some is_space text i 0 h in
+    space-at text i found.0 found.1 found.2 ∙ sym (rw (take_rest text (i + 1), add-one) refl)
 
 -- digits are parted from what stands after a space
 pub parted-digits : (digits rest : List ℕ) → all_ascii_digits digits ≡ true → parted (digits ++ 32 ∷ rest) ≡ Some (digits, rest)
@@ -204,14 +154,11 @@ operand_of-spelled digits rest n h =
     ap (option_and_then number_in) (parted-digits digits rest (digits_written digits n (writes digits) refl h))
     ∙ ap (option_map {U = ℕ × List ℕ} (λ m. (m, rest))) h
 
-operand_from : (text : List ℕ) (n : ℕ) (rest : List ℕ) (parts : Option (List ℕ × List ℕ)) → parted text ≡ parts
-    → option_and_then number_in parts ≡ Some (n, rest) → (digits : List ℕ) × (text ≡ digits ++ 32 ∷ rest) × (number_of digits ≡ Some n)
-operand_from text n rest (Some (front, back)) e h =
-    let both = map_parts (number_of front) h in
-    (front, parted-shape text front back e ∙ ap (λ t. front ++ 32 ∷ t) both.1, both.0)
-operand_from text n rest None e h = cc
-
 -- what is read at the front is a number, and a space stands after it
 pub operand_of-read : (text : List ℕ) (n : ℕ) (rest : List ℕ) → operand_of text ≡ Some (n, rest)
     → (digits : List ℕ) × (text ≡ digits ++ 32 ∷ rest) × (number_of digits ≡ Some n)
-operand_of-read text n rest h = operand_from text n rest (parted text) refl h
+operand_of-read text n rest h =
+    let parts = and_then_some number_in (parted text) (n, rest) h in
+    let number = map_some {B = ℕ × List ℕ} (λ m. (m, parts.0.1)) (number_of parts.0.0) (n, rest) parts.2 in
+    let both = pair_parts number.2 in
+    (parts.0.0, parted-shape text parts.0 parts.1 ∙ ap (λ t. parts.0.0 ++ 32 ∷ t) both.1, number.1 ∙ ap Some both.0)

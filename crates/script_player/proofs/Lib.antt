@@ -1,4 +1,5 @@
 mod OptionLemmas
+mod ListLemmas
 pub mod FieldLemmas
 pub mod CommandLemmas
 pub mod WordsLemmas

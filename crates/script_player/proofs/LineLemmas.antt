@@ -1,17 +1,11 @@
--- The lines of a text, one by one.
-use Rattle.std.proofs.Common.{◌≡◌, ◌≤◌, ◌<◌, ◌+◌, ◌-◌, ℕ, List, [], ◌∷◌, length, take, drop, Bool, true, false, cond, Option, None}
-use Rattle.std.proofs.Common.{Some, Bor, subst, refl, sym, ap, ◌∙◌, arith, length-drop}
-use Rattle.std.specs.Prelude.{not, nat_lt, position, slice_index, ◌==◌}
-use Rattle.std.specs.Option.{option_map}
-use Rattle.std.specs.List.{slice_split, onto_first, position_or_len}
+-- The lines of a text, one by one and in pieces.
+use Rattle.std.proofs.Common.{◌≡◌, ◌<◌, ◌+◌, ◌-◌, ℕ, List, [], ◌∷◌, ◌++◌, length, take, drop, get_or, Bool, true, false, cond, Option, None}
+use Rattle.std.proofs.{Common.{Some, Bor, refl, sym, ap, subst, ◌∙◌, arith, add-one, length-take}, lemmas.Bool.false_from_ne_true}
+use Rattle.std.proofs.lemmas.List.{take-append-drop, take_rest, get_or-take, Elements.All-from_get_or, Splits.length-slice_split}
+use Rattle.std.proofs.{lemmas.List.Splits.{slice_split_at, slice_split_none, slice_split-cons_yes, slice_split-cons_no}, Math.Seq.drop-cons}
+use Rattle.std.specs.{Prelude.{◌==◌, All}, Option.option_map, List.{onto_first, count_by, AllByRecursion}}
 use Rattle.memchr.specs.Find.{IsFirstByte, is_byte}
-use Rattle.std.proofs.lemmas.Bool.{false_from_ne_true}
-use Rattle.std.proofs.lemmas.Bool.Decides.{nat_tests}
-use Rattle.std.proofs.lemmas.List.Sums.{position_or_len_is}
-use Rattle.std.proofs.lemmas.List.Splits.{slice_split_first, slice_split_none, slice_split-cons_no}
-use Rattle.std.proofs.Math.Seq.{take-length}
 use Rattle.script_player.specs.Meaning.{lines_of}
-use Rattle.script_player.proofs.MeaningLemmas.{none-not-some, some-is}
 
 -- a text that a slice lends
 abbrev pub texts : Option (Bor (List ℕ)) → Option (List ℕ)
@@ -20,61 +14,80 @@ texts left = option_map (λ text. text.now) left
 abbrev is_newline : ℕ → Bool
 is_newline byte = byte == 10
 
-module _ (x : ℕ) (xs : List ℕ) (rest : length xs ≤ position_or_len is_newline xs → slice_split is_newline xs ≡ xs ∷ []) where
-  one-more : (b : Bool) → is_newline x ≡ b → length (x ∷ xs) ≤ cond (not b) (1 + position_or_len is_newline xs) 0
-      → slice_split is_newline (x ∷ xs) ≡ (x ∷ xs) ∷ []
-  one-more true e h = absurd (omega arith)
-  one-more false e h = slice_split-cons_no is_newline x xs e ∙ ap (onto_first x) (rest (omega arith))
+abbrev IsOther : ℕ → Type 0
+IsOther byte = is_newline byte ≡ false
+
+-- the first line ends at the first newline
+pub first-line : (xs : List ℕ) (end : ℕ) → IsFirstByte (is_byte 10) xs (Some end)
+    → lines_of xs ≡ take end xs ∷ lines_of (take (length xs - (end + 1)) (drop (end + 1) xs))
+first-line xs end h =
+    let within : end < length xs = h.0.high in
+    let front : All IsOther (take end xs) = All-from_get_or IsOther (take end xs) 0 (λ i l.
+    let below : i < end = omega (arith, length-take end xs) in
+    rw (get_or-take end xs i 0 below) (false_from_ne_true (is_newline (get_or xs i 0)) (h.0.before i (omega arith) below))) in
+    let back : drop end xs ≡ get_or xs end 0 ∷ drop (end + 1) xs = rw (add-one, drop-cons xs end 0) refl in
+    ap lines_of (sym (take-append-drop end xs) ∙ ap (λ t. take end xs ++ t) back)
+    ∙ slice_split_at is_newline (take end xs) (get_or xs end 0) (drop (end + 1) xs) front h.1
+    ∙ ap (λ t. take end xs ∷ lines_of t) (sym (take_rest xs (end + 1)))
 
 -- a text without a newline is one line
-no-newline : (xs : List ℕ) → length xs ≤ position_or_len is_newline xs → slice_split is_newline xs ≡ xs ∷ []
-no-newline [] h = slice_split_none is_newline [] (λ k d h. absurd (omega arith))
-no-newline (x ∷ xs) h = one-more x xs (no-newline xs) (is_newline x) refl h
+pub last-line : (xs : List ℕ) → IsFirstByte (is_byte 10) xs None → lines_of xs ≡ xs ∷ []
+last-line xs h = slice_split_none is_newline xs
+    (All-from_get_or IsOther xs 0 (λ i l. false_from_ne_true (is_newline (get_or xs i 0)) (h i (omega arith) l)))
 
-module _ (xs : List ℕ) where
-  abbrev end_of : ℕ
-  end_of = position_or_len is_newline xs
+-- ---- lines that come in pieces
 
-  at-newline : (b : Bool) → nat_lt end_of (length xs) ≡ b → (end : ℕ) → cond b (Some end_of) None ≡ Some end
-      → lines_of xs ≡ take end xs ∷ lines_of (take (length xs - (end + 1)) (drop (end + 1) xs))
-  at-newline true t end e =
-      let within : end_of < length xs = grind (arith, nat_tests) in
-      let same : end_of ≡ end = some-is e in
-      let cut : slice_split is_newline xs ≡ take end xs ∷ slice_split is_newline (drop (end + 1) xs) =
-      subst (λ n. slice_split is_newline xs ≡ take n xs ∷ slice_split is_newline (drop (n + 1) xs)) same
-      (slice_split_first is_newline xs 0 within) in
-      let whole : take (length xs - (end + 1)) (drop (end + 1) xs) ≡ drop (end + 1) xs =
-      ap (λ n. take n (drop (end + 1) xs)) (sym (length-drop (end + 1) xs)) ∙ take-length (drop (end + 1) xs) in
-      cut ∙ ap (λ t. take end xs ∷ slice_split is_newline t) (sym whole)
-  at-newline false t end e = absurd (none-not-some end e)
+abbrev pub Unbroken : List ℕ → Type 0
+Unbroken line = AllByRecursion IsOther line
 
-  past-newline : (b : Bool) → nat_lt end_of (length xs) ≡ b → cond b (Some end_of) None ≡ None → lines_of xs ≡ xs ∷ []
-  past-newline true t e = absurd (none-not-some end_of (sym e))
-  past-newline false t e =
-      let past : length xs ≤ end_of = grind (arith, nat_tests) in
-      no-newline xs past
+-- no line has a newline
+unbroken : (xs : List ℕ) → AllByRecursion Unbroken (lines_of xs)
+unbroken [] = (tt, tt)
+unbroken (x ∷ xs) = by-test (is_newline x) refl (lines_of xs) (unbroken xs)
+  where
+    by-test : (b : Bool) → is_newline x ≡ b → (lines : List (List ℕ)) → AllByRecursion Unbroken lines
+        → AllByRecursion Unbroken (cond b ([] ∷ lines) (onto_first x lines))
+    by-test true h lines u = (tt, u)
+    by-test false h [] u = ((h, tt), tt)
+    by-test false h (line ∷ lines) u = ((h, u.0), u.1)
 
-  pub first-line : (end : ℕ) → position is_newline xs ≡ Some end
-      → lines_of xs ≡ take end xs ∷ lines_of (take (length xs - (end + 1)) (drop (end + 1) xs))
-  first-line end e = at-newline (nat_lt end_of (length xs)) refl end e
+pub first-unbroken : (xs l : List ℕ) (ls : List (List ℕ)) → lines_of xs ≡ l ∷ ls → Unbroken l
+first-unbroken xs l ls e = (subst (AllByRecursion Unbroken) e (unbroken xs)).0
 
-  pub last-line : position is_newline xs ≡ None → lines_of xs ≡ xs ∷ []
-  last-line e = past-newline (nat_lt end_of (length xs)) refl e
+-- a line goes on with the first line of a text
+pub joined : (xs ys l : List ℕ) (ls : List (List ℕ)) → Unbroken xs → lines_of ys ≡ l ∷ ls → lines_of (xs ++ ys) ≡ (xs ++ l) ∷ ls
+joined [] ys l ls h e = e
+joined (x ∷ xs) ys l ls h e = slice_split-cons_no is_newline x (xs ++ ys) h.0 ∙ ap (onto_first x) (joined xs ys l ls h.1 e)
 
--- the first place of a newline, as memchr finds it
-pub first-place : (xs : List ℕ) (r : Option ℕ) → IsFirstByte (is_byte 10) xs r → r ≡ position is_newline xs
-first-place xs None h =
-    let apart : (k : ℕ) → k < length xs → is_newline (slice_index xs k) ≡ false =
-    λ k l. false_from_ne_true (is_newline (slice_index xs k)) (λ e. h k (omega arith) l e) in
-    let all : position_or_len is_newline xs ≡ length xs =
-    position_or_len_is is_newline xs (length xs) 0 (omega arith) apart (λ l. absurd (omega arith)) in
-    let past : nat_lt (length xs) (length xs) ≡ false = grind (arith, nat_tests) in
-    sym (ap (λ n. cond (nat_lt n (length xs)) (Some n) None) all ∙ ap (λ b. cond b (Some (length xs)) None) past)
-first-place xs (Some k) h =
-    let apart : (i : ℕ) → i < k → is_newline (slice_index xs i) ≡ false =
-    λ i l. false_from_ne_true (is_newline (slice_index xs i)) (λ e. h.0.before i (omega arith) l e) in
-    let within : k < length xs = h.0.high in
-    let first : position_or_len is_newline xs ≡ k =
-    position_or_len_is is_newline xs k 0 (omega arith) apart (λ l. h.1) in
-    let before : nat_lt k (length xs) ≡ true = grind (arith, nat_tests) in
-    sym (ap (λ n. cond (nat_lt n (length xs)) (Some n) None) first ∙ ap (λ b. cond b (Some k) None) before)
+pub alone : (xs : List ℕ) → Unbroken xs → lines_of xs ≡ xs ∷ []
+alone [] h = refl
+alone (x ∷ xs) h = slice_split-cons_no is_newline x xs h.0 ∙ ap (onto_first x) (alone xs h.1)
+
+module _ (ys : List ℕ) where
+  -- these lines, of which the last goes on with more bytes
+  abbrev more : List (List ℕ) → List (List ℕ)
+  more [] = lines_of ys
+  more (line ∷ []) = lines_of (line ++ ys)
+  more (line ∷ next ∷ lines) = line ∷ more (next ∷ lines)
+
+  more-last : (lines : List (List ℕ)) (last : List ℕ) → more (lines ++ last ∷ []) ≡ lines ++ lines_of (last ++ ys)
+  more-last [] last = refl
+  more-last (line ∷ []) last = refl
+  more-last (line ∷ next ∷ lines) last = ap (λ ls. line ∷ ls) (more-last (next ∷ lines) last)
+
+  more-bytes : (xs : List ℕ) → lines_of (xs ++ ys) ≡ more (lines_of xs)
+  more-bytes [] = refl
+  more-bytes (x ∷ xs) = by-test (is_newline x) refl (lines_of xs) (length-slice_split is_newline xs) (more-bytes xs)
+    where
+      by-test : (b : Bool) → is_newline x ≡ b → (lines : List (List ℕ)) → length lines ≡ count_by is_newline xs + 1
+          → lines_of (xs ++ ys) ≡ more lines → lines_of (x ∷ (xs ++ ys)) ≡ more (cond b ([] ∷ lines) (onto_first x lines))
+      by-test b e [] some h = absurd (omega arith)
+      by-test true e (line ∷ lines) some h = slice_split-cons_yes is_newline x (xs ++ ys) e ∙ ap (λ ls. [] ∷ ls) h
+      by-test false e (line ∷ []) some h = slice_split-cons_no is_newline x (xs ++ ys) e ∙ ap (onto_first x) h
+          ∙ sym (slice_split-cons_no is_newline x (line ++ ys) e)
+      by-test false e (line ∷ next ∷ lines) some h = slice_split-cons_no is_newline x (xs ++ ys) e ∙ ap (onto_first x) h
+
+-- more bytes go on with the last line
+pub split-more : (xs ys : List ℕ) (ls : List (List ℕ)) (last : List ℕ) → lines_of xs ≡ ls ++ last ∷ []
+    → lines_of (xs ++ ys) ≡ ls ++ lines_of (last ++ ys)
+split-more xs ys ls last e = more-bytes ys xs ∙ ap (more ys) e ∙ more-last ys ls last

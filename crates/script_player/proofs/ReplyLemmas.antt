@@ -1,30 +1,16 @@
 -- A reply's line can be read back.
 use Rattle.std.proofs.Common.{◌≡◌, ◌<◌, ◌^◌, ◌-◌, ℕ, true, false, cond, List, [], ◌∷◌, ◌++◌, length, take, drop, Option, Some, None, refl}
-use Rattle.std.proofs.Common.{subst, sym, ap, arith, ◌==◌, ◌∙◌, codes, append_assoc, length-append}
-use Rattle.std.specs.Prelude.{decimal}
-use Rattle.std.specs.Option.{option_map}
-use Rattle.std.specs.Result.{result_ok}
-use Rattle.std.specs.Char.{is_ascii_digit}
-use Rattle.std.specs.Str.{all_ascii_digits}
-use Rattle.std.specs.Str.Parse.{digits_value}
-use Rattle.std.proofs.lemmas.Bool.{and_parts}
-use Rattle.std.proofs.lemmas.Fmt.{digits_decimal, digits_value-decimal}
-use Rattle.std.proofs.Math.Seq.{take-append_seam}
-use Rattle.std.proofs.lemmas.Str.Parse.{IsNumeralModel, numerals_by_value, tells_all_ascii_digits}
-use Rattle.hex.specs.Hex.{encode_lower, decode_of, IsBytes}
-use Rattle.hex.proofs.HexLemmas.{decode_of-encode_lower}
+use Rattle.std.proofs.{Common.{get_or, sym, ap, arith, ◌==◌, ◌∙◌, codes, append_assoc, length-append}, lemmas.Bool.and_parts}
+use Rattle.std.{proofs.{lemmas.Fmt.{digits_decimal, digits_value-decimal}, Math.Seq.take-append_seam}, specs.Prelude.decimal}
+use Rattle.std.specs.{Option.option_map, Result.result_ok, Char.is_ascii_digit, Str.{all_ascii_digits, Parse.digits_value}}
+use Rattle.hex.{specs.Hex.{encode_lower, decode_of, IsBytes}, proofs.HexLemmas.decode_of-encode_lower}
 use Rattle.memory_wanted.specs.Wanted.{wanted}
-use Rattle.pair_record.specs.Refusals.{number_of, name_of}
-use Rattle.pair_record.specs.declared.event.Refusal.{Refusal}
-use Rattle.pair_record.specs.declared.event.Refusal.TheVariants.{Full, BadFrame, NoClient, Stopped, Behind, NotPaired, AlreadyPaired}
-use Rattle.pair_record.specs.declared.event.Refusal.TheVariants.{NoImage, Stale, Gap, NoMemory, CutNeeded, Exhausted, OldVersion}
-use Rattle.pair_record.specs.declared.event.Reply.{Reply}
-use Rattle.pair_record.specs.declared.event.Reply.TheVariants.{Steps, Cut, Sent, Committed, Again, Lost, Acked, Admitted, Empty}
-use Rattle.pair_record.specs.declared.event.Reply.TheVariants.{Delivered, Took, Dropped, Alone, Live, Protecting, Refused}
-use Rattle.pair_record.specs.declared.event.Reply.TheVariants.{Stopped as HasStopped}
-use Rattle.script_player.specs.Fields.{text_after}
-use Rattle.script_player.specs.Printed.{reply_line, IsPlain}
-use Rattle.script_player.proofs.OptionLemmas.{some_same}
+use Rattle.pair_record.specs.{Refusals.{number_of, name_of}, declared.event.Refusal.{Refusal, TheVariants.{Full, BadFrame, NoClient}}}
+use Rattle.pair_record.specs.declared.event.Refusal.TheVariants.{Stopped, Behind, NotPaired, AlreadyPaired, NoImage, Stale, Gap, NoMemory}
+use Rattle.pair_record.specs.declared.event.{Refusal.TheVariants.{CutNeeded, Exhausted, OldVersion}, Reply.{Reply, TheVariants.Steps}}
+use Rattle.pair_record.specs.declared.event.Reply.TheVariants.{Cut, Sent, Committed, Again, Lost, Acked, Admitted, Empty, Delivered, Took}
+use Rattle.pair_record.specs.declared.event.Reply.TheVariants.{Dropped, Alone, Live, Protecting, Refused, Stopped as HasStopped}
+use Rattle.script_player.{specs.{Fields.text_after, Printed.{reply_line, IsPlain}}, proofs.{FieldLemmas.own, OptionLemmas.some_same}}
 
 -- ---- a number, and the byte that ends it
 
@@ -41,9 +27,6 @@ cut-digits stop low (d ∷ digits) rest h =
     let apart : (d == stop) ≡ false = grind (arith, both.0) in
     rw (apart, cut-digits stop low digits rest both.1) refl
 
-own : IsNumeralModel (λ ds. all_ascii_digits ds ≡ true) (digits_value 10)
-own = numerals_by_value _ tells_all_ascii_digits
-
 abbrev number_at : ℕ → List ℕ → ℕ × List ℕ
 number_at stop text = (digits_value 10 (cut_at stop text).0, (cut_at stop text).1)
 
@@ -57,15 +40,12 @@ number-back stop n rest low h =
 abbrev one : (ℕ → Reply) → List ℕ → Option Reply
 one make text = Some (make (number_at 10 text).0)
 
-abbrev two : (ℕ → ℕ → Reply) → List ℕ → Option Reply
-two make text = one (make (number_at 32 text).0) (number_at 32 text).1
-
 -- two numbers, with so many bytes between them
-abbrev two_apart : ℕ → (ℕ → ℕ → Reply) → List ℕ → Option Reply
-two_apart count make text = one (make (number_at 32 text).0) (drop count (number_at 32 text).1)
+abbrev two : ℕ → (ℕ → ℕ → Reply) → List ℕ → Option Reply
+two count make text = one (make (number_at 32 text).0) (drop count (number_at 32 text).1)
 
 abbrev three : (ℕ → ℕ → ℕ → Reply) → List ℕ → Option Reply
-three make text = one (make (number_at 32 text).0 (number_at 32 (number_at 32 text).1).0) (drop 7 (number_at 32 (number_at 32 text).1).1)
+three make text = two 7 (make (number_at 32 text).0) (number_at 32 text).1
 
 abbrev frame_of : List ℕ → Reply
 frame_of bytes = Took (Some (record { items = bytes }))
@@ -74,12 +54,9 @@ abbrev frame : List ℕ → Option Reply
 frame text = option_map frame_of (result_ok (decode_of (take (length text - 1) text)))
 
 abbrev refusal_of : ℕ → Option Refusal
-refusal_of n =
-    cond (n == 1) (Some Full) (cond (n == 2) (Some BadFrame)
-    (cond (n == 3) (Some NoClient) (cond (n == 4) (Some Stopped) (cond (n == 5) (Some Behind)
-    (cond (n == 6) (Some NotPaired) (cond (n == 7) (Some AlreadyPaired) (cond (n == 8) (Some NoImage) (cond (n == 9) (Some Stale)
-    (cond (n == 10) (Some Gap) (cond (n == 12) (Some (NoMemory wanted))
-    (cond (n == 13) (Some CutNeeded) (cond (n == 14) (Some Exhausted) (cond (n == 15) (Some OldVersion) None)))))))))))))
+refusal_of n = get_or
+    (None ∷ Some Full ∷ Some BadFrame ∷ Some NoClient ∷ Some Stopped ∷ Some Behind ∷ Some NotPaired ∷ Some AlreadyPaired ∷ Some NoImage
+    ∷ Some Stale ∷ Some Gap ∷ None ∷ Some (NoMemory wanted) ∷ Some CutNeeded ∷ Some Exhausted ∷ Some OldVersion ∷ []) n None
 
 abbrev refused : List ℕ → Option Reply
 refused text = option_map (λ r. Refused r) (refusal_of (number_at 32 text).0)
@@ -87,18 +64,11 @@ refused text = option_map (λ r. Refused r) (refusal_of (number_at 32 text).0)
 one-back : (make : ℕ → Reply) (n : ℕ) → n < 2 ^ 64 → one make (decimal n ++ 10 ∷ []) ≡ Some (make n)
 one-back make n h = ap (λ (p : ℕ × List ℕ). Some (make p.0)) (number-back 10 n [] (omega arith) h)
 
-two-back : (make : ℕ → ℕ → Reply) (g n : ℕ) → g < 2 ^ 64 → n < 2 ^ 64
-    → two make ((decimal g ++ 32 ∷ decimal n) ++ 10 ∷ []) ≡ Some (make g n)
-two-back make g n hg hn =
-    ap (two make) (append_assoc (decimal g) (32 ∷ decimal n) (10 ∷ []))
-    ∙ ap (λ (p : ℕ × List ℕ). one (make p.0) p.1) (number-back 32 g (decimal n ++ 10 ∷ []) (omega arith) hg)
-    ∙ one-back (make g) n hn
-
-two-apart-back : (between : List ℕ) (count : ℕ) → ((rest : List ℕ) → drop count (between ++ rest) ≡ rest)
+two-back : (between : List ℕ) (count : ℕ) → ((rest : List ℕ) → drop count (between ++ rest) ≡ rest)
     → (make : ℕ → ℕ → Reply) (g n : ℕ) → g < 2 ^ 64 → n < 2 ^ 64
-    → two_apart count make ((decimal g ++ 32 ∷ (between ++ decimal n)) ++ 10 ∷ []) ≡ Some (make g n)
-two-apart-back between count drops make g n hg hn =
-    ap (two_apart count make) (append_assoc (decimal g) (32 ∷ (between ++ decimal n)) (10 ∷ []))
+    → two count make ((decimal g ++ 32 ∷ (between ++ decimal n)) ++ 10 ∷ []) ≡ Some (make g n)
+two-back between count drops make g n hg hn =
+    ap (two count make) (append_assoc (decimal g) (32 ∷ (between ++ decimal n)) (10 ∷ []))
     ∙ ap (λ (p : ℕ × List ℕ). one (make p.0) (drop count p.1)) (number-back 32 g ((between ++ decimal n) ++ 10 ∷ []) (omega arith) hg)
     ∙ ap (λ t. one (make g) (drop count t)) (append_assoc between (decimal n) (10 ∷ []))
     ∙ ap (one (make g)) (drops (decimal n ++ 10 ∷ []))
@@ -108,12 +78,9 @@ three-back : (make : ℕ → ℕ → ℕ → Reply) (g n m : ℕ) → g < 2 ^ 64
     → three make ((decimal g ++ 32 ∷ (decimal n ++ 32 ∷ (codes "landed " ++ decimal m))) ++ 10 ∷ []) ≡ Some (make g n m)
 three-back make g n m hg hn hm =
     ap (three make) (append_assoc (decimal g) (32 ∷ (decimal n ++ 32 ∷ (codes "landed " ++ decimal m))) (10 ∷ []))
-    ∙ ap (λ (p : ℕ × List ℕ). one (make p.0 (number_at 32 p.1).0) (drop 7 (number_at 32 p.1).1))
+    ∙ ap (λ (p : ℕ × List ℕ). two 7 (make p.0) p.1)
     (number-back 32 g ((decimal n ++ 32 ∷ (codes "landed " ++ decimal m)) ++ 10 ∷ []) (omega arith) hg)
-    ∙ ap (λ t. one (make g (number_at 32 t).0) (drop 7 (number_at 32 t).1))
-    (append_assoc (decimal n) (32 ∷ (codes "landed " ++ decimal m)) (10 ∷ []))
-    ∙ ap (λ (p : ℕ × List ℕ). one (make g p.0) (drop 7 p.1)) (number-back 32 n (codes "landed " ++ (decimal m ++ 10 ∷ [])) (omega arith) hn)
-    ∙ one-back (make g n) m hm
+    ∙ two-back (codes "landed ") 7 (λ rest. refl) (make g) n m hn hm
 
 last-dropped : (text : List ℕ) → take (length (text ++ 10 ∷ []) - 1) (text ++ 10 ∷ []) ≡ text
 last-dropped text =
@@ -127,35 +94,11 @@ frame-back bytes h =
 
 refusal-back : (r : Refusal) → refusal_of (number_of r) ≡ Some r
 refusal-back Full = refl
-refusal-back BadFrame = refl
-refusal-back NoClient = refl
-refusal-back Stopped = refl
-refusal-back Behind = refl
-refusal-back NotPaired = refl
-refusal-back AlreadyPaired = refl
-refusal-back NoImage = refl
-refusal-back Stale = refl
-refusal-back Gap = refl
-refusal-back (NoMemory w) = refl
-refusal-back CutNeeded = refl
-refusal-back Exhausted = refl
-refusal-back OldVersion = refl
+refusal-back other = refl
 
 small : (r : Refusal) → number_of r < 2 ^ 64
 small Full = omega arith
-small BadFrame = omega arith
-small NoClient = omega arith
-small Stopped = omega arith
-small Behind = omega arith
-small NotPaired = omega arith
-small AlreadyPaired = omega arith
-small NoImage = omega arith
-small Stale = omega arith
-small Gap = omega arith
-small (NoMemory w) = omega arith
-small CutNeeded = omega arith
-small Exhausted = omega arith
-small OldVersion = omega arith
+small other = omega arith
 
 refused-back : (r : Refusal) (name : List ℕ) → refused ((decimal (number_of r) ++ 32 ∷ name) ++ 10 ∷ []) ≡ Some (Refused r)
 refused-back r name =
@@ -174,10 +117,10 @@ after front read others text = elim (text_after front text) as (λ _. Option Rep
 abbrev reply_of : List ℕ → Option Reply
 reply_of =
     after (codes "steps ") (one (λ n. Steps n))
-    (after (codes "cut ") (two (λ g n. Cut g n))
+    (after (codes "cut ") (two 0 (λ g n. Cut g n))
     (after (codes "sent ") (one (λ k. Sent k))
-    (after (codes "committed ") (two (λ g n. Committed g n))
-    (after (codes "again ") (two (λ g n. Again g n))
+    (after (codes "committed ") (two 0 (λ g n. Committed g n))
+    (after (codes "again ") (two 0 (λ g n. Again g n))
     (after (codes "lost\n") (λ _. Some Lost)
     (after (codes "acked ") (three (λ g n m. Acked g n m))
     (after (codes "admitted ") (one (λ n. Admitted n))
@@ -187,8 +130,8 @@ reply_of =
     (after (codes "frame ") frame
     (after (codes "dropped\n") (λ _. Some Dropped)
     (after (codes "stopped primary\n") (λ _. Some HasStopped)
-    (after (codes "alone ") (two_apart 7 (λ g m. Alone g m))
-    (after (codes "live ") (two_apart 6 (λ g n. Live g n))
+    (after (codes "alone ") (two 7 (λ g m. Alone g m))
+    (after (codes "live ") (two 6 (λ g n. Live g n))
     (after (codes "protecting ") (one (λ g. Protecting g))
     (after (codes "refused ") refused
     (λ _. None))))))))))))))))))
@@ -196,29 +139,22 @@ reply_of =
 -- the line of a reply is read as that reply
 read-back : (reply : Reply) → IsPlain reply → reply_of (reply_line reply) ≡ Some reply
 read-back (Steps n) h = one-back (λ n. Steps n) n h
-read-back (Cut g n) h = two-back (λ g n. Cut g n) g n h.0 h.1
+read-back (Cut g n) h = two-back [] 0 (λ rest. refl) (λ g n. Cut g n) g n h.0 h.1
 read-back (Sent k) h = one-back (λ k. Sent k) k h
-read-back (Committed g n) h = two-back (λ g n. Committed g n) g n h.0 h.1
-read-back (Again g n) h = two-back (λ g n. Again g n) g n h.0 h.1
-read-back Lost h = refl
+read-back (Committed g n) h = two-back [] 0 (λ rest. refl) (λ g n. Committed g n) g n h.0 h.1
+read-back (Again g n) h = two-back [] 0 (λ rest. refl) (λ g n. Again g n) g n h.0 h.1
 read-back (Acked g n m) h = three-back (λ g n m. Acked g n m) g n m h.0 h.1 h.2
 read-back (Admitted n) h = one-back (λ n. Admitted n) n h
-read-back Empty h = refl
 read-back (Delivered n) h = one-back (λ n. Delivered n) n h
-read-back (Took None) h = refl
 read-back (Took (Some bytes)) h = frame-back bytes.items h
-read-back Dropped h = refl
-read-back HasStopped h = refl
-read-back (Alone g m) h = two-apart-back (codes "landed ") 7 (λ rest. refl) (λ g m. Alone g m) g m h.0 h.1
-read-back (Live g n) h = two-apart-back (codes "steps ") 6 (λ rest. refl) (λ g n. Live g n) g n h.0 h.1
+read-back (Alone g m) h = two-back (codes "landed ") 7 (λ rest. refl) (λ g m. Alone g m) g m h.0 h.1
+read-back (Live g n) h = two-back (codes "steps ") 6 (λ rest. refl) (λ g n. Live g n) g n h.0 h.1
 read-back (Protecting g) h = one-back (λ g. Protecting g) g h
 read-back (Refused refusal) h = refused-back refusal (name_of refusal)
+read-back other h = refl
 
--- no two replies print alike
-replies-apart : (a b : Reply) → IsPlain a → IsPlain b → reply_line a ≡ reply_line b → a ≡ b
-replies-apart a b ha hb same = some_same (sym (read-back a ha) ∙ ap reply_of same ∙ read-back b hb)
-
--- a line tells which reply was printed
+-- no two replies print alike: a line tells which reply was printed
 pub readable : (reply printed : Reply) → reply ≡ printed → IsPlain printed
     → (other : Reply) → IsPlain other → reply_line other ≡ reply_line reply → other ≡ reply
-readable reply printed is plain other h same = replies-apart other reply h (subst IsPlain (sym is) plain) same
+readable reply printed is plain other h same =
+    some_same (sym (read-back other h) ∙ ap reply_of same ∙ read-back reply (rw is plain))

@@ -1,12 +1,12 @@
 //! What a line after the boot line does to the pair, and what is printed of it.
 
-ghost use Rattle.std.specs.Prelude.{◌≡◌, [], true, option_map};
+ghost use Rattle.std.specs.Prelude.{◌≡◌, [], option_map};
 ghost use Rattle.pair_core.specs.Pair.{IsConsistent};
 ghost use Rattle.pair_core.specs.Replication.{KeepsBackup};
 ghost use Rattle.pair_core.specs.Runs.{StepsAnswer};
 ghost use Rattle.pair_core.specs.Service.{ServesSteps, moment};
-ghost use Rattle.script_player.specs.Lines.{line_of, order};
-ghost use Rattle.script_player.specs.Meaning.{Happens};
+ghost use Rattle.script_player.specs.Lines.{line_of, order, Line as SpelledLine};
+ghost use Rattle.script_player.specs.Meaning.{AsksFor};
 ghost use Rattle.script_player.specs.internal.Playing.{IsDone};
 ghost use Rattle.script_player.specs.Printed.{named_sector};
 
@@ -55,11 +55,10 @@ fn obey(world: &mut World, command: Command, text: &mut Text) -> bool
     }
 }
 
-/// An event happens to the pair, and its reply is printed.
+/// An event happens to the pair, and its reply is printed: a line that asks for that event is done.
 fn happen(world: &mut World, event: Event<'_>, text: &mut Text) -> bool
     requires { text.old.items ≡ [] }
-    ensures answered { result ≡ true }
-    ensures happens { Happens world.old event.entry text.new.items world.new }
+    ensures { (line : SpelledLine) → AsksFor line event.entry → IsDone world.old line result text.new.items world.new }
 {
     let reply = world.apply(event);
     write_reply(text, &reply);

@@ -22,7 +22,10 @@ pub fn number(text: &[u8]) -> Option<u64>
     if text.starts_with(b"+") {
         return None;
     }
-    str::from_utf8(text).ok()?.parse().ok()
+    let Ok(text) = str::from_utf8(text) else {
+        return None;
+    };
+    text.parse().ok()
 }
 
 /// The number after `front`, where the text is `front` and a number.

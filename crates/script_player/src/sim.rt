@@ -1,6 +1,7 @@
 //! `remus sim FILE`: plays a script of events to a pair.
 
-ghost use Rattle.std.specs.Prelude.{◌≡◌, ◌∷◌, [], Some, None, IfSome, IfErr, OnOk, MatchOption, ◌<◌, ◌==◌, length, position};
+ghost use Rattle.std.specs.Prelude.{◌≡◌, ◌∷◌, [], Some, None, IfSome, IfErr, OnOk, MatchOption, ◌<◌, length};
+ghost use Rattle.memchr.specs.Find.{IsFirstByte, is_byte};
 ghost use Rattle.script_player.specs.Meaning.{lines_of, bad_line, IsPlayed};
 ghost use Rattle.script_player.specs.Streams.{IsPrinted, IsPut};
 ghost use Rattle.script_player.specs.internal.Playing.{IsEnded, IsPlayedTo, stop_of};
@@ -168,7 +169,7 @@ pub fn first_line(text: &[u8]) -> (&[u8], Option<&[u8]>)
 
 /// Where the first newline stands.
 fn first_newline(text: &[u8]) -> Option<usize>
-    ensures { result ≡ position (λ byte. byte == 10) text.now }
+    ensures { IsFirstByte (is_byte 10) text.now result }
 {
     memchr(b'\n', text)
 }

@@ -1,34 +1,30 @@
 use Rattle.std.proofs.Common.{◌≡◌, ◌∙◌, true, false, refl, sym, ap, arith}
-use Rattle.std.specs.Option.{option_map}
 use Rattle.script_player.specs.Boot.{boot_line}
-use Rattle.pair_run.specs.RunFile.{adds, boots, no_actions, no_boot, no_client, no_epochs, no_words, told, tells}
-use Rattle.pair_run.specs.Views.{run_file}
-use Rattle.pair_run.specs.internal.Reading.{stage_of}
-use Rattle.pair_run.proofs.ReadingLemmas.{added-none, added-one, boot-found, none-is-some, refused-line, told-first}
+use Rattle.pair_run.specs.{RunFile.{adds, boots, no_actions, no_boot, no_client, no_epochs, no_words, told, tells}, Views.run_file}
+use Rattle.pair_run.{specs.internal.Reading.stage_of, proofs.ReadingLemmas.{added-none, added-one, refused-line, told-first}}
 use Rattle.pair_run.proofs.reading.read_on.Goals as goal
 
 pub returns-in_err-boot-in-Unbooted : goal.returns-in_err-boot-in-Unbooted
 returns-in_err-boot-in-Unbooted c =
     let line = c.in_err-boot-in-Unbooted.ensures.err in
-    refused-line (stage_of c.args.stage) c.args.number c.args.text.now c.from_residual.result _ c.from_residual.ensures.1
+    refused-line _ c.args.number c.args.text.now c.from_residual.result _ c.from_residual.ensures.1
     (no_words line.0 (ap stage_of c.in-Unbooted.is) line.1)
 
 pub returns-in_default : goal.returns-in_default
 returns-in_default c = (
-  no_boot (sym c.is_silent.ensures ∙ c.if-is_silent.false) (ap stage_of c.in-Unbooted.is) (λ line h.
-      none-is-some (sym (ap (option_map boot_line) c.in_default.is) ∙ c.in_ok-boot-in-Unbooted.ensures.only line h)),
+  no_boot (sym c.is_silent.ensures ∙ c.if-is_silent.false) (ap stage_of c.in-Unbooted.is)
+      (λ line h. cc (rw c.in_default.is at (c.in_ok-boot-in-Unbooted.ensures.only line h))),
   refl,
 )
 
 pub returns-in-Some : goal.returns-in-Some
 returns-in-Some c =
-    boots (boot_line c.in-Some.boot) (ap stage_of c.in-Unbooted.is)
-    (boot-found c.args.text.now c.in_ok-boot-in-Unbooted.field-0 c.in-Some.boot c.in-Some.is c.in_ok-boot-in-Unbooted.ensures.found) refl
+    boots (boot_line c.in-Some.boot) (ap stage_of c.in-Unbooted.is) (rw c.in-Some.is at c.in_ok-boot-in-Unbooted.ensures.found) refl
 
 pub returns-in_default-numbers : goal.returns-in_default-numbers
 returns-in_default-numbers c = (
   no_epochs (boot_line c.in-Booted.boot) (sym c.is_silent.ensures ∙ c.if-is_silent.false) (ap stage_of c.in-Booted.is)
-      (λ epochs steps h. none-is-some (c.in_default-numbers.ensures ∙ h)),
+      (λ epochs steps h. cc (c.in_default-numbers.ensures ∙ h)),
   refl,
 )
 
@@ -41,7 +37,7 @@ returns-in-Some-numbers c =
 pub returns-in_err-add_client-in-Told : goal.returns-in_err-add_client-in-Told
 returns-in_err-add_client-in-Told c =
     let line = c.in_err-add_client-in-Told.ensures in
-    refused-line (stage_of c.args.stage) c.args.number c.args.text.now c.from_residual-in_err-add_client-in-Told.result _
+    refused-line _ c.args.number c.args.text.now c.from_residual-in_err-add_client-in-Told.result _
     c.from_residual-in_err-add_client-in-Told.ensures.1
     (no_actions (run_file c.in-Told.file) line.0 (ap stage_of c.in-Told.is) line.1 line.2)
 

@@ -1,6 +1,5 @@
 -- what was printed so far, followed by what the bytes that are left print, is what the file prints
-use Rattle.std.proofs.Common.{◌≡◌, List, ℕ, false, length}
-use Rattle.std.specs.Io.KnownBytes.{Appends}
+use Rattle.std.{proofs.Common.{◌≡◌, List, ℕ, false, length}, specs.Io.KnownBytes.Appends}
 use Rattle.checkpoint_stream.specs.Readings.{begun, is_closed}
 use Rattle.script_player.proofs.ListingLemmas.{Follows}
 use Rattle.script_player.proofs.check_stream.list.Given as goal

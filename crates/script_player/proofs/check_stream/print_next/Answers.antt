@@ -1,14 +1,16 @@
 -- where a write fails, a beginning of the line is printed
-use Rattle.std.proofs.Common.{List, ℕ, None, subst}
-use Rattle.script_player.specs.Output.{AppendsFront}
-use Rattle.script_player.proofs.ListingLemmas.{no_memory-last, printed-cut}
+use Rattle.std.proofs.Common.{None}
+use Rattle.script_player.{specs.Listing.IsPrinted, proofs.{ListingLemmas.no_memory-last, OptionLemmas.failed}}
 use Rattle.script_player.proofs.check_stream.print_next.Goals as goal
 
 pub returns-in_err-put-clause-printed : goal.returns-in_err-put-clause-printed
 returns-in_err-put-clause-printed g c =
     let r = c.args.reader.now in
-    printed-cut c.args.file_bytes r c.args.rest.now c.spell_next.new.reader _ _ c.from_residual.result c.from_residual.ensures.0
-    (_, None, r, no_memory-last c.args.file_bytes r c.args.rest.now, c.in_err-put.ensures.err)
+    let rest = c.args.rest.now in
+    let o = g.O.Write.contents c.args.out.now in
+    let o' = g.O.Write.contents c.put.new.out in
+    failed _ (λ x. IsPrinted c.args.file_bytes r rest x c.spell_next.new.reader o o') c.from_residual.result c.from_residual.ensures.1
+    (λ e is. (_, None, r, no_memory-last c.args.file_bytes r rest, c.in_err-put.ensures.err))
 
 pub returns-in_default-clause-printed : goal.returns-in_default-clause-printed
 returns-in_default-clause-printed g c =
@@ -16,13 +18,10 @@ returns-in_default-clause-printed g c =
 
 pub returns-in_err-put-2-clause-printed : goal.returns-in_err-put-2-clause-printed
 returns-in_err-put-2-clause-printed g c =
+    let r = c.args.reader.now in
     let new = c.spell_next.new.reader in
-    let failed = c.from_residual-in_err-put-2 in
-    printed-cut c.args.file_bytes c.args.reader.now c.args.rest.now new _ _ failed.result failed.ensures.0 (
-      _,
-      c.in-Ok.found,
-      new,
-      c.in-Ok.ensures.spelled,
-      subst (λ (t : List ℕ). AppendsFront (g.O.Write.contents c.args.out.now) (g.O.Write.contents c.put-2.new.out) t)
-          c.as_slice.ensures.value c.in_err-put-2.ensures.err,
-    )
+    let o = g.O.Write.contents c.args.out.now in
+    let o' = g.O.Write.contents c.put-2.new.out in
+    failed _ (λ x. IsPrinted c.args.file_bytes r c.args.rest.now x new o o') c.from_residual-in_err-put-2.result
+    c.from_residual-in_err-put-2.ensures.1
+    (λ e is. (_, c.in-Ok.found, new, c.in-Ok.ensures.spelled, rw c.as_slice.ensures.value at c.in_err-put-2.ensures.err))

@@ -1,7 +1,6 @@
 -- a refusal of the reader is the last line
 use Rattle.std.proofs.Common.{List, ℕ, ◌++◌, ap, ◌∙◌}
-use Rattle.script_player.specs.StreamLines.{stream_refusal_line}
-use Rattle.script_player.proofs.ListingLemmas.{refused-last}
+use Rattle.script_player.{specs.StreamLines.stream_refusal_line, proofs.ListingLemmas.refused-last}
 use Rattle.script_player.proofs.check_stream.spell_next.Goals as goal
 
 pub returns-in-Err-clause-spelled : goal.returns-in-Err-clause-spelled

@@ -1,5 +1,5 @@
 -- digits that pass the tests write bytes, and those that write bytes pass them
-use Rattle.std.proofs.Common.{◌≡◌, ◌∙◌, sym, arith, true}
+use Rattle.std.proofs.Common.{◌∙◌, sym, arith}
 use Rattle.script_player.proofs.DeliveryLemmas.{they-are, they-write}
 use Rattle.script_player.proofs.delivery.are_lower_hex.Goals as goal
 

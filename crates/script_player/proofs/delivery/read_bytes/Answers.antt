@@ -1,7 +1,6 @@
 -- what is decoded is what the digits write
-use Rattle.std.proofs.Common.{◌≡◌, ◌∙◌, sym, ap, arith, true, List, ℕ, Some, Ok, length, take, ◌++◌, subst}
-use Rattle.std.proofs.Math.Seq.{take-append_seam}
-use Rattle.script_player.proofs.DeliveryLemmas.{decoded-same, decoded-written, half}
+use Rattle.std.proofs.{Common.{◌≡◌, ◌∙◌, sym, ap, arith, true, List, ℕ, Some, Ok, length, take, ◌++◌, subst}, Math.Seq.take-append_seam}
+use Rattle.script_player.{specs.Delivery.IsHex, proofs.DeliveryLemmas.{decoded-same, they-are}}
 use Rattle.script_player.proofs.delivery.read_bytes.Goals as goal
 
 -- all places are filled
@@ -11,7 +10,8 @@ all-put n put rest long = subst (λ k. take k (put ++ rest) ≡ put) long (take-
 pub put_decoded-requires-clause-room : goal.put_decoded-requires-clause-room
 put_decoded-requires-clause-room c =
     let is : c.are_lower_hex.result ≡ true = grind arith in
-    let even = half c.args.digits.now (c.are_lower_hex.ensures.some is) in
+    let hex = c.are_lower_hex.ensures.some is in
+    let even = (they-are c.args.digits.now hex.0 hex.1).even in
     grind arith
 
 pub returns-clause-found : goal.returns-clause-found
@@ -19,7 +19,8 @@ returns-clause-found c =
     let is : c.are_lower_hex.result ≡ true = grind arith in
     let written = c.are_lower_hex.ensures.some is in
     let all = all-put _ c.put_decoded.new.bytes _ (grind arith) in
-    decoded-written c.args.digits.now _ written.0 (c.put_decoded.ensures.value ∙ ap (λ bs. Ok bs) (sym all)) written.1
+    let same = decoded-same c.args.digits.now _ written.0 (c.put_decoded.ensures.value ∙ ap (λ bs. Ok bs) (sym all)) written.1 in
+    subst (λ bs. IsHex c.args.digits.now bs) (sym same) written.1
 
 pub returns-clause-only : goal.returns-clause-only
 returns-clause-only c = λ bytes h.

@@ -1,6 +1,5 @@
 use Rattle.std.proofs.Common.{refl}
-use Rattle.script_player.specs.Meaning.{finished}
-use Rattle.script_player.proofs.LiveLemmas.{same-by-lines, same-by-file}
+use Rattle.script_player.{specs.Meaning.finished, proofs.LiveLemmas.{same-by-lines, same-by-file}}
 use Rattle.script_player.proofs.live.live_prints_what_sim_prints.Goals as goal
 
 pub returns-clause-file : goal.returns-clause-file

@@ -1,8 +1,6 @@
 use Rattle.std.proofs.Common.{◌≡◌, ◌≤◌, ◌+◌, ◌-◌, ◌++◌, ℕ, List, length, take, drop, sym, ap, subst, ◌∙◌, arith, length-take, length-drop}
-use Rattle.std.proofs.Common.{take-append-drop}
+use Rattle.std.{proofs.{Common.take-append-drop, KnownBytes.{Appends-trans, Appends-kept}}, specs.Io.KnownBytes.Appends}
 use lib.Seq.{take-add, take-take}
-use Rattle.std.specs.Io.KnownBytes.{Appends}
-use Rattle.std.proofs.KnownBytes.{Appends-trans, Appends-kept}
 use Rattle.script_player.proofs.output.put.Goals as goal
 
 -- the front, and the first n of what stands after it, are a longer front

@@ -1,6 +1,5 @@
 -- what was written so far is the front of the bytes; each turn writes some, or is one more try
-use Rattle.std.proofs.Common.{◌≤◌, ◌+◌, ◌-◌, length, take}
-use Rattle.std.specs.Io.KnownBytes.{Appends}
+use Rattle.std.{proofs.Common.{◌≤◌, ◌+◌, ◌-◌, length, take}, specs.Io.KnownBytes.Appends}
 use Rattle.script_player.proofs.output.put.Given as goal
 
 abbrev pub invariant-loop-written : goal.invariant-loop-written

@@ -7,5 +7,4 @@ returns-in-Ok g c = played-well _ _ _ _ _ _ _ c.play-played.result c.play-played
 pub returns-in-Err : goal.returns-in-Err
 returns-in-Err g c =
     played-badly c.args.source.now (g.O.Sink.written c.args.out.now) (g.O.Sink.written c.play-played.new.out)
-    (g.O.Sink.written c.show.new.self) (g.E.Sink.written c.args.err.now) (g.E.Sink.written c.args.err.now) 1 c.play-played.result
-    c.play-played.ensures c.in-Err.ensures
+    (g.O.Sink.written c.show.new.self) (g.E.Sink.written c.args.err.now) c.play-played.result c.play-played.ensures c.in-Err.ensures
