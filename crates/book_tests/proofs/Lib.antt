@@ -1,2 +1,3 @@
 pub mod MadeAtStart
 pub mod CallsInTurn
+pub mod HostLaws

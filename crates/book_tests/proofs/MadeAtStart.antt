@@ -1,5 +1,5 @@
--- What is prepared of the machine at boot makes the guest at the start: its first delta, and its full checkpoint.
-use Rattle.std.proofs.Common.{◌≡◌, ℕ, ◌*◌, List, [], length, refl, sym, ap, ◌∙◌, subst}
+-- What is prepared of the machine at boot makes the guest at the start: a delta, and the full checkpoint.
+use Rattle.std.proofs.Common.{◌≡◌, ℕ, zero, suc, ◌*◌, ◌≤◌, List, [], length, refl, sym, ap, ◌∙◌, subst, arith}
 use Rattle.guest_machine.specs.Guest.{Guest, State, boot_guest}
 use Rattle.epoch_snapshot.specs.Bases.{IsBase}
 use Rattle.epoch_snapshot.specs.Checkpoints.{Change}
@@ -36,9 +36,10 @@ module _ (m : State) (guest : m.guest ≡ boot_guest 1 1 []) (c : Change) (p : P
     makes = makes ∙ guest;
   }
 
-  pub delta-made : p.number ≡ 1 → image_of c m.guest ≡ m.guest → (what : Prepared) → what ≡ prepared.Checkpoint p
+  pub delta-made : (n : ℕ) → 1 ≤ n → p.number ≡ n → image_of c m.guest ≡ m.guest → (what : Prepared) → what ≡ prepared.Checkpoint p
       → MakesEpoch start (start_of start) 0 0 [] what
-  delta-made number makes what is =
+  delta-made zero some number makes what is = absurd (omega (arith, some))
+  delta-made (suc n) some number makes what is =
       subst (λ (x : Prepared). MakesEpoch start (start_of start) 0 0 [] x) (sym is)
       (λ none.
       subst (λ (n : ℕ). Makes (Reads start) n p.text (carried n []) start.guest start.guest) (sym number)

@@ -5,8 +5,16 @@
 #[cfg(test)]
 mod calls;
 #[cfg(test)]
-mod checkpoints;
+mod hosts;
 #[cfg(test)]
 mod packets;
 #[cfg(test)]
+mod prepared;
+#[cfg(test)]
+mod refusals;
+#[cfg(test)]
+mod rows;
+#[cfg(test)]
 mod seats;
+#[cfg(test)]
+mod threads;

@@ -98,6 +98,30 @@ fn call_second<P: Pair>(clock: &Clock<P>, keeper: &mut KeeperSeat<P>, second: &m
     keeper.step(clock, second, &FoundEmpty { client: 2 });
 }
 
+/// Each of the two clients calls, and tells the other one of it.
+fn tell_each_other<P: Pair, R: Abort>(
+    rt: &R,
+    clock: &Clock<P>,
+    keeper: &mut KeeperSeat<P>,
+    first: &mut ClientSeat<P>,
+    second: &mut ClientSeat<P>,
+)
+    requires start { P.start ≡ two_clients }
+    requires keeper { keeper.old.steps ≡ [] }
+    requires clients { (first.old.number ≡ 4) × (second.old.number ≡ 5) }
+{
+    call_first(clock, keeper, first);
+    assert_eq!(rt; first.look(clock), 1);
+    let mut badge = first.tell(clock);
+    second.learn(clock, &mut badge);
+    call_second(clock, keeper, second);
+    assert_eq!(rt; keeper.count(), 2);
+    let mut badge = second.tell(clock);
+    first.learn(clock, &mut badge);
+    keeper.meet(clock, first);
+    assert_eq!(rt; first.look(clock), 2);
+}
+
 fn in_one_thread<P: Pair, R: Abort>(rt: &R, opened: Opened) -> Result<(), Fail>
     requires { (opened ≡ P.word) × (P.start ≡ two_clients) }
 {
@@ -116,16 +140,7 @@ fn in_one_thread<P: Pair, R: Abort>(rt: &R, opened: Opened) -> Result<(), Fail>
         (1, 2, 3)
     );
     assert_eq!(rt; (first.number(), second.number()), (4, 5));
-    call_first(&clock, &mut keeper, &mut first);
-    assert_eq!(rt; first.look(&clock), 1);
-    let mut badge = first.tell(&clock);
-    second.learn(&clock, &mut badge);
-    call_second(&clock, &mut keeper, &mut second);
-    assert_eq!(rt; keeper.count(), 2);
-    let mut badge = second.tell(&clock);
-    first.learn(&clock, &mut badge);
-    keeper.meet(&clock, &mut first);
-    assert_eq!(rt; first.look(&clock), 2);
+    tell_each_other(rt, &clock, &mut keeper, &mut first, &mut second);
     Ok(())
 }
 

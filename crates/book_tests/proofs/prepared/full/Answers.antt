@@ -1,6 +1,6 @@
 use Rattle.std.proofs.Common.{refl, ◌∙◌}
 use Rattle.book_tests.proofs.MadeAtStart.{full-made}
-use Rattle.book_tests.proofs.checkpoints.full.Goals as goal
+use Rattle.book_tests.proofs.prepared.full.Goals as goal
 
 pub returns : goal.returns
 returns c = λ clients.
