@@ -2,6 +2,7 @@
 //! a small function, since a long test is slow to prove: a test is a table of rows.
 ghost use Rattle.frame_ports.specs.Addresses.{IsFrame};
 
+use crate::asserts::{as_many, same};
 use crate::refusals::{assert_named, refused};
 use arrayvec::ArrayVec;
 use frame_ports::{Frame, Ports};
@@ -51,18 +52,19 @@ fn taken(ports: &mut Ports, client: u64) -> Result<u8, Fail> {
 /// The client takes the frame with this last byte; 0 where its box is empty.
 fn assert_taken(rt: &impl Abort, ports: &mut Ports, client: u64, mark: u8) -> Result<(), Fail> {
     let found = taken(ports, client)?;
-    assert_eq!(rt; found, mark);
+    same(rt, "the last byte", u64::from(found), u64::from(mark));
     Ok(())
 }
 
 /// So many frames are held of checkpoints up to this one.
 fn assert_held(rt: &impl Abort, gate: &Gate, number: u64, count: usize) {
-    assert_eq!(rt; gate.held(number).len(), count);
+    as_many(rt, "held", gate.held(number).len(), count);
 }
 
 /// So many frames landed, and so many were dropped.
 fn assert_counts(rt: &impl Abort, found: (u64, u64), wanted: (u64, u64)) {
-    assert_eq!(rt; found, wanted);
+    same(rt, "landed", found.0, wanted.0);
+    same(rt, "dropped", found.1, wanted.1);
 }
 
 /// What an acknowledgement lands and drops.
@@ -79,7 +81,7 @@ fn opened(gate: &mut Gate, ports: &mut Ports) -> (u64, u64) {
 
 /// The next frame gets this number.
 fn assert_next(rt: &impl Abort, gate: &Gate, number: u64) {
-    assert_eq!(rt; gate.next(), number);
+    same(rt, "the next number", gate.next(), number);
 }
 
 /// The gate begins anew after so many sent frames, and holds one of the checkpoint of this number.

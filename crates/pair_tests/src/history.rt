@@ -1,5 +1,6 @@
 //! What no clause of [`pair_history`] says: that calls succeed where there is memory, and that a reservation that can't be met is refused.
 
+use crate::asserts::{as_many, holds, same};
 use pair_history::{Entries, Entry, History};
 use std::alloc::Global;
 use std::process::Abort;
@@ -21,16 +22,16 @@ fn steps_and_more(alloc: Global) -> Result<History, Fail> {
 
 /// The history has so many entries, of which so many are stored.
 fn assert_counts(rt: &impl Abort, history: &History, entries: u64, stored: usize) {
-    assert_eq!(rt; history.len(), entries);
-    assert_eq!(rt; history.entries().count(), stored);
+    same(rt, "entries", history.len(), entries);
+    as_many(rt, "stored", history.entries().count(), stored);
 }
 
 #[test]
 fn a_history_counts_each_step(rt: HostRuntime) -> Result<(), Fail> {
-    assert!(rt; History::new(rt.alloc()).is_empty());
+    holds(&rt, "empty", History::new(rt.alloc()).is_empty());
     let history = steps_and_more(rt.alloc())?;
     assert_counts(&rt, &history, 23, 4);
-    assert!(rt; !history.is_empty());
+    holds(&rt, "not empty", !history.is_empty());
     Ok(())
 }
 
@@ -61,7 +62,7 @@ fn assert_delivered(rt: &impl Abort, entries: &mut Entries<'_>, frame: &[u8]) {
         Some(Entry::Delivered(1, bytes, 1)) => bytes == frame,
         _ => false,
     };
-    assert!(rt; is_right);
+    holds(rt, "the next entry", is_right);
 }
 
 /// The next entry is a delivery by client 2 of this frame, which was refused.
@@ -70,13 +71,14 @@ fn assert_refused(rt: &impl Abort, entries: &mut Entries<'_>, frame: &[u8]) {
         Some(Entry::Refused(2, bytes)) => bytes == frame,
         _ => false,
     };
-    assert!(rt; is_right);
+    holds(rt, "the next entry", is_right);
 }
 
 /// The next entry is that client 3 took nothing.
 fn assert_took_nothing(rt: &impl Abort, entries: &mut Entries<'_>) {
     let next = entries.next();
-    assert!(rt; matches!(next, Some(Entry::Took(3, None))));
+    let is_right = matches!(next, Some(Entry::Took(3, None)));
+    holds(rt, "the next entry", is_right);
 }
 
 /// The next entry is that client 4 took this frame.
@@ -85,7 +87,7 @@ fn assert_took(rt: &impl Abort, entries: &mut Entries<'_>, frame: &[u8]) {
         Some(Entry::Took(4, Some(bytes))) => bytes == frame,
         _ => false,
     };
-    assert!(rt; is_right);
+    holds(rt, "the next entry", is_right);
 }
 
 #[test]
@@ -96,14 +98,14 @@ fn frames_come_back_as_they_were_added(rt: HostRuntime) -> Result<(), Fail> {
     assert_refused(&rt, &mut entries, LONG);
     assert_took_nothing(&rt, &mut entries);
     assert_took(&rt, &mut entries, OTHER);
-    assert!(rt; entries.next().is_none());
+    holds(&rt, "the end", entries.next().is_none());
     Ok(())
 }
 
 #[test]
 fn no_memory_for_that_many(rt: HostRuntime) -> Result<(), Fail> {
     let mut history = History::new(rt.alloc());
-    assert!(rt; history.reserve(usize::MAX).is_err());
-    assert!(rt; history.is_empty());
+    holds(&rt, "refused", history.reserve(usize::MAX).is_err());
+    holds(&rt, "empty", history.is_empty());
     Ok(())
 }

@@ -1,5 +1,6 @@
 //! What no clause of [`lossy_line`] says: a line at concrete types, through its bound, and a refusal of memory.
 
+use crate::asserts::{holds, same};
 use crate::refusals::assert_named;
 use lossy_line::Line;
 use std::alloc::Global;
@@ -21,7 +22,7 @@ enum Row {
 /// This packet is sent, and given this number.
 fn assert_sent(rt: &impl Abort, line: &mut Line<u8>, packet: u8, number: u64) -> Result<(), Fail> {
     let given = line.send(packet)?;
-    assert_eq!(rt; given, number);
+    same(rt, "the number", given, number);
     Ok(())
 }
 
@@ -40,7 +41,7 @@ fn assert_got(rt: &impl Abort, line: &Line<u8>, number: u64, packet: Option<u8>)
 
 /// So many packets were sent.
 fn assert_count(rt: &impl Abort, line: &Line<u8>, count: u64) {
-    assert_eq!(rt; line.len(), count);
+    same(rt, "packets", line.len(), count);
 }
 
 /// Plays one row.
@@ -58,6 +59,14 @@ fn play(rt: &impl Abort, line: &mut Line<u8>, row: &Row) -> Result<(), Fail> {
 fn plays(rt: &impl Abort, line: &mut Line<u8>, rows: &[Row]) -> Result<(), Fail> {
     for row in rows {
         play(rt, line, row)?;
+    }
+    Ok(())
+}
+
+/// Plays them a hundred times.
+fn plays_often(rt: &impl Abort, line: &mut Line<u8>, rows: &[Row]) -> Result<(), Fail> {
+    for _ in 0..100u8 {
+        plays(rt, line, rows)?;
     }
     Ok(())
 }
@@ -109,7 +118,7 @@ fn assert_bytes_sent(
 ) -> Result<(), Fail> {
     let packet = Vec::from_slice(alloc, bytes)?;
     let given = line.send(packet)?;
-    assert_eq!(rt; given, number);
+    same(rt, "the number", given, number);
     Ok(())
 }
 
@@ -120,26 +129,19 @@ fn assert_bytes(rt: &impl Abort, line: &Line<Vec<u8>>, number: u64, wanted: Opti
         (None, None) => true,
         _ => false,
     };
-    assert!(rt; is_right, "packet {number}");
+    holds(rt, "the bytes", is_right);
 }
 
 #[test]
 fn a_packet_may_own_memory(rt: HostRuntime) -> Result<(), Fail> {
     let mut line = Line::new(rt.alloc());
-    assert!(rt; line.is_empty());
+    holds(&rt, "empty", line.is_empty());
     assert_bytes_sent(&rt, rt.alloc(), &mut line, &[1, 2], 0)?;
     assert_bytes_sent(&rt, rt.alloc(), &mut line, &[3], 1)?;
-    assert!(rt; !line.is_empty());
+    holds(&rt, "not empty", !line.is_empty());
     line.drop(0);
     assert_bytes(&rt, &line, 0, None);
     assert_bytes(&rt, &line, 1, Some(&[3]));
-    Ok(())
-}
-
-/// The packet i is sent as the one of number i.
-fn assert_sends(rt: &impl Abort, line: &mut Line<u64>, i: u64) -> Result<(), Fail> {
-    let given = line.send(i)?;
-    assert_eq!(rt; given, i);
     Ok(())
 }
 
@@ -147,10 +149,10 @@ fn assert_sends(rt: &impl Abort, line: &mut Line<u64>, i: u64) -> Result<(), Fai
 fn room_for_as_many_sends_as_were_reserved(rt: HostRuntime) -> Result<(), Fail> {
     let mut line = Line::new(rt.alloc());
     line.reserve(100)?;
-    for i in 0..100 {
-        assert_sends(&rt, &mut line, i)?;
+    for i in 0..100u8 {
+        assert_sent(&rt, &mut line, i, u64::from(i))?;
     }
-    assert_eq!(rt; line.get(99), Some(&99));
+    assert_got(&rt, &line, 99, Some(99));
     Ok(())
 }
 
@@ -160,7 +162,7 @@ fn the_refusal_is_that_of_the_table(rt: HostRuntime) -> Result<(), Fail> {
     let Err(error) = line.reserve(usize::MAX) else {
         return Err("no machine has that much".into());
     };
-    assert!(rt; line.is_empty());
+    same(&rt, "packets", line.len(), 0);
     let found = (error.number(), error.name());
     assert_named(&rt, rt.alloc(), &error, found, (12, "NoMemory"))
 }
@@ -187,11 +189,6 @@ fn four_packets_come_a_hundred_times_each_in_either_order(rt: HostRuntime) -> Re
     ];
     let mut line = Line::new(rt.alloc());
     plays(&rt, &mut line, &SENT)?;
-    for _ in 0..100u8 {
-        plays(&rt, &mut line, &RISING)?;
-    }
-    for _ in 0..100u8 {
-        plays(&rt, &mut line, &REVERSED)?;
-    }
-    Ok(())
+    plays_often(&rt, &mut line, &RISING)?;
+    plays_often(&rt, &mut line, &REVERSED)
 }

@@ -1,6 +1,6 @@
 //! What no clause of [`failover`] says: printed words, a pair's life in order, and the table once more by its numbers.
 
-use crate::refusals::assert_named;
+use crate::refusals::{assert_named, assert_text};
 use failover::{Change, FailoverError, Mode};
 use std::process::Abort;
 use std::test::Fail;
@@ -64,14 +64,15 @@ fn what_each_mode_refuses(rt: HostRuntime) {
 
 #[test]
 fn the_words_are_those_of_the_programs(rt: HostRuntime) -> Result<(), Fail> {
-    let words = format!(in rt.alloc();
-        "{} {} {} {}",
-        Mode::Paired,
-        Mode::Filling,
-        Mode::Alone,
-        Mode::Stopped
-    )?;
-    assert_eq!(rt; words.as_str(), "paired paired alone stopped");
+    static WORDS: [(Mode, &str); 4] = [
+        (Mode::Paired, "paired"),
+        (Mode::Filling, "paired"),
+        (Mode::Alone, "alone"),
+        (Mode::Stopped, "stopped"),
+    ];
+    for (mode, word) in &WORDS {
+        assert_text(&rt, rt.alloc(), mode, word)?;
+    }
     Ok(())
 }
 

@@ -1,6 +1,7 @@
 //! What no clause of [`frame_ports`] says: worked cases, and each call once with ample memory. Each reading stands with its comparison in
 //! a small function, since a long test is slow to prove: a test is a table of rows.
 
+use crate::asserts::{as_many, holds, same, same_bytes};
 use crate::refusals::{assert_named, refused};
 use arrayvec::ArrayVec;
 use frame_ports::{Frame, Landing, PortError, Ports, Targets};
@@ -100,19 +101,19 @@ fn assert_numbered(rt: &impl Abort, ports: &mut Ports, end: u64) {
 /// So many frames wait for the client.
 fn assert_waiting(rt: &impl Abort, ports: &Ports, client: u64, count: usize) {
     assert!(rt; 1 <= client && client <= ports.clients());
-    assert_eq!(rt; ports.inbox_len(client), count);
+    as_many(rt, "waiting", ports.inbox_len(client), count);
 }
 
 /// Whether the client takes a frame.
 fn assert_taken(rt: &impl Abort, ports: &mut Ports, client: u64, some: bool) -> Result<(), Fail> {
     let taken = ports.take(client)?;
-    assert!(rt; taken.is_some() == some);
+    holds(rt, "taken", taken.is_some() == some);
     Ok(())
 }
 
 /// There is no such client to take a frame.
 fn assert_unknown(rt: &impl Abort, ports: &mut Ports, client: u64) {
-    assert!(rt; ports.take(client).is_err());
+    holds(rt, "refused", ports.take(client).is_err());
 }
 
 /// What a loss in an inbox is answered: the number of the frame that was lost, or the refusal's.
@@ -144,7 +145,7 @@ fn admitted(ports: &mut Ports, client: u64) -> Result<(u64, Frame), Fail> {
 
 /// The frame has these bytes.
 fn assert_frame(rt: &impl Abort, frame: &Frame, bytes: &[u8]) {
-    assert!(rt; frame.as_slice() == bytes);
+    same_bytes(rt, "the frame", frame.as_slice(), bytes);
 }
 
 /// The client's first frame is admitted, with this number and these bytes.
@@ -156,7 +157,7 @@ fn assert_admitted(
     bytes: &[u8],
 ) -> Result<(), Fail> {
     let (found, frame) = admitted(ports, client)?;
-    assert_eq!(rt; found, number);
+    same(rt, "the number", found, number);
     assert_frame(rt, &frame, bytes);
     Ok(())
 }
@@ -185,7 +186,7 @@ fn assert_all_land(rt: &impl Abort, ports: &mut Ports, end: u64, frame: &Frame) 
 /// So many frames lie in the client's box.
 fn assert_box(rt: &impl Abort, ports: &Ports, client: u64, count: usize) {
     assert!(rt; 1 <= client && client <= ports.clients());
-    assert_eq!(rt; ports.box_len(client), count);
+    as_many(rt, "in the box", ports.box_len(client), count);
 }
 
 /// Whether there was a frame at a place of a client's box, which is lost.
@@ -249,8 +250,9 @@ fn plays(
         return Err("there are no such ports".into());
     }
     let sent = frame(sent)?;
+    as_many(rt, "bytes", sent.len(), 14);
     let mut ports = Ports::new(alloc, clients)?;
-    assert_eq!(rt; ports.clients(), clients);
+    same(rt, "clients", ports.clients(), clients);
     for row in rows {
         play(rt, alloc, &mut ports, &sent, row)?;
     }
@@ -343,12 +345,12 @@ fn the_number_of_a_dropped_frame_counts(rt: HostRuntime) -> Result<(), Fail> {
 
 /// Whether the client is one of the targets.
 fn assert_contains(rt: &impl Abort, targets: Targets, client: u64, some: bool) {
-    assert!(rt; targets.contains(client) == some);
+    holds(rt, "a target", targets.contains(client) == some);
 }
 
 /// The targets are the clients of these bits, client 1 lowest.
 fn assert_targets(rt: &impl Abort, targets: Targets, bits: u16) {
-    assert_eq!(rt; targets.bits(), bits);
+    same(rt, "the bits", u64::from(targets.bits()), u64::from(bits));
     assert_contains(rt, targets, 1, bits & 1 == 1);
     assert_contains(rt, targets, 3, bits & 4 == 4);
     assert_contains(rt, targets, 0, false);

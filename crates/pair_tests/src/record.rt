@@ -4,6 +4,7 @@
 ghost use Rattle.std.specs.Prelude.{All, IfOk};
 ghost use Rattle.frame_ports.specs.Addresses.{IsFrame};
 
+use crate::asserts::{holds, same, same_bytes};
 use arrayvec::ArrayVec;
 use pair_record::{Event, Frame, Mode, PairRecord, Reply, is_alone, mode_refusal};
 use std::alloc::Global;
@@ -41,16 +42,16 @@ fn handed_out(record: &mut PairRecord) -> Result<(u64, Frame), Fail> {
 
 /// The frame is client 1's.
 fn assert_frame(rt: &impl Abort, frame: &Frame) {
-    assert!(rt; frame.as_slice() == &FRAME[..]);
+    same_bytes(rt, "the frame", frame.as_slice(), &FRAME);
 }
 
 #[test]
 fn a_delivered_frame_is_handed_out(rt: HostRuntime) -> Result<(), Fail> {
     let mut record = boxed(rt.alloc())?;
     let reply = deliver(&mut record)?;
-    assert!(rt; matches!(reply, Reply::Delivered(1)));
+    holds(&rt, "delivered", matches!(reply, Reply::Delivered(1)));
     let (number, frame) = handed_out(&mut record)?;
-    assert_eq!(rt; number, 1);
+    same(&rt, "the number", number, 1);
     assert_frame(&rt, &frame);
     Ok(())
 }
@@ -95,22 +96,21 @@ fn enter(record: &mut PairRecord) -> Result<(), Fail> {
 
 /// The history has so many entries.
 fn assert_entries(rt: &impl Abort, record: &PairRecord, count: u64) {
-    assert_eq!(rt; record.history().len(), count);
+    same(rt, "entries", record.history().len(), count);
 }
 
 #[test]
 fn a_backup_fails_within_an_epoch_which_enters_the_history(rt: HostRuntime) -> Result<(), Fail> {
     let mut record = sealed(rt.alloc())?;
     let reply = fail_backup(&mut record)?;
-    assert!(rt;
-        matches!(
-            reply,
-            Reply::Alone {
-                generation: 1,
-                landed: 0
-            }
-        )
+    let is_right = matches!(
+        reply,
+        Reply::Alone {
+            generation: 1,
+            landed: 0
+        }
     );
+    holds(&rt, "the reply", is_right);
     assert_entries(&rt, &record, 3);
     enter(&mut record)?;
     assert_entries(&rt, &record, 5);
@@ -138,18 +138,17 @@ fn a_full_checkpoint_is_sealed_once_protection_has_begun(rt: HostRuntime) -> Res
     let mut record = sealed(rt.alloc())?;
     fail_backup(&mut record)?;
     let reply = protect(&mut record)?;
-    assert!(rt; matches!(reply, Reply::Protecting(2)));
+    holds(&rt, "protecting", matches!(reply, Reply::Protecting(2)));
     let reply = seal_full(&mut record)?;
-    assert!(rt;
-        matches!(
-            reply,
-            Reply::Cut {
-                generation: 2,
-                number: 0
-            }
-        )
+    let is_right = matches!(
+        reply,
+        Reply::Cut {
+            generation: 2,
+            number: 0
+        }
     );
-    assert_eq!(rt; record.pending(), 1);
+    holds(&rt, "the reply", is_right);
+    same(&rt, "pending", record.pending(), 1);
     Ok(())
 }
 
@@ -215,15 +214,14 @@ fn what_a_backup_brings_lands_up_to_the_last_commit(rt: HostRuntime) -> Result<(
     commit(&mut record)?;
     fail_primary(&mut record)?;
     let reply = go_live(rt.alloc(), &mut record)?;
-    assert!(rt;
-        matches!(
-            reply,
-            Reply::Live {
-                generation: 2,
-                steps: 7
-            }
-        )
+    let is_right = matches!(
+        reply,
+        Reply::Live {
+            generation: 2,
+            steps: 7
+        }
     );
+    holds(&rt, "the reply", is_right);
     assert_entries(&rt, &record, 4);
     Ok(())
 }

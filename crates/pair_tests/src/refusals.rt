@@ -14,15 +14,15 @@ pub(crate) fn refused(alloc: Global) -> Result<MemoryWanted, Fail> {
     }
 }
 
-/// The refusal's text is this name.
-fn assert_text(
+/// It prints so.
+pub(crate) fn assert_text(
     rt: &impl Abort,
     alloc: Global,
-    refusal: &impl Display,
-    name: &str,
+    it: &impl Display,
+    wanted: &str,
 ) -> Result<(), Fail> {
-    let text = format!(in alloc; "{refusal}")?;
-    assert_eq!(rt; text.as_str(), name);
+    let text = format!(in alloc; "{it}")?;
+    assert_eq!(rt; text.as_str(), wanted);
     Ok(())
 }
 

@@ -1,54 +1,71 @@
 //! Packets that come late, again and again, or out of order, and acknowledgements of a generation that has ended.
 
 use super::rows::{Guest, Row, pair, plays, plays_on};
+use crate::asserts::{holds, same};
 use pair_core::{Event, Mode, Refusal, Reply, World};
 use std::process::Abort;
 use std::test::Fail;
 
 /// How often packets were answered Committed, Again and Gap.
-#[derive(Clone, Copy, Debug, PartialEq, Eq)]
+#[derive(Drop)]
 struct Counts {
     committed: u64,
     again: u64,
     gap: u64,
 }
 
-/// Counts what the backup answers to this packet. Commits come in the order of their numbers.
-fn count(rt: &impl Abort, world: &mut World, packet: u64, counts: &mut Counts) {
+/// What the backup answers to a packet.
+#[derive(Drop)]
+enum Answer {
+    Committed(u64),
+    Again,
+    Gap,
+    Other,
+}
+
+/// What the backup answers to this packet.
+fn told(world: &mut World, packet: u64) -> Answer {
     match world.apply(Event::BackupGet(packet)) {
-        Reply::Committed { number, .. } => {
-            counts.committed = counts.committed.saturating_add(1);
-            assert_eq!(rt; number, counts.committed);
-        }
-        Reply::Again { .. } => counts.again = counts.again.saturating_add(1),
-        Reply::Refused(Refusal::Gap) => counts.gap = counts.gap.saturating_add(1),
-        _ => assert!(rt; false, "packet {packet}"),
+        Reply::Committed { number, .. } => Answer::Committed(number),
+        Reply::Again { .. } => Answer::Again,
+        Reply::Refused(Refusal::Gap) => Answer::Gap,
+        _ => Answer::Other,
     }
 }
 
-/// The counts of all packets got in reversed order, a hundred times.
-fn counted(rt: &impl Abort, world: &mut World) -> Counts {
+/// Counts an answer. Commits come in the order of their numbers.
+fn count(rt: &impl Abort, answer: Answer, counts: &mut Counts) {
+    match answer {
+        Answer::Committed(number) => {
+            counts.committed = counts.committed.saturating_add(1);
+            same(rt, "the committed number", number, counts.committed);
+        }
+        Answer::Again => counts.again = counts.again.saturating_add(1),
+        Answer::Gap => counts.gap = counts.gap.saturating_add(1),
+        Answer::Other => holds(rt, "committed, again or a gap", false),
+    }
+}
+
+/// Counts the answers to the four packets, the last one first.
+fn count_four(rt: &impl Abort, world: &mut World, counts: &mut Counts) {
+    for packet in 1..5u64 {
+        count(rt, told(world, 4 - packet), counts);
+    }
+}
+
+/// The four packets, got a hundred times, are committed once each, in order.
+fn assert_counted(rt: &impl Abort, world: &mut World) {
     let mut counts = Counts {
         committed: 0,
         again: 0,
         gap: 0,
     };
     for _ in 0..100u8 {
-        for packet in 1..5u64 {
-            count(rt, world, 4 - packet, &mut counts);
-        }
+        count_four(rt, world, &mut counts);
     }
-    counts
-}
-
-/// A hundred times the four packets, of which the first is got last, are answered so.
-fn assert_counted(rt: &impl Abort, world: &mut World) {
-    let wanted = Counts {
-        committed: 4,
-        again: 390,
-        gap: 6,
-    };
-    assert_eq!(rt; counted(rt, world), wanted);
+    same(rt, "committed", counts.committed, 4);
+    same(rt, "again", counts.again, 390);
+    same(rt, "gaps", counts.gap, 6);
 }
 
 #[test]

@@ -1,6 +1,7 @@
 //! What is done to a pair, row by row, and what has to come of it. Each reading stands with its comparison in a small function, since a
 //! long test is slow to prove: a test is a table of rows.
 
+use crate::asserts::{as_many, holds, same};
 use guest_kit::{beacon, disk_once};
 use pair_core::{Event, Mode, Refusal, Reply, Shape, Show, World};
 use std::alloc::Global;
@@ -129,10 +130,8 @@ fn assert_answers(
 /// The event Step is answered by this count.
 fn assert_counts(rt: &impl Abort, world: &mut World, steps: u64) {
     let reply = world.apply(Event::Step);
-    assert!(rt;
-        matches!(reply, Reply::Steps(count) if count == steps),
-        "step {steps}"
-    );
+    let is_right = matches!(reply, Reply::Steps(count) if count == steps);
+    holds(rt, "the count", is_right);
 }
 
 /// So are as many as lead from one count to another.
@@ -144,7 +143,8 @@ fn assert_counts_from(rt: &impl Abort, world: &mut World, from: u64, to: u64) {
 
 /// One step is made, after which there were so many in all.
 fn assert_step(rt: &impl Abort, world: &mut World, steps: u64) {
-    assert_eq!(rt; world.step(), Ok(steps));
+    let is_right = matches!(world.step(), Ok(count) if count == steps);
+    holds(rt, "the count", is_right);
 }
 
 /// As many are made, one by one, as lead from one count to another.
@@ -156,7 +156,16 @@ fn assert_steps_from(rt: &impl Abort, world: &mut World, from: u64, to: u64) {
 
 /// So many steps are made, after which there were so many in all.
 fn assert_steps(rt: &impl Abort, world: &mut World, count: u64, steps: u64) {
-    assert_eq!(rt; world.run_steps(count), Ok(steps));
+    let is_right = matches!(world.run_steps(count), Ok(found) if found == steps);
+    holds(rt, "the count", is_right);
+}
+
+/// So many events Step, and a Cut.
+fn steps_and_a_cut(alloc: Global, count: usize) -> Result<Vec<Event<'static>>, Fail> {
+    let mut events = Vec::new(alloc);
+    events.resize(count, Event::Step)?;
+    events.push(Event::Cut)?;
+    Ok(events)
 }
 
 /// A list of so many events Step and a Cut is answered to its end.
@@ -166,11 +175,9 @@ fn assert_list(
     world: &mut World,
     count: usize,
 ) -> Result<(), Fail> {
-    let mut events = Vec::new(alloc);
-    events.resize(count, Event::Step)?;
-    events.push(Event::Cut)?;
+    let events = steps_and_a_cut(alloc, count)?;
     let replies = world.run(events.as_slice())?;
-    assert_eq!(rt; replies.len(), events.len());
+    as_many(rt, "replies", replies.len(), events.len());
     Ok(())
 }
 
@@ -196,17 +203,16 @@ fn make_epochs(world: &mut World, count: u64) -> Result<(), Fail> {
 
 /// Neither a step nor many are made, since the primary has stopped.
 fn assert_makes_no_step(rt: &impl Abort, world: &mut World) {
-    assert_eq!(rt; world.step(), Err(Refusal::Stopped));
-    assert_eq!(rt; world.run_steps(5), Err(Refusal::Stopped));
+    let one = matches!(world.step(), Err(Refusal::Stopped));
+    let five = matches!(world.run_steps(5), Err(Refusal::Stopped));
+    holds(rt, "refused", one && five);
 }
 
 /// The delivery of the beacon's frame by client 1 is given this number.
 fn assert_delivered(rt: &impl Abort, world: &mut World, number: u64) {
     let reply = world.apply(Event::Deliver(1, &FRAME));
-    assert!(rt;
-        matches!(reply, Reply::Delivered(given) if given == number),
-        "frame {number}"
-    );
+    let is_right = matches!(reply, Reply::Delivered(given) if given == number);
+    holds(rt, "the number", is_right);
 }
 
 /// So many are given the numbers from 1 on.
@@ -249,10 +255,8 @@ fn assert_shows(rt: &impl Abort, world: &World, show: Show) {
 /// The history has so many entries, of which so many are stored.
 fn assert_stored(rt: &impl Abort, world: &World, entries: u64, stored: usize) {
     let history = world.history();
-    assert_eq!(rt;
-        (history.len(), history.entries().count()),
-        (entries, stored)
-    );
+    same(rt, "entries", history.len(), entries);
+    as_many(rt, "stored", history.entries().count(), stored);
 }
 
 /// Whether each of these bytes is this one.
@@ -268,14 +272,14 @@ fn are_all(bytes: &[u8], byte: u8) -> bool {
 /// The disk has this sector, and each of its bytes is this one.
 fn assert_filled(rt: &impl Abort, world: &World, sector: u32, byte: u8) {
     match world.sector(sector) {
-        Some(bytes) => assert!(rt; are_all(bytes, byte)),
-        None => assert!(rt; false, "there is no sector {sector}"),
+        Some(bytes) => holds(rt, "the sector", are_all(bytes, byte)),
+        None => holds(rt, "there is the sector", false),
     }
 }
 
 /// The disk has only the sectors before this one.
 fn assert_sectors(rt: &impl Abort, world: &World, count: u32) {
-    assert!(rt; world.sector(count).is_none());
+    holds(rt, "no sector", world.sector(count).is_none());
 }
 
 /// Plays one row.
