@@ -1,0 +1,16 @@
+//! Tests of a pair in threads, and of its members by hand. They stand in a crate of their own since a crate that has tests is proved once
+//! more with them.
+#![tactic(auto)]
+
+#[cfg(test)]
+mod files;
+#[cfg(test)]
+mod hands;
+#[cfg(test)]
+mod late;
+#[cfg(test)]
+mod pairs;
+#[cfg(test)]
+mod releases;
+#[cfg(test)]
+mod zombies;
