@@ -51,7 +51,7 @@ pub use machine::Machine;
 pub use machine_state::MachineState;
 pub use mtraps::CsrValues;
 pub use net_device::Frame;
-pub use paces::Pace;
+pub use paces::{Pace, Unpaced};
 pub use paged_memory::PAGE_BYTES;
 pub use shapes::Shape;
 pub use virtio_mmio::DeviceState;

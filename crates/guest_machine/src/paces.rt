@@ -26,6 +26,27 @@ pub trait Pace {
     ghost some: { 0 < STRETCH };
 }
 
+/// A pace that lets all steps by.
+#[derive(Drop)]
+pub struct Unpaced;
+
+impl Pace for Unpaced {
+    ghost use Rattle.std.specs.Prelude.{◌≡◌, true};
+    ghost use Rattle.std.proofs.Common.{rules};
+
+    ghost STRETCH = { 18446744073709551615 };
+
+    ghost answers = { λ before made yes after. yes ≡ true };
+
+    const STRETCH: u64 = u64::MAX;
+
+    fn go_on(&mut self, _made: u64) -> bool {
+        true
+    }
+
+    ghost some = { Prim.search rules };
+}
+
 impl Machine {
     /// Steps of the guest, as [`run`](Machine::run) makes them, for a pace that is asked before them, and again each time that as many
     /// steps were made as one yes of its type lets by. `count` steps are made, or fewer where the next one finds more than 192 frames in

@@ -3,7 +3,7 @@
 ghost use Rattle.std.specs.Prelude.{◌≡◌};
 ghost use Rattle.hypervisor.specs.Opening.{start_with};
 
-use guest_machine::Pace;
+use guest_machine::Unpaced;
 use hypervisor::{
     Ack, Backup, Client, Frame, Node, Packet, Pair, Parts, Refusal, Runner, Sender, UnnamedPair,
     Warden,
@@ -15,27 +15,6 @@ use std::test::Fail;
 
 /// The frame that the beacon sends to client 1.
 pub(super) const FRAME: [u8; 14] = [2, 0, 0, 0, 1, 1, 2, 0, 0, 0, 0, 1, 0x88, 0xb5];
-
-/// Lets all steps by.
-#[derive(Drop)]
-pub(super) struct Always;
-
-impl Pace for Always {
-    ghost use Rattle.std.specs.Prelude.{◌≡◌, true};
-    ghost use Rattle.std.proofs.Common.{rules};
-
-    ghost STRETCH = { 18446744073709551615 };
-
-    ghost answers = { λ before made yes after. yes ≡ true };
-
-    const STRETCH: u64 = u64::MAX;
-
-    fn go_on(&mut self, _made: u64) -> bool {
-        true
-    }
-
-    ghost some = { Prim.search rules };
-}
 
 /// A call, and what it answers. Runners, backups and packets are named by their places, in the order in which they came.
 #[derive(Drop)]
@@ -136,7 +115,7 @@ fn runner<'a, P: Pair>(rt: &impl Abort, hand: &'a mut Hand<P>, at: usize) -> &'a
 
 /// An epoch of so many steps, which is submitted.
 fn run_epoch<P: Pair, R: Wait + Abort>(rt: &R, runner: &mut Runner<P>, steps: u64) {
-    assert_eq!(rt; runner.run(steps, &mut Always), steps);
+    assert_eq!(rt; runner.run(steps, &mut Unpaced), steps);
     let want = runner.ask(rt).expect(rt, "what is wanted");
     runner.prepare(want).expect(rt, "memory");
     runner.submit(rt).expect(rt, "a submit");

@@ -2,7 +2,7 @@
 
 use super::PROGRAM;
 use super::play::{Part, booted};
-use guest_machine::{Machine, Pace};
+use guest_machine::{Machine, Pace, Unpaced};
 use std::process::Abort;
 
 /// Holds the guest at one step.
@@ -23,27 +23,6 @@ impl Pace for Until {
 
     fn go_on(&mut self, made: u64) -> bool {
         made < self.step
-    }
-
-    ghost some = { Prim.search rules };
-}
-
-/// Lets all steps by.
-#[derive(Drop)]
-struct Always;
-
-impl Pace for Always {
-    ghost use Rattle.std.specs.Prelude.{◌≡◌, true};
-    ghost use Rattle.std.proofs.Common.{rules};
-
-    ghost STRETCH = { 18446744073709551615 };
-
-    ghost answers = { λ before made yes after. yes ≡ true };
-
-    const STRETCH: u64 = u64::MAX;
-
-    fn go_on(&mut self, _made: u64) -> bool {
-        true
     }
 
     ghost some = { Prim.search rules };
@@ -73,6 +52,6 @@ fn a_pace_holds_the_guest(rt: HostRuntime) {
     assert_steps(&rt, &machine, 10);
     assert_paced(&rt, &mut machine, 100, Until { step: 0 }, 0);
     assert_paced(&rt, &mut machine, 5, Until { step: 10 }, 5);
-    assert_paced(&rt, &mut machine, 1 << 40, Always, 1 << 40);
+    assert_paced(&rt, &mut machine, 1 << 40, Unpaced, 1 << 40);
     assert_steps(&rt, &machine, (1 << 40) + 15);
 }
