@@ -8,7 +8,7 @@ ghost use Rattle.backup_image.specs.Kept.{IsKept, none_kept, first_kept, kept_af
 use crate::limits::MAX_KEPT;
 use arrayvec::ArrayVec;
 use epoch_snapshot::Checkpoint;
-use guest_machine::Frame;
+use frame_list::FrameList;
 use std::alloc::Global;
 use std::marker::Model;
 
@@ -19,7 +19,7 @@ use std::marker::Model;
 /// to 1514 bytes.
 #[derive(Drop)]
 pub struct KeptFrames {
-    epochs: ArrayVec<Vec<Frame>, MAX_KEPT, Global>,
+    epochs: ArrayVec<FrameList, MAX_KEPT, Global>,
     sent: u64,
 }
 
@@ -63,7 +63,7 @@ impl KeptFrames {
     }
 
     /// The frames of the last commits, at most four, the oldest first: of each those of its checkpoint, in order.
-    pub fn epochs(&self) -> &[Vec<Frame>]
+    pub fn epochs(&self) -> &[FrameList]
         ensures value { map (λ epoch. epoch.items) result.now ≡ self.now.lists }
         ensures rules { IsKept self.now }
     {
@@ -104,7 +104,7 @@ impl KeptFrames {
     }
 
     /// Keeps the frames of one more commit.
-    fn keep(&mut self, frames: Vec<Frame>)
+    fn keep(&mut self, frames: FrameList)
         requires short { length frames.items ≤ 256 }
         requires frames { All IsFrame frames.items }
         requires numbers { self.old.sent + length frames.items < number_limit }
@@ -118,7 +118,7 @@ impl KeptFrames {
 }
 
 /// Lets the oldest go where no place is free.
-fn make_room(epochs: &mut ArrayVec<Vec<Frame>, MAX_KEPT, Global>)
+fn make_room(epochs: &mut ArrayVec<FrameList, MAX_KEPT, Global>)
     ensures items { epochs.new.items ≡ drop (length epochs.old.items + 1 - max_kept) epochs.old.items }
     ensures room { array_vec_len epochs.new < max_kept }
 {
@@ -128,7 +128,7 @@ fn make_room(epochs: &mut ArrayVec<Vec<Frame>, MAX_KEPT, Global>)
 }
 
 /// How many frames these are together: of four commits at most 1024.
-fn count(epochs: &[Vec<Frame>]) -> u64
+fn count(epochs: &[FrameList]) -> u64
     requires { sum_by (λ epoch. length epoch.items) epochs.now < number_limit }
     ensures { result ≡ sum_by (λ epoch. length epoch.items) epochs.now }
 {

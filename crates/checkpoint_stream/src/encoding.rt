@@ -13,7 +13,8 @@ use crate::errors::StreamError;
 use crate::rules::{HEAD_NUMBERS, NEW_MAGIC, OLD_MAGIC, Width, head_row};
 use crate::widths::{block_widths, state_widths};
 use epoch_snapshot::{BLOCK_BYTES, Block, Checkpoint, PageChange, SectorChange};
-use guest_machine::{Frame, SECTOR_BYTES};
+use frame_list::FrameList;
+use guest_machine::SECTOR_BYTES;
 use memory_wanted::{MemoryWanted, extend_from_slice, with_capacity};
 use std::alloc::Global;
 
@@ -57,7 +58,7 @@ pub fn encode(alloc: Global, checkpoint: &Checkpoint) -> Result<Vec<u8>, StreamE
 }
 
 /// How many bytes a checkpoint has with so many pages, blocks and sectors, and with these frames.
-fn size_of_text(pages: usize, blocks: usize, sectors: usize, frames: &[Frame]) -> usize {
+fn size_of_text(pages: usize, blocks: usize, sectors: usize, frames: &FrameList) -> usize {
     let of_pages = pages
         .saturating_mul(12)
         .saturating_add(blocks.saturating_mul(BLOCK_BYTES));
@@ -69,10 +70,12 @@ fn size_of_text(pages: usize, blocks: usize, sectors: usize, frames: &[Frame]) -
 }
 
 /// How many bytes frames take, each with its length.
-fn size_of_frames(frames: &[Frame]) -> usize {
+fn size_of_frames(frames: &FrameList) -> usize {
     let mut size = 0usize;
-    for frame in frames {
-        size = size.saturating_add(4).saturating_add(frame.len());
+    for at in 0..frames.len() {
+        size = size
+            .saturating_add(4)
+            .saturating_add(frames.bytes(at).len());
     }
     size
 }
@@ -172,22 +175,22 @@ fn put_sector(out: &mut Vec<u8>, sector: &SectorChange) -> Result<(), MemoryWant
 }
 
 /// The frames at the end, each after its length.
-fn put_frames(out: &mut Vec<u8>, frames: &[Frame]) -> Result<(), MemoryWanted>
-    ensures { OnOk result (out.new.items ≡ out.old.items ++ joined (frame_units frames.now)) }
+fn put_frames(out: &mut Vec<u8>, frames: &FrameList) -> Result<(), MemoryWanted>
+    ensures { OnOk result (out.new.items ≡ out.old.items ++ joined (frame_units frames.now.items)) }
 {
-    for frame in frames {
-        put_frame(out, frame)?;
+    for at in 0..frames.len() {
+        put_frame(out, frames.bytes(at))?;
     }
     Ok(())
 }
 
 /// A frame at the end, after its length.
 #[tactic(auto, using(std::proofs::Common::append_assoc))]
-fn put_frame(out: &mut Vec<u8>, frame: &Frame) -> Result<(), MemoryWanted>
-    ensures { OnOk result (out.new.items ≡ out.old.items ++ (bytes_of Four (length frame.now.items) ++ frame.now.items)) }
+fn put_frame(out: &mut Vec<u8>, frame: &[u8]) -> Result<(), MemoryWanted>
+    ensures { OnOk result (out.new.items ≡ out.old.items ++ (bytes_of Four (length frame.now) ++ frame.now)) }
 {
     put(out, Width::Four, frame.len() as u64)?;
-    extend_from_slice(out, frame.as_slice())?;
+    extend_from_slice(out, frame)?;
     Ok(())
 }
 

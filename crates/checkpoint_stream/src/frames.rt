@@ -8,8 +8,8 @@ ghost use Rattle.checkpoint_stream.specs.declared.place.Place.TheVariants.{Frame
 
 use crate::parts::Parts;
 use crate::place::{Place, frames_due};
-use guest_machine::Frame;
-use memory_wanted::{MemoryWanted, reserve};
+use frame_list::Frame;
+use memory_wanted::MemoryWanted;
 use std::mem;
 
 /// How many frames a delta carries at most: as many as an outbox holds.
@@ -39,7 +39,7 @@ impl Parts {
             self.fail();
             return Ok(());
         }
-        reserve(&mut self.frames, n as usize)?;
+        self.frames.reserve(n)?;
         self.offset = self.offset.wrapping_add(4);
         self.place = frames_due(n);
         self.filled = 0;
@@ -79,7 +79,7 @@ impl Parts {
         put_in(&mut self.part, &rest[..taken]);
         if held + taken == len as usize {
             let frame = mem::replace(&mut self.part, Frame::new());
-            self.keep_frame(left, len, frame);
+            self.keep_bytes(left, len, frame.as_slice());
         }
         taken
     }
@@ -91,38 +91,12 @@ impl Parts {
         requires whole { length bytes.now ≡ len }
         ensures { self.new ≡ frame_judged self.old left len bytes.now }
     {
-        put_frame(&mut self.frames, bytes);
+        self.frames.push_reserved(bytes);
         self.offset = self.offset.wrapping_add(u64::from(len));
         self.place = frames_due(left);
         self.filled = 0;
         self.part.clear();
     }
-
-    /// Keeps a frame, which has as many bytes as were due.
-    #[tactic(auto, unfolding(crate::specs::Readings::frame_judged))]
-    fn keep_frame(&mut self, left: u32, len: u32, frame: Frame)
-        requires place { self.old.place ≡ FrameBytes left len }
-        requires whole { length frame.items ≡ len }
-        ensures { self.new ≡ frame_judged self.old left len frame.items }
-    {
-        self.frames.push_reserved(frame);
-        self.offset = self.offset.wrapping_add(u64::from(len));
-        self.place = frames_due(left);
-        self.filled = 0;
-        self.part.clear();
-    }
-}
-
-/// Puts the frame of these bytes last, in a place that was reserved. They are copied once, to where the frame lies then.
-fn put_frame(frames: &mut Vec<Frame>, bytes: &[u8])
-    requires room { length frames.old.items < vec_capacity frames.old }
-    requires few { length bytes.now ≤ 1514 }
-    ensures last { frames.new.items ≡ frames.old.items ++ record { items = bytes.now } ∷ [] }
-    ensures kept { vec_capacity frames.new ≡ vec_capacity frames.old }
-{
-    let last = frames.len();
-    frames.push_reserved(Frame::new());
-    put_in(&mut frames[last], bytes);
 }
 
 /// Puts bytes at the end of a frame that has room for them.

@@ -12,7 +12,8 @@ use crate::place::Place;
 use crate::rules::{HEAD_NUMBERS, head_row};
 use crate::states::{state_from, version_from};
 use epoch_snapshot::{Block, Checkpoint, PageChange, SectorChange};
-use guest_machine::{Frame, SECTOR_BYTES, Shape};
+use frame_list::{Frame, FrameList};
+use guest_machine::{SECTOR_BYTES, Shape};
 use memory_wanted::MemoryWanted;
 use std::alloc::Global;
 use std::marker::Model;
@@ -30,7 +31,7 @@ pub(crate) struct Parts {
     pub(crate) pages: Vec<PageChange>,
     pub(crate) blocks: Vec<Block>,
     pub(crate) sectors: Vec<SectorChange>,
-    pub(crate) frames: Vec<Frame>,
+    pub(crate) frames: FrameList,
     pub(crate) filled: usize,
     pub(crate) buffer: [u8; SECTOR_BYTES],
     /// The frame that has begun, whose bytes don't fit in the buffer.
@@ -38,7 +39,7 @@ pub(crate) struct Parts {
 }
 
 impl Model for Parts {
-    ghost use Rattle.std.specs.Prelude.{◌≡◌, ◌<◌, ◌≤◌, ◌++◌, take, length, vec_capacity};
+    ghost use Rattle.std.specs.Prelude.{◌≡◌, ◌+◌, ◌<◌, ◌≤◌, ◌++◌, take, length};
     ghost use Rattle.checkpoint_stream.specs.Readings.{Reading, width_at};
     ghost use Rattle.checkpoint_stream.specs.Taken.{HasPlaces};
     ghost use Rattle.checkpoint_stream.specs.declared.place.Place.TheVariants.{Head};
@@ -60,7 +61,7 @@ impl Model for Parts {
     } };
 
     ghost invariant = { λ p. (p.known ≤ 80) × (p.place ≡ Head → p.known < 80) × (p.filled ≤ 512) × (p.filled < width_at p.place p.known)
-        × HasPlaces p.place p.filled p.part.items (length p.frames.items) (vec_capacity p.frames) };
+        × HasPlaces p.place p.filled p.part.items (length p.frames.items) (length p.frames.items + p.frames.places) };
 }
 
 impl Parts {
@@ -78,7 +79,7 @@ impl Parts {
             pages: Vec::new(alloc),
             blocks: Vec::new(alloc),
             sectors: Vec::new(alloc),
-            frames: Vec::new(alloc),
+            frames: FrameList::new(alloc),
             filled: 0,
             buffer: [0; SECTOR_BYTES],
             part: Frame::new(),
@@ -136,7 +137,7 @@ impl Parts {
         let pages = mem::replace(&mut self.pages, Vec::new(alloc));
         let blocks = mem::replace(&mut self.blocks, Vec::new(alloc));
         let sectors = mem::replace(&mut self.sectors, Vec::new(alloc));
-        let frames = mem::replace(&mut self.frames, Vec::new(alloc));
+        let frames = mem::replace(&mut self.frames, FrameList::new(alloc));
         let version = version_from(self.head[0]);
         let state = state_from(&self.head);
         let (generation, number) = (self.head[3], self.head[4]);

@@ -2,7 +2,8 @@
 
 use crate::guests::{Guest, machine_after};
 use epoch_snapshot::{Checkpoint, cut_delta, cut_full};
-use guest_machine::{Frame, Machine};
+use frame_list::FrameList;
+use guest_machine::Machine;
 use std::alloc::Global;
 use std::process::Abort;
 use std::test::Fail;
@@ -140,9 +141,9 @@ fn assert_sector(rt: &impl Abort, checkpoint: &Checkpoint, sector: u32, byte: u8
 const FRAME: [u8; 14] = [2, 0, 0, 0, 1, 1, 2, 0, 0, 0, 0, 1, 0x88, 0xb5];
 
 /// Each frame is the beacon's.
-pub(super) fn assert_frames(rt: &impl Abort, frames: &[Frame]) {
-    for frame in frames {
-        assert!(rt; frame.as_slice() == FRAME.as_slice());
+pub(super) fn assert_frames(rt: &impl Abort, frames: &FrameList) {
+    for at in 0..frames.len() {
+        assert!(rt; frames.bytes(at) == FRAME.as_slice());
     }
 }
 

@@ -2,7 +2,8 @@
 ghost use Rattle.std.specs.Prelude.{◌≡◌, ◌==◌, ◌↔◌, IsTrue};
 
 use crate::changes::{Block, PageChange, SectorChange};
-use guest_machine::{Frame, MachineState, Shape};
+use frame_list::FrameList;
+use guest_machine::{MachineState, Shape};
 use std::marker::Model;
 
 /// Pages of the machine of a checkpoint of version 1, at most.
@@ -25,7 +26,7 @@ pub struct Checkpoint {
     pages: Vec<PageChange>,
     blocks: Vec<Block>,
     sectors: Vec<SectorChange>,
-    frames: Vec<Frame>,
+    frames: FrameList,
 }
 
 impl Model for Checkpoint {
@@ -53,7 +54,7 @@ impl Checkpoint {
         pages: Vec<PageChange>,
         blocks: Vec<Block>,
         sectors: Vec<SectorChange>,
-        frames: Vec<Frame>,
+        frames: FrameList,
     ) -> Checkpoint
         requires { IsCanonical (change_of version shape generation number state pages.items blocks.items sectors.items frames.items) }
         ensures { result ≡ change_of version shape generation number state pages.items blocks.items sectors.items frames.items }
@@ -142,15 +143,15 @@ impl Checkpoint {
     }
 
     /// The frames that the guest sent since the checkpoint before, in order, those too that go to no client.
-    pub fn frames(&self) -> &[Frame]
-        ensures value { result.now ≡ self.now.frames }
+    pub fn frames(&self) -> &FrameList
+        ensures value { result.now.items ≡ self.now.frames }
         ensures canonical { IsCanonical self.now }
     {
-        self.frames.as_slice()
+        &self.frames
     }
 
     /// These frames, and no other part of the checkpoint: its own list, without a copy.
-    pub fn into_frames(self) -> Vec<Frame>
+    pub fn into_frames(self) -> FrameList
         ensures value { result.items ≡ self.frames }
         ensures canonical { IsCanonical self }
     {

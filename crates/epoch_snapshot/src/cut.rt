@@ -8,9 +8,9 @@ ghost use Rattle.epoch_snapshot.specs.Images.{image_of};
 
 use crate::checkpoint::Checkpoint;
 use crate::errors::SnapshotError;
-use crate::frames::push_copies;
 use crate::memory::{Over, push_pages};
 use crate::sectors::{push_used, push_written};
+use frame_list::FrameList;
 use guest_machine::Machine;
 use memory_wanted::with_capacity;
 use std::alloc::Global;
@@ -45,10 +45,9 @@ pub fn cut_delta(
     let mut pages = Vec::new(alloc);
     let mut blocks = Vec::new(alloc);
     let mut sectors = with_capacity(alloc, machine.dirty_sectors().len())?;
-    let mut frames = with_capacity(alloc, machine.outbox().len())?;
+    let frames = FrameList::copies(alloc, machine.outbox())?;
     push_pages(machine, Over::Settled, shape.pages, &mut pages, &mut blocks)?;
     push_written(machine, &mut sectors);
-    push_copies(&mut frames, machine.outbox());
     Ok(Checkpoint::from_parts(
         VERSION,
         shape,
@@ -85,7 +84,7 @@ pub fn cut_full(
     let mut pages = Vec::new(alloc);
     let mut blocks = Vec::new(alloc);
     let mut sectors = Vec::new(alloc);
-    let frames = Vec::new(alloc);
+    let frames = FrameList::new(alloc);
     push_pages(machine, Over::Zero, shape.pages, &mut pages, &mut blocks)?;
     push_used(machine, shape.sectors, &mut sectors)?;
     Ok(Checkpoint::from_parts(

@@ -9,7 +9,6 @@ mod changes;
 mod checkpoint;
 mod cut;
 mod errors;
-mod frames;
 mod limits;
 mod memory;
 mod sectors;

@@ -26,7 +26,7 @@ use Rattle.frame_ports.specs.Lands.{has_room}
 use Rattle.frame_ports.specs.Limits.{box_frames}
 use Rattle.frame_ports.specs.Numbers.{is_new, after_landing}
 use Rattle.frame_ports.specs.Ports.{PortsState, IsClient, box_of}
-use Rattle.frame_ports.specs.internal.Fields.{rings_items, ports_state, AreFields}
+use Rattle.frame_ports.specs.internal.Fields.{ports_state, AreFields}
 use Rattle.frame_ports.specs.declared.ports.Ports.TheInside.{Inside}
 use Rattle.frame_ports.proofs.LandLaws.{landed_at-room}
 use Rattle.frame_ports.proofs.NumberLaws.{after_landing-new}

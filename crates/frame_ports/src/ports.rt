@@ -198,10 +198,10 @@ impl Ports {
 
     /// To which clients a frame of the guest goes: the one that its first six bytes name, all of them if these
     /// are 0xff, else none. A frame that is too short to name one goes nowhere.
-    pub fn route(&self, frame: &Frame) -> Targets
-        ensures { AreTargets (length self.now.boxes) frame.now.items result }
+    pub fn route(&self, frame: &[u8]) -> Targets
+        ensures { AreTargets (length self.now.boxes) frame.now result }
     {
-        Targets::of_frame(self.clients(), frame.as_slice())
+        Targets::of_frame(self.clients(), frame)
     }
 
     /// How many frames wait in the client's inbox, at most 64.
@@ -233,11 +233,11 @@ impl Ports {
     /// Lands the guest's frame of that number for a client: it goes last in the client's box. A box of 256 frames
     /// drops it, and its number is the client's all the same. A frame whose number isn't above the client's came
     /// before, and changes nothing.
-    pub fn land(&mut self, client: u64, number: u64, frame: &Frame) -> Landing
+    pub fn land(&mut self, client: u64, number: u64, frame: &[u8]) -> Landing
         requires client { IsClient self.old client }
-        requires frame { IsFrame frame.now }
+        requires frame { IsFrame (record { items = frame.now }) }
         ensures answer { result ≡ landing self.old client number }
-        ensures ports { self.new ≡ after_landing self.old client number frame.now }
+        ensures ports { self.new ≡ after_landing self.old client number (record { items = frame.now }) }
     {
         let place = (client - 1) as usize;
         if !raise(&mut self.numbers, place, number) {
@@ -247,7 +247,7 @@ impl Ports {
         if landed.len() >= BOX_FRAMES {
             return Landing::Dropped;
         }
-        put_frame(landed, frame.as_slice());
+        put_frame(landed, frame);
         Landing::In
     }
 

@@ -1,5 +1,5 @@
 -- Laws of the clients' numbers where no frame lands, for the crates above.
-use Rattle.std.proofs.Common.{◌≡◌, ℕ, zero, suc, ◌-◌, ◌≤◌, List, length, replicate, slice_index_or, refl, ◌∙◌, ap, arith}
+use Rattle.std.proofs.Common.{◌≡◌, ℕ, zero, suc, ◌-◌, ◌≤◌, List, length, replicate, slice_index_or, refl, ap, arith}
 use Rattle.frame_ports.specs.Ports.{PortsState}
 use Rattle.output_gate.specs.Landings.{AreBelow, HaveRisen}
 

@@ -1,39 +1,12 @@
 -- Laws of frames that came before and of frames that are new, for the crates above.
-use Rattle.std.proofs.Common.{
-  ◌≡◌,
-  ℕ,
-  zero,
-  suc,
-  ◌+◌,
-  ◌-◌,
-  ◌<◌,
-  ◌≤◌,
-  ◌≢◌,
-  Bool,
-  true,
-  false,
-  if◌then◌else◌,
-  List,
-  [],
-  ◌∷◌,
-  ◌++◌,
-  length,
-  slice_index_or,
-  refl,
-  sym,
-  ◌∙◌,
-  ap,
-  subst,
-  arith,
-  All,
-}
+use Rattle.std.proofs.Common.{◌≡◌, ℕ, zero, suc, ◌+◌, ◌-◌, ◌<◌, ◌≤◌, Bool, true, false, if◌then◌else◌, List, [], ◌∷◌, ◌++◌, length, slice_index_or, refl, sym, ◌∙◌, ap, subst, arith, All}
 use Rattle.std.proofs.lemmas.List.Elements.{All-head, All-tail}
 use Rattle.arrayvec.specs.ArrayVec.{ArrayVec}
 use Rattle.frame_ports.specs.Addresses.{addressed, clients_from, clients_of, paired_with, targets_of}
 use Rattle.frame_ports.specs.Lands.{has_room, landed_at, lands, put_count, drop_count}
 use Rattle.frame_ports.specs.Numbers.{number_of, landing, after_landing}
 use Rattle.frame_ports.specs.Ports.{PortsState}
-use Rattle.frame_ports.specs.declared.landing.Landing.TheVariants.{In, Dropped, Old}
+use Rattle.frame_ports.specs.declared.landing.Landing.TheVariants.{In, Dropped}
 use Rattle.frame_ports.proofs.AddressLaws.{clients_from-range, clients_from-add}
 use Rattle.frame_ports.proofs.LandLaws.{lands-append, put_count-append, drop_count-append}
 use Rattle.frame_ports.proofs.NumberLaws.{

@@ -20,9 +20,9 @@ use Rattle.std.proofs.Common.{
   arith,
   All,
 }
-use Rattle.std.proofs.lemmas.List.Elements.{All-head, All-tail, All-nil, All-cons, All-append}
+use Rattle.std.proofs.lemmas.List.Elements.{All-head, All-tail, All-nil, All-cons}
 use Rattle.arrayvec.specs.ArrayVec.{ArrayVec}
-use Rattle.frame_ports.specs.Addresses.{IsFrame, clients_of}
+use Rattle.frame_ports.specs.Addresses.{IsFrame}
 use Rattle.frame_ports.specs.Numbers.{number_of, after_landing}
 use Rattle.frame_ports.specs.Ports.{PortsState, IsPorts}
 use Rattle.frame_ports.proofs.AddressLaws.{clients_from-range}
@@ -37,17 +37,7 @@ use Rattle.frame_ports.proofs.NumberLaws.{
   number_at_most,
   ports-after_landing,
 }
-use Rattle.output_gate.specs.Landings.{
-  clients_for,
-  landed_for,
-  ports_after,
-  landed_of,
-  dropped_of,
-  landed_count,
-  dropped_count,
-  AreBelow,
-  HaveRisen,
-}
+use Rattle.output_gate.specs.Landings.{clients_for, landed_for, ports_after, landed_of, dropped_of, landed_count, dropped_count, HaveRisen}
 
 module _ (n : ℕ) (f : ArrayVec ℕ) where
   -- one list of clients after another

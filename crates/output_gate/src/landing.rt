@@ -34,11 +34,12 @@ fn land_one(ports: &mut Ports, number: u64, frame: &Frame) -> Landed
     ensures dropped { result.dropped ≡ dropped_of ports.old (clients_for ports.old frame.now) number frame.now }
     ensures bound { result.landed + result.dropped ≤ 16 }
 {
-    let targets = ports.route(frame);
+    let bytes = frame.as_slice();
+    let targets = ports.route(bytes);
     let mut total = Landed::NONE;
     for client in 1..ports.clients() + 1 {
         if targets.contains(client) {
-            match ports.land(client, number, frame) {
+            match ports.land(client, number, bytes) {
                 Landing::In => total.landed += 1,
                 Landing::Dropped => total.dropped += 1,
                 Landing::Old => {}

@@ -10,8 +10,8 @@ ghost use Rattle.pair_book.specs.Packets.{no_texts};
 ghost use Rattle.pair_book.specs.Standing.{KeepsFrames};
 
 use crate::book::Book;
+use frame_list::FrameList;
 use growing_history::{BackupSeat, Clock, Pair, RunnerSeat};
-use pair_history::Frame;
 use pair_record::{Event, Refusal, mode_refusal};
 
 impl<P: Pair> Book<P> {
@@ -20,7 +20,7 @@ impl<P: Pair> Book<P> {
         &self,
         seat: &BackupSeat<P>,
         first: u64,
-        kept: &[Vec<Frame>],
+        kept: &[FrameList],
     ) -> Option<Refusal>
         ensures { result ≡ go_live_why P.start self.now seat.now.number first (map (λ v. v.items) kept.now) }
     {
@@ -53,7 +53,7 @@ impl<P: Pair> Book<P> {
         clock: &Clock<P>,
         seat: &mut BackupSeat<P>,
         first: u64,
-        kept: &[Vec<Frame>],
+        kept: &[FrameList],
     ) -> Result<RunnerSeat<P>, Refusal>
         requires frames { All (λ v. All IsFrame v.items) kept.now }
         requires stands { (sent : ℕ) × KeepsFrames P.start seat.old sent first (map (λ v. v.items) kept.now) }

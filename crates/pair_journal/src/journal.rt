@@ -16,6 +16,7 @@ ghost use Rattle.pair_journal.specs.LandedEntries.{all_frames, entries_after};
 use crate::discards::{add_drops_in, count_arrivals, sorted_numbers};
 use crate::epochs::{Arrival, RunningEpoch, add_epoch, add_epochs, places_with};
 use crate::landings::{add_landings, land_lists};
+use frame_list::FrameList;
 use frame_ports::{NUMBER_LIMIT, Ports};
 use memory_wanted::{MemoryWanted, reserve, with_capacity};
 use pair_history::{Entry, Frame, History};
@@ -342,7 +343,7 @@ impl Journal {
 
     /// Those frames of these lists land at these ports that have a number below `end`, where the first of all has the number `first`, and
     /// what becomes of them goes to the history, in the room that was reserved.
-    pub fn land_kept(&mut self, ports: &mut Ports, first: u64, end: u64, lists: &[Vec<Frame>])
+    pub fn land_kept(&mut self, ports: &mut Ports, first: u64, end: u64, lists: &[FrameList])
         requires frames { All (λ v. All IsFrame v.items) lists.now }
         requires room { length (entries_after ports.old first (take (end - first) (all_frames (map (λ v. v.items) lists.now))))
             ≤ self.old.room }

@@ -12,6 +12,7 @@ ghost use Rattle.pair_journal.specs.internal.NewFrames.{new_one, new_for, new_af
 ghost use Rattle.pair_journal.specs.LandedEntries.{all_frames, entries_of_landing, entries_for, entries_after};
 
 use crate::routes::receivers_of;
+use frame_list::FrameList;
 use frame_ports::{BOX_FRAMES, Landing, NUMBER_LIMIT, Ports};
 use pair_history::{Entry, Frame, History};
 
@@ -26,7 +27,8 @@ pub fn count_landings(ports: &Ports, frames: &[Frame]) -> u64
 {
     let mut count = 0;
     for frame in frames {
-        let clients = receivers_of(ports, frame);
+        let bytes = frame.as_slice();
+        let clients = receivers_of(ports, bytes);
         count += clients.as_slice().len() as u64;
     }
     count
@@ -98,7 +100,8 @@ pub(crate) fn add_landings(history: &mut History, ports: &Ports, frames: &[Frame
 {
     let mut lengths = box_lengths(ports);
     for frame in frames {
-        let clients = receivers_of(ports, frame);
+        let bytes = frame.as_slice();
+        let clients = receivers_of(ports, bytes);
         add_frame(history, &mut lengths, clients.as_slice());
     }
 }
@@ -117,15 +120,15 @@ fn add_landed(history: &mut History, client: u64, landing: Landing)
     }
 }
 
-/// Lands one frame, under its number, for each of these clients, and adds what became of it.
-fn land_frame(history: &mut History, ports: &mut Ports, clients: &[u64], number: u64, frame: &Frame)
+/// Lands the frame of these bytes, under its number, for each of these clients, and adds what became of it.
+fn land_frame(history: &mut History, ports: &mut Ports, clients: &[u64], number: u64, frame: &[u8])
     requires known { All (IsClient ports.old) clients.now }
-    requires frame { IsFrame frame.now }
-    requires room { length (entries_for ports.old clients.now number frame.now) ≤ history.old.room }
-    requires fits { length history.old.entries + length (entries_for ports.old clients.now number frame.now) < 2 ^ 62 }
-    ensures entries { history.new.entries ≡ history.old.entries ++ entries_for ports.old clients.now number frame.now }
-    ensures room { history.old.room ≤ history.new.room + length (entries_for ports.old clients.now number frame.now) }
-    ensures ports { ports.new ≡ landed_for ports.old clients.now number frame.now }
+    requires frame { IsFrame (record { items = frame.now }) }
+    requires room { length (entries_for ports.old clients.now number (record { items = frame.now })) ≤ history.old.room }
+    requires fits { length history.old.entries + length (entries_for ports.old clients.now number (record { items = frame.now })) < 2 ^ 62 }
+    ensures entries { history.new.entries ≡ history.old.entries ++ entries_for ports.old clients.now number (record { items = frame.now }) }
+    ensures room { history.old.room ≤ history.new.room + length (entries_for ports.old clients.now number (record { items = frame.now })) }
+    ensures ports { ports.new ≡ landed_for ports.old clients.now number (record { items = frame.now }) }
 {
     for client in clients {
         let landing = ports.land(*client, number, frame);
@@ -133,34 +136,44 @@ fn land_frame(history: &mut History, ports: &mut Ports, clients: &[u64], number:
     }
 }
 
-/// Lands these frames in order, the first of them under that number, and adds what became of them.
-fn land_frames(history: &mut History, ports: &mut Ports, first: u64, frames: &[Frame])
-    requires frames { All IsFrame frames.now }
-    requires numbers { first + length frames.now < 2 ^ 64 }
-    requires room { length (entries_after ports.old first frames.now) ≤ history.old.room }
-    requires fits { length history.old.entries + length (entries_after ports.old first frames.now) < 2 ^ 62 }
-    ensures entries { history.new.entries ≡ history.old.entries ++ entries_after ports.old first frames.now }
-    ensures room { history.old.room ≤ history.new.room + length (entries_after ports.old first frames.now) }
-    ensures ports { ports.new ≡ ports_after ports.old first frames.now }
+/// Lands the first `count` of these frames in order, the first of them under that number, and adds what became of them.
+fn land_frames(
+    history: &mut History,
+    ports: &mut Ports,
+    first: u64,
+    frames: &FrameList,
+    count: usize,
+)
+    requires there { count ≤ length frames.now.items }
+    requires frames { All IsFrame (take count frames.now.items) }
+    requires numbers { first + count < 2 ^ 64 }
+    requires room { length (entries_after ports.old first (take count frames.now.items)) ≤ history.old.room }
+    requires fits { length history.old.entries + length (entries_after ports.old first (take count frames.now.items)) < 2 ^ 62 }
+    ensures entries { history.new.entries ≡ history.old.entries ++ entries_after ports.old first (take count frames.now.items) }
+    ensures room { history.old.room
+        ≤ history.new.room + length (entries_after ports.old first (take count frames.now.items)) }
+    ensures ports { ports.new ≡ ports_after ports.old first (take count frames.now.items) }
 {
     let mut number = first;
-    for frame in frames {
+    for at in 0..count {
+        let frame = frames.bytes(at);
         let clients = receivers_of(ports, frame);
         land_frame(history, ports, clients.as_slice(), number, frame);
         number += 1;
     }
 }
 
-/// Those of these frames, the first of which has that number, that have a number below `end`.
-fn up_to(frames: &[Frame], number: u64, end: u64) -> &[Frame]
-    ensures frames { result.now ≡ take (end - number) frames.now }
-    ensures numbers { number + length result.now < 2 ^ 64 }
+/// How many of these frames, the first of which has that number, have a number below `end`: those that come first.
+fn up_to(frames: &FrameList, number: u64, end: u64) -> usize
+    ensures frames { take result frames.now.items ≡ take (end - number) frames.now.items }
+    ensures there { result ≤ length frames.now.items }
+    ensures numbers { number + result < 2 ^ 64 }
 {
     let most = end.saturating_sub(number);
     if most < frames.len() as u64 {
-        &frames[..most as usize]
+        most as usize
     } else {
-        frames
+        frames.len()
     }
 }
 
@@ -171,7 +184,7 @@ pub(crate) fn land_lists(
     ports: &mut Ports,
     first: u64,
     end: u64,
-    lists: &[Vec<Frame>],
+    lists: &[FrameList],
 )
     requires frames { All (λ v. All IsFrame v.items) lists.now }
     requires room { length (entries_after ports.old first (take (end - first) (all_frames (map (λ v. v.items) lists.now))))
@@ -184,9 +197,9 @@ pub(crate) fn land_lists(
 {
     let mut number = first;
     for frames in lists {
-        let known = up_to(frames.as_slice(), number, end);
-        land_frames(history, ports, number, known);
-        number += known.len() as u64;
+        let known = up_to(frames, number, end);
+        land_frames(history, ports, number, frames, known);
+        number += known as u64;
     }
 }
 
@@ -213,17 +226,19 @@ fn count_new(ports: &Ports, clients: &[u64], number: u64) -> u64
     count
 }
 
-/// For how many clients these frames are new, the first of which has that number, all in all: as many as there are, but at most 2^62.
-fn count_new_frames(ports: &Ports, first: u64, frames: &[Frame]) -> u64
-    requires numbers { first + length frames.now < 2 ^ 64 }
+/// For how many clients the first `known` of these frames are new, the first of which has that number, all in all: as many as there are, but
+/// at most 2^62.
+fn count_new_frames(ports: &Ports, first: u64, frames: &FrameList, known: usize) -> u64
+    requires there { known ≤ length frames.now.items }
+    requires numbers { first + known < 2 ^ 64 }
     ensures limit { result ≤ number_limit }
-    ensures most { result ≤ new_after ports.now first frames.now }
-    ensures exact { result < number_limit → result ≡ new_after ports.now first frames.now }
+    ensures most { result ≤ new_after ports.now first (take known frames.now.items) }
+    ensures exact { result < number_limit → result ≡ new_after ports.now first (take known frames.now.items) }
 {
     let mut number = first;
     let mut count = 0;
-    for frame in frames {
-        let clients = receivers_of(ports, frame);
+    for at in 0..known {
+        let clients = receivers_of(ports, frames.bytes(at));
         count = NUMBER_LIMIT.min(count + count_new(ports, clients.as_slice(), number));
         number += 1;
     }
@@ -231,7 +246,7 @@ fn count_new_frames(ports: &Ports, first: u64, frames: &[Frame]) -> u64
 }
 
 /// How many entries [`land_lists`] of these lists adds: as many as it does, but at most 2^62.
-pub fn count_lists(ports: &Ports, first: u64, end: u64, lists: &[Vec<Frame>]) -> u64
+pub fn count_lists(ports: &Ports, first: u64, end: u64, lists: &[FrameList]) -> u64
     ensures limit { result ≤ number_limit }
     ensures most { result ≤ length (entries_after ports.now first (take (end - first) (all_frames (map (λ v. v.items) lists.now)))) }
     ensures exact { result < number_limit
@@ -240,9 +255,9 @@ pub fn count_lists(ports: &Ports, first: u64, end: u64, lists: &[Vec<Frame>]) ->
     let mut number = first;
     let mut count = 0;
     for frames in lists {
-        let known = up_to(frames.as_slice(), number, end);
-        count = NUMBER_LIMIT.min(count + count_new_frames(ports, number, known));
-        number += known.len() as u64;
+        let known = up_to(frames, number, end);
+        count = NUMBER_LIMIT.min(count + count_new_frames(ports, number, frames, known));
+        number += known as u64;
     }
     count
 }

@@ -5,14 +5,13 @@ ghost use Rattle.output_gate.specs.Landings.{clients_for};
 
 use arrayvec::ArrayVec;
 use frame_ports::Ports;
-use pair_history::Frame;
 
 /// Clients, of whom there are at most 16.
 pub(crate) type Receivers = ArrayVec<u64, 16>;
 
-/// The clients to whom the frame goes, rising.
-pub(crate) fn receivers_of(ports: &Ports, frame: &Frame) -> Receivers
-    ensures clients { result.items ≡ clients_for ports.now frame.now }
+/// The clients to whom the frame of these bytes goes, rising.
+pub(crate) fn receivers_of(ports: &Ports, frame: &[u8]) -> Receivers
+    ensures clients { result.items ≡ clients_for ports.now (record { items = frame.now }) }
     ensures known { All (IsClient ports.now) result.items }
     ensures few { length result.items ≤ 16 }
     // What is true of all ports.

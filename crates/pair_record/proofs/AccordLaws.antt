@@ -12,7 +12,7 @@ use Rattle.output_gate.specs.Epochs.{Epoch, frames_of}
 pub use Rattle.output_gate.proofs.EpochLaws.{frames_of-append}
 use Rattle.pair_history.specs.Entries.{Frame, Entry}
 use Rattle.pair_history.specs.HistoryState.{HistoryState, Waiting, inbox_of, without_number, at, Legal, start_state}
-use Rattle.pair_history.specs.Landings.{BoxesFit, DropsAreAskedOrFull}
+use Rattle.pair_history.specs.Landings.{DropsAreAskedOrFull}
 use Rattle.pair_history.specs.internal.Moves.{Move, Arrives, entry_of, entries_of, guest_along, frames_along, left, AllCan}
 use Rattle.pair_history.proofs.States.{at-append, Legal-append, targets_of-append}
 use Rattle.pair_history.proofs.{ReachedLaws.BoxesFit-empty, Waiting.{Leaves, StandsAt, leaves-at}}

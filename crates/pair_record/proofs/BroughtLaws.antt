@@ -1,5 +1,5 @@
 -- What a backup brings that goes live: what it should lands as what the gate held of committed checkpoints.
-use Rattle.std.proofs.Common.{◌≡◌, ℕ, ◌+◌, ◌-◌, List, ◌++◌, length, sym, ap, ◌∙◌, arith}
+use Rattle.std.proofs.Common.{◌≡◌, ℕ, ◌-◌, List, ◌++◌, length, sym, ap, ◌∙◌, arith}
 use Rattle.std.proofs.lemmas.List.{length-append, take_all}
 use Rattle.frame_ports.specs.Ports.{PortsState}
 use Rattle.output_gate.specs.{Epochs.frames_of, Landings.ports_after}

@@ -172,8 +172,9 @@ fn assert_lands(
     landing: Landing,
 ) {
     assert!(rt; 1 <= client && client <= ports.clients());
-    assert!(rt; frame.len() >= 14);
-    assert_eq!(rt; ports.land(client, number, frame), landing);
+    let bytes = frame.as_slice();
+    assert!(rt; bytes.len() >= 14);
+    assert_eq!(rt; ports.land(client, number, bytes), landing);
 }
 
 /// The frame lands at client 1 under the numbers from 1 on, before this one.
@@ -359,7 +360,7 @@ fn assert_targets(rt: &impl Abort, targets: Targets, bits: u16) {
 /// A frame of these bytes goes to the clients of these bits.
 fn assert_route(rt: &impl Abort, ports: &Ports, bytes: &[u8], bits: u16) -> Result<(), Fail> {
     let frame = frame(bytes)?;
-    assert_targets(rt, ports.route(&frame), bits);
+    assert_targets(rt, ports.route(frame.as_slice()), bits);
     Ok(())
 }
 

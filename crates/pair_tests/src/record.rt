@@ -6,6 +6,7 @@ ghost use Rattle.frame_ports.specs.Addresses.{IsFrame};
 
 use crate::asserts::{holds, same, same_bytes};
 use arrayvec::ArrayVec;
+use frame_list::FrameList;
 use pair_record::{Event, Frame, Mode, PairRecord, Reply, is_alone, mode_refusal};
 use std::alloc::Global;
 use std::process::Abort;
@@ -164,10 +165,10 @@ fn answer() -> Frame
 }
 
 /// Two of them.
-fn two_answers(alloc: Global) -> Result<Vec<Frame>, Fail>
+fn two_answers(alloc: Global) -> Result<FrameList, Fail>
     ensures { IfOk result (λ v. All IsFrame v.items) }
 {
-    let frames = Vec::from_array(alloc, [answer(), answer()])?;
+    let frames = FrameList::copies(alloc, &[answer(), answer()])?;
     Ok(frames)
 }
 

@@ -1,7 +1,6 @@
 -- What is true of each image, by the parts that it keeps.
 use Rattle.std.specs.Prelude.{◌≡◌, ℕ, ◌*◌, ◌^◌, ◌<◌, List, [], length, map, Option, Some, None, Ok}
-use Rattle.std.specs.declared.vec.Vec.{Vec}
-use Rattle.arrayvec.specs.ArrayVec.{ArrayVec}
+use Rattle.frame_list.specs.Listed.{Listed}
 use Rattle.guest_machine.specs.declared.shapes.Shape.{Shape}
 use Rattle.guest_machine.specs.Guest.{State, boot_guest}
 use Rattle.guest_machine.specs.Limits.{page_bytes}
@@ -13,7 +12,7 @@ use Rattle.backup_image.specs.Kept.{Kept, sent_with}
 use Rattle.backup_image.specs.Limits.{number_limit}
 
 -- the kept frames of their parts
-abbrev pub kept_of : {Z : Type 0} → List (Vec (ArrayVec ℕ) Z) → ℕ → Kept
+abbrev pub kept_of : List Listed → ℕ → Kept
 kept_of epochs sent = record { lists = map (λ epoch. epoch.items) epochs; sent = sent }
 
 -- an image of its parts

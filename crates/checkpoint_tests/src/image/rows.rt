@@ -6,7 +6,8 @@ use crate::guests::{Guest, bytes, machine_after, run, shape};
 use crate::texts::{cut_text, push_frames, put_version_1, read_whole, set};
 use backup_image::{Image, ImageError, KeptFrames, Staged, Standing};
 use epoch_snapshot::Checkpoint;
-use guest_machine::{Frame, Machine, PAGE_BYTES, Shape};
+use frame_list::FrameList;
+use guest_machine::{Machine, PAGE_BYTES, Shape};
 use std::alloc::Global;
 use std::process::Abort;
 use std::test::Fail;
@@ -57,11 +58,11 @@ pub(super) enum End {
 }
 
 /// These frames are so many, and have the numbers from this one on. Answers the next number.
-fn assert_epoch(rt: &impl Abort, epoch: &[Frame], count: usize, first: u8) -> u8 {
+fn assert_epoch(rt: &impl Abort, epoch: &FrameList, count: usize, first: u8) -> u8 {
     assert!(rt; epoch.len() == count);
     let mut number = first;
-    for frame in epoch {
-        assert!(rt; are_all(frame.as_slice(), 14, number));
+    for at in 0..epoch.len() {
+        assert!(rt; are_all(epoch.bytes(at), 14, number));
         number = number.wrapping_add(1);
     }
     number
@@ -73,7 +74,7 @@ fn assert_kept(rt: &impl Abort, kept: &KeptFrames, first: u8, sent: u64, counts:
     assert!(rt; kept.epochs().len() == counts.len());
     let mut number = first;
     for (epoch, count) in kept.epochs().iter().zip(counts.iter()) {
-        number = assert_epoch(rt, epoch.as_slice(), *count, number);
+        number = assert_epoch(rt, epoch, *count, number);
     }
 }
 

@@ -11,7 +11,7 @@ use std::test::Fail;
 fn assert_taken_apart(rt: &impl Abort, checkpoint: Box<Checkpoint>) {
     let frames = Box::into_inner(checkpoint).into_frames();
     assert!(rt; frames.len() == 1);
-    assert_frames(rt, frames.as_slice());
+    assert_frames(rt, &frames);
 }
 
 /// The beacon's next checkpoint, once its machine is settled, carries no frame.

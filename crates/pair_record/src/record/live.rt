@@ -14,6 +14,7 @@ use super::PairRecord;
 use crate::event::{Refusal, Reply};
 use crate::window::Window;
 use failover::Mode;
+use frame_list::FrameList;
 use frame_ports::NUMBER_LIMIT;
 use memory_wanted::MemoryWanted;
 use output_gate::Gate;
@@ -44,7 +45,7 @@ impl PairRecord {
     }
 
     /// Why the backup can't go live, where it brings these frames, the first of which has the number `first`.
-    pub fn go_live_refusal(&self, first: u64, kept: &[Vec<Frame>]) -> Option<Refusal>
+    pub fn go_live_refusal(&self, first: u64, kept: &[FrameList]) -> Option<Refusal>
         ensures refusal { result
             ≡ first_refusal (brought_refusals self.now.protocol self.now.ports first (map (λ v. v.items) kept.now)) }
         // And where these are the frames that the clients are owed.
@@ -72,7 +73,7 @@ impl PairRecord {
         &mut self,
         steps: u64,
         first: u64,
-        kept: &[Vec<Frame>],
+        kept: &[FrameList],
     ) -> Result<Reply, MemoryWanted>
         requires free { first_refusal (brought_refusals self.old.protocol self.old.ports first (map (λ v. v.items) kept.now)) ≡ None }
         requires pair { is_alone self.old.protocol.mode ≡ false }

@@ -1,5 +1,5 @@
-use Rattle.std.proofs.Common.{sym, ◌≡◌, subst}
-use Rattle.checkpoint_stream.specs.{Text.text, Widths.HasWidths, ReadBack.ReadsBack}
+use Rattle.std.proofs.Common.{ℕ, ◌++◌, sym, ◌≡◌, ap, ◌∙◌, subst}
+use Rattle.checkpoint_stream.specs.{HeadTable.bytes_of, declared.rules.Width.TheVariants.Four, Text.text, Widths.HasWidths, ReadBack.ReadsBack}
 use Rattle.checkpoint_stream.proofs.{Spelling.encoded, TextRead.{has-widths, reads-back}}
 use Rattle.checkpoint_stream.proofs.encoding.encode.Goals as goal
 
@@ -9,7 +9,7 @@ returns c =
     = encoded c.args.checkpoint.now _ _ _ _ _ _ _ _ _ _ _ _ c.put_frames.new.out.items c.numbers.ensures c.pages-pages.ensures.value
     c.blocks-blocks.ensures.value c.sectors-sectors.ensures.value c.frames-frames.ensures.value c.requires c.in_ok-out.ensures.items
     c.in_ok-put_head.ensures.put c.in_ok-put.ensures c.in_ok-put_pages.ensures.put c.in_ok-put-2.ensures c.in_ok-put_sectors.ensures.put
-    c.in_ok-put-3.ensures c.in_ok-put_frames.ensures in
+    (c.in_ok-put-3.ensures ∙ ap (λ (n : ℕ). c.put_sectors.new.out.items ++ bytes_of Four n) c.len.ensures) c.in_ok-put_frames.ensures in
     let widths : HasWidths c.args.checkpoint.now
     = has-widths c.args.checkpoint.now _ _ _ _ _ c.state.ensures.value c.numbers.ensures c.pages-pages.ensures.value
     c.blocks-blocks.ensures.value c.sectors-sectors.ensures.value c.state_widths.ensures c.in_ok-put_head.ensures.width

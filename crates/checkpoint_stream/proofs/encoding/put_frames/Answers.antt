@@ -4,16 +4,16 @@ use Rattle.checkpoint_stream.specs.{HeadTable.bytes_of, declared.rules.Width.The
 use Rattle.checkpoint_stream.proofs.Spelling.{advance, finish, frame_units-drop, frame_units-done}
 use Rattle.checkpoint_stream.proofs.encoding.put_frames.Goals as goal
 
-pub loop-frame-preserved : goal.loop-frame-preserved
-loop-frame-preserved c =
-    let fs = c.args.frames.now in
-    let i = c.loop-frame.frame-index in
-    let f = c.frame-item.result in
-    advance c.loop-frame.out.items _ c.put_frame.new.out.items _ _ _ c.loop-frame.invariant
+pub loop-at-preserved : goal.loop-at-preserved
+loop-at-preserved c =
+    let fs = c.args.frames.now.items in
+    let i = c.loop-at.at in
+    let f : ArrayVec ℕ = record { items = c.bytes.result.now } in
+    advance c.loop-at.out.items _ c.put_frame.new.out.items _ _ _ c.loop-at.invariant
     (frame_units-drop fs i f (omega arith) ∙ ap (λ (g : ArrayVec ℕ). (bytes_of Four (length g.items) ++ g.items)
-    ++ joined (frame_units (drop (i + 1) fs))) (sym c.frame-item.is)) c.in_ok-put_frame.ensures
+    ++ joined (frame_units (drop (i + 1) fs))) (sym c.bytes.ensures.value)) c.in_ok-put_frame.ensures
 
 pub returns : goal.returns
 returns c =
-    finish c.loop-frame.out.items _ _ c.loop-frame.invariant
-    (frame_units-done c.args.frames.now c.loop-frame.frame-index (omega arith))
+    finish c.loop-at.out.items _ _ c.loop-at.invariant
+    (frame_units-done c.args.frames.now.items c.loop-at.at (omega arith))

@@ -8,7 +8,7 @@ use Rattle.epoch_snapshot.proofs.cut.cut_delta.Goals as goal
 -- what the checkpoint is made of
 abbrev made : goal.After-state → Change
 made c = change_of 2 c.shape-shape.result c.args.generation c.args.number c.state.result c.push_pages.new.pages.items
-    c.push_pages.new.blocks.items c.push_written.new.list.items c.push_copies.new.list.items
+    c.push_pages.new.blocks.items c.push_written.new.list.items c.in_ok-frames.frames.items
 
 is_cut : (c : goal.After-state) →
     IsCut c.args.machine.now.settled c.args.machine.now.dirty c.args.machine.now.outbox c.args.machine.now c.args.generation c.args.number (made c)
@@ -23,7 +23,7 @@ is_cut c = record {
   blocks = c.in_ok-push_pages.ensures.blocks ∙ ap (changed_blocks c.args.machine.now.settled c.args.machine.now.guest.ram)
       (sym c.in_ok-push_pages.ensures.pages);
   sectors = c.push_written.ensures;
-  frames = c.push_copies.ensures.items ∙ rw c.in_ok-frames.ensures.items (c.outbox-2.ensures.value);
+  frames = c.in_ok-frames.ensures ∙ c.outbox.ensures.value;
 }
 
 listed_rise : (c : goal.After-state) → Rises 0 c.shape-shape.result.sectors c.args.machine.now.dirty
@@ -36,7 +36,7 @@ from_parts-requires c =
     let m = c.args.machine.now in
     IsCanonical-cut m.settled m.dirty m.outbox m c.args.generation c.args.number (made c) (is_cut c) c.requires.first_generation
     c.requires.last_generation c.requires.last_number c.state.ensures.rules (listed_rise c)
-    (λ z. absurd (omega (arith, z, c.requires.first_number))) c.outbox-2.ensures.frames c.outbox-2.ensures.most
+    (λ z. absurd (omega (arith, z, c.requires.first_number))) c.outbox.ensures.frames c.outbox.ensures.most
     (λ z. absurd (omega (arith, z, c.requires.first_number)))
 
 pub returns-clause-image : goal.returns-clause-image

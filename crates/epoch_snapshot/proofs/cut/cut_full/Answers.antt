@@ -26,7 +26,7 @@ is_cut c =
       pages = c.in_ok-push_pages.ensures.pages;
       blocks = c.in_ok-push_pages.ensures.blocks ∙ ap (changed_blocks old c.args.machine.now.guest.ram) (sym c.in_ok-push_pages.ensures.pages);
       sectors = c.in_ok-push_used.ensures;
-      frames = c.new-frames.ensures.items;
+      frames = c.new-frames.ensures;
     }
 
 pub from_parts-requires : goal.from_parts-requires

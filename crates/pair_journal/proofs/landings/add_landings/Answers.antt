@@ -1,6 +1,7 @@
 use Rattle.std.proofs.Common.{rules, ℕ, ◌+◌, ◌≤◌, ◌++◌, List, length, drop, ap, ◌∙◌, sym, arith, refl, subst}
 use Rattle.std.proofs.lemmas.List.{length-append}
 use Rattle.std.specs.Prelude.{All}
+use Rattle.frame_ports.specs.Addresses.{clients_of}
 use Rattle.pair_journal.specs.internal.Lengths.{receivers, landings_by}
 use Rattle.pair_journal.proofs.LengthLaws.{landings_by-targets, length-receivers}
 use Rattle.pair_journal.proofs.Receivers.{receivers-more, receivers-none, frames_more, nil-append, landings_length}
@@ -24,7 +25,8 @@ add_frame-requires-clause-room c =
     let i = c.loop-frame.frame-index in
     let cs = c.as_slice.result.now in
     let more = ap (λ (l : List ℕ). length l) (receivers-more n fs i c.frame-item.result cs (omega arith) c.frame-item.is
-    (c.as_slice.ensures.value ∙ c.receivers_of-clients.ensures.clients)) in
+    (c.as_slice.ensures.value ∙ c.receivers_of-clients.ensures.clients
+    ∙ ap (clients_of n) c.as_slice-bytes.ensures.value)) in
     let both = length-append cs (receivers n (drop (i + 1) fs)) in
     let v = c.loop-frame.invariant.room in
     omega arith
@@ -36,7 +38,8 @@ add_frame-requires-clause-fits c =
     let i = c.loop-frame.frame-index in
     let cs = c.as_slice.result.now in
     let more = ap (λ (l : List ℕ). length l) (receivers-more n fs i c.frame-item.result cs (omega arith) c.frame-item.is
-    (c.as_slice.ensures.value ∙ c.receivers_of-clients.ensures.clients)) in
+    (c.as_slice.ensures.value ∙ c.receivers_of-clients.ensures.clients
+    ∙ ap (clients_of n) c.as_slice-bytes.ensures.value)) in
     let both = length-append cs (receivers n (drop (i + 1) fs)) in
     let v = c.loop-frame.invariant.size in
     let all = length-receivers n fs in
@@ -52,7 +55,8 @@ loop-frame-preserved c =
     let rest = receivers n (drop (i + 1) fs) in
     let old = c.loop-frame.history.entries in
     let e = receivers-more n fs i c.frame-item.result cs (omega arith) c.frame-item.is
-    (c.as_slice.ensures.value ∙ c.receivers_of-clients.ensures.clients) in
+    (c.as_slice.ensures.value ∙ c.receivers_of-clients.ensures.clients
+    ∙ ap (clients_of n) c.as_slice-bytes.ensures.value) in
     let counted = ap (λ (l : List ℕ). length l) e in
     let both = length-append cs rest in
     let added = ap length c.add_frame.ensures.entries in

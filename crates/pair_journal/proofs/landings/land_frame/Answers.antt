@@ -1,5 +1,6 @@
 use Rattle.std.proofs.Common.{ℕ, ◌≡◌, ◌+◌, ◌++◌, [], ◌∷◌, List, get_or, length, drop, ap, ◌∙◌, sym, arith, append_assoc}
 use Rattle.std.proofs.lemmas.List.{drop_more, length-append}
+use Rattle.arrayvec.specs.ArrayVec.{ArrayVec}
 use Rattle.frame_ports.specs.{Numbers.{landing, after_landing}, Ports.PortsState}
 use Rattle.output_gate.specs.Landings.{landed_for}
 use Rattle.output_gate.proofs.PortsAfterLaws.{boxes_count-for}
@@ -7,6 +8,9 @@ use Rattle.pair_history.specs.Entries.{Entry}
 use Rattle.pair_journal.specs.LandedEntries.{entries_of_landing, entries_for}
 use Rattle.pair_journal.proofs.Receivers.{brought_more, brought_count, landed_more}
 use Rattle.pair_journal.proofs.landings.land_frame.Goals as goal
+
+abbrev frame_of : List ℕ → ArrayVec ℕ
+frame_of bytes = record { items = bytes }
 
 pub land-landing-requires-clause-client : goal.land-landing-requires-clause-client
 land-landing-requires-clause-client c =
@@ -18,7 +22,7 @@ add_landed-requires-clause-room c =
     let cs = c.args.clients.now in
     let i = c.loop-client.client-index in
     let e = drop_more cs i 0 (omega arith) in
-    let k = brought_count c.loop-client.ports c.args.number c.args.frame.now (get_or cs i 0) (drop (i + 1) cs) (drop i cs) e in
+    let k = brought_count c.loop-client.ports c.args.number (frame_of c.args.frame.now) (get_or cs i 0) (drop (i + 1) cs) (drop i cs) e in
     let one = ap (λ x. length (entries_of_landing (get_or cs i 0) x)) c.land-landing.ensures.answer in
     let room = c.loop-client.invariant.room in
     let all = c.requires.room in
@@ -30,7 +34,7 @@ add_landed-requires-clause-fits c =
     let i = c.loop-client.client-index in
     let p = c.loop-client.ports in
     let n = c.args.number in
-    let f = c.args.frame.now in
+    let f = (frame_of c.args.frame.now) in
     let e = drop_more cs i 0 (omega arith) in
     let k = brought_count p n f (get_or cs i 0) (drop (i + 1) cs) (drop i cs) e in
     let one = ap (λ x. length (entries_of_landing (get_or cs i 0) x)) c.land-landing.ensures.answer in
@@ -46,7 +50,7 @@ loop-client-preserved c =
     let i = c.loop-client.client-index in
     let x : ℕ = get_or cs i 0 in
     let n = c.args.number in
-    let f = c.args.frame.now in
+    let f = (frame_of c.args.frame.now) in
     let p = c.loop-client.ports in
     let q = after_landing p x n f in
     let rest = drop (i + 1) cs in

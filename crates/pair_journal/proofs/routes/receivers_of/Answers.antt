@@ -12,7 +12,7 @@ use Rattle.pair_journal.proofs.routes.receivers_of.Goals as goal
 few : (c : After-span-first) → c.clients-clients.result ≤ 16
 few c = let p = c.clients-clients.ensures.ports in let q = p.clients.1 in let e = c.clients-clients.ensures.count in omega arith
 
-are : (c : After-span-first) → AreTargets c.clients-clients.result c.args.frame.now.items c.route-targets.result
+are : (c : After-span-first) → AreTargets c.clients-clients.result c.args.frame.now c.route-targets.result
 are c = rw c.clients-clients.ensures.count c.route-targets.ensures
 
 pub loop-client-init : goal.loop-client-init
@@ -26,15 +26,15 @@ loop-client-init c =
       few = omega (arith, long, c.span-first.ensures.first);
       most = omega arith;
       all =
-          ap (λ (l : List ℕ). l ++ from_on c.clients-clients.result c.span-first.result.0 c.args.frame.now.items) none
-          ∙ span_starts c.clients-clients.result c.args.frame.now.items c.route-targets.result c.span-first.result.0 c.span-first.result.1
+          ap (λ (l : List ℕ). l ++ from_on c.clients-clients.result c.span-first.result.0 c.args.frame.now) none
+          ∙ span_starts c.clients-clients.result c.args.frame.now c.route-targets.result c.span-first.result.0 c.span-first.result.1
           (are d) (few d) c.span-first.ensures.all c.span-first.ensures.first;
     }
 
 pub loop-client-preserved : goal.loop-client-preserved
 loop-client-preserved c =
     let n = c.clients-clients.result in
-    let bytes = c.args.frame.now.items in
+    let bytes = c.args.frame.now in
     let i = c.loop-client.client in
     let old = c.loop-client.found.items in
     let rest = from_on n (i + 1) bytes in
@@ -63,9 +63,9 @@ loop-client-preserved c =
     ]
 
 -- where the loop ends none remains
-found-are : (c : goal.After-loop-client) → c.loop-client.found.items ≡ clients_for c.args.ports.now c.args.frame.now
+found-are : (c : goal.After-loop-client) → c.loop-client.found.items ≡ clients_for c.args.ports.now (record { items = c.args.frame.now })
 found-are c =
-    let bytes = c.args.frame.now.items in
+    let bytes = c.args.frame.now in
     let d = (goal.at.returns-clause-clients c).After-span-first in
     let none = span_ends c.clients-clients.result bytes c.route-targets.result c.span-first.result.0 c.span-first.result.1 (are d) (few d)
     c.span-first.ensures.all c.loop-client.client c.loop-client.invariant.first c.loop-client-test.false in
@@ -79,7 +79,7 @@ pub returns-clause-known : goal.returns-clause-known
 returns-clause-known c =
     let p = c.args.ports.now in
     subst (All (IsClient p)) (sym (found-are c))
-    (λ k d inside. let at = clients_from-range (length p.boxes) 1 c.args.frame.now.items k d inside in (at.0, omega (arith, at.1)))
+    (λ k d inside. let at = clients_from-range (length p.boxes) 1 c.args.frame.now k d inside in (at.0, omega (arith, at.1)))
 
 pub returns-clause-few : goal.returns-clause-few
 returns-clause-few c = omega (arith, c.loop-client.invariant.few, c.loop-client.invariant.most)

@@ -9,5 +9,5 @@ invariant-loop-client l = record {
   first : 1 ≤ l.client;
   few : length l.found.items + 1 ≤ l.client;
   most : l.client ≤ 17;
-  all : l.found.items ++ from_on l.clients l.client l.frame.items ≡ clients_of l.clients l.frame.items;
+  all : l.found.items ++ from_on l.clients l.client l.frame ≡ clients_of l.clients l.frame;
 }

@@ -1,11 +1,12 @@
 -- The new frames come after those of the last three commits.
-use Rattle.std.proofs.Common.{rules, ◌≡◌, ℕ, ◌+◌, ◌++◌, ◌∷◌, [], List, length, map, Global, Vec, ap, sym, ◌∙◌, subst, arith}
+use Rattle.std.proofs.Common.{rules, ◌≡◌, ℕ, ◌+◌, ◌++◌, ◌∷◌, [], List, length, map, ap, sym, ◌∙◌, subst, arith}
 use Rattle.arrayvec.specs.ArrayVec.{ArrayVec}
+use Rattle.frame_list.specs.Listed.{Listed}
 use Rattle.backup_image.specs.Kept.{Kept, IsKept, kept_after}
 use Rattle.backup_image.proofs.KeptLemmas.{kept-after, kept-again}
 use Rattle.backup_image.proofs.kept.KeptFrames.keep.Goals as goal
 
-abbrev frames_of : Vec (ArrayVec ℕ) Global → List (ArrayVec ℕ)
+abbrev frames_of : Listed → List (ArrayVec ℕ)
 frames_of epoch = epoch.items
 
 lists : (c : goal.After-push) → map frames_of c.push.new.self.items

@@ -33,13 +33,13 @@ returns-then-held-taken-clause-read c =
     let count : length bytes ≡ c.min-taken.result = length-take-le c.min-taken.result c.args.rest.now (omega (arith, c.min-taken.ensures)) in
     let held : length m.partial ≡ c.len-held.result = ap length partial ∙ sym c.len-held.ensures.value in
     let wide : width_of m ≡ c.args.len = ap (λ (p : Place). width_at p m.known) c.requires.place in
-    Takes-end m c.keep_frame.new.self bytes c.replace-frame.result.items (ap is_closed c.requires.place)
+    Takes-end m c.keep_bytes-then-held-taken.new.self bytes c.as_slice.result.now (ap is_closed c.requires.place)
     (omega (arith, count, c.min-taken.ensures, at.1, c.len-held.ensures.value, c.requires.some))
     (omega (arith, held, count, wide, c.if-held-taken.true))
-    ((λ i. (c.replace-frame.ensures.value i).items) ∙ c.put_in.ensures ∙ ap (λ (l : List ℕ). l ++ bytes) (sym partial))
-    (c.keep_frame.ensures
-    ∙ frame_judged-part (the_view c.self.inside) m _ c.args.left c.args.len c.replace-frame.result.items c.self.view_is
-    ∙ sym (judged-frame m c.replace-frame.result.items c.args.left c.args.len c.requires.place))
+    (c.as_slice.ensures.value ∙ (λ i. (c.replace-frame.ensures.value i).items) ∙ c.put_in.ensures ∙ ap (λ (l : List ℕ). l ++ bytes) (sym partial))
+    (c.keep_bytes-then-held-taken.ensures
+    ∙ frame_judged-part (the_view c.self.inside) m _ c.args.left c.args.len c.as_slice.result.now c.self.view_is
+    ∙ sym (judged-frame m c.as_slice.result.now c.args.left c.args.len c.requires.place))
 
 pub returns-else-held-taken-clause-read : goal.returns-else-held-taken-clause-read
 returns-else-held-taken-clause-read c =

@@ -1,11 +1,10 @@
 -- The client's number becomes that of the frame. The frame goes last in the box where it has room, and the other lists stay.
 use Rattle.std.proofs.Common.{◌≡◌, ◌<◌, ◌-◌, ℕ, sym, ◌∙◌, ap, length, List, arith, ◌++◌, ◌∷◌, [], true, if◌then◌else◌, slice_set}
 use Rattle.arrayvec.specs.ArrayVec.{ArrayVec}
-use Rattle.circular_buffer.specs.Buffer.{Buffer, buffer}
+use Rattle.circular_buffer.specs.Buffer.{buffer}
 use Rattle.frame_ports.specs.Limits.{box_frames}
 use Rattle.frame_ports.specs.Numbers.{is_new}
 use Rattle.frame_ports.specs.Ports.{PortsState}
-use Rattle.frame_ports.proofs.PortsLemmas.{box_seen}
 use Rattle.frame_ports.proofs.RaisedLemmas.{landed_fields, landed_state}
 use Rattle.frame_ports.proofs.ports.Ports.land.Goals as goal
 use Rattle.frame_ports.proofs.ports.Ports.land.Goals.{After-put_frame}
@@ -23,22 +22,23 @@ raised c = c.raise.ensures.raised ∙ ap (λ b. if b then slice_set c.self.insid
 room : (c : After-put_frame) → length c.index_mut-landed.result.now.items < box_frames
 room c = omega (arith, c.len.ensures.len, c.if-len-ge-BOX_FRAMES.false)
 
-put : (c : After-put_frame) →
-    c.put_frame.new.ring ≡ buffer (c.index_mut-landed.result.now.items ++ c.args.frame.now ∷ []) c.index_mut-landed.result.now.capacity
-put c = c.put_frame.ensures ∙ ap (λ (l : List ℕ). let f : ArrayVec ℕ = record { items = l } in
-    buffer (c.index_mut-landed.result.now.items ++ f ∷ []) c.index_mut-landed.result.now.capacity)
-    c.as_slice.ensures.value
+abbrev frame_of : List ℕ → ArrayVec ℕ
+frame_of bytes = record { items = bytes }
+
+put : (c : After-put_frame) → c.put_frame.new.ring
+    ≡ buffer (c.index_mut-landed.result.now.items ++ frame_of c.args.frame.now ∷ []) c.index_mut-landed.result.now.capacity
+put c = c.put_frame.ensures
 
 pub invariant_of-self-2 : goal.invariant_of-self-2
 invariant_of-self-2 c =
     let w = (goal.at.invariant_of-self-2 c).After-put_frame in
     landed_fields c.self.inside c.args.client c.args.number c.args.self.now c.self.view_is c.self.invariant c.requires.client (new w)
-    c.raise.new.numbers (raised w) c.args.frame.now c.requires.frame c.index_mut-landed.result.now c.put_frame.new.ring
+    c.raise.new.numbers (raised w) (frame_of c.args.frame.now) c.requires.frame c.index_mut-landed.result.now c.put_frame.new.ring
     c.index_mut-landed.ensures.value (room w) (put w)
 
 pub returns-clause-ports : goal.returns-clause-ports
 returns-clause-ports c =
     let w = (goal.at.returns-clause-ports c).After-put_frame in
     landed_state c.self.inside c.args.client c.args.number c.args.self.now c.self.view_is c.self.invariant c.requires.client (new w)
-    c.raise.new.numbers (raised w) c.args.frame.now c.requires.frame c.index_mut-landed.result.now c.put_frame.new.ring
+    c.raise.new.numbers (raised w) (frame_of c.args.frame.now) c.requires.frame c.index_mut-landed.result.now c.put_frame.new.ring
     c.index_mut-landed.ensures.value (room w) (put w)

@@ -3,7 +3,7 @@ use Rattle.std.proofs.Common.{rules, ◌≡◌, All, length, take, refl, sym, ap
 use Rattle.std.proofs.Math.ListN.{length-take}
 use Rattle.std.proofs.lemmas.List.Elements.{All-take}
 use Rattle.frame_ports.specs.Addresses.{IsFrame}
-use Rattle.output_gate.specs.Epochs.{frames_of, frames_to}
+use Rattle.output_gate.specs.Epochs.{frames_to}
 use Rattle.output_gate.specs.Gate.{IsGate}
 use Rattle.output_gate.proofs.GateLemmas.{row_is, row_frames, row_few, part_is, rest_state, rest_fields}
 use Rattle.output_gate.proofs.gate.Gate.ack.Goals as goal

@@ -1,5 +1,5 @@
 -- The held frames are fewer than the next number.
-use Rattle.std.proofs.Common.{◌+◌, ◌≤◌, List, ℕ, length, ap, arith}
+use Rattle.std.proofs.Common.{List, ℕ, length, ap, arith}
 use Rattle.arrayvec.specs.ArrayVec.{ArrayVec}
 use Rattle.output_gate.proofs.GateLemmas.{row_is, row_numbers, next_seen}
 use Rattle.output_gate.proofs.gate.Gate.first.Goals as goal

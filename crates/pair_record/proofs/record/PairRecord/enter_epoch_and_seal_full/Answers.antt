@@ -1,4 +1,4 @@
-use Rattle.std.proofs.Common.{rules, arith, ◌≡◌, ◌∙◌, [], length, ap}
+use Rattle.std.proofs.Common.{arith, ◌≡◌, ◌∙◌, [], length, ap}
 use Rattle.frame_ports.specs.Numbers.{marked}
 use Rattle.pair_journal.specs.Journal.{Journal, all_entries}
 use Rattle.pair_record.specs.internal.RecordFields.{record_state}
