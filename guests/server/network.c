@@ -64,12 +64,12 @@ static void take_in(struct netif *netif, const u8 *frame, u32 length) {
 }
 
 void network_poll(struct netif *netif) {
-    while (has_used(&receive)) {
-        struct used_entry entry = take_used(&receive);
-        u16 i = (u16)entry.id;
-        take_in(netif, buffers[i] + HEADER, entry.length - HEADER);
-        give_to_receive(i);
-    }
+    if (!has_used(&receive))
+        return;
+    struct used_entry entry = take_used(&receive);
+    u16 i = (u16)entry.id;
+    take_in(netif, buffers[i] + HEADER, entry.length - HEADER);
+    give_to_receive(i);
 }
 
 err_t network_start(struct netif *netif) {

@@ -7,7 +7,7 @@
 /* For netif_add. */
 err_t network_start(struct netif *netif);
 
-/* Hands the frames that came to the stack. */
+/* Hands the next frame that came, if there is one, to the stack. */
 void network_poll(struct netif *netif);
 
 #endif

@@ -1,5 +1,6 @@
 /* A web server at 10.0.0.1: lwIP's TCP/IP stack and its own server (apps/http), over the drivers beside this file. One loop takes in
-   what came and does what is due. */
+   a frame that came and does what is due: where many clients ask for much the next frame is there before the last one is dealt with, and
+   what is due, such as the repetition of a frame that was lost, can't wait until none is. */
 #include "disk.h"
 #include "files.h"
 #include "network.h"
