@@ -32,6 +32,8 @@ class Served:
         self.process = subprocess.Popen([str(word) for word in command], stdin=subprocess.PIPE, stdout=subprocess.PIPE, text=True)
 
     def __enter__(self):
+        """Once it has said where it listens, and its guest has had a second to begin."""
+        self.process.stdout.readline()
         time.sleep(1)
         return self
 
