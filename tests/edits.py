@@ -1,36 +1,63 @@
 """Edits of a crate's sources, as `must-fail/*.edit` has them: a line 'file: PATH', then pairs of lines 'old: TEXT' and 'new: TEXT', where
-each old text stands once in that file. `check` proves a crate with some edits in place, over what was proved before."""
+each old text stands once in that file, as the pairs before left it; further files follow in the same way. `applied` makes such changes,
+and `check` proves a crate with them in place, over what was proved before."""
+import os
 import subprocess
-import sys
 from pathlib import Path
 
 ROOT = Path(__file__).resolve().parent.parent
 
 
+class Stale(Exception):
+    """An edit that can't be made: its file isn't there, it isn't written as an edit is, or an old text doesn't stand there once."""
+
+
 def changes(edit):
-    """The file of an edit, and its texts before and after."""
-    lines = edit.read_text().splitlines()
-    texts = [line.split(": ", 1)[1] for line in lines]
-    return texts[0], list(zip(texts[1::2], texts[2::2]))
+    """The changes of an edit, in their order: of each the file, and the text before and after."""
+    made, path, old = [], None, None
+    for line in edit.read_text().splitlines():
+        kind, colon, text = line.partition(": ")
+        if kind == "file" and colon and old is None:
+            path = text
+        elif kind == "old" and colon and path and old is None:
+            old = text
+        elif kind == "new" and colon and old is not None:
+            made.append((path, old, text))
+            old = None
+        else:
+            raise Stale(f"{edit.stem}: {line!r} is no line that can stand there")
+    if old is not None or not made:
+        raise Stale(f"{edit.stem}: there is no change, or half of one, at the end")
+    return made
+
+
+def applied(crate, edits):
+    """The sources that these edits change in a crate: two dictionaries by path, of the texts before and after. Raises `Stale`."""
+    before, after = {}, {}
+    for edit in edits:
+        for path, old, new in changes(edit):
+            if path not in before:
+                file = ROOT / "crates" / crate / path
+                if not path.startswith("src/") or not file.is_file():
+                    raise Stale(f"{edit.stem}: {path} is no source of the crate")
+                before[path] = after[path] = file.read_text()
+            if old == new:
+                raise Stale(f"{edit.stem}: {old!r} is not changed")
+            if after[path].count(old) != 1:
+                raise Stale(f"{edit.stem}: {old!r} stands {after[path].count(old)} times in {path}")
+            after[path] = after[path].replace(old, new)
+    return before, after
 
 
 def check(crate, edits):
-    """How `rt check` ended for this crate with these edits in its sources, which are put back after that."""
+    """How `rt check` ended for this crate with these edits in its sources, which are put back after that. Raises `Stale`."""
     folder = ROOT / "crates" / crate
-    before, after = {}, {}
-    for edit in edits:
-        name, pairs = changes(edit)
-        before.setdefault(name, (folder / name).read_text())
-        text = after.get(name, before[name])
-        for old, new in pairs:
-            if text.count(old) != 1:
-                sys.exit(f"{crate}: {edit.stem}: {old!r} doesn't stand there once")
-            text = text.replace(old, new)
-        after[name] = text
+    before, after = applied(crate, edits)
     try:
-        for name, text in after.items():
-            (folder / name).write_text(text)
-        return subprocess.run(["rt", "check", "--jobs", "2"], cwd=folder, capture_output=True, text=True, errors="replace")
+        for path, text in after.items():
+            (folder / path).write_text(text)
+        jobs = os.environ.get("RT_JOBS", "2")
+        return subprocess.run(["rt", "check", "--jobs", jobs], cwd=folder, capture_output=True, text=True, errors="replace")
     finally:
-        for name, text in before.items():
-            (folder / name).write_text(text)
+        for path, text in before.items():
+            (folder / path).write_text(text)
