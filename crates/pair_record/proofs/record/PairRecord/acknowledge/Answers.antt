@@ -23,26 +23,26 @@ invariant_of-self-2 c =
     let s = record_state c.self.inside in
     let n = c.args.packet.number in
     let below = rw (← c.self.view_is) at c.requires.committed in
+    let landed = landed_ports s.protocol s.ports c.self.invariant.numbers (frames_to n s.protocol.pending) in
     record {
       is = same_record (ack_done s.ports.boxes s.protocol n).1 _ (search (arith, rules))
           (ack_record s.protocol c.self.invariant.is s.ports.boxes n below);
       numbers =
           same_numbers (ack_done s.ports.boxes s.protocol n).1 _ (ports_after_ack s.ports s.protocol n) _ (search (arith, rules))
-          (c.ack-landed.ensures.ports ∙ landed_ports s.protocol s.ports c.self.invariant.numbers (frames_to n s.protocol.pending))
+          (search (arith, rules, landed))
           (ack_numbers s.protocol s.ports c.self.invariant.numbers n);
     }
 
 pub returns-clause-ports : goal.returns-clause-ports
 returns-clause-ports c =
     let s = record_state c.self.inside in
-    rw (← c.self.view_is)
-    (c.ack-landed.ensures.ports ∙ landed_ports s.protocol s.ports c.self.invariant.numbers (frames_to c.args.packet.number s.protocol.pending))
+    let landed = landed_ports s.protocol s.ports c.self.invariant.numbers (frames_to c.args.packet.number s.protocol.pending) in
+    rw (← c.self.view_is) (search (arith, rules, landed))
 
 pub returns-clause-ok : goal.returns-clause-ok
 returns-clause-ok c =
     let s = record_state c.self.inside in
-    let put = c.ack-landed.ensures.landed
-    ∙ landed_counted s.protocol s.ports c.self.invariant.numbers (frames_to c.args.packet.number s.protocol.pending) in
+    let put = landed_counted s.protocol s.ports c.self.invariant.numbers (frames_to c.args.packet.number s.protocol.pending) in
     search (arith, rules, put)
 
 pub returns-in_err-reserve-clause-some : goal.returns-in_err-reserve-clause-some
