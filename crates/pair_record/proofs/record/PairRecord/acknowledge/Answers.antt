@@ -1,4 +1,4 @@
-use Rattle.std.proofs.Common.{rules, arith, ◌∙◌, ap, List, length}
+use Rattle.std.proofs.Common.{rules, arith, ap, List, length}
 use Rattle.frame_ports.specs.Addresses.{targets_of}
 use Rattle.pair_history.specs.Entries.{Frame}
 use Rattle.output_gate.specs.Epochs.{frames_to}
