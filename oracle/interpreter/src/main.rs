@@ -14,6 +14,8 @@
 //! `interpreter protect PAGES SECTORS WORDS STEPS ZEROS ROUNDS` runs words for so many steps, makes an empty backup and a full checkpoint so
 //! many times, and prints the checkpoint's bytes; ZEROS is `asked` or `written`, which is how the backup's zeros come to be, or `unmade`,
 //! where no empty backup is made.
+//! `interpreter threads WORDS PAGES CLIENTS STEPS CALLS` runs a pair in threads, whose clients make so many calls each while epochs of so many
+//! steps run, and prints the nanoseconds that the calls took in all.
 //! `interpreter states WORDS RUNS SEED` makes so many runs of random length of a guest, and prints what it holds after each.
 
 mod checkpoints;
@@ -24,6 +26,7 @@ mod images;
 mod pair;
 mod protect;
 mod states;
+mod threads;
 mod virtio;
 
 use hart::{Machine, RAM_BASE};
@@ -55,6 +58,16 @@ fn main() {
                 rounds.parse().expect("a number of rounds"),
             )
         ),
+        ["threads", file, pages, clients, steps, calls] => {
+            let number = |text: &str| text.parse::<u64>().expect("a number");
+            threads::run(
+                number(pages) as usize,
+                &words_of(&read(file)),
+                number(clients) as usize,
+                number(steps),
+                number(calls),
+            )
+        }
         ["frames", file, pages, sectors, rounds] => println!(
             "{}",
             checkpoints::copy(
