@@ -6,7 +6,7 @@
 # calls: a client's calls while epochs of 10^6 steps run that write one page or 4096, and are passed on, beside its calls while the runner
 #   is idle; at median and at 99.9 percent. The middle ratio of five turns.
 # members: what each member's calls take with 4096 pages written an epoch, beside one page, by hand and with nobody else at the lock; and
-#   what a client's call takes meanwhile. The middle ratio of three turns.
+#   what a client's take needs while they are made, beside while the guest runs. The middle ratio of three turns.
 # clients: calls of 16 clients at once while epochs run, beside those of a pair in plain Rust with one mutex (`interpreter threads`). The
 #   middle ratio of nine turns.
 # memory: the most memory after 100,000 epochs beside that after 10,000: the difference an epoch, beside an entry's 32 bytes.
@@ -60,14 +60,18 @@ guest() {
     done
 }
 
-# Of two kinds of calls of the program's lines, the second beside the first: the middle ratios of all turns, at median and at 99.9 percent.
+# Of two kinds of calls of the program's lines, the second beside the first: the middle ratios of all turns, at median, and at 99.9 percent
+# where there were a thousand calls.
 beside() {
     local what=$1 first=$2 second=$3
     for column in 3 4; do
-        local at=median
-        [ "$column" = 3 ] || at='99.9 percent'
-        awk -v first="$first" -v second="$second" -v column="$column" '
-            $1 == first { a = $column } $1 == second { b = $column; print a, b, b / a }' "$folder/turns" >"$folder/ratios"
+        local at=median few=50
+        [ "$column" = 3 ] || { at='99.9 percent' && few=1000; }
+        awk -v first="$first" -v second="$second" -v column="$column" -v few="$few" '
+            $1 == first { a = $2 < few ? 0 : $column } $1 == second && a > 0 && $2 >= few { print a, $column, $column / a }' \
+            "$folder/turns" >"$folder/ratios"
+        # Too few calls tell nothing.
+        [ -s "$folder/ratios" ] || continue
         printf '%s, %s: %s ns, beside %s, ratio %.2f\n' "$what" "$at" "$(awk '{ print $2 }' "$folder/ratios" | middle)" \
             "$(awk '{ print $1 }' "$folder/ratios" | middle)" "$(awk '{ print $3 }' "$folder/ratios" | middle)"
     done
@@ -79,31 +83,26 @@ calls() {
         for _ in 1 2 3 4 5; do "$bench" calls "$folder/pages$pages" 4100 1 1000000 40000 10; done >"$folder/turns"
         cp "$folder/turns" "$folder/calls$pages"
         for call in deliver take; do
-            beside "$call, epochs that write $pages pages, beside an idle runner" "idle_$call" "busy_$call"
+            beside "$call, $pages of 4100 pages written an epoch, beside an idle runner" "idle_$call" "busy_$call"
         done
     done
     sed 's/^/many_/' "$folder/calls4096" | paste -d '\n' "$folder/calls1" - >"$folder/turns"
     for call in deliver take; do
-        beside "$call, epochs that write 4096 pages, beside 1 page" "busy_$call" "many_busy_$call"
+        beside "$call, 4096 pages written an epoch, beside 1" "busy_$call" "many_busy_$call"
     done
 }
 
 members() {
-    for client in 0 1; do
-        for pages in 1 4096; do
-            page_writer "$pages" >"$folder/pages$pages"
-            for _ in 1 2 3; do "$bench" hands "$folder/pages$pages" 4100 1 100000 60 "$client"; done >"$folder/hands$pages"
-        done
-        # The first seven lines of a turn are the members' calls, the other seven the client's meanwhile.
-        awk '{ print ((NR - 1) % 14 < 7 ? "by_" : "in_") $0 }' "$folder/hands1" >"$folder/few"
-        awk '{ print "many_" ((NR - 1) % 14 < 7 ? "by_" : "in_") $0 }' "$folder/hands4096" | paste -d '\n' "$folder/few" - >"$folder/turns"
-        for call in submit next commit acked; do
-            if [ "$client" = 0 ]; then
-                beside "$call, 4096 pages written, beside 1" "by_$call" "many_by_$call"
-            else
-                beside "a client's take during $call, 4096 pages written, beside 1" "in_$call" "many_in_$call"
-            fi
-        done
+    for pages in 1 4096; do
+        page_writer "$pages" >"$folder/pages$pages"
+        for _ in 1 2 3; do "$bench" hands "$folder/pages$pages" 4100 1 100000 60 0; done >"$folder/hands$pages"
+    done
+    sed 's/^/many_/' "$folder/hands4096" | paste -d '\n' "$folder/hands1" - >"$folder/turns"
+    for call in submit next commit acked; do beside "$call, 4096 pages written, beside 1" "$call" "many_$call"; done
+    # The first seven lines of a turn are the members' calls, the other seven the client's meanwhile.
+    for _ in 1 2 3; do "$bench" hands "$folder/pages4096" 4100 1 1000000 60 1 | tail -n 7; done >"$folder/turns"
+    for call in prepare submit feed commit; do
+        beside "a client's take during $call of 4096 pages, beside while the guest runs" run "$call"
     done
 }
 
