@@ -175,7 +175,7 @@ impl<P: Pair> Host<P> {
             steps: 0,
         };
         let next = self.book.submit(self.alloc, &self.clock, &mut self.runner, epoch, &[], what)?;
-        Ok(number(next.first().map(|given| given.0)))
+        Ok(number(next.frames.first().map(|given| given.0)))
     }
 
     /// The checkpoint of this generation and number, and that as it is prepared.
@@ -232,7 +232,7 @@ impl<P: Pair> Host<P> {
 
     fn acked(&mut self, ack: Ack) -> Result<Answer, Refusal> {
         let _kept = self.book.keep_texts();
-        Ok(Answer::Number(self.book.acked(&self.clock, ack)?))
+        Ok(Answer::Number(self.book.acked(&self.clock, ack)?.count))
     }
 
     fn fail_primary(&mut self) -> Result<Answer, Refusal> {
@@ -241,7 +241,7 @@ impl<P: Pair> Host<P> {
     }
 
     fn fail_backup(&mut self) -> Result<Answer, Refusal> {
-        Ok(Answer::Number(self.book.fail_backup(&self.clock)?))
+        Ok(Answer::Number(self.book.fail_backup(&self.clock)?.count))
     }
 
     /// The first backup is to go live, which has committed nothing. Answers the number of its runner's seat.

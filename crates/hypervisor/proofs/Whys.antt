@@ -137,8 +137,9 @@ ack-by-mode modes.Alone stale gap out word why e =
     (first why NotPaired (Stale ∷ Gap ∷ Exhausted ∷ NoMemory wanted ∷ []) e)
 ack-by-mode modes.Stopped stale gap out word why e = first why Stopped (NotPaired ∷ Stale ∷ Gap ∷ Exhausted ∷ NoMemory wanted ∷ []) e
 
-pub ack-refused : (b : BookState) (ack : Ack) (r : Result ℕ Refusal) → IfErr r (IsWhy (ack_why b ack)) → IfErr r (Contains ack_refusals)
-ack-refused b ack (Ok n) e = tt
+pub ack-refused : {T : Type 0} (b : BookState) (ack : Ack) (r : Result T Refusal) → IfErr r (IsWhy (ack_why b ack))
+    → IfErr r (Contains ack_refusals)
+ack-refused b ack (Ok t) e = tt
 ack-refused b ack (Err why) e =
     ack-by-mode b.protocol.mode (not (ack.generation == b.protocol.generation)) (nat_le b.protocol.window.to_commit ack.number)
     (exhausts b.protocol (leaving_at b ack.number)) (nat_lt 0 (leaving_at b ack.number) && is_word_full b) why e

@@ -24,7 +24,7 @@ pub use clients::Client;
 pub use growing_history::{Badge, Pair};
 pub use laws::{answers_are_of_one_guest, clients_share_one_history};
 pub use losses::Loss;
-pub use pair_book::{Ack, Loss as Lost, Packet, Refusal};
+pub use pair_book::{Ack, Landed, Loss as Lost, Packet, Refusal};
 pub use pair_history::Frame;
 pub use runner::Runner;
 pub use sender::Sender;

@@ -268,7 +268,7 @@ fn submit<P: Pair>(
         Err(why) => return Err(why),
     };
     seat.number();
-    Ok(next)
+    Ok(next.frames)
 }
 
 /// These frames are held too. There are none where some are held already, as the caller knows, so it takes no memory.

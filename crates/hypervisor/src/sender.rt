@@ -5,7 +5,7 @@ ghost use Rattle.hypervisor.specs.Refusals.{next_refusals, ack_refusals};
 
 use crate::shared::Shared;
 use growing_history::{Clock, Pair};
-use pair_book::{Ack, Book, Packet, Refusal};
+use pair_book::{Ack, Book, Landed, Packet, Refusal};
 use std::sync::{Arc, Wait};
 
 /// Who sends the checkpoints of a pair to its backup, and hands in what is acknowledged. It has no seat: what its calls do is said at the
@@ -21,7 +21,7 @@ fn next<P: Pair>(book: &mut Book<P>) -> Result<Option<Packet>, Refusal>
     book.next()
 }
 
-fn acked<P: Pair>(book: &mut Book<P>, clock: &Clock<P>, ack: Ack) -> Result<u64, Refusal>
+fn acked<P: Pair>(book: &mut Book<P>, clock: &Clock<P>, ack: Ack) -> Result<Landed, Refusal>
     ensures { IfErr result (Contains ack_refusals) }
 {
     book.acked(clock, ack)
@@ -48,14 +48,14 @@ impl<P: Pair> Sender<P> {
     }
 
     /// The backup has committed all checkpoints of the generation up to the acknowledged one: they are no longer pending, and their frames
-    /// land. Answers how many did, each counted for each client whose box took it.
+    /// land. Answers what landed.
     ///
     /// # Errors
     ///
     /// In this order: [`Refusal::Stopped`] where the primary has stopped; [`Refusal::NotPaired`] where a node is alone; [`Refusal::Stale`]
     /// for another generation; [`Refusal::Gap`] beyond the last commit; [`Refusal::Exhausted`] where the history, or the word, would reach
     /// 2^62. [`Refusal::NoMemory`] where the room for the landings in the history can't be had. Nothing has changed then.
-    pub fn acked<R: Wait>(&mut self, rt: &R, ack: Ack) -> Result<u64, Refusal>
+    pub fn acked<R: Wait>(&mut self, rt: &R, ack: Ack) -> Result<Landed, Refusal>
         ensures { IfErr result (Contains ack_refusals) }
     {
         let shared = &*self.shared;

@@ -16,7 +16,7 @@ use backup_image::{Image, ImageError};
 use growing_history::{BackupSeat, Clock, Pair};
 use guest_machine::Shape;
 use memory_wanted::MemoryWanted;
-use pair_book::{Book, Refusal, members_begin};
+use pair_book::{Book, Landed, Refusal, members_begin};
 use std::alloc::Global;
 use std::marker::Model;
 use std::sync::{Arc, Wait};
@@ -55,7 +55,7 @@ fn fail_primary<P: Pair>(book: &mut Book<P>, clock: &Clock<P>) -> Result<(), Ref
     book.fail_primary(clock)
 }
 
-fn fail_backup<P: Pair>(book: &mut Book<P>, clock: &Clock<P>) -> Result<u64, Refusal>
+fn fail_backup<P: Pair>(book: &mut Book<P>, clock: &Clock<P>) -> Result<Landed, Refusal>
     ensures { IfErr result (Contains (fail_refusals Node.Backup)) }
 {
     book.fail_backup(clock)
@@ -94,8 +94,8 @@ impl<P: Pair> Warden<P> {
     }
 
     /// This node stops, for good. Where it is the primary nothing else changes, until the backup goes live. Where it is the backup the
-    /// primary goes on alone: sealed epochs enter the history, and what is held lands. Answers how many frames landed, each counted for
-    /// each client whose box took it: 0 where the primary fails.
+    /// primary goes on alone: sealed epochs enter the history, and what is held lands. Answers what landed: nothing where the primary
+    /// fails.
     ///
     /// # Errors
     ///
@@ -103,8 +103,8 @@ impl<P: Pair> Warden<P> {
     /// its backup has no image yet, and [`Refusal::NotPaired`] for the backup. [`Refusal::Exhausted`] where the history with what is kept,
     /// or the word, would reach 2^62. [`Refusal::NoMemory`] where the backup fails and the room in the history can't be had. Nothing has
     /// changed then.
-    pub fn fail<R: Wait>(&mut self, rt: &R, node: Node) -> Result<u64, Refusal>
-        ensures landed { IfOk result (λ landed. node ≡ Node.Primary → landed ≡ 0) }
+    pub fn fail<R: Wait>(&mut self, rt: &R, node: Node) -> Result<Landed, Refusal>
+        ensures landed { IfOk result (λ landed. node ≡ Node.Primary → landed.count ≡ 0) }
         ensures why { IfErr result (Contains (fail_refusals node)) }
     {
         let shared = &*self.shared;
@@ -112,7 +112,7 @@ impl<P: Pair> Warden<P> {
             Node::Primary => {
                 let mut held = shared.book.lock(rt);
                 fail_primary(&mut *held, &shared.clock)?;
-                Ok(0)
+                Ok(Landed { count: 0 })
             }
             Node::Backup => {
                 // The texts that were pending are given back after the lock.

@@ -9,7 +9,7 @@ use Rattle.pair_record.specs.declared.event.Refusal.TheVariants.{Stopped, Exhaus
 use Rattle.pair_record.specs.Kept.{brought_refusals}
 use Rattle.pair_record.specs.Modes.{mode_refusal}
 use Rattle.pair_record.specs.Protocol.{Row}
-use Rattle.growing_history.specs.Steps.{WentLive, step, Begins}
+use Rattle.growing_history.specs.Steps.{WentLive, step, Begins, steps_by}
 use Rattle.growing_history.specs.LogState.{state_at}
 use Rattle.growing_history.specs.Views.{Member}
 use Rattle.pair_book.specs.declared.failures.Ack.{Ack}
@@ -20,12 +20,13 @@ use Rattle.pair_book.specs.Settled.{just_settled, Runs}
 use Rattle.pair_book.specs.Standing.{Stands}
 
 -- It makes one step, under no member's number, which gives the new runner the next number of a seat. The backup's seat has then seen the
--- whole list, and what it had seen begins what was there before.
+-- whole list, what it had seen begins what was there before, and its own steps are those before.
 pub record GoesLive (old new : BookState) (seat seat' : Member) : Type 0 where
   pub steps : new.steps ≡ old.steps ++ step 0 (WentLive (old.enrolled + 1)) ∷ []
   pub enrolled : new.enrolled ≡ old.enrolled + 1
   pub sees : seat' ≡ record { number = seat.number; steps = new.steps }
   pub saw : Begins seat.steps old.steps
+  pub own : steps_by seat.number new.steps ≡ steps_by seat.number seat.steps
 
 -- whether the seat of that number is the live backup's
 abbrev pub is_backup : HistoryState → BookState → ℕ → Bool

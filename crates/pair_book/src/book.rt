@@ -54,6 +54,10 @@ impl<P: Pair> Book<P> {
         ensures legal { Legal P.start self.now.steps }
         ensures made { AreMade P.start self.now.steps }
         ensures clients { length self.now.ports.boxes ≡ length P.start.boxes }
+        ensures mode { self.now.protocol.mode ≡ (state_at P.start self.now.steps).mode }
+        ensures generation { self.now.protocol.generation ≡ (state_at P.start self.now.steps).generation }
+        ensures next { self.now.protocol.window.to_cut ≡ (state_at P.start self.now.steps).next }
+        ensures sealed { self.now.protocol.journal.sealed ≡ map (λ e. e.entries) (state_at P.start self.now.steps).sealed }
         ensures running { self.now.protocol.journal.running ≡ map Arrive (state_at P.start self.now.steps).handed }
     {
         self.seats.count();

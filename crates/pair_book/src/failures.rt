@@ -23,6 +23,13 @@ pub struct Ack {
     pub number: u64,
 }
 
+/// What landed where frames left the gate.
+#[derive(Clone, Copy, Debug, PartialEq, Eq)]
+pub struct Landed {
+    /// How many frames, each counted for each client whose box took it.
+    pub count: u64,
+}
+
 impl<P: Pair> Book<P> {
     /// Why an acknowledgement is refused.
     fn ack_refusal(&self, ack: Ack) -> Option<Refusal>
@@ -51,15 +58,15 @@ impl<P: Pair> Book<P> {
     }
 
     /// The backup has committed all checkpoints of the generation up to the acknowledged one: they are no longer pending, with their texts,
-    /// and their frames land. Answers how many did, each counted for each client whose box took it.
+    /// and their frames land. Answers what landed.
     ///
     /// # Errors
     ///
     /// In this order: [`Refusal::Stopped`] where the primary has stopped; [`Refusal::NotPaired`] where a node is alone; [`Refusal::Stale`]
     /// for another generation; [`Refusal::Gap`] beyond the last commit; [`Refusal::Exhausted`] where the history, or the word, would reach
     /// 2^62. [`Refusal::NoMemory`] where the room for the landings in the history can't be had.
-    pub fn acked(&mut self, clock: &Clock<P>, ack: Ack) -> Result<u64, Refusal>
-        ensures done { IfOk result (λ landed. (replies.Acked ack.generation ack.number landed, self.new.protocol)
+    pub fn acked(&mut self, clock: &Clock<P>, ack: Ack) -> Result<Landed, Refusal>
+        ensures done { IfOk result (λ landed. (replies.Acked ack.generation ack.number landed.count, self.new.protocol)
             ≡ ack_done self.old.ports.boxes self.old.protocol ack.number) }
         ensures ports { OnOk result (self.new.ports ≡ ports_after_ack self.old.ports self.old.protocol ack.number) }
         ensures texts { OnOk result (self.new.texts ≡ texts_above ack.number self.old.texts) }
@@ -88,7 +95,7 @@ impl<P: Pair> Book<P> {
         if self.record.history().len() > before {
             tell_alone(&self.record, before, &mut self.seats, clock);
         }
-        Ok(landed)
+        Ok(Landed { count: landed })
     }
 
     /// The primary stops: nothing else changes.
@@ -134,15 +141,15 @@ impl<P: Pair> Book<P> {
     }
 
     /// The backup stops, and the primary goes on alone: sealed epochs enter the history, and what is held lands. What was handed out to
-    /// the runner stays with it. Answers how many frames landed, each counted for each client whose box took it.
+    /// the runner stays with it. Answers what landed.
     ///
     /// # Errors
     ///
     /// In this order: [`Refusal::Stopped`] where the primary has stopped; [`Refusal::NotPaired`] where a node is alone;
     /// [`Refusal::Exhausted`] where the history with what is kept, or the word, would reach 2^62. [`Refusal::NoMemory`] where the room in
     /// the history can't be had.
-    pub fn fail_backup(&mut self, clock: &Clock<P>) -> Result<u64, Refusal>
-        ensures done { IfOk result (λ landed. (replies.Alone self.old.protocol.generation landed, self.new.protocol)
+    pub fn fail_backup(&mut self, clock: &Clock<P>) -> Result<Landed, Refusal>
+        ensures done { IfOk result (λ landed. (replies.Alone self.old.protocol.generation landed.count, self.new.protocol)
             ≡ fail_within_done self.old.ports.boxes self.old.protocol) }
         ensures ports { OnOk result (self.new.ports ≡ ports_after_all self.old.ports [] self.old.protocol) }
         ensures texts { OnOk result (self.new.texts ≡ no_texts) }
@@ -161,7 +168,7 @@ impl<P: Pair> Book<P> {
         };
         self.texts.clear();
         self.seats.step_alone(clock, &What::BackupFailed);
-        Ok(landed)
+        Ok(Landed { count: landed })
     }
 
     /// Why a node can't get a new backup.

@@ -27,7 +27,7 @@ mod submitting;
 mod texts;
 
 pub use book::{Book, LINE_SEAT};
-pub use failures::Ack;
+pub use failures::{Ack, Landed};
 pub use kept_texts::KeptTexts;
 pub use laws::{members_begin, members_go_on, runners_bring_what_they_have};
 pub use losses::{LineSeat, Loss};
@@ -36,4 +36,4 @@ pub use packet::Packet;
 pub use pair_record::Refusal;
 pub use prepared::Prepared;
 pub use runner::{Kind, Want};
-pub use submitting::OpenEpoch;
+pub use submitting::{Next, OpenEpoch};

@@ -1,5 +1,7 @@
 //! What the sender of checkpoints calls.
-ghost use Rattle.std.specs.Prelude.{◌≡◌, ◌↔◌, ◌<◌, [], None, length, IfOk, OnOk, IfErr, OnErr, IfSome, IsNone};
+ghost use Rattle.std.specs.Prelude.{◌≡◌, ◌↔◌, ◌<◌, [], None, length, map, drop, IfOk, OnOk, IfErr, OnErr, IfSome, IsNone};
+ghost use Rattle.pair_record.specs.Window.{committed_count};
+ghost use Rattle.growing_history.specs.LogState.{state_at};
 ghost use Rattle.pair_book.specs.Calls.{IsWhy};
 ghost use Rattle.pair_book.specs.Texts.{WasSealed, ArePending, next_of, given_after, next_why};
 
@@ -28,6 +30,9 @@ impl<P: Pair> Book<P> {
         ensures pending { ArePending self.old.steps self.old.protocol.generation self.old.protocol.window.to_acknowledge
             self.old.texts.packets }
         ensures count { length self.old.texts.packets ≡ length self.old.protocol.pending }
+        // Those that aren't committed have the texts of the sealed epochs.
+        ensures texts { map (λ p. p.text) (drop (committed_count self.old.protocol.window) self.old.texts.packets)
+            ≡ map (λ e. e.text) (state_at P.start self.old.steps).sealed }
         ensures free { OnOk result (next_why self.old ≡ None) }
         ensures why { IfErr result (IsWhy (next_why self.old)) }
         // Memory is wanted only where something is pending.

@@ -43,6 +43,13 @@ pub struct OpenEpoch {
     pub steps: u64,
 }
 
+/// What the runner is handed out where its epoch ended.
+#[derive(Drop)]
+pub struct Next {
+    /// Each frame with its number, counted from 1 over all clients, in the order in which they are to arrive.
+    pub frames: Vec<(u64, Frame)>,
+}
+
 /// An epoch that ended, as it stands in the record, whose history had `before` entries when it did. Nothing is copied.
 #[derive(Drop)]
 struct Ended<'a> {
@@ -264,18 +271,18 @@ impl<P: Pair> Book<P> {
         epoch: OpenEpoch,
         frames: &[Frame],
         what: &Prepared,
-    ) -> Result<Vec<(u64, Frame)>, Refusal>
+    ) -> Result<Next, Refusal>
         requires settled { IsSettled P.start seat.old epoch.arrivals epoch.steps frames.now }
         requires prepared { IsPrepared P.start seat.old epoch.arrivals epoch.steps frames.now what.now }
         requires few { length frames.now ≤ 256 }
         requires frames { All IsFrame frames.now }
         ensures number { seat.new.number ≡ seat.old.number }
         ensures done { IfOk result (λ next. HandsNext (ended self.old epoch.arrivals epoch.steps frames.now)
-            (handing self.new.protocol self.new.ports next.items)) }
-        ensures are_frames { IfOk result (λ next. All (λ x. IsFrame x.1) next.items) }
+            (handing self.new.protocol self.new.ports next.frames.items)) }
+        ensures are_frames { IfOk result (λ next. All (λ x. IsFrame x.1) next.frames.items) }
         ensures texts { OnOk result (self.new.texts ≡ texts_ended what.now self.old.texts) }
         ensures step { OnOk result (Makes (told self.old epoch.arrivals epoch.steps what.now) self.old self.new seat.old seat.new) }
-        ensures runs { IfOk result (λ next. RunsOn P.start seat.old seat.new epoch.arrivals epoch.steps frames.now next.items) }
+        ensures runs { IfOk result (λ next. RunsOn P.start seat.old seat.new epoch.arrivals epoch.steps frames.now next.frames.items) }
         ensures free { OnOk result (submit_why P.start self.old seat.old.number what.now epoch.steps frames.now ≡ None) }
         ensures why { IfErr result (IsWhy (submit_why P.start self.old seat.old.number what.now epoch.steps frames.now)) }
         ensures refused { OnErr result (IsAsBefore self.old self.new seat.old seat.new) }
@@ -305,6 +312,6 @@ impl<P: Pair> Book<P> {
             seat,
         );
         add_text(&mut self.texts, shared);
-        Ok(next)
+        Ok(Next { frames: next })
     }
 }

@@ -40,10 +40,10 @@ pub returns-clause-runs : goal.returns-clause-runs
 returns-clause-runs g c =
     let a = c.args in
     let is = c.requires.runs in
-    let on : RunsOn g.P.Pair.start a.seat.now c.submit.new.seat a.epoch.arrivals a.epoch.steps a.machine.now.outbox c.in-Ok.next.items =
+    let on : RunsOn g.P.Pair.start a.seat.now c.submit.new.seat a.epoch.arrivals a.epoch.steps a.machine.now.outbox c.in-Ok.next.frames.items =
     subst
     (λ (fs : List Frame).
-    RunsOn g.P.Pair.start a.seat.now c.submit.new.seat a.epoch.arrivals a.epoch.steps fs c.in-Ok.next.items)
+    RunsOn g.P.Pair.start a.seat.now c.submit.new.seat a.epoch.arrivals a.epoch.steps fs c.in-Ok.next.frames.items)
     c.outbox.ensures.value c.in-Ok.ensures.runs in
     on a.held.now a.machine.now.guest is.settled is.runs
 
@@ -54,21 +54,21 @@ returns-clause-rest g c =
     let r : RunnerState = runner_state a.machine.now a.held.now a.epoch.arrivals a.epoch.steps a.what.now a.seat.now in
     let law = c.steps_go_on.ensures in
     let hands : HandsNext (ended a.book.now a.epoch.arrivals a.epoch.steps a.machine.now.outbox)
-    (handing b.protocol b.ports c.in-Ok.next.items) =
+    (handing b.protocol b.ports c.in-Ok.next.frames.items) =
     subst
     (λ (fs : List Frame).
-    HandsNext (ended a.book.now a.epoch.arrivals a.epoch.steps fs) (handing b.protocol b.ports c.in-Ok.next.items))
+    HandsNext (ended a.book.now a.epoch.arrivals a.epoch.steps fs) (handing b.protocol b.ports c.in-Ok.next.frames.items))
     c.outbox.ensures.value c.in-Ok.ensures.done in
     none-behind g.P.Pair.start r c.requires a.book.now b c.submit.new.seat c.in-Ok.ensures.step c.entries.ensures.legal
     c.number-2.ensures.legal c.entries.ensures.running law.needed law.state c.members_go_on.ensures.runner b.ports b.protocol
-    c.in-Ok.next.items hands
+    c.in-Ok.next.frames.items hands
 
 pub returns-clause-handed : goal.returns-clause-handed
 returns-clause-handed g c =
     let a = c.args in
     let r : RunnerState = runner_state a.machine.now a.held.now a.epoch.arrivals a.epoch.steps a.what.now a.seat.now in
     let law = c.steps_go_on.ensures in
-    let on : Runs g.P.Pair.start c.submit.new.seat (just_settled a.machine.now.guest (a.held.now ++ c.in-Ok.next.items)) =
+    let on : Runs g.P.Pair.start c.submit.new.seat (just_settled a.machine.now.guest (a.held.now ++ c.in-Ok.next.frames.items)) =
     returns-clause-runs g c in
     holds-handed g.P.Pair.start r c.requires a.book.now c.submit.new.self c.submit.new.seat c.in-Ok.ensures.step c.entries.ensures.legal
     c.number-2.ensures.legal c.entries.ensures.running law.needed law.state c.members_go_on.ensures.runner a.machine.now.guest _ on

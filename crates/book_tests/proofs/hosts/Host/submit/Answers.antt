@@ -22,7 +22,7 @@ invariant_of-self-2 g c =
     let start = g.P.Pair.start in
     let inv = c.self.invariant in (
       inv.0,
-      (inv.1.0 ++ c.in_ok-next.next.items, c.in_ok-next.ensures.runs inv.1.0 start.guest start.guest inv.1.1),
+      (inv.1.0 ++ c.in_ok-next.next.frames.items, c.in_ok-next.ensures.runs inv.1.0 start.guest start.guest inv.1.1),
       inv.2,
       inv.3,
       inv.4,
