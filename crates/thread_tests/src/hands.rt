@@ -5,8 +5,8 @@ ghost use Rattle.hypervisor.specs.Opening.{start_with};
 
 use guest_machine::Unpaced;
 use hypervisor::{
-    Ack, Backup, Client, Frame, Node, Packet, Pair, Parts, Refusal, Runner, Sender, UnnamedPair,
-    Warden,
+    Ack, Backup, Client, Frame, Landed, Loss, Lost, Node, Packet, Pair, Parts, Refusal, Runner,
+    Sender, UnnamedPair, Warden,
 };
 use std::alloc::Global;
 use std::process::Abort;
@@ -16,21 +16,34 @@ use std::test::Fail;
 /// The frame that the beacon sends to client 1.
 pub(super) const FRAME: [u8; 14] = [2, 0, 0, 0, 1, 1, 2, 0, 0, 0, 0, 1, 0x88, 0xb5];
 
+/// A frame from client 1 to the guest. An echo of it is the beacon's frame.
+pub(super) const TO_GUEST: [u8; 14] = [2, 0, 0, 0, 0, 1, 2, 0, 0, 0, 1, 1, 0x88, 0xb5];
+
 /// A call, and what it answers. Runners, backups and packets are named by their places, in the order in which they came.
 #[derive(Drop)]
 pub(super) enum Row {
-    /// This runner runs so many steps, asks, prepares and submits.
+    /// This runner runs so many steps.
+    Runs(usize, u64),
+    /// This runner runs so many steps, asks, prepares and submits, and is handed no frame.
     Epoch(usize, u64),
+    /// The same, but it is handed so many frames.
+    Hands(usize, u64, usize),
     /// The sender gives this packet, which is kept.
     Next(Ack),
     /// This backup reads this packet, and answers so to its commit.
     Commit(usize, usize, Result<Ack, Refusal>),
     /// The sender hands in this acknowledgement, and is answered how many frames land, or why not.
     Acked(Ack, Result<u64, Refusal>),
+    /// Client 1 delivers a frame of these bytes, which gets this number.
+    Delivers([u8; 14], u64),
     /// Client 1 takes the beacon's frame.
     Takes,
     /// Client 1 finds its box empty.
     TakesNone,
+    /// The line drops the frame at this place of client 1's inbox.
+    LosesIn(u64),
+    /// The line drops the frame at this place of client 1's box.
+    LosesOut(u64),
     /// The history has so many entries.
     Entries(u64),
     /// This node fails, and so many frames land.
@@ -46,11 +59,12 @@ pub(super) enum Row {
 /// The members of a pair, and what came of the calls so far.
 #[derive(Drop)]
 pub(super) struct Hand<P: Pair> {
-    pub(super) client: Option<Client<P>>,
+    pub(super) clients: Vec<Client<P>>,
     pub(super) runners: Vec<Runner<P>>,
     sender: Sender<P>,
     backups: Vec<Option<Backup<P>>>,
     warden: Warden<P>,
+    loss: Loss<P>,
     packets: Vec<Packet>,
 }
 
@@ -59,30 +73,45 @@ pub(super) fn ack(generation: u64, number: u64) -> Ack {
     Ack { generation, number }
 }
 
-/// The members of a pair with one client.
+/// The members of a pair.
 pub(super) fn at_start<P: Pair>(alloc: Global, pair: UnnamedPair) -> Result<Hand<P>, Fail>
     requires { (pair.word ≡ P.word) × (P.start ≡ start_with pair.guest pair.clients) }
 {
     let Parts {
-        mut clients,
+        clients,
         runner,
         sender,
         backup,
         warden,
-        loss: _,
+        loss,
     } = pair.named::<P>()?;
     let mut runners = Vec::new(alloc);
     runners.push(runner)?;
     let mut backups = Vec::new(alloc);
     backups.push(Some(backup))?;
     Ok(Hand {
-        client: clients.pop(),
+        clients,
         runners,
         sender,
         backups,
         warden,
+        loss,
         packets: Vec::new(alloc),
     })
+}
+
+/// Plays these rows with a pair at its start.
+pub(super) fn plays<P: Pair, R: Wait + Abort>(
+    rt: &R,
+    alloc: Global,
+    pair: UnnamedPair,
+    rows: &[Row],
+) -> Result<(), Fail>
+    requires { (pair.word ≡ P.word) × (P.start ≡ start_with pair.guest pair.clients) }
+{
+    let mut hand = at_start::<P>(alloc, pair)?;
+    play(rt, &mut hand, rows);
+    Ok(())
 }
 
 /// Plays these rows.
@@ -94,14 +123,19 @@ pub(super) fn play<P: Pair, R: Wait + Abort>(rt: &R, hand: &mut Hand<P>, rows: &
 
 fn play_row<P: Pair, R: Wait + Abort>(rt: &R, hand: &mut Hand<P>, row: &Row) {
     match row {
-        Row::Epoch(at, steps) => run_epoch(rt, runner(rt, hand, *at), *steps),
+        Row::Runs(at, steps) => run(rt, runner(rt, hand, *at), *steps),
+        Row::Epoch(at, steps) => run_epoch(rt, runner(rt, hand, *at), *steps, 0),
+        Row::Hands(at, steps, handed) => run_epoch(rt, runner(rt, hand, *at), *steps, *handed),
         Row::Next(wanted) => next(rt, hand, wanted),
         Row::Commit(at, packet, wanted) => read_and_commit(rt, hand, *at, *packet, wanted),
         Row::Acked(ack, wanted) => acked(rt, &mut hand.sender, *ack, wanted),
+        Row::Delivers(bytes, number) => delivers(rt, hand, bytes, *number),
         Row::Takes => takes(rt, hand),
         Row::TakesNone => takes_none(rt, hand),
+        Row::LosesIn(place) => loses_in(rt, &mut hand.loss, *place),
+        Row::LosesOut(place) => loses_out(rt, &mut hand.loss, *place),
         Row::Entries(count) => assert_eq!(rt; hand.warden.entries(rt), *count),
-        Row::Fails(node, landed) => assert_eq!(rt; hand.warden.fail(rt, *node), Ok(*landed)),
+        Row::Fails(node, landed) => fails(rt, &mut hand.warden, *node, *landed),
         Row::Protects => protects(rt, hand),
         Row::GoesLive(at) => goes_live(rt, hand, *at),
         Row::StaysBackup(at, why) => stays_backup(rt, hand, *at, why),
@@ -113,12 +147,22 @@ fn runner<'a, P: Pair>(rt: &impl Abort, hand: &'a mut Hand<P>, at: usize) -> &'a
     hand.runners.get_mut(at).expect(rt, "a runner")
 }
 
-/// An epoch of so many steps, which is submitted.
-fn run_epoch<P: Pair, R: Wait + Abort>(rt: &R, runner: &mut Runner<P>, steps: u64) {
+/// What the runner holds arrives, and its guest makes so many steps.
+pub(super) fn run<P: Pair>(rt: &impl Abort, runner: &mut Runner<P>, steps: u64) {
     assert_eq!(rt; runner.run(steps, &mut Unpaced), steps);
+}
+
+/// What is wanted is asked for, prepared and submitted. Answers how many frames are handed out.
+pub(super) fn cut<P: Pair, R: Wait + Abort>(rt: &R, runner: &mut Runner<P>) -> usize {
     let want = runner.ask(rt).expect(rt, "what is wanted");
     runner.prepare(want).expect(rt, "memory");
-    runner.submit(rt).expect(rt, "a submit");
+    runner.submit(rt).expect(rt, "a submit")
+}
+
+/// An epoch of so many steps, which is submitted, and hands out so many frames.
+fn run_epoch<P: Pair, R: Wait + Abort>(rt: &R, runner: &mut Runner<P>, steps: u64, handed: usize) {
+    run(rt, runner, steps);
+    assert_eq!(rt; cut(rt, runner), handed);
 }
 
 /// The runner is told that it isn't live.
@@ -149,22 +193,43 @@ fn read_and_commit<P: Pair, R: Wait + Abort>(
     wanted: &Result<Ack, Refusal>,
 ) {
     let packet = hand.packets.get(packet).expect(rt, "a packet");
-    let Some(Some(backup)) = hand.backups.get_mut(at) else {
-        panic!(rt; "no backup");
-    };
-    commit(rt, backup, packet.bytes(), wanted);
+    commit(rt, backup(rt, &mut hand.backups, at), packet, wanted);
 }
 
-/// The backup reads all of these bytes, or none where it has read them, and commits.
+/// The backup at this place.
+fn backup<'a, P: Pair>(
+    rt: &impl Abort,
+    backups: &'a mut Vec<Option<Backup<P>>>,
+    at: usize,
+) -> &'a mut Backup<P> {
+    let Some(Some(backup)) = backups.get_mut(at) else {
+        panic!(rt; "no backup");
+    };
+    backup
+}
+
+/// The backup reads all of this packet, or nothing where it has read it, and commits.
 fn commit<P: Pair, R: Wait + Abort>(
     rt: &R,
     backup: &mut Backup<P>,
-    bytes: &[u8],
+    packet: &Packet,
     wanted: &Result<Ack, Refusal>,
 ) {
+    let bytes = packet.bytes();
     let count = backup.feed(bytes).expect(rt, "no refusal");
     assert!(rt; count == bytes.len() || count == 0);
     assert_eq!(rt; &backup.commit(rt), wanted);
+}
+
+fn fails<P: Pair, R: Wait + Abort>(rt: &R, warden: &mut Warden<P>, node: Node, count: u64) {
+    assert_eq!(rt; warden.fail(rt, node), Ok(Landed { count }));
+}
+
+/// The next packet comes to the first backup, which acknowledges this. Answers how many frames land.
+pub(super) fn pass<P: Pair, R: Wait + Abort>(rt: &R, hand: &mut Hand<P>, wanted: Ack) -> u64 {
+    let packet = next_packet(rt, &mut hand.sender);
+    commit(rt, backup(rt, &mut hand.backups, 0), &packet, &Ok(wanted));
+    hand.sender.acked(rt, wanted).expect(rt, "an answer").count
 }
 
 fn acked<P: Pair, R: Wait + Abort>(
@@ -173,15 +238,22 @@ fn acked<P: Pair, R: Wait + Abort>(
     ack: Ack,
     wanted: &Result<u64, Refusal>,
 ) {
-    assert_eq!(rt; &sender.acked(rt, ack), wanted);
+    let landed = sender.acked(rt, ack).map(|landed| landed.count);
+    assert_eq!(rt; &landed, wanted);
+}
+
+/// Client 1.
+fn client<'a, P: Pair>(rt: &impl Abort, hand: &'a mut Hand<P>) -> &'a mut Client<P> {
+    hand.clients.get_mut(0).expect(rt, "a client")
+}
+
+fn delivers<P: Pair, R: Wait + Abort>(rt: &R, hand: &mut Hand<P>, bytes: &[u8], number: u64) {
+    assert_eq!(rt; client(rt, hand).deliver(rt, bytes), Ok(number));
 }
 
 /// What client 1 takes.
 fn taken<P: Pair, R: Wait + Abort>(rt: &R, hand: &mut Hand<P>) -> Option<Frame> {
-    let Some(client) = &mut hand.client else {
-        panic!(rt; "no client");
-    };
-    client.take(rt).expect(rt, "an answer")
+    client(rt, hand).take(rt).expect(rt, "an answer")
 }
 
 fn takes<P: Pair, R: Wait + Abort>(rt: &R, hand: &mut Hand<P>) {
@@ -191,6 +263,14 @@ fn takes<P: Pair, R: Wait + Abort>(rt: &R, hand: &mut Hand<P>) {
 
 fn takes_none<P: Pair, R: Wait + Abort>(rt: &R, hand: &mut Hand<P>) {
     assert!(rt; taken(rt, hand).is_none());
+}
+
+fn loses_in<P: Pair, R: Wait + Abort>(rt: &R, loss: &mut Loss<P>, place: u64) {
+    assert_eq!(rt; loss.lose_in(rt, 1, place), Ok(Lost::Dropped));
+}
+
+fn loses_out<P: Pair, R: Wait + Abort>(rt: &R, loss: &mut Loss<P>, place: u64) {
+    assert_eq!(rt; loss.lose_out(rt, 1, place), Ok(Lost::Dropped));
 }
 
 fn protects<P: Pair, R: Wait + Abort>(rt: &R, hand: &mut Hand<P>) {

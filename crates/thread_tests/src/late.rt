@@ -1,32 +1,13 @@
 //! What comes late, twice or in another order, and a backup that has failed: nothing of it changes anything.
-ghost use Rattle.std.specs.Prelude.{◌≡◌};
-ghost use Rattle.hypervisor.specs.Opening.{start_with};
 
 use super::hands::Row::{
     Acked, Commit, Entries, Epoch, Fails, GoesLive, Next, Protects, StaysBackup, Takes, TakesNone,
 };
-use super::hands::{Row, ack, at_start, play};
+use super::hands::{ack, plays};
 use super::pairs::beacon_pair;
-use hypervisor::{Node, Pair, Refusal, UnnamedPair};
-use std::alloc::Global;
+use hypervisor::{Node, Refusal};
 use std::marker::Brand;
-use std::process::Abort;
-use std::sync::Wait;
 use std::test::*;
-
-/// Plays these rows with a pair at its start.
-fn plays<P: Pair, R: Wait + Abort>(
-    rt: &R,
-    alloc: Global,
-    pair: UnnamedPair,
-    rows: &[Row],
-) -> Result<(), Fail>
-    requires { (pair.word ≡ P.word) × (P.start ≡ start_with pair.guest pair.clients) }
-{
-    let mut hand = at_start::<P>(alloc, pair)?;
-    play(rt, &mut hand, rows);
-    Ok(())
-}
 
 #[test]
 fn a_failed_backup_commits_nothing(rt: HostRuntime) -> Result<(), Fail> {

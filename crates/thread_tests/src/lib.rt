@@ -3,14 +3,22 @@
 #![tactic(auto)]
 
 #[cfg(test)]
+mod callers;
+#[cfg(test)]
 mod files;
 #[cfg(test)]
+mod gates;
+#[cfg(test)]
 mod hands;
+#[cfg(test)]
+mod holds;
 #[cfg(test)]
 mod late;
 #[cfg(test)]
 mod pairs;
 #[cfg(test)]
 mod releases;
+#[cfg(test)]
+mod rows;
 #[cfg(test)]
 mod zombies;

@@ -103,7 +103,7 @@ fn release_by_hand<P: Pair + Send + Sync, R: Threads + Wait + Abort + Sync>(
     requires { (pair.word ≡ P.word) × (P.start ≡ start_with pair.guest pair.clients) }
 {
     let mut hand = at_start::<P>(alloc, pair)?;
-    let mut client = hand.client.take().ok_or("a client")?;
+    let mut client = hand.clients.pop().ok_or("a client")?;
     let (has_frame, ()) = join(
         rt,
         || take_frame(rt, &mut client),
@@ -165,5 +165,5 @@ const COUNTS: [u8; 8] = [0x93, 0x80, 0x10, 0, 0x6f, 0xf0, 0xdf, 0xff];
 
 #[test]
 fn a_client_is_served_in_mid_epoch(rt: HostRuntime) -> Result<(), Fail> {
-    serve_in_mid_epoch::<Brand, _>(&rt, rt.alloc(), pair(rt.alloc(), &COUNTS)?)
+    serve_in_mid_epoch::<Brand, _>(&rt, rt.alloc(), pair(rt.alloc(), 1, &COUNTS)?)
 }

@@ -2,83 +2,22 @@
 ghost use Rattle.std.specs.Prelude.{◌≡◌};
 ghost use Rattle.hypervisor.specs.Opening.{start_with};
 
+use super::gates::{Gate, HeldAt, run_held};
 use super::hands::{Hand, Row, at_start, is_stopped, play};
 use super::pairs::beacon_pair;
-use guest_machine::Pace;
-use hypervisor::{Node, Pair, Runner, UnnamedPair};
+use hypervisor::{Node, Pair, UnnamedPair};
 use std::alloc::Global;
 use std::marker::Brand;
 use std::process::Abort;
-use std::sync::atomic::AtomicBool;
-use std::sync::atomic::Ordering::SeqCst;
 use std::sync::{Arc, Wait};
 use std::test::*;
 use std::thread::{Threads, join};
 
-/// How often who waits here looks before it gives up.
-const MOST_TURNS: u64 = 1_000_000_000;
-
-/// Where a guest is held at a step until another thread lets it go.
-#[derive(Drop)]
-struct Gate {
-    is_held: AtomicBool,
-    is_open: AtomicBool,
-}
-
-/// Waits until this flag is raised, for a bounded time. Says whether it is.
-fn is_raised(flag: &AtomicBool) -> bool {
-    for _ in 0..MOST_TURNS {
-        if flag.load(SeqCst) {
-            return true;
-        }
-    }
-    false
-}
-
-/// Holds the guest at this step until the gate is open.
-#[derive(Drop)]
-struct HeldAt {
-    step: u64,
-    gate: Arc<Gate>,
-}
-
-impl Pace for HeldAt {
-    ghost use Rattle.std.proofs.Common.{rules};
-
-    ghost STRETCH = { 1 };
-
-    ghost answers = { λ before made yes after. Unit {0} };
-
-    const STRETCH: u64 = 1;
-
-    fn go_on(&mut self, made: u64) -> bool {
-        if made != self.step {
-            return true;
-        }
-        self.gate.is_held.store(true, SeqCst);
-        is_raised(&self.gate.is_open)
-    }
-
-    ghost some = { Prim.search rules };
-}
-
-/// The guest makes 22 steps, and is held at one of them. Then its checkpoint is made, for which was asked before.
-fn run_held<P: Pair, R: Wait + Abort>(
-    rt: &R,
-    mut runner: Box<Runner<P>>,
-    mut pace: HeldAt,
-) -> Box<Runner<P>> {
-    let want = runner.ask(rt).expect(rt, "what is wanted");
-    assert_eq!(rt; runner.run(22, &mut pace), 22);
-    runner.prepare(want).expect(rt, "memory");
-    runner
-}
-
 /// Once the guest is held the primary fails, and the backup goes live.
 fn take_over<P: Pair, R: Wait + Abort>(rt: &R, gate: &Gate, hand: &mut Hand<P>) {
-    assert!(rt; is_raised(&gate.is_held));
+    assert!(rt; gate.is_held());
     play(rt, hand, &[Row::Fails(Node::Primary, 0), Row::GoesLive(0)]);
-    gate.is_open.store(true, SeqCst);
+    gate.come();
 }
 
 /// The runner's guest is held at this step while the backup goes live. Then the runner is told that it isn't live, and its guest's frame is
@@ -93,15 +32,10 @@ fn outlive<P: Pair + Send + Sync, R: Threads + Wait + Abort + Sync>(
 {
     let mut hand = at_start::<P>(alloc, pair)?;
     let runner = Box::new(alloc, hand.runners.pop().ok_or("a runner")?)?;
-    let gate = Arc::new(
-        alloc,
-        Gate {
-            is_held: AtomicBool::new(false),
-            is_open: AtomicBool::new(false),
-        },
-    )?;
+    let gate = Arc::new(alloc, Gate::new())?;
     let pace = HeldAt {
         step,
+        count: 1,
         gate: Arc::try_clone(&gate)?,
     };
     let (mut old, ()) = join(
