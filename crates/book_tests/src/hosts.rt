@@ -6,13 +6,14 @@ ghost use Rattle.pair_book.specs.Calls.{IsClientSeat};
 ghost use Rattle.pair_book.specs.Made.{MakesEpoch};
 
 use crate::prepared::{old_delta, prepared};
-use crate::rows::{Answer, By, Call, Read};
+use crate::rows::{Answer, By, Call, Plays, Read, Shown};
 use epoch_snapshot::Checkpoint;
 use growing_history::{BackupSeat, ClientSeat, Clock, Pair, RunnerSeat};
 use pair_book::{
     Ack, Book, LineSeat, NewBook, OpenEpoch, Prepared, Refusal, UnnamedBook, Want, members_begin,
     runners_bring_what_they_have,
 };
+use pair_history::Frame;
 use std::alloc::Global;
 use std::marker::Model;
 use std::test::Fail;
@@ -94,28 +95,53 @@ pub(crate) fn opened<P: Pair>(alloc: Global, book: UnnamedBook) -> Result<Host<P
     })
 }
 
+/// The first bytes of this frame, where there is one.
+pub(crate) fn taken(frame: Option<Frame>) -> Answer {
+    let Some(frame) = frame else {
+        return Answer::None;
+    };
+    let mut bytes = [0; 14];
+    for (byte, taken) in bytes.iter_mut().zip(frame.as_slice()) {
+        *byte = *taken;
+    }
+    Answer::Frame(bytes)
+}
+
+/// What a runner is asked for.
+pub(crate) fn wanted(want: Want) -> Answer {
+    Answer::Want(want.kind, want.generation, want.number)
+}
+
+/// Which checkpoint is acknowledged.
+pub(crate) fn acknowledged(ack: Ack) -> Answer {
+    Answer::Ack(ack.generation, ack.number)
+}
+
 /// This number, where there is one.
-fn number(number: Option<u64>) -> Answer {
+pub(crate) fn number(number: Option<u64>) -> Answer {
     match number {
         Some(number) => Answer::Number(number),
         None => Answer::None,
     }
 }
 
-impl<P: Pair> Host<P> {
-    /// What can be seen of the book: the length of its history, and what its runner is asked for.
-    pub(crate) fn shown(&self) -> (u64, Result<Want, Refusal>) {
-        (self.book.entries(), self.book.ask(&self.runner))
+impl<P: Pair> Plays for Host<P> {
+    fn shown(&mut self) -> Shown {
+        Shown {
+            entries: self.book.entries(),
+            steps: self.second.look(&self.clock),
+            want: self.book.ask(&self.runner),
+            foreseen: self.book.commit_refusal(&self.backup, None),
+        }
     }
 
-    /// What is answered to this call.
-    pub(crate) fn answer(&mut self, call: Call) -> Result<Answer, Refusal> {
+    fn answer(&mut self, call: Call) -> Result<Answer, Refusal> {
         match call {
             Call::Deliver(bytes) => self.deliver(&FRAME[..bytes.min(FRAME.len())]),
             Call::Take => self.take(),
             Call::LoseIn(client, place) => self.lose_in(client, place),
             Call::LoseOut(client, place) => self.lose_out(client, place),
-            Call::Ask => Ok(Answer::Want(self.book.ask(&self.runner)?)),
+            Call::Ask => Ok(wanted(self.book.ask(&self.runner)?)),
             Call::AskNew => self.ask_new(),
             Call::Submit(generation, number) => self.submit_made(generation, number),
             Call::SubmitNone => self.submit(&Prepared::Nothing),
@@ -132,16 +158,15 @@ impl<P: Pair> Host<P> {
             Call::Entries => Ok(Answer::Number(self.book.entries())),
         }
     }
+}
 
+impl<P: Pair> Host<P> {
     fn deliver(&mut self, bytes: &[u8]) -> Result<Answer, Refusal> {
         Ok(Answer::Number(self.book.deliver(&self.clock, &mut self.first, bytes)?))
     }
 
     fn take(&mut self) -> Result<Answer, Refusal> {
-        match self.book.take(&self.clock, &mut self.second)? {
-            Some(_) => Ok(Answer::Frame),
-            None => Ok(Answer::None),
-        }
+        Ok(taken(self.book.take(&self.clock, &mut self.second)?))
     }
 
     fn lose_in(&mut self, client: u64, place: u64) -> Result<Answer, Refusal> {
@@ -162,7 +187,7 @@ impl<P: Pair> Host<P> {
         let Some(runner) = &self.new_runner else {
             return Ok(Answer::NotMade);
         };
-        Ok(Answer::Want(self.book.ask(runner)?))
+        Ok(wanted(self.book.ask(runner)?))
     }
 
     /// The runner submits this, with an epoch of no arrival and no step.
@@ -199,14 +224,14 @@ impl<P: Pair> Host<P> {
 
     fn commit_first(&mut self, read: Option<&Checkpoint>) -> Result<Answer, Refusal> {
         self.is_fresh = false;
-        Ok(Answer::Ack(self.book.commit(&self.clock, &mut self.backup, read)?))
+        Ok(acknowledged(self.book.commit(&self.clock, &mut self.backup, read)?))
     }
 
     fn commit_new(&mut self, read: Option<&Checkpoint>) -> Result<Answer, Refusal> {
         let Some(backup) = &mut self.new_backup else {
             return Ok(Answer::NotMade);
         };
-        Ok(Answer::Ack(self.book.commit(&self.clock, backup, read)?))
+        Ok(acknowledged(self.book.commit(&self.clock, backup, read)?))
     }
 
     fn commit(&mut self, by: By, read: Option<&Checkpoint>) -> Result<Answer, Refusal> {

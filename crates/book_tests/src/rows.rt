@@ -2,9 +2,9 @@
 ghost use Rattle.std.specs.Prelude.{◌≡◌, []};
 ghost use Rattle.pair_history.specs.HistoryState.{start_state};
 
-use crate::hosts::{Host, opened};
+use crate::hosts::opened;
 use growing_history::Pair;
-use pair_book::{Ack, Kind, Loss, Refusal, UnnamedBook, Want};
+use pair_book::{Kind, Loss, Refusal, UnnamedBook, Want};
 use std::alloc::Global;
 use std::marker::Brand;
 use std::process::Abort;
@@ -75,10 +75,13 @@ pub(crate) enum Answer {
     None,
     /// A count, or the number of a frame, a checkpoint or a seat.
     Number(u64),
-    Frame,
+    /// A frame, of these bytes.
+    Frame([u8; 14]),
     Loss(Loss),
-    Want(Want),
-    Ack(Ack),
+    /// The kind that is wanted, with its generation and number.
+    Want(Kind, u64, u64),
+    /// The generation and the number that are acknowledged.
+    Ack(u64, u64),
     Truth(bool),
     Seats([u64; 5]),
     /// The call wasn't made: memory for its checkpoint was refused, or nobody has the seat. No row wants it.
@@ -88,27 +91,34 @@ pub(crate) enum Answer {
 /// A call with its answer.
 pub(crate) type Row = (Call, Result<Answer, Refusal>);
 
-/// What a runner is asked for.
-pub(crate) fn want(kind: Kind, generation: u64, number: u64) -> Answer {
-    Answer::Want(Want {
-        kind,
-        generation,
-        number,
-    })
-}
-
-/// That the checkpoint of this generation and number is committed.
-pub(crate) fn ack(generation: u64, number: u64) -> Answer {
-    Answer::Ack(Ack { generation, number })
-}
-
 /// Whether memory was refused.
 fn is_refused(answer: &Result<Answer, Refusal>) -> bool {
     matches!(answer, Err(Refusal::NoMemory(_)) | Ok(Answer::NotMade))
 }
 
+/// What can be seen of a book by calls that change nothing.
+#[derive(Debug, PartialEq, Eq, Drop)]
+pub(crate) struct Shown {
+    /// The length of the history.
+    pub(crate) entries: u64,
+    /// How many steps the keeper has made.
+    pub(crate) steps: u64,
+    /// What the first runner is asked for.
+    pub(crate) want: Result<Want, Refusal>,
+    /// Why the first backup could commit nothing.
+    pub(crate) foreseen: Option<Refusal>,
+}
+
+/// A pair whose book is called.
+pub(crate) trait Plays {
+    fn shown(&mut self) -> Shown;
+
+    /// What is answered to this call.
+    fn answer(&mut self, call: Call) -> Result<Answer, Refusal>;
+}
+
 /// What is answered to this call. One that is refused memory has changed nothing, and is made once more.
-fn answered<P: Pair, R: Abort>(rt: &R, host: &mut Host<P>, call: Call) -> Result<Answer, Refusal> {
+fn answered<H: Plays, R: Abort>(rt: &R, host: &mut H, call: Call) -> Result<Answer, Refusal> {
     let before = host.shown();
     let first = host.answer(call);
     if !is_refused(&first) {
@@ -119,7 +129,15 @@ fn answered<P: Pair, R: Abort>(rt: &R, host: &mut Host<P>, call: Call) -> Result
 }
 
 /// The calls are made one after another.
-fn play<P: Pair, R: Abort>(
+pub(crate) fn play<H: Plays, R: Abort>(rt: &R, host: &mut H, rows: &[Row]) {
+    for (place, row) in rows.iter().enumerate() {
+        let found = answered(rt, host, row.0);
+        assert_eq!(rt; &found, &row.1, "row {place}");
+    }
+}
+
+/// The same, of a pair whose guest makes no step.
+fn play_still<P: Pair, R: Abort>(
     rt: &R,
     alloc: Global,
     book: UnnamedBook,
@@ -128,10 +146,7 @@ fn play<P: Pair, R: Abort>(
     requires { (book.word ≡ P.word) × (P.start ≡ start_state 1 1 [] book.clients) }
 {
     let mut host = opened::<P>(alloc, book)?;
-    for (place, row) in rows.iter().enumerate() {
-        let found = answered(rt, &mut host, row.0);
-        assert_eq!(rt; &found, &row.1, "row {place}");
-    }
+    play(rt, &mut host, rows);
     Ok(())
 }
 
@@ -145,5 +160,5 @@ pub(crate) fn unnamed(alloc: Global) -> Result<UnnamedBook, Fail> {
 
 /// These calls are made one after another, and are answered so.
 pub(crate) fn answers<R: Abort>(rt: &R, alloc: Global, rows: &[Row]) -> Result<(), Fail> {
-    play::<Brand, R>(rt, alloc, unnamed(alloc)?, rows)
+    play_still::<Brand, R>(rt, alloc, unnamed(alloc)?, rows)
 }
