@@ -1,8 +1,11 @@
 /* Loaded before a program (LD_PRELOAD), it counts the program's calls of malloc, calloc and realloc and refuses one of them: the one whose
-   number, from 1, the environment's REFUSE gives (0: none). At the end the count goes into the file that COUNTED names. */
+   number, from 1, the environment's REFUSE gives (0: none). At the end the count goes into the file that COUNTED names, also where the program
+   ends by _exit, as one does that may have threads. */
 #include <errno.h>
 #include <stdio.h>
 #include <stdlib.h>
+#include <sys/syscall.h>
+#include <unistd.h>
 
 void *__libc_malloc(size_t size);
 void *__libc_calloc(size_t count, size_t size);
@@ -51,4 +54,11 @@ void *calloc(size_t count, size_t size)
 void *realloc(void *old, size_t size)
 {
     return is_refused() ? NULL : __libc_realloc(old, size);
+}
+
+void _exit(int status)
+{
+    end();
+    for (;;)
+        syscall(SYS_exit_group, status);
 }
