@@ -8,6 +8,8 @@
 
 #include "../lib/virtio.h"
 
+#include <string.h>
+
 #define NETWORK_DEVICE 1
 #define RECEIVE 0
 #define TRANSMIT 1
@@ -21,6 +23,12 @@
 static struct queue receive, transmit;
 static u8 buffers[QUEUE_SIZE][BUFFER] __attribute__((aligned(16)));
 static const u8 header[HEADER];
+
+/* Frames that came wait here for the stack, in a ring: of each its length, in two bytes, and then the frame. The card has 64 buffers, and
+   loses what finds none; eight clients that ask for much have several hundred acknowledgements on their way. */
+#define ROOM (128u * 1024)
+static u8 waiting[ROOM];
+static u32 came, taken; /* bytes, since the start: ROOM divides 2^32, by which they wrap */
 
 static void describe(struct queue *queue, u16 i, const void *at, u32 length, u16 flags) {
     struct descriptor *descriptor = &queue->descriptors[i];
@@ -53,23 +61,46 @@ static err_t send(struct netif *netif, struct pbuf *frame) {
     return ERR_OK;
 }
 
-/* Copies a frame out of its buffer for the stack. One for which the stack has no room is lost, as on a line. */
-static void take_in(struct netif *netif, const u8 *frame, u32 length) {
-    struct pbuf *copy = pbuf_alloc(PBUF_RAW, (u16_t)length, PBUF_POOL);
-    if (copy == NULL)
-        return;
-    pbuf_take(copy, frame, (u16_t)length);
-    if (netif->input(copy, netif) != ERR_OK)
-        pbuf_free(copy);
+static void put(const void *from, u32 count) {
+    u32 at = came % ROOM, first = LWIP_MIN(count, ROOM - at);
+    memcpy(waiting + at, from, first);
+    memcpy(waiting, (const u8 *)from + first, count - first);
+    came += count;
 }
 
+static void take(void *to, u32 count) {
+    u32 at = taken % ROOM, first = LWIP_MIN(count, ROOM - at);
+    memcpy(to, waiting + at, first);
+    memcpy((u8 *)to + first, waiting, count - first);
+    taken += count;
+}
+
+/* Moves frames out of the card's buffers into the ring, as long as it has room for any. */
+static void collect(void) {
+    while (has_used(&receive) && ROOM - (came - taken) >= sizeof(u16) + BUFFER) {
+        struct used_entry entry = take_used(&receive);
+        u16 i = (u16)entry.id, length = (u16)(entry.length - HEADER);
+        put(&length, sizeof length);
+        put(buffers[i] + HEADER, length);
+        give_to_receive(i);
+    }
+}
+
+/* A frame fits into one buffer of the stack. Where the stack has none it is lost, as on a line. */
 void network_poll(struct netif *netif) {
-    if (!has_used(&receive))
+    u16 length;
+    collect();
+    if (came == taken)
         return;
-    struct used_entry entry = take_used(&receive);
-    u16 i = (u16)entry.id;
-    take_in(netif, buffers[i] + HEADER, entry.length - HEADER);
-    give_to_receive(i);
+    take(&length, sizeof length);
+    struct pbuf *frame = pbuf_alloc(PBUF_RAW, length, PBUF_POOL);
+    if (frame == NULL) {
+        taken += length;
+        return;
+    }
+    take(frame->payload, length);
+    if (netif->input(frame, netif) != ERR_OK)
+        pbuf_free(frame);
 }
 
 err_t network_start(struct netif *netif) {
