@@ -1,4 +1,4 @@
-"""`tools/serve` as tests and measurements start it."""
+"""`tools/serve` and a browser as tests, measurements and demo/screenshot start them."""
 import os
 import socket
 import subprocess
@@ -20,6 +20,12 @@ def free_port(kind=socket.SOCK_STREAM):
     with socket.socket(socket.AF_INET, kind) as any_socket:
         any_socket.bind(("127.0.0.1", 0))
         return any_socket.getsockname()[1]
+
+
+def chromium(folder, *options, size=(800, 500)):
+    """The command of a browser without a screen, whose settings lie in a folder; its window has so many pixels across and down."""
+    return ["chromium", "--headless", "--no-sandbox", "--disable-gpu", "--hide-scrollbars", f"--user-data-dir={folder}",
+            f"--window-size={size[0]},{size[1]}", *options]
 
 
 class Served:
