@@ -62,6 +62,11 @@ fn a_runner_held_at_step_0_is_stopped(rt: HostRuntime) -> Result<(), Fail> {
 }
 
 #[test]
+fn a_runner_held_at_step_10_is_stopped(rt: HostRuntime) -> Result<(), Fail> {
+    outlive::<Brand, _>(&rt, rt.alloc(), beacon_pair(rt.alloc())?, 10)
+}
+
+#[test]
 fn a_runner_held_at_step_21_is_stopped(rt: HostRuntime) -> Result<(), Fail> {
     outlive::<Brand, _>(&rt, rt.alloc(), beacon_pair(rt.alloc())?, 21)
 }
