@@ -44,7 +44,7 @@ seconds() {
 }
 
 guest() {
-    local count=50000000
+    local count=200000000
     for loop in arithmetic memory branches sha256; do
         local words=bench/loops/$loop.words sim=1e9 run=1e9 paced=1e9
         { printf 'boot 64 1 1 words ' && cat "$words" && printf 'step %s\n' "$count"; } >"$folder/script"
