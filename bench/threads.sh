@@ -9,7 +9,7 @@
 #   what a client's take needs while they are made, beside while the guest runs. The middle ratio of three turns.
 # clients: calls of 16 clients at once while epochs run, beside those of a pair in plain Rust with one mutex (`interpreter threads`). The
 #   middle ratio of nine turns.
-# memory: the most memory after 100,000 epochs beside that after 10,000: the difference an epoch, beside an entry's 32 bytes.
+# memory: the most memory after 100,000 epochs beside that after 10,000. The steps of all of them are one stored entry of the history.
 # REMUS names another program in the place of the repository's own.
 set -eu
 cd "$(dirname "$0")/.."
@@ -117,20 +117,23 @@ clients() {
         "$(awk '{ print $2 }' "$folder/ratios" | middle)" "$(awk '{ print $3 }' "$folder/ratios" | middle)"
 }
 
-# The most memory that a command takes, in bytes, and after it what it prints.
+# The most memory that a command takes, in bytes, and after it what it prints. It is read from the system until the command ends, since what
+# the system tells after the end has the memory of the process that started the command in it.
 most_memory() {
-    python3 -c 'import resource, subprocess, sys
-text = subprocess.run(sys.argv[1:], stdout=subprocess.PIPE, check=True, text=True).stdout
-print(resource.getrusage(resource.RUSAGE_CHILDREN).ru_maxrss * 1024, text.strip())' "$@"
+    python3 -c 'import re, subprocess, sys
+process, most = subprocess.Popen(sys.argv[1:], stdout=subprocess.PIPE, text=True), 0
+while found := re.search(r"VmHWM:\s*(\d+) kB", open(f"/proc/{process.pid}/status").read()):
+    most = int(found[1])
+text = process.communicate()[0]
+print(most * 1024, text.strip())
+sys.exit(process.returncode)' "$@"
 }
 
 memory() {
     page_writer 1 >"$folder/image"
     { most_memory "$bench" epochs "$folder/image" 16 1 100 10000 && most_memory "$bench" epochs "$folder/image" 16 1 100 100000; } |
-        awk '{ bytes[NR] = $1; entries[NR] = $2 } END {
-            each = (bytes[2] - bytes[1]) / 90000
-            printf "memory: %.1f MB after 10,000 epochs, %.1f MB after 100,000; ", bytes[1] / 1e6, bytes[2] / 1e6
-            printf "%.0f bytes an epoch, beside the 32 of its one stored entry, ratio %.2f\n", each, each / 32 }'
+        awk '{ bytes[NR] = $1 } END {
+            printf "memory: %.2f MB after 10,000 epochs, %.2f MB after 100,000, ratio %.2f\n", bytes[1] / 1e6, bytes[2] / 1e6, bytes[2] / bytes[1] }'
 }
 
 [ $# -gt 0 ] || set -- guest calls members clients memory
