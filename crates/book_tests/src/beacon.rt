@@ -138,6 +138,19 @@ fn a_history_has_no_more_numbers(rt: HostRuntime) -> Result<(), Fail> {
     answers(&rt, rt.alloc(), MOST_STEPS, &ROWS)
 }
 
+/// 64 deliveries fill the inbox and take the last numbers of the history: one more is Exhausted before it is Full.
+#[test]
+fn a_full_inbox_has_no_more_numbers(rt: HostRuntime) -> Result<(), Fail> {
+    let mut rows = Vec::new(rt.alloc());
+    for number in 1..=64 {
+        rows.push((Call::Deliver(14), Ok(Answer::Number(number))))?;
+    }
+    rows.push((Call::Deliver(14), Err(Refusal::Exhausted)))?;
+    rows.push((Call::Deliver(13), Err(Refusal::BadFrame)))?;
+    rows.push((Call::Entries, Ok(Answer::Number(NUMBER_LIMIT - 1))))?;
+    answers(&rt, rt.alloc(), MOST_STEPS - 56, rows.as_slice())
+}
+
 /// A node that is alone has no numbers for an epoch with what may be handed out after it, and calls of its client take the last ones.
 #[test]
 fn a_lone_history_has_no_more_numbers(rt: HostRuntime) -> Result<(), Fail> {
