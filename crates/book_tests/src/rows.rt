@@ -4,7 +4,7 @@ ghost use Rattle.pair_history.specs.HistoryState.{start_state};
 
 use crate::hosts::{Host, opened};
 use growing_history::Pair;
-use pair_book::{Ack, Kind, Loss, Refusal, UnnamedBook, Want};
+use pair_book::{Kind, Loss, Refusal, UnnamedBook, Want};
 use std::alloc::Global;
 use std::marker::Brand;
 use std::process::Abort;
@@ -33,8 +33,8 @@ pub(crate) enum Read {
 pub(crate) enum Call {
     /// The first client delivers a frame, cut to so many bytes.
     Deliver(usize),
-    /// The second client takes.
-    Take,
+    /// This client takes: the first one, or else the second.
+    Take(u64),
     /// The line is to lose the frame at this place of this client's inbox.
     LoseIn(u64, u64),
     /// And of its box.
@@ -75,36 +75,58 @@ pub(crate) enum Answer {
     None,
     /// A count, or the number of a frame, a checkpoint or a seat.
     Number(u64),
+    /// The frame that the beacon sends.
+    Beacon,
+    /// Another frame. No row wants it.
     Frame,
     Loss(Loss),
-    Want(Want),
-    Ack(Ack),
+    /// The kind that is wanted, with its generation and number.
+    Want(Kind, u64, u64),
+    /// The generation and the number that are acknowledged.
+    Ack(u64, u64),
     Truth(bool),
     Seats([u64; 5]),
     /// The call wasn't made: memory for its checkpoint was refused, or nobody has the seat. No row wants it.
     NotMade,
 }
 
+/// What the beacon sends: from the guest to client 1.
+pub(crate) const BEACON: [u8; 14] = [2, 0, 0, 0, 1, 1, 2, 0, 0, 0, 0, 1, 0x88, 0xb5];
+
 /// A call with its answer.
 pub(crate) type Row = (Call, Result<Answer, Refusal>);
-
-/// What a runner is asked for.
-pub(crate) fn want(kind: Kind, generation: u64, number: u64) -> Answer {
-    Answer::Want(Want {
-        kind,
-        generation,
-        number,
-    })
-}
-
-/// That the checkpoint of this generation and number is committed.
-pub(crate) fn ack(generation: u64, number: u64) -> Answer {
-    Answer::Ack(Ack { generation, number })
-}
 
 /// Whether memory was refused.
 fn is_refused(answer: &Result<Answer, Refusal>) -> bool {
     matches!(answer, Err(Refusal::NoMemory(_)) | Ok(Answer::NotMade))
+}
+
+/// What can be seen of a book by calls that change nothing.
+#[derive(Clone, Copy, Debug, PartialEq, Eq)]
+pub(crate) struct Shown {
+    /// The length of the history.
+    pub(crate) entries: u64,
+    /// How many steps the keeper has made.
+    pub(crate) steps: u64,
+    /// What the first runner is asked for; none where it is refused.
+    pub(crate) want: Option<Want>,
+    /// Whether the first backup is the live one, and no node is alone.
+    pub(crate) may_commit: bool,
+}
+
+/// The book shows what it showed before.
+fn assert_unchanged<R: Abort>(rt: &R, found: Shown, before: Shown) {
+    assert!(rt; found == before, "what was refused memory changed the book");
+}
+
+/// A call was answered as the row at this place says.
+fn assert_answer<R: Abort>(
+    rt: &R,
+    found: &Result<Answer, Refusal>,
+    wanted: &Result<Answer, Refusal>,
+    place: usize,
+) {
+    assert_eq!(rt; found, wanted, "row {place}");
 }
 
 /// What is answered to this call. One that is refused memory has changed nothing, and is made once more.
@@ -114,12 +136,25 @@ fn answered<P: Pair, R: Abort>(rt: &R, host: &mut Host<P>, call: Call) -> Result
     if !is_refused(&first) {
         return first;
     }
-    assert_eq!(rt; host.shown(), before);
+    assert_unchanged(rt, host.shown(), before);
     host.answer(call)
 }
 
+/// One row is played.
+fn play_row<P: Pair, R: Abort>(rt: &R, host: &mut Host<P>, row: &Row, place: usize) {
+    let found = answered(rt, host, row.0);
+    assert_answer(rt, &found, &row.1, place);
+}
+
 /// The calls are made one after another.
-fn play<P: Pair, R: Abort>(
+pub(crate) fn play<P: Pair, R: Abort>(rt: &R, host: &mut Host<P>, rows: &[Row]) {
+    for (place, row) in rows.iter().enumerate() {
+        play_row(rt, host, row, place);
+    }
+}
+
+/// The same, of a pair whose guest makes no step.
+fn play_still<P: Pair, R: Abort>(
     rt: &R,
     alloc: Global,
     book: UnnamedBook,
@@ -128,10 +163,7 @@ fn play<P: Pair, R: Abort>(
     requires { (book.word ≡ P.word) × (P.start ≡ start_state 1 1 [] book.clients) }
 {
     let mut host = opened::<P>(alloc, book)?;
-    for (place, row) in rows.iter().enumerate() {
-        let found = answered(rt, &mut host, row.0);
-        assert_eq!(rt; &found, &row.1, "row {place}");
-    }
+    play(rt, &mut host, rows);
     Ok(())
 }
 
@@ -145,5 +177,5 @@ pub(crate) fn unnamed(alloc: Global) -> Result<UnnamedBook, Fail> {
 
 /// These calls are made one after another, and are answered so.
 pub(crate) fn answers<R: Abort>(rt: &R, alloc: Global, rows: &[Row]) -> Result<(), Fail> {
-    play::<Brand, R>(rt, alloc, unnamed(alloc)?, rows)
+    play_still::<Brand, R>(rt, alloc, unnamed(alloc)?, rows)
 }
