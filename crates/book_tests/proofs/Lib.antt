@@ -1,3 +1,4 @@
+pub mod EpochOfSteps
 pub mod MadeAtStart
 pub mod CallsInTurn
 pub mod HostLaws

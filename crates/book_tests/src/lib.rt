@@ -3,6 +3,8 @@
 #![tactic(auto)]
 
 #[cfg(test)]
+mod beacon;
+#[cfg(test)]
 mod calls;
 #[cfg(test)]
 mod hosts;

@@ -1,5 +1,5 @@
-//! Each refusal of a call stands in its place: a row meets two of them at once, and the earlier one is answered. No row meets
-//! Exhausted.
+//! Each refusal of a call stands in its place: a row meets two of them at once, and the earlier one is answered. The tests of
+//! [`crate::beacon`] meet Exhausted.
 use crate::rows::{Answer, By, Call, Read, Row, answers};
 use pair_book::Refusal;
 use std::test::*;
