@@ -66,7 +66,7 @@ impl<P: Pair> Client<P> {
         ensures refused { IfErr result (λ why. AfterRefusedDelivery P.start (record { items = bytes.now }) why self.old self.new) }
     {
         let shared = &*self.shared;
-        let mut held = shared.book.lock(rt);
+        let mut held = shared.hold(rt);
         self.seat.deliver(&mut *held, &shared.clock, bytes)
     }
 
@@ -83,7 +83,7 @@ impl<P: Pair> Client<P> {
         ensures refused { IfErr result (λ _. self.new ≡ self.old) }
     {
         let shared = &*self.shared;
-        let mut held = shared.book.lock(rt);
+        let mut held = shared.hold(rt);
         self.seat.take(&mut *held, &shared.clock)
     }
 

@@ -83,7 +83,7 @@ impl<P: Pair> Loss<P> {
         ensures refused { IfErr result (λ _. self.new ≡ self.old) }
     {
         let shared = &*self.shared;
-        let mut held = shared.book.lock(rt);
+        let mut held = shared.hold(rt);
         lose_in(&mut *held, &shared.clock, &mut self.line, client, place)
     }
 
@@ -98,7 +98,7 @@ impl<P: Pair> Loss<P> {
         ensures refused { IfErr result (λ _. self.new ≡ self.old) }
     {
         let shared = &*self.shared;
-        let mut held = shared.book.lock(rt);
+        let mut held = shared.hold(rt);
         lose_out(&mut *held, &shared.clock, &mut self.line, client, place)
     }
 }

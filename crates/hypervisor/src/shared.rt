@@ -4,7 +4,13 @@ ghost use Rattle.pair_history.specs.Reached.{IsReached};
 use growing_history::{Clock, Pair};
 use pair_book::Book;
 use std::marker::Model;
-use std::sync::Mutex;
+use std::sync::{Mutex, MutexGuard, Wait};
+use std::thread::yield_now;
+
+/// How often a client looks whether the book is free, and lets other threads run in between, before it sleeps until it is. Enough that
+/// clients who call at once seldom sleep; and bounded, since a thread that has the book may be stopped for long, and then looking takes a
+/// processor and brings nothing.
+const LOOKS: u32 = 100;
 
 /// The word that counts the steps of the book's keeper, which anyone may look at, and the book, which one thread has at a time. Contracts
 /// see where the history starts.
@@ -34,6 +40,19 @@ impl<P: Pair> Shared<P> {
             clock,
             book: Mutex::new(book),
         }
+    }
+
+    /// The book, which is the caller's until the guard is dropped. So the clients take it, who may be many and call at once, and who loses
+    /// frames: they keep it for less than a microsecond, and a sleep and a wake take ten. The other members wait in `lock`, and are served
+    /// too: to a thread that has slept twice in vain the mutex leaves the book before any that only looks.
+    pub(crate) fn hold<R: Wait>(&self, rt: &R) -> MutexGuard<'_, Book<P>> {
+        for _ in 0..LOOKS {
+            if let Some(held) = self.book.try_lock() {
+                return held;
+            }
+            yield_now();
+        }
+        self.book.lock(rt)
     }
 
     /// What is true of every pair is true of this one.
