@@ -67,8 +67,8 @@ module _ (start : HistoryState) (clients : ℕ) (book : Unnamed) (machine : Stat
   guest-is : start.guest ≡ image.guest
   guest-is = ap (λ (s : HistoryState). s.guest) is
 
-  pub machine-is : machine.guest ≡ start.guest
-  machine-is = ap (λ (m : State). m.guest) h.settled ∙ sym guest-is
+  pub settled-is : machine ≡ settled_machine image.shape start.guest
+  settled-is = h.settled ∙ ap (λ (g : Guest). settled_machine image.shape g) (sym guest-is)
 
   pub image-is : image ≡ first_image image.shape start.guest
   image-is = h.first ∙ ap (λ (g : Guest). first_image image.shape g) (sym guest-is)

@@ -1,5 +1,5 @@
 //! A pair at its start: its members, with what they share.
-ghost use Rattle.std.specs.Prelude.{◌≡◌, ◌≤◌, ◌*◌, [], IfOk, length};
+ghost use Rattle.std.specs.Prelude.{◌≡◌, ◌≤◌, ◌*◌, [], IfOk, Ok, length};
 ghost use Rattle.frame_ports.specs.Limits.{max_clients};
 ghost use Rattle.growing_history.specs.LogState.{first_runner, first_backup, line_seat};
 ghost use Rattle.pair_book.specs.Books.{start_book};
@@ -24,7 +24,7 @@ use crate::warden::Warden;
 use backup_image::Image;
 use growing_history::{BackupSeat, Clock, Pair, RunnerSeat, steps_go_on};
 use guest_machine::{Machine, Shape};
-use pair_book::{NewBook, UnnamedBook, members_begin};
+use pair_book::{LineSeat, Members, NewBook, UnnamedBook, members_begin};
 use pair_history::reached_states;
 use std::alloc::{AllocError, Global};
 use std::marker::Model;
@@ -61,17 +61,59 @@ pub struct Parts<P: Pair> {
     pub loss: Loss<P>,
 }
 
-/// What is opened of a pair's book: the members who have all that they need, and for the others a handle of what all share, and their seats.
+/// A handle of what all members share for each of those that aren't clients.
+#[derive(Drop)]
+struct Handles<P: Pair> {
+    runner: Arc<Shared<P>>,
+    sender: Arc<Shared<P>>,
+    backup: Arc<Shared<P>>,
+    warden: Arc<Shared<P>>,
+    loss: Arc<Shared<P>>,
+}
+
+/// What is opened of a pair's book: the clients, and for the others their handles and seats.
 #[derive(Drop)]
 struct Opened<P: Pair> {
     clients: Vec<Client<P>>,
-    sender: Sender<P>,
-    loss: Loss<P>,
-    for_runner: Arc<Shared<P>>,
-    for_backup: Arc<Shared<P>>,
-    for_warden: Arc<Shared<P>>,
+    handles: Handles<P>,
     runner: RunnerSeat<P>,
     backup: BackupSeat<P>,
+    line: LineSeat<P>,
+}
+
+/// Both of these, where neither was refused. One that is there alone is let go of here, where its type is a parameter: at each `?` beside
+/// a large value, as a machine, the proof would go over every part of it.
+fn both<A: Drop, B: Drop>(
+    one: Result<A, AllocError>,
+    other: Result<B, AllocError>,
+) -> Result<(A, B), AllocError>
+    ensures { IfOk result (λ r. (one ≡ Ok r.0) × (other ≡ Ok r.1)) }
+{
+    let one = one?;
+    let other = other?;
+    Ok((one, other))
+}
+
+/// The machine of the guest at boot.
+fn boot_machine(alloc: Global, shape: Shape, image: &[u8]) -> Result<Machine, AllocError>
+    requires { length image.now ≤ page_bytes * shape.pages }
+    ensures { IfOk result (λ m. m ≡ settled_machine shape (boot_guest shape.pages shape.sectors image.now)) }
+{
+    match Machine::boot(alloc, shape, image) {
+        Ok(machine) => Ok(machine),
+        Err(_) => Err(AllocError),
+    }
+}
+
+/// The backup's image of the guest at boot.
+fn boot_image(alloc: Global, shape: Shape, image: &[u8]) -> Result<Image, AllocError>
+    requires { length image.now ≤ page_bytes * shape.pages }
+    ensures { IfOk result (λ i. i ≡ first_image shape (boot_guest shape.pages shape.sectors image.now)) }
+{
+    match Image::boot(alloc, shape, image) {
+        Ok(image) => Ok(image),
+        Err(_) => Err(AllocError),
+    }
 }
 
 /// Gives out the clients' seats, client 1's first.
@@ -109,6 +151,47 @@ fn seated<P: Pair>(
     Ok(clients)
 }
 
+/// Gives each member that isn't a client its handle.
+fn handles_of<P: Pair>(shared: Arc<Shared<P>>) -> Result<Handles<P>, AllocError> {
+    Ok(Handles {
+        runner: Arc::try_clone(&shared)?,
+        sender: Arc::try_clone(&shared)?,
+        backup: Arc::try_clone(&shared)?,
+        warden: Arc::try_clone(&shared)?,
+        loss: shared,
+    })
+}
+
+/// Gives out the clients' seats, and then shares the book with these clients and with the others.
+fn share<P: Pair>(
+    alloc: Global,
+    clock: Clock<P>,
+    mut book: NewBook<P>,
+    clients: u64,
+) -> Result<(Vec<Client<P>>, Handles<P>), AllocError>
+    requires start { book ≡ start_book clients line_seat }
+    requires reached { IsReached P.start }
+    ensures { IfOk result (λ r. r.0.items ≡ new_clients clients) }
+{
+    let seats = client_seats(alloc, &clock, &mut book, clients);
+    let (seats, shared) = both(seats, shared_book(alloc, clock, book))?;
+    let clients = seated(alloc, &shared, seats);
+    both(clients, handles_of(shared))
+}
+
+/// Opens the book, which all members share from here on.
+fn shared_book<P: Pair>(
+    alloc: Global,
+    clock: Clock<P>,
+    book: NewBook<P>,
+) -> Result<Arc<Shared<P>>, AllocError>
+    requires reached { IsReached P.start }
+{
+    let book = book.open(&clock);
+    let shared = Arc::new(alloc, Shared::new(clock, book))?;
+    Ok(shared)
+}
+
 /// Opens the book, and gives out its seats.
 fn open_book<P: Pair>(
     alloc: Global,
@@ -120,24 +203,25 @@ fn open_book<P: Pair>(
     requires reached { IsReached P.start }
     requires count { clients ≡ book.clients }
     ensures clients { IfOk result (λ o. AreNew P.start book.clients o.clients.items) }
-    ensures loss { IfOk result (λ o. o.loss ≡ []) }
     ensures runner { IfOk result (λ o. o.runner ≡ unseen first_runner) }
     ensures backup { IfOk result (λ o. o.backup ≡ unseen first_backup) }
+    ensures line { IfOk result (λ o. o.line ≡ unseen line_seat) }
 {
     steps_go_on();
-    let mut members = book.named::<P>();
-    let seats = client_seats(alloc, &members.clock, &mut members.book, clients)?;
-    let book = members.book.open(&members.clock);
-    let shared = Arc::new(alloc, Shared::new(members.clock, book))?;
+    let Members {
+        clock,
+        book,
+        runner,
+        backup,
+        line,
+    } = book.named::<P>();
+    let (clients, handles) = share(alloc, clock, book, clients)?;
     Ok(Opened {
-        clients: seated(alloc, &shared, seats)?,
-        sender: Sender::of(Arc::try_clone(&shared)?),
-        for_runner: Arc::try_clone(&shared)?,
-        for_backup: Arc::try_clone(&shared)?,
-        for_warden: Arc::try_clone(&shared)?,
-        loss: Loss::of(shared, members.line),
-        runner: members.runner,
-        backup: members.backup,
+        clients,
+        handles,
+        runner,
+        backup,
+        line,
     })
 }
 
@@ -174,6 +258,44 @@ fn first_backup<P: Pair>(
     Backup::new(alloc, shared, image, seat)
 }
 
+/// The members of a pair of which nothing has happened yet: the runner of this machine, and the backup of this image.
+fn members<P: Pair>(
+    alloc: Global,
+    opened: Opened<P>,
+    machine: Machine,
+    image: Image,
+    shape: Shape,
+) -> Parts<P>
+    requires runner { opened.runner ≡ unseen first_runner }
+    requires backup { opened.backup ≡ unseen first_backup }
+    requires line { opened.line ≡ unseen line_seat }
+    requires guest { machine ≡ settled_machine image.shape P.start.guest }
+    requires image { image ≡ first_image image.shape P.start.guest }
+    requires shape { shape ≡ image.shape }
+    requires sized { IsShape P.start image.shape }
+    ensures clients { result.clients.items ≡ opened.clients.items }
+    ensures loss { result.loss ≡ [] }
+    ensures runner { result.runner ≡ new_runner machine (unseen first_runner) }
+    ensures backup { result.backup ≡ new_backup image (unseen first_backup) }
+    ensures warden { result.warden ≡ shape }
+{
+    let Opened {
+        clients,
+        handles,
+        runner,
+        backup,
+        line,
+    } = opened;
+    Parts {
+        clients,
+        runner: first_runner(alloc, handles.runner, machine, runner),
+        sender: Sender::of(handles.sender),
+        backup: first_backup(alloc, handles.backup, image, backup),
+        warden: Warden::of(alloc, handles.warden, shape),
+        loss: Loss::of(handles.loss, line),
+    }
+}
+
 impl UnnamedPair {
     /// A pair of so many clients, with a guest of this shape at boot: the image's bytes stand at the start of its memory. They fit in it, as
     /// the caller knows.
@@ -194,13 +316,10 @@ impl UnnamedPair {
         ensures shape { IfOk result (λ p. p.shape ≡ shape) }
         ensures guest { IfOk result (λ p. p.guest ≡ boot_guest shape.pages shape.sectors image.now) }
     {
-        let book = UnnamedBook::new(alloc, clients)?;
-        let Ok(machine) = Machine::boot(alloc, shape, image) else {
-            return Err(AllocError);
-        };
-        let Ok(image) = Image::boot(alloc, shape, image) else {
-            return Err(AllocError);
-        };
+        let book = UnnamedBook::new(alloc, clients);
+        let machine = boot_machine(alloc, shape, image);
+        let image = boot_image(alloc, shape, image);
+        let (book, (machine, image)) = both(book, both(machine, image))?;
         Ok(UnnamedPair {
             alloc,
             book,
@@ -234,14 +353,12 @@ impl UnnamedPair {
             clients,
         } = self;
         let shape = image.shape();
-        let opened = open_book::<P>(alloc, book, clients)?;
-        Ok(Parts {
-            clients: opened.clients,
-            runner: first_runner(alloc, opened.for_runner, machine, opened.runner),
-            sender: opened.sender,
-            backup: first_backup(alloc, opened.for_backup, image, opened.backup),
-            warden: Warden::of(alloc, opened.for_warden, shape),
-            loss: opened.loss,
-        })
+        let Ok(opened) = open_book::<P>(alloc, book, clients) else {
+            // By calls, as in `both`.
+            drop(machine);
+            drop(image);
+            return Err(AllocError);
+        };
+        Ok(members(alloc, opened, machine, image, shape))
     }
 }

@@ -1,7 +1,7 @@
 use Rattle.std.proofs.Common.{rules, ◌≡◌, ◌*◌, length, sym, ap, ◌∙◌, subst}
 use Rattle.guest_machine.specs.declared.shapes.Shape.{Shape}
 use Rattle.hypervisor.specs.Opening.{UnnamedState, start_with}
-use Rattle.hypervisor.proofs.OpeningLaws.{boots, reached, machine-is, image-is, first-shape}
+use Rattle.hypervisor.proofs.OpeningLaws.{boots, reached, settled-is, image-is, first-shape}
 use Rattle.hypervisor.proofs.boot.UnnamedPair.named.Goals as goal
 
 pub open_book-requires-clause-start : goal.open_book-requires-clause-start
@@ -15,18 +15,18 @@ open_book-requires-clause-reached g c =
     reached g.P.Pair.start c.self.inside.clients c.self.inside.book c.self.inside.machine c.self.inside.image c.self.invariant is
     c.reached_states.ensures.start
 
-pub first_runner-requires-clause-guest : goal.first_runner-requires-clause-guest
-first_runner-requires-clause-guest g c =
+pub members-requires-clause-guest : goal.members-requires-clause-guest
+members-requires-clause-guest g c =
     let is = c.requires.start ∙ ap (λ (u : UnnamedState). start_with u.guest u.clients) (sym c.self.view_is) in
-    machine-is g.P.Pair.start c.self.inside.clients c.self.inside.book c.self.inside.machine c.self.inside.image c.self.invariant is
+    settled-is g.P.Pair.start c.self.inside.clients c.self.inside.book c.self.inside.machine c.self.inside.image c.self.invariant is
 
-pub first_backup-requires-clause-image : goal.first_backup-requires-clause-image
-first_backup-requires-clause-image g c =
+pub members-requires-clause-image : goal.members-requires-clause-image
+members-requires-clause-image g c =
     let is = c.requires.start ∙ ap (λ (u : UnnamedState). start_with u.guest u.clients) (sym c.self.view_is) in
     image-is g.P.Pair.start c.self.inside.clients c.self.inside.book c.self.inside.machine c.self.inside.image c.self.invariant is
 
-pub first_backup-requires-clause-shape : goal.first_backup-requires-clause-shape
-first_backup-requires-clause-shape g c =
+pub members-requires-clause-sized : goal.members-requires-clause-sized
+members-requires-clause-sized g c =
     let is = c.requires.start ∙ ap (λ (u : UnnamedState). start_with u.guest u.clients) (sym c.self.view_is) in
     let image = c.self.inside.image in
     first-shape g.P.Pair.start c.self.inside.clients c.self.inside.book c.self.inside.machine image c.self.invariant is
