@@ -1,21 +1,24 @@
 //! The backup: it reads the checkpoints that come, and has the image of the last commit.
-ghost use Rattle.std.specs.Prelude.{◌≡◌, ◌<◌, ◌≤◌, false, length, option_map, All, IfOk, OnOk, IfErr, IsSome, IfSome, None};
+ghost use Rattle.std.specs.Prelude.{◌≡◌, ◌<◌, ◌≤◌, false, length, option_map, [], All, IfOk, OnOk, IfErr, OnErr, IsSome, IfSome, None};
 ghost use Rattle.std.specs.List.{Contains};
+ghost use Rattle.backup_image.specs.Images.{settled_machine};
 ghost use Rattle.checkpoint_stream.specs.Readings.{is_closed};
 ghost use Rattle.pair_book.specs.Commits.{WasRead};
 ghost use Rattle.pair_book.specs.Made.{IsShape};
+ghost use Rattle.pair_book.specs.Settled.{just_settled, Runs};
 ghost use Rattle.hypervisor.specs.Backups.{new_backup, StandsWith, HasHistorysGuest};
 ghost use Rattle.hypervisor.specs.Commits.{Commits, IsWhyCommit, AfterRefusedCommit, gives_up};
 ghost use Rattle.hypervisor.specs.Feeding.{Feeds};
-ghost use Rattle.hypervisor.specs.GoingLive.{BecomesLive, live_refusals};
+ghost use Rattle.hypervisor.specs.GoingLive.{BecomesLive, GoesLiveWith, live_refusals};
+ghost use Rattle.hypervisor.specs.Runners.{new_runner};
 
 use crate::backup_calls::{Committed, commit, go_live, take_in};
 use crate::runner::Runner;
 use crate::shared::Shared;
-use backup_image::Image;
+use backup_image::{Image, Resumed};
 use checkpoint_stream::{Reader, StreamError, read_is_its_text};
 use epoch_snapshot::Checkpoint;
-use growing_history::{BackupSeat, Pair};
+use growing_history::{BackupSeat, Pair, RunnerSeat};
 use pair_book::{Ack, Refusal};
 use std::alloc::Global;
 use std::marker::Model;
@@ -178,19 +181,13 @@ impl<P: Pair> Backup<P> {
             read,
             mut seat,
         } = self;
-        // The texts that were pending are given back after the lock.
-        let (answer, _texts) = {
-            let mut held = shared.book.lock(rt);
-            let texts = held.keep_texts();
-            let answer = go_live(&mut *held, &shared.clock, &mut seat, &image);
-            (answer, texts)
-        };
-        match answer {
+        match goes_live(rt, &shared, &mut seat, &image) {
             Ok(runner) => {
-                let Ok(resumed) = image.resume() else {
-                    unreachable!();
-                };
-                Ok(Runner::new(alloc, shared, resumed.machine, runner))
+                // All that only a backup has is let go, by calls: else the proof would go over every part of it here.
+                drop(reader);
+                drop(read);
+                drop(seat);
+                Ok(resumed(alloc, shared, image, runner))
             }
             Err(why) => Err((
                 Backup {
@@ -203,6 +200,49 @@ impl<P: Pair> Backup<P> {
                 why,
             )),
         }
+    }
+}
+
+/// The backup of this seat and this image goes live at the book.
+fn goes_live<P: Pair, R: Wait>(
+    rt: &R,
+    shared: &Shared<P>,
+    seat: &mut BackupSeat<P>,
+    image: &Image,
+) -> Result<RunnerSeat<P>, Refusal>
+    requires stands { StandsWith P.start seat.old image.now }
+    ensures live { IfOk result (GoesLiveWith P.start image.now seat.old) }
+    ensures why { IfErr result (Contains live_refusals) }
+    ensures refused { OnErr result (seat.new ≡ seat.old) }
+{
+    // The texts that were pending are given back after the lock.
+    let (answer, _texts) = {
+        let mut held = shared.book.lock(rt);
+        let texts = held.keep_texts();
+        let answer = go_live(&mut *held, &shared.clock, seat, image);
+        (answer, texts)
+    };
+    answer
+}
+
+/// The runner that goes on with this image's guest.
+fn resumed<P: Pair>(
+    alloc: Global,
+    shared: Arc<Shared<P>>,
+    image: Image,
+    seat: RunnerSeat<P>,
+) -> Runner<P>
+    requires some { IsSome image.stands_at }
+    requires shape { IsShape P.start image.shape }
+    requires runs { Runs P.start seat (just_settled image.guest []) }
+    ensures { result ≡ new_runner (settled_machine image.shape image.guest) seat }
+{
+    match image.resume() {
+        Ok(Resumed { machine, kept }) => {
+            drop(kept);
+            Runner::new(alloc, shared, machine, seat)
+        }
+        Err(_) => unreachable!(),
     }
 }
 

@@ -171,10 +171,17 @@ impl<P: Pair> Warden<P> {
             Err(wanted) => return Err(Refusal::NoMemory(wanted)),
         };
         let seat = {
-            let mut held = self.shared.book.lock(rt);
-            protect(&mut *held, &self.shared.clock)?
+            let mut held = shared.book.lock(rt);
+            protect(&mut *held, &shared.clock)
         };
-        Ok(Backup::new(self.alloc, shared, image, seat))
+        match seat {
+            Ok(seat) => Ok(Backup::new(self.alloc, shared, image, seat)),
+            Err(why) => {
+                // By a call: else the proof would go over every part of it here.
+                drop(image);
+                Err(why)
+            }
+        }
     }
 
     /// The length of the history.
