@@ -1,7 +1,6 @@
 -- What a backup's commit makes of it.
-use Rattle.std.proofs.Common.{◌≡◌, ℕ, List, [], ◌∷◌, refl, sym, ap, ◌∙◌, subst, Bool, true, false, Option, Some, None, Ok, Err, Result, inl, inr}
-use Rattle.std.proofs.lemmas.Bool.{eqb-true}
-use Rattle.std.specs.Prelude.{◌==◌, ◌&&◌, not, nat_lt, nat_le, ◌⊎◌, IfErr}
+use Rattle.std.proofs.Common.{◌≡◌, ℕ, List, [], ◌∷◌, refl, sym, ap, ◌∙◌, subst, Bool, true, false, Option, Some, None}
+use Rattle.std.specs.Prelude.{◌==◌, ◌&&◌, not, nat_lt, nat_le}
 use Rattle.std.specs.List.{Contains}
 use Rattle.memory_wanted.specs.Wanted.{wanted}
 use Rattle.backup_image.specs.Images.{ImageState, applied}
@@ -23,7 +22,7 @@ use Rattle.pair_book.specs.Commits.{commit_of, may_commit, is_old_delta, is_next
 use Rattle.pair_book.specs.Commits.{WasRead, StandsBy}
 use Rattle.pair_book.specs.Made.{IsShape}
 use Rattle.hypervisor.specs.Backups.{backup_state, new_backup, StandsWith, IsBackup}
-use Rattle.hypervisor.specs.Commits.{CommitsAtBook, AtBook, commit_refusals, IsWhyCommit, or_unnumbered, why_not}
+use Rattle.hypervisor.specs.Commits.{AtBook, commit_refusals, IsWhyCommit, or_unnumbered, why_not}
 use Rattle.hypervisor.specs.Refusals.{IsWhyUnless}
 use Rattle.hypervisor.proofs.ReadsOnLaws.{nothing-came}
 use Rattle.hypervisor.proofs.{StandLaws.{stage-new, stands-applied}, Steps.makes-step, Whys.{first, later}}

@@ -1,12 +1,12 @@
 -- What bytes make of a backup, and that it stays one.
 use Rattle.std.proofs.Common.{◌≡◌, ℕ, List, true, false, Bool, refl, sym, ap, ◌∙◌, subst}
-use Rattle.std.specs.Prelude.{All, ◌<◌, IfSome, IfNone, Option, None, Some, Result, Ok, Err}
+use Rattle.std.specs.Prelude.{All, ◌<◌, IfSome, IfNone, Option, None, Some, Ok, Err}
 use Rattle.checkpoint_stream.specs.Answers.{Answers}
 use Rattle.checkpoint_stream.specs.declared.errors.StreamError.{StreamError}
 use Rattle.checkpoint_stream.specs.declared.errors.StreamError.TheVariants.{Malformed, NoMemory}
 use Rattle.checkpoint_stream.specs.declared.place.Place.{Place}
-use Rattle.checkpoint_stream.specs.declared.place.Place.TheVariants.{Whole, Failed}
-use Rattle.checkpoint_stream.specs.Readings.{Reading, begun, fed, taken, is_whole, failure_at}
+use Rattle.checkpoint_stream.specs.declared.place.Place.TheVariants.{Whole}
+use Rattle.checkpoint_stream.specs.Readings.{Reading, begun, fed, is_whole, failure_at}
 use Rattle.checkpoint_stream.specs.Sound.{change_in}
 use Rattle.epoch_snapshot.specs.Checkpoints.{Change}
 use Rattle.guest_machine.specs.declared.shapes.Shape.{Shape}

@@ -1,7 +1,7 @@
 -- What a backup's going live makes of its image, and which refusals it may answer.
-use Rattle.std.proofs.Common.{◌≡◌, ℕ, ◌+◌, List, [], ◌∷◌, ◌++◌, length, refl, sym, ap, ◌∙◌, subst, Bool, true, false, Option, Ok, Err, Result}
+use Rattle.std.proofs.Common.{◌≡◌, ℕ, ◌+◌, List, [], ◌∷◌, ◌++◌, length, refl, sym, ap, ◌∙◌, subst, Bool, true, false}
 use Rattle.std.proofs.lemmas.List.{append_assoc}
-use Rattle.std.specs.Prelude.{not, nat_le, IfErr}
+use Rattle.std.specs.Prelude.{not, nat_le}
 use Rattle.std.specs.List.{Contains}
 use Rattle.memory_wanted.specs.Wanted.{wanted}
 use Rattle.failover.specs.declared.change.Change.TheVariants as changes

@@ -1,6 +1,5 @@
 -- What is read is of the reader's shape.
 use Rattle.std.proofs.Common.{◌≡◌, ℕ, List, refl}
-use Rattle.guest_machine.specs.declared.shapes.Shape.{Shape}
 use Rattle.checkpoint_stream.specs.{Readings.{Reading, fed}, Sound.change_in}
 use Rattle.checkpoint_stream.proofs.Extending.{Extends-itself, fed-extends}
 

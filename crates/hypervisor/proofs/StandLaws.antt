@@ -1,7 +1,7 @@
 -- What a backup stands with, and how its image takes a checkpoint in.
-use Rattle.std.proofs.Common.{◌≡◌, ℕ, zero, suc, ◌+◌, ◌-◌, List, [], ◌∷◌, length, refl, sym, ap, ◌∙◌, subst, arith, Bool, true, false}
+use Rattle.std.proofs.Common.{◌≡◌, ℕ, zero, suc, ◌+◌, ◌-◌, List, [], ◌∷◌, length, refl, sym, ap, ◌∙◌, subst, arith, true, false}
 use Rattle.std.proofs.Common.{Option, Some, None}
-use Rattle.std.proofs.lemmas.Bool.{eq-eqb, le-ltb, ltb-false}
+use Rattle.std.proofs.lemmas.Bool.{eq-eqb, le-ltb}
 use Rattle.std.proofs.lemmas.List.{length-append, length-map, Sums.sum_by-cons, get_or-map}
 use Rattle.std.specs.Prelude.{All, map, ◌==◌, nat_lt, option_map, IsSome, Ok}
 use Rattle.backup_image.specs.declared.standing.Standing.{Standing}
@@ -13,8 +13,7 @@ use Rattle.backup_image.specs.Limits.{number_limit}
 use Rattle.epoch_snapshot.specs.Checkpoints.{Change}
 use Rattle.growing_history.specs.Views.{Member}
 use Rattle.pair_book.specs.declared.failures.Ack.{Ack}
-use Rattle.pair_book.specs.Commits.{is_old_delta, Acknowledges, sent_with, first_with, kept_with, WasRead, StandsBy}
-use Rattle.pair_book.specs.Made.{IsShape}
+use Rattle.pair_book.specs.Commits.{is_old_delta, Acknowledges, sent_with, first_with, kept_with}
 use Rattle.pair_book.specs.Standing.{ack_before, Stands}
 use Rattle.pair_history.specs.Entries.{Frame}
 use Rattle.pair_history.specs.HistoryState.{HistoryState}

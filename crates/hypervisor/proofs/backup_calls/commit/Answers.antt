@@ -1,4 +1,4 @@
-use Rattle.std.proofs.Common.{rules, ◌≡◌, Bool, Some, sym, subst, ◌∙◌}
+use Rattle.std.proofs.Common.{rules, Bool, Some, sym, subst, ◌∙◌}
 use Rattle.std.specs.Prelude.{not}
 use Rattle.hypervisor.specs.Commits.{AtBook}
 use Rattle.hypervisor.proofs.CommitLaws.{refused-why, commit-why, at-book}

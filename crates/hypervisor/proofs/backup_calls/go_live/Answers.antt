@@ -1,9 +1,8 @@
-use Rattle.std.proofs.Common.{rules, ◌≡◌, ℕ, ◌+◌, ◌-◌, List, map, sym, ap, subst, ◌∙◌}
+use Rattle.std.proofs.Common.{rules, ◌≡◌, ◌+◌, ◌-◌, List, map, sym, subst, ◌∙◌}
 use Rattle.std.specs.Prelude.{All}
 use Rattle.backup_image.specs.Kept.{count_kept, first_kept}
 use Rattle.frame_ports.specs.Addresses.{IsFrame}
 use Rattle.pair_history.specs.Entries.{Frame}
-use Rattle.pair_book.specs.Standing.{KeepsFrames}
 use Rattle.hypervisor.specs.Backups.{kept_of}
 use Rattle.hypervisor.proofs.{GoLiveLaws.{go-live-why, goes-live-with}, StandLaws.each-of}
 use Rattle.hypervisor.proofs.backup_calls.go_live.Goals as goal

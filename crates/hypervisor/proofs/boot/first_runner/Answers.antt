@@ -1,4 +1,4 @@
-use Rattle.hypervisor.proofs.OpeningLaws.{first-runs, first-sized}
+use Rattle.hypervisor.proofs.OpeningLaws.{first-runs}
 use Rattle.hypervisor.proofs.boot.first_runner.Goals as goal
 
 pub new-requires-clause-runs : goal.new-requires-clause-runs

@@ -1,4 +1,4 @@
-use Rattle.std.proofs.Common.{rules, ◌≡◌, ◌*◌, length, sym, ap, ◌∙◌, subst}
+use Rattle.std.proofs.Common.{◌≡◌, ◌*◌, length, sym, ap, ◌∙◌, subst}
 use Rattle.guest_machine.specs.declared.shapes.Shape.{Shape}
 use Rattle.hypervisor.specs.Opening.{UnnamedState, start_with}
 use Rattle.hypervisor.proofs.OpeningLaws.{boots, reached, settled-is, image-is, first-shape}
