@@ -7,7 +7,7 @@ use Rattle.guest_machine.proofs.RunLemmas.{after_steps-last, no_steps, none_sent
 use Rattle.std.specs.Prelude.{nat_lt, ◌&&◌}
 use Rattle.frame_ports.specs.{Addresses.targets_of, Limits.number_limit}
 use Rattle.pair_history.specs.{Entries.{Frame, Ran}, HistoryState.HistoryState, Landings.landings}
-use Rattle.pair_record.specs.{declared.event.Event.TheVariants.Step, declared.event.Reply.Reply, Limits.{lone_step_entries, last_frame}}
+use Rattle.pair_record.specs.{declared.event.Event.TheVariants.Step, Limits.{lone_step_entries, last_frame}}
 use Rattle.pair_record.specs.{Journal.{all_entries, with_history}, Modes.is_alone, Record.ports_landed, Tables.frames_run_out}
 use Rattle.pair_core.specs.{internal.Invariant.{Holds, KeepsNothing}, Nodes.{after_run, with_sent_off}}
 use Rattle.pair_record.specs.Protocol.{Record, Outcome, step_done, step_outcome, step_room}

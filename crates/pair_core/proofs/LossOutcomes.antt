@@ -1,7 +1,7 @@
 -- What the protocol answers to a loss that is asked for.
-use Rattle.std.proofs.Common.{rules, ◌≡◌, ℕ, zero, suc, ◌<◌, ◌≤◌, List, [], ◌∷◌, length, refl, sym, ap, ◌∙◌, arith, Bool, true, false}
+use Rattle.std.proofs.Common.{rules, ◌≡◌, ℕ, List, [], ◌∷◌, length, refl, sym, ap, ◌∙◌, arith, Bool, true, false}
 use Rattle.std.proofs.Common.{Option, None, Some}
-use Rattle.std.specs.Prelude.{slice_get, option_map, not}
+use Rattle.std.specs.Prelude.{not}
 use Rattle.frame_ports.specs.Lands.{list_of}
 use Rattle.pair_history.specs.{Entries.{Frame, Entry}, HistoryState.inbox_of}
 use Rattle.pair_record.specs.{declared.event.Event.Event, declared.event.Event.TheVariants.{LoseIn, LoseOut}}

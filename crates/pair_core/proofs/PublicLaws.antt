@@ -11,7 +11,7 @@ use Rattle.pair_history.specs.{HistoryState.HistoryState, Landings.{DropsAtFull,
 use Rattle.pair_history.specs.Leaving.{LeaveInOrder, NotGivenUp, leaves_by, frames_left}
 use Rattle.pair_history.specs.internal.Moves.{Move, Steps, Arrives, entries_of}
 use Rattle.pair_history.proofs.{FailureLaws.go_live_leaves, LeavingLaws.{TakesNone, none_leave}, Moves.DropsNone-moves}
-use Rattle.pair_record.specs.{declared.event.Event.Event, declared.event.Event.TheVariants.{Step, FailBackup, GoLive}}
+use Rattle.pair_record.specs.{declared.event.Event.Event, declared.event.Event.TheVariants.{Step, FailBackup}}
 use Rattle.pair_record.specs.declared.event.Refusal.{Refusal}
 use Rattle.pair_record.specs.{declared.event.Refusal.TheVariants.NoMemory, declared.event.Reply.Reply}
 use Rattle.pair_core.specs.Answering.{Answers, MayWantMemory}

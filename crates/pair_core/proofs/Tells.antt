@@ -1,5 +1,5 @@
 -- What the entries that an event adds tell of clients' calls.
-use Rattle.std.proofs.Common.{rules, arith, ◌≡◌, ℕ, zero, suc, ◌+◌, List, [], ◌∷◌, ◌++◌, refl, subst, append_assoc, Bool, true, false, cond}
+use Rattle.std.proofs.Common.{rules, arith, ◌≡◌, ℕ, List, [], ◌∷◌, ◌++◌, refl, subst, append_assoc, Bool, true, false, cond}
 use Rattle.std.proofs.lemmas.List.Elements.{All-nil, All-cons, All-head, All-tail, All-append}
 use Rattle.std.specs.Prelude.{All, map, get_or}
 use Rattle.guest_machine.specs.Step.{sent}

@@ -8,6 +8,7 @@ ghost use Rattle.guest_machine.specs.Limits.{page_bytes};
 ghost use Rattle.guest_machine.specs.Step.{arrived};
 ghost use Rattle.guest_machine.specs.Runs.{HaveRoom, sent_in};
 ghost use Rattle.epoch_snapshot.specs.Bases.{IsBase};
+ghost use Rattle.checkpoint_stream.specs.ReadBack.{ReadsBack};
 ghost use Rattle.checkpoint_stream.specs.Readings.{begun, fed};
 ghost use Rattle.checkpoint_stream.specs.declared.place.Place.TheVariants.{Whole};
 ghost use Rattle.pair_core.specs.Nodes.{HasShape, machine_of, start_nodes, after_run, with_arrival, with_sealed, with_commit};
@@ -16,7 +17,7 @@ ghost use Rattle.pair_core.specs.Nodes.{first_text, read_as};
 ghost use Rattle.pair_core.specs.Texts.{IsText};
 ghost use Rattle.backup_image.specs.Images.{empty_image};
 
-use backup_image::{Image, ImageError, KeptFrames};
+use backup_image::{Image, ImageError, KeptFrames, Resumed};
 use checkpoint_stream::{Reader, StreamError, encode};
 use epoch_snapshot::{Checkpoint, SnapshotError, cut_delta, cut_full};
 use guest_machine::{Machine, MachineError, SECTOR_BYTES, Shape, sent_frames};
@@ -63,7 +64,10 @@ impl Nodes {
         };
         let image = match Image::boot(alloc, shape, image) {
             Ok(image) => image,
-            Err(ImageError::NoMemory(wanted)) => return Err(wanted),
+            Err(ImageError::NoMemory(wanted)) => {
+                drop(live);
+                return Err(wanted);
+            }
             Err(_) => unreachable!(),
         };
         Ok(Nodes {
@@ -200,12 +204,7 @@ impl Nodes {
             Ok(checkpoint) => checkpoint,
             Err(SnapshotError::NoMemory(wanted)) => return Err(wanted),
         };
-        let text = match encode(self.alloc, &checkpoint) {
-            Ok(text) => text,
-            Err(StreamError::NoMemory(wanted)) => return Err(wanted),
-            Err(StreamError::Malformed(_)) => unreachable!(),
-        };
-        Ok(text)
+        text_of(self.alloc, checkpoint)
     }
 
     /// The checkpoint's text is sealed, and the live machine is settled.
@@ -235,19 +234,15 @@ impl Nodes {
             → IsText self.old.nodes.image.shape generation 0 before self.old.nodes.live.guest [] made.1.items) }
     {
         reserve(&mut self.sealed, 1)?;
-        let image = match Image::empty(self.alloc, self.shape) {
-            Ok(image) => image,
-            Err(ImageError::NoMemory(wanted)) => return Err(wanted),
-            Err(_) => unreachable!(),
-        };
         let checkpoint = match cut_full(self.alloc, &self.live, generation) {
             Ok(checkpoint) => checkpoint,
             Err(SnapshotError::NoMemory(wanted)) => return Err(wanted),
         };
-        let text = match encode(self.alloc, &checkpoint) {
-            Ok(text) => text,
-            Err(StreamError::NoMemory(wanted)) => return Err(wanted),
-            Err(StreamError::Malformed(_)) => unreachable!(),
+        let text = text_of(self.alloc, checkpoint)?;
+        let image = match Image::empty(self.alloc, self.shape) {
+            Ok(image) => image,
+            Err(ImageError::NoMemory(wanted)) => return Err(wanted),
+            Err(_) => unreachable!(),
         };
         Ok((image, text))
     }
@@ -258,7 +253,7 @@ impl Nodes {
         requires image { image ≡ empty_image self.old.nodes.image.shape }
         ensures { self.new.nodes ≡ with_protected self.old.nodes full.items }
     {
-        self.image = Some(image);
+        drop(std::mem::replace(&mut self.image, Some(image)));
         self.sealed.clear();
         self.sealed.push(full).unwrap();
         self.live.settle();
@@ -273,10 +268,15 @@ impl Nodes {
         let mut reader = Reader::new(self.alloc, self.shape);
         match reader.feed(self.sealed[0].as_slice()) {
             Ok(_) => {}
-            Err(StreamError::NoMemory(wanted)) => return Err(wanted),
+            Err(StreamError::NoMemory(wanted)) => {
+                drop(reader);
+                return Err(wanted);
+            }
             Err(StreamError::Malformed(_)) => unreachable!(),
         }
-        match reader.next() {
+        let next = reader.next();
+        drop(reader);
+        match next {
             Some(checkpoint) => Ok(checkpoint),
             None => unreachable!(),
         }
@@ -301,7 +301,7 @@ impl Nodes {
     pub(crate) fn leave_alone(&mut self)
         ensures { self.new.nodes ≡ left_alone self.old.nodes }
     {
-        self.image = None;
+        drop(std::mem::replace(&mut self.image, None));
         self.sealed.clear();
         self.live.clear_outbox();
     }
@@ -314,11 +314,28 @@ impl Nodes {
         let Some(image) = std::mem::replace(&mut self.image, None) else {
             unreachable!();
         };
-        let Ok(resumed) = image.resume() else {
+        let Some(resumed) = image.resume().ok() else {
             unreachable!();
         };
-        self.retired = Some(std::mem::replace(&mut self.live, resumed.machine));
+        let Resumed { machine, kept } = resumed;
+        let stopped = std::mem::replace(&mut self.live, machine);
+        drop(std::mem::replace(&mut self.retired, Some(stopped)));
+        drop(kept);
         self.sealed.clear();
+    }
+}
+
+/// The text of a checkpoint, which is let go.
+fn text_of(alloc: Global, checkpoint: Checkpoint) -> Result<Vec<u8>, MemoryWanted>
+    requires { checkpoint.version ≡ 2 }
+    ensures { IfOk result (λ text. ReadsBack checkpoint text.items) }
+{
+    let text = encode(alloc, &checkpoint);
+    drop(checkpoint);
+    match text {
+        Ok(text) => Ok(text),
+        Err(StreamError::NoMemory(wanted)) => Err(wanted),
+        Err(StreamError::Malformed(_)) => unreachable!(),
     }
 }
 

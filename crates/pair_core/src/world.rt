@@ -46,7 +46,8 @@ impl World {
     ghost use Rattle.frame_ports.specs.Limits.{max_clients};
     ghost use Rattle.pair_history.specs.Entries.{Begins};
     ghost use Rattle.pair_history.specs.HistoryState.{start_state};
-    ghost use Rattle.pair_record.specs.Protocol.{outcome, step_outcome};
+    ghost use Rattle.pair_record.specs.Modes.{mode_refusal};
+    ghost use Rattle.pair_record.specs.Protocol.{allowed, outcome, step_outcome};
     ghost use Rattle.pair_core.specs.Answering.{Answers, MayWantMemory, step_reply};
     ghost use Rattle.pair_core.specs.Leaves.{Leaves};
     ghost use Rattle.pair_core.specs.Pair.{Pair, OnRefused, IsConsistent};
@@ -76,9 +77,17 @@ impl World {
         ensures err { IfErr result (λ e. e ≡ Refusal.NoMemory wanted) }
     {
         let boot_image = from_slice(alloc, image)?;
-        let nodes = Nodes::boot(alloc, shape, image)?;
         let record = PairRecord::new(alloc, clients)?;
         let lines = Lines::new(alloc);
+        let nodes = match Nodes::boot(alloc, shape, image) {
+            Ok(nodes) => nodes,
+            Err(wanted) => {
+                drop(record);
+                drop(lines);
+                drop(boot_image);
+                return Err(Refusal::NoMemory(wanted));
+            }
+        };
         let world = World {
             alloc,
             boot_image,
@@ -134,6 +143,19 @@ impl World {
         if let Some(why) = mode_refusal(self.record.mode(), event) {
             return Ok(Reply::Refused(why));
         }
+        self.act_allowed(event)
+    }
+
+    /// Does one event that its mode doesn't refuse, or finds no memory for it.
+    fn act_allowed(&mut self, event: Event<'_>) -> Result<Reply, MemoryWanted>
+        requires { mode_refusal self.old.protocol.state.mode event ≡ None }
+        ensures outcome { IfOk result (λ reply. (reply, self.new.protocol.state)
+            ≡ allowed self.old.start self.old.protocol.state (got self.old.protocol.lines event.entry) event.entry) }
+        ensures leaves { IfOk result (λ reply. Leaves event.entry reply self.old self.new) }
+        ensures memory { OnErr result (MayWantMemory self.old.protocol.state
+            (allowed self.old.start self.old.protocol.state (got self.old.protocol.lines event.entry) event.entry)) }
+        ensures err { OnErr result (self.new ≡ self.old) }
+    {
         match event {
             Event::Step => self.stepped(),
             Event::Cut => self.cut(),
@@ -332,7 +354,13 @@ impl World {
             return Ok(reply);
         }
         let checkpoint = self.nodes.oldest()?;
-        let reply = self.record.commit()?;
+        let reply = match self.record.commit() {
+            Ok(reply) => reply,
+            Err(wanted) => {
+                drop(checkpoint);
+                return Err(wanted);
+            }
+        };
         self.lines.acknowledge(generation, number);
         self.nodes.commit(checkpoint);
         Ok(reply)

@@ -78,7 +78,14 @@ impl World {
         }
         let generation = self.record.generation() + 1;
         let (image, text) = self.nodes.full_checkpoint(generation)?;
-        let reply = self.record.protect()?;
+        let reply = match self.record.protect() {
+            Ok(reply) => reply,
+            Err(wanted) => {
+                drop(image);
+                drop(text);
+                return Err(wanted);
+            }
+        };
         self.nodes.protect(image, text);
         Ok(reply)
     }

@@ -1,4 +1,4 @@
-use Rattle.std.proofs.Common.{ℕ, subst, arith}
+use Rattle.std.proofs.{Common.{ℕ, subst, arith}, lemmas.Result.{IfOk-weaker}}
 use Rattle.pair_core.specs.{internal.NodesFields.image_or, Texts.IsText}
 use Rattle.pair_core.proofs.NodesLaws.{base-of, delta-text}
 use Rattle.pair_core.proofs.nodes.Nodes.checkpoint.Goals as goal
@@ -7,9 +7,9 @@ pub returns-clause-text : goal.returns-clause-text
 returns-clause-text c =
     let m = c.self.inside.live in
     let shape = (image_or c.self.inside.shape c.self.inside.image).shape in
-    let text = c.in-Ok-encode.text.items in
     let generation = c.args.generation in
-    rw (← c.self.view_is) (λ base is sized.
-    subst (λ (n : ℕ). IsText shape generation n base m.guest m.outbox text) (omega arith)
-    (delta-text m.settled m.dirty m.outbox m generation _ c.in-Ok.checkpoint shape text base c.in-Ok.ensures.parts
-    c.in-Ok-encode.ensures.read (c.in-Ok.ensures.image base (base-of m base is)) sized))
+    IfOk-weaker c.text_of.result _ _
+    (λ text reads. rw (← c.self.view_is) (λ base is sized.
+    subst (λ (n : ℕ). IsText shape generation n base m.guest m.outbox text.items) (omega arith)
+    (delta-text m.settled m.dirty m.outbox m generation _ c.in-Ok.checkpoint shape text.items base c.in-Ok.ensures.parts
+    reads (c.in-Ok.ensures.image base (base-of m base is)) sized))) c.text_of.ensures

@@ -93,13 +93,13 @@ commit-requires-2-clause-shape c =
 pub invariant_of-self-2 : goal.invariant_of-self-2
 invariant_of-self-2 c =
     let w = pair_of c.self.inside in
-    let protocol = ap (λ (o : Outcome). o.1) c.in_ok-reply.ensures.ok in
+    let r = w.protocol.state in
+    let protocol = ap (λ (o : Outcome). o.1) c.in-Ok.ensures.ok in
     let more = names_next w.protocol.state c.in-Some.packet _ _ c.backup_refusal.ensures.refusal c.in_default-backup_refusal.is
     (names_cut w c.self.invariant c.args.k c.in-Some.packet _ c.packet.ensures c.in-Some.is) c.to_commit-number.ensures
     c.if-packet-number.false in
-    let lines = c.acknowledge-2.ensures
-    ∙ (λ i. with_back (c.reserve_acknowledgement.ensures.lines i) (packet (c.generation-generation.ensures i)
-    (c.to_commit-number.ensures i))) in
+    let lines : c.acknowledge-2.new.self.lines ≡ with_back w.protocol.lines (packet r.generation r.window.to_commit) =
+    search (arith, rules, protocol) in
     subst Holds (λ i. record w {
       protocol = record { state = sym protocol i; lines = sym lines i };
       ports = sym c.commit.ensures.ports i;
@@ -110,7 +110,7 @@ invariant_of-self-2 c =
 pub returns-clause-leaves : goal.returns-clause-leaves
 returns-clause-leaves c =
     let w = pair_of c.self.inside in
-    let reply = ap (λ (o : Outcome). o.0) c.in_ok-reply.ensures.ok in
+    let reply = ap (λ (o : Outcome). o.0) c.in-Ok.ensures.ok in
     let h = c.self.invariant in
     let k = c.backup_refusal.ensures.record in
     let alone = two c.args.k c.self.view_is c.requires in

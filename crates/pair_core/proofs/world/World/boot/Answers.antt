@@ -11,6 +11,6 @@ invariant_of-world c =
       start = start_state c.args.shape.pages c.args.shape.sectors (sym image i) c.args.clients;
       protocol = record { state = sym c.in_ok-record.ensures.protocol i; lines = sym c.new-lines.ensures i };
       ports = sym c.in_ok-record.ensures.ports i;
-      nodes = sym c.in_ok-nodes.ensures i;
+      nodes = sym c.in-Ok.ensures i;
     })
     (start_holds c.args.shape c.args.image.now c.args.clients c.requires.fits)

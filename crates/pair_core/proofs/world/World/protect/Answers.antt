@@ -29,16 +29,16 @@ invariant_of-self-2 c =
     let lone = keeps_nothing w c.self.invariant c.keep.ensures.record (protect_goes w.protocol.state.mode goes) in
     let rows = passed _ _ _ (sym c.protect_refusal.ensures.refusal ∙ c.in_default.is) in
     let last = is_below number_limit (w.protocol.state.generation + 1) rows.0 in
-    let protocol = ap (λ (o : Outcome). o.1) c.in_ok-reply.ensures.ok in
+    let protocol = ap (λ (o : Outcome). o.1) c.in-Ok.ensures.ok in
     let nodes = c.protect-2.ensures ∙ ap (λ (x : Nodes). with_protected x text) c.full_checkpoint.ensures.nodes in
-    subst Holds (λ i. record w { protocol = record w.protocol { state = sym protocol i }; ports = sym c.in_ok-reply.ensures.ports i; nodes = sym nodes i })
+    subst Holds (λ i. record w { protocol = record w.protocol { state = sym protocol i }; ports = sym c.in-Ok.ensures.ports i; nodes = sym nodes i })
     (protect_holds w c.self.invariant lone last text (makes (goal.at.invariant_of-self-2 c).In_ok-image))
 
 pub returns-clause-leaves : goal.returns-clause-leaves
 returns-clause-leaves c =
     let w = pair_of c.self.inside in
     let text = c.in_ok-image.text.items in
-    let reply = ap (λ (o : Outcome). o.0) c.in_ok-reply.ensures.ok in
+    let reply = ap (λ (o : Outcome). o.0) c.in-Ok.ensures.ok in
     let nodes = c.protect-2.ensures ∙ ap (λ (x : Nodes). with_protected x text) c.full_checkpoint.ensures.nodes in
     record {
       start = search rules;
