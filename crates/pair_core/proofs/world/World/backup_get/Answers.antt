@@ -1,4 +1,4 @@
-use Rattle.std.proofs.Common.{rules, ◌≡◌, ℕ, ◌-◌, ◌<◌, ◌≤◌, ◌∙◌, sym, ap, subst, arith, false, Option, None, Some}
+use Rattle.std.proofs.Common.{rules, ◌≡◌, ℕ, ◌+◌, ◌-◌, ◌<◌, ◌≤◌, ◌∙◌, sym, ap, subst, arith, false, Option, None, Some}
 use Rattle.std.specs.Prelude.{slice_get}
 use Rattle.epoch_snapshot.specs.Checkpoints.{Change}
 use Rattle.pair_record.specs.{declared.event.Packet.Packet, declared.event.Refusal.Refusal}
@@ -11,10 +11,11 @@ use Rattle.pair_record.specs.Protocol.{Record, Outcome, first_refusal, backup_re
 use Rattle.pair_core.specs.internal.WorldFields.{pair_of}
 use Rattle.pair_record.proofs.ModeLaws.{backup_goes}
 use Rattle.pair_core.proofs.{ReplicationLaws.{after_commit, commit_replicates}, Consistent.in_mode}
-use Rattle.pair_core.specs.Lines.{packet, with_back}
+use Rattle.pair_core.specs.Lines.{Lines, packet, with_back, lines_after}
 use Rattle.pair_core.proofs.{Events.{lines_hold, commit_holds, oldest_text}, LineLaws.{below_at, named-back}}
 use Rattle.pair_record.proofs.RecordLaws.{passed, generation_is, commit_record}
 use Rattle.pair_core.proofs.NodesLaws.{reads-whole, reads-shape}
+use Rattle.pair_core.proofs.world.World.backup_get.Goals.{After-commit-2}
 use Rattle.pair_core.proofs.world.World.backup_get.Goals as goal
 
 -- a packet of this generation names a checkpoint that was cut
@@ -33,15 +34,18 @@ names_next : (r : Record) (p : Packet) (n : ℕ) (o : Option Refusal) → o ≡ 
     → r.window.to_commit < r.window.to_cut
 names_next r p n o is none cut e least = search (arith, rules, generation_is, passed)
 
+-- the line back with one packet more, by its value
+one_more : (l from to : Lines) (g h m n : ℕ) → to ≡ with_back from (packet h m) → from ≡ l → h ≡ g → m ≡ n → to ≡ with_back l (packet g n)
+one_more l from to g h m n e a b k = cc
+
 pub invariant_of-self-then-packet-number : goal.invariant_of-self-then-packet-number
 invariant_of-self-then-packet-number c =
     let w = pair_of c.self.inside in
     let r = w.protocol.state in
     let some : r.window.to_commit - 1 < r.window.to_commit =
     let l = c.if-packet-number.true in let n = c.to_commit-number.ensures in omega arith in
-    let lines = c.acknowledge.ensures
-    ∙ (λ i. with_back (c.reserve_acknowledgement.ensures.lines i) (packet (c.generation-generation.ensures i)
-    (c.to_commit-number.ensures i - 1))) in
+    let lines = one_more w.protocol.lines _ _ r.generation _ _ (r.window.to_commit - 1) c.acknowledge.ensures
+    c.reserve_acknowledgement.ensures.lines c.generation-generation.ensures (let n = c.to_commit-number.ensures in omega arith) in
     subst Holds (λ i. record w { protocol = record w.protocol { lines = sym lines i } })
     (lines_hold w c.self.invariant (with_back w.protocol.lines (packet r.generation (r.window.to_commit - 1)))
     (named-back r w.protocol.lines c.self.invariant.lines (r.window.to_commit - 1) some))
@@ -90,16 +94,26 @@ commit-requires-2-clause-shape c =
     ∙ reads-shape w.nodes.image.shape w.protocol.state.generation w.protocol.state.window.to_commit (shown_state w).guest
     _ _ (first_text w.nodes.sealed) oldest.1
 
+-- what is on the line back then
+lines_are : (c : After-commit-2) → c.acknowledge-2.new.self.lines
+    ≡ with_back (pair_of c.self.inside).protocol.lines
+    (packet (pair_of c.self.inside).protocol.state.generation (pair_of c.self.inside).protocol.state.window.to_commit)
+lines_are c =
+    let w = pair_of c.self.inside in
+    let r = w.protocol.state in
+    let next : c.commit.new.self.protocol.window.to_commit ≡ r.window.to_commit + 1 =
+    ap (λ (o : Outcome). o.1.window.to_commit) c.in-Ok.ensures.ok in
+    one_more w.protocol.lines _ _ r.generation _ _ r.window.to_commit c.acknowledge-2.ensures c.reserve_acknowledgement.ensures.lines
+    c.generation-generation.ensures (omega arith)
+
 pub invariant_of-self-2 : goal.invariant_of-self-2
 invariant_of-self-2 c =
     let w = pair_of c.self.inside in
-    let r = w.protocol.state in
     let protocol = ap (λ (o : Outcome). o.1) c.in-Ok.ensures.ok in
     let more = names_next w.protocol.state c.in-Some.packet _ _ c.backup_refusal.ensures.refusal c.in_default-backup_refusal.is
     (names_cut w c.self.invariant c.args.k c.in-Some.packet _ c.packet.ensures c.in-Some.is) c.to_commit-number.ensures
     c.if-packet-number.false in
-    let lines : c.acknowledge-2.new.self.lines ≡ with_back w.protocol.lines (packet r.generation r.window.to_commit) =
-    search (arith, rules, protocol) in
+    let lines = lines_are (goal.at.invariant_of-self-2 c).After-commit-2 in
     subst Holds (λ i. record w {
       protocol = record { state = sym protocol i; lines = sym lines i };
       ports = sym c.commit.ensures.ports i;
@@ -121,7 +135,7 @@ returns-clause-leaves c =
     let then = in_mode (after_commit w) (commit_holds w h k c.keep.ensures.numbers alone more) (commit_record w.protocol.state k more) in
     record {
       start = search rules;
-      lines = search rules;
+      lines = rw (← c.self.view_is) (lines_are (goal.at.returns-clause-leaves c).After-commit-2 ∙ ap (lines_after w.protocol) (sym reply));
       replicates = rw (← c.self.view_is) (subst (λ (o : Reply × Nodes). Replicates (BackupGet c.args.k) o.0 w.nodes o.1) (λ i. (
         sym reply i,
         sym
