@@ -1,7 +1,8 @@
-use Rattle.std.proofs.{Common.{rules, ◌≡◌, ◌+◌, ◌++◌, ◌∷◌, [], length, take, get_or, ◌∙◌, arith, ◌<◌}, lemmas.List.take_more}
-use Rattle.pair_record.specs.declared.event.Event.TheVariants.{Step}
-use Rattle.pair_core.specs.{Answering.Answers, Drops.Drops, Replication.Does, Service.Serves}
+use Rattle.std.proofs.{Common.{rules, ◌≡◌, ◌+◌, ◌++◌, ◌∷◌, [], length, take, get_or, ◌∙◌, arith, ◌<◌, List, subst}, lemmas.List.{take_more, take_all}}
+use Rattle.pair_record.specs.declared.event.{Event.Event, Event.TheVariants.Step}
+use Rattle.pair_core.specs.{Along.Along, Answering.Answers, Drops.Drops, Replication.{Does, Leads}, Runs.Run, Service.{HasServed, Serves, moment}}
 use Rattle.pair_core.proofs.{AlongLaws.along-more, PublicLaws.Begins-trans}
+use Rattle.pair_core.proofs.world.World.run.Goals.{After-loop-event}
 use Rattle.pair_core.proofs.world.World.run.Goals as goal
 
 pub loop-event-init : goal.loop-event-init
@@ -49,3 +50,34 @@ loop-event-preserved c =
       counted = let k = v.counted in omega arith;
       room = let k = v.room in omega arith;
     }
+
+-- at the end the events so far are all of them
+all_done : (c : After-loop-event) → take c.loop-event.event-index c.args.events.now ≡ c.args.events.now
+all_done c = take_all c.loop-event.event-index c.args.events.now c.loop-event-test.false
+
+pub returns-clause-replies : goal.returns-clause-replies
+returns-clause-replies c =
+    let w = c.args.self.now in
+    let l = c.loop-event in
+    subst (λ (es : List Event). Run w.start w.protocol es l.replies.items l.self.protocol) (all_done (goal.at.returns-clause-replies c).After-loop-event)
+    l.invariant.replies
+
+pub returns-clause-drops : goal.returns-clause-drops
+returns-clause-drops c =
+    let w = c.args.self.now in
+    let l = c.loop-event in
+    subst (λ (es : List Event). Along (Drops w.start) w.protocol es l.replies.items l.self.protocol)
+    (all_done (goal.at.returns-clause-drops c).After-loop-event) l.invariant.drops
+
+pub returns-clause-served : goal.returns-clause-served
+returns-clause-served c =
+    let w = c.args.self.now in
+    let l = c.loop-event in
+    subst (λ (es : List Event). HasServed w.start (moment w) es l.replies.items (moment l.self))
+    (all_done (goal.at.returns-clause-served c).After-loop-event) l.invariant.served
+
+pub returns-clause-leads : goal.returns-clause-leads
+returns-clause-leads c =
+    let w = c.args.self.now in
+    let l = c.loop-event in
+    subst (λ (es : List Event). Leads w es l.replies.items l.self) (all_done (goal.at.returns-clause-leads c).After-loop-event) l.invariant.leads
