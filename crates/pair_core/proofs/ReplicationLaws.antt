@@ -7,6 +7,8 @@ use Rattle.backup_image.specs.Images.{empty_image}
 use Rattle.epoch_snapshot.specs.{Checkpoints.Change, Images.image_of}
 use Rattle.pair_history.specs.{Entries.Entry, HistoryState.{HistoryState, at, sent_along}}
 use Rattle.pair_history.proofs.States.{at-append}
+use Rattle.pair_record.specs.declared.event.{Event.Event, Event.TheVariants.{Cut, BackupGet, FailBackup, GoLive, Protect}, Refusal.Refusal}
+use Rattle.pair_record.specs.declared.event.Reply.TheVariants as replies
 use Rattle.pair_record.specs.Journal.{joined, kept_entries, first_of, rest_of}
 use Rattle.pair_record.specs.Modes.{is_alone, filled}
 use Rattle.pair_core.specs.Lines.{packet, with_back}
@@ -14,7 +16,7 @@ use Rattle.pair_core.specs.Nodes.{Nodes, Fills, with_sealed, with_commit, with_p
 use Rattle.pair_record.specs.Protocol.{cut_done, commit_done}
 use Rattle.pair_core.specs.Pair.{Pair, HasBackup, ImageFollows, InMode, shown_state, live_state}
 use Rattle.pair_record.specs.Record.{IsRecord, SuitsMode}
-use Rattle.pair_core.specs.Replication.{guests_of, to_come, number_after, next_number, IsCut, IsCommit, IsProtected}
+use Rattle.pair_core.specs.Replication.{guests_of, to_come, number_after, next_number, IsCut, IsCommit, IsProtected, Replicates}
 use Rattle.pair_core.specs.Texts.{IsText, AreTexts}
 use Rattle.pair_core.proofs.NodesLaws.{reads-as}
 
@@ -161,3 +163,12 @@ protect_replicates x generation text is_text =
       live = refl;
       empty = refl;
     }
+
+-- a refusal leaves the image and what is to come
+pub refused_replicates : (event : Event) (why : Refusal) (x : Nodes) → Replicates event (replies.Refused why) x x
+refused_replicates Cut why x = (refl, refl)
+refused_replicates (BackupGet k) why x = (refl, refl)
+refused_replicates FailBackup why x = (refl, refl)
+refused_replicates GoLive why x = (refl, refl)
+refused_replicates Protect why x = (refl, refl)
+refused_replicates other why x = (refl, refl)
