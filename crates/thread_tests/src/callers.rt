@@ -1,13 +1,12 @@
 //! Clients that call from threads of their own.
 ghost use Rattle.std.specs.Prelude.{◌≡◌};
 ghost use Rattle.growing_history.specs.Steps.{Begins};
-ghost use Rattle.hypervisor.specs.Opening.{start_with};
 
-use super::hands::{FRAME, Hand, Row, ack, at_start, cut, pass, play, run};
-use super::pairs::{echo_pair, idle_pair};
-use hypervisor::{Badge, Client, Frame, Pair, Refusal, UnnamedPair};
+use super::courses::{Course, plays};
+use super::hands::{FRAME, Hand, cuts, finds_none, has_entries, pass, runs, take_client};
+use super::pairs::Guest;
+use hypervisor::{Badge, Client, Frame, Pair, Refusal};
 use std::alloc::Global;
-use std::marker::Brand;
 use std::process::Abort;
 use std::sync::Wait;
 use std::sync::atomic::AtomicU64;
@@ -30,7 +29,7 @@ fn deliver_and_tell<P: Pair, R: Wait + Abort>(
 
 /// The client finds its box empty.
 fn take_none<P: Pair, R: Wait + Abort>(rt: &R, mut client: Client<P>) -> Client<P> {
-    assert_eq!(rt; client.take(rt), Ok(None));
+    finds_none(rt, &mut client);
     client
 }
 
@@ -54,26 +53,21 @@ fn told_by_another<P: Pair + Send + Sync, R: Threads + Wait + Abort + Sync>(
 }
 
 /// Client 2 is told of what client 1 delivered. Then both call, and each call made its entry.
-fn tell_and_learn<P: Pair + Send + Sync, R: Threads + Wait + Abort + Sync>(
+pub(super) fn tell_and_learn<P: Pair + Send + Sync, R: Threads + Wait + Abort + Sync>(
     rt: &R,
-    alloc: Global,
-    pair: UnnamedPair,
-) -> Result<(), Fail>
-    requires { (pair.word ≡ P.word) × (P.start ≡ start_with pair.guest pair.clients) }
-{
-    let mut hand = at_start::<P>(alloc, pair)?;
-    let other = hand.clients.pop().ok_or("client 2")?;
-    let one = hand.clients.pop().ok_or("client 1")?;
+    hand: &mut Hand<P>,
+) {
+    let other = take_client(rt, hand);
+    let one = take_client(rt, hand);
     let (one, other) = told_by_another(rt, one, other);
     let _other = take_none(rt, other);
     let _one = take_none(rt, one);
-    play(rt, &mut hand, &[Row::Entries(4)]);
-    Ok(())
+    has_entries(rt, hand, 4);
 }
 
 #[test]
 fn a_call_is_told_across_threads(rt: HostRuntime) -> Result<(), Fail> {
-    tell_and_learn::<Brand, _>(&rt, rt.alloc(), idle_pair(rt.alloc(), 2)?)
+    plays(&rt, rt.alloc(), Guest::Idle, 2, Course::Told)
 }
 
 /// How many clients there are.
@@ -90,7 +84,7 @@ const STEPS: u64 = 250;
 
 /// What each client does time after time.
 #[derive(Clone, Copy)]
-enum Task {
+pub(super) enum Task {
     /// It delivers a frame, again where it is refused as Full, and finds its box empty.
     Deliver,
     /// It waits for its turn, delivers two frames, and takes until both have come back.
@@ -104,6 +98,18 @@ struct Turns {
     over: AtomicU64,
     epochs: AtomicU64,
     ended: AtomicU64,
+}
+
+impl Turns {
+    /// Nothing has happened yet.
+    fn new() -> Turns {
+        Turns {
+            begun: AtomicU64::new(0),
+            over: AtomicU64::new(0),
+            epochs: AtomicU64::new(0),
+            ended: AtomicU64::new(0),
+        }
+    }
 }
 
 /// What a client was answered.
@@ -263,17 +269,16 @@ fn call_many<P: Pair, R: Wait + Abort>(
 
 /// Epochs are run and passed until all clients have ended. Answers how many entries they made: steps, arrivals and landings.
 fn run_epochs<P: Pair, R: Wait + Abort>(rt: &R, turns: &Turns, hand: &mut Hand<P>) -> u64 {
-    let mut runner = hand.runners.pop().expect(rt, "a runner");
     let mut entries = 0u64;
     let mut held = 0u64;
     for number in 1..MOST_TURNS {
         if turns.ended.load(SeqCst) == CLIENTS {
             break;
         }
-        run(rt, &mut runner, STEPS);
+        runs(rt, hand, 0, STEPS);
         entries = entries.wrapping_add(held).wrapping_add(STEPS);
-        held = cut(rt, &mut runner) as u64;
-        entries = entries.wrapping_add(pass(rt, hand, ack(1, number)));
+        held = cuts(rt, hand, 0) as u64;
+        entries = entries.wrapping_add(pass(rt, hand, number));
         turns.epochs.store(number, SeqCst);
     }
     entries
@@ -305,28 +310,20 @@ fn see_all(rt: &impl Abort, alloc: Global, answers: &[Answers], count: u16) -> u
     calls
 }
 
-/// All clients do their task so often, each in a thread of its own, in which it delivers so many frames.
-fn call_all<P: Pair + Send + Sync, R: Threads + Wait + Abort + Sync>(
+/// All clients do their task so often, each in a thread of its own, while epochs are run. Answers how many entries the epochs made, and
+/// what the clients were answered.
+fn call_in_threads<P: Pair + Send + Sync, R: Threads + Wait + Abort + Sync>(
     rt: &R,
     alloc: Global,
-    pair: UnnamedPair,
+    hand: &mut Hand<P>,
     task: Task,
     count: u16,
-    frames: u16,
-) -> Result<(), Fail>
-    requires { (pair.word ≡ P.word) × (P.start ≡ start_with pair.guest pair.clients) }
-{
-    let mut hand = at_start::<P>(alloc, pair)?;
+) -> (u64, Vec<Answers>) {
     let clients = mem::replace(&mut hand.clients, Vec::new(alloc));
-    let turns = Turns {
-        begun: AtomicU64::new(0),
-        over: AtomicU64::new(0),
-        epochs: AtomicU64::new(0),
-        ended: AtomicU64::new(0),
-    };
-    let (run, answers) = join(
+    let turns = Turns::new();
+    let (entries, answers) = join(
         rt,
-        || run_epochs(rt, &turns, &mut hand),
+        || run_epochs(rt, &turns, hand),
         || {
             thread::map_vec(
                 rt,
@@ -335,21 +332,33 @@ fn call_all<P: Pair + Send + Sync, R: Threads + Wait + Abort + Sync>(
             )
         },
     );
-    let answers = answers?;
+    (entries, answers.expect(rt, "memory"))
+}
+
+/// All clients do their task so often, in which each delivers so many frames. Each frame has a number of its own, and each call made its
+/// entry.
+pub(super) fn call_all<P: Pair + Send + Sync, R: Threads + Wait + Abort + Sync>(
+    rt: &R,
+    alloc: Global,
+    hand: &mut Hand<P>,
+    task: Task,
+    count: u16,
+    frames: u16,
+) {
+    let (entries, answers) = call_in_threads(rt, alloc, hand, task, count);
     assert_eq!(rt; answers.len() as u64, CLIENTS);
     let calls = see_all(rt, alloc, answers.as_slice(), frames);
-    play(rt, &mut hand, &[Row::Entries(run.wrapping_add(calls))]);
-    Ok(())
+    has_entries(rt, hand, entries.wrapping_add(calls));
 }
 
 #[test]
 fn eight_clients_deliver_10000_frames(rt: HostRuntime) -> Result<(), Fail> {
-    let pair = idle_pair(rt.alloc(), CLIENTS)?;
-    call_all::<Brand, _>(&rt, rt.alloc(), pair, Task::Deliver, 1250, 1250)
+    let course = Course::Called(Task::Deliver, 1250, 1250);
+    plays(&rt, rt.alloc(), Guest::Idle, CLIENTS, course)
 }
 
 #[test]
 fn eight_clients_frames_come_back(rt: HostRuntime) -> Result<(), Fail> {
-    let pair = echo_pair(rt.alloc(), CLIENTS)?;
-    call_all::<Brand, _>(&rt, rt.alloc(), pair, Task::Exchange, 25, 50)
+    let course = Course::Called(Task::Exchange, 25, 50);
+    plays(&rt, rt.alloc(), Guest::Echo, CLIENTS, course)
 }

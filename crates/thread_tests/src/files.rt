@@ -7,6 +7,11 @@ use std::sync::Wait;
 use std::test::*;
 use std::thread::Threads;
 
+/// These bytes are this text.
+fn is_text(rt: &impl Abort, bytes: &[u8], wanted: &str) {
+    assert_eq!(rt; str::from_utf8(bytes), Ok(wanted));
+}
+
 /// Runs a file, and compares all that is printed, and the status.
 fn runs<R: Threads + Wait + Abort + AllocGlobal + Sync>(
     rt: &R,
@@ -18,8 +23,8 @@ fn runs<R: Threads + Wait + Abort + AllocGlobal + Sync>(
     let mut out = CheckedWriter::new(Vec::new(rt.alloc()));
     let mut err = CheckedWriter::new(Vec::new(rt.alloc()));
     let came = run(rt, rt.alloc(), source, &mut out, &mut err);
-    assert_eq!(rt; str::from_utf8(out.inner.as_slice()), Ok(printed));
-    assert_eq!(rt; str::from_utf8(err.inner.as_slice()), Ok(said));
+    is_text(rt, out.inner.as_slice(), printed);
+    is_text(rt, err.inner.as_slice(), said);
     assert_eq!(rt; came, status);
 }
 

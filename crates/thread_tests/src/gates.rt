@@ -1,11 +1,16 @@
 //! A gate where a guest is held at one of its steps until others have come to it.
 
+use super::hands::{Hand, take_runner};
+use super::holds::call_both;
+use super::zombies::take_over;
 use guest_machine::Pace;
 use hypervisor::{Pair, Runner};
+use std::alloc::{AllocError, Global};
 use std::process::Abort;
 use std::sync::atomic::Ordering::SeqCst;
 use std::sync::atomic::{AtomicBool, AtomicU64};
 use std::sync::{Arc, Wait};
+use std::thread::{Threads, join};
 
 /// How often who waits here looks before it gives up.
 const MOST_TURNS: u64 = 1_000_000_000;
@@ -19,7 +24,7 @@ pub(super) struct Gate {
 
 impl Gate {
     /// The guest isn't held yet, and nobody has come.
-    pub(super) fn new() -> Gate {
+    fn new() -> Gate {
         Gate {
             is_held: AtomicBool::new(false),
             come: AtomicU64::new(0),
@@ -54,10 +59,21 @@ impl Gate {
 
 /// Holds the guest at this step until so many have come to the gate.
 #[derive(Drop)]
-pub(super) struct HeldAt {
-    pub(super) step: u64,
-    pub(super) count: u64,
-    pub(super) gate: Arc<Gate>,
+struct HeldAt {
+    step: u64,
+    count: u64,
+    gate: Arc<Gate>,
+}
+
+/// A gate, and the pace of a guest that is held there at this step until so many have come.
+fn gate_at(alloc: Global, step: u64, count: u64) -> Result<(Arc<Gate>, HeldAt), AllocError> {
+    let gate = Arc::new(alloc, Gate::new())?;
+    let pace = HeldAt {
+        step,
+        count,
+        gate: Arc::try_clone(&gate)?,
+    };
+    Ok((gate, pace))
 }
 
 impl Pace for HeldAt {
@@ -81,7 +97,7 @@ impl Pace for HeldAt {
 }
 
 /// The guest makes 22 steps, and is held at one of them. Then its checkpoint is made, for which was asked before.
-pub(super) fn run_held<P: Pair, R: Wait + Abort>(
+fn run_held<P: Pair, R: Wait + Abort>(
     rt: &R,
     mut runner: Box<Runner<P>>,
     mut pace: HeldAt,
@@ -90,4 +106,56 @@ pub(super) fn run_held<P: Pair, R: Wait + Abort>(
     assert_eq!(rt; runner.run(22, &mut pace), 22);
     runner.prepare(want).expect(rt, "memory");
     runner
+}
+
+/// What is done while a guest is held.
+#[derive(Clone, Copy)]
+pub(super) enum Deed {
+    /// The primary fails, and the backup goes live. See [`take_over`].
+    TakeOver,
+    /// Two clients call. See [`call_both`].
+    CallBoth,
+}
+
+/// Does it.
+fn act<P: Pair + Send + Sync, R: Threads + Wait + Abort + Sync>(
+    rt: &R,
+    gate: &Gate,
+    hand: &mut Hand<P>,
+    deed: Deed,
+) {
+    match deed {
+        Deed::TakeOver => take_over(rt, gate, hand),
+        Deed::CallBoth => call_both(rt, gate, hand),
+    }
+}
+
+/// Does it in a thread, and runs the guest in another. Answers its runner.
+fn act_meanwhile<P: Pair + Send + Sync, R: Threads + Wait + Abort + Sync>(
+    rt: &R,
+    runner: Box<Runner<P>>,
+    pace: HeldAt,
+    gate: &Gate,
+    hand: &mut Hand<P>,
+    deed: Deed,
+) -> Box<Runner<P>> {
+    let (runner, ()) = join(
+        rt,
+        || run_held(rt, runner, pace),
+        || act(rt, gate, hand, deed),
+    );
+    runner
+}
+
+/// The guest is held at this step until so many have come to the gate, while this is done. Answers its runner.
+pub(super) fn hold<P: Pair + Send + Sync, R: Threads + Wait + Abort + Sync>(
+    rt: &R,
+    alloc: Global,
+    hand: &mut Hand<P>,
+    (step, count): (u64, u64),
+    deed: Deed,
+) -> Box<Runner<P>> {
+    let (gate, pace) = gate_at(alloc, step, count).expect(rt, "memory");
+    let runner = take_runner(rt, alloc, hand);
+    act_meanwhile(rt, runner, pace, &*gate, hand, deed)
 }

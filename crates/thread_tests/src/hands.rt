@@ -11,7 +11,6 @@ use hypervisor::{
 use std::alloc::Global;
 use std::process::Abort;
 use std::sync::Wait;
-use std::test::Fail;
 
 /// The frame that the beacon sends to client 1.
 pub(super) const FRAME: [u8; 14] = [2, 0, 0, 0, 1, 1, 2, 0, 0, 0, 0, 1, 0x88, 0xb5];
@@ -19,8 +18,8 @@ pub(super) const FRAME: [u8; 14] = [2, 0, 0, 0, 1, 1, 2, 0, 0, 0, 0, 1, 0x88, 0x
 /// A frame from client 1 to the guest. An echo of it is the beacon's frame.
 pub(super) const TO_GUEST: [u8; 14] = [2, 0, 0, 0, 0, 1, 2, 0, 0, 0, 1, 1, 0x88, 0xb5];
 
-/// A call, and what it answers. Runners, backups and packets are named by their places, in the order in which they came.
-#[derive(Drop)]
+/// A call, and what it answers. Runners, backups and packets are named by their places, in the order in which they came; a packet's
+/// checkpoint and what acknowledges it by generation and number.
 pub(super) enum Row {
     /// This runner runs so many steps.
     Runs(usize, u64),
@@ -28,12 +27,12 @@ pub(super) enum Row {
     Epoch(usize, u64),
     /// The same, but it is handed so many frames.
     Hands(usize, u64, usize),
-    /// The sender gives this packet, which is kept.
-    Next(Ack),
+    /// The sender gives the packet of this generation and number, which is kept.
+    Next(u64, u64),
     /// This backup reads this packet, and answers so to its commit.
-    Commit(usize, usize, Result<Ack, Refusal>),
-    /// The sender hands in this acknowledgement, and is answered how many frames land, or why not.
-    Acked(Ack, Result<u64, Refusal>),
+    Commit(usize, usize, Result<(u64, u64), Refusal>),
+    /// The sender hands in the acknowledgement of this generation and number, and is answered how many frames land, or why not.
+    Acked(u64, u64, Result<u64, Refusal>),
     /// Client 1 delivers a frame of these bytes, which gets this number.
     Delivers([u8; 14], u64),
     /// Client 1 takes the beacon's frame.
@@ -60,7 +59,7 @@ pub(super) enum Row {
 #[derive(Drop)]
 pub(super) struct Hand<P: Pair> {
     pub(super) clients: Vec<Client<P>>,
-    pub(super) runners: Vec<Runner<P>>,
+    runners: Vec<Runner<P>>,
     sender: Sender<P>,
     backups: Vec<Option<Backup<P>>>,
     warden: Warden<P>,
@@ -68,50 +67,32 @@ pub(super) struct Hand<P: Pair> {
     packets: Vec<Packet>,
 }
 
-/// An acknowledgement.
-pub(super) fn ack(generation: u64, number: u64) -> Ack {
-    Ack { generation, number }
+/// A list of this alone.
+pub(super) fn list_of<T: Drop>(rt: &impl Abort, alloc: Global, first: T) -> Vec<T> {
+    let mut list = Vec::new(alloc);
+    list.push(first).expect(rt, "memory");
+    list
 }
 
-/// The members of a pair.
-pub(super) fn at_start<P: Pair>(alloc: Global, pair: UnnamedPair) -> Result<Hand<P>, Fail>
-    requires { (pair.word ≡ P.word) × (P.start ≡ start_with pair.guest pair.clients) }
-{
-    let Parts {
-        clients,
-        runner,
-        sender,
-        backup,
-        warden,
-        loss,
-    } = pair.named::<P>()?;
-    let mut runners = Vec::new(alloc);
-    runners.push(runner)?;
-    let mut backups = Vec::new(alloc);
-    backups.push(Some(backup))?;
-    Ok(Hand {
-        clients,
-        runners,
-        sender,
-        backups,
-        warden,
-        loss,
+/// The members of a pair, in one hand.
+fn hand_of<P: Pair>(rt: &impl Abort, alloc: Global, parts: Parts<P>) -> Hand<P> {
+    Hand {
+        clients: parts.clients,
+        runners: list_of(rt, alloc, parts.runner),
+        sender: parts.sender,
+        backups: list_of(rt, alloc, Some(parts.backup)),
+        warden: parts.warden,
+        loss: parts.loss,
         packets: Vec::new(alloc),
-    })
+    }
 }
 
-/// Plays these rows with a pair at its start.
-pub(super) fn plays<P: Pair, R: Wait + Abort>(
-    rt: &R,
-    alloc: Global,
-    pair: UnnamedPair,
-    rows: &[Row],
-) -> Result<(), Fail>
+/// The members of a pair at its start, in a box: a function that holds them by value is slow to prove.
+pub(super) fn at_start<P: Pair, R: Abort>(rt: &R, alloc: Global, pair: UnnamedPair) -> Box<Hand<P>>
     requires { (pair.word ≡ P.word) × (P.start ≡ start_with pair.guest pair.clients) }
 {
-    let mut hand = at_start::<P>(alloc, pair)?;
-    play(rt, &mut hand, rows);
-    Ok(())
+    let parts = pair.named::<P>().expect(rt, "memory");
+    Box::new(alloc, hand_of(rt, alloc, parts)).expect(rt, "memory")
 }
 
 /// Plays these rows.
@@ -123,19 +104,21 @@ pub(super) fn play<P: Pair, R: Wait + Abort>(rt: &R, hand: &mut Hand<P>, rows: &
 
 fn play_row<P: Pair, R: Wait + Abort>(rt: &R, hand: &mut Hand<P>, row: &Row) {
     match row {
-        Row::Runs(at, steps) => run(rt, runner(rt, hand, *at), *steps),
-        Row::Epoch(at, steps) => run_epoch(rt, runner(rt, hand, *at), *steps, 0),
-        Row::Hands(at, steps, handed) => run_epoch(rt, runner(rt, hand, *at), *steps, *handed),
-        Row::Next(wanted) => next(rt, hand, wanted),
-        Row::Commit(at, packet, wanted) => read_and_commit(rt, hand, *at, *packet, wanted),
-        Row::Acked(ack, wanted) => acked(rt, &mut hand.sender, *ack, wanted),
+        Row::Runs(at, steps) => runs(rt, hand, *at, *steps),
+        Row::Epoch(at, steps) => runs_epoch(rt, hand, *at, *steps, 0),
+        Row::Hands(at, steps, handed) => runs_epoch(rt, hand, *at, *steps, *handed),
+        Row::Next(generation, number) => gives_next(rt, hand, (*generation, *number)),
+        Row::Commit(at, packet, wanted) => commits(rt, hand, *at, *packet, wanted),
+        Row::Acked(generation, number, wanted) => {
+            is_acked(rt, hand, (*generation, *number), wanted);
+        }
         Row::Delivers(bytes, number) => delivers(rt, hand, bytes, *number),
         Row::Takes => takes(rt, hand),
-        Row::TakesNone => takes_none(rt, hand),
-        Row::LosesIn(place) => loses_in(rt, &mut hand.loss, *place),
-        Row::LosesOut(place) => loses_out(rt, &mut hand.loss, *place),
-        Row::Entries(count) => assert_eq!(rt; hand.warden.entries(rt), *count),
-        Row::Fails(node, landed) => fails(rt, &mut hand.warden, *node, *landed),
+        Row::TakesNone => finds_none(rt, client(rt, hand)),
+        Row::LosesIn(place) => loses_in(rt, hand, *place),
+        Row::LosesOut(place) => loses_out(rt, hand, *place),
+        Row::Entries(count) => has_entries(rt, hand, *count),
+        Row::Fails(node, landed) => fails(rt, hand, *node, *landed),
         Row::Protects => protects(rt, hand),
         Row::GoesLive(at) => goes_live(rt, hand, *at),
         Row::StaysBackup(at, why) => stays_backup(rt, hand, *at, why),
@@ -147,28 +130,54 @@ fn runner<'a, P: Pair>(rt: &impl Abort, hand: &'a mut Hand<P>, at: usize) -> &'a
     hand.runners.get_mut(at).expect(rt, "a runner")
 }
 
-/// What the runner holds arrives, and its guest makes so many steps.
-pub(super) fn run<P: Pair>(rt: &impl Abort, runner: &mut Runner<P>, steps: u64) {
-    assert_eq!(rt; runner.run(steps, &mut Unpaced), steps);
+/// Takes the last runner, into a box.
+pub(super) fn take_runner<P: Pair>(
+    rt: &impl Abort,
+    alloc: Global,
+    hand: &mut Hand<P>,
+) -> Box<Runner<P>> {
+    let runner = hand.runners.pop().expect(rt, "a runner");
+    Box::new(alloc, runner).expect(rt, "memory")
+}
+
+/// What the runner at this place holds arrives, and its guest makes so many steps.
+pub(super) fn runs<P: Pair>(rt: &impl Abort, hand: &mut Hand<P>, at: usize, steps: u64) {
+    assert_eq!(rt; runner(rt, hand, at).run(steps, &mut Unpaced), steps);
 }
 
 /// What is wanted is asked for, prepared and submitted. Answers how many frames are handed out.
-pub(super) fn cut<P: Pair, R: Wait + Abort>(rt: &R, runner: &mut Runner<P>) -> usize {
+fn cut<P: Pair, R: Wait + Abort>(rt: &R, runner: &mut Runner<P>) -> usize {
     let want = runner.ask(rt).expect(rt, "what is wanted");
     runner.prepare(want).expect(rt, "memory");
     runner.submit(rt).expect(rt, "a submit")
 }
 
+/// The runner at this place ends its epoch so. Answers how many frames are handed out.
+pub(super) fn cuts<P: Pair, R: Wait + Abort>(rt: &R, hand: &mut Hand<P>, at: usize) -> usize {
+    cut(rt, runner(rt, hand, at))
+}
+
 /// An epoch of so many steps, which is submitted, and hands out so many frames.
-fn run_epoch<P: Pair, R: Wait + Abort>(rt: &R, runner: &mut Runner<P>, steps: u64, handed: usize) {
-    run(rt, runner, steps);
-    assert_eq!(rt; cut(rt, runner), handed);
+fn runs_epoch<P: Pair, R: Wait + Abort>(
+    rt: &R,
+    hand: &mut Hand<P>,
+    at: usize,
+    steps: u64,
+    handed: usize,
+) {
+    runs(rt, hand, at, steps);
+    assert_eq!(rt; cuts(rt, hand, at), handed);
+}
+
+/// The answer is that the runner isn't live.
+fn is_refused<T: Drop>(rt: &impl Abort, answer: Result<T, Refusal>) {
+    assert_eq!(rt; answer.err(), Some(Refusal::Stopped));
 }
 
 /// The runner is told that it isn't live.
 pub(super) fn is_stopped<P: Pair, R: Wait + Abort>(rt: &R, runner: &mut Runner<P>) {
-    assert_eq!(rt; runner.submit(rt), Err(Refusal::Stopped));
-    assert_eq!(rt; runner.ask(rt), Err(Refusal::Stopped));
+    is_refused(rt, runner.submit(rt));
+    is_refused(rt, runner.ask(rt));
 }
 
 /// The next packet.
@@ -179,21 +188,10 @@ fn next_packet<P: Pair, R: Wait + Abort>(rt: &R, sender: &mut Sender<P>) -> Pack
         .expect(rt, "a packet")
 }
 
-fn next<P: Pair, R: Wait + Abort>(rt: &R, hand: &mut Hand<P>, wanted: &Ack) {
+fn gives_next<P: Pair, R: Wait + Abort>(rt: &R, hand: &mut Hand<P>, wanted: (u64, u64)) {
     let packet = next_packet(rt, &mut hand.sender);
-    assert_eq!(rt; ack(packet.generation(), packet.number()), *wanted);
+    assert_eq!(rt; (packet.generation(), packet.number()), wanted);
     hand.packets.push(packet).expect(rt, "memory");
-}
-
-fn read_and_commit<P: Pair, R: Wait + Abort>(
-    rt: &R,
-    hand: &mut Hand<P>,
-    at: usize,
-    packet: usize,
-    wanted: &Result<Ack, Refusal>,
-) {
-    let packet = hand.packets.get(packet).expect(rt, "a packet");
-    commit(rt, backup(rt, &mut hand.backups, at), packet, wanted);
 }
 
 /// The backup at this place.
@@ -208,38 +206,75 @@ fn backup<'a, P: Pair>(
     backup
 }
 
-/// The backup reads all of this packet, or nothing where it has read it, and commits.
+/// The backup reads all of this packet, or nothing where it has read it.
+fn reads<P: Pair>(rt: &impl Abort, backup: &mut Backup<P>, packet: &Packet) {
+    let bytes = packet.bytes();
+    let count = backup.feed(bytes).expect(rt, "no refusal");
+    assert!(rt; count == bytes.len() || count == 0);
+}
+
+/// What the backup answers to its commit.
+fn committed<P: Pair, R: Wait>(rt: &R, backup: &mut Backup<P>) -> Result<(u64, u64), Refusal> {
+    let ack = backup.commit(rt)?;
+    Ok((ack.generation, ack.number))
+}
+
+/// The backup reads this packet, and commits.
 fn commit<P: Pair, R: Wait + Abort>(
     rt: &R,
     backup: &mut Backup<P>,
     packet: &Packet,
-    wanted: &Result<Ack, Refusal>,
+    wanted: &Result<(u64, u64), Refusal>,
 ) {
-    let bytes = packet.bytes();
-    let count = backup.feed(bytes).expect(rt, "no refusal");
-    assert!(rt; count == bytes.len() || count == 0);
-    assert_eq!(rt; &backup.commit(rt), wanted);
+    reads(rt, backup, packet);
+    assert_eq!(rt; &committed(rt, backup), wanted);
 }
 
-fn fails<P: Pair, R: Wait + Abort>(rt: &R, warden: &mut Warden<P>, node: Node, count: u64) {
-    assert_eq!(rt; warden.fail(rt, node), Ok(Landed { count }));
+fn commits<P: Pair, R: Wait + Abort>(
+    rt: &R,
+    hand: &mut Hand<P>,
+    at: usize,
+    packet: usize,
+    wanted: &Result<(u64, u64), Refusal>,
+) {
+    let packet = hand.packets.get(packet).expect(rt, "a packet");
+    commit(rt, backup(rt, &mut hand.backups, at), packet, wanted);
 }
 
-/// The next packet comes to the first backup, which acknowledges this. Answers how many frames land.
-pub(super) fn pass<P: Pair, R: Wait + Abort>(rt: &R, hand: &mut Hand<P>, wanted: Ack) -> u64 {
-    let packet = next_packet(rt, &mut hand.sender);
-    commit(rt, backup(rt, &mut hand.backups, 0), &packet, &Ok(wanted));
-    hand.sender.acked(rt, wanted).expect(rt, "an answer").count
-}
-
-fn acked<P: Pair, R: Wait + Abort>(
+/// How many frames land with the acknowledgement of this generation and number, or why it is refused.
+fn landed<P: Pair, R: Wait>(
     rt: &R,
     sender: &mut Sender<P>,
-    ack: Ack,
+    (generation, number): (u64, u64),
+) -> Result<u64, Refusal> {
+    let landed = sender.acked(rt, Ack { generation, number })?;
+    Ok(landed.count)
+}
+
+fn is_acked<P: Pair, R: Wait + Abort>(
+    rt: &R,
+    hand: &mut Hand<P>,
+    named: (u64, u64),
     wanted: &Result<u64, Refusal>,
 ) {
-    let landed = sender.acked(rt, ack).map(|landed| landed.count);
-    assert_eq!(rt; &landed, wanted);
+    assert_eq!(rt; &landed(rt, &mut hand.sender, named), wanted);
+}
+
+/// The first backup reads this packet, and commits this number of generation 1.
+fn commit_first<P: Pair, R: Wait + Abort>(
+    rt: &R,
+    backups: &mut Vec<Option<Backup<P>>>,
+    packet: &Packet,
+    number: u64,
+) {
+    commit(rt, backup(rt, backups, 0), packet, &Ok((1, number)));
+}
+
+/// The next packet comes to the first backup, which acknowledges this number of generation 1. Answers how many frames land.
+pub(super) fn pass<P: Pair, R: Wait + Abort>(rt: &R, hand: &mut Hand<P>, number: u64) -> u64 {
+    let packet = next_packet(rt, &mut hand.sender);
+    commit_first(rt, &mut hand.backups, &packet, number);
+    landed(rt, &mut hand.sender, (1, number)).expect(rt, "an answer")
 }
 
 /// Client 1.
@@ -247,30 +282,49 @@ fn client<'a, P: Pair>(rt: &impl Abort, hand: &'a mut Hand<P>) -> &'a mut Client
     hand.clients.get_mut(0).expect(rt, "a client")
 }
 
+/// Takes the last client.
+pub(super) fn take_client<P: Pair>(rt: &impl Abort, hand: &mut Hand<P>) -> Client<P> {
+    hand.clients.pop().expect(rt, "a client")
+}
+
 fn delivers<P: Pair, R: Wait + Abort>(rt: &R, hand: &mut Hand<P>, bytes: &[u8], number: u64) {
     assert_eq!(rt; client(rt, hand).deliver(rt, bytes), Ok(number));
 }
 
-/// What client 1 takes.
-fn taken<P: Pair, R: Wait + Abort>(rt: &R, hand: &mut Hand<P>) -> Option<Frame> {
-    client(rt, hand).take(rt).expect(rt, "an answer")
+/// What the client takes.
+fn taken<P: Pair, R: Wait + Abort>(rt: &R, client: &mut Client<P>) -> Frame {
+    client
+        .take(rt)
+        .expect(rt, "an answer")
+        .expect(rt, "a frame")
 }
 
 fn takes<P: Pair, R: Wait + Abort>(rt: &R, hand: &mut Hand<P>) {
-    let frame = taken(rt, hand).expect(rt, "a frame");
+    let frame = taken(rt, client(rt, hand));
     assert_eq!(rt; frame.as_slice(), FRAME.as_slice());
 }
 
-fn takes_none<P: Pair, R: Wait + Abort>(rt: &R, hand: &mut Hand<P>) {
-    assert!(rt; taken(rt, hand).is_none());
+/// The client finds its box empty.
+pub(super) fn finds_none<P: Pair, R: Wait + Abort>(rt: &R, client: &mut Client<P>) {
+    assert_eq!(rt; client.take(rt), Ok(None));
 }
 
-fn loses_in<P: Pair, R: Wait + Abort>(rt: &R, loss: &mut Loss<P>, place: u64) {
-    assert_eq!(rt; loss.lose_in(rt, 1, place), Ok(Lost::Dropped));
+fn loses_in<P: Pair, R: Wait + Abort>(rt: &R, hand: &mut Hand<P>, place: u64) {
+    assert_eq!(rt; hand.loss.lose_in(rt, 1, place), Ok(Lost::Dropped));
 }
 
-fn loses_out<P: Pair, R: Wait + Abort>(rt: &R, loss: &mut Loss<P>, place: u64) {
-    assert_eq!(rt; loss.lose_out(rt, 1, place), Ok(Lost::Dropped));
+fn loses_out<P: Pair, R: Wait + Abort>(rt: &R, hand: &mut Hand<P>, place: u64) {
+    assert_eq!(rt; hand.loss.lose_out(rt, 1, place), Ok(Lost::Dropped));
+}
+
+/// The history has so many entries.
+pub(super) fn has_entries<P: Pair, R: Wait + Abort>(rt: &R, hand: &Hand<P>, count: u64) {
+    assert_eq!(rt; hand.warden.entries(rt), count);
+}
+
+/// This node fails, and so many frames land.
+pub(super) fn fails<P: Pair, R: Wait + Abort>(rt: &R, hand: &mut Hand<P>, node: Node, count: u64) {
+    assert_eq!(rt; hand.warden.fail(rt, node), Ok(Landed { count }));
 }
 
 fn protects<P: Pair, R: Wait + Abort>(rt: &R, hand: &mut Hand<P>) {
@@ -286,20 +340,24 @@ fn take_backup<P: Pair>(rt: &impl Abort, hand: &mut Hand<P>, at: usize) -> Backu
     place.take().expect(rt, "a backup")
 }
 
-fn goes_live<P: Pair, R: Wait + Abort>(rt: &R, hand: &mut Hand<P>, at: usize) {
+/// This backup goes live: there is a new runner.
+pub(super) fn goes_live<P: Pair, R: Wait + Abort>(rt: &R, hand: &mut Hand<P>, at: usize) {
     let backup = take_backup(rt, hand, at);
-    let Ok(runner) = hand.warden.go_live(rt, backup) else {
-        panic!(rt; "the backup doesn't go live");
-    };
+    let came = hand.warden.go_live(rt, backup).ok();
+    let runner = came.expect(rt, "the backup goes live");
     hand.runners.push(runner).expect(rt, "memory");
+}
+
+/// The backup, which is kept, has what it has read.
+fn keeps<P: Pair>(rt: &impl Abort, hand: &mut Hand<P>, backup: Backup<P>) {
+    assert!(rt; backup.read().is_some());
+    hand.backups.push(Some(backup)).expect(rt, "memory");
 }
 
 fn stays_backup<P: Pair, R: Wait + Abort>(rt: &R, hand: &mut Hand<P>, at: usize, wanted: &Refusal) {
     let backup = take_backup(rt, hand, at);
-    let Err((back, why)) = hand.warden.go_live(rt, backup) else {
-        panic!(rt; "the backup went live");
-    };
+    let came = hand.warden.go_live(rt, backup).err();
+    let (back, why) = came.expect(rt, "the backup doesn't go live");
     assert_eq!(rt; &why, wanted);
-    assert!(rt; back.read().is_some());
-    hand.backups.push(Some(back)).expect(rt, "memory");
+    keeps(rt, hand, back);
 }

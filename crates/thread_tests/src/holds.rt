@@ -1,15 +1,13 @@
 //! A runner whose guest is held in mid-epoch while two clients call, each from a thread of its own.
-ghost use Rattle.std.specs.Prelude.{◌≡◌};
-ghost use Rattle.hypervisor.specs.Opening.{start_with};
 
-use super::gates::{Gate, HeldAt, run_held};
-use super::hands::{FRAME, Row, at_start, is_stopped, play};
-use super::pairs::idle_pair;
-use hypervisor::{Client, Node, Pair, UnnamedPair};
+use super::courses::{Course, plays};
+use super::gates::{Deed, Gate, hold};
+use super::hands::{FRAME, Hand, fails, finds_none, has_entries, is_stopped, take_client};
+use super::pairs::Guest;
+use hypervisor::{Client, Node, Pair};
 use std::alloc::Global;
-use std::marker::Brand;
 use std::process::Abort;
-use std::sync::{Arc, Wait};
+use std::sync::Wait;
 use std::test::*;
 use std::thread::{Threads, join};
 
@@ -17,52 +15,41 @@ use std::thread::{Threads, join};
 fn deliver_and_take<P: Pair, R: Wait + Abort>(rt: &R, gate: &Gate, mut client: Client<P>) -> u64 {
     assert!(rt; gate.is_held());
     let number = client.deliver(rt, &FRAME).expect(rt, "a number");
-    assert_eq!(rt; client.take(rt), Ok(None));
+    finds_none(rt, &mut client);
     gate.come();
     number
 }
 
-/// Step 10 of the guest is held until both clients have called. Then the primary fails, and its epoch changes nothing any more.
-fn hold<P: Pair + Send + Sync, R: Threads + Wait + Abort + Sync>(
+/// Both clients do so.
+pub(super) fn call_both<P: Pair + Send + Sync, R: Threads + Wait + Abort + Sync>(
     rt: &R,
-    alloc: Global,
-    pair: UnnamedPair,
-) -> Result<(), Fail>
-    requires { (pair.word ≡ P.word) × (P.start ≡ start_with pair.guest pair.clients) }
-{
-    let mut hand = at_start::<P>(alloc, pair)?;
-    let runner = Box::new(alloc, hand.runners.pop().ok_or("a runner")?)?;
-    let second = hand.clients.pop().ok_or("client 2")?;
-    let first = hand.clients.pop().ok_or("client 1")?;
-    let gate = Arc::new(alloc, Gate::new())?;
-    let pace = HeldAt {
-        step: 10,
-        count: 2,
-        gate: Arc::try_clone(&gate)?,
-    };
-    let (mut runner, (one, other)) = join(
+    gate: &Gate,
+    hand: &mut Hand<P>,
+) {
+    let second = take_client(rt, hand);
+    let first = take_client(rt, hand);
+    let (one, other) = join(
         rt,
-        || run_held(rt, runner, pace),
-        || {
-            join(
-                rt,
-                || deliver_and_take(rt, &*gate, first),
-                || deliver_and_take(rt, &*gate, second),
-            )
-        },
+        || deliver_and_take(rt, gate, first),
+        || deliver_and_take(rt, gate, second),
     );
     assert_eq!(rt; (one.min(other), one.max(other)), (1, 2));
-    play(
-        rt,
-        &mut hand,
-        &[Row::Fails(Node::Primary, 0), Row::Entries(4)],
-    );
+}
+
+/// Step 10 of the guest is held until both clients have called. Then the primary fails, and its epoch changes nothing any more.
+pub(super) fn serve_in_mid_epoch<P: Pair + Send + Sync, R: Threads + Wait + Abort + Sync>(
+    rt: &R,
+    alloc: Global,
+    hand: &mut Hand<P>,
+) {
+    let mut runner = hold(rt, alloc, hand, (10, 2), Deed::CallBoth);
+    fails(rt, hand, Node::Primary, 0);
+    has_entries(rt, hand, 4);
     is_stopped(rt, &mut *runner);
-    play(rt, &mut hand, &[Row::Entries(4)]);
-    Ok(())
+    has_entries(rt, hand, 4);
 }
 
 #[test]
 fn two_clients_are_served_in_mid_epoch(rt: HostRuntime) -> Result<(), Fail> {
-    hold::<Brand, _>(&rt, rt.alloc(), idle_pair(rt.alloc(), 2)?)
+    plays(&rt, rt.alloc(), Guest::Idle, 2, Course::Held)
 }

@@ -5,6 +5,8 @@
 #[cfg(test)]
 mod callers;
 #[cfg(test)]
+mod courses;
+#[cfg(test)]
 mod files;
 #[cfg(test)]
 mod gates;

@@ -1,5 +1,4 @@
 //! The pairs that are tested, at their start.
-ghost use Rattle.std.specs.Prelude.{◌≡◌, ◌≤◌, ◌*◌, length};
 
 use guest_kit::{beacon, echo, idle};
 use guest_machine::Shape;
@@ -7,15 +6,43 @@ use hypervisor::UnnamedPair;
 use std::alloc::Global;
 use std::test::Fail;
 
+/// The guest of a pair.
+#[derive(Clone, Copy)]
+pub(super) enum Guest {
+    /// It does nothing.
+    Idle,
+    /// It sends a frame to client 1 in its step 22.
+    Beacon,
+    /// It sends each frame back to where it came from. Four frames can wait for it at a time.
+    Echo,
+    /// It counts in a register for ever.
+    Counts,
+}
+
 /// The most clients that a pair has.
 const MOST_CLIENTS: u64 = 16;
 
-/// A pair of so many clients. Its guest has four pages, and this image.
-pub(super) fn pair(alloc: Global, clients: u64, image: &[u8]) -> Result<UnnamedPair, Fail>
-    requires some { 1 ≤ clients }
-    requires few { clients ≤ MOST_CLIENTS }
-    requires fits { length image.now ≤ 4096 * 4 }
-{
+/// The most bytes of an image: the guests here have four pages.
+const MOST_BYTES: usize = 4096 * 4;
+
+/// `addi x1, x1, 1` and `j -4`.
+const COUNTS: [u8; 8] = [0x93, 0x80, 0x10, 0, 0x6f, 0xf0, 0xdf, 0xff];
+
+/// The image of a guest.
+fn image(alloc: Global, guest: Guest) -> Result<Vec<u8>, Fail> {
+    match guest {
+        Guest::Idle => Ok(idle(alloc)?),
+        Guest::Beacon => Ok(beacon(alloc)?),
+        Guest::Echo => Ok(echo(alloc)?),
+        Guest::Counts => Ok(Vec::from_slice(alloc, &COUNTS)?),
+    }
+}
+
+/// A pair of so many clients, whose guest has this image.
+fn pair_of(alloc: Global, image: &[u8], clients: u64) -> Result<UnnamedPair, Fail> {
+    if image.len() > MOST_BYTES || clients < 1 || clients > MOST_CLIENTS {
+        return Err("there is no such pair".into());
+    }
     let shape = Shape {
         pages: 4,
         sectors: 1,
@@ -23,26 +50,8 @@ pub(super) fn pair(alloc: Global, clients: u64, image: &[u8]) -> Result<UnnamedP
     Ok(UnnamedPair::new(alloc, shape, clients, image)?)
 }
 
-/// A pair with one client, whose guest sends it a frame in its step 22.
-pub(super) fn beacon_pair(alloc: Global) -> Result<UnnamedPair, Fail> {
-    let image = beacon(alloc)?;
-    pair(alloc, 1, image.as_slice())
-}
-
-/// A pair of so many clients, whose guest does nothing.
-pub(super) fn idle_pair(alloc: Global, clients: u64) -> Result<UnnamedPair, Fail>
-    requires some { 1 ≤ clients }
-    requires few { clients ≤ MOST_CLIENTS }
-{
-    let image = idle(alloc)?;
-    pair(alloc, clients, image.as_slice())
-}
-
-/// A pair of so many clients, whose guest sends each frame back to where it came from. Four frames can wait for it at a time.
-pub(super) fn echo_pair(alloc: Global, clients: u64) -> Result<UnnamedPair, Fail>
-    requires some { 1 ≤ clients }
-    requires few { clients ≤ MOST_CLIENTS }
-{
-    let image = echo(alloc)?;
-    pair(alloc, clients, image.as_slice())
+/// A pair of so many clients with this guest.
+pub(super) fn pair(alloc: Global, guest: Guest, clients: u64) -> Result<UnnamedPair, Fail> {
+    let image = image(alloc, guest)?;
+    pair_of(alloc, image.as_slice(), clients)
 }

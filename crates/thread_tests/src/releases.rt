@@ -3,8 +3,9 @@
 ghost use Rattle.std.specs.Prelude.{◌≡◌};
 ghost use Rattle.hypervisor.specs.Opening.{start_with};
 
-use super::hands::{FRAME, Hand, Row, ack, at_start, play};
-use super::pairs::{beacon_pair, pair};
+use super::courses::{Course, plays};
+use super::hands::{FRAME, Hand, Row, list_of, play, take_client};
+use super::pairs::{Guest, pair};
 use hypervisor::{Client, Pair, UnnamedPair};
 use pair_threads::{Ended, Session, members_of, run_members};
 use std::alloc::Global;
@@ -15,12 +16,12 @@ use std::test::*;
 use std::thread;
 use std::thread::{Threads, join};
 
-/// How often a client tries to take a frame.
+/// How often a client tries to take a frame that comes.
 const MOST_TRIES: u64 = 1_000_000;
 
-/// Takes until the beacon's frame comes. Answers whether it came.
-fn take_frame<P: Pair, R: Wait>(rt: &R, client: &mut Client<P>) -> bool {
-    for _ in 0..MOST_TRIES {
+/// Takes until the beacon's frame comes, so often at most. Answers whether it outcome.
+fn take_frame<P: Pair, R: Wait>(rt: &R, client: &mut Client<P>, tries: u64) -> bool {
+    for _ in 0..tries {
         match client.take(rt) {
             Ok(Some(frame)) => return frame.as_slice() == FRAME.as_slice(),
             Ok(None) => thread::yield_now(),
@@ -30,10 +31,11 @@ fn take_frame<P: Pair, R: Wait>(rt: &R, client: &mut Client<P>) -> bool {
     false
 }
 
-/// A client that takes until the beacon's frame comes.
+/// A client that takes until the beacon's frame comes, so often at most. Where it doesn't come, the run is to end.
 #[derive(Drop)]
 struct Taking<P: Pair> {
     client: Client<P>,
+    tries: u64,
     has_frame: bool,
 }
 
@@ -41,129 +43,144 @@ impl<P: Pair + Send + Sync> Session for Taking<P> {
     ghost served = { λ old new. Unit {0} };
 
     fn serve<R: Wait>(&mut self, rt: &R) -> bool {
-        self.has_frame = take_frame(rt, &mut self.client);
+        self.has_frame = take_frame(rt, &mut self.client, self.tries);
         self.has_frame
     }
 }
 
-/// Runs four epochs of 22 steps of the beacon, whose client takes its frame.
-fn release<P: Pair + Send + Sync, R: Threads + Wait + Abort + Sync>(
+/// So many epochs of so many steps, in which the client tries to take so often at most.
+#[derive(Clone, Copy)]
+struct Plan {
+    epochs: u64,
+    steps: u64,
+    tries: u64,
+}
+
+/// What came of a run.
+#[derive(Clone, Copy)]
+struct Outcome {
+    is_whole: bool,
+    entries: u64,
+    has_frame: bool,
+}
+
+/// What came of this one, and whether its first client has the frame.
+fn outcome_of<P: Pair>(ended: &Ended<Taking<P>>) -> Outcome {
+    let has_frame = match ended.sessions.as_slice() {
+        [session, ..] => session.has_frame,
+        [] => false,
+    };
+    Outcome {
+        is_whole: ended.is_whole,
+        entries: ended.entries,
+        has_frame,
+    }
+}
+
+/// The session of a run's only client.
+fn session_of<P: Pair>(
+    rt: &impl Abort,
+    alloc: Global,
+    mut clients: Vec<Client<P>>,
+    tries: u64,
+) -> Vec<Taking<P>> {
+    let client = clients.pop().expect(rt, "a client");
+    let taking = Taking {
+        client,
+        tries,
+        has_frame: false,
+    };
+    list_of(rt, alloc, taking)
+}
+
+/// Runs the threads of a pair's members while its client takes.
+fn run<P: Pair + Send + Sync, R: Threads + Wait + Abort + Sync>(
     rt: &R,
     alloc: Global,
     pair: UnnamedPair,
-) -> Result<(), Fail>
+    plan: Plan,
+) -> Outcome
     requires { (pair.word ≡ P.word) × (P.start ≡ start_with pair.guest pair.clients) }
 {
-    let (mut clients, members) = members_of::<P>(alloc, pair)?;
-    let client = clients.pop().ok_or("a client")?;
-    let mut sessions = Vec::new(alloc);
-    sessions.push(Taking {
-        client,
-        has_frame: false,
-    })?;
-    let ended = run_members(rt, alloc, members, 4, 22, sessions)?;
-    assert!(rt; ended.is_whole);
-    assert!(rt; has_frame(&ended));
-    Ok(())
+    let (clients, members) = members_of::<P>(alloc, pair).expect(rt, "memory");
+    let sessions = session_of(rt, alloc, clients, plan.tries);
+    let ended = run_members(rt, alloc, members, plan.epochs, plan.steps, sessions);
+    outcome_of(&ended.expect(rt, "threads"))
 }
 
-/// Whether the first client has the frame.
-fn has_frame<P: Pair>(ended: &Ended<Taking<P>>) -> bool {
-    match ended.sessions.as_slice() {
-        [session, ..] => session.has_frame,
-        [] => false,
-    }
+/// The same with a pair of one client and this guest.
+fn runs<R: Threads + Wait + Abort + Sync>(
+    rt: &R,
+    alloc: Global,
+    guest: Guest,
+    plan: Plan,
+) -> Result<Outcome, Fail> {
+    let pair = pair(alloc, guest, 1)?;
+    Ok(run::<Brand, R>(rt, alloc, pair, plan))
 }
 
 #[test]
 fn a_run_releases(rt: HostRuntime) -> Result<(), Fail> {
-    release::<Brand, _>(&rt, rt.alloc(), beacon_pair(rt.alloc())?)
+    let plan = Plan {
+        epochs: 4,
+        steps: 22,
+        tries: MOST_TRIES,
+    };
+    let outcome = runs(&rt, rt.alloc(), Guest::Beacon, plan)?;
+    assert!(rt; outcome.is_whole);
+    assert!(rt; outcome.has_frame);
+    Ok(())
+}
+
+/// One epoch that goes on for years, whose client takes all the same, and then ends it.
+#[test]
+fn a_client_is_served_in_mid_epoch(rt: HostRuntime) -> Result<(), Fail> {
+    let plan = Plan {
+        epochs: 1,
+        steps: 1 << 60,
+        tries: 1000,
+    };
+    let outcome = runs(&rt, rt.alloc(), Guest::Counts, plan)?;
+    assert!(rt; !outcome.is_whole);
+    assert_eq!(rt; outcome.entries, 1000);
+    Ok(())
 }
 
 /// Four epochs of 22 steps, each passed by hand: the frame lands with the first.
-fn pass_four<P: Pair, R: Wait + Abort>(rt: &R, hand: &mut Hand<P>) {
-    for place in 0..4usize {
-        let number = place as u64 + 1;
-        let rows = [
-            Row::Epoch(0, 22),
-            Row::Next(ack(1, number)),
-            Row::Commit(0, place, Ok(ack(1, number))),
-            Row::Acked(ack(1, number), Ok(u64::from(number == 1))),
-        ];
-        play(rt, hand, &rows);
-    }
-}
+static FOUR_EPOCHS: [Row; 16] = [
+    Row::Epoch(0, 22),
+    Row::Next(1, 1),
+    Row::Commit(0, 0, Ok((1, 1))),
+    Row::Acked(1, 1, Ok(1)),
+    Row::Epoch(0, 22),
+    Row::Next(1, 2),
+    Row::Commit(0, 1, Ok((1, 2))),
+    Row::Acked(1, 2, Ok(0)),
+    Row::Epoch(0, 22),
+    Row::Next(1, 3),
+    Row::Commit(0, 2, Ok((1, 3))),
+    Row::Acked(1, 3, Ok(0)),
+    Row::Epoch(0, 22),
+    Row::Next(1, 4),
+    Row::Commit(0, 3, Ok((1, 4))),
+    Row::Acked(1, 4, Ok(0)),
+];
 
 /// One thread calls the members, and the client takes its frame in another.
-fn release_by_hand<P: Pair + Send + Sync, R: Threads + Wait + Abort + Sync>(
+pub(super) fn release_by_hand<P: Pair + Send + Sync, R: Threads + Wait + Abort + Sync>(
     rt: &R,
-    alloc: Global,
-    pair: UnnamedPair,
-) -> Result<(), Fail>
-    requires { (pair.word ≡ P.word) × (P.start ≡ start_with pair.guest pair.clients) }
-{
-    let mut hand = at_start::<P>(alloc, pair)?;
-    let mut client = hand.clients.pop().ok_or("a client")?;
+    hand: &mut Hand<P>,
+) {
+    let mut client = take_client(rt, hand);
     let (has_frame, ()) = join(
         rt,
-        || take_frame(rt, &mut client),
-        || pass_four(rt, &mut hand),
+        || take_frame(rt, &mut client, MOST_TRIES),
+        || play(rt, hand, &FOUR_EPOCHS),
     );
     assert!(rt; has_frame);
-    Ok(())
 }
 
 #[test]
 fn calls_by_hand_release(rt: HostRuntime) -> Result<(), Fail> {
-    release_by_hand::<Brand, _>(&rt, rt.alloc(), beacon_pair(rt.alloc())?)
-}
-
-/// A client that takes so often, and then ends the run.
-#[derive(Drop)]
-struct Ending<P: Pair> {
-    client: Client<P>,
-    takes: u64,
-}
-
-impl<P: Pair + Send + Sync> Session for Ending<P> {
-    ghost served = { λ old new. Unit {0} };
-
-    fn serve<R: Wait>(&mut self, rt: &R) -> bool {
-        for _ in 0..self.takes {
-            if !matches!(self.client.take(rt), Ok(None)) {
-                break;
-            }
-            thread::yield_now();
-        }
-        false
-    }
-}
-
-/// Runs one epoch that goes on for years, whose client takes all the same, and ends it.
-fn serve_in_mid_epoch<P: Pair + Send + Sync, R: Threads + Wait + Abort + Sync>(
-    rt: &R,
-    alloc: Global,
-    pair: UnnamedPair,
-) -> Result<(), Fail>
-    requires { (pair.word ≡ P.word) × (P.start ≡ start_with pair.guest pair.clients) }
-{
-    let (mut clients, members) = members_of::<P>(alloc, pair)?;
-    let client = clients.pop().ok_or("a client")?;
-    let mut sessions = Vec::new(alloc);
-    sessions.push(Ending {
-        client,
-        takes: 1000,
-    })?;
-    let ended = run_members(rt, alloc, members, 1, 1 << 60, sessions)?;
-    assert!(rt; !ended.is_whole);
-    assert_eq!(rt; ended.entries, 1000);
-    Ok(())
-}
-
-/// The bytes of a guest that counts in a register for ever: `addi x1, x1, 1` and `j -4`.
-const COUNTS: [u8; 8] = [0x93, 0x80, 0x10, 0, 0x6f, 0xf0, 0xdf, 0xff];
-
-#[test]
-fn a_client_is_served_in_mid_epoch(rt: HostRuntime) -> Result<(), Fail> {
-    serve_in_mid_epoch::<Brand, _>(&rt, rt.alloc(), pair(rt.alloc(), 1, &COUNTS)?)
+    plays(&rt, rt.alloc(), Guest::Beacon, 1, Course::Released)
 }
