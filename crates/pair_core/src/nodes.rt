@@ -1,5 +1,8 @@
 //! The two nodes: the primary's live machine, and at the backup the image and the checkpoints that may still be committed, each as the
 //! text that a link carries.
+//!
+//! A machine, an image or a checkpoint that is let go on one of several ways out goes by a call of `drop`: at the end of a scope the
+//! prover goes through each of its fields, on every such way, which took it half a minute for one function.
 ghost use Rattle.std.specs.Prelude.{◌≡◌, ◌+◌, ◌^◌, ◌≤◌, ◌<◌, ◌++◌, ◌∷◌, [], length, All, None, OnOk, OnErr, IfOk};
 ghost use Rattle.std.specs.Prelude.{option_map, ◌-◌, ◌*◌};
 ghost use Rattle.frame_ports.specs.Addresses.{IsFrame};
@@ -204,7 +207,7 @@ impl Nodes {
             Ok(checkpoint) => checkpoint,
             Err(SnapshotError::NoMemory(wanted)) => return Err(wanted),
         };
-        text_of(self.alloc, checkpoint)
+        text_of(self.alloc, &checkpoint)
     }
 
     /// The checkpoint's text is sealed, and the live machine is settled.
@@ -238,7 +241,14 @@ impl Nodes {
             Ok(checkpoint) => checkpoint,
             Err(SnapshotError::NoMemory(wanted)) => return Err(wanted),
         };
-        let text = text_of(self.alloc, checkpoint)?;
+        let text = match text_of(self.alloc, &checkpoint) {
+            Ok(text) => text,
+            Err(wanted) => {
+                drop(checkpoint);
+                return Err(wanted);
+            }
+        };
+        drop(checkpoint);
         let image = match Image::empty(self.alloc, self.shape) {
             Ok(image) => image,
             Err(ImageError::NoMemory(wanted)) => return Err(wanted),
@@ -274,9 +284,7 @@ impl Nodes {
             }
             Err(StreamError::Malformed(_)) => unreachable!(),
         }
-        let next = reader.next();
-        drop(reader);
-        match next {
+        match reader.next() {
             Some(checkpoint) => Ok(checkpoint),
             None => unreachable!(),
         }
@@ -325,14 +333,12 @@ impl Nodes {
     }
 }
 
-/// The text of a checkpoint, which is let go.
-fn text_of(alloc: Global, checkpoint: Checkpoint) -> Result<Vec<u8>, MemoryWanted>
-    requires { checkpoint.version ≡ 2 }
-    ensures { IfOk result (λ text. ReadsBack checkpoint text.items) }
+/// The text of a checkpoint.
+fn text_of(alloc: Global, checkpoint: &Checkpoint) -> Result<Vec<u8>, MemoryWanted>
+    requires { checkpoint.now.version ≡ 2 }
+    ensures { IfOk result (λ text. ReadsBack checkpoint.now text.items) }
 {
-    let text = encode(alloc, &checkpoint);
-    drop(checkpoint);
-    match text {
+    match encode(alloc, checkpoint) {
         Ok(text) => Ok(text),
         Err(StreamError::NoMemory(wanted)) => Err(wanted),
         Err(StreamError::Malformed(_)) => unreachable!(),

@@ -1,6 +1,6 @@
-use Rattle.std.proofs.{Common.{ℕ, subst, arith}, lemmas.Result.{IfOk-weaker}}
+use Rattle.std.proofs.{Common.{rules, ℕ, subst, arith}, lemmas.Result.{IfOk-weaker}}
 use Rattle.pair_core.specs.{internal.NodesFields.image_or, Texts.IsText}
-use Rattle.pair_core.proofs.NodesLaws.{base-of, delta-text}
+use Rattle.pair_core.proofs.{Calls.on_ok, NodesLaws.{base-of, delta-text}}
 use Rattle.pair_core.proofs.nodes.Nodes.checkpoint.Goals as goal
 
 pub returns-clause-text : goal.returns-clause-text
@@ -13,3 +13,6 @@ returns-clause-text c =
     subst (λ (n : ℕ). IsText shape generation n base m.guest m.outbox text.items) (omega arith)
     (delta-text m.settled m.dirty m.outbox m generation _ c.in-Ok.checkpoint shape text.items base c.in-Ok.ensures.parts
     reads (c.in-Ok.ensures.image base (base-of m base is)) sized))) c.text_of.ensures
+
+pub returns-clause-room : goal.returns-clause-room
+returns-clause-room c = on_ok c.text_of.result _ (search (arith, rules))
