@@ -25,6 +25,7 @@ use Rattle.pair_book.specs.Made.{IsShape, Reads, carried}
 use Rattle.pair_book.specs.Packets.{PacketState}
 use Rattle.pair_book.specs.Settled.{Runs, runner_state, just_settled}
 use Rattle.pair_book.specs.Standing.{KeepsFrames, Stands, first_ack, last_four}
+use Rattle.book_tests.specs.Machines.{IsLike}
 
 steps-guest : (n : ℕ) (h : HistoryState) → (at h (replicate n Ran)).guest ≡ after_steps n h.guest
 unfolding after_steps
@@ -83,6 +84,9 @@ module _ (laws : StepLaws) (start : HistoryState) (records : HasDeviceRecords st
 
   same-disk : length start.guest.sectors ≡ length m.guest.sectors
   same-disk = sym (ap (λ (g : Guest). length g.sectors) is ∙ steps-disk laws n start.guest)
+
+  pub steps-like : IsLike start m.guest
+  steps-like = record { ram = same-ram; sectors = same-disk }
 
   base : IsBase m start.guest
   base = record {

@@ -1,19 +1,19 @@
--- What a runner whose guest stands at the start brings with an epoch in which nothing happened.
-use Rattle.std.proofs.Common.{◌≡◌, ℕ, List, [], refl}
-use Rattle.pair_history.specs.{Entries.Frame, HistoryState.HistoryState}
-use Rattle.growing_history.specs.{LogState.start_of, SealedTexts.Makes, Views.Member}
-use Rattle.pair_book.specs.declared.prepared.Prepared.{Prepared}
-use Rattle.pair_book.specs.declared.prepared.Prepared.TheVariants as prepared
-use Rattle.pair_book.specs.Made.{Reads, carried, MakesEpoch, IsPrepared}
-use Rattle.pair_book.specs.Packets.{PacketState}
+-- The first runner at its start, with a machine of the guest that makes no step.
+use Rattle.std.proofs.Common.{◌≡◌, ℕ, [], length, sym, ap, ◌∙◌, subst}
+use Rattle.guest_machine.specs.Guest.{Guest, boot_guest}
+use Rattle.pair_history.specs.HistoryState.{HistoryState, start_state}
+use Rattle.growing_history.specs.{LogState.first_runner, Views.Member}
+use Rattle.pair_book.specs.Settled.{Runs, just_settled}
+use Rattle.book_tests.specs.Machines.{IsLike}
 
--- a text of its machine is what it has to prepare
-abbrev pub PreparedLaw : HistoryState → Member → Type 0
-PreparedLaw start seat =
-    (c : PacketState) → Makes (Reads start) c.number c.text (carried c.number []) start.guest start.guest
-    → IsPrepared start seat 0 0 [] (prepared.Checkpoint c)
+module _ (start : HistoryState) (clients : ℕ) (is : start ≡ start_state 1 1 [] clients) (g : Guest) (boot : g ≡ boot_guest 1 1 []) where
+  there : start.guest ≡ g
+  there = ap (λ (h : HistoryState). h.guest) is ∙ sym boot
 
-pub prepared-at : (start : HistoryState) (seat : Member) → PreparedLaw start seat → (what : Prepared)
-    → MakesEpoch start (start_of start) 0 0 [] what → IsPrepared start seat 0 0 [] what
-prepared-at start seat law prepared.Nothing made = λ live. tt
-prepared-at start seat law (prepared.Checkpoint c) made = law c (made refl)
+  pub still-like : IsLike start g
+  still-like = record { ram = ap (λ (h : Guest). length h.ram) there; sectors = ap (λ (h : Guest). length h.sectors) there }
+
+  pub still-runs : (seat : Member) → seat ≡ record { number = first_runner; steps = [] }
+      → Runs start (record { number = first_runner; steps = [] }) (just_settled start.guest []) → Runs start seat (just_settled g [])
+  still-runs seat first runs =
+      subst (λ (x : Member × Guest). Runs start x.0 (just_settled x.1 [])) (λ i. (sym first i, there i)) runs

@@ -1,4 +1,4 @@
 pub mod EpochOfSteps
-pub mod MadeAtStart
+pub mod Repeats
 pub mod CallsInTurn
 pub mod HostLaws

@@ -11,8 +11,10 @@ ghost use Rattle.pair_book.specs.Commits.{WasRead, StandsBy};
 ghost use Rattle.pair_book.specs.Made.{IsShape, IsPrepared};
 ghost use Rattle.pair_book.specs.Settled.{IsSettled, Runs, RunsOn, just_settled};
 ghost use Rattle.pair_book.specs.Standing.{KeepsFrames};
+ghost use Rattle.book_tests.specs.Machines.{IsLike};
 
-use crate::hosts::{Host, next_client};
+use crate::hosts::{Host, Seated, host_of, seat_all};
+use crate::prepared::SettledMachine;
 use crate::rows::{Answer, Call, Row, play, unnamed};
 use epoch_snapshot::{Checkpoint, cut_delta};
 use frame_list::FrameList;
@@ -265,7 +267,8 @@ fn seal<P: Pair, R: Abort>(
     requires dirty { machine.now.dirty ≡ marked_in steps P.start.guest [] }
     requires settled { machine.now.settled ≡ P.start.guest.ram }
     requires seat { runner.old ≡ record { number = first_runner; steps = [] } }
-    ensures runs { OnOk result ((guest : Guest) × (held : List (ℕ × Frame)) × Runs P.start runner.new (just_settled guest held)) }
+    ensures runs { OnOk result ((held : List (ℕ × Frame)) × Runs P.start runner.new (just_settled machine.now.guest held)) }
+    ensures like { OnOk result (IsLike P.start machine.now.guest) }
     ensures read { IfOk result (λ c. WasRead c) }
     ensures shape { IfOk result (λ c. IsShape P.start c.shape) }
     ensures number { IfOk result (λ c. c.number ≡ 1) }
@@ -284,7 +287,14 @@ fn seal<P: Pair, R: Abort>(
     Ok(checkpoint)
 }
 
-/// The first runner's guest makes so many steps, and the epoch is sealed. Answers the checkpoint.
+/// What the first epoch leaves: its machine and its checkpoint.
+#[derive(Drop)]
+struct Sealed {
+    machine: SettledMachine,
+    checkpoint: Box<Checkpoint>,
+}
+
+/// The first runner's guest makes so many steps, and the epoch is sealed.
 fn seal_first<P: Pair, R: Abort>(
     rt: &R,
     alloc: Global,
@@ -293,19 +303,25 @@ fn seal_first<P: Pair, R: Abort>(
     runner: &mut RunnerSeat<P>,
     image: &[u8],
     steps: u64,
-) -> Result<Box<Checkpoint>, Fail>
+) -> Result<Sealed, Fail>
     requires start { (clients : ℕ) × (P.start ≡ start_state 2 1 image.now clients) }
     requires size { length image.now ≤ 8192 }
     requires seat { runner.old ≡ record { number = first_runner; steps = [] } }
-    ensures runs { OnOk result ((guest : Guest) × (held : List (ℕ × Frame)) × Runs P.start runner.new (just_settled guest held)) }
-    ensures read { IfOk result (λ c. WasRead c.value) }
-    ensures shape { IfOk result (λ c. IsShape P.start c.value.shape) }
-    ensures number { IfOk result (λ c. c.value.number ≡ 1) }
+    ensures runs { IfOk result (λ s. (held : List (ℕ × Frame)) × Runs P.start runner.new (just_settled s.machine held)) }
+    ensures like { IfOk result (λ s. IsLike P.start s.machine) }
+    ensures read { IfOk result (λ s. WasRead s.checkpoint.value) }
+    ensures shape { IfOk result (λ s. IsShape P.start s.checkpoint.value.shape) }
+    ensures number { IfOk result (λ s. s.checkpoint.value.number ≡ 1) }
 {
     kept_memory();
     let machine = ran(alloc, image, steps)?;
     let checkpoint = seal(rt, alloc, clock, book, runner, &*machine, steps)?;
-    Ok(Box::new(alloc, checkpoint)?)
+    let checkpoint = Box::new(alloc, checkpoint)?;
+    let machine = SettledMachine::of(machine);
+    Ok(Sealed {
+        machine,
+        checkpoint,
+    })
 }
 
 /// The backup commits what it read, which is the next one. Where memory is refused nothing has changed, and it is tried once more.
@@ -363,30 +379,52 @@ fn frames_alone(alloc: Global, checkpoint: Box<Checkpoint>) -> Result<Vec<FrameL
     Ok(kept)
 }
 
-/// The first runner's guest makes so many steps, and that epoch is sealed and committed. Answers what the first backup keeps.
+/// What the first epoch leaves once it is committed: its machine, and what the first backup keeps.
+#[derive(Drop)]
+struct Committed {
+    machine: SettledMachine,
+    kept: Vec<FrameList>,
+}
+
+/// The first runner's guest makes so many steps, and that epoch is sealed and committed.
 fn commit_epoch<P: Pair, R: Abort>(
     rt: &R,
     alloc: Global,
-    clock: &Clock<P>,
-    book: &mut Book<P>,
-    runner: &mut RunnerSeat<P>,
-    backup: &mut BackupSeat<P>,
+    seated: &mut Seated<P>,
     image: &[u8],
     steps: u64,
-) -> Result<Vec<FrameList>, Fail>
+) -> Result<Committed, Fail>
     requires start { (clients : ℕ) × (P.start ≡ start_state 2 1 image.now clients) }
     requires size { length image.now ≤ 8192 }
-    requires runner { runner.old ≡ record { number = first_runner; steps = [] } }
-    requires backup { backup.old ≡ record { number = first_backup; steps = [] } }
-    ensures runs { OnOk result ((guest : Guest) × (held : List (ℕ × Frame)) × Runs P.start runner.new (just_settled guest held)) }
-    ensures frames { IfOk result (λ kept. All (λ v. All IsFrame v.items) kept.items) }
-    ensures keeps { IfOk result (λ kept. (sent : ℕ) × KeepsFrames P.start backup.new sent 1 (map (λ v. v.items) kept.items)) }
+    requires runner { seated.old.runner ≡ record { number = first_runner; steps = [] } }
+    requires backup { seated.old.backup ≡ record { number = first_backup; steps = [] } }
+    ensures runs { IfOk result (λ x. (held : List (ℕ × Frame)) × Runs P.start seated.new.runner (just_settled x.machine held)) }
+    ensures like { IfOk result (λ x. IsLike P.start x.machine) }
+    ensures frames { IfOk result (λ x. All (λ v. All IsFrame v.items) x.kept.items) }
+    ensures keeps { IfOk result (λ x. (sent : ℕ) × KeepsFrames P.start seated.new.backup sent 1 (map (λ v. v.items) x.kept.items)) }
 {
-    let checkpoint = seal_first(rt, alloc, clock, book, runner, image, steps)?;
-    let ack = commit_first(rt, clock, book, backup, &*checkpoint)?;
+    let sealed = seal_first(
+        rt,
+        alloc,
+        &seated.clock,
+        &mut seated.book,
+        &mut seated.runner,
+        image,
+        steps,
+    )?;
+    let ack = commit_first(
+        rt,
+        &seated.clock,
+        &mut seated.book,
+        &mut seated.backup,
+        &*sealed.checkpoint,
+    )?;
     assert!(rt; ack.generation == 1 && ack.number == 1);
-    let kept = frames_alone(alloc, checkpoint)?;
-    Ok(kept)
+    let kept = frames_alone(alloc, sealed.checkpoint)?;
+    Ok(Committed {
+        machine: sealed.machine,
+        kept,
+    })
 }
 
 /// The pair is named, its guest makes so many steps, and that epoch is sealed and committed.
@@ -396,41 +434,14 @@ fn opened<P: Pair, R: Abort>(
     book: UnnamedBook,
     image: &[u8],
     steps: u64,
-) -> Result<Host<P>, Fail>
+) -> Result<Box<Host<P>>, Fail>
     requires start { (book.word ≡ P.word) × (P.start ≡ start_state 2 1 image.now book.clients) }
     requires size { length image.now ≤ 8192 }
 {
-    let mut members = book.named::<P>();
-    let first = next_client(&mut members.book, &members.clock)?;
-    let second = next_client(&mut members.book, &members.clock)?;
-    let mut book = members.book.open(&members.clock);
-    let mut runner = members.runner;
-    let mut backup = members.backup;
-    let kept = commit_epoch(
-        rt,
-        alloc,
-        &members.clock,
-        &mut book,
-        &mut runner,
-        &mut backup,
-        image,
-        steps,
-    )?;
-    Ok(Host {
-        alloc,
-        clock: members.clock,
-        book,
-        first,
-        second,
-        line: members.line,
-        runner,
-        backup,
-        is_still: false,
-        may_go_live: true,
-        kept,
-        new_backup: None,
-        new_runner: None,
-    })
+    let mut seated = seat_all(alloc, book)?;
+    let committed = commit_epoch(rt, alloc, &mut *seated, image, steps)?;
+    let host = host_of(alloc, seated, committed.machine, committed.kept)?;
+    Ok(host)
 }
 
 fn play_beacon<P: Pair, R: Abort>(
@@ -445,7 +456,7 @@ fn play_beacon<P: Pair, R: Abort>(
     requires size { length image.now ≤ 8192 }
 {
     let mut host = opened::<P, R>(rt, alloc, book, image, steps)?;
-    play(rt, &mut host, rows);
+    play(rt, &mut *host, rows);
     Ok(())
 }
 

@@ -1,152 +1,144 @@
-//! A pair's book, and what its members have outside. Each call of a row is a small method here.
-ghost use Rattle.std.specs.Prelude.{◌≡◌, [], true, IfOk, IfSome};
+//! A pair's book, and its members. Each call of a row is a small method here.
+ghost use Rattle.std.specs.Prelude.{◌≡◌, ℕ, List, [], map, All, IfOk};
+ghost use Rattle.frame_ports.specs.Addresses.{IsFrame};
+ghost use Rattle.pair_history.specs.Entries.{Frame};
 ghost use Rattle.pair_history.specs.HistoryState.{start_state};
-ghost use Rattle.growing_history.specs.LogState.{start_of};
-ghost use Rattle.pair_book.specs.Calls.{IsClientSeat};
-ghost use Rattle.pair_book.specs.Made.{MakesEpoch};
+ghost use Rattle.growing_history.specs.LogState.{first_runner, first_backup};
+ghost use Rattle.pair_book.specs.Opening.{IsBoot};
+ghost use Rattle.pair_book.specs.Settled.{Runs, just_settled};
+ghost use Rattle.pair_book.specs.Standing.{KeepsFrames};
+ghost use Rattle.book_tests.specs.Machines.{IsLike};
 
-use crate::prepared::{old_delta, prepared};
-use crate::rows::{Answer, BEACON, By, Call, Read, Shown};
+use crate::answers::{acknowledged, number, wanted};
+use crate::members::{Backup, Client, Runner, two_clients};
+use crate::prepared::SettledMachine;
+use crate::rows::{Answer, By, Call, Read, Shown};
 use epoch_snapshot::Checkpoint;
 use frame_list::FrameList;
-use growing_history::{BackupSeat, ClientSeat, Clock, Pair, RunnerSeat};
-use pair_book::{
-    Ack, Book, LineSeat, NewBook, OpenEpoch, Prepared, Refusal, UnnamedBook, Want, members_begin,
-    runners_bring_what_they_have,
-};
-use pair_history::Frame;
+use growing_history::{BackupSeat, Clock, Pair, RunnerSeat};
+use pair_book::{Ack, Book, LineSeat, Members, Refusal, UnnamedBook, members_begin};
 use std::alloc::Global;
-use std::marker::Model;
 use std::test::Fail;
 
 /// A frame from client 1 to the guest.
 pub(crate) const FRAME: [u8; 14] = [2, 0, 0, 0, 0, 1, 2, 0, 0, 0, 1, 1, 0x88, 0xb5];
 
-/// A book of two clients, the seats that call it, and what the first backup has kept. The runner's guest has made no step since its last
-/// epoch.
+/// A book of two clients, and the members that call it.
 #[derive(Drop)]
 pub(crate) struct Host<P: Pair> {
     pub(crate) alloc: Global,
     pub(crate) clock: Clock<P>,
     pub(crate) book: Book<P>,
-    pub(crate) first: ClientSeat<P>,
-    pub(crate) second: ClientSeat<P>,
+    pub(crate) first: Client<P>,
+    pub(crate) second: Client<P>,
     pub(crate) line: LineSeat<P>,
-    pub(crate) runner: RunnerSeat<P>,
-    pub(crate) backup: BackupSeat<P>,
-    /// Whether the runner's guest is that of [`prepared`], and stands where the history starts.
-    pub(crate) is_still: bool,
-    /// Whether the first backup isn't live, and has kept [`Host::kept`].
-    pub(crate) may_go_live: bool,
-    /// The frames of the first backup's commits.
-    pub(crate) kept: Vec<FrameList>,
+    pub(crate) runner: Runner<P>,
+    pub(crate) backup: Backup<P>,
     /// The backup that came last, of those that came later.
     pub(crate) new_backup: Option<BackupSeat<P>>,
     /// The runner of the first backup's guest.
     pub(crate) new_runner: Option<RunnerSeat<P>>,
 }
 
-impl<P: Pair> Model for Host<P> {
-    ghost use Rattle.std.specs.Prelude.{◌≡◌, ℕ, List, [], true, map, All};
-    ghost use Rattle.frame_ports.specs.Addresses.{IsFrame};
-    ghost use Rattle.guest_machine.specs.Guest.{Guest};
-    ghost use Rattle.pair_history.specs.Entries.{Frame};
-    ghost use Rattle.pair_history.specs.HistoryState.{start_state};
-    ghost use Rattle.growing_history.specs.Views.{Member};
-    ghost use Rattle.pair_book.specs.Calls.{IsClientSeat};
-    ghost use Rattle.pair_book.specs.Settled.{Runs, just_settled};
-    ghost use Rattle.pair_book.specs.Standing.{KeepsFrames};
-
-    ghost Value = { Member };
-
-    ghost view = { λ h. h.runner };
-
-    // The runner holds some of the frames that were handed out to it.
-    ghost invariant = { λ h. (h.is_still ≡ true → (clients : ℕ) × (P.start ≡ start_state 1 1 [] clients))
-        × ((guest : Guest) × (held : List (ℕ × Frame)) × Runs P.start h.runner (just_settled guest held)
-        × (h.is_still ≡ true → guest ≡ P.start.guest))
-        × IsClientSeat P.start h.first.number
-        × IsClientSeat P.start h.second.number
-        × All (λ v. All IsFrame v.items) h.kept.items
-        × (h.may_go_live ≡ true → (sent : ℕ) × KeepsFrames P.start h.backup sent 1 (map (λ v. v.items) h.kept.items)) };
+/// A pair at its start: its book, and the seats that call it.
+#[derive(Drop)]
+pub(crate) struct Seated<P: Pair> {
+    pub(crate) clock: Clock<P>,
+    pub(crate) book: Book<P>,
+    pub(crate) first: Client<P>,
+    pub(crate) second: Client<P>,
+    pub(crate) line: LineSeat<P>,
+    pub(crate) runner: RunnerSeat<P>,
+    pub(crate) backup: BackupSeat<P>,
 }
 
-/// The seat of the next client.
-pub(crate) fn next_client<P: Pair>(
-    book: &mut NewBook<P>,
-    clock: &Clock<P>,
-) -> Result<ClientSeat<P>, Fail>
-    ensures { IfOk result (λ seat. IsClientSeat P.start seat.number) }
+/// The pair is named and opened. It stands in a box, since a function that keeps it in a local is slow to prove.
+pub(crate) fn seat_all<P: Pair>(alloc: Global, book: UnnamedBook) -> Result<Box<Seated<P>>, Fail>
+    requires word { book.word ≡ P.word }
+    requires start { IsBoot P.start book.clients }
+    ensures runner { IfOk result (λ s. s.value.runner ≡ record { number = first_runner; steps = [] }) }
+    ensures backup { IfOk result (λ s. s.value.backup ≡ record { number = first_backup; steps = [] }) }
 {
-    match book.next_client(clock) {
-        Some(seat) => Ok(seat),
-        None => Err("one more client".into()),
-    }
+    let Members {
+        clock,
+        mut book,
+        runner,
+        backup,
+        line,
+    } = book.named::<P>();
+    let (first, second) = two_clients(&mut book, &clock)?;
+    let seated = Seated {
+        book: book.open(&clock),
+        clock,
+        first,
+        second,
+        line,
+        runner,
+        backup,
+    };
+    Ok(Box::new(alloc, seated)?)
 }
 
-/// The pair is named and opened, with a guest that makes no step.
-pub(crate) fn opened<P: Pair>(alloc: Global, book: UnnamedBook) -> Result<Host<P>, Fail>
-    requires { (book.word ≡ P.word) × (P.start ≡ start_state 1 1 [] book.clients) }
+/// The host of the pair, whose runner has this machine, and whose first backup has kept these frames.
+pub(crate) fn host_of<P: Pair>(
+    alloc: Global,
+    seated: Box<Seated<P>>,
+    machine: SettledMachine,
+    kept: Vec<FrameList>,
+) -> Result<Box<Host<P>>, Fail>
+    requires like { IsLike P.start machine }
+    requires runs { (held : List (ℕ × Frame)) × Runs P.start seated.value.runner (just_settled machine held) }
+    requires frames { All (λ v. All IsFrame v.items) kept.items }
+    requires keeps { (sent : ℕ) × KeepsFrames P.start seated.value.backup sent 1 (map (λ v. v.items) kept.items) }
 {
-    members_begin();
-    let mut members = book.named::<P>();
-    let first = next_client(&mut members.book, &members.clock)?;
-    let second = next_client(&mut members.book, &members.clock)?;
-    let book = members.book.open(&members.clock);
-    Ok(Host {
-        alloc,
-        clock: members.clock,
+    let Seated {
+        clock,
         book,
         first,
         second,
-        line: members.line,
-        runner: members.runner,
-        backup: members.backup,
-        is_still: true,
+        line,
+        runner,
+        backup,
+    } = Box::into_inner(seated);
+    let runner = Runner {
+        seat: runner,
+        machine,
+    };
+    let backup = Backup {
+        seat: backup,
         may_go_live: true,
-        kept: Vec::new(alloc),
+        kept,
+    };
+    let host = Host {
+        alloc,
+        clock,
+        book,
+        first,
+        second,
+        line,
+        runner,
+        backup,
         new_backup: None,
         new_runner: None,
-    })
-}
-
-/// What is said of a frame that was taken, where there is one.
-fn taken(frame: Option<Frame>) -> Answer {
-    let Some(frame) = frame else {
-        return Answer::None;
     };
-    if frame.as_slice() == &BEACON[..] {
-        Answer::Beacon
-    } else {
-        Answer::Frame
-    }
+    Ok(Box::new(alloc, host)?)
 }
 
-/// What a runner is asked for.
-fn wanted(want: Want) -> Answer {
-    Answer::Want(want.kind, want.generation, want.number)
-}
-
-/// Which checkpoint is acknowledged.
-fn acknowledged(ack: Ack) -> Answer {
-    Answer::Ack(ack.generation, ack.number)
-}
-
-/// This number, where there is one.
-fn number(number: Option<u64>) -> Answer {
-    match number {
-        Some(number) => Answer::Number(number),
-        None => Answer::None,
-    }
+/// The pair is named and opened, with a guest that makes no step.
+pub(crate) fn opened<P: Pair>(alloc: Global, book: UnnamedBook) -> Result<Box<Host<P>>, Fail>
+    requires { (book.word ≡ P.word) × (P.start ≡ start_state 1 1 [] book.clients) }
+{
+    members_begin();
+    let seated = seat_all(alloc, book)?;
+    let machine = SettledMachine::still(alloc)?;
+    let host = host_of(alloc, seated, machine, Vec::new(alloc))?;
+    Ok(host)
 }
 
 impl<P: Pair> Host<P> {
     /// Whether the first backup is the live one, and no node is alone: then reading nothing is Stale.
     fn may_commit(&self) -> bool {
-        matches!(
-            self.book.commit_refusal(&self.backup, None),
-            Some(Refusal::Stale)
-        )
+        matches!(self.backup.foresee(&self.book), Some(Refusal::Stale))
     }
 
     /// What can be seen of the book by calls that change nothing.
@@ -155,7 +147,7 @@ impl<P: Pair> Host<P> {
         Shown {
             entries: self.book.entries(),
             steps,
-            want: self.book.ask(&self.runner).ok(),
+            want: self.runner.ask(&self.book).ok(),
             may_commit: self.may_commit(),
         }
     }
@@ -169,7 +161,7 @@ impl<P: Pair> Host<P> {
             Call::LoseOut(client, place) => self.lose_out(client, place),
             Call::Ask => self.ask(),
             Call::AskNew => self.ask_new(),
-            Call::Submit(generation, number) => self.submit_made(generation, number),
+            Call::Submit(generation, number) => self.submit_checkpoint(generation, number),
             Call::SubmitNone => self.submit_none(),
             Call::Next => self.next(),
             Call::Commit(by, read) => self.commit_read(by, read),
@@ -181,27 +173,19 @@ impl<P: Pair> Host<P> {
             Call::Foresee => self.foresee(),
             Call::IsEarlier(generation, number) => Ok(self.is_earlier(generation, number)),
             Call::Seats => Ok(self.seats()),
-            Call::Entries => Ok(Answer::Number(self.book.entries())),
+            Call::Entries => Ok(self.entries()),
         }
     }
 
     fn deliver(&mut self, bytes: &[u8]) -> Result<Answer, Refusal> {
-        Ok(Answer::Number(self.book.deliver(&self.clock, &mut self.first, bytes)?))
-    }
-
-    fn take_first(&mut self) -> Result<Answer, Refusal> {
-        Ok(taken(self.book.take(&self.clock, &mut self.first)?))
-    }
-
-    fn take_second(&mut self) -> Result<Answer, Refusal> {
-        Ok(taken(self.book.take(&self.clock, &mut self.second)?))
+        self.first.deliver(&self.clock, &mut self.book, bytes)
     }
 
     fn take(&mut self, client: u64) -> Result<Answer, Refusal> {
         if client == 1 {
-            self.take_first()
+            self.first.take(&self.clock, &mut self.book)
         } else {
-            self.take_second()
+            self.second.take(&self.clock, &mut self.book)
         }
     }
 
@@ -220,7 +204,7 @@ impl<P: Pair> Host<P> {
     }
 
     fn ask(&self) -> Result<Answer, Refusal> {
-        Ok(wanted(self.book.ask(&self.runner)?))
+        Ok(wanted(self.runner.ask(&self.book)?))
     }
 
     fn ask_new(&self) -> Result<Answer, Refusal> {
@@ -230,65 +214,17 @@ impl<P: Pair> Host<P> {
         Ok(wanted(self.book.ask(runner)?))
     }
 
-    /// The runner submits this, with an epoch of no arrival and no step.
-    fn submit(&mut self, what: &Prepared) -> Result<Answer, Refusal>
-        requires { MakesEpoch P.start (start_of P.start) 0 0 [] what.now }
-    {
-        if !self.is_still {
-            return Ok(Answer::NotMade);
-        }
-        runners_bring_what_they_have();
-        let epoch = OpenEpoch {
-            arrivals: 0,
-            steps: 0,
-        };
-        let next = self.book.submit(self.alloc, &self.clock, &mut self.runner, epoch, &[], what)?;
-        Ok(number(next.frames.first().map(|given| given.0)))
+    fn submit_checkpoint(&mut self, generation: u64, number: u64) -> Result<Answer, Refusal> {
+        self.runner.submit_checkpoint(self.alloc, &self.clock, &mut self.book, generation, number)
     }
 
-    /// It submits such an epoch with no checkpoint.
     fn submit_none(&mut self) -> Result<Answer, Refusal> {
-        runners_bring_what_they_have();
-        let epoch = OpenEpoch {
-            arrivals: 0,
-            steps: 0,
-        };
-        let next = self.book.submit(
-            self.alloc,
-            &self.clock,
-            &mut self.runner,
-            epoch,
-            &[],
-            &Prepared::Nothing,
-        )?;
-        Ok(number(next.frames.first().map(|given| given.0)))
-    }
-
-    /// The checkpoint of this generation and number, and that as it is prepared; none where another guest runs.
-    fn made(&self, generation: u64, number: u64) -> Option<(Checkpoint, Prepared)>
-        ensures { IfSome result (λ x. MakesEpoch P.start (start_of P.start) 0 0 [] x.1) }
-    {
-        if !self.is_still {
-            return None;
-        }
-        let made = prepared(self.alloc, generation, number)?;
-        Some(made)
-    }
-
-    fn submit_made(&mut self, generation: u64, number: u64) -> Result<Answer, Refusal> {
-        match self.made(generation, number) {
-            Some((_, what)) => self.submit(&what),
-            None => Ok(Answer::NotMade),
-        }
+        self.runner
+            .submit_none(self.alloc, &self.clock, &mut self.book)
     }
 
     fn next(&mut self) -> Result<Answer, Refusal> {
         Ok(number(self.book.next()?.map(|packet| packet.number())))
-    }
-
-    fn commit_first(&mut self, read: Option<&Checkpoint>) -> Result<Answer, Refusal> {
-        self.may_go_live = false;
-        Ok(acknowledged(self.book.commit(&self.clock, &mut self.backup, read)?))
     }
 
     fn commit_new(&mut self, read: Option<&Checkpoint>) -> Result<Answer, Refusal> {
@@ -300,7 +236,7 @@ impl<P: Pair> Host<P> {
 
     fn commit(&mut self, by: By, read: Option<&Checkpoint>) -> Result<Answer, Refusal> {
         match by {
-            By::First => self.commit_first(read),
+            By::First => self.backup.commit(&self.clock, &mut self.book, read),
             By::New => self.commit_new(read),
         }
     }
@@ -309,12 +245,12 @@ impl<P: Pair> Host<P> {
         let checkpoint = match read {
             Read::Nothing => return self.commit(by, None),
             Read::Checkpoint(generation, number) => {
-                prepared(self.alloc, generation, number).map(|made| made.0)
+                self.runner.checkpoint(self.alloc, generation, number)
             }
-            Read::OldDelta => old_delta(self.alloc),
+            Read::OldDelta => self.runner.old_delta(self.alloc),
         };
         match checkpoint {
-            Some(checkpoint) => self.commit(by, Some(&checkpoint)),
+            Some(checkpoint) => self.commit(by, Some(&*checkpoint)),
             None => Ok(Answer::NotMade),
         }
     }
@@ -333,15 +269,11 @@ impl<P: Pair> Host<P> {
         Ok(Answer::Number(self.book.fail_backup(&self.clock)?.count))
     }
 
-    /// The first backup is to go live, and hands over what it has kept. Answers the number of its runner's seat.
+    /// Answers the number of the new runner's seat.
     fn go_live(&mut self) -> Result<Answer, Refusal> {
-        if !self.may_go_live {
+        let Some(runner) = self.backup.go_live(&self.clock, &mut self.book)? else {
             return Ok(Answer::NotMade);
-        }
-        let runner = self
-            .book
-            .go_live(&self.clock, &mut self.backup, 1, self.kept.as_slice())?;
-        self.may_go_live = false;
+        };
         let number = runner.number();
         self.new_runner = Some(runner);
         Ok(Answer::Number(number))
@@ -356,15 +288,15 @@ impl<P: Pair> Host<P> {
     }
 
     fn foresee(&self) -> Result<Answer, Refusal> {
-        match self.book.commit_refusal(&self.backup, None) {
+        match self.backup.foresee(&self.book) {
             Some(why) => Err(why),
             None => Ok(Answer::None),
         }
     }
 
     fn is_earlier(&self, generation: u64, number: u64) -> Answer {
-        match prepared(self.alloc, generation, number) {
-            Some((checkpoint, _)) => Answer::Truth(self.book.is_earlier(&checkpoint)),
+        match self.runner.checkpoint(self.alloc, generation, number) {
+            Some(checkpoint) => Answer::Truth(self.book.is_earlier(&*checkpoint)),
             None => Answer::NotMade,
         }
     }
@@ -377,5 +309,9 @@ impl<P: Pair> Host<P> {
             self.first.number(),
             self.second.number(),
         ])
+    }
+
+    fn entries(&self) -> Answer {
+        Answer::Number(self.book.entries())
     }
 }

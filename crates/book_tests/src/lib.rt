@@ -3,11 +3,15 @@
 #![tactic(auto)]
 
 #[cfg(test)]
+mod answers;
+#[cfg(test)]
 mod beacon;
 #[cfg(test)]
 mod calls;
 #[cfg(test)]
 mod hosts;
+#[cfg(test)]
+mod members;
 #[cfg(test)]
 mod packets;
 #[cfg(test)]

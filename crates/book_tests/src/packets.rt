@@ -23,11 +23,11 @@ fn a_packet_reads_back(rt: HostRuntime) -> Result<(), Fail> {
     let packet = Packet::new(rt.alloc(), &checkpoint)?;
     assert_eq!(rt; (packet.generation(), packet.number()), (5, 0));
     let other = packet.share()?;
-    let read = read_back(rt.alloc(), packet.bytes()).ok_or("a whole checkpoint")?;
+    let read = read_back(rt.alloc(), SHAPE, packet.bytes()).ok_or("a whole checkpoint")?;
     assert_eq!(rt; parts(&read), (5, 0, 2, checkpoint.pages().len()));
     drop(packet);
     assert_eq!(rt; other.generation(), 5);
-    let read = read_back(rt.alloc(), other.bytes()).ok_or("a whole checkpoint")?;
+    let read = read_back(rt.alloc(), SHAPE, other.bytes()).ok_or("a whole checkpoint")?;
     assert_eq!(rt; parts(&read), (5, 0, 2, checkpoint.pages().len()));
     Ok(())
 }

@@ -163,7 +163,7 @@ fn play_still<P: Pair, R: Abort>(
     requires { (book.word ≡ P.word) × (P.start ≡ start_state 1 1 [] book.clients) }
 {
     let mut host = opened::<P>(alloc, book)?;
-    play(rt, &mut host, rows);
+    play(rt, &mut *host, rows);
     Ok(())
 }
 

@@ -3,7 +3,8 @@ ghost use Rattle.std.specs.Prelude.{◌≡◌, []};
 ghost use Rattle.pair_history.specs.HistoryState.{start_state};
 ghost use Rattle.pair_book.specs.Calls.{IsClientSeat};
 
-use crate::hosts::{FRAME, next_client};
+use crate::hosts::FRAME;
+use crate::members::next_client;
 use crate::rows::unnamed;
 use growing_history::{Badge, ClientSeat, Clock, Pair};
 use pair_book::{Book, Members, Refusal, UnnamedBook};

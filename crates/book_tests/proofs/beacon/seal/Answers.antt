@@ -1,11 +1,10 @@
-use Rattle.std.proofs.Common.{ℕ, List, [], sym, subst, ◌∙◌, ◌≡◌}
-use Rattle.guest_machine.specs.Guest.{Guest}
+use Rattle.std.proofs.Common.{List, [], sym, subst, ◌∙◌}
 use Rattle.pair_history.specs.Entries.{Frame}
 use Rattle.growing_history.specs.Views.{Member}
 use Rattle.pair_book.specs.declared.prepared.Prepared.TheVariants as prepared
 use Rattle.pair_book.specs.Made.{IsPrepared}
 use Rattle.pair_book.specs.Settled.{IsSettled, Runs, RunsOn, RunnerState, runner_state}
-use Rattle.book_tests.proofs.EpochOfSteps.{StepLaws, runs-steps, steps-shape, steps-made, was-read}
+use Rattle.book_tests.proofs.EpochOfSteps.{StepLaws, runs-steps, steps-like, steps-shape, steps-made, was-read}
 use Rattle.book_tests.proofs.beacon.seal.Goals as goal
 
 pub submit-requires-clause-settled : goal.submit-requires-clause-settled
@@ -55,7 +54,18 @@ returns-clause-runs g c =
     (runs-steps start _ start.guest n m (c.members_begin.ensures.runner start) c.requires.guest c.requires.outbox) in
     let on : RunsOn start c.args.runner.now c.submit.new.runner 0 n m.outbox c.in_ok-next.next.frames.items =
     subst (λ (fs : List Frame). RunsOn start c.args.runner.now c.submit.new.runner 0 n fs c.in_ok-next.next.frames.items)
-    c.outbox-frames.ensures.value c.in_ok-next.ensures in (m.guest, c.in_ok-next.next.frames.items, on [] m.guest start.guest runs)
+    c.outbox-frames.ensures.value c.in_ok-next.ensures in (c.in_ok-next.next.frames.items, on [] m.guest start.guest runs)
+
+pub returns-clause-like : goal.returns-clause-like
+returns-clause-like g c =
+    let start = g.P.Pair.start in
+    let laws : StepLaws = record {
+      bytes = c.kept_memory.ensures.bytes;
+      records = c.kept_memory.ensures.rules;
+      disk = c.kept_disk.ensures.bytes;
+      others = λ k h i none. (c.changed_sectors_are_listed.ensures.run k h []).others i none;
+    } in
+    steps-like laws start c.requires.records c.args.steps c.args.machine.now c.requires.guest c.requires.dirty c.requires.settled
 
 pub returns-clause-read : goal.returns-clause-read
 returns-clause-read g c =

@@ -1,7 +1,9 @@
-use Rattle.std.proofs.Common.{[], sym, ap, subst, ◌∙◌, ◌≡◌}
+use Rattle.std.proofs.Common.{ℕ, List, [], sym, ap, subst, ◌∙◌, ◌≡◌}
 use Rattle.guest_machine.specs.Guest.{Guest, State, HasDeviceRecords, boot_guest}
 use Rattle.guest_machine.specs.Runs.{after_steps, sent_in, marked_in}
-use Rattle.pair_history.specs.HistoryState.{HistoryState}
+use Rattle.pair_history.specs.{Entries.Frame, HistoryState.HistoryState}
+use Rattle.pair_book.specs.Settled.{Runs, just_settled}
+use Rattle.book_tests.specs.Machines.{IsLike}
 use Rattle.book_tests.proofs.beacon.seal_first.Goals as goal
 
 pub seal-requires-clause-records : goal.seal-requires-clause-records
@@ -33,3 +35,14 @@ seal-requires-clause-settled g c =
     let there : boot_guest 2 1 c.args.image.now ≡ g.P.Pair.start.guest =
     sym (ap (λ (h : HistoryState). h.guest) c.requires.start.1) in
     ap (λ (m : State). m.settled) c.deref.ensures ∙ (c.in_ok-machine.ensures.settled ∙ ap (λ (h : Guest). h.ram) there)
+
+pub returns-clause-runs : goal.returns-clause-runs
+returns-clause-runs g c =
+    let is : c.deref.result.now.guest ≡ c.of-machine.result = ap (λ (m : State). m.guest) c.deref.ensures ∙ sym c.of-machine.ensures in
+    subst (λ (x : Guest). (held : List (ℕ × Frame)) × Runs g.P.Pair.start c.seal.new.runner (just_settled x held)) is
+    c.in_ok-checkpoint.ensures.runs
+
+pub returns-clause-like : goal.returns-clause-like
+returns-clause-like g c =
+    let is : c.deref.result.now.guest ≡ c.of-machine.result = ap (λ (m : State). m.guest) c.deref.ensures ∙ sym c.of-machine.ensures in
+    subst (λ (x : Guest). IsLike g.P.Pair.start x) is c.in_ok-checkpoint.ensures.like
