@@ -1,9 +1,11 @@
 //! What no clause says: that packets are made where there is memory, and that one is read back as its checkpoint.
+ghost use Rattle.std.specs.Prelude.{◌≡◌, IfOk};
 
 use crate::prepared::{SHAPE, read_back};
 use epoch_snapshot::{Checkpoint, cut_full};
 use guest_machine::Machine;
 use pair_book::Packet;
+use std::alloc::Global;
 use std::test::*;
 
 /// Its generation, its number, the version that it was read of, and how many pages it has.
@@ -16,18 +18,31 @@ fn parts(checkpoint: &Checkpoint) -> (u64, u64, u32, usize) {
     )
 }
 
+/// The full checkpoint of generation 5 of a guest with one word in its memory.
+fn full(alloc: Global) -> Result<Box<Checkpoint>, Fail>
+    ensures { IfOk result (λ c. c.value.version ≡ 2) }
+{
+    let machine = Box::new(alloc, Machine::boot(alloc, SHAPE, &[0x13, 0, 0, 0])?)?;
+    let checkpoint = cut_full(alloc, &*machine, 5)?;
+    Ok(Box::new(alloc, checkpoint)?)
+}
+
+/// The parts of what this packet is read back as.
+fn read_parts(alloc: Global, packet: &Packet) -> Result<(u64, u64, u32, usize), Fail> {
+    let read = read_back(alloc, SHAPE, packet.bytes()).ok_or("a whole checkpoint")?;
+    Ok(parts(&read))
+}
+
 #[test]
 fn a_packet_reads_back(rt: HostRuntime) -> Result<(), Fail> {
-    let machine = Machine::boot(rt.alloc(), SHAPE, &[0x13, 0, 0, 0])?;
-    let checkpoint = cut_full(rt.alloc(), &machine, 5)?;
-    let packet = Packet::new(rt.alloc(), &checkpoint)?;
+    let checkpoint = full(rt.alloc())?;
+    let pages = checkpoint.pages().len();
+    let packet = Packet::new(rt.alloc(), &*checkpoint)?;
     assert_eq!(rt; (packet.generation(), packet.number()), (5, 0));
     let other = packet.share()?;
-    let read = read_back(rt.alloc(), SHAPE, packet.bytes()).ok_or("a whole checkpoint")?;
-    assert_eq!(rt; parts(&read), (5, 0, 2, checkpoint.pages().len()));
+    assert_eq!(rt; read_parts(rt.alloc(), &packet)?, (5, 0, 2, pages));
     drop(packet);
     assert_eq!(rt; other.generation(), 5);
-    let read = read_back(rt.alloc(), SHAPE, other.bytes()).ok_or("a whole checkpoint")?;
-    assert_eq!(rt; parts(&read), (5, 0, 2, checkpoint.pages().len()));
+    assert_eq!(rt; read_parts(rt.alloc(), &other)?, (5, 0, 2, pages));
     Ok(())
 }
