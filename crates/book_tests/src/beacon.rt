@@ -1,6 +1,7 @@
 //! A pair whose guest runs: the beacon sends client 1 one frame, in its 22nd step, and then jumps to itself for ever. Its first epoch is
 //! sealed and committed, and then the book is called.
-ghost use Rattle.std.specs.Prelude.{◌≡◌, ℕ, ◌≤◌, List, [], ◌∷◌, length, map, All, IfOk, OnOk};
+ghost use Rattle.std.specs.Prelude.{◌≡◌, ℕ, ◌≤◌, List, [], ◌∷◌, length, vec_len, map, All, IfOk, OnOk};
+ghost use Rattle.checkpoint_stream.specs.{ReadBack.ReadsBack, Text.text};
 ghost use Rattle.frame_ports.specs.Addresses.{IsFrame};
 ghost use Rattle.guest_machine.specs.Guest.{Guest, HasDeviceRecords, boot_guest};
 ghost use Rattle.guest_machine.specs.Runs.{after_steps, sent_in, marked_in};
@@ -193,6 +194,29 @@ fn a_loss_of_a_box_has_no_number(rt: HostRuntime) -> Result<(), Fail> {
     answers(&rt, rt.alloc(), MOST_STEPS, &ROWS)
 }
 
+/// The beacon's image. Where memory is refused it is made once more.
+fn beacon_image(alloc: Global) -> Result<Vec<u8>, Fail>
+    ensures { IfOk result (λ image. vec_len image ≡ 0x111a) }
+{
+    if let Ok(image) = beacon(alloc) {
+        return Ok(image);
+    }
+    Ok(beacon(alloc)?)
+}
+
+/// This checkpoint's text. Where memory is refused it is made once more.
+fn packet_of(alloc: Global, checkpoint: &Checkpoint) -> Result<Packet, Fail>
+    requires { checkpoint.now.version ≡ 2 }
+    ensures number { IfOk result (λ p. p.number ≡ checkpoint.now.number) }
+    ensures text { IfOk result (λ p. p.text ≡ text checkpoint.now) }
+    ensures read { IfOk result (λ p. ReadsBack checkpoint.now p.text) }
+{
+    if let Ok(packet) = Packet::new(alloc, checkpoint) {
+        return Ok(packet);
+    }
+    Ok(Packet::new(alloc, checkpoint)?)
+}
+
 /// The machine of that image after so many steps from boot on.
 fn ran(alloc: Global, image: &[u8], steps: u64) -> Result<Box<Machine>, Fail>
     requires { length image.now ≤ 8192 }
@@ -279,7 +303,7 @@ fn seal<P: Pair, R: Abort>(
     members_begin();
     runners_bring_what_they_have();
     let checkpoint = cut_delta(alloc, machine, 1, 1)?;
-    let packet = Packet::new(alloc, &checkpoint)?;
+    let packet = packet_of(alloc, &checkpoint)?;
     let what = Prepared::Checkpoint(packet);
     let frames = machine.outbox();
     let next = submit(rt, alloc, clock, book, runner, steps, frames, &what)?;
@@ -462,6 +486,6 @@ fn play_beacon<P: Pair, R: Abort>(
 
 /// Once the epoch of so many steps is committed these calls are made one after another, and are answered so.
 fn answers<R: Abort>(rt: &R, alloc: Global, steps: u64, rows: &[Row]) -> Result<(), Fail> {
-    let image = beacon(alloc)?;
+    let image = beacon_image(alloc)?;
     play_beacon::<Brand, R>(rt, alloc, unnamed(alloc)?, image.as_slice(), steps, rows)
 }
