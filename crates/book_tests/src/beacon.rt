@@ -108,7 +108,7 @@ fn a_held_frame_lands_where_the_backup_fails(rt: HostRuntime) -> Result<(), Fail
 /// one that adds no entry is answered.
 #[test]
 fn a_history_has_no_more_numbers(rt: HostRuntime) -> Result<(), Fail> {
-    static ROWS: [Row; 28] = [
+    static ROWS: [Row; 29] = [
         (Call::Entries, Ok(Answer::Number(MOST_STEPS))),
         (Call::Deliver(14), Ok(Answer::Number(1))),
         (Call::Deliver(14), Ok(Answer::Number(2))),
@@ -125,6 +125,7 @@ fn a_history_has_no_more_numbers(rt: HostRuntime) -> Result<(), Fail> {
         (Call::LoseIn(3, 0), Err(Refusal::NoClient)),
         (Call::LoseIn(1, 8), Ok(Answer::Loss(Loss::Empty))),
         (Call::LoseIn(1, 3), Err(Refusal::Exhausted)),
+        (Call::LoseOut(3, 0), Err(Refusal::NoClient)),
         (Call::LoseOut(1, 0), Ok(Answer::Loss(Loss::Empty))),
         (Call::Acked(2, 1), Err(Refusal::Stale)),
         (Call::Acked(1, 2), Err(Refusal::Gap)),
@@ -154,11 +155,48 @@ fn a_full_inbox_has_no_more_numbers(rt: HostRuntime) -> Result<(), Fail> {
     answers(&rt, rt.alloc(), MOST_STEPS - 56, rows.as_slice())
 }
 
-/// A node that is alone has no numbers for an epoch with what may be handed out after it, and calls of its client take the last ones.
+/// In a pair the history has no numbers for what may be handed out after an epoch. A `submit` that is refused for another reason too is
+/// refused for that one first.
+#[test]
+fn a_pair_has_no_numbers_for_an_epoch(rt: HostRuntime) -> Result<(), Fail> {
+    static ROWS: [Row; 22] = [
+        (Call::Submit(1, 2), Ok(Answer::None)),
+        (Call::Submit(1, 3), Ok(Answer::None)),
+        (Call::Submit(1, 4), Ok(Answer::None)),
+        (Call::Deliver(14), Ok(Answer::Number(1))),
+        // Four are pending.
+        (Call::Submit(1, 5), Err(Refusal::Behind)),
+        (Call::Submit(1, 6), Err(Refusal::Behind)),
+        (Call::Submit(2, 5), Err(Refusal::Behind)),
+        (Call::SubmitNone, Err(Refusal::Behind)),
+        (Call::Acked(1, 1), Ok(Answer::Number(1))),
+        (Call::SubmitNone, Err(Refusal::AlreadyPaired)),
+        (Call::Submit(1, 6), Err(Refusal::Stale)),
+        (Call::Submit(2, 5), Err(Refusal::Stale)),
+        (Call::Submit(1, 0), Err(Refusal::Stale)),
+        (Call::Submit(1, 5), Err(Refusal::Exhausted)),
+        (Call::FailPrimary, Ok(Answer::None)),
+        (Call::Submit(1, 5), Err(Refusal::Stopped)),
+        (Call::Submit(2, 5), Err(Refusal::Stopped)),
+        (Call::SubmitNone, Err(Refusal::Stopped)),
+        (Call::GoLive, Ok(Answer::Number(6))),
+        (Call::Submit(1, 5), Err(Refusal::Stopped)),
+        (Call::SubmitNone, Err(Refusal::Stopped)),
+        // The steps, the delivery and the landing.
+        (Call::Entries, Ok(Answer::Number(MOST_STEPS + 2))),
+    ];
+    answers(&rt, rt.alloc(), MOST_STEPS, &ROWS)
+}
+
+/// A node that is alone has no numbers for an epoch with what may be handed out after it, and calls of its client take the last ones. A
+/// new backup's full checkpoint has none then. A checkpoint of the node that is alone is NotPaired first, and in the new pair none is
+/// AlreadyPaired first, and another is Stale first.
 #[test]
 fn a_lone_history_has_no_more_numbers(rt: HostRuntime) -> Result<(), Fail> {
-    static ROWS: [Row; 12] = [
+    static ROWS: [Row; 18] = [
         (Call::FailBackup, Ok(Answer::Number(1))),
+        (Call::Submit(1, 2), Err(Refusal::NotPaired)),
+        (Call::Submit(2, 0), Err(Refusal::NotPaired)),
         (Call::SubmitNone, Err(Refusal::Exhausted)),
         (Call::Take(1), Ok(Answer::Beacon)),
         (Call::Take(1), Ok(Answer::None)),
@@ -169,6 +207,10 @@ fn a_lone_history_has_no_more_numbers(rt: HostRuntime) -> Result<(), Fail> {
         (Call::Deliver(14), Ok(Answer::Number(5))),
         (Call::Take(1), Err(Refusal::Exhausted)),
         (Call::Protect, Ok(Answer::Number(6))),
+        (Call::SubmitNone, Err(Refusal::AlreadyPaired)),
+        (Call::Submit(1, 0), Err(Refusal::Stale)),
+        (Call::Submit(2, 1), Err(Refusal::Stale)),
+        (Call::Submit(2, 0), Err(Refusal::Exhausted)),
         (Call::Entries, Ok(Answer::Number(NUMBER_LIMIT - 1))),
     ];
     answers(&rt, rt.alloc(), MOST_STEPS, &ROWS)
