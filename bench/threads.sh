@@ -7,8 +7,9 @@
 #   is idle; at median and at 99.9 percent. The middle ratio of five turns.
 # members: what each member's calls take with 4096 pages written an epoch, beside one page, by hand and with nobody else at the lock; and
 #   what a client's take needs while they are made, beside while the guest runs. The middle ratio of three turns.
-# clients: calls of 16 clients at once while epochs run, beside those of a pair in plain Rust with one mutex (`interpreter threads`). The
-#   middle ratio of nine turns.
+# clients: calls of 16 clients at once while epochs of 10^6 steps run, beside those of a pair in plain Rust with one mutex (`interpreter
+#   threads`). The guest is never twice in the same state: of one that waits an epoch takes no time here, and some 15 ms in plain Rust, so
+#   that the runners would call unequally often. The middle ratio of nine turns.
 # memory: the most memory after 100,000 epochs beside that after 10,000. The steps of all of them are one stored entry of the history.
 # REMUS names another program in the place of the repository's own.
 set -eu
@@ -107,11 +108,11 @@ members() {
 }
 
 clients() {
-    local words=bench/threads/count.words
+    local words=bench/threads/busy.words
     image <"$words" >"$folder/image"
     for _ in 1 2 3 4 5 6 7 8 9; do
-        "$interpreter" threads "$words" 36 16 10000 100000 | awk '{ printf "%s ", $1 }'
-        "$bench" many "$folder/image" 36 16 10000 100000 | awk '{ print $1 }'
+        "$interpreter" threads "$words" 36 16 1000000 100000 | awk '{ printf "%s ", $1 }'
+        "$bench" many "$folder/image" 36 16 1000000 100000 | awk '{ print $1 }'
     done | awk '{ print 16 * 100000 / $2 * 1e3, 16 * 100000 / $1 * 1e3, $1 / $2 }' >"$folder/ratios"
     printf '16 clients: %.2f million calls a second, plain Rust %.2f, ratio %.2f\n' "$(awk '{ print $1 }' "$folder/ratios" | middle)" \
         "$(awk '{ print $2 }' "$folder/ratios" | middle)" "$(awk '{ print $3 }' "$folder/ratios" | middle)"
