@@ -1,6 +1,6 @@
 -- A runner runs on once its epoch has ended.
 use Rattle.std.proofs.Common.{◌≡◌, ◌≢◌, ℕ, zero, suc, ◌+◌, ◌<◌, ◌≤◌, List, [], ◌∷◌, ◌++◌, length, map, take, drop, get_or, refl, sym, ap}
-use Rattle.std.proofs.Common.{◌∙◌, subst, arith, Some, None}
+use Rattle.std.proofs.Common.{◌∙◌, subst, arith, Some}
 use Rattle.std.proofs.lemmas.List.{append-nil, map-append, take-append-drop}
 use Rattle.std.proofs.lemmas.List.Elements.{All-nil, All-cons, All-head, All-tail, All-append, All-take}
 use Rattle.std.specs.Prelude.{All, slice_get}
@@ -19,8 +19,8 @@ use Rattle.pair_history.proofs.WaitsLaws.{arrived_numbers-append, arrived_number
 use Rattle.pair_record.specs.EpochActs.{guest_epoch, behind}
 use Rattle.pair_record.specs.Protocol.{Record}
 use Rattle.pair_record.specs.internal.Accords.{AreInboxes}
-use Rattle.growing_history.specs.Steps.{Step, step, Begins, steps_by}
-use Rattle.growing_history.specs.LogState.{LogState, Legal, state_at, sealed_state, entries_of, after, IsEpoch, IsAlone}
+use Rattle.growing_history.specs.Steps.{Step, step, Begins}
+use Rattle.growing_history.specs.LogState.{LogState, state_at, sealed_state, entries_of, after, IsEpoch, IsAlone}
 use Rattle.growing_history.specs.Views.{Member}
 use Rattle.growing_history.proofs.{LogLaws.state-snoc, SealedNumbers.are-sealed, WaitsAlong.taken}
 use Rattle.pair_book.specs.Books.{BookState}
@@ -31,7 +31,7 @@ use Rattle.pair_book.specs.declared.runner.Kind.TheVariants.{Nothing, Delta, Ful
 use Rattle.pair_book.specs.Handing.{Handing, handing, firsts, arrivals_of, HandsBehind, HandsNext}
 use Rattle.pair_book.specs.Settled.{epoch_of, runner_state, just_settled, numbers_of, Follows, Runs, RunsOn}
 use Rattle.pair_book.specs.Submitting.{protocol_ended, ports_ended, ended, wanted_kind, told_as, told}
-use Rattle.pair_book.specs.internal.{Tie.IsTied, Waits.{AreWaiting, waits_at_last}}
+use Rattle.pair_book.specs.internal.{Tie.IsTied, Waits.{waits_at_last}}
 use Rattle.pair_book.proofs.EpochWords.{epoch-is, behind-arrivals, own-arrived, own-guests}
 use Rattle.pair_book.proofs.MadeLaws.{Alike, sealed-alike, lone-alike, none-before}
 use Rattle.pair_book.proofs.RunLaws.{runs-on}

@@ -1,5 +1,5 @@
 -- A runner runs on where its seat looks, and begins to where a backup goes live.
-use Rattle.std.proofs.Common.{◌≡◌, ℕ, ◌+◌, ◌≤◌, List, [], ◌∷◌, ◌++◌, length, map, take, drop, refl, sym, ap, ◌∙◌, subst, append_assoc}
+use Rattle.std.proofs.Common.{◌≡◌, ℕ, List, [], ◌∷◌, ◌++◌, length, map, take, drop, refl, sym, ap, ◌∙◌, subst, append_assoc}
 use Rattle.std.proofs.Common.{arith, false, Some, Option}
 use Rattle.std.proofs.lemmas.List.{take-append-drop}
 use Rattle.std.proofs.lemmas.List.Elements.{All-nil, All-cons, All-head, All-tail}
@@ -20,7 +20,7 @@ use Rattle.pair_book.specs.declared.prepared.Prepared.TheVariants as prepared
 use Rattle.pair_book.specs.Made.{Reads, carried, IsPrepared}
 use Rattle.pair_book.specs.Packets.{PacketState}
 use Rattle.pair_book.specs.Settled.{IsSettled, RunnerState, numbers_of, just_settled, Follows, Runs, epoch_of}
-use Rattle.pair_book.specs.Standing.{Stands, IsLive}
+use Rattle.pair_book.specs.Standing.{Stands}
 use Rattle.pair_book.proofs.EpochWords.{own-epoch}
 
 -- IT LOOKS, and has made no step since

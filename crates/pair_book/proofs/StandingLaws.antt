@@ -1,6 +1,6 @@
 -- A backup goes on standing: when it looks, and by its commits.
 use Rattle.std.proofs.Common.{◌≡◌, ℕ, zero, suc, ◌+◌, ◌-◌, ◌≤◌, List, [], ◌∷◌, ◌++◌, length, drop, sym, ap, ◌∙◌, subst, refl, false, arith}
-use Rattle.std.proofs.Common.{Option, Some}
+use Rattle.std.proofs.Common.{Option}
 use Rattle.std.proofs.lemmas.List.{append-nil, drop-append-le, drop-drop, length-append, length-drop, length-map}
 use Rattle.std.specs.Prelude.{IsSome}
 use Rattle.failover.specs.declared.mode.Mode.{Mode}

@@ -1,6 +1,6 @@
 //! What clients call.
-ghost use Rattle.std.specs.Prelude.{◌≡◌, ◌∷◌, [], None, Some, IfOk, OnOk, IfErr, OnErr};
-ghost use Rattle.frame_ports.specs.Ports.{after_delivery, inbox_of, IsClient};
+ghost use Rattle.std.specs.Prelude.{◌≡◌, ◌∷◌, [], None, Some, length, IfOk, OnOk, IfErr, OnErr};
+ghost use Rattle.frame_ports.specs.Ports.{after_delivery, box_of, inbox_of, IsClient};
 ghost use Rattle.pair_history.specs.Entries.{Delivered, Refused, Took};
 ghost use Rattle.pair_record.specs.declared.event.Reply.TheVariants as replies;
 ghost use Rattle.pair_record.specs.Protocol.{first_refusal, deliver_done, take_done};
@@ -55,6 +55,26 @@ impl<P: Pair> Book<P> {
         Ok(taken)
     }
 
+    /// The client finds its box empty.
+    fn find_none(&mut self, clock: &Clock<P>, seat: &mut ClientSeat<P>) -> Result<(), MemoryWanted>
+        requires client { IsClientSeat P.start seat.old.number }
+        requires free { first_refusal (entry_rows self.old) ≡ None }
+        requires empty { length (box_of self.old.ports (client_of seat.old.number)) ≡ 0 }
+        ensures number { seat.new.number ≡ seat.old.number }
+        ensures texts { self.new.texts ≡ self.old.texts }
+        ensures done { OnOk result ((replies.Took None, self.new.protocol)
+            ≡ take_done self.old.ports.boxes self.old.protocol (client_of seat.old.number)) }
+        ensures ports { OnOk result (self.new.ports ≡ ports_after_take self.old.ports (client_of seat.old.number)) }
+        ensures step { OnOk result (Makes (Added (Took (client_of seat.old.number) None ∷ [])) self.old self.new seat.old seat.new) }
+        ensures err { OnErr result (IsAsBefore self.old self.new seat.old seat.new) }
+    {
+        let client = self.client_number(seat);
+        let before = self.record.history().len();
+        self.record.find_none(client)?;
+        tell(&self.record, before, &mut self.seats, clock, seat);
+        Ok(())
+    }
+
     /// The client takes the first frame of its box, or finds none.
     ///
     /// # Errors
@@ -79,6 +99,11 @@ impl<P: Pair> Book<P> {
     {
         let client = self.client_number(seat);
         match self.take_refusal(client) {
+            // A frame has a place of 1.5 KB, which would be copied from call to call though there is none.
+            None if self.record.box_len(client) == 0 => {
+                self.find_none(clock, seat)?;
+                Ok(None)
+            }
             None => Ok(self.take_first(clock, seat)?),
             Some(why) => Err(why),
         }

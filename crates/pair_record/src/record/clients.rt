@@ -5,6 +5,7 @@ ghost use Rattle.frame_ports.specs.Limits.{box_frames, max_clients};
 ghost use Rattle.frame_ports.specs.Ports.{IsClient, inbox_of, box_of, after_delivery};
 ghost use Rattle.pair_history.specs.Entries.{DropIn, DropOut, Took};
 ghost use Rattle.pair_history.specs.Log.{expanded, frame_bytes};
+ghost use Rattle.pair_record.specs.declared.event.Reply.TheVariants as replies;
 ghost use Rattle.pair_record.specs.Protocol.{first_refusal, client_refusals, arrival_refusals, admit_refusals, admit_done};
 ghost use Rattle.pair_record.specs.Protocol.{deliver_refusals, delivery_refused, deliver_done, take_refusals, take_done};
 ghost use Rattle.pair_record.specs.Protocol.{loss_refusals, loss_done, arrival_done};
@@ -188,6 +189,19 @@ impl PairRecord {
         };
         self.journal.add(took(client, &taken));
         Ok(Reply::Took(taken))
+    }
+
+    /// The client finds its box empty: as [`PairRecord::take`], for which no place of a frame is made.
+    pub fn find_none(&mut self, client: u64) -> Result<(), MemoryWanted>
+        requires free { first_refusal (take_refusals (length self.old.ports.boxes) self.old.protocol client) ≡ None }
+        requires empty { length (box_of self.old.ports client) ≡ 0 }
+        ensures ok { OnOk result ((replies.Took None, self.new.protocol) ≡ take_done self.old.ports.boxes self.old.protocol client) }
+        ensures ports { OnOk result (self.new.ports ≡ ports_after_take self.old.ports client) }
+        ensures err { OnErr result (IsAsBefore self.old self.new) }
+    {
+        self.journal.reserve_frame(0)?;
+        self.journal.add(Entry::Took(client, None));
+        Ok(())
     }
 
     /// How many frames lie in this client's box.
