@@ -4,11 +4,11 @@ use crate::rows::{Answer, BEACON};
 use pair_book::{Ack, Want};
 use pair_history::Frame;
 
-/// What is said of a frame that was taken, where there is one.
-pub(crate) fn taken(frame: Option<Frame>) -> Answer {
-    let Some(frame) = frame else {
+/// What is said of a frame that was taken, where there was one.
+pub(crate) fn taken(is_some: bool, frame: &Frame) -> Answer {
+    if !is_some {
         return Answer::None;
-    };
+    }
     if frame.as_slice() == &BEACON[..] {
         Answer::Beacon
     } else {

@@ -10,6 +10,7 @@ use epoch_snapshot::Checkpoint;
 use frame_list::FrameList;
 use growing_history::{BackupSeat, ClientSeat, Clock, Pair, RunnerSeat};
 use pair_book::{Book, NewBook, OpenEpoch, Prepared, Refusal, Want, runners_bring_what_they_have};
+use pair_history::Frame;
 use std::alloc::Global;
 use std::marker::Model;
 use std::test::Fail;
@@ -74,7 +75,9 @@ impl<P: Pair> Client<P> {
     }
 
     pub(crate) fn take(&mut self, clock: &Clock<P>, book: &mut Book<P>) -> Result<Answer, Refusal> {
-        Ok(taken(book.take(clock, &mut self.seat)?))
+        let mut frame = Frame::new();
+        let is_some = book.take(clock, &mut self.seat, &mut frame)?;
+        Ok(taken(is_some, &frame))
     }
 }
 

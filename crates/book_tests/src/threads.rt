@@ -39,11 +39,12 @@ fn take_once<P: Pair, R: Wait>(
     clock: &Clock<P>,
     book: &Mutex<Book<P>>,
     mut second: ClientSeat<P>,
-) -> (Result<Option<Frame>, Refusal>, ClientSeat<P>)
+) -> (Result<bool, Refusal>, ClientSeat<P>)
     requires { IsClientSeat P.start second.number }
     ensures { IsClientSeat P.start result.1.number }
 {
-    let taken = book.lock(rt).take(clock, &mut second);
+    let mut frame = Frame::new();
+    let taken = book.lock(rt).take(clock, &mut second, &mut frame);
     (taken, second)
 }
 
@@ -63,15 +64,15 @@ fn call_in_threads<P: Pair + Send + Sync, R: Threads + Wait + Abort + Sync>(
         || -> (Result<u64, Refusal>, Badge<P>)
             requires { IsClientSeat P.start first.number }
         { deliver_and_tell(rt, clock, &book, first) },
-        || -> (Result<Option<Frame>, Refusal>, ClientSeat<P>)
+        || -> (Result<bool, Refusal>, ClientSeat<P>)
             requires { IsClientSeat P.start second.number }
             ensures { IsClientSeat P.start result.1.number }
         { take_once(rt, clock, &book, second) },
     );
-    assert_eq!(rt; (delivered, taken), (Ok(1), Ok(None)));
+    assert_eq!(rt; (delivered, taken), (Ok(1), Ok(false)));
     second.learn(clock, &mut badge);
     let (taken, mut second) = take_once(rt, clock, &book, second);
-    assert_eq!(rt; taken, Ok(None));
+    assert_eq!(rt; taken, Ok(false));
     assert_eq!(rt; second.look(clock), 3);
 }
 

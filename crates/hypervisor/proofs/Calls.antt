@@ -1,5 +1,5 @@
 -- What a client's call makes of what the client has seen. The laws of growing_history come as premises, since its functions promise them.
-use Rattle.std.proofs.Common.{◌≡◌, ℕ, ◌≤◌, List, [], ◌∷◌, ◌++◌, refl, sym, ap, ◌∙◌, subst, arith, Ok, Err, Result, Option}
+use Rattle.std.proofs.Common.{◌≡◌, ℕ, ◌≤◌, List, [], ◌∷◌, ◌++◌, refl, sym, ap, ◌∙◌, subst, arith, Ok, Err, Result, Bool}
 use Rattle.std.specs.Prelude.{IfOk, IfErr}
 use Rattle.pair_history.specs.Entries.{Entry, Frame, Delivered, Refused, Took}
 use Rattle.pair_history.specs.HistoryState.{HistoryState}
@@ -11,6 +11,7 @@ use Rattle.growing_history.specs.Steps.{Added, Step, step, Begins, steps_by}
 use Rattle.growing_history.specs.LogState.{Legal, history_of, client_seat}
 use Rattle.growing_history.specs.Views.{Member}
 use Rattle.pair_book.specs.Books.{BookState}
+use Rattle.pair_record.specs.Record.{given}
 use Rattle.pair_book.specs.Calls.{IsClientSeat, client_of, Makes, IsAsBefore}
 use Rattle.pair_book.specs.Calls.{AfterRefusedDelivery as AtBook}
 use Rattle.hypervisor.specs.Seats.{MakesStep}
@@ -67,11 +68,11 @@ module _ (start : HistoryState) (b b' : BookState) (seat seat' : Member) (is : I
   delivered bytes (Ok n) m = told (Delivered (client_of seat.number) (record { items = bytes }) n) m
   delivered bytes (Err e) m = tt
 
-  pub took : (r : Result (Option Frame) Refusal)
-      → IfOk r (λ f. Makes (Added (Took (client_of seat.number) f ∷ [])) b b' seat seat')
-      → IfOk r (λ f. Calls start (Took (client_of seat.number) f) (client_state seat) (client_state seat'))
-  took (Ok f) m = told (Took (client_of seat.number) f) m
-  took (Err e) m = tt
+  pub took : (frame : Frame) (r : Result Bool Refusal)
+      → IfOk r (λ is_some. Makes (Added (Took (client_of seat.number) (given is_some frame) ∷ [])) b b' seat seat')
+      → IfOk r (λ is_some. Calls start (Took (client_of seat.number) (given is_some frame)) (client_state seat) (client_state seat'))
+  took frame (Ok is_some) m = told (Took (client_of seat.number) (given is_some frame)) m
+  took frame (Err e) m = tt
 
   same : IsAsBefore b b' seat seat' → client_state seat' ≡ client_state seat
   same a = ap client_state a.1
@@ -99,10 +100,11 @@ module _ (start : HistoryState) (b b' : BookState) (seat seat' : Member) (is : I
   not-delivered f (Ok n) a = tt
   not-delivered f (Err why) a = refused-so f why a
 
-  pub not-taken : (r : Result (Option Frame) Refusal) → IfErr r (λ _. IsAsBefore b b' seat seat')
-      → IfErr r (λ _. client_state seat' ≡ client_state seat)
-  not-taken (Ok f) a = tt
-  not-taken (Err why) a = same a
+  pub not-taken : (frame frame' : Frame) (r : Result Bool Refusal)
+      → IfErr r (λ _. IsAsBefore b b' seat seat' × (frame' ≡ frame))
+      → IfErr r (λ _. (client_state seat' ≡ client_state seat) × (frame' ≡ frame))
+  not-taken frame frame' (Ok is_some) a = tt
+  not-taken frame frame' (Err why) a = (same a.0, a.1)
 
 pub learned : (start : HistoryState) (seat seat' : Member) (told : List Step) → IsClientSeat start seat.number
     → seat'.number ≡ seat.number → Begins seat.steps seat'.steps → Begins told seat'.steps

@@ -1,5 +1,5 @@
 -- Which refusals the first row of a client's or of the sender's table may be.
-use Rattle.std.proofs.Common.{◌≡◌, ℕ, suc, List, [], ◌∷◌, length, Bool, true, false, refl, sym, arith, Ok, Err, Result, Option}
+use Rattle.std.proofs.Common.{◌≡◌, ℕ, suc, List, [], ◌∷◌, length, Bool, true, false, refl, sym, arith, Ok, Err, Result}
 use Rattle.std.proofs.Common.{None, inl, inr}
 use Rattle.std.specs.Prelude.{IfErr, OnOk, nat_le, nat_lt, not, ◌&&◌, ◌==◌, ◌⊎◌}
 use Rattle.frame_ports.specs.Limits.{inbox_frames, number_limit}
@@ -8,7 +8,6 @@ use Rattle.std.specs.List.{Contains}
 use Rattle.memory_wanted.specs.Wanted.{wanted}
 use Rattle.failover.specs.declared.mode.Mode.{Mode}
 use Rattle.failover.specs.declared.mode.Mode.TheVariants as modes
-use Rattle.pair_history.specs.Entries.{Frame}
 use Rattle.pair_record.specs.declared.event.Refusal.{Refusal}
 use Rattle.pair_record.specs.declared.event.Refusal.TheVariants.{Full, BadFrame, Stopped, NotPaired, Stale, Gap, NoMemory, Exhausted}
 use Rattle.pair_record.specs.Modes.{primary_refusal}
@@ -35,7 +34,7 @@ entry-why true word why e = first why Exhausted (NoMemory wanted ∷ []) e
 entry-why false true why e = first why Exhausted (NoMemory wanted ∷ []) e
 entry-why false false why e = later why Exhausted (NoMemory wanted ∷ []) (first why (NoMemory wanted) [] e)
 
-pub take-why : (b : BookState) (r : Result (Option Frame) Refusal) → IfErr r (IsWhy (first_refusal (entry_rows b)))
+pub take-why : (b : BookState) (r : Result Bool Refusal) → IfErr r (IsWhy (first_refusal (entry_rows b)))
     → IfErr r (Contains entry_refusals)
 take-why b (Ok f) e = tt
 take-why b (Err why) e = entry-why (exhausts b.protocol 1) (is_word_full b) why e

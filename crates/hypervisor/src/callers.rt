@@ -4,6 +4,7 @@ ghost use Rattle.pair_history.specs.Entries.{Delivered, Took};
 ghost use Rattle.pair_record.specs.Protocol.{is_bad_length};
 ghost use Rattle.growing_history.specs.LogState.{Legal};
 ghost use Rattle.std.specs.List.{Contains};
+ghost use Rattle.pair_record.specs.Record.{given};
 ghost use Rattle.pair_book.specs.Calls.{IsClientSeat};
 ghost use Rattle.hypervisor.specs.Clients.{client_state, Calls, AfterRefusedDelivery, Learns};
 ghost use Rattle.hypervisor.specs.Refusals.{IsWhyDelivery, entry_refusals};
@@ -72,13 +73,15 @@ impl<P: Pair> CallerSeat<P> {
         &mut self,
         book: &mut Book<P>,
         clock: &Clock<P>,
-    ) -> Result<Option<Frame>, Refusal>
-        ensures done { IfOk result (λ f. Calls P.start (Took self.old.number f) self.old self.new) }
+        into: &mut Frame,
+    ) -> Result<bool, Refusal>
+        ensures done { IfOk result (λ is_some. Calls P.start (Took self.old.number (given is_some into.new)) self.old self.new) }
+        ensures stays { IfOk result (λ is_some. is_some ≡ false → into.new ≡ into.old) }
         ensures why { IfErr result (Contains entry_refusals) }
-        ensures refused { IfErr result (λ _. self.new ≡ self.old) }
+        ensures refused { IfErr result (λ _. (self.new ≡ self.old) × (into.new ≡ into.old)) }
     {
         a_call_is_a_point_of_one_history();
-        let taken = book.take(clock, &mut self.seat);
+        let taken = book.take(clock, &mut self.seat, into);
         self.seat.number();
         taken
     }

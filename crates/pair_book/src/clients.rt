@@ -1,10 +1,10 @@
 //! What clients call.
-ghost use Rattle.std.specs.Prelude.{◌≡◌, ◌∷◌, [], None, Some, length, IfOk, OnOk, IfErr, OnErr};
-ghost use Rattle.frame_ports.specs.Ports.{after_delivery, box_of, inbox_of, IsClient};
+ghost use Rattle.std.specs.Prelude.{◌≡◌, ◌∷◌, [], None, Some, false, length, IfOk, OnOk, IfErr, OnErr};
+ghost use Rattle.frame_ports.specs.Ports.{after_delivery, inbox_of, IsClient};
 ghost use Rattle.pair_history.specs.Entries.{Delivered, Refused, Took};
 ghost use Rattle.pair_record.specs.declared.event.Reply.TheVariants as replies;
 ghost use Rattle.pair_record.specs.Protocol.{first_refusal, deliver_done, take_done};
-ghost use Rattle.pair_record.specs.Record.{ports_after_take};
+ghost use Rattle.pair_record.specs.Record.{given, ports_after_take};
 ghost use Rattle.growing_history.specs.Steps.{Added};
 ghost use Rattle.pair_book.specs.Calls.{IsClientSeat, client_of, Makes, IsAsBefore, IsWhy, entry_rows, deliver_rows};
 ghost use Rattle.pair_book.specs.Calls.{IsWhyDelivery, AfterRefusedDelivery};
@@ -29,82 +29,62 @@ impl<P: Pair> Book<P> {
         }
     }
 
-    /// The first frame of the client's box leaves it, or none is there.
+    /// The first frame of the client's box leaves it, and is put into this place; or none is there. Answers whether one was.
     fn take_first(
         &mut self,
         clock: &Clock<P>,
         seat: &mut ClientSeat<P>,
-    ) -> Result<Option<Frame>, MemoryWanted>
+        into: &mut Frame,
+    ) -> Result<bool, MemoryWanted>
         requires client { IsClientSeat P.start seat.old.number }
         requires free { first_refusal (entry_rows self.old) ≡ None }
         ensures number { seat.new.number ≡ seat.old.number }
         ensures texts { self.new.texts ≡ self.old.texts }
-        ensures done { IfOk result (λ f. (replies.Took f, self.new.protocol)
+        ensures done { IfOk result (λ is_some. (replies.Took (given is_some into.new), self.new.protocol)
             ≡ take_done self.old.ports.boxes self.old.protocol (client_of seat.old.number)) }
         ensures ports { OnOk result (self.new.ports ≡ ports_after_take self.old.ports (client_of seat.old.number)) }
-        ensures step { IfOk result (λ f. Makes (Added (Took (client_of seat.old.number) f ∷ [])) self.old self.new seat.old seat.new) }
-        ensures err { OnErr result (IsAsBefore self.old self.new seat.old seat.new) }
+        ensures step { IfOk result (λ is_some.
+            Makes (Added (Took (client_of seat.old.number) (given is_some into.new) ∷ [])) self.old self.new seat.old seat.new) }
+        ensures stays { IfOk result (λ is_some. is_some ≡ false → into.new ≡ into.old) }
+        ensures err { OnErr result (IsAsBefore self.old self.new seat.old seat.new × (into.new ≡ into.old)) }
     {
         let client = self.client_number(seat);
         let before = self.record.history().len();
-        let reply = self.record.take(client)?;
-        let Reply::Took(taken) = reply else {
-            unreachable!();
-        };
+        let is_some = self.record.take_into(client, into)?;
         tell(&self.record, before, &mut self.seats, clock, seat);
-        Ok(taken)
+        Ok(is_some)
     }
 
-    /// The client finds its box empty.
-    fn find_none(&mut self, clock: &Clock<P>, seat: &mut ClientSeat<P>) -> Result<(), MemoryWanted>
-        requires client { IsClientSeat P.start seat.old.number }
-        requires free { first_refusal (entry_rows self.old) ≡ None }
-        requires empty { length (box_of self.old.ports (client_of seat.old.number)) ≡ 0 }
-        ensures number { seat.new.number ≡ seat.old.number }
-        ensures texts { self.new.texts ≡ self.old.texts }
-        ensures done { OnOk result ((replies.Took None, self.new.protocol)
-            ≡ take_done self.old.ports.boxes self.old.protocol (client_of seat.old.number)) }
-        ensures ports { OnOk result (self.new.ports ≡ ports_after_take self.old.ports (client_of seat.old.number)) }
-        ensures step { OnOk result (Makes (Added (Took (client_of seat.old.number) None ∷ [])) self.old self.new seat.old seat.new) }
-        ensures err { OnErr result (IsAsBefore self.old self.new seat.old seat.new) }
-    {
-        let client = self.client_number(seat);
-        let before = self.record.history().len();
-        self.record.find_none(client)?;
-        tell(&self.record, before, &mut self.seats, clock, seat);
-        Ok(())
-    }
-
-    /// The client takes the first frame of its box, or finds none.
+    /// The client takes the first frame of its box, which is put into `into`, or finds none. Answers whether there was one; else `into`
+    /// is as before, as it is after a refusal.
     ///
     /// # Errors
     ///
-    /// [`Refusal::Exhausted`] where the history or the word would reach 2^62; [`Refusal::NoMemory`] where the room for the frame in the
-    /// history can't be had.
+    /// [`Refusal::Exhausted`] where the history or the word would reach 2^62; [`Refusal::NoMemory`] where the room for the entry that
+    /// tells the call can't be had.
     pub fn take(
         &mut self,
         clock: &Clock<P>,
         seat: &mut ClientSeat<P>,
-    ) -> Result<Option<Frame>, Refusal>
+        into: &mut Frame,
+    ) -> Result<bool, Refusal>
         requires client { IsClientSeat P.start seat.old.number }
         ensures number { seat.new.number ≡ seat.old.number }
         ensures texts { self.new.texts ≡ self.old.texts }
-        ensures done { IfOk result (λ f. (replies.Took f, self.new.protocol)
+        ensures done { IfOk result (λ is_some. (replies.Took (given is_some into.new), self.new.protocol)
             ≡ take_done self.old.ports.boxes self.old.protocol (client_of seat.old.number)) }
         ensures ports { OnOk result (self.new.ports ≡ ports_after_take self.old.ports (client_of seat.old.number)) }
-        ensures step { IfOk result (λ f. Makes (Added (Took (client_of seat.old.number) f ∷ [])) self.old self.new seat.old seat.new) }
+        ensures step { IfOk result (λ is_some.
+            Makes (Added (Took (client_of seat.old.number) (given is_some into.new) ∷ [])) self.old self.new seat.old seat.new) }
+        ensures stays { IfOk result (λ is_some. is_some ≡ false → into.new ≡ into.old) }
         ensures free { OnOk result (first_refusal (entry_rows self.old) ≡ None) }
         ensures why { IfErr result (IsWhy (first_refusal (entry_rows self.old))) }
-        ensures refused { IfErr result (λ _. IsAsBefore self.old self.new seat.old seat.new) }
+        ensures refused { IfErr result (λ _. IsAsBefore self.old self.new seat.old seat.new × (into.new ≡ into.old)) }
     {
         let client = self.client_number(seat);
+        // An answer with a frame in it would have a place of 1.5 KB, also where there is none, and be copied from call to call.
         match self.take_refusal(client) {
-            // A frame has a place of 1.5 KB, which would be copied from call to call though there is none.
-            None if self.record.box_len(client) == 0 => {
-                self.find_none(clock, seat)?;
-                Ok(None)
-            }
-            None => Ok(self.take_first(clock, seat)?),
+            None => Ok(self.take_first(clock, seat, into)?),
             Some(why) => Err(why),
         }
     }

@@ -147,6 +147,7 @@ impl World {
     }
 
     /// Does one event that its mode doesn't refuse, or finds no memory for it.
+    #[inline(always)]
     fn act_allowed(&mut self, event: Event<'_>) -> Result<Reply, MemoryWanted>
         requires { mode_refusal self.old.protocol.state.mode event ≡ None }
         ensures outcome { IfOk result (λ reply. (reply, self.new.protocol.state)

@@ -1,5 +1,5 @@
 -- What contracts see of the pair's record: the protocol's record, and the clients' ports; and what is true of every record.
-use Rattle.std.specs.Prelude.{◌≡◌, ℕ, ◌+◌, ◌-◌, ◌≤◌, ◌<◌, true, false, List, [], ◌++◌, All, length, drop, remove}
+use Rattle.std.specs.Prelude.{◌≡◌, ℕ, ◌+◌, ◌-◌, ◌≤◌, ◌<◌, Bool, true, false, List, [], ◌++◌, All, length, drop, remove, Option, None, Some}
 use Rattle.frame_ports.specs.Addresses.{targets_of}
 use Rattle.output_gate.specs.Epochs.{frames_of, frames_to}
 use Rattle.output_gate.specs.Landings.{ports_after}
@@ -29,6 +29,11 @@ IsAsBefore old new = (new.protocol ≡ old.protocol) × (new.ports ≡ old.ports
 -- what is on its way to the clients: what the gate holds of committed checkpoints
 abbrev pub owed_to : Record → PortsState → List (ℕ × Frame)
 owed_to r p = targets_of (length p.boxes) (frames_of (committed_of r.window r.pending))
+
+-- what a call gave that answers whether it put a frame into this place
+abbrev pub given : Bool → Frame → Option Frame
+given true frame = Some frame
+given false frame = None
 
 -- nothing happened yet
 abbrev pub start_record : Record

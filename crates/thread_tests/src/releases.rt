@@ -6,7 +6,7 @@ ghost use Rattle.hypervisor.specs.Opening.{start_with};
 use super::courses::{Course, plays};
 use super::hands::{FRAME, Hand, Row, list_of, play, take_client};
 use super::pairs::{Guest, pair};
-use hypervisor::{Client, Pair, UnnamedPair};
+use hypervisor::{Client, Frame, Pair, UnnamedPair};
 use pair_threads::{Ended, Session, members_of, run_members};
 use std::alloc::Global;
 use std::marker::Brand;
@@ -19,12 +19,13 @@ use std::thread::{Threads, join};
 /// How often a client tries to take a frame that comes.
 const MOST_TRIES: u64 = 1_000_000;
 
-/// Takes until the beacon's frame comes, so often at most. Answers whether it outcome.
+/// Takes until the beacon's frame comes, so often at most. Answers whether it came.
 fn take_frame<P: Pair, R: Wait>(rt: &R, client: &mut Client<P>, tries: u64) -> bool {
+    let mut frame = Frame::new();
     for _ in 0..tries {
-        match client.take(rt) {
-            Ok(Some(frame)) => return frame.as_slice() == FRAME.as_slice(),
-            Ok(None) => thread::yield_now(),
+        match client.take_into(rt, &mut frame) {
+            Ok(true) => return frame.as_slice() == FRAME.as_slice(),
+            Ok(false) => thread::yield_now(),
             Err(_) => return false,
         }
     }

@@ -1,15 +1,14 @@
 //! What clients do, at the pair's record.
-ghost use Rattle.std.specs.Prelude.{◌≡◌, ◌<◌, ◌≤◌, ◌∷◌, [], length, IfOk, OnOk, OnErr, None, Some, slice_get, option_map};
+ghost use Rattle.std.specs.Prelude.{◌≡◌, ◌<◌, ◌≤◌, ◌∷◌, [], length, IfOk, OnOk, OnErr, None, Some, false, slice_get, option_map};
 ghost use Rattle.frame_ports.specs.Addresses.{IsFrame};
 ghost use Rattle.frame_ports.specs.Limits.{box_frames, max_clients};
 ghost use Rattle.frame_ports.specs.Ports.{IsClient, inbox_of, box_of, after_delivery};
-ghost use Rattle.pair_history.specs.Entries.{DropIn, DropOut, Took};
-ghost use Rattle.pair_history.specs.Log.{expanded, frame_bytes};
+ghost use Rattle.pair_history.specs.Entries.{DropIn, DropOut};
 ghost use Rattle.pair_record.specs.declared.event.Reply.TheVariants as replies;
 ghost use Rattle.pair_record.specs.Protocol.{first_refusal, client_refusals, arrival_refusals, admit_refusals, admit_done};
 ghost use Rattle.pair_record.specs.Protocol.{deliver_refusals, delivery_refused, deliver_done, take_refusals, take_done};
 ghost use Rattle.pair_record.specs.Protocol.{loss_refusals, loss_done, arrival_done};
-ghost use Rattle.pair_record.specs.Record.{IsAsBefore, ports_after_admit, ports_after_take, ports_after_lose_in, ports_after_lose_out};
+ghost use Rattle.pair_record.specs.Record.{IsAsBefore, given, ports_after_admit, ports_after_take, ports_after_lose_in, ports_after_lose_out};
 
 use super::PairRecord;
 use crate::event::{Refusal, Reply};
@@ -183,25 +182,38 @@ impl PairRecord {
         ensures ports { OnOk result (self.new.ports ≡ ports_after_take self.old.ports client) }
         ensures err { OnErr result (IsAsBefore self.old self.new) }
     {
-        self.journal.reserve_frame(MAX_FRAME)?;
-        let Ok(taken) = self.ports.take(client) else {
-            unreachable!();
+        let mut frame = Frame::new();
+        let taken = if self.take_into(client, &mut frame)? {
+            Some(frame)
+        } else {
+            None
         };
-        self.journal.add(took(client, &taken));
         Ok(Reply::Took(taken))
     }
 
-    /// The client finds its box empty: as [`PairRecord::take`], for which no place of a frame is made.
-    pub fn find_none(&mut self, client: u64) -> Result<(), MemoryWanted>
-        requires free { first_refusal (take_refusals (length self.old.ports.boxes) self.old.protocol client) ≡ None }
-        requires empty { length (box_of self.old.ports client) ≡ 0 }
-        ensures ok { OnOk result ((replies.Took None, self.new.protocol) ≡ take_done self.old.ports.boxes self.old.protocol client) }
+    /// The same, for which no answer with a place for a frame is copied from call to call: the frame is put into `into`. Answers whether
+    /// there was one; else `into` is as before, as it is where memory is wanted.
+    pub fn take_into(&mut self, client: u64, into: &mut Frame) -> Result<bool, MemoryWanted>
+        requires { first_refusal (take_refusals (length self.old.ports.boxes) self.old.protocol client) ≡ None }
+        ensures ok { IfOk result (λ is_some. (replies.Took (given is_some into.new), self.new.protocol)
+            ≡ take_done self.old.ports.boxes self.old.protocol client) }
         ensures ports { OnOk result (self.new.ports ≡ ports_after_take self.old.ports client) }
-        ensures err { OnErr result (IsAsBefore self.old self.new) }
+        ensures stays { IfOk result (λ is_some. is_some ≡ false → into.new ≡ into.old) }
+        ensures err { OnErr result (IsAsBefore self.old self.new × (into.new ≡ into.old)) }
     {
-        self.journal.reserve_frame(0)?;
-        self.journal.add(Entry::Took(client, None));
-        Ok(())
+        self.journal.reserve_frame(MAX_FRAME)?;
+        match self.ports.take(client) {
+            Ok(Some(frame)) => {
+                *into = frame;
+                self.journal.add(Entry::Took(client, Some(into.as_slice())));
+                Ok(true)
+            }
+            Ok(None) => {
+                self.journal.add(Entry::Took(client, None));
+                Ok(false)
+            }
+            Err(_) => unreachable!(),
+        }
     }
 
     /// How many frames lie in this client's box.
@@ -257,16 +269,5 @@ impl PairRecord {
         };
         self.journal.add(Entry::DropOut { client, place });
         Ok(())
-    }
-}
-
-/// The entry of a client that takes this frame, or finds none.
-fn took(client: u64, taken: &Option<Frame>) -> Entry<'_>
-    ensures entry { expanded result ≡ Took client taken.now ∷ [] }
-    ensures bytes { length (frame_bytes result) ≤ 1514 }
-{
-    match taken {
-        Some(frame) => Entry::Took(client, Some(frame.as_slice())),
-        None => Entry::Took(client, None),
     }
 }

@@ -12,7 +12,7 @@ tell-requires-clause-tied g c =
     let start = g.P.Pair.start in
     let steps = c.self.inside.seats.steps in
     let r = c.self.inside.record in
-    let now = c.take.new.self in
+    let now = c.take_into.new.self in
     let by = c.args.seat.now.number in
     let tied = c.self.invariant.0 in
     search (
@@ -26,7 +26,7 @@ tell-requires-clause-committed g c =
     let start = g.P.Pair.start in
     let steps = c.self.inside.seats.steps in
     let r = c.self.inside.record in
-    let now = c.take.new.self in
+    let now = c.take_into.new.self in
     let by = c.args.seat.now.number in
     let tied = c.self.invariant.0 in
     search (
@@ -37,9 +37,9 @@ tell-requires-clause-committed g c =
 
 pub invariant_of-self-2 : goal.invariant_of-self-2
 invariant_of-self-2 g c =
-    let now = c.take.new.self.protocol in
+    let now = c.take_into.new.self.protocol in
     let more = drop c.len-before.result now.journal.history in
-    let done = ap (λ (o : Outcome). o.1) c.in_ok-reply.ensures.ok in (
+    let done = ap (λ (o : Outcome). o.1) c.in_ok-is_some.ensures.ok in (
       c.tell.ensures.tied,
       c.tell.ensures.committed,
       texts-added g.P.Pair.start c.self.inside.seats.steps c.tell.new.seats.steps c.self.inside.record.protocol now
