@@ -17,7 +17,6 @@ Not checked: the order of entries between clients, beyond the guest's numbers. T
 which must be refused."""
 import collections
 import sys
-from pathlib import Path
 
 GUEST, KIND = bytes.fromhex("020000000001"), bytes.fromhex("88b5")
 FACTOR, WIDE = 0x100000001B3, 2**64
@@ -27,20 +26,25 @@ class Refused(Exception):
     """No guest that never fails gives these answers."""
 
 
-def read(text):
-    """The lines of each member, by its name."""
+def read(lines):
+    """The lines of each member, by its name. They stay lines, of which equal short ones are one: ten minutes are 60 million of them."""
     logs, at = collections.defaultdict(list), None
-    for line in text.splitlines():
-        words = line.split()
-        if words[0] == "client":
-            at = logs["client", int(words[1])]
-        elif words[0] in ("line", "runner", "warden") or words == ["backup"]:
-            at = logs[words[0]]
-        elif words[0] == "entries":
-            logs["entries"] = int(words[1])
+    for line in lines:
+        line = line.rstrip("\n")
+        if line.startswith("client "):
+            at = logs["client", int(line.split()[1])]
+        elif line in ("line", "runner", "warden", "backup"):
+            at = logs[line]
+        elif line.startswith("entries "):
+            logs["entries"] = int(line.split()[1])
         else:
-            at.append(words)
+            at.append(sys.intern(line) if len(line) < 8 else line)
     return logs
+
+
+def firsts(log):
+    """How many lines of a member begin with each word."""
+    return collections.Counter(line.split(None, 1)[0] for line in log)
 
 
 def wanted(holds, *what):
@@ -62,15 +66,15 @@ def taken_frame(client, frame):
 def check_client(client, log, numbers, answers):
     """Checks one client's answers. Adds the numbers that it was given, and the guest's answers that it took."""
     delivered, last_number, last_asked, last_answer = set(), 0, 0, 0
-    for words in log:
-        if words[0] == "d":
-            question, number = int(words[1]), int(words[2])
+    for line in log:
+        if line.startswith("d "):
+            question, number = map(int, line.split()[1:])
             wanted(number > last_number, "a client's numbers fall", client, number)
             last_number = number
             delivered.add(question)
             numbers.append(number)
-        elif words[0] == "t":
-            question, answer, chain = taken_frame(client, bytes.fromhex(words[1]))
+        elif line.startswith("t "):
+            question, answer, chain = taken_frame(client, bytes.fromhex(line.split()[1]))
             wanted(question in delivered, "an answer to what wasn't asked", client, question)
             wanted(question > last_asked and answer > last_answer, "answers twice or out of order", client, question, answer)
             last_asked, last_answer = question, answer
@@ -94,17 +98,19 @@ def check_chain(answers):
 def entered(logs):
     """The arrivals and steps of the epochs that entered the history, and how many frames were taken by failures."""
     ended, generation = {}, 1
-    for words in logs["warden"]:
-        ended[generation] = words[0]
+    for line in logs["warden"]:
+        ended[generation] = line.split()[0]
         # Going live begins a generation, and so does a new backup.
-        generation += 2 if words[0] == "primary" else 1
+        generation += 2 if ended[generation] == "primary" else 1
     # An epoch with a full checkpoint, number 0, enters at once.
     last = collections.defaultdict(int)
-    for words in logs["backup"]:
-        if words[0] == "c":
-            last[int(words[1])] = max(last[int(words[1])], int(words[2]))
+    for line in logs["backup"]:
+        if line.startswith("c "):
+            committed, number = map(int, line.split()[1:])
+            last[committed] = max(last[committed], number)
     arrivals = steps = handed = open_at_end = 0
-    for name, *words in logs["runner"]:
+    for line in logs["runner"]:
+        name, *words = line.split()
         wanted(name != "old", "a runner submitted that wasn't live")
         if name == "e":
             open_at_end += int(words[0])
@@ -128,16 +134,16 @@ def check(logs):
     wanted(sorted(numbers) == list(range(1, len(numbers) + 1)), "a number is missing or given twice")
     pairs = check_chain(answers)
     calls = sum(len(logs["client", client]) for client in clients)
-    lost = collections.Counter(words[0] for words in logs["line"])
+    lost = firsts(logs["line"])
     arrivals, steps, failed = entered(logs)
     landed = len(answers) + lost["out"]
-    told = sum(int(words[1]) for words in logs["backup"] + logs["warden"] if words[0] in ("k", "backup"))
+    told = sum(int(line.split()[1]) for log in ("backup", "warden") for line in logs[log] if line.startswith(("k ", "backup ")))
     wanted(told <= landed, "more was said to have landed than came", told, landed)
     wanted(len(numbers) >= arrivals + lost["in"] + failed, "more arrived than was delivered")
     wanted(max(answers, default=0) <= arrivals, "the guest numbered more than arrived")
     said = calls + sum(lost.values()) + landed + arrivals + steps + failed
     wanted(said == logs["entries"], "another length of the history", said, logs["entries"])
-    failures = collections.Counter(words[0] for words in logs["warden"])
+    failures = firsts(logs["warden"])
     return (f"{len(clients)} clients: {calls} calls, {len(numbers)} frames delivered, {arrivals} arrived, {len(answers)} taken, "
             f"{lost['in']} and {lost['out']} lost by the line, {failed} by failures\n"
             f"{failures['primary']} failures of a primary, {failures['backup']} of a backup, {pairs} pairs of successive answers\n"
@@ -150,7 +156,7 @@ def altered(logs):
         return {name: list(log) if isinstance(log, list) else log for name, log in logs.items()}
 
     clients = [name for name in logs if name[0] == "client"]
-    taken = {name: [at for at, words in enumerate(logs[name]) if words[0] == "t"] for name in clients}
+    taken = {name: [at for at, line in enumerate(logs[name]) if line.startswith("t ")] for name in clients}
     one = max(clients, key=lambda name: len(taken[name]))
     other = next(name for name in clients if name != one)
     first, second, *_ = taken[one]
@@ -168,24 +174,25 @@ def altered(logs):
     run[one].remove(run[one][second])
     yield "a frame that nobody took", run
     run = copy()
-    at = next(at for at, words in enumerate(run[one]) if words[0] == "d")
-    run[one][at] = ["d", run[one][at][1], "0"]
+    at = next(at for at, line in enumerate(run[one]) if line.startswith("d "))
+    run[one][at] = f"d {run[one][at].split()[1]} 0"
     yield "a number that isn't there", run
-    seen = {int.from_bytes(bytes.fromhex(logs[name][at][1])[22:30], "little"): (name, at) for name in clients for at in taken[name]}
+    seen = {int.from_bytes(bytes.fromhex(logs[name][at][2:])[22:30], "little"): (name, at) for name in clients for at in taken[name]}
     name, at = next(seen[answer] for answer in sorted(seen) if answer - 1 in seen)
     run = copy()
-    run[name][at] = ["t", run[name][at][1][:-2] + f"{int(run[name][at][1][-2:], 16) ^ 1:02x}"]
+    run[name][at] = f"{run[name][at][:-2]}{int(run[name][at][-2:], 16) ^ 1:02x}"
     yield "the answer of a guest with another past", run
     run = copy()
     run["entries"] += 1
     yield "one entry more", run
     run = copy()
-    run["runner"] = run["runner"] + [["old"]]
+    run["runner"] = run["runner"] + ["old"]
     yield "an old runner's submit", run
 
 
 def main():
-    logs = dict(read(Path(sys.argv[1]).read_text()))
+    with open(sys.argv[1]) as log:
+        logs = dict(read(log))
     for name in ("line", "runner", "backup", "warden"):
         logs.setdefault(name, [])
     print(check(logs))
