@@ -1,3 +1,5 @@
+pub mod internal
 pub mod Changes
+pub mod Generations
 pub mod Refusals
 pub mod Words

@@ -15,12 +15,17 @@
 //!
 //! Every other change is refused, and changes nothing. That a new backup is filled is no change that anybody asks for:
 //! it is so once its full checkpoint is committed.
+//!
+//! [`Mode`] is that table. A [`Generation`] is a number with a mode, which can be neither copied nor let go: a node that holds one spends it
+//! where it changes.
 #![tactic(auto)]
 
 mod change;
 mod errors;
+mod generation;
 mod mode;
 
 pub use change::Change;
-pub use errors::FailoverError;
+pub use errors::{FailoverError, GenerationError};
+pub use generation::{GENERATION_LIMIT, Generation};
 pub use mode::Mode;
