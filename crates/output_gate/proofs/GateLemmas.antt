@@ -13,6 +13,7 @@ use Rattle.std.proofs.Common.{
   length,
   take,
   drop,
+  refl,
   sym,
   ◌∙◌,
   ap,
@@ -22,7 +23,7 @@ use Rattle.std.proofs.Common.{
   vec_capacity,
   length-append,
 }
-use Rattle.std.proofs.Math.ListN.{length-drop}
+use Rattle.std.proofs.Math.ListN.{length-drop, length-take}
 use Rattle.std.proofs.lemmas.List.Sums.{sum_by-take-drop, sum_by-append, sum_by-cons}
 use Rattle.arrayvec.specs.ArrayVec.{ArrayVec}
 use Rattle.frame_ports.specs.Addresses.{IsFrame}
@@ -93,6 +94,15 @@ module _ (g : Inside) (s : GateState) (seen : gate_state g ≡ s) (ok : AreField
         ∙ ap (λ j. take j g.frames.items) (count_here ∙ ap (λ j. total (take j g.marks.items)) k_here)
         ∙ sym (frames_to-reach n g.marks.items g.frames.items ok.gate.rising)
         ∙ ap (frames_to n) epochs_seen
+
+    -- and how many frames they have
+    pub part_count : count ≡ length (frames_to n s.epochs)
+    part_count =
+        let parts : total (take k g.marks.items) + total (drop k g.marks.items) ≡ total g.marks.items =
+        sum_by-take-drop (λ (m : Mark). m.count) g.marks.items k in
+        let seen : length (take count g.frames.items) ≡ length (frames_to n s.epochs) =
+        ap (λ (l : List (ArrayVec ℕ)). length l) (part_is g.frames.items refl) in
+        omega (arith, parts, count_here, ok.whole, length-take count g.frames.items, seen)
 
     rest_seen : epochs_of (drop k g.marks.items) (drop count g.frames.items) ≡ drop k (epochs_held g)
     rest_seen = ap (λ j. epochs_of (drop k g.marks.items) (drop j g.frames.items)) count_here

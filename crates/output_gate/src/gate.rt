@@ -5,7 +5,7 @@ ghost use Rattle.frame_ports.specs.Limits.{number_limit};
 ghost use Rattle.output_gate.specs.Epochs.{epoch, frames_of, frames_to, after_number};
 ghost use Rattle.output_gate.specs.Gate.{IsGate, begun, first_held};
 ghost use Rattle.output_gate.specs.Landings.{ports_after, landed_count, dropped_count};
-ghost use Rattle.output_gate.specs.Limits.{max_epochs, max_frames};
+ghost use Rattle.output_gate.specs.Limits.{max_epochs, max_frames, max_held};
 ghost use Rattle.output_gate.specs.declared.errors.GateError.TheVariants.{NoMemory};
 ghost use Rattle.memory_wanted.specs.Wanted.{wanted};
 
@@ -111,6 +111,8 @@ impl Gate {
     pub fn held(&self, number: u64) -> &[Frame]
         ensures held { result.now ≡ frames_to number self.now.epochs }
         ensures frames { All IsFrame result.now }
+        ensures most { length result.now ≤ length (frames_of self.now.epochs) }
+        ensures few { length result.now ≤ max_held }
         // What is true of every gate.
         ensures gate { IsGate self.now }
     {
@@ -118,6 +120,20 @@ impl Gate {
         let marks = self.marks.as_slice();
         let count = frames_in(&marks[..epochs_to(marks, number)]);
         &frames[..count]
+    }
+
+    /// Lets go of the held frames of the checkpoints up to `number`, and says how many they were: whoever can let them out has done so from
+    /// [`Gate::held`] of that number. The others stay held, under their numbers.
+    pub fn let_go(&mut self, number: u64) -> usize
+        ensures gate { self.new ≡ record self.old { epochs = after_number number self.old.epochs } }
+        ensures count { result ≡ length (frames_to number self.old.epochs) }
+    {
+        let marks = self.marks.as_slice();
+        let epochs = epochs_to(marks, number);
+        let count = frames_in(&marks[..epochs]);
+        drop_first(&mut self.frames, count);
+        drop_first(&mut self.marks, epochs);
+        count
     }
 
     /// Lands the held frames of the checkpoints up to `number` under their numbers, in order, each in the boxes of
@@ -129,13 +145,8 @@ impl Gate {
         ensures dropped { result.dropped ≡ dropped_count ports.old (first_held self.old) (frames_to number self.old.epochs) }
     {
         let first = self.first();
-        let frames = self.frames.as_slice();
-        let marks = self.marks.as_slice();
-        let epochs = epochs_to(marks, number);
-        let count = frames_in(&marks[..epochs]);
-        let landed = land_numbered(ports, first, &frames[..count]);
-        drop_first(&mut self.frames, count);
-        drop_first(&mut self.marks, epochs);
+        let landed = land_numbered(ports, first, self.held(number));
+        self.let_go(number);
         landed
     }
 
