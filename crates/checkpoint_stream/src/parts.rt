@@ -160,6 +160,7 @@ impl Parts {
         ensures read { OnOk result (self.new ≡ fed self.old piece.now) }
         ensures count { IfOk result (λ n. n ≡ taken self.old piece.now) }
         ensures err { OnErr result (self.new ≡ self.old) }
+        ensures no_room { OnErr result (has_room self.old.place ≡ false) }
     {
         let mark = self.mark();
         match self.feed_on(piece) {

@@ -1,9 +1,12 @@
 //! The reader of a stream of checkpoints.
 
-ghost use Rattle.std.specs.Prelude.{◌≡◌, ◌<◌, ◌≤◌, false, length, IfOk, IfSome, IfNone};
+ghost use Rattle.std.specs.Prelude.{◌≡◌, ◌≢◌, ◌<◌, ◌≤◌, true, false, length, Err, IfOk, IfSome, IfNone};
 ghost use Rattle.checkpoint_stream.specs.Readings.{begun, is_closed, is_whole};
 ghost use Rattle.checkpoint_stream.specs.Sound.{change_in};
 ghost use Rattle.checkpoint_stream.specs.Answers.{Answers};
+ghost use Rattle.checkpoint_stream.specs.Taken.{has_room};
+ghost use Rattle.checkpoint_stream.specs.declared.errors.StreamError.TheVariants.{NoMemory};
+ghost use Rattle.memory_wanted.specs.Wanted.{wanted};
 ghost use Rattle.checkpoint_stream.specs.declared.place.Place.TheVariants.{Whole};
 
 use crate::errors::StreamError;
@@ -43,17 +46,20 @@ impl Reader {
     }
 
     /// Takes bytes up to the end of the checkpoint that has begun: all of the piece, or those up to its last byte, and none while a whole
-    /// checkpoint stands. Answers how many. Memory is taken only for records whose bytes came.
+    /// checkpoint stands. Answers how many. Memory is taken for page and sector records whose bytes came, and for frames once their count
+    /// came: 392 KB for 256 of them, the most that a checkpoint may have.
     ///
     /// # Errors
     ///
     /// [`StreamError::Malformed`] with the offset of the unit that breaks its rule, from the call that takes the unit's last byte, and from
-    /// every later one. [`StreamError::NoMemory`] where a growth was really refused: the reader is as before the call.
+    /// every later one. [`StreamError::NoMemory`] where a growth was really refused: the reader is as before the call. So nothing is
+    /// refused memory from the count of frames on, nor while a whole checkpoint stands, nor after a unit that broke its rule.
     #[tactic(auto, using(crate::proofs::Feeding::taken_le, crate::proofs::Feeding::taken_some))]
     pub fn feed(&mut self, piece: &[u8]) -> Result<usize, StreamError>
         ensures answers { Answers self.old piece.now result self.new }
         ensures within { IfOk result (λ count. count ≤ length piece.now) }
         ensures some { is_closed self.old.place ≡ false → 0 < length piece.now → IfOk result (λ count. 0 < count) }
+        ensures room { has_room self.old.place ≡ true → result ≢ Err (NoMemory wanted) }
     {
         let count = self.parts.feed(piece)?;
         match self.parts.failure() {
