@@ -13,6 +13,7 @@ use Rattle.growing_history.specs.LogState.{state_at}
 use Rattle.pair_book.specs.Books.{BookState}
 use Rattle.pair_book.specs.Calls.{is_word_full}
 use Rattle.pair_book.specs.Commits.{may_commit, is_old_delta, is_next, is_earlier, commit_why}
+use Rattle.pair_book.proofs.Words.{word_room}
 
 -- what is so where nothing refuses the commit, and it isn't an earlier one
 pub record MayCommit (start : HistoryState) (b : BookState) (by : ℕ) (c : Change) : Type 0 where
@@ -66,5 +67,5 @@ commit_may start b by c e later =
       generation = eqb-true c.generation b.protocol.generation rows.1;
       number = same;
       some = is_below w.to_cut w.to_commit (second-false (is_next b c) (nat_le w.to_cut w.to_commit) next rows.3);
-      room = is_below number_limit (length b.steps) (second-false (is_next b c) (is_word_full b) next rows.4);
+      room = word_room b (second-false (is_next b c) (is_word_full b) next rows.4);
     }

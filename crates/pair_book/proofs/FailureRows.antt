@@ -14,6 +14,7 @@ use Rattle.pair_book.specs.declared.failures.Ack.{Ack}
 use Rattle.pair_book.specs.Books.{BookState}
 use Rattle.pair_book.specs.Calls.{is_word_full}
 use Rattle.pair_book.specs.Failures.{first_of, fail_backup_why, protect_why, ack_why, leaving_at}
+use Rattle.pair_book.proofs.Words.{word_room}
 
 -- where nothing refuses, neither the mode does nor a row
 none-of : (by_mode : Option Refusal) (rows : List Row) → first_of by_mode rows ≡ None → (by_mode ≡ None) × (first_refusal rows ≡ None)
@@ -45,7 +46,7 @@ backup_may b e =
     let parts = none-of (change_refusal changes.FailBackup b.protocol.mode)
     (fail_backup_refusals b.ports.boxes [] b.protocol ++ (is_word_full b, Exhausted) ∷ []) e in
     let rows = two _ _ Exhausted Exhausted parts.1 in
-    (parts.0, one-row _ Exhausted rows.0, is_below number_limit (length b.steps) rows.1)
+    (parts.0, one-row _ Exhausted rows.0, word_room b rows.1)
 
 -- a new backup may come
 pub protect_may : (b : BookState) → protect_why b ≡ None
@@ -60,7 +61,7 @@ protect_may b e =
       parts.0,
       one-row _ Exhausted rows.0,
       is_below number_limit (b.protocol.generation + 1) rows.0,
-      is_below number_limit (length b.steps) rows.1,
+      word_room b rows.1,
     )
 
 -- an acknowledgement is taken: it isn't beyond the last commit, the record doesn't refuse it, and where frames leave there is a step for it
@@ -85,4 +86,4 @@ ack_may b ack e =
         → s && t ≡ false → length b.steps < number_limit
     word some false is t full e = absurd (grind (arith, nat_tests))
     word some true is true full e = absurd (cc)
-    word some true is false full e = is_below number_limit (length b.steps) full
+    word some true is false full e = word_room b full

@@ -28,6 +28,7 @@ use Rattle.pair_book.specs.{Books.BookState, Calls.is_word_full, Failures.first_
 use Rattle.pair_book.specs.GoingLive.{is_backup, go_live_rows, go_live_why}
 use Rattle.pair_book.specs.internal.{Committed.KeepsCommitted, Tie.IsTied, Waits.AreWaiting}
 use Rattle.pair_book.proofs.{CommittedSeals.live-keeps, FailureTies.shown, StandingLaws.frames-bring, Ties.{step-tied, tied-still, way-is}}
+use Rattle.pair_book.proofs.Words.{word_room}
 
 pub has_stopped : (m : Mode) → change_refusal changes.GoLive m ≡ None → m ≡ Stopped
 has_stopped Paired e = absurd (cc)
@@ -81,7 +82,7 @@ live_may start b number first kept e =
       mine = eqb-true number (state_at start b.steps).backup rows.0;
       rows = two last many rows.1 rows.2;
       few = is_below number_limit (r.generation + 1) rows.1;
-      room = is_below number_limit (length b.steps) rows.3;
+      room = word_room b rows.3;
     }
 
 module _ (start : HistoryState) (steps : List Step) (r now : Record) (p q : PortsState) (t : IsTied start steps r p)

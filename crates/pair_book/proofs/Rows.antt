@@ -5,9 +5,10 @@ use Rattle.std.specs.Prelude.{not, ◌&&◌, nat_le, length}
 use Rattle.frame_ports.specs.{Addresses.IsFrame, Limits.{inbox_frames, number_limit}, Ports.inbox_of}
 use Rattle.pair_record.specs.declared.event.Refusal.TheVariants.{Full, BadFrame, NoClient, Exhausted}
 use Rattle.pair_record.specs.Protocol.{Row, first_refusal, deliver_refusals, exhausts, is_among, is_bad_length}
-use Rattle.pair_record.proofs.{ClientLaws.frame_range, WindowLaws.{is_from, is_below}}
+use Rattle.pair_record.proofs.{ClientLaws.frame_range, WindowLaws.is_from}
 use Rattle.pair_book.specs.Books.{BookState}
 use Rattle.pair_book.specs.Calls.{deliver_rows, is_word_full}
+use Rattle.pair_book.proofs.Words.{word_room}
 
 pub is_client : (c count : ℕ) → 1 ≤ c → c ≤ count → is_among c count ≡ true
 is_client c count low high = ap (λ (b : Bool). b && nat_le c count) (le-leb 1 c low) ∙ le-leb c count high
@@ -69,7 +70,7 @@ module _ (b : BookState) (c : ℕ) (bytes : List ℕ) (low : 1 ≤ c) (high : c 
   pub taken_in : first_refusal (deliver_rows b c bytes) ≡ None → beside × IsFrame (record { items = bytes }) × (length b.steps < number_limit)
   taken_in e =
       let h = free bad out (is_word_full b) full last e in
-      (same h.1, frame_range bytes h.0, is_below number_limit (length b.steps) h.1)
+      (same h.1, frame_range bytes h.0, word_room b h.1)
 
   -- one that finds a full inbox
   pub found_full : first_refusal (deliver_rows b c bytes) ≡ Some Full
@@ -78,6 +79,6 @@ module _ (b : BookState) (c : ℕ) (bytes : List ℕ) (low : 1 ≤ c) (high : c 
       let h = at_full bad out (is_word_full b) full last e in (
         same h.1,
         frame_range bytes h.0,
-        is_below number_limit (length b.steps) h.1,
+        word_room b h.1,
         is_from inbox_frames (length (inbox_of b.ports c)) h.2,
       )

@@ -43,6 +43,7 @@ use Rattle.pair_book.proofs.{CommittedHanding.behind-keeps, CommittedSeals.{seal
 use Rattle.pair_book.proofs.TextLaws.{texts-after, texts-once-sealed, as-many}
 use Rattle.pair_book.proofs.MadeLaws.{none-before, sealed-made}
 use Rattle.pair_book.proofs.SubmitTies.{sealed-tied, alone-tied, full-tied}
+use Rattle.pair_book.proofs.Words.{word_room}
 
 -- WHAT THE LIVE RUNNER KNEW when its seat last looked
 module _ (start : HistoryState) (seat : Member) (log : List Step) (arrivals ran : ℕ) (fs : List Frame)
@@ -152,7 +153,7 @@ is-free start b by what ran fs e =
       live = generation_is by (state_at start b.steps).runner run.0;
       runs = run.1;
       suit = suits b.protocol what three.0 four.0 five.0;
-      word = is_below number_limit (length b.steps) six.0;
+      word = word_room b six.0;
       few = is_below most_pending (length b.protocol.pending) two.0;
     }
 

@@ -1,5 +1,5 @@
 -- What a call of a member does to the book, to its seat and to the keeper's list of steps, and the tables of refusals.
-use Rattle.std.specs.Prelude.{◌≡◌, ℕ, ◌-◌, ◌≤◌, nat_le, Bool, List, [], ◌∷◌, ◌++◌, ◌⊎◌, length, Option, None, Some}
+use Rattle.std.specs.Prelude.{◌≡◌, ℕ, ◌+◌, ◌-◌, ◌≤◌, nat_le, Bool, List, [], ◌∷◌, ◌++◌, ◌⊎◌, length, Option, None, Some}
 use Rattle.memory_wanted.specs.Wanted.{wanted}
 use Rattle.frame_ports.specs.Limits.{inbox_frames, number_limit}
 use Rattle.frame_ports.specs.Ports.{inbox_of}
@@ -47,9 +47,9 @@ abbrev pub IsWhyDelivery : Option Refusal → Refusal → Type 0
 IsWhyDelivery (Some Full) why = (why ≡ Full) ⊎ (why ≡ NoMemory wanted)
 IsWhyDelivery other why = IsWhy other why
 
--- the word that counts the steps stays below 2^62, as the history's length does
+-- the word that counts the steps stays below 2^62, as the history's length does: one step more would reach it
 abbrev pub is_word_full : BookState → Bool
-is_word_full b = nat_le number_limit (length b.steps)
+is_word_full b = nat_le number_limit (length b.steps + 1)
 
 -- a step that adds one entry
 abbrev pub entry_rows : BookState → List Row

@@ -64,11 +64,11 @@ impl<P: Pair> Book<P> {
         self.record.history().len()
     }
 
-    /// Whether the word, which counts the steps, can count no more.
+    /// Whether the word, which counts the steps, would reach 2^62 by one step more.
     pub(crate) fn is_word_full(&self) -> bool
         ensures { result ≡ is_word_full self.now }
     {
-        self.seats.count() >= NUMBER_LIMIT
+        self.seats.count() >= NUMBER_LIMIT - 1
     }
 
     /// The number of the client whose seat this is.
