@@ -1,6 +1,6 @@
 -- What is true of each reading: what was read so far is the front of a canonical checkpoint.
 use Rattle.std.specs.Prelude.{◌≡◌, ◌≢◌, ℕ, ◌+◌, ◌%◌, ◌^◌, ◌<◌, ◌≤◌, ◌==◌, if◌then◌else◌, true, false, IsTrue, not, List, [], ◌∷◌, length}
-use Rattle.std.specs.Prelude.{map, All, slice_index}
+use Rattle.std.specs.Prelude.{map, All, slice_index, Option, None, Some}
 use Rattle.guest_machine.specs.Dirty.{Rises}
 use Rattle.guest_machine.specs.declared.shapes.Shape.{Shape}
 use Rattle.guest_machine.specs.declared.machine_state.MachineState.{MachineState}
@@ -17,7 +17,7 @@ use Rattle.checkpoint_stream.specs.declared.place.Place.TheVariants.{Whole, Fail
 use Rattle.net_device.specs.Frames.{IsFrame}
 use Rattle.checkpoint_stream.specs.HeadTable.{head_table, passes}
 use Rattle.checkpoint_stream.specs.Text.{numbers_from}
-use Rattle.checkpoint_stream.specs.Readings.{Reading, is_full, has_frames}
+use Rattle.checkpoint_stream.specs.Readings.{Reading, is_whole, is_full, has_frames}
 
 -- a queue and a device, by the index of their first number in the head
 abbrev pub queue_from : List ℕ → ℕ → Queue
@@ -71,6 +71,10 @@ version_from magic = if magic == 0x32434d52 then 2 else 1
 unfoldable pub change_in : Reading → Change
 change_in r = change_of (version_from (slice_index r.head 0)) r.shape (slice_index r.head 3) (slice_index r.head 4) (state_from r.head)
     r.pages r.blocks r.sectors r.frames
+
+-- the generation and the number of the checkpoint that stands whole, if one does
+abbrev pub whole_name : Reading → Option (ℕ × ℕ)
+whole_name r = if is_whole r.place then Some ((change_in r).generation, (change_in r).number) else None
 
 -- the last of some numbers, or the one before them
 abbrev pub last_after : ℕ → List ℕ → ℕ

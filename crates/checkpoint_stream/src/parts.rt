@@ -125,6 +125,15 @@ impl Parts {
         matches!(self.place, Place::Whole)
     }
 
+    /// The generation and the number of the checkpoint that was read, whole.
+    #[tactic(auto, unfolding(crate::specs::Sound::change_in))]
+    pub(crate) fn name(&self) -> (u64, u64)
+        requires { self.now.known ≡ 80 }
+        ensures { result ≡ ((change_in self.now).generation, (change_in self.now).number) }
+    {
+        (self.head[3], self.head[4])
+    }
+
     /// The checkpoint that was read, whole. The next one begins.
     #[tactic(auto, unfolding(crate::specs::Sound::change_in))]
     pub(crate) fn take_checkpoint(&mut self) -> Checkpoint

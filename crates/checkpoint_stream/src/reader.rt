@@ -2,7 +2,7 @@
 
 ghost use Rattle.std.specs.Prelude.{◌≡◌, ◌≢◌, ◌<◌, ◌≤◌, true, false, length, Err, IfOk, IfSome, IfNone};
 ghost use Rattle.checkpoint_stream.specs.Readings.{begun, is_closed, is_whole};
-ghost use Rattle.checkpoint_stream.specs.Sound.{change_in};
+ghost use Rattle.checkpoint_stream.specs.Sound.{change_in, whole_name};
 ghost use Rattle.checkpoint_stream.specs.Answers.{Answers};
 ghost use Rattle.checkpoint_stream.specs.Taken.{has_room};
 ghost use Rattle.checkpoint_stream.specs.declared.errors.StreamError.TheVariants.{NoMemory};
@@ -65,6 +65,17 @@ impl Reader {
         match self.parts.failure() {
             Some(at) => Err(StreamError::Malformed(at)),
             None => Ok(count),
+        }
+    }
+
+    /// The generation and the number of the checkpoint that was read whole; `None` where none stands whole.
+    pub fn whole(&self) -> Option<(u64, u64)>
+        ensures { result ≡ whole_name self.now }
+    {
+        if self.parts.is_whole() {
+            Some(self.parts.name())
+        } else {
+            None
         }
     }
 
