@@ -116,6 +116,14 @@ free-of (Some why) unnumbered e = absurd (cc)
 free-of None true e = absurd (cc)
 free-of None false e = (refl, refl)
 
+-- where nothing refuses it, it is refused for want of memory alone
+pub row-of : (start : HistoryState) (b : BookState) (number : ℕ) (i : ImageState) (c : Change) (why : Refusal)
+    → why_not start b number i c ≡ None → IsWhy (commit_why start b number (Some c)) why → IsWhy (why_not start b number i c) why
+row-of start b number i c why none is =
+    let both = free-of (commit_why start b number (Some c))
+    (not (is_earlier b c) && not (nat_lt (images.sent_with c i.sent) number_limit)) none in
+    subst (λ (o : Option Refusal). IsWhy o why) (both.0 ∙ sym none) is
+
 is-numbered : (numbered : Bool) → (not false && not numbered) ≡ false → numbered ≡ true
 is-numbered true e = refl
 is-numbered false e = absurd (cc)

@@ -18,10 +18,11 @@ use Rattle.hypervisor.specs.Backups.{BackupState, StandsWith}
 use Rattle.hypervisor.specs.Refusals.{IsWhyUnless}
 use Rattle.hypervisor.specs.Seats.{MakesStep}
 
--- The next one: it is acknowledged; the image is the checkpoint read over the image before, and keeps its frames; what was read is given
--- up; and the seat has made the step that names the text that was read.
+-- The next one, by what the image stands at: it is acknowledged; the image is the checkpoint read over the image before, and keeps its
+-- frames; what was read is given up; and the seat has made the step that names the text that was read.
 pub record CommitsNext (start : HistoryState) (c : Change) (ack : Ack) (old new : BackupState) : Type 0 where
   pub acknowledged : Acknowledges false c ack
+  pub next : stage_answer old.image c ≡ Ok New
   pub is : new ≡ record old { image = applied old.image (Some c); read = None; seat = new.seat }
   pub number : new.seat.number ≡ old.seat.number
   pub step : MakesStep start old.seat.number (commit_of c) old.seat.steps new.seat.steps

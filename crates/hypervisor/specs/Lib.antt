@@ -13,3 +13,4 @@ pub mod Backups
 pub mod Feeding
 pub mod Commits
 pub mod GoingLive
+pub mod AtBook

@@ -136,10 +136,10 @@ impl<P: Pair> Backup<P> {
     {
         let answer = {
             let shared = &*self.shared;
-            let mut held = shared.book.lock(rt);
+            let mut held = shared.lock(rt);
             commit(
                 &mut *held,
-                &shared.clock,
+                shared.clock(),
                 &mut self.seat,
                 &self.image,
                 self.read.as_ref(),
@@ -217,9 +217,9 @@ fn goes_live<P: Pair, R: Wait>(
 {
     // The texts that were pending are given back after the lock.
     let (answer, _texts) = {
-        let mut held = shared.book.lock(rt);
+        let mut held = shared.lock(rt);
         let texts = held.keep_texts();
-        let answer = go_live(&mut *held, &shared.clock, seat, image);
+        let answer = go_live(&mut *held, shared.clock(), seat, image);
         (answer, texts)
     };
     answer

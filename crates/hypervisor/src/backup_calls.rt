@@ -1,13 +1,18 @@
 //! What a backup calls at the book, which is lent to it, and how its image takes a checkpoint in.
-ghost use Rattle.std.specs.Prelude.{◌≡◌, ◌<◌, IfOk, OnOk, IfErr, OnErr, IfSome, IsSome, None, Some, Ok, nat_lt, option_map};
+ghost use Rattle.std.specs.Prelude.{◌≡◌, ℕ, ◌+◌, ◌<◌, not, IfOk, OnOk, IfErr, OnErr, IfSome, IsSome, None, Some, Ok, nat_lt, option_map};
 ghost use Rattle.std.specs.List.{Contains};
 ghost use Rattle.backup_image.specs.Images.{ImageState, applied, stage_answer, settled_machine};
-ghost use Rattle.backup_image.specs.Kept.{sent_with};
+ghost use Rattle.backup_image.specs.Kept.{sent_with, first_kept};
 ghost use Rattle.backup_image.specs.Limits.{number_limit};
 ghost use Rattle.backup_image.specs.declared.standing.Staged.TheVariants.{New};
-ghost use Rattle.pair_book.specs.Commits.{WasRead};
+ghost use Rattle.pair_record.specs.declared.event.Reply.TheVariants as replies;
+ghost use Rattle.pair_record.specs.Kept.{brought_done, ports_after_brought};
+ghost use Rattle.pair_book.specs.Calls.{IsWhy};
+ghost use Rattle.pair_book.specs.Commits.{WasRead, is_earlier, AfterCommit};
+ghost use Rattle.pair_book.specs.GoingLive.{GoesLive, go_live_why};
+ghost use Rattle.pair_book.specs.Packets.{no_texts};
 ghost use Rattle.pair_book.specs.Made.{IsShape};
-ghost use Rattle.hypervisor.specs.Backups.{StandsWith};
+ghost use Rattle.hypervisor.specs.Backups.{StandsWith, kept_of};
 ghost use Rattle.hypervisor.specs.Commits.{why_not, AtBook, IsWhyCommit};
 ghost use Rattle.hypervisor.specs.GoingLive.{GoesLiveWith, live_refusals};
 
@@ -67,6 +72,12 @@ pub(crate) fn commit<P: Pair>(
     requires was_read { IfSome read (λ c. WasRead c.now) }
     requires stands { StandsWith P.start seat.old image.now }
     ensures some { OnOk result (IsSome read.entry) }
+    // What it does at the book, and why it is refused there.
+    ensures which { IfOk result (λ done. IfSome read.entry (λ c. done.is_next ≡ not (is_earlier book.old c.now))) }
+    ensures book { IfOk result (λ done. IfSome read.entry (λ c. AfterCommit c.now done.ack book.old book.new seat.old seat.new)) }
+    ensures texts { book.new.texts ≡ book.old.texts }
+    ensures row { IfErr result (λ why. IfSome read.entry (λ c. IsWhy (why_not P.start book.old seat.old.number image.now c.now) why)) }
+    ensures kept { OnErr result (book.new ≡ book.old) }
     ensures done { IfOk result (λ done. IfSome read.entry (λ c. AtBook done.is_next P.start c.now done.ack image.now seat.old seat.new)) }
     ensures why { IfErr result (IsWhyCommit (option_map (λ c. c.now) read.entry)) }
     ensures refused { OnErr result (seat.new ≡ seat.old) }
@@ -106,6 +117,17 @@ pub(crate) fn go_live<P: Pair>(
     ensures live { IfOk result (GoesLiveWith P.start image.now seat.old) }
     ensures why { IfErr result (Contains live_refusals) }
     ensures refused { OnErr result (seat.new ≡ seat.old) }
+    // What it does at the book, however many steps the backup's guest has made, and why it is refused there.
+    ensures done { OnOk result ((steps : ℕ) → (replies.Live (book.old.protocol.generation + 1) steps, book.new.protocol)
+        ≡ brought_done book.old.protocol book.old.ports (first_kept (kept_of image.now)) image.now.kept steps) }
+    ensures ports { OnOk result (book.new.ports
+        ≡ ports_after_brought book.old.ports book.old.protocol (first_kept (kept_of image.now)) image.now.kept) }
+    ensures texts { OnOk result (book.new.texts ≡ no_texts) }
+    ensures step { OnOk result (GoesLive book.old book.new seat.old seat.new) }
+    ensures runner { IfOk result (λ runner. runner ≡ record { number = book.new.enrolled; steps = book.new.steps }) }
+    ensures free { OnOk result (go_live_why P.start book.old seat.old.number (first_kept (kept_of image.now)) image.now.kept ≡ None) }
+    ensures row { IfErr result (IsWhy (go_live_why P.start book.old seat.old.number (first_kept (kept_of image.now)) image.now.kept)) }
+    ensures kept { OnErr result (book.new ≡ book.old) }
 {
     steps_go_on();
     let kept = image.kept();

@@ -1,12 +1,15 @@
-//! A client's seat, and what its calls at the book make of what it has seen.
-ghost use Rattle.std.specs.Prelude.{◌≡◌, ◌≤◌, length, false, IfOk, OnOk, IfErr};
+//! A client's seat, and what its calls make of the book and of what it has seen.
+ghost use Rattle.std.specs.Prelude.{◌≡◌, ◌≤◌, length, false, None, IfOk, OnOk, IfErr};
+ghost use Rattle.frame_ports.specs.Ports.{after_delivery};
 ghost use Rattle.pair_history.specs.Entries.{Delivered, Took};
-ghost use Rattle.pair_record.specs.Protocol.{is_bad_length};
+ghost use Rattle.pair_record.specs.declared.event.Reply.TheVariants as replies;
+ghost use Rattle.pair_record.specs.Protocol.{is_bad_length, first_refusal, deliver_done, take_done};
 ghost use Rattle.growing_history.specs.LogState.{Legal};
 ghost use Rattle.std.specs.List.{Contains};
-ghost use Rattle.pair_record.specs.Record.{given};
-ghost use Rattle.pair_book.specs.Calls.{IsClientSeat};
+ghost use Rattle.pair_record.specs.Record.{given, ports_after_take};
+ghost use Rattle.pair_book.specs.Calls.{IsClientSeat, IsWhy, entry_rows, deliver_rows, IsWhyDelivery as IsWhyAtBook};
 ghost use Rattle.hypervisor.specs.Clients.{client_state, Calls, AfterRefusedDelivery, Learns};
+ghost use Rattle.hypervisor.specs.AtBook.{KeepsBookUnlessFull};
 ghost use Rattle.hypervisor.specs.Refusals.{IsWhyDelivery, entry_refusals};
 
 use growing_history::{Badge, ClientSeat, Clock, Pair, a_call_is_a_point_of_one_history};
@@ -61,6 +64,14 @@ impl<P: Pair> CallerSeat<P> {
         ensures frame { OnOk result (is_bad_length (length bytes.now) ≡ false) }
         ensures why { IfErr result (IsWhyDelivery bytes.now) }
         ensures refused { IfErr result (λ why. AfterRefusedDelivery P.start (record { items = bytes.now }) why self.old self.new) }
+        // And what it does at the book.
+        ensures protocol { IfOk result (λ n. (replies.Delivered n, book.new.protocol)
+            ≡ deliver_done book.old.protocol self.old.number (record { items = bytes.now }) book.old.ports.next) }
+        ensures ports { OnOk result (book.new.ports ≡ after_delivery book.old.ports self.old.number bytes.now) }
+        ensures texts { book.new.texts ≡ book.old.texts }
+        ensures free { OnOk result (first_refusal (deliver_rows book.old self.old.number bytes.now) ≡ None) }
+        ensures row { IfErr result (IsWhyAtBook (first_refusal (deliver_rows book.old self.old.number bytes.now))) }
+        ensures kept { IfErr result (KeepsBookUnlessFull self.old.number (record { items = bytes.now }) book.old book.new) }
     {
         a_call_is_a_point_of_one_history();
         let delivered = book.deliver(clock, &mut self.seat, bytes);
@@ -79,6 +90,14 @@ impl<P: Pair> CallerSeat<P> {
         ensures stays { IfOk result (λ is_some. is_some ≡ false → into.new ≡ into.old) }
         ensures why { IfErr result (Contains entry_refusals) }
         ensures refused { IfErr result (λ _. (self.new ≡ self.old) × (into.new ≡ into.old)) }
+        // And what it does at the book.
+        ensures protocol { IfOk result (λ is_some. (replies.Took (given is_some into.new), book.new.protocol)
+            ≡ take_done book.old.ports.boxes book.old.protocol self.old.number) }
+        ensures ports { OnOk result (book.new.ports ≡ ports_after_take book.old.ports self.old.number) }
+        ensures texts { book.new.texts ≡ book.old.texts }
+        ensures free { OnOk result (first_refusal (entry_rows book.old) ≡ None) }
+        ensures row { IfErr result (IsWhy (first_refusal (entry_rows book.old))) }
+        ensures kept { IfErr result (λ _. book.new ≡ book.old) }
     {
         a_call_is_a_point_of_one_history();
         let taken = book.take(clock, &mut self.seat, into);

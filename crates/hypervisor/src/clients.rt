@@ -68,7 +68,7 @@ impl<P: Pair> Client<P> {
     {
         let shared = &*self.shared;
         let mut held = shared.hold(rt);
-        self.seat.deliver(&mut *held, &shared.clock, bytes)
+        self.seat.deliver(&mut *held, shared.clock(), bytes)
     }
 
     /// Takes the first frame of the client's box, or finds none. What the client has seen then ends with this call's entry, and its own
@@ -106,7 +106,7 @@ impl<P: Pair> Client<P> {
     {
         let shared = &*self.shared;
         let mut held = shared.hold(rt);
-        self.seat.take(&mut *held, &shared.clock, into)
+        self.seat.take(&mut *held, shared.clock(), into)
     }
 
     /// What another client may be told: all that this one has seen. No lock is taken.
@@ -115,7 +115,7 @@ impl<P: Pair> Client<P> {
         ensures same { self.new ≡ self.old }
     {
         let shared = &*self.shared;
-        self.seat.tell(&shared.clock)
+        self.seat.tell(shared.clock())
     }
 
     /// Sees all that the client had seen who told it, beside all that it had seen itself. Its own entries stay, and so does the badge, from
@@ -125,6 +125,6 @@ impl<P: Pair> Client<P> {
         ensures badge { badge.new ≡ badge.old }
     {
         let shared = &*self.shared;
-        self.seat.learn(&shared.clock, badge);
+        self.seat.learn(shared.clock(), badge);
     }
 }

@@ -1,5 +1,10 @@
 //! The line's losses.
-ghost use Rattle.std.specs.Prelude.{◌≡◌, IfOk, IfErr};
+ghost use Rattle.std.specs.Prelude.{◌≡◌, None, IfOk, OnOk, IfErr};
+ghost use Rattle.frame_ports.specs.Ports.{inbox_of, box_of};
+ghost use Rattle.pair_record.specs.Protocol.{first_refusal, lost_in, lost_out};
+ghost use Rattle.pair_record.specs.Record.{ports_after_lose_in, ports_after_lose_out};
+ghost use Rattle.pair_book.specs.Calls.{IsAsBefore};
+ghost use Rattle.pair_book.specs.Losses.{loss_rows, AfterLoss, IsWhyLoss as IsWhyAtBook};
 ghost use Rattle.hypervisor.specs.Losses.{AfterLossIn, AfterLossOut};
 ghost use Rattle.hypervisor.specs.Refusals.{IsWhyLoss};
 
@@ -37,6 +42,14 @@ fn lose_in<P: Pair>(
     ensures done { IfOk result (λ lost. AfterLossIn P.start lost line.old.steps line.new.steps) }
     ensures why { IfErr result (IsWhyLoss P.start client) }
     ensures refused { IfErr result (λ _. line.new ≡ line.old) }
+    // And what it does at the book.
+    ensures texts { book.new.texts ≡ book.old.texts }
+    ensures lost { IfOk result (λ loss. AfterLoss (lost_in (inbox_of book.old.ports client) place)
+        (ports_after_lose_in book.old.ports client place) loss book.old book.new line.old line.new) }
+    ensures free { OnOk result (first_refusal (loss_rows book.old client (lost_in (inbox_of book.old.ports client) place)) ≡ None) }
+    ensures row { IfErr result (IsWhyAtBook (lost_in (inbox_of book.old.ports client) place)
+        (first_refusal (loss_rows book.old client (lost_in (inbox_of book.old.ports client) place)))) }
+    ensures kept { IfErr result (λ _. IsAsBefore book.old book.new line.old line.new) }
 {
     book.entries();
     let lost = book.lose_in(clock, line, client, place);
@@ -56,6 +69,15 @@ fn lose_out<P: Pair>(
     ensures done { IfOk result (λ lost. AfterLossOut P.start client place lost line.old.steps line.new.steps) }
     ensures why { IfErr result (IsWhyLoss P.start client) }
     ensures refused { IfErr result (λ _. line.new ≡ line.old) }
+    // And what it does at the book.
+    ensures texts { book.new.texts ≡ book.old.texts }
+    ensures lost { IfOk result (λ loss. AfterLoss (lost_out client (box_of book.old.ports client) place)
+        (ports_after_lose_out book.old.ports client place) loss book.old book.new line.old line.new) }
+    ensures free { OnOk result (first_refusal
+        (loss_rows book.old client (lost_out client (box_of book.old.ports client) place)) ≡ None) }
+    ensures row { IfErr result (IsWhyAtBook (lost_out client (box_of book.old.ports client) place)
+        (first_refusal (loss_rows book.old client (lost_out client (box_of book.old.ports client) place)))) }
+    ensures kept { IfErr result (λ _. IsAsBefore book.old book.new line.old line.new) }
 {
     book.entries();
     let lost = book.lose_out(clock, line, client, place);
@@ -84,7 +106,7 @@ impl<P: Pair> Loss<P> {
     {
         let shared = &*self.shared;
         let mut held = shared.hold(rt);
-        lose_in(&mut *held, &shared.clock, &mut self.line, client, place)
+        lose_in(&mut *held, shared.clock(), &mut self.line, client, place)
     }
 
     /// Drops the frame at this place, from 0, of this client's box, which it has yet to take.
@@ -99,6 +121,6 @@ impl<P: Pair> Loss<P> {
     {
         let shared = &*self.shared;
         let mut held = shared.hold(rt);
-        lose_out(&mut *held, &shared.clock, &mut self.line, client, place)
+        lose_out(&mut *held, shared.clock(), &mut self.line, client, place)
     }
 }

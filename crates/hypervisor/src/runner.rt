@@ -14,6 +14,7 @@ ghost use Rattle.pair_book.specs.Running.{wanted_of};
 ghost use Rattle.pair_book.specs.Settled.{just_settled, numbers_of, Runs};
 ghost use Rattle.pair_book.specs.Submitting.{prepared_rows, submit_why};
 ghost use Rattle.pair_book.specs.declared.prepared.Prepared.{Prepared};
+ghost use Rattle.hypervisor.specs.AtBook.{EndsAtBook};
 ghost use Rattle.hypervisor.specs.Preparing.{CarriesDelta, CarriesFull, is_possible, IsMadeFor, IsOfKind, Suits};
 ghost use Rattle.hypervisor.specs.Refusals.{submit_refusals};
 ghost use Rattle.hypervisor.specs.Runners.{RunnerState, runner_state, new_runner, IsSized, RunsFromSettled, IsRunner};
@@ -145,7 +146,7 @@ impl<P: Pair> Runner<P> {
         ensures { IfErr result (λ why. why ≡ Refusal.Stopped) }
     {
         let shared = &*self.shared;
-        let held = shared.book.lock(rt);
+        let held = shared.lock(rt);
         ask(&*held, &self.seat)
     }
 
@@ -187,11 +188,11 @@ impl<P: Pair> Runner<P> {
     {
         let next = {
             let shared = &*self.shared;
-            let mut book = shared.book.lock(rt);
+            let mut book = shared.lock(rt);
             submit(
                 self.alloc,
                 &mut *book,
-                &shared.clock,
+                shared.clock(),
                 &mut self.seat,
                 &self.machine,
                 &self.held,
@@ -254,6 +255,8 @@ fn submit<P: Pair>(
     ensures rest { IfOk result (λ next. 0 < length held.now → next.items ≡ []) }
     ensures handed { IfOk result (λ next. numbers_of (held.now ++ next.items) ≡ (state_at P.start seat.new.steps).handed) }
     ensures number { seat.new.number ≡ seat.old.number }
+    ensures book { IfOk result (λ next. EndsAtBook P.start book.old book.new seat.old seat.new
+        epoch.arrivals epoch.steps machine.now.outbox what.now next.items) }
     ensures why { IfErr result (IsWhy (submit_why P.start book.old seat.old.number what.now epoch.steps machine.now.outbox)) }
     ensures among { IfErr result (Contains submit_refusals) }
     ensures refused { OnErr result ((seat.new ≡ seat.old) × (book.new ≡ book.old)) }

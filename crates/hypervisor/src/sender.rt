@@ -1,6 +1,13 @@
 //! Who sends checkpoints and gets acknowledgements.
-ghost use Rattle.std.specs.Prelude.{IfErr};
+ghost use Rattle.std.specs.Prelude.{◌≡◌, ◌↔◌, ◌<◌, [], None, length, IfOk, OnOk, IfErr, OnErr, IfSome, IsNone};
 ghost use Rattle.std.specs.List.{Contains};
+ghost use Rattle.pair_history.specs.Landings.{landings};
+ghost use Rattle.pair_record.specs.declared.event.Reply.TheVariants as replies;
+ghost use Rattle.pair_record.specs.Protocol.{let_go, ack_done};
+ghost use Rattle.pair_record.specs.Record.{ports_after_ack};
+ghost use Rattle.pair_book.specs.Calls.{IsWhy};
+ghost use Rattle.pair_book.specs.Failures.{AddsAlone, ack_why, leaving_at};
+ghost use Rattle.pair_book.specs.Texts.{WasSealed, next_of, given_after, next_why, texts_above};
 ghost use Rattle.hypervisor.specs.Refusals.{next_refusals, ack_refusals};
 
 use crate::shared::Shared;
@@ -15,14 +22,35 @@ pub struct Sender<P: Pair> {
     shared: Arc<Shared<P>>,
 }
 
+/// As [`Book::next`] says.
 fn next<P: Pair>(book: &mut Book<P>) -> Result<Option<Packet>, Refusal>
-    ensures { IfErr result (Contains next_refusals) }
+    ensures among { IfErr result (Contains next_refusals) }
+    ensures done { IfOk result (λ packet. packet ≡ next_of book.old.texts) }
+    ensures given { OnOk result (book.new ≡ record book.old { texts = given_after (next_of book.old.texts) book.old.texts }) }
+    ensures sealed { IfOk result (λ packet. IfSome packet (λ p.
+        (p.generation ≡ book.old.protocol.generation) × WasSealed book.old.steps p)) }
+    ensures none { IfOk result (λ packet. IsNone packet ↔ (book.old.protocol.pending ≡ [])) }
+    ensures free { OnOk result (next_why book.old ≡ None) }
+    ensures why { IfErr result (IsWhy (next_why book.old)) }
+    ensures memory { OnErr result (next_why book.old ≡ None → 0 < length book.old.protocol.pending) }
+    ensures refused { OnErr result (book.new ≡ book.old) }
 {
     book.next()
 }
 
+/// As [`Book::acked`] says.
 fn acked<P: Pair>(book: &mut Book<P>, clock: &Clock<P>, ack: Ack) -> Result<Landed, Refusal>
-    ensures { IfErr result (Contains ack_refusals) }
+    ensures among { IfErr result (Contains ack_refusals) }
+    ensures done { IfOk result (λ landed. (replies.Acked ack.generation ack.number landed.count, book.new.protocol)
+        ≡ ack_done book.old.ports.boxes book.old.protocol ack.number) }
+    ensures ports { OnOk result (book.new.ports ≡ ports_after_ack book.old.ports book.old.protocol ack.number) }
+    ensures texts { OnOk result (book.new.texts ≡ texts_above ack.number book.old.texts) }
+    ensures step { OnOk result (AddsAlone (landings book.old.ports.boxes (let_go book.old.ports.boxes book.old.protocol ack.number))
+        book.old book.new) }
+    ensures free { OnOk result (ack_why book.old ack ≡ None) }
+    ensures why { IfErr result (IsWhy (ack_why book.old ack)) }
+    ensures memory { OnErr result (ack_why book.old ack ≡ None → 0 < leaving_at book.old ack.number) }
+    ensures refused { OnErr result (book.new ≡ book.old) }
 {
     book.acked(clock, ack)
 }
@@ -43,7 +71,7 @@ impl<P: Pair> Sender<P> {
         ensures { IfErr result (Contains next_refusals) }
     {
         let shared = &*self.shared;
-        let mut held = shared.book.lock(rt);
+        let mut held = shared.lock(rt);
         next(&mut *held)
     }
 
@@ -61,9 +89,9 @@ impl<P: Pair> Sender<P> {
         let shared = &*self.shared;
         // The texts that are no longer pending are given back after the lock.
         let (answer, _texts) = {
-            let mut held = shared.book.lock(rt);
+            let mut held = shared.lock(rt);
             let texts = held.keep_texts();
-            (acked(&mut *held, &shared.clock, ack), texts)
+            (acked(&mut *held, shared.clock(), ack), texts)
         };
         answer
     }

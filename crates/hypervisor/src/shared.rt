@@ -12,12 +12,14 @@ use std::thread::yield_now;
 /// processor and brings nothing.
 const LOOKS: u32 = 100;
 
-/// The word that counts the steps of the book's keeper, which anyone may look at, and the book, which one thread has at a time. Contracts
-/// see where the history starts.
+/// The word that counts the steps of the book's keeper, which anyone may look at, and the book, which one thread has at a time. Both are
+/// private to this file: the book is had by [`Shared::lock`] and [`Shared::hold`] alone, which may wait and never give up. So a member's
+/// method is that and one call of a function over the lent book, whose clauses say what it leaves there. Contracts see where the history
+/// starts.
 #[derive(Drop)]
 pub(crate) struct Shared<P: Pair> {
-    pub(crate) clock: Clock<P>,
-    pub(crate) book: Mutex<Book<P>>,
+    clock: Clock<P>,
+    book: Mutex<Book<P>>,
 }
 
 impl<P: Pair> Model for Shared<P> {
@@ -53,6 +55,16 @@ impl<P: Pair> Shared<P> {
             yield_now();
         }
         self.book.lock(rt)
+    }
+
+    /// The book, once it is the caller's turn.
+    pub(crate) fn lock<R: Wait>(&self, rt: &R) -> MutexGuard<'_, Book<P>> {
+        self.book.lock(rt)
+    }
+
+    /// The word that counts the keeper's steps.
+    pub(crate) fn clock(&self) -> &Clock<P> {
+        &self.clock
     }
 
     /// What is true of every pair is true of this one.

@@ -1,12 +1,19 @@
 //! Failures of nodes, and what comes after them.
-ghost use Rattle.std.specs.Prelude.{◌≡◌, IfOk, IfErr};
+ghost use Rattle.std.specs.Prelude.{◌≡◌, ◌+◌, ◌++◌, ◌∷◌, [], None, Some, IfOk, OnOk, IfErr, OnErr};
 ghost use Rattle.std.specs.List.{Contains};
 ghost use Rattle.backup_image.specs.Images.{empty_image};
+ghost use Rattle.pair_record.specs.EpochActs.{fail_within_done};
+ghost use Rattle.pair_record.specs.declared.event.Reply.TheVariants as replies;
+ghost use Rattle.pair_record.specs.Protocol.{fail_primary_done, begin_done};
+ghost use Rattle.pair_record.specs.Record.{ports_after_all};
+ghost use Rattle.pair_book.specs.Calls.{IsWhy};
+ghost use Rattle.pair_book.specs.Failures.{MakesAlone, fail_primary_why, fail_backup_why, protect_why};
+ghost use Rattle.pair_book.specs.Packets.{no_texts};
 ghost use Rattle.hypervisor.specs.Failures.{IsProtected};
 ghost use Rattle.hypervisor.specs.GoingLive.{BecomesLive, live_refusals};
 ghost use Rattle.hypervisor.specs.Refusals.{fail_refusals, protect_refusals};
 ghost use Rattle.hypervisor.specs.Seats.{SeesLast};
-ghost use Rattle.growing_history.specs.Steps.{Protected};
+ghost use Rattle.growing_history.specs.Steps.{PrimaryFailed, BackupFailed, Protected, step};
 ghost use Rattle.pair_book.specs.Made.{IsShape};
 
 use crate::backup::Backup;
@@ -49,21 +56,49 @@ impl<P: Pair> Model for Warden<P> {
     ghost invariant = { λ w. IsShape P.start w.shape };
 }
 
+/// As [`Book::fail_primary`] says.
 fn fail_primary<P: Pair>(book: &mut Book<P>, clock: &Clock<P>) -> Result<(), Refusal>
-    ensures { IfErr result (Contains (fail_refusals Node.Primary)) }
+    ensures among { IfErr result (Contains (fail_refusals Node.Primary)) }
+    ensures done { OnOk result ((replies.Stopped, book.new.protocol) ≡ fail_primary_done book.old.protocol) }
+    ensures ports { OnOk result (book.new.ports ≡ book.old.ports) }
+    ensures texts { book.new.texts ≡ book.old.texts }
+    ensures step { OnOk result (MakesAlone PrimaryFailed book.old book.new) }
+    ensures free { OnOk result (fail_primary_why book.old ≡ None) }
+    ensures why { IfErr result (λ why. fail_primary_why book.old ≡ Some why) }
+    ensures refused { OnErr result (book.new ≡ book.old) }
 {
     book.fail_primary(clock)
 }
 
+/// As [`Book::fail_backup`] says.
 fn fail_backup<P: Pair>(book: &mut Book<P>, clock: &Clock<P>) -> Result<Landed, Refusal>
-    ensures { IfErr result (Contains (fail_refusals Node.Backup)) }
+    ensures among { IfErr result (Contains (fail_refusals Node.Backup)) }
+    ensures done { IfOk result (λ landed. (replies.Alone book.old.protocol.generation landed.count, book.new.protocol)
+        ≡ fail_within_done book.old.ports.boxes book.old.protocol) }
+    ensures ports { OnOk result (book.new.ports ≡ ports_after_all book.old.ports [] book.old.protocol) }
+    ensures texts { OnOk result (book.new.texts ≡ no_texts) }
+    ensures step { OnOk result (MakesAlone BackupFailed book.old book.new) }
+    ensures free { OnOk result (fail_backup_why book.old ≡ None) }
+    ensures why { IfErr result (IsWhy (fail_backup_why book.old)) }
+    ensures refused { OnErr result (book.new ≡ book.old) }
 {
     book.fail_backup(clock)
 }
 
+/// As [`Book::protect`] says.
 fn protect<P: Pair>(book: &mut Book<P>, clock: &Clock<P>) -> Result<BackupSeat<P>, Refusal>
     ensures seat { IfOk result (λ seat. SeesLast P.start (Protected seat.number) seat.steps) }
     ensures why { IfErr result (Contains protect_refusals) }
+    ensures done { OnOk result ((replies.Protecting (book.old.protocol.generation + 1), book.new.protocol)
+        ≡ begin_done book.old.protocol) }
+    ensures ports { OnOk result (book.new.ports ≡ book.old.ports) }
+    ensures texts { OnOk result (book.new.texts ≡ no_texts) }
+    ensures step { OnOk result (book.new.steps ≡ book.old.steps ++ step 0 (Protected (book.old.enrolled + 1)) ∷ []) }
+    ensures enrolled { OnOk result (book.new.enrolled ≡ book.old.enrolled + 1) }
+    ensures seated { IfOk result (λ seat. seat ≡ record { number = book.new.enrolled; steps = book.new.steps }) }
+    ensures free { OnOk result (protect_why book.old ≡ None) }
+    ensures row { IfErr result (λ why. protect_why book.old ≡ Some why) }
+    ensures refused { OnErr result (book.new ≡ book.old) }
 {
     let seat = book.protect(clock)?;
     seat.number();
@@ -110,16 +145,16 @@ impl<P: Pair> Warden<P> {
         let shared = &*self.shared;
         match node {
             Node::Primary => {
-                let mut held = shared.book.lock(rt);
-                fail_primary(&mut *held, &shared.clock)?;
+                let mut held = shared.lock(rt);
+                fail_primary(&mut *held, shared.clock())?;
                 Ok(Landed { count: 0 })
             }
             Node::Backup => {
                 // The texts that were pending are given back after the lock.
                 let (answer, _texts) = {
-                    let mut held = shared.book.lock(rt);
+                    let mut held = shared.lock(rt);
                     let texts = held.keep_texts();
-                    (fail_backup(&mut *held, &shared.clock), texts)
+                    (fail_backup(&mut *held, shared.clock()), texts)
                 };
                 answer
             }
@@ -171,8 +206,8 @@ impl<P: Pair> Warden<P> {
             Err(wanted) => return Err(Refusal::NoMemory(wanted)),
         };
         let seat = {
-            let mut held = shared.book.lock(rt);
-            protect(&mut *held, &shared.clock)
+            let mut held = shared.lock(rt);
+            protect(&mut *held, shared.clock())
         };
         match seat {
             Ok(seat) => Ok(Backup::new(self.alloc, shared, image, seat)),
@@ -187,7 +222,7 @@ impl<P: Pair> Warden<P> {
     /// The length of the history.
     pub fn entries<R: Wait>(&self, rt: &R) -> u64 {
         let shared = &*self.shared;
-        let held = shared.book.lock(rt);
+        let held = shared.lock(rt);
         held.entries()
     }
 }

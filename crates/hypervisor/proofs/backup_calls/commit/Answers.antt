@@ -1,7 +1,7 @@
 use Rattle.std.proofs.Common.{rules, Bool, Some, sym, subst, ◌∙◌}
 use Rattle.std.specs.Prelude.{not}
 use Rattle.hypervisor.specs.Commits.{AtBook}
-use Rattle.hypervisor.proofs.CommitLaws.{refused-why, commit-why, at-book}
+use Rattle.hypervisor.proofs.CommitLaws.{refused-why, commit-why, row-of, at-book}
 use Rattle.hypervisor.proofs.backup_calls.commit.Goals as goal
 
 pub returns-in-Some-refusal-clause-why : goal.returns-in-Some-refusal-clause-why
@@ -14,6 +14,12 @@ returns-in_err-ack-clause-why g c =
     let why = commit-why g.P.Pair.start c.args.book.now c.args.seat.now.number (Some c.in-Some.checkpoint.now) c.in_err-ack.field-0.0
     c.in_err-ack.ensures.why in
     rw c.in-Some.is (search (rules, why))
+
+pub returns-in_err-ack-clause-row : goal.returns-in_err-ack-clause-row
+returns-in_err-ack-clause-row g c =
+    let row = row-of g.P.Pair.start c.args.book.now c.args.seat.now.number c.args.image.now c.in-Some.checkpoint.now
+    c.in_err-ack.field-0.0 (sym c.refusal.ensures ∙ c.in_default-refusal.is) c.in_err-ack.ensures.why in
+    rw c.in-Some.is (search (rules, row))
 
 pub returns-clause-done : goal.returns-clause-done
 returns-clause-done g c =

@@ -5,6 +5,7 @@ use Rattle.pair_book.specs.Handing.{handing, HandsNext}
 use Rattle.pair_book.specs.Made.{IsPrepared}
 use Rattle.pair_book.specs.Settled.{just_settled, Runs, RunsOn}
 use Rattle.pair_book.specs.Submitting.{ended, submit_why}
+use Rattle.hypervisor.specs.AtBook.{EndsAtBook}
 use Rattle.hypervisor.specs.Runners.{RunnerState, runner_state}
 use Rattle.hypervisor.proofs.Submitting.{brings-prepared, submits, none-behind, holds-handed, submit-why}
 use Rattle.hypervisor.proofs.runner.submit.Goals as goal
@@ -27,6 +28,15 @@ pub returns-in-Err-clause-among : goal.returns-in-Err-clause-among
 returns-in-Err-clause-among g c =
     let a = c.args in
     submit-why g.P.Pair.start a.book.now a.seat.now.number a.what.now a.epoch.steps c.outbox.result.now c.in-Err.why c.in-Err.ensures.why
+
+pub returns-clause-book : goal.returns-clause-book
+returns-clause-book g c =
+    let a = c.args in
+    let done = c.in-Ok.ensures in
+    subst
+    (λ (fs : List Frame). EndsAtBook g.P.Pair.start a.book.now c.submit.new.self a.seat.now c.submit.new.seat a.epoch.arrivals a.epoch.steps fs
+    a.what.now c.in-Ok.next.frames.items)
+    c.outbox.ensures.value (record { free = done.free; step = done.step; texts = done.texts; hands = done.done })
 
 pub returns-clause-added : goal.returns-clause-added
 returns-clause-added g c =
