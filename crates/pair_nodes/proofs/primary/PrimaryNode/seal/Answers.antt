@@ -1,0 +1,48 @@
+-- A cut's epoch is pending last, under its own number.
+use Rattle.std.proofs.Common.{rules, ◌≡◌, ◌+◌, ◌-◌, ◌++◌, ◌∷◌, [], List, length, sym, ap, ◌∙◌, subst, arith}
+use Rattle.std.specs.Prelude.{not, if◌then◌else◌}
+use Rattle.std.proofs.lemmas.List.{length-append}
+use Rattle.failover.specs.declared.mode.Mode.TheVariants as modes
+use Rattle.guest_machine.specs.Guest.{State}
+use Rattle.output_gate.specs.Epochs.{Epoch, epoch}
+use Rattle.output_gate.specs.Gate.{GateState}
+use Rattle.pair_record.proofs.WindowLaws.{NumberedFrom-push}
+use Rattle.pair_record.specs.Modes.{is_alone}
+use Rattle.pair_record.specs.Window.{NumberedFrom}
+use Rattle.pair_nodes.specs.PrimaryCalls.{has_full}
+use Rattle.pair_nodes.specs.Sides.{Primary}
+use Rattle.pair_nodes.proofs.Pending.{full-append}
+use Rattle.pair_nodes.proofs.primary.PrimaryNode.seal.Goals as goal
+
+pub invariant_of-self : goal.invariant_of-self
+invariant_of-self c =
+    let a = c.self.inside in
+    let inv = c.self.invariant in
+    let es = a.gate.epochs in
+    let e : Epoch = epoch a.to_cut c.outbox.result.now in
+    let few = ap (λ (p : Primary). length p.pending) c.self.view_is in
+    let cut = ap (λ (p : Primary). p.to_cut) c.self.view_is in
+    let frames = ap (λ (p : Primary). p.next_frame) c.self.view_is in
+    let backed = ap (λ (p : Primary). p.backed) c.self.view_is ∙ c.requires.backed in
+    let epochs : c.hold.new.self.epochs ≡ es ++ e ∷ [] = ap (λ (g : GateState). g.epochs) c.hold.ensures in
+    let next : c.hold.new.self.next ≡ a.gate.next + length c.outbox.result.now = ap (λ (g : GateState). g.next) c.hold.ensures in
+    let long = ap (λ (l : List Epoch). length l) epochs in
+    let more : length (es ++ e ∷ []) ≡ length es + 1 = length-append es (e ∷ []) in
+    let first : a.to_cut - length es ≡ (a.to_cut + 1) - length c.hold.new.self.epochs = omega (arith, long, more, inv.most) in
+    let place : e.number ≡ (a.to_cut - length es) + length es = omega (arith, inv.most) in
+    let out : length c.settle.new.self.outbox ≡ 0 = ap (λ (m : State). length m.outbox) c.settle.ensures in
+    record {
+      numbered = subst (λ n. NumberedFrom n c.hold.new.self.epochs) first
+          (subst (NumberedFrom (a.to_cut - length es)) (sym epochs) (NumberedFrom-push (a.to_cut - length es) es e inv.numbered place));
+      most = omega (arith, long, more, inv.most);
+      few = omega (arith, long, more, few, c.requires.few);
+      texts = omega (arith, ap (λ ts. length ts) c.put_last.ensures.items, length-append a.texts.items (c.args.text ∷ []), inv.texts, long, more);
+      places = omega (arith, inv.places, c.put_last.ensures.room);
+      mode = inv.mode ∙ ap (λ b. if not (is_alone a.generation.mode) then (if b then modes.Filling else modes.Paired) else modes.Alone)
+          (sym (ap has_full epochs ∙ full-append es e inv.to_cut));
+      alone = search (arith, rules, backed);
+      to_cut = omega (arith, inv.to_cut);
+      last_cut = omega (arith, cut, c.requires.number);
+      numbers = omega (arith, next, out, frames, c.requires.frames, c.outbox.ensures.most, ap (λ l. length l) c.outbox.ensures.value);
+      room = λ paired. omega (arith, next, frames, c.requires.frames, c.outbox.ensures.most, ap (λ l. length l) c.outbox.ensures.value);
+    }

@@ -1,0 +1,13 @@
+pub mod internal
+pub mod Refusing
+pub mod Sides
+pub mod PrimaryCalls
+pub mod StandbyCalls
+pub mod Networks
+pub mod Sites
+pub mod Runs
+pub mod Frames
+pub mod Names
+pub mod Matching
+pub mod Serving
+pub mod Halves

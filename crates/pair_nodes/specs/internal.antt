@@ -1,0 +1,2 @@
+-- what only models, private functions and proofs cite
+pub mod NodeFields

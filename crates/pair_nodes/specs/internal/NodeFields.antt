@@ -1,0 +1,53 @@
+-- How the fields of the nodes stand for what contracts see.
+use Rattle.std.specs.Prelude.{◌≡◌, ◌+◌, ◌-◌, ◌≤◌, false, not, [], length, map, None, Some, if◌then◌else◌, vec_capacity}
+use Rattle.failover.specs.declared.mode.Mode.TheVariants as modes
+use Rattle.frame_ports.specs.Limits.{number_limit}
+use Rattle.backup_image.specs.declared.standing.Standing.{Standing}
+use Rattle.pair_record.specs.Limits.{last_frame, most_pending}
+use Rattle.pair_record.specs.Modes.{is_alone}
+use Rattle.pair_record.specs.Window.{NumberedFrom}
+use Rattle.pair_core.specs.Nodes.{node_of}
+use Rattle.pair_nodes.specs.declared.primary.PrimaryNode.TheInside.{Inside as PrimaryFields}
+use Rattle.pair_nodes.specs.declared.standby.StandbyNode.TheInside.{Inside as StandbyFields}
+use Rattle.pair_nodes.specs.PrimaryCalls.{mode_of}
+use Rattle.pair_nodes.specs.Sides.{Primary, Standby, to_commit}
+use Rattle.pair_nodes.specs.StandbyCalls.{is_empty}
+
+abbrev pub primary_state : PrimaryFields → Primary
+primary_state a = record {
+  live = node_of a.machine;
+  shape = a.shape;
+  generation = a.generation.number;
+  backed = not (is_alone a.generation.mode);
+  to_cut = a.to_cut;
+  pending = a.gate.epochs;
+  texts = map (λ text. text.items) a.texts.items;
+  next_frame = a.gate.next;
+}
+
+-- What is pending has consecutive numbers up to the last one cut, is at most four checkpoints, each with its text, and none where it is
+-- alone; the mode is what that says; and the frames that it may still let out have numbers.
+pub record IsPrimary (a : PrimaryFields) : Type 0 where
+  pub numbered : NumberedFrom (a.to_cut - length a.gate.epochs) a.gate.epochs
+  pub most : length a.gate.epochs ≤ a.to_cut
+  pub few : length a.gate.epochs ≤ most_pending
+  pub texts : length a.texts.items ≡ length a.gate.epochs
+  pub places : most_pending ≤ vec_capacity a.texts
+  pub mode : a.generation.mode ≡ mode_of (primary_state a)
+  pub alone : a.generation.mode ≡ modes.Alone → a.gate.epochs ≡ []
+  pub to_cut : 1 ≤ a.to_cut
+  pub last_cut : a.to_cut ≤ number_limit
+  pub numbers : a.gate.next + length a.machine.outbox ≤ number_limit
+  pub room : is_alone a.generation.mode ≡ false → a.gate.next ≤ last_frame + 256
+
+abbrev pub standby_state : StandbyFields → Standby
+standby_state a = record { generation = a.generation.number; image = a.image; reading = a.reader }
+
+-- Nothing is staged between two calls, the image stands in the generation that it was told, what comes is read in its shape, and it is
+-- filling while the image is empty.
+pub record IsStandby (a : StandbyFields) : Type 0 where
+  pub staged : a.image.staged ≡ None
+  pub stands : (at : Standing) → a.image.stands_at ≡ Some at → at.generation ≡ a.generation.number
+  pub shape : a.reader.shape ≡ a.image.shape
+  pub last : to_commit (standby_state a) ≤ number_limit
+  pub mode : a.generation.mode ≡ (if is_empty (standby_state a) then modes.Filling else modes.Paired)

@@ -1,0 +1,553 @@
+//! The primary: the machine, what waits for acknowledgement, and the numbers.
+ghost use Rattle.std.specs.Prelude.{◌≡◌, ◌≤◌, ◌<◌, ◌+◌, ◌*◌, [], All, IfOk, IfErr, OnErr, OnOk, Ok, Err, true, false, length, option_map, vec_capacity};
+ghost use Rattle.failover.specs.Generations.{generation_limit};
+ghost use Rattle.frame_ports.specs.Addresses.{IsFrame};
+ghost use Rattle.frame_ports.specs.Limits.{number_limit};
+ghost use Rattle.guest_machine.specs.Guest.{sector_in};
+ghost use Rattle.guest_machine.specs.Limits.{page_bytes};
+ghost use Rattle.output_gate.specs.Epochs.{frames_of};
+ghost use Rattle.pair_record.specs.Limits.{most_pending, last_frame};
+ghost use Rattle.pair_record.specs.Modes.{is_alone};
+ghost use Rattle.pair_core.specs.Nodes.{node_of};
+ghost use Rattle.pair_nodes.specs.PrimaryCalls.{booted_primary, mode_of, arrive_rows, cut_refusals, ack_rows, alone_rows, protect_rows};
+ghost use Rattle.pair_nodes.specs.PrimaryCalls.{IsRun, IsSteps, IsSealed, IsProtected, after_release, text_part};
+ghost use Rattle.pair_nodes.specs.Refusing.{IsFree, IsWhy, IsWhyOrMemory};
+ghost use Rattle.pair_nodes.specs.Sides.{after_arrival, after_cut, IsDelta, IsFull, after_ack, let_out, after_alone, after_protect};
+
+use crate::generations::{end_filling, first_alone, left_alone, protected};
+use crate::texts::{MOST_PENDING, drop_first, part_of, put_last, room, text_of};
+use arrayvec::ArrayVec;
+use epoch_snapshot::{SnapshotError, cut_delta, cut_full};
+use failover::{GENERATION_LIMIT, Generation, Mode};
+use guest_machine::{Machine, MachineError, SECTOR_BYTES, Shape};
+use memory_wanted::MemoryWanted;
+use output_gate::{Gate, GateError};
+use pair_core::{Frame, Packet, Refusal};
+use std::alloc::Global;
+use std::marker::Model;
+
+/// Numbers stay below 2^62.
+const NUMBER_LIMIT: u64 = 4611686018427387904;
+
+/// Where the next frame's number is above this, too few are left for the frames of an epoch and of what may follow it.
+const LAST_FRAME: u64 = 4611686018427386881;
+
+/// The outbox has 256 places.
+const OUTBOX_FRAMES: u64 = 256;
+
+/// A frame has 14 to 1514 bytes.
+const LEAST_FRAME: usize = 14;
+
+const MOST_FRAME: usize = 1514;
+
+/// The node that runs the guest, with or without a standby. Contracts see it as a `Primary` of the specs.
+///
+/// It keeps no history: only the guest's machine, and of at most four pending checkpoints the texts and the frames.
+pub struct PrimaryNode {
+    alloc: Global,
+    shape: Shape,
+    machine: Machine,
+    generation: Generation,
+    to_cut: u64,
+    gate: Gate,
+    texts: Vec<Vec<u8>>,
+}
+
+impl Model for PrimaryNode {
+    ghost use Rattle.pair_nodes.specs.Sides.{Primary};
+
+    ghost Value = { Primary };
+
+    ghost use Rattle.pair_nodes.specs.internal.NodeFields.{primary_state, IsPrimary};
+
+    ghost view = { primary_state };
+
+    ghost invariant = { IsPrimary };
+}
+
+/// Its generation ends with it.
+impl Drop for PrimaryNode {
+    fn drop(self) {
+        let PrimaryNode {
+            alloc: _,
+            shape: _,
+            machine,
+            generation,
+            to_cut: _,
+            gate,
+            texts,
+        } = self;
+        drop(machine);
+        drop(gate);
+        drop(texts);
+        generation.end();
+    }
+}
+
+impl PrimaryNode {
+    /// The guest boots from this image, which fits in its memory, as the caller knows: a primary that is alone, in generation 1.
+    ///
+    /// # Errors
+    /// The growth that was really refused.
+    pub fn boot(alloc: Global, shape: Shape, image: &[u8]) -> Result<PrimaryNode, MemoryWanted>
+        requires { length image.now ≤ page_bytes * shape.pages }
+        ensures { IfOk result (λ p. p ≡ booted_primary shape image.now) }
+    {
+        let gate = match Gate::new(alloc) {
+            Ok(gate) => gate,
+            Err(GateError::NoMemory(wanted)) => return Err(wanted),
+        };
+        let machine = match Machine::boot(alloc, shape, image) {
+            Ok(machine) => machine,
+            Err(MachineError::NoMemory(wanted)) => return Err(wanted),
+            Err(MachineError::CutNeeded) => unreachable!(),
+        };
+        let texts = match room(alloc) {
+            Ok(texts) => texts,
+            Err(wanted) => {
+                drop(machine);
+                return Err(wanted);
+            }
+        };
+        Ok(PrimaryNode::lone(alloc, shape, machine, first_alone(), 1, gate, texts))
+    }
+
+    /// A primary of this machine that has no standby, and holds nothing at its gate.
+    pub(crate) fn lone(
+        alloc: Global,
+        shape: Shape,
+        machine: Machine,
+        generation: Generation,
+        to_cut: u64,
+        gate: Gate,
+        texts: Vec<Vec<u8>>,
+    ) -> PrimaryNode
+        requires mode { is_alone generation.mode ≡ true }
+        requires first_cut { 1 ≤ to_cut }
+        requires last_cut { to_cut ≤ number_limit }
+        requires outbox { machine.outbox ≡ [] }
+        requires gate { gate.epochs ≡ [] }
+        requires next { gate.next ≤ number_limit }
+        requires texts { texts.items ≡ [] }
+        requires room { most_pending ≤ vec_capacity texts }
+        ensures { result ≡ record {
+          live = node_of machine;
+          shape = shape;
+          generation = generation.number;
+          backed = false;
+          to_cut = to_cut;
+          pending = [];
+          texts = [];
+          next_frame = gate.next;
+        } }
+    {
+        PrimaryNode {
+            alloc,
+            shape,
+            machine,
+            generation,
+            to_cut,
+            gate,
+            texts,
+        }
+    }
+
+    /// Whether it has a standby, which may still have to be filled.
+    pub fn is_backed(&self) -> bool
+        ensures { result ≡ self.now.backed }
+    {
+        !matches!(self.generation.mode(), Mode::Alone)
+    }
+
+    /// Alone; filling, until the full checkpoint is acknowledged; or paired.
+    pub fn mode(&self) -> Mode
+        ensures { result ≡ mode_of self.now }
+    {
+        self.generation.mode()
+    }
+
+    /// The number of its generation, from 1 to 2^62 - 1.
+    pub fn generation(&self) -> u64
+        ensures { result ≡ self.now.generation }
+    {
+        self.generation.number()
+    }
+
+    /// The number of the next checkpoint, from 1 to 2^62.
+    pub fn to_cut(&self) -> u64
+        ensures { result ≡ self.now.to_cut }
+    {
+        self.to_cut
+    }
+
+    /// How many checkpoints are cut and not acknowledged, at most 4.
+    pub fn pending(&self) -> usize
+        ensures value { result ≡ length self.now.pending }
+        ensures few { result ≤ 4 }
+    {
+        self.texts.len()
+    }
+
+    /// How many steps the guest has made since boot, modulo 2^64.
+    pub fn steps(&self) -> u64
+        ensures { result ≡ self.now.live.guest.steps }
+    {
+        self.machine.steps()
+    }
+
+    /// The bytes of a sector of the guest's disk, none beyond the disk.
+    pub fn sector(&self, sector: u32) -> Option<&[u8; SECTOR_BYTES]>
+        ensures { option_map (λ bytes. bytes.now) result ≡ sector_in self.now.live.guest.sectors sector }
+    {
+        if sector < self.machine.sectors() {
+            Some(self.machine.sector(sector))
+        } else {
+            None
+        }
+    }
+
+    /// What the guest sent since the last cut, or, where it is alone, since the last call of [`release`](PrimaryNode::release).
+    pub fn outbox(&self) -> &[Frame]
+        ensures value { result.now ≡ self.now.live.outbox }
+        ensures frames { All IsFrame result.now }
+        ensures few { length result.now ≤ 256 }
+    {
+        self.machine.outbox()
+    }
+
+    /// What the guest sent along the epochs of the pending checkpoints, in the order sent.
+    pub fn held(&self) -> &[Frame]
+        ensures value { result.now ≡ frames_of self.now.pending }
+        ensures frames { All IsFrame result.now }
+        ensures few { length result.now ≤ 1024 }
+    {
+        self.gate.held(self.to_cut)
+    }
+
+    /// A frame of these bytes, 14 to 1514 of them, arrives at the guest. It takes no memory.
+    ///
+    /// # Errors
+    /// [`Refusal::BadFrame`] for fewer or more bytes.
+    pub fn arrive(&mut self, bytes: &[u8]) -> Result<(), Refusal>
+        ensures free { OnOk result (IsFree (arrive_rows (length bytes.now))) }
+        ensures done { OnOk result (self.new ≡ after_arrival (record { items = bytes.now }) self.old) }
+        ensures why { IfErr result (IsWhy (arrive_rows (length bytes.now))) }
+        ensures err { OnErr result (self.new ≡ self.old) }
+    {
+        if bytes.len() < LEAST_FRAME || bytes.len() > MOST_FRAME {
+            return Err(Refusal::BadFrame);
+        }
+        let frame = frame_of(bytes);
+        let _taken = self.machine.arrive(&frame);
+        Ok(())
+    }
+
+    /// The guest makes `count` steps, or as many as the outbox has room for. What a primary that is alone sends is to be let out from
+    /// [`outbox`](PrimaryNode::outbox), and then let go by [`release`](PrimaryNode::release). Answers how many steps it made: all of them,
+    /// where it has a standby. It takes no memory.
+    ///
+    /// # Errors
+    /// [`Refusal::CutNeeded`] where it has a standby and the outbox has no room for a step: those before it stay.
+    /// [`Refusal::Exhausted`] where it is alone and too few numbers are left for the guest's frames: nothing changes.
+    pub fn step(&mut self, count: u64) -> Result<u64, Refusal>
+        ensures { IsSteps count self.old result self.new }
+    {
+        let backed = self.is_backed();
+        if !backed && self.gate.next() + OUTBOX_FRAMES > LAST_FRAME {
+            return Err(Refusal::Exhausted);
+        }
+        let made = self.run(count);
+        if backed && made < count {
+            return Err(Refusal::CutNeeded);
+        }
+        Ok(made)
+    }
+
+    /// The guest makes steps, as many as the outbox has room for and `count` at most.
+    fn run(&mut self, count: u64) -> u64
+        requires { self.old.next_frame ≤ last_frame + 256 }
+        ensures { IsRun count result self.old self.new }
+    {
+        let made = self.machine.run(count);
+        few_frames(&self.machine);
+        made
+    }
+
+    /// Lets go of what the guest of a primary that is alone has sent: whoever lets it out has done so from
+    /// [`outbox`](PrimaryNode::outbox).
+    pub fn release(&mut self)
+        requires { self.old.backed ≡ false }
+        ensures { self.new ≡ after_release self.old }
+    {
+        let sent = self.gate.next() - 1 + self.machine.outbox().len() as u64;
+        self.gate.begin(sent);
+        self.machine.clear_outbox();
+    }
+
+    /// The epoch ends: its checkpoint's text is kept until it is acknowledged, and its frames are held. Answers how many bytes the text has.
+    ///
+    /// # Errors
+    /// In this order: [`Refusal::NotPaired`] where it is alone; [`Refusal::Behind`] at four pending checkpoints; [`Refusal::Exhausted`]
+    /// where the checkpoint has no number below 2^62, or too few are left for frames; [`Refusal::NoMemory`]. Nothing changes then.
+    pub fn cut(&mut self) -> Result<usize, Refusal>
+        ensures done { IfOk result (λ count. IsSealed self.old count self.new) }
+        ensures why { IfErr result (IsWhyOrMemory (cut_refusals self.old)) }
+        ensures err { OnErr result (self.new ≡ self.old) }
+    {
+        if !self.is_backed() {
+            return Err(Refusal::NotPaired);
+        }
+        if self.texts.len() >= MOST_PENDING {
+            return Err(Refusal::Behind);
+        }
+        if self.to_cut >= NUMBER_LIMIT || self.gate.next() > LAST_FRAME {
+            return Err(Refusal::Exhausted);
+        }
+        let text = match self.delta() {
+            Ok(text) => text,
+            Err(wanted) => return Err(Refusal::NoMemory(wanted)),
+        };
+        let count = text.len();
+        few_frames(&self.machine);
+        self.seal(text);
+        Ok(count)
+    }
+
+    /// The epoch ends with a checkpoint of this text.
+    fn seal(&mut self, text: Vec<u8>)
+        requires backed { self.old.backed ≡ true }
+        requires few { length self.old.pending < most_pending }
+        requires number { self.old.to_cut < number_limit }
+        requires frames { self.old.next_frame ≤ last_frame }
+        ensures { self.new ≡ after_cut self.old text.items }
+    {
+        self.gate.hold(self.to_cut, self.machine.outbox());
+        put_last(&mut self.texts, text);
+        self.machine.settle();
+        self.to_cut += 1;
+    }
+
+    /// The text of the checkpoint that a cut would make.
+    fn delta(&self) -> Result<Vec<u8>, MemoryWanted>
+        requires { self.now.to_cut < number_limit }
+        ensures { IfOk result (λ text. IsDelta self.now text.items) }
+    {
+        let generation = self.generation.number();
+        let checkpoint = match cut_delta(self.alloc, &self.machine, generation, self.to_cut) {
+            Ok(checkpoint) => checkpoint,
+            Err(SnapshotError::NoMemory(wanted)) => return Err(wanted),
+        };
+        let text = text_of(self.alloc, &checkpoint);
+        drop(checkpoint);
+        text
+    }
+
+    /// Of the pending checkpoint's text the bytes from place `from` on, `count` of them or as many as there are.
+    ///
+    /// # Errors
+    /// [`Refusal::NotPaired`] where it is alone; [`Refusal::Gap`] where no checkpoint of that number is pending.
+    pub fn text(&self, number: u64, from: u64, count: u64) -> Result<&[u8], Refusal>
+        ensures part { IfOk result (λ part. text_part self.now number from count ≡ Ok part.now) }
+        ensures why { IfErr result (λ why. text_part self.now number from count ≡ Err why) }
+    {
+        if !self.is_backed() {
+            return Err(Refusal::NotPaired);
+        }
+        let first = self.to_cut - self.texts.len() as u64;
+        if number < first || number >= self.to_cut {
+            return Err(Refusal::Gap);
+        }
+        Ok(part_of(&self.texts[(number - first) as usize], from, count))
+    }
+
+    /// The frames that this acknowledgement lets out, in the order sent: those of the pending checkpoints up to its number.
+    ///
+    /// # Errors
+    /// Why [`acknowledge`](PrimaryNode::acknowledge) refuses it.
+    pub fn let_out(&self, ack: Packet) -> Result<&[Frame], Refusal>
+        ensures free { OnOk result (IsFree (ack_rows self.now ack)) }
+        ensures frames { IfOk result (λ frames. frames.now ≡ let_out self.now ack.number) }
+        ensures each { IfOk result (λ frames. All IsFrame frames.now) }
+        ensures why { IfErr result (IsWhy (ack_rows self.now ack)) }
+    {
+        if !self.is_backed() {
+            return Err(Refusal::NotPaired);
+        }
+        if ack.generation != self.generation.number() {
+            return Err(Refusal::Stale);
+        }
+        if ack.number >= self.to_cut {
+            return Err(Refusal::Gap);
+        }
+        Ok(self.gate.held(ack.number))
+    }
+
+    /// The standby has committed all checkpoints of its generation up to this number: their frames, which were let out from
+    /// [`let_out`](PrimaryNode::let_out), and their texts are let go. The acknowledgement of the full checkpoint ends the filling. It takes
+    /// no memory.
+    ///
+    /// # Errors
+    /// In this order: [`Refusal::NotPaired`] where it is alone; [`Refusal::Stale`] for another generation; [`Refusal::Gap`] for a number
+    /// that was never cut. Nothing changes then.
+    pub fn acknowledge(&mut self, ack: Packet) -> Result<(), Refusal>
+        ensures free { OnOk result (IsFree (ack_rows self.old ack)) }
+        ensures done { OnOk result (self.new ≡ after_ack self.old ack.number) }
+        ensures why { IfErr result (IsWhy (ack_rows self.old ack)) }
+        ensures err { OnErr result (self.new ≡ self.old) }
+    {
+        match self.let_out(ack) {
+            Ok(_) => {}
+            Err(why) => return Err(why),
+        }
+        self.let_go(ack.number);
+        Ok(())
+    }
+
+    /// The pending checkpoints up to this number, which was cut, are let go.
+    fn let_go(&mut self, number: u64)
+        requires backed { self.old.backed ≡ true }
+        requires cut { number < self.old.to_cut }
+        ensures { self.new ≡ after_ack self.old number }
+    {
+        let first = self.to_cut - self.texts.len() as u64;
+        let count = (number + 1).saturating_sub(first);
+        let _frames = self.gate.let_go(number);
+        drop_first(&mut self.texts, count as usize);
+        end_filling(&mut self.generation);
+    }
+
+    /// Its standby has stopped, and it goes on alone: what was held, and then what the running epoch has sent, which were let out from
+    /// [`held`](PrimaryNode::held) and [`outbox`](PrimaryNode::outbox), and the texts are let go. It takes no memory.
+    ///
+    /// # Errors
+    /// [`Refusal::NotPaired`] where it is alone. It is handed back as it was.
+    pub fn alone(self) -> Result<PrimaryNode, (PrimaryNode, Refusal)>
+        ensures free { OnOk result (IsFree (alone_rows self)) }
+        ensures done { IfOk result (λ p. p ≡ after_alone self) }
+        ensures why { IfErr result (λ refused. IsWhy (alone_rows self) refused.1) }
+        ensures err { IfErr result (λ refused. refused.0 ≡ self) }
+    {
+        if !self.is_backed() {
+            return Err((self, Refusal::NotPaired));
+        }
+        let PrimaryNode {
+            alloc,
+            shape,
+            mut machine,
+            generation,
+            to_cut,
+            mut gate,
+            mut texts,
+        } = self;
+        texts.clear();
+        let sent = gate.next() - 1 + machine.outbox().len() as u64;
+        gate.begin(sent);
+        machine.clear_outbox();
+        let generation = left_alone(generation);
+        Ok(PrimaryNode::lone(alloc, shape, machine, generation, to_cut, gate, texts))
+    }
+
+    /// A new standby is to come, in the next generation, whose full checkpoint is number 0, and pending. The guest's frames are numbered
+    /// anew, and what it sent is let go: whoever lets that out has done so. Answers how many bytes the full checkpoint's text has.
+    ///
+    /// # Errors
+    /// In this order: [`Refusal::AlreadyPaired`] where it has a standby; [`Refusal::Exhausted`] where there is no next generation;
+    /// [`Refusal::NoMemory`]. It is handed back as it was.
+    pub fn protect(self) -> Result<(PrimaryNode, usize), (PrimaryNode, Refusal)>
+        ensures done { IfOk result (λ made. IsProtected self made.1 made.0) }
+        ensures why { IfErr result (λ refused. IsWhyOrMemory (protect_rows self) refused.1) }
+        ensures err { IfErr result (λ refused. refused.0 ≡ self) }
+    {
+        match self.full() {
+            Err(why) => Err((self, why)),
+            Ok(text) => {
+                let count = text.len();
+                Ok((self.protected(text), count))
+            }
+        }
+    }
+
+    /// The text of the full checkpoint of its guest, in the next generation.
+    fn full(&self) -> Result<Vec<u8>, Refusal>
+        ensures free { OnOk result (IsFree (protect_rows self.now)) }
+        ensures text { IfOk result (λ text. IsFull self.now text.items) }
+        ensures why { IfErr result (IsWhyOrMemory (protect_rows self.now)) }
+    {
+        if self.is_backed() {
+            return Err(Refusal::AlreadyPaired);
+        }
+        let generation = self.generation.number();
+        if generation + 1 >= GENERATION_LIMIT {
+            return Err(Refusal::Exhausted);
+        }
+        match self.full_text() {
+            Ok(text) => Ok(text),
+            Err(wanted) => Err(Refusal::NoMemory(wanted)),
+        }
+    }
+
+    /// That text, where there is a next generation.
+    fn full_text(&self) -> Result<Vec<u8>, MemoryWanted>
+        requires { self.now.generation + 1 < generation_limit }
+        ensures { IfOk result (λ text. IsFull self.now text.items) }
+    {
+        let generation = self.generation.number();
+        let checkpoint = match cut_full(self.alloc, &self.machine, generation + 1) {
+            Ok(checkpoint) => checkpoint,
+            Err(SnapshotError::NoMemory(wanted)) => return Err(wanted),
+        };
+        let text = text_of(self.alloc, &checkpoint);
+        drop(checkpoint);
+        text
+    }
+
+    /// Its standby is to be filled by the full checkpoint of this text, which is pending.
+    fn protected(self, full: Vec<u8>) -> PrimaryNode
+        requires { IsFree (protect_rows self) }
+        ensures { result ≡ after_protect self full.items }
+    {
+        let PrimaryNode {
+            alloc,
+            shape,
+            mut machine,
+            generation,
+            to_cut: _,
+            mut gate,
+            mut texts,
+        } = self;
+        let generation = protected(generation);
+        machine.settle();
+        gate.begin(0);
+        gate.hold(0, &[]);
+        texts.clear();
+        put_last(&mut texts, full);
+        PrimaryNode {
+            alloc,
+            shape,
+            machine,
+            generation,
+            to_cut: 1,
+            gate,
+            texts,
+        }
+    }
+}
+
+/// The outbox has no more frames than places.
+fn few_frames(machine: &Machine)
+    ensures { length machine.now.outbox ≤ 256 }
+{
+    let _frames = machine.outbox();
+}
+
+/// The frame of these bytes.
+fn frame_of(bytes: &[u8]) -> Frame
+    requires { length bytes.now ≤ 1514 }
+    ensures { result ≡ record { items = bytes.now } }
+{
+    let mut frame = ArrayVec::new();
+    match frame.try_extend_from_slice(bytes) {
+        Ok(()) => frame,
+        Err(_) => unreachable!(),
+    }
+}
