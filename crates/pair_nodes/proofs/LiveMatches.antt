@@ -3,7 +3,7 @@ use Rattle.std.proofs.Common.{◌≡◌, ℕ, ◌+◌, ◌-◌, ◌<◌, ◌≤�
 use Rattle.std.proofs.{Common.{cond}, lemmas.List.take_all}
 use Rattle.failover.specs.declared.mode.{Mode.Mode, Mode.TheVariants.{Stopped}}
 use Rattle.frame_ports.specs.{Limits.number_limit, Ports.PortsState}
-use Rattle.output_gate.specs.{Epochs.frames_of, Landings.ports_after}
+use Rattle.output_gate.specs.{Epochs.{frames_of, frames_to}, Landings.ports_after}
 use Rattle.output_gate.proofs.PortsAfterLaws.{boxes_count-after, numbers_count-after}
 use Rattle.pair_history.specs.{Landings.landings}
 use Rattle.pair_record.specs.declared.event.{Packet.Packet, Event.TheVariants.GoLive, Refusal.TheVariants.Exhausted}
@@ -140,7 +140,7 @@ module _ (w : Pair) (kept texts : List (List ℕ)) (acks : List Packet) (out : O
   next-is : to_commit (standby_of w came) ≡ w.protocol.state.window.to_commit
   next-is = next_is w h.pair two
 
-  live_fits : Fits v [] texts acks (with_next out) []
+  live_fits : Fits v [] texts acks (with_next out (frames_to (w.protocol.state.window.to_commit - 1) w.protocol.state.pending)) []
   live_fits = record {
     pair = live_kept;
     count = refl;
@@ -153,7 +153,7 @@ module _ (w : Pair) (kept texts : List (List ℕ)) (acks : List Packet) (out : O
         sent_on w v refl (λ m q e. e) t s (λ same low. absurd (omega arith));
     acked = h.acked;
     coming = inl refl;
-    frames = live-frames w out h.frames (owed_to w.protocol.state w.ports) (committed_count (none_pending r.window.to_commit));
+    frames = live-frames w h.pair out h.frames (owed_to w.protocol.state w.ports) (committed_count (none_pending r.window.to_commit)) some;
     names =
         names-new w.nodes.image.shape r.generation r.window.to_acknowledge kept texts h.names (r.generation + 1) r.window.to_commit []
         (λ i n t is x low.
@@ -178,9 +178,10 @@ module _ (w : Pair) (kept texts : List (List ℕ)) (acks : List Packet) (out : O
         let none : mode_refusal w.protocol.state.mode GoLive ≡ None = ap (λ m. mode_refusal m GoLive) stopped in
         one_event w v GoLive done.0 h.pair live_kept refl (inl (in_mode w GoLive None done none seen), refl);
     matches =
-        matches_so landed v [] texts acks (with_next out) []
-        (λ i. record (site_of v [] texts acks (with_next out) []) {
+        matches_so landed v [] texts acks (with_next out (frames_to (w.protocol.state.window.to_commit - 1) w.protocol.state.pending)) []
+        (λ i. record (site_of v [] texts acks (with_next out (frames_to (w.protocol.state.window.to_commit - 1) w.protocol.state.pending)) []) {
           standby = record (standby_of v []) { reading = sym (fed-none (begun w.nodes.image.shape 0)) i };
+          out = with_next out (frames_to (next-is i - 1) w.protocol.state.pending);
           primary = record (primary_of v []) { to_cut = next-is i; next_frame = (h.pair.holds.kept two).sent i };
         })
         live_fits;

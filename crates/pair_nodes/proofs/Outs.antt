@@ -1,7 +1,8 @@
 -- What nodes let out is what the guest sent, through each event of the pair.
 use Rattle.std.proofs.Common.{◌≡◌, ℕ, zero, suc, ◌+◌, ◌-◌, ◌<◌, ◌≤◌, List, [], ◌∷◌, ◌++◌, length, take, drop, map, replicate, refl, sym, ap, ◌∙◌}
 use Rattle.std.proofs.Common.{subst, arith, append_assoc, Bool, true, false, cond}
-use Rattle.std.proofs.lemmas.List.{append-nil, map-append, take-append-drop}
+use Rattle.std.proofs.lemmas.{Bool.Decides.nat_tests, List.{append-nil, take-append-drop}}
+use Rattle.std.specs.Prelude.{nat_le}
 use Rattle.guest_machine.specs.{Guest.Guest, Step.{sent}, Runs.sent_in}
 use Rattle.frame_ports.specs.Lands.{has_room, landed_at}
 use Rattle.frame_ports.specs.Limits.{box_frames}
@@ -14,13 +15,13 @@ use Rattle.pair_history.specs.internal.Moves.{Move, entries_of, guest_along, fra
 use Rattle.pair_history.proofs.{Moves.{AllCan-front, frames_along-append, sent_along-moves}}
 use Rattle.pair_record.specs.Journal.{joined, first_of, kept_entries, with_moves}
 use Rattle.pair_record.specs.internal.Accords.{all_moves, epoch_frames, frames_by_epoch}
-use Rattle.pair_record.specs.{Window.{committed_count, committed_of, uncommitted_of, with_acknowledged}}
+use Rattle.pair_record.specs.{Window.{NumberedFrom, committed_count, committed_of, uncommitted_of, with_acknowledged}}
 use Rattle.pair_record.proofs.{AccordLaws.{kept_is, next_epoch}, EpochAccords.take-none, WindowLaws.{committed_left, gone, leaves, within}}
 use Rattle.pair_core.specs.{internal.Invariant.{Holds, KeepsNothing}, Pair.{Pair, shown_state}}
 use Rattle.pair_core.proofs.{Consistent.live_is, ReplicationLaws.after_commit}
-use Rattle.pair_nodes.specs.Frames.{AreOut, Turn, frames_in}
+use Rattle.pair_nodes.specs.Frames.{AreOut}
 use Rattle.pair_nodes.specs.Matching.{Kept, held_of, sent_of}
-use Rattle.pair_nodes.specs.Networks.{Output, with_out, with_next}
+use Rattle.pair_nodes.specs.Networks.{Output, Turn, frames_in, with_out, with_next}
 
 -- WHAT ENTRIES SEND
 
@@ -58,24 +59,14 @@ silent s es fs e = sent-append s es fs ∙ ap (λ t. sent_along s es ++ t) e ∙
 pub more-held : (out : Output) (held sent more held' sent' : List Frame) → AreOut out held sent → held' ≡ held ++ more → sent' ≡ sent ++ more
     → AreOut out held' sent'
 more-held out held sent more held' sent' a h s =
-    let fs = frames_in a.turns in
-    record {
-      turns = a.turns;
-      before = a.before;
-      all =
-          ap (λ t. fs ++ (out.now ++ t)) h ∙ ap (λ t. fs ++ t) (sym (append_assoc out.now held more))
-          ∙ sym (append_assoc fs (out.now ++ held) more) ∙ ap (λ t. t ++ more) a.all ∙ sym s;
-    }
+    let fs = frames_in out.before in
+    ap (λ t. fs ++ (out.now ++ t)) h ∙ ap (λ t. fs ++ t) (sym (append_assoc out.now held more))
+    ∙ sym (append_assoc fs (out.now ++ held) more) ∙ ap (λ t. t ++ more) a ∙ sym s
 
 pub let-out : (out : Output) (fs held sent more held' sent' : List Frame) → AreOut out held sent → fs ++ held' ≡ held ++ more
     → sent' ≡ sent ++ more → AreOut (with_out out fs) held' sent'
 let-out out fs held sent more held' sent' a h s =
-    let all = more-held out held sent more (fs ++ held') sent' a h s in
-    record {
-      turns = all.turns;
-      before = all.before;
-      all = ap (λ t. frames_in all.turns ++ t) (append_assoc out.now fs held') ∙ all.all;
-    }
+    ap (λ t. frames_in out.before ++ t) (append_assoc out.now fs held') ∙ more-held out held sent more (fs ++ held') sent' a h s
 
 frames_in-push : (ts : List Turn) (t : Turn) → frames_in (ts ++ t ∷ []) ≡ frames_in ts ++ (t.let_out ++ t.lost)
 frames_in-push [] t = ap (λ fs. t.let_out ++ fs) (append-nil t.lost)
@@ -85,22 +76,17 @@ frames_in-push (u ∷ ts) t =
     ∙ sym (append_assoc u.let_out (u.lost ++ frames_in ts) (t.let_out ++ t.lost))
 
 -- another node goes live: what the one before held is lost
-pub next-turn : (out : Output) (held sent held' sent' : List Frame) → AreOut out held sent → held' ≡ [] → sent' ≡ sent
-    → AreOut (with_next out) held' sent'
-next-turn out held sent held' sent' a none same =
-    let last : Turn = record { let_out = out.now; lost = held } in
-    record {
-      turns = a.turns ++ last ∷ [];
-      before = map-append (λ (t : Turn). t.let_out) a.turns (last ∷ []) ∙ ap (λ fss. fss ++ out.now ∷ []) a.before;
-      all =
-          ap (λ t. frames_in (a.turns ++ last ∷ []) ++ t) none ∙ append-nil (frames_in (a.turns ++ last ∷ [])) ∙ frames_in-push a.turns last
-          ∙ a.all ∙ sym same;
-    }
+pub next-turn : (out : Output) (held sent lost held' sent' : List Frame) → AreOut out held sent → lost ≡ held → held' ≡ [] → sent' ≡ sent
+    → AreOut (with_next out lost) held' sent'
+next-turn out held sent lost held' sent' a all none same =
+    let last : Turn = record { let_out = out.now; lost = lost } in
+    let fs = frames_in (out.before ++ last ∷ []) in
+    ap (λ t. fs ++ t) none ∙ append-nil fs ∙ frames_in-push out.before last ∙ ap (λ t. frames_in out.before ++ (out.now ++ t)) all
+    ∙ a ∙ sym same
 
 pub same-out : (out : Output) (held sent held' sent' : List Frame) → AreOut out held sent → held' ≡ held → sent' ≡ sent
     → AreOut out held' sent'
-same-out out held sent held' sent' a h s =
-    subst (λ fs. AreOut out fs sent') (sym h) (subst (λ fs. AreOut out held fs) (sym s) a)
+same-out out held sent held' sent' a h s = ap (λ t. frames_in out.before ++ (out.now ++ t)) h ∙ a ∙ sym s
 
 -- WHAT IS KEPT
 
@@ -231,16 +217,40 @@ module _ (w : Pair) (k : Kept w) (out : Output) (a : AreOut out (held_of w) (sen
       (silent w.start (j.history ++ kept_entries j) (landings w.ports.boxes ps) (sent-landings _ w.ports.boxes ps)
       ∙ sent-append w.start j.history (kept_entries j) ∙ ap (λ t. sent_of w ++ t) (kept-sent w k.holds))
 
--- where the standby goes live
-module _ (w : Pair) (out : Output) (a : AreOut out (held_of w) (sent_of w)) (ps : List (ℕ × Frame)) (m : ℕ) where
-  pub live-frames : AreOut (with_next out) (frames_of (take m []))
+-- of numbered epochs those below a number are the first ones
+none-below : (a n : ℕ) (es : List Epoch) → n < a → NumberedFrom a es → frames_to n es ≡ []
+none-below a n [] l h = refl
+none-below a n (e ∷ es) l h =
+    let number = h.0 in
+    let off : nat_le e.number n ≡ false = grind (arith, nat_tests, number, l) in
+    ap (λ t. cond t (e.frames ++ frames_to n es) (frames_to n es)) off ∙ none-below (a + 1) n es (omega arith) h.1
+
+below-first : (k a c : ℕ) (es : List Epoch) → 1 ≤ c → a + k ≡ c → NumberedFrom a es → frames_to (c - 1) es ≡ frames_of (take k es)
+below-first zero a c es low at h = none-below a (c - 1) es (omega arith) h
+below-first (suc k) a c [] low at h = refl
+below-first (suc k) a c (e ∷ es) low at h =
+    let number = h.0 in
+    let before : a ≤ c - 1 = omega arith in
+    let on : nat_le e.number (c - 1) ≡ true = grind (arith, nat_tests, number, before) in
+    ap (λ t. cond t (e.frames ++ frames_to (c - 1) es) (frames_to (c - 1) es)) on
+    ∙ ap (λ t. e.frames ++ t) (below-first k (a + 1) c es low (omega arith) h.1)
+
+-- where the standby goes live, which has committed the checkpoints below that number
+module _ (w : Pair) (k : Kept w) (out : Output) (a : AreOut out (held_of w) (sent_of w)) (ps : List (ℕ × Frame)) (m : ℕ)
+    (some : 1 ≤ w.protocol.state.window.to_commit) where
+  pub live-frames : AreOut (with_next out (frames_to (w.protocol.state.window.to_commit - 1) w.protocol.state.pending)) (frames_of (take m []))
       (sent_along w.start (w.protocol.state.journal.history
       ++ (drops_of_taken_in (kept_entries w.protocol.state.journal) ++ landings w.ports.boxes ps)))
   live-frames =
-      let j = w.protocol.state.journal in
+      let r = w.protocol.state in
+      let j = r.journal in
       let ns = rising (arrived_numbers (kept_entries j)) in
       let s = at w.start j.history in
-      next-turn out (held_of w) (sent_of w) (frames_of (take m [])) _ a (ap frames_of (take-none m))
+      let x = k.record_is.window in
+      let order = x.committed in
+      let whole : r.window.to_acknowledge + committed_count r.window ≡ r.window.to_commit = omega arith in
+      next-turn out (held_of w) (sent_of w) (frames_to (r.window.to_commit - 1) r.pending) (frames_of (take m [])) _ a
+      (below-first (committed_count r.window) r.window.to_acknowledge r.window.to_commit r.pending some whole x.numbers) (ap frames_of (take-none m))
       (silent w.start j.history (map DropIn ns ++ landings w.ports.boxes ps)
       (silent s (map DropIn ns) (landings w.ports.boxes ps) (sent-landings _ w.ports.boxes ps) ∙ sent-drops s ns))
 

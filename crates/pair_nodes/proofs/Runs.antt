@@ -12,7 +12,7 @@ use Rattle.pair_record.specs.{Modes.{is_alone}}
 use Rattle.pair_core.specs.{Pair.{Pair, InMode, IsConsistent, shown_state}, Service.{HasServed, moment}}
 use Rattle.pair_core.proofs.{Consistent.{consistent, lone}, Events.{start_pair, start_holds}, ServiceRuns.served_grows}
 use Rattle.pair_nodes.specs.Matching.{HasRoom, IsServed, Kept, Matches, held_of, site_of}
-use Rattle.pair_nodes.specs.Frames.{frames_in}
+use Rattle.pair_nodes.specs.Networks.{frames_in}
 use Rattle.std.proofs.lemmas.List.{take-append-drop}
 use Rattle.output_gate.specs.Epochs.{frames_of}
 use Rattle.output_gate.proofs.EpochLaws.{frames_of-append}
@@ -90,7 +90,7 @@ module _ (shape : Shape) (image : List ℕ) (clients : ℕ) (fits : length image
       sent = λ k t is. absurd (cc);
       acked = λ k p is. absurd (cc);
       coming = inl refl;
-      frames = record { turns = []; before = refl; all = refl };
+      frames = refl;
       names = record { held = λ k n t is x low. absurd (cc); one = λ a b at_a at_b e. absurd (none_at a at_a) };
     };
   }
@@ -112,17 +112,15 @@ frames_are v t m =
     let outbox = v.nodes.live.outbox in
     let late = frames_of (uncommitted_of r.window r.pending) in
     let here : AreLetOut v.start (moment v) (site_of v t.primary.texts t.texts t.acks t.out t.came) = record {
-      turns = a.turns;
-      before = a.before;
       committed = n;
-      history = a.all;
+      history = a;
       all =
-          ap (λ t. frames_in a.turns ++ t)
+          ap (λ gs. frames_in t.out.before ++ gs)
           (ap (λ fs. t.out.now ++ (fs ++ outbox))
           (ap frames_of (sym (take-append-drop n r.pending)) ∙ frames_of-append (committed_of r.window r.pending) (uncommitted_of r.window r.pending))
           ∙ ap (λ fs. t.out.now ++ fs) (append_assoc (held_of v) late outbox) ∙ sym (append_assoc t.out.now (held_of v) (late ++ outbox)))
-          ∙ sym (append_assoc (frames_in a.turns) (t.out.now ++ held_of v) (late ++ outbox))
-          ∙ (λ i. a.all i ++ sym (kept-sent v m.fits.pair.holds) i)
+          ∙ sym (append_assoc (frames_in t.out.before) (t.out.now ++ held_of v) (late ++ outbox))
+          ∙ (λ i. a i ++ sym (kept-sent v m.fits.pair.holds) i)
           ∙ sym (sent-append v.start r.journal.history (kept_entries r.journal));
     } in
     subst (λ (u : Site). AreLetOut v.start (moment v) u) (sym m.is) here

@@ -1,38 +1,24 @@
 -- What nodes let out is what the guest sent: each frame once, in order.
-use Rattle.std.specs.Prelude.{◌≡◌, ◌≤◌, ℕ, List, [], ◌∷◌, ◌++◌, map, take}
+use Rattle.std.specs.Prelude.{◌≡◌, ◌≤◌, ℕ, List, [], ◌∷◌, ◌++◌, take}
 use Rattle.output_gate.specs.Epochs.{frames_of, frames_to}
 use Rattle.pair_history.specs.Entries.{Frame}
 use Rattle.pair_history.specs.HistoryState.{HistoryState, sent_along}
 use Rattle.pair_core.specs.Calls.{Moment}
-use Rattle.pair_nodes.specs.Networks.{Output}
+use Rattle.pair_nodes.specs.Networks.{Output, frames_in}
 use Rattle.pair_nodes.specs.Sites.{Site, Happening, hears, goes_live, goes_alone, lone_steps, protects}
-
--- The turn of a node that was live: what it let out, and behind that what it still held of the history where it stopped, which is lost.
-pub record Turn : Type 0 where
-  pub let_out : List Frame
-  pub lost : List Frame
-
-abbrev pub frames_in : List Turn → List Frame
-frames_in [] = []
-frames_in (t ∷ ts) = t.let_out ++ (t.lost ++ frames_in ts)
 
 -- What was sent is, in this order: what each node let out that was live before, with what was lost; what the live one let out; and what
 -- that one holds.
-pub record AreOut (out : Output) (held sent : List Frame) : Type 0 where
-  pub turns : List Turn
-  pub before : map (λ t. t.let_out) turns ≡ out.before
-  pub all : frames_in turns ++ (out.now ++ held) ≡ sent
+abbrev pub AreOut : Output → List Frame → List Frame → Type 0
+AreOut out held sent = frames_in out.before ++ (out.now ++ held) ≡ sent
 
 -- So each frame that was let out was sent by a step of the history, none twice, and in the order sent. And what the live node holds, at its
 -- gate behind so many checkpoints and in its outbox, is all that its guest sent since the last failure and that it hasn't let out.
 pub record AreLetOut (start : HistoryState) (end : Moment) (t : Site) : Type 0 where
-  pub turns : List Turn
-  pub before : map (λ t. t.let_out) turns ≡ t.out.before
   -- of the checkpoints that the gate holds, so many are in the history
   pub committed : ℕ
-  pub history : frames_in turns ++ (t.out.now ++ frames_of (take committed t.primary.pending)) ≡ sent_along start end.history
-  pub all : frames_in turns ++ (t.out.now ++ (frames_of t.primary.pending ++ t.primary.live.outbox))
-      ≡ sent_along start (end.history ++ end.ahead)
+  pub history : AreOut t.out (frames_of (take committed t.primary.pending)) (sent_along start end.history)
+  pub all : AreOut t.out (frames_of t.primary.pending ++ t.primary.live.outbox) (sent_along start (end.history ++ end.ahead))
 
 -- all that the live node's guest sent since the last failure; and of it what is out, or held for checkpoints up to that number
 abbrev pub sent_since : Site → List Frame

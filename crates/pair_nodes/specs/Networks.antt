@@ -39,9 +39,15 @@ with_lost_in n c place = record n { inboxes = with_list n.inboxes c (remove (lis
 abbrev pub with_lost_out : Network → ℕ → ℕ → Network
 with_lost_out n c place = record n { boxes = with_list n.boxes c (remove (list_of n.boxes c) place) }
 
--- EVERY FRAME THAT NODES EVER LET OUT, to whatever address, in the order let out: by each node that was live before, and by the one that is
+-- EVERY FRAME THAT NODES EVER LET OUT, to whatever address, in the order let out: by each node that was live before, and by the one that is.
+
+-- The turn of a node that was live: what it let out, and behind that what is lost of it where the next one goes live.
+pub record Turn : Type 0 where
+  pub let_out : List Frame
+  pub lost : List Frame
+
 pub record Output : Type 0 where
-  pub before : List (List Frame)
+  pub before : List Turn
   pub now : List Frame
 
 abbrev pub no_output : Output
@@ -50,6 +56,11 @@ no_output = record { before = []; now = [] }
 abbrev pub with_out : Output → List Frame → Output
 with_out o fs = record o { now = o.now ++ fs }
 
--- another node goes live
-abbrev pub with_next : Output → Output
-with_next o = record { before = o.before ++ o.now ∷ []; now = [] }
+-- another node goes live, and these are lost
+abbrev pub with_next : Output → List Frame → Output
+with_next o lost = record { before = o.before ++ record { let_out = o.now; lost = lost } ∷ []; now = [] }
+
+-- what these sent: what they let out, with what was lost
+abbrev pub frames_in : List Turn → List Frame
+frames_in [] = []
+frames_in (t ∷ ts) = t.let_out ++ (t.lost ++ frames_in ts)

@@ -42,7 +42,7 @@ calls_by s (takes c) = (Take c, replies.Took (slice_get (list_of s.network.boxes
 calls_by s other = []
 
 -- How many entries it adds to the history at most: one for each step, for each call of a client and each loss, and for each frame that is
--- let out, for each of its clients.
+-- let out, for each of its clients; two for each kept frame of a standby that goes live; and a lone step needs room for 1024 more.
 abbrev pub copies : Site → List Frame → ℕ
 copies s fs = length (targets_of (length s.network.boxes) fs)
 
@@ -61,7 +61,7 @@ adds s (lone_steps n) = n + 1024 + copies s (sent_in n s.primary.live.guest)
 adds s goes_alone = copies s (all_out s.primary)
 adds s other = 1
 
--- THE PREMISES, of each thing that happens: what is assumed of whatever is around the nodes.
+-- THE PREMISES
 
 abbrev pub IsAmong : {X : Type 0} → X → List X → Type 0
 IsAmong x xs = (k : ℕ) × (slice_get xs k ≡ Some x)
@@ -95,6 +95,7 @@ WasSentSo s (gets bytes) = Begin (s.came ++ bytes) s.texts
 WasSentSo s (hears p) = IsAmong p s.acks
 WasSentSo s other = Unit {0}
 
+-- What is assumed of a thing that happens, of whatever is around the nodes.
 pub record Premises (s : Site) (x : Happening) (most : ℕ) : Type 0 where
   pub fencing : IsFenced s.mode x
   pub one_stop_a_generation : HasOther s.mode x

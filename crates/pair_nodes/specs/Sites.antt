@@ -9,6 +9,7 @@ use Rattle.frame_ports.specs.Addresses.{IsFrame}
 use Rattle.frame_ports.specs.Lands.{list_of}
 use Rattle.frame_ports.specs.Limits.{inbox_frames, number_limit}
 use Rattle.guest_machine.specs.Runs.{sent_in, HaveRoom}
+use Rattle.output_gate.specs.Epochs.{frames_to}
 use Rattle.pair_history.specs.Entries.{Frame}
 use Rattle.pair_record.specs.Limits.{last_frame}
 use Rattle.epoch_snapshot.specs.Checkpoints.{Change}
@@ -111,14 +112,17 @@ abbrev pub hear_site : Site → ℕ → Site
 hear_site s n = letting_out (let_out s.primary n) (record s { primary = after_ack s.primary n })
 
 -- None of the frames that its image keeps is let out: it can't know which of them the other let out, and no client may get one twice
--- (Remus, 2008).
+-- (Remus, 2008). So what the other's gate held of checkpoints that this one has committed is lost.
+abbrev pub lost_to : Site → List Frame
+lost_to s = frames_to (to_commit s.standby - 1) s.primary.pending
+
 abbrev pub live_site : Site → Site
 live_site s = record s {
   mode = modes.Alone;
   primary = live_of s.standby;
   standby = new_standby s.standby.image.shape (s.standby.generation + 1);
   came = [];
-  out = with_next s.out;
+  out = with_next s.out (lost_to s);
 }
 
 abbrev pub run_site : ℕ → Site → Site

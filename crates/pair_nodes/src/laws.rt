@@ -1,7 +1,11 @@
 //! What two nodes do is what a pair does.
 ghost use Rattle.std.specs.Prelude.{◌≡◌, ◌≢◌, ◌<◌, ◌+◌, ℕ, List, [], ◌∷◌};
+ghost use Rattle.checkpoint_stream.specs.Readings.{begun, fed};
+ghost use Rattle.checkpoint_stream.specs.Sound.{change_in};
+ghost use Rattle.checkpoint_stream.specs.declared.place.Place.TheVariants.{Whole};
 ghost use Rattle.frame_ports.specs.Limits.{number_limit};
 ghost use Rattle.guest_machine.specs.declared.shapes.Shape.{Shape};
+ghost use Rattle.pair_core.specs.Nodes.{read_as};
 ghost use Rattle.pair_core.specs.Pair.{Pair};
 ghost use Rattle.pair_history.specs.Entries.{Frame};
 ghost use Rattle.pair_history.specs.HistoryState.{start_state};
@@ -9,7 +13,7 @@ ghost use Rattle.pair_nodes.specs.Frames.{AreOut, GoesOnFrom, NoneGoesLive, None
 ghost use Rattle.pair_nodes.specs.Names.{OneNameOneText};
 ghost use Rattle.pair_nodes.specs.Matching.{Matches, IsServed, HasRoom};
 ghost use Rattle.pair_nodes.specs.Serving.{AreOneGuest, GoesOn, Reach, lone_start, start_moment, start_site};
-ghost use Rattle.pair_nodes.specs.Runs.{Premises, Run, Call, adds, calls_by};
+ghost use Rattle.pair_nodes.specs.Runs.{Begin, Premises, Run, Call, adds, calls_by};
 ghost use Rattle.pair_nodes.specs.Sites.{Site, Happening, Happens, cuts, goes_alone, hear_site};
 
 /// The service that two nodes are for. Over every run of a primary and a standby, with every message between them lost, repeated or got in
@@ -25,8 +29,8 @@ pub fn two_nodes_serve_as_one_guest()
         → GoesOn (start_state shape.pages shape.sectors image clients) (start_moment shape image clients) calls more s t }
 {}
 
-/// What was let out after the acknowledgement of a checkpoint is all that the guest had sent up to its cut since the last failure, and where
-/// later ones were heard of, or its standby has stopped, what it sent behind that. So it is until a standby goes live.
+/// What is out after the acknowledgement of a checkpoint is all that the guest had sent up to its cut since the last failure, and where later
+/// ones were heard of, or the standby has stopped, what it sent behind that. So it is as long as no standby goes live.
 pub fn what_a_checkpoint_covers_is_let_out()
     ensures covered { (shape : Shape) (image : List ℕ) (clients : ℕ) (calls : List Call) (s : Site) (r : Reach shape image clients calls s)
         (t : Site) (ys : List Happening) (n : ℕ) (more : List Call) (text : List ℕ) → r.entries + n < number_limit
@@ -40,10 +44,18 @@ pub fn what_a_checkpoint_covers_is_let_out()
 /// Worked rows. One node let a frame out, and another one was lost where it stopped; the next one let out a third. A frame isn't let out
 /// twice, nor one that wasn't sent, nor two in another order.
 pub fn what_is_let_out_reads_so()
-    ensures lost { (a b c : Frame) → AreOut (record { before = (a ∷ []) ∷ []; now = c ∷ [] }) [] (a ∷ b ∷ c ∷ []) }
-    ensures twice { (a : Frame) → AreOut (record { before = (a ∷ []) ∷ []; now = a ∷ [] }) [] (a ∷ []) → ⊥ }
+    ensures lost { (a b c : Frame)
+        → AreOut (record { before = record { let_out = a ∷ []; lost = b ∷ [] } ∷ []; now = c ∷ [] }) [] (a ∷ b ∷ c ∷ []) }
+    ensures twice { (a : Frame)
+        → AreOut (record { before = record { let_out = a ∷ []; lost = [] } ∷ []; now = a ∷ [] }) [] (a ∷ []) → ⊥ }
     ensures unsent { (a : Frame) → AreOut (record { before = []; now = a ∷ [] }) [] [] → ⊥ }
     ensures order { (a b : Frame) → a ≢ b → AreOut (record { before = []; now = b ∷ a ∷ [] }) [] (a ∷ b ∷ []) → ⊥ }
+{}
+
+/// In whatever pieces a text comes: what stands whole of it reads as the text that was sent.
+pub fn what_comes_whole_was_sent()
+    ensures { (shape : Shape) (came : List ℕ) (texts : List (List ℕ)) (b : Begin came texts) → (fed (begun shape 0) came).place ≡ Whole
+        → change_in (fed (begun shape 0) came) ≡ read_as shape b.0 }
 {}
 
 /// No two texts that were ever sent in one run bear the same generation and number.

@@ -8,7 +8,8 @@ ghost use Rattle.guest_machine.specs.Limits.{page_bytes};
 ghost use Rattle.output_gate.specs.Epochs.{frames_of};
 ghost use Rattle.pair_record.specs.Limits.{most_pending, last_frame};
 ghost use Rattle.pair_record.specs.Modes.{is_alone};
-ghost use Rattle.pair_core.specs.Nodes.{node_of};
+ghost use Rattle.pair_core.specs.Nodes.{HasShape, node_of};
+ghost use Rattle.pair_nodes.specs.Bounds.{IsBoundedPrimary, most_text};
 ghost use Rattle.pair_nodes.specs.PrimaryCalls.{booted_primary, mode_of, arrive_rows, cut_refusals, ack_rows, alone_rows, protect_rows};
 ghost use Rattle.pair_nodes.specs.PrimaryCalls.{IsRun, IsSteps, IsSealed, IsProtected, after_release, text_part};
 ghost use Rattle.pair_nodes.specs.Refusing.{IsFree, IsWhy, IsWhyOrMemory};
@@ -89,6 +90,7 @@ impl PrimaryNode {
     ///
     /// # Errors
     /// The growth that was really refused.
+    #[tactic(auto, using(crate::proofs::Sized::sized_at_boot))]
     pub fn boot(alloc: Global, shape: Shape, image: &[u8]) -> Result<PrimaryNode, MemoryWanted>
         requires { length image.now ≤ page_bytes * shape.pages }
         ensures { IfOk result (λ p. p ≡ booted_primary shape image.now) }
@@ -125,6 +127,7 @@ impl PrimaryNode {
         requires mode { is_alone generation.mode ≡ true }
         requires first_cut { 1 ≤ to_cut }
         requires last_cut { to_cut ≤ number_limit }
+        requires sized { HasShape shape machine.guest }
         requires outbox { machine.outbox ≡ [] }
         requires gate { gate.epochs ≡ [] }
         requires next { gate.next ≤ number_limit }
@@ -204,6 +207,17 @@ impl PrimaryNode {
         } else {
             None
         }
+    }
+
+    /// However long it runs, it holds no more than its shape says: the guest's memory twice, its disk, and of at most four checkpoints the
+    /// texts and the frames.
+    pub fn what_it_holds_is_bounded(&self)
+        ensures { IsBoundedPrimary self.now }
+    {
+        let _shape = self.machine.shape();
+        let _written = self.machine.dirty_sectors();
+        let _sent = self.outbox();
+        let _held = self.held();
     }
 
     /// What the guest sent since the last cut, or, where it is alone, since the last call of [`release`](PrimaryNode::release).
@@ -319,6 +333,7 @@ impl PrimaryNode {
         requires few { length self.old.pending < most_pending }
         requires number { self.old.to_cut < number_limit }
         requires frames { self.old.next_frame ≤ last_frame }
+        requires short { length text.items ≤ most_text self.old.shape }
         ensures { self.new ≡ after_cut self.old text.items }
     {
         self.gate.hold(self.to_cut, self.machine.outbox());
@@ -330,7 +345,8 @@ impl PrimaryNode {
     /// The text of the checkpoint that a cut would make.
     fn delta(&self) -> Result<Vec<u8>, MemoryWanted>
         requires { self.now.to_cut < number_limit }
-        ensures { IfOk result (λ text. IsDelta self.now text.items) }
+        ensures text { IfOk result (λ text. IsDelta self.now text.items) }
+        ensures short { IfOk result (λ text. length text.items ≤ most_text self.now.shape) }
     {
         let generation = self.generation.number();
         let checkpoint = match cut_delta(self.alloc, &self.machine, generation, self.to_cut) {
@@ -471,6 +487,7 @@ impl PrimaryNode {
     fn full(&self) -> Result<Vec<u8>, Refusal>
         ensures free { OnOk result (IsFree (protect_rows self.now)) }
         ensures text { IfOk result (λ text. IsFull self.now text.items) }
+        ensures short { IfOk result (λ text. length text.items ≤ most_text self.now.shape) }
         ensures why { IfErr result (IsWhyOrMemory (protect_rows self.now)) }
     {
         if self.is_backed() {
@@ -489,7 +506,8 @@ impl PrimaryNode {
     /// That text, where there is a next generation.
     fn full_text(&self) -> Result<Vec<u8>, MemoryWanted>
         requires { self.now.generation + 1 < generation_limit }
-        ensures { IfOk result (λ text. IsFull self.now text.items) }
+        ensures text { IfOk result (λ text. IsFull self.now text.items) }
+        ensures short { IfOk result (λ text. length text.items ≤ most_text self.now.shape) }
     {
         let generation = self.generation.number();
         let checkpoint = match cut_full(self.alloc, &self.machine, generation + 1) {
@@ -503,7 +521,8 @@ impl PrimaryNode {
 
     /// Its standby is to be filled by the full checkpoint of this text, which is pending.
     fn protected(self, full: Vec<u8>) -> PrimaryNode
-        requires { IsFree (protect_rows self) }
+        requires free { IsFree (protect_rows self) }
+        requires short { length full.items ≤ most_text self.shape }
         ensures { result ≡ after_protect self full.items }
     {
         let PrimaryNode {

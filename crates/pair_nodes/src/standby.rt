@@ -4,7 +4,7 @@ ghost use Rattle.checkpoint_stream.specs.Answers.{Answers};
 ghost use Rattle.backup_image.specs.Kept.{sent_with};
 ghost use Rattle.failover.specs.Generations.{generation_limit};
 ghost use Rattle.frame_ports.specs.Limits.{number_limit};
-ghost use Rattle.guest_machine.specs.Guest.{sector_in};
+ghost use Rattle.guest_machine.specs.Guest.{HasDeviceRecords, sector_in};
 ghost use Rattle.pair_record.specs.Limits.{most_pending};
 ghost use Rattle.pair_nodes.specs.Refusing.{IsFree, IsWhyOrMemory};
 ghost use Rattle.pair_record.specs.Tables.{first_refusal};
@@ -18,7 +18,7 @@ use backup_image::{Image, ImageError, NUMBER_LIMIT, Resumed};
 use checkpoint_stream::{Reader, StreamError};
 use epoch_snapshot::Checkpoint;
 use failover::{GENERATION_LIMIT, Generation};
-use guest_machine::{SECTOR_BYTES, Shape};
+use guest_machine::{Machine, SECTOR_BYTES, Shape};
 use memory_wanted::MemoryWanted;
 use output_gate::{Gate, GateError};
 use pair_core::{Packet, Refusal};
@@ -302,11 +302,20 @@ impl StandbyNode {
         let Some(Resumed { machine, kept }) = image.resume().ok() else {
             unreachable!();
         };
+        has_records(&machine);
         let mut gate = gate;
         gate.begin(kept.sent());
         drop(kept);
         PrimaryNode::lone(alloc, shape, machine, generation, to_cut, gate, texts)
     }
+}
+
+/// What a machine's devices keep meets the rules of their records.
+fn has_records(machine: &Machine)
+    ensures { HasDeviceRecords machine.now.guest }
+{
+    machine.net();
+    machine.disk();
 }
 
 /// An empty gate, and room for the texts of four checkpoints.

@@ -1,14 +1,15 @@
 -- How the fields of the nodes stand for what contracts see.
-use Rattle.std.specs.Prelude.{◌≡◌, ◌+◌, ◌-◌, ◌≤◌, false, not, [], length, map, None, Some, if◌then◌else◌, vec_capacity}
+use Rattle.std.specs.Prelude.{◌≡◌, ◌+◌, ◌-◌, ◌≤◌, false, not, [], All, length, map, None, Some, if◌then◌else◌, vec_capacity}
 use Rattle.failover.specs.declared.mode.Mode.TheVariants as modes
 use Rattle.frame_ports.specs.Limits.{number_limit}
 use Rattle.backup_image.specs.declared.standing.Standing.{Standing}
 use Rattle.pair_record.specs.Limits.{last_frame, most_pending}
 use Rattle.pair_record.specs.Modes.{is_alone}
 use Rattle.pair_record.specs.Window.{NumberedFrom}
-use Rattle.pair_core.specs.Nodes.{node_of}
+use Rattle.pair_core.specs.Nodes.{HasShape, node_of}
 use Rattle.pair_nodes.specs.declared.primary.PrimaryNode.TheInside.{Inside as PrimaryFields}
 use Rattle.pair_nodes.specs.declared.standby.StandbyNode.TheInside.{Inside as StandbyFields}
+use Rattle.pair_nodes.specs.Bounds.{most_text}
 use Rattle.pair_nodes.specs.PrimaryCalls.{mode_of}
 use Rattle.pair_nodes.specs.Sides.{Primary, Standby, to_commit}
 use Rattle.pair_nodes.specs.StandbyCalls.{is_empty}
@@ -25,13 +26,15 @@ primary_state a = record {
   next_frame = a.gate.next;
 }
 
--- What is pending has consecutive numbers up to the last one cut, is at most four checkpoints, each with its text, and none where it is
+-- The guest has its shape; what is pending has consecutive numbers up to the last one cut, is at most four checkpoints, each with its text, and none where it is
 -- alone; the mode is what that says; and the frames that it may still let out have numbers.
 pub record IsPrimary (a : PrimaryFields) : Type 0 where
+  pub sized : HasShape a.shape a.machine.guest
   pub numbered : NumberedFrom (a.to_cut - length a.gate.epochs) a.gate.epochs
   pub most : length a.gate.epochs ≤ a.to_cut
   pub few : length a.gate.epochs ≤ most_pending
   pub texts : length a.texts.items ≡ length a.gate.epochs
+  pub short : All (λ text. length text.items ≤ most_text a.shape) a.texts.items
   pub places : most_pending ≤ vec_capacity a.texts
   pub mode : a.generation.mode ≡ mode_of (primary_state a)
   pub alone : a.generation.mode ≡ modes.Alone → a.gate.epochs ≡ []

@@ -7,8 +7,8 @@ use Rattle.pair_core.specs.Texts.{IsText}
 use Rattle.pair_core.proofs.NodesLaws.{delta-text}
 use Rattle.pair_nodes.proofs.primary.PrimaryNode.full_text.Goals as goal
 
-pub returns : goal.returns
-returns c =
+pub returns-clause-text : goal.returns-clause-text
+returns-clause-text c =
     let m = c.self.inside.machine in
     let shape = c.self.inside.shape in
     IfOk-weaker c.text_of-text.result _ _
@@ -16,4 +16,4 @@ returns c =
     subst (λ n. IsText shape (n + 1) 0 before m.guest [] text.items) c.number-generation.ensures.number
     (delta-text (replicate (length m.guest.ram) 0) (used_sectors m.guest.sectors (sector_count m.guest.sectors)) [] m
     (c.number-generation.result + 1) 0 c.in-Ok.checkpoint shape text.items before c.in-Ok.ensures.parts reads (c.in-Ok.ensures.image before)
-    sized))) c.text_of-text.ensures
+    sized))) c.text_of-text.ensures.read

@@ -1,12 +1,14 @@
 -- What an acknowledgement leaves is numbered as before, and the full checkpoint isn't among it.
-use Rattle.std.proofs.Common.{rules, ◌≡◌, ◌+◌, ◌-◌, List, length, map, drop, sym, ap, ◌∙◌, subst, arith}
+use Rattle.std.proofs.Common.{rules, ◌≡◌, ◌+◌, ◌-◌, List, length, map, drop, sym, ap, ◌∙◌, subst, arith, All, ◌≤◌}
 use Rattle.std.specs.Prelude.{not}
 use Rattle.std.proofs.lemmas.List.{length-drop, drop-map}
+use Rattle.std.proofs.lemmas.List.Elements.{All-drop}
 use Rattle.failover.specs.Generations.{GenerationState}
 use Rattle.output_gate.specs.Epochs.{Epoch, after_number}
 use Rattle.output_gate.specs.Gate.{GateState}
 use Rattle.pair_record.specs.Modes.{is_alone}
 use Rattle.pair_record.specs.Window.{NumberedFrom}
+use Rattle.pair_nodes.specs.Bounds.{most_text}
 use Rattle.pair_nodes.specs.Sides.{Primary}
 use Rattle.pair_nodes.specs.internal.NodeFields.{primary_state}
 use Rattle.pair_nodes.proofs.Pending.{Left, left_of, not_full, mode_paired}
@@ -34,6 +36,7 @@ invariant_of-self c =
     (subst (λ m. NumberedFrom m (after_number n a.gate.epochs)) place l.numbered) in
     let paired = ap (λ (g : GenerationState). g.mode) c.end_filling.ensures in
     record {
+      sized = inv.sized;
       numbered = numbered;
       most = omega (arith, long, l.few, inv.most);
       few = omega (arith, long, l.few, inv.few);
@@ -47,6 +50,8 @@ invariant_of-self c =
         inv.texts,
         long,
       );
+      short = subst (All (λ t. length t.items ≤ most_text a.shape)) (sym c.drop_first.ensures.items)
+          (All-drop (λ t. length t.items ≤ most_text a.shape) c.saturating_sub-count.result a.texts.items inv.short);
       places = omega (arith, inv.places, c.drop_first.ensures.room);
       mode = mode_paired c.end_filling.new.generation.mode c.let_go-frames.new.self.epochs paired
           (not_full (a.to_cut - length c.let_go-frames.new.self.epochs) c.let_go-frames.new.self.epochs numbered

@@ -1,7 +1,8 @@
 -- A cut's epoch is pending last, under its own number.
-use Rattle.std.proofs.Common.{rules, ◌≡◌, ◌+◌, ◌-◌, ◌++◌, ◌∷◌, [], List, length, sym, ap, ◌∙◌, subst, arith}
+use Rattle.std.proofs.Common.{rules, ◌≡◌, ◌+◌, ◌-◌, ◌++◌, ◌∷◌, [], List, length, sym, ap, ◌∙◌, subst, arith, All, ◌≤◌}
 use Rattle.std.specs.Prelude.{not, if◌then◌else◌}
 use Rattle.std.proofs.lemmas.List.{length-append}
+use Rattle.std.proofs.lemmas.List.Elements.{All-append, All-cons, All-nil}
 use Rattle.failover.specs.declared.mode.Mode.TheVariants as modes
 use Rattle.guest_machine.specs.Guest.{State}
 use Rattle.output_gate.specs.Epochs.{Epoch, epoch}
@@ -9,9 +10,10 @@ use Rattle.output_gate.specs.Gate.{GateState}
 use Rattle.pair_record.proofs.WindowLaws.{NumberedFrom-push}
 use Rattle.pair_record.specs.Modes.{is_alone}
 use Rattle.pair_record.specs.Window.{NumberedFrom}
+use Rattle.pair_nodes.specs.Bounds.{most_text}
 use Rattle.pair_nodes.specs.PrimaryCalls.{has_full}
 use Rattle.pair_nodes.specs.Sides.{Primary}
-use Rattle.pair_nodes.proofs.Pending.{full-append}
+use Rattle.pair_nodes.proofs.Pending.{below_all, full-append}
 use Rattle.pair_nodes.proofs.primary.PrimaryNode.seal.Goals as goal
 
 pub invariant_of-self : goal.invariant_of-self
@@ -31,12 +33,18 @@ invariant_of-self c =
     let first : a.to_cut - length es ≡ (a.to_cut + 1) - length c.hold.new.self.epochs = omega (arith, long, more, inv.most) in
     let place : e.number ≡ (a.to_cut - length es) + length es = omega (arith, inv.most) in
     let out : length c.settle.new.self.outbox ≡ 0 = ap (λ (m : State). length m.outbox) c.settle.ensures in
+    let short = ap (λ (p : Primary). most_text p.shape) c.self.view_is in
     record {
+      sized = search (inv.sized, ap (λ (m : State). m.guest) c.settle.ensures);
       numbered = subst (λ n. NumberedFrom n c.hold.new.self.epochs) first
           (subst (NumberedFrom (a.to_cut - length es)) (sym epochs) (NumberedFrom-push (a.to_cut - length es) es e inv.numbered place));
       most = omega (arith, long, more, inv.most);
       few = omega (arith, long, more, few, c.requires.few);
       texts = omega (arith, ap (λ ts. length ts) c.put_last.ensures.items, length-append a.texts.items (c.args.text ∷ []), inv.texts, long, more);
+      short = subst (All (λ t. length t.items ≤ most_text a.shape)) (sym c.put_last.ensures.items)
+          (All-append (λ t. length t.items ≤ most_text a.shape) a.texts.items (c.args.text ∷ []) inv.short
+          (All-cons (λ t. length t.items ≤ most_text a.shape) c.args.text [] (omega (arith, short, c.requires.short))
+          (All-nil (λ t. length t.items ≤ most_text a.shape))));
       places = omega (arith, inv.places, c.put_last.ensures.room);
       mode = inv.mode ∙ ap (λ b. if not (is_alone a.generation.mode) then (if b then modes.Filling else modes.Paired) else modes.Alone)
           (sym (ap has_full epochs ∙ full-append es e inv.to_cut));
@@ -46,3 +54,8 @@ invariant_of-self c =
       numbers = omega (arith, next, out, frames, c.requires.frames, c.outbox.ensures.most, ap (λ l. length l) c.outbox.ensures.value);
       room = λ paired. omega (arith, next, frames, c.requires.frames, c.outbox.ensures.most, ap (λ l. length l) c.outbox.ensures.value);
     }
+
+pub hold-requires-clause-above : goal.hold-requires-clause-above
+hold-requires-clause-above c =
+    let a = c.self.inside in
+    below_all (a.to_cut - length a.gate.epochs) a.to_cut a.gate.epochs c.self.invariant.numbered (omega (arith, c.self.invariant.most))

@@ -1,0 +1,39 @@
+-- Each list of a primary has its bound.
+use Rattle.std.proofs.Common.{◌≡◌, ◌≤◌, ◌*◌, ℕ, List, length, map, sym, ap, ◌∙◌, subst, arith, All}
+use Rattle.std.proofs.lemmas.List.{length-map}
+use Rattle.std.proofs.lemmas.List.Elements.{All-map}
+use Rattle.frame_ports.specs.Addresses.{IsFrame}
+use Rattle.guest_machine.specs.Guest.{sector_count}
+use Rattle.guest_machine.specs.Limits.{page_bytes}
+use Rattle.pair_history.specs.Entries.{Frame}
+use Rattle.pair_nodes.specs.Bounds.{IsBoundedPrimary, most_text}
+use Rattle.pair_nodes.specs.Sides.{Primary}
+use Rattle.pair_nodes.proofs.TextSizes.{rises_length}
+use Rattle.pair_nodes.proofs.primary.PrimaryNode.what_it_holds_is_bounded.Goals as goal
+
+pub returns : goal.returns
+returns c =
+    let a = c.self.inside in
+    let inv = c.self.invariant in
+    let v = c.self.view_is in
+    let count = length-map a.texts.items (λ t. t.items) in
+    record {
+      ram = subst (λ (p : Primary). length p.live.guest.ram ≡ page_bytes * p.shape.pages) v inv.sized.ram;
+      settled = subst (λ (p : Primary). length p.live.settled ≡ page_bytes * p.shape.pages) v
+          (c.shape-shape.ensures.settled ∙ sym c.shape-shape.ensures.pages ∙ inv.sized.ram);
+      sectors = subst (λ (p : Primary). length p.live.guest.sectors ≡ 512 * p.shape.sectors) v inv.sized.sectors;
+      written = subst (λ (p : Primary). length p.live.dirty ≤ p.shape.sectors) v (omega (
+        arith,
+        rises_length 0 (sector_count a.machine.guest.sectors) c.dirty_sectors-written.result.now c.dirty_sectors-written.ensures.rises,
+        ap (λ l. length l) c.dirty_sectors-written.ensures.value,
+        inv.sized.sectors,
+      ));
+      sent = omega (arith, c.outbox-sent.ensures.few, ap (λ l. length l) c.outbox-sent.ensures.value);
+      sent_frames = subst (All IsFrame) c.outbox-sent.ensures.value c.outbox-sent.ensures.frames;
+      pending = subst (λ (p : Primary). length p.pending ≤ 4) v inv.few;
+      held = omega (arith, c.held-held.ensures.few, ap (λ (l : List Frame). length l) c.held-held.ensures.value);
+      held_frames = subst (All IsFrame) c.held-held.ensures.value c.held-held.ensures.frames;
+      texts = subst (λ (p : Primary). length p.texts ≤ 4) v (omega (arith, count, inv.texts, inv.few));
+      text_bytes = subst (λ (p : Primary). All (λ t. length t ≤ most_text p.shape) p.texts) v
+          (All-map (λ t. length t ≤ most_text a.shape) (λ t. t.items) a.texts.items inv.short);
+    }
