@@ -1,4 +1,4 @@
-//! The command line: `remus sim FILE`, `remus run FILE`, `remus check-stream FILE --pages P --sectors S`, and `remus live`.
+//! The command line: `remus sim FILE`, `remus run FILE`, `remus check-stream FILE --pages P --sectors S`, `remus live` and `remus node`.
 
 ghost use Rattle.std.specs.Prelude.{◌<◌, ◌≤◌, IfSome, length};
 
@@ -18,6 +18,8 @@ pub enum Invocation<'a> {
     CheckStream(&'a str, Shape),
     /// To play lines as they come.
     Live,
+    /// To play the lines of one host as they come.
+    Node,
 }
 
 /// What the words of the command line ask for. `None`: a FILE is empty, or a number isn't one whole number in its range.
@@ -37,7 +39,8 @@ pub fn read<'a>(alloc: Global, words: &'a [String]) -> Result<Option<Invocation<
         .subcommand(sim)?
         .subcommand(run)?
         .subcommand(check_stream)?
-        .subcommand(Command::new(alloc, "live"))?;
+        .subcommand(Command::new(alloc, "live"))?
+        .subcommand(Command::new(alloc, "node"))?;
     let matches = command.try_get_matches_from(words)?;
     if let Some(sim) = matches.subcommand_matches("sim") {
         return Ok(file_of(sim).map(Invocation::Sim));
@@ -48,7 +51,10 @@ pub fn read<'a>(alloc: Global, words: &'a [String]) -> Result<Option<Invocation<
     if let Some(check) = matches.subcommand_matches("check-stream") {
         return Ok(check_stream_of(check));
     }
-    Ok(matches.subcommand_matches("live").map(|_| Invocation::Live))
+    if matches.subcommand_matches("live").is_some() {
+        return Ok(Some(Invocation::Live));
+    }
+    Ok(matches.subcommand_matches("node").map(|_| Invocation::Node))
 }
 
 /// The argument FILE of a subcommand.

@@ -4,6 +4,7 @@
 mod command_line;
 
 use command_line::Invocation;
+use node_player::host::serve as serve_node;
 use pair_core::Shape;
 use pair_threads::run as run_pair;
 use script_player::check_stream::check_stream;
@@ -39,6 +40,7 @@ fn run<T: Threads + Wait + Sync>(rt: &HostRuntime, threads: &T) -> io::Result<u8
         Ok(Some(Invocation::Run(file))) => run_file(rt, threads, file),
         Ok(Some(Invocation::CheckStream(file, shape))) => list_stream(rt, file, shape),
         Ok(Some(Invocation::Live)) => Ok(play_lines(rt)),
+        Ok(Some(Invocation::Node)) => Ok(play_node(rt)),
         _ => refuse_command_line(rt),
     }
 }
@@ -76,6 +78,14 @@ fn play_lines(rt: &HostRuntime) -> u8 {
     let mut input = CheckedReader::new(rt.stdin());
     let mut out = CheckedWriter::new(rt.stdout());
     live(rt.alloc(), &mut input, &mut out)
+}
+
+/// Plays the lines of one host as they come on standard input. Answers the exit status. Nothing stands between an answer and standard
+/// output.
+fn play_node(rt: &HostRuntime) -> u8 {
+    let mut input = CheckedReader::new(rt.stdin());
+    let mut out = CheckedWriter::new(rt.stdout());
+    serve_node(rt.alloc(), &mut input, &mut out)
 }
 
 /// Lists the checkpoints of this file. Answers the exit status.

@@ -1,5 +1,5 @@
 -- How long the image of a guest's words is.
-use Rattle.std.proofs.Common.{◌≡◌, ◌≤◌, ◌*◌, ℕ, List, [], ◌∷◌, length, refl, ap, arith, ◌∙◌, length-append, Result, Ok, Err, IfOk}
+use Rattle.std.proofs.Common.{◌≡◌, ◌≤◌, ◌*◌, ℕ, List, [], ◌∷◌, length, refl, ap, arith, length-append, Result, Ok, Err, IfOk}
 use Rattle.std.specs.Int.{to_le_bytes, w32}
 use Rattle.script_player.specs.Guests.{words_image}
 

@@ -1,6 +1,7 @@
-mod OptionLemmas
+pub mod OptionLemmas
 mod ListLemmas
 pub mod FieldLemmas
+pub mod FormLemmas
 pub mod CommandLemmas
 pub mod WordsLemmas
 mod GuestLemmas
@@ -11,8 +12,9 @@ pub mod DigitLemmas
 pub mod DiskLemmas
 mod MeaningLemmas
 mod LineLemmas
-mod ScriptLemmas
+pub mod ScriptLemmas
 mod RunLemmas
+mod SessionLemmas
 mod LiveLemmas
 mod ReplyLemmas
 mod ListingLemmas

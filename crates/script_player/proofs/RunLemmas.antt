@@ -1,5 +1,5 @@
 -- A script is one run of its pair.
-use Rattle.std.proofs.Common.{◌≡◌, ◌≤◌, ◌+◌, ℕ, zero, suc, true, List, [], ◌∷◌, ◌++◌, length, ◌⊎◌, inl, inr, arith, refl, sym, ap, ◌∙◌}
+use Rattle.std.proofs.Common.{◌≡◌, ◌≤◌, ℕ, zero, suc, true, List, [], ◌∷◌, ◌++◌, length, ◌⊎◌, inl, inr, arith, refl, sym, ap, ◌∙◌}
 use Rattle.std.{proofs.{Common.{subst, append_assoc, append-nil}, lemmas.List.Elements.recursion_from_All}, specs.Prelude.codes}
 use Rattle.std.specs.{Prelude.replicate, List.AllByRecursion}
 use Rattle.pair_record.specs.declared.event.{Event.Event, Reply.Reply}

@@ -1,5 +1,5 @@
 -- A script's meaning, line by line.
-use Rattle.std.proofs.Common.{◌≡◌, ◌≤◌, ◌<◌, ◌+◌, ℕ, List, [], ◌∷◌, ◌++◌, length, Option, None, Some, IfSome, Bor, arith, sym, ap, ◌∙◌}
+use Rattle.std.proofs.Common.{◌≡◌, ◌<◌, ◌+◌, ℕ, List, [], ◌∷◌, ◌++◌, length, Option, None, Some, IfSome, Bor, arith, sym, ap, ◌∙◌}
 use Rattle.std.proofs.{Common.{append-nil, append_assoc, subst, refl, Result, Ok, Err, false}, KnownBytes.Appends-trans}
 use Rattle.std.specs.{Prelude.MatchOption, Result.IsErrAnd, Io.KnownBytes.Appends}
 use Rattle.script_player.specs.{Streams.{Writing, Writes, WritesFront, IsPut, IsPrinted}, declared.{sim.Stop.Stop, player.Turn.Turn}}

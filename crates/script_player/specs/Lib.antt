@@ -11,6 +11,7 @@ pub mod Streams
 pub mod Lines
 pub mod Meaning
 pub mod Scripts
+pub mod Session
 pub mod Live
 pub mod StreamLines
 pub mod StreamMeaning

@@ -52,7 +52,7 @@ pub fn numbers(text: &[u8], front: &[u8]) -> Option<(u64, u64)>
 }
 
 /// A number after `front`, and the text after the space that ends it.
-fn operand_after<'a>(text: &'a [u8], front: &[u8]) -> Option<(u64, &'a [u8])>
+pub fn operand_after<'a>(text: &'a [u8], front: &[u8]) -> Option<(u64, &'a [u8])>
     ensures { option_map (λ found. (found.0, found.1.now)) result ≡ option_and_then operand_of (text_after front.now text.now) }
 {
     operand(after(text, front)?)

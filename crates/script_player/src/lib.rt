@@ -18,6 +18,7 @@ mod output;
 pub mod player;
 pub mod replies;
 mod script;
+pub mod session;
 pub mod sim;
 pub mod streams;
 pub mod text;

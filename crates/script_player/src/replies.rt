@@ -120,7 +120,7 @@ pub fn write_sector(text: &mut Text, sector: u64, bytes: &[u8; SECTOR_BYTES])
 }
 
 /// Prints a line of words alone.
-fn write_words(text: &mut Text, words: &str)
+pub fn write_words(text: &mut Text, words: &str)
     requires empty { text.old.items ≡ [] }
     requires short { length words.now ≤ 20 }
     ensures { text.new.items ≡ line (words.now ∷ []) }
@@ -130,7 +130,7 @@ fn write_words(text: &mut Text, words: &str)
 }
 
 /// Prints what happened, and one number.
-fn write_number(text: &mut Text, event: &str, number: u64)
+pub fn write_number(text: &mut Text, event: &str, number: u64)
     requires empty { text.old.items ≡ [] }
     requires short { length event.now ≤ 20 }
     ensures { text.new.items ≡ line (event.now ∷ decimal number ∷ []) }
@@ -154,7 +154,7 @@ fn write_acked(text: &mut Text, generation: u64, number: u64, landed: u64)
 }
 
 /// Prints what happened to a checkpoint, and which one it is.
-fn write_checkpoint(text: &mut Text, event: &str, generation: u64, number: u64)
+pub fn write_checkpoint(text: &mut Text, event: &str, generation: u64, number: u64)
     requires empty { text.old.items ≡ [] }
     requires short { length event.now ≤ 20 }
     ensures { text.new.items ≡ line (event.now ∷ decimal generation ∷ decimal number ∷ []) }
@@ -166,7 +166,7 @@ fn write_checkpoint(text: &mut Text, event: &str, generation: u64, number: u64)
 }
 
 /// Prints what happened, the generation, and a number with its name.
-fn write_generation(text: &mut Text, event: &str, generation: u64, name: &str, number: u64)
+pub fn write_generation(text: &mut Text, event: &str, generation: u64, name: &str, number: u64)
     requires empty { text.old.items ≡ [] }
     requires short { length event.now ≤ 20 }
     requires short_name { length name.now ≤ 20 }
@@ -180,7 +180,7 @@ fn write_generation(text: &mut Text, event: &str, generation: u64, name: &str, n
 }
 
 /// Prints `frame` and the bytes in lower case hex.
-fn write_frame(text: &mut Text, frame: &Frame)
+pub fn write_frame(text: &mut Text, frame: &Frame)
     requires { text.old.items ≡ [] }
     ensures bytes { IsBytes frame.now.items }
     ensures printed { text.new.items ≡ line (codes "frame" ∷ encode_lower frame.now.items ∷ []) }

@@ -1,4 +1,4 @@
-use Rattle.std.proofs.{Common.{◌≡◌, ◌++◌, ◌+◌, Some, [], subst, ap, ◌∙◌, append-nil, arith, refl}, KnownBytes.Appends-nil}
+use Rattle.std.proofs.{Common.{◌≡◌, ◌++◌, ◌+◌, [], subst, append-nil, arith, refl}, KnownBytes.Appends-nil}
 use Rattle.script_player.specs.{Meaning.{Stage, Means, finished, ends}, internal.Playing.lines_left}
 use Rattle.script_player.proofs.ScriptLemmas.{at-line, fewer, one-more, still-on, cut-before, cut-inside, line-ends, stopped-so}
 use Rattle.script_player.proofs.LineLemmas.{texts}

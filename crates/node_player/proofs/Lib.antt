@@ -1,0 +1,4 @@
+mod OrderLemmas
+mod LineLemmas
+mod PutLemmas
+mod RoleLemmas

@@ -1,0 +1,62 @@
+-- An answer that is written in parts.
+use Rattle.std.proofs.Common.{◌≡◌, ℕ, List, [], ◌++◌, Result, Ok, Err, false, append_assoc, ◌∙◌, ap, refl, ◌∷◌, ◌/◌, ◌%◌, ◌+◌, ◌<◌, length, suc, sym, take, drop, get_or, add-one}
+use Rattle.std.proofs.{lemmas.{List.take-append-drop, Grind.flat_map-append}, Math.Seq.drop-cons}
+use Rattle.pair_history.specs.Entries.{Frame}
+use Rattle.node_player.specs.Printed.{frame_line, frame_lines}
+use Rattle.std.specs.Prelude.{slice_index}
+use Rattle.hex.specs.Hex.{encode_with}
+use Rattle.std.proofs.KnownBytes.{Appends-nil, Appends-trans}
+use Rattle.script_player.specs.Streams.{Writing, Writes, WritesFront, IsPut}
+use Rattle.script_player.proofs.ScriptLemmas.{front-after}
+use Rattle.node_player.specs.internal.Puts.{HasPut}
+
+pub put-none : (o : Writing) → HasPut o o []
+put-none o = record { all = Appends-nil o.bytes; well = λ e. e }
+
+-- more is to be written than what failed
+pub front-longer : (o o' : Writing) (text : List ℕ) (more : List ℕ) → WritesFront o o' text → WritesFront o o' (text ++ more)
+front-longer o o' text more w = record {
+  front = (
+    w.front.0,
+    w.front.1 ++ more,
+    ap (λ t. t ++ more) w.front.2 ∙ append_assoc w.front.0 w.front.1 more,
+    w.front.3,
+  );
+  badly = w.badly;
+}
+
+module _ {o m : Writing} {text : List ℕ} (before : HasPut o m text) where
+  -- a part more
+  pub put-more : (o' : Writing) (part : List ℕ) → Writes m o' part × (m.failed ≡ false) → HasPut o o' (text ++ part)
+  put-more o' part put = record {
+    all = Appends-trans o.bytes m.bytes o'.bytes text part before.all put.0.all;
+    well = λ e. before.well put.1;
+  }
+
+  -- the last part
+  pub put-last : {T E : Type 0} (o' : Writing) (part : List ℕ) (r : Result T E) → IsPut m o' r part → IsPut o o' r (text ++ part)
+  put-last o' part (Ok done) put = (
+    record { all = Appends-trans o.bytes m.bytes o'.bytes text part before.all put.0.all; well = put.0.well },
+    before.well put.1,
+  )
+  put-last o' part (Err e) put = front-after o m o' text before.all part put
+
+  -- a write fails
+  pub put-failed : (o' : Writing) (part more : List ℕ) → WritesFront m o' part → WritesFront o o' (text ++ (part ++ more))
+  put-failed o' part more w = front-after o m o' text before.all (part ++ more) (front-longer m o' part more w)
+
+-- ---- digits and frames
+
+pub digits-append : (digits xs ys : List ℕ) → encode_with digits (xs ++ ys) ≡ encode_with digits xs ++ encode_with digits ys
+unfolding encode_with
+digits-append digits [] ys = refl
+digits-append digits (x ∷ xs) ys =
+    ap (λ t. slice_index digits (x / 16) ∷ slice_index digits (x % 16) ∷ t) (digits-append digits xs ys)
+
+-- frames up to one, that one, and those after it
+pub lines-from : (frames : List Frame) (i : ℕ) (frame : Frame) → i < length frames → get_or frames i frame ≡ frame
+    → frame_lines frames ≡ frame_lines (take i frames) ++ (frame_line frame ++ frame_lines (drop (i + 1) frames))
+lines-from frames i frame low is =
+    let back : drop i frames ≡ frame ∷ drop (i + 1) frames = rw (add-one, drop-cons frames i frame) (ap (λ f. f ∷ drop (suc i) frames) is) in
+    ap frame_lines (sym (take-append-drop i frames)) ∙ flat_map-append frame_line (take i frames) (drop i frames)
+    ∙ ap (λ t. frame_lines (take i frames) ++ frame_lines t) back

@@ -1,0 +1,38 @@
+-- What a node answers, by what it is.
+use Rattle.std.proofs.Common.{◌≡◌, ℕ, List, Option, Some, None, Result, Ok, Err, IfOk, refl, ap, ◌∙◌}
+use Rattle.guest_machine.specs.declared.shapes.Shape.{Shape}
+use Rattle.pair_record.specs.declared.event.Refusal.TheVariants.{AlreadyPaired}
+use Rattle.pair_nodes.specs.{PrimaryCalls.booted_primary, Sides.Primary}
+use Rattle.script_player.specs.{Boot.BootLine, Guests.guest_image, Printed.refusal_line}
+use Rattle.node_player.specs.{AtNothing.IsBooted, Lines.{boot, order}, Meaning.{Answers, node_sector}, Printed.sector_answer}
+use Rattle.node_player.specs.Nodes.{Node, nothing, primary, standby, node_of}
+use Rattle.node_player.specs.declared.role.Role.{Role}
+use Rattle.node_player.specs.declared.role.Role.TheVariants as roles
+use Rattle.node_player.specs.declared.orders.Order.TheVariants.{Standby, Sector}
+
+-- a node that is something already doesn't begin
+pub boots-once : (role : Role) (line : BootLine) → (role ≡ roles.Nothing → ⊥)
+    → Answers (node_of role) (boot line) (refusal_line AlreadyPaired) (node_of role)
+boots-once roles.Nothing line some = absurd (some refl)
+boots-once (roles.Primary p) line some = (p, (refl, refl), refl)
+boots-once (roles.Standby b) line some = (refl, refl)
+
+pub waits-once : (role : Role) (pages sectors generation : ℕ) → (role ≡ roles.Nothing → ⊥)
+    → Answers (node_of role) (order (Standby pages sectors generation)) (refusal_line AlreadyPaired) (node_of role)
+waits-once roles.Nothing pages sectors generation some = absurd (some refl)
+waits-once (roles.Primary p) pages sectors generation some = (p, (refl, refl), refl)
+waits-once (roles.Standby b) pages sectors generation some = (refl, refl)
+
+pub booted-so : {E : Type 0} (r : Result Primary E) (line : BootLine) (shape : Shape) (image : List ℕ)
+    → shape.pages ≡ line.pages → shape.sectors ≡ line.sectors → image ≡ guest_image line.guest
+    → IfOk r (λ p. p ≡ booted_primary shape image) → IfOk r (IsBooted line)
+booted-so (Ok p) line shape image pages sectors bytes is =
+    record { shape = shape; pages = pages; sectors = sectors; primary_is = is ∙ ap (booted_primary shape) bytes }
+booted-so (Err e) line shape image pages sectors bytes is = tt
+
+-- a sector is printed, or a bad line's answer
+pub sector-so : (node : Node) (sector : ℕ) (found : Option (List ℕ)) → found ≡ node_sector node sector
+    → Answers node (order (Sector sector)) (sector_answer sector found) node
+sector-so nothing sector found e = (ap (sector_answer sector) e, refl)
+sector-so (primary p) sector found e = (p, (ap (sector_answer sector) e, refl), refl)
+sector-so (standby b) sector found e = (ap (sector_answer sector) e, refl)

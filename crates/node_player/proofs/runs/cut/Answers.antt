@@ -1,0 +1,5 @@
+use Rattle.std.proofs.Common.{refl}
+use Rattle.node_player.proofs.runs.cut.Goals as goal
+
+pub returns-in-Primary : goal.returns-in-Primary
+returns-in-Primary g c = let said = c.cut_epoch.ensures in (said.0, said.1, rw c.in-Primary.is (c.cut_epoch.new.primary, said.2, refl))

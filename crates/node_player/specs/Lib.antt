@@ -1,0 +1,11 @@
+pub mod internal
+pub mod Limits
+pub mod Orders
+pub mod Lines
+pub mod Nodes
+pub mod Outcomes
+pub mod Printed
+pub mod AtNothing
+pub mod AtPrimary
+pub mod AtStandby
+pub mod Meaning

@@ -1,0 +1,40 @@
+-- What the lines of a node mean: how each is answered, and what the node is after it (docs/NODES.md, "Lines").
+use Rattle.std.specs.Prelude.{◌≡◌, ℕ, true, false, List, [], Option, None}
+use Rattle.script_player.specs.Meaning.{is_silent}
+use Rattle.script_player.specs.Session.{bad_answer, memory_answer, IsServed}
+use Rattle.script_player.specs.Streams.{Reading, Writing}
+use Rattle.pair_nodes.specs.Sides.{Primary}
+use Rattle.node_player.specs.AtNothing.{AtNothing}
+use Rattle.node_player.specs.AtPrimary.{AtPrimary}
+use Rattle.node_player.specs.AtStandby.{AtStandby, image_sector}
+use Rattle.node_player.specs.Lines.{Line, IsLine, WantsMemory}
+use Rattle.node_player.specs.Nodes.{Node, nothing, primary, standby}
+use Rattle.node_player.specs.Printed.{sector_named}
+
+-- the sector that a line's number names, none where the node has no guest or its disk no such sector
+abbrev pub node_sector : Node → ℕ → Option (List ℕ)
+node_sector nothing sector = None
+node_sector (primary p) sector = sector_named p.live.guest.sectors sector
+node_sector (standby b) sector = image_sector b sector
+
+-- A line is answered so.
+abbrev pub Answers : Node → Line → List ℕ → Node → Type 0
+Answers nothing line printed new = AtNothing line printed new
+Answers (primary p) line printed new = (q : Primary) × AtPrimary p line printed q × (new ≡ primary q)
+Answers (standby b) line printed new = AtStandby b line printed new
+
+-- How a line is answered that a session keeps, and the node after it.
+pub data PlaysLine (node : Node) (text printed : List ℕ) (next : Node) : Type 0 where
+  -- an empty line, or a comment
+  is_silence : is_silent text ≡ true → printed ≡ [] → next ≡ node → PlaysLine node text printed next
+  answers : (line : Line) → is_silent text ≡ false → IsLine text line → Answers node line printed next → PlaysLine node text printed next
+  -- it spells no line, and changes nothing
+  is_bad : is_silent text ≡ false → ((line : Line) → IsLine text line → ⊥) → printed ≡ bad_answer → next ≡ node
+      → PlaysLine node text printed next
+  -- its program or its bytes find no memory, which changes nothing
+  finds_no_memory : (line : Line) → is_silent text ≡ false → IsLine text line → WantsMemory line → printed ≡ memory_answer → next ≡ node
+      → PlaysLine node text printed next
+
+-- What a node has read and printed when it ends, and its exit status: each line was answered as it came.
+abbrev pub IsNode : Reading → Reading → Writing → Writing → ℕ → Type 0
+IsNode input input' out out' status = IsServed PlaysLine nothing input input' out out' status

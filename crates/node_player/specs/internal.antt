@@ -1,0 +1,3 @@
+-- what only private functions and proofs cite
+pub mod Puts
+pub mod Limited

@@ -1,0 +1,95 @@
+//! How a node begins: as a primary that boots a guest, or as a standby.
+
+ghost use Rattle.std.specs.Prelude.{◌≤◌, IfOk};
+ghost use Rattle.node_player.specs.AtNothing.{IsBooted};
+ghost use Rattle.node_player.specs.Limits.{last_generation};
+ghost use Rattle.node_player.specs.Lines.{boot, order};
+ghost use Rattle.node_player.specs.Meaning.{Answers};
+ghost use Rattle.node_player.specs.Nodes.{node_of};
+ghost use Rattle.node_player.specs.declared.orders.Order.TheVariants.{Standby};
+ghost use Rattle.script_player.specs.Boot.{IsInLimits, boot_line};
+ghost use Rattle.script_player.specs.Session.{IsAnswered};
+
+use crate::printing::{refuse, tell, tell_number};
+use crate::role::Role;
+use memory_wanted::MemoryWanted;
+use pair_core::{Refusal, Shape};
+use pair_nodes::{PrimaryNode, StandbyNode};
+use script_player::boot::Boot;
+use script_player::player::image;
+use script_player::session::put_refusal;
+use script_player::streams::{Failed, Sink};
+use std::alloc::Global;
+
+/// The node boots the guest of a boot line: it is a primary that is alone.
+///
+/// # Errors
+///
+/// Where a write fails.
+pub fn boot<O: Sink>(
+    alloc: Global,
+    role: &mut Role,
+    line: &Boot,
+    out: &mut O,
+) -> Result<(), Failed>
+    requires { IsInLimits (boot_line line.now) }
+    ensures { IsAnswered (Answers (node_of role.old) (boot (boot_line line.now))) (O.written out.old) (O.written out.new) result
+        (node_of role.new) }
+{
+    let Role::Nothing = role else {
+        return refuse(Refusal::AlreadyPaired, out);
+    };
+    match boot_guest(alloc, line) {
+        Ok(primary) => {
+            *role = Role::Primary(primary);
+            tell(out, "booted")
+        }
+        Err(wanted) => put_refusal(wanted, out),
+    }
+}
+
+/// A primary that is alone, of the guest of a boot line.
+///
+/// # Errors
+///
+/// Where there is no memory for it.
+fn boot_guest(alloc: Global, line: &Boot) -> Result<PrimaryNode, MemoryWanted>
+    requires { IsInLimits (boot_line line.now) }
+    ensures { IfOk result (IsBooted (boot_line line.now)) }
+{
+    let shape = Shape {
+        pages: line.pages,
+        sectors: line.sectors,
+    };
+    let image = image(alloc, line)?;
+    PrimaryNode::boot(alloc, shape, image.as_slice())
+}
+
+/// The node is a standby for a guest of this shape, and takes checkpoints of this generation.
+///
+/// # Errors
+///
+/// Where a write fails.
+pub fn wait<O: Sink>(
+    alloc: Global,
+    role: &mut Role,
+    shape: Shape,
+    generation: u64,
+    out: &mut O,
+) -> Result<(), Failed>
+    requires first { 1 ≤ generation }
+    requires last { generation ≤ last_generation }
+    ensures { IsAnswered (Answers (node_of role.old) (order (Standby shape.pages shape.sectors generation))) (O.written out.old)
+        (O.written out.new) result (node_of role.new) }
+{
+    let Role::Nothing = role else {
+        return refuse(Refusal::AlreadyPaired, out);
+    };
+    match StandbyNode::new(alloc, shape, generation) {
+        Ok(standby) => {
+            *role = Role::Standby(standby);
+            tell_number(out, "waiting", generation)
+        }
+        Err(wanted) => put_refusal(wanted, out),
+    }
+}

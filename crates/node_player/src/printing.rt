@@ -1,0 +1,182 @@
+//! What a node prints that a script doesn't: answers with frames or with a part of a checkpoint's text, and lines of its own.
+
+ghost use Rattle.std.specs.Prelude.{◌≡◌, ◌≤◌, ◌*◌, ◌∷◌, [], length, codes, decimal};
+ghost use Rattle.hex.specs.Hex.{encode_lower};
+ghost use Rattle.node_player.specs.Printed.{cut_line, frame_line, frame_lines, malformed_line, show_line, text_line};
+ghost use Rattle.script_player.specs.Printed.{line, refusal_line};
+ghost use Rattle.script_player.specs.Streams.{IsPut};
+
+use pair_core::{Frame, Refusal};
+use script_player::replies::{write_frame, write_number, write_refusal, write_words};
+use script_player::streams::{Failed, Sink};
+use script_player::text::{Text, add, add_end, add_number, add_word};
+
+/// Bytes that are turned into digits at once, at most.
+const CHUNK_BYTES: usize = 16384;
+
+/// Prints why a line is refused.
+///
+/// # Errors
+///
+/// Where a write fails.
+pub fn refuse<O: Sink>(why: Refusal, out: &mut O) -> Result<(), Failed>
+    ensures { IsPut (O.written out.old) (O.written out.new) result (refusal_line why) }
+{
+    let mut text = Text::new();
+    write_refusal(&mut text, &why);
+    out.put(text.as_slice())
+}
+
+/// Prints a line of words alone.
+///
+/// # Errors
+///
+/// Where a write fails.
+pub fn tell<O: Sink>(out: &mut O, words: &str) -> Result<(), Failed>
+    requires { length words.now ≤ 20 }
+    ensures { IsPut (O.written out.old) (O.written out.new) result (line (words.now ∷ [])) }
+{
+    let mut text = Text::new();
+    write_words(&mut text, words);
+    out.put(text.as_slice())
+}
+
+/// Prints a word and a number.
+///
+/// # Errors
+///
+/// Where a write fails.
+pub fn tell_number<O: Sink>(out: &mut O, word: &str, number: u64) -> Result<(), Failed>
+    requires { length word.now ≤ 20 }
+    ensures { IsPut (O.written out.old) (O.written out.new) result (line (word.now ∷ decimal number ∷ [])) }
+{
+    let mut text = Text::new();
+    write_number(&mut text, word, number);
+    out.put(text.as_slice())
+}
+
+/// Prints a line for each frame.
+///
+/// # Errors
+///
+/// Where a write fails.
+pub fn put_frames<O: Sink>(out: &mut O, frames: &[Frame]) -> Result<(), Failed>
+    ensures { IsPut (O.written out.old) (O.written out.new) result (frame_lines frames.now) }
+{
+    for frame in frames {
+        put_frame(out, frame)?;
+    }
+    out.put(b"")
+}
+
+/// Prints a frame's line.
+///
+/// # Errors
+///
+/// Where a write fails.
+fn put_frame<O: Sink>(out: &mut O, frame: &Frame) -> Result<(), Failed>
+    ensures { IsPut (O.written out.old) (O.written out.new) result (frame_line frame.now) }
+{
+    let mut text = Text::new();
+    write_frame(&mut text, frame);
+    out.put(text.as_slice())
+}
+
+/// Prints a part of a checkpoint's text.
+///
+/// # Errors
+///
+/// Where a write fails.
+pub fn put_text<O: Sink>(out: &mut O, bytes: &[u8]) -> Result<(), Failed>
+    ensures { IsPut (O.written out.old) (O.written out.new) result (text_line bytes.now) }
+{
+    out.put(b"text ")?;
+    put_hex(out, bytes)?;
+    out.put(b"\n")
+}
+
+/// Prints bytes, each as two digits.
+///
+/// # Errors
+///
+/// Where a write fails.
+fn put_hex<O: Sink>(out: &mut O, bytes: &[u8]) -> Result<(), Failed>
+    ensures { IsPut (O.written out.old) (O.written out.new) result (encode_lower bytes.now) }
+{
+    let mut rest = bytes;
+    while rest.len() > CHUNK_BYTES {
+        let (chunk, others) = rest.split_at(CHUNK_BYTES);
+        put_digits(out, chunk)?;
+        rest = others;
+    }
+    put_digits(out, rest)
+}
+
+/// Prints a chunk of bytes, each as two digits.
+///
+/// # Errors
+///
+/// Where a write fails.
+fn put_digits<O: Sink>(out: &mut O, chunk: &[u8]) -> Result<(), Failed>
+    requires { length chunk.now ≤ 16384 }
+    ensures { IsPut (O.written out.old) (O.written out.new) result (encode_lower chunk.now) }
+{
+    let mut digits = [0; 2 * CHUNK_BYTES];
+    let hex = &mut digits[..2 * chunk.len()];
+    hex::encode_to_slice(chunk, hex).unwrap();
+    out.put(hex)
+}
+
+/// Prints up to which checkpoint all are acknowledged, and how many frames are let out.
+pub fn write_acked(text: &mut Text, generation: u64, number: u64, frames: u64)
+    requires { text.old.items ≡ [] }
+    ensures { text.new.items ≡ line (codes "acked" ∷ decimal generation ∷ decimal number ∷ codes "frames" ∷ decimal frames ∷ []) }
+{
+    add(text, b"acked");
+    add_number(text, generation);
+    add_number(text, number);
+    add(text, b" frames");
+    add_number(text, frames);
+    add_end(text);
+}
+
+/// Prints which checkpoint was cut, and how many bytes its text has.
+pub fn write_cut(text: &mut Text, generation: u64, number: u64, bytes: u64)
+    requires { text.old.items ≡ [] }
+    ensures { text.new.items ≡ cut_line generation number bytes }
+{
+    add(text, b"cut");
+    add_number(text, generation);
+    add_number(text, number);
+    add_number(text, bytes);
+    add_end(text);
+}
+
+/// Prints where a checkpoint's text is malformed.
+pub fn write_malformed(text: &mut Text, offset: u64)
+    requires { text.old.items ≡ [] }
+    ensures { text.new.items ≡ malformed_line offset }
+{
+    add(text, b"refused");
+    add_number(text, 11);
+    add(text, b" Malformed");
+    add_number(text, offset);
+    add_end(text);
+}
+
+/// Prints the state in one line.
+pub fn write_state(text: &mut Text, word: &str, generation: u64, pending: u64, steps: u64)
+    requires empty { text.old.items ≡ [] }
+    requires short { length word.now ≤ 20 }
+    ensures { text.new.items ≡ show_line word.now generation pending steps }
+{
+    add(text, b"mode");
+    add_word(text, word);
+    add(text, b" generation");
+    add_number(text, generation);
+    add(text, b" pending");
+    add_number(text, pending);
+    add(text, b" steps");
+    add_number(text, steps);
+    add_end(text);
+}

@@ -1,0 +1,4 @@
+use Rattle.script_player.proofs.live.live.Goals as goal
+
+pub returns : goal.returns
+returns g c = rw c.new-pair.ensures at c.serve.ensures

@@ -1,0 +1,210 @@
+//! A session: lines are played as they come, and each is answered before more is read.
+
+ghost use Rattle.std.specs.Prelude.{◌++◌, ◌<◌, ℕ, List, [], length};
+ghost use Rattle.script_player.specs.Session.{IsAnswered, IsServed, memory_answer};
+ghost use Rattle.script_player.specs.Streams.{IsPut};
+ghost use Rattle.script_player.specs.internal.Serving.{IsAnswerTo, IsFed, IsKept, Holds, status_of};
+
+use crate::limits::MOST_LINE_BYTES;
+use crate::replies::write_refusal;
+use crate::sim::first_line;
+use crate::streams::{Failed, Sink, Source};
+use crate::text::Text;
+use memory_wanted::{MemoryWanted, extend_from_slice};
+use pair_core::Refusal;
+use std::alloc::Global;
+use std::mem;
+
+/// Bytes that are read at once, at most.
+const PIECE_BYTES: usize = 8192;
+
+/// What a bad line prints.
+pub const BAD: &[u8] = b"bad\n";
+
+/// What plays lines.
+pub trait LinePlayer {
+    ghost use Rattle.std.specs.Prelude.{ℕ, List};
+
+    /// How a line is answered that is kept: the player, the line, what is printed, and the player after it.
+    ghost plays: { Self → List ℕ → List ℕ → Self → Type 0 };
+
+    /// Plays a line, and prints the answer on `out`.
+    ///
+    /// # Errors
+    ///
+    /// Where a write fails.
+    fn play<O: Sink>(&mut self, line: &[u8], out: &mut O) -> Result<(), Failed>
+        ensures { IsAnswered (plays self.old line.now) (O.written out.old) (O.written out.new) result self.new };
+}
+
+/// Plays the lines of `input` as they come, and prints the answers on `out`: each is written out before more is read. Answers the exit
+/// status: 0 at the end of the input, or 1 where a read or a write failed.
+pub fn serve<S: Source, P: LinePlayer, O: Sink>(
+    alloc: Global,
+    input: &mut S,
+    player: &mut P,
+    out: &mut O,
+) -> u8
+    ensures { IsServed P.plays player.old (S.reading input.old) (S.reading input.new) (O.written out.old) (O.written out.new) result }
+{
+    match serve_all(alloc, input, player, out) {
+        Ok(()) => 0,
+        Err(Failed) => 1,
+    }
+}
+
+/// Plays the lines up to the end of the input.
+///
+/// # Errors
+///
+/// Where a read or a write fails.
+fn serve_all<S: Source, P: LinePlayer, O: Sink>(
+    alloc: Global,
+    input: &mut S,
+    player: &mut P,
+    out: &mut O,
+) -> Result<(), Failed>
+    ensures { IsServed P.plays player.old (S.reading input.old) (S.reading input.new) (O.written out.old) (O.written out.new)
+        (status_of result) }
+{
+    let mut line = OpenLine::new(alloc);
+    let mut piece = [0; PIECE_BYTES];
+    loop {
+        let count = input.read(&mut piece)?;
+        if count == 0 {
+            return answer(alloc, player, &mut line, out);
+        }
+        feed(alloc, player, &mut line, &piece[..count], out)?;
+    }
+}
+
+/// Goes on with these bytes: answers each line that ends in them.
+///
+/// # Errors
+///
+/// Where a write fails.
+fn feed<P: LinePlayer, O: Sink>(
+    alloc: Global,
+    player: &mut P,
+    line: &mut OpenLine,
+    bytes: &[u8],
+    out: &mut O,
+) -> Result<(), Failed>
+    ensures { IsFed P.plays player.old line.old bytes.now player.new line.new (O.written out.old) (O.written out.new) result }
+{
+    let mut left = Some(bytes);
+    while let Some(text) = left {
+        let (piece, rest) = first_line(text);
+        line.add(piece);
+        if rest.is_some() {
+            answer(alloc, player, line, out)?;
+        }
+        left = rest;
+    }
+    Ok(())
+}
+
+/// Answers the line, and begins another.
+///
+/// # Errors
+///
+/// Where a write fails.
+fn answer<P: LinePlayer, O: Sink>(
+    alloc: Global,
+    player: &mut P,
+    line: &mut OpenLine,
+    out: &mut O,
+) -> Result<(), Failed>
+    ensures begins { Holds line.new [] }
+    ensures answers { IsAnswerTo P.plays line.old player.old player.new (O.written out.old) (O.written out.new) result }
+{
+    let whole = mem::replace(line, OpenLine::new(alloc));
+    reply(player, whole, out)?;
+    out.show()
+}
+
+/// Plays a line.
+///
+/// # Errors
+///
+/// Where a write fails.
+fn reply<P: LinePlayer, O: Sink>(player: &mut P, line: OpenLine, out: &mut O) -> Result<(), Failed>
+    ensures { IsAnswerTo P.plays line player.old player.new (O.written out.old) (O.written out.new) result }
+{
+    let OpenLine { bytes, fate } = line;
+    match fate {
+        Fate::Kept => player.play(bytes.as_slice(), out),
+        Fate::TooLong => out.put(BAD),
+        Fate::NoMemory(wanted) => put_refusal(wanted, out),
+    }
+}
+
+/// Prints that there is no memory.
+///
+/// # Errors
+///
+/// Where a write fails.
+pub fn put_refusal<O: Sink>(wanted: MemoryWanted, out: &mut O) -> Result<(), Failed>
+    ensures { IsPut (O.written out.old) (O.written out.new) result memory_answer }
+{
+    let mut text = Text::new();
+    write_refusal(&mut text, &Refusal::NoMemory(wanted));
+    out.put(text.as_slice())
+}
+
+/// What became of the bytes of a line.
+#[derive(Debug, Drop, PartialEq, Eq)]
+enum Fate {
+    /// They are kept.
+    Kept,
+    /// They are more than a line may have, and are read past.
+    TooLong,
+    /// There is no memory to keep them in, and they are read past.
+    NoMemory(MemoryWanted),
+}
+
+/// A line of which the newline hasn't come.
+#[derive(Drop)]
+struct OpenLine {
+    /// Its bytes so far, where they are kept.
+    bytes: Vec<u8>,
+    fate: Fate,
+}
+
+impl OpenLine {
+    /// One without bytes.
+    fn new(alloc: Global) -> OpenLine
+        ensures { Holds result [] }
+    {
+        OpenLine {
+            bytes: Vec::new(alloc),
+            fate: Fate::Kept,
+        }
+    }
+
+    /// Adds bytes to the line.
+    fn add(&mut self, bytes: &[u8])
+        ensures { (text : List ℕ) → Holds self.old text → Holds self.new (text ++ bytes.now) }
+    {
+        if bytes.is_empty() {
+            return;
+        }
+        if let Fate::Kept = self.fate {
+            self.fate = keep(&mut self.bytes, bytes);
+        }
+    }
+}
+
+/// Adds bytes to those of a line. Says whether they are all kept.
+fn keep(line: &mut Vec<u8>, bytes: &[u8]) -> Fate
+    requires some { 0 < length bytes.now }
+    ensures { IsKept (line.old.items ++ bytes.now) line.new.items result }
+{
+    if bytes.len() > MOST_LINE_BYTES.saturating_sub(line.len()) {
+        return Fate::TooLong;
+    }
+    match extend_from_slice(line, bytes) {
+        Ok(()) => Fate::Kept,
+        Err(wanted) => Fate::NoMemory(wanted),
+    }
+}
