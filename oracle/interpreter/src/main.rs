@@ -3,7 +3,7 @@
 //!
 //! `interpreter run WORDS STEPS` runs the words of a file for so many steps, and prints its registers and the speed.
 //! `interpreter until WORDS MOST` runs until the guest jumps to itself, and says after how many steps that is.
-//! `interpreter sim SCRIPT` plays a script of `remus sim` whose guest is given as words.
+//! `interpreter sim SCRIPT` plays a script of `remus sim`.
 //! `interpreter node` is `remus node`, whose lines and answers docs/NODES.md has.
 //! `interpreter copy BYTES TIMES` copies so many bytes in memory so often.
 //! `interpreter frames FILE PAGES SECTORS ROUNDS` encodes and reads the checkpoint of a file, of such a machine, again and again, and prints
@@ -217,20 +217,17 @@ fn sim(file: &str) {
 }
 
 fn boot(line: &str) -> Option<Pair> {
-    let mut words = line.splitn(6, ' ');
-    if words.next()? != "boot" {
+    let fields: Vec<&str> = line.split(' ').collect();
+    let ["boot", pages, sectors, clients, guest @ ..] = &fields[..] else {
         return None;
-    }
-    let mut number = || words.next()?.parse::<u64>().ok();
-    let (pages, sectors, clients) = (number()?, number()?, number()?);
-    if words.next()? != "words" {
-        return None;
-    }
+    };
+    let [pages, sectors, clients] =
+        [pages, sectors, clients].map(|number| number.parse::<u64>().ok());
     Some(Pair::boot(
-        pages as usize,
-        sectors as usize,
-        clients,
-        &words_of(words.next()?),
+        pages? as usize,
+        sectors? as usize,
+        clients?,
+        &guests::words(guest, pages?)?,
     ))
 }
 
