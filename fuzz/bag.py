@@ -1,6 +1,6 @@
-"""Runs of two nodes under a bag of messages: texts and acknowledgements that are lost, doubled, late, broken off in mid-text, or of an older
-generation, while hosts stop and new standbys come. Each line's answer is that of oracle/nodes.py, which the generator plays as it writes.
-Beside the lines of each host stands what the pair of docs/PROTOCOL.md does meanwhile, as a script for `remus sim`."""
+"""Runs of two nodes under a bag of messages: texts and acknowledgements that are lost, doubled, late, broken off in mid-text, or of an
+older generation, while hosts stop and new standbys come. Each line's answer is that of oracle/nodes.py, which the generator plays as it
+writes. Beside the lines of each host stands what the pair of docs/PROTOCOL.md does meanwhile, as a script for `remus sim`."""
 from dataclasses import dataclass, field
 
 from fuzz.spellings import COMMENTS
@@ -112,10 +112,10 @@ class Run:
     def boot(self):
         rng = self.rng
         self.sectors, self.clients = rng.choice([1, 1, 2, 8]), rng.choice([1, 2, 2, 3, 16])
+        sender = Sender(rng.choices(range(4), k=8), rng.choice([1, 1, 2, 5, 64]), rng.choice([0, 4, 30]))
         self.pages, guest = rng.choice([
             (2, b"beacon"), (2, b"idle"), (2, b"disk %d %02x" % (rng.randrange(self.sectors + 1), rng.randrange(256))),
-            *[(rng.choice([1, 2]), b"words " + Sender(rng.choices(range(4), k=8), rng.choice([1, 1, 2, 5, 64]), rng.choice([0, 4, 30])).words())] * 3,
-            *[(mirror.PAGES, b"words " + mirror.words())] * 3])
+            *[(rng.choice([1, 2]), b"words " + sender.words())] * 3, *[(mirror.PAGES, b"words " + mirror.words())] * 3])
         self.is_mirror = self.pages == mirror.PAGES
         line = b"boot %d %d %d %s" % (self.pages, self.sectors, self.clients, guest)
         self.primary, self.script = self.host(), Script(line, self.clients)

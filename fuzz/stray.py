@@ -2,26 +2,29 @@
 from fuzz.bag import CARD, Host
 from fuzz.spellings import BAD_LINES, COMMENTS, GREATEST, NO_HEX, NO_NUMBERS, TOO_BIG
 from oracle import checkpoints
-from oracle.nodes import END, Node
+from oracle.nodes import END, Node, Standby
 
 BOOTS = [b"boot 2 1 1 beacon", b"boot 2 8 2 disk 3 ab", b"boot 1 1 16 idle", b"boot 2 2 1 words 0000006f"]
 SHAPES = [(2, 1), (2, 8), (1, 1), (2, 2)]
 GENERATIONS = [1, 1, 2, 3, END - 2, END - 1]
 NUMBERS = [0, 0, 1, 2, 3, 4, 5, END - 1, END, 2**64 - 1]
 WORDS = b"boot standby arrive step cut text ack alone protect piece commit restart golive show sector".split()
-BAD = [b"boot 2 1 1", b"boot 0 1 1 idle", b"boot 1 1 1 beacon", b"boot 2 1 17 idle", b"boot 16385 1 1 idle", b"boot 2 32769 1 idle",
-       b"standby", b"standby 2 1", b"standby 2 1 0", b"standby 2 1 %d" % END, b"standby 0 1 1", b"standby 2 0 1", b"standby 16385 1 1",
-       b"standby 2 32769 1", b"standby 2 1 1 1", b"arrive", b"arrive ", b"step", b"step 0", b"step 1 1", b"cut 1", b"cut ", b"text", b"text 1",
-       b"text 1 0", b"text 1 0 0 0", b"text 1  0 0", b"text a 0 1", b"ack", b"ack 1", b"ack 1 1 1", b"ack 1 -1", b"alone 1", b"alones",
-       b"protect 1", b"piece", b"piece ", b"piece 0", b"piece AB", b"piece 00 00", b"commit 1", b"commits", b"restart 1", b"golive 1",
-       b"go live", b"show 1", b"sector", b"sector 0 0", b"sector 99", b"Show", b" show", b"show ", b"show\r", b"show\0", b"nodes"]
+# Those that mostly do something at a standby, and elsewhere.
+OF_A_STANDBY = b"piece piece commit commit commit restart golive sector".split()
+OF_A_PRIMARY = b"arrive step cut cut text ack ack protect protect sector".split()
+BAD = (
+    b"boot 2 1 1|boot 0 1 1 idle|boot 1 1 1 beacon|boot 2 1 17 idle|boot 16385 1 1 idle|boot 2 32769 1 idle|standby|standby 2 1|"
+    b"standby 2 1 0|standby 2 1 4611686018427387904|standby 0 1 1|standby 2 0 1|standby 16385 1 1|standby 2 32769 1|standby 2 1 1 1|arrive|"
+    b"arrive |step|step 0|step 1 1|cut 1|cut |text|text 1|text 1 0|text 1 0 0 0|text 1  0 0|text a 0 1|ack|ack 1|ack 1 1 1|ack 1 -1|"
+    b"alone 1|alones|protect 1|piece|piece |piece 0|piece AB|piece 00 00|commit 1|commits|restart 1|golive 1|go live|show 1|sector|"
+    b"sector 0 0|sector 99|Show| show|show |show\r|show\0|nodes").split(b"|")
 
 
 def texts_of(boot, rng):
     """Texts of a pair of such a guest: of generation 2, and of 3 after a standby that failed."""
     node, found = Node(), []
-    lines = [boot, b"step %d" % rng.randint(1, 30), b"protect", b"step %d" % rng.randint(1, 30), b"cut", b"step 5", b"cut", b"alone", b"protect"]
-    for line in lines:
+    steps = [b"step %d" % rng.randint(1, 30) for _ in range(2)]
+    for line in [boot, steps[0], b"protect", steps[1], b"cut", b"step 5", b"cut", b"alone", b"protect"]:
         node.answer(line)
         if line in (b"protect", b"cut"):
             found.append(node.is_.pending[-1].text)
@@ -61,19 +64,22 @@ def wild(rng):
     begins = [boot, b"standby %s %s %d" % (*boot.split(b" ")[1:3], rng.choice([1, 2, 2, 2, 3, 3, *GENERATIONS]))]
 
     def piece():
-        text = bytearray(rng.choice(texts))
-        if rng.random() < 0.2:
+        wanted = stray.host.node.is_.committed + 1 if isinstance(stray.host.node.is_, Standby) else 0
+        text = bytearray(texts[wanted] if rng.random() < 0.5 and wanted < len(texts) else rng.choice(texts))
+        if rng.random() < 0.1:
             text[rng.randrange(len(text))] = rng.choice([0, 1, 2, 0x40, 0x80, 0xFF])
         return b"piece " + bytes(text[:rng.choice([len(text)] * 4 + [rng.randint(1, len(text))])]).hex().encode()
 
     makes = {
         b"arrive": lambda: b"arrive " + (CARD + rng.randbytes(rng.choice([7, 8, 60, 1508, 1509]))).hex().encode(),
         b"step": lambda: b"step %d" % rng.choice([1, 5, 22, 30]), b"text": lambda: b"text %s %s %s" % (number(), number(), number()),
-        b"ack": lambda: b"ack %d %s" % (rng.choice([1, 2, 2, 2, 3, 3]), number()), b"piece": piece, b"sector": lambda: b"sector %s" % number(),
+        b"ack": lambda: b"ack %d %s" % (rng.choice([1, 2, 2, 2, 3, 3]), number()), b"piece": piece,
+        b"sector": lambda: b"sector %s" % number(),
         b"boot": lambda: rng.choice(BOOTS), b"standby": lambda: b"standby 2 1 %d" % rng.choice(GENERATIONS)}
     stray.ask(rng.choice(begins)) if rng.random() < 0.9 else None
     for _ in range(rng.randint(5, 60)):
-        word = rng.choice(WORDS + [b"piece", b"commit", b"piece", b"commit", b"cut"])
+        useful = OF_A_STANDBY if isinstance(stray.host.node.is_, Standby) else OF_A_PRIMARY
+        word = rng.choice(WORDS if rng.random() < 0.3 else useful)
         stray.ask(makes[word]() if word in makes else word)
         if rng.random() < 0.2:
             stray.ask(rng.choice([rng.choice(BAD), rng.choice(BAD), rng.choice(BAD_LINES), rng.choice(COMMENTS), bad_spelling(rng)]))
@@ -84,9 +90,10 @@ def wild(rng):
 def bad_spelling(rng):
     """A line with a field that is no number, or no hex."""
     bad = rng.choice(NO_NUMBERS + TOO_BIG)
-    fields = rng.choice([[b"step", bad], [b"text", bad, b"0", b"9"], [b"text", b"0", bad, b"9"], [b"text", b"0", b"0", bad], [b"ack", bad, b"0"],
-                         [b"ack", b"1", bad], [b"sector", bad], [b"standby", b"2", b"1", bad], [b"arrive", rng.choice(NO_HEX)],
-                         [b"piece", rng.choice(NO_HEX)], [b"step", b"0" + GREATEST + b"0"]])
+    fields = rng.choice([
+        [b"step", bad], [b"step", b"0" + GREATEST + b"0"], [b"text", bad, b"0", b"9"], [b"text", b"0", bad, b"9"],
+        [b"text", b"0", b"0", bad], [b"ack", bad, b"0"], [b"ack", b"1", bad], [b"sector", bad], [b"standby", b"2", b"1", bad],
+        [b"arrive", rng.choice(NO_HEX)], [b"piece", rng.choice(NO_HEX)]])
     return b" ".join(fields)
 
 

@@ -34,8 +34,8 @@ def run():
     a standby of its own, which stops, and goes on alone."""
     worked = Worked()
     ask, carry = worked.ask, worked.carry
-    ask("primary", "show", "cut", f"boot {mirror.PAGES} 8 1 words {mirror.words().decode()}", "boot 2 1 1 idle", "step 60", FRAME, "arrive 00",
-        "step 30", "show", "cut", "ack 1 0", "protect", "sector 7", "show")
+    ask("primary", "show", "cut", f"boot {mirror.PAGES} 8 1 words {mirror.words().decode()}", "boot 2 1 1 idle", "step 60", FRAME)
+    ask("primary", "arrive 00", "step 30", "show", "cut", "ack 1 0", "protect", "sector 7", "show")
     ask("standby", "show", "piece 52", f"standby {mirror.PAGES} 8 2", "commit", "golive", "sector 0", "show")
     carry(0, 3)
     ask("standby", "commit", "show", "sector 7")
