@@ -125,10 +125,10 @@ class Run:
             self.step(mirror.PAGES * 10)
 
     def machine(self):
-        return self.primary.node.is_.machine
+        return self.primary.node.role.machine
 
     def mode(self):
-        return self.primary.node.is_.mode
+        return self.primary.node.role.mode
 
     # What a primary does.
 
@@ -152,11 +152,11 @@ class Run:
         answer = self.ask(self.primary, b"cut")
         self.script.add(b"cut", " ".join(answer.split(" ")[:3]))
         if answer.startswith("cut"):
-            self.script.send(self.primary.node.is_.generation, [pending.number for pending in self.primary.node.is_.pending])
+            self.script.send(self.primary.node.role.generation, [pending.number for pending in self.primary.node.role.pending])
 
     def read(self):
         """A text is read from the primary, in some parts, and mostly whole; or there is none of that number."""
-        rng, primary = self.rng, self.primary.node.is_
+        rng, primary = self.rng, self.primary.node.role
         if not primary.pending or rng.random() < 0.03:
             self.ask(self.primary, b"text %d 0 5" % rng.choice([0, 1, primary.next, 2**64 - 1]))
             return
@@ -188,18 +188,18 @@ class Run:
     def protect(self):
         answer = self.ask(self.primary, b"protect")
         self.script.add(b"protect", " ".join(answer.split(" ")[:2]))
-        self.script.send(self.primary.node.is_.generation, [0])
+        self.script.send(self.primary.node.role.generation, [0])
 
     # What a standby does.
 
     def stand_by(self):
         self.standby = self.host()
         self.strew(self.standby)
-        self.ask(self.standby, b"standby %d %d %s" % (self.pages, self.sectors, self.number(self.primary.node.is_.generation)))
+        self.ask(self.standby, b"standby %d %d %s" % (self.pages, self.sectors, self.number(self.primary.node.role.generation)))
 
     def begin(self):
         """The standby gets a text: the one that it needs, where there is, or any that ever was on its way."""
-        standby, wanted = self.standby.node.is_, []
+        standby, wanted = self.standby.node.role, []
         if self.rng.random() < 0.7:
             wanted = [text for text in self.texts if (text.generation, text.number) == (standby.generation, standby.committed + 1)]
         self.standby.reading, self.standby.came = self.rng.choice(wanted or self.texts), 0
@@ -216,7 +216,7 @@ class Run:
         more = rng.choice(self.texts).data[:rng.randint(1, 600)] if len(part) == len(left) and text.is_all and rng.random() < 0.1 else b""
         self.ask(host, b"piece " + (part + more).hex().encode())
         host.came += len(part)
-        if host.node.is_.whole:
+        if host.node.role.whole:
             if rng.random() < 0.1:
                 self.ask(host, rng.choice([b"piece 00", b"show"]))
             host.reading = None
@@ -233,7 +233,7 @@ class Run:
 
     def go_live(self):
         """The standby goes on, or there is no guest any more."""
-        dead, standby = self.primary.node.is_, self.standby.node.is_
+        dead, standby = self.primary.node.role, self.standby.node.role
         answer = self.ask(self.standby, b"golive")
         if answer.startswith("refused"):
             self.is_over = True
@@ -247,7 +247,7 @@ class Run:
 
     def strew(self, host):
         """Lines that change nothing: comments, bad lines, those of the other kind of node, and what shows a node."""
-        rng, node = self.rng, host.node.is_
+        rng, node = self.rng, host.node.role
         others = OF_A_STANDBY if host is self.primary else OF_A_PRIMARY
         for _ in range(rng.choice([0, 0, 1, 2])):
             lines = [b"show", b"show", b"sector %d" % rng.randint(0, self.sectors), rng.choice(COMMENTS), b"steps", rng.choice(others)]
@@ -263,7 +263,7 @@ class Run:
         if is_lone:
             acts[self.protect] = 1
         else:
-            pending = len(self.primary.node.is_.pending)
+            pending = len(self.primary.node.role.pending)
             acts[self.cut], acts[self.read] = 2 if pending < MOST_PENDING else 0.2, 2.5 if pending else 0.1
             acts[self.alone if self.is_deaf else self.stop_standby] = 1 if self.is_deaf else 0.12
             if not self.standby and not self.is_deaf:

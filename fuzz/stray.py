@@ -27,7 +27,7 @@ def texts_of(boot, rng):
     for line in [boot, steps[0], b"protect", steps[1], b"cut", b"step 5", b"cut", b"alone", b"protect"]:
         node.answer(line)
         if line in (b"protect", b"cut"):
-            found.append(node.is_.pending[-1].text)
+            found.append(node.role.pending[-1].text)
     return found
 
 
@@ -64,7 +64,7 @@ def wild(rng):
     begins = [boot, b"standby %s %s %d" % (*boot.split(b" ")[1:3], rng.choice([1, 2, 2, 2, 3, 3, *GENERATIONS]))]
 
     def piece():
-        wanted = stray.host.node.is_.committed + 1 if isinstance(stray.host.node.is_, Standby) else 0
+        wanted = stray.host.node.role.committed + 1 if isinstance(stray.host.node.role, Standby) else 0
         text = bytearray(texts[wanted] if rng.random() < 0.5 and wanted < len(texts) else rng.choice(texts))
         if rng.random() < 0.1:
             text[rng.randrange(len(text))] = rng.choice([0, 1, 2, 0x40, 0x80, 0xFF])
@@ -78,7 +78,7 @@ def wild(rng):
         b"boot": lambda: rng.choice(BOOTS), b"standby": lambda: b"standby 2 1 %d" % rng.choice(GENERATIONS)}
     stray.ask(rng.choice(begins)) if rng.random() < 0.9 else None
     for _ in range(rng.randint(5, 60)):
-        useful = OF_A_STANDBY if isinstance(stray.host.node.is_, Standby) else OF_A_PRIMARY
+        useful = OF_A_STANDBY if isinstance(stray.host.node.role, Standby) else OF_A_PRIMARY
         word = rng.choice(WORDS if rng.random() < 0.3 else useful)
         stray.ask(makes[word]() if word in makes else word)
         if rng.random() < 0.2:
@@ -103,7 +103,7 @@ def forged(rng):
     generation = rng.choice(GENERATIONS)
     stray.ask(b"standby %d %d %d" % (*shape, generation))
     for _ in range(rng.choice([1, 1, 2, 4])):
-        standby = stray.host.node.is_
+        standby = stray.host.node.role
         c = checkpoints.random_checkpoint(rng, *shape)
         c.generation = generation if rng.random() < 0.95 else c.generation
         c.number = standby.committed + 1 if rng.random() < 0.85 else c.number
@@ -115,7 +115,7 @@ def forged(rng):
             text[rng.randrange(len(text))] = rng.choice([0, 1, 2, 0x40, 0x80, 0xFF])
         stray.feed(bytes(text))
         stray.ask(b"commit")
-        if stray.host.node.is_.malformed is not None:
+        if stray.host.node.role.malformed is not None:
             stray.ask(b"piece 00")
             stray.ask(b"restart")
         stray.ask(b"sector %d" % rng.randrange(shape[1] + 1))

@@ -19,7 +19,7 @@ class Worked:
 
     def carry(self, number, parts, primary="primary", standby="standby"):
         """The text of a pending checkpoint goes from one host to the other, in so many parts."""
-        pending = self.nodes[primary].is_.pending
+        pending = self.nodes[primary].role.pending
         length = next(len(waiting.text) for waiting in pending if waiting.number == number)
         count = -(-length // parts)
         for at in range(0, length, count):

@@ -283,7 +283,7 @@ class Node:
     """A node, as its process plays it."""
 
     def __init__(self):
-        self.is_ = None  # a Primary, a Standby, or nothing yet
+        self.role = None  # a Primary, a Standby, or nothing yet
 
     def answer(self, line):
         """What the line prints, without its last newline; None: nothing."""
@@ -318,14 +318,14 @@ class Node:
         raise Bad
 
     def of_kind(self, kind, refusal):
-        if self.is_ is None:
+        if self.role is None:
             raise Refused(NO_IMAGE)
-        if not isinstance(self.is_, kind):
+        if not isinstance(self.role, kind):
             raise Refused(refusal)
-        return self.is_
+        return self.role
 
     def need_nothing(self):
-        if self.is_:
+        if self.role:
             raise Refused(ALREADY_PAIRED)
 
     def boot(self, fields):
@@ -335,13 +335,13 @@ class Node:
         in_range(number(fields[2]), 1, MOST_CLIENTS)
         words = guest_words(fields[3:], pages)
         self.need_nothing()
-        self.is_ = Primary(Machine(pages, sectors, words), 1)
+        self.role = Primary(Machine(pages, sectors, words), 1)
         return "booted"
 
     def standby(self, fields):
         shape, generation = shape_of(fields), in_range(number(fields[2]), 1, END - 1)
         self.need_nothing()
-        self.is_ = Standby(shape, generation)
+        self.role = Standby(shape, generation)
         return f"waiting {generation}"
 
     def golive(self):
@@ -350,15 +350,15 @@ class Node:
             raise Refused(NO_IMAGE)
         if standby.generation + 1 == END:
             raise Refused(EXHAUSTED)
-        self.is_ = Primary(standby.machine, standby.generation + 1)
-        return f"live {self.is_.generation} steps {self.is_.machine.steps}"
+        self.role = Primary(standby.machine, standby.generation + 1)
+        return f"live {self.role.generation} steps {self.role.machine.steps}"
 
     def machine(self):
         """The machine that an operator sees, if there is one."""
-        return self.is_.machine if self.is_ else None
+        return self.role.machine if self.role else None
 
     def show(self):
-        machine, node = self.machine(), self.is_
+        machine, node = self.machine(), self.role
         mode = EMPTY if not machine else STANDBY if isinstance(node, Standby) else node.mode
         pending = len(node.pending) if isinstance(node, Primary) else 0
         steps = machine.steps if machine else 0
