@@ -40,6 +40,26 @@ impl Delta {
             frames: Vec::new(),
         }
     }
+
+    /// Adds what differs of a page.
+    pub fn add_page(&mut self, page: usize, old: &[u8], new: &[u8]) {
+        let mut mask = 0;
+        for (i, (old, new)) in old
+            .chunks_exact(BLOCK)
+            .zip(new.chunks_exact(BLOCK))
+            .enumerate()
+        {
+            if old != new {
+                mask |= 1u64 << i;
+                let mut block: Block = new.try_into().expect("a block");
+                xor_into(&mut block, old.try_into().expect("a block"));
+                self.blocks.push(block);
+            }
+        }
+        if mask != 0 {
+            self.pages.push((page as u32, mask));
+        }
+    }
 }
 
 /// Runs so many epochs, in each of which so many blocks of so many pages change. Answers how many bytes their checkpoints had.
@@ -152,25 +172,9 @@ impl Memory {
 }
 
 /// Adds what changed of a page.
-fn cut_page(delta: &mut Delta, page: usize, originals: &[u8], bytes: &[u8]) {
+pub fn cut_page(delta: &mut Delta, page: usize, originals: &[u8], bytes: &[u8]) {
     let range = page * PAGE..(page + 1) * PAGE;
-    let (old, new) = (&originals[range.clone()], &bytes[range]);
-    let mut mask = 0;
-    for (i, (old, new)) in old
-        .chunks_exact(BLOCK)
-        .zip(new.chunks_exact(BLOCK))
-        .enumerate()
-    {
-        if old != new {
-            mask |= 1u64 << i;
-            let mut block: Block = new.try_into().expect("a block");
-            xor_into(&mut block, old.try_into().expect("a block"));
-            delta.blocks.push(block);
-        }
-    }
-    if mask != 0 {
-        delta.pages.push((page as u32, mask));
-    }
+    delta.add_page(page, &originals[range.clone()], &bytes[range]);
 }
 
 fn xor_into(bytes: &mut [u8], change: &Block) {

@@ -34,6 +34,20 @@ impl Csrs {
         }
     }
 
+    /// Registers of these values, in the order of their numbers.
+    pub fn restore(values: [u64; 7]) -> Csrs {
+        let [mstatus, mie, mtvec, mscratch, mepc, mcause, mtval] = values;
+        Csrs {
+            mstatus,
+            mie,
+            mtvec,
+            mscratch,
+            mepc,
+            mcause,
+            mtval,
+        }
+    }
+
     /// The value of a register, where there is one of that number. `mip` is what is pending.
     pub fn read(&self, number: u32, mip: u64) -> Option<u64> {
         Some(match number {

@@ -78,28 +78,42 @@ pub fn put(text: &mut Vec<u8>, head: &Head) {
     }
 }
 
+/// How many bytes the number at a place of the head takes.
+pub fn width(place: usize) -> usize {
+    ROWS[place].0
+}
+
+/// The number of 2, 4 or 8 bytes.
+pub fn number(bytes: &[u8]) -> u64 {
+    match bytes.len() {
+        2 => u64::from(u16::from_le_bytes(bytes.try_into().expect("2 bytes"))),
+        4 => u64::from(u32::from_le_bytes(bytes.try_into().expect("4 bytes"))),
+        _ => u64::from_le_bytes(bytes.try_into().expect("8 bytes")),
+    }
+}
+
+/// Whether a number may stand at that place of the head of such a machine, after the number before it.
+pub fn is_good(place: usize, n: u64, before: u64, shape: [u64; 2]) -> bool {
+    match ROWS[place].1 {
+        Rule::Any => true,
+        Rule::Shape(which) => n == shape[which],
+        Rule::Within(least, most) => least <= n && n <= most,
+        Rule::Masked(bits, set) => n & bits == set,
+        Rule::QueueSize => n == 0 || n.is_power_of_two() && n <= 64,
+        Rule::Ready => n == 0 || n == 1 && before > 0,
+    }
+}
+
 /// The head that a text begins with, and the rest; `None` where a number breaks its rule.
 pub fn split(text: &[u8], shape: [u64; 2]) -> Option<(Head, &[u8])> {
     let (mut rest, mut head, mut before) = (text, [0; NUMBERS], 0);
-    for ((width, rule), number) in ROWS.iter().zip(&mut head) {
-        let (bytes, after) = rest.split_at_checked(*width)?;
-        let n = match *width {
-            2 => u64::from(u16::from_le_bytes(bytes.try_into().expect("2 bytes"))),
-            4 => u64::from(u32::from_le_bytes(bytes.try_into().expect("4 bytes"))),
-            _ => u64::from_le_bytes(bytes.try_into().expect("8 bytes")),
-        };
-        let good = match *rule {
-            Rule::Any => true,
-            Rule::Shape(which) => n == shape[which],
-            Rule::Within(least, most) => least <= n && n <= most,
-            Rule::Masked(bits, set) => n & bits == set,
-            Rule::QueueSize => n == 0 || n.is_power_of_two() && n <= 64,
-            Rule::Ready => n == 0 || n == 1 && before > 0,
-        };
-        if !good {
+    for (place, found) in head.iter_mut().enumerate() {
+        let (bytes, after) = rest.split_at_checked(width(place))?;
+        let n = number(bytes);
+        if !is_good(place, n, before, shape) {
             return None;
         }
-        *number = n;
+        *found = n;
         before = n;
         rest = after;
     }

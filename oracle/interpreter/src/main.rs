@@ -3,7 +3,8 @@
 //!
 //! `interpreter run WORDS STEPS` runs the words of a file for so many steps, and prints its registers and the speed.
 //! `interpreter until WORDS MOST` runs until the guest jumps to itself, and says after how many steps that is.
-//! `interpreter sim SCRIPT` plays a script of `remus sim` whose guest is given as words.
+//! `interpreter sim SCRIPT` plays a script of `remus sim`.
+//! `interpreter node` is `remus node`, whose lines and answers docs/NODES.md has.
 //! `interpreter copy BYTES TIMES` copies so many bytes in memory so often.
 //! `interpreter frames FILE PAGES SECTORS ROUNDS` encodes and reads the checkpoint of a file, of such a machine, again and again, and prints
 //! the bytes of all texts.
@@ -20,11 +21,15 @@
 
 mod checkpoints;
 mod csrs;
+mod guests;
 mod hart;
 mod head;
 mod images;
+mod lines;
+mod nodes;
 mod pair;
 mod protect;
+mod reader;
 mod states;
 mod threads;
 mod virtio;
@@ -46,6 +51,11 @@ fn main() {
         ["run", file, steps] => run(file, steps.parse().expect("a number of steps")),
         ["until", file, most] => until(file, most.parse().expect("a number of steps")),
         ["sim", file] => sim(file),
+        ["node"] => {
+            if lines::play().is_err() {
+                std::process::exit(1);
+            }
+        }
         ["copy", bytes, times] => copy(
             bytes.parse().expect("a number of bytes"),
             times.parse().expect("a number of times"),
@@ -123,7 +133,7 @@ fn main() {
         }
         _ => {
             eprintln!(
-                "usage: interpreter run WORDS STEPS | until WORDS MOST | sim SCRIPT | copy BYTES TIMES\n\
+                "usage: interpreter run WORDS STEPS | until WORDS MOST | sim SCRIPT | node | copy BYTES TIMES\n\
                  | checkpoints PAGES BLOCKS ROUNDS | frames FILE ROUNDS | images COUNT\n\
                  | protect PAGES SECTORS WORDS STEPS ZEROS ROUNDS | states WORDS RUNS SEED"
             );
@@ -207,20 +217,17 @@ fn sim(file: &str) {
 }
 
 fn boot(line: &str) -> Option<Pair> {
-    let mut words = line.splitn(6, ' ');
-    if words.next()? != "boot" {
+    let fields: Vec<&str> = line.split(' ').collect();
+    let ["boot", pages, sectors, clients, guest @ ..] = &fields[..] else {
         return None;
-    }
-    let mut number = || words.next()?.parse::<u64>().ok();
-    let (pages, sectors, clients) = (number()?, number()?, number()?);
-    if words.next()? != "words" {
-        return None;
-    }
+    };
+    let [pages, sectors, clients] =
+        [pages, sectors, clients].map(|number| number.parse::<u64>().ok());
     Some(Pair::boot(
-        pages as usize,
-        sectors as usize,
-        clients,
-        &words_of(words.next()?),
+        pages? as usize,
+        sectors? as usize,
+        clients?,
+        &guests::words(guest, pages?)?,
     ))
 }
 

@@ -2,6 +2,7 @@
 
 use crate::hart::RAM_BASE;
 use crate::images::Fold;
+use std::collections::BTreeSet;
 
 const ACKNOWLEDGE_TO_FEATURES_OK: u32 = 0x8f;
 const DRIVER_OK: u32 = 4;
@@ -47,6 +48,8 @@ pub struct Device {
     queue_sel: u32,
     pub interrupt_status: u32,
     queues: [Queue; 2],
+    /// The sectors that were written.
+    written: BTreeSet<u32>,
 }
 
 /// A chain: its head, and the places of its readable and writable bytes in memory.
@@ -72,6 +75,7 @@ impl Device {
             queue_sel: 0,
             interrupt_status: 0,
             queues: [Queue::default(); 2],
+            written: BTreeSet::new(),
         }
     }
 
@@ -81,6 +85,55 @@ impl Device {
             Kind::Block(bytes) => Some(bytes),
             Kind::Network => None,
         }
+    }
+
+    /// Writes the record's numbers in the order of a checkpoint.
+    pub fn fill(&self, numbers: &mut [u64]) {
+        numbers[..6].copy_from_slice(&[
+            self.status.into(),
+            self.device_features_sel.into(),
+            self.driver_features_sel.into(),
+            self.driver_features,
+            self.queue_sel.into(),
+            self.interrupt_status.into(),
+        ]);
+        for (queue, numbers) in self.queues.iter().zip(numbers[6..].chunks_exact_mut(7)) {
+            numbers.copy_from_slice(&[
+                queue.num.into(),
+                queue.ready.into(),
+                queue.desc,
+                queue.driver,
+                queue.device,
+                queue.available.into(),
+                queue.used.into(),
+            ]);
+        }
+    }
+
+    /// Takes the record's numbers, in the order of a checkpoint.
+    pub fn restore(&mut self, numbers: &[u64]) {
+        self.status = numbers[0] as u32;
+        self.device_features_sel = numbers[1] as u32;
+        self.driver_features_sel = numbers[2] as u32;
+        self.driver_features = numbers[3];
+        self.queue_sel = numbers[4] as u32;
+        self.interrupt_status = numbers[5] as u32;
+        for (queue, numbers) in self.queues.iter_mut().zip(numbers[6..].chunks_exact(7)) {
+            *queue = Queue {
+                num: numbers[0] as u16,
+                ready: numbers[1] != 0,
+                desc: numbers[2],
+                driver: numbers[3],
+                device: numbers[4],
+                available: numbers[5] as u16,
+                used: numbers[6] as u16,
+            };
+        }
+    }
+
+    /// The sectors that were written since they were asked for last, rising.
+    pub fn take_written(&mut self) -> BTreeSet<u32> {
+        std::mem::take(&mut self.written)
     }
 
     /// Folds the record.
@@ -238,7 +291,11 @@ impl Device {
     fn set_status(&mut self, value: u32) {
         if value == 0 {
             let kind = std::mem::replace(&mut self.kind, Kind::Network);
-            *self = Device::boot(kind);
+            let written = self.take_written();
+            *self = Device {
+                written,
+                ..Device::boot(kind)
+            };
             return;
         }
         let mut status = value & ACKNOWLEDGE_TO_FEATURES_OK | self.status & NEEDS_RESET;
@@ -315,7 +372,9 @@ impl Device {
         let Kind::Block(disk) = &mut self.kind else {
             return;
         };
-        let served = self.queues[queue].serve(ram, |chain, ram| serve_request(disk, chain, ram));
+        let written = &mut self.written;
+        let served =
+            self.queues[queue].serve(ram, |chain, ram| serve_request(disk, written, chain, ram));
         self.finish(served);
     }
 
@@ -330,7 +389,12 @@ impl Device {
 }
 
 /// A request of the block device. Answers how many bytes were written from the front.
-fn serve_request(disk: &mut [u8], chain: &Chain, ram: &mut [u8]) -> Result<u32, Broken> {
+fn serve_request(
+    disk: &mut [u8],
+    written: &mut BTreeSet<u32>,
+    chain: &Chain,
+    ram: &mut [u8],
+) -> Result<u32, Broken> {
     let Some((status_at, places)) = chain.writable.split_last() else {
         return Err(Broken);
     };
@@ -359,7 +423,8 @@ fn serve_request(disk: &mut [u8], chain: &Chain, ram: &mut [u8]) -> Result<u32, 
         },
         1 => match range(data.len()) {
             Some(range) => {
-                disk[range].copy_from_slice(data);
+                disk[range.clone()].copy_from_slice(data);
+                written.extend((range.start / 512) as u32..(range.end / 512) as u32);
                 (0, alone)
             }
             None => (1, alone),

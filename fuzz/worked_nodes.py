@@ -1,0 +1,77 @@
+"""A worked run of two nodes that goes through all lines of docs/NODES.md, for fuzz/node_refusals and tests/gate/nodes."""
+from oracle import mirror
+from oracle.nodes import Node
+
+FRAME = "arrive 020000000101020000000001" + "88b5" * 30
+
+
+class Worked:
+    """The lines of each host, in the order in which they are asked, with what each is answered."""
+
+    def __init__(self):
+        self.nodes, self.told = {}, []  # told: (host, line, answer)
+
+    def ask(self, host, *lines):
+        for line in lines:
+            answer = self.nodes.setdefault(host, Node()).answer(line.encode())
+            self.told.append((host, line, answer))
+        return answer
+
+    def carry(self, number, parts, primary="primary", standby="standby"):
+        """The text of a pending checkpoint goes from one host to the other, in so many parts."""
+        pending = self.nodes[primary].role.pending
+        length = next(len(waiting.text) for waiting in pending if waiting.number == number)
+        count = -(-length // parts)
+        for at in range(0, length, count):
+            self.ask(standby, "piece " + self.ask(primary, f"text {number} {at} {count}")[5:])
+
+    def lines(self, host):
+        return [(line, answer) for asked, line, answer in self.told if asked == host]
+
+
+def run():
+    """A guest that sends frames back boots alone, gets a standby, epochs go well, late, again and broken off; the standby goes live, gets
+    a standby of its own, which stops, and goes on alone."""
+    worked = Worked()
+    ask, carry = worked.ask, worked.carry
+    ask("primary", "show", "cut", f"boot {mirror.PAGES} 8 1 words {mirror.words().decode()}", "boot 2 1 1 idle", "step 60", FRAME)
+    ask("primary", "arrive 00", "step 30", "show", "cut", "ack 1 0", "protect", "sector 7", "show")
+    ask("standby", "show", "piece 52", f"standby {mirror.PAGES} 8 2", "commit", "golive", "sector 0", "show")
+    carry(0, 3)
+    ask("standby", "commit", "show", "sector 7")
+    ask("primary", FRAME, "step 40", "cut", "ack 2 0", "ack 3 0", "ack 2 9")
+    carry(1, 2)
+    ask("standby", "commit", "commit")
+    carry(1, 1)
+    ask("standby", "commit")
+    ask("primary", FRAME, FRAME, "step 70", "ack 2 1", "text 1 0 9", "cut", "step 5", "cut", "show")
+    ask("standby", "piece " + ask("primary", "text 2 0 600")[5:], "restart")
+    carry(3, 1)
+    ask("standby", "commit", "piece 00", "piece 00", "restart")
+    carry(2, 4)
+    ask("standby", "commit", "show", "step 1")
+    ask("primary", "ack 2 2", FRAME, "step 40", "cut", "cut", "cut", "cut", "cut", "golive")
+    carry(3, 1)
+    ask("standby", "commit", "golive", "show", FRAME, "step 50", "protect")
+    ask("third", f"standby {mirror.PAGES} 8 3")
+    carry(0, 2, "standby", "third")
+    ask("third", "commit", "show")
+    ask("standby", "ack 3 0", FRAME, "step 40", "cut", FRAME, "step 40", "alone", "step 10", "show", "sector 0", "protect")
+    return worked
+
+
+def disks():
+    """The same of a guest that writes its disk: it writes a sector, which the checkpoints carry."""
+    worked = Worked()
+    ask, carry = worked.ask, worked.carry
+    ask("primary", "boot 2 8 1 disk 3 ab", "step 9", "protect", "step 20", "sector 3", "cut", "step 1", "cut")
+    ask("standby", "standby 2 8 2")
+    for number in 0, 1:
+        carry(number, 1)
+        ask("standby", "commit", "sector 3")
+    ask("primary", "ack 2 1", "show")
+    ask("standby", "golive", "step 5", "protect", "sector 3", "text 0 0 99999")
+    return worked
+
+
+RUNS = {"a guest that sends back": run, "a guest with a disk": disks}
