@@ -2,9 +2,9 @@
 # How long the backup takes to go live, at four sizes of memory and disk, beside a copy of as many bytes, and beside what the system
 # takes to be given back the memory of a machine, as that of the stopped primary is then; the same where it has kept 1024 frames of 1514
 # bytes, which land for 16 clients, beside a copy of these; how fast a loop of arithmetic runs where a node is alone, beside the same
-# loop in a pair; and the most memory that 20 million steps take there. Going live is the middle of TIMES (20 if left out) times, where
-# 0 is less than can be seen from outside; the others are the best of some times. REMUS names another program to measure in the place of
-# the repository's own.
+# loop in a pair; and the most memory that 20 million steps take there. Going live is the middle of TIMES (20 if left out) times, and too
+# noisy where that is less than can be seen from outside; the others are the best of some times. REMUS names another program to measure in
+# the place of the repository's own.
 set -eu
 cd "$(dirname "$0")/.."
 program=${REMUS:-crates/remus/out/remus}
@@ -107,18 +107,24 @@ def giving_back(pages, sectors):
     return time.perf_counter() - start
 
 
+def seen(seconds):
+    """A time in microseconds, or that it can't be told from none."""
+    return f"{seconds * 1e6:6.0f} us" if seconds * 1e6 >= 0.5 else "too noisy"
+
+
 for pages, sectors in [(16, 64), (256, 2048), (4096, 32768), (16384, 32768)]:
     live = statistics.median(going_live(pages, sectors) for _ in range(TIMES))
     copied = min(copying(pages * PAGE + sectors * SECTOR) for _ in range(TIMES))
     given = min(giving_back(pages, sectors) for _ in range(TIMES))
-    print(f"{pages:5} pages, {sectors:5} sectors: going live {live * 1e6:6.0f} us, copying them {copied * 1e6:6.0f} us, "
+    print(f"{pages:5} pages, {sectors:5} sectors: going live {seen(live)}, copying them {copied * 1e6:6.0f} us, "
           f"giving back a machine's {given * 1e6:6.0f} us", flush=True)
 
 for used, boxes in [(True, "boxes that were used"), (False, "boxes fresh from the system")]:
     live = statistics.median(landing_kept(used) for _ in range(TIMES))
     copied = min(copying(FRAMES * LONGEST, not used) for _ in range(TIMES))
-    print(f"{FRAMES} kept frames of {LONGEST} bytes, {boxes}: going live {live * 1e6:6.0f} us, copying them {copied * 1e6:6.0f} us, "
-          f"ratio {live / copied:.2f}", flush=True)
+    ratio = f", ratio {live / copied:.2f}" if seen(live) != "too noisy" else ""
+    print(f"{FRAMES} kept frames of {LONGEST} bytes, {boxes}: going live {seen(live)}, copying them {copied * 1e6:6.0f} us{ratio}",
+          flush=True)
 
 words = Path("bench/loops/arithmetic.words").read_text().strip()
 count, modes = 50_000_000, {"paired": [], "alone": ["fail backup"]}

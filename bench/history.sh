@@ -29,6 +29,8 @@ lines() {
 # The most memory that the program has taken, in KB, once it has answered the last line of such a run.
 memory() {
     rm -f "$folder/done"
+    # Else the last line of the run before could be taken for this one's.
+    : >"$folder/printed"
     { lines "$@" && while [ ! -e "$folder/done" ]; do sleep 0.01; done; } | "$program" live >"$folder/printed" &
     local process=$!
     until tail -n 1 "$folder/printed" | grep -q '^mode '; do
@@ -46,7 +48,10 @@ for kind in "14 0" "14 64" "1514 0"; do
     without=$(memory 0 "$every")
     awk -v count="$count" -v bytes="$bytes" -v every="$every" -v with="$with" -v without="$without" 'BEGIN {
         each = (with - without) * 1024 / count
-        printf "%d frames of %d bytes%s: %.1f MB, without them %.1f MB; %.0f bytes a frame, %.2f times its own\n",
-            count, bytes, every ? ", committed" : "", with * 1024 / 1e6, without * 1024 / 1e6, each, each / bytes
+        printf "%d frames of %d bytes%s: %.1f MB, without them %.1f MB; ",
+            count, bytes, every ? ", committed" : "", with * 1024 / 1e6, without * 1024 / 1e6
+        # What is kept has the bytes of each frame at least.
+        if (each < bytes) print "too noisy"
+        else printf "%.0f bytes a frame, %.2f times its own\n", each, each / bytes
     }'
 done

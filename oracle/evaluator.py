@@ -149,6 +149,11 @@ def lines_of(script):
     return lines if lines[-1] else lines[:-1]
 
 
+def is_for_run(name, text):
+    """Whether a file is one for `remus run`, and no script: by its name, or by a line that no script has."""
+    return name.endswith(".run") or any(line.startswith(b"epochs ") for line in lines_of(text))
+
+
 def evaluate(script):
     player = Player()
     for line in lines_of(script):

@@ -21,4 +21,4 @@ SECTIONS {
     /DISCARD/ : { *(.comment .note .note.* .riscv.attributes .eh_frame) }
 }
 stack_top = ORIGIN(ram) + pages * 4096;
-ASSERT(end_of_data + stack_bytes <= stack_top, "the guest needs more pages")
+ASSERT(end_of_data + stack_bytes <= stack_top, "the guest needs more pages (guests/make --pages N), or less for its stack (--stack BYTES)")

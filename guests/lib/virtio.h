@@ -97,7 +97,7 @@ static inline void store_wide(u64 device, u32 offset, u64 value) {
 
 /* The first steps of 3.1.1: reset to FEATURES_OK, with `features` of the first 32 bits and VERSION_1. Answers whether
    the device accepted them. */
-static int negotiate(u64 device, u32 id, u32 features) {
+static __attribute__((unused)) int negotiate(u64 device, u32 id, u32 features) {
     if (load(device, MAGIC) != MAGIC_VALUE || load(device, VERSION) != 2 || load(device, DEVICE_ID) != id)
         return 0;
     store(device, STATUS, 0);
@@ -116,7 +116,7 @@ static int negotiate(u64 device, u32 id, u32 features) {
 }
 
 /* Sets up a queue (4.2.3.2). Answers whether the device has it, at its full size. */
-static int set_up(u64 device, u32 number, struct queue *queue) {
+static __attribute__((unused)) int set_up(u64 device, u32 number, struct queue *queue) {
     store(device, QUEUE_SEL, number);
     if (load(device, QUEUE_READY) != 0 || load(device, QUEUE_NUM_MAX) < QUEUE_SIZE)
         return 0;

@@ -1,8 +1,10 @@
 #!/usr/bin/env bash
 # Fetches Debian's source package of lwIP, builds it with the sources beside this script, and says whether the images of ../words have the
 # words that come out: server.words, to which a thousand steps are a millisecond, and server_50000.words. With --write it writes them
-# there. `build.sh STEPS` prints the words of a server to which so many steps are one. Nothing of lwIP is kept here. It needs, on Debian:
-# apt-get install gcc-riscv64-unknown-elf dpkg-dev patch xz-utils. The committed words are those of gcc 12.2.0 and binutils 2.40.
+# there. `build.sh STEPS` prints the words of a server to which so many steps are one. `build.sh --service FILE [STEPS]` prints the boot
+# line of a guest whose service is that C file's, such as shout.c, by a thousand steps a millisecond if none are named. Nothing of lwIP is
+# kept here. It needs, on Debian: apt-get install gcc-riscv64-unknown-elf dpkg-dev patch xz-utils. The committed words are those of gcc
+# 12.2.0 and binutils 2.40.
 #
 # The source package comes through apt, from where this machine has its packages from. SOURCES names a folder that has its files already.
 # LISTING names a folder for the programs as they were linked, and their listings.
@@ -51,6 +53,11 @@ while read -r name; do
     patch -s -d "$room/lwip" -p1 <"$room/lwip/debian/patches/$name"
 done <"$room/lwip/debian/patches/series"
 
+service=
+if [ "${1:-}" = --service ]; then
+    service=$(readlink -f "${2:?build.sh --service FILE [STEPS]}")
+    [ -r "$service" ] || { echo "$0: cannot read $2" >&2; exit 1; }
+fi
 cp -r "$here" "$room/server"
 cp -r "$here/../lib" "$room/lib"
 cd "$room"
@@ -60,7 +67,13 @@ sources="server/server.c server/files.c server/disk.c server/network.c server/re
 for name in $core; do
     sources="$sources lwip/src/core/$name.c"
 done
-sources="$sources lwip/src/netif/ethernet.c lwip/src/apps/http/httpd.c lwip/src/apps/http/fs.c"
+sources="$sources lwip/src/netif/ethernet.c"
+if [ -n "$service" ]; then
+    cp "$service" own.c
+    sources="own.c server/service.c server/network.c server/reopen.c server/libc/libc.c ${sources#*libc.c }"
+else
+    sources="$sources lwip/src/apps/http/httpd.c lwip/src/apps/http/fs.c"
+fi
 
 # compile NAME STEPS: NAME.words, of a server to which so many steps are a millisecond. The paths are the same in every folder, so that the
 # words are; lwIP's files warn of nothing under -Wall alone.
@@ -69,8 +82,8 @@ compile() {
     riscv64-unknown-elf-gcc -march=rv64im_zicsr -mabi=lp64 -mcmodel=medany -mno-relax -mstrict-align -O2 -std=c11 -Wall \
         -ffreestanding -nostdlib -static -fno-builtin -fno-tree-loop-distribute-patterns -fno-pic -fno-asynchronous-unwind-tables \
         -ffunction-sections -fdata-sections -Wl,--gc-sections -Wl,--build-id=none -Wl,--no-warn-rwx-segments \
-        -Wl,--defsym=pages=1024,--defsym=stack_bytes=16384 -T lib/guest.ld -DSTEPS_A_MILLISECOND="$2" -Iserver -Iserver/libc \
-        -Ilwip/src/include -o "$1.elf" lib/start.s $sources
+        -Wl,--defsym=pages=1024,--defsym=stack_bytes=16384 -T lib/guest.ld ${service:+-Wa,--defsym,traps_stay=1} \
+        -DSTEPS_A_MILLISECOND="$2" -Iserver -Iserver/libc -Ilwip/src/include -o "$1.elf" lib/start.s $sources
     riscv64-unknown-elf-objcopy -O binary -j .image "$1.elf" "$1.bin"
     od -An -v -tx4 -w4 --endian=little "$1.bin" | tr -d ' ' | paste -sd' ' >"$1.words"
     if [ -n "${LISTING:-}" ]; then
@@ -100,6 +113,10 @@ case $write in
     compile server_50000 50000
     keep server
     keep server_50000
+    ;;
+--service)
+    compile server "${3:-1000}"
+    echo "boot 1024 8 1 words $(cat server.words)"
     ;;
 *)
     compile server "$write"

@@ -48,8 +48,8 @@ fn main() {
     let words: Vec<String> = std::env::args().collect();
     let words: Vec<&str> = words.iter().map(String::as_str).collect();
     match words[1..] {
-        ["run", file, steps] => run(file, steps.parse().expect("a number of steps")),
-        ["until", file, most] => until(file, most.parse().expect("a number of steps")),
+        ["run", file, steps] => run(file, parsed(steps, "a number of steps")),
+        ["until", file, most] => until(file, parsed(most, "a number of steps")),
         ["sim", file] => sim(file),
         ["node"] => {
             if lines::play().is_err() {
@@ -57,19 +57,19 @@ fn main() {
             }
         }
         ["copy", bytes, times] => copy(
-            bytes.parse().expect("a number of bytes"),
-            times.parse().expect("a number of times"),
+            parsed(bytes, "a number of bytes"),
+            parsed(times, "a number of times"),
         ),
         ["checkpoints", pages, blocks, rounds] => println!(
             "{}",
             checkpoints::run(
-                pages.parse().expect("a number of pages"),
-                blocks.parse().expect("a number of blocks"),
-                rounds.parse().expect("a number of rounds"),
+                parsed(pages, "a number of pages"),
+                parsed(blocks, "a number of blocks"),
+                parsed(rounds, "a number of rounds"),
             )
         ),
         ["threads", file, pages, clients, steps, calls] => {
-            let number = |text: &str| text.parse::<u64>().expect("a number");
+            let number = |text: &str| parsed::<u64>(text, "a number");
             threads::run(
                 number(pages) as usize,
                 &words_of(&read(file)),
@@ -81,14 +81,14 @@ fn main() {
         ["frames", file, pages, sectors, rounds] => println!(
             "{}",
             checkpoints::copy(
-                &std::fs::read(file).expect("a file"),
-                [pages, sectors].map(|count| count.parse().expect("a size")),
-                rounds.parse().expect("a number of rounds"),
+                &bytes_of(file),
+                [pages, sectors].map(|count| parsed(count, "a size")),
+                parsed(rounds, "a number of rounds"),
             )
         ),
         ["sending", file, pages, sectors, steps, rounds, cuts] => {
-            let number = |text: &str| text.parse::<u64>().expect("a number");
-            let image = std::fs::read(file).expect("a file");
+            let number = |text: &str| parsed::<u64>(text, "a number");
+            let image = bytes_of(file);
             let words: Vec<u32> = image
                 .chunks(4)
                 .map(|bytes| {
@@ -111,15 +111,14 @@ fn main() {
         }
         ["states", file, runs, seed] => states::print(
             &mut Machine::boot(PAGES, SECTORS, &words_of(&read(file))),
-            runs.parse().expect("a number of runs"),
-            seed.parse().expect("a number"),
+            parsed(runs, "a number of runs"),
+            parsed(seed, "a number"),
         ),
-        ["images", count] => println!(
-            "{:016x}",
-            images::run(count.parse().expect("a number of images"))
-        ),
+        ["images", count] => {
+            println!("{:016x}", images::run(parsed(count, "a number of images")))
+        }
         ["protect", pages, sectors, file, steps, zeros, rounds] => {
-            let number = |text: &str| text.parse::<u64>().expect("a number");
+            let number = |text: &str| parsed::<u64>(text, "a number");
             let (pages, sectors) = (number(pages) as usize, number(sectors) as usize);
             let mut machine = Machine::boot(pages, sectors, &words_of(&read(file)));
             machine.run(number(steps));
@@ -127,7 +126,7 @@ fn main() {
                 "asked" => Zeros::Asked,
                 "written" => Zeros::Written,
                 "unmade" => Zeros::Unmade,
-                _ => panic!("asked, written or unmade"),
+                _ => fail("ZEROS is asked, written or unmade"),
             };
             println!("{}", protect::run(&machine, zeros, number(rounds)));
         }
@@ -142,14 +141,32 @@ fn main() {
     }
 }
 
+/// Says what is wrong, and ends.
+fn fail(text: &str) -> ! {
+    eprintln!("interpreter: {text}");
+    std::process::exit(1)
+}
+
+fn parsed<T: std::str::FromStr>(text: &str, what: &str) -> T {
+    text.parse()
+        .unwrap_or_else(|_| fail(&format!("{text} is not {what}")))
+}
+
+fn bytes_of(file: &str) -> Vec<u8> {
+    std::fs::read(file).unwrap_or_else(|error| fail(&format!("cannot read {file}: {error}")))
+}
+
 fn read(file: &str) -> String {
-    std::fs::read_to_string(file).unwrap_or_else(|error| panic!("{file}: {error}"))
+    String::from_utf8(bytes_of(file)).unwrap_or_else(|_| fail(&format!("{file} is no text")))
 }
 
 fn words_of(text: &str) -> Vec<u32> {
     let words = text.split_whitespace();
     words
-        .map(|word| u32::from_str_radix(word, 16).expect("a word of eight hex digits"))
+        .map(|word| {
+            u32::from_str_radix(word, 16)
+                .unwrap_or_else(|_| fail(&format!("{word} is not a word of eight hex digits")))
+        })
         .collect()
 }
 
