@@ -20,7 +20,7 @@ def message(kind, session, body=b""):
     return HEAD.pack(17 + len(body), kind, session) + body
 
 
-def told(kind, session, **fields):
+def told(kind, session, /, **fields):
     """A message whose body is a JSON object."""
     return message(kind, session, json.dumps(fields, separators=(",", ":")).encode())
 

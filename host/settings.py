@@ -207,10 +207,11 @@ def read(path, options):
             values[key] = KEYS[key][0](value)
         except Mistake as mistake:
             wrong.append(f"{place}: {key} {mistake}")
+    if wrong:
+        raise Mistakes("\n".join(wrong))
     settings = Settings(**values)
     place_of = lambda key: given[key][1] if key in given else path or "the options"
-    wrong += [f"{place_of(key)}: {why}" for key, why in together(settings, given)]
-    if wrong:
+    if wrong := [f"{place_of(key)}: {why}" for key, why in together(settings, given)]:
         raise Mistakes("\n".join(wrong))
     return settings
 
