@@ -101,7 +101,6 @@ class Daemon:
         self.link.close()
         self.standby = None
         self.start(Live(self, answer.number(1), answer.number(3), now))
-        self.state.keep(self.life, self.generation, "went live")
         self.counts.failovers += 1
         self.log.info(f"live in generation {self.generation}, from step {self.live.steps}")
 

@@ -214,13 +214,13 @@ class Link:
             self.log.seldom("dialled", "debug", f"the peer at {connection.address}: {why}")
             self.dial_at = self.now() + AGAIN
 
-    def refuse(self, connection, message, why):
+    def refuse(self, connection, message, why, level="info"):
         """A stranger is told why not, and its connection is over."""
         try:
             connection.send(message)
         except Closed:
             pass
-        self.log.seldom("refused", "info", f"{connection.address} isn't attached: {why}")
+        self.log.seldom("refused", level, f"{connection.address} isn't attached: {why}")
         connection.close()
         self.strangers.remove(connection)
 

@@ -80,7 +80,7 @@ class Live:
         """How many steps are made at a time: few where they may let frames out."""
         if self.mode == ALONE:
             return self.slice if now - self.moved_at < QUIET else min(max(self.slice, int(SLOW * self.rate)), max(self.slice, QUICK))
-        return max(self.slice, min(QUICK, int(self.epoch * self.rate)))
+        return max(self.slice, QUICK)
 
     def turn(self, now):
         if not self.is_stopped:

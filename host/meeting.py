@@ -49,15 +49,16 @@ class Meeting:
 
     # A live host's side.
 
-    def refuse(self, connection, why):
-        self.link.refuse(connection, messages.told(NO, NO_SESSION, why=why, role=self.host.role, name=self.host.settings.name), why)
+    def refuse(self, connection, why, level="info"):
+        told = messages.told(NO, NO_SESSION, why=why, role=self.host.role, name=self.host.settings.name)
+        self.link.refuse(connection, told, why, level)
 
     def greeted(self, connection, hello, now):
         host, live = self.host, self.host.live
         if hello["version"] != messages.VERSION:
             return self.refuse(connection, f"it speaks version {hello['version']} of the link, and this host {messages.VERSION}")
         if host.role != "live":
-            return self.refuse(connection, f"this host is {host.role}")
+            return self.refuse(connection, f"this host is {host.role}", "debug")
         name, session = hello["name"], hello["session"]
         if session is not None and live.session is not None and session == live.session.hex():
             return self.resume(connection, hello, now)
