@@ -26,8 +26,10 @@ AT_ONCE = 50  # lines of the control socket, on one connection
 SESSION = bytes(range(16))
 HELLO = dict(version=1, name="x", instance="y", role="empty", life=None, generation=0, session=None, full=False, committed=None)
 OFFER = dict(name="x", instance="y", life="z", generation=5, pages=32, sectors=8)
-LINES = [{"do": "status"}, {"do": "metrics"}, {"do": "promote"}, {"do": "promote", "boot": True}, {"do": "alone", "standby": 5},
-         {"do": "drain", "within_ms": "x"}, {"do": "save"}, {"do": "demote", "x": 1}, {"do": ["status"]}, {"do": {"do": "status"}}]
+# None of these is a request that would change a role, nor a few bytes from one.
+LINES = [{"do": "status"}, {"do": "metrics"}, {"do": "promote", "boot": ["true", "or", "false"]}, {"do": "save"},
+         {"do": "alone", "standby": ["one", "that", "isn't"]}, {"do": "drain", "within_ms": "a while"}, {"do": ["status"]},
+         {"do": {"do": "status"}}, {"do": "demote", "because": ["of", "nothing"]}]
 
 
 def mutated(rng, data):

@@ -59,6 +59,9 @@ class Node:
             except OSError:
                 pass  # it works with the size it has
         self.pid = self.process.pid
+        if self.tell(b"show")[0].words[:1] != [b"mode"]:
+            self.close()
+            raise NodeEnded(f"{' '.join(command)} doesn't answer as a node does")
 
     def tell(self, *lines):
         """The answers to these lines. Together they, or their answers, fit into a pipe, but for the last one's."""

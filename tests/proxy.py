@@ -26,9 +26,9 @@ class Proxy(threading.Thread):
     """Passes connections at `listen` on to `target`. `is_cut`: all are closed, and none is taken. `is_stalled`: nothing passes. `delay`:
     seconds that a tenth of all pieces come late, and all behind them. `repeats`: what one connection said is said again by a new one."""
 
-    def __init__(self, listen, target, namespace_socket=None):
+    def __init__(self, listen, target):
         super().__init__(daemon=True)
-        self.listener = namespace_socket or socket.create_server(listen)
+        self.listener = socket.create_server(listen) if listen else None
         self.target, self.ways = target, []
         self.is_cut = self.is_stalled = self.is_over = False
         self.delay, self.repeats, self.rng = 0.0, False, random.Random(7)
