@@ -91,6 +91,10 @@ class Node:
 
     def end(self):
         """How the process ended."""
+        try:
+            self.process.wait(timeout=1)
+        except subprocess.TimeoutExpired:
+            pass  # its pipes are closed, and it isn't needed without them
         self.close()
         return f"the node ended, status {self.process.returncode}"
 

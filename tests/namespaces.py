@@ -7,7 +7,7 @@ import threading
 from pathlib import Path
 
 from host import keys
-from tests.hosts import Host
+from tests.hosts import NODE, Host
 
 NEW_NETWORK = 0x40000000  # CLONE_NEWNET
 CLIENT, GUEST = "10.0.0.2", "10.0.0.1"
@@ -84,7 +84,7 @@ def pair(folder, networks, guest, through=False, **settings):
         keys.make(folder, name)
     for place, (name, other) in enumerate(("ab", "ba")):
         peer = f"10.1.0.9:{PORT + 1 + place}" if through else f"10.1.0.{2 - place}:{PORT}"
-        made.append(Host(folder, name, networks.hosts[place], guest=str(guest), listen=f"10.1.0.{1 + place}:{PORT}", peer=peer,
+        made.append(Host(folder, name, networks.hosts[place], node=NODE, guest=str(guest), listen=f"10.1.0.{1 + place}:{PORT}", peer=peer,
                          key=str(Path(folder) / f"{name}.key"), certificate=str(Path(folder) / f"{name}.crt"),
                          peer_certificate=str(Path(folder) / f"{other}.crt"), bridge="br0", guest_address=GUEST, **settings))
     return made
