@@ -40,12 +40,13 @@ class Live:
         self.is_stopped = False  # for a drain, or since it is frozen
         self.held = 0
         self.late, self.acked_at, self.waited_since = 0.0, now, None
+        self.longest = 0.0  # seconds in which the guest made no step, though it didn't wait
         self.watch = Watch()
         self.start_clock(now)
 
     def start_clock(self, now):
         self.guest_begun, self.made = now, 0  # since when the guest runs, and the steps that it made since then
-        self.epoch_begun = self.moved_at = now
+        self.epoch_begun = self.moved_at = self.ran_at = now
 
     # What there is to do, and when.
 
@@ -102,8 +103,10 @@ class Live:
             return
         if self.waited_since:
             self.skip(now - self.waited_since)
-            self.waited_since = None
+            self.waited_since, self.ran_at = None, now
         steps, ends = self.steps_due(now), self.epoch_ends(now)
+        if steps > 0:
+            self.longest, self.ran_at = max(self.longest, now - self.ran_at), now
         lines = [b"step %d" % steps] if steps > 0 and not self.is_full else []
         lines += self.cut_lines() if ends else []
         if not lines:

@@ -49,6 +49,8 @@ def text(host):
     one("messages_dropped_total", "counter", "Messages of the link, and connections, that were dropped.", counts.dropped_messages)
     one("steps_total", "counter", "Steps that the guest made here.", counts.steps)
     one("late_seconds_total", "counter", "Guest time that was left out.", float(live.late) if live else 0.0)
+    one("longest_stand_seconds", "gauge", "The longest time in which the guest made no step, but for waiting.",
+        float(live.longest) if live else 0.0)
     one("failovers_total", "counter", "Times that a standby went live here.", counts.failovers)
     one("attachments_total", "counter", "Standbys that were attached, or attachments of this one.", counts.attachments)
     one("links_total", "counter", "Links to the peer that came up.", counts.links)

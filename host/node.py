@@ -5,6 +5,7 @@ import subprocess
 from binascii import hexlify, unhexlify
 
 PIPE_BYTES = 1 << 20
+BUFFER = 1 << 18  # bytes, above those of a line with a piece of a text
 SET_PIPE_SIZE = 1031  # F_SETPIPE_SZ
 WITH_FRAMES = (b"steps", b"acked", b"alone")
 
@@ -49,7 +50,7 @@ class Node:
 
     def __init__(self, command):
         try:
-            self.process = subprocess.Popen(command, stdin=subprocess.PIPE, stdout=subprocess.PIPE)
+            self.process = subprocess.Popen(command, stdin=subprocess.PIPE, stdout=subprocess.PIPE, bufsize=BUFFER)
         except OSError as error:
             raise NodeEnded(f"{command[0]} can't be started: {error.strerror}") from None
         self.input, self.output = self.process.stdin, self.process.stdout

@@ -1,13 +1,12 @@
-"""Two hosts and a client as network namespaces of this machine, joined by veth and bridges; for root. Each host has an interface of the
+"""Two hosts and a client as network namespaces of this machine, joined by veth and bridges, for host/demo and tests; for root. Each host has an interface of the
 link's network, 10.1.0.1 or 10.1.0.2, and a bridge br0 on the guest's network, where the client is 10.0.0.2."""
 import ctypes
 import os
 import subprocess
-import threading
 from pathlib import Path
 
 from host import keys
-from tests.hosts import NODE, Host
+from host.started import Host
 
 NEW_NETWORK = 0x40000000  # CLONE_NEWNET
 CLIENT, GUEST = "10.0.0.2", "10.0.0.1"
@@ -84,32 +83,14 @@ def pair(folder, networks, guest, through=False, **settings):
         keys.make(folder, name)
     for place, (name, other) in enumerate(("ab", "ba")):
         peer = f"10.1.0.9:{PORT + 1 + place}" if through else f"10.1.0.{2 - place}:{PORT}"
-        made.append(Host(folder, name, networks.hosts[place], node=NODE, guest=str(guest), listen=f"10.1.0.{1 + place}:{PORT}", peer=peer,
+        made.append(Host(folder, name, networks.hosts[place], guest=str(guest), listen=f"10.1.0.{1 + place}:{PORT}", peer=peer,
                          key=str(Path(folder) / f"{name}.key"), certificate=str(Path(folder) / f"{name}.crt"),
                          peer_certificate=str(Path(folder) / f"{other}.crt"), bridge="br0", guest_address=GUEST, **settings))
     return made
 
 
-def inside(namespace, make):
-    """What `make` makes in a thread that is in the namespace: the sockets that it opens are of its network."""
-    made = []
-
-    def enter():
-        handle = os.open(f"/run/netns/{namespace}", os.O_RDONLY)
-        libc = ctypes.CDLL(None, use_errno=True)
-        if libc.setns(handle, NEW_NETWORK) != 0:
-            raise OSError(ctypes.get_errno(), "setns")
-        os.close(handle)
-        made.append(make())
-
-    thread = threading.Thread(target=enter)
-    thread.start()
-    thread.join()
-    return made[0]
-
-
 def enter(namespace):
-    """The calling thread is in the namespace from now on."""
+    """The calling thread is in the namespace from now on: the sockets that it opens are of its network."""
     handle = os.open(f"/run/netns/{namespace}", os.O_RDONLY)
     libc = ctypes.CDLL(None, use_errno=True)
     if libc.setns(handle, NEW_NETWORK) != 0:
