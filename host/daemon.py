@@ -50,7 +50,7 @@ class Daemon:
 
     @property
     def is_frozen(self):
-        return self.live is not None and self.live.is_stopped and self.task is None
+        return self.live is not None and self.live.is_frozen
 
     @property
     def full(self):
@@ -112,13 +112,13 @@ class Daemon:
 
     def freeze(self):
         """The guest stops, and is kept."""
-        self.live.is_stopped = True
+        self.live.is_stopped = self.live.is_frozen = True
         self.network.down()
         self.link.close()
         self.log.info("frozen: the guest is kept, and doesn't run")
 
     def thaw(self, now):
-        self.live.is_stopped = False
+        self.live.is_stopped = self.live.is_frozen = False
         self.live.start_clock(now)
         self.network.up()
         self.network.put(network.announcement(self.settings.guest_address))

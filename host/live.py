@@ -37,7 +37,7 @@ class Live:
         self.pending, self.cut, self.acked = OrderedDict(), None, None
         self.sending, self.sent = 0, 0  # the checkpoint that is being sent, and how many of its bytes are
         self.is_full = False  # the outbox: the guest goes on after the next cut
-        self.is_stopped = False  # for a drain, or since it is frozen
+        self.is_stopped = self.is_frozen = False  # for a drain, or since the host is frozen
         self.held = 0
         self.late, self.acked_at, self.waited_since = 0.0, now, None
         self.longest = 0.0  # seconds in which the guest made no step, though it didn't wait

@@ -32,7 +32,7 @@ class Meeting:
                 self.ready(connection, now)
             else:
                 raise Malformed(f"a message of kind {kind} before an attachment")
-        elif self.host.live and not self.host.live.is_stopped:
+        elif self.host.live and not self.host.is_frozen:
             raise Malformed("this host went live meanwhile")
         elif kind == NO:
             told = fields(kind, body)
@@ -80,8 +80,8 @@ class Meeting:
         """A host comes with an attachment that isn't this one's."""
         host = self.host
         if hello["life"] == host.life and hello["generation"] > host.generation:
-            self.log.seldom("stale", "error", f"{hello['name']} holds generation {hello['generation']} of this guest, and this host lives in "
-                                              f"{host.generation}: it may be this host that is stale")
+            self.log.seldom("stale", "error", f"{hello['name']} holds generation {hello['generation']} of this guest, and this host lives "
+                                              f"in {host.generation}: it may be this host that is stale")
             return self.refuse(connection, "this host lives in an earlier generation")
         if hello["life"] != host.life and hello["full"]:
             return self.refuse(connection, "this host lives another life: what is held there is another guest")

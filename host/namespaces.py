@@ -1,4 +1,4 @@
-"""Two hosts and a client as network namespaces of this machine, joined by veth and bridges, for host/demo and tests; for root. Each host has an interface of the
+"""Two hosts and a client as network namespaces of this machine, joined by veth and bridges; for root. Each host has an interface of the
 link's network, 10.1.0.1 or 10.1.0.2, and a bridge br0 on the guest's network, where the client is 10.0.0.2."""
 import ctypes
 import os

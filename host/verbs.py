@@ -139,7 +139,7 @@ class Verbs:
         host = self.host
         if file is None or not Path(file).is_absolute():
             return refusal("Malformed", "save takes the field file, a whole path")
-        if host.role != "live":
+        if host.live is None:
             return refusal("NotLive", f"this host is {host.role}")
         if host.live.mode != ALONE:
             return refusal("NotAlone", "this host has a standby: drain, or stop the standby and tell 'alone' first")

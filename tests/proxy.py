@@ -24,13 +24,14 @@ class Way:
 
 class Proxy(threading.Thread):
     """Passes connections at `listen` on to `target`. `is_cut`: all are closed, and none is taken. `is_stalled`: nothing passes. `delay`:
-    seconds that a tenth of all pieces come late, and all behind them. `repeats`: what one connection said is said again by a new one."""
+    seconds that a tenth of all pieces come late, and all behind them. `repeats`: what an ended connection said is said by a new one."""
 
     def __init__(self, listen, target):
         super().__init__(daemon=True)
         self.listener = socket.create_server(listen) if listen else None
         self.target, self.ways = target, []
         self.is_cut = self.is_stalled = self.is_over = False
+        self.is_to_end = False  # what is connected now, once
         self.delay, self.repeats, self.rng = 0.0, False, random.Random(7)
         self.repeated, self.passed = 0, 0
 
@@ -38,6 +39,10 @@ class Proxy(threading.Thread):
         while not self.is_over:
             if self.is_cut:
                 self.close_all()
+            if self.is_to_end:
+                self.is_to_end = False
+                for way in list(self.ways):
+                    self.end(way)
             self.turn()
         self.close_all()
         self.listener.close()

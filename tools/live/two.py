@@ -1,5 +1,5 @@
-"""Plays two hosts, each a `remus-host` with its node in a process group of its own, and the network between them and the clients. A key kills
-a whole group; the other host is told what has stopped once it is gone."""
+"""Plays two hosts, each a `remus-host` with its node in a process group of its own, and the network between them and the clients. A key
+kills a whole group; the other host is told what has stopped once it is gone."""
 import subprocess
 import sys
 import time
@@ -27,7 +27,8 @@ class TwoHosts:
         for number, other in ((1, 2), (2, 1)):
             self.hosts[number] = Host(room, str(number), guest=str(plan.script.resolve()), node=[plan.program, "node"],
                                       listen=f"127.0.0.1:{ports[number - 1]}", peer=f"127.0.0.1:{ports[other - 1]}",
-                                      key=f"{room}/{number}.key", certificate=f"{room}/{number}.crt", peer_certificate=f"{room}/{other}.crt",
+                                      key=f"{room}/{number}.key", certificate=f"{room}/{number}.crt",
+                                      peer_certificate=f"{room}/{other}.crt",
                                       network="socket", frames=f"{room}/{number}.frames", guest_address=plan.guest,
                                       epoch_ms=plan.epoch * 1000, steps_per_ms=plan.steps_per_ms)
         self.hub = Hub(*self.hosts.values())
@@ -183,7 +184,8 @@ class TwoLoop:
         elif key == "r" and self.stopped is None and not two.is_there(two.other):
             self.start_standby()
         elif key in "pbr":
-            self.screen.tell({"p": "no standby could go on", "b": "there is no standby", "r": "there is a standby"}[key] + ": nothing happens")
+            why = {"p": "no standby could go on", "b": "there is no standby", "r": "there is a standby"}[key]
+            self.screen.tell(f"{why}: nothing happens")
 
     def stop_live(self, now):
         self.two.hosts[self.two.live].kill()
