@@ -22,40 +22,40 @@ def text(host):
     counts, live, lines = host.counts, host.live, []
 
     def tell(name, kind, meaning, *values):
-        lines.append(f"# HELP remus_{name} {meaning}")
-        lines.append(f"# TYPE remus_{name} {kind}")
-        lines.extend(f"remus_{name}{labels} {value:.9g}" if isinstance(value, float) else f"remus_{name}{labels} {value}"
+        lines.append(f"# HELP {name} {meaning}")
+        lines.append(f"# TYPE {name} {kind}")
+        lines.extend(f"{name}{labels} {value:.9g}" if isinstance(value, float) else f"{name}{labels} {value}"
                      for labels, value in values)
 
     def one(name, kind, meaning, value):
         tell(name, kind, meaning, ("", value))
 
-    tell("role", "gauge", "1 for the role that this host has.",
+    tell("remus_role", "gauge", "1 for the role that this host has.",
          *((f'{{role="{role}"}}', int(host.role == role)) for role in ("empty", "standby", "live", "frozen")))
-    one("generation", "gauge", "The guest's generation.", host.generation)
-    one("link_up", "gauge", "1 while the peer is attached.", int(host.link.is_up))
-    one("full", "gauge", "1 where the guest could go on here.", int(host.full))
-    one("epochs_total", "counter", "Epochs that ended in a checkpoint.", counts.epochs)
-    one("checkpoint_bytes_total", "counter", "Bytes of checkpoints that were cut or committed here.", counts.checkpoint_bytes)
-    one("checkpoint_pages_total", "counter", "Page records of checkpoints that were sent.", counts.checkpoint_pages)
-    one("commits_total", "counter", "Checkpoints that were committed here.", counts.commits)
+    one("remus_generation", "gauge", "The guest's generation.", host.generation)
+    one("remus_link_up", "gauge", "1 while the peer is attached.", int(host.link.is_up))
+    one("remus_full", "gauge", "1 where the guest could go on here.", int(host.full))
+    one("remus_epochs_total", "counter", "Epochs that ended in a checkpoint.", counts.epochs)
+    one("remus_checkpoint_bytes_total", "counter", "Bytes of checkpoints that were cut or committed here.", counts.checkpoint_bytes)
+    one("remus_checkpoint_pages_total", "counter", "Page records of checkpoints that were sent.", counts.checkpoint_pages)
+    one("remus_commits_total", "counter", "Checkpoints that were committed here.", counts.commits)
     acknowledgements(lines, counts)
-    one("pending_checkpoints", "gauge", "Checkpoints that are cut and not acknowledged.", len(live.pending) if live else 0)
-    one("frames_in_total", "counter", "Frames that the guest's card was handed.", counts.frames_in)
-    one("frames_out_total", "counter", "Frames of the guest that were let out.", counts.frames_out)
-    one("frames_held", "gauge", "Frames that the last acknowledged checkpoint had held.", live.held if live else 0)
-    one("frames_lost_total", "counter", "Frames that the network didn't take.", host.network.lost)
-    one("frames_dropped_total", "counter", "Frames for the guest that had a wrong length.", counts.frames_dropped)
-    one("messages_dropped_total", "counter", "Messages of the link, and connections, that were dropped.", counts.dropped_messages)
-    one("steps_total", "counter", "Steps that the guest made here.", counts.steps)
-    one("late_seconds_total", "counter", "Guest time that was left out.", float(live.late) if live else 0.0)
-    one("longest_stand_seconds", "gauge", "The longest time in which the guest made no step, but for waiting.",
+    one("remus_pending_checkpoints", "gauge", "Checkpoints that are cut and not acknowledged.", len(live.pending) if live else 0)
+    one("remus_frames_in_total", "counter", "Frames that the guest's card was handed.", counts.frames_in)
+    one("remus_frames_out_total", "counter", "Frames of the guest that were let out.", counts.frames_out)
+    one("remus_frames_held", "gauge", "Frames that the last acknowledged checkpoint had held.", live.held if live else 0)
+    one("remus_frames_lost_total", "counter", "Frames that the network didn't take.", host.network.lost)
+    one("remus_frames_dropped_total", "counter", "Frames for the guest that had a wrong length.", counts.frames_dropped)
+    one("remus_messages_dropped_total", "counter", "Messages of the link, and connections, that were dropped.", counts.dropped_messages)
+    one("remus_steps_total", "counter", "Steps that the guest made here.", counts.steps)
+    one("remus_late_seconds_total", "counter", "Guest time that was left out.", float(live.late) if live else 0.0)
+    one("remus_longest_stand_seconds", "gauge", "The longest time in which the guest made no step, but for waiting.",
         float(live.longest) if live else 0.0)
-    one("failovers_total", "counter", "Times that a standby went live here.", counts.failovers)
-    one("attachments_total", "counter", "Standbys that were attached, or attachments of this one.", counts.attachments)
-    one("links_total", "counter", "Links to the peer that came up.", counts.links)
-    one("node_memory_bytes", "gauge", "Memory of the node's process.", host.node.memory())
-    one("daemon_memory_bytes_max", "gauge", "The most memory that the daemon had.",
+    one("remus_failovers_total", "counter", "Times that a standby went live here.", counts.failovers)
+    one("remus_attachments_total", "counter", "Standbys that were attached, or attachments of this one.", counts.attachments)
+    one("remus_links_total", "counter", "Links to the peer that came up.", counts.links)
+    one("remus_node_memory_bytes", "gauge", "Memory of the node's process.", host.node.memory())
+    one("remus_daemon_memory_bytes_max", "gauge", "The most memory that the daemon had.",
         resource.getrusage(resource.RUSAGE_SELF).ru_maxrss * 1024)
     return "\n".join(lines) + "\n"
 
