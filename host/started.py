@@ -122,8 +122,12 @@ class Hub:
     def __init__(self, *hosts):
         self.paths = [host.settings["frames"] for host in hosts]
         self.lines = [None for _ in hosts]
+        self.fenced = set()  # the places of hosts that are cut off; another thread may add to them
 
     def line(self, place):
+        if place in self.fenced:
+            self.cut(place)
+            return None
         if self.lines[place] is None:
             line = socket.socket(socket.AF_UNIX, socket.SOCK_SEQPACKET)
             line.setblocking(False)
@@ -146,8 +150,9 @@ class Hub:
                     self.cut(place)
 
     def cut(self, place):
-        self.lines[place].close()
-        self.lines[place] = None
+        line, self.lines[place] = self.lines[place], None
+        if line:
+            line.close()
 
     def open_lines(self):
         return [line for place in range(len(self.paths)) if (line := self.line(place))]
@@ -166,5 +171,6 @@ class Hub:
             except BlockingIOError:
                 pass
             except OSError:
-                self.cut(self.lines.index(line))
+                if line in self.lines:
+                    self.cut(self.lines.index(line))
         return found

@@ -40,7 +40,7 @@ class Asker(threading.Thread):
 
     def __init__(self, *hosts):
         super().__init__(daemon=True)
-        self.wire, self.is_over = Hub(*hosts), False
+        self.hub, self.is_over = Hub(*hosts), False
         self.frames, self.numbers, self.at = [], [], []
 
     def run(self):
@@ -48,9 +48,9 @@ class Asker(threading.Thread):
         while not self.is_over:
             now = time.monotonic()
             if now >= next_at:
-                self.wire.send(datagram(1, COUNTED_PORT, b"x"))
+                self.hub.send(datagram(1, COUNTED_PORT, b"x"))
                 next_at = max(next_at + ASK_EVERY, now)
-            for frame in self.wire.came(max(0, next_at - time.monotonic())):
+            for frame in self.hub.came(max(0, next_at - time.monotonic())):
                 self.take(frame, time.monotonic())
 
     def take(self, frame, now):
