@@ -8,6 +8,7 @@ from host import messages
 from host.connection import Closed, Connection, contexts, dialled, listening
 
 MOST_STRANGERS = 16  # connections that haven't met this host; the oldest makes room
+MOST_AT_ONCE = 2  # strangers that are let in, and that are heard, in one turn of the loop
 PATIENCE = 5.0  # seconds, for a stranger to say who it is
 AGAIN = 0.25  # seconds, until the peer is dialled again
 LATER = 1.0  # the same, where the peer said no
@@ -106,22 +107,21 @@ class Link:
             self.accept(now)
         if self.tcp is not None:
             self.go_on_dialling(writing, now)
-        for connection in list(self.strangers):
-            self.hear_stranger(connection, reading, writing, now)
         if self.connection is not None:
             self.hear(self.connection, reading, writing, now)
+        self.hear_strangers(reading, writing, now)
         if dials and self.connection is None and self.tcp is None and self.settings.peer and now >= self.dial_at:
             if not any(not stranger.is_server for stranger in self.strangers):
                 self.dial(now)
 
     def accept(self, now):
-        for _ in range(8):
+        for _ in range(MOST_AT_ONCE):
             try:
                 tcp, address = self.listener.accept()
             except OSError:
                 return
             if len(self.strangers) >= MOST_STRANGERS:
-                oldest = next((one for one in self.strangers if one.is_server), self.strangers[0])
+                oldest = min((one for one in self.strangers if one.is_server), key=lambda one: one.begun)
                 self.drop(oldest, "it makes room for another one")
             tcp.setsockopt(socket.IPPROTO_TCP, socket.TCP_NODELAY, 1)
             self.meet(tcp, f"{address[0]}:{address[1]}", self.server_context, now, is_server=True)
@@ -157,18 +157,27 @@ class Link:
         if connection is not None:
             connection.send(self.meeting.hello())
 
+    def hear_strangers(self, reading, writing, now):
+        """A few of them, in turn, so that many cost what is attached no time."""
+        heard = 0
+        for connection in list(self.strangers):
+            if now - connection.begun > PATIENCE:
+                self.drop(connection, "it didn't say in time who it is")
+            elif heard < MOST_AT_ONCE and (connection in reading or connection in writing or connection.has_more()):
+                heard += 1
+                self.strangers.remove(connection)
+                self.strangers.append(connection)
+                self.hear_stranger(connection, reading, writing, now)
+
     def hear_stranger(self, connection, reading, writing, now):
         try:
             if connection in writing and connection.is_open:
                 connection.flush()
-            if connection in reading or connection in writing or connection.has_more():
-                for kind, session, body in connection.messages(now):
-                    if connection not in self.strangers:
-                        self.take(connection, kind, session, body, now)
-                    else:
-                        self.meeting.hear(connection, kind, session, body, now)
-            elif now - connection.begun > PATIENCE:
-                raise Closed("it says nothing")
+            for kind, session, body in connection.messages(now):
+                if connection not in self.strangers:
+                    self.take(connection, kind, session, body, now)
+                else:
+                    self.meeting.hear(connection, kind, session, body, now)
         except (Closed, messages.Malformed) as error:
             if connection in self.strangers:
                 self.drop(connection, str(error))

@@ -74,8 +74,11 @@ class Live:
         ends = self.epoch_begun + self.epoch if self.may_cut() else None
         if self.is_full:
             return ends
-        runs = self.guest_begun + (self.made + self.batch(now)) / self.rate
-        return min(runs, ends) if ends else runs
+        batch, whole = self.batch(now), max(self.slice, self.epoch * self.rate)
+        if ends is not None and batch >= whole:
+            return ends
+        runs = self.guest_begun + (self.made + min(batch, whole)) / self.rate
+        return runs if ends is None else min(runs, ends)
 
     def batch(self, now):
         """How many steps are made at a time: few where they may let frames out."""
