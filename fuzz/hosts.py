@@ -202,6 +202,7 @@ def over_plain(rng, room, count):
         asker.start()
         asker.wait(3)
         strangers(rng, int(a.settings["listen"].rpartition(":")[2]), count // 4)
+        false_standby(rng, int(a.settings["listen"].rpartition(":")[2]), 100)  # while there is one
         lines(rng, a.control, count // 8)
         lines(rng, b.control, count // 8)
         if wrong := what_is_wrong(a, b, session, asker, begun):
