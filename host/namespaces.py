@@ -43,7 +43,16 @@ class Networks:
         self.all = [self.switch, self.client, *self.hosts]
 
     def __enter__(self):
+        try:
+            self.make()
+        except subprocess.CalledProcessError as error:
+            self.__exit__()
+            raise OSError(None, f"{' '.join(error.cmd)}: {error.stderr.strip()}") from None
+        return self
+
+    def make(self):
         for name in self.all:
+            ip("netns", "del", name, check=False)  # one that a run left which was killed
             ip("netns", "add", name)
             ip("-n", name, "link", "set", "lo", "up")
         for bridge in ("links", "guests"):
@@ -59,7 +68,6 @@ class Networks:
             ip("-n", name, "link", "add", "br0", "type", "bridge")
             ip("-n", name, "link", "set", "eth1", "master", "br0")
             ip("-n", name, "link", "set", "br0", "up")
-        return self
 
     def plug(self, port, bridge, namespace, interface):
         """An interface of a namespace, at a port of a bridge of the switch."""
