@@ -13,7 +13,7 @@ QUICK = 100_000  # steps that take the node a fraction of a millisecond
 LATE = 0.1  # a guest that is so many seconds late isn't hurried any more
 QUIET = 0.1  # after so many seconds without a frame a guest that is alone runs in slices of SLOW
 SLOW = 0.005
-NOTHING_SENT = 13  # the refusal of a step where the outbox is full
+CUT_NEEDED = b"13"  # the refusal of a step where the outbox is full
 PAGES_AT = slice(524, 528)  # of a checkpoint's text: how many page records it has
 
 
@@ -132,6 +132,8 @@ class Live:
     def stepped(self, answer, now):
         if answer.is_refused:
             self.is_full = True
+            if answer.words[1:2] != [CUT_NEEDED]:
+                self.log.seldom("step", "error", f"the guest can't go on: {b' '.join(answer.words).decode()}")
             steps = self.node.ask("show").number(-1)
         else:
             steps = answer.number(1)
