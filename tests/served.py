@@ -29,12 +29,13 @@ def chromium(folder, *options, size=(800, 500)):
 
 
 class Served:
-    """`tools/serve`, running."""
+    """`tools/serve`, running, in one process or over two hosts."""
 
-    def __init__(self, *options, script="examples/server.sim", guest="80"):
+    def __init__(self, *options, script="examples/server.sim", guest="80", one_process=True):
         self.port = free_port(socket.SOCK_DGRAM if guest.endswith("/udp") else socket.SOCK_STREAM)
         self.url = f"http://127.0.0.1:{self.port}"
         command = [ROOT / "tools/serve", ROOT / script, "--forward", f"{self.port}:{guest}", "--program", PROGRAM, *options]
+        command += ["--one-process"] if one_process else []
         self.process = subprocess.Popen([str(word) for word in command], stdin=subprocess.PIPE, stdout=subprocess.PIPE, text=True)
 
     def __enter__(self):
@@ -52,7 +53,7 @@ class Served:
 
     @property
     def failures(self):
-        return self.said.count("the primary, stops")
+        return self.said.count("the primary, stops") + self.said.count("the live one, is killed")
 
     def curl(self, path, patience=120):
         """The body, where curl is content."""

@@ -37,7 +37,8 @@ class Program:
             pass
         came = [self.process.stdout.readline() for _ in lines]
         if not came[-1].endswith(b"\n"):
-            sys.exit(f"the program ended, status {self.process.wait()}: play the record by `remus sim`, or try `remus live` by hand")
+            by = "play the record by `remus sim`" if self.files else "try `remus live` by hand"
+            sys.exit(f"the program ended, status {self.process.wait()}: {by}")
         if b"refused 12 NoMemory\n" in came and self.is_booted:
             sys.exit("there is no memory left: the history keeps every frame, so end other programs, or begin anew")
         self.is_booted = True

@@ -3,32 +3,39 @@ import select
 import time
 
 from tools.live.hosts import ALONE, MID_EPOCH, PLACES, STOPPED, Hosts
-from tools.live.screen import several
+from tools.live.screen import several, short
 
 QUICK = 20_000  # steps that take the program a fraction of a millisecond
 LATE = 0.1  # a guest that is so many seconds late isn't hurried any more
 
 
 class Clock:
-    """The machine's clock, which waits for what comes."""
+    """The machine's clock, which waits for what comes. It stands while the process is stopped."""
 
-    @staticmethod
-    def now():
-        return time.monotonic()
+    def __init__(self):
+        self.skipped, self.read_at = 0.0, time.monotonic()
 
-    @staticmethod
-    def wait(watched, until):
+    def now(self):
+        self.read_at = time.monotonic()
+        return self.read_at - self.skipped
+
+    def wait(self, watched, until):
         """The events of poll, by descriptor, as soon as there are any, and at the latest then."""
         poll = select.poll()
         for descriptor, events in watched:
             poll.register(descriptor, events)
-        return dict(poll.poll(max(0, until - time.monotonic()) * 1000))
+        return dict(poll.poll(max(0, until - self.now()) * 1000))
+
+    def was_stopped(self):
+        """The process was stopped, and goes on: the time since the clock was read last is left out."""
+        now = time.monotonic()
+        self.skipped, self.read_at = self.skipped + now - self.read_at, now
 
 
 class Loop:
     """`plan` has the options of `tools/serve` in seconds, `networks` those of the clients, and `screen` shows what happens."""
 
-    def __init__(self, plan, program, boot, networks, screen, rng, clock=Clock):
+    def __init__(self, plan, program, boot, networks, screen, rng, clock):
         self.plan, self.screen, self.rng, self.clock = plan, screen, rng, clock
         self.networks = {network.client: network for network in networks}
         self.hosts = Hosts(program, boot, list(self.networks), self.put, plan.link, plan.lose_in, plan.lose_out)
@@ -188,3 +195,21 @@ class Loop:
         self.hosts.protect(now)
         self.epoch_begun = now
         self.screen.tell(f"host {self.hosts.backup} is the new backup")
+
+    # What is shown.
+
+    def status(self, connections, rate):
+        """Who is live, what clients see, and frames: the parts of a line, the first ones first where not all fit."""
+        hosts = self.hosts
+        live = {STOPPED: "gone", ALONE: "alone"}.get(hosts.mode, f"live, {hosts.backup} backup")
+        parts = [f"host {hosts.live} {live}", f"gen {hosts.generation}", f"epoch {short(hosts.epochs)}",
+                 f"{short(connections)} conn {short(rate)}/s"]
+        parts += [f"pause {self.pause * 1000:.0f} ms"] if self.pause is not None else []
+        parts += [f"late {self.late:.0f} s"] if self.late >= 0.1 else []
+        return parts + [f"lost {short(hosts.lost)}", f"out {short(hosts.let_out)}", f"held {hosts.held}"]
+
+    def report(self):
+        hosts = self.hosts
+        said = (f"{several(self.failures, 'failure')} of a primary; {several(hosts.epochs, 'epoch')}, {several(hosts.came, 'frame')} in, "
+                f"{hosts.let_out} out, {hosts.dropped} dropped, {hosts.lost} lost by failures; {several(self.screen.requests, 'request')}")
+        return said + (f"; the guest is {self.late:.1f} s late, since this machine is too slow for it" if self.late >= 0.1 else "")

@@ -7,7 +7,6 @@ import termios
 import tty
 
 from guests.lib.frames import FIN, RST, SYN
-from tools.live.hosts import ALONE, STOPPED
 from tools.live.segments import head_of
 
 EVERY = 0.2  # seconds, from one status line to the next
@@ -17,24 +16,50 @@ def several(number, noun):
     return f"{number} {noun}" + ("" if number == 1 else "s")
 
 
+def short(number):
+    """A number in at most five characters."""
+    for least, size, letter in ((1e10, 1e9, "G"), (1e7, 1e6, "M"), (1e5, 1e3, "k")):
+        if number >= least:
+            return f"{number / size:.0f}{letter}"
+    return f"{number:.0f}"
+
+
+def fitted(parts, width):
+    """As many of these parts as fit, the first ones first, in a line."""
+    line = parts[0][:width]
+    for part in parts[1:]:
+        if len(line) + 3 + len(part) <= width:
+            line += " | " + part
+    return line
+
+
 class Screen:
-    """Standard output, with a status line where it is a terminal, and the keys of standard input."""
+    """Standard output, with a status line where it is a terminal, and the keys of standard input. Either may be closed."""
 
     def __init__(self):
-        self.is_terminal, self.input, self.kept = sys.stdout.isatty(), sys.stdin.fileno(), None
-        self.is_open = True
+        self.input, self.kept = descriptor(sys.stdin), None
+        self.is_terminal = descriptor(sys.stdout) is not None and sys.stdout.isatty()
+        self.is_open = self.input is not None
         self.shown_at, self.line = 0.0, ""
         self.connections, self.requests, self.second = {}, 0, (0.0, 0, 0.0)
 
     def __enter__(self):
-        if os.isatty(self.input):
-            self.kept = termios.tcgetattr(self.input)
-            tty.setcbreak(self.input)
+        self.take_keys()
         return self
 
-    def __exit__(self, *_):
+    def take_keys(self):
+        """Each key comes as it is pressed, from a terminal too; also after a shell had the terminal."""
+        if self.is_open and os.isatty(self.input):
+            self.kept = self.kept or termios.tcgetattr(self.input)
+            tty.setcbreak(self.input)
+
+    def give_back(self):
+        """The terminal is as it was found."""
         if self.kept:
             termios.tcsetattr(self.input, termios.TCSADRAIN, self.kept)
+
+    def __exit__(self, *_):
+        self.give_back()
         if self.line:
             print()
 
@@ -45,12 +70,17 @@ class Screen:
         """The keys that were pressed, given the events of poll by descriptor."""
         if not ready.get(self.input):
             return ""
-        pressed = os.read(self.input, 64).decode(errors="replace")
+        try:
+            pressed = os.read(self.input, 64).decode(errors="replace")
+        except OSError:
+            pressed = ""  # there is no terminal any more
         self.is_open = pressed != ""
         return "".join(key for key in pressed if key in "pbrq")
 
     def tell(self, text):
         """A line for what happens."""
+        if sys.stdout is None:
+            return
         print(f"\r\x1b[K{text}" if self.line else text, flush=True)
         self.line = ""
 
@@ -79,20 +109,13 @@ class Screen:
         if now - since >= 1:
             rate = (self.requests - requests) / (now - since)
             self.second = now, self.requests, rate
-        self.line = status(loop, len(self.connections), rate)[:shutil.get_terminal_size().columns - 1]
+        self.line = fitted(loop.status(len(self.connections), rate), shutil.get_terminal_size().columns - 1)
         print(f"\r\x1b[K{self.line}", end="", flush=True)
 
 
-def status(loop, connections, rate):
-    """Who is live, epochs, frames and what clients see, in a line."""
-    hosts = loop.hosts
-    live = {STOPPED: f"host {hosts.live} has stopped", ALONE: f"host {hosts.live} alone"}.get(hosts.mode, f"host {hosts.live} live")
-    backup = f", {hosts.backup} backup" if hosts.backup else ""
-    parts = [live + backup, f"generation {hosts.generation}", f"epoch {hosts.epochs} {loop.epoch_length * 1000:.0f} ms",
-             f"held {hosts.held} out {hosts.let_out} dropped {hosts.dropped} lost {hosts.lost}", f"{connections} connections",
-             f"{rate:.0f} requests/s"]
-    if loop.pause is not None:
-        parts.append(f"last pause {loop.pause * 1000:.0f} ms")
-    if loop.late:
-        parts.append(f"late {loop.late:.1f} s")
-    return " | ".join(parts)
+def descriptor(stream):
+    """The number of an open stream's file, or None."""
+    try:
+        return None if stream is None else stream.fileno()
+    except (ValueError, OSError):
+        return None

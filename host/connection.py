@@ -1,0 +1,180 @@
+"""One connection of the link: TCP, or TLS 1.3 over it, without ever waiting."""
+import socket
+import ssl
+
+from host import messages
+
+CHUNK = 1 << 18
+MOST_UNSENT = 1 << 20  # bytes, after which nothing more is to be given to send
+
+
+class Closed(Exception):
+    """The connection is over, and why."""
+
+
+class Connection:
+    """`context` is None for a plain one. `pinned` is the certificate that the other end must have, as DER."""
+
+    def __init__(self, tcp, context, pinned, now, is_server):
+        tcp.setblocking(False)
+        self.address = "?"
+        self.is_server, self.pinned, self.begun = is_server, pinned, now
+        self.socket = tcp
+        self.is_tls = context is not None
+        self.is_open = not self.is_tls  # whether the handshake is done
+        self.wants_write = False  # TLS must write before it can go on
+        if self.is_tls:
+            self.socket = context.wrap_socket(tcp, server_side=is_server, do_handshake_on_connect=False,
+                                              suppress_ragged_eofs=True)
+        self.came, self.unsent = bytearray(), bytearray()
+        self.most = messages.MOST_BEFORE
+        self.heard_at = self.said_at = now
+        self.room = bytearray(CHUNK)
+        self.sent_bytes = self.came_bytes = 0
+
+    def fileno(self):
+        return self.socket.fileno()
+
+    @property
+    def waits_to_write(self):
+        return self.wants_write or bool(self.unsent)
+
+    def has_room(self):
+        return len(self.unsent) < MOST_UNSENT
+
+    def met(self):
+        """The two hosts have met: longer messages may come."""
+        self.most = messages.MOST
+
+    def handshake(self):
+        """Goes on with it. Raises Closed."""
+        self.wants_write = False
+        try:
+            self.socket.do_handshake()
+        except ssl.SSLWantReadError:
+            return
+        except ssl.SSLWantWriteError:
+            self.wants_write = True
+            return
+        except (OSError, ValueError) as error:
+            raise Closed(f"the handshake failed: {reason(error)}") from None
+        if self.socket.getpeercert(binary_form=True) != self.pinned:
+            raise Closed("the handshake failed: another certificate than the pinned one")
+        self.is_open = True
+
+    def send(self, data):
+        """Keeps it to be sent, and sends what it can."""
+        self.unsent += data
+        if self.is_open:
+            self.flush()
+
+    def flush(self):
+        """Sends what it can. Raises Closed."""
+        self.wants_write = False
+        try:
+            while self.unsent:
+                with memoryview(self.unsent) as view, view[:CHUNK] as part:
+                    count = self.socket.send(part)
+                del self.unsent[:count]
+                self.sent_bytes += count
+        except (ssl.SSLWantWriteError, BlockingIOError):
+            pass
+        except ssl.SSLWantReadError:
+            pass
+        except (OSError, ValueError) as error:
+            raise Closed(reason(error)) from None
+
+    def messages(self, now):
+        """What came. Raises Closed, and Malformed."""
+        if not self.is_open:
+            self.handshake()
+            if not self.is_open:
+                return []
+            if self.unsent:
+                self.flush()
+        ended, budget = None, 4 * CHUNK
+        try:
+            while budget > 0:
+                count = self.socket.recv_into(self.room)
+                if not count:
+                    ended = "the other end closed it"
+                    break
+                with memoryview(self.room) as view, view[:count] as part:
+                    self.came += part
+                budget -= count
+                self.came_bytes += count
+        except (ssl.SSLWantReadError, BlockingIOError):
+            pass
+        except ssl.SSLWantWriteError:
+            self.wants_write = True
+        except (OSError, ValueError) as error:
+            ended = reason(error)
+        found = messages.taken(self.came, self.most)
+        if found:
+            self.heard_at = now
+        elif ended:
+            raise Closed(ended)
+        return found
+
+    def has_more(self):
+        """Whether TLS keeps bytes that no poll would tell of."""
+        return self.is_tls and self.is_open and self.socket.pending() > 0
+
+    def close(self):
+        try:
+            self.socket.close()
+        except OSError:
+            pass
+
+
+def reason(error):
+    if isinstance(error, ssl.SSLCertVerificationError):
+        return f"the certificate isn't the pinned one ({error.verify_message})"
+    if isinstance(error, ssl.SSLError):
+        return (error.reason or "TLS failed").lower().replace("_", " ")
+    return getattr(error, "strerror", None) or str(error) or "it failed"
+
+
+def contexts(settings):
+    """The TLS contexts to listen and to dial with, and the pinned certificate as DER; all None for a plain link. Raises OSError."""
+    if settings.plain or settings.listen is None:
+        return None, None, None
+    made = []
+    for protocol in (ssl.PROTOCOL_TLS_SERVER, ssl.PROTOCOL_TLS_CLIENT):
+        context = ssl.SSLContext(protocol)
+        context.minimum_version = ssl.TLSVersion.TLSv1_3
+        context.check_hostname = False
+        context.verify_mode = ssl.CERT_REQUIRED
+        context.load_cert_chain(settings.certificate, settings.key)
+        context.load_verify_locations(settings.peer_certificate)
+        if protocol is ssl.PROTOCOL_TLS_SERVER:
+            context.num_tickets = 0  # no session is resumed: each link is authenticated anew
+        made.append(context)
+    with open(settings.peer_certificate) as file:
+        return made[0], made[1], ssl.PEM_cert_to_DER_cert(file.read())
+
+
+def dialled(address):
+    """A TCP socket whose connection has begun."""
+    family = socket.AF_INET6 if ":" in address[0] else socket.AF_INET
+    tcp = socket.socket(family, socket.SOCK_STREAM)
+    tcp.setblocking(False)
+    tcp.setsockopt(socket.IPPROTO_TCP, socket.TCP_NODELAY, 1)
+    try:
+        tcp.connect(address)
+    except BlockingIOError:
+        pass
+    except OSError:
+        tcp.close()
+        raise
+    return tcp
+
+
+def listening(address):
+    family = socket.AF_INET6 if ":" in address[0] else socket.AF_INET
+    tcp = socket.socket(family, socket.SOCK_STREAM)
+    tcp.setsockopt(socket.SOL_SOCKET, socket.SO_REUSEADDR, 1)
+    tcp.bind(address)
+    tcp.listen(16)
+    tcp.setblocking(False)
+    return tcp

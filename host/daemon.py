@@ -1,0 +1,215 @@
+"""The daemon: the host's role, and the loop by the clock that joins node, link, network and control socket."""
+import secrets
+import select
+import signal
+import time
+
+from host import messages, network
+from host.control import Control, Scrapes
+from host.link import Link
+from host.live import Live
+from host.meeting import Meeting
+from host.metrics import Counts
+from host.node import Node
+from host.settings import boot_line
+from host.standby import Broken, Standby
+from host.state import State
+
+MOST_FRAMES = 32  # from the network, before the guest runs again
+VERSION = "1"  # of the daemon
+LONGEST_WAIT = 10.0  # seconds
+
+
+class Daemon:
+    """Raises OSError, NodeEnded or Unusable where something it needs can't be had."""
+
+    version = VERSION
+
+    def __init__(self, settings, log):
+        self.settings, self.log = settings, log
+        self.begun, self.is_over, self.task = time.monotonic(), False, None
+        self.counts = Counts()
+        self.state = State(settings.state)
+        self.link = Link(settings, log, self.counts)
+        self.meeting = Meeting(self)
+        self.link.meeting, self.link.attached, self.link.lost = self.meeting, self.attached, self.lost
+        self.control = Control(self, settings.control)
+        self.scrapes = Scrapes(self, settings.metrics)
+        self.network = network.network(settings)
+        self.node = Node(settings.node)
+        self.live = self.standby = self.peer = self.life = self.shape = None
+        self.instance = secrets.token_hex(8)
+
+    # What the host is.
+
+    @property
+    def role(self):
+        if self.live:
+            return "frozen" if self.is_frozen else "live"
+        return "standby" if self.standby else "empty"
+
+    @property
+    def is_frozen(self):
+        return self.live is not None and self.live.is_frozen
+
+    @property
+    def full(self):
+        return self.live is not None or self.standby is not None and self.standby.is_full
+
+    @property
+    def generation(self):
+        holder = self.live or self.standby
+        return holder.generation if holder else 0
+
+    @property
+    def session(self):
+        holder = self.live or self.standby
+        return holder.session if holder else None
+
+    # Changes of role.
+
+    def become_empty(self):
+        """Gives up what is here. The guest, where it was here, doesn't run any more when this returns."""
+        self.network.down()
+        self.link.close()
+        self.node.close()
+        self.live = self.standby = self.life = self.shape = None
+        self.node, self.instance = Node(self.settings.node), secrets.token_hex(8)
+
+    def stand_by(self, session, offer):
+        """An empty host becomes the standby of a live one. Raises Refused."""
+        self.node.ask(f"standby {offer['pages']} {offer['sectors']} {offer['generation']}")
+        self.shape, self.life = (offer["pages"], offer["sectors"]), offer["life"]
+        self.standby = Standby(self, session, self.life, offer["generation"], self.shape)
+        self.counts.attachments += 1
+        self.log.info(f"this host is a standby of {offer['name']}, for generation {offer['generation']}")
+
+    def boot(self, now):
+        """Raises Refused."""
+        line = boot_line(self.settings.guest)
+        pages, sectors = line.split()[1:3]
+        life = secrets.token_hex(8)
+        self.state.keep(life, 1, "booted")
+        self.node.ask(line)
+        self.life, self.shape = life, (int(pages), int(sectors))
+        self.start(Live(self, 1, 0, now))
+        self.log.info(f"booted {self.settings.guest}: life {self.life}")
+
+    def go_live(self, now):
+        """A standby with a full checkpoint goes on as the guest. Raises Refused."""
+        answer = self.node.ask("golive")
+        self.link.close()
+        self.standby = None
+        self.start(Live(self, answer.number(1), answer.number(3), now))
+        self.counts.failovers += 1
+        self.log.info(f"live in generation {self.generation}, from step {self.live.steps}")
+
+    def start(self, live):
+        """The guest runs from now on, and bridges learn where it is."""
+        self.live = live
+        self.network.up()
+        self.network.put(network.announcement(self.settings.guest_address))
+
+    def freeze(self):
+        """The guest stops, and is kept."""
+        self.live.is_stopped = self.live.is_frozen = True
+        self.network.down()
+        self.link.close()
+        self.log.info("frozen: the guest is kept, and doesn't run")
+
+    def thaw(self, now):
+        self.live.is_stopped = self.live.is_frozen = False
+        self.live.start_clock(now)
+        self.network.up()
+        self.network.put(network.announcement(self.settings.guest_address))
+        self.log.info("live again")
+
+    # What the link tells.
+
+    def attached(self, kind, body, now):
+        """A message of this attachment."""
+        if self.live and kind == messages.ACK:
+            self.live.acknowledge(*messages.numbers(body), now)
+        elif self.standby and kind == messages.TEXT:
+            was_full = self.standby.is_full
+            try:
+                self.standby.text(body, now)
+            except Broken as broken:
+                self.log.seldom("broken", "error", str(broken))
+                raise messages.Malformed("what came can't be taken") from None
+            if self.standby.is_full and not was_full:
+                self.state.keep(self.life, self.generation, "held")
+        elif self.standby and kind == messages.GO_LIVE:
+            self.told_to_go_live(*messages.numbers(body), now)
+        else:
+            raise messages.Malformed(f"a message of kind {kind} to a host that is {self.role}")
+
+    def told_to_go_live(self, generation, number, now):
+        """The live host has drained and stopped, and says so."""
+        if (generation, number) == (self.standby.generation, self.standby.committed):
+            self.log.info("the live host has drained, and tells this one to go live")
+            self.go_live(now)
+
+    def lost(self):
+        """The attached link is gone."""
+        if self.standby:
+            self.standby.restart()
+
+    # The loop.
+
+    def run(self):
+        for number in (signal.SIGINT, signal.SIGTERM):
+            signal.signal(number, lambda *_: self.end())
+        try:
+            while not self.is_over:
+                self.turn()
+        finally:
+            self.close()
+
+    def end(self):
+        self.is_over = True
+
+    @property
+    def dials(self):
+        return self.live is None or self.is_frozen
+
+    def turn(self):
+        reading, writing = self.link.watched()
+        frames = self.network.watched()
+        reading += frames
+        for served in (self.control, self.scrapes):
+            more, waiting = served.watched()
+            reading += more
+            writing += waiting
+        readable, writable, _ = select.select(reading, writing, [], self.wait(time.monotonic()))
+        now = time.monotonic()
+        self.link.turn(readable, writable, now, self.dials)
+        if any(one in readable for one in frames):
+            self.take_frames()
+        if self.live:
+            self.live.turn(now)
+        if self.task is not None:
+            self.task.turn(now)
+        self.control.turn(readable, writable, now)
+        self.scrapes.turn(readable, writable, now)
+
+    def wait(self, now):
+        """For how many seconds there is nothing to do."""
+        times = [self.link.due(now, self.dials), self.control.due(), self.scrapes.due()]
+        times.append(self.live.due(now) if self.live else None)
+        times.append(self.task.due(now) if self.task else None)
+        return min(max(0, min((one for one in times if one is not None), default=now + LONGEST_WAIT) - now), LONGEST_WAIT)
+
+    def take_frames(self):
+        came = self.network.frames(MOST_FRAMES)
+        if not came:
+            return
+        if self.live and not self.live.is_stopped:
+            self.live.arrive(came)
+        else:
+            self.counts.frames_dropped += len(came)
+
+    def close(self):
+        for one in (self.control, self.scrapes, self.network, self.node):
+            one.close()
+        self.link.end()

@@ -1,0 +1,254 @@
+"""A live host: it runs the guest by the clock, ends epochs, sends checkpoints, and lets frames out. Times are monotonic, in seconds."""
+from binascii import unhexlify
+from collections import OrderedDict
+
+from host import messages
+from host.dead import Watch
+from host.node import arrive
+
+ALONE, FILLING, PAIRED = "alone", "filling", "paired"
+MOST_PENDING = 4  # checkpoints
+PIECE = 1 << 16  # bytes of a text that are asked for at a time
+QUICK = 100_000  # steps that take the node a fraction of a millisecond
+LATE = 0.1  # a guest that is so many seconds late isn't hurried any more
+QUIET = 0.1  # after so many seconds without a frame a guest that is alone runs in slices of SLOW
+SLOW = 0.005
+CUT_NEEDED = b"13"  # the refusal of a step where the outbox is full
+PAGES_AT = slice(524, 528)  # of a checkpoint's text: how many page records it has
+
+
+class Pending:
+    """A checkpoint that isn't acknowledged: the bytes of its text, and when it was cut."""
+    __slots__ = ("total", "cut_at")
+
+    def __init__(self, total, cut_at):
+        self.total, self.cut_at = total, cut_at
+
+
+class Live:
+    """`host` is the daemon. Its `link` has a connection where the standby is attached."""
+
+    def __init__(self, host, generation, steps, now):
+        self.node, self.network, self.link, self.counts, self.log = host.node, host.network, host.link, host.counts, host.log
+        self.epoch, self.rate = host.settings.epoch_ms, host.settings.steps_per_ms * 1000
+        self.slice = host.settings.steps_per_ms
+        self.generation, self.steps, self.mode = generation, steps, ALONE
+        self.session, self.standby = None, None  # the attachment's name, and who is attached: its name and instance
+        self.pending, self.cut, self.acked = OrderedDict(), None, None
+        self.sending, self.sent = 0, 0  # the checkpoint that is being sent, and how many of its bytes are
+        self.is_full = False  # the outbox: the guest goes on after the next cut
+        self.is_stopped = self.is_frozen = False  # for a drain, or since the host is frozen
+        self.held = 0
+        self.late, self.acked_at, self.waited_since = 0.0, now, None
+        self.longest = 0.0  # seconds in which the guest made no step, though it didn't wait
+        self.watch = Watch()
+        self.start_clock(now)
+
+    def start_clock(self, now):
+        self.guest_begun, self.made = now, 0  # since when the guest runs, and the steps that it made since then
+        self.epoch_begun = self.moved_at = self.ran_at = now
+
+    # What there is to do, and when.
+
+    @property
+    def is_linked(self):
+        return self.session is not None and self.link.has(self.session)
+
+    @property
+    def waits(self):
+        """Whether the guest waits, since the link is gone and no more checkpoints may be pending."""
+        return len(self.pending) >= MOST_PENDING and not self.is_linked
+
+    def may_cut(self):
+        """While the full checkpoint is on its way, the running epoch goes on as long as the outbox has room."""
+        if self.mode == ALONE or len(self.pending) >= MOST_PENDING:
+            return False
+        return self.mode == PAIRED or self.is_full or not self.is_linked
+
+    def due(self, now):
+        """When there is something to do, if nothing comes before; None where there is nothing."""
+        if self.has_to_send():
+            return now
+        if self.is_stopped or self.waits:
+            return None
+        ends = self.epoch_begun + self.epoch if self.may_cut() else None
+        if self.is_full:
+            return ends
+        batch, whole = self.batch(now), max(self.slice, self.epoch * self.rate)
+        if ends is not None and batch >= whole:
+            return ends
+        runs = self.guest_begun + (self.made + min(batch, whole)) / self.rate
+        return runs if ends is None else min(runs, ends)
+
+    def batch(self, now):
+        """How many steps are made at a time: few where they may let frames out."""
+        if self.mode == ALONE:
+            return self.slice if now - self.moved_at < QUIET else min(max(self.slice, int(SLOW * self.rate)), max(self.slice, QUICK))
+        return max(self.slice, QUICK)
+
+    def turn(self, now):
+        if not self.is_stopped:
+            self.run(now)
+        self.send(now)
+
+    # The guest.
+
+    def arrive(self, frames):
+        """Frames came for the guest."""
+        for frame, answer in zip(frames, self.node.tell(*map(arrive, frames))):
+            self.counts.frames_dropped += answer.is_refused
+            self.counts.frames_in += not answer.is_refused
+
+    def run(self, now):
+        """The steps that are due by now, and the epoch's end where that is due."""
+        if self.waits:
+            self.waited_since = self.waited_since or now
+            return
+        if self.waited_since:
+            self.skip(now - self.waited_since)
+            self.waited_since, self.ran_at = None, now
+        steps, ends = self.steps_due(now), self.epoch_ends(now)
+        if steps > 0:
+            self.longest, self.ran_at = max(self.longest, now - self.ran_at), now
+        lines = [b"step %d" % steps] if steps > 0 and not self.is_full else []
+        lines += self.cut_lines() if ends else []
+        if not lines:
+            return
+        answers = self.node.tell(*lines)
+        if lines[0].startswith(b"step"):
+            self.stepped(answers.pop(0), now)
+        if ends:
+            self.was_cut(now, *answers)
+
+    def skip(self, seconds):
+        self.late, self.guest_begun = self.late + seconds, self.guest_begun + seconds
+
+    def steps_due(self, now):
+        behind = (now - self.guest_begun) - self.made / self.rate
+        if behind > LATE:
+            self.skip(behind - LATE)
+        return min(int((now - self.guest_begun) * self.rate) - self.made, self.batch(now))
+
+    def stepped(self, answer, now):
+        if answer.is_refused:
+            self.is_full = True
+            if answer.words[1:2] != [CUT_NEEDED]:
+                self.log.seldom("step", "error", f"the guest can't go on: {b' '.join(answer.words).decode()}")
+            steps = self.node.ask("show").number(-1)
+        else:
+            steps = answer.number(1)
+            self.put(answer.frames, now)
+        self.counts.steps += steps - self.steps
+        self.made, self.steps = self.made + steps - self.steps, steps
+
+    def put(self, frames, now):
+        for frame in frames:
+            self.network.put(frame)
+        if frames:
+            self.counts.frames_out, self.moved_at = self.counts.frames_out + len(frames), now
+
+    # Epochs.
+
+    def epoch_ends(self, now):
+        return self.may_cut() and (now - self.epoch_begun >= self.epoch or self.is_full)
+
+    def cut_lines(self):
+        """A cut, and the first bytes of its text where they are the next that are sent."""
+        number = self.cut + 1
+        is_next = self.is_linked and self.sending == number and self.link.has_room()
+        return [b"cut"] + [b"text %d 0 %d" % (number, PIECE)] * is_next
+
+    def was_cut(self, now, cut, text=None):
+        if cut.is_refused:
+            self.log.seldom("cut", "warning", f"the node can't cut: {b' '.join(cut.words).decode()}")
+            return
+        self.is_full = False
+        if not self.pending:
+            self.acked_at = now
+        self.cut = cut.number(2)
+        self.pending[self.cut] = Pending(cut.number(3), now)
+        self.counts.epochs += 1
+        self.counts.checkpoint_bytes += cut.number(3)
+        length = now - self.epoch_begun
+        # The next one ends in its turn, unless this machine is much too late.
+        self.epoch_begun = max(self.epoch_begun + min(length, self.epoch), now - self.epoch)
+        if text is not None and not text.is_refused:
+            self.send_text(unhexlify(text.words[1]), now)
+
+    # What goes to the standby.
+
+    def has_to_send(self):
+        return self.is_linked and self.cut is not None and self.sending <= self.cut and self.link.has_room()
+
+    def send(self, now):
+        """Sends what there is to send, for a quarter of an epoch at the most."""
+        end = now + self.epoch / 4
+        while self.has_to_send():
+            answer = self.node.ask(f"text {self.sending} {self.sent} {PIECE}")
+            self.send_text(unhexlify(answer.words[1]), now)
+            now = self.link.now()
+            if now >= end:
+                break
+
+    def send_text(self, data, now):
+        number, begin = self.sending, self.sent
+        total = self.pending[number].total
+        if begin == 0:
+            self.watch.see(data, number)
+            self.counts.checkpoint_pages += int.from_bytes(data[PAGES_AT], "little")
+        self.sent += len(data)
+        if self.sent >= total:
+            self.sending, self.sent = number + 1, 0
+        self.link.send(messages.text(self.session, self.generation, number, begin, total, data), now)
+
+    def acknowledge(self, generation, number, now):
+        """The standby has committed all up to this number."""
+        if generation != self.generation or number not in self.pending:
+            return  # it was heard before, or is of another time
+        answer = self.node.tell(b"ack %d %d" % (generation, number))[0]
+        if answer.is_refused:
+            self.log.seldom("ack", "warning", f"the node refuses an acknowledgement: {b' '.join(answer.words).decode()}")
+            return
+        self.counts.acknowledged(now - self.pending[number].cut_at)
+        while self.pending and next(iter(self.pending)) <= number:
+            self.pending.popitem(last=False)
+        self.acked, self.acked_at, self.held = number, now, len(answer.frames)
+        if self.sending <= number:
+            self.sending, self.sent = number + 1, 0
+        if self.mode == FILLING:
+            self.mode = PAIRED
+            self.log.info(f"protected: {self.standby[0]} has the full checkpoint of generation {generation}")
+        self.put(answer.frames, now)
+
+    # Attachments.
+
+    def protect(self, now):
+        """A full checkpoint is cut, for a standby or a file: the next generation begins."""
+        answer = self.node.ask("protect")
+        self.generation, self.mode = answer.number(1), FILLING
+        self.pending = OrderedDict({0: Pending(answer.number(2), now)})
+        self.counts.checkpoint_bytes += answer.number(2)
+        self.cut, self.acked, self.sending, self.sent = 0, None, 0, 0
+        self.acked_at = self.epoch_begun = now
+        self.watch = Watch()
+
+    def attach(self, session, standby, now):
+        self.protect(now)
+        self.session, self.standby = session, standby
+
+    def resume(self, committed, now):
+        """The standby's connection is a new one, and it has committed so much."""
+        if committed is not None:
+            self.acknowledge(self.generation, committed, now)
+        self.sending, self.sent = next(iter(self.pending), self.cut + 1), 0
+
+    def alone(self, now):
+        """The standby has stopped for good: all that is held is let out."""
+        answer = self.node.ask("alone")
+        self.mode, self.session, self.standby = ALONE, None, None
+        self.pending, self.cut, self.acked, self.is_full = OrderedDict(), None, None, False
+        self.moved_at = now
+        self.put(answer.frames, now)
+        if self.waited_since:
+            self.skip(now - self.waited_since)
+            self.waited_since = None

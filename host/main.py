@@ -1,0 +1,87 @@
+"""The command line of `remus-host`."""
+import argparse
+import os
+import sys
+
+from host import ctl, keys, settings
+from host.daemon import Daemon
+from host.logs import Log
+from host.network import Unusable
+from host.node import NodeEnded
+
+TEXT = """The daemon of one host of a pair.
+
+    remus-host run --config FILE       runs the daemon
+    remus-host check --config FILE     checks a configuration, and does no more
+    remus-host keys FOLDER NAME        makes NAME.key and NAME.crt for the link
+    remus-host ctl VERB                asks a daemon that runs: status, promote, alone, drain, demote, save, metrics
+
+docs/OPERATE.md says what each does, key by key and verb by verb."""
+
+
+def reader():
+    form = argparse.RawDescriptionHelpFormatter
+    commands = argparse.ArgumentParser(prog="remus-host", description=TEXT, formatter_class=form)
+    kinds = commands.add_subparsers(dest="command", required=True, metavar="COMMAND")
+    for name, said in (("run", "runs the daemon"), ("check", "checks a configuration, and does no more")):
+        one = kinds.add_parser(name, help=said, description=said)
+        one.add_argument("--config", metavar="FILE", help="the configuration")
+        for key, (_, meaning) in settings.KEYS.items():
+            one.add_argument("--" + key.replace("_", "-"), dest=key, default=argparse.SUPPRESS, metavar="VALUE", help=meaning)
+    one = kinds.add_parser("keys", help="makes a key and its certificate")
+    one.add_argument("folder")
+    one.add_argument("name")
+    ctl.add(kinds)
+    return commands
+
+
+def make_keys(plan):
+    try:
+        if not plan.name.isprintable() or "/" in plan.name or not 0 < len(plan.name.encode()) <= 64:
+            sys.exit(f"remus-host: {plan.name} can't be a name: at most 64 bytes that can be printed, without /")
+        key, certificate = keys.make(plan.folder, plan.name)
+    except OSError as error:
+        print(f"remus-host: {error.filename}: {error.strerror}", file=sys.stderr)
+        return 1
+    print(f"{key} is secret, and stays on this host; {certificate} goes to the other one, as its peer_certificate")
+    return 0
+
+
+def configured(plan):
+    options = {key: getattr(plan, key) for key in settings.KEYS if hasattr(plan, key)}
+    try:
+        return settings.read(plan.config, options)
+    except settings.Mistakes as mistakes:
+        print(mistakes, file=sys.stderr)
+        sys.exit(2)
+
+
+def run(plan):
+    found = configured(plan)
+    log = Log(found.log, found.log_level, found.name)
+    try:
+        daemon = Daemon(found, log)
+    except (NodeEnded, Unusable) as error:
+        log.error(str(error))
+        return 1
+    except OSError as error:
+        log.error(f"{error.filename or ''} {error.strerror or error}".strip())
+        return 1
+    log.info(f"this host is empty; process {os.getpid()}, node {daemon.node.pid}, control socket {found.control}")
+    try:
+        daemon.run()
+    except NodeEnded as error:
+        log.error(f"{error}: what this host held is gone")
+        return 1
+    log.info("ended")
+    return 0
+
+
+def main(words=None):
+    plan = reader().parse_args(words)
+    if plan.command == "keys":
+        return make_keys(plan)
+    if plan.command == "check":
+        configured(plan)
+        return 0
+    return ctl.run(plan) if plan.command == "ctl" else run(plan)

@@ -1,0 +1,99 @@
+"""The messages of the link. Each is its length (4 bytes, big end first), its kind (1), its session's name (16), and its body."""
+import json
+import struct
+
+HELLO, OFFER, READY, RESUME, NO, OVER, TEXT, ACK, PING, GO_LIVE = range(1, 11)
+HEAD = struct.Struct(">IB16s")
+PLACE = struct.Struct(">QQQQ")  # of a text's bytes: generation, number, where they begin, and how many the whole text has
+NUMBER = struct.Struct(">QQ")  # generation and number
+NO_SESSION = bytes(16)
+MOST_BEFORE = 4096  # bytes of a message, before the two hosts have met
+MOST = 1 << 20
+VERSION = 1
+
+
+class Malformed(Exception):
+    """What came isn't a message."""
+
+
+def message(kind, session, body=b""):
+    return HEAD.pack(17 + len(body), kind, session) + body
+
+
+def told(kind, session, /, **fields):
+    """A message whose body is a JSON object."""
+    return message(kind, session, json.dumps(fields, separators=(",", ":")).encode())
+
+
+def text(session, generation, number, begin, total, data):
+    return message(TEXT, session, PLACE.pack(generation, number, begin, total) + data)
+
+
+def acknowledgement(session, generation, number):
+    return message(ACK, session, NUMBER.pack(generation, number))
+
+
+def taken(buffer, most):
+    """The messages that are whole in a bytearray, which then has the rest: triples of kind, session and body."""
+    found, at = [], 0
+    while len(buffer) - at >= 4:
+        length = int.from_bytes(buffer[at:at + 4])
+        if not 17 <= length <= most:
+            raise Malformed(f"a message of {length} bytes")
+        if len(buffer) - at < 4 + length:
+            break
+        kind, session = buffer[at + 4], bytes(buffer[at + 5:at + 21])
+        if not HELLO <= kind <= GO_LIVE:
+            raise Malformed(f"a message of kind {kind}")
+        found.append((kind, session, bytes(buffer[at + 21:at + 4 + length])))
+        at += 4 + length
+    del buffer[:at]
+    return found
+
+
+# By kind: the fields of its JSON object, with the types that they may have.
+TEXTUAL, NUMBERS, TRUTH = (str, type(None)), (int,), (bool,)
+FIELDS = {
+    HELLO: {"version": NUMBERS, "name": TEXTUAL, "instance": TEXTUAL, "role": TEXTUAL, "life": TEXTUAL, "generation": NUMBERS,
+            "session": TEXTUAL, "full": TRUTH, "committed": (int, type(None))},
+    OFFER: {"name": TEXTUAL, "instance": TEXTUAL, "life": TEXTUAL, "generation": NUMBERS, "pages": NUMBERS, "sectors": NUMBERS},
+    RESUME: {"name": TEXTUAL, "instance": TEXTUAL},
+    NO: {"why": TEXTUAL, "role": TEXTUAL, "name": TEXTUAL},
+    OVER: {"why": TEXTUAL, "name": TEXTUAL},
+}
+
+
+def fields(kind, body):
+    """The JSON object of a body, with the fields of its kind and no other."""
+    try:
+        found = json.loads(body)
+    except (ValueError, RecursionError):
+        raise Malformed("a body that isn't JSON") from None
+    wanted = FIELDS[kind]
+    if not isinstance(found, dict) or found.keys() != wanted.keys():
+        raise Malformed("a body without its fields")
+    for name, value in found.items():
+        is_number = isinstance(value, int) and not isinstance(value, bool)
+        if not isinstance(value, wanted[name]) or isinstance(value, bool) != (wanted[name] is TRUTH):
+            raise Malformed(f"a body whose {name} is of a wrong type")
+        if is_number and not 0 <= value < 1 << 62 or isinstance(value, str) and len(value) > 256:
+            raise Malformed(f"a body whose {name} is out of range")
+    return found
+
+
+def numbers(body):
+    """A body's generation and number."""
+    if len(body) != NUMBER.size:
+        raise Malformed("an acknowledgement of a wrong length")
+    return NUMBER.unpack(body)
+
+
+def place(body):
+    """A text's generation, number, begin, total, and these bytes."""
+    if len(body) <= PLACE.size:
+        raise Malformed("a text without bytes")
+    generation, number, begin, total = PLACE.unpack_from(body)
+    data = body[PLACE.size:]
+    if begin + len(data) > total:
+        raise Malformed("a text that is longer than it says")
+    return generation, number, begin, total, data

@@ -1,0 +1,70 @@
+"""What is counted, and its text in Prometheus' form."""
+import resource
+
+BUCKETS = (0.0005, 0.001, 0.002, 0.005, 0.01, 0.025, 0.05, 0.1, 0.25, 1.0)  # seconds from a cut to its acknowledgement
+
+
+class Counts:
+    def __init__(self):
+        self.epochs = self.checkpoint_bytes = self.checkpoint_pages = self.commits = 0
+        self.frames_in = self.frames_out = self.frames_dropped = 0
+        self.steps = self.failovers = self.attachments = self.links = self.dropped_messages = 0
+        self.ack_counts, self.ack_sum = [0] * (len(BUCKETS) + 1), 0.0
+
+    def acknowledged(self, seconds):
+        place = next((place for place, bucket in enumerate(BUCKETS) if seconds <= bucket), len(BUCKETS))
+        self.ack_counts[place] += 1
+        self.ack_sum += seconds
+
+
+def text(host):
+    """All metrics of a daemon."""
+    counts, live, lines = host.counts, host.live, []
+
+    def tell(name, kind, meaning, *values):
+        lines.append(f"# HELP {name} {meaning}")
+        lines.append(f"# TYPE {name} {kind}")
+        lines.extend(f"{name}{labels} {value:.9g}" if isinstance(value, float) else f"{name}{labels} {value}"
+                     for labels, value in values)
+
+    def one(name, kind, meaning, value):
+        tell(name, kind, meaning, ("", value))
+
+    tell("remus_role", "gauge", "1 for the role that this host has.",
+         *((f'{{role="{role}"}}', int(host.role == role)) for role in ("empty", "standby", "live", "frozen")))
+    one("remus_generation", "gauge", "The guest's generation.", host.generation)
+    one("remus_link_up", "gauge", "1 while the peer is attached.", int(host.link.is_up))
+    one("remus_full", "gauge", "1 where the guest could go on here.", int(host.full))
+    one("remus_epochs_total", "counter", "Epochs that ended in a checkpoint.", counts.epochs)
+    one("remus_checkpoint_bytes_total", "counter", "Bytes of checkpoints that were cut or committed here.", counts.checkpoint_bytes)
+    one("remus_checkpoint_pages_total", "counter", "Page records of checkpoints that were sent.", counts.checkpoint_pages)
+    one("remus_commits_total", "counter", "Checkpoints that were committed here.", counts.commits)
+    acknowledgements(lines, counts)
+    one("remus_pending_checkpoints", "gauge", "Checkpoints that are cut and not acknowledged.", len(live.pending) if live else 0)
+    one("remus_frames_in_total", "counter", "Frames that the guest's card was handed.", counts.frames_in)
+    one("remus_frames_out_total", "counter", "Frames of the guest that were let out.", counts.frames_out)
+    one("remus_frames_held", "gauge", "Frames that the last acknowledged checkpoint had held.", live.held if live else 0)
+    one("remus_frames_lost_total", "counter", "Frames that the network didn't take.", host.network.lost)
+    one("remus_frames_dropped_total", "counter", "Frames for the guest that had a wrong length.", counts.frames_dropped)
+    one("remus_messages_dropped_total", "counter", "Messages of the link, and connections, that were dropped.", counts.dropped_messages)
+    one("remus_steps_total", "counter", "Steps that the guest made here.", counts.steps)
+    one("remus_late_seconds_total", "counter", "Guest time that was left out.", float(live.late) if live else 0.0)
+    one("remus_longest_stand_seconds", "gauge", "The longest time in which the guest made no step, but for waiting.",
+        float(live.longest) if live else 0.0)
+    one("remus_failovers_total", "counter", "Times that a standby went live here.", counts.failovers)
+    one("remus_attachments_total", "counter", "Standbys that were attached, or attachments of this one.", counts.attachments)
+    one("remus_links_total", "counter", "Links to the peer that came up.", counts.links)
+    one("remus_node_memory_bytes", "gauge", "Memory of the node's process.", host.node.memory())
+    one("remus_daemon_memory_bytes_max", "gauge", "The most memory that the daemon had.",
+        resource.getrusage(resource.RUSAGE_SELF).ru_maxrss * 1024)
+    return "\n".join(lines) + "\n"
+
+
+def acknowledgements(lines, counts):
+    name = "remus_acknowledgement_seconds"
+    lines += [f"# HELP {name} Time from a cut to its acknowledgement.", f"# TYPE {name} histogram"]
+    total = 0
+    for bucket, count in zip((*BUCKETS, "+Inf"), counts.ack_counts):
+        total += count
+        lines.append(f'{name}_bucket{{le="{bucket}"}} {total}')
+    lines += [f"{name}_sum {counts.ack_sum:.9g}", f"{name}_count {total}"]

@@ -1,0 +1,209 @@
+"""The guest's network: a tap interface, packets of a Unix socket, or none. Frames to the guest are read by `frames`, those from it are
+written by `put`. It carries nothing but while the host is live."""
+import fcntl
+import os
+import socket
+import struct
+
+GUEST_MAC = bytes.fromhex("020000000001")
+LEAST, MOST = 14, 1514  # bytes of a frame
+ARP, EXPERIMENTAL = b"\x08\x06", b"\x88\xb5"
+SET_TAP, SET_ADDRESS = 0x400454CA, 0x8924
+TAP, NO_HEAD = 2, 0x1000
+GET_FLAGS, SET_FLAGS, IS_UP = 0x8913, 0x8914, 1
+ADD_TO_BRIDGE, REMOVE_FROM_BRIDGE = 0x89A2, 0x89A3
+
+
+class Unusable(Exception):
+    """The network can't be had: a sentence that says why."""
+
+
+def announcement(address):
+    """A frame from the guest's address to all, by which bridges learn where it is: a gratuitous ARP, where its IPv4 address is known."""
+    head = b"\xff" * 6 + GUEST_MAC
+    if address is None:
+        return head + EXPERIMENTAL + bytes(46)
+    ip = socket.inet_aton(address)
+    return head + ARP + struct.pack(">HHBBH", 1, 0x800, 6, 4, 1) + GUEST_MAC + ip + bytes(6) + ip + bytes(18)
+
+
+class Quiet:
+    """No network."""
+
+    def __init__(self):
+        self.lost = 0
+
+    def watched(self):
+        """What a wait is to look at."""
+        return []
+
+    def up(self):
+        pass
+
+    def down(self):
+        pass
+
+    def frames(self, most):
+        return []
+
+    def put(self, frame):
+        self.lost += 1
+
+    def close(self):
+        pass
+
+
+class Tap(Quiet):
+    """A tap interface, which is made where it isn't there, and put on a bridge where one is given. It is up while the host is live."""
+
+    def __init__(self, name, bridge):
+        super().__init__()
+        self.name, self.is_up = name, False
+        self.control = socket.socket(socket.AF_INET, socket.SOCK_DGRAM)
+        try:
+            self.file = os.open("/dev/net/tun", os.O_RDWR | os.O_NONBLOCK)
+            fcntl.ioctl(self.file, SET_TAP, struct.pack("16sH22x", name.encode(), TAP | NO_HEAD))
+        except OSError as error:
+            raise Unusable(f"the tap interface {name} can't be had ({error.strerror}): it takes root, and an interface that no other "
+                           "program has") from None
+        self.without_ipv6()
+        if bridge:
+            self.join(bridge)
+
+    def without_ipv6(self):
+        """The host itself has no address on the tap, and sends nothing on it."""
+        try:
+            with open(f"/proc/sys/net/ipv6/conf/{self.name}/disable_ipv6", "w") as switch:
+                switch.write("1")
+        except OSError:
+            pass  # the machine has no IPv6, or doesn't let it be switched: its own frames then reach the guest
+
+    def join(self, bridge):
+        try:
+            index = struct.pack("16si20x", bridge.encode(), socket.if_nametoindex(self.name))
+            fcntl.ioctl(self.control, ADD_TO_BRIDGE, index)
+        except OSError as error:
+            on = f"/sys/class/net/{self.name}/brport/bridge"
+            if not os.path.exists(on) or os.path.basename(os.path.realpath(on)) != bridge:
+                raise Unusable(f"the tap interface {self.name} can't be put on {bridge} ({error.strerror}): is {bridge} a bridge, and the "
+                               "tap on no other one?") from None
+
+    def switch(self, is_up):
+        request = struct.pack("16sH22x", self.name.encode(), 0)
+        try:
+            flags = struct.unpack_from("H", fcntl.ioctl(self.control, GET_FLAGS, request), 16)[0]
+            flags = flags | IS_UP if is_up else flags & ~IS_UP
+            fcntl.ioctl(self.control, SET_FLAGS, struct.pack("16sH22x", self.name.encode(), flags))
+        except OSError:
+            pass  # frames are lost then, as on any line that is down
+        self.is_up = is_up
+
+    def watched(self):
+        return [self.file] if self.is_up else []
+
+    def up(self):
+        self.frames(1 << 20)  # what lay there is of another time
+        self.switch(True)
+
+    def down(self):
+        self.switch(False)
+
+    def frames(self, most):
+        came = []
+        try:
+            while len(came) < most:
+                came.append(os.read(self.file, 2048))
+        except OSError:
+            pass  # there is no more, or the interface is down
+        return came
+
+    def put(self, frame):
+        try:
+            os.write(self.file, frame)
+        except OSError:
+            self.lost += 1  # the interface is down or full
+
+    def close(self):
+        os.close(self.file)
+        self.control.close()
+
+
+class Packets(Quiet):
+    """A Unix socket that listens (SOCK_SEQPACKET), each of whose packets is a frame. Who connects last is the network."""
+
+    def __init__(self, path):
+        super().__init__()
+        self.path, self.is_up, self.line = path, False, None
+        try:
+            if os.path.exists(path):
+                os.unlink(path)
+            self.socket = socket.socket(socket.AF_UNIX, socket.SOCK_SEQPACKET)
+            self.socket.setblocking(False)
+            self.socket.bind(path)
+            os.chmod(path, 0o600)
+            self.socket.listen(4)
+        except OSError as error:
+            raise Unusable(f"the socket {path} can't be had: {error.strerror}") from None
+
+    def watched(self):
+        return [self.socket] + ([self.line] if self.line and self.is_up else [])
+
+    def up(self):
+        self.frames(1 << 20)  # what lay there is of another time
+        self.is_up = True
+
+    def down(self):
+        self.is_up = False
+
+    def accept(self):
+        try:
+            line = self.socket.accept()[0]
+        except OSError:
+            return
+        self.hang_up()
+        line.setblocking(False)
+        line.setsockopt(socket.SOL_SOCKET, socket.SO_SNDBUF, 1 << 21)
+        self.line = line
+
+    def hang_up(self):
+        if self.line:
+            self.line.close()
+        self.line = None
+
+    def frames(self, most):
+        self.accept()
+        came = []
+        try:
+            while self.line and len(came) < most:
+                frame = self.line.recv(2048)
+                if not frame:
+                    self.hang_up()
+                came.append(frame)
+        except BlockingIOError:
+            pass
+        except OSError:
+            self.hang_up()
+        return came
+
+    def put(self, frame):
+        try:
+            self.line.send(frame)
+        except (OSError, AttributeError):
+            self.lost += 1  # nobody is there, or the buffer is full
+
+    def close(self):
+        self.hang_up()
+        self.socket.close()
+        try:
+            os.unlink(self.path)
+        except OSError:
+            pass
+
+
+def network(settings):
+    """The network that the settings name. Raises Unusable."""
+    if settings.network == "tap":
+        return Tap(settings.tap, settings.bridge)
+    if settings.network == "socket":
+        return Packets(settings.frames)
+    return Quiet()

@@ -1,0 +1,127 @@
+"""The node's process, and its lines: docs/NODES.md."""
+import fcntl
+import os
+import subprocess
+from binascii import hexlify, unhexlify
+
+PIPE_BYTES = 1 << 20
+BUFFER = 1 << 18  # bytes, above those of a line with a piece of a text
+SET_PIPE_SIZE = 1031  # F_SETPIPE_SZ
+WITH_FRAMES = (b"steps", b"acked", b"alone")
+
+
+class NodeEnded(Exception):
+    """The node's process is gone, or its pipes are."""
+
+
+class Refused(Exception):
+    """The node refused a line: `number` and `name` of the refusal, and the whole answer as text."""
+
+    def __init__(self, answer):
+        words = answer.split()
+        self.number = int(words[1]) if len(words) > 1 and words[1].isdigit() else 0
+        self.name = words[2] if len(words) > 2 else answer
+        super().__init__(answer)
+
+
+class Answer:
+    """An answer's words, and the frames that follow it. `is_refused` where it is a refusal, or `bad`."""
+    __slots__ = ("words", "frames")
+
+    def __init__(self, line, frames=()):
+        self.words, self.frames = line.split(), frames
+
+    @property
+    def is_refused(self):
+        return self.words[0] in (b"refused", b"bad")
+
+    def number(self, place):
+        return int(self.words[place])
+
+    def checked(self):
+        """The answer itself. Raises Refused where it is a refusal."""
+        if self.is_refused:
+            raise Refused(b" ".join(self.words).decode())
+        return self
+
+
+class Node:
+    """A node, in this daemon's process group."""
+
+    def __init__(self, command):
+        try:
+            self.process = subprocess.Popen(command, stdin=subprocess.PIPE, stdout=subprocess.PIPE, bufsize=BUFFER)
+        except OSError as error:
+            raise NodeEnded(f"{command[0]} can't be started: {error.strerror}") from None
+        self.input, self.output = self.process.stdin, self.process.stdout
+        for pipe in (self.input, self.output):
+            try:
+                fcntl.fcntl(pipe.fileno(), SET_PIPE_SIZE, PIPE_BYTES)
+            except OSError:
+                pass  # it works with the size it has
+        self.pid = self.process.pid
+        if self.tell(b"show")[0].words[:1] != [b"mode"]:
+            self.close()
+            raise NodeEnded(f"{' '.join(command)} doesn't answer as a node does")
+
+    def tell(self, *lines):
+        """The answers to these lines. Together they, or their answers, fit into a pipe, but for the last one's."""
+        try:
+            self.input.write(b"".join(line + b"\n" for line in lines))
+            self.input.flush()
+        except (BrokenPipeError, ValueError):
+            raise NodeEnded(self.end()) from None
+        return [self.answer() for _ in lines]
+
+    def ask(self, line):
+        """The answer to one line, as text is given. Raises Refused."""
+        return self.tell(line.encode())[0].checked()
+
+    def answer(self):
+        line = self.line()
+        if not line.startswith(WITH_FRAMES):
+            return Answer(line)
+        frames = [unhexlify(self.line()[6:]) for _ in range(int(line[line.rindex(b" "):]))]
+        return Answer(line, frames)
+
+    def line(self):
+        line = self.output.readline()
+        if not line.endswith(b"\n"):
+            raise NodeEnded(self.end())
+        return line[:-1]
+
+    def end(self):
+        """How the process ended."""
+        try:
+            self.process.wait(timeout=1)
+        except subprocess.TimeoutExpired:
+            pass  # its pipes are closed, and it isn't needed without them
+        self.close()
+        return f"the node ended, status {self.process.returncode}"
+
+    def close(self):
+        """Kills the process, and waits until it is gone."""
+        if self.process.poll() is None:
+            self.process.kill()
+        for pipe in (self.input, self.output):
+            try:
+                pipe.close()
+            except OSError:
+                pass
+        self.process.wait()
+
+    def memory(self):
+        """The bytes of memory that the process has now."""
+        try:
+            with open(f"/proc/{self.pid}/statm") as numbers:
+                return int(numbers.read().split()[1]) * os.sysconf("SC_PAGE_SIZE")
+        except (OSError, IndexError):
+            return 0
+
+
+def arrive(frame):
+    return b"arrive " + hexlify(frame)
+
+
+def piece(data):
+    return b"piece " + hexlify(data)

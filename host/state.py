@@ -1,0 +1,48 @@
+"""The state folder: what must outlive the daemon is one file, which says that a guest was booted or held here."""
+import fcntl
+import json
+import os
+import time
+from pathlib import Path
+
+
+class State:
+    """Raises OSError where the folder can't be used."""
+
+    def __init__(self, folder):
+        self.folder = Path(folder)
+        self.folder.mkdir(parents=True, exist_ok=True)
+        self.file = self.folder / "life.json"
+        self.lock = open(self.folder / "lock", "w")
+        try:
+            fcntl.flock(self.lock, fcntl.LOCK_EX | fcntl.LOCK_NB)
+        except OSError:
+            raise OSError(None, "another remus-host has it") from None
+
+    @property
+    def booted_before(self):
+        return self.file.exists()
+
+    def keep(self, life, generation, how):
+        """Writes down that this life was here; it is on the disk when this returns."""
+        written(self.file, json.dumps({"life": life, "generation": generation, "how": how, "at": time.time()}).encode() + b"\n")
+
+
+def written(path, data):
+    """Puts a file in a place as a whole, or leaves what is there. Raises OSError."""
+    path = Path(path)
+    beside = path.with_name(f".{path.name}.{os.getpid()}")
+    try:
+        with open(beside, "wb") as file:
+            file.write(data)
+            file.flush()
+            os.fsync(file.fileno())
+        os.replace(beside, path)
+    except OSError:
+        beside.unlink(missing_ok=True)
+        raise
+    folder = os.open(path.parent, os.O_RDONLY)
+    try:
+        os.fsync(folder)
+    finally:
+        os.close(folder)
