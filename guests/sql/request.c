@@ -44,8 +44,8 @@ static enum method method_of(const char *at, uint32_t length) {
 static int read_line(const char *at, uint32_t length, struct request *request) {
     const char *end = at + length, *first = memchr(at, ' ', length);
     const char *second = first == NULL ? NULL : memchr(first + 1, ' ', (size_t)(end - first - 1));
-    if (second == NULL || !begins(second + 1, (uint32_t)(end - second - 1), "HTTP/1.") || first[1] != '/')
-        return first != NULL && first + 1 < end && first[1] == '*' ? 0 : 400;
+    if (second == NULL || !begins(second + 1, (uint32_t)(end - second - 1), "HTTP/1.") || (first[1] != '/' && first[1] != '*'))
+        return 400;
     const char *asked = memchr(first, '?', (size_t)(second - first));
     const char *path_end = asked == NULL ? second : asked;
     size_t path = (size_t)(path_end - first - 1);

@@ -26,6 +26,12 @@ def library() -> str:
     return found.group() if found else sys.exit("this Python has no libsqlite3.so: its SQLite can't be linked with")
 
 
+def secret(password: str) -> str:
+    """What a build keeps of a password, as C."""
+    return subprocess.run([sys.executable, GUEST / "secret.py"], env={**os.environ, "PASSWORD": password}, check=True, capture_output=True,
+                          text=True).stdout
+
+
 class Built:
     """The programs, in a folder."""
 
@@ -49,11 +55,21 @@ class Built:
     def link_served(self, password: str) -> None:
         """`served`, or `served_PASSWORD`."""
         name = f"served_{password}".rstrip("_")
-        printed = subprocess.run([sys.executable, GUEST / "secret.py"], env={**os.environ, "PASSWORD": password}, check=True,
-                                 capture_output=True, text=True).stdout
-        (self.room / f"{name}_key.c").write_text(printed)
+        (self.room / f"{name}_key.c").write_text(secret(password))
         self.run("-c", self.room / f"{name}_key.c", "-o", self.room / f"{name}_key.o")
         self.link(name, [*FILES, *SESSIONS, "disk", "served", f"{name}_key"])
+
+
+def own(room: Path, amalgamation: Path) -> Built:
+    """`served` over SQLite's own source, as the guest has it: a folder that guests/sql/build.sh has filled. The disk is the guest's."""
+    built = Built.__new__(Built)
+    built.room, built.compiler = room, shutil.which("cc") or "gcc"
+    options = (amalgamation / "options").read_text().split()
+    (room / "served_own_key.c").write_text(secret(""))
+    sources = [GUEST / f"{name}.c" for name in dict.fromkeys([*FILES, *SESSIONS])] + [HERE / f"{name}.c" for name in ("disk", "served", "own")]
+    subprocess.run([built.compiler, "-std=gnu11", "-O2", "-w", *options, f"-I{amalgamation}", f"-I{GUEST}", "-o", room / "served_own",
+                    room / "served_own_key.c", *sources, amalgamation / "sqlite3.c", "-lm"], check=True)
+    return built
 
 
 class Served:
