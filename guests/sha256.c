@@ -1,16 +1,5 @@
 /* The SHA-256 (FIPS 180-4) of "abc", at 0x80001000. Answers its first eight bytes, the first one highest. */
-typedef unsigned u32;
-
-static const u32 k[64] = {
-    0x428a2f98, 0x71374491, 0xb5c0fbcf, 0xe9b5dba5, 0x3956c25b, 0x59f111f1, 0x923f82a4, 0xab1c5ed5,
-    0xd807aa98, 0x12835b01, 0x243185be, 0x550c7dc3, 0x72be5d74, 0x80deb1fe, 0x9bdc06a7, 0xc19bf174,
-    0xe49b69c1, 0xefbe4786, 0x0fc19dc6, 0x240ca1cc, 0x2de92c6f, 0x4a7484aa, 0x5cb0a9dc, 0x76f988da,
-    0x983e5152, 0xa831c66d, 0xb00327c8, 0xbf597fc7, 0xc6e00bf3, 0xd5a79147, 0x06ca6351, 0x14292967,
-    0x27b70a85, 0x2e1b2138, 0x4d2c6dfc, 0x53380d13, 0x650a7354, 0x766a0abb, 0x81c2c92e, 0x92722c85,
-    0xa2bfe8a1, 0xa81a664b, 0xc24b8b70, 0xc76c51a3, 0xd192e819, 0xd6990624, 0xf40e3585, 0x106aa070,
-    0x19a4c116, 0x1e376c08, 0x2748774c, 0x34b0bcb5, 0x391c0cb3, 0x4ed8aa4a, 0x5b9cca4f, 0x682e6ff3,
-    0x748f82ee, 0x78a5636f, 0x84c87814, 0x8cc70208, 0x90befffa, 0xa4506ceb, 0xbef9a3f7, 0xc67178f2,
-};
+#include "lib/sha256.h"
 
 static const unsigned char text[] = {'a', 'b', 'c'};
 
@@ -18,34 +7,6 @@ static const unsigned char text[] = {'a', 'b', 'c'};
 static unsigned char block[64];
 
 __attribute__((section(".answer"))) unsigned char digest[32];
-
-static u32 rotated(u32 x, int n) { return x >> n | x << (32 - n); }
-
-static u32 big_endian(const unsigned char *bytes) {
-    return (u32)bytes[0] << 24 | (u32)bytes[1] << 16 | (u32)bytes[2] << 8 | bytes[3];
-}
-
-static void compress(u32 state[8], const unsigned char *block) {
-    u32 w[64];
-    for (int t = 0; t < 16; t++)
-        w[t] = big_endian(block + 4 * t);
-    for (int t = 16; t < 64; t++) {
-        u32 s0 = rotated(w[t - 15], 7) ^ rotated(w[t - 15], 18) ^ w[t - 15] >> 3;
-        u32 s1 = rotated(w[t - 2], 17) ^ rotated(w[t - 2], 19) ^ w[t - 2] >> 10;
-        w[t] = s1 + w[t - 7] + s0 + w[t - 16];
-    }
-    u32 a = state[0], b = state[1], c = state[2], d = state[3];
-    u32 e = state[4], f = state[5], g = state[6], h = state[7];
-    for (int t = 0; t < 64; t++) {
-        u32 s1 = rotated(e, 6) ^ rotated(e, 11) ^ rotated(e, 25);
-        u32 t1 = h + s1 + ((e & f) ^ (~e & g)) + k[t] + w[t];
-        u32 s0 = rotated(a, 2) ^ rotated(a, 13) ^ rotated(a, 22);
-        u32 t2 = s0 + ((a & b) ^ (a & c) ^ (b & c));
-        h = g, g = f, f = e, e = d + t1, d = c, c = b, b = a, a = t1 + t2;
-    }
-    state[0] += a, state[1] += b, state[2] += c, state[3] += d;
-    state[4] += e, state[5] += f, state[6] += g, state[7] += h;
-}
 
 unsigned long main(void) {
     u32 state[8] = {

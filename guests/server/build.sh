@@ -10,70 +10,30 @@
 # LISTING names a folder for the programs as they were linked, and their listings.
 set -eu
 here=$(dirname "$(readlink -f "$0")")
-version=2.1.3+dfsg1
-revision=2
 room=$(mktemp -d)
 trap 'rm -rf "$room"' EXIT
-
-# Fetches the source package's files by apt, whose lists of sources are made for this from those of packages.
-fetch() {
-    local list apt
-    mkdir -p "$room/apt/parts" "$room/apt/lists/partial"
-    for list in /etc/apt/sources.list /etc/apt/sources.list.d/*.list; do
-        [ ! -e "$list" ] || sed 's/^deb /deb-src /' "$list" >"$room/apt/parts/$(basename "$list" .list).list"
-    done
-    for list in /etc/apt/sources.list.d/*.sources; do
-        [ ! -e "$list" ] || sed 's/^Types:.*/Types: deb-src/' "$list" >"$room/apt/parts/$(basename "$list")"
-    done
-    apt="apt-get -q -o APT::Sandbox::User=root -o Dir::Etc::SourceList=/dev/null -o Dir::Etc::SourceParts=$room/apt/parts
-        -o Dir::State::Lists=$room/apt/lists"
-    # A place that has no sources spoils nothing.
-    $apt update >"$room/apt/said" 2>&1 || true
-    (cd "$room" && $apt source --download-only "lwip=$version-$revision") >>"$room/apt/said" 2>&1 || {
-        cat "$room/apt/said" >&2
-        echo "$0: apt doesn't have the sources of lwip $version-$revision; SOURCES=FOLDER names a folder that has them" >&2
-        exit 1
-    }
-}
-
-# known NAME SHA256: whether a file of the source package is the one that was built from when the words were committed.
-known() { (cd "$room" && echo "$2  $1" | sha256sum --check --quiet); }
-
-if [ -n "${SOURCES:-}" ]; then
-    cp "$SOURCES"/lwip_* "$room"
-else
-    fetch
-fi
-known "lwip_$version.orig.tar.xz" 0a8276d09fc4e97bbba2f953d74af2388fc2195ea156be9d7589e297a68fde24
-known "lwip_$version-$revision.debian.tar.xz" c5a48413d362cc757032cdd58f528f75eb64ee781ca46ca24f010b49b0e62a90
-mkdir "$room/lwip"
-tar -xf "$room/lwip_$version.orig.tar.xz" -C "$room/lwip" --strip-components=1
-tar -xf "$room/lwip_$version-$revision.debian.tar.xz" -C "$room/lwip"
-while read -r name; do
-    patch -s -d "$room/lwip" -p1 <"$room/lwip/debian/patches/$name"
-done <"$room/lwip/debian/patches/series"
+. "$here/../lib/debian.sh"
 
 service=
 if [ "${1:-}" = --service ]; then
     service=$(readlink -f "${2:?build.sh --service FILE [STEPS]}")
     [ -r "$service" ] || { echo "$0: cannot read $2" >&2; exit 1; }
 fi
+fetch "$lwip_package"
+unpack_lwip
 cp -r "$here" "$room/server"
 cp -r "$here/../lib" "$room/lib"
 cd "$room"
-core="init def inet_chksum ip mem memp netif pbuf tcp tcp_in tcp_out timeouts
-    ipv4/etharp ipv4/icmp ipv4/ip4 ipv4/ip4_addr"
 sources="server/server.c server/files.c server/disk.c server/network.c server/reopen.c server/libc/libc.c"
-for name in $core; do
-    sources="$sources lwip/src/core/$name.c"
-done
-sources="$sources lwip/src/netif/ethernet.c"
+applications="apps/http/httpd apps/http/fs"
 if [ -n "$service" ]; then
     cp "$service" own.c
-    sources="own.c server/service.c server/network.c server/reopen.c server/libc/libc.c ${sources#*libc.c }"
-else
-    sources="$sources lwip/src/apps/http/httpd.c lwip/src/apps/http/fs.c"
+    sources="own.c server/service.c server/network.c server/reopen.c server/libc/libc.c"
+    applications=
 fi
+for name in $lwip_core $applications; do
+    sources="$sources lwip/src/$name.c"
+done
 
 # compile NAME STEPS: NAME.words, of a server to which so many steps are a millisecond. The paths are the same in every folder, so that the
 # words are; lwIP's files warn of nothing under -Wall alone.

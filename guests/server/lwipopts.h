@@ -18,9 +18,11 @@
 /* A word is aligned to 8 bytes here: pointers have as many. */
 #define MEM_ALIGNMENT 8
 
-/* Places for 32 connections: each has the server's state and a buffer, a window of frames on their way with the segments that hold them,
+/* Places for 32 connections, where a guest names no other number: each has the server's state and a buffer, a window of frames on their way with the segments that hold them,
    and parts of frames that stand in no buffer. */
+#ifndef CONNECTIONS
 #define CONNECTIONS 32
+#endif
 #define MEMP_NUM_TCP_PCB CONNECTIONS
 #define MEMP_NUM_TCP_SEG (CONNECTIONS * TCP_SND_QUEUELEN)
 #define MEMP_NUM_PBUF (CONNECTIONS * 8)

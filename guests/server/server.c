@@ -1,11 +1,10 @@
-/* A web server at 10.0.0.1: lwIP's TCP/IP stack and its own server (apps/http), over the drivers beside this file. One loop takes in
-   a frame that came and does what is due: where many clients ask for much the next frame is there before the last one is dealt with, and
-   what is due, such as the repetition of a frame that was lost, can't wait until none is. */
-#include "disk.h"
-#include "files.h"
+/* A guest at 10.0.0.1: lwIP's TCP/IP stack over the drivers beside this file, and what guest.h names: lwIP's own web server (apps/http), or
+   the database of ../sql. One loop takes in a frame that came and does what is due: where many clients ask for much the next frame is there
+   before the last one is dealt with, and what is due, such as the repetition of a frame that was lost, can't wait until none is. */
+#include <guest.h>
+
 #include "network.h"
 
-#include "lwip/apps/httpd.h"
 #include "lwip/init.h"
 #include "lwip/ip4_addr.h"
 #include "lwip/netif.h"
@@ -32,16 +31,17 @@ int main(void) {
     IP4_ADDR(&address, 10, 0, 0, 1);
     IP4_ADDR(&mask, 255, 255, 255, 0);
     ip4_addr_set_zero(&gateway);
-    if (!files_start())
+    if (!guest_start())
         stop();
     lwip_init();
     if (netif_add(&netif, &address, &mask, &gateway, NULL, network_start, ethernet_input) == NULL)
         stop();
     netif_set_default(&netif);
     netif_set_up(&netif);
-    httpd_init();
+    guest_listen();
     for (;;) {
         network_poll(&netif);
+        guest_poll();
         sys_check_timeouts();
     }
 }

@@ -61,8 +61,9 @@ class Program:
 class Hosts:
     """Two hosts, of which one may be missing. `put` gets each frame that a client takes, with the client's number."""
 
-    def __init__(self, program, boot, clients, put, link=0.0, lose_in=0, lose_out=0):
+    def __init__(self, program, boot, clients, put, link=0.0, lose_in=0, lose_out=0, is_gated=True):
         self.say, self.clients, self.put, self.link, self.lose_in, self.lose_out = program.say, clients, put, link, lose_in, lose_out
+        self.is_gated = is_gated  # else the program's gate lets frames go at once, and clients take them as they come
         self.mode, self.generation, self.steps = PAIRED, 1, 0
         self.live, self.backup, self.last = 1, 2, 2  # the hosts by number, and the last number
         self.next, self.acked = 1, 0  # checkpoints: the next number, and the last one that was acknowledged
@@ -84,7 +85,7 @@ class Hosts:
         answers = self.say([f"step {count}" for count in counts])
         self.is_full = answers[-1].startswith("refused")
         self.steps = self.shown("steps") if self.is_full else int(answers[-1].split()[1])
-        if self.mode == ALONE:
+        if self.mode == ALONE or not self.is_gated:
             self.collect()
 
     def shown(self, what):

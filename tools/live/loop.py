@@ -38,7 +38,8 @@ class Loop:
     def __init__(self, plan, program, boot, networks, screen, rng, clock):
         self.plan, self.screen, self.rng, self.clock = plan, screen, rng, clock
         self.networks = {network.client: network for network in networks}
-        self.hosts = Hosts(program, boot, list(self.networks), self.put, plan.link, plan.lose_in, plan.lose_out)
+        self.hosts = Hosts(program, boot, list(self.networks), self.put, plan.link, plan.lose_in, plan.lose_out,
+                           not getattr(plan, "no_gate", False))
         self.rate = plan.steps_per_ms * 1000
         self.slice = plan.steps_per_ms
         now = clock.now()

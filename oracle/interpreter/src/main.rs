@@ -4,6 +4,8 @@
 //! `interpreter run WORDS STEPS` runs the words of a file for so many steps, and prints its registers and the speed.
 //! `interpreter until WORDS MOST` runs until the guest jumps to itself, and says after how many steps that is.
 //! `interpreter sim SCRIPT` plays a script of `remus sim`.
+//! `interpreter live [without-gate]` answers each line of a script on standard input as it comes, as `remus live` does; `without-gate`:
+//! what the guest sends is on its way at once, so that a failure loses what was told to clients.
 //! `interpreter node` is `remus node`, whose lines and answers docs/NODES.md has.
 //! `interpreter copy BYTES TIMES` copies so many bytes in memory so often.
 //! `interpreter frames FILE PAGES SECTORS ROUNDS` encodes and reads the checkpoint of a file, of such a machine, again and again, and prints
@@ -37,6 +39,7 @@ mod virtio;
 use hart::{Machine, RAM_BASE};
 use pair::Pair;
 use protect::Zeros;
+use std::io::{BufRead, Write};
 use std::time::Instant;
 
 const PAGES: usize = 64;
@@ -51,6 +54,8 @@ fn main() {
         ["run", file, steps] => run(file, parsed(steps, "a number of steps")),
         ["until", file, most] => until(file, parsed(most, "a number of steps")),
         ["sim", file] => sim(file),
+        ["live"] => live(true),
+        ["live", "without-gate"] => live(false),
         ["node"] => {
             if lines::play().is_err() {
                 std::process::exit(1);
@@ -132,7 +137,7 @@ fn main() {
         }
         _ => {
             eprintln!(
-                "usage: interpreter run WORDS STEPS | until WORDS MOST | sim SCRIPT | node | copy BYTES TIMES\n\
+                "usage: interpreter run WORDS STEPS | until WORDS MOST | sim SCRIPT | live [without-gate] | node | copy BYTES TIMES\n\
                  | checkpoints PAGES BLOCKS ROUNDS | frames FILE ROUNDS | images COUNT\n\
                  | protect PAGES SECTORS WORDS STEPS ZEROS ROUNDS | states WORDS RUNS SEED"
             );
@@ -230,6 +235,29 @@ fn sim(file: &str) {
                 std::process::exit(1);
             }
         }
+    }
+}
+
+fn live(is_gated: bool) {
+    let (mut input, mut output) = (std::io::stdin().lock(), std::io::stdout().lock());
+    let (mut pair, mut line) = (None, String::new());
+    while input.read_line(&mut line).expect("lines of text") > 0 {
+        let told = line.trim_end_matches('\n');
+        if !told.is_empty() && !told.starts_with('#') {
+            let answer = match &mut pair {
+                None => boot(told).map(|started| {
+                    pair = Some(if is_gated {
+                        started
+                    } else {
+                        started.without_gate()
+                    });
+                    "booted".into()
+                }),
+                Some(pair) => pair.obey(told),
+            };
+            writeln!(output, "{}", answer.as_deref().unwrap_or("bad")).expect("a reader");
+        }
+        line.clear();
     }
 }
 

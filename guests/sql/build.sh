@@ -1,0 +1,94 @@
+#!/usr/bin/env bash
+# Fetches Debian's source packages of SQLite and lwIP, builds them with the sources beside this script and those of ../server, and prints
+# the boot line of a guest: SQLite at 10.0.0.1, over PostgreSQL's protocol on port 5432 and over HTTP on port 80:
+#
+#   PASSWORD=secret guests/sql/build.sh >sql.sim
+#   guests/sql/build.sh STEPS >sql.sim     so many of the guest's steps are a millisecond to it (50000)
+#
+# It takes about a minute. Nothing of SQLite or lwIP is kept here, and nothing of either is changed but by Debian's own patches. What is
+# told by variables:
+#
+#   PASSWORD        what clients must know, in ASCII; without it anyone who reaches the guest may read and write
+#   DATE            the day on which the guest begins, in UTC (2026-01-01): the machine knows how long it runs, not which day it is
+#   CLIENTS         how many clients the boot line has (1)
+#   SOURCES         a folder that has the source packages' files already
+#   ELF             a file that gets the program as it was linked
+#   AMALGAMATION    a folder that gets sqlite3.c and sqlite3.h, which are SQLite in one file, and `options`, what the compiler was told of it
+set -eu
+here=$(dirname "$(readlink -f "$0")")
+steps=${1:-50000} pages=8192 sectors=32768
+version=3.40.1 revision=2+deb12u2
+
+# The packages that it stands on, by a command or a file of each.
+missing=
+needs() { [ -n "$(command -v "$1" || true)" ] || [ -e "$1" ] || missing="$missing $2"; }
+needs riscv64-unknown-elf-gcc gcc-riscv64-unknown-elf
+needs /usr/lib/picolibc/riscv64-unknown-elf picolibc-riscv64-unknown-elf
+needs gcc gcc
+needs make make
+needs patch patch
+needs tclsh tcl
+needs xz xz-utils
+needs python3 python3
+[ -n "${SOURCES:-}" ] || needs dpkg-source dpkg-dev
+if [ -n "$missing" ]; then
+    echo "$0: not installed: apt-get install$missing" >&2
+    exit 1
+fi
+
+room=$(mktemp -d)
+trap 'rm -rf "$room"' EXIT
+. "$here/../lib/debian.sh"
+fetch "$lwip_package" "sqlite3=$version-$revision"
+unpack_lwip
+known "sqlite3_$version.orig.tar.xz" aaa776260ab4dc976db34aa7891819484c8676b5b2783123ebc6301e2ca5d655
+known "sqlite3_$version-$revision.debian.tar.xz" 0843bc12e4364076477935ce313a6d0796fd899a989ff18ebb6545540e10e4ca
+unpack sqlite "sqlite3_$version.orig.tar.xz" "sqlite3_$version-$revision.debian.tar.xz"
+
+# SQLite in one file, by its own Makefile.
+mkdir "$room/one"
+(cd "$room/one" && ../sqlite/configure --disable-tcl --disable-readline && make sqlite3.c) >"$room/one/said" 2>&1 || {
+    cat "$room/one/said" >&2
+    exit 1
+}
+
+# What SQLite is told of this system (https://sqlite.org/compile.html): a file system and memory of ours, one thread, nothing loaded, a
+# small cache for each of many connections; and what clients of PostgreSQL expect: foreign keys hold, and "a" is never a string.
+options="-DSQLITE_OS_OTHER=1 -DSQLITE_THREADSAFE=0 -DSQLITE_OMIT_LOAD_EXTENSION -DSQLITE_TEMP_STORE=3 -DSQLITE_DEFAULT_MEMSTATUS=0
+    -DSQLITE_ENABLE_MEMSYS5 -DSQLITE_ZERO_MALLOC -DSQLITE_OMIT_LOCALTIME -DSQLITE_DQS=0 -DSQLITE_OMIT_DEPRECATED
+    -DSQLITE_OMIT_SHARED_CACHE -DSQLITE_USE_ALLOCA -DSQLITE_MAX_MMAP_SIZE=0 -DSQLITE_DEFAULT_CACHE_SIZE=-256
+    -DSQLITE_DEFAULT_WAL_AUTOCHECKPOINT=250 -DSQLITE_DEFAULT_FOREIGN_KEYS=1 -DNDEBUG"
+if [ -n "${AMALGAMATION:-}" ]; then
+    mkdir -p "$AMALGAMATION"
+    cp "$room/one/sqlite3.c" "$room/one/sqlite3.h" "$AMALGAMATION"
+    echo "$options" | tr -s ' \n' ' ' >"$AMALGAMATION/options"
+fi
+
+# The password as SCRAM keeps it, and the day.
+export PASSWORD=${PASSWORD:-}
+python3 "$here/secret.py" >"$room/secret.c"
+[ -n "$PASSWORD" ] || echo "$0: there is no PASSWORD: anyone who reaches this guest may read and write its database" >&2
+began=$(($(date -u -d "${DATE:-2026-01-01}" +%s) * 1000 + 210866760000000))
+
+cp -r "$here" "$room/sql"
+cp -r "$here/../server" "$here/../lib" "$room"
+cd "$room"
+sources="secret.c server/server.c server/disk.c server/network.c server/reopen.c one/sqlite3.c"
+for name in guest vfs locks text digest password scram statement session work query rows messages parameters extended postgres request \
+    table page http connections; do
+    sources="$sources sql/$name.c"
+done
+for name in $lwip_core; do
+    sources="$sources lwip/src/$name.c"
+done
+
+# shellcheck disable=SC2086
+riscv64-unknown-elf-gcc --specs=picolibc.specs -march=rv64im -misa-spec=2.2 -mabi=lp64 -mcmodel=medany -mno-relax -mstrict-align -O2 \
+    -std=gnu11 -nostartfiles -static -fno-pic -fno-asynchronous-unwind-tables -ffunction-sections -fdata-sections -Wl,--gc-sections \
+    -Wl,--no-relax -Wl,--build-id=none -Wl,--no-warn-rwx-segments -Wl,--defsym=pages="$pages",--defsym=stack_bytes=2097152 \
+    -T lib/guest.ld -DSTEPS_A_MILLISECOND="$steps" -DBEGAN="${began}LL" $options -Isql -Iserver -Ilwip/src/include -Ione \
+    -o sql.elf lib/start.s $sources
+riscv64-unknown-elf-objcopy -O binary -j .image sql.elf sql.bin
+[ -z "${ELF:-}" ] || cp sql.elf "$ELF"
+echo "boot $pages $sectors ${CLIENTS:-1} words $(od -An -v -tx4 -w4 --endian=little sql.bin | tr -d ' ' | paste -sd' ')"
+echo "$(($(stat -c %s sql.bin) / 4)) words" >&2

@@ -1,0 +1,135 @@
+#include "connections.h"
+
+#include "http.h"
+#include "postgres.h"
+#include "session.h"
+
+#include "lwip/pbuf.h"
+#include "lwip/tcp.h"
+
+#define MOST_AT_ONCE 0xffff
+
+/* A client that says nothing is asked after half a minute whether it is still there, and is given up after five questions more without an
+   answer. Failures of hosts are shorter. */
+#define KEEP_IDLE 30000
+#define KEEP_EVERY 6000
+#define KEEP_COUNT 5
+
+static void send(struct session *session) {
+    struct tcp_pcb *connection = session->connection;
+    struct text *out = &session->out;
+    while (session->sent < out->length) {
+        uint32_t count = LWIP_MIN(out->length - session->sent, LWIP_MIN(tcp_sndbuf(connection), MOST_AT_ONCE));
+        if (count == 0 || tcp_write(connection, out->bytes + session->sent, (u16_t)count, TCP_WRITE_FLAG_COPY) != ERR_OK)
+            break;
+        session->sent += count;
+    }
+    if (session->sent == out->length)
+        session->sent = out->length = 0;
+    text_shrink(out);
+    tcp_output(connection);
+}
+
+/* Lets the client send more, unless it is to wait. */
+static void let_send(struct session *session) {
+    while (session->owed > 0 && !session->is_waiting) {
+        u16_t count = (u16_t)LWIP_MIN(session->owed, MOST_AT_ONCE);
+        tcp_recved(session->connection, count);
+        session->owed -= count;
+    }
+}
+
+/* Answers ERR_ABRT where the connection had to be aborted, as callbacks of lwIP's must. */
+static err_t end(struct session *session) {
+    struct tcp_pcb *connection = session->connection;
+    tcp_arg(connection, NULL);
+    tcp_recv(connection, NULL);
+    tcp_sent(connection, NULL);
+    tcp_poll(connection, NULL, 0);
+    tcp_err(connection, NULL);
+    session->is_waiting = 0;
+    let_send(session);
+    session_drop(session);
+    if (tcp_close(connection) == ERR_OK)
+        return ERR_OK;
+    tcp_abort(connection);
+    return ERR_ABRT;
+}
+
+/* Sends what there is to say, and ends the session where it is to end. */
+static err_t go_on(struct session *session) {
+    send(session);
+    if (session->is_ending && session->out.length == 0)
+        return end(session);
+    let_send(session);
+    return ERR_OK;
+}
+
+void carry(struct session *session) { go_on(session); }
+
+static err_t on_receive(void *arg, struct tcp_pcb *connection, struct pbuf *data, err_t error) {
+    struct session *session = arg;
+    (void)connection;
+    if (error != ERR_OK)
+        session->is_ending = 1;
+    if (data == NULL || error != ERR_OK) {
+        session->service->end_of_input(session);
+        return go_on(session);
+    }
+    session->owed += data->tot_len;
+    for (struct pbuf *part = data; part != NULL; part = part->next)
+        session_take(session, part->payload, part->len);
+    pbuf_free(data);
+    return go_on(session);
+}
+
+static err_t on_sent(void *arg, struct tcp_pcb *connection, u16_t count) {
+    (void)connection, (void)count;
+    return go_on(arg);
+}
+
+static err_t on_poll(void *arg, struct tcp_pcb *connection) {
+    (void)connection;
+    struct session *session = arg;
+    session->is_ending |= is_too_quiet(session);
+    return go_on(session);
+}
+
+static void on_error(void *arg, err_t error) {
+    (void)error;
+    if (arg != NULL)
+        session_drop(arg);
+}
+
+/* Without memory the client is told nothing, and its connection is broken off. */
+static err_t on_accept(void *arg, struct tcp_pcb *connection, err_t error) {
+    if (error != ERR_OK || connection == NULL)
+        return ERR_VAL;
+    struct session *session = session_start(arg, connection);
+    if (session == NULL)
+        return ERR_MEM;
+    tcp_arg(connection, session);
+    tcp_recv(connection, on_receive);
+    tcp_sent(connection, on_sent);
+    tcp_poll(connection, on_poll, 4);
+    tcp_err(connection, on_error);
+    tcp_nagle_disable(connection);
+    ip_set_option(connection, SOF_KEEPALIVE);
+    connection->keep_idle = KEEP_IDLE;
+    connection->keep_intvl = KEEP_EVERY;
+    connection->keep_cnt = KEEP_COUNT;
+    return ERR_OK;
+}
+
+static void listen(const struct service *service) {
+    struct tcp_pcb *connection = tcp_new();
+    tcp_bind(connection, IP_ADDR_ANY, service->port);
+    connection = tcp_listen(connection);
+    tcp_arg(connection, (void *)(uintptr_t)service);
+    tcp_accept(connection, on_accept);
+}
+
+void connections_start(void) {
+    listen(&http);
+    listen(&postgres);
+}

@@ -1,0 +1,42 @@
+#include "guest.h"
+
+#include <stddef.h>
+
+#include "clock.h"
+#include "sqlite3.h"
+#include "vfs.h"
+
+/* The register that counts the machine's steps. */
+#define MTIME 0x0200bff8UL
+
+/* SQLite's memory, in bytes. */
+#ifndef HEAP
+#define HEAP (16u << 20)
+#endif
+
+uint64_t clock_steps(void) { return *(volatile uint64_t *)MTIME; }
+
+uint64_t clock_now(void) { return clock_steps() / STEPS_A_MILLISECOND; }
+
+/* SQLite asks for these where it has no file system of its own. */
+int sqlite3_os_init(void) { return vfs_register(); }
+
+int sqlite3_os_end(void) { return SQLITE_OK; }
+
+/* The first question to a database plays its journal back. A database that can't be read answers its clients so. */
+static void play_back(void) {
+    sqlite3 *database;
+    if (sqlite3_open(DATABASE, &database) == SQLITE_OK)
+        sqlite3_exec(database, "SELECT count(*) FROM sqlite_schema", NULL, NULL, NULL);
+    sqlite3_close(database);
+}
+
+int guest_start(void) {
+    static uint8_t heap[HEAP] __attribute__((aligned(16)));
+    static uint8_t thread[64] __attribute__((aligned(16))); /* what picolibc has once a thread: errno */
+    __asm__ volatile("mv tp, %0" ::"r"(thread));
+    if (sqlite3_config(SQLITE_CONFIG_HEAP, heap, (int)sizeof heap, 32) != SQLITE_OK || !vfs_start() || sqlite3_initialize() != SQLITE_OK)
+        return 0;
+    play_back();
+    return 1;
+}

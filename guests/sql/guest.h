@@ -1,0 +1,15 @@
+/* What ../server/server.c does at boot, what then listens, and what else its loop does: of the database. */
+#ifndef GUEST_H
+#define GUEST_H
+
+#include "connections.h"
+#include "session.h"
+
+/* Reads the disk, and plays a journal back that is left there. Answers whether the disk can be used. */
+int guest_start(void);
+
+static inline void guest_listen(void) { connections_start(); }
+
+static inline void guest_poll(void) { sessions_poll(); }
+
+#endif

@@ -1,0 +1,284 @@
+#include "http.h"
+
+#include <string.h>
+
+#include "page.h"
+#include "password.h"
+#include "query.h"
+#include "request.h"
+#include "table.h"
+
+#define METHODS "GET, HEAD, POST, OPTIONS"
+
+/* A connection on which nothing is asked is closed after so many milliseconds. */
+#define MOST_QUIET 60000
+
+struct browser {
+    struct session session;
+    struct request request;
+    struct query query;
+    struct text body;       /* of the answer */
+    int status;
+    struct failure failure; /* where the status isn't 200 */
+    int is_told_to_go_on;   /* it was said that the body is wanted */
+    int is_silent;          /* the client says no more */
+};
+
+static struct browser *of(struct session *session) { return (struct browser *)session; }
+
+/* Answers. */
+
+static const char *reason(int status) {
+    switch (status) {
+    case 200: return "200 OK";
+    case 204: return "204 No Content";
+    case 400: return "400 Bad Request";
+    case 401: return "401 Unauthorized";
+    case 403: return "403 Forbidden";
+    case 404: return "404 Not Found";
+    case 405: return "405 Method Not Allowed";
+    case 411: return "411 Length Required";
+    case 413: return "413 Content Too Large";
+    case 431: return "431 Request Header Fields Too Large";
+    default: return "503 Service Unavailable";
+    }
+}
+
+/* Sends an answer. Of one to HEAD the body is left out. Without memory for it the connection ends. */
+static void answer(struct browser *browser, int status, const char *type, const char *bytes, uint32_t length) {
+    struct session *session = &browser->session;
+    struct text *out = &session->out;
+    uint32_t begun = out->length;
+    add(out, "HTTP/1.1 ");
+    add(out, reason(status));
+    add(out, browser->request.is_kept ? "" : "\r\nConnection: close");
+    add(out, status == 204 || status == 405 ? "\r\nAllow: " METHODS : "");
+    add(out, status == 401 ? "\r\nWWW-Authenticate: Basic realm=\"sql\"" : "");
+    add(out, "\r\nCache-Control: no-store");
+    if (status != 204) {
+        add(out, "\r\nContent-Type: ");
+        add(out, type);
+        add(out, "; charset=utf-8\r\nContent-Length: ");
+        add_number(out, length);
+    }
+    add(out, "\r\n\r\n");
+    if (browser->request.method != HEAD)
+        add_bytes(out, bytes, length);
+    if (out->is_full)
+        text_cut(out, begun);
+    session->is_ending |= !browser->request.is_kept || out->length == begun;
+}
+
+static void refuse(struct browser *browser, int status, const char *why) {
+    answer(browser, status, "text/plain", why, (uint32_t)strlen(why));
+}
+
+/* Questions. */
+
+static void take_row(struct session *session, sqlite3_stmt *prepared, int64_t number) {
+    struct browser *browser = of(session);
+    if (browser->request.is_json)
+        add_json_row(&browser->body, prepared, number == 1, browser->query.ended > 0);
+    else
+        add_row(&browser->body, prepared);
+}
+
+static void has_ended_query(struct session *session, const struct statement *statement, sqlite3_stmt *prepared, int64_t rows) {
+    struct browser *browser = of(session);
+    int64_t changes = statement->is_counted ? sqlite3_changes(session->database) : 0;
+    if (browser->request.is_json)
+        add_json_end(&browser->body, prepared, rows, changes, browser->query.ended > 0);
+}
+
+static void has_warned(struct session *session, const struct failure *warning) { (void)session, (void)warning; }
+
+static void has_failed_query(struct session *session, const struct failure *failure) {
+    of(session)->status = failure->code[0] == '5' && failure->code[1] != '4' ? 503 : 400;
+    of(session)->failure = *failure;
+}
+
+static void say_failure(struct browser *browser) {
+    struct text *body = &browser->body;
+    text_cut(body, 0);
+    if (browser->request.is_json) {
+        add(body, "{\"error\": ");
+        add_json_string(body, browser->failure.why, (uint32_t)strlen(browser->failure.why));
+        add(body, ", \"code\": \"");
+        add(body, browser->failure.code);
+        add(body, "\"}\n");
+    } else {
+        add(body, "error: ");
+        add(body, browser->failure.why);
+        add(body, "\n");
+    }
+}
+
+/* A question is a whole of its own: a transaction that it leaves open is rolled back. */
+static void is_over(struct session *session) {
+    struct browser *browser = of(session);
+    int is_open = session->database != NULL && !sqlite3_get_autocommit(session->database);
+    if (is_open)
+        sqlite3_exec(session->database, "ROLLBACK", NULL, NULL, NULL);
+    session->is_failed = session->is_implicit = session->has_savepoint = 0;
+    if (is_open && browser->status == 200) {
+        browser->status = 400;
+        set_failure(&browser->failure, "25000", "the transaction was open at the end, and is rolled back");
+    }
+    if (browser->status == 200 && browser->request.is_json)
+        add(&browser->body, "]}\n");
+    if (browser->status == 200 && browser->body.is_full) {
+        browser->status = 503;
+        set_failure(&browser->failure, "53200", "out of memory for the answer; what was asked for is done");
+    }
+    if (browser->status != 200)
+        say_failure(browser);
+    answer(browser, browser->status, browser->request.is_json ? "application/json" : "text/plain", browser->body.bytes,
+           browser->body.length);
+    text_drop(&browser->body);
+}
+
+static const struct teller teller = {take_row, has_ended_query, has_warned, has_failed_query, is_over};
+
+static void ask(struct browser *browser, const char *statements, uint32_t length, int only_reads) {
+    browser->status = 200;
+    if (!text_start(&browser->body, MOST_ANSWER)) {
+        refuse(browser, 503, "error: out of memory\n");
+        return;
+    }
+    if (browser->request.is_json)
+        add(&browser->body, "{\"results\": [");
+    browser->query.teller = &teller;
+    browser->query.answer = &browser->body;
+    browser->query.only_reads = only_reads;
+    query_start(&browser->session, &browser->query, statements, length);
+}
+
+/* The statements of a request: its body, or what stands after q= in a form's body or in the target. */
+static void take_question(struct browser *browser, const char *body) {
+    struct request *request = &browser->request;
+    int is_body = request->method == POST, is_coded = !is_body || (request->is_form && request->length > 1 && memcmp(body, "q=", 2) == 0);
+    const char *from = is_body ? body : request->asked;
+    uint32_t length = is_body ? request->length : request->asked_length;
+    char format[MOST_VALUE];
+    if (request->asked != NULL && request->asked_length < sizeof format) {
+        int32_t count = value_of(request->asked, request->asked_length, "format", format);
+        request->is_json |= count == 4 && memcmp(format, "json", 4) == 0;
+    }
+    if (!is_coded) {
+        ask(browser, from, length, 0);
+        return;
+    }
+    char *decoded = sqlite3_malloc64((uint64_t)length + 1);
+    int32_t count = decoded == NULL ? -1 : value_of(from, length, "q", decoded);
+    if (decoded == NULL)
+        refuse(browser, 503, "error: out of memory\n");
+    else if (count < 0)
+        refuse(browser, 400, "ask by /sql?q=SELECT+1, or by POST with statements as the body\n");
+    else
+        ask(browser, decoded, (uint32_t)count, !is_body);
+    sqlite3_free(decoded);
+}
+
+/* Whether the client has the password. One that was right is known again by its digest, since the way there is long. */
+static int is_let_in_by_password(const struct request *request) {
+    static uint8_t right[DIGEST];
+    static int is_known;
+    uint8_t digest[DIGEST], bytes[MOST_VALUE];
+    if (!password.is_set)
+        return 1;
+    int length = from_base64(request->password, (uint32_t)strlen(request->password), bytes, sizeof bytes);
+    const uint8_t *colon = length <= 0 ? NULL : memchr(bytes, ':', (size_t)length);
+    if (colon == NULL)
+        return 0;
+    keyed_digest(password.server_key, DIGEST, colon + 1, (uint32_t)(bytes + length - colon - 1), digest);
+    if (is_known && are_same(digest, right, DIGEST))
+        return 1;
+    if (!is_password(colon + 1, (uint32_t)(bytes + length - colon - 1)))
+        return 0;
+    memcpy(right, digest, DIGEST);
+    return is_known = 1;
+}
+
+static void take_request(struct browser *browser, const char *body) {
+    const struct request *request = &browser->request;
+    if (request->method == OPTIONS)
+        answer(browser, 204, NULL, NULL, 0);
+    else if (request->method == OTHER)
+        refuse(browser, 405, "GET, HEAD, POST and OPTIONS are served\n");
+    else if (request->is_strange)
+        refuse(browser, 403, "a page of another place may not ask\n");
+    else if (!is_let_in_by_password(request))
+        refuse(browser, 401, "a password is asked for\n");
+    else if (strcmp(request->path, "/sql") == 0)
+        take_question(browser, body);
+    else if (strcmp(request->path, "/") == 0 && request->method != POST)
+        answer(browser, 200, "text/html", page, (uint32_t)strlen(page));
+    else
+        refuse(browser, 404, "there are / and /sql\n");
+}
+
+/* The connection. */
+
+/* Refuses what can't be read, after which nothing can. */
+static void end_with(struct browser *browser, int status) {
+    browser->request.is_kept = 0;
+    refuse(browser, status, status == 413 ? "a question has more than 262144 bytes\n" : "that is no request that is served here\n");
+    text_cut(&browser->session.in, 0);
+}
+
+/* Takes the next request, if it has come whole. Answers whether it had. */
+static int take_next(struct browser *browser) {
+    struct session *session = &browser->session;
+    struct text *in = &session->in;
+    uint32_t head = head_of(in->bytes, in->length);
+    int status = head == 0 ? 0 : read_request(in->bytes, head, &browser->request);
+    if (head == 0 && in->length > MOST_HEAD)
+        status = 431;
+    if (head != 0 && status == 0 && browser->request.length > MOST_ASKED)
+        status = 413;
+    if (status != 0)
+        end_with(browser, status);
+    if (head == 0 || status != 0)
+        return 0;
+    if (in->length - head < browser->request.length) {
+        if (browser->request.is_expecting && !browser->is_told_to_go_on)
+            add(&session->out, "HTTP/1.1 100 Continue\r\n\r\n");
+        browser->is_told_to_go_on = 1;
+        return 0;
+    }
+    browser->is_told_to_go_on = 0;
+    take_request(browser, in->bytes + head);
+    text_shift(in, head + browser->request.length);
+    return 1;
+}
+
+static void take(struct session *session) {
+    while (!session->is_ending && !session->is_waiting && take_next(of(session)))
+        ;
+    session->is_ending |= of(session)->is_silent && !session->is_waiting;
+}
+
+static void go_on(struct session *session) {
+    if (of(session)->query.text != NULL)
+        query_go_on(session, &of(session)->query);
+    if (!session->is_waiting)
+        take(session);
+}
+
+/* What was asked whole is answered; a body that was cut short is left. */
+static void end_of_input(struct session *session) {
+    of(session)->is_silent = 1;
+    session->is_ending |= !session->is_waiting;
+}
+
+static uint32_t most_quiet(struct session *session) {
+    (void)session;
+    return MOST_QUIET;
+}
+
+static void drop(struct session *session) {
+    query_drop(&of(session)->query);
+    text_drop(&of(session)->body);
+}
+
+const struct service http = {80, sizeof(struct browser), take, go_on, end_of_input, most_quiet, drop};

@@ -1,0 +1,352 @@
+#include "postgres.h"
+
+#include <string.h>
+
+#include "clock.h"
+#include "extended.h"
+#include "messages.h"
+#include "password.h"
+#include "query.h"
+#include "rows.h"
+#include "scram.h"
+
+/* What a client may begin with, in place of a message's type. */
+#define VERSION_3 196608
+#define ASKS_FOR_TLS 80877103
+#define ASKS_FOR_GSS 80877104
+#define ASKS_TO_CANCEL 80877102
+
+/* Kinds of authentication messages. */
+enum { IS_IN = 0, ASKS_SASL = 10, GOES_ON_SASL = 11, ENDS_SASL = 12 };
+
+/* Who isn't in after so many milliseconds is let go. */
+#define MOST_TO_START 60000
+
+struct client {
+    struct session session;
+    enum { STARTS, SAYS_WHO, PROVES, IS_READY } stage;
+    struct scram scram;
+    uint32_t key;         /* by which its waiting can be ended */
+    int is_skipping;      /* messages, until the client says Sync */
+    struct query query;
+    struct columns columns; /* of the statement that runs */
+    uint32_t described;     /* where its columns stand in what is said */
+    struct extended extended;
+};
+
+static struct client *of(struct session *session) { return (struct client *)session; }
+
+struct extended *extended_of(struct session *session) { return &of(session)->extended; }
+
+static void say_ready(struct session *session) {
+    uint32_t spare = session->out.spare;
+    session->out.spare = 0;
+    uint32_t at = message_begin(&session->out, 'Z');
+    add(&session->out, session->is_failed ? "E" : session->database != NULL && !sqlite3_get_autocommit(session->database) ? "T" : "I");
+    message_end(&session->out, at);
+    session->out.spare = spare;
+    /* Where not even this has room there is nothing left to say. */
+    session->is_ending |= session->out.is_full != 0;
+}
+
+static void end_with(struct session *session, const char *code, const char *why) {
+    say_error(&session->out, "FATAL", code, why);
+    session->is_ending = 1;
+}
+
+/* Simple queries. */
+
+static void take_row(struct session *session, sqlite3_stmt *prepared, int64_t number) {
+    struct client *client = of(session);
+    if (number == 1) {
+        columns_drop(&client->columns);
+        columns_start(&client->columns, prepared, NULL, NULL);
+        client->described = say_columns(&session->out, prepared, NULL);
+    }
+    say_row(&session->out, prepared, &client->columns);
+}
+
+static void has_ended_query(struct session *session, const struct statement *statement, sqlite3_stmt *prepared, int64_t rows) {
+    struct client *client = of(session);
+    uint32_t begun = session->out.length;
+    if (rows > 0)
+        retype_columns(&session->out, client->described, prepared, &client->columns);
+    else if (prepared != NULL && sqlite3_column_count(prepared) > 0)
+        say_columns(&session->out, prepared, NULL);
+    if (strcmp(statement->tag, "SELECT") != 0)
+        rows = sqlite3_changes(session->database);
+    say_complete(&session->out, statement->tag, statement->is_counted, rows);
+    if (session->out.is_full) {
+        /* It has ended, and there is no memory to say so. */
+        text_cut(&session->out, begun);
+        session->is_ending = 1;
+    }
+    if (statement->kind == DISCARD)
+        forget_all(&client->extended);
+    else if (statement->kind == DEALLOCATE)
+        forget_statement(&client->extended, statement->name);
+}
+
+static void has_warned(struct session *session, const struct failure *warning) { say_warning(&session->out, warning->code, warning->why); }
+
+static void has_failed_query(struct session *session, const struct failure *failure) {
+    if (session->out.is_full)
+        text_cut(&session->out, session->out.length);
+    say_error(&session->out, "ERROR", failure->code, failure->why);
+}
+
+static void is_over(struct session *session) {
+    columns_drop(&of(session)->columns);
+    say_ready(session);
+}
+
+static const struct teller teller = {take_row, has_ended_query, has_warned, has_failed_query, is_over};
+
+static void take_query(struct client *client, const char *text, uint32_t length) {
+    struct session *session = &client->session;
+    if (length == 0 || text[length - 1] != '\0') {
+        end_with(session, "08P01", "a query has no end");
+        return;
+    }
+    forget_statement(&client->extended, "");
+    if (is_blank(text)) {
+        say_empty(&session->out, 'I');
+        say_ready(session);
+        return;
+    }
+    client->query.teller = &teller;
+    client->query.answer = &session->out;
+    query_start(session, &client->query, text, length - 1);
+}
+
+/* The beginning. */
+
+static void let_in(struct client *client) {
+    static const char *const parameters[][2] = {
+        {"server_encoding", "UTF8"}, {"client_encoding", "UTF8"}, {"DateStyle", "ISO, MDY"}, {"TimeZone", "UTC"},
+        {"integer_datetimes", "on"}, {"standard_conforming_strings", "on"},
+    };
+    struct text *out = &client->session.out;
+    char version[48];
+    say_authentication(out, IS_IN, NULL, 0);
+    say_parameter(out, "server_version", sqlite3_snprintf(sizeof version, version, "15.0 (SQLite %s)", sqlite3_libversion()));
+    for (unsigned i = 0; i < sizeof parameters / sizeof parameters[0]; i++)
+        say_parameter(out, parameters[i][0], parameters[i][1]);
+    uint32_t at = message_begin(out, 'K');
+    add_32(out, client->session.number);
+    add_32(out, client->key);
+    message_end(out, at);
+    client->stage = IS_READY;
+    say_ready(&client->session);
+}
+
+/* A client that waits for a lock waits no longer. Nobody is told whether there was one. */
+static void cancel(uint32_t number, uint32_t key) {
+    struct session *session = session_of(number);
+    struct failure failure;
+    if (session == NULL || session->service != &postgres || of(session)->key != key || !session->is_waiting)
+        return;
+    set_failure(&failure, "57014", "canceling statement due to user request");
+    session->is_waiting = 0;
+    session->ticket = 0;
+    if (of(session)->query.text != NULL) {
+        session->was_block = is_in_block(session);
+        query_fail(session, &of(session)->query, &failure);
+    } else {
+        session->was_block = is_in_block(session);
+        has_failed(session, NOTHING);
+        say_error(&session->out, "ERROR", failure.code, failure.why);
+        of(session)->is_skipping = 1;
+    }
+    session->service->take(session);
+    carry(session);
+}
+
+static uint32_t make_key(uint32_t number) {
+    uint64_t about[2] = {clock_steps(), number};
+    uint8_t digest[DIGEST];
+    keyed_digest(password.server_key, DIGEST, about, sizeof about, digest);
+    return get_32(digest);
+}
+
+/* Takes in the first messages, which have no type. */
+static void take_start(struct client *client, const uint8_t *message, uint32_t length) {
+    struct session *session = &client->session;
+    uint32_t asked = length < 8 ? 0 : get_32(message + 4);
+    if (asked == ASKS_FOR_TLS || asked == ASKS_FOR_GSS) {
+        add_bytes(&session->out, "N", 1);
+    } else if (asked == ASKS_TO_CANCEL) {
+        session->is_ending = 1;
+        if (length >= 16)
+            cancel(get_32(message + 8), get_32(message + 12));
+    } else if (asked >> 16 != VERSION_3 >> 16) {
+        end_with(session, "0A000", "version 3.0 of the protocol alone is spoken here");
+    } else {
+        client->key = make_key(session->number);
+        if (password.is_set) {
+            say_authentication(&session->out, ASKS_SASL, "SCRAM-SHA-256\0", 15);
+            client->stage = SAYS_WHO;
+        } else {
+            let_in(client);
+        }
+    }
+}
+
+/* Takes in what a client says to prove that it has the password. */
+static void take_proof(struct client *client, struct reader *reader) {
+    struct session *session = &client->session;
+    struct text answer = {.most = 4096};
+    int is_good;
+    if (client->stage == SAYS_WHO) {
+        const char *mechanism = read_string(reader);
+        uint32_t length = read_32(reader);
+        const char *message = (const char *)read_bytes_of(reader, length);
+        is_good = message != NULL && strcmp(mechanism, "SCRAM-SHA-256") == 0
+                  && scram_begin(&client->scram, message, length, session->number, &answer);
+    } else {
+        is_good = scram_end(&client->scram, (const char *)reader->at, (uint32_t)(reader->end - reader->at), &answer);
+    }
+    if (!is_good)
+        end_with(session, "28P01", "password authentication failed");
+    else
+        say_authentication(&session->out, client->stage == SAYS_WHO ? GOES_ON_SASL : ENDS_SASL, answer.bytes, answer.length);
+    text_drop(&answer);
+    if (is_good && client->stage == SAYS_WHO) {
+        client->stage = PROVES;
+    } else if (is_good) {
+        scram_drop(&client->scram);
+        let_in(client);
+    }
+}
+
+/* Extended queries. */
+
+static enum outcome take_sync(struct client *client, struct failure *failure) {
+    struct session *session = &client->session;
+    enum outcome outcome = session->database == NULL ? ENDED : end_implicit(session, failure);
+    if (outcome == WAITS)
+        return WAITS;
+    if (outcome == FAILED)
+        say_error(&session->out, "ERROR", failure->code, failure->why);
+    if (!is_in_block(session))
+        forget_portals(&client->extended);
+    client->is_skipping = 0;
+    say_ready(session);
+    return ENDED;
+}
+
+static enum outcome take_extended(struct client *client, uint8_t type, struct reader *reader, struct failure *failure) {
+    struct session *session = &client->session;
+    switch (type) {
+    case 'P': return take_parse(session, &client->extended, reader, failure);
+    case 'B': return take_bind(session, &client->extended, reader, failure);
+    case 'D': return take_describe(session, &client->extended, reader, failure);
+    case 'E': return take_execute(session, &client->extended, reader, failure);
+    case 'C': return take_close(&client->extended, reader, session);
+    case 'H': return ENDED;
+    case 'd':
+    case 'c':
+    case 'f': return ENDED; /* of COPY, which isn't here: what comes after its refusal */
+    default: set_failure(failure, "08P01", "a message of a type that is not served here"); return FAILED;
+    }
+}
+
+/* Takes a message. Answers whether it is to be taken again, after waiting. */
+static int take_message(struct client *client, const uint8_t *message, uint32_t length) {
+    struct session *session = &client->session;
+    struct reader reader = {message + 5, message + length, 0};
+    struct failure failure;
+    enum outcome outcome = ENDED;
+    session->was_block = is_in_block(session);
+    if (client->stage == SAYS_WHO || client->stage == PROVES) {
+        if (message[0] == 'p')
+            take_proof(client, &reader);
+        else
+            session->is_ending = 1;
+    } else if (message[0] == 'X') {
+        session->is_ending = 1;
+    } else if (message[0] == 'S') {
+        outcome = take_sync(client, &failure);
+    } else if (message[0] == 'Q' && !client->is_skipping) {
+        take_query(client, (const char *)message + 5, length - 5);
+    } else if (!client->is_skipping) {
+        outcome = take_extended(client, message[0], &reader, &failure);
+    }
+    if (outcome == WAITS)
+        session_wait(session);
+    if (outcome == FAILED) {
+        has_failed(session, NOTHING);
+        text_cut(&session->out, session->out.length);
+        say_error(&session->out, "ERROR", failure.code, failure.why);
+        client->is_skipping = 1;
+    }
+    return outcome == WAITS;
+}
+
+/* Whether no message up to the client's next Sync executes a second statement, as far as they have come. */
+static int is_alone(const uint8_t *message, uint32_t left) {
+    int executed = 0;
+    while (left >= 5) {
+        uint32_t length = 1 + get_32(message + 1);
+        if (message[0] == 'S')
+            return 1;
+        if (length > left || (executed += message[0] == 'E') > 1)
+            return 0;
+        message += length;
+        left -= length;
+    }
+    return 0;
+}
+
+/* Takes in whole messages, as long as it doesn't wait. */
+static void take(struct session *session) {
+    struct client *client = of(session);
+    uint32_t done = 0;
+    while (!session->is_ending && !session->is_waiting) {
+        const uint8_t *message = (const uint8_t *)session->in.bytes + done;
+        uint32_t head = client->stage == STARTS ? 0 : 1, left = session->in.length - done;
+        if (left < head + 4)
+            break;
+        uint32_t length = get_32(message + head);
+        if (length < 4 || length > MOST_ASKED) {
+            end_with(session, "08P01", "a message has more than 262144 bytes, or is not as the protocol has it");
+            break;
+        }
+        length += head;
+        if (left < length)
+            break;
+        client->extended.is_alone = head == 1 && is_alone(message, left);
+        if (head == 0)
+            take_start(client, message, length);
+        else if (take_message(client, message, length))
+            break;
+        done += length;
+    }
+    text_shift(&session->in, done);
+}
+
+static void go_on(struct session *session) {
+    if (of(session)->query.text != NULL)
+        query_go_on(session, &of(session)->query);
+    if (!session->is_waiting)
+        take(session);
+}
+
+/* A client that ends without a word has vanished: what it left open is rolled back. */
+static void end_of_input(struct session *session) {
+    session->is_ending = 1;
+    session->is_waiting = 0;
+    session->out.length = session->sent;
+}
+
+static uint32_t most_quiet(struct session *session) { return of(session)->stage == IS_READY ? 0 : MOST_TO_START; }
+
+static void drop(struct session *session) {
+    struct client *client = of(session);
+    query_drop(&client->query);
+    columns_drop(&client->columns);
+    forget_all(&client->extended);
+    scram_drop(&client->scram);
+}
+
+const struct service postgres = {5432, sizeof(struct client), take, go_on, end_of_input, most_quiet, drop};

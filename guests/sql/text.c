@@ -1,0 +1,73 @@
+#include "text.h"
+
+#include <string.h>
+
+#include "sqlite3.h"
+
+/* An empty text keeps no more room than this. */
+#define KEPT (16 * 1024)
+
+static int resize(struct text *text, uint32_t room) {
+    char *bytes = sqlite3_realloc64(text->bytes, room);
+    if (bytes == NULL)
+        return 0;
+    text->bytes = bytes;
+    text->room = room;
+    return 1;
+}
+
+int text_start(struct text *text, uint32_t most) {
+    *text = (struct text){.most = most, .spare = SPARE};
+    return resize(text, 2 * SPARE);
+}
+
+static int make_room(struct text *text, uint32_t count) {
+    if (!text->is_full && count > text->most - text->length)
+        text->is_full = TOO_LONG;
+    if (text->is_full)
+        return 0;
+    uint32_t wanted = text->length + count + text->spare, room = text->room == 0 ? 2 * SPARE : text->room;
+    if (wanted <= text->room)
+        return 1;
+    while (room < wanted)
+        room *= 2;
+    if (!resize(text, room))
+        text->is_full = NO_MEMORY;
+    return !text->is_full;
+}
+
+void add_bytes(struct text *text, const void *bytes, uint32_t count) {
+    if (count == 0 || !make_room(text, count))
+        return;
+    memcpy(text->bytes + text->length, bytes, count);
+    text->length += count;
+}
+
+void add(struct text *text, const char *more) { add_bytes(text, more, (uint32_t)strlen(more)); }
+
+void add_number(struct text *text, int64_t number) {
+    char digits[24];
+    add(text, sqlite3_snprintf(sizeof digits, digits, "%lld", number));
+}
+
+void text_cut(struct text *text, uint32_t length) {
+    text->length = length;
+    text->is_full = 0;
+}
+
+void text_shift(struct text *text, uint32_t count) {
+    if (count == 0)
+        return;
+    memmove(text->bytes, text->bytes + count, text->length - count);
+    text->length -= count;
+}
+
+void text_shrink(struct text *text) {
+    if (text->length == 0 && text->room > KEPT)
+        resize(text, 2 * SPARE);
+}
+
+void text_drop(struct text *text) {
+    sqlite3_free(text->bytes);
+    memset(text, 0, sizeof *text);
+}

@@ -1,0 +1,246 @@
+#include "work.h"
+
+#include <string.h>
+
+#include "clock.h"
+
+/* A statement may take so many milliseconds: nothing else goes on meanwhile. */
+#define MOST_TIME 20000
+
+#define COLLISION "the database is locked by another client's transaction, and this one has begun to read"
+
+void set_failure(struct failure *failure, const char *code, const char *why) {
+    failure->code = code;
+    sqlite3_snprintf(MOST_WHY, failure->why, "%s", why);
+    /* A character that was cut in two is left out. */
+    size_t length = strlen(failure->why);
+    if (length == MOST_WHY - 1) {
+        while (length > 0 && (failure->why[length - 1] & 0xc0) == 0x80)
+            length--;
+        failure->why[length > 0 ? length - 1 : 0] = '\0';
+    }
+}
+
+/* The codes of what SQLite tells in words alone. */
+static const char *code_of_words(const char *why) {
+    static const char *const codes[][2] = {
+        {"no such table", "42P01"},      {"no such view", "42P01"},      {"no such column", "42703"}, {"no such function", "42883"},
+        {"ambiguous column", "42702"},   {"already exists", "42P07"},    {"no such index", "42704"},  {"no such savepoint", "3B001"},
+        {"has no column named", "42703"}, {"syntax error", "42601"},     {"incomplete input", "42601"}, {"unrecognized token", "42601"},
+        {"parser stack", "54001"},       {"wrong number of arg", "42883"}, {"within a transaction", "25001"}, {"overflow", "22003"},
+        {"too large", "54001"},          {"too many", "54000"},
+    };
+    for (unsigned i = 0; i < sizeof codes / sizeof codes[0]; i++)
+        if (strstr(why, codes[i][0]) != NULL)
+            return codes[i][1];
+    return "42000";
+}
+
+static const char *code_of_constraint(int said) {
+    switch (said) {
+    case SQLITE_CONSTRAINT_UNIQUE:
+    case SQLITE_CONSTRAINT_PRIMARYKEY:
+    case SQLITE_CONSTRAINT_ROWID: return "23505";
+    case SQLITE_CONSTRAINT_NOTNULL: return "23502";
+    case SQLITE_CONSTRAINT_CHECK: return "23514";
+    case SQLITE_CONSTRAINT_FOREIGNKEY: return "23503";
+    case SQLITE_CONSTRAINT_TRIGGER: return "P0001";
+    default: return "23000";
+    }
+}
+
+/* PostgreSQL's code for what SQLite said. */
+static const char *code_of(int said, const char *why) {
+    switch (said & 0xff) {
+    case SQLITE_BUSY:
+    case SQLITE_LOCKED: return "40001";
+    case SQLITE_CONSTRAINT: return code_of_constraint(said);
+    case SQLITE_FULL: return "53100";
+    case SQLITE_NOMEM: return "53200";
+    case SQLITE_TOOBIG: return "54000";
+    case SQLITE_INTERRUPT: return "57014";
+    case SQLITE_MISMATCH: return "42804";
+    case SQLITE_READONLY: return "25006";
+    case SQLITE_IOERR:
+    case SQLITE_CANTOPEN: return "58030";
+    case SQLITE_CORRUPT:
+    case SQLITE_NOTADB: return "XX001";
+    case SQLITE_ERROR: return code_of_words(why);
+    default: return "XX000";
+    }
+}
+
+static enum outcome fails(struct session *session, int said, struct failure *failure) {
+    const char *why = sqlite3_errmsg(session->database);
+    if ((said & 0xff) == SQLITE_INTERRUPT)
+        why = "the statement took too long, and is ended";
+    set_failure(failure, code_of(said, why), why);
+    return FAILED;
+}
+
+static void tell(struct session *session, const char *sql) { sqlite3_exec(session->database, sql, NULL, NULL, NULL); }
+
+/* What a statement that found the database locked is to do. */
+static enum outcome locked(struct session *session, int had, int was_open, struct failure *failure) {
+    int is_open = !sqlite3_get_autocommit(session->database);
+    if (!was_open || (is_open && had != SQLITE_TXN_READ))
+        return WAITS;
+    if (session->is_implicit)
+        return COLLIDES;
+    set_failure(failure, "40001", COLLISION);
+    return FAILED;
+}
+
+static int is_busy(int said) { return (said & 0xff) == SQLITE_BUSY || (said & 0xff) == SQLITE_LOCKED; }
+
+/* What settings are shown as. */
+static const char *shown(const char *name) {
+    static const char *const values[][2] = {
+        {"transaction_isolation", "SELECT 'serializable' AS transaction_isolation"},
+        {"default_transaction_isolation", "SELECT 'serializable' AS default_transaction_isolation"},
+        {"transaction_read_only", "SELECT 'off' AS transaction_read_only"},
+        {"server_version", "SELECT '15.0 (SQLite ' || sqlite_version() || ')' AS server_version"},
+        {"server_encoding", "SELECT 'UTF8' AS server_encoding"},
+        {"client_encoding", "SELECT 'UTF8' AS client_encoding"},
+        {"standard_conforming_strings", "SELECT 'on' AS standard_conforming_strings"},
+        {"datestyle", "SELECT 'ISO, MDY' AS DateStyle"},
+        {"timezone", "SELECT 'UTC' AS TimeZone"},
+        {"search_path", "SELECT 'main' AS search_path"},
+    };
+    for (unsigned i = 0; i < sizeof values / sizeof values[0]; i++)
+        if (strcmp(name, values[i][0]) == 0)
+            return values[i][1];
+    return NULL;
+}
+
+enum outcome prepare(struct session *session, struct statement *statement, sqlite3_stmt **prepared, const char **rest,
+                     struct failure *failure) {
+    *prepared = NULL;
+    *rest = statement->end;
+    session->was_block = is_in_block(session);
+    if (statement->kind == SHOW && (statement->sql = shown(statement->name)) == NULL) {
+        set_failure(failure, "42704", "there is no such setting here");
+        return FAILED;
+    }
+    if (statement->kind == NOTHING || statement->kind == SET || statement->kind == DISCARD || statement->kind == DEALLOCATE)
+        return ENDED;
+    int had = sqlite3_txn_state(session->database, NULL), was_open = !sqlite3_get_autocommit(session->database);
+    const char *sql = statement->sql == NULL ? statement->begin : statement->sql, *after;
+    int said = sqlite3_prepare_v2(session->database, sql, -1, prepared, &after);
+    if (statement->sql == NULL)
+        *rest = after;
+    if (is_busy(said))
+        return locked(session, had, was_open, failure);
+    return said == SQLITE_OK ? ENDED : fails(session, said, failure);
+}
+
+enum outcome run(struct session *session, sqlite3_stmt *prepared, struct text *answer, row_taker *take_row, int64_t *rows,
+                 struct failure *failure) {
+    int had = sqlite3_txn_state(session->database, NULL), was_open = !sqlite3_get_autocommit(session->database), said;
+    uint32_t begun = answer->length;
+    session->was_block = is_in_block(session);
+    session->deadline = clock_now() + MOST_TIME;
+    *rows = 0;
+    while ((said = sqlite3_step(prepared)) == SQLITE_ROW && !answer->is_full)
+        take_row(session, prepared, ++*rows);
+    if (said == SQLITE_DONE && !answer->is_full)
+        return ENDED;
+    enum outcome outcome = FAILED;
+    if (answer->is_full == TOO_LONG)
+        set_failure(failure, "54000", "the answer has more than a megabyte: ask for it in parts, by LIMIT");
+    else if (answer->is_full)
+        set_failure(failure, "53200", "out of memory");
+    else if (!is_busy(said))
+        fails(session, said, failure);
+    sqlite3_reset(prepared);
+    if (!answer->is_full && is_busy(said))
+        outcome = locked(session, had, was_open, failure);
+    text_cut(answer, begun);
+    return outcome;
+}
+
+int is_in_block(const struct session *session) {
+    if (session->database == NULL)
+        return 0;
+    return session->is_failed || (!sqlite3_get_autocommit(session->database) && !session->is_implicit);
+}
+
+int is_let_in(const struct session *session, enum kind kind) {
+    return !session->is_failed || kind == NOTHING || kind == COMMIT || kind == ROLLBACK || kind == ROLLBACK_TO;
+}
+
+enum outcome begin_implicit(struct session *session, int is_eager) {
+    if (!sqlite3_get_autocommit(session->database) || session->is_failed)
+        return ENDED;
+    tell(session, is_eager ? "BEGIN IMMEDIATE" : "BEGIN");
+    session->is_implicit = !sqlite3_get_autocommit(session->database);
+    return session->is_implicit ? ENDED : WAITS;
+}
+
+enum outcome end_implicit(struct session *session, struct failure *failure) {
+    if (!session->is_implicit)
+        return ENDED;
+    session->deadline = clock_now() + MOST_TIME;
+    int said = sqlite3_exec(session->database, "COMMIT", NULL, NULL, NULL);
+    if (is_busy(said))
+        return WAITS;
+    session->is_implicit = 0;
+    session->has_savepoint = 0;
+    if (said == SQLITE_OK)
+        return ENDED;
+    fails(session, said, failure);
+    if (!sqlite3_get_autocommit(session->database))
+        tell(session, "ROLLBACK");
+    return FAILED;
+}
+
+void give_up_implicit(struct session *session) {
+    if (session->is_implicit && !sqlite3_get_autocommit(session->database))
+        tell(session, "ROLLBACK");
+    session->is_implicit = session->has_savepoint = 0;
+}
+
+void has_ended(struct session *session, enum kind kind) {
+    if (kind == SAVEPOINT)
+        session->has_savepoint = 1;
+    if (kind == COMMIT || kind == ROLLBACK)
+        session->is_implicit = 0;
+    if (kind == COMMIT || kind == ROLLBACK || kind == ROLLBACK_TO)
+        session->is_failed = 0;
+    if (sqlite3_get_autocommit(session->database))
+        session->has_savepoint = session->is_implicit = 0;
+}
+
+void has_failed(struct session *session, enum kind kind) {
+    int is_kept = session->has_savepoint && kind != COMMIT;
+    if (session->is_implicit) {
+        give_up_implicit(session);
+        return;
+    }
+    if (session->was_block)
+        session->is_failed = kind != COMMIT;
+    if (session->was_block && !is_kept && !sqlite3_get_autocommit(session->database))
+        tell(session, "ROLLBACK");
+    session->was_block = 0;
+}
+
+int is_noted(struct session *session, struct statement *statement, struct failure *warning) {
+    int is_open = !sqlite3_get_autocommit(session->database), is_end = statement->kind == COMMIT || statement->kind == ROLLBACK;
+    warning->code = NULL;
+    if (statement->kind == BEGIN && is_open) {
+        if (!session->is_implicit)
+            set_failure(warning, "25001", "there is already a transaction in progress");
+        session->is_implicit = 0;
+        return 1;
+    }
+    if (is_end && session->is_failed) {
+        if (is_open)
+            tell(session, "ROLLBACK");
+        session->is_failed = 0;
+        strcpy(statement->tag, "ROLLBACK");
+        return 1;
+    }
+    if (is_end && !is_open)
+        set_failure(warning, "25P01", "there is no transaction in progress");
+    return is_end && !is_open;
+}

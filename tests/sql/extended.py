@@ -1,0 +1,151 @@
+"""Extended queries of PostgreSQL's protocol, and passwords."""
+from __future__ import annotations
+
+import struct
+import tempfile
+from collections.abc import Iterator
+from pathlib import Path
+
+from tests.postgres import BYTEA, FLOAT8, INT8, TEXT, Postgres, bind, message, parse, string
+from tests.sql.host import Built, Served
+from tests.sql.simple import START, code_of
+from tests.sql.units import differs
+
+INT4, NUMERIC, BOOL, VARCHAR = 23, 1700, 16, 1043
+SYNC = message(b"S")
+
+
+def execute(portal: str = "", most: int = 0) -> bytes:
+    return message(b"E", string(portal), struct.pack(">I", most))
+
+
+def describe(kind: bytes, name: str = "") -> bytes:
+    return message(b"D", kind, string(name))
+
+
+def kinds(client: Postgres, data: bytes) -> str:
+    """The kinds of the messages that come for these, to the first Z."""
+    client.send(data)
+    came = ""
+    while not came.endswith("Z"):
+        kind, body = client.receive()
+        came += kind.decode()
+    client.status = body.decode()
+    return came
+
+
+def parameters(client: Postgres) -> Iterator[tuple[str, str | None]]:
+    cases = [
+        ((INT8,), b"12", 12), ((INT4,), b" -3 ", -3), ((FLOAT8,), b"2.5", 2.5), ((NUMERIC,), b"7", 7), ((NUMERIC,), b"7.5", 7.5),
+        ((BOOL,), b"true", 1), ((BOOL,), b"f", 0), ((BYTEA,), b"\\x00ff", b"\0\xff"), ((VARCHAR,), b"x", "x"), ((), b"12", "12"), ((), None, None),
+    ]
+    for types, value, wanted in cases:
+        yield f"the value {value!r} of {types}", differs(client.execute("SELECT $1", (value,), types).rows, [(wanted,)])
+    binary = [((INT8,), struct.pack(">q", -5), -5), ((INT4,), struct.pack(">i", 7), 7), ((FLOAT8,), struct.pack(">d", 0.1), 0.1),
+              ((BYTEA,), b"\0\1", b"\0\1"), ((TEXT,), b"abc", "abc"), ((BOOL,), b"\1", 1), ((21,), b"\xff\xff", -1), ((700,), struct.pack(">f", 0.5), 0.5)]
+    for types, value, wanted in binary:
+        yield f"the binary value {value!r} of {types}", differs(client.execute("SELECT $1", (value,), types, True).rows, [(wanted,)])
+    for types, value, code in [((INT8,), b"x", "22P02"), ((INT8,), b"9223372036854775808", "22003"), ((FLOAT8,), b"", "22P02"),
+                               ((BOOL,), b"x", "22P02"), ((BYTEA,), b"\\x0", "22P02")]:
+        yield f"no value {value!r} of {types}", differs(code_of(lambda: client.execute("SELECT $1", (value,), types)), code)
+    yield "binary of a wrong length", differs(code_of(lambda: client.execute("SELECT $1", (b"\0",), (INT8,), True)), "22P03")
+    result = client.execute("SELECT $2 || $1 || $2", (b"a", b"b"))
+    yield "in their order", differs(result.rows, [("bab",)])
+    yield "too few", differs(code_of(lambda: client.execute("SELECT $2", (b"a",))), "08P01")
+    client.execute("INSERT INTO t VALUES($1, $2)", (b"20", b"text"))
+    result = client.execute("SELECT a, b, a / 2.0, count(*) FROM t WHERE a = $1", (b"20",), is_binary=True)
+    yield "into columns", differs([result.rows, result.types], [[(20, "text", 10.0, 1)], [INT8, TEXT, FLOAT8, INT8]])
+    code = code_of(lambda: client.execute("SELECT 1 UNION ALL SELECT 2.5", (), is_binary=True))
+    yield "mixed in binary", differs([code, client.execute("SELECT 1 UNION ALL SELECT 2.5").rows], ["42804", [(1.0,), (2.5,)]])
+
+
+def flows(client: Postgres) -> Iterator[tuple[str, str | None]]:
+    yield "an empty one", differs(kinds(client, parse("", "") + bind("", "") + describe(b"P") + execute() + SYNC), "12nIZ")
+    yield "a statement is described", differs(kinds(client, parse("s", "SELECT a FROM t WHERE a > $1") + describe(b"S", "s") + SYNC), "1tTZ")
+    yield "and run twice", differs(kinds(client, (bind("", "s", (b"0",)) + execute()) * 2 + SYNC), "2DDC2DDCZ")
+    yield "in parts", differs(kinds(client, bind("p", "s", (b"0",)) + execute("p", 1) + execute("p", 1) + execute("p", 1) + SYNC), "2DsDCCZ")
+    yield "a portal ends with its transaction", differs(kinds(client, execute("p") + SYNC), "EZ")
+    kinds(client, parse("", "BEGIN") + bind("", "") + execute() + SYNC)
+    seen = kinds(client, bind("p", "s", (b"0",)) + execute("p", 1) + SYNC), kinds(client, execute("p") + SYNC)
+    client.ask("COMMIT")
+    yield "and stays within one", differs(seen, ("2DsZ", "DCZ"))
+    yield "of a name that is there", differs(code_after(client, parse("s", "SELECT 1") + SYNC), "42P05")
+    yield "closed", differs([kinds(client, message(b"C", b"S", string("s")) + SYNC), code_after(client, bind("", "s") + SYNC)], ["3Z", "26000"])
+    yield "two commands", differs(code_after(client, parse("", "SELECT 1; SELECT 2") + SYNC), "42601")
+    yield "an error skips to Sync", differs(kinds(client, parse("", "SELEC") + bind("", "") + execute() + SYNC), "EZ")
+    yield "a message that nobody knows", differs(code_after(client, message(b"F", b"xx") + SYNC), "08P01")
+    yield "nothing is described of what gives no rows", differs(kinds(client, parse("", "DELETE FROM u") + bind("", "") + describe(b"P") + execute() + SYNC), "12nCZ")
+    yield "rows of what changes", differs(client.execute("INSERT INTO t VALUES(30, 'r') RETURNING a, b").rows, [(30, "r")])
+    yield "settings", differs([client.execute(sql).tag for sql in ("SET a = 1", "SHOW server_encoding", "BEGIN", "COMMIT")], ["SET", "SHOW", "BEGIN", "COMMIT"])
+    kinds(client, parse("c", "COMMIT") + SYNC)
+    client.ask("BEGIN")
+    code_of(lambda: client.ask("SELEC"))
+    tags = [tag_after(client, bind("", "c") + execute() + SYNC)]
+    client.ask("BEGIN")
+    tags.append(tag_after(client, bind("", "c") + execute() + SYNC))
+    yield "a commit of what failed", differs(tags, ["ROLLBACK", "COMMIT"])
+    client.ask("DEALLOCATE c")
+    yield "deallocated", differs(code_after(client, bind("", "c") + SYNC), "26000")
+    kinds(client, parse("w", "SELECT * FROM u") + bind("", "w") + execute() + SYNC)
+    client.ask("ALTER TABLE u ADD COLUMN more")
+    client.ask("INSERT INTO u(more) VALUES(1)")
+    yield "other columns than before", differs(code_after(client, bind("", "w") + execute() + SYNC), "0A000")
+
+
+def code_after(client: Postgres, data: bytes) -> str:
+    client.send(data)
+    return code_of(client.results)
+
+
+def tag_after(client: Postgres, data: bytes) -> str:
+    client.send(data)
+    return client.results()[-1].tag
+
+
+def insert(number: int) -> bytes:
+    return parse("", f"INSERT INTO t VALUES({number}, 'x')") + bind("", "") + execute()
+
+
+def several(client: Postgres) -> Iterator[tuple[str, str | None]]:
+    """Up to the next Sync they are one transaction."""
+    seen = [kinds(client, insert(40) + insert(41) + SYNC), kinds(client, insert(42) + insert(42) + insert(43) + SYNC), client.status]
+    yield "they are one", differs([*seen, client.rows("SELECT a FROM t WHERE a >= 40")], ["12C12CZ", "12C12EZ", "I", [(40,), (41,)]])
+    client.send(insert(44))
+    client.send(message(b"H"))
+    while client.receive()[0] != b"C":
+        pass
+    other = insert(44) + SYNC
+    yield "over several messages", differs([kinds(client, other), client.rows("SELECT count(*) FROM t WHERE a = 44")], ["12EZ", [(0,)]])
+
+
+def beside(served: Served, client: Postgres) -> Iterator[tuple[str, str | None]]:
+    """One that waits for a lock goes on where it stood."""
+    from tests.sql.simple import later
+    other = Postgres(served.postgres)
+    client.ask("BEGIN IMMEDIATE")
+    thread, came = later(lambda: kinds(other, insert(50) + SYNC))
+    seen = list(came)
+    client.ask("COMMIT")
+    thread.join(30)
+    yield "an extended query waits", differs([seen, came], [[], ["12CZ"]])
+    other.close()
+
+
+def passwords(built: Built, room: Path) -> Iterator[tuple[str, str | None]]:
+    with Served(built, room / "secret", "secret") as served:
+        right = Postgres(served.postgres, "secret").rows("SELECT 1")
+        wrong = [code_of(lambda word=word: Postgres(served.postgres, word)) for word in ("", "Secret", "secret1", "x" * 500)]
+        yield "a password", differs([right, wrong], [[(1,)], ["28P01"] * 4])
+
+
+def tests(built: Built) -> Iterator[tuple[str, str | None]]:
+    with tempfile.TemporaryDirectory() as folder:
+        room = Path(folder)
+        with Served(built, room / "extended") as served:
+            client = Postgres(served.postgres)
+            client.ask(START)
+            yield from parameters(client)
+            yield from flows(client)
+            yield from several(client)
+            yield from beside(served, client)
+        yield from passwords(built, room)

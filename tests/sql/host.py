@@ -1,0 +1,96 @@
+"""The parts of guests/sql built for this machine, by its C compiler and with the SQLite that Python has."""
+from __future__ import annotations
+
+import os
+import re
+import shutil
+import sqlite3  # noqa: F401, so that its library is loaded
+import subprocess
+import sys
+from pathlib import Path
+
+ROOT = Path(__file__).resolve().parents[2]
+GUEST, HERE = ROOT / "guests/sql", Path(__file__).resolve().parent
+# A smaller disk than the guest's: the database has 1 MiB, the journal and the log half of that each.
+FLAGS = ["-std=gnu11", "-O1", "-Wall", "-Wextra", "-Werror", "-DDISK_SECTORS=4096", "-DJOURNAL_SECTOR=2048", "-DLOG_SECTOR=3072",
+         f"-I{HERE}", f"-I{GUEST}"]
+FILES = ["vfs", "locks"]
+UNITS = ["digest", "locks", "statement", "request"]
+SESSIONS = ["text", "digest", "password", "scram", "statement", "session", "work", "query", "rows", "messages", "parameters", "extended",
+            "postgres", "request", "table", "page", "http"]
+
+
+def library() -> str:
+    """The file of the SQLite that this Python has loaded."""
+    found = re.search(r"/\S*libsqlite3\.so\S*", Path("/proc/self/maps").read_text())
+    return found.group() if found else sys.exit("this Python has no libsqlite3.so: its SQLite can't be linked with")
+
+
+def secret(password: str) -> str:
+    """What a build keeps of a password, as C."""
+    return subprocess.run([sys.executable, GUEST / "secret.py"], env={**os.environ, "PASSWORD": password}, check=True, capture_output=True,
+                          text=True).stdout
+
+
+class Built:
+    """The programs, in a folder."""
+
+    def __init__(self, room: Path) -> None:
+        self.room, self.library = room, library()
+        self.compiler = shutil.which("cc") or shutil.which("gcc") or sys.exit("there is no C compiler: apt-get install gcc")
+        for source in [*GUEST.glob("*.c"), *HERE.glob("*.c")]:
+            if source.stem in {*FILES, *UNITS, *SESSIONS, "disk", "power", "served", "units"}:
+                self.run("-c", source, "-o", room / f"{source.stem}.o")
+        self.link("units", [*UNITS, "units"])
+        self.link("power", [*FILES, "disk", "power"])
+        self.link_served("")
+        self.link_served("secret")
+
+    def run(self, *words: object) -> None:
+        subprocess.run([self.compiler, *FLAGS, *map(str, words)], check=True)
+
+    def link(self, name: str, parts: list[str]) -> None:
+        self.run("-o", self.room / name, *(self.room / f"{part}.o" for part in parts), self.library)
+
+    def link_served(self, password: str) -> None:
+        """`served`, or `served_PASSWORD`."""
+        name = f"served_{password}".rstrip("_")
+        (self.room / f"{name}_key.c").write_text(secret(password))
+        self.run("-c", self.room / f"{name}_key.c", "-o", self.room / f"{name}_key.o")
+        self.link(name, [*FILES, *SESSIONS, "disk", "served", f"{name}_key"])
+
+
+def own(room: Path, amalgamation: Path) -> Built:
+    """`served` over SQLite's own source, as the guest has it: a folder that guests/sql/build.sh has filled. The disk is the guest's."""
+    built = Built.__new__(Built)
+    built.room, built.compiler = room, shutil.which("cc") or "gcc"
+    options = (amalgamation / "options").read_text().split()
+    (room / "served_own_key.c").write_text(secret(""))
+    sources = [GUEST / f"{name}.c" for name in dict.fromkeys([*FILES, *SESSIONS])] + [HERE / f"{name}.c" for name in ("disk", "served", "own")]
+    subprocess.run([built.compiler, "-std=gnu11", "-O2", "-w", *options, f"-I{amalgamation}", f"-I{GUEST}", "-o", room / "served_own",
+                    room / "served_own_key.c", *sources, amalgamation / "sqlite3.c", "-lm"], check=True)
+    return built
+
+
+class Served:
+    """`served`, running over a file that is the disk."""
+
+    def __init__(self, built: Built, disk: Path, password: str = "", refused: int = 0) -> None:
+        program = built.room / f"served_{password}".rstrip("_")
+        self.process = subprocess.Popen([program, disk, str(refused)], stdin=subprocess.PIPE, stdout=subprocess.PIPE, text=True)
+        ports = dict(map(int, self.process.stdout.readline().split()) for _ in range(2))
+        self.postgres, self.http = ports[5432], ports[80]
+
+    def __enter__(self) -> Served:
+        return self
+
+    def kill(self) -> None:
+        """Stops it in the midst of whatever it does."""
+        self.process.kill()
+        self.process.communicate()
+
+    def __exit__(self, *_: object) -> None:
+        if self.process.poll() is None:
+            self.process.communicate("\n", timeout=60)
+        if self.process.returncode not in (0, -9):
+            raise RuntimeError(f"it ended with {self.process.returncode}")

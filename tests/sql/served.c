@@ -1,0 +1,174 @@
+/* The sessions of guests/sql on this machine, over its own sockets in place of lwIP, and its own SQLite:
+
+     served FILE [REFUSED]    the database's disk is FILE. Of REFUSED allocations in a row, each 97th is refused: there is no memory
+
+   It prints the ports of PostgreSQL's protocol and of HTTP, which it serves on this machine's loopback until its input ends. */
+#include <arpa/inet.h>
+#include <errno.h>
+#include <fcntl.h>
+#include <poll.h>
+#include <stdio.h>
+#include <stdlib.h>
+#include <string.h>
+#include <sys/socket.h>
+#include <unistd.h>
+
+#include "../../guests/sql/http.h"
+#include "../../guests/sql/postgres.h"
+#include "disk.h"
+
+#define MOST 64
+#define EVERY 97
+
+static struct session *sessions[MOST];
+static unsigned refused;
+
+/* Memory of SQLite's, some of which is refused. */
+
+static int is_refused(void) {
+    static unsigned turn;
+    return refused > 0 && ++turn % EVERY == 0 && refused-- > 0;
+}
+
+static void *get(int count) {
+    uint64_t *memory = is_refused() ? NULL : malloc((size_t)count + 16);
+    if (memory == NULL)
+        return NULL;
+    memory[0] = (uint64_t)count;
+    return memory + 2;
+}
+
+static void give(void *memory) { free(memory == NULL ? NULL : (uint64_t *)memory - 2); }
+
+static int size_of(void *memory) { return memory == NULL ? 0 : (int)((uint64_t *)memory)[-2]; }
+
+static void *change(void *memory, int count) {
+    uint64_t *more = is_refused() ? NULL : realloc((uint64_t *)memory - 2, (size_t)count + 16);
+    if (more == NULL)
+        return NULL;
+    more[0] = (uint64_t)count;
+    return more + 2;
+}
+
+static int rounded(int count) { return (count + 7) & ~7; }
+
+static int start(void *data) {
+    (void)data;
+    return SQLITE_OK;
+}
+
+static void end(void *data) { (void)data; }
+
+/* Connections. */
+
+static int descriptor_of(const struct session *session) { return (int)(intptr_t)session->connection; }
+
+static void forget(int place) {
+    close(descriptor_of(sessions[place]));
+    session_drop(sessions[place]);
+    sessions[place] = NULL;
+}
+
+/* Sends what a socket takes. Answers whether the connection is there still. */
+static int send_to(struct session *session) {
+    struct text *out = &session->out;
+    while (session->sent < out->length) {
+        ssize_t count = send(descriptor_of(session), out->bytes + session->sent, out->length - session->sent, MSG_NOSIGNAL);
+        if (count < 0)
+            return errno == EAGAIN;
+        session->sent += (uint32_t)count;
+    }
+    session->sent = out->length = 0;
+    text_shrink(out);
+    return !session->is_ending;
+}
+
+void carry(struct session *session) {
+    for (int i = 0; i < MOST; i++)
+        if (sessions[i] == session && !send_to(session))
+            forget(i);
+}
+
+static void receive(int place) {
+    char bytes[1500];
+    struct session *session = sessions[place];
+    ssize_t count = recv(descriptor_of(session), bytes, sizeof bytes, 0);
+    if (count < 0 && errno == EAGAIN)
+        return;
+    if (count < 0)
+        session->is_ending = 1;
+    if (count <= 0)
+        session->service->end_of_input(session);
+    else
+        session_take(session, bytes, (uint32_t)count);
+    carry(session);
+}
+
+static int listening(const struct service *service) {
+    struct sockaddr_in address = {.sin_family = AF_INET, .sin_addr.s_addr = htonl(INADDR_LOOPBACK)};
+    socklen_t length = sizeof address;
+    int descriptor = socket(AF_INET, SOCK_STREAM, 0);
+    if (bind(descriptor, (struct sockaddr *)&address, length) != 0 || listen(descriptor, MOST) != 0
+        || getsockname(descriptor, (struct sockaddr *)&address, &length) != 0)
+        exit(2);
+    printf("%u %u\n", service->port, ntohs(address.sin_port));
+    return descriptor;
+}
+
+static void accept_one(int listener, const struct service *service) {
+    for (int i = 0; i < MOST; i++)
+        if (sessions[i] == NULL) {
+            int descriptor = accept(listener, NULL, NULL);
+            fcntl(descriptor, F_SETFL, O_NONBLOCK);
+            sessions[i] = session_start(service, (void *)(intptr_t)descriptor);
+            if (sessions[i] == NULL)
+                close(descriptor);
+            return;
+        }
+}
+
+static void serve(const int listeners[2]) {
+    const struct service *services[2] = {&postgres, &http};
+    struct pollfd watched[MOST + 3];
+    int places[MOST + 3];
+    for (;;) {
+        int count = 0;
+        watched[count++] = (struct pollfd){STDIN_FILENO, POLLIN, 0};
+        for (int i = 0; i < 2; i++)
+            watched[count++] = (struct pollfd){listeners[i], POLLIN, 0};
+        for (int i = 0; i < MOST; i++)
+            if (sessions[i] != NULL) {
+                places[count] = i;
+                watched[count++] = (struct pollfd){descriptor_of(sessions[i]), (short)(POLLIN | (sessions[i]->out.length > 0 ? POLLOUT : 0)), 0};
+            }
+        poll(watched, (nfds_t)count, 100);
+        if (watched[0].revents != 0)
+            return;
+        for (int i = 3; i < count; i++) {
+            struct session *session = sessions[places[i]];
+            if (session != NULL && (watched[i].revents & POLLOUT))
+                carry(session);
+            if (sessions[places[i]] != NULL && sessions[places[i]] == session && (watched[i].revents & (POLLIN | POLLHUP | POLLERR)))
+                receive(places[i]);
+        }
+        for (int i = 0; i < 2; i++)
+            if (watched[1 + i].revents != 0)
+                accept_one(listeners[i], services[i]);
+        sessions_poll();
+    }
+}
+
+int main(int count, char **words) {
+    static sqlite3_mem_methods memory = {get, give, change, size_of, rounded, start, end, NULL};
+    if (count < 2)
+        return 2;
+    medium_make(words[1]);
+    sqlite3_config(SQLITE_CONFIG_MALLOC, &memory);
+    if (sqlite3_initialize() != SQLITE_OK || vfs_register() != SQLITE_OK || !vfs_start())
+        return 2;
+    int listeners[2] = {listening(&postgres), listening(&http)};
+    fflush(stdout);
+    refused = count > 2 ? (unsigned)atoi(words[2]) : 0;
+    serve(listeners);
+    return 0;
+}
