@@ -12,10 +12,17 @@ class Cluster:
     def __init__(self, resource: str) -> None:
         self.resource = resource
         self.life_name, self.given_up_name = resource + "-life", resource + "-given-up"
+        self.read: dict[str, list[str]] | None = None
         self.node = meta("on_node") or run("crm_node", "--name").stdout.strip() or os.uname().nodename
 
     def properties(self) -> dict[str, list[str]]:
-        """The cluster's properties, each with all its values. Fails where they can't be read."""
+        """The cluster's properties, each with all its values, as they were when this action first asked. Fails where they can't be read."""
+        if self.read is None:
+            self.read = self.read_properties()
+        return self.read
+
+    @staticmethod
+    def read_properties() -> dict[str, list[str]]:
         read = run("cibadmin", "--query", "--local", "--scope", "crm_config")
         if read.returncode != 0 or "<crm_config" not in read.stdout:
             raise Failure(GENERIC, f"the cluster's properties can't be read: {read.stderr}")
@@ -33,11 +40,13 @@ class Cluster:
         return Life.read(values[0]) if values else None
 
     def write_life(self, value: str) -> None:
+        self.read = None
         wrote = run("crm_attribute", "--type", "crm_config", "--name", self.life_name, "--update", value)
         if wrote.returncode != 0:
             raise Failure(GENERIC, f"the cluster's property {self.life_name} can't be written: {wrote.stderr}")
 
     def delete_life(self) -> None:
+        self.read = None
         run("crm_attribute", "--type", "crm_config", "--name", self.life_name, "--delete")
 
     def unsafe(self) -> str | None:

@@ -28,9 +28,11 @@ def warn(text: str) -> None:
 
 
 def run(*words: str, seconds: float = 15) -> subprocess.CompletedProcess:
-    """Runs another program. One that isn't there, or takes longer, has a status as a shell would tell it."""
+    """Runs another program. One that isn't there, or takes longer, has a status as a shell would tell it. It isn't told on which node it
+    runs: attrd_updater would take that for the node that is asked about, and for all nodes too."""
+    told = {name: value for name, value in os.environ.items() if not name.startswith("OCF_RESKEY_CRM_meta_")}
     try:
-        return subprocess.run(words, stdin=subprocess.DEVNULL, capture_output=True, text=True, timeout=seconds)
+        return subprocess.run(words, stdin=subprocess.DEVNULL, capture_output=True, text=True, timeout=seconds, env=told)
     except FileNotFoundError:
         return subprocess.CompletedProcess(words, 127, "", f"{words[0]} isn't installed")
     except subprocess.TimeoutExpired:

@@ -181,12 +181,29 @@ def downloads(told):
     return {"downloads": done}
 
 
+def ready():
+    """Whether the guest answers, on the web server's port or the counter's, within a second."""
+    for kind, port in ((socket.SOCK_STREAM, 80), (socket.SOCK_DGRAM, 7)):
+        with socket.socket(socket.AF_INET, kind) as link:
+            link.settimeout(0.5)
+            try:
+                link.connect((GUEST, port))
+                if kind == socket.SOCK_STREAM or link.send(b"ready") and link.recv(100):
+                    return True
+            except OSError:
+                pass
+    return False
+
+
 def main(kind):
+    if kind == "ready":
+        return 0 if ready() else 1
     signal.signal(signal.SIGTERM, lambda *_: going.clear())
     told = Told()
     more = {"ping": ping, "udp": udp, "count": count, "big": downloads}[kind](told)
     told.say(**(more or {}))
+    return 0
 
 
 if __name__ == "__main__":
-    main(sys.argv[1])
+    sys.exit(main(sys.argv[1]))

@@ -91,15 +91,21 @@ def clear(folder):
 
 
 def install(folder, made):
-    """Installs the package by dpkg on one disk, in a mount namespace of its own, and copies that to the other one."""
-    first, second = network.NUMBERS
+    """Installs the package by dpkg on a disk of its own, in a mount namespace of its own."""
+    disk = folder / "installed"
     script = "mount --make-rprivate / && " + " && ".join(
-        f"mkdir -p {folder}/{first}/{part} {folder}/{first}/work.{part} && mount -t overlay {part} "
-        f"-o lowerdir=/{part},upperdir={folder}/{first}/{part},workdir={folder}/{first}/work.{part} /{part}" for part in PARTS)
+        f"mkdir -p {disk}/{part} {disk}/work.{part} && mount -t overlay {part} "
+        f"-o lowerdir=/{part},upperdir={disk}/{part},workdir={disk}/work.{part} /{part}" for part in PARTS)
     subprocess.run(["unshare", "--mount", "sh", "-ec", f"{script} && dpkg -i {made} >/dev/null"], check=True, stdin=subprocess.DEVNULL,
                    env={**os.environ, "PATH": "/usr/sbin:/usr/bin:/sbin:/bin"})
-    for part in PARTS:
-        subprocess.run(["cp", "-a", folder / first / part, folder / second / part], check=True)
+
+
+def copy_installed(folder):
+    """Both hosts' disks, with the package on them."""
+    clear(folder)
+    for host in network.NUMBERS:
+        for part in PARTS:
+            subprocess.run(["cp", "-a", folder / "installed" / part, folder / host / part], check=True)
 
 
 def configure(folder, guest, node, token, delay, settings):

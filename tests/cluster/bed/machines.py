@@ -10,7 +10,7 @@ import time
 import xml.etree.ElementTree as xml
 from pathlib import Path
 
-from bed import disks, network
+from bed import disks, network, priority
 from bed.power import Power
 
 HERE = Path(__file__).resolve().parent
@@ -38,7 +38,8 @@ class Bed:
         network.up()
         self.power = Power(self.folder)
         self.made = disks.package(self.folder, self.program)
-        command = [*network.FIRST, "ip", "netns", "exec", network.SWITCH, sys.executable, HERE / "record.py", self.record]
+        disks.install(self.folder, self.made)
+        command = [*priority.before(), "ip", "netns", "exec", network.SWITCH, sys.executable, HERE / "record.py", self.record]
         self.recorder = subprocess.Popen(command, stdout=subprocess.PIPE, text=True)
         self.recorder.stdout.readline()
         return self
@@ -56,14 +57,20 @@ class Bed:
         for host in network.NUMBERS:
             self.power.off(host)
         self.past = self.terms()
-        disks.clear(self.folder)
-        disks.install(self.folder, self.made)
+        disks.copy_installed(self.folder)
         disks.configure(self.folder, self.guest, self.node, self.token, self.delay, self.settings)
         began = time.time()
         for host in network.NUMBERS:
             self.power.on(host)
         self.pair()
-        return time.time() - began
+        protected = time.time() - began
+        self.until(self.guest_answers, 20, "an answer of the guest's")
+        return protected
+
+    def guest_answers(self):
+        """Whether the guest has begun: it answers an echo, or its counter does."""
+        words = ["ip", "netns", "exec", network.CLIENT, sys.executable, HERE / "client.py", "ready"]
+        return subprocess.run(words).returncode == 0
 
     # Hosts.
 
@@ -179,7 +186,7 @@ class Clients:
 
     def __enter__(self):
         self.began = time.time()
-        command = [*network.FIRST, "ip", "netns", "exec", network.CLIENT, sys.executable, HERE / "client.py"]
+        command = [*priority.before(), "ip", "netns", "exec", network.CLIENT, sys.executable, HERE / "client.py"]
         self.running = {kind: subprocess.Popen([*command, kind], stdout=subprocess.PIPE, text=True) for kind in self.kinds}
         time.sleep(1)
         return self
@@ -195,8 +202,11 @@ class Clients:
                 self.told[name] = None
 
     def pause(self, kind, begin):
-        """The longest time without an answer that touches what came after a time; 0 where none was of a quarter of a second."""
-        return max((long for at, long in self.told[kind]["pauses"] if at + long > begin), default=0)
+        """The longest time without an answer that touches what came after a time, the last one too; 0 where none was of a quarter of a
+        second."""
+        told = self.told[kind]
+        last = told["silent"] if told["silent"] and told["silent"] > 0.25 else 0
+        return max([last, *(long for at, long in told["pauses"] if at + long > begin)])
 
     def paused(self, begin):
         """The longest pause of those that ask all the time."""

@@ -1,7 +1,6 @@
 """The networks: a switch with two bridges, one for the cluster and the link, one for the guest; and a client. Each is a namespace."""
 import subprocess
 
-FIRST = ("nice", "-n", "-10")  # hosts and clients are machines of their own: what else this one does isn't to slow them down
 SWITCH, CLIENT = "remus-switch", "remus-client"
 WIRES = {"c": ("brc", "eth0"), "s": ("brs", "eth1")}  # a wire's letter: its bridge at the switch, its device at a host
 NUMBERS = {"one": 1, "two": 2}

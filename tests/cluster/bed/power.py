@@ -10,7 +10,7 @@ import threading
 import time
 from pathlib import Path
 
-from bed import network
+from bed import network, priority
 
 HERE = Path(__file__).resolve().parent
 OFF_SECONDS = 1  # how long a host is off in a reboot
@@ -44,8 +44,8 @@ class Power:
             network.plug_in(host)
             with open(self.folder / host / "console", "ab") as console:
                 self.hosts[host] = subprocess.Popen(
-                    [*network.FIRST, "nsenter", "--net=/run/netns/" + network.namespace(host), "unshare", "--mount", "--uts", "--ipc", "--pid", "--fork",
-                     "--kill-child", HERE / "boot", host, self.folder], stdin=subprocess.DEVNULL, stdout=console, stderr=console,
+                    [*priority.before(), "nsenter", "--net=/run/netns/" + network.namespace(host), "unshare", "--mount", "--uts", "--ipc",
+                     "--pid", "--fork", "--kill-child", HERE / "boot", host, self.folder], stdin=subprocess.DEVNULL, stdout=console, stderr=console,
                     start_new_session=True)
             self.note("on", host)
 
