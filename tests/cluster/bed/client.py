@@ -6,8 +6,10 @@
     client.py udp           asks the counter of port 7 each 20 ms
 
 `pauses` are the times without an answer of 0.25 s and more, each with when it began; `wrong` what must never come."""
+import errno
 import json
 import os
+import select
 import signal
 import socket
 import struct
@@ -19,6 +21,7 @@ sys.path.insert(0, str(Path(__file__).resolve().parents[3]))
 from tests.served import big
 
 GUEST, EVERY, LONG = "10.0.0.1", 0.02, 0.25
+STEP = 0.01  # seconds from one point of the curve to the next
 going = [True]
 
 
@@ -27,9 +30,13 @@ class Told:
 
     def __init__(self):
         self.answers, self.pauses, self.wrong, self.resets, self.last = 0, [], [], 0, None
+        self.bytes, self.curve = 0, []  # what came in all, and how much of it had come at a time
 
-    def came(self, now):
+    def came(self, now, count=0):
         self.answers += 1
+        self.bytes += count
+        if not self.curve or now - self.curve[-1][0] >= STEP:
+            self.curve.append((round(now, 3), self.bytes))
         if self.last is not None and now - self.last >= LONG:
             self.pauses.append((round(self.last, 3), round(now - self.last, 3)))
         self.last = now
@@ -103,8 +110,18 @@ def request(path):
 
 
 def connect():
-    link = socket.create_connection((GUEST, 80), timeout=120)
+    """A connection to the web server; None where the test ends before there is one."""
+    link = socket.socket()
     link.setsockopt(socket.IPPROTO_TCP, socket.TCP_NODELAY, 1)
+    link.setblocking(False)
+    error = link.connect_ex((GUEST, 80))
+    while error == errno.EINPROGRESS and going:
+        if select.select([], [link], [], 0.5)[1]:
+            error = link.getsockopt(socket.SOL_SOCKET, socket.SO_ERROR)
+    if error == errno.EINPROGRESS:
+        return None
+    if error:
+        raise OSError(error, os.strerror(error))
     link.settimeout(0.5)
     return link
 
@@ -120,7 +137,7 @@ def receive(link, told, text, is_whole):
             return None
         if not more:
             raise ConnectionResetError("the server closed it")
-        told.came(time.time())
+        told.came(time.time(), len(more))
         text += more
     return text
 
@@ -143,6 +160,8 @@ def count(told):
     while going:
         try:
             link = link or connect()
+            if link is None:
+                break
             link.sendall(request("/count"))
             text = receive(link, told, b"", lambda text: (length := length_of(text)) is not None and len(text) >= length)
             if text is None:
@@ -166,6 +185,8 @@ def downloads(told):
     while going:
         try:
             link = connect()
+            if link is None:
+                break
             link.sendall(request("/big"))
             text = receive(link, told, b"", lambda text: (length := length_of(text)) is not None and len(text) >= length)
             link.close()
@@ -178,7 +199,7 @@ def downloads(told):
             if going:
                 told.resets += 1
                 told.wrong.append(f"{error} at {time.time():.3f}")
-    return {"downloads": done}
+    return {"downloads": done, "curve": told.curve}
 
 
 def ready():

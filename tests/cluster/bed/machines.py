@@ -204,7 +204,7 @@ class Clients:
     def pause(self, kind, begin):
         """The longest time without an answer that touches what came after a time, the last one too; 0 where none was of a quarter of a
         second."""
-        told = self.told[kind]
+        told = self.told[kind] or {"silent": time.time() - begin, "pauses": []}
         last = told["silent"] if told["silent"] and told["silent"] > 0.25 else 0
         return max([last, *(long for at, long in told["pauses"] if at + long > begin)])
 

@@ -6,6 +6,7 @@ import os
 import signal
 import socket
 import subprocess
+import sys
 import threading
 import time
 from pathlib import Path
@@ -20,6 +21,7 @@ class Power:
     def __init__(self, folder):
         self.folder, self.hosts, self.lock = folder, {}, threading.Lock()
         self.log, self.answers, self.kills = [], True, True
+        self.cut_off = set()  # hosts whose plugs are pulled, and that may run: they don't reach the switch either
         self.socket = socket.socket(socket.AF_UNIX)
         path = folder / "power"
         path.unlink(missing_ok=True)
@@ -42,6 +44,7 @@ class Power:
             if self.is_on(host):
                 return
             network.plug_in(host)
+            self.cut_off.discard(host)
             with open(self.folder / host / "console", "ab") as console:
                 self.hosts[host] = subprocess.Popen(
                     [*priority.before(), "nsenter", "--net=/run/netns/" + network.namespace(host), "unshare", "--mount", "--uts", "--ipc",
@@ -93,6 +96,7 @@ class Power:
             self.cut(host)
             network.forget(host)
         else:
+            self.cut_off.add(host)
             network.pull(host)  # only its plugs: it may go on, and reaches nobody
         self.note("off", host)
 
@@ -117,6 +121,10 @@ class Power:
             threading.Thread(target=self.answer, args=(link,), daemon=True).start()
 
     def answer(self, link):
+        asker = int.from_bytes(link.getsockopt(socket.SOL_SOCKET, socket.SO_PEERCRED, 12)[:4], sys.byteorder)
+        if any(asker in self.processes(host) for host in self.cut_off):
+            link.close()
+            return
         with link:
             verb, _, host = link.makefile().readline().strip().partition(" ")
             told = self.do(verb, host)

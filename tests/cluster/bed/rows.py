@@ -2,6 +2,7 @@
 import os
 import signal
 import statistics
+import threading
 import time
 from pathlib import Path
 
@@ -305,6 +306,38 @@ def upgrade(row, times):
         for host in network.NUMBERS:
             shown = bed.on(host, "dpkg-query", "--show", "--showformat=${Version}", "remus").stdout
             row.expect(shown == version, f"{host} has the version {shown}")
+
+
+def trace(bed):
+    """One power cut of the live host, for a picture: what each host was all the time, its counts of checkpoints, the client's bytes, and the
+    times of the fence device."""
+    bed.new(guest=WEB)
+    live, standby = bed.pair()
+    samples, going = [], [True]
+
+    def sample():
+        while going:
+            for host in network.NUMBERS:
+                status = bed.status(host)
+                told = {name: status.get(name) for name in ("role", "mode", "full", "generation", "cut", "acknowledged", "committed")}
+                samples.append({"at": round(time.time(), 3), "host": host, "on": bed.power.is_on(host), **told})
+            time.sleep(0.02)
+
+    sampler = threading.Thread(target=sample)
+    sampler.start()
+    with bed.clients("big") as clients:
+        time.sleep(2)
+        begin = time.time()
+        bed.power.cut(live)
+        bed.until(lambda: bed.live() == standby, 30, "the standby live")
+        bed.pair()
+        time.sleep(1.5)
+    going.clear()
+    sampler.join()
+    return {"victim": live, "survivor": standby, "cut": begin, "asked": bed.power.since(begin, "asked"), "done": bed.power.since(begin, "off"),
+            "live": bed.when(standby, "live in generation", begin), "power back": bed.power.since(begin, "on"),
+            "protected": bed.when(standby, "^protected", begin), "wrong": clients.mistakes(), "samples": samples,
+            "curve": clients.told["big"]["curve"]}
 
 
 # By name: the row, how often it is tried, on which guest.
