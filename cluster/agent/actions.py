@@ -1,0 +1,255 @@
+"""The actions of ocf:remus:pair."""
+import os
+import re
+import sys
+import syslog
+
+from agent.cluster import Cluster
+from agent.daemon import Daemon
+from agent.life import Life, alone_in, stalls, why_not
+from agent.ocf import CONFIGURED, GENERIC, INSTALLED, NOT_RUNNING, PROMOTED, SUCCESS, UNIMPLEMENTED, Failure, meta, parameter, run, warn
+
+SCORE_LIVE, SCORE_FULL, SCORE_FIRST = 200, 100, 5
+
+# What can't be safe otherwise, as Pacemaker's environment says it of the clone.
+CLONE = {"clone_max": "2", "notify": "true", "promoted_max": "1", "clone_node_max": "1"}
+
+
+class Pair:
+    def __init__(self) -> None:
+        self.resource = os.environ.get("OCF_RESOURCE_INSTANCE", "pair").partition(":")[0]
+        self.daemon, self.cluster = Daemon(self.resource), Cluster(self.resource)
+        self.asked = self.daemon.started + ".given-up"  # is there while this host has given its standby up
+
+    # Scores.
+
+    def score(self, status: dict) -> int | None:
+        if status["role"] == "live":
+            return SCORE_LIVE
+        life = self.cluster.life()
+        if status["role"] == "empty":
+            return SCORE_FIRST if life is None else None
+        return SCORE_FULL if why_not(status, life) is None else None
+
+    def publish(self, status: dict) -> None:
+        """A life that can't be read is no reason to be promoted, and none to fail."""
+        try:
+            score = self.score(status)
+        except Failure as failure:
+            warn(failure.reason)
+            score = None
+        self.cluster.publish(score)
+
+    # Start and stop.
+
+    def start(self) -> int:
+        self.validate(as_clone=True)
+        status = self.daemon.status()
+        if status is None:
+            self.cluster.publish(None)
+            self.daemon.start()
+            status = self.daemon.running()
+        self.publish(status)
+        return SUCCESS
+
+    def stop(self) -> int:
+        self.cluster.publish(None)
+        self.daemon.stop()
+        return SUCCESS
+
+    # Monitor.
+
+    def monitor(self) -> int:
+        if not self.daemon.note() and not os.path.exists(self.daemon.config):
+            return NOT_RUNNING
+        try:
+            status = self.daemon.status()
+            if status is None:
+                return self.absent()
+            if status["role"] == "live":
+                return self.monitor_live(status)
+            if status["instance"] in self.cluster.given_up():
+                raise Failure(GENERIC, "this standby was given up: it has to begin anew")
+        except Failure:
+            self.cluster.publish(None)
+            raise
+        self.publish(status)
+        return SUCCESS
+
+    def absent(self) -> int:
+        """Nobody listens: no daemon was started, or it has ended, or it hangs."""
+        if self.daemon.process() is not None:
+            raise Failure(GENERIC, "remus-host runs, but doesn't listen")
+        if self.daemon.note():
+            raise Failure(NOT_RUNNING, "remus-host has ended")
+        return NOT_RUNNING
+
+    def monitor_live(self, status: dict) -> int:
+        self.cluster.publish(SCORE_LIVE)
+        self.name_life(status)
+        self.watch_standby(status)
+        return PROMOTED
+
+    def name_life(self, status: dict) -> None:
+        """Writes the property of a live guest where it isn't there, or the guest has gone on alone since. Where that can't be done it is
+        done by a later monitor."""
+        try:
+            now, true = self.cluster.life(), alone_in(status)
+            if now is not None and now.name not in ("", true.name):
+                syslog.syslog(syslog.LOG_ERR, f"the life of the guest here is {true.name}, and {self.cluster.life_name} says {now}")
+            elif now is None or not now.name or now.generation < true.generation:
+                self.cluster.write_life(str(true))
+        except Failure as failure:
+            warn(failure.reason)
+
+    def watch_standby(self, status: dict) -> None:
+        """Asks for a standby that acknowledges nothing to be stopped, and takes that back where it acknowledges again."""
+        standby = status["peer"].get("instance")
+        if standby and stalls(status, float(parameter("stall", "2"))):
+            warn(f"nothing was acknowledged for {status['unacknowledged_ms']} ms: the standby {standby} is given up")
+            self.cluster.give_up(standby)
+            os.makedirs(self.daemon.folder, mode=0o755, exist_ok=True)
+            with open(self.asked, "w", encoding="utf-8"):
+                pass
+        elif os.path.exists(self.asked):
+            self.cluster.keep()
+            os.unlink(self.asked)
+
+    # Promote and demote.
+
+    def promote(self) -> int:
+        try:
+            self.go_live()
+        except Failure:
+            self.cluster.publish(None)
+            raise
+        self.cluster.publish(SCORE_LIVE)
+        return SUCCESS
+
+    def go_live(self) -> None:
+        status = self.daemon.running()
+        if status["role"] != "live":
+            unsafe = self.cluster.unsafe()
+            if unsafe:
+                raise Failure(GENERIC, unsafe)
+            life = self.cluster.life()
+            if life is None and status["role"] == "empty":
+                self.boot()
+            else:
+                reason = why_not(status, life)
+                if reason:
+                    raise Failure(GENERIC, reason)
+                self.daemon.command("promote")
+        self.name_life(self.daemon.running())
+
+    def boot(self) -> None:
+        """Boots the guest. The property is written before, so that it is there whatever becomes of this host meanwhile."""
+        self.cluster.write_life("boot:" + self.cluster.node)
+        answer = self.daemon.ask("promote", boot=True, new=True)
+        if answer is None:
+            raise Failure(NOT_RUNNING, "remus-host ended while it booted the guest")
+        if not answer.get("ok"):
+            self.cluster.delete_life()  # nothing was booted
+            code = GENERIC if answer.get("refused") in ("NotEmpty", "Busy") else INSTALLED
+            raise Failure(code, f"remus-host refused to boot the guest: {answer.get('why', answer)}")
+
+    def demote(self) -> int:
+        self.cluster.publish(None)
+        if self.daemon.running()["role"] == "live":
+            answer = self.daemon.command("demote")
+            syslog.syslog(syslog.LOG_INFO, "demoted: the standby has all" if answer.get("handed_on") else "demoted: the guest is kept here")
+        return SUCCESS
+
+    # Notify.
+
+    def notify(self) -> int:
+        what = meta("notify_type"), meta("notify_operation")
+        others = [node for node in meta(f"notify_{what[1]}_uname").split() if node != self.cluster.node]
+        if what == ("post", "stop") and others:
+            self.standby_has_stopped()
+        elif what == ("post", "promote") and others:
+            self.other_is_live()
+        return SUCCESS
+
+    def standby_has_stopped(self) -> None:
+        """Pacemaker says that the other instance has stopped: by its agent, or since its host is fenced."""
+        status = self.daemon.status()
+        if status is None or status["role"] not in ("live", "frozen") or status["mode"] == "alone":
+            return
+        unsafe = self.cluster.unsafe()
+        if unsafe:
+            raise Failure(GENERIC, f"the guest doesn't go on alone. {unsafe}")
+        try:
+            self.cluster.write_life(str(Life(status["life"], status["generation"])))  # no checkpoint of this generation goes live any more
+        except Failure as failure:
+            warn(failure.reason)
+        standby = status["peer"].get("instance")
+        self.daemon.command("alone", **({"standby": standby} if standby else {}))
+
+    def other_is_live(self) -> None:
+        """A guest that was stopped here, or a checkpoint of another guest, is of no use any more: this host has to begin anew."""
+        status = self.daemon.status()
+        if status is None or status["role"] not in ("frozen", "standby"):
+            return
+        life = self.cluster.life()
+        if status["role"] == "frozen" or (status["full"] and life is not None and life.name not in ("", status["life"])):
+            self.cluster.give_up(status["instance"])
+
+    # Validate.
+
+    def validate(self, as_clone: bool = False) -> int:
+        self.validate_clone(as_clone)
+        unsafe = self.cluster.unsafe()
+        if unsafe:
+            raise Failure(CONFIGURED, unsafe)
+        stall = parameter("stall", "2")
+        if not re.fullmatch(r"\d{1,4}(\.\d+)?", stall, re.ASCII) or float(stall) < 0.5:
+            raise Failure(CONFIGURED, f"stall={stall}: it must be a number of seconds, 0.5 at least")
+        if not os.access(self.daemon.program, os.X_OK) or os.path.isdir(self.daemon.program):
+            raise Failure(INSTALLED, f"{self.daemon.program} isn't there, or can't be run")
+        self.daemon.configured_control()
+        checked = run(self.daemon.program, "check", "--config", self.daemon.config)
+        if checked.returncode != 0:
+            raise Failure(INSTALLED, checked.stderr or checked.stdout or f"{self.daemon.config} was refused")
+        return SUCCESS
+
+    @staticmethod
+    def validate_clone(as_clone: bool) -> None:
+        """By hand nothing is said of the clone, and then there is nothing to refuse."""
+        for name, value in CLONE.items():
+            said = meta(name) or (meta("master_max") if name == "promoted_max" else "")
+            must = as_clone and name in ("clone_max", "notify")
+            if said.lower() != value and (said or must):
+                raise Failure(CONFIGURED, f"the clone must have {name.replace('_', '-')}={value}, and has {said or 'none'}")
+
+
+ACTIONS = {"start": Pair.start, "stop": Pair.stop, "monitor": Pair.monitor, "promote": Pair.promote, "demote": Pair.demote,
+           "notify": Pair.notify, "validate-all": Pair.validate}
+
+
+def meta_data() -> str:
+    """What Pacemaker and its shells show of the agent. The version is that of the whole, in a file above the agent's folder."""
+    here = os.path.dirname(os.path.realpath(__file__))
+    with open(os.path.join(here, "metadata.xml"), encoding="utf-8") as file:
+        text = file.read()
+    with open(os.path.join(here, "..", "..", "VERSION"), encoding="utf-8") as file:
+        return text.replace("@VERSION@", file.read().strip())
+
+
+def main(words: list[str]) -> int:
+    action = words[0] if len(words) == 1 else ""
+    if action in ("meta-data", "metadata"):
+        sys.stdout.write(meta_data())
+        return SUCCESS
+    if action not in ACTIONS:
+        print(f"usage: pair {'|'.join([*ACTIONS, 'meta-data'])}", file=sys.stderr)
+        return SUCCESS if action in ("usage", "help") else UNIMPLEMENTED
+    syslog.openlog("pair", syslog.LOG_PID, syslog.LOG_DAEMON)
+    try:
+        return ACTIONS[action](Pair())
+    except Failure as failure:
+        print(f"ocf-exit-reason:{failure.reason}", file=sys.stderr)
+        return failure.code
+    except OSError as error:
+        print(f"ocf-exit-reason:{error}", file=sys.stderr)
+        return GENERIC

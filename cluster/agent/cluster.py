@@ -1,0 +1,80 @@
+"""What the agent keeps in the cluster: this node's score, the guest's life, and which standby is given up."""
+import os
+import re
+
+from agent.life import Life
+from agent.ocf import GENERIC, Failure, meta, run
+
+FALSE = ("false", "off", "no", "n", "0")
+
+
+class Cluster:
+    def __init__(self, resource: str) -> None:
+        self.resource = resource
+        self.life_name, self.given_up_name = resource + "-life", resource + "-given-up"
+        self.read: dict[str, list[str]] | None = None
+        self.node = meta("on_node") or run("crm_node", "--name").stdout.strip() or os.uname().nodename
+
+    def properties(self) -> dict[str, list[str]]:
+        """The cluster's properties, each with all its values, as they were when this action first asked. Fails where they can't be read."""
+        if self.read is None:
+            self.read = self.read_properties()
+        return self.read
+
+    @staticmethod
+    def read_properties() -> dict[str, list[str]]:
+        read = run("cibadmin", "--query", "--local", "--scope", "crm_config")
+        if read.returncode != 0 or "<crm_config" not in read.stdout:
+            raise Failure(GENERIC, f"the cluster's properties can't be read: {read.stderr}")
+        found: dict[str, list[str]] = {}
+        for pair in re.findall(r"<nvpair\s[^>]*>", read.stdout):
+            words = dict(re.findall(r'([\w-]+)="([^"]*)"', pair))
+            found.setdefault(words.get("name", ""), []).append(words.get("value", ""))
+        return found
+
+    def life(self) -> Life | None:
+        """The guest's life; None only where the property surely isn't there."""
+        values = self.properties().get(self.life_name, [])
+        if len(values) > 1:
+            raise Failure(GENERIC, f"the cluster's property {self.life_name} is there {len(values)} times")
+        return Life.read(values[0]) if values else None
+
+    def write_life(self, value: str) -> None:
+        self.read = None
+        wrote = run("crm_attribute", "--type", "crm_config", "--name", self.life_name, "--update", value)
+        if wrote.returncode != 0:
+            raise Failure(GENERIC, f"the cluster's property {self.life_name} can't be written: {wrote.stderr}")
+
+    def delete_life(self) -> None:
+        self.read = None
+        run("crm_attribute", "--type", "crm_config", "--name", self.life_name, "--delete")
+
+    def unsafe(self) -> str | None:
+        """Why a host that doesn't answer might not be fenced, if so."""
+        properties = self.properties()
+        for name in ("stonith-enabled", "startup-fencing"):
+            if any(value.lower() in FALSE for value in properties.get(name, [])):
+                return f"{name}=false: a host that doesn't answer might still run the guest"
+        return None
+
+    def score_command(self) -> list[str]:
+        return ["crm_attribute", "--promotion=" + self.resource, "--node", self.node, "--lifetime", "reboot"]
+
+    def publish(self, score: int | None) -> None:
+        """Sets this node's score, or takes it back. It is written only where it changes."""
+        now = run(*self.score_command(), "--query", "--quiet").stdout.strip()
+        if score is None and now:
+            run(*self.score_command(), "--delete")
+        elif score is not None and now != str(score):
+            run(*self.score_command(), "--update", str(score))
+
+    def give_up(self, instance: str) -> None:
+        run("attrd_updater", "--name", self.given_up_name, "--node", self.node, "--update", instance, "--private")
+
+    def keep(self) -> None:
+        run("attrd_updater", "--name", self.given_up_name, "--node", self.node, "--delete", "--private")
+
+    def given_up(self) -> list[str]:
+        """The instances that any node has given up."""
+        asked = run("attrd_updater", "--name", self.given_up_name, "--query", "--all", "--private")
+        return re.findall(r'value="([^"]*)"', asked.stdout)

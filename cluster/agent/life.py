@@ -1,0 +1,53 @@
+"""What may go live at a host, and which standby is given up: rules over what the daemon and the cluster say."""
+from agent.ocf import GENERIC, Failure
+
+FILLING_SECONDS = 60  # a standby that hasn't taken the full checkpoint by then is given up
+
+
+class Life:
+    """What the cluster's property says: `NAME:GENERATION`, the life of the guest and the last generation in which it was alone, so that a
+    checkpoint must be of a later one; or `boot:NODE`, while that node boots it, and then the name is empty."""
+
+    def __init__(self, name: str, generation: int) -> None:
+        self.name, self.generation = name, generation
+
+    @staticmethod
+    def read(text: str) -> "Life":
+        name, _, generation = text.partition(":")
+        if name == "boot" and generation:
+            return Life("", 0)
+        if not name or not generation.isascii() or not generation.isdigit():
+            raise Failure(GENERIC, f"the cluster's property that names the guest's life can't be understood: '{text}'")
+        return Life(name, int(generation))
+
+    def __str__(self) -> str:
+        return f"{self.name}:{self.generation}"
+
+
+def alone_in(status: dict) -> Life:
+    """What the property has to say of a live guest: it was alone in this generation, or, if it has a standby, in the one before."""
+    return Life(status["life"], status["generation"] - (0 if status["mode"] == "alone" else 1))
+
+
+def why_not(status: dict, life: Life | None) -> str | None:
+    """Why what stands at this host mustn't go live, if so."""
+    if not status["full"]:
+        return "no full checkpoint stands here"
+    frozen = status["role"] == "frozen"
+    if frozen and status["mode"] != "alone":
+        return "the guest that was stopped here has a standby, which may have gone on"
+    if life is None or not life.name:
+        return None
+    if life.name != status["life"]:
+        return f"what stands here is of the life {status['life']}, and the cluster's guest is of {life.name}"
+    if status["generation"] < life.generation + (0 if frozen else 1):
+        return f"what stands here is of generation {status['generation']}, and the guest went on alone in {life.generation}"
+    return None
+
+
+def stalls(status: dict, seconds: float) -> bool:
+    """Whether nothing comes from a live host's standby any more. While it takes the full checkpoint it acknowledges nothing."""
+    unacknowledged = status["unacknowledged_ms"] / 1000
+    if status["mode"] == "filling":
+        return (status["silent_ms"] or 0) / 1000 > seconds or unacknowledged > FILLING_SECONDS
+    return status["mode"] == "paired" and unacknowledged > seconds
