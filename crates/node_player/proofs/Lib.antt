@@ -2,3 +2,4 @@ mod OrderLemmas
 mod LineLemmas
 mod PutLemmas
 mod RoleLemmas
+mod HalfLemmas

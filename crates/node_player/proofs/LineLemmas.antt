@@ -1,5 +1,5 @@
 -- A text spells one line at most.
-use Rattle.std.proofs.Common.{◌≡◌, ℕ, List, ◌++◌, Option, Some, None, Result, Ok, Err, IfOk, IfSome, OnErr, sym, ap, ◌∙◌, codes}
+use Rattle.std.proofs.Common.{◌≡◌, ℕ, List, Option, Some, None, Result, Ok, Err, IfOk, IfSome, OnErr, sym, ap, ◌∙◌, codes}
 use Rattle.std.specs.Option.{option_map}
 use Rattle.script_player.specs.{Fields.text_after, Boot.{BootLine, IsBoot}, Delivery.IsHex}
 use Rattle.script_player.proofs.{FieldLemmas.{text_after-some, text_after-append}}
@@ -62,7 +62,8 @@ module _ (text : List ℕ) where
   NoBytes front = (bytes : List ℕ) → HasBytes front bytes text → ⊥
 
   pub order-only : (found : Order) → IsOrder text found → (line : Line) → IsLine text line → Some (order found) ≡ Some line
-  order-only found is (order o) h = ap (option_map (λ (x : Order). order x)) (sym (order_of-spelled text found is) ∙ order_of-spelled text o h)
+  order-only found is (order o) h =
+      ap (option_map (λ (x : Order). order x)) (sym (order_of-spelled text found is) ∙ order_of-spelled text o h)
   order-only found is (boot line) h = absurd (order-not-boot text found line is h)
   order-only found is (arrive bytes) h = absurd (order-not-arrive text found bytes is h)
   order-only found is (piece bytes) h = absurd (order-not-piece text found bytes is h)

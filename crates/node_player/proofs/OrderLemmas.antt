@@ -1,8 +1,10 @@
 -- The first form of an order that fits is the one form that fits.
-use Rattle.std.proofs.Common.{◌≡◌, ◌≤◌, ℕ, Bool, true, false, cond, List, ◌∷◌, ◌++◌, Option, Some, None, IfSome, refl, ap, arith, ◌∙◌, nat_eq, codes}
-use Rattle.std.specs.Option.{option_and_then, option_map}
+use Rattle.std.proofs.Common.{◌≡◌, ◌≤◌, ℕ, Bool, true, false, cond, List, ◌∷◌, ◌++◌, Option, Some, None}
+use Rattle.std.proofs.Common.{IfSome, refl, ap, arith, ◌∙◌, nat_eq, codes}
+use Rattle.std.specs.Option.{option_and_then}
 use Rattle.script_player.specs.{Fields.{text_after, number_of, numbered_by, operand_of, with_second}, Command.IsNumbered}
-use Rattle.script_player.proofs.{FieldLemmas.{text_after-some, operand_of-spelled, operand_of-read}, OptionLemmas.{and_then_some, map_some, pair_parts}}
+use Rattle.script_player.proofs.FieldLemmas.{text_after-some, operand_of-spelled, operand_of-read}
+use Rattle.script_player.proofs.OptionLemmas.{and_then_some, map_some, pair_parts}
 use Rattle.script_player.proofs.FormLemmas.{Read, same, word, told, one, two, is_numbered, read-spelled}
 use Rattle.node_player.specs.Orders.{IsOrder, order_of, HasThreeNumbers, three_by, IsShaped, is_shaped}
 use Rattle.node_player.specs.declared.orders.Order.{Order}
@@ -16,8 +18,12 @@ is_shaped-of pages sectors generation h =
 -- what is spelled so is read so
 pub order_of-spelled : (text : List ℕ) (order : Order) → IsOrder text order → order_of text ≡ Some order
 order_of-spelled text (Standby pages sectors generation) ((first, second, third, shape, l, m, n), is) =
-    ap order_of shape ∙ rw (operand_of-spelled first (second ++ 32 ∷ third) pages l, operand_of-spelled second third sectors m, n,
-    is_shaped-of pages sectors generation is) refl
+    ap order_of shape ∙ rw (
+      operand_of-spelled first (second ++ 32 ∷ third) pages l,
+      operand_of-spelled second third sectors m,
+      n,
+      is_shaped-of pages sectors generation is,
+    ) refl
 order_of-spelled text (Step n) ((digits, shape, value), low) =
     let positive : nat_eq n 0 ≡ false = grind arith in ap order_of shape ∙ rw (value, positive) refl
 order_of-spelled text (Text number from count) (first, second, third, shape, l, m, n) =
@@ -34,12 +40,12 @@ has_three front text found h =
     let head = and_then_some _ (option_and_then operand_of (text_after front text)) found h in
     let rest = and_then_some operand_of (text_after front text) head.0 head.1 in
     let read = operand_of-read rest.0 head.0.0 head.0.1 rest.2 in
-    let pair = map_some {B = ℕ × ℕ × ℕ} (λ (two : ℕ × ℕ). (head.0.0, two.0, two.1)) (option_and_then with_second (operand_of head.0.1)) found head.2 in
+    let others = option_and_then with_second (operand_of head.0.1) in
+    let pair = map_some {B = ℕ × ℕ × ℕ} (λ (two : ℕ × ℕ). (head.0.0, two.0, two.1)) others found head.2 in
     let next = and_then_some with_second (operand_of head.0.1) pair.0 pair.1 in
     let second = operand_of-read head.0.1 next.0.0 next.0.1 next.1 in
     let last = map_some {B = ℕ × ℕ} (λ n. (next.0.0, n)) (number_of next.0.1) pair.0 next.2 in
-    let both = pair_parts {A = ℕ} {B = ℕ} last.2 in
-    (
+    let both = pair_parts {A = ℕ} {B = ℕ} last.2 in (
       read.0,
       second.0,
       next.0.1,

@@ -1,5 +1,6 @@
 -- An answer that is written in parts.
-use Rattle.std.proofs.Common.{◌≡◌, ℕ, List, [], ◌++◌, Result, Ok, Err, false, append_assoc, ◌∙◌, ap, refl, ◌∷◌, ◌/◌, ◌%◌, ◌+◌, ◌<◌, length, suc, sym, take, drop, get_or, add-one}
+use Rattle.std.proofs.Common.{◌≡◌, ℕ, List, [], ◌++◌, Result, Ok, Err, false, append_assoc, ◌∙◌, ap, refl, ◌∷◌, ◌/◌, ◌%◌}
+use Rattle.std.proofs.Common.{◌+◌, ◌<◌, length, suc, sym, take, drop, get_or, add-one}
 use Rattle.std.proofs.{lemmas.{List.take-append-drop, Grind.flat_map-append}, Math.Seq.drop-cons}
 use Rattle.pair_history.specs.Entries.{Frame}
 use Rattle.node_player.specs.Printed.{frame_line, frame_lines}
@@ -57,6 +58,7 @@ digits-append digits (x ∷ xs) ys =
 pub lines-from : (frames : List Frame) (i : ℕ) (frame : Frame) → i < length frames → get_or frames i frame ≡ frame
     → frame_lines frames ≡ frame_lines (take i frames) ++ (frame_line frame ++ frame_lines (drop (i + 1) frames))
 lines-from frames i frame low is =
-    let back : drop i frames ≡ frame ∷ drop (i + 1) frames = rw (add-one, drop-cons frames i frame) (ap (λ f. f ∷ drop (suc i) frames) is) in
+    let back : drop i frames ≡ frame ∷ drop (i + 1) frames =
+    rw (add-one, drop-cons frames i frame) (ap (λ f. f ∷ drop (suc i) frames) is) in
     ap frame_lines (sym (take-append-drop i frames)) ∙ flat_map-append frame_line (take i frames) (drop i frames)
     ∙ ap (λ t. frame_lines (take i frames) ++ frame_lines t) back

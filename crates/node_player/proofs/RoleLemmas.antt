@@ -1,5 +1,5 @@
 -- What a node answers, by what it is.
-use Rattle.std.proofs.Common.{◌≡◌, ℕ, List, Option, Some, None, Result, Ok, Err, IfOk, refl, ap, ◌∙◌}
+use Rattle.std.proofs.Common.{◌≡◌, ℕ, List, Option, Result, Ok, Err, IfOk, refl, ap, ◌∙◌}
 use Rattle.guest_machine.specs.declared.shapes.Shape.{Shape}
 use Rattle.pair_record.specs.declared.event.Refusal.TheVariants.{AlreadyPaired}
 use Rattle.pair_nodes.specs.{PrimaryCalls.booted_primary, Sides.Primary}

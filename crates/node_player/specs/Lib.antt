@@ -9,3 +9,4 @@ pub mod AtNothing
 pub mod AtPrimary
 pub mod AtStandby
 pub mod Meaning
+pub mod Halves

@@ -42,12 +42,7 @@ pub fn play<O: Sink>(alloc: Global, role: &mut Role, line: &[u8], out: &mut O) -
 /// # Errors
 ///
 /// Where a write fails.
-fn answer<O: Sink>(
-    alloc: Global,
-    role: &mut Role,
-    line: &Line,
-    out: &mut O,
-) -> Result<(), Failed>
+fn answer<O: Sink>(alloc: Global, role: &mut Role, line: &Line, out: &mut O) -> Result<(), Failed>
     requires { IsLimited line.now }
     ensures { IsAnswered (Answers (node_of role.old) (line_of line.now)) (O.written out.old) (O.written out.new) result
         (node_of role.new) }
@@ -65,12 +60,7 @@ fn answer<O: Sink>(
 /// # Errors
 ///
 /// Where a write fails.
-fn obey<O: Sink>(
-    alloc: Global,
-    role: &mut Role,
-    command: Order,
-    out: &mut O,
-) -> Result<(), Failed>
+fn obey<O: Sink>(alloc: Global, role: &mut Role, command: Order, out: &mut O) -> Result<(), Failed>
     requires { IsLimitedOrder command }
     ensures { IsAnswered (Answers (node_of role.old) (order command)) (O.written out.old) (O.written out.new) result (node_of role.new) }
 {
@@ -87,11 +77,7 @@ fn obey<O: Sink>(
             from,
             count,
         } => put_part(role, number, from, count, out),
-        Order::Ack { generation, number } => acknowledge(
-            role,
-            Packet { generation, number },
-            out,
-        ),
+        Order::Ack { generation, number } => acknowledge(role, Packet { generation, number }, out),
         Order::Alone => go_alone(role, out),
         Order::Protect => protect(role, out),
         Order::Commit => commit(role, out),

@@ -26,12 +26,7 @@ use std::alloc::Global;
 /// # Errors
 ///
 /// Where a write fails.
-pub fn boot<O: Sink>(
-    alloc: Global,
-    role: &mut Role,
-    line: &Boot,
-    out: &mut O,
-) -> Result<(), Failed>
+pub fn boot<O: Sink>(alloc: Global, role: &mut Role, line: &Boot, out: &mut O) -> Result<(), Failed>
     requires { IsInLimits (boot_line line.now) }
     ensures { IsAnswered (Answers (node_of role.old) (boot (boot_line line.now))) (O.written out.old) (O.written out.new) result
         (node_of role.new) }

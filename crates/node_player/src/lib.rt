@@ -8,6 +8,7 @@
 mod answers;
 mod begins;
 pub mod host;
+pub mod laws;
 mod lines;
 mod orders;
 mod printing;

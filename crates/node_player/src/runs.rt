@@ -204,12 +204,7 @@ fn left_alone<O: Sink>(primary: PrimaryNode, out: &mut O) -> (PrimaryNode, Resul
     if !primary.is_backed() {
         return (primary, refuse(Refusal::NotPaired, out));
     }
-    let written = put_alone(
-        out,
-        primary.generation(),
-        primary.held(),
-        primary.outbox(),
-    );
+    let written = put_alone(out, primary.generation(), primary.held(), primary.outbox());
     match primary.alone() {
         Ok(next) => (next, written),
         Err(_) => unreachable!(),

@@ -71,7 +71,8 @@ fn write_taken(text: &mut Text, standby: &StandbyNode, count: usize, bytes: usiz
 ///
 /// Where a write fails.
 pub fn commit<O: Sink>(role: &mut Role, out: &mut O) -> Result<(), Failed>
-    ensures { IsAnswered (Answers (node_of role.old) (order orders.Commit)) (O.written out.old) (O.written out.new) result (node_of role.new) }
+    ensures { IsAnswered (Answers (node_of role.old) (order orders.Commit)) (O.written out.old) (O.written out.new) result
+        (node_of role.new) }
 {
     match role {
         Role::Nothing => refuse(Refusal::NoImage, out),
@@ -102,7 +103,8 @@ fn take_in<O: Sink>(standby: &mut StandbyNode, out: &mut O) -> Result<(), Failed
 ///
 /// Where a write fails.
 pub fn restart<O: Sink>(role: &mut Role, out: &mut O) -> Result<(), Failed>
-    ensures { IsAnswered (Answers (node_of role.old) (order orders.Restart)) (O.written out.old) (O.written out.new) result (node_of role.new) }
+    ensures { IsAnswered (Answers (node_of role.old) (order orders.Restart)) (O.written out.old) (O.written out.new) result
+        (node_of role.new) }
 {
     match role {
         Role::Nothing => refuse(Refusal::NoImage, out),
@@ -120,7 +122,8 @@ pub fn restart<O: Sink>(role: &mut Role, out: &mut O) -> Result<(), Failed>
 ///
 /// Where a write fails.
 pub fn go_live<O: Sink>(role: &mut Role, out: &mut O) -> Result<(), Failed>
-    ensures { IsAnswered (Answers (node_of role.old) (order orders.GoLive)) (O.written out.old) (O.written out.new) result (node_of role.new) }
+    ensures { IsAnswered (Answers (node_of role.old) (order orders.GoLive)) (O.written out.old) (O.written out.new) result
+        (node_of role.new) }
 {
     match mem::replace(role, Role::Nothing) {
         Role::Nothing => refuse(Refusal::NoImage, out),
@@ -148,6 +151,12 @@ fn tell_live<O: Sink>(out: &mut O, primary: &PrimaryNode) -> Result<(), Failed>
         (line (codes "live" ∷ decimal primary.now.generation ∷ codes "steps" ∷ decimal primary.now.live.guest.steps ∷ [])) }
 {
     let mut text = Text::new();
-    write_generation(&mut text, "live", primary.generation(), "steps", primary.steps());
+    write_generation(
+        &mut text,
+        "live",
+        primary.generation(),
+        "steps",
+        primary.steps(),
+    );
     out.put(text.as_slice())
 }

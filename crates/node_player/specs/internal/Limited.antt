@@ -1,5 +1,4 @@
 -- What reading a line tells of its numbers.
-use Rattle.std.specs.Prelude.{◌≤◌}
 use Rattle.script_player.specs.Boot.{IsInLimits, boot_line}
 use Rattle.node_player.specs.declared.lines.Line.{Line}
 use Rattle.node_player.specs.declared.lines.Line.TheVariants as lines

@@ -9,5 +9,5 @@ returns-in_default g c =
 pub returns-in-Ok : goal.returns-in-Ok
 returns-in-Ok g c =
     let made : IsWaiting c.args.shape.pages c.args.shape.sectors c.args.generation c.in-Ok.standby =
-        record { shape = c.args.shape; pages_are = refl; sectors_are = refl; standby_is = c.in-Ok.ensures } in
+    record { shape = c.args.shape; pages_are = refl; sectors_are = refl; standby_is = c.in-Ok.ensures } in
     (_, c.tell_number.ensures, rw c.in-Nothing.is (inl (refl, (c.in-Ok.standby, made, refl))))

@@ -1,7 +1,6 @@
-use Rattle.std.proofs.Common.{◌∙◌, List, ℕ, refl, ap, sym}
-use Rattle.script_player.specs.{Fields.text_after, Delivery.IsHex}
-use Rattle.script_player.proofs.{FieldLemmas.{text_after-some, text_after-append}, OptionLemmas.some_same}
-use Rattle.node_player.{specs.Lines.HasBytes, proofs.LineLemmas.{after-front, found-bytes, said-bytes}}
+use Rattle.std.proofs.Common.{◌∙◌, sym}
+use Rattle.script_player.proofs.{OptionLemmas.some_same}
+use Rattle.node_player.{proofs.LineLemmas.{after-front, found-bytes, said-bytes}}
 use Rattle.node_player.proofs.lines.bytes_after.Goals as goal
 
 pub returns-in_default-clause-only : goal.returns-in_default-clause-only

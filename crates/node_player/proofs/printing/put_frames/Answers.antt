@@ -1,4 +1,4 @@
-use Rattle.std.proofs.Common.{◌++◌, drop, ◌+◌, arith, sym, append-nil, []}
+use Rattle.std.proofs.Common.{drop, ◌+◌, arith, sym, append-nil, []}
 use Rattle.std.proofs.lemmas.List.{take_all}
 use Rattle.script_player.{specs.Streams.IsPut, proofs.OptionLemmas.failed}
 use Rattle.node_player.{specs.Printed.{frame_line, frame_lines}, proofs.PutLemmas.{put-last, put-failed, lines-from}}
@@ -13,7 +13,8 @@ returns-in_err-put_frame g c =
     let frame = c.frame-item.result in
     let split = lines-from frames i frame (omega (arith, c.loop-frame-test.true)) (sym c.frame-item.is) in
     failed _ (λ r. IsPut o o' r (frame_lines frames)) c.from_residual.result c.from_residual.ensures.1
-    (λ e is. rw split (put-failed c.loop-frame.invariant o' (frame_line frame) (frame_lines (drop (i + 1) frames)) c.in_err-put_frame.ensures))
+    (λ e is. rw split (put-failed c.loop-frame.invariant o' (frame_line frame) (frame_lines (drop (i + 1) frames))
+    c.in_err-put_frame.ensures))
 
 pub returns : goal.returns
 returns g c =

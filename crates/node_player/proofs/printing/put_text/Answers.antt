@@ -27,5 +27,5 @@ returns g c =
     let m = g.O.Sink.written c.put.new.self in
     let n = g.O.Sink.written c.put_hex.new.out in
     let front = put-more (put-more (put-none o) m (codes "text ") c.in_ok-put.ensures) n (encode_lower c.args.bytes.now)
-        c.in_ok-put_hex.ensures in
+    c.in_ok-put_hex.ensures in
     rw append_assoc at (put-last front (g.O.Sink.written c.put-2.new.self) (codes "\n") c.put-2.result c.put-2.ensures)

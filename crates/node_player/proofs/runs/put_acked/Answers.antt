@@ -7,15 +7,19 @@ pub returns-in_err-put : goal.returns-in_err-put
 returns-in_err-put g c =
     let o = g.O.Sink.written c.args.out.now in
     let o' = g.O.Sink.written c.put.new.self in
-    let head = line (codes "acked" ∷ decimal c.args.ack.generation ∷ decimal c.args.ack.number ∷ codes "frames" ∷ decimal (length c.args.frames.now) ∷ []) in
-    failed _ (λ r. IsPut o o' r (acked_lines c.args.ack.generation c.args.ack.number c.args.frames.now)) c.from_residual.result c.from_residual.ensures.1
-    (λ e is. front-longer o o' head (frame_lines c.args.frames.now)
+    let ack = c.args.ack in
+    let frames = c.args.frames.now in
+    let head = line (codes "acked" ∷ decimal ack.generation ∷ decimal ack.number ∷ codes "frames" ∷ decimal (length frames) ∷ []) in
+    failed _ (λ r. IsPut o o' r (acked_lines ack.generation ack.number frames)) c.from_residual.result c.from_residual.ensures.1
+    (λ e is. front-longer o o' head (frame_lines frames)
     (rw (c.as_slice.ensures.value ∙ c.write_acked.ensures) at c.in_err-put.ensures))
 
 pub returns : goal.returns
 returns g c =
     let o = g.O.Sink.written c.args.out.now in
     let m = g.O.Sink.written c.put.new.self in
-    let head = line (codes "acked" ∷ decimal c.args.ack.generation ∷ decimal c.args.ack.number ∷ codes "frames" ∷ decimal (length c.args.frames.now) ∷ []) in
+    let ack = c.args.ack in
+    let frames = c.args.frames.now in
+    let head = line (codes "acked" ∷ decimal ack.generation ∷ decimal ack.number ∷ codes "frames" ∷ decimal (length frames) ∷ []) in
     let front = put-more (put-none o) m head (rw (c.as_slice.ensures.value ∙ c.write_acked.ensures) at c.in_ok-put.ensures) in
-    put-last front (g.O.Sink.written c.put_frames.new.out) (frame_lines c.args.frames.now) c.put_frames.result c.put_frames.ensures
+    put-last front (g.O.Sink.written c.put_frames.new.out) (frame_lines frames) c.put_frames.result c.put_frames.ensures

@@ -1,4 +1,4 @@
-use Rattle.std.proofs.Common.{◌∷◌, ◌++◌, ◌+◌, [], length, codes, decimal, ◌∙◌, ap, sym, append_assoc, length-append}
+use Rattle.std.proofs.Common.{◌∷◌, ◌++◌, [], length, codes, decimal, ◌∙◌, ap, sym, append_assoc, length-append}
 use Rattle.std.proofs.lemmas.Grind.{flat_map-append}
 use Rattle.script_player.{specs.{Streams.IsPut, Printed.line}, proofs.OptionLemmas.failed}
 use Rattle.node_player.specs.Printed.{frame_line, frame_lines, alone_lines}

@@ -1,0 +1,25 @@
+use Rattle.node_player.proofs.HalfLemmas.{primarys-half, standbys-half}
+use Rattle.node_player.proofs.laws.lines_are_a_nodes_half_of_a_run.Goals as goal
+
+pub returns-clause-primary : goal.returns-clause-primary
+returns-clause-primary c = λ s line printed q between h.
+    let laws = c.what_a_primary_does_may_happen.ensures in
+    primarys-half s (record {
+      cut = laws.cut s;
+      acknowledge = laws.acknowledge s;
+      alone = laws.alone s;
+      protect = laws.protect s;
+      step = laws.step s;
+      full = laws.full s;
+      lone = laws.lone s;
+    }) line printed q between h
+
+pub returns-clause-standby : goal.returns-clause-standby
+returns-clause-standby c = λ s line printed new h.
+    let laws = c.what_a_standby_does_may_happen.ensures in
+    standbys-half s (record {
+      piece_comes = laws.piece s;
+      restart = laws.restart s;
+      commit = λ whole. let made = laws.commit s whole in (made.0, made.1);
+      go_live = laws.go_live s;
+    }) line printed new h

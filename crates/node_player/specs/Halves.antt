@@ -1,0 +1,23 @@
+-- What a node's lines do, beside what may happen at two nodes with a bag of messages between them.
+use Rattle.std.specs.Prelude.{◌≡◌, ◌≤◌, ℕ, false, List, [], length}
+use Rattle.pair_nodes.specs.Sides.{Primary, after_arrival}
+use Rattle.pair_nodes.specs.Sites.{Site, Happening, Happens, goes_live}
+use Rattle.node_player.specs.Lines.{Line, arrive}
+use Rattle.node_player.specs.Nodes.{Node, primary, standby}
+
+-- what is so of a primary between two lines: its outbox has 256 frames at most, and none where it is alone
+pub record IsBetween (p : Primary) : Type 0 where
+  pub few : length p.live.outbox ≤ 256
+  pub lone : p.backed ≡ false → p.live.outbox ≡ []
+
+-- A line of the primary of a site leads to q: nothing changes; or this happens, and leaves it so; or the line's frame arrives.
+pub data IsPrimarysHalf (s : Site) (line : Line) (q : Primary) : Type 0 where
+  stays : q ≡ s.primary → IsPrimarysHalf s line q
+  happens : (x : Happening) (t : Site) → Happens s x t → t.primary ≡ q → IsPrimarysHalf s line q
+  arrives : (bytes : List ℕ) → line ≡ arrive bytes → q ≡ after_arrival (record { items = bytes }) s.primary → IsPrimarysHalf s line q
+
+-- A line of the standby of a site leads to this node: nothing changes; or this happens, and leaves it so; or it goes live.
+pub data IsStandbysHalf (s : Site) (new : Node) : Type 0 where
+  stays_standby : new ≡ standby s.standby → IsStandbysHalf s new
+  happens_there : (x : Happening) (t : Site) → Happens s x t → new ≡ standby t.standby → IsStandbysHalf s new
+  becomes_live : (t : Site) → Happens s goes_live t → new ≡ primary t.primary → IsStandbysHalf s new

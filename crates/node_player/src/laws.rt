@@ -1,0 +1,26 @@
+//! What a node's lines do is its half of a run of two nodes.
+ghost use Rattle.std.specs.Prelude.{ℕ, List};
+ghost use Rattle.node_player.specs.AtPrimary.{AtPrimary};
+ghost use Rattle.node_player.specs.AtStandby.{AtStandby};
+ghost use Rattle.node_player.specs.Halves.{IsBetween, IsPrimarysHalf, IsStandbysHalf};
+ghost use Rattle.node_player.specs.Lines.{Line};
+ghost use Rattle.node_player.specs.Nodes.{Node};
+ghost use Rattle.pair_nodes.specs.Sides.{Primary};
+ghost use Rattle.pair_nodes.specs.Sites.{Site};
+
+use pair_nodes::{what_a_primary_does_may_happen, what_a_standby_does_may_happen};
+
+/// Whatever line a node answers, what becomes of it is what may happen to that node of two, with every message between them lost, repeated
+/// or late. So the lines and answers of two nodes, and of whatever carries their messages, are a run of which pair_nodes' laws speak
+/// ([`two_nodes_serve_as_one_guest`](pair_nodes::two_nodes_serve_as_one_guest)).
+///
+/// [`serve`](crate::host::serve) says that each line is answered so.
+pub fn lines_are_a_nodes_half_of_a_run()
+    ensures primary { (s : Site) (line : Line) (printed : List ℕ) (q : Primary) → IsBetween s.primary → AtPrimary s.primary line printed q
+        → IsPrimarysHalf s line q }
+    ensures standby { (s : Site) (line : Line) (printed : List ℕ) (new : Node) → AtStandby s.standby line printed new
+        → IsStandbysHalf s new }
+{
+    what_a_primary_does_may_happen();
+    what_a_standby_does_may_happen();
+}
