@@ -1,5 +1,5 @@
 -- HOW MUCH A NODE HOLDS, however long it runs: no list of it is longer than its guest's shape says (our rule: no node keeps a history).
-use Rattle.std.specs.Prelude.{◌≡◌, ◌≤◌, ℕ, ◌+◌, ◌*◌, All, length}
+use Rattle.std.specs.Prelude.{◌≡◌, ◌≤◌, ℕ, ◌+◌, ◌*◌, All, length, None}
 use Rattle.frame_ports.specs.Addresses.{IsFrame}
 use Rattle.guest_machine.specs.Limits.{page_bytes}
 use Rattle.guest_machine.specs.declared.shapes.Shape.{Shape}
@@ -26,3 +26,12 @@ pub record IsBoundedPrimary (p : Primary) : Type 0 where
   pub held_frames : All IsFrame (frames_of p.pending)
   pub texts : length p.texts ≤ 4
   pub text_bytes : All (λ t. length t ≤ most_text p.shape) p.texts
+
+-- What of a standby is its image: the guest of the last commit, and the frames of the last four commits. Nothing is staged between two calls.
+pub record IsBoundedStandby (b : Standby) : Type 0 where
+  pub ram : length b.image.guest.ram ≡ page_bytes * b.image.shape.pages
+  pub sectors : length b.image.guest.sectors ≡ 512 * b.image.shape.sectors
+  pub staged : b.image.staged ≡ None
+  pub kept : length b.image.kept ≤ 4
+  pub kept_frames : All (λ frames. length frames ≤ 256) b.image.kept
+  pub each_frame : All (λ frames. All IsFrame frames) b.image.kept

@@ -6,6 +6,7 @@ ghost use Rattle.failover.specs.Generations.{generation_limit};
 ghost use Rattle.frame_ports.specs.Limits.{number_limit};
 ghost use Rattle.guest_machine.specs.Guest.{HasDeviceRecords, sector_in};
 ghost use Rattle.pair_record.specs.Limits.{most_pending};
+ghost use Rattle.pair_nodes.specs.Bounds.{IsBoundedStandby};
 ghost use Rattle.pair_nodes.specs.Refusing.{IsFree, IsWhyOrMemory};
 ghost use Rattle.pair_record.specs.Tables.{first_refusal};
 ghost use Rattle.pair_nodes.specs.Sides.{to_commit, live_of, new_standby, restarted, after_commit};
@@ -134,6 +135,14 @@ impl StandbyNode {
         } else {
             None
         }
+    }
+
+    /// However long it runs, its image holds no more than its shape says: the guest's memory, its disk, and the frames of four commits.
+    pub fn what_its_image_holds_is_bounded(&self)
+        ensures { IsBoundedStandby self.now }
+    {
+        let _shape = self.image.shape();
+        let _first = self.image.kept().first();
     }
 
     /// Takes the next bytes of a checkpoint's text: all, or those up to the text's end, and none while a complete checkpoint waits. Answers
