@@ -197,7 +197,8 @@ run_program() {
     while wait "$child"; status=$?; [ -n "$stopped" ] && kill -0 "$child" 2>/dev/null; do :; done
     trap - INT TERM HUP
     [ -z "$stopped" ] || kill -s "$stopped" $$
-    IFS= read -r -d '' -t 0.01 said <&"$words_said"
+    # Nobody closes the pipe, so what is there is read for a hundredth of a second.
+    if read -r -t 0 <&"$words_said"; then IFS= read -r -d '' -t 0.01 said <&"$words_said"; fi
     printf %s "$said" >&2
     say_after "$status" "$said" "${1:-}" "$file"
     exit "$status"
