@@ -5,6 +5,7 @@ import ssl
 from host import messages
 
 CHUNK = 1 << 18
+SMALL = 1 << 14  # bytes: what came in one go, where it is fewer, was all that had come
 MOST_UNSENT = 1 << 20  # bytes, after which nothing more is to be given to send
 
 
@@ -103,6 +104,8 @@ class Connection:
                     self.came += part
                 budget -= count
                 self.came_bytes += count
+                if count < SMALL and not (self.is_tls and self.socket.pending()):
+                    break  # there was no more; if there is by now, the next wait tells
         except (ssl.SSLWantReadError, BlockingIOError):
             pass
         except ssl.SSLWantWriteError:

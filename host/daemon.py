@@ -174,7 +174,8 @@ class Daemon:
         return self.live is None or self.is_frozen
 
     def turn(self):
-        reading, writing = self.link.watched()
+        is_patient = self.live is not None and self.live.is_patient
+        reading, writing = self.link.watched(is_patient)
         frames = self.network.watched()
         reading += frames
         for served in (self.control, self.scrapes):
@@ -183,6 +184,8 @@ class Daemon:
             writing += waiting
         readable, writable, _ = select.select(reading, writing, [], self.wait(time.monotonic()))
         now = time.monotonic()
+        if is_patient and self.link.is_up:
+            readable.append(self.link.connection)
         self.link.turn(readable, writable, now, self.dials)
         if any(one in readable for one in frames):
             self.take_frames()

@@ -91,13 +91,14 @@ class Link:
             times.append(self.tcp_begun + PATIENCE if self.tcp else self.dial_at)
         return min(times, default=None)
 
-    def watched(self):
-        """The sockets that are looked at for reading, and for writing."""
+    def watched(self, is_patient):
+        """The sockets that are looked at for reading, and for writing; for reading not the attached one, if it can wait."""
         reading = [self.listener] if self.listener else []
         writing = [self.tcp] if self.tcp else []
         for connection in [*self.strangers, self.connection]:
             if connection is not None:
-                reading.append(connection)
+                if not is_patient or connection is not self.connection:
+                    reading.append(connection)
                 if connection.waits_to_write:
                     writing.append(connection)
         return reading, writing

@@ -5,6 +5,7 @@ from collections import OrderedDict
 from host import messages
 from host.dead import Watch
 from host.node import arrive
+from host.text import frames_of, pages_of
 
 ALONE, FILLING, PAIRED = "alone", "filling", "paired"
 MOST_PENDING = 4  # checkpoints
@@ -14,15 +15,14 @@ LATE = 0.1  # a guest that is so many seconds late isn't hurried any more
 QUIET = 0.1  # after so many seconds without a frame a guest that is alone runs in slices of SLOW
 SLOW = 0.005
 CUT_NEEDED = b"13"  # the refusal of a step where the outbox is full
-PAGES_AT = slice(524, 528)  # of a checkpoint's text: how many page records it has
 
 
 class Pending:
-    """A checkpoint that isn't acknowledged: the bytes of its text, and when it was cut."""
-    __slots__ = ("total", "cut_at")
+    """A checkpoint that isn't acknowledged: the bytes of its text, when it was cut, and whether it is known to hold no frames."""
+    __slots__ = ("total", "cut_at", "is_silent")
 
     def __init__(self, total, cut_at):
-        self.total, self.cut_at = total, cut_at
+        self.total, self.cut_at, self.is_silent = total, cut_at, False
 
 
 class Live:
@@ -36,6 +36,8 @@ class Live:
         self.session, self.standby = None, None  # the attachment's name, and who is attached: its name and instance
         self.pending, self.cut, self.acked = OrderedDict(), None, None
         self.sending, self.sent = 0, 0  # the checkpoint that is being sent, and how many of its bytes are
+        self.late_ack = None  # the number of an acknowledgement that the node is told with its next lines
+        self.has_arrived = False  # whether frames came since the guest's last steps
         self.is_full = False  # the outbox: the guest goes on after the next cut
         self.is_stopped = self.is_frozen = False  # for a drain, or since the host is frozen
         self.held = 0
@@ -59,6 +61,12 @@ class Live:
         """Whether the guest waits, since the link is gone and no more checkpoints may be pending."""
         return len(self.pending) >= MOST_PENDING and not self.is_linked
 
+    @property
+    def is_patient(self):
+        """Whether an acknowledgement can wait for the epoch's end, since it would let nothing out."""
+        return self.mode == PAIRED and not self.is_stopped and len(self.pending) < MOST_PENDING and all(
+            one.is_silent for one in self.pending.values())
+
     def may_cut(self):
         """While the full checkpoint is on its way, the running epoch goes on as long as the outbox has room."""
         if self.mode == ALONE or len(self.pending) >= MOST_PENDING:
@@ -74,11 +82,13 @@ class Live:
         ends = self.epoch_begun + self.epoch if self.may_cut() else None
         if self.is_full:
             return ends
-        batch, whole = self.batch(now), max(self.slice, self.epoch * self.rate)
-        if ends is not None and batch >= whole:
+        if ends is not None and self.batch(now) >= self.epoch * self.rate:
             return ends
-        runs = self.guest_begun + (self.made + min(batch, whole)) / self.rate
-        return runs if ends is None else min(runs, ends)
+        return self.runs_at(now) if ends is None else min(self.runs_at(now), ends)
+
+    def runs_at(self, now):
+        """When the guest is to make its next steps, if no frame comes before."""
+        return self.guest_begun + (self.made + min(self.batch(now), max(self.slice, self.epoch * self.rate))) / self.rate
 
     def batch(self, now):
         """How many steps are made at a time: few where they may let frames out."""
@@ -95,7 +105,8 @@ class Live:
 
     def arrive(self, frames):
         """Frames came for the guest."""
-        for frame, answer in zip(frames, self.node.tell(*map(arrive, frames))):
+        self.has_arrived = True
+        for frame, answer in zip(frames, self.tell(*map(arrive, frames))):
             self.counts.frames_dropped += answer.is_refused
             self.counts.frames_in += not answer.is_refused
 
@@ -107,18 +118,28 @@ class Live:
         if self.waited_since:
             self.skip(now - self.waited_since)
             self.waited_since, self.ran_at = None, now
-        steps, ends = self.steps_due(now), self.epoch_ends(now)
+        ends = self.epoch_ends(now)
+        if not ends and not self.has_arrived and now < self.runs_at(now):
+            return
+        self.has_arrived, steps = False, self.steps_due(now)
         if steps > 0:
             self.longest, self.ran_at = max(self.longest, now - self.ran_at), now
         lines = [b"step %d" % steps] if steps > 0 and not self.is_full else []
         lines += self.cut_lines() if ends else []
         if not lines:
             return
-        answers = self.node.tell(*lines)
+        answers = self.tell(*lines)
         if lines[0].startswith(b"step"):
             self.stepped(answers.pop(0), now)
         if ends:
             self.was_cut(now, *answers)
+
+    def tell(self, *lines):
+        """The node's answers to these lines. It is told before what was acknowledged meanwhile."""
+        if self.late_ack is None:
+            return self.node.tell(*lines)
+        told, self.late_ack = b"ack %d %d" % (self.generation, self.late_ack), None
+        return self.node.tell(told, *lines)[1:]
 
     def skip(self, seconds):
         self.late, self.guest_begun = self.late + seconds, self.guest_begun + seconds
@@ -195,7 +216,8 @@ class Live:
         total = self.pending[number].total
         if begin == 0:
             self.watch.see(data, number)
-            self.counts.checkpoint_pages += int.from_bytes(data[PAGES_AT], "little")
+            self.counts.checkpoint_pages += pages_of(data)
+            self.pending[number].is_silent = len(data) == total and frames_of(data) == 0
         self.sent += len(data)
         if self.sent >= total:
             self.sending, self.sent = number + 1, 0
@@ -205,20 +227,29 @@ class Live:
         """The standby has committed all up to this number."""
         if generation != self.generation or number not in self.pending:
             return  # it was heard before, or is of another time
-        answer = self.node.tell(b"ack %d %d" % (generation, number))[0]
-        if answer.is_refused:
-            self.log.seldom("ack", "warning", f"the node refuses an acknowledgement: {b' '.join(answer.words).decode()}")
-            return
-        self.counts.acknowledged(now - self.pending[number].cut_at)
+        frames = self.told(number)
+        if not self.pending[number].is_silent:
+            self.counts.acknowledged(now - self.pending[number].cut_at)
         while self.pending and next(iter(self.pending)) <= number:
             self.pending.popitem(last=False)
-        self.acked, self.acked_at, self.held = number, now, len(answer.frames)
+        self.acked, self.acked_at, self.held = number, now, len(frames)
         if self.sending <= number:
             self.sending, self.sent = number + 1, 0
         if self.mode == FILLING:
             self.mode = PAIRED
             self.log.info(f"protected: {self.standby[0]} has the full checkpoint of generation {generation}")
-        self.put(answer.frames, now)
+        self.put(frames, now)
+
+    def told(self, number):
+        """The frames that an acknowledgement lets out. Where there are none, the node is told later, with the next lines that it gets."""
+        if all(one.is_silent for place, one in self.pending.items() if place <= number):
+            self.late_ack = number
+            return []
+        self.late_ack = None
+        answer = self.node.tell(b"ack %d %d" % (self.generation, number))[0]
+        if answer.is_refused:
+            self.log.seldom("ack", "warning", f"the node refuses an acknowledgement: {b' '.join(answer.words).decode()}")
+        return answer.frames
 
     # Attachments.
 
@@ -245,7 +276,7 @@ class Live:
     def alone(self, now):
         """The standby has stopped for good: all that is held is let out."""
         answer = self.node.ask("alone")
-        self.mode, self.session, self.standby = ALONE, None, None
+        self.mode, self.session, self.standby, self.late_ack = ALONE, None, None, None
         self.pending, self.cut, self.acked, self.is_full = OrderedDict(), None, None, False
         self.moved_at = now
         self.put(answer.frames, now)

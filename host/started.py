@@ -86,7 +86,7 @@ class Host:
 
     def processor(self):
         """Seconds of processor that the daemon and its node have taken so far."""
-        return [sum(int(field) for field in stat_of(pid)[11:13]) / os.sysconf("SC_CLK_TCK") for pid in self.pids()]
+        return [int(Path(f"/proc/{pid}/schedstat").read_text().split()[0]) / 1e9 for pid in self.pids()]
 
     def memory(self):
         """Bytes that the daemon and its node have now."""

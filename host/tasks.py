@@ -26,7 +26,7 @@ class Drain:
         live = self.live
         if self.last is None and len(live.pending) < MOST_PENDING:
             before = live.cut
-            live.was_cut(now, *live.node.tell(*live.cut_lines()))
+            live.was_cut(now, *live.tell(*live.cut_lines()))
             live.send(now)
             if live.cut == before:
                 return self.give_up(now)
