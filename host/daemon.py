@@ -68,13 +68,19 @@ class Daemon:
 
     # Changes of role.
 
-    def become_empty(self):
-        """Gives up what is here. The guest, where it was here, doesn't run any more when this returns."""
-        self.network.down()
+    def give_up(self):
+        """What is here is given up. The guest, where it was here, makes no step any more: its node is told nothing, and killed."""
         self.link.close()
-        self.node.close()
+        self.node.kill()
+        self.network.down()
         self.live = self.standby = self.life = self.shape = None
-        self.node, self.instance = Node(self.settings.node), secrets.token_hex(8)
+        self.instance = secrets.token_hex(8)
+
+    def become_empty(self):
+        """Gives up what is here, and starts a node that has nothing."""
+        self.give_up()
+        self.node.close()
+        self.node = Node(self.settings.node)
 
     def stand_by(self, session, offer):
         """An empty host becomes the standby of a live one. Raises Refused."""

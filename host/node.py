@@ -99,10 +99,13 @@ class Node:
         self.close()
         return f"the node ended, status {self.process.returncode}"
 
-    def close(self):
-        """Kills the process, and waits until it is gone."""
+    def kill(self):
         if self.process.poll() is None:
             self.process.kill()
+
+    def close(self):
+        """Kills the process, and waits until it is gone."""
+        self.kill()
         for pipe in (self.input, self.output):
             try:
                 pipe.close()

@@ -39,15 +39,15 @@ class Drain:
 
     def finish(self):
         host, live = self.host, self.live
-        host.network.down()
-        host.node.close()  # the guest is gone before anybody is told
-        host.log.info(f"drained: checkpoint {self.last} of generation {live.generation} is acknowledged, and the guest doesn't run here")
+        host.node.kill()  # the guest is gone before anybody is told
         if self.promotes:
             host.link.send(go_live(live.session, live.generation, self.last), host.link.now())
         host.task = None
-        host.become_empty()
+        host.give_up()
         said = "the standby has all, and was told to go live" if self.promotes else "the standby has all, and can be promoted"
         self.answer(host.control.did(f"drained: {said}", handed_on=True))
+        host.log.info(f"drained: checkpoint {self.last} of generation {live.generation} is acknowledged, and the guest doesn't run here")
+        host.become_empty()
 
     def give_up(self, now):
         host = self.host
