@@ -18,6 +18,9 @@ VERBS = {
 }
 
 
+PATIENCE = {"drain": 60.0, "demote": 60.0, "save": 600.0}  # seconds, where it isn't 10
+
+
 class NoAnswer(Exception):
     """No daemon listens there, or none answered in time."""
 
@@ -28,7 +31,7 @@ def add(kinds):
     one.add_argument("--control", metavar="PATH", help="its control socket")
     one.add_argument("--config", metavar="FILE", help="its configuration, which names the socket")
     one.add_argument("--json", action="store_true", help="prints the answer as it came")
-    one.add_argument("--timeout", type=float, metavar="SECONDS", help="how long an answer is awaited (default: 10, for save 600)")
+    one.add_argument("--timeout", type=float, metavar="SECONDS", help="how long an answer is awaited (default: 10, for drain and demote 60, for save 600)")
     verbs = one.add_subparsers(dest="verb", required=True, metavar="VERB")
     readers = {verb: verbs.add_parser(verb, help=said, description=said) for verb, said in VERBS.items()}
     readers["promote"].add_argument("--boot", action="store_true", help="boots the configured guest at an empty host")
@@ -85,7 +88,7 @@ def control_of(plan):
 
 
 def run(plan):
-    timeout = plan.timeout or (600.0 if plan.verb == "save" else 10.0)
+    timeout = plan.timeout or PATIENCE.get(plan.verb, 10.0)
     try:
         answer = ask(control_of(plan), request_of(plan), timeout)
     except NoAnswer as error:

@@ -8,6 +8,8 @@ import tomllib
 from dataclasses import dataclass, field
 from pathlib import Path
 
+from host.connection import contexts
+
 ROOT = Path(__file__).resolve().parents[1]
 PROGRAM = ROOT / "remus"
 
@@ -232,6 +234,7 @@ def together(settings, given):
         for key in ("key", "certificate", "peer_certificate"):
             if getattr(settings, key) is None:
                 yield "listen", f"{key} isn't given: make keys by 'remus-host keys'"
+        yield from keys_together(settings)
     for key in ("key", "certificate", "peer_certificate", "guest"):
         path = getattr(settings, key)
         if path is not None and not os.access(path, os.R_OK):
@@ -243,6 +246,16 @@ def together(settings, given):
     for key in ("tap", "bridge"):
         if key in given and settings.network != "tap":
             yield key, f"{key} is given, and network is {settings.network}"
+
+
+def keys_together(settings):
+    """What is wrong with keys and certificates that can be read."""
+    paths = settings.key, settings.certificate, settings.peer_certificate
+    if all(path is not None and os.access(path, os.R_OK) for path in paths):
+        try:
+            contexts(settings)
+        except (OSError, ValueError):
+            yield "key", "key and certificate don't fit each other, or one of them or peer_certificate isn't PEM"
 
 
 def boot_line(path):
