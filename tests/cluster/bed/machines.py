@@ -25,7 +25,7 @@ class TooLate(Exception):
 
 
 class Bed:
-    def __init__(self, folder, program, node, guest, token=1000, delay="1s", settings=None):
+    def __init__(self, folder, program, node, guest, token=1000, delay="2s", settings=None):
         self.folder, self.program, self.node, self.guest = folder, program, node, guest
         self.token, self.delay, self.settings = token, delay, settings or {}
         self.record = folder / "record"
@@ -218,7 +218,7 @@ class Clients:
         for kind, told in self.told.items():
             if told is not None:
                 found += [f"{kind}: {wrong}" for wrong in told["wrong"]]
-                if told["answers"] < 10:
+                if told["answers"] < 3:
                     found.append(f"{kind}: {told['answers']} answers")
         return found
 

@@ -56,12 +56,6 @@ def pull(host):
         ip("-n", SWITCH, "link", "set", host + letter, "down", check=False)
 
 
-def forget(host):
-    for letter in WIRES:
-        ip("-n", SWITCH, "link", "del", host + letter, check=False)
-    ip("netns", "del", namespace(host), check=False)
-
-
 def split():
     ip("-n", SWITCH, "link", "set", "onec", "down", check=False)
 

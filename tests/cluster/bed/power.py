@@ -93,8 +93,7 @@ class Power:
 
     def off(self, host):
         if self.kills:
-            self.cut(host)
-            network.forget(host)
+            self.cut(host)  # the next `on` makes its network anew
         else:
             self.cut_off.add(host)
             network.pull(host)  # only its plugs: it may go on, and reaches nobody
