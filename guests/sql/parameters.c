@@ -133,6 +133,34 @@ static const char *bind_binary_floating(sqlite3_stmt *prepared, int place, const
     return said(sqlite3_bind_double(prepared, place, floating));
 }
 
+/* A decimal number in binary: how many digits to the base of 10,000, the weight of the first, the sign, the digits after the point, and
+   then the digits. */
+static const char *bind_binary_numeric(sqlite3_stmt *prepared, int place, const struct value *value) {
+    const uint8_t *at = value->bytes;
+    char string[8 * MOST_DIGITS];
+    int parts[4], length = 0;
+    if (value->count < 8)
+        return BAD_BINARY;
+    for (int i = 0; i < 4; i++)
+        parts[i] = at[2 * i] << 8 | at[2 * i + 1];
+    int count = parts[0], weight = (int16_t)parts[1];
+    if (value->count != 8 + 2 * (uint32_t)count || (parts[2] != 0 && parts[2] != 0x4000))
+        return BAD_BINARY;
+    if (count > MOST_DIGITS || weight > MOST_DIGITS || weight < -MOST_DIGITS)
+        return OUT_OF_RANGE;
+    string[length++] = parts[2] != 0 ? '-' : '+';
+    int last = count - 1 - weight > 0 ? count - 1 : weight;
+    for (int i = weight < 0 ? weight + 1 : 0; i <= last; i++) {
+        int number = i < 0 || i >= count ? 0 : at[8 + 2 * i] << 8 | at[9 + 2 * i];
+        if (i == weight + 1)
+            string[length++] = '.';
+        for (int power = 1000; power > 0; power /= 10)
+            string[length++] = (char)('0' + number / power % 10);
+    }
+    string[length] = '\0';
+    return bind_whole(prepared, place, string) == NULL ? NULL : bind_floating(prepared, place, string);
+}
+
 static const char *bind_binary(sqlite3_stmt *prepared, int place, const struct value *value) {
     switch (value->type) {
     case BOOL: return value->count != 1 ? BAD_BINARY : said(sqlite3_bind_int(prepared, place, value->bytes[0] != 0));
@@ -142,6 +170,7 @@ static const char *bind_binary(sqlite3_stmt *prepared, int place, const struct v
     case INT8: return value->count != 8 ? BAD_BINARY : said(sqlite3_bind_int64(prepared, place, (int64_t)read_number(value)));
     case FLOAT4: return value->count != 4 ? BAD_BINARY : bind_binary_floating(prepared, place, value);
     case FLOAT8: return value->count != 8 ? BAD_BINARY : bind_binary_floating(prepared, place, value);
+    case NUMERIC: return bind_binary_numeric(prepared, place, value);
     case BYTEA: return said(sqlite3_bind_blob64(prepared, place, value->bytes, value->count, SQLITE_TRANSIENT));
     case 0:
     case TEXT:

@@ -45,6 +45,12 @@ def parameters(client: Postgres) -> Iterator[tuple[str, str | None]]:
               ((BYTEA,), b"\0\1", b"\0\1"), ((TEXT,), b"abc", "abc"), ((BOOL,), b"\1", 1), ((21,), b"\xff\xff", -1), ((700,), struct.pack(">f", 0.5), 0.5)]
     for types, value, wanted in binary:
         yield f"the binary value {value!r} of {types}", differs(client.execute("SELECT $1", (value,), types, True).rows, [(wanted,)])
+    # Decimal numbers: digits to the base of 10,000, the weight of the first, the sign, digits after the point.
+    decimals = [((1, 0, 0, 0, 7), 7), ((2, 0, 0, 2, 1, 5000), 1.5), ((1, -1, 0x4000, 4, 25), -0.0025), ((1, 1, 0, 0, 3), 30000),
+                ((3, 1, 0, 2, 12, 3456, 7800), 123456.78), ((0, 0, 0, 0), 0), ((1, -2, 0, 8, 1), 1e-8)]
+    for numbers, wanted in decimals:
+        value = struct.pack(f">HhHH{len(numbers) - 4}H", *numbers)
+        yield f"the decimal number {wanted}", differs(client.execute("SELECT $1", (value,), (NUMERIC,), True).rows, [(wanted,)])
     for types, value, code in [((INT8,), b"x", "22P02"), ((INT8,), b"9223372036854775808", "22003"), ((FLOAT8,), b"", "22P02"),
                                ((BOOL,), b"x", "22P02"), ((BYTEA,), b"\\x0", "22P02")]:
         yield f"no value {value!r} of {types}", differs(code_of(lambda: client.execute("SELECT $1", (value,), types)), code)
