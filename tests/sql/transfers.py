@@ -12,7 +12,6 @@ from tests.postgres import Error, Gone, Postgres
 
 ACCOUNTS, EACH, TOTAL = 10, 1000, 10_000
 MOST = 400  # of one transfer
-PATIENCE = 120  # seconds, for one answer
 SETUP = (f"DROP TABLE IF EXISTS transfer; DROP TABLE IF EXISTS account;"
          f"CREATE TABLE account(id INTEGER PRIMARY KEY, balance INTEGER NOT NULL CHECK(balance >= 0));"
          f"CREATE TABLE transfer(id TEXT PRIMARY KEY, source INTEGER, target INTEGER, amount INTEGER) WITHOUT ROWID;"
@@ -26,6 +25,7 @@ class Bank:
 
     port: int
     password: str | None = None
+    patience: float = 120  # seconds, for one answer
     acknowledged: dict[str, Transfer] = dataclasses.field(default_factory=dict)
     unknown: dict[str, Transfer] = dataclasses.field(default_factory=dict)
     refused: set[str] = dataclasses.field(default_factory=set)
@@ -38,10 +38,10 @@ class Bank:
 
     def connect(self) -> Postgres:
         """A connection; one that isn't to be had at once is tried again."""
-        end = time.monotonic() + PATIENCE
+        end = time.monotonic() + max(self.patience, 60)
         while True:
             try:
-                return Postgres(self.port, self.password, PATIENCE)
+                return Postgres(self.port, self.password, self.patience)
             except (OSError, Gone) as error:
                 with self.lock:
                     self.faults.append(f"connecting: {error}")
@@ -51,7 +51,7 @@ class Bank:
 
     def surely(self, sql: str) -> list[tuple]:
         """The rows of a query that may be asked twice."""
-        end = time.monotonic() + PATIENCE
+        end = time.monotonic() + max(self.patience, 60)
         while True:
             try:
                 client = self.connect()
@@ -76,18 +76,29 @@ class Bank:
                 else:
                     self.refused.add(name)
         except Error as error:
-            client.ask("ROLLBACK")
             with self.lock:
                 self.refused.add(name)
                 self.again += error.code == "40001"
                 if error.code not in ("40001", "23514"):
                     self.wrong.append(f"{name}: {error}")
+            try:
+                client.ask("ROLLBACK")
+            except Gone as gone:
+                self.faults.append(f"{name}, rolled back: {gone}")
+                return self.connect()
         except Gone as error:
             with self.lock:
                 self.unknown[name] = transfer
                 self.faults.append(f"{name}: {error}")
             return self.connect()
         return client
+
+    def whole(self, act: Callable[..., None], *words: object) -> None:
+        """What breaks off is wrong too."""
+        try:
+            act(*words)
+        except Exception as error:
+            self.wrong.append(f"{act.__name__} {words[:1]} broke off: {error!r}")
 
     def client(self, number: int, until: float, act: Callable[[Postgres, str, Transfer], bool]) -> None:
         rng, count, client = random.Random(number), 0, self.connect()
@@ -120,8 +131,8 @@ class Bank:
         self.surely(SETUP)
         begun = time.monotonic()
         until = begun + seconds
-        threads = [threading.Thread(target=self.client, args=(number, until, act)) for number in range(1, clients + 1)]
-        threads.append(threading.Thread(target=self.observer, args=(until,)))
+        threads = [threading.Thread(target=self.whole, args=(self.client, number, until, act)) for number in range(1, clients + 1)]
+        threads.append(threading.Thread(target=self.whole, args=(self.observer, until)))
         for thread in threads:
             thread.start()
             time.sleep(0.1)  # libslirp takes few openings at once

@@ -55,6 +55,8 @@ pub struct Pair {
     live: Machine,
     /// None where there is no backup, or where it waits for the full checkpoint.
     image: Option<Machine>,
+    /// The image before, whose memory the next one takes.
+    spare: Option<Machine>,
     mode: Mode,
     generation: u64,
     /// The number of the next checkpoint that is cut, and of the next that is committed.
@@ -78,6 +80,7 @@ impl Pair {
         let live = Machine::boot(pages, sectors, words);
         Pair {
             image: Some(live.clone()),
+            spare: None,
             live,
             mode: Mode::Paired,
             generation: 1,
@@ -188,10 +191,17 @@ impl Pair {
     fn seal(&mut self, number: u64) {
         let frames = std::mem::take(&mut self.live.sent);
         let epoch = std::mem::take(&mut self.running);
+        let machine = match self.spare.take() {
+            Some(mut machine) => {
+                machine.copy_from(&self.live);
+                machine
+            }
+            None => self.live.clone(),
+        };
         self.pending.push_back(Pending {
             number,
             frames,
-            rest: Some((epoch, self.live.clone())),
+            rest: Some((epoch, machine)),
         });
     }
 
@@ -239,7 +249,7 @@ impl Pair {
             .and_then(|pending| pending.rest.take())
             .expect("what isn't committed is pending");
         self.entries += epoch.steps + epoch.arrivals;
-        self.image = Some(machine);
+        self.spare = self.image.replace(machine).or(self.spare.take());
         self.to_commit += 1;
         if self.mode == Mode::Filling {
             self.mode = Mode::Paired;
@@ -382,7 +392,8 @@ impl Pair {
         }
         self.entries += dropped;
         self.land(owed);
-        self.live = self.image.take().expect("a stopped pair has an image");
+        let image = self.image.take().expect("a stopped pair has an image");
+        self.spare = Some(std::mem::replace(&mut self.live, image));
         self.generation += 1;
         self.be_alone();
         Ok(format!(

@@ -52,6 +52,18 @@ pub struct Device {
     written: BTreeSet<u32>,
 }
 
+impl Device {
+    /// Becomes a copy of another device, in the memory that this one has.
+    pub fn copy_from(&mut self, other: &Device) {
+        let mut kind = std::mem::replace(&mut self.kind, Kind::Network);
+        match (&mut kind, &other.kind) {
+            (Kind::Block(mine), Kind::Block(theirs)) => mine.clone_from(theirs),
+            (_, theirs) => kind = theirs.clone(),
+        }
+        *self = Device { kind, ..*other };
+    }
+}
+
 /// A chain: its head, and the places of its readable and writable bytes in memory.
 struct Chain {
     head: u16,
