@@ -60,7 +60,11 @@ impl Device {
             (Kind::Block(mine), Kind::Block(theirs)) => mine.clone_from(theirs),
             (_, theirs) => kind = theirs.clone(),
         }
-        *self = Device { kind, ..*other };
+        *self = Device {
+            kind,
+            written: other.written.clone(),
+            ..*other
+        };
     }
 }
 
