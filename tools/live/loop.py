@@ -206,7 +206,7 @@ class Loop:
         parts = [f"host {hosts.live} {live}", f"gen {hosts.generation}", f"epoch {short(hosts.epochs)}",
                  f"{short(connections)} conn {short(rate)}/s"]
         parts += [f"pause {self.pause * 1000:.0f} ms"] if self.pause is not None else []
-        parts += [f"late {self.late:.0f} s"] if self.late >= 0.1 else []
+        parts += [f"late {self.late:.1f} s"] if self.late >= 0.1 else []
         return parts + [f"lost {short(hosts.lost)}", f"out {short(hosts.let_out)}", f"held {hosts.held}"]
 
     def report(self):

@@ -245,7 +245,7 @@ class TwoLoop:
         parts = [f"host {two.live} {mode}", f"gen {live['generation']}", f"epoch {short(self.epochs)}",
                  f"{short(connections)} conn {short(rate)}/s"]
         parts += [f"pause {self.pause * 1000:.0f} ms"] if self.pause is not None else []
-        parts += [f"late {live['late_ms'] / 1000:.0f} s"] if live["late_ms"] >= 100 else []
+        parts += [f"late {live['late_ms'] / 1000:.1f} s"] if live["late_ms"] >= 100 else []
         return parts + [f"out {short(self.went)}", f"held {live['held']}"]
 
     def report(self):
