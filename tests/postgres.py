@@ -1,5 +1,5 @@
-"""A client of PostgreSQL's protocol, version 3.0 (https://www.postgresql.org/docs/15/protocol.html), as psql and drivers speak it: simple and
-extended queries, and SCRAM-SHA-256 (RFC 5802, RFC 7677)."""
+"""A client of PostgreSQL's protocol, version 3.0 (https://www.postgresql.org/docs/15/protocol.html), as psql and drivers speak it: simple
+and extended queries, and SCRAM-SHA-256 (RFC 5802, RFC 7677)."""
 from __future__ import annotations
 
 import base64

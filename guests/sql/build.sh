@@ -13,7 +13,7 @@
 #   CLIENTS         how many clients the boot line has (1)
 #   SOURCES         a folder that has the source packages' files already
 #   ELF             a file that gets the program as it was linked
-#   AMALGAMATION    a folder that gets sqlite3.c and sqlite3.h, which are SQLite in one file, and `options`, what the compiler was told of it
+#   AMALGAMATION    a folder that gets sqlite3.c and sqlite3.h, which are SQLite in one file, and `options`, what the compiler was told
 set -eu
 here=$(dirname "$(readlink -f "$0")")
 steps=${1:-50000} pages=8192 sectors=32768

@@ -1,5 +1,5 @@
-/* The extended queries of PostgreSQL's protocol: statements that are prepared, and portals, which are statements with their values. A portal
-   runs to its end when it is first executed, or, where it only reads, when it is first described, so that its columns have types. */
+/* The extended queries of PostgreSQL's protocol: statements that are prepared, and portals, which are statements with their values. A
+   portal runs to its end when it is first executed, or, where it only reads, when it is first described, so that its columns have types. */
 #ifndef EXTENDED_H
 #define EXTENDED_H
 

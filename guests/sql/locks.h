@@ -22,8 +22,8 @@ void lock_lower(struct lock *lock, int level);
 /* Whether somebody means to write. */
 int lock_is_reserved(void);
 
-/* The locks of a write-ahead log (https://sqlite.org/walformat.html#wal_locks): each has any number of readers or one writer. A connection has
-   a bit for each that it has. */
+/* The locks of a write-ahead log (https://sqlite.org/walformat.html#wal_locks): each has any number of readers or one writer. A connection
+   has a bit for each that it has. */
 #define LOG_LOCKS 8
 
 struct log_locks {

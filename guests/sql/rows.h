@@ -1,5 +1,5 @@
-/* Rows and columns as PostgreSQL's protocol has them. SQLite's values have types of their own, so a column's type is that of all its values:
-   whole numbers, floating point numbers where one of them is, bytes, or text; of a column without values it is the declared one. */
+/* Rows and columns as PostgreSQL's protocol has them. SQLite's values have types of their own, so a column's type is that of all its
+   values: whole numbers, floating point numbers where one of them is, bytes, or text; of a column without values it is the declared one. */
 #ifndef ROWS_H
 #define ROWS_H
 

@@ -84,7 +84,9 @@ int scram_end(struct scram *scram, const char *message, uint32_t length, struct 
         if (*at == ',')
             last = at;
     at = attribute(message, end, 'c', &head);
-    if (length > MOST_MESSAGE || last == NULL || at == NULL || at == end || !is_string(head, at, scram->head, (uint32_t)strlen(scram->head)))
+    if (length > MOST_MESSAGE || last == NULL || at == NULL || at == end)
+        return 0;
+    if (!is_string(head, at, scram->head, (uint32_t)strlen(scram->head)))
         return 0;
     at = attribute(at + 1, end, 'r', &nonce);
     if (at == NULL || !is_string(nonce, at, scram->nonce.bytes, scram->nonce.length))

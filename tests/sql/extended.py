@@ -37,12 +37,14 @@ def kinds(client: Postgres, data: bytes) -> str:
 def parameters(client: Postgres) -> Iterator[tuple[str, str | None]]:
     cases = [
         ((INT8,), b"12", 12), ((INT4,), b" -3 ", -3), ((FLOAT8,), b"2.5", 2.5), ((NUMERIC,), b"7", 7), ((NUMERIC,), b"7.5", 7.5),
-        ((BOOL,), b"true", 1), ((BOOL,), b"f", 0), ((BYTEA,), b"\\x00ff", b"\0\xff"), ((VARCHAR,), b"x", "x"), ((), b"12", "12"), ((), None, None),
+        ((BOOL,), b"true", 1), ((BOOL,), b"f", 0), ((BYTEA,), b"\\x00ff", b"\0\xff"), ((VARCHAR,), b"x", "x"), ((), b"12", "12"),
+        ((), None, None),
     ]
     for types, value, wanted in cases:
         yield f"the value {value!r} of {types}", differs(client.execute("SELECT $1", (value,), types).rows, [(wanted,)])
     binary = [((INT8,), struct.pack(">q", -5), -5), ((INT4,), struct.pack(">i", 7), 7), ((FLOAT8,), struct.pack(">d", 0.1), 0.1),
-              ((BYTEA,), b"\0\1", b"\0\1"), ((TEXT,), b"abc", "abc"), ((BOOL,), b"\1", 1), ((21,), b"\xff\xff", -1), ((700,), struct.pack(">f", 0.5), 0.5)]
+              ((BYTEA,), b"\0\1", b"\0\1"), ((TEXT,), b"abc", "abc"), ((BOOL,), b"\1", 1), ((21,), b"\xff\xff", -1),
+              ((700,), struct.pack(">f", 0.5), 0.5)]
     for types, value, wanted in binary:
         yield f"the binary value {value!r} of {types}", differs(client.execute("SELECT $1", (value,), types, True).rows, [(wanted,)])
     # Decimal numbers: digits to the base of 10,000, the weight of the first, the sign, digits after the point.
@@ -67,22 +69,28 @@ def parameters(client: Postgres) -> Iterator[tuple[str, str | None]]:
 
 def flows(client: Postgres) -> Iterator[tuple[str, str | None]]:
     yield "an empty one", differs(kinds(client, parse("", "") + bind("", "") + describe(b"P") + execute() + SYNC), "12nIZ")
-    yield "a statement is described", differs(kinds(client, parse("s", "SELECT a FROM t WHERE a > $1") + describe(b"S", "s") + SYNC), "1tTZ")
+    yield "a statement is described", differs(kinds(client, parse("s", "SELECT a FROM t WHERE a > $1") + describe(b"S", "s") + SYNC),
+                                              "1tTZ")
     yield "and run twice", differs(kinds(client, (bind("", "s", (b"0",)) + execute()) * 2 + SYNC), "2DDC2DDCZ")
-    yield "in parts", differs(kinds(client, bind("p", "s", (b"0",)) + execute("p", 1) + execute("p", 1) + execute("p", 1) + SYNC), "2DsDCCZ")
+    yield "in parts", differs(kinds(client, bind("p", "s", (b"0",)) + execute("p", 1) + execute("p", 1) + execute("p", 1) + SYNC),
+                              "2DsDCCZ")
     yield "a portal ends with its transaction", differs(kinds(client, execute("p") + SYNC), "EZ")
     kinds(client, parse("", "BEGIN") + bind("", "") + execute() + SYNC)
     seen = kinds(client, bind("p", "s", (b"0",)) + execute("p", 1) + SYNC), kinds(client, execute("p") + SYNC)
     client.ask("COMMIT")
     yield "and stays within one", differs(seen, ("2DsZ", "DCZ"))
     yield "of a name that is there", differs(code_after(client, parse("s", "SELECT 1") + SYNC), "42P05")
-    yield "closed", differs([kinds(client, message(b"C", b"S", string("s")) + SYNC), code_after(client, bind("", "s") + SYNC)], ["3Z", "26000"])
+    yield "closed", differs([kinds(client, message(b"C", b"S", string("s")) + SYNC), code_after(client, bind("", "s") + SYNC)],
+                            ["3Z", "26000"])
     yield "two commands", differs(code_after(client, parse("", "SELECT 1; SELECT 2") + SYNC), "42601")
     yield "an error skips to Sync", differs(kinds(client, parse("", "SELEC") + bind("", "") + execute() + SYNC), "EZ")
     yield "a message that nobody knows", differs(code_after(client, message(b"F", b"xx") + SYNC), "08P01")
-    yield "nothing is described of what gives no rows", differs(kinds(client, parse("", "DELETE FROM u") + bind("", "") + describe(b"P") + execute() + SYNC), "12nCZ")
+    yield "nothing is described of what gives no rows", differs(kinds(client,
+                                                                      parse("", "DELETE FROM u") + bind("",
+                                                                              "") + describe(b"P") + execute() + SYNC), "12nCZ")
     yield "rows of what changes", differs(client.execute("INSERT INTO t VALUES(30, 'r') RETURNING a, b").rows, [(30, "r")])
-    yield "settings", differs([client.execute(sql).tag for sql in ("SET a = 1", "SHOW server_encoding", "BEGIN", "COMMIT")], ["SET", "SHOW", "BEGIN", "COMMIT"])
+    yield "settings", differs([client.execute(sql).tag for sql in ("SET a = 1", "SHOW server_encoding", "BEGIN", "COMMIT")],
+                              ["SET", "SHOW", "BEGIN", "COMMIT"])
     kinds(client, parse("c", "COMMIT") + SYNC)
     client.ask("BEGIN")
     code_of(lambda: client.ask("SELEC"))

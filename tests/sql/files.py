@@ -42,7 +42,8 @@ def killed(built: Built, room: Path) -> Iterator[tuple[str, str | None]]:
     served = Served(built, disk)
     client = Postgres(served.postgres)
     client.ask("CREATE TABLE t(a INTEGER PRIMARY KEY, b TEXT)")
-    client.ask("WITH RECURSIVE c(x) AS (VALUES(1) UNION ALL SELECT x+1 FROM c WHERE x<2000) INSERT INTO t SELECT x, printf('%.100c', 'a') FROM c")
+    client.ask("WITH RECURSIVE c(x) AS (VALUES(1) UNION ALL SELECT x+1 FROM c WHERE x<2000) "
+               "INSERT INTO t SELECT x, printf('%.100c', 'a') FROM c")
     client.ask("PRAGMA cache_size = 5")
     client.ask("BEGIN")
     client.ask("UPDATE t SET b = 'gone'")

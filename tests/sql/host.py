@@ -66,7 +66,8 @@ def own(room: Path, amalgamation: Path) -> Built:
     built.room, built.compiler = room, shutil.which("cc") or "gcc"
     options = (amalgamation / "options").read_text().split()
     (room / "served_own_key.c").write_text(secret(""))
-    sources = [GUEST / f"{name}.c" for name in dict.fromkeys([*FILES, *SESSIONS])] + [HERE / f"{name}.c" for name in ("disk", "served", "own")]
+    sources = [GUEST / f"{name}.c" for name in dict.fromkeys([*FILES, *SESSIONS])]
+    sources += [HERE / f"{name}.c" for name in ("disk", "served", "own")]
     subprocess.run([built.compiler, "-std=gnu11", "-O2", "-w", *options, f"-I{amalgamation}", f"-I{GUEST}", "-o", room / "served_own",
                     room / "served_own_key.c", *sources, amalgamation / "sqlite3.c", "-lm"], check=True)
     return built

@@ -4,8 +4,8 @@
      power MODE [sequential]    MODE is SQLite's journal mode. 'sequential' is a control: the file system says then that SQLite needn't
                                 sync its journal, so that the journal's length comes to the disk after what it is to undo
 
-   The changes are made once, on a disk that keeps each write. Then a disk gets one write after another, and after each a process that starts
-   with nothing boots over it. It prints how many places there were, at how many the database was corrupt, and at how many it wasn't
+   The changes are made once, on a disk that keeps each write. Then a disk gets one write after another, and after each a process that
+   starts with nothing boots over it. It prints how many places there were, at how many the database was corrupt, and at how many it wasn't
    right. */
 #include <stdio.h>
 #include <stdlib.h>
@@ -50,7 +50,8 @@ static sqlite3 *opened(void) {
     return database;
 }
 
-/* One transaction: each row of a part of the table is changed, some come and some go, and a cache that is too small writes before the end. */
+/* One transaction: each row of a part of the table is changed, some come and some go, and a cache that is too small writes before the
+   end. */
 static void change(sqlite3 *database, int number) {
     char *sql = sqlite3_mprintf("BEGIN; UPDATE t SET number = %d, filler = printf('%%.*c', 100 + id * 37 %% 400, 'x') WHERE id %% 3 = %d;"
                                 "DELETE FROM t WHERE id = %d; INSERT INTO t VALUES(%d, %d, hex(zeroblob(%d)));"
@@ -96,8 +97,9 @@ static int look(uint64_t told) {
     sqlite3 *database = opened();
     if (sqlite3_exec(database, "PRAGMA integrity_check", keep, is_whole, NULL) != SQLITE_OK || strcmp(is_whole[0], "ok") != 0)
         return CORRUPT;
-    if (sqlite3_exec(database, "SELECT number, sum = (SELECT sum(length(filler)) FROM t), (SELECT count(*) FROM t), (SELECT max(number) FROM t)"
-                               " FROM total", keep, seen, NULL) != SQLITE_OK)
+    const char *sql = "SELECT number, sum = (SELECT sum(length(filler)) FROM t), (SELECT count(*) FROM t), (SELECT max(number) FROM t)"
+                      " FROM total";
+    if (sqlite3_exec(database, sql, keep, seen, NULL) != SQLITE_OK)
         return CORRUPT;
     uint64_t number = strtoull(seen[0], NULL, 10);
     int is_right = number >= told && number <= told + 1 && strcmp(seen[1], "1") == 0 && atoi(seen[2]) == ROWS

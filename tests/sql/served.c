@@ -138,8 +138,9 @@ static void serve(const int listeners[2]) {
             watched[count++] = (struct pollfd){listeners[i], POLLIN, 0};
         for (int i = 0; i < MOST; i++)
             if (sessions[i] != NULL) {
+                short events = sessions[i]->out.length > 0 ? POLLIN | POLLOUT : POLLIN;
                 places[count] = i;
-                watched[count++] = (struct pollfd){descriptor_of(sessions[i]), (short)(POLLIN | (sessions[i]->out.length > 0 ? POLLOUT : 0)), 0};
+                watched[count++] = (struct pollfd){descriptor_of(sessions[i]), events, 0};
             }
         poll(watched, (nfds_t)count, 100);
         if (watched[0].revents != 0)

@@ -23,7 +23,8 @@ REFUSED = [
     ("SHOW nosetting", "42704"), ("INSERT INTO t VALUES('a', 'b')", "42804"), ("SELECT zeroblob(2000000)", "54000"),
     ("WITH RECURSIVE c(x) AS (VALUES(1) UNION ALL SELECT x+1 FROM c WHERE x<300000) SELECT x FROM c", "54000"),
 ]
-START = "CREATE TABLE t(a INTEGER PRIMARY KEY, b TEXT NOT NULL CHECK(b <> 'checked')); CREATE TABLE u(a INTEGER REFERENCES t); INSERT INTO t VALUES(1, 'one')"
+START = ("CREATE TABLE t(a INTEGER PRIMARY KEY, b TEXT NOT NULL CHECK(b <> 'checked')); CREATE TABLE u(a INTEGER REFERENCES t); "
+         "INSERT INTO t VALUES(1, 'one')")
 
 
 def code_of(act: Callable[[], object]) -> str:
@@ -48,7 +49,8 @@ def values(client: Postgres) -> Iterator[tuple[str, str | None]]:
         if depth > 2 or rng.random() < 0.3:
             return rng.choice(["1", "-7", "2.5", "NULL", "'a'", "'1e3'", "x'3031'", "9223372036854775807", "1e300", "''"])
         one, other = expression(depth + 1), expression(depth + 1)
-        return rng.choice([f"({one} + {other})", f"({one} || {other})", f"coalesce({one}, {other})", f"max({one}, {other})", f"typeof({one})",
+        return rng.choice([f"({one} + {other})", f"({one} || {other})", f"coalesce({one}, {other})", f"max({one}, {other})",
+                           f"typeof({one})",
                            f"CAST({one} AS {rng.choice(['INTEGER', 'REAL', 'TEXT'])})", f"quote({one})", f"({one} < {other})"])
     wrong = None
     for _ in range(300):
@@ -65,11 +67,13 @@ def values(client: Postgres) -> Iterator[tuple[str, str | None]]:
     [empty] = client.ask("SELECT * FROM mixed")
     client.ask("INSERT INTO mixed VALUES(1, 1, 1, 1, x'aa'), (2.5, 2, 2.5, 2.5, x'bb'), (NULL, NULL, NULL, NULL, NULL)")
     [result] = client.ask("SELECT * FROM mixed")
-    yield "types of columns", differs([empty.types, result.types], [[TEXT, INT8, FLOAT8, FLOAT8, BYTEA], [FLOAT8, INT8, FLOAT8, FLOAT8, BYTEA]])
+    yield "types of columns", differs([empty.types, result.types], [[TEXT, INT8, FLOAT8, FLOAT8, BYTEA],
+                                                                    [FLOAT8, INT8, FLOAT8, FLOAT8, BYTEA]])
 
 
 def transactions(client: Postgres) -> Iterator[tuple[str, str | None]]:
-    tags = [result.tag for result in client.ask("BEGIN; INSERT INTO t VALUES(2, 'x'); UPDATE t SET b = 'y' WHERE a = 2; COMMIT; VALUES(1), (2)")]
+    sql = "BEGIN; INSERT INTO t VALUES(2, 'x'); UPDATE t SET b = 'y' WHERE a = 2; COMMIT; VALUES(1), (2)"
+    tags = [result.tag for result in client.ask(sql)]
     yield "tags", differs(tags, ["BEGIN", "INSERT 0 1", "UPDATE 1", "COMMIT", "SELECT 2"])
     client.ask("BEGIN")
     seen = [client.status, code_of(lambda: client.ask("SELECT * FROM nowhere")), client.status, code_of(lambda: client.ask("SELECT 1")),
@@ -78,8 +82,10 @@ def transactions(client: Postgres) -> Iterator[tuple[str, str | None]]:
     client.ask("BEGIN; INSERT INTO t VALUES(3, 'x'); SAVEPOINT s")
     seen = [code_of(lambda: client.ask("INSERT INTO t VALUES(3, 'x')")), client.status, client.ask("ROLLBACK TO s")[0].tag, client.status]
     client.ask("COMMIT")
-    yield "back to a savepoint", differs([*seen, client.rows("SELECT count(*) FROM t WHERE a = 3")], ["23505", "E", "ROLLBACK", "T", [(1,)]])
-    seen = [code_of(lambda: client.ask("INSERT INTO t VALUES(4, 'x'); INSERT INTO t VALUES(4, 'y')")), client.rows("SELECT count(*) FROM t WHERE a = 4")]
+    yield "back to a savepoint", differs([*seen, client.rows("SELECT count(*) FROM t WHERE a = 3")],
+                                         ["23505", "E", "ROLLBACK", "T", [(1,)]])
+    seen = [code_of(lambda: client.ask("INSERT INTO t VALUES(4, 'x'); INSERT INTO t VALUES(4, 'y')")),
+            client.rows("SELECT count(*) FROM t WHERE a = 4")]
     yield "several statements are one", differs(seen, ["23505", [(0,)]])
     code_of(lambda: client.ask("INSERT INTO t VALUES(5, 'x'); COMMIT; INSERT INTO t VALUES(6, 'x'); SELECT broken"))
     yield "until one commits", differs(client.rows("SELECT a FROM t WHERE a > 4"), [(5,)])
@@ -94,7 +100,8 @@ def transactions(client: Postgres) -> Iterator[tuple[str, str | None]]:
     seen = [code_of(lambda: client.ask("BEGIN; PRAGMA defer_foreign_keys = 1; INSERT INTO u VALUES(99); COMMIT")), client.status]
     yield "a commit that fails", differs([*seen, client.rows("SELECT count(*) FROM u")], ["23503", "I", [(0,)]])
     yield "nothing", differs([result.tag for result in client.ask(" ; -- nothing\n")], ["I"])
-    yield "foreign words", differs([client.ask(sql)[0].tag for sql in ("SET x = 1", "RESET x", "DISCARD ALL", "START TRANSACTION", "ABORT")],
+    yield "foreign words", differs([client.ask(sql)[0].tag for sql in ("SET x = 1", "RESET x", "DISCARD ALL", "START TRANSACTION",
+                                                                       "ABORT")],
                                    ["SET", "RESET", "DISCARD ALL", "BEGIN", "ROLLBACK"])
     yield "settings", differs(client.rows("SHOW transaction_isolation"), [("serializable",)])
 
@@ -111,13 +118,15 @@ def later(act: Callable[[], object]) -> tuple[threading.Thread, list[object]]:
 def waiting(served: Served, client: Postgres) -> Iterator[tuple[str, str | None]]:
     others = [Postgres(served.postgres) for _ in range(6)]
     client.ask("BEGIN; UPDATE t SET b = 'held' WHERE a = 1")
-    threads = [later(lambda one=one: one.ask("UPDATE t SET b = b || '+' WHERE a = 1; SELECT b FROM t WHERE a = 1")[-1].rows) for one in others]
+    sql = "UPDATE t SET b = b || '+' WHERE a = 1; SELECT b FROM t WHERE a = 1"
+    threads = [later(lambda one=one: one.ask(sql)[-1].rows) for one in others]
     before = [came for _, came in threads]
     seen_before = [list(came) for came in before]
     client.ask("COMMIT")
     for thread, _ in threads:
         thread.join(30)
-    yield "they wait in order", differs([seen_before, [came for _, came in threads]], [[[]] * 6, [[[("held" + "+" * i,)]] for i in range(1, 7)]])
+    yield "they wait in order", differs([seen_before, [came for _, came in threads]],
+                                        [[[]] * 6, [[[("held" + "+" * i,)]] for i in range(1, 7)]])
     # One that reads and then writes is begun anew; in a transaction of its own it can't be.
     one, other = others[:2]
     client.ask("BEGIN IMMEDIATE")
@@ -129,7 +138,8 @@ def waiting(served: Served, client: Postgres) -> Iterator[tuple[str, str | None]
     other.ask("ROLLBACK")
     client.ask("UPDATE t SET b = 'first' WHERE a = 1; COMMIT")
     thread.join(30)
-    yield "one is begun anew", differs([code, seen, came, client.rows("SELECT b FROM t WHERE a = 1")], ["40001", [], [[("first",)]], [("anew",)]])
+    yield "one is begun anew", differs([code, seen, came, client.rows("SELECT b FROM t WHERE a = 1")],
+                                       ["40001", [], [[("first",)]], [("anew",)]])
     # A reader in the way of a commit.
     other.ask("BEGIN")
     other.rows("SELECT count(*) FROM t")
@@ -204,7 +214,8 @@ def want_of_memory(built: Built, room: Path) -> Iterator[tuple[str, str | None]]
                 break
             try:
                 client = client or Postgres(served.postgres)
-                client.ask(f"CREATE TABLE IF NOT EXISTS t(a INTEGER PRIMARY KEY, b TEXT); INSERT INTO t VALUES({number}, '{'x' * (number % 500)}')")
+                client.ask("CREATE TABLE IF NOT EXISTS t(a INTEGER PRIMARY KEY, b TEXT);"
+                           f"INSERT INTO t VALUES({number}, '{'x' * (number % 500)}')")
                 acknowledged.add(number)
             except Error:
                 told += 1

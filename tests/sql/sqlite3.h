@@ -1,5 +1,5 @@
-/* What guests/sql and the tests here use of SQLite's interface (https://sqlite.org/c3ref/intro.html), so that they are compiled on a machine
-   that has the library, as every Python brings it along, and not its header. The guest itself is built with SQLite's own header. */
+/* What guests/sql and the tests here use of SQLite's interface (https://sqlite.org/c3ref/intro.html), so that they are compiled on a
+   machine that has the library, as every Python brings it along, and not its header. The guest itself is built with SQLite's own header. */
 #ifndef SQLITE3_H
 #define SQLITE3_H
 
@@ -26,7 +26,8 @@ enum { SQLITE_TXN_NONE = 0, SQLITE_TXN_READ = 1, SQLITE_TXN_WRITE = 2 };
 enum { SQLITE_OPEN_CREATE = 4 };
 enum { SQLITE_SHM_UNLOCK = 1, SQLITE_SHM_LOCK = 2, SQLITE_SHM_SHARED = 4, SQLITE_SHM_EXCLUSIVE = 8 };
 enum {
-    SQLITE_IOCAP_ATOMIC512 = 2, SQLITE_IOCAP_SAFE_APPEND = 0x200, SQLITE_IOCAP_SEQUENTIAL = 0x400, SQLITE_IOCAP_POWERSAFE_OVERWRITE = 0x1000,
+    SQLITE_IOCAP_ATOMIC512 = 2, SQLITE_IOCAP_SAFE_APPEND = 0x200, SQLITE_IOCAP_SEQUENTIAL = 0x400,
+    SQLITE_IOCAP_POWERSAFE_OVERWRITE = 0x1000,
 };
 enum { SQLITE_LIMIT_LIKE_PATTERN_LENGTH = 8, SQLITE_CONFIG_MALLOC = 4, SQLITE_FCNTL_FILE_POINTER = 7 };
 

@@ -26,7 +26,8 @@ class Statements:
         return rng.choice([
             f"({one} + {two})", f"({one} * {two})", f"({one} - {two})", f"({one} / {two})", f"({one} % {rng.randint(1, 99)})",
             f"round({one}, {rng.randint(0, 5)})", f"abs(coalesce(1.0 * {one}, 0))", f"length({one})", f"coalesce({one}, {two})",
-            f"CASE WHEN {one} > {two} THEN {three} ELSE {four} END", f"printf('%.{rng.randint(1, 10)}f|%e|%d|%s', {one}, {two}, {three}, {four})",
+            f"CASE WHEN {one} > {two} THEN {three} ELSE {four} END",
+            f"printf('%.{rng.randint(1, 10)}f|%e|%d|%s', {one}, {two}, {three}, {four})",
             f"CAST({one} AS {rng.choice(['INTEGER', 'REAL', 'TEXT'])})", f"substr({one}, {rng.randint(-3, 3)}, {rng.randint(0, 5)})",
             f"upper({one}) || {two}", f"max({one}, {two})", f"({one} BETWEEN {two} AND {three})", f"typeof({one})", f"hex({one})",
             f"({one} & 255 | {rng.randint(0, 9)})", f"date('2026-01-01', '+' || {rng.randint(0, 9999)} || ' days')",
@@ -45,7 +46,8 @@ class Statements:
         if kind < 0.43:
             return f"BEGIN; UPDATE {table} SET a = {self.value()}; {insert}; {rng.choice(['COMMIT', 'ROLLBACK'])}"
         if kind < 0.46:
-            return rng.choice(["CREATE INDEX IF NOT EXISTS i1 ON t(a)", "DROP INDEX IF EXISTS i1", "CREATE INDEX IF NOT EXISTS i2 ON u(b, c)",
+            return rng.choice(["CREATE INDEX IF NOT EXISTS i1 ON t(a)", "DROP INDEX IF EXISTS i1",
+                               "CREATE INDEX IF NOT EXISTS i2 ON u(b, c)",
                                "ANALYZE", "VACUUM", "REINDEX"])
         if kind < 0.75:
             return f"SELECT {self.value()}, {self.value()} FROM {table} WHERE {self.value()} > {self.value()} ORDER BY id LIMIT 20"

@@ -15,7 +15,8 @@ MOST = 400  # of one transfer
 SETUP = (f"DROP TABLE IF EXISTS transfer; DROP TABLE IF EXISTS account;"
          f"CREATE TABLE account(id INTEGER PRIMARY KEY, balance INTEGER NOT NULL CHECK(balance >= 0));"
          f"CREATE TABLE transfer(id TEXT PRIMARY KEY, source INTEGER, target INTEGER, amount INTEGER) WITHOUT ROWID;"
-         f"WITH RECURSIVE c(x) AS (VALUES(1) UNION ALL SELECT x + 1 FROM c WHERE x < {ACCOUNTS}) INSERT INTO account SELECT x, {EACH} FROM c")
+         f"WITH RECURSIVE c(x) AS (VALUES(1) UNION ALL SELECT x + 1 FROM c WHERE x < {ACCOUNTS}) "
+         f"INSERT INTO account SELECT x, {EACH} FROM c")
 Transfer = tuple[int, int, int]  # from an account to another, so much
 
 
@@ -26,6 +27,7 @@ class Bank:
     port: int
     password: str | None = None
     patience: float = 120  # seconds, for one answer
+    pause: float = 0  # at most so many seconds lie between a client's transfers, each on a connection of its own; 0: none, on one
     acknowledged: dict[str, Transfer] = dataclasses.field(default_factory=dict)
     unknown: dict[str, Transfer] = dataclasses.field(default_factory=dict)
     refused: set[str] = dataclasses.field(default_factory=set)
@@ -106,6 +108,10 @@ class Bank:
             count += 1
             source, target = rng.sample(range(1, ACCOUNTS + 1), 2)
             client = self.run(client, f"{number}-{count}", (source, target, rng.randint(1, MOST)), act)
+            if self.pause:
+                client.close()
+                time.sleep(self.pause * rng.random())
+                client = self.connect()
         client.close()
 
     def observer(self, until: float) -> None:
@@ -171,9 +177,9 @@ class Bank:
         def quantile(part: float) -> float:
             return waits[min(len(waits) - 1, int(part * len(waits)))]
         return (f"{len(self.acknowledged)} transfers acknowledged in {took:.0f} s ({len(self.acknowledged) / took:.0f} a second), "
-                f"{self.stored} stored; {len(self.refused)} refused, {self.again} of them as not serializable; {len(self.unknown)} without an "
-                f"answer; {self.reads} reads of the total; waits: median {quantile(0.5) * 1000:.0f} ms, 99 % {quantile(0.99) * 1000:.0f} ms, "
-                f"longest {waits[-1]:.2f} s; {len(self.faults)} faults {self.faults[:3]}")
+                f"{self.stored} stored; {len(self.refused)} refused, {self.again} of them as not serializable; {len(self.unknown)} "
+                f"without an answer; {self.reads} reads of the total; waits: median {quantile(0.5) * 1000:.0f} ms, "
+                f"99 % {quantile(0.99) * 1000:.0f} ms, longest {waits[-1]:.2f} s; {len(self.faults)} faults {self.faults[:3]}")
 
 
 def at_once(client: Postgres, name: str, transfer: Transfer) -> bool:

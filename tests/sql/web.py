@@ -42,24 +42,29 @@ def answers(browser: Browser) -> Iterator[tuple[str, str | None]]:
         ("GET", "/sql?q=DELETE+FROM+t", None, {}, (400, "error: this may only read: what changes the database is asked by POST\n")),
         ("POST", "/sql", "SELEC 1", {}, (400, 'error: near "SELEC": syntax error\n')),
         ("POST", "/sql", "INSERT INTO t VALUES(3, 3); INSERT INTO t VALUES(1, 1)", {}, (400, "error: UNIQUE constraint failed: t.a\n")),
-        ("POST", "/sql", "BEGIN; INSERT INTO t VALUES(4, 4)", {}, (400, "error: the transaction was open at the end, and is rolled back\n")),
+        ("POST", "/sql", "BEGIN; INSERT INTO t VALUES(4, 4)", {}, (400,
+                                                                   "error: the transaction was open at the end, and is rolled back\n")),
         ("POST", "/sql", "BEGIN; INSERT INTO t VALUES(4, 4); COMMIT; SELECT max(a) FROM t", {}, (200, "4\n")),
         ("POST", "/sql", "q=SELECT+1%2B1", {"Content-Type": "application/x-www-form-urlencoded"}, (200, "2\n")),
         ("POST", "/sql", "SELECT 1", {"Content-Type": "application/x-www-form-urlencoded"}, (200, "1\n")),
-        ("POST", "/sql", "", {}, (200, "")), ("GET", "/sql", None, {}, (400, "ask by /sql?q=SELECT+1, or by POST with statements as the body\n")),
-        ("GET", "/nothing", None, {}, (404, "there are / and /sql\n")), ("PUT", "/sql", "x", {}, (405, "GET, HEAD, POST and OPTIONS are served\n")),
+        ("POST", "/sql", "", {}, (200, "")), ("GET", "/sql", None, {},
+                                              (400, "ask by /sql?q=SELECT+1, or by POST with statements as the body\n")),
+        ("GET", "/nothing", None, {}, (404, "there are / and /sql\n")),
+        ("PUT", "/sql", "x", {}, (405, "GET, HEAD, POST and OPTIONS are served\n")),
         ("POST", "/sql", "SELECT 1", {"Origin": "http://elsewhere"}, (403, "a page of another place may not ask\n")),
     ]
     for method, path, body, headers, wanted in cases:
         yield f"{method} {path} {body}", differs(browser.ask(method, path, body, headers), wanted)
     yield "the page", differs("<title>SQLite that survives</title>" in browser.ask("GET", "/")[1], True)
-    status, text = browser.ask("POST", "/sql", "SELECT 1 AS a, 2.5, NULL, 'x\"\n\x01', x'00ff'; DELETE FROM t WHERE a > 3; SELECT a FROM t WHERE a > 9", JSON)
+    sql = "SELECT 1 AS a, 2.5, NULL, 'x\"\n\x01', x'00ff'; DELETE FROM t WHERE a > 3; SELECT a FROM t WHERE a > 9"
+    status, text = browser.ask("POST", "/sql", sql, JSON)
     wanted = {"results": [{"columns": ["a", "2.5", "NULL", "'x\"\n\x01'", "x'00ff'"], "rows": [[1, 2.5, None, "x\"\n\x01", "\\x00ff"]]},
                           {"changes": 1}, {"columns": ["a"], "rows": []}]}
     yield "JSON", differs([status, json.loads(text)], [200, wanted])
     status, text = browser.ask("GET", "/sql?format=json&q=SELECT+x", None)
     yield "JSON's errors", differs([status, json.loads(text)], [400, {"error": "no such column: x", "code": "42703"}])
-    status, text = browser.ask("POST", "/sql", "WITH RECURSIVE c(x) AS (VALUES(1) UNION ALL SELECT x+1 FROM c WHERE x<300000) SELECT x FROM c")
+    sql = "WITH RECURSIVE c(x) AS (VALUES(1) UNION ALL SELECT x+1 FROM c WHERE x<300000) SELECT x FROM c"
+    status, text = browser.ask("POST", "/sql", sql)
     yield "an answer that is too long", differs([status, "more than a megabyte" in text], [400, True])
 
 
@@ -87,7 +92,8 @@ def bodies(served: Served, browser: Browser) -> Iterator[tuple[str, str | None]]
     yield "20 at once", differs(raw(served, many).count(b"200 OK"), 20)
     came = raw(served, b"POST /sql HTTP/1.1\r\nExpect: 100-continue\r\nContent-Length: 8\r\n\r\n")
     yield "a body that is asked for", differs(came, b"HTTP/1.1 100 Continue\r\n\r\n")
-    for data, status in [(b"POST /sql HTTP/1.1\r\nContent-Length: 300000\r\n\r\n", b"413"), (b"GET / HTTP/1.1\r\nX: " + b"x" * 20000, b"431"),
+    for data, status in [(b"POST /sql HTTP/1.1\r\nContent-Length: 300000\r\n\r\n", b"413"),
+                         (b"GET / HTTP/1.1\r\nX: " + b"x" * 20000, b"431"),
                          (b"nonsense\r\n\r\n", b"400"), (b"POST /sql HTTP/1.1\r\nTransfer-Encoding: chunked\r\n\r\n0\r\n\r\n", b"411")]:
         yield f"refused: {data[:40]}", differs(raw(served, data)[9:12], status)
     long = "SELECT '" + "x" * 250_000 + "'"
@@ -97,7 +103,8 @@ def bodies(served: Served, browser: Browser) -> Iterator[tuple[str, str | None]]
 def waits(served: Served, browser: Browser) -> Iterator[tuple[str, str | None]]:
     client = Postgres(served.postgres)
     client.ask("BEGIN; UPDATE t SET b = 'held' WHERE a = 1")
-    thread, came = later(lambda: Browser(served.http).post("SELECT b FROM t WHERE a = 1; UPDATE t SET b = b || '+' WHERE a = 1; SELECT b FROM t WHERE a = 1"))
+    sql = "SELECT b FROM t WHERE a = 1; UPDATE t SET b = b || '+' WHERE a = 1; SELECT b FROM t WHERE a = 1"
+    thread, came = later(lambda: Browser(served.http).post(sql))
     seen = [list(came), browser.ask("GET", "/sql?q=SELECT+b+FROM+t+WHERE+a=1")]
     client.ask("COMMIT")
     thread.join(30)
@@ -113,7 +120,8 @@ def passwords(built: Built, room: Path) -> Iterator[tuple[str, str | None]]:
             headers = {} if word is None else {"Authorization": "Basic " + base64.b64encode(word.encode()).decode()}
             seen.append(browser.ask("GET", "/sql?q=SELECT+1", None, headers)[0])
         begun = time.monotonic()
-        yield "a password", differs([seen, browser.ask("GET", "/")[0], time.monotonic() - begun < 5], [[401, 401, 200, 200, 401, 200], 401, True])
+        yield "a password", differs([seen, browser.ask("GET", "/")[0], time.monotonic() - begun < 5],
+                                    [[401, 401, 200, 200, 401, 200], 401, True])
 
 
 def tests(built: Built) -> Iterator[tuple[str, str | None]]:

@@ -1,0 +1,82 @@
+"""The database guest at two hosts, each a daemon with its node in processes of its own, of which one is killed again and again. This
+machine is client 1, by libslirp."""
+from __future__ import annotations
+
+import random
+import select
+import threading
+from pathlib import Path
+
+from guests.lib.frames import EVERYONE, client_mac
+from host.started import Hub, protected
+from tests.hosts import loopback_pair
+from tools.live.network import Slirp
+
+
+class Line(threading.Thread):
+    """Takes frames from libslirp to the hosts' network, and back."""
+
+    def __init__(self, port: int, *hosts: object) -> None:
+        super().__init__(daemon=True)
+        self.hub, self.slirp, self.is_over = Hub(*hosts), Slirp([(port, 5432, False)], "10.0.0.1"), False
+
+    def run(self) -> None:
+        while not self.is_over:
+            descriptors, most = self.slirp.watch()
+            poll = select.poll()
+            for descriptor, events in descriptors:
+                poll.register(descriptor, events)
+            for line in self.hub.open_lines():
+                poll.register(line.fileno(), select.POLLIN)
+            ready = dict(poll.poll(min(most, 0.05) * 1000))
+            for _, frame in self.slirp.frames(ready):
+                self.hub.send(frame)
+            for frame in self.hub.came(0):
+                if frame[:6] in (client_mac(1), EVERYONE):
+                    self.slirp.put(frame)
+
+    def end(self) -> None:
+        self.is_over = True
+        self.join(5)
+
+
+class Hosts:
+    """Two hosts, the live one first, and a thread that kills one every so many seconds with SIGKILL, and starts it again."""
+
+    def __init__(self, folder: str, guest: Path, port: int, every: float, epoch: float) -> None:
+        self.hosts = loopback_pair(folder, guest, steps_per_ms=50_000, epoch_ms=epoch)
+        self.line, self.every, self.is_over = Line(port, *self.hosts), every, threading.Event()
+        self.killer, self.kills, self.wrong = threading.Thread(target=self.kill, daemon=True), [0, 0], []
+
+    def __enter__(self) -> Hosts:
+        self.hosts[0].start().ask("promote", boot=True)
+        self.hosts[1].start()
+        protected(*self.hosts)
+        self.line.start()
+        self.killer.start()
+        return self
+
+    def kill(self) -> None:
+        rng = random.Random(1)
+        try:
+            while not self.is_over.wait(self.every * (1 + rng.random()) / 2):
+                live, standby = self.hosts
+                is_live = rng.random() < 0.75
+                (live if is_live else standby).kill()
+                if is_live:
+                    standby.ask("promote")
+                    self.hosts.reverse()
+                else:
+                    live.ask("alone")
+                self.kills[not is_live] += 1
+                self.hosts[1].start()
+                protected(*self.hosts)
+        except Exception as error:
+            self.wrong.append(f"after {self.kills} kills: {error!r}")
+
+    def __exit__(self, *_: object) -> None:
+        self.is_over.set()
+        self.killer.join(60)
+        self.line.end()
+        for host in self.hosts:
+            host.kill()
