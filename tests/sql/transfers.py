@@ -146,14 +146,14 @@ class Bank:
             thread.join()
         return time.monotonic() - begun
 
-    def check(self) -> list[str]:
-        """What is wrong in the database, and what was seen to be before."""
+    def check(self, rows: Callable[[str], list[tuple]]) -> list[str]:
+        """What is wrong in the database, given what it answers, and what was seen to be before."""
         stored: dict[str, Transfer] = {}
         last = ""
-        while part := self.surely(f"SELECT id, source, target, amount FROM transfer WHERE id > '{last}' ORDER BY id LIMIT 5000"):
+        while part := rows(f"SELECT id, source, target, amount FROM transfer WHERE id > '{last}' ORDER BY id LIMIT 5000"):
             stored.update((row[0], row[1:]) for row in part)
             last = part[-1][0]
-        balances = dict(self.surely("SELECT id, balance FROM account"))
+        balances = dict(rows("SELECT id, balance FROM account"))
         expected = dict.fromkeys(range(1, ACCOUNTS + 1), EACH)
         for source, target, amount in stored.values():
             expected[source] -= amount
@@ -167,7 +167,7 @@ class Bank:
             found.append(f"{len(made_up)} transfers are there that nobody was told of, or that were refused: {made_up[:5]}")
         if balances != expected or sum(balances.values()) != TOTAL:
             found.append(f"the balances aren't those of the transfers: {balances}, not {expected}")
-        if (whole := self.surely("PRAGMA integrity_check")) != [("ok",)]:
+        if (whole := rows("PRAGMA integrity_check")) != [("ok",)]:
             found.append(f"integrity_check: {whole}")
         self.stored = len(stored)
         return found
