@@ -43,6 +43,8 @@ def corosync(token):
     for host, address in network.ADDRESS.items():
         text = re.sub(rf"(name: {host}\n.*\n *ring0_addr: ).*", rf"\g<1>{address}", text)
     text = re.sub(r"token: \d+", f"token: {token}", text)
+    if token < 1000:
+        text = re.sub(r"\n    # (interface \{|    \w+: \d+|\})(?=\n)", r"\n    \1", text)
     text = re.sub(r"to_syslog: yes", "to_syslog: no\n    to_logfile: yes\n    logfile: /var/log/corosync.log", text)
     return text + "\nsystem {\n    move_to_root_cgroup: no\n}\n"
 

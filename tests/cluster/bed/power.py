@@ -48,8 +48,8 @@ class Power:
             with open(self.folder / host / "console", "ab") as console:
                 self.hosts[host] = subprocess.Popen(
                     [*priority.before(), "nsenter", "--net=/run/netns/" + network.namespace(host), "unshare", "--mount", "--uts", "--ipc",
-                     "--pid", "--fork", "--kill-child", HERE / "boot", host, self.folder], stdin=subprocess.DEVNULL, stdout=console, stderr=console,
-                    start_new_session=True)
+                     "--pid", "--fork", "--kill-child", HERE / "boot", host, self.folder],
+                    stdin=subprocess.DEVNULL, stdout=console, stderr=console, start_new_session=True)
             self.note("on", host)
 
     def init(self, host):

@@ -11,8 +11,10 @@ from bed.machines import TooLate, sent, two_at_once
 
 EXAMPLES = Path(__file__).resolve().parents[3] / "examples"
 WEB, COUNTER = EXAMPLES / "server.sim", EXAMPLES / "counter.sim"
+SQL = Path(os.environ.get("REMUS_SQL", "/nowhere"))  # the database guest, as guests/sql/build.sh makes it
+SETTINGS = {SQL: {"steps_per_ms": 50_000}}
 GOES_ON = "live in generation|^alone in generation"
-WEB_CLIENTS, COUNTER_CLIENTS = ("ping", "count", "big"), ("udp",)
+WEB_CLIENTS, COUNTER_CLIENTS, BANK_CLIENTS = ("ping", "count", "big"), ("udp",), ("ping", "bank")
 
 
 class Row:
@@ -44,7 +46,7 @@ class Row:
         return "; ".join(told)
 
     def clients(self):
-        return self.bed.clients(*(WEB_CLIENTS if self.bed.guest == WEB else COUNTER_CLIENTS))
+        return self.bed.clients(*{WEB: WEB_CLIENTS, COUNTER: COUNTER_CLIENTS, SQL: BANK_CLIENTS}[self.bed.guest])
 
     def pauses(self, clients, begin):
         for kind in clients.kinds:
@@ -79,6 +81,26 @@ def power(row, times):
         back = row.bed.until(lambda: row.bed.power.since(begin, "on", live), 20, "the host's power")
         row.bed.pair()
         row.note("full standby again after its power", time.time() - back)
+
+
+def bank(row, times):
+    """The live host's power is cut again and again while clients transfer money in the database guest."""
+    bed = row.bed
+    with row.clients() as clients:
+        time.sleep(3)
+        for row.tries in range(1, times + 1):
+            live, standby = bed.pair()
+            time.sleep(2)
+            begin = time.time()
+            bed.power.cut(live)
+            fenced_and_live(row, live, standby, begin)
+            bed.pair()
+        time.sleep(2)
+    told = clients.told["bank"]
+    if row.expect(told is not None, "the bank has no result"):
+        for name in ("answers", "unknown", "reads", "longest"):
+            row.note({"answers": "transfers acknowledged", "longest": "longest wait"}.get(name, name), told[name])
+    row.check(clients)
 
 
 def standby_power(row, times):
@@ -309,8 +331,8 @@ def upgrade(row, times):
 
 
 def trace(bed):
-    """One power cut of the live host, for a picture: what each host was all the time, its counts of checkpoints, the client's bytes, and the
-    times of the fence device."""
+    """One power cut of the live host, for a picture: what each host was all the time, its counts of checkpoints, the client's bytes, and
+    the times of the fence device."""
     bed.new(guest=WEB)
     live, standby = bed.pair()
     samples, going = [], [True]
@@ -334,7 +356,8 @@ def trace(bed):
         time.sleep(1.5)
     going.clear()
     sampler.join()
-    return {"victim": live, "survivor": standby, "cut": begin, "asked": bed.power.since(begin, "asked"), "done": bed.power.since(begin, "off"),
+    return {"victim": live, "survivor": standby, "cut": begin,
+            "asked": bed.power.since(begin, "asked"), "done": bed.power.since(begin, "off"),
             "live": bed.when(standby, "live in generation", begin), "power back": bed.power.since(begin, "on"),
             "protected": bed.when(standby, "^protected", begin), "wrong": clients.mistakes(), "samples": samples,
             "curve": clients.told["big"]["curve"]}
@@ -342,9 +365,10 @@ def trace(bed):
 
 # By name: the row, how often it is tried, on which guest.
 ROWS = {
-    "power": (power, 20, (WEB, COUNTER)), "split": (split, 10, (COUNTER, WEB)), "standby-power": (standby_power, 2, (WEB,)),
-    "hang": (hang, 4, (WEB,)), "killed": (killed, 1, (WEB,)), "both": (both, 1, (WEB,)), "link": (link, 1, (COUNTER,)),
-    "no-fencing": (no_fencing, 1, (COUNTER,)), "move": (move, 3, (COUNTER,)), "upgrade": (upgrade, 1, (COUNTER,)),
+    "power": (power, 20, (WEB, COUNTER)), "bank": (bank, 3, (SQL,)), "split": (split, 10, (COUNTER, WEB)),
+    "standby-power": (standby_power, 2, (WEB,)), "hang": (hang, 4, (WEB,)), "killed": (killed, 1, (WEB,)), "both": (both, 1, (WEB,)),
+    "link": (link, 1, (COUNTER,)), "no-fencing": (no_fencing, 1, (COUNTER,)), "move": (move, 3, (COUNTER,)),
+    "upgrade": (upgrade, 1, (COUNTER,)),
 }
 
 
@@ -352,6 +376,9 @@ def tried(bed, name, times):
     """A row, tried so many times over its guests, one after the other."""
     what, usual, guests = ROWS[name]
     row, left = Row(bed, name), times or usual
+    if not all(guest.exists() for guest in guests):
+        print(f"{name}: skipped: REMUS_SQL names no image of the database guest")
+        return row
     for i, guest in enumerate(guests):
         now = left if i + 1 == len(guests) else left // (len(guests) - i)
         left -= now
@@ -359,7 +386,7 @@ def tried(bed, name, times):
             continue
         try:
             if bed.guest != guest or bed.live() is None:
-                bed.new(guest=guest)
+                bed.new(guest=guest, settings=SETTINGS.get(guest, {}))
             what(row, now)
         except TooLate as late:
             row.expect(False, str(late))
