@@ -21,7 +21,8 @@ class Row:
     """One row as it is tried: what was measured, by name, and what was wrong."""
 
     def __init__(self, bed, name):
-        self.bed, self.name, self.measured, self.wrong, self.tries = bed, name, {}, [], 0
+        self.bed, self.name, self.measured, self.wrong = bed, name, {}, []
+        self.tries, self.past = 0, 0  # tries with this guest, and with those before it
 
     def note(self, name, value):
         self.measured.setdefault(name, []).append(round(value, 3))
@@ -384,6 +385,7 @@ def tried(bed, name, times):
         left -= now
         if now == 0:
             continue
+        row.past, row.tries = row.past + row.tries, 0
         try:
             if bed.guest != guest or bed.live() is None:
                 bed.new(guest=guest, settings=SETTINGS.get(guest, {}))
