@@ -31,7 +31,8 @@ def add(kinds):
     one.add_argument("--control", metavar="PATH", help="its control socket")
     one.add_argument("--config", metavar="FILE", help="its configuration, which names the socket")
     one.add_argument("--json", action="store_true", help="prints the answer as it came")
-    one.add_argument("--timeout", type=float, metavar="SECONDS", help="how long an answer is awaited (default: 10, for drain and demote 60, for save 600)")
+    one.add_argument("--timeout", type=float, metavar="SECONDS",
+                     help="how long an answer is awaited (default: 10, for drain and demote 60, for save 600)")
     verbs = one.add_subparsers(dest="verb", required=True, metavar="VERB")
     readers = {verb: verbs.add_parser(verb, help=said, description=said) for verb, said in VERBS.items()}
     readers["promote"].add_argument("--boot", action="store_true", help="boots the configured guest at an empty host")

@@ -11,7 +11,6 @@ MOST_STRANGERS = 16  # connections that haven't met this host; the oldest makes 
 MOST_AT_ONCE = 2  # strangers that are let in, and that are heard, in one turn of the loop
 PATIENCE = 5.0  # seconds, for a stranger to say who it is
 AGAIN = 0.25  # seconds, until the peer is dialled again
-LATER = 1.0  # the same, where the peer said no
 
 
 class Link:

@@ -3,7 +3,7 @@ A standby that was offered an attachment makes itself ready for it, and says REA
 import secrets
 
 from host import messages
-from host.live import ALONE, PAIRED
+from host.live import ALONE
 from host.messages import GO_LIVE, HELLO, NO, NO_SESSION, OFFER, OVER, READY, RESUME, Malformed, fields
 from host.node import Refused
 
@@ -151,7 +151,3 @@ class Meeting:
 def go_live(session, generation, number):
     """What a live host that has drained tells its standby."""
     return messages.message(GO_LIVE, session, messages.NUMBER.pack(generation, number))
-
-
-def is_protected(live):
-    return live is not None and live.mode == PAIRED

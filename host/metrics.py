@@ -62,7 +62,8 @@ def text(host):
 
 def acknowledgements(lines, counts):
     name = "remus_acknowledgement_seconds"
-    lines += [f"# HELP {name} Time from a cut to its acknowledgement, where it held frames or much was written.", f"# TYPE {name} histogram"]
+    meaning = "Time from a cut to its acknowledgement, where it held frames or much was written."
+    lines += [f"# HELP {name} {meaning}", f"# TYPE {name} histogram"]
     total = 0
     for bucket, count in zip((*BUCKETS, "+Inf"), counts.ack_counts):
         total += count
