@@ -65,7 +65,7 @@ def run(plan):
         log.error(str(error))
         return 1
     except OSError as error:
-        log.error(f"{error.filename or ''} {error.strerror or error}".strip())
+        log.error(f"{error.filename}: {error.strerror}" if error.filename else error.strerror or str(error))
         return 1
     log.info(f"this host is empty; process {os.getpid()}, node {daemon.node.pid}, control socket {found.control}")
     try:
