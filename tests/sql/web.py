@@ -93,7 +93,7 @@ def bodies(served: Served, browser: Browser) -> Iterator[tuple[str, str | None]]
     came = raw(served, b"POST /sql HTTP/1.1\r\nExpect: 100-continue\r\nContent-Length: 8\r\n\r\n")
     yield "a body that is asked for", differs(came, b"HTTP/1.1 100 Continue\r\n\r\n")
     for data, status in [(b"POST /sql HTTP/1.1\r\nContent-Length: 300000\r\n\r\n", b"413"),
-                         (b"GET / HTTP/1.1\r\nX: " + b"x" * 20000, b"431"),
+                         ((b"GET / HTTP/1.1\r\nX: " + b"x" * 16384)[:16385], b"431"),
                          (b"nonsense\r\n\r\n", b"400"), (b"POST /sql HTTP/1.1\r\nTransfer-Encoding: chunked\r\n\r\n0\r\n\r\n", b"411")]:
         yield f"refused: {data[:40]}", differs(raw(served, data)[9:12], status)
     long = "SELECT '" + "x" * 250_000 + "'"
