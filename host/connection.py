@@ -177,7 +177,10 @@ def listening(address):
     family = socket.AF_INET6 if ":" in address[0] else socket.AF_INET
     tcp = socket.socket(family, socket.SOCK_STREAM)
     tcp.setsockopt(socket.SOL_SOCKET, socket.SO_REUSEADDR, 1)
-    tcp.bind(address)
+    try:
+        tcp.bind(address)
+    except OSError as error:
+        raise OSError(None, f"the link can't be awaited at {address[0]}:{address[1]}: {error.strerror}") from None
     tcp.listen(16)
     tcp.setblocking(False)
     return tcp

@@ -103,6 +103,8 @@ class Control(Server):
         kept = os.umask(0o177)
         try:
             listener.bind(path)
+        except OSError as error:
+            raise OSError(None, f"the control socket {path} can't be had: {error.strerror}") from None
         finally:
             os.umask(kept)
         super().__init__(host, listener)
@@ -169,7 +171,10 @@ class Scrapes(Server):
         if address:
             listener = socket.socket(socket.AF_INET6 if ":" in address[0] else socket.AF_INET)
             listener.setsockopt(socket.SOL_SOCKET, socket.SO_REUSEADDR, 1)
-            listener.bind(address)
+            try:
+                listener.bind(address)
+            except OSError as error:
+                raise OSError(None, f"metrics can't be had at {address[0]}:{address[1]}: {error.strerror}") from None
         super().__init__(host, listener)
 
     def due(self):

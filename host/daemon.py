@@ -2,6 +2,7 @@
 import secrets
 import select
 import signal
+import socket
 import time
 
 from host import messages, network
@@ -39,6 +40,7 @@ class Daemon:
         self.node = Node(settings.node)
         self.live = self.standby = self.peer = self.life = self.shape = None
         self.instance = secrets.token_hex(8)
+        self.woken, self.wakes = socket.socketpair()  # a signal ends a wait
 
     # What the host is.
 
@@ -166,6 +168,9 @@ class Daemon:
     def run(self):
         for number in (signal.SIGINT, signal.SIGTERM):
             signal.signal(number, lambda *_: self.end())
+        for end in (self.woken, self.wakes):
+            end.setblocking(False)
+        signal.set_wakeup_fd(self.wakes.fileno())
         try:
             while not self.is_over:
                 self.turn()
@@ -183,7 +188,7 @@ class Daemon:
         is_patient = self.live is not None and self.live.is_patient
         reading, writing = self.link.watched(is_patient)
         frames = self.network.watched()
-        reading += frames
+        reading += [self.woken, *frames]
         for served in (self.control, self.scrapes):
             more, waiting = served.watched()
             reading += more
