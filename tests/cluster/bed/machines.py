@@ -15,7 +15,7 @@ from bed.power import Power
 
 HERE = Path(__file__).resolve().parent
 BOOT_SECONDS = 60
-CLIENT_SECONDS = 120  # from SIGTERM to what a client was told
+CLIENT_SECONDS = 30  # from SIGTERM to what a client was told
 LIVE = re.compile(r"booted .*: life|live in generation|live again|live with the guest")
 QUIET = re.compile(r"frozen: the guest is kept|drained: checkpoint")
 LINE = re.compile(r"(?m)^(\S+)Z (\w+) (\w+): (.*)$")
@@ -187,9 +187,8 @@ class Clients:
 
     def __enter__(self):
         self.began = time.time()
-        command = [*priority.before(), "ip", "netns", "exec", network.CLIENT, sys.executable]
-        programs = {kind: [HERE / "bank.py"] if kind == "bank" else [HERE / "client.py", kind] for kind in self.kinds}
-        self.running = {kind: subprocess.Popen([*command, *words], stdout=subprocess.PIPE, text=True) for kind, words in programs.items()}
+        command = [*priority.before(), "ip", "netns", "exec", network.CLIENT, sys.executable, HERE / "client.py"]
+        self.running = {kind: subprocess.Popen([*command, kind], stdout=subprocess.PIPE, text=True) for kind in self.kinds}
         time.sleep(1)
         return self
 

@@ -2,6 +2,7 @@
 import os
 import signal
 import statistics
+import subprocess
 import threading
 import time
 from pathlib import Path
@@ -11,10 +12,8 @@ from bed.machines import TooLate, sent, two_at_once
 
 EXAMPLES = Path(__file__).resolve().parents[3] / "examples"
 WEB, COUNTER = EXAMPLES / "server.sim", EXAMPLES / "counter.sim"
-SQL = Path(os.environ.get("REMUS_SQL", "/nowhere"))  # the database guest, as guests/sql/build.sh makes it
-SETTINGS = {SQL: {"steps_per_ms": 50_000}}
 GOES_ON = "live in generation|^alone in generation"
-WEB_CLIENTS, COUNTER_CLIENTS, BANK_CLIENTS = ("ping", "count", "big"), ("udp",), ("ping", "bank")
+WEB_CLIENTS, COUNTER_CLIENTS = ("ping", "count", "big"), ("udp",)
 
 
 class Row:
@@ -47,7 +46,7 @@ class Row:
         return "; ".join(told)
 
     def clients(self):
-        return self.bed.clients(*{WEB: WEB_CLIENTS, COUNTER: COUNTER_CLIENTS, SQL: BANK_CLIENTS}[self.bed.guest])
+        return self.bed.clients(*(WEB_CLIENTS if self.bed.guest == WEB else COUNTER_CLIENTS))
 
     def pauses(self, clients, begin):
         for kind in clients.kinds:
@@ -82,26 +81,6 @@ def power(row, times):
         back = row.bed.until(lambda: row.bed.power.since(begin, "on", live), 20, "the host's power")
         row.bed.pair()
         row.note("full standby again after its power", time.time() - back)
-
-
-def bank(row, times):
-    """The live host's power is cut again and again while clients transfer money in the database guest."""
-    bed = row.bed
-    with row.clients() as clients:
-        time.sleep(3)
-        for row.tries in range(1, times + 1):
-            live, standby = bed.pair()
-            time.sleep(2)
-            begin = time.time()
-            bed.power.cut(live)
-            fenced_and_live(row, live, standby, begin)
-            bed.pair()
-        time.sleep(2)
-    told = clients.told["bank"]
-    if row.expect(told is not None, "the bank has no result"):
-        for name in ("answers", "unknown", "reads", "longest"):
-            row.note({"answers": "transfers acknowledged", "longest": "longest wait"}.get(name, name), told[name])
-    row.check(clients)
 
 
 def standby_power(row, times):
@@ -321,7 +300,7 @@ def upgrade(row, times):
                 begin = time.time()
                 bed.on(host, "crm_standby", "--node", host, "--update", "on")
                 bed.until(lambda: bed.status(host)["role"] is None, 30, "the daemon's end")
-                upgraded = bed.on(host, "dpkg", "-i", made)
+                upgraded = bed.on(host, "dpkg", "-i", made, seconds=300)
                 row.expect(upgraded.returncode == 0, upgraded.stderr)
                 bed.on(host, "crm_standby", "--node", host, "--delete")
                 bed.pair()
@@ -366,7 +345,7 @@ def trace(bed):
 
 # By name: the row, how often it is tried, on which guest.
 ROWS = {
-    "power": (power, 20, (WEB, COUNTER)), "bank": (bank, 3, (SQL,)), "split": (split, 10, (COUNTER, WEB)),
+    "power": (power, 20, (WEB, COUNTER)), "split": (split, 10, (COUNTER, WEB)),
     "standby-power": (standby_power, 2, (WEB,)), "hang": (hang, 4, (WEB,)), "killed": (killed, 1, (WEB,)), "both": (both, 1, (WEB,)),
     "link": (link, 1, (COUNTER,)), "no-fencing": (no_fencing, 1, (COUNTER,)), "move": (move, 3, (COUNTER,)),
     "upgrade": (upgrade, 1, (COUNTER,)),
@@ -377,9 +356,6 @@ def tried(bed, name, times):
     """A row, tried so many times over its guests, one after the other."""
     what, usual, guests = ROWS[name]
     row, left = Row(bed, name), times or usual
-    if not all(guest.exists() for guest in guests):
-        print(f"{name}: skipped: REMUS_SQL names no image of the database guest")
-        return row
     for i, guest in enumerate(guests):
         now = left if i + 1 == len(guests) else left // (len(guests) - i)
         left -= now
@@ -388,9 +364,9 @@ def tried(bed, name, times):
         row.past, row.tries = row.past + row.tries, 0
         try:
             if bed.guest != guest or bed.live() is None:
-                bed.new(guest=guest, settings=SETTINGS.get(guest, {}))
+                bed.new(guest=guest)
             what(row, now)
-        except TooLate as late:
+        except (TooLate, subprocess.TimeoutExpired) as late:
             row.expect(False, str(late))
             bed.power.answers = bed.power.kills = True
             network.heal()
