@@ -11,7 +11,7 @@ from pathlib import Path
 from guests.lib.frames import ACK, GUEST_IP, PSH, SYN, TCP, arp_request, client_ip, from_client, ipv4, payload, tcp, tcp_data
 from tests.postgres import message, string
 from tools.live.hosts import Program
-from tools.live.loop import Loop
+from tools.live.loop import Clock, Loop
 from tools.live.network import Slirp
 
 CLIENT, PORT, FIRST = 2, 40002, 1_000_000
@@ -89,7 +89,7 @@ class Pair:
                                      seconds=None, fail_every=None)
         self.program, self.silent = Program(program), Silent()
         networks = [Slirp([(port, 5432, False)], "10.0.0.1"), self.silent]
-        self.loop = Loop(plan, self.program, " ".join(fields).strip(), networks, Screen(), random.Random(1))
+        self.loop = Loop(plan, self.program, " ".join(fields).strip(), networks, Screen(), random.Random(1), Clock())
         self.thread = threading.Thread(target=self.loop.run, daemon=True)
 
     def __enter__(self) -> Pair:
