@@ -19,14 +19,13 @@ SAID = [struct.pack(">II", 17, 196608) + b"user\0me\0\0", message(b"Q", string("
 
 
 class Silent:
-    """The client. `is_silent` is set once its transaction holds the lock."""
+    """The client. It begins when `may_begin` is set, and sets `is_silent` once its transaction holds the lock."""
 
     def __init__(self) -> None:
-        self.client, self.is_silent = CLIENT, threading.Event()
+        self.client, self.may_begin, self.is_silent = CLIENT, threading.Event(), threading.Event()
         self.next, self.expected, self.left = FIRST, 0, list(SAID)
         self.to_send = [arp_request(CLIENT), self.segment(SYN, options=struct.pack(">BBH", 2, 4, 1460))]
         self.next += 1
-        self.turns = 0
 
     def segment(self, flags: int, data: bytes = b"", options: bytes = b"") -> bytes:
         part = tcp(client_ip(CLIENT), GUEST_IP, PORT, 5432, self.next, self.expected, flags, 65535, data, options)
@@ -36,8 +35,7 @@ class Silent:
         return [], 0.05
 
     def frames(self, _: object) -> list[tuple[int, bytes]]:
-        self.turns += 1
-        if self.turns < 40:  # until the guest listens
+        if not self.may_begin.is_set():
             return []
         frames, self.to_send = self.to_send, []
         return [(CLIENT, frame) for frame in frames]
