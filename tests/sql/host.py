@@ -61,14 +61,15 @@ class Built:
 
 
 def own(room: Path, amalgamation: Path) -> Built:
-    """`served` over SQLite's own source, as the guest has it: a folder that guests/sql/build.sh has filled. The disk is the guest's."""
+    """`served` over SQLite's own source, as the guest has it: a folder that guests/sql/build.sh has filled. The disk is the guest's, and so
+    are the 128 bits of a long double, by which SQLite reads and writes numbers."""
     built = Built.__new__(Built)
     built.room, built.compiler = room, shutil.which("cc") or "gcc"
     options = (amalgamation / "options").read_text().split()
     (room / "served_own_key.c").write_text(secret(""))
     sources = [GUEST / f"{name}.c" for name in dict.fromkeys([*FILES, *SESSIONS])]
     sources += [HERE / f"{name}.c" for name in ("disk", "served", "own")]
-    subprocess.run([built.compiler, "-std=gnu11", "-O2", "-w", *options, f"-I{amalgamation}", f"-I{GUEST}", "-o", room / "served_own",
+    subprocess.run([built.compiler, "-std=gnu11", "-O1", "-w", "-DLONGDOUBLE_TYPE=__float128", *options, f"-I{amalgamation}", f"-I{GUEST}", "-o", room / "served_own",
                     room / "served_own_key.c", *sources, amalgamation / "sqlite3.c", "-lm"], check=True)
     return built
 
