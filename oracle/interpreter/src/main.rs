@@ -239,9 +239,15 @@ fn sim(file: &str) {
 }
 
 fn live(is_gated: bool) {
+    if answer_lines(is_gated).is_err() {
+        std::process::exit(1);
+    }
+}
+
+fn answer_lines(is_gated: bool) -> std::io::Result<()> {
     let (mut input, mut output) = (std::io::stdin().lock(), std::io::stdout().lock());
     let (mut pair, mut line) = (None, String::new());
-    while input.read_line(&mut line).expect("lines of text") > 0 {
+    while input.read_line(&mut line)? > 0 {
         let told = line.trim_end_matches('\n');
         if !told.is_empty() && !told.starts_with('#') {
             let answer = match &mut pair {
@@ -255,10 +261,11 @@ fn live(is_gated: bool) {
                 }),
                 Some(pair) => pair.obey(told),
             };
-            writeln!(output, "{}", answer.as_deref().unwrap_or("bad")).expect("a reader");
+            writeln!(output, "{}", answer.as_deref().unwrap_or("bad"))?;
         }
         line.clear();
     }
+    Ok(())
 }
 
 fn boot(line: &str) -> Option<Pair> {
