@@ -69,8 +69,9 @@ def own(room: Path, amalgamation: Path) -> Built:
     (room / "served_own_key.c").write_text(secret(""))
     sources = [GUEST / f"{name}.c" for name in dict.fromkeys([*FILES, *SESSIONS])]
     sources += [HERE / f"{name}.c" for name in ("disk", "served", "own")]
-    subprocess.run([built.compiler, "-std=gnu11", "-O1", "-w", "-DLONGDOUBLE_TYPE=__float128", *options, f"-I{amalgamation}", f"-I{GUEST}", "-o", room / "served_own",
-                    room / "served_own_key.c", *sources, amalgamation / "sqlite3.c", "-lm"], check=True)
+    flags = ["-std=gnu11", "-O1", "-w", "-DLONGDOUBLE_TYPE=__float128", *options, f"-I{amalgamation}", f"-I{GUEST}"]
+    parts = [room / "served_own_key.c", *sources, amalgamation / "sqlite3.c", "-lm"]
+    subprocess.run([built.compiler, *flags, "-o", room / "served_own", *parts], check=True)
     return built
 
 
