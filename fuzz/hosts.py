@@ -23,6 +23,7 @@ from tests.hosts import Asker, free_ports, loopback_pair, protected
 
 COUNTER = ROOT / "examples" / "counter.sim"
 AT_ONCE = 50  # lines of the control socket, on one connection
+PATIENCE = 30  # seconds, for a connection that is to come about on a machine with other work
 SESSION = bytes(range(16))
 HELLO = dict(version=1, name="x", instance="y", role="empty", life=None, generation=0, session=None, full=False, committed=None)
 OFFER = dict(name="x", instance="y", life="z", generation=5, pages=32, sectors=8)
@@ -95,7 +96,7 @@ def strangers(rng, port, count, context=None):
     """Connections to a host that say nonsense; through TLS as the peer, where a context is given."""
     said = 0
     while said < count:
-        with socket.create_connection(("127.0.0.1", port), timeout=5) as tcp:
+        with socket.create_connection(("127.0.0.1", port), timeout=PATIENCE) as tcp:
             try:
                 line = context.wrap_socket(tcp) if context else tcp
                 said += spoken(line, rng, rng.choice([1, 2, 5, 20]))
@@ -108,7 +109,7 @@ def false_standby(rng, port, count):
     """A standby that attaches as it should, and then says nonsense."""
     said = 0
     while said < count:
-        with socket.create_connection(("127.0.0.1", port), timeout=5) as line:
+        with socket.create_connection(("127.0.0.1", port), timeout=PATIENCE) as line:
             try:
                 line.sendall(messages.told(messages.HELLO, bytes(16), **HELLO))
                 answer = bytearray(line.recv(4096))
@@ -123,7 +124,7 @@ def false_standby(rng, port, count):
 def false_live(rng, listener, count):
     """A live host that offers an attachment as it should, and then says nonsense."""
     said, listener_end = 0, time.monotonic() + 60
-    listener.settimeout(5)
+    listener.settimeout(PATIENCE)
     while said < count and time.monotonic() < listener_end:
         line, _ = listener.accept()
         with line:
@@ -142,7 +143,7 @@ def lines(rng, path, count):
     said = 0
     while said < count:
         with socket.socket(socket.AF_UNIX) as line:
-            line.settimeout(5)
+            line.settimeout(PATIENCE)
             line.connect(path)
             try:
                 for _ in range(AT_ONCE):
