@@ -1,5 +1,5 @@
-/* Compares DIV, DIVU, REM, REMU and the four word forms with long division by shifts, over all pairs of the numbers
-   below, and folds every quotient and remainder into the answer. It answers 0 where two disagree. */
+/* Compares DIV, DIVU, REM, REMU and the four word forms with long division by shifts, over 256 pairs of numbers,
+   and folds every quotient and remainder into the answer. It answers 0 where two disagree. */
 typedef unsigned long u64;
 
 static const u64 numbers[] = {
