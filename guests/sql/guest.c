@@ -3,6 +3,7 @@
 #include <stddef.h>
 
 #include "clock.h"
+#include "log.h"
 #include "sqlite3.h"
 #include "vfs.h"
 
@@ -35,7 +36,8 @@ int guest_start(void) {
     static uint8_t heap[HEAP] __attribute__((aligned(16)));
     static uint8_t thread[64] __attribute__((aligned(16))); /* what picolibc has once a thread: errno */
     __asm__ volatile("mv tp, %0" ::"r"(thread));
-    if (sqlite3_config(SQLITE_CONFIG_HEAP, heap, (int)sizeof heap, 32) != SQLITE_OK || !vfs_start() || sqlite3_initialize() != SQLITE_OK)
+    if (sqlite3_config(SQLITE_CONFIG_HEAP, heap, (int)sizeof heap, 32) != SQLITE_OK || log_start() != SQLITE_OK || !vfs_start()
+        || sqlite3_initialize() != SQLITE_OK)
         return 0;
     play_back();
     return 1;

@@ -2,6 +2,7 @@
 
 #include <string.h>
 
+#include "log.h"
 #include "page.h"
 #include "password.h"
 #include "query.h"
@@ -213,8 +214,10 @@ static void take_request(struct browser *browser, const char *body) {
         take_question(browser, body);
     else if (strcmp(request->path, "/") == 0 && request->method != POST)
         answer(browser, 200, "text/html", page, (uint32_t)strlen(page));
+    else if (strcmp(request->path, "/log") == 0 && request->method != POST)
+        answer(browser, 200, "text/plain", log_lines(), (uint32_t)strlen(log_lines()));
     else
-        refuse(browser, 404, "there are / and /sql\n");
+        refuse(browser, 404, "there are /, /sql and /log\n");
 }
 
 /* The connection. */

@@ -10,6 +10,7 @@ from pathlib import Path
 
 from tests.postgres import Postgres
 from tests.sql.host import Built, Served
+from tests.sql.web import Browser
 
 LEAST = 500  # places at which the power is lost
 
@@ -53,6 +54,8 @@ def killed(built: Built, room: Path) -> Iterator[tuple[str, str | None]]:
         client = Postgres(served.postgres)
         came = client.rows("SELECT count(*), min(b) = max(b), min(length(b)), (SELECT * FROM pragma_integrity_check) FROM t")
         yield "it is played back", None if came == [(2000, 1, 100, "ok")] else f"{came}"
+        said = Browser(served.http).ask("GET", "/log")[1]
+        yield "and SQLite says so", None if re.fullmatch(r"[\d.]+ s: recovered \d+ pages from /db-journal\n", said) else f"{said!r}"
         client.close()
     yield "and gone then", "it is there still" if is_hot(disk) else None
 

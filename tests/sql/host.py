@@ -16,8 +16,8 @@ FLAGS = ["-std=gnu11", "-O1", "-Wall", "-Wextra", "-Werror", "-DDISK_SECTORS=409
          f"-I{HERE}", f"-I{GUEST}"]
 FILES = ["vfs", "locks"]
 UNITS = ["digest", "locks", "statement", "request"]
-SESSIONS = ["text", "digest", "password", "scram", "statement", "session", "work", "query", "rows", "messages", "parameters", "extended",
-            "postgres", "request", "table", "page", "http"]
+SESSIONS = ["text", "log", "digest", "password", "scram", "statement", "session", "work", "query", "rows", "messages", "parameters",
+            "extended", "postgres", "request", "table", "page", "http"]
 
 
 def library() -> str:

@@ -14,6 +14,7 @@
 #include <unistd.h>
 
 #include "../../guests/sql/http.h"
+#include "../../guests/sql/log.h"
 #include "../../guests/sql/postgres.h"
 #include "disk.h"
 
@@ -165,7 +166,7 @@ int main(int count, char **words) {
         return 2;
     medium_make(words[1]);
     sqlite3_config(SQLITE_CONFIG_MALLOC, &memory);
-    if (sqlite3_initialize() != SQLITE_OK || vfs_register() != SQLITE_OK || !vfs_start())
+    if (log_start() != SQLITE_OK || sqlite3_initialize() != SQLITE_OK || vfs_register() != SQLITE_OK || !vfs_start())
         return 2;
     int listeners[2] = {listening(&postgres), listening(&http)};
     fflush(stdout);
