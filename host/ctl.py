@@ -38,6 +38,7 @@ def add(kinds):
     readers["promote"].add_argument("--boot", action="store_true", help="boots the configured guest at an empty host")
     readers["promote"].add_argument("--new", action="store_true", help="even where a guest was booted before")
     readers["promote"].add_argument("--from", dest="source", metavar="FILE", help="takes the guest of a snapshot")
+    readers["promote"].add_argument("--disk", metavar="FILE", help="with --boot: boots over the disk of a snapshot")
     readers["alone"].add_argument("--standby", metavar="INSTANCE", help="only if this is the standby")
     readers["drain"].add_argument("--promote", action="store_true", help="tells the standby to go live then")
     readers["drain"].add_argument("--within", type=float, metavar="MS", help="the longest that it may take")
@@ -48,7 +49,7 @@ def request_of(plan):
     request = {"do": plan.verb}
     if plan.verb == "promote":
         request |= {name: True for name in ("boot", "new") if getattr(plan, name)}
-        request |= {"from": os.path.abspath(plan.source)} if plan.source else {}
+        request |= {name: os.path.abspath(path) for name, path in (("from", plan.source), ("disk", plan.disk)) if path}
     elif plan.verb == "alone" and plan.standby:
         request["standby"] = plan.standby
     elif plan.verb == "drain":

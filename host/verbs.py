@@ -6,14 +6,14 @@ from pathlib import Path
 from host import metrics
 from host.live import ALONE, PAIRED
 from host.node import Refused
-from host.snapshot import NotASnapshot, load
+from host.snapshot import NotASnapshot, boot_over, load
 from host.tasks import Drain, Save, refusal
 
 BOOL, TEXT, NUMBER = (bool,), (str,), (int, float)
 # By verb: the fields that a request may have beside `do`, and their types.
 REQUESTS = {
     "status": {},
-    "promote": {"boot": BOOL, "new": BOOL, "from": TEXT},
+    "promote": {"boot": BOOL, "new": BOOL, "from": TEXT, "disk": TEXT},
     "alone": {"standby": TEXT},
     "drain": {"promote": BOOL, "within_ms": NUMBER},
     "demote": {},
@@ -64,12 +64,14 @@ class Verbs:
     def metrics(self, answer):
         return {"ok": True, "text": metrics.text(self.host)}
 
-    def promote(self, answer, boot=False, new=False, source=None):
+    def promote(self, answer, boot=False, new=False, source=None, disk=None):
         host, now = self.host, time.monotonic()
+        if source is not None and boot or disk is not None and not boot:
+            return refusal("Malformed", "promote takes boot, with disk or without it, or from")
         if host.role == "live":
             return self.did("this host is live already")
         if boot or source is not None:
-            return self.begin(new, source, now)
+            return self.begin(new, source, disk, now)
         if host.role == "frozen":
             host.thaw(now)
         elif not host.full:
@@ -78,26 +80,30 @@ class Verbs:
             host.go_live(now)
         return self.did("this host is live")
 
-    def begin(self, new, source, now):
-        """A new life, booted or from a snapshot."""
+    def begin(self, new, source, disk, now):
+        """A new life, booted, over a snapshot's disk where one is given, or from a snapshot."""
         host = self.host
         if host.role != "empty":
             return refusal("NotEmpty", f"this host is {host.role}: it would lose what it holds")
-        if source is not None:
-            try:
-                load(host, source, now)
-            except (OSError, NotASnapshot) as error:
-                return refusal("File", f"{source}: {getattr(error, 'strerror', None) or error}")
-            return self.did(f"this host is live with the guest of {source}")
-        if host.settings.guest is None:
+        if source is None and host.settings.guest is None:
             return refusal("File", "no guest is configured: give the key 'guest'")
-        if host.state.booted_before and not new:
+        if source is None and host.state.booted_before and not new:
             return refusal("BootedBefore", "a guest was booted or held here before; 'new' boots another one all the same")
         try:
-            host.boot(now)
-        except OSError as error:
-            return refusal("File", f"the state folder can't be written: {error.strerror}")
-        return self.did("the guest is booted, and this host is live")
+            return self.did(self.begun(source, disk, now))
+        except (OSError, NotASnapshot) as error:
+            return refusal("File", f"{source or disk or host.settings.state}: {getattr(error, 'strerror', None) or error}")
+
+    def begun(self, source, disk, now):
+        """What was done, as a sentence. Raises OSError, Refused, NotASnapshot."""
+        if source is not None:
+            load(self.host, source, now)
+            return f"this host is live with the guest of {source}"
+        if disk is not None:
+            boot_over(self.host, disk, now)
+            return f"the guest is booted over the disk of {disk}, and this host is live"
+        self.host.boot(now)
+        return "the guest is booted, and this host is live"
 
     def alone(self, answer, standby=None):
         host = self.host
