@@ -16,14 +16,17 @@ def sectors(program: str, record: Path, first: int, last: int) -> bytes:
     return b"".join(bytes.fromhex(answer.split()[2]) for answer in answers)
 
 
-def database(program: str, record: Path, folder: Path) -> Path:
-    """The database, and beside it its journal where there is one."""
-    disk = sectors(program, record, 0, LOG)
+def files_of(disk: bytes, folder: Path) -> Path:
+    """The database on a disk, of which these are the sectors before LOG, and beside it its journal where there is one."""
     exists = [int.from_bytes(disk[8 + 8 * i:16 + 8 * i], "little") for i in range(2)]
     lengths = [int.from_bytes(disk[32 + 8 * i:40 + 8 * i], "little") for i in range(2)]
-    file = folder / "database"
     for place, there, length, name in zip((DATABASE, JOURNAL), exists, lengths, ("database", "database-journal")):
         (folder / name).unlink(missing_ok=True)
         if there:
             (folder / name).write_bytes(disk[place * SECTOR:place * SECTOR + length])
-    return file
+    return folder / "database"
+
+
+def database(program: str, record: Path, folder: Path) -> Path:
+    """The database of a record, as a file in a folder."""
+    return files_of(sectors(program, record, 0, LOG), folder)

@@ -14,11 +14,11 @@ from tools.live.network import Slirp
 
 
 class Line(threading.Thread):
-    """Takes frames from libslirp to the hosts' network, and back."""
+    """Takes frames from libslirp to the hosts' network, and back. `forwards` are libslirp's."""
 
-    def __init__(self, port: int, *hosts: object) -> None:
+    def __init__(self, forwards: list[tuple[int, int, bool]], *hosts: object) -> None:
         super().__init__(daemon=True)
-        self.hub, self.slirp, self.is_over = Hub(*hosts), Slirp([(port, 5432, False)], "10.0.0.1"), False
+        self.hub, self.slirp, self.is_over = Hub(*hosts), Slirp(forwards, "10.0.0.1"), False
 
     def run(self) -> None:
         while not self.is_over:
@@ -45,7 +45,7 @@ class Hosts:
 
     def __init__(self, folder: str, guest: Path, port: int, every: float, epoch: float) -> None:
         self.hosts = loopback_pair(folder, guest, steps_per_ms=50_000, epoch_ms=epoch)
-        self.line, self.every, self.is_over = Line(port, *self.hosts), every, threading.Event()
+        self.line, self.every, self.is_over = Line([(port, 5432, False)], *self.hosts), every, threading.Event()
         self.killer, self.kills, self.wrong = threading.Thread(target=self.kill, daemon=True), [0, 0], []
 
     def __enter__(self) -> Hosts:
