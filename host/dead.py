@@ -3,46 +3,65 @@
 import math
 import struct
 
-# Offsets in a text. The registers are x1 to x31, pc, and the control registers up to msip.
-STEPS, REGISTERS = 28, slice(36, 352)
-PC, MSTATUS, MEPC, MCAUSE = 284, 292, 324, 332
-LEAST = 532  # bytes, with the count of page records
+# Of a text: the registers are x1 to x31, pc, and the control registers up to msip.
+REGISTERS = slice(36, 352)
+LOOKED_AT = struct.Struct("<28xQ248xQQ8xQ8xQQ")  # steps; pc, mstatus, mtvec, mepc, mcause
+RECORDS, NONE = slice(524, 536), bytes(12)  # the counts of pages, sectors and frames, where there are none of the ones before
+LEAST = 536  # bytes
 INTERRUPTS_ON = 8  # mstatus' bit MIE
 ALIKE = 20  # checkpoints
+SEEN = 3  # times
 INTERRUPT = 1 << 63
+SPINS, TRAPS = "stands on one instruction with interrupts off", "traps over and over at one pc"
 
 
 class Watch:
-    """A guest whose registers, pc and all, are the same after numbers of steps that have no common divisor stands on one instruction, which
-    jumps to itself or traps to itself. Where interrupts are off as well, nothing makes it go on. A delta without a page shows that it
-    wrote nothing meanwhile."""
+    """Two guests are told. One whose registers, pc and all, are the same after numbers of steps that have no common divisor stands on one
+    instruction, which jumps to itself or traps to itself; where interrupts are off as well, nothing makes it go on. And one that is seen
+    again and again at the pc of its last trap, and at the entry of its handler, while the trap stays the same: its handler returns to
+    where it came from, and changes nothing. Both only where nothing is written or sent meanwhile."""
 
     def __init__(self):
+        self.forget()
+
+    def forget(self):
         self.registers, self.steps, self.divisor, self.alike = b"", 0, 0, 0
-        self.found = None
+        self.trap, self.at_trap, self.at_entry = None, 0, 0
+        self.found, self.holds = None, None  # what is told, and the registers, or the trap, that have to stay for it
 
     def see(self, text, number):
-        """The first bytes of a checkpoint's text."""
+        """The first bytes of a checkpoint's text. Answers whether it tells from now on."""
         if len(text) < LEAST or number == 0:
-            return
-        steps, registers = number_at(text, STEPS), text[REGISTERS]
-        is_alike = registers == self.registers and not number_at(text, MSTATUS) & INTERRUPTS_ON and text[524:528] == bytes(4)
-        if is_alike and steps > self.steps:
-            self.divisor, self.alike = math.gcd(self.divisor, steps - self.steps), self.alike + 1
-        elif not is_alike:
+            return False
+        registers = text[REGISTERS]
+        steps, pc, mstatus, mtvec, mepc, mcause = LOOKED_AT.unpack_from(text)
+        if self.found is not None:
+            if self.holds in (registers, (mcause, mepc)):
+                return False
+            self.forget()
+        if text[RECORDS] != NONE:
+            self.registers, self.trap = b"", None
+            return False
+        spins = self.spins(registers, steps, mstatus & INTERRUPTS_ON)
+        loops = self.loops(pc, mtvec & ~3, (mcause, mepc))
+        if not spins and not loops:
+            return False
+        what = TRAPS if loops or mepc == pc and 0 < mcause < INTERRUPT else SPINS
+        self.found = {"what": what, "pc": f"0x{pc:x}", "mcause": f"0x{mcause:x}", "mepc": f"0x{mepc:x}"}
+        self.holds = registers if spins else (mcause, mepc)
+        return True
+
+    def spins(self, registers, steps, is_interrupted):
+        if registers != self.registers or is_interrupted:
             self.divisor = self.alike = 0
-            self.found = None
+        elif steps > self.steps:
+            self.divisor, self.alike = math.gcd(self.divisor, steps - self.steps), self.alike + 1
         self.registers, self.steps = registers, steps
-        if self.alike >= ALIKE and self.divisor == 1 and self.found is None:
-            self.found = described(text)
+        return self.alike >= ALIKE and self.divisor == 1
 
-
-def number_at(text, place):
-    return struct.unpack_from("<Q", text, place)[0]
-
-
-def described(text):
-    pc, mcause, mepc = (number_at(text, place) for place in (PC, MCAUSE, MEPC))
-    traps = mepc == pc and mcause < INTERRUPT and mcause != 0
-    what = "traps over and over at one pc" if traps else "stands on one instruction with interrupts off"
-    return {"what": what, "pc": f"0x{pc:x}", "mcause": f"0x{mcause:x}", "mepc": f"0x{mepc:x}"}
+    def loops(self, pc, entry, trap):
+        if trap != self.trap:
+            self.trap, self.at_trap, self.at_entry = trap, 0, 0
+        self.at_trap += pc == trap[1]
+        self.at_entry += pc == entry and trap[0] < INTERRUPT
+        return self.at_trap >= SEEN and self.at_entry >= SEEN

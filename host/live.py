@@ -215,7 +215,8 @@ class Live:
         number, begin = self.sending, self.sent
         total = self.pending[number].total
         if begin == 0:
-            self.watch.see(data, number)
+            if self.watch.see(data, number):
+                self.log.error("the guest can do nothing more: it {what}; pc {pc}, mcause {mcause}, mepc {mepc}".format(**self.watch.found))
             self.counts.checkpoint_pages += pages_of(data)
             self.pending[number].is_silent = len(data) == total and frames_of(data) == 0
         self.sent += len(data)
