@@ -31,7 +31,6 @@ class Connection:
         self.most = messages.MOST_BEFORE
         self.heard_at = self.said_at = now
         self.room = bytearray(CHUNK)
-        self.sent_bytes = self.came_bytes = 0
 
     def fileno(self):
         return self.socket.fileno()
@@ -64,24 +63,28 @@ class Connection:
         self.is_open = True
 
     def send(self, data):
-        """Keeps it to be sent, and sends what it can."""
-        self.unsent += data
-        if self.is_open:
-            self.flush()
+        """Sends what it can, and keeps the rest to be sent. Raises Closed."""
+        if self.is_open and not self.unsent:
+            data = data[self.sent(data):]
+        if data:
+            self.unsent += data
+            if self.is_open:
+                self.flush()
 
     def flush(self):
         """Sends what it can. Raises Closed."""
-        self.wants_write = False
+        self.wants_write, count = False, 1
+        while self.unsent and count:
+            with memoryview(self.unsent) as view, view[:CHUNK] as part:
+                count = self.sent(part)
+            del self.unsent[:count]
+
+    def sent(self, data):
+        """How many of these bytes are sent at once. Raises Closed."""
         try:
-            while self.unsent:
-                with memoryview(self.unsent) as view, view[:CHUNK] as part:
-                    count = self.socket.send(part)
-                del self.unsent[:count]
-                self.sent_bytes += count
-        except (ssl.SSLWantWriteError, BlockingIOError):
-            pass
-        except ssl.SSLWantReadError:
-            pass
+            return self.socket.send(data)
+        except (ssl.SSLWantWriteError, ssl.SSLWantReadError, BlockingIOError):
+            return 0
         except (OSError, ValueError) as error:
             raise Closed(reason(error)) from None
 
@@ -100,10 +103,8 @@ class Connection:
                 if not count:
                     ended = "the other end closed it"
                     break
-                with memoryview(self.room) as view, view[:count] as part:
-                    self.came += part
+                self.came += self.room[:count]
                 budget -= count
-                self.came_bytes += count
                 if count < SMALL and not (self.is_tls and self.socket.pending()):
                     break  # there was no more; if there is by now, the next wait tells
         except (ssl.SSLWantReadError, BlockingIOError):

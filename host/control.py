@@ -51,20 +51,22 @@ class Server:
 
     def __init__(self, host, listener):
         self.host, self.listener, self.clients = host, listener, []
+        self.late = []  # clients whose lines came while an answer was awaited: they are served with the next turn
         if listener:
             listener.listen(16)
             listener.setblocking(False)
 
-    def watched(self):
-        reading = [self.listener] if self.listener else []
+    def watched(self, reading, writing):
+        """Adds what a wait is to look at."""
+        reading.append(self.listener)
         reading += [client for client in self.clients if not client.waits and not client.is_ending]
-        return reading, [client for client in self.clients if client.unsent]
+        writing += [client for client in self.clients if client.unsent]
 
-    def due(self):
+    def due(self, now):
         return None
 
     def turn(self, readable, writable, now):
-        if self.listener and self.listener in readable:
+        if self.listener in readable:
             try:
                 self.clients.append(Client(self.listener.accept()[0], now))
             except OSError:
@@ -129,18 +131,13 @@ class Control(Server):
         if client in self.clients and not client.write(json.dumps(answer).encode() + b"\n"):
             self.drop(client)
         elif client in self.clients and client.came:
-            self.serve_later(client)
+            self.late.append(client)
 
-    def serve_later(self, client):
-        """Lines that came while an answer was awaited are served with the next turn."""
-        self.late = getattr(self, "late", [])
-        self.late.append(client)
-
-    def due(self):
-        return 0.0 if getattr(self, "late", None) else None
+    def due(self, now):
+        return now if self.late else None
 
     def turn(self, readable, writable, now):
-        late, self.late = getattr(self, "late", []), []
+        late, self.late = self.late, []
         for client in late:
             if client in self.clients:
                 self.serve(client, True)
@@ -177,7 +174,7 @@ class Scrapes(Server):
                 raise OSError(None, f"metrics can't be had at {address[0]}:{address[1]}: {error.strerror}") from None
         super().__init__(host, listener)
 
-    def due(self):
+    def due(self, now):
         return min((client.begun + PATIENCE for client in self.clients), default=None)
 
     def turn(self, readable, writable, now):

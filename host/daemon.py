@@ -19,6 +19,7 @@ from host.state import State
 MOST_FRAMES = 32  # from the network, before the guest runs again
 VERSION = "1"  # of the daemon
 LONGEST_WAIT = 10.0  # seconds
+ANSWERS = 0.0003  # seconds, in which a node answers what is asked of it in a quiet epoch
 
 
 class Daemon:
@@ -36,6 +37,7 @@ class Daemon:
         self.link.meeting, self.link.attached, self.link.lost = self.meeting, self.attached, self.lost
         self.control = Control(self, settings.control)
         self.scrapes = Scrapes(self, settings.metrics)
+        self.served = [one for one in (self.control, self.scrapes) if one.listener]
         self.network = network.network(settings)
         self.node = Node(settings.node)
         self.live = self.standby = self.peer = self.life = self.shape = None
@@ -186,33 +188,60 @@ class Daemon:
 
     def turn(self):
         is_patient = self.live is not None and self.live.is_patient
-        reading, writing = self.link.watched(is_patient)
         frames = self.network.watched()
-        reading += [self.woken, *frames]
-        for served in (self.control, self.scrapes):
-            more, waiting = served.watched()
-            reading += more
-            writing += waiting
+        reading, writing = [self.woken, *frames], []
+        self.link.watched(reading, writing, is_patient)
+        for one in self.served:
+            one.watched(reading, writing)
         readable, writable, _ = select.select(reading, writing, [], self.wait(time.monotonic()))
+        if is_patient and not readable and self.is_quiet():
+            return self.quiet_epochs(reading)
         now = time.monotonic()
         if is_patient and self.link.is_up:
             readable.append(self.link.connection)
         self.link.turn(readable, writable, now, self.dials)
         if any(one in readable for one in frames):
             self.take_frames()
-        if self.live:
+        if self.live is not None:
             self.live.turn(now)
         if self.task is not None:
             self.task.turn(now)
-        self.control.turn(readable, writable, now)
-        self.scrapes.turn(readable, writable, now)
+        for one in self.served:
+            if one.clients or one.late or one.listener in readable:
+                one.turn(readable, writable, now)
+
+    def is_quiet(self):
+        """Whether nothing is under way but epochs, which go over the link."""
+        link = self.link
+        return (link.is_up and not link.connection.waits_to_write and not link.strangers and link.tcp is None and self.task is None and
+                not any(one.clients or one.late for one in self.served))
+
+    def quiet_epochs(self, reading):
+        """Epoch after epoch of a patient live host, until something comes or is to go out: so long what is looked at stays the same.
+        Acknowledgements, which let nothing out, are heard two at a time, and the node's answers are waited for together."""
+        live, link, connection, came = self.live, self.link, self.link.connection, None
+        descriptors = [one if isinstance(one, int) else one.fileno() for one in reading]
+        self.node.patience = ANSWERS
+        while not came:
+            now = time.monotonic()
+            if len(live.pending) > 1:
+                link.hear_all(now, len(live.pending))
+            live.turn(now)
+            if not live.is_patient or connection is not link.connection or connection.waits_to_write:
+                break
+            now = time.monotonic()
+            came = select.select(descriptors, (), (), max(0, live.due(now) - now))[0]
+        self.node.patience = 0.0
 
     def wait(self, now):
         """For how many seconds there is nothing to do."""
-        times = [self.link.due(now, self.dials), self.control.due(), self.scrapes.due()]
-        times.append(self.live.due(now) if self.live else None)
-        times.append(self.task.due(now) if self.task else None)
-        return min(max(0, min((one for one in times if one is not None), default=now + LONGEST_WAIT) - now), LONGEST_WAIT)
+        until = now + LONGEST_WAIT
+        for one in (self.live, self.task, *self.served):
+            if one is not None and (due := one.due(now)) is not None and due < until:
+                until = due
+        if (due := self.link.due(now, self.dials)) is not None and due < until:
+            until = due
+        return until - now if until > now else 0
 
     def take_frames(self):
         came = self.network.frames(MOST_FRAMES)

@@ -85,22 +85,23 @@ class Link:
             if self.connection.has_more():
                 return now
             quiet = self.settings.link_ms
-            times += [self.connection.heard_at + quiet, self.connection.said_at + quiet / 4]
+            times += self.connection.heard_at + quiet, self.connection.said_at + quiet / 4
         elif dials and self.settings.peer:
             times.append(self.tcp_begun + PATIENCE if self.tcp else self.dial_at)
         return min(times, default=None)
 
-    def watched(self, is_patient):
-        """The sockets that are looked at for reading, and for writing; for reading not the attached one, if it can wait."""
-        reading = [self.listener] if self.listener else []
-        writing = [self.tcp] if self.tcp else []
-        for connection in [*self.strangers, self.connection]:
+    def watched(self, reading, writing, is_patient):
+        """Adds the sockets that are looked at; for reading not the attached one, if it can wait."""
+        if self.listener is not None:
+            reading.append(self.listener)
+        if self.tcp is not None:
+            writing.append(self.tcp)
+        for connection in (*self.strangers, self.connection):
             if connection is not None:
                 if not is_patient or connection is not self.connection:
                     reading.append(connection)
                 if connection.waits_to_write:
                     writing.append(connection)
-        return reading, writing
 
     def turn(self, reading, writing, now, dials):
         if self.listener in reading:
@@ -109,7 +110,8 @@ class Link:
             self.go_on_dialling(writing, now)
         if self.connection is not None:
             self.hear(self.connection, reading, writing, now)
-        self.hear_strangers(reading, writing, now)
+        if self.strangers:
+            self.hear_strangers(reading, writing, now)
         if dials and self.connection is None and self.tcp is None and self.settings.peer and now >= self.dial_at:
             if not any(not stranger.is_server for stranger in self.strangers):
                 self.dial(now)
@@ -193,6 +195,12 @@ class Link:
             self.log.seldom("session", "warning", "a message of another session was dropped")
         elif kind != messages.PING:
             self.attached(kind, body, now)
+
+    def hear_all(self, now, most):
+        """What came over the attached connection, of so many messages that each came by itself."""
+        for _ in range(most):
+            if self.connection is not None:
+                self.hear(self.connection, (self.connection,), (), now)
 
     def hear(self, connection, reading, writing, now):
         try:

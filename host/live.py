@@ -5,7 +5,7 @@ from collections import OrderedDict
 from host import messages
 from host.dead import Watch
 from host.node import arrive
-from host.text import frames_of, pages_of
+from host.text import pages_and_frames
 
 ALONE, FILLING, PAIRED = "alone", "filling", "paired"
 MOST_PENDING = 4  # checkpoints
@@ -64,8 +64,12 @@ class Live:
     @property
     def is_patient(self):
         """Whether an acknowledgement can wait for the epoch's end, since it would let nothing out."""
-        return self.mode == PAIRED and not self.is_stopped and len(self.pending) < MOST_PENDING and all(
-            one.is_silent for one in self.pending.values())
+        if self.mode != PAIRED or self.is_stopped or len(self.pending) >= MOST_PENDING:
+            return False
+        for one in self.pending.values():
+            if not one.is_silent:
+                return False
+        return True
 
     def may_cut(self):
         """While the full checkpoint is on its way, the running epoch goes on as long as the outbox has room."""
@@ -213,12 +217,14 @@ class Live:
 
     def send_text(self, data, now):
         number, begin = self.sending, self.sent
-        total = self.pending[number].total
+        one = self.pending[number]
+        total = one.total
         if begin == 0:
             if self.watch.see(data, number):
                 self.log.error("the guest can do nothing more: it {what}; pc {pc}, mcause {mcause}, mepc {mepc}".format(**self.watch.found))
-            self.counts.checkpoint_pages += pages_of(data)
-            self.pending[number].is_silent = len(data) == total and frames_of(data) == 0
+            pages, frames = pages_and_frames(data, total)
+            self.counts.checkpoint_pages += pages
+            one.is_silent = frames == 0
         self.sent += len(data)
         if self.sent >= total:
             self.sending, self.sent = number + 1, 0
@@ -228,11 +234,13 @@ class Live:
         """The standby has committed all up to this number."""
         if generation != self.generation or number not in self.pending:
             return  # it was heard before, or is of another time
-        frames = self.told(number)
-        if not self.pending[number].is_silent:
-            self.counts.acknowledged(now - self.pending[number].cut_at)
-        while self.pending and next(iter(self.pending)) <= number:
-            self.pending.popitem(last=False)
+        is_silent = True
+        while number in self.pending:
+            one = self.pending.popitem(last=False)[1]
+            is_silent &= one.is_silent
+        if not one.is_silent:
+            self.counts.acknowledged(now - one.cut_at)
+        frames = self.told(number, is_silent)
         self.acked, self.acked_at, self.held = number, now, len(frames)
         if self.sending <= number:
             self.sending, self.sent = number + 1, 0
@@ -241,11 +249,11 @@ class Live:
             self.log.info(f"protected: {self.standby[0]} has the full checkpoint of generation {generation}")
         self.put(frames, now)
 
-    def told(self, number):
+    def told(self, number, is_silent):
         """The frames that an acknowledgement lets out. Where there are none, the node is told later, with the next lines that it gets."""
-        if all(one.is_silent for place, one in self.pending.items() if place <= number):
+        if is_silent:
             self.late_ack = number
-            return []
+            return ()
         self.late_ack = None
         answer = self.node.tell(b"ack %d %d" % (self.generation, number))[0]
         if answer.is_refused:

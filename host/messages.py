@@ -3,8 +3,9 @@ import json
 import struct
 
 HELLO, OFFER, READY, RESUME, NO, OVER, TEXT, ACK, PING, GO_LIVE = range(1, 11)
-HEAD = struct.Struct(">IB16s")
+LENGTH, HEAD = struct.Struct(">I"), struct.Struct(">IB16s")
 PLACE = struct.Struct(">QQQQ")  # of a text's bytes: generation, number, where they begin, and how many the whole text has
+TEXT_HEAD = struct.Struct(">IB16sQQQQ")  # both
 NUMBER = struct.Struct(">QQ")  # generation and number
 NO_SESSION = bytes(16)
 MOST_BEFORE = 4096  # bytes of a message, before the two hosts have met
@@ -26,7 +27,7 @@ def told(kind, session, /, **fields):
 
 
 def text(session, generation, number, begin, total, data):
-    return message(TEXT, session, PLACE.pack(generation, number, begin, total) + data)
+    return TEXT_HEAD.pack(TEXT_HEAD.size - LENGTH.size + len(data), TEXT, session, generation, number, begin, total) + data
 
 
 def acknowledgement(session, generation, number):
@@ -35,18 +36,18 @@ def acknowledgement(session, generation, number):
 
 def taken(buffer, most):
     """The messages that are whole in a bytearray, which then has the rest: triples of kind, session and body."""
-    found, at = [], 0
-    while len(buffer) - at >= 4:
-        length = int.from_bytes(buffer[at:at + 4])
+    found, at, end = [], 0, len(buffer)
+    while end - at >= LENGTH.size:
+        length = LENGTH.unpack_from(buffer, at)[0]
         if not 17 <= length <= most:
             raise Malformed(f"a message of {length} bytes")
-        if len(buffer) - at < 4 + length:
+        if end - at < LENGTH.size + length:
             break
-        kind, session = buffer[at + 4], bytes(buffer[at + 5:at + 21])
+        _, kind, session = HEAD.unpack_from(buffer, at)
         if not HELLO <= kind <= GO_LIVE:
             raise Malformed(f"a message of kind {kind}")
-        found.append((kind, session, bytes(buffer[at + 21:at + 4 + length])))
-        at += 4 + length
+        begin, at = at + HEAD.size, at + LENGTH.size + length
+        found.append((kind, session, bytes(buffer[begin:at])))
     del buffer[:at]
     return found
 

@@ -2,12 +2,13 @@
 import fcntl
 import os
 import subprocess
+import time
 from binascii import hexlify, unhexlify
 
 PIPE_BYTES = 1 << 20
 BUFFER = 1 << 18  # bytes, above those of a line with a piece of a text
 SET_PIPE_SIZE = 1031  # F_SETPIPE_SZ
-WITH_FRAMES = (b"steps", b"acked", b"alone")
+WITH_FRAMES, REFUSALS = {b"steps", b"acked", b"alone"}, {b"refused", b"bad"}
 
 
 class NodeEnded(Exception):
@@ -26,14 +27,10 @@ class Refused(Exception):
 
 class Answer:
     """An answer's words, and the frames that follow it. `is_refused` where it is a refusal, or `bad`."""
-    __slots__ = ("words", "frames")
+    __slots__ = ("words", "frames", "is_refused")
 
-    def __init__(self, line, frames=()):
-        self.words, self.frames = line.split(), frames
-
-    @property
-    def is_refused(self):
-        return self.words[0] in (b"refused", b"bad")
+    def __init__(self, words, frames=()):
+        self.words, self.frames, self.is_refused = words, frames, words[0] in REFUSALS
 
     def number(self, place):
         return int(self.words[place])
@@ -60,6 +57,7 @@ class Node:
             except OSError:
                 pass  # it works with the size it has
         self.pid = self.process.pid
+        self.patience = 0.0  # seconds from lines to their answers: where nobody waits for these, they are read together
         if self.tell(b"show")[0].words[:1] != [b"mode"]:
             self.close()
             raise NodeEnded(f"{' '.join(command)} doesn't answer as a node does")
@@ -67,10 +65,12 @@ class Node:
     def tell(self, *lines):
         """The answers to these lines. Together they, or their answers, fit into a pipe, but for the last one's."""
         try:
-            self.input.write(b"".join(line + b"\n" for line in lines))
+            self.input.write(b"\n".join((*lines, b"")))
             self.input.flush()
         except (BrokenPipeError, ValueError):
             raise NodeEnded(self.end()) from None
+        if self.patience:
+            time.sleep(self.patience)
         return [self.answer() for _ in lines]
 
     def ask(self, line):
@@ -78,17 +78,16 @@ class Node:
         return self.tell(line.encode())[0].checked()
 
     def answer(self):
-        line = self.line()
-        if not line.startswith(WITH_FRAMES):
-            return Answer(line)
-        frames = [unhexlify(self.line()[6:]) for _ in range(int(line[line.rindex(b" "):]))]
-        return Answer(line, frames)
+        words = self.line().split() or [b""]
+        if words[0] not in WITH_FRAMES or words[-1] == b"0":
+            return Answer(words)
+        return Answer(words, [unhexlify(self.line()[6:-1]) for _ in range(int(words[-1]))])
 
     def line(self):
         line = self.output.readline()
-        if not line.endswith(b"\n"):
+        if line[-1:] != b"\n":
             raise NodeEnded(self.end())
-        return line[:-1]
+        return line
 
     def end(self):
         """How the process ended."""

@@ -11,22 +11,19 @@ def count_at(text, place):
     return COUNT.unpack_from(text, place)[0]
 
 
-def pages_of(text):
-    """How many page records a text has, by its first bytes."""
-    return count_at(text, PAGES_AT)
-
-
 def sectors_at(text):
     """Where the count of a text's sector records stands."""
     at = RECORDS_AT
-    for _ in range(pages_of(text)):
+    for _ in range(count_at(text, PAGES_AT)):
         at += PAGE.size + BLOCK * PAGE.unpack_from(text, at)[1].bit_count()
     return at
 
 
-def frames_of(text):
-    """How many frames a whole text of version 2 holds, or None where that would take long to find."""
-    if pages_of(text) > MOST_LOOKED_AT:
-        return None
+def pages_and_frames(text, total):
+    """How many page records a text of version 2 has, by its first bytes, and how many frames: None where not all of its bytes are here, or
+    that would take long to find."""
+    pages = count_at(text, PAGES_AT)
+    if len(text) < total or pages > MOST_LOOKED_AT:
+        return pages, None
     at = sectors_at(text)
-    return count_at(text, at + COUNT.size + count_at(text, at) * (COUNT.size + SECTOR))
+    return pages, count_at(text, at + COUNT.size + count_at(text, at) * (COUNT.size + SECTOR))
