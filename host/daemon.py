@@ -218,13 +218,13 @@ class Daemon:
 
     def quiet_epochs(self, reading):
         """Epoch after epoch of a patient live host, until something comes or is to go out: so long what is looked at stays the same.
-        Acknowledgements, which let nothing out, are heard two at a time, and the node's answers are waited for together."""
+        Acknowledgements, which let nothing out, are heard three at a time, and the node's answers are waited for together."""
         live, link, connection, came = self.live, self.link, self.link.connection, None
         descriptors = [one if isinstance(one, int) else one.fileno() for one in reading]
         self.node.patience = ANSWERS
         while not came:
             now = time.monotonic()
-            if len(live.pending) > 1:
+            if len(live.pending) > 2:
                 link.hear_all(now, len(live.pending))
             live.turn(now)
             if not live.is_patient or connection is not link.connection or connection.waits_to_write:

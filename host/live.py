@@ -31,7 +31,8 @@ class Live:
     def __init__(self, host, generation, steps, now):
         self.node, self.network, self.link, self.counts, self.log = host.node, host.network, host.link, host.counts, host.log
         self.epoch, self.rate = host.settings.epoch_ms, host.settings.steps_per_ms * 1000
-        self.slice = host.settings.steps_per_ms
+        self.slice, self.epoch_steps = host.settings.steps_per_ms, self.epoch * self.rate
+        self.most_at_once = max(self.slice, QUICK)
         self.generation, self.steps, self.mode = generation, steps, ALONE
         self.session, self.standby = None, None  # the attachment's name, and who is attached: its name and instance
         self.pending, self.cut, self.acked = OrderedDict(), None, None
@@ -84,21 +85,19 @@ class Live:
         if self.is_stopped or self.waits:
             return None
         ends = self.epoch_begun + self.epoch if self.may_cut() else None
-        if self.is_full:
-            return ends
-        if ends is not None and self.batch(now) >= self.epoch * self.rate:
+        if self.is_full or ends is not None and self.batch(now) >= self.epoch_steps:
             return ends
         return self.runs_at(now) if ends is None else min(self.runs_at(now), ends)
 
     def runs_at(self, now):
         """When the guest is to make its next steps, if no frame comes before."""
-        return self.guest_begun + (self.made + min(self.batch(now), max(self.slice, self.epoch * self.rate))) / self.rate
+        return self.guest_begun + (self.made + min(self.batch(now), max(self.slice, self.epoch_steps))) / self.rate
 
     def batch(self, now):
         """How many steps are made at a time: few where they may let frames out."""
-        if self.mode == ALONE:
-            return self.slice if now - self.moved_at < QUIET else min(max(self.slice, int(SLOW * self.rate)), max(self.slice, QUICK))
-        return max(self.slice, QUICK)
+        if self.mode != ALONE:
+            return self.most_at_once
+        return self.slice if now - self.moved_at < QUIET else min(max(self.slice, int(SLOW * self.rate)), self.most_at_once)
 
     def turn(self, now):
         if not self.is_stopped:
@@ -162,20 +161,20 @@ class Live:
             steps = self.node.ask("show").number(-1)
         else:
             steps = answer.number(1)
-            self.put(answer.frames, now)
+            if answer.frames:
+                self.put(answer.frames, now)
         self.counts.steps += steps - self.steps
         self.made, self.steps = self.made + steps - self.steps, steps
 
     def put(self, frames, now):
         for frame in frames:
             self.network.put(frame)
-        if frames:
-            self.counts.frames_out, self.moved_at = self.counts.frames_out + len(frames), now
+        self.counts.frames_out, self.moved_at = self.counts.frames_out + len(frames), now
 
     # Epochs.
 
     def epoch_ends(self, now):
-        return self.may_cut() and (now - self.epoch_begun >= self.epoch or self.is_full)
+        return (now - self.epoch_begun >= self.epoch or self.is_full) and self.may_cut()
 
     def cut_lines(self):
         """A cut, and the first bytes of its text where they are the next that are sent."""
@@ -203,7 +202,7 @@ class Live:
     # What goes to the standby.
 
     def has_to_send(self):
-        return self.is_linked and self.cut is not None and self.sending <= self.cut and self.link.has_room()
+        return self.cut is not None and self.sending <= self.cut and self.is_linked and self.link.has_room()
 
     def send(self, now):
         """Sends what there is to send, for a quarter of an epoch at the most."""
@@ -247,7 +246,8 @@ class Live:
         if self.mode == FILLING:
             self.mode = PAIRED
             self.log.info(f"protected: {self.standby[0]} has the full checkpoint of generation {generation}")
-        self.put(frames, now)
+        if frames:
+            self.put(frames, now)
 
     def told(self, number, is_silent):
         """The frames that an acknowledgement lets out. Where there are none, the node is told later, with the next lines that it gets."""
