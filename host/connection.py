@@ -134,6 +134,8 @@ class Connection:
 def reason(error):
     if isinstance(error, ssl.SSLCertVerificationError):
         return f"the certificate isn't the pinned one ({error.verify_message})"
+    if isinstance(error, (ssl.SSLZeroReturnError, ssl.SSLEOFError)):
+        return "the other end closed it"
     if isinstance(error, ssl.SSLError):
         return (error.reason or "TLS failed").lower().replace("_", " ")
     return getattr(error, "strerror", None) or str(error) or "it failed"

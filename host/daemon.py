@@ -12,12 +12,12 @@ from host.live import Live
 from host.meeting import Meeting
 from host.metrics import Counts
 from host.node import Node
-from host.settings import boot_line
+from host.settings import boot_line, version
 from host.standby import Broken, Standby
 from host.state import State
 
 MOST_FRAMES = 32  # from the network, before the guest runs again
-VERSION = "1"  # of the daemon
+VERSION = version()
 LONGEST_WAIT = 10.0  # seconds
 ANSWERS = 0.0003  # seconds, in which a node answers what is asked of it in a quiet epoch
 

@@ -112,9 +112,8 @@ def pem(label, data):
 
 
 def make(folder, name):
-    """Writes NAME.key and NAME.crt into a folder, neither of which may be there. Raises OSError."""
+    """Writes NAME.key and NAME.crt into a folder that is there; neither of them may be. Raises OSError."""
     folder = Path(folder)
-    folder.mkdir(parents=True, exist_ok=True)
     key, crt = folder / f"{name}.key", folder / f"{name}.crt"
     if crt.exists():
         raise FileExistsError(17, "File exists", str(crt))

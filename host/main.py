@@ -4,7 +4,7 @@ import os
 import sys
 
 from host import ctl, keys, settings
-from host.daemon import Daemon
+from host.daemon import VERSION, Daemon
 from host.logs import Log
 from host.network import Unusable
 from host.node import NodeEnded
@@ -22,6 +22,7 @@ docs/OPERATE.md says what each does, key by key and verb by verb."""
 def reader():
     form = argparse.RawDescriptionHelpFormatter
     commands = argparse.ArgumentParser(prog="remus-host", description=TEXT, formatter_class=form)
+    commands.add_argument("--version", action="version", version=f"remus-host {VERSION}")
     kinds = commands.add_subparsers(dest="command", required=True, metavar="COMMAND")
     for name, said in (("run", "runs the daemon"), ("check", "checks a configuration, and does no more")):
         one = kinds.add_parser(name, help=said, description=said)

@@ -258,6 +258,14 @@ def keys_together(settings):
             yield "key", "key and certificate don't fit each other, or one of them or peer_certificate isn't PEM"
 
 
+def version():
+    """Of all of it, as the file VERSION beside `remus-host` has it."""
+    try:
+        return (ROOT / "VERSION").read_text().strip()
+    except OSError:
+        return "unknown"
+
+
 def boot_line(path):
     """The first boot line of a file, or None."""
     try:

@@ -17,7 +17,7 @@ class State:
         try:
             fcntl.flock(self.lock, fcntl.LOCK_EX | fcntl.LOCK_NB)
         except OSError:
-            raise OSError(None, "another remus-host has it") from None
+            raise OSError(None, f"the state folder {self.folder} is in use by another remus-host") from None
 
     @property
     def booted_before(self):
