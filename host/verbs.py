@@ -66,9 +66,9 @@ class Verbs:
 
     def promote(self, answer, boot=False, new=False, source=None, disk=None):
         host, now = self.host, time.monotonic()
-        if source is not None and boot or disk is not None and not boot:
-            return refusal("Malformed", "promote takes boot, with disk or without it, or from")
-        if host.role == "live":
+        if source is not None and boot or not boot and (new or disk is not None):
+            return refusal("Malformed", "promote takes boot, with new and disk or without them, or from, or nothing")
+        if host.role == "live" and not (source or disk or new):
             return self.did("this host is live already")
         if boot or source is not None:
             return self.begin(new, source, disk, now)
