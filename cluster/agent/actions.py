@@ -53,8 +53,14 @@ class Pair:
         return SUCCESS
 
     def stop(self) -> int:
-        self.cluster.publish(None)
-        self.daemon.stop()
+        """A move waits for it, so the score is taken back while the daemon ends."""
+        import threading
+        publishing = threading.Thread(target=self.cluster.publish, args=(None,))
+        publishing.start()
+        try:
+            self.daemon.stop()
+        finally:
+            publishing.join()
         return SUCCESS
 
     # Monitor.

@@ -3,10 +3,10 @@ import json
 import os
 import signal
 import socket
-import subprocess
 import sys
 import time
 from collections.abc import Callable
+from io import BufferedIOBase
 
 from agent.ocf import GENERIC, INSTALLED, NOT_RUNNING, Failure, parameter
 
@@ -166,7 +166,7 @@ class Daemon:
         control = self.configured_control()
         words = [self.program, "run", "--config", self.config]
         if os.path.exists("/run/systemd/journal/stdout"):
-            daemon = self.spawn(["systemd-cat", "--identifier=remus-host", *words], subprocess.DEVNULL)
+            daemon = self.spawn(["systemd-cat", "--identifier=remus-host", *words])
         else:
             with open(self.log, "ab") as log:
                 daemon = self.spawn(words, log)
@@ -180,8 +180,10 @@ class Daemon:
             time.sleep(0.02)
 
     @staticmethod
-    def spawn(words: list[str], log: object) -> subprocess.Popen:
-        return subprocess.Popen(words, stdin=subprocess.DEVNULL, stdout=log, stderr=log, start_new_session=True, cwd="/")
+    def spawn(words: list[str], log: BufferedIOBase | None = None) -> "subprocess.Popen":
+        import subprocess  # only where it is wanted, as tomllib
+        out = log or subprocess.DEVNULL
+        return subprocess.Popen(words, stdin=subprocess.DEVNULL, stdout=out, stderr=out, start_new_session=True, cwd="/")
 
     def process(self) -> int | None:
         """The daemon's process: the one that was started, if it is still that one, or else whoever listens at the socket."""

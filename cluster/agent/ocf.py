@@ -1,6 +1,5 @@
 """What each part stands on: OCF's exit codes and parameters, and other programs."""
 import os
-import subprocess
 import syslog
 
 SUCCESS, GENERIC, ARGUMENTS, UNIMPLEMENTED, PERMISSION, INSTALLED, CONFIGURED, NOT_RUNNING, PROMOTED = range(9)
@@ -27,9 +26,10 @@ def warn(text: str) -> None:
     syslog.syslog(syslog.LOG_WARNING, text)
 
 
-def run(*words: str, seconds: float = 15) -> subprocess.CompletedProcess:
+def run(*words: str, seconds: float = 15) -> "subprocess.CompletedProcess":
     """Runs another program. One that isn't there, or takes longer, has a status as a shell would tell it. It isn't told on which node it
     runs: attrd_updater would take that for the node that is asked about, and for all nodes too."""
+    import subprocess  # only where it is wanted: a failover waits for a notification that runs nothing
     told = {name: value for name, value in os.environ.items() if not name.startswith("OCF_RESKEY_CRM_meta_")}
     try:
         return subprocess.run(words, stdin=subprocess.DEVNULL, capture_output=True, text=True, timeout=seconds, env=told)
