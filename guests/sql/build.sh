@@ -11,6 +11,7 @@
 #   PASSWORD        what clients must know, in ASCII; without it anyone who reaches the guest may read and write
 #   DATE            the day on which the guest begins, in UTC (2026-01-01): the machine knows how long it runs, not which day it is
 #   CLIENTS         how many clients the boot line has (1)
+#   COUNTER         where it is 1, port 7 counts over UDP, for tests of what clients without a connection see
 #   SOURCES         a folder that has the source packages' files already
 #   ELF             a file that gets the program as it was linked
 #   AMALGAMATION    a folder that gets sqlite3.c and sqlite3.h, which are SQLite in one file, and `options`, what the compiler was told
@@ -78,6 +79,11 @@ for name in guest log vfs locks text digest password scram statement session wor
     table page http connections; do
     sources="$sources sql/$name.c"
 done
+if [ "${COUNTER:-}" = 1 ]; then
+    options="$options -DCOUNTER"
+    lwip_core="$lwip_core core/udp"
+    sources="$sources sql/counter.c"
+fi
 for name in $lwip_core; do
     sources="$sources lwip/src/$name.c"
 done

@@ -3,12 +3,18 @@
 #define GUEST_H
 
 #include "connections.h"
+#include "counter.h"
 #include "session.h"
 
 /* Reads the disk, and plays a journal back that is left there. Answers whether the disk can be used. */
 int guest_start(void);
 
-static inline void guest_listen(void) { connections_start(); }
+static inline void guest_listen(void) {
+    connections_start();
+#ifdef COUNTER
+    counter_start();
+#endif
+}
 
 static inline void guest_poll(void) { sessions_poll(); }
 

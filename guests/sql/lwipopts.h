@@ -8,4 +8,9 @@
 
 #define LWIP_TCP_KEEPALIVE 1
 
+#ifdef COUNTER
+#undef LWIP_UDP
+#define LWIP_UDP 1
+#endif
+
 #endif
