@@ -63,8 +63,8 @@ def fields_of(body: bytes) -> dict[str, str]:
 class Postgres:
     """A connection."""
 
-    def __init__(self, port: int, password: str | None = None, timeout: float = 60, user: str = "me") -> None:
-        self.socket = socket.create_connection(("127.0.0.1", port), timeout)
+    def __init__(self, port: int, password: str | None = None, timeout: float = 60, user: str = "me", address: str = "127.0.0.1") -> None:
+        self.socket = socket.create_connection((address, port), timeout)
         self.came, self.status, self.warnings = b"", "", []
         self.parameters: dict[str, str] = {}
         self.key = (0, 0)

@@ -26,6 +26,7 @@ class Bank:
 
     port: int
     password: str | None = None
+    address: str = "127.0.0.1"
     patience: float = 120  # seconds, for one answer
     pause: float = 0  # at most so many seconds lie between a client's transfers, each on a connection of its own; 0: none, on one
     acknowledged: dict[str, Transfer] = dataclasses.field(default_factory=dict)
@@ -36,6 +37,7 @@ class Bank:
     reads: int = 0
     wrong: list[str] = dataclasses.field(default_factory=list)
     faults: list[str] = dataclasses.field(default_factory=list)
+    until: float = 0  # when the last transfers begin, by the monotonic clock
     lock: threading.Lock = dataclasses.field(default_factory=threading.Lock)
 
     def connect(self) -> Postgres:
@@ -43,7 +45,7 @@ class Bank:
         end = time.monotonic() + max(self.patience, 60)
         while True:
             try:
-                return Postgres(self.port, self.password, self.patience)
+                return Postgres(self.port, self.password, self.patience, address=self.address)
             except (OSError, Gone) as error:
                 with self.lock:
                     self.faults.append(f"connecting: {error}")
@@ -102,9 +104,9 @@ class Bank:
         except Exception as error:
             self.wrong.append(f"{act.__name__} {words[:1]} broke off: {error!r}")
 
-    def client(self, number: int, until: float, act: Callable[[Postgres, str, Transfer], bool]) -> None:
+    def client(self, number: int, act: Callable[[Postgres, str, Transfer], bool]) -> None:
         rng, count, client = random.Random(number), 0, self.connect()
-        while time.monotonic() < until:
+        while time.monotonic() < self.until:
             count += 1
             source, target = rng.sample(range(1, ACCOUNTS + 1), 2)
             client = self.run(client, f"{number}-{count}", (source, target, rng.randint(1, MOST)), act)
@@ -114,10 +116,10 @@ class Bank:
                 client = self.connect()
         client.close()
 
-    def observer(self, until: float) -> None:
+    def observer(self) -> None:
         """Reads the total again and again: it is right, and no fewer transfers are there than were acknowledged or seen before."""
         client, last = self.connect(), 0
-        while time.monotonic() < until:
+        while time.monotonic() < self.until:
             with self.lock:
                 least = max(last, len(self.acknowledged))
             try:
@@ -136,9 +138,9 @@ class Bank:
         """Sets the accounts up and lets the clients run. Answers the seconds that it took."""
         self.surely(SETUP)
         begun = time.monotonic()
-        until = begun + seconds
-        threads = [threading.Thread(target=self.whole, args=(self.client, number, until, act)) for number in range(1, clients + 1)]
-        threads.append(threading.Thread(target=self.whole, args=(self.observer, until)))
+        self.until = begun + seconds
+        threads = [threading.Thread(target=self.whole, args=(self.client, number, act)) for number in range(1, clients + 1)]
+        threads.append(threading.Thread(target=self.whole, args=(self.observer,)))
         for thread in threads:
             thread.start()
             time.sleep(0.1)  # libslirp takes few openings at once
