@@ -200,6 +200,11 @@ static int is_let_in_by_password(const struct request *request) {
     return is_known = 1;
 }
 
+static void say_log(struct browser *browser) {
+    const char *lines = log_lines()[0] == '\0' ? "nothing was said\n" : log_lines();
+    answer(browser, 200, "text/plain", lines, (uint32_t)strlen(lines));
+}
+
 static void take_request(struct browser *browser, const char *body) {
     const struct request *request = &browser->request;
     if (request->method == OPTIONS)
@@ -215,7 +220,7 @@ static void take_request(struct browser *browser, const char *body) {
     else if (strcmp(request->path, "/") == 0 && request->method != POST)
         answer(browser, 200, "text/html", page, (uint32_t)strlen(page));
     else if (strcmp(request->path, "/log") == 0 && request->method != POST)
-        answer(browser, 200, "text/plain", log_lines(), (uint32_t)strlen(log_lines()));
+        say_log(browser);
     else
         refuse(browser, 404, "there are /, /sql and /log\n");
 }

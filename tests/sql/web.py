@@ -49,6 +49,7 @@ def answers(browser: Browser) -> Iterator[tuple[str, str | None]]:
         ("POST", "/sql", "SELECT 1", {"Content-Type": "application/x-www-form-urlencoded"}, (200, "1\n")),
         ("POST", "/sql", "", {}, (200, "")), ("GET", "/sql", None, {},
                                               (400, "ask by /sql?q=SELECT+1, or by POST with statements as the body\n")),
+        ("GET", "/log", None, {}, (200, "nothing was said\n")), ("POST", "/log", "", {}, (404, "there are /, /sql and /log\n")),
         ("GET", "/nothing", None, {}, (404, "there are /, /sql and /log\n")),
         ("PUT", "/sql", "x", {}, (405, "GET, HEAD, POST and OPTIONS are served\n")),
         ("POST", "/sql", "SELECT 1", {"Origin": "http://elsewhere"}, (403, "a page of another place may not ask\n")),
