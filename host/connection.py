@@ -88,8 +88,8 @@ class Connection:
         except (OSError, ValueError) as error:
             raise Closed(reason(error)) from None
 
-    def messages(self, now):
-        """What came. Raises Closed, and Malformed."""
+    def messages(self, now, pieces=1):
+        """What came, in so many pieces or fewer. Raises Closed, and Malformed."""
         if not self.is_open:
             self.handshake()
             if not self.is_open:
@@ -105,7 +105,8 @@ class Connection:
                     break
                 self.came += self.room[:count]
                 budget -= count
-                if count < SMALL and not (self.is_tls and self.socket.pending()):
+                pieces -= 1
+                if pieces <= 0 and count < SMALL and not self.has_more():
                     break  # there was no more; if there is by now, the next wait tells
         except (ssl.SSLWantReadError, BlockingIOError):
             pass

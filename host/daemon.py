@@ -19,7 +19,7 @@ from host.state import State
 MOST_FRAMES = 32  # from the network, before the guest runs again
 VERSION = version()
 LONGEST_WAIT = 10.0  # seconds
-ANSWERS = 0.0003  # seconds, in which a node answers what is asked of it in a quiet epoch
+HEARD_AT_ONCE = 3  # acknowledgements that let nothing out
 
 
 class Daemon:
@@ -218,20 +218,18 @@ class Daemon:
 
     def quiet_epochs(self, reading):
         """Epoch after epoch of a patient live host, until something comes or is to go out: so long what is looked at stays the same.
-        Acknowledgements, which let nothing out, are heard three at a time, and the node's answers are waited for together."""
-        live, link, connection, came = self.live, self.link, self.link.connection, None
-        descriptors = [one if isinstance(one, int) else one.fileno() for one in reading]
-        self.node.patience = ANSWERS
+        Acknowledgements, which let nothing out, are heard three at a time."""
+        live, link, connection = self.live, self.link, self.link.connection
+        descriptors, came = [one if isinstance(one, int) else one.fileno() for one in reading], False
         while not came:
             now = time.monotonic()
-            if len(live.pending) > 2:
-                link.hear_all(now, len(live.pending))
+            if len(live.pending) >= HEARD_AT_ONCE:
+                link.hear(connection, (connection,), (), now, HEARD_AT_ONCE)
             live.turn(now)
             if not live.is_patient or connection is not link.connection or connection.waits_to_write:
                 break
             now = time.monotonic()
             came = select.select(descriptors, (), (), max(0, live.due(now) - now))[0]
-        self.node.patience = 0.0
 
     def wait(self, now):
         """For how many seconds there is nothing to do."""

@@ -196,18 +196,13 @@ class Link:
         elif kind != messages.PING:
             self.attached(kind, body, now)
 
-    def hear_all(self, now, most):
-        """What came over the attached connection, of so many messages that each came by itself."""
-        for _ in range(most):
-            if self.connection is not None:
-                self.hear(self.connection, (self.connection,), (), now)
-
-    def hear(self, connection, reading, writing, now):
+    def hear(self, connection, reading, writing, now, pieces=1):
+        """Hears the attached connection, over which so many pieces may have come, each by itself."""
         try:
             if connection in writing:
                 connection.flush()
             if connection in reading or connection in writing or connection.has_more():
-                for kind, session, body in connection.messages(now):
+                for kind, session, body in connection.messages(now, pieces):
                     self.heard_at = now
                     self.take(connection, kind, session, body, now)
             if connection is not self.connection:

@@ -2,7 +2,6 @@
 import fcntl
 import os
 import subprocess
-import time
 from binascii import hexlify, unhexlify
 
 PIPE_BYTES = 1 << 20
@@ -57,7 +56,6 @@ class Node:
             except OSError:
                 pass  # it works with the size it has
         self.pid = self.process.pid
-        self.patience = 0.0  # seconds from lines to their answers: where nobody waits for these, they are read together
         if self.tell(b"show")[0].words[:1] != [b"mode"]:
             self.close()
             raise NodeEnded(f"{' '.join(command)} doesn't answer as a node does")
@@ -69,8 +67,6 @@ class Node:
             self.input.flush()
         except (BrokenPipeError, ValueError):
             raise NodeEnded(self.end()) from None
-        if self.patience:
-            time.sleep(self.patience)
         return [self.answer() for _ in lines]
 
     def ask(self, line):
