@@ -28,6 +28,7 @@ class Bank:
     password: str | None = None
     address: str = "127.0.0.1"
     patience: float = 120  # seconds, for one answer
+    between: float = 0.1  # seconds from one client's opening to the next: libslirp takes few at once
     pause: float = 0  # at most so many seconds lie between a client's transfers, each on a connection of its own; 0: none, on one
     acknowledged: dict[str, Transfer] = dataclasses.field(default_factory=dict)
     unknown: dict[str, Transfer] = dataclasses.field(default_factory=dict)
@@ -143,7 +144,7 @@ class Bank:
         threads.append(threading.Thread(target=self.whole, args=(self.observer,)))
         for thread in threads:
             thread.start()
-            time.sleep(0.1)  # libslirp takes few openings at once
+            time.sleep(self.between)
         for thread in threads:
             thread.join()
         return time.monotonic() - begun

@@ -1,26 +1,31 @@
-"""A client of the guest, in its network. It goes on until SIGTERM, and then prints one JSON object.
+"""A client of the guest, in its network. It goes on until SIGTERM, waits for what it has asked over a connection, and prints one JSON
+object.
 
     client.py ping          asks for an echo each 20 ms
     client.py count         asks the web server for /count over one connection, one question after the other
     client.py big           asks the web server for /big, each time over a new connection
     client.py udp           asks the counter of port 7 each 20 ms
+    client.py curl          has curl write a row into the database's table again and again, each time over a new connection
+    client.py bank          makes transfers between accounts of the database by eight connections, as tests/bank does
 
 `pauses` are the times without an answer of 0.25 s and more, each with when it began; `wrong` what must never come."""
-import errno
 import json
 import os
-import select
 import signal
 import socket
 import struct
+import subprocess
 import sys
+import threading
 import time
 from pathlib import Path
 
 sys.path.insert(0, str(Path(__file__).resolve().parents[3]))
 from tests.served import big
+from tests.sql.transfers import Bank, at_once
 
 GUEST, EVERY, LONG = "10.0.0.1", 0.02, 0.25
+PATIENCE = 20  # seconds after SIGTERM, for what was asked
 STEP = 0.01  # seconds from one point of the curve to the next
 going = [True]
 
@@ -29,7 +34,7 @@ class Told:
     """What the client was told, and when."""
 
     def __init__(self):
-        self.answers, self.pauses, self.wrong, self.resets, self.last = 0, [], [], 0, None
+        self.answers, self.pauses, self.wrong, self.last = 0, [], [], None
         self.bytes, self.curve = 0, []  # what came in all, and how much of it had come at a time
 
     def came(self, now, count=0):
@@ -43,8 +48,7 @@ class Told:
 
     def say(self, **more):
         silent = round(time.time() - self.last, 3) if self.last else None
-        print(json.dumps({"answers": self.answers, "pauses": self.pauses, "wrong": self.wrong[:20], "resets": self.resets, "silent": silent,
-                          **more}), flush=True)
+        print(json.dumps({"answers": self.answers, "pauses": self.pauses, "wrong": self.wrong[:20], "silent": silent, **more}), flush=True)
 
 
 def checksum(data):
@@ -110,31 +114,24 @@ def request(path):
 
 
 def connect():
-    """A connection to the web server; None where the test ends before there is one."""
-    link = socket.socket()
+    link = socket.create_connection((GUEST, 80), PATIENCE)
     link.setsockopt(socket.IPPROTO_TCP, socket.TCP_NODELAY, 1)
-    link.setblocking(False)
-    error = link.connect_ex((GUEST, 80))
-    while error == errno.EINPROGRESS and going:
-        if select.select([], [link], [], 0.5)[1]:
-            error = link.getsockopt(socket.SOL_SOCKET, socket.SO_ERROR)
-    if error == errno.EINPROGRESS:
-        return None
-    if error:
-        raise OSError(error, os.strerror(error))
     link.settimeout(0.5)
     return link
 
 
-def receive(link, told, text, is_whole):
-    """Takes bytes until that is whole, or the test ends."""
-    while not is_whole(text):
+def receive(link, told):
+    """The whole answer. One that hasn't come so long after SIGTERM is wrong."""
+    text, end = b"", None
+    while (length := length_of(text)) is None or len(text) < length:
+        if not going:
+            end = end or time.time() + PATIENCE
+            if time.time() > end:
+                raise TimeoutError("no answer came")
         try:
             more = link.recv(65536)
         except TimeoutError:
-            if going:
-                continue
-            return None
+            continue
         if not more:
             raise ConnectionResetError("the server closed it")
         told.came(time.time(), len(more))
@@ -160,21 +157,13 @@ def count(told):
     while going:
         try:
             link = link or connect()
-            if link is None:
-                break
             link.sendall(request("/count"))
-            text = receive(link, told, b"", lambda text: (length := length_of(text)) is not None and len(text) >= length)
-            if text is None:
-                break
-            value = int(text.partition(b"\r\n\r\n")[2])
+            value = int(receive(link, told).partition(b"\r\n\r\n")[2])
             if last is not None and value != last + 1:
                 told.wrong.append(f"{value} after {last}")
             last, values = value, values + 1
             time.sleep(0.005)
         except OSError as error:
-            if not going:
-                break
-            told.resets += 1
             told.wrong.append(f"{error} at {time.time():.3f}")
             link, last = None, None
     return {"values": values}
@@ -185,21 +174,63 @@ def downloads(told):
     while going:
         try:
             link = connect()
-            if link is None:
-                break
             link.sendall(request("/big"))
-            text = receive(link, told, b"", lambda text: (length := length_of(text)) is not None and len(text) >= length)
+            text = receive(link, told)
             link.close()
-            if text is None:
-                break
             if text.partition(b"\r\n\r\n")[2] != wanted:
                 told.wrong.append("a download differs")
             done += 1
         except OSError as error:
-            if going:
-                told.resets += 1
-                told.wrong.append(f"{error} at {time.time():.3f}")
+            told.wrong.append(f"{error} at {time.time():.3f}")
     return {"downloads": done, "curve": told.curve}
+
+
+def asked(statement):
+    """What the database answers to curl: the rows of the first result."""
+    ran = subprocess.run(["curl", "-sS", "-m", "60", "-H", "Accept: application/json", "-d", statement, f"http://{GUEST}/sql"],
+                         capture_output=True, text=True, start_new_session=True)
+    try:
+        return json.loads(ran.stdout)["results"][0].get("rows")
+    except (ValueError, KeyError):
+        raise OSError(f"curl {ran.returncode}: {ran.stdout} {ran.stderr}") from None
+
+
+def curl(told):
+    """Each answer is the number of the row that was written: it must be the one before and one more."""
+    last = None
+    asked("CREATE TABLE IF NOT EXISTS curled(number INTEGER PRIMARY KEY)")
+    while going:
+        try:
+            [[number]] = asked("INSERT INTO curled DEFAULT VALUES RETURNING number")
+            if last is not None and number != last + 1:
+                told.wrong.append(f"row {number} after {last}")
+            last = number
+            told.came(time.time())
+        except OSError as error:
+            told.wrong.append(f"{error} at {time.time():.3f}")
+    return {"rows": last}
+
+
+def bank(told):
+    """An answer is a transfer that was acknowledged to any of the eight."""
+    bank, lock = Bank(5432, address=GUEST, between=0), threading.Lock()
+
+    def act(client, name, transfer):
+        is_made = at_once(client, name, transfer)
+        with lock:
+            told.came(time.time())
+        return is_made
+
+    playing = threading.Thread(target=bank.play, args=(3600, 8, act))
+    playing.start()
+    while going:
+        time.sleep(0.02)
+    while playing.is_alive():
+        bank.until = 0
+        playing.join(0.05)
+    told.wrong += bank.check(bank.surely)
+    return {"acknowledged": len(bank.acknowledged), "stored": bank.stored, "unknown": len(bank.unknown), "refused": len(bank.refused),
+            "reads": bank.reads, "longest": round(max(bank.waits, default=0), 3), "faults": bank.faults[:5]}
 
 
 def ready():
@@ -221,7 +252,7 @@ def main(kind):
         return 0 if ready() else 1
     signal.signal(signal.SIGTERM, lambda *_: going.clear())
     told = Told()
-    more = {"ping": ping, "udp": udp, "count": count, "big": downloads}[kind](told)
+    more = {"ping": ping, "udp": udp, "count": count, "big": downloads, "curl": curl, "bank": bank}[kind](told)
     told.say(**(more or {}))
     return 0
 

@@ -76,12 +76,12 @@ def write(path, content, mode=0o644):
     path.chmod(mode)
 
 
-def daemon(host, node, settings):
+def daemon(host, node, guest):
     other = next(one for one in network.NUMBERS if one != host)
     told = {"name": host, "guest": "/etc/remus/guest.sim",
             "listen": f"{network.ADDRESS[host]}:7000", "peer": f"{network.ADDRESS[other]}:7000",
             "key": f"/etc/remus/{host}.key", "certificate": f"/etc/remus/{host}.crt", "peer_certificate": f"/etc/remus/{other}.crt",
-            "bridge": "br0", "guest_address": "10.0.0.1", **({"node": node} if node else {}), **settings}
+            "bridge": "br0", "guest_address": "10.0.0.1", "steps_per_ms": guest.steps_per_ms, **({"node": node} if node else {})}
     return "".join(f"{name} = {json.dumps(value)}\n" for name, value in told.items())
 
 
@@ -110,7 +110,7 @@ def copy_installed(folder):
             subprocess.run(["cp", "-a", folder / "installed" / part, folder / host / part], check=True)
 
 
-def configure(folder, guest, node, token, delay, settings):
+def configure(folder, guest, node, token, delay):
     """Both hosts' files. The cluster's configuration is there before it first starts, as if an operator had loaded it the day before."""
     authkey = os.urandom(256)
     for host in network.NUMBERS:
@@ -119,8 +119,8 @@ def configure(folder, guest, node, token, delay, settings):
         write(disk / "etc/hosts", "127.0.0.1 localhost\n" + "".join(f"{address} {name}\n" for name, address in network.ADDRESS.items()))
         write(disk / "etc/corosync/corosync.conf", corosync(token))
         write(disk / "etc/corosync/authkey", authkey, 0o400)
-        write(disk / "etc/remus/guest.sim", guest.read_text())
-        write(disk / "etc/remus/host.toml", daemon(host, node, settings))
+        write(disk / "etc/remus/guest.sim", guest.script.read_text())
+        write(disk / "etc/remus/host.toml", daemon(host, node, guest))
         subprocess.run([ROOT / "remus-host", "keys", disk / "etc/remus", host], check=True, stdout=subprocess.DEVNULL)
         write(disk / "var/lib/pacemaker/cib/cib.xml", configuration(delay, folder / "power"), 0o600)
         for path in ("var/lib/pacemaker", "var/lib/pacemaker/cib"):

@@ -2,6 +2,7 @@
 import datetime
 import json
 import re
+import shutil
 import signal
 import socket
 import subprocess
@@ -19,6 +20,10 @@ CLIENT_SECONDS = 30  # from SIGTERM to what a client was told
 LIVE = re.compile(r"booted .*: life|live in generation|live again|live with the guest")
 QUIET = re.compile(r"frozen: the guest is kept|drained: checkpoint")
 LINE = re.compile(r"(?m)^(\S+)Z (\w+) (\w+): (.*)$")
+# What Corosync and Pacemaker say of a failure: the log, and a pattern of its line.
+EVENTS = {"token lost": ("corosync.log", "A processor failed, forming new configuration"),
+          "members agreed": ("corosync.log", "A new membership"),
+          "fencing wanted": ("pacemaker/pacemaker.log", r"Requesting fencing \(\w+\) of node")}
 
 
 class TooLate(Exception):
@@ -26,9 +31,10 @@ class TooLate(Exception):
 
 
 class Bed:
-    def __init__(self, folder, program, node, guest, token=1000, delay="2s", settings=None):
-        self.folder, self.program, self.node, self.guest = folder, program, node, guest
-        self.token, self.delay, self.settings = token, delay, settings or {}
+    def __init__(self, folder, program, node, guests, token, delay, logs=None):
+        self.folder, self.program, self.node, self.guests = folder, program, node, guests
+        self.token, self.delay, self.logs = token, delay, logs
+        self.guest, self.guests_before = None, 0
         self.record = folder / "record"
         self.past = []  # the times that a host went live, on disks that are no more
         self.others = dict(zip(network.NUMBERS, reversed(network.NUMBERS)))
@@ -47,26 +53,31 @@ class Bed:
 
     def __exit__(self, *_):
         self.power.end()
+        self.keep_logs()
         self.recorder.terminate()
         self.lost_of_record = int(self.recorder.communicate(timeout=20)[0] or -1)
         network.down()
 
-    def new(self, **changes):
-        """Both hosts off, new disks, on: a new guest. Answers how long it took until the pair was protected."""
-        for name, value in changes.items():
-            setattr(self, name, value)
+    def new(self, guest):
+        """Both hosts off, new disks, on: a new guest."""
+        self.guest = guest
         for host in network.NUMBERS:
             self.power.off(host)
         self.past = self.terms()
+        self.keep_logs()
         disks.copy_installed(self.folder)
-        disks.configure(self.folder, self.guest, self.node, self.token, self.delay, self.settings)
-        began = time.time()
+        disks.configure(self.folder, guest, self.node, self.token, self.delay)
         for host in network.NUMBERS:
             self.power.on(host)
         self.pair()
-        protected = time.time() - began
         self.until(self.guest_answers, 20, "an answer of the guest's")
-        return protected
+
+    def keep_logs(self):
+        """What both hosts logged of the guest that ends, where it is asked for."""
+        if self.logs and self.guests_before:
+            for host in network.NUMBERS:
+                shutil.copytree(self.folder / host / "var/log", self.logs / f"{self.guests_before}-{host}", dirs_exist_ok=True)
+        self.guests_before += 1
 
     def guest_answers(self):
         """Whether the guest has begun: it answers an echo, or its counter does."""
@@ -129,6 +140,19 @@ class Bed:
                 nodes[attributes.get("name")]["score"] = attribute.get("value")
         return nodes
 
+    def coordinator(self, host):
+        """The host whose Pacemaker decides for both, as that host sees it."""
+        return xml.fromstring(self.on(host, "crm_mon", "--one-shot", "--output-as=xml").stdout).find("./summary/current_dc").get("name")
+
+    def move(self, live, standby):
+        """The operator has the other host live."""
+        self.on(live, "crm_resource", "--move", "--resource", "pair-clone", "--promoted", "--node", standby)
+        self.until(lambda: self.live() == standby, 30, "the move")
+
+    def clear_move(self, live):
+        """Takes out of the configuration what a move left there."""
+        self.on(live, "crm_resource", "--clear", "--resource", "pair-clone")
+
     def live(self):
         """The live host; None where there isn't one."""
         return next((host for host in network.NUMBERS if self.status(host)["role"] == "live"), None)
@@ -170,6 +194,17 @@ class Bed:
     def when(self, host, pattern, begin):
         """When the host's daemon first said that after a time; None if it didn't."""
         return next((at for at, _, sentence in self.said(host) if at > begin and re.search(pattern, sentence)), None)
+
+    def logged(self, host, event, begin):
+        """When Corosync or Pacemaker there first said that after a time; None if they didn't."""
+        name, pattern = EVENTS[event]
+        year = datetime.datetime.now().year
+        for line in (self.folder / host / "var/log" / name).read_text(errors="replace").splitlines():
+            if re.search(pattern, line):
+                at = datetime.datetime.strptime(f"{year} {line[:19]}", "%Y %b %d %H:%M:%S.%f").timestamp()
+                if at > begin:
+                    return at
+        return None
 
     def terms(self):
         """Each time that a host went live, in order."""

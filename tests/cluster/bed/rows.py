@@ -5,15 +5,12 @@ import statistics
 import subprocess
 import threading
 import time
-from pathlib import Path
 
 from bed import disks, network
-from bed.machines import TooLate, sent, two_at_once
+from bed.guests import WEB
+from bed.machines import EVENTS, TooLate, sent, two_at_once
 
-EXAMPLES = Path(__file__).resolve().parents[3] / "examples"
-WEB, COUNTER = EXAMPLES / "server.sim", EXAMPLES / "counter.sim"
 GOES_ON = "live in generation|^alone in generation"
-WEB_CLIENTS, COUNTER_CLIENTS = ("ping", "count", "big"), ("udp",)
 
 
 class Row:
@@ -22,6 +19,7 @@ class Row:
     def __init__(self, bed, name):
         self.bed, self.name, self.measured, self.wrong = bed, name, {}, []
         self.tries, self.past = 0, 0  # tries with this guest, and with those before it
+        self.transfers = 0  # that were acknowledged to the bank's clients
 
     def note(self, name, value):
         self.measured.setdefault(name, []).append(round(value, 3))
@@ -33,6 +31,7 @@ class Row:
 
     def check(self, clients):
         """What holds in each try: no client was told what mustn't be, and never two hosts sent the guest's frames."""
+        self.transfers += (clients.told.get("bank") or {}).get("acknowledged", 0)
         for mistake in clients.mistakes():
             self.expect(False, mistake)
         for mistake in two_at_once(sent(self.bed.record), self.bed.terms()):
@@ -43,10 +42,12 @@ class Row:
         for name, values in self.measured.items():
             middle = statistics.median(values)
             told.append(f"{name} {middle:.2f}" + (f" ({min(values):.2f} to {max(values):.2f})" if len(values) > 1 else ""))
+        if self.transfers:
+            told.append(f"{self.transfers} transfers acknowledged")
         return "; ".join(told)
 
     def clients(self):
-        return self.bed.clients(*(WEB_CLIENTS if self.bed.guest == WEB else COUNTER_CLIENTS))
+        return self.bed.clients(*self.bed.guest.clients)
 
     def pauses(self, clients, begin):
         for kind in clients.kinds:
@@ -61,7 +62,10 @@ def fenced_and_live(row, victim, survivor, begin):
     live = bed.when(survivor, "live in generation", begin)
     if row.expect(asked and off and live, "it wasn't fenced, or nobody went live"):
         row.expect(off < live, "the other host went live before the first one was fenced")
-        row.note("fencing asked after", asked - begin)
+        for event in EVENTS:
+            if at := bed.logged(survivor, event, begin):
+                row.note(f"{event} after", at - begin)
+        row.note("asked after", asked - begin)
         row.note("done after", off - begin)
         row.note("live after", live - begin)
 
@@ -71,11 +75,10 @@ def power(row, times):
     for row.tries in range(1, times + 1):
         live, standby = row.bed.pair()
         with row.clients() as clients:
-            time.sleep(1)
             begin = time.time()
             row.bed.power.cut(live)
             fenced_and_live(row, live, standby, begin)
-            time.sleep(2.5)
+            time.sleep(0.5)
         row.pauses(clients, begin)
         row.check(clients)
         back = row.bed.until(lambda: row.bed.power.since(begin, "on", live), 20, "the host's power")
@@ -91,7 +94,7 @@ def standby_power(row, times):
             begin = time.time()
             row.bed.power.cut(standby)
             alone = row.bed.until(lambda: row.bed.when(live, "^alone in generation", begin), 30, "alone")
-            time.sleep(2)
+            time.sleep(0.5)
         off = row.bed.power.since(begin, "off", standby)
         if row.expect(off is not None, "the standby wasn't fenced"):
             row.expect(off < alone, "it went alone before the standby was fenced")
@@ -114,7 +117,7 @@ def hang(row, times):
             fenced_and_live(row, live, standby, begin)
             bed.power.signal_all(live, signal.SIGCONT)
             woken = time.time()
-            time.sleep(3)
+            time.sleep(2)
         row.expect(bed.power.kills or bed.status(live)["role"] == "live", "the woken host doesn't run the guest: it shows nothing")
         row.pauses(clients, begin)
         row.check(clients)
@@ -158,14 +161,14 @@ def link(row, times):
     """The link between the daemons breaks, and nothing else does: for a second, and for longer than the agent's limit."""
     bed = row.bed
     for row.tries in range(1, times + 1):
-        for what, seconds in (("short", 1.0), ("long", 12.0)):
+        for what, seconds in (("short", 1.0), ("long", 9.0)):
             live, standby = bed.pair()
             with row.clients() as clients:
                 begin = time.time()
                 link_rules(bed, live, "add")
                 time.sleep(seconds)
                 link_rules(bed, live, "del")
-                time.sleep(2)
+                time.sleep(1)
             row.note(f"{what} break: paused", clients.paused(begin))
             row.expect(bed.live() == live, "the live host isn't live any more")
             row.expect(bed.power.since(begin, "asked") is None, "a host was fenced")
@@ -176,19 +179,27 @@ def link(row, times):
 
 
 def split(row, times):
-    """The cluster's network splits, the link with it. The guest's network doesn't."""
+    """The cluster's network splits, the link with it. The guest's network doesn't. The Pacemaker that decided for both is the live host's,
+    and in every second try the standby's."""
     bed = row.bed
     for row.tries in range(1, times + 1):
         live, standby = bed.pair()
+        if (bed.coordinator(live) == live) != (row.tries % 2 == 1):
+            bed.move(live, standby)
+            bed.clear_move(live)
+            live, standby = bed.pair()
         with row.clients() as clients:
             begin = time.time()
             network.split()
             off = bed.until(lambda: bed.power.since(begin, "off"), 30, "a host that is fenced")
             bed.until(lambda: bed.when(live, "^alone in generation", begin), 15, "alone")
-            time.sleep(1.5)
+            time.sleep(0.5)
         row.expect(bed.power.since(begin, "off", live) is None, "the live host was fenced")
         row.expect(bed.when(standby, "live in generation", begin) is None, "the standby went live")
         row.expect(bed.live() == live, "nobody is live")
+        for host, name in ((live, "the live host"), (standby, "its standby")):
+            if wanted := bed.logged(host, "fencing wanted", begin):
+                row.note(f"{name} wants the other fenced after", wanted - begin)
         row.note("the standby is off after", off - begin)
         row.pauses(clients, begin)
         row.check(clients)
@@ -208,7 +219,7 @@ def no_fencing(row, times):
             with row.clients() as clients:
                 begin = time.time()
                 bed.power.cut(victim)
-                time.sleep(12)
+                time.sleep(8)
                 row.expect(bed.power.since(begin, "asked") is not None, "the device wasn't asked")
                 row.expect(bed.when(survivor, GOES_ON, begin) is None, f"{survivor} went on without fencing")
                 if way == "operator":
@@ -218,7 +229,7 @@ def no_fencing(row, times):
                 told = time.time()
                 went = bed.until(lambda: bed.when(survivor, GOES_ON, told - 1), 60, "going on")
                 row.note(f"{whose} host off: goes on after the {way}'s word", went - told)
-                time.sleep(2)
+                time.sleep(0.5)
             bed.power.answers = True
             row.check(clients)
             if not bed.power.is_on(victim):
@@ -240,7 +251,7 @@ def both(row, times):
             bed.power.off(host)
             bed.power.on(host)
         bed.until(lambda: all(bed.status(host)["role"] == "empty" for host in network.NUMBERS), 40, "two empty hosts")
-        time.sleep(8)
+        time.sleep(5)
         row.expect([bed.status(host)["role"] for host in network.NUMBERS] == ["empty", "empty"], "a host isn't empty")
         row.expect(not any(at > begin for at, _ in bed.terms()), "a host went live")
         bed.on("one", "crm_attribute", "--type", "crm_config", "--name", "pair-life", "--delete")
@@ -272,17 +283,16 @@ def move(row, times):
         live, standby = bed.pair()
         with row.clients() as clients:
             begin = time.time()
-            bed.on(live, "crm_resource", "--move", "--resource", "pair-clone", "--promoted", "--node", standby)
-            bed.until(lambda: bed.live() == standby, 30, "the move")
-            time.sleep(2)
-        bed.on(live, "crm_resource", "--clear", "--resource", "pair-clone")
+            bed.move(live, standby)
+            time.sleep(1)
+        bed.clear_move(live)
         moved(row, clients, begin, "move")
         live, standby = bed.pair()
         with row.clients() as clients:
             begin = time.time()
             bed.on(live, "crm_standby", "--node", live, "--update", "on")
             bed.until(lambda: bed.live() == standby, 30, "the other host live")
-            time.sleep(2)
+            time.sleep(1)
         moved(row, clients, begin, "standby")
         bed.on(live, "crm_standby", "--node", live, "--delete")
         bed.pair()
@@ -313,7 +323,7 @@ def upgrade(row, times):
 def trace(bed):
     """One power cut of the live host, for a picture: what each host was all the time, its counts of checkpoints, the client's bytes, and
     the times of the fence device."""
-    bed.new(guest=WEB)
+    bed.new(WEB)
     live, standby = bed.pair()
     samples, going = [], [True]
 
@@ -343,32 +353,29 @@ def trace(bed):
             "curve": clients.told["big"]["curve"]}
 
 
-# By name: the row, how often it is tried, on which guest.
+# By name: the row, and how often it is tried on which guests.
 ROWS = {
-    "power": (power, 20, (WEB, COUNTER)), "split": (split, 10, (COUNTER, WEB)),
-    "standby-power": (standby_power, 2, (WEB,)), "hang": (hang, 4, (WEB,)), "killed": (killed, 1, (WEB,)), "both": (both, 1, (WEB,)),
-    "link": (link, 1, (COUNTER,)), "no-fencing": (no_fencing, 1, (COUNTER,)), "move": (move, 3, (COUNTER,)),
-    "upgrade": (upgrade, 1, (COUNTER,)),
+    "power": (power, {"bank": 20, "web": 4}), "split": (split, {"bank": 10}), "standby-power": (standby_power, {"bank": 2}),
+    "hang": (hang, {"bank": 4}), "killed": (killed, {"bank": 1}), "both": (both, {"bank": 1}), "link": (link, {"bank": 1}),
+    "no-fencing": (no_fencing, {"bank": 1}), "move": (move, {"bank": 3}), "upgrade": (upgrade, {"bank": 1}),
 }
 
 
-def tried(bed, name, times):
-    """A row, tried so many times over its guests, one after the other."""
-    what, usual, guests = ROWS[name]
-    row, left = Row(bed, name), times or usual
-    for i, guest in enumerate(guests):
-        now = left if i + 1 == len(guests) else left // (len(guests) - i)
-        left -= now
-        if now == 0:
-            continue
+def tried(bed, name, times=None, only=None):
+    """A row, tried on its guests one after the other, so many times on each; or on one guest alone. Where there is no database the web
+    server stands in for it."""
+    what, usual = ROWS[name]
+    row = Row(bed, name)
+    for guest, count in ({only: max(usual.values())} if only else usual).items():
+        guest = bed.guests.get(guest, WEB)
         row.past, row.tries = row.past + row.tries, 0
         try:
             if bed.guest != guest or bed.live() is None:
-                bed.new(guest=guest)
-            what(row, now)
+                bed.new(guest)
+            what(row, times or count)
         except (TooLate, subprocess.TimeoutExpired) as late:
             row.expect(False, str(late))
             bed.power.answers = bed.power.kills = True
             network.heal()
-            bed.new()
+            bed.new(guest)
     return row
