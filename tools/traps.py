@@ -12,6 +12,7 @@ CAUSES = {0: "a jump to an address that isn't a multiple of 4", 1: "the pc is ou
 MEMORY, PAGE, BLOCK = 0x80000000, 4096, 64
 STAYS = 0x0000006F  # a jump to itself
 PATIENCE = 20  # seconds
+FIRST_STEPS = 100_000  # of a guest that is given no steps: a boot line alone, as guests/make prints it
 
 
 class Unknown(Exception):
@@ -114,16 +115,17 @@ def told(checkpoint):
     return None
 
 
-def trap(program, path):
-    """What the guest of this script trapped of, in words, or None; also where the program can't tell."""
-    lines = Path(path).read_text(errors="replace").splitlines()
+def trap(program, script):
+    """What the guest of this script, as bytes, trapped of, in words, or None; also where the program can't tell."""
+    lines = script.decode(errors="replace").splitlines()
     boot = next((line for line in lines if line and not line.startswith("#")), "")
     if not program or not boot.startswith("boot ") or " words " not in boot:
         return None
     try:
-        played = subprocess.run([program, "sim", path], stdout=subprocess.PIPE, stderr=subprocess.DEVNULL, timeout=PATIENCE)
+        played = subprocess.run([program, "sim", "/dev/stdin"], input=script, stdout=subprocess.PIPE, stderr=subprocess.DEVNULL,
+                                timeout=PATIENCE)
         acts = taken_in(lines, played.stdout.decode().splitlines())
-        return after(program, boot, acts)
+        return after(program, boot, acts or [FIRST_STEPS])
     except (OSError, Unknown, subprocess.TimeoutExpired):
         return None
 
