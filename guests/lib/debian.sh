@@ -2,6 +2,16 @@
 # trees go to. Nothing of them is kept in this repository, and nothing of them is changed but by Debian's own patches.
 # shellcheck shell=bash
 
+# needs COMMAND PACKAGE..: ends where one of these commands isn't there, and says of which packages they are.
+needs() {
+    local missing=
+    while [ $# -gt 0 ]; do
+        [ -n "$(command -v "$1" || true)" ] || missing="$missing $2"
+        shift 2
+    done
+    [ -z "$missing" ] || { echo "$0: not installed: apt-get install$missing" >&2; exit 1; }
+}
+
 # fetch NAME=VERSION..: the files of source packages, from the folder that SOURCES names, or else through apt, from where this machine has
 # its packages from. apt's lists of sources are made for this, from those of packages.
 fetch() {

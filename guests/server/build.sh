@@ -10,15 +10,32 @@
 # LISTING names a folder for the programs as they were linked, and their listings.
 set -eu
 here=$(dirname "$(readlink -f "$0")")
-room=$(mktemp -d)
-trap 'rm -rf "$room"' EXIT
 . "$here/../lib/debian.sh"
 
+usage="usage: $0 [--write | STEPS | --service FILE [STEPS]]"
 service=
-if [ "${1:-}" = --service ]; then
-    service=$(readlink -f "${2:?build.sh --service FILE [STEPS]}")
-    [ -r "$service" ] || { echo "$0: cannot read $2" >&2; exit 1; }
-fi
+case $#:${1:-} in
+*:--help | *:-h)
+    sed -n '2,/^$/{/^#/!q;s/^# \{0,1\}//p}' "$0"
+    exit
+    ;;
+2:--service | 3:--service)
+    service=$(readlink -f "$2") steps=${3:-1000}
+    [ -r "$service" ] && [ ! -d "$service" ] || { echo "$0: cannot read $2" >&2; exit 1; }
+    ;;
+0: | 1:--write) steps=1000 ;;
+*) steps=$* ;;
+esac
+case $steps in
+*[!0-9]* | 0* | "")
+    echo "$usage" >&2
+    exit 2
+    ;;
+esac
+# shellcheck disable=SC2046
+needs riscv64-unknown-elf-gcc gcc-riscv64-unknown-elf patch patch xz xz-utils $([ -n "${SOURCES:-}" ] || echo dpkg-source dpkg-dev)
+room=$(mktemp -d)
+trap 'rm -rf "$room"' EXIT
 fetch "$lwip_package"
 unpack_lwip
 cp -r "$here" "$room/server"
@@ -75,11 +92,11 @@ case $write in
     keep server_50000
     ;;
 --service)
-    compile server "${3:-1000}"
+    compile server "$steps"
     echo "boot 1024 8 1 words $(cat server.words)"
     ;;
 *)
-    compile server "$write"
+    compile server "$steps"
     cat server.words
     ;;
 esac
