@@ -225,11 +225,12 @@ class Daemon:
             now = time.monotonic()
             if len(live.pending) >= HEARD_AT_ONCE:
                 link.hear(connection, (connection,), (), now, HEARD_AT_ONCE)
-            live.turn(now)
+            live.quiet_epoch(now)
             if not live.is_patient or connection is not link.connection or connection.waits_to_write:
                 break
             now = time.monotonic()
-            came = select.select(descriptors, (), (), max(0, live.due(now) - now))[0]
+            until = live.epoch_begun + live.epoch if live.is_slow else live.due(now)
+            came = select.select(descriptors, (), (), max(0, until - now))[0]
 
     def wait(self, now):
         """For how many seconds there is nothing to do."""

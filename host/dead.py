@@ -33,6 +33,9 @@ class Watch:
         """The first bytes of a checkpoint's text. Answers whether it tells from now on."""
         if len(text) < LEAST or number == 0:
             return False
+        if text[RECORDS] != NONE and self.found is None:
+            self.registers, self.trap = b"", None
+            return False
         registers = text[REGISTERS]
         steps, pc, mstatus, mtvec, mepc, mcause = LOOKED_AT.unpack_from(text)
         if self.found is not None:

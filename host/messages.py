@@ -37,17 +37,19 @@ def acknowledgement(session, generation, number):
 def taken(buffer, most):
     """The messages that are whole in a bytearray, which then has the rest: triples of kind, session and body."""
     found, at, end = [], 0, len(buffer)
-    while end - at >= LENGTH.size:
-        length = LENGTH.unpack_from(buffer, at)[0]
+    while end - at >= HEAD.size:
+        length, kind, session = HEAD.unpack_from(buffer, at)
         if not 17 <= length <= most:
-            raise Malformed(f"a message of {length} bytes")
-        if end - at < LENGTH.size + length:
             break
-        _, kind, session = HEAD.unpack_from(buffer, at)
         if not HELLO <= kind <= GO_LIVE:
             raise Malformed(f"a message of kind {kind}")
-        begin, at = at + HEAD.size, at + LENGTH.size + length
-        found.append((kind, session, bytes(buffer[begin:at])))
+        begin, behind = at + HEAD.size, at + LENGTH.size + length
+        if behind > end:
+            break
+        found.append((kind, session, bytes(buffer[begin:behind])))
+        at = behind
+    if end - at >= LENGTH.size and not 17 <= (length := LENGTH.unpack_from(buffer, at)[0]) <= most:
+        raise Malformed(f"a message of {length} bytes")
     del buffer[:at]
     return found
 
