@@ -16,6 +16,17 @@
 #   ELF             a file that gets the program as it was linked
 #   AMALGAMATION    a folder that gets sqlite3.c and sqlite3.h, which are SQLite in one file, and `options`, what the compiler was told
 set -eu
+case $#${1:-} in
+0) ;;
+1-h | 1--help)
+    sed -n '2,/^set -eu/{/^set -eu/d; s/^# \{0,1\}//; p}' "$0"
+    exit
+    ;;
+1 | 10* | 1*[!0-9]* | [!1]*)
+    echo "$0: takes STEPS, a number of steps a millisecond, and nothing else; --help says more" >&2
+    exit 2
+    ;;
+esac
 here=$(dirname "$(readlink -f "$0")")
 steps=${1:-50000} pages=8192 sectors=32768
 version=3.40.1 revision=2+deb12u2
