@@ -180,11 +180,21 @@ def answers_in(stream, paths):
         yield path, start, at, stream[start:at]
 
 
+def asked(about, what):
+    """What the one file has that the command line names."""
+    reader = argparse.ArgumentParser(description=about, formatter_class=argparse.RawDescriptionHelpFormatter)
+    reader.add_argument("file", type=Path, metavar="FILE", help=what)
+    path = reader.parse_args().file
+    try:
+        return path.read_text()
+    except OSError as error:
+        sys.exit(f"{path} can't be read: {error.strerror}")
+
+
 def read(about):
     """What happened, and what the client was told, of a script named on the command line and played on standard input."""
-    reader = argparse.ArgumentParser(description=about, formatter_class=argparse.RawDescriptionHelpFormatter)
-    reader.add_argument("script", type=Path, help="the script that was played; what it printed is read from standard input")
-    lines = [line for line in reader.parse_args().script.read_text().splitlines() if line and not line.startswith("#")]
+    script = asked(about, "the script that was played; what it printed is read from standard input")
+    lines = [line for line in script.splitlines() if line and not line.startswith("#")]
     answers = sys.stdin.read().splitlines()
     if len(lines) != len(answers):
         sys.exit("that isn't what the script printed")
