@@ -1,5 +1,5 @@
-"""A client of the guest, in its network. It goes on until SIGTERM, waits for what it has asked over a connection, and prints one JSON
-object.
+"""A client of the guest, in its network. It prints a line with its first answer, goes on until SIGTERM, waits for what it has asked over a
+connection, and prints one JSON object.
 
     client.py ping          asks for an echo each 20 ms
     client.py count         asks the web server for /count over one connection, one question after the other
@@ -39,6 +39,8 @@ class Told:
 
     def came(self, now, count=0):
         self.answers += 1
+        if self.answers == 1:
+            print("begun", flush=True)
         self.bytes += count
         if not self.curve or now - self.curve[-1][0] >= STEP:
             self.curve.append((round(now, 3), self.bytes))

@@ -18,14 +18,22 @@ WEB = Guest(ROOT / "examples/server.sim", ("ping", "count", "big"))
 COUNTER = Guest(ROOT / "examples/counter.sim", ("udp",))
 
 
-def database(image, folder):
-    """SQLite, with a counter over UDP beside it: from an image that is there, or built into a folder. None where it can't be built."""
-    if image is None:
-        image = folder / "database.sim"
-        with open(image, "wb") as words:
-            built = subprocess.run([ROOT / "guests/sql/build.sh"], stdout=words, stderr=subprocess.PIPE, text=True,
-                                   env={**os.environ, "COUNTER": "1"})
-        if built.returncode != 0:
-            print(f"the database isn't tried: {built.stderr.strip()}", flush=True)
-            return None
-    return Guest(image, ("ping", "udp", "curl", "bank"), 50_000)
+class Database:
+    """SQLite, with a counter over UDP beside it: from an image that is there, or built into a folder meanwhile, in a minute or two."""
+
+    def __init__(self, image, folder):
+        self.image, self.building = image or folder / "database.sim", None
+        if image is None:
+            with open(self.image, "wb") as words:
+                self.building = subprocess.Popen([ROOT / "guests/sql/build.sh"], stdin=subprocess.DEVNULL, stdout=words,
+                                                 stderr=subprocess.PIPE, text=True, env={**os.environ, "COUNTER": "1"})
+
+    def guest(self):
+        """Once it is built. Where it can't be the web server stands in for it."""
+        if self.building:
+            said = self.building.communicate()[1]
+            if self.building.returncode != 0:
+                print(f"the database isn't tried: {said.strip()}", flush=True)
+                self.image = None
+            self.building = None
+        return Guest(self.image, ("ping", "udp", "curl", "bank"), 50_000) if self.image else WEB

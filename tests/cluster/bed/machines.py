@@ -31,8 +31,8 @@ class TooLate(Exception):
 
 
 class Bed:
-    def __init__(self, folder, program, node, guests, token, delay, logs=None):
-        self.folder, self.program, self.node, self.guests = folder, program, node, guests
+    def __init__(self, folder, program, node, database, token, delay, logs=None):
+        self.folder, self.program, self.node, self.database = folder, program, node, database
         self.token, self.delay, self.logs = token, delay, logs
         self.guest, self.guests_before = None, 0
         self.record = folder / "record"
@@ -224,7 +224,9 @@ class Clients:
         self.began = time.time()
         command = [*priority.before(), "ip", "netns", "exec", network.CLIENT, sys.executable, HERE / "client.py"]
         self.running = {kind: subprocess.Popen([*command, kind], stdout=subprocess.PIPE, text=True) for kind in self.kinds}
-        time.sleep(1)
+        for process in self.running.values():
+            process.stdout.readline()  # its first answer has come
+        time.sleep(0.5)
         return self
 
     def __exit__(self, kind, *_):
@@ -254,7 +256,7 @@ class Clients:
         for kind, told in self.told.items():
             if told is not None:
                 found += [f"{kind}: {wrong}" for wrong in told["wrong"]]
-                if told["answers"] < 3:
+                if told["answers"] < 2:
                     found.append(f"{kind}: {told['answers']} answers")
         return found
 

@@ -14,7 +14,7 @@ from pathlib import Path
 from bed import network, priority
 
 HERE = Path(__file__).resolve().parent
-OFF_SECONDS = 1  # how long a host is off in a reboot
+OFF_SECONDS = 0.5  # how long a host is off in a reboot
 
 
 class Power:

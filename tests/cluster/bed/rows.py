@@ -7,7 +7,7 @@ import threading
 import time
 
 from bed import disks, network
-from bed.guests import WEB
+from bed.guests import COUNTER, WEB
 from bed.machines import EVENTS, TooLate, sent, two_at_once
 
 GOES_ON = "live in generation|^alone in generation"
@@ -219,7 +219,7 @@ def no_fencing(row, times):
             with row.clients() as clients:
                 begin = time.time()
                 bed.power.cut(victim)
-                time.sleep(8)
+                time.sleep(6)
                 row.expect(bed.power.since(begin, "asked") is not None, "the device wasn't asked")
                 row.expect(bed.when(survivor, GOES_ON, begin) is None, f"{survivor} went on without fencing")
                 if way == "operator":
@@ -355,19 +355,18 @@ def trace(bed):
 
 # By name: the row, and how often it is tried on which guests.
 ROWS = {
-    "power": (power, {"bank": 20, "web": 4}), "split": (split, {"bank": 10}), "standby-power": (standby_power, {"bank": 2}),
-    "hang": (hang, {"bank": 4}), "killed": (killed, {"bank": 1}), "both": (both, {"bank": 1}), "link": (link, {"bank": 1}),
-    "no-fencing": (no_fencing, {"bank": 1}), "move": (move, {"bank": 3}), "upgrade": (upgrade, {"bank": 1}),
+    "power": (power, {"web": 4, "bank": 20}), "split": (split, {"bank": 10}), "standby-power": (standby_power, {"bank": 2}),
+    "hang": (hang, {"bank": 2}), "killed": (killed, {"bank": 1}), "both": (both, {"bank": 1}), "link": (link, {"bank": 1}),
+    "no-fencing": (no_fencing, {"bank": 1}), "move": (move, {"bank": 2}), "upgrade": (upgrade, {"bank": 1}),
 }
 
 
 def tried(bed, name, times=None, only=None):
-    """A row, tried on its guests one after the other, so many times on each; or on one guest alone. Where there is no database the web
-    server stands in for it."""
+    """A row, tried on its guests one after the other, so many times on each; or on one guest alone."""
     what, usual = ROWS[name]
     row = Row(bed, name)
     for guest, count in ({only: max(usual.values())} if only else usual).items():
-        guest = bed.guests.get(guest, WEB)
+        guest = {"web": WEB, "counter": COUNTER}.get(guest) or bed.database.guest()
         row.past, row.tries = row.past + row.tries, 0
         try:
             if bed.guest != guest or bed.live() is None:
