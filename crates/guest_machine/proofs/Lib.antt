@@ -8,6 +8,7 @@ pub mod AlignedLemmas
 pub mod ApartLemmas
 pub mod RunLemmas
 pub mod QuietLemmas
+pub mod OpLemmas
 pub mod PaceLemmas
 pub mod CsrLemmas
 pub mod KeptLemmas

@@ -12,10 +12,13 @@ pub mod Leaves
 pub mod Limits
 pub mod MachineStates
 pub mod Paces
+pub mod OpSteps
+pub mod PageOps
 pub mod Parts
 pub mod Pending
 pub mod Runs
 pub mod Step
+pub mod Stretches
 -- what public clauses cite of lower crates
 pub use Rattle.arrayvec.specs.ArrayVec
 pub use Rattle.block_device.specs.Contents

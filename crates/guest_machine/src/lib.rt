@@ -12,6 +12,7 @@
 
 mod blocks;
 mod csr_access;
+mod decoded_pages;
 mod devices;
 mod errors;
 mod hart;
@@ -24,6 +25,7 @@ mod limits;
 mod loads;
 mod machine;
 mod machine_state;
+mod op_steps;
 mod paces;
 mod places;
 mod prepared_words;

@@ -8,6 +8,7 @@ ghost use Rattle.guest_machine.specs.Limits.{page_bytes, stepping_frames};
 ghost use Rattle.guest_machine.specs.Runs.{after_steps, sent_in, marked_in, HaveRoom};
 ghost use Rattle.guest_machine.specs.Step.{next, sent, marked, arrived};
 
+use crate::decoded_pages::DecodedPages;
 use crate::devices::Devices;
 use crate::errors::MachineError;
 use crate::hart::Hart;
@@ -37,6 +38,7 @@ pub struct Machine {
     pub(crate) devices: Devices,
     pub(crate) outbox: Outbox,
     words: PreparedWords,
+    pub(crate) pages: DecodedPages,
     looks: Looks,
 }
 
@@ -47,10 +49,12 @@ impl Model for Machine {
     ghost Value = { State };
 
     ghost use Rattle.guest_machine.specs.Aligned.{IsAligned};
+    ghost use Rattle.guest_machine.specs.PageOps.{AreDecoded};
 
     ghost view = { λ m. state_with m.hart m.ram.memory m.devices m.outbox };
 
-    ghost invariant = { λ m. IsAligned (guest_of m.hart m.ram.memory.bytes m.devices) };
+    ghost invariant = { λ m. IsAligned (guest_of m.hart m.ram.memory.bytes m.devices)
+        × AreDecoded m.ram.memory.settled m.pages.owners.items m.pages.pool.items };
 }
 
 impl Machine {
@@ -73,6 +77,7 @@ impl Machine {
         let devices = Devices::boot(alloc, shape.sectors)?;
         let outbox = Outbox::new(alloc)?;
         let words = PreparedWords::boot(alloc)?;
+        let pages = DecodedPages::boot(alloc)?;
         let looks = Looks::boot(alloc)?;
         Ok(Machine {
             hart: Hart {
@@ -87,6 +92,7 @@ impl Machine {
             devices,
             outbox,
             words,
+            pages,
             looks,
         })
     }
@@ -168,6 +174,7 @@ impl Machine {
                 &mut self.ram,
                 &self.devices,
                 &mut self.words,
+                &mut self.pages,
                 &mut self.looks,
                 count - made,
             );
@@ -215,6 +222,7 @@ impl Machine {
     {
         self.outbox.clear();
         self.devices.settle();
+        self.pages.drop_written(&self.ram.memory);
         self.ram.memory.settle();
     }
 

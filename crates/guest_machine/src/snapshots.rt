@@ -162,6 +162,7 @@ impl Machine {
           settled = (with_block self.old.guest page block change.now).ram;
         } }
     {
+        self.pages.clear();
         self.ram.xor_settled(page, block, change);
     }
 

@@ -1,9 +1,11 @@
+pub mod Deeds
 pub mod Examples
 pub mod Encoding
 pub mod Fields
 pub mod Formats
 pub mod Meaning
 pub mod Operations
+pub mod Ops
 pub mod Prepared
 pub mod Registers
 pub mod Rows

@@ -215,7 +215,7 @@ fn low_word(value: u64) -> u32
 
 /// 32 bits, sign extended.
 #[inline]
-fn sign_extend(word: u32) -> u64
+pub(crate) fn sign_extend(word: u32) -> u64
     ensures { result ≡ sign_extended 31 word }
 {
     i64::from(word.cast_signed()).cast_unsigned()

@@ -7,11 +7,13 @@
 
 mod arithmetic;
 mod decoding;
+mod deeds;
 mod encoding;
 mod fields;
 mod instruction;
 mod kind;
 mod operations;
+mod ops;
 mod planning;
 mod plans;
 mod prepared;
@@ -19,10 +21,12 @@ mod register;
 mod width;
 
 pub use decoding::decode;
+pub use deeds::Deed;
 pub use encoding::encode;
 pub use instruction::Instr;
 pub use kind::Kind;
 pub use operations::{Condition, CsrOp, Division, Multiplication, Operation, WordOperation};
+pub use ops::{Op, deed_at};
 pub use planning::plan;
 pub use plans::Plan;
 pub use prepared::{Prepared, plan_prepared, prepare};

@@ -1,7 +1,8 @@
-use Rattle.std.proofs.Common.{◌+◌, arith, refl, subst, sym}
+use Rattle.std.proofs.Common.{◌+◌, ℕ, List, arith, refl, subst, sym, ◌∙◌}
 use Rattle.guest_machine.specs.Aligned.{IsAligned}
 use Rattle.guest_machine.specs.Flags.{KeepsFlags}
 use Rattle.guest_machine.specs.Guest.{State}
+use Rattle.guest_machine.specs.PageOps.{AreDecoded}
 use Rattle.guest_machine.specs.Parts.{state_with}
 use Rattle.guest_machine.proofs.AlignedLemmas.{aligned-next, aligned_after}
 use Rattle.guest_machine.proofs.FlagLemmas.{keeps_same, keeps_on}
@@ -20,12 +21,16 @@ loop-made-init c =
       flags = subst Flags c.self.view_is (keeps_same now.written);
       before = none_before c.args.limit c.args.self.now;
       unchanged = λ none. c.self.view_is;
-      aligned = c.self.invariant;
+      aligned = c.self.invariant.0;
+      decoded = c.self.invariant.1;
     }
 
 pub loop-made-preserved : goal.loop-made-preserved
 loop-made-preserved c =
     let quiet = c.run_stretch-made.ensures in
+    let Decoded : List ℕ → Type 0 = λ settled.
+    AreDecoded settled c.run_stretch-made.new.pages.owners.items c.run_stretch-made.new.pages.pool.items
+    in
     record {
       most = omega arith;
       run =
@@ -37,11 +42,15 @@ loop-made-preserved c =
           c.loop-made.invariant.before;
       unchanged = λ none. absurd (omega (arith, none, c.if-made-count.false, c.loop-made-test.true));
       aligned = subst IsAligned (sym quiet.run.guest) (aligned_after c.run_stretch-made.result _ c.loop-made.invariant.aligned);
+      decoded = subst Decoded (sym quiet.settled) quiet.decoded;
     }
 
 pub loop-made-preserved-then-made-count : goal.loop-made-preserved-then-made-count
 loop-made-preserved-then-made-count c =
     let quiet = c.run_stretch-made.ensures in
+    let Decoded : List ℕ → Type 0 = λ settled.
+    AreDecoded settled c.run_stretch-made.new.pages.owners.items c.run_stretch-made.new.pages.pool.items
+    in
     let inside = c.loop-made.self-inside in
     let stretched : State =
     state_with c.run_stretch-made.new.hart c.run_stretch-made.new.ram.memory inside.devices inside.outbox
@@ -62,4 +71,11 @@ loop-made-preserved-then-made-count c =
       before = few_before _ _ _ _ run (omega arith);
       unchanged = λ none. absurd (omega arith);
       aligned = subst IsAligned (sym c.run_step.ensures.guest) (aligned-next _ aligned);
+      decoded = subst Decoded (sym (c.run_step.ensures.settled ∙ quiet.settled)) quiet.decoded;
     }
+
+pub run_stretch-made-requires : goal.run_stretch-made-requires
+run_stretch-made-requires c = c.loop-made.invariant.decoded
+
+pub invariant_of-self : goal.invariant_of-self
+invariant_of-self c = (c.loop-made.invariant.aligned, c.loop-made.invariant.decoded)
