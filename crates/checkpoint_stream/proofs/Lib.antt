@@ -3,6 +3,7 @@ pub mod Failing
 pub mod Feeding
 pub mod Extending
 pub mod Spelling
+pub mod Holding
 pub mod Soundness
 pub mod Canonical
 pub mod Numbers
@@ -16,6 +17,7 @@ pub mod HeadFits
 pub mod StateRead
 pub mod TextRead
 pub mod TextLaws
+pub mod TextSizes
 pub mod Fronts
 pub mod Spelled
 pub mod HeadBack

@@ -14,6 +14,7 @@ use Rattle.checkpoint_stream.specs.Readings.{pages_due, sectors_due, after_block
 use Rattle.checkpoint_stream.specs.Readings.{frames_due, frame_judged, width_at, kept_number, kept_mask, kept_block, kept_sector, judged}
 use Rattle.checkpoint_stream.specs.{Readings.{judged_at, is_closed, fed_byte, fed, begun, width_of}, Sound.{IsSound, IsHead, HasNoRecords}}
 use Rattle.checkpoint_stream.specs.Sound.{HasRecords, StandsAt, HasFrames, FramesAt, AllPass, last_after}
+use Rattle.checkpoint_stream.proofs.Holding.{keep-few, judged_at-few}
 use Rattle.net_device.specs.Frames.{IsFrame}
 use Rattle.arrayvec.specs.ArrayVec.{ArrayVec}
 
@@ -425,7 +426,12 @@ judged-sound : (r : Reading) (unit : List ℕ) → length unit ≡ width_of r �
 unfolding judged
 judged-sound r unit wide h =
     let read : IsRead (judged_at r.place r unit) = judged_at-read r.place r unit refl h.head h.place in
-    record { head = read.head; place = read.place; frames = judged_at-framed r.place r unit refl h.frames wide }
+    record {
+      head = read.head;
+      place = read.place;
+      frames = judged_at-framed r.place r unit refl h.frames wide;
+      few = judged_at-few r.place r unit h.place h.frames wide h.few;
+    }
 
 -- the bytes of a unit that has begun change nothing of what was read
 began-stands : (r : Reading) (partial : List ℕ) → StandsAt r.place r → StandsAt r.place (record r { partial = partial })
@@ -461,6 +467,7 @@ fed_byte-sound r b h =
               head = keep-head r _ _ _ _ _ _ _ h.head;
               place = began-stands r _ h.place;
               frames = began-frames r.place r _ h.frames;
+              few = keep-few r _ _ _ _ _ _ h.few;
             }
           ] refl
     ]
@@ -475,4 +482,11 @@ begun-sound shape offset = record {
   head = record { known = refl; rows = omega arith; passes = tt; last = refl };
   place = (omega arith, record { pages = refl; blocks = refl; sectors = refl });
   frames = refl;
+  few = record {
+    pages = omega arith;
+    blocks = omega arith;
+    sectors = omega arith;
+    frames = omega arith;
+    each_frame = All-nothing IsFrame [] refl;
+  };
 }

@@ -5,6 +5,7 @@ pub mod Text
 pub mod Refusals
 pub mod Sound
 pub mod Answers
+pub mod Bounds
 pub mod Units
 pub mod Widths
 pub mod ReadBack

@@ -143,7 +143,16 @@ FramesAt Whole r = HasFrames r 0
 FramesAt (Failed at) r = Unit {0}
 FramesAt _ r = r.frames ≡ []
 
+-- what the reader holds of records and of frames, also where a unit broke its rule
+pub record HoldsFew (r : Reading) : Type 0 where
+  pub pages : length r.pages ≤ r.shape.pages
+  pub blocks : length r.blocks ≤ block_count r.pages
+  pub sectors : length r.sectors ≤ r.shape.sectors
+  pub frames : length r.frames ≤ 256
+  pub each_frame : All IsFrame r.frames
+
 pub record IsSound (r : Reading) : Type 0 where
   pub head : IsHead r
   pub place : StandsAt r.place r
   pub frames : FramesAt r.place r
+  pub few : HoldsFew r

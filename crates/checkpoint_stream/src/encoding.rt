@@ -3,6 +3,7 @@
 ghost use Rattle.std.specs.Prelude.{◌≡◌, ◌<◌, ◌≤◌, ◌^◌, ◌++◌, length, take, All, IfOk, OnOk, OnErr, Err};
 ghost use Rattle.memory_wanted.specs.Wanted.{wanted};
 ghost use Rattle.epoch_snapshot.specs.Checkpoints.{block_count};
+ghost use Rattle.checkpoint_stream.specs.Bounds.{most_text};
 ghost use Rattle.checkpoint_stream.specs.ReadBack.{ReadsBack};
 ghost use Rattle.checkpoint_stream.specs.Widths.{HasWidths};
 ghost use Rattle.checkpoint_stream.specs.HeadTable.{bytes_of, head_table};
@@ -35,6 +36,7 @@ pub fn encode(alloc: Global, checkpoint: &Checkpoint) -> Result<Vec<u8>, StreamE
     ensures text { IfOk result (λ bytes. bytes.items ≡ text checkpoint.now) }
     ensures read { IfOk result (λ bytes. ReadsBack checkpoint.now bytes.items) }
     ensures widths { OnOk result (HasWidths checkpoint.now) }
+    ensures short { IfOk result (λ bytes. length bytes.items ≤ most_text checkpoint.now.shape) }
     ensures err { OnErr result (result ≡ Err (StreamError.NoMemory wanted)) }
 {
     let pages = checkpoint.pages();

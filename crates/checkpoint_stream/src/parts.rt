@@ -1,6 +1,6 @@
 //! What a reader has read of a checkpoint.
 
-ghost use Rattle.std.specs.Prelude.{◌≡◌, ◌≢◌, ℕ, ◌<◌, ◌≤◌, false, length, take, IfOk, OnOk, OnErr};
+ghost use Rattle.std.specs.Prelude.{◌≡◌, ◌≢◌, ℕ, ◌^◌, ◌<◌, ◌≤◌, false, length, take, All, IfOk, OnOk, OnErr};
 ghost use Rattle.checkpoint_stream.specs.Readings.{Reading, fed, taken, failure_at, is_whole, begun, width_of, is_closed};
 ghost use Rattle.checkpoint_stream.specs.declared.place.Place.TheVariants.{Head, FrameBytes};
 ghost use Rattle.checkpoint_stream.specs.Taken.{Takes, Extends, HasRoom, has_room, is_at_frame, marked};
@@ -11,6 +11,7 @@ use crate::marks::Mark;
 use crate::place::Place;
 use crate::rules::{HEAD_NUMBERS, head_row};
 use crate::states::{state_from, version_from};
+use crate::widths::{block_widths, mask_widths, sector_widths};
 use epoch_snapshot::{Block, Checkpoint, PageChange, SectorChange};
 use frame_list::{Frame, FrameList};
 use guest_machine::{SECTOR_BYTES, Shape};
@@ -194,6 +195,18 @@ impl Parts {
             at += self.take_blocks(&piece[at..])?;
         }
         Ok(at)
+    }
+
+    /// What the types of its parts say of them, and that the unit which has begun is short.
+    pub(crate) fn widths(&self)
+        ensures masks { All (λ p. p.mask < 2 ^ 64) self.now.pages }
+        ensures blocks { All (λ b. length b ≡ 64) self.now.blocks }
+        ensures sectors { All (λ s. length s.bytes ≡ 512) self.now.sectors }
+        ensures begun { length self.now.partial < 1514 }
+    {
+        mask_widths(&self.pages);
+        block_widths(&self.blocks);
+        sector_widths(&self.sectors);
     }
 
     /// Whether a whole checkpoint stands, or a unit broke its rule.

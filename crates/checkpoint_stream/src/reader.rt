@@ -4,6 +4,7 @@ ghost use Rattle.std.specs.Prelude.{◌≡◌, ◌≢◌, ◌<◌, ◌≤◌, tr
 ghost use Rattle.checkpoint_stream.specs.Readings.{begun, is_closed, is_whole};
 ghost use Rattle.checkpoint_stream.specs.Sound.{change_in, whole_name};
 ghost use Rattle.checkpoint_stream.specs.Answers.{Answers};
+ghost use Rattle.checkpoint_stream.specs.Bounds.{IsBounded};
 ghost use Rattle.checkpoint_stream.specs.Taken.{has_room};
 ghost use Rattle.checkpoint_stream.specs.declared.errors.StreamError.TheVariants.{NoMemory};
 ghost use Rattle.memory_wanted.specs.Wanted.{wanted};
@@ -89,5 +90,13 @@ impl Reader {
             return None;
         }
         Some(self.parts.take_checkpoint())
+    }
+
+    /// However many bytes came, and whatever they were, it holds no more than its shape says: of the checkpoint that has begun the numbers of
+    /// the head, a record for each page and each sector at most, 256 frames at most, and a part of one unit.
+    pub fn what_it_holds_is_bounded(&self)
+        ensures { IsBounded self.now }
+    {
+        self.parts.widths();
     }
 }

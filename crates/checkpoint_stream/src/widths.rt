@@ -1,9 +1,9 @@
 //! What the types of a checkpoint's parts say of its numbers and of its lists.
 
-ghost use Rattle.std.specs.Prelude.{◌≡◌, length, All};
+ghost use Rattle.std.specs.Prelude.{◌≡◌, ◌<◌, ◌^◌, length, All};
 ghost use Rattle.checkpoint_stream.specs.Widths.{QueueFits, DeviceFits, StateFits};
 
-use epoch_snapshot::Block;
+use epoch_snapshot::{Block, PageChange, SectorChange};
 use guest_machine::MachineState;
 use virtio_mmio::DeviceState;
 use virtqueue::Queue;
@@ -33,3 +33,33 @@ pub(crate) fn state_widths(state: MachineState)
 pub(crate) fn block_widths(blocks: &[Block])
     ensures { All (λ b. length b ≡ 64) blocks.now }
 {}
+
+/// A mask has 64 bits.
+fn mask_width(page: PageChange)
+    ensures { page.mask < 2 ^ 64 }
+{}
+
+/// So has each of these.
+pub(crate) fn mask_widths(pages: &[PageChange])
+    ensures { All (λ p. p.mask < 2 ^ 64) pages.now }
+{
+    for page in pages {
+        mask_width(*page);
+    }
+}
+
+/// A sector has 512 bytes.
+fn sector_width(sector: &SectorChange)
+    ensures { length sector.now.bytes ≡ 512 }
+{
+    let _bytes = sector.bytes;
+}
+
+/// So has each of these.
+pub(crate) fn sector_widths(sectors: &[SectorChange])
+    ensures { All (λ s. length s.bytes ≡ 512) sectors.now }
+{
+    for sector in sectors {
+        sector_width(sector);
+    }
+}

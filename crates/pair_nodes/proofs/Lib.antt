@@ -1,8 +1,8 @@
 mod Pending
 mod ReadShapes
 mod Sized
+mod Bounding
 mod Taking
-mod TextSizes
 pub mod Places
 pub mod Coming
 pub mod Series

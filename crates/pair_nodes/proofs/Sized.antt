@@ -1,5 +1,5 @@
 -- The guest keeps its shape.
-use Rattle.std.proofs.Common.{◌≡◌, ℕ, ◌*◌, ◌≤◌, List, length}
+use Rattle.std.proofs.Common.{ℕ, ◌*◌, ◌≤◌, List, length}
 use Rattle.guest_machine.specs.declared.shapes.Shape.{Shape}
 use Rattle.guest_machine.specs.Guest.{Guest, boot_guest}
 use Rattle.guest_machine.specs.Runs.{after_steps}

@@ -49,6 +49,7 @@ pub record IsRun (count made : ℕ) (p q : Primary) : Type 0 where
   pub most : made ≤ count
   pub left : q ≡ after_run made p
   pub room : HaveRoom made p.live.guest p.live.outbox
+  pub few : length q.live.outbox ≤ 256
   pub full : made < count → stepping_frames < length q.live.outbox
 
 -- where it is alone, the frames that its guest may send need numbers

@@ -9,7 +9,8 @@ ghost use Rattle.output_gate.specs.Epochs.{frames_of};
 ghost use Rattle.pair_record.specs.Limits.{most_pending, last_frame};
 ghost use Rattle.pair_record.specs.Modes.{is_alone};
 ghost use Rattle.pair_core.specs.Nodes.{HasShape, node_of};
-ghost use Rattle.pair_nodes.specs.Bounds.{IsBoundedPrimary, most_text};
+ghost use Rattle.checkpoint_stream.specs.Bounds.{most_text};
+ghost use Rattle.pair_nodes.specs.Bounds.{IsBoundedPrimary, primary_bytes, most_primary_bytes};
 ghost use Rattle.pair_nodes.specs.PrimaryCalls.{booted_primary, mode_of, arrive_rows, cut_refusals, ack_rows, alone_rows, protect_rows};
 ghost use Rattle.pair_nodes.specs.PrimaryCalls.{IsRun, IsSteps, IsSealed, IsProtected, after_release, text_part};
 ghost use Rattle.pair_nodes.specs.Refusing.{IsFree, IsWhy, IsWhyOrMemory};
@@ -212,7 +213,8 @@ impl PrimaryNode {
     /// However long it runs, it holds no more than its shape says: the guest's memory twice, its disk, and of at most four checkpoints the
     /// texts and the frames.
     pub fn what_it_holds_is_bounded(&self)
-        ensures { IsBoundedPrimary self.now }
+        ensures lists { IsBoundedPrimary self.now }
+        ensures bytes { primary_bytes self.now ≤ most_primary_bytes self.now.shape }
     {
         let _shape = self.machine.shape();
         let _written = self.machine.dirty_sectors();

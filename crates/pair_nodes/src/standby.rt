@@ -6,7 +6,7 @@ ghost use Rattle.failover.specs.Generations.{generation_limit};
 ghost use Rattle.frame_ports.specs.Limits.{number_limit};
 ghost use Rattle.guest_machine.specs.Guest.{HasDeviceRecords, sector_in};
 ghost use Rattle.pair_record.specs.Limits.{most_pending};
-ghost use Rattle.pair_nodes.specs.Bounds.{IsBoundedStandby};
+ghost use Rattle.pair_nodes.specs.Bounds.{IsBoundedStandby, standby_bytes, most_standby_bytes};
 ghost use Rattle.pair_nodes.specs.Refusing.{IsFree, IsWhyOrMemory};
 ghost use Rattle.pair_record.specs.Tables.{first_refusal};
 ghost use Rattle.pair_nodes.specs.Sides.{to_commit, live_of, new_standby, restarted, after_commit};
@@ -137,12 +137,15 @@ impl StandbyNode {
         }
     }
 
-    /// However long it runs, its image holds no more than its shape says: the guest's memory, its disk, and the frames of four commits.
-    pub fn what_its_image_holds_is_bounded(&self)
-        ensures { IsBoundedStandby self.now }
+    /// However long it runs, it holds no more than its shape says: the guest's memory, its disk, the frames of four commits, and what has come
+    /// of one text.
+    pub fn what_it_holds_is_bounded(&self)
+        ensures lists { IsBoundedStandby self.now }
+        ensures bytes { standby_bytes self.now ≤ most_standby_bytes self.now.image.shape }
     {
         let _shape = self.image.shape();
         let _first = self.image.kept().first();
+        self.reader.what_it_holds_is_bounded();
     }
 
     /// Takes the next bytes of a checkpoint's text: all, or those up to the text's end, and none while a complete checkpoint waits. Answers

@@ -1,8 +1,8 @@
 //! The texts of the pending checkpoints: a row of at most four, with room from the start.
 ghost use Rattle.std.specs.Prelude.{◌≡◌, ◌≤◌, ◌<◌, ◌∷◌, ◌++◌, [], IfOk, drop, take, length, vec_len, vec_capacity};
+ghost use Rattle.checkpoint_stream.specs.Bounds.{most_text};
 ghost use Rattle.checkpoint_stream.specs.ReadBack.{ReadsBack};
 ghost use Rattle.pair_record.specs.Limits.{most_pending};
-ghost use Rattle.pair_nodes.specs.Bounds.{most_text};
 ghost use Rattle.pair_nodes.specs.PrimaryCalls.{part_of};
 
 use checkpoint_stream::{StreamError, encode};
@@ -78,7 +78,6 @@ fn front_of(text: &[u8], count: u64) -> &[u8]
 }
 
 /// The text of a checkpoint of version 2.
-#[tactic(auto, using(crate::proofs::TextSizes::text_size))]
 pub(crate) fn text_of(alloc: Global, checkpoint: &Checkpoint) -> Result<Vec<u8>, MemoryWanted>
     requires { checkpoint.now.version ≡ 2 }
     ensures read { IfOk result (λ text. ReadsBack checkpoint.now text.items) }

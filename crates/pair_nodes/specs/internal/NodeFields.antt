@@ -9,7 +9,7 @@ use Rattle.pair_record.specs.Window.{NumberedFrom}
 use Rattle.pair_core.specs.Nodes.{HasShape, node_of}
 use Rattle.pair_nodes.specs.declared.primary.PrimaryNode.TheInside.{Inside as PrimaryFields}
 use Rattle.pair_nodes.specs.declared.standby.StandbyNode.TheInside.{Inside as StandbyFields}
-use Rattle.pair_nodes.specs.Bounds.{most_text}
+use Rattle.checkpoint_stream.specs.Bounds.{most_text}
 use Rattle.pair_nodes.specs.PrimaryCalls.{mode_of}
 use Rattle.pair_nodes.specs.Sides.{Primary, Standby, to_commit}
 use Rattle.pair_nodes.specs.StandbyCalls.{is_empty}

@@ -1,6 +1,7 @@
-use Rattle.std.proofs.Common.{ℕ, ◌++◌, sym, ◌≡◌, ap, ◌∙◌, subst}
+use Rattle.std.proofs.Common.{ℕ, List, length, ◌≤◌, ◌++◌, sym, ◌≡◌, ap, ◌∙◌, subst}
 use Rattle.checkpoint_stream.specs.{HeadTable.bytes_of, declared.rules.Width.TheVariants.Four, Text.text, Widths.HasWidths, ReadBack.ReadsBack}
-use Rattle.checkpoint_stream.proofs.{Spelling.encoded, TextRead.{has-widths, reads-back}}
+use Rattle.checkpoint_stream.specs.Bounds.{most_text}
+use Rattle.checkpoint_stream.proofs.{TextSizes.text_size, Spelling.encoded, TextRead.{has-widths, reads-back}}
 use Rattle.checkpoint_stream.proofs.encoding.encode.Goals as goal
 
 pub returns : goal.returns
@@ -19,5 +20,7 @@ returns c =
       read = subst (ReadsBack c.args.checkpoint.now) (sym spelled)
           (reads-back c.args.checkpoint.now c.pages-pages.ensures.canonical widths);
       widths = widths;
+      short = subst (λ (l : List ℕ). length l ≤ most_text c.args.checkpoint.now.shape) (sym spelled)
+          (text_size c.args.checkpoint.now c.requires c.pages-pages.ensures.canonical widths);
       err = tt;
     }

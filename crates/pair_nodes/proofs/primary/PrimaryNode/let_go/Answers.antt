@@ -8,7 +8,7 @@ use Rattle.output_gate.specs.Epochs.{Epoch, after_number}
 use Rattle.output_gate.specs.Gate.{GateState}
 use Rattle.pair_record.specs.Modes.{is_alone}
 use Rattle.pair_record.specs.Window.{NumberedFrom}
-use Rattle.pair_nodes.specs.Bounds.{most_text}
+use Rattle.checkpoint_stream.specs.Bounds.{most_text}
 use Rattle.pair_nodes.specs.Sides.{Primary}
 use Rattle.pair_nodes.specs.internal.NodeFields.{primary_state}
 use Rattle.pair_nodes.proofs.Pending.{Left, left_of, not_full, mode_paired}

@@ -10,7 +10,7 @@ use Rattle.output_gate.specs.Gate.{GateState}
 use Rattle.pair_record.proofs.WindowLaws.{NumberedFrom-push}
 use Rattle.pair_record.specs.Modes.{is_alone}
 use Rattle.pair_record.specs.Window.{NumberedFrom}
-use Rattle.pair_nodes.specs.Bounds.{most_text}
+use Rattle.checkpoint_stream.specs.Bounds.{most_text}
 use Rattle.pair_nodes.specs.PrimaryCalls.{has_full}
 use Rattle.pair_nodes.specs.Sides.{Primary}
 use Rattle.pair_nodes.proofs.Pending.{below_all, full-append}

@@ -1,18 +1,18 @@
 -- Each list of a primary has its bound.
-use Rattle.std.proofs.Common.{◌≡◌, ◌≤◌, ◌*◌, ℕ, List, length, map, sym, ap, ◌∙◌, subst, arith, All}
+use Rattle.std.proofs.Common.{◌≡◌, ◌≤◌, ◌*◌, List, length, sym, ap, ◌∙◌, subst, arith, All}
 use Rattle.std.proofs.lemmas.List.{length-map}
 use Rattle.std.proofs.lemmas.List.Elements.{All-map}
 use Rattle.frame_ports.specs.Addresses.{IsFrame}
 use Rattle.guest_machine.specs.Guest.{sector_count}
 use Rattle.guest_machine.specs.Limits.{page_bytes}
 use Rattle.pair_history.specs.Entries.{Frame}
-use Rattle.pair_nodes.specs.Bounds.{IsBoundedPrimary, most_text}
+use Rattle.checkpoint_stream.specs.Bounds.{most_text}
 use Rattle.pair_nodes.specs.Sides.{Primary}
-use Rattle.pair_nodes.proofs.TextSizes.{rises_length}
+use Rattle.pair_nodes.proofs.Bounding.{primary-bytes, rises_length}
 use Rattle.pair_nodes.proofs.primary.PrimaryNode.what_it_holds_is_bounded.Goals as goal
 
-pub returns : goal.returns
-returns c =
+pub returns-clause-lists : goal.returns-clause-lists
+returns-clause-lists c =
     let a = c.self.inside in
     let inv = c.self.invariant in
     let v = c.self.view_is in
@@ -37,3 +37,6 @@ returns c =
       text_bytes = subst (λ (p : Primary). All (λ t. length t ≤ most_text p.shape) p.texts) v
           (All-map (λ t. length t ≤ most_text a.shape) (λ t. t.items) a.texts.items inv.short);
     }
+
+pub returns-clause-bytes : goal.returns-clause-bytes
+returns-clause-bytes c = primary-bytes c.args.self.now (returns-clause-lists c)

@@ -1,39 +1,22 @@
 -- How long a checkpoint's text is at most, by its shape.
-use Rattle.std.proofs.Common.{◌≡◌, ℕ, zero, suc, ◌+◌, ◌-◌, ◌*◌, ◌^◌, ◌<◌, ◌≤◌, List, [], ◌∷◌, ◌++◌, length, take, drop, map, refl, ap, arith, All, count_ones}
+use Rattle.std.proofs.Common.{◌≡◌, ℕ, ◌+◌, ◌*◌, ◌≤◌, List, [], ◌∷◌, ◌++◌, length, take, drop, map, refl, ap, arith, All, count_ones}
 use Rattle.std.proofs.lemmas.List.{length-append, length-take, length-drop, length-map}
 use Rattle.std.proofs.lemmas.List.Elements.{All-head, All-tail, All-take, All-drop}
-use Rattle.std.proofs.lemmas.Nat.{ones-le}
-use Rattle.std.proofs.lemmas.List.Sums.{sum_by-cons}
 use Rattle.arrayvec.specs.ArrayVec.{ArrayVec}
-use Rattle.frame_ports.specs.Addresses.{IsFrame}
-use Rattle.guest_machine.specs.Dirty.{Rises}
-use Rattle.guest_machine.specs.declared.shapes.Shape.{Shape}
-use Rattle.epoch_snapshot.specs.Checkpoints.{Change, IsCanonical, block_count}
+use Rattle.net_device.specs.Frames.{IsFrame}
+use Rattle.epoch_snapshot.specs.Checkpoints.{Change, IsCanonical}
 use Rattle.epoch_snapshot.specs.declared.changes.PageChange.{PageChange}
 use Rattle.epoch_snapshot.specs.declared.changes.SectorChange.{SectorChange}
-use Rattle.checkpoint_stream.specs.HeadTable.{head_table, bytes_of, bytes_in}
+use Rattle.checkpoint_stream.specs.HeadTable.{head_table, bytes_of}
 use Rattle.checkpoint_stream.specs.Text.{head_numbers, number_units, page_record, page_units, sector_units, frame_units, units_of_frames, joined, text}
 use Rattle.checkpoint_stream.specs.Widths.{HasWidths}
 use Rattle.checkpoint_stream.specs.declared.rules.Row.{Row}
-use Rattle.checkpoint_stream.specs.declared.rules.Width.{Width}
-use Rattle.checkpoint_stream.specs.declared.rules.Width.TheVariants.{Two, Four, Eight}
+use Rattle.checkpoint_stream.specs.declared.rules.Width.TheVariants.{Four, Eight}
 use Rattle.checkpoint_stream.proofs.Numbers.{length-bytes_of}
 use Rattle.checkpoint_stream.proofs.Spelling.{joined-append, text-spelled, frames-spelled}
-use Rattle.pair_nodes.specs.Bounds.{most_text}
-
--- a rising list is no longer than its numbers allow
-pub rises_length : (from end : ℕ) (is : List ℕ) → Rises from end is → from + length is ≤ end
-rises_length from end [] h = let ordered : from ≤ end = h in omega arith
-rises_length from end (i ∷ is) h =
-    let least : from ≤ i = h.0 in
-    let rest = rises_length (i + 1) end is h.1 in
-    omega arith
-
--- a number takes at most eight bytes
-narrow : (w : Width) → bytes_in w ≤ 8
-narrow Two = omega arith
-narrow Four = omega arith
-narrow Eight = omega arith
+use Rattle.checkpoint_stream.specs.Bounds.{most_text}
+use Rattle.checkpoint_stream.proofs.Holding.{narrow, blocks-few}
+use Rattle.checkpoint_stream.proofs.RecordsRead.{Rises-end}
 
 head_size : (rows : List Row) (ns : List ℕ) → length (joined (number_units rows ns)) ≤ 8 * length rows
 unfolding joined number_units
@@ -88,17 +71,6 @@ pages_size (p ∷ ps) bs all =
       later,
       length-take k bs,
       length-drop k bs,
-    )
-
--- at most 64 blocks of each page
-blocks_few : (ps : List PageChange) → All (λ p. p.mask < 2 ^ 64) ps → block_count ps ≤ 64 * length ps
-blocks_few [] all = omega arith
-blocks_few (p ∷ ps) all =
-    omega (
-      arith,
-      sum_by-cons (λ (p : PageChange). count_ones p.mask) p ps,
-      ones-le 64 p.mask (All-head (λ p. p.mask < 2 ^ 64) p ps all),
-      blocks_few ps (All-tail (λ p. p.mask < 2 ^ 64) p ps all),
     )
 
 sectors_size : (ss : List SectorChange) → All (λ s. length s.bytes ≡ 512) ss → length (joined (sector_units ss)) ≤ 516 * length ss
@@ -157,12 +129,12 @@ text_size c second canonical widths =
       length-bytes_of Four (length c.sectors),
       length-bytes_of Four (length c.frames),
       pages_size c.pages c.blocks widths.blocks,
-      blocks_few c.pages widths.masks,
+      blocks-few c.pages widths.masks,
       canonical.block_count,
-      rises_length 0 c.shape.pages (map (λ q. q.page) c.pages) canonical.pages,
+      Rises-end 0 c.shape.pages (map (λ q. q.page) c.pages) canonical.pages,
       length-map c.pages (λ q. q.page),
       sectors_size c.sectors widths.sectors,
-      rises_length 0 c.shape.sectors (map (λ q. q.sector) c.sectors) canonical.sectors,
+      Rises-end 0 c.shape.sectors (map (λ q. q.sector) c.sectors) canonical.sectors,
       length-map c.sectors (λ q. q.sector),
       frames_size c.frames canonical.frames,
       canonical.frame_count,
