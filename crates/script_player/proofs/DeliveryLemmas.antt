@@ -1,9 +1,11 @@
 -- A delivery is read from the left, and has one reading.
-use Rattle.std.proofs.Common.{◌≡◌, ◌<◌, ◌*◌, ◌%◌, ℕ, true, false, List, [], ◌∷◌, ◌++◌, length, Some, Result, Ok, Err, refl, sym, ap, subst}
-use Rattle.std.proofs.{Common.{arith, ◌∙◌, codes}, lemmas.List.Sums.{AllPass-from_list_all, list_all-from_AllPass}}
-use Rattle.std.specs.{Result.MatchResult, Char.{is_ascii_hexdigit, is_ascii_uppercase}, List.{list_all, list_any}}
-use Rattle.hex.specs.{Hex.{decode_of, decode_sized, is_hex_digit}, declared.error.FromHexError.FromHexError}
-use Rattle.hex.proofs.HexLemmas.{decode_of-digits, decode_of-encode_lower, decode_of-ok, decode_of-same, decode_sized-twice}
+use Rattle.std.proofs.Common.{◌≡◌, ◌<◌, ◌/◌, ◌%◌, ℕ, suc, true, false, List, [], ◌∷◌, ◌++◌, length, slice_index, Option, Some, None, IfSome}
+use Rattle.std.proofs.Common.{IfNone, Ok, refl, sym, ap, subst, arith, ◌∙◌, codes}
+use Rattle.std.proofs.lemmas.{List.Sums.{AllPass-from_list_all, list_all-from_AllPass}, Bool.{agree_below_at, and_from}}
+use Rattle.std.specs.{Char.{is_ascii_hexdigit, is_ascii_uppercase}, List.{list_all, list_any}, Option.option_map}
+use Rattle.hex.specs.Hex.{decode_of, encode_lower, encode_with, lower_digits, is_hex_digit, IsBytes}
+use Rattle.hex.proofs.HexLemmas.{decode_of-digits, decode_of-encode_lower, decode_of-ok, decode_of-same, length-encode_with}
+use Rattle.script_player.specs.internal.Digits.{is_lower_digit}
 use Rattle.script_player.proofs.{DigitLemmas.{lower-again, none_in_upper_case}, FieldLemmas.{text_after-some, operand_of-spelled}}
 use Rattle.script_player.proofs.{FieldLemmas.operand_of-read, OptionLemmas.{and_then_some, some_same, pair_parts}}
 use Rattle.script_player.specs.{Fields.{text_after, operand_of}, Delivery.{IsHex, IsDelivery, delivery_head}}
@@ -37,9 +39,6 @@ one-reading text client bytes n digits head h =
 -- digits that write bytes decode to them
 hex-decodes : (digits bytes : List ℕ) → IsHex digits bytes → decode_of digits ≡ Ok bytes
 hex-decodes digits bytes h = ap decode_of h.shape ∙ decode_of-encode_lower bytes h.below
-
-pub decoded-same : (digits found bytes : List ℕ) → decode_of digits ≡ Ok found → IsHex digits bytes → found ≡ bytes
-decoded-same digits found bytes e h = decode_of-same digits found bytes e (hex-decodes digits bytes h)
 
 -- a hex digit is one to std as it is to hex
 same_digits : (digits : List ℕ) → list_all is_ascii_hexdigit digits ≡ list_all is_hex_digit digits
@@ -75,13 +74,32 @@ they-are digits bytes h =
       all = same_digits digits ∙ list_all-from_AllPass is_hex_digit digits facts.1;
     }
 
--- they decode into as many places
-pub decoded-into : (digits out : List ℕ) (n : ℕ) (r : Result Unit FromHexError) → length digits ≡ 2 * n
-    → (bytes : List ℕ) × IsHex digits bytes
-    → MatchResult (decode_sized digits n) (λ found. (r ≡ Ok tt) × (out ≡ found)) (λ e. r ≡ Err e)
-    → (r ≡ Ok tt) × (decode_of digits ≡ Ok out)
-decoded-into digits out n r room hex done =
-    let decoded = hex-decodes digits hex.0 hex.1 in
-    let put = subst (λ d. MatchResult d (λ found. (r ≡ Ok tt) × (out ≡ found)) (λ e. r ≡ Err e))
-    (decode_sized-twice digits n room ∙ decoded) done in
-    (put.0, decoded ∙ ap (λ bs. Ok bs) (sym put.1))
+-- ---- what is read of digits, if all are in lower case
+
+lower-one : (v : ℕ) → v < 16 → is_lower_digit (slice_index lower_digits v) ≡ true
+lower-one v small = agree_below_at (λ v. is_lower_digit (slice_index lower_digits v)) (λ _. true) 16 v refl small
+
+all-lower : (bytes : List ℕ) → IsBytes bytes → list_all is_lower_digit (encode_lower bytes) ≡ true
+unfolding encode_with
+all-lower [] h = refl
+all-lower (b ∷ bytes) h =
+    let fits : b < 256 = h 0 in
+    and_from _ _ (lower-one (b / 16) (omega arith))
+    (and_from _ _ (lower-one (b % 16) (omega arith)) (all-lower bytes (λ i. h (suc i))))
+
+pub read-hex : {V : Type 0} (digits : List ℕ) (items : V → List ℕ) (o : Option V)
+    → IfSome o (λ v. (digits ≡ encode_lower (items v)) × IsBytes (items v)) → 0 < length digits → IfSome o (λ v. IsHex digits (items v))
+read-hex digits items None found some = tt
+read-hex digits items (Some v) found some = record {
+  shape = found.0;
+  some = omega (arith, ap length found.0, length-encode_with lower_digits (items v));
+  below = found.1;
+}
+
+pub read-only : {V : Type 0} (digits bytes : List ℕ) (items : V → List ℕ) (o : Option V)
+    → IfSome o (λ v. (digits ≡ encode_lower (items v)) × IsBytes (items v)) → IfNone o (list_all is_lower_digit digits ≡ false)
+    → IsHex digits bytes → option_map items o ≡ Some bytes
+read-only digits bytes items None found none h =
+    cc (sym none ∙ ap (list_all is_lower_digit) h.shape ∙ all-lower bytes h.below)
+read-only digits bytes items (Some v) found none h =
+    ap Some (decode_of-same digits (items v) bytes (ap decode_of found.0 ∙ decode_of-encode_lower (items v) found.1) (hex-decodes digits bytes h))

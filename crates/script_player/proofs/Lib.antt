@@ -9,6 +9,7 @@ pub mod BootLemmas
 pub mod ImageLemmas
 pub mod DeliveryLemmas
 pub mod DigitLemmas
+pub mod LaneLemmas
 pub mod DiskLemmas
 mod MeaningLemmas
 mod LineLemmas

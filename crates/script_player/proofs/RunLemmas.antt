@@ -91,12 +91,12 @@ module _ (start : HistoryState) (old new : Moment) (wanted : ℕ) (some : 1 ≤ 
 -- ---- one line
 
 -- what a line was: the events, their replies, and that it played so
-abbrev pub AsPlayed : Pair → List ℕ → List ℕ → Pair → Type 0
-AsPlayed old text printed new = (events : List Event) × (replies : List Reply)
-    × Plays old (record { text = text; printed = printed; events = events; replies = replies }) new
+abbrev pub AsPlayed : List ℕ → Pair → List ℕ → List ℕ → Pair → Type 0
+AsPlayed no_memory old text printed new = (events : List Event) × (replies : List Reply)
+    × Plays no_memory old (record { text = text; printed = printed; events = events; replies = replies }) new
 
-module _ {old new : Pair} {text printed : List ℕ} where
-  as-steps : (count : ℕ) → IsLine text (order (Step count)) → Steps old count printed new → AsPlayed old text printed new
+module _ {no_memory : List ℕ} {old new : Pair} {text printed : List ℕ} where
+  as-steps : (count : ℕ) → IsLine text (order (Step count)) → Steps no_memory old count printed new → AsPlayed no_memory old text printed new
   as-steps count is h =
       let ended = steps-served old.start (moment old) (moment new) count is.1 h.reply h.serves in (
         replicate (suc (length ended.made)) events.Step,
@@ -104,15 +104,15 @@ module _ {old new : Pair} {text printed : List ℕ} where
         scripts.steps count ended.made h is ended.are ended.served (refl, refl),
       )
 
-  as-answered : (said : Line) → IsLine text said → IsAnswered old said printed new → AsPlayed old text printed new
+  as-answered : (said : Line) → IsLine text said → IsAnswered no_memory old said printed new → AsPlayed no_memory old text printed new
   as-answered (order (Step count)) is h = as-steps count is h
   as-answered (order (Sector sector)) is h = ([], [], scripts.reads sector h.0 is h.1 ((refl, refl), h.2) h.3)
   as-answered (order Show) is h = ([], [], scripts.shows is ((refl, refl), h.0) h.1)
   as-answered said is h = (h.0 ∷ [], h.2.reply ∷ [], scripts.event said h.0 h.2 is h.1 (refl, refl))
 
 -- a line after the boot line, and the pair after it
-next-line : {stage next : Stage} {text printed : List ℕ} → GoesOn stage text printed next → (old : Pair) → stage ≡ playing old
-    → (new : Pair) × (next ≡ playing new) × AsPlayed old text printed new
+next-line : {no_memory : List ℕ} {stage next : Stage} {text printed : List ℕ} → GoesOn no_memory stage text printed next → (old : Pair) → stage ≡ playing old
+    → (new : Pair) × (next ≡ playing new) × AsPlayed no_memory old text printed new
 next-line (meaning.is_silence silent none same) old at =
     (old, same ∙ at, ([], [], scripts.silent silent ((refl, refl), none) refl))
 next-line (meaning.boots said new waits is ready booted then) old at = cc (sym waits ∙ at)
@@ -124,19 +124,19 @@ next-line (meaning.finds_no_memory w client bytes plays is told same) old at =
 -- ---- the lines after the boot line
 
 -- what they are, played in turn, up to those that are left
-pub record PlayedOn (old : Pair) (lines : List (List ℕ)) (printed : List ℕ) (ending : Ending) : Type 0 where
+pub record PlayedOn (no_memory : List ℕ) (old : Pair) (lines : List (List ℕ)) (printed : List ℕ) (ending : Ending) : Type 0 where
   pub played : List Played
   pub left : List (List ℕ)
   pub parts : lines ≡ texts_of played ++ left
   pub last : Pair
-  pub plays : PlaysAll old played last
+  pub plays : PlaysAll no_memory old played last
   pub tail : List ℕ
   pub text : printed ≡ printed_of played ++ tail
-  pub ends : Ends (playing last) left tail ending
+  pub ends : Ends no_memory (playing last) left tail ending
 
-played-none : (old : Pair) (stage : Stage) (lines : List (List ℕ)) (printed : List ℕ) (ending : Ending) → stage ≡ playing old
-    → Ends stage lines printed ending → PlayedOn old lines printed ending
-played-none old stage lines printed ending at ends = record {
+played-none : {no_memory : List ℕ} (old : Pair) (stage : Stage) (lines : List (List ℕ)) (printed : List ℕ) (ending : Ending) → stage ≡ playing old
+    → Ends no_memory stage lines printed ending → PlayedOn no_memory old lines printed ending
+played-none {no_memory} old stage lines printed ending at ends = record {
   played = [];
   left = lines;
   parts = refl;
@@ -144,11 +144,11 @@ played-none old stage lines printed ending at ends = record {
   plays = refl;
   tail = printed;
   text = refl;
-  ends = subst (λ (s : Stage). Ends s lines printed ending) at ends;
+  ends = subst (λ (s : Stage). Ends no_memory s lines printed ending) at ends;
 }
 
-pub played-on : {stage : Stage} {number : ℕ} {lines : List (List ℕ)} {printed : List ℕ} {ending : Ending}
-    → Means stage number lines printed ending → (old : Pair) → stage ≡ playing old → PlayedOn old lines printed ending
+pub played-on : {no_memory : List ℕ} {stage : Stage} {number : ℕ} {lines : List (List ℕ)} {printed : List ℕ} {ending : Ending}
+    → Means no_memory stage number lines printed ending → (old : Pair) → stage ≡ playing old → PlayedOn no_memory old lines printed ending
 played-on (meaning.ends stage number) old at = played-none old stage [] [] finished at (refl, refl)
 played-on (meaning.goes_on stage next number line first rest texts ending g m) old at =
     let one = next-line g old at in
@@ -169,10 +169,10 @@ played-on (meaning.ends_refused stage number text texts is) old at =
     played-none old stage (text ∷ texts) _ refused at (text, texts, refl, is, refl)
 
 -- a pair that plays prints nothing after the last line that is played
-quiet-end : (w : Pair) (left : List (List ℕ)) (tail : List ℕ) (ending : Ending) → Ends (playing w) left tail ending → tail ≡ []
-quiet-end w left tail finished h = h.1
-quiet-end w left tail (bad number) h = h.4
-quiet-end w left tail refused h = cc (sym h.3.waits)
+quiet-end : (no_memory : List ℕ) (w : Pair) (left : List (List ℕ)) (tail : List ℕ) (ending : Ending) → Ends no_memory (playing w) left tail ending → tail ≡ []
+quiet-end no_memory w left tail finished h = h.1
+quiet-end no_memory w left tail (bad number) h = h.4
+quiet-end no_memory w left tail refused h = cc (sym h.3.waits)
 
 -- ---- what its clients see
 
@@ -185,7 +185,7 @@ module _ (old new : Pair) (line : Played) where
   still : Was line [] [] → new ≡ old → (new.start ≡ old.start) × HasServed old.start (moment old) line.events line.replies (moment new)
   still was same = (ap (λ (w : Pair). w.start) same, was-served [] [] was (ap moment same))
 
-  line-served : Plays old line new → (new.start ≡ old.start) × HasServed old.start (moment old) line.events line.replies (moment new)
+  line-served : {no_memory : List ℕ} → Plays no_memory old line new → (new.start ≡ old.start) × HasServed old.start (moment old) line.events line.replies (moment new)
   line-served (scripts.silent silent is same) = still is.0 same
   line-served (scripts.event said event done is asks was) =
       (done.does.start, was-served (event ∷ []) (done.reply ∷ []) was (moment new, done.serves, refl))
@@ -194,38 +194,38 @@ module _ (old new : Pair) (line : Played) where
   line-served (scripts.reads sector bytes is named prints same) = still prints.0 same
   line-served (scripts.finds_no_memory client bytes is prints same) = still prints.0 same
 
-pub lines-served : (start : HistoryState) (old new : Pair) (lines : List Played) → old.start ≡ start → PlaysAll old lines new
+pub lines-served : (no_memory : List ℕ) (start : HistoryState) (old new : Pair) (lines : List Played) → old.start ≡ start → PlaysAll no_memory old lines new
     → HasServed start (moment old) (events_of lines) (replies_of lines) (moment new)
-lines-served start old new [] at plays = ap moment plays
-lines-served start old new (line ∷ lines) at plays =
+lines-served no_memory start old new [] at plays = ap moment plays
+lines-served no_memory start old new (line ∷ lines) at plays =
     let one = line-served old plays.0 line plays.1 in
     let first = subst (λ (s : HistoryState). HasServed s (moment old) line.events line.replies (moment plays.0)) at one.1 in
     along-append (Serves start) line.events line.replies (events_of lines) (replies_of lines) (moment old) (moment plays.0) (moment new)
-    first (lines-served start plays.0 new lines (one.0 ∙ at) plays.2)
+    first (lines-served no_memory start plays.0 new lines (one.0 ∙ at) plays.2)
 
 -- ---- a whole script
 
-abbrev pub IsRun : List (List ℕ) → List ℕ → Ending → Type 0
-IsRun lines printed ending = BootsNone lines printed ending ⊎ IsOneRun lines printed ending
+abbrev pub IsRun : List ℕ → List (List ℕ) → List ℕ → Ending → Type 0
+IsRun no_memory lines printed ending = BootsNone no_memory lines printed ending ⊎ IsOneRun no_memory lines printed ending
 
 -- The lines before these are silent.
-module _ (before : List (List ℕ)) (silent : AreSilent before) where
+module _ {no_memory : List ℕ} (before : List (List ℕ)) (silent : AreSilent before) where
   boots-none : (stage : Stage) (lines : List (List ℕ)) (printed : List ℕ) (ending : Ending) → stage ≡ unbooted
-      → Ends stage lines printed ending → IsRun (before ++ lines) printed ending
+      → Ends no_memory stage lines printed ending → IsRun no_memory (before ++ lines) printed ending
   boots-none stage lines printed ending at ends = inl (record {
     before = before;
     left = lines;
     parts = refl;
     are_silent = silent;
-    ends = subst (λ (s : Stage). Ends s lines printed ending) at ends;
+    ends = subst (λ (s : Stage). Ends no_memory s lines printed ending) at ends;
   })
 
   -- the boot line comes first
   boot-first : (text : List ℕ) (lines : List (List ℕ)) (first rest : List ℕ) (ending : Ending) (said : BootLine) (w : Pair)
-      → IsBoot text said → IsReady said w → first ≡ codes "booted\n" → PlayedOn w lines rest ending
-      → IsOneRun (before ++ text ∷ lines) (first ++ rest) ending
+      → IsBoot text said → IsReady said w → first ≡ codes "booted\n" → PlayedOn no_memory w lines rest ending
+      → IsOneRun no_memory (before ++ text ∷ lines) (first ++ rest) ending
   boot-first text lines first rest ending said w is ready booted on =
-      let none = quiet-end on.last on.left on.tail ending on.ends in
+      let none = quiet-end no_memory on.last on.left on.tail ending on.ends in
       record {
         before = before;
         boot = text;
@@ -241,16 +241,16 @@ module _ (before : List (List ℕ)) (silent : AreSilent before) where
         plays = on.plays;
         answers = ap (λ t. first ++ t) (on.text ∙ ap (λ t. printed_of on.played ++ t) none ∙ append-nil (printed_of on.played))
             ∙ ap (λ t. t ++ printed_of on.played) booted;
-        served = lines-served w.start w on.last on.played refl on.plays;
-        ends = subst (λ (t : List ℕ). Ends (playing on.last) on.left t ending) none on.ends;
+        served = lines-served no_memory w.start w on.last on.played refl on.plays;
+        ends = subst (λ (t : List ℕ). Ends no_memory (playing on.last) on.left t ending) none on.ends;
       }
 
-  from-first : (stage next : Stage) (text first rest : List ℕ) (texts : List (List ℕ)) (ending : Ending) → GoesOn stage text first next
-      → stage ≡ unbooted → (AreSilent (before ++ text ∷ []) → next ≡ stage → IsRun ((before ++ text ∷ []) ++ texts) rest ending)
-      → ((w : Pair) → next ≡ playing w → PlayedOn w texts rest ending) → IsRun (before ++ text ∷ texts) (first ++ rest) ending
+  from-first : (stage next : Stage) (text first rest : List ℕ) (texts : List (List ℕ)) (ending : Ending) → GoesOn no_memory stage text first next
+      → stage ≡ unbooted → (AreSilent (before ++ text ∷ []) → next ≡ stage → IsRun no_memory ((before ++ text ∷ []) ++ texts) rest ending)
+      → ((w : Pair) → next ≡ playing w → PlayedOn no_memory w texts rest ending) → IsRun no_memory (before ++ text ∷ texts) (first ++ rest) ending
   from-first stage next text first rest texts ending (meaning.is_silence quiet none same) at again on =
       let run = again (all-push (λ t. is_silent t ≡ true) before text silent quiet) same in
-      rw none (subst (λ (ls : List (List ℕ)). IsRun ls rest ending) (append_assoc before (text ∷ []) texts) run)
+      rw none (subst (λ (ls : List (List ℕ)). IsRun no_memory ls rest ending) (append_assoc before (text ∷ []) texts) run)
   from-first stage next text first rest texts ending (meaning.boots said new waits is ready booted then) at again on =
       inr (boot-first text texts first rest ending said new is ready booted (on new then))
   from-first stage next text first rest texts ending (meaning.answers said old new plays is answered then) at again on =
@@ -258,9 +258,9 @@ module _ (before : List (List ℕ)) (silent : AreSilent before) where
   from-first stage next text first rest texts ending (meaning.finds_no_memory w client bytes plays is told same) at again on =
       cc (sym at ∙ plays)
 
-pub one-run : {stage : Stage} {number : ℕ} {lines : List (List ℕ)} {printed : List ℕ} {ending : Ending}
-    → Means stage number lines printed ending → stage ≡ unbooted → (before : List (List ℕ)) → AreSilent before
-    → IsRun (before ++ lines) printed ending
+pub one-run : {no_memory : List ℕ} {stage : Stage} {number : ℕ} {lines : List (List ℕ)} {printed : List ℕ} {ending : Ending}
+    → Means no_memory stage number lines printed ending → stage ≡ unbooted → (before : List (List ℕ)) → AreSilent before
+    → IsRun no_memory (before ++ lines) printed ending
 one-run (meaning.ends stage number) at before silent = boots-none before silent stage [] [] finished at (refl, refl)
 one-run (meaning.goes_on stage next number text first rest texts ending g m) at before silent =
     from-first before silent stage next text first rest texts ending g at (λ more same. one-run m (same ∙ at) (before ++ text ∷ []) more)

@@ -58,36 +58,56 @@ module _ (o m o' : Writing) (text : List ℕ) (all : Appends o.bytes m.bytes tex
   put-shown (Ok done) well put = (record { all = all-still put.0.all; well = put.0.well }, well)
   put-shown (Err e) well put = front-still put
 
+nil-front : (f r : List ℕ) → [] ≡ f ++ r → f ≡ []
+nil-front [] r e = refl
+nil-front (x ∷ f) r e = cc
+
+-- a write failed, and after it nothing more was printed
+pub front-again : (o m o' : Writing) (text : List ℕ) → WritesFront o m text → WritesFront m o' [] → WritesFront o o' text
+front-again o m o' text w after =
+    let same = subst (Appends m.bytes o'.bytes) (nil-front after.front.0 after.front.1 after.front.2) after.front.3 in
+    record { front = (w.front.0, w.front.1, w.front.2, all-still o m o' w.front.0 w.front.3 same); badly = after.badly }
+
+-- none fails: all that was printed is written out
+pub written : (o m o' : Writing) (text : List ℕ) → Appends o.bytes m.bytes text → Writes m o' [] → Writes o o' text
+written o m o' text all w = record { all = all-still o m o' text all w.all; well = w.well }
+
+-- what was asked to be written was printed
+pub put-prints : {T E : Type 0} (o o' : Writing) (r : Result T E) (text : List ℕ) → IsPut o o' r text → IsPrinted o o' r text
+put-prints o o' (Ok done) text put = put.0.all
+put-prints o o' (Err e) text put = put
+
 -- ---- the lines that were played
 
 -- The first lines of a script, of which the next has this number, were played and lead to this stage, and what they print was printed:
 -- whatever lines follow mean there, all of them mean after that.
-pub record ArePlayed (source : List ℕ) (o m : Writing) (left : List (List ℕ)) (stage : Stage) (number : ℕ) : Type 0 where
+pub record ArePlayed (no_memory source : List ℕ) (o m : Writing) (left : List (List ℕ)) (stage : Stage) (number : ℕ) : Type 0 where
   pub done : List (List ℕ)
   pub printed : List ℕ
   pub all : Appends o.bytes m.bytes printed
   pub lines : lines_of source ≡ done ++ left
-  pub means : (more : List (List ℕ)) (rest : List ℕ) (ending : Ending) → Means stage number more rest ending
-      → Means unbooted 1 (done ++ more) (printed ++ rest) ending
+  pub means : (more : List (List ℕ)) (rest : List ℕ) (ending : Ending) → Means no_memory stage number more rest ending
+      → Means no_memory unbooted 1 (done ++ more) (printed ++ rest) ending
 
-module _ {stage : Stage} (next : Stage) (number : ℕ) {line text : List ℕ} where
+module _ {no_memory : List ℕ} {stage : Stage} (next : Stage) (number : ℕ) {line text : List ℕ} where
   -- what a line means by itself
-  by-itself : (turn : Turn) → IsStep stage line turn text next → (ending : Ending) × Means stage number (line ∷ []) text ending
+  by-itself : (turn : Turn) → IsStep no_memory stage line turn text next → (ending : Ending) × Means no_memory stage number (line ∷ []) text ending
   by-itself turns.Bad h = (bad number, rw h.1 (ends_badly stage number line [] h.0))
-  by-itself turns.Refused h = (refused, rw h.1 (ends_refused stage number line [] h.0))
+  by-itself (turns.Refused w) h = (refused, rw h.1 (ends_refused stage number line [] h.0))
   by-itself turn h =
       (finished, rw append-nil at (goes_on stage next number line text [] [] finished h (ends next (number + 1))))
 
   -- a script goes on after it
-  pub still-on : (turn : Turn) → IsStep stage line turn text next → stop_of turn number ≡ None → GoesOn stage line text next
+  pub still-on : (turn : Turn) → IsStep no_memory stage line turn text next → stop_of turn number ≡ None
+      → GoesOn no_memory stage line text next
   still-on turns.Bad h e = cc
-  still-on turns.Refused h e = cc
+  still-on (turns.Refused w) h e = cc
   still-on turn h e = h
 
-module _ {source : List ℕ} {o m : Writing} {left : List (List ℕ)} {stage : Stage} {number : ℕ}
-    (before : ArePlayed source o m left stage number) where
+module _ {no_memory source : List ℕ} {o m : Writing} {left : List (List ℕ)} {stage : Stage} {number : ℕ}
+    (before : ArePlayed no_memory source o m left stage number) where
   -- a write fails before the next line
-  pub cut-before : {o' : Writing} → WritesFront m o' [] → IsCut source o o'
+  pub cut-before : {o' : Writing} → WritesFront m o' [] → IsCut no_memory source o o'
   cut-before {o'} w = record {
     first = before.done ++ [];
     rest = left;
@@ -107,7 +127,7 @@ module _ {source : List ℕ} {o m : Writing} {left : List (List ℕ)} {stage : S
     printed = all-still o m m' before.printed before.all shown
 
     -- one line more
-    pub one-more : GoesOn stage line text next → Appends m'.bytes o'.bytes text → ArePlayed source o o' rest next (number + 1)
+    pub one-more : GoesOn no_memory stage line text next → Appends m'.bytes o'.bytes text → ArePlayed no_memory source o o' rest next (number + 1)
     one-more g a = record {
       done = before.done ++ line ∷ [];
       printed = before.printed ++ text;
@@ -118,7 +138,7 @@ module _ {source : List ℕ} {o m : Writing} {left : List (List ℕ)} {stage : S
     }
 
     -- a write fails while the next line is printed
-    pub cut-inside : (turn : Turn) → IsStep stage line turn text next → WritesFront m' o' text → IsCut source o o'
+    pub cut-inside : (turn : Turn) → IsStep no_memory stage line turn text next → WritesFront m' o' text → IsCut no_memory source o o'
     cut-inside turn step w =
         let alone = by-itself next number turn step in
         record {
@@ -131,7 +151,8 @@ module _ {source : List ℕ} {o m : Writing} {left : List (List ℕ)} {stage : S
           front = front-after o m' o' before.printed printed text w;
         }
 
-    ended : (ending : Ending) → Means stage number (line ∷ rest) text ending → Appends m'.bytes o'.bytes text → HasMeant source ending o o'
+    ended : (ending : Ending) → Means no_memory stage number (line ∷ rest) text ending → Appends m'.bytes o'.bytes text
+        → HasMeant no_memory source ending o o'
     ended ending means a = (
       before.printed ++ text,
       rw (before.lines ∙ ap (λ ls. before.done ++ ls) split) (before.means (line ∷ rest) text ending means),
@@ -139,29 +160,26 @@ module _ {source : List ℕ} {o m : Writing} {left : List (List ℕ)} {stage : S
     )
 
     -- the next line ends the script
-    pub line-ends : (turn : Turn) → IsStep stage line turn text next → Appends m'.bytes o'.bytes text
-        → (stop : Stop) → stop_of turn number ≡ Some stop → IsPlayedTo source (Err stop) o o'
-    line-ends turns.Bad h a stop e = subst (λ (s : Stop). IsPlayedTo source (Err s) o o') (some_same e)
+    pub line-ends : (turn : Turn) → IsStep no_memory stage line turn text next → Appends m'.bytes o'.bytes text
+        → (stop : Stop) → stop_of turn number ≡ Some stop → IsPlayedTo no_memory source (Err stop) o o'
+    line-ends turns.Bad h a stop e = subst (λ (s : Stop). IsPlayedTo no_memory source (Err s) o o') (some_same e)
         (ended (bad number) (rw h.1 (ends_badly stage number line rest h.0)) a)
-    line-ends turns.Refused h a stop e = subst (λ (s : Stop). IsPlayedTo source (Err s) o o') (some_same e)
+    line-ends (turns.Refused w) h a stop e = subst (λ (s : Stop). IsPlayedTo no_memory source (Err s) o o') (some_same e)
         (ended refused (rw h.1 (ends_refused stage number line rest h.0)) a)
     line-ends turn h a stop e = cc
 
 -- what ends a script is why it ended
-pub stopped-so : (source : List ℕ) (o o' : Writing) (stop : Stop) (r : Result Unit Stop) → IsErrAnd r (λ s. s ≡ stop)
-    → IsPlayedTo source (Err stop) o o' → IsPlayedTo source r o o'
-stopped-so source o o' stop r e h =
-    failed _ (λ x. IsPlayedTo source x o o') r e (λ s is. subst (λ (x : Stop). IsPlayedTo source (Err x) o o') (sym is) h)
+pub stopped-so : (no_memory source : List ℕ) (o o' : Writing) (stop : Stop) (r : Result Unit Stop) → IsErrAnd r (λ s. s ≡ stop)
+    → IsPlayedTo no_memory source (Err stop) o o' → IsPlayedTo no_memory source r o o'
+stopped-so no_memory source o o' stop r e h =
+    failed _ (λ x. IsPlayedTo no_memory source x o o') r e
+    (λ s is. subst (λ (x : Stop). IsPlayedTo no_memory source (Err x) o o') (sym is) h)
 
 -- ---- the whole script
 
-nil-front : (f r : List ℕ) → [] ≡ f ++ r → f ≡ []
-nil-front [] r e = refl
-nil-front (x ∷ f) r e = cc
-
-module _ (source : List ℕ) (o m o' : Writing) where
+module _ {no_memory : List ℕ} (source : List ℕ) (o m o' : Writing) where
   -- a write fails after it: what was printed is a beginning of what it prints
-  cut-whole : (ending : Ending) → HasMeant source ending o m → WritesFront m o' [] → IsCut source o o'
+  cut-whole : (ending : Ending) → HasMeant no_memory source ending o m → WritesFront m o' [] → IsCut no_memory source o o'
   cut-whole ending h after = record {
     first = lines_of source;
     rest = [];
@@ -172,10 +190,8 @@ module _ (source : List ℕ) (o m o' : Writing) where
     front = front-still o m o' h.0 h.2 after;
   }
 
-  cut-again : IsCut source o m → WritesFront m o' [] → IsCut source o o'
+  cut-again : IsCut no_memory source o m → WritesFront m o' [] → IsCut no_memory source o o'
   cut-again cut after =
-      let f = cut.front.front in
-      let same = subst (Appends m.bytes o'.bytes) (nil-front after.front.0 after.front.1 after.front.2) after.front.3 in
       record {
         first = cut.first;
         rest = cut.rest;
@@ -183,26 +199,22 @@ module _ (source : List ℕ) (o m o' : Writing) where
         ending = cut.ending;
         lines = cut.lines;
         means = cut.means;
-        front = record { front = (f.0, f.1, f.2, all-still o m o' f.0 f.3 same); badly = after.badly };
+        front = front-again o m o' cut.text cut.front after;
       }
 
-  cut-after : (r : Result Unit Stop) → IsPlayedTo source r o m → WritesFront m o' [] → IsCut source o o'
+  cut-after : (r : Result Unit Stop) → IsPlayedTo no_memory source r o m → WritesFront m o' [] → IsCut no_memory source o o'
   cut-after (Ok done) h = cut-whole finished h
   cut-after (Err (stops.Bad number)) h = cut-whole (bad number) h
   cut-after (Err stops.Refused) h = cut-whole refused h
   cut-after (Err stops.Unwritten) h = cut-again h
 
-  pub played-badly : (e : Writing) (r : Result Unit Stop) → IsPlayedTo source r o m → WritesFront m o' [] → IsPlayed source o o' e e 1
+  pub played-badly : (e : Writing) (r : Result Unit Stop) → IsPlayedTo no_memory source r o m → WritesFront m o' [] → IsPlayed no_memory source o o' e e 1
   played-badly e r h w = cut_short (cut-after r h w) refl refl
 
-  -- none fails: all that was printed is written out
-  written : (text : List ℕ) → Appends o.bytes m.bytes text → Writes m o' [] → Writes o o' text
-  written text all w = record { all = all-still o m o' text all w.all; well = w.well }
-
   module _ (e e' : Writing) (status : ℕ) where
-    pub played-well : (r : Result Unit Stop) → IsPlayedTo source r o m → Writes m o' [] × (m.failed ≡ false) → IsEnded r e e' status
-        → IsPlayed source o o' e e' status
-    played-well (Ok done) h w end = whole h.0 finished h.1 (written h.0 h.2 w.0) end.0 end.1
-    played-well (Err (stops.Bad number)) h w end = whole h.0 (bad number) h.1 (written h.0 h.2 w.0) end.0 end.1
-    played-well (Err stops.Refused) h w end = whole h.0 refused h.1 (written h.0 h.2 w.0) end.0 end.1
+    pub played-well : (r : Result Unit Stop) → IsPlayedTo no_memory source r o m → Writes m o' [] × (m.failed ≡ false) → IsEnded r e e' status
+        → IsPlayed no_memory source o o' e e' status
+    played-well (Ok done) h w end = whole h.0 finished h.1 (written o m o' h.0 h.2 w.0) end.0 end.1
+    played-well (Err (stops.Bad number)) h w end = whole h.0 (bad number) h.1 (written o m o' h.0 h.2 w.0) end.0 end.1
+    played-well (Err stops.Refused) h w end = whole h.0 refused h.1 (written o m o' h.0 h.2 w.0) end.0 end.1
     played-well (Err stops.Unwritten) h w end = cc (sym w.1 ∙ h.front.badly)

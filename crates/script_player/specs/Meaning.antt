@@ -1,10 +1,9 @@
--- What a script means: what each of its lines prints, and how it ends (README, "Run it").
+-- What a script means: what each of its lines prints, and how it ends (README, "Run it"). That memory was wanted prints `no_memory`, which
+-- is the writer's (`Sink` of streams.rt): who has no want of memory can't print it.
 use Rattle.std.specs.Prelude.{◌≡◌, ℕ, ◌+◌, ◌==◌, ◌⊎◌, Bool, true, false, List, [], ◌∷◌, ◌++◌, Some, None, codes, decimal}
 use Rattle.std.specs.List.{slice_split}
-use Rattle.memory_wanted.specs.Wanted.{wanted}
 use Rattle.pair_record.specs.declared.event.Event.{Event}
 use Rattle.pair_record.specs.declared.event.Event.TheVariants as events
-use Rattle.pair_record.specs.declared.event.Refusal.TheVariants.{NoMemory}
 use Rattle.pair_record.specs.declared.event.Reply.{Reply}
 use Rattle.pair_core.specs.Pair.{Pair, IsConsistent}
 use Rattle.pair_core.specs.Replication.{Does, KeepsBackup}
@@ -19,7 +18,7 @@ use Rattle.script_player.specs.Command.{IsCommand}
 use Rattle.script_player.specs.Delivery.{IsDelivery}
 use Rattle.script_player.specs.Lines.{Line, order, delivery}
 use Rattle.script_player.specs.Streams.{Writing, Writes, WritesFront}
-use Rattle.script_player.specs.Printed.{line, named_sector, reply_line, refusal_line, sector_line, show_line}
+use Rattle.script_player.specs.Printed.{line, named_sector, told_line, sector_line, show_line}
 
 -- ---- lines
 
@@ -58,30 +57,30 @@ AsksFor line event = ⊥
 
 -- The pair old answers the event as the pair protocol says and becomes new, its image as that event makes it. To its clients the event is
 -- one of a guest that never fails. The reply is printed.
-pub record Happens (old : Pair) (event : Event) (printed : List ℕ) (new : Pair) : Type 0 where
+pub record Happens (no_memory : List ℕ) (old : Pair) (event : Event) (printed : List ℕ) (new : Pair) : Type 0 where
   pub reply : Reply
   pub does : Does old event reply new
   pub serves : Serves old.start (moment old) event reply (moment new)
-  pub is_printed : printed ≡ reply_line reply
+  pub is_printed : printed ≡ told_line no_memory reply
 
 -- The guest makes so many steps, or as many as it can before a refusal, each of which is an event to the clients, and the image stays. The
 -- last reply is printed.
-pub record Steps (old : Pair) (count : ℕ) (printed : List ℕ) (new : Pair) : Type 0 where
+pub record Steps (no_memory : List ℕ) (old : Pair) (count : ℕ) (printed : List ℕ) (new : Pair) : Type 0 where
   pub reply : Reply
   pub outcome : StepsAnswer old.start old.protocol count reply new.protocol
   pub start : new.start ≡ old.start
   pub backup : KeepsBackup old.nodes new.nodes
   pub consistent : IsConsistent new
   pub serves : ServesSteps old.start (moment old) count reply (moment new)
-  pub is_printed : printed ≡ reply_line reply
+  pub is_printed : printed ≡ told_line no_memory reply
 
 -- A line is answered so.
-abbrev pub IsAnswered : Pair → Line → List ℕ → Pair → Type 0
-IsAnswered old (order (Step count)) printed new = Steps old count printed new
-IsAnswered old (order (Sector sector)) printed new =
+abbrev pub IsAnswered : List ℕ → Pair → Line → List ℕ → Pair → Type 0
+IsAnswered no_memory old (order (Step count)) printed new = Steps no_memory old count printed new
+IsAnswered no_memory old (order (Sector sector)) printed new =
     (bytes : List ℕ) × (named_sector old sector ≡ Some bytes) × (printed ≡ sector_line sector bytes) × (new ≡ old)
-IsAnswered old (order Show) printed new = (printed ≡ show_line (shown old)) × (new ≡ old)
-IsAnswered old line printed new = (event : Event) × AsksFor line event × Happens old event printed new
+IsAnswered no_memory old (order Show) printed new = (printed ≡ show_line (shown old)) × (new ≡ old)
+IsAnswered no_memory old line printed new = (event : Event) × AsksFor line event × Happens no_memory old event printed new
 
 -- The line asks for a sector beyond the disk, which is a bad line.
 abbrev pub IsBeyond : Pair → Line → Type 0
@@ -102,18 +101,18 @@ pub data Stage : Type 0 where
   playing : Pair → Stage
 
 -- A line that prints this, and after which the script goes on.
-pub data GoesOn (stage : Stage) (text printed : List ℕ) (next : Stage) : Type 0 where
+pub data GoesOn (no_memory : List ℕ) (stage : Stage) (text printed : List ℕ) (next : Stage) : Type 0 where
   -- an empty line, or a comment
-  is_silence : is_silent text ≡ true → printed ≡ [] → next ≡ stage → GoesOn stage text printed next
+  is_silence : is_silent text ≡ true → printed ≡ [] → next ≡ stage → GoesOn no_memory stage text printed next
   -- the boot line
   boots : (line : BootLine) (new : Pair) → stage ≡ unbooted → IsBoot text line → IsReady line new
-      → printed ≡ codes "booted\n" → next ≡ playing new → GoesOn stage text printed next
+      → printed ≡ codes "booted\n" → next ≡ playing new → GoesOn no_memory stage text printed next
   -- a line after it
-  answers : (line : Line) (old new : Pair) → stage ≡ playing old → IsLine text line → IsAnswered old line printed new
-      → next ≡ playing new → GoesOn stage text printed next
+  answers : (line : Line) (old new : Pair) → stage ≡ playing old → IsLine text line → IsAnswered no_memory old line printed new
+      → next ≡ playing new → GoesOn no_memory stage text printed next
   -- a delivery whose bytes find no memory, which does nothing
   finds_no_memory : (w : Pair) (client : ℕ) (bytes : List ℕ) → stage ≡ playing w → IsDelivery text client bytes
-      → printed ≡ refusal_line (NoMemory wanted) → next ≡ stage → GoesOn stage text printed next
+      → printed ≡ no_memory → next ≡ stage → GoesOn no_memory stage text printed next
 
 -- The line isn't silent, and has no known form, or asks for a sector beyond the disk.
 pub data IsBad (stage : Stage) (text : List ℕ) : Type 0 where
@@ -136,15 +135,15 @@ pub data Ending : Type 0 where
   refused : Ending
 
 -- From this stage on these lines, of which the first has this number, print `out` and end so.
-pub data Means : Stage → ℕ → List (List ℕ) → List ℕ → Ending → Type 0 where
-  ends : (stage : Stage) (number : ℕ) → Means stage number [] [] finished
+pub data Means (no_memory : List ℕ) : Stage → ℕ → List (List ℕ) → List ℕ → Ending → Type 0 where
+  ends : (stage : Stage) (number : ℕ) → Means no_memory stage number [] [] finished
   goes_on : (stage next : Stage) (number : ℕ) (text first rest : List ℕ) (texts : List (List ℕ)) (ending : Ending)
-      → GoesOn stage text first next → Means next (number + 1) texts rest ending
-      → Means stage number (text ∷ texts) (first ++ rest) ending
+      → GoesOn no_memory stage text first next → Means no_memory next (number + 1) texts rest ending
+      → Means no_memory stage number (text ∷ texts) (first ++ rest) ending
   ends_badly : (stage : Stage) (number : ℕ) (text : List ℕ) (texts : List (List ℕ)) → IsBad stage text
-      → Means stage number (text ∷ texts) [] (bad number)
+      → Means no_memory stage number (text ∷ texts) [] (bad number)
   ends_refused : (stage : Stage) (number : ℕ) (text : List ℕ) (texts : List (List ℕ)) → IsRefused stage text
-      → Means stage number (text ∷ texts) (refusal_line (NoMemory wanted)) refused
+      → Means no_memory stage number (text ∷ texts) no_memory refused
 
 -- ---- the program
 
@@ -163,19 +162,19 @@ IsTold (bad number) old new = Writes old new (bad_line number) ⊎ WritesFront o
 IsTold ending old new = new ≡ old
 
 -- A write to standard output failed, which got a beginning of what the first lines of a script mean.
-pub record IsCut (source : List ℕ) (out out' : Writing) : Type 0 where
+pub record IsCut (no_memory source : List ℕ) (out out' : Writing) : Type 0 where
   pub first : List (List ℕ)
   pub rest : List (List ℕ)
   pub text : List ℕ
   pub ending : Ending
   pub lines : lines_of source ≡ first ++ rest
-  pub means : Means unbooted 1 first text ending
+  pub means : Means no_memory unbooted 1 first text ending
   pub front : WritesFront out out' text
 
 -- What standard output and standard error get of a script, and the exit status.
-pub data IsPlayed (source : List ℕ) (out out' err err' : Writing) (status : ℕ) : Type 0 where
+pub data IsPlayed (no_memory source : List ℕ) (out out' err err' : Writing) (status : ℕ) : Type 0 where
   -- it is played, and standard output gets what it means
-  whole : (text : List ℕ) (ending : Ending) → Means unbooted 1 (lines_of source) text ending → Writes out out' text
-      → IsTold ending err err' → status ≡ status_of ending → IsPlayed source out out' err err' status
+  whole : (text : List ℕ) (ending : Ending) → Means no_memory unbooted 1 (lines_of source) text ending → Writes out out' text
+      → IsTold ending err err' → status ≡ status_of ending → IsPlayed no_memory source out out' err err' status
   -- a write to standard output fails
-  cut_short : IsCut source out out' → err' ≡ err → status ≡ 1 → IsPlayed source out out' err err' status
+  cut_short : IsCut no_memory source out out' → err' ≡ err → status ≡ 1 → IsPlayed no_memory source out out' err err' status

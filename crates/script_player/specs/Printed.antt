@@ -6,6 +6,7 @@ use Rattle.pair_core.specs.Pair.{Pair}
 use Rattle.pair_core.specs.Start.{shown_sector}
 use Rattle.pair_core.specs.Words.{word_of}
 use Rattle.pair_record.specs.declared.event.Refusal.{Refusal}
+use Rattle.pair_record.specs.declared.event.Refusal.TheVariants.{NoMemory}
 use Rattle.pair_record.specs.Refusals.{number_of, name_of}
 use Rattle.pair_record.specs.declared.event.Show.{Show}
 use Rattle.pair_record.specs.declared.event.Reply.{Reply}
@@ -40,6 +41,15 @@ reply_line (Alone g m) = line (codes "alone" ∷ decimal g ∷ codes "landed" �
 reply_line (Live g n) = line (codes "live" ∷ decimal g ∷ codes "steps" ∷ decimal n ∷ [])
 reply_line (Protecting g) = line (codes "protecting" ∷ decimal g ∷ [])
 reply_line (Refused refusal) = refusal_line refusal
+
+-- The same by a writer that prints this where memory was wanted (`Sink` of streams.rt).
+abbrev pub told_refusal : List ℕ → Refusal → List ℕ
+told_refusal no_memory (NoMemory w) = no_memory
+told_refusal no_memory refusal = refusal_line refusal
+
+abbrev pub told_line : List ℕ → Reply → List ℕ
+told_line no_memory (Refused refusal) = told_refusal no_memory refusal
+told_line no_memory reply = reply_line reply
 
 -- The numbers are what 64 bits hold, and a frame's items are bytes.
 abbrev pub IsPlain : Reply → Type 0

@@ -1,10 +1,8 @@
--- What a script is to its clients: one run of a pair, of which it prints the answers.
+-- What a script is to its clients: one run of a pair, of which it prints the answers. That memory was wanted prints `no_memory`.
 use Rattle.std.specs.Prelude.{◌≡◌, ℕ, suc, ◌+◌, ◌<◌, true, List, [], ◌∷◌, ◌++◌, Some, codes, length, map, replicate}
 use Rattle.std.specs.List.{flat_map, AllByRecursion}
-use Rattle.memory_wanted.specs.Wanted.{wanted}
 use Rattle.pair_record.specs.declared.event.Event.{Event}
 use Rattle.pair_record.specs.declared.event.Event.TheVariants.{Step as GuestStep}
-use Rattle.pair_record.specs.declared.event.Refusal.TheVariants.{NoMemory}
 use Rattle.pair_record.specs.declared.event.Reply.{Reply}
 use Rattle.pair_core.specs.Pair.{Pair}
 use Rattle.pair_core.specs.Service.{HasServed, is_step, moment}
@@ -15,7 +13,7 @@ use Rattle.script_player.specs.Delivery.{IsDelivery}
 use Rattle.script_player.specs.Lines.{Line, order}
 use Rattle.script_player.specs.Meaning.{AsksFor, Ending, Happens, IsBad, IsLine, IsReady, IsRefused, Stage, Steps, bad, finished, is_silent}
 use Rattle.script_player.specs.Meaning.{playing, refused, unbooted}
-use Rattle.script_player.specs.Printed.{named_sector, refusal_line, sector_line, show_line}
+use Rattle.script_player.specs.Printed.{named_sector, sector_line, show_line}
 
 -- a line that was played: its text, what it printed, the events that it was, and their replies
 pub record Played : Type 0 where
@@ -43,28 +41,28 @@ abbrev pub IsServed : Pair → List Event → List Reply → Pair → Type 0
 IsServed old events replies new = HasServed old.start (moment old) events replies (moment new)
 
 -- A line after the boot line, from the pair old to new.
-pub data Plays (old : Pair) (line : Played) (new : Pair) : Type 0 where
+pub data Plays (no_memory : List ℕ) (old : Pair) (line : Played) (new : Pair) : Type 0 where
   -- an empty line, or a comment
-  silent : is_silent line.text ≡ true → OnlyPrints line [] → new ≡ old → Plays old line new
+  silent : is_silent line.text ≡ true → OnlyPrints line [] → new ≡ old → Plays no_memory old line new
   -- one that asks for an event, and prints the reply
-  event : (said : Line) (event : Event) (done : Happens old event line.printed new) → IsLine line.text said → AsksFor said event
-      → Was line (event ∷ []) (done.reply ∷ []) → Plays old line new
+  event : (said : Line) (event : Event) (done : Happens no_memory old event line.printed new) → IsLine line.text said → AsksFor said event
+      → Was line (event ∷ []) (done.reply ∷ []) → Plays no_memory old line new
   -- one that asks for steps: each is an event, and the last reply is printed
-  steps : (count : ℕ) (made : List Reply) (done : Steps old count line.printed new) → IsLine line.text (order (Step count))
+  steps : (count : ℕ) (made : List Reply) (done : Steps no_memory old count line.printed new) → IsLine line.text (order (Step count))
       → AreSteps count made done.reply → IsServed old (replicate (suc (length made)) GuestStep) (made ++ done.reply ∷ []) new
-      → Was line (replicate (suc (length made)) GuestStep) (made ++ done.reply ∷ []) → Plays old line new
+      → Was line (replicate (suc (length made)) GuestStep) (made ++ done.reply ∷ []) → Plays no_memory old line new
   -- one that shows the pair, or a sector of its disk
-  shows : IsLine line.text (order Show) → OnlyPrints line (show_line (shown old)) → new ≡ old → Plays old line new
+  shows : IsLine line.text (order Show) → OnlyPrints line (show_line (shown old)) → new ≡ old → Plays no_memory old line new
   reads : (sector : ℕ) (bytes : List ℕ) → IsLine line.text (order (Sector sector)) → named_sector old sector ≡ Some bytes
-      → OnlyPrints line (sector_line sector bytes) → new ≡ old → Plays old line new
+      → OnlyPrints line (sector_line sector bytes) → new ≡ old → Plays no_memory old line new
   -- a delivery whose bytes find no memory
-  finds_no_memory : (client : ℕ) (bytes : List ℕ) → IsDelivery line.text client bytes → OnlyPrints line (refusal_line (NoMemory wanted))
-      → new ≡ old → Plays old line new
+  finds_no_memory : (client : ℕ) (bytes : List ℕ) → IsDelivery line.text client bytes → OnlyPrints line no_memory
+      → new ≡ old → Plays no_memory old line new
 
 -- These lines, one after another, lead from the pair old to new.
-abbrev pub PlaysAll : Pair → List Played → Pair → Type 0
-PlaysAll old [] new = new ≡ old
-PlaysAll old (line ∷ lines) new = (mid : Pair) × Plays old line mid × PlaysAll mid lines new
+abbrev pub PlaysAll : List ℕ → Pair → List Played → Pair → Type 0
+PlaysAll no_memory old [] new = new ≡ old
+PlaysAll no_memory old (line ∷ lines) new = (mid : Pair) × Plays no_memory old line mid × PlaysAll no_memory mid lines new
 
 abbrev pub texts_of : List Played → List (List ℕ)
 texts_of lines = map (λ line. line.text) lines
@@ -79,26 +77,26 @@ abbrev pub replies_of : List Played → List Reply
 replies_of lines = flat_map (λ line. line.replies) lines
 
 -- How a script ends at this stage with the lines that are left: there is none; the next one is bad; it is a boot line that is refused.
-abbrev pub Ends : Stage → List (List ℕ) → List ℕ → Ending → Type 0
-Ends stage left printed finished = (left ≡ []) × (printed ≡ [])
-Ends stage left printed (bad number) = (text : List ℕ) × (rest : List (List ℕ)) × (left ≡ text ∷ rest) × IsBad stage text × (printed ≡ [])
-Ends stage left printed refused =
-    (text : List ℕ) × (rest : List (List ℕ)) × (left ≡ text ∷ rest) × IsRefused stage text × (printed ≡ refusal_line (NoMemory wanted))
+abbrev pub Ends : List ℕ → Stage → List (List ℕ) → List ℕ → Ending → Type 0
+Ends no_memory stage left printed finished = (left ≡ []) × (printed ≡ [])
+Ends no_memory stage left printed (bad number) = (text : List ℕ) × (rest : List (List ℕ)) × (left ≡ text ∷ rest) × IsBad stage text × (printed ≡ [])
+Ends no_memory stage left printed refused =
+    (text : List ℕ) × (rest : List (List ℕ)) × (left ≡ text ∷ rest) × IsRefused stage text × (printed ≡ no_memory)
 
 abbrev pub AreSilent : List (List ℕ) → Type 0
 AreSilent texts = AllByRecursion (λ text. is_silent text ≡ true) texts
 
 -- The lines of a script boot no pair.
-pub record BootsNone (lines : List (List ℕ)) (printed : List ℕ) (ending : Ending) : Type 0 where
+pub record BootsNone (no_memory : List ℕ) (lines : List (List ℕ)) (printed : List ℕ) (ending : Ending) : Type 0 where
   pub before : List (List ℕ)
   pub left : List (List ℕ)
   pub parts : lines ≡ before ++ left
   pub are_silent : AreSilent before
-  pub ends : Ends unbooted left printed ending
+  pub ends : Ends no_memory unbooted left printed ending
 
 -- They boot one, and the lines after its boot line are one run of it: what they printed are the answers to its events, line by line, and
 -- to its clients these are, one after another, those of one guest that never fails.
-pub record IsOneRun (lines : List (List ℕ)) (printed : List ℕ) (ending : Ending) : Type 0 where
+pub record IsOneRun (no_memory : List ℕ) (lines : List (List ℕ)) (printed : List ℕ) (ending : Ending) : Type 0 where
   pub before : List (List ℕ)
   pub boot : List ℕ
   pub played : List Played
@@ -110,7 +108,7 @@ pub record IsOneRun (lines : List (List ℕ)) (printed : List ℕ) (ending : End
   pub first : Pair
   pub last : Pair
   pub ready : IsReady said first
-  pub plays : PlaysAll first played last
+  pub plays : PlaysAll no_memory first played last
   pub answers : printed ≡ codes "booted\n" ++ printed_of played
   pub served : IsServed first (events_of played) (replies_of played) last
-  pub ends : Ends (playing last) left [] ending
+  pub ends : Ends no_memory (playing last) left [] ending

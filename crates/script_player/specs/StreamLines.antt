@@ -1,8 +1,7 @@
 -- The lines of check-stream.
 use Rattle.std.specs.Prelude.{ℕ, ◌∷◌, [], ◌==◌, if◌then◌else◌, List, length, codes, decimal}
 use Rattle.epoch_snapshot.specs.Checkpoints.{Change}
-use Rattle.checkpoint_stream.specs.declared.errors.StreamError.{StreamError}
-use Rattle.checkpoint_stream.specs.declared.errors.StreamError.TheVariants.{Malformed, NoMemory}
+use Rattle.checkpoint_stream.specs.declared.errors.StreamError.TheVariants.{Malformed}
 use Rattle.checkpoint_stream.specs.Refusals.{number_of, name_of}
 use Rattle.script_player.specs.Printed.{line}
 
@@ -19,8 +18,7 @@ checkpoint_line c = line ((if c.number == 0 then codes "full" else codes "delta"
 abbrev pub short_line : ℕ → List ℕ
 short_line len = line (codes "short" ∷ codes "at" ∷ decimal len ∷ [])
 
--- the number and the name of a refusal, and where the bytes are malformed the offset
-abbrev pub stream_refusal_line : StreamError → List ℕ
-stream_refusal_line (Malformed offset) =
+-- the number and the name of the refusal of bytes that are malformed, and the offset
+abbrev pub malformed_line : ℕ → List ℕ
+malformed_line offset =
     line (codes "refused" ∷ decimal (number_of (Malformed offset)) ∷ name_of (Malformed offset) ∷ decimal offset ∷ [])
-stream_refusal_line (NoMemory w) = line (codes "refused" ∷ decimal (number_of (NoMemory w)) ∷ name_of (NoMemory w) ∷ [])

@@ -1,25 +1,26 @@
 //! What a line after the boot line does to the pair, and what is printed of it.
 
-ghost use Rattle.std.specs.Prelude.{◌≡◌, [], option_map};
+ghost use Rattle.std.specs.Prelude.{◌≡◌, ℕ, List, [], option_map};
 ghost use Rattle.pair_core.specs.Pair.{IsConsistent};
 ghost use Rattle.pair_core.specs.Replication.{KeepsBackup};
 ghost use Rattle.pair_core.specs.Runs.{StepsAnswer};
 ghost use Rattle.pair_core.specs.Service.{ServesSteps, moment};
 ghost use Rattle.script_player.specs.Lines.{line_of, order, Line as SpelledLine};
 ghost use Rattle.script_player.specs.Meaning.{AsksFor};
-ghost use Rattle.script_player.specs.internal.Playing.{IsDone};
+ghost use Rattle.script_player.specs.internal.Playing.{IsDone, Tells};
 ghost use Rattle.script_player.specs.Printed.{named_sector};
 
 use crate::lines::Line;
+use crate::player::Turn;
 use crate::replies::{write_reply, write_sector, write_show};
 use crate::script::Command;
 use crate::text::Text;
-use pair_core::{Event, Reply, SECTOR_BYTES, World};
+use pair_core::{Event, Refusal, Reply, SECTOR_BYTES, World};
 
-/// Does what a line says, and prints the answer into `text`, which is emptied first. Says whether there is one: a line that
-/// asks for a sector beyond the disk has none, and does nothing.
-pub fn answer(world: &mut World, line: &Line, text: &mut Text) -> bool
-    ensures { IsDone world.old (line_of line.now) result text.new.items world.new }
+/// Does what a line says, and prints the answer into `text`, which is emptied first. What became of the line: it was played, there was no
+/// memory for it, or it is bad, since it asks for a sector beyond the disk, and does nothing.
+pub fn answer(world: &mut World, line: &Line, text: &mut Text) -> Turn
+    ensures { (no_memory : List ℕ) → IsDone no_memory world.old (line_of line.now) result text.new.items world.new }
 {
     text.clear();
     match line {
@@ -32,9 +33,9 @@ pub fn answer(world: &mut World, line: &Line, text: &mut Text) -> bool
 }
 
 /// Does what a command says, and prints the answer.
-fn obey(world: &mut World, command: Command, text: &mut Text) -> bool
+fn obey(world: &mut World, command: Command, text: &mut Text) -> Turn
     requires { text.old.items ≡ [] }
-    ensures { IsDone world.old (order command) result text.new.items world.new }
+    ensures { (no_memory : List ℕ) → IsDone no_memory world.old (order command) result text.new.items world.new }
 {
     match command {
         Command::Step(count) => step(world, count, text),
@@ -56,23 +57,36 @@ fn obey(world: &mut World, command: Command, text: &mut Text) -> bool
 }
 
 /// An event happens to the pair, and its reply is printed: a line that asks for that event is done.
-fn happen(world: &mut World, event: Event<'_>, text: &mut Text) -> bool
+fn happen(world: &mut World, event: Event<'_>, text: &mut Text) -> Turn
     requires { text.old.items ≡ [] }
-    ensures { (line : SpelledLine) → AsksFor line event.entry → IsDone world.old line result text.new.items world.new }
+    ensures { (no_memory : List ℕ) (line : SpelledLine) → AsksFor line event.entry
+        → IsDone no_memory world.old line result text.new.items world.new }
 {
     let reply = world.apply(event);
-    write_reply(text, &reply);
-    true
+    tell(reply, text)
+}
+
+/// A reply is printed; a want of memory is handed back.
+fn tell(reply: Reply, text: &mut Text) -> Turn
+    requires { text.old.items ≡ [] }
+    ensures { Tells reply result text.new.items }
+{
+    match reply {
+        Reply::Refused(Refusal::NoMemory(wanted)) => Turn::NoMemory(wanted),
+        other => {
+            write_reply(text, &other);
+            Turn::Played
+        }
+    }
 }
 
 /// The guest makes so many steps, and the last reply is printed.
-fn step(world: &mut World, count: u64, text: &mut Text) -> bool
+fn step(world: &mut World, count: u64, text: &mut Text) -> Turn
     requires { text.old.items ≡ [] }
-    ensures { IsDone world.old (order (Command.Step count)) result text.new.items world.new }
+    ensures { (no_memory : List ℕ) → IsDone no_memory world.old (order (Command.Step count)) result text.new.items world.new }
 {
     let reply = run_steps(world, count);
-    write_reply(text, &reply);
-    true
+    tell(reply, text)
 }
 
 /// The last of `count` steps' replies, or the first refusal.
@@ -90,24 +104,24 @@ fn run_steps(world: &mut World, count: u64) -> Reply
 }
 
 /// Prints the state of the pair.
-fn print_show(world: &World, text: &mut Text) -> bool
+fn print_show(world: &World, text: &mut Text) -> Turn
     requires { text.old.items ≡ [] }
-    ensures { IsDone world.now (order Command.Show) result text.new.items world.now }
+    ensures { (no_memory : List ℕ) → IsDone no_memory world.now (order Command.Show) result text.new.items world.now }
 {
     write_show(text, &world.show());
-    true
+    Turn::Played
 }
 
 /// Prints a sector of the disk, if the disk has it.
-fn print_sector(world: &World, sector: u64, text: &mut Text) -> bool
+fn print_sector(world: &World, sector: u64, text: &mut Text) -> Turn
     requires { text.old.items ≡ [] }
-    ensures { IsDone world.now (order (Command.Sector sector)) result text.new.items world.now }
+    ensures { (no_memory : List ℕ) → IsDone no_memory world.now (order (Command.Sector sector)) result text.new.items world.now }
 {
     let Some(bytes) = sector_of(world, sector) else {
-        return false;
+        return Turn::Bad;
     };
     write_sector(text, sector, bytes);
-    true
+    Turn::Played
 }
 
 /// The bytes of the sector that a number names.

@@ -1,41 +1,38 @@
 //! `remus check-stream FILE --pages P --sectors S`: which checkpoints a file of them holds.
 
-ghost use Rattle.std.specs.Prelude.{◌≡◌, ◌<◌, [], false, OnOk, IfOk, IfSome, length};
-ghost use Rattle.std.specs.Io.KnownBytes.{Appends};
+ghost use Rattle.std.specs.Prelude.{◌≡◌, ◌+◌, ◌<◌, ◌≤◌, ◌==◌, ◌∷◌, [], false, if◌then◌else◌, codes, decimal, IfOk, IfSome, length, ℕ, List};
+ghost use Rattle.std.specs.List.{join_with_byte};
+ghost use Rattle.arrayvec.specs.ArrayVec.{array_vec_len};
 ghost use Rattle.checkpoint_stream.specs.Readings.{begun, is_closed};
-ghost use Rattle.script_player.specs.Listing.{IsSpelled, IsPrinted, IsListedTo};
-ghost use Rattle.script_player.specs.StreamLines.{checkpoint_line, short_line, stream_refusal_line};
+ghost use Rattle.script_player.specs.Listing.{IsSpelled, IsPrinted, IsListedTo, listed_status};
+ghost use Rattle.script_player.specs.StreamLines.{checkpoint_line, malformed_line, short_line};
 ghost use Rattle.script_player.specs.StreamMeaning.{IsListed};
 
-use crate::output::put;
+use crate::streams::{Failed, Sink};
+use crate::text::{Text, add, add_end, add_number};
 use checkpoint_stream::{Reader, StreamError};
 use epoch_snapshot::Checkpoint;
+use memory_wanted::MemoryWanted;
 use pair_core::Shape;
 use std::alloc::Global;
-use std::io::{Result, Write};
 
-/// Bytes that the longest line takes, and more.
-const LINE_BYTES: usize = 256;
-
-/// What is printed where there is no memory.
-const NO_MEMORY: &[u8] = b"refused 12 NoMemory\n";
-
-/// Prints on `out` a line for each whole checkpoint of `bytes`, and last where they end inside one or are malformed. Nothing is printed
-/// on `_err`. Answers the exit status: 0, or 1 after such a last line or a write that failed. Memory is taken for one checkpoint at a time.
-pub fn check_stream<O: Write, E: Write>(
-    alloc: Global,
-    bytes: &[u8],
-    shape: Shape,
-    out: &mut O,
-    _err: &mut E,
-) -> u8
-    ensures { IsListed (begun shape 0) bytes.now (O.contents out.old) (O.contents out.new)
-        (E.contents _err.old) (E.contents _err.new) result }
+/// Prints on `out` a line for each whole checkpoint of `bytes`, and last where they end inside one or are malformed, or where there is no
+/// memory to read on. Answers the exit status: 0, or 1 after such a last line or a write that failed. Memory is taken for one checkpoint
+/// at a time.
+pub fn check_stream<O: Sink>(alloc: Global, bytes: &[u8], shape: Shape, out: &mut O) -> u8
+    ensures { IsListed O.no_memory (begun shape 0) bytes.now (O.written out.old) (O.written out.new) result }
 {
     let listed = list(alloc, bytes, shape, out);
-    if out.flush().is_err() {
-        return 1;
+    match out.show() {
+        Ok(()) => status_of(listed),
+        Err(Failed) => 1,
     }
+}
+
+/// The exit status of a file that was listed.
+fn status_of(listed: Result<bool, Failed>) -> u8
+    ensures { result ≡ listed_status listed }
+{
     match listed {
         Ok(true) => 0,
         _ => 1,
@@ -43,17 +40,17 @@ pub fn check_stream<O: Write, E: Write>(
 }
 
 /// Prints the lines. Answers whether the bytes are checkpoints one after another, and nothing else.
-fn list<O: Write>(alloc: Global, bytes: &[u8], shape: Shape, out: &mut O) -> Result<bool>
-    ensures { IsListedTo (begun shape 0) bytes.now result (O.contents out.old) (O.contents out.new) }
+///
+/// # Errors
+///
+/// Where a write fails.
+fn list<O: Sink>(alloc: Global, bytes: &[u8], shape: Shape, out: &mut O) -> Result<bool, Failed>
+    ensures { IsListedTo O.no_memory (begun shape 0) bytes.now result (O.written out.old) (O.written out.new) }
 {
-    let Ok(mut text) = Vec::with_capacity(alloc, LINE_BYTES) else {
-        put(out, NO_MEMORY)?;
-        return Ok(false);
-    };
     let mut reader = Reader::new(alloc, shape);
     let mut rest = bytes;
     while !rest.is_empty() {
-        let Some(left) = print_next(&mut reader, rest, bytes.len(), &mut text, out)? else {
+        let Some(left) = print_next(&mut reader, rest, bytes.len(), out)? else {
             return Ok(false);
         };
         rest = left;
@@ -63,104 +60,123 @@ fn list<O: Write>(alloc: Global, bytes: &[u8], shape: Shape, out: &mut O) -> Res
 
 /// Reads one checkpoint and prints its line, or the last line of a file of so many bytes. Answers the bytes that are left; `None` after
 /// the last line.
-fn print_next<'a, O: Write>(
+///
+/// # Errors
+///
+/// Where a write fails.
+fn print_next<'a, O: Sink>(
     reader: &mut Reader,
     rest: &'a [u8],
     file_bytes: usize,
-    text: &mut Vec<u8>,
     out: &mut O,
-) -> Result<Option<&'a [u8]>>
+) -> Result<Option<&'a [u8]>, Failed>
     requires open { is_closed reader.old.place ≡ false }
     requires some { 0 < length rest.now }
-    ensures printed { IsPrinted file_bytes reader.old rest.now result reader.new (O.contents out.old) (O.contents out.new) }
+    ensures printed { IsPrinted O.no_memory file_bytes reader.old rest.now result reader.new (O.written out.old) (O.written out.new) }
     ensures shorter { IfOk result (λ found. IfSome found (λ left. length left.now < length rest.now)) }
 {
-    text.clear();
-    let Ok(found) = spell_next(reader, rest, file_bytes, text) else {
-        put(out, NO_MEMORY)?;
-        return Ok(None);
-    };
-    put(out, text.as_slice())?;
-    Ok(found)
+    let mut text = Text::new();
+    match spell_next(reader, rest, file_bytes, &mut text) {
+        Ok(found) => {
+            out.put(text.as_slice())?;
+            Ok(found)
+        }
+        Err(wanted) => {
+            out.refuse(wanted)?;
+            Ok(None)
+        }
+    }
 }
 
 /// Reads one checkpoint and writes its line into an empty text, or the last line.
 ///
 /// # Errors
 ///
-/// Where there is no memory for the line.
+/// [`MemoryWanted`] where there is no memory to read on.
 fn spell_next<'a>(
     reader: &mut Reader,
     rest: &'a [u8],
     file_bytes: usize,
-    text: &mut Vec<u8>,
-) -> Result<Option<&'a [u8]>>
+    text: &mut Text,
+) -> Result<Option<&'a [u8]>, MemoryWanted>
     requires open { is_closed reader.old.place ≡ false }
     requires some { 0 < length rest.now }
     requires empty { text.old.items ≡ [] }
-    ensures spelled { IsSpelled file_bytes reader.old rest.now result reader.new text.new.items }
+    ensures spelled { (no_memory : List ℕ) → IsSpelled no_memory file_bytes reader.old rest.now result reader.new text.new.items }
     ensures shorter { IfOk result (λ found. IfSome found (λ left. length left.now < length rest.now)) }
 {
     let count = match reader.feed(rest) {
         Ok(count) => count,
-        Err(error) => {
-            write_stream_refusal(text, &error)?;
+        Err(StreamError::Malformed(offset)) => {
+            write_malformed(text, offset);
             return Ok(None);
         }
+        Err(StreamError::NoMemory(wanted)) => return Err(wanted),
     };
     let Some(checkpoint) = reader.next() else {
-        write_short(text, file_bytes)?;
+        write_short(text, file_bytes as u64);
         return Ok(None);
     };
-    write_checkpoint_line(text, &checkpoint)?;
+    write_checkpoint(text, &checkpoint);
     Ok(Some(&rest[count..]))
 }
 
 /// Prints which checkpoint it is, how many records it has, and how many frames where it is of version 2.
-fn write_checkpoint_line<W: Write>(out: &mut W, checkpoint: &Checkpoint) -> Result<()>
-    ensures { OnOk result (Appends (W.contents out.old) (W.contents out.new) (checkpoint_line checkpoint.now)) }
+fn write_checkpoint(text: &mut Text, checkpoint: &Checkpoint)
+    requires { text.old.items ≡ [] }
+    ensures { text.new.items ≡ checkpoint_line checkpoint.now }
 {
-    let generation = checkpoint.generation();
-    let number = checkpoint.number();
-    let pages = checkpoint.pages().len();
-    let sectors = checkpoint.sectors().len();
-    let frames = checkpoint.frames().len();
-    let is_old = checkpoint.version() == 1;
-    match (number == 0, is_old) {
-        (true, true) => writeln!(
-            out,
-            "full {generation} {number} pages {pages} sectors {sectors}"
-        ),
-        (false, true) => writeln!(
-            out,
-            "delta {generation} {number} pages {pages} sectors {sectors}"
-        ),
-        (true, false) => writeln!(
-            out,
-            "full {generation} {number} pages {pages} sectors {sectors} frames {frames}"
-        ),
-        (false, false) => writeln!(
-            out,
-            "delta {generation} {number} pages {pages} sectors {sectors} frames {frames}"
-        ),
+    write_counts(text, checkpoint);
+    if checkpoint.version() != 1 {
+        add(text, b" frames");
+        add_number(text, checkpoint.frames().len() as u64);
     }
+    add_end(text);
+}
+
+/// Prints which checkpoint it is, and how many records it has.
+fn write_counts(text: &mut Text, checkpoint: &Checkpoint)
+    requires { text.old.items ≡ [] }
+    ensures fields { text.new.items ≡ join_with_byte 32 ((if checkpoint.now.number == 0 then codes "full" else codes "delta")
+        ∷ decimal checkpoint.now.generation ∷ decimal checkpoint.now.number ∷ codes "pages" ∷ decimal (length checkpoint.now.pages)
+        ∷ codes "sectors" ∷ decimal (length checkpoint.now.sectors) ∷ []) }
+    ensures short { array_vec_len text.new ≤ 200 }
+{
+    add(text, kind_word(checkpoint.number()));
+    add_number(text, checkpoint.generation());
+    add_number(text, checkpoint.number());
+    add(text, b" pages");
+    add_number(text, checkpoint.pages().len() as u64);
+    add(text, b" sectors");
+    add_number(text, checkpoint.sectors().len() as u64);
+}
+
+/// Whether the checkpoint of this number is full, in a word.
+fn kind_word(number: u64) -> &'static [u8]
+    ensures word { result.now ≡ (if number == 0 then codes "full" else codes "delta") }
+    ensures short { length result.now ≤ 5 }
+{
+    if number == 0 { b"full" } else { b"delta" }
 }
 
 /// Prints that the bytes, so many, end inside a checkpoint.
-fn write_short<W: Write>(out: &mut W, file_bytes: usize) -> Result<()>
-    ensures { OnOk result (Appends (W.contents out.old) (W.contents out.new) (short_line file_bytes)) }
+fn write_short(text: &mut Text, file_bytes: u64)
+    requires { text.old.items ≡ [] }
+    ensures { text.new.items ≡ short_line file_bytes }
 {
-    writeln!(out, "short at {file_bytes}")
+    add(text, b"short at");
+    add_number(text, file_bytes);
+    add_end(text);
 }
 
-/// Prints why the stream can't be read on.
-fn write_stream_refusal<W: Write>(out: &mut W, error: &StreamError) -> Result<()>
-    ensures { OnOk result (Appends (W.contents out.old) (W.contents out.new) (stream_refusal_line error.now)) }
+/// Prints that the bytes are malformed, and from which on.
+fn write_malformed(text: &mut Text, offset: u64)
+    requires { text.old.items ≡ [] }
+    ensures { text.new.items ≡ malformed_line offset }
 {
-    let number = error.number();
-    let name = error.name();
-    match error {
-        StreamError::Malformed(offset) => writeln!(out, "refused {number} {name} {offset}"),
-        StreamError::NoMemory(_) => writeln!(out, "refused {number} {name}"),
-    }
+    add(text, b"refused");
+    add_number(text, 11);
+    add(text, b" Malformed");
+    add_number(text, offset);
+    add_end(text);
 }

@@ -1,13 +1,13 @@
 //! The line of a client's frame: `deliver CLIENT HEX`.
 
-ghost use Rattle.std.specs.Prelude.{◌≡◌, ℕ, ◌*◌, List, Some, Ok, length, IfOk, IfSome, IsFalse, IsTrue, OnErr, option_map};
+ghost use Rattle.std.specs.Prelude.{◌≡◌, ℕ, List, Some, IfOk, IfSome, IsFalse, IsTrue, OnErr, option_map};
 ghost use Rattle.std.specs.Char.{is_ascii_hexdigit};
 ghost use Rattle.std.specs.List.{list_all};
-ghost use Rattle.hex.specs.Hex.{decode_of};
 ghost use Rattle.script_player.specs.Delivery.{IsHex, IsDelivery, delivery_head, delivery_view};
 
+use crate::digits::read_into;
 use crate::fields::{after, has_upper_case, operand};
-use memory_wanted::{MemoryWanted, resize, with_capacity};
+use memory_wanted::{MemoryWanted, with_capacity};
 use std::alloc::Global;
 
 /// What such a line says.
@@ -56,24 +56,32 @@ pub fn read_bytes(alloc: Global, digits: &[u8]) -> Result<Option<Vec<u8>>, Memor
     // Memory is asked for only where they write some.
     ensures err { OnErr result ((bytes : List ℕ) × IsHex digits.now bytes) }
 {
-    if !are_lower_hex(digits) {
+    if digits.is_empty() {
         return Ok(None);
     }
-    let mut bytes = with_capacity(alloc, digits.len() / 2)?;
-    resize(&mut bytes, digits.len() / 2, 0)?;
-    put_decoded(digits, bytes.as_mut_slice());
-    Ok(Some(bytes))
+    if digits.len() % 2 == 1 {
+        return Ok(None);
+    }
+    match with_capacity(alloc, digits.len() / 2) {
+        Ok(list) => Ok(read_into(list, digits)),
+        Err(wanted) => refuse(digits, wanted),
+    }
 }
 
-/// Puts the bytes that digits write into as many places.
-fn put_decoded(digits: &[u8], bytes: &mut [u8])
-    requires room { length digits.now ≡ 2 * length bytes.old }
-    requires hex { (written : List ℕ) × IsHex digits.now written }
-    ensures value { decode_of digits.now ≡ Ok bytes.new }
-    ensures size { length bytes.new ≡ length bytes.old }
+/// What is answered where there is no memory for the bytes that digits write, if they write some.
+///
+/// # Errors
+///
+/// That there is none, where they do.
+fn refuse(digits: &[u8], wanted: MemoryWanted) -> Result<Option<Vec<u8>>, MemoryWanted>
+    ensures found { IfOk result (λ found. IfSome found (λ bytes. IsHex digits.now bytes.items)) }
+    ensures only { (bytes : List ℕ) → IsHex digits.now bytes → IfOk result (λ found. option_map (λ v. v.items) found ≡ Some bytes) }
+    ensures err { OnErr result ((bytes : List ℕ) × IsHex digits.now bytes) }
 {
-    if hex::decode_to_slice(digits, bytes).is_err() {
-        unreachable!();
+    if are_lower_hex(digits) {
+        Err(wanted)
+    } else {
+        Ok(None)
     }
 }
 

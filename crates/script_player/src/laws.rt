@@ -9,6 +9,6 @@ ghost use Rattle.script_player.specs.Scripts.{BootsNone, IsOneRun};
 ///
 /// [`sim`](crate::sim::sim) says that a script means what it printed.
 pub fn scripts_print_the_answers_of_one_run()
-    ensures { (source printed : List ℕ) (ending : Ending) → Means unbooted 1 (lines_of source) printed ending
-        → BootsNone (lines_of source) printed ending ⊎ IsOneRun (lines_of source) printed ending }
+    ensures { (no_memory source printed : List ℕ) (ending : Ending) → Means no_memory unbooted 1 (lines_of source) printed ending
+        → BootsNone no_memory (lines_of source) printed ending ⊎ IsOneRun no_memory (lines_of source) printed ending }
 {}

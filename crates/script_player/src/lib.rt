@@ -9,6 +9,7 @@ mod answers;
 pub mod boot;
 pub mod check_stream;
 pub mod delivery;
+pub mod digits;
 pub mod fields;
 pub mod laws;
 pub mod limits;

@@ -1,22 +1,22 @@
 //! `remus live`: plays lines as they come, and answers each before it reads on.
 
 ghost use Rattle.std.specs.Prelude.{◌≡◌, ℕ, List, All};
-ghost use Rattle.script_player.specs.Live.{IsLive, PlaysLine, LeavesOut, IsShort};
+ghost use Rattle.script_player.specs.Live.{Answers, IsLive, PlaysLine, LeavesOut, IsShort};
 ghost use Rattle.script_player.specs.Meaning.{Stage, Means, finished, unbooted};
 ghost use Rattle.script_player.specs.Session.{Replies};
-ghost use Rattle.script_player.specs.internal.Playing.{stage_of};
+ghost use Rattle.script_player.specs.Streams.{IsPut};
+ghost use Rattle.script_player.specs.internal.Playing.{live_answer, stage_of};
 
 use crate::player::{Player, Turn};
 use crate::session::{BAD, LinePlayer, serve};
 use crate::streams::{Failed, Sink, Source};
-use crate::text::add;
 use std::alloc::Global;
 use std::marker::Model;
 
 /// Plays the lines of `input` as they come, and prints the answers on `out`: each is written out before more is read. Answers the exit
 /// status: 0 at the end of the input, or 1 where a read or a write failed.
 pub fn live<S: Source, O: Sink>(alloc: Global, input: &mut S, out: &mut O) -> u8
-    ensures { IsLive (S.reading input.old) (S.reading input.new) (O.written out.old) (O.written out.new) result }
+    ensures { IsLive O.no_memory (S.reading input.old) (S.reading input.new) (O.written out.old) (O.written out.new) result }
 {
     let mut pair = LivePair::new(alloc);
     serve(alloc, input, &mut pair, out)
@@ -55,26 +55,43 @@ impl LinePlayer for LivePair {
     ghost plays = { PlaysLine };
 
     fn play<O: Sink>(&mut self, line: &[u8], out: &mut O) -> Result<(), Failed> {
-        answer(self.alloc, &mut self.player, line);
-        out.put(self.player.text.as_slice())
+        let turn = answer(self.alloc, &mut self.player, line);
+        print(self.player.text.as_slice(), turn, out)
     }
 }
 
-/// Plays a line. The answer is the player's text.
-fn answer(alloc: Global, player: &mut Player, line: &[u8])
-    ensures { PlaysLine (stage_of player.old.world) line.now player.new.text.items (stage_of player.new.world) }
+/// Plays a line. The answer is the player's text, or what its turn says.
+fn answer(alloc: Global, player: &mut Player, line: &[u8]) -> Turn
+    ensures { (no_memory : List ℕ) → PlaysLine no_memory (stage_of player.old.world) line.now
+        (live_answer no_memory result player.new.text.items) (stage_of player.new.world) }
 {
-    if let Turn::Bad = player.step(alloc, line) {
-        add(&mut player.text, BAD);
+    player.step(alloc, line)
+}
+
+/// Prints the answer to a line, which is this text or what its turn says.
+///
+/// # Errors
+///
+/// Where a write fails.
+fn print<O: Sink>(text: &[u8], turn: Turn, out: &mut O) -> Result<(), Failed>
+    ensures { IsPut (O.written out.old) (O.written out.new) result (live_answer O.no_memory turn text.now) }
+{
+    match turn {
+        Turn::Booted | Turn::Played => out.put(text),
+        Turn::Bad => out.put(BAD),
+        Turn::Refused(wanted) => out.refuse(wanted),
+        Turn::NoMemory(wanted) => out.refuse(wanted),
     }
 }
 
 /// A script that `sim` plays to its end prints the same where it comes line by line. And what a session printed is, without its bad
 /// lines, the lines for which there was no memory, and the answers to these, what `sim` prints of the lines that are left.
 pub fn live_prints_what_sim_prints()
-    ensures file { (stage : Stage) (number : ℕ) (lines : List (List ℕ)) (text : List ℕ)
-        → Means stage number lines text finished → All IsShort lines → (last : Stage) × Replies PlaysLine stage lines text last }
-    ensures session { (stage last : Stage) (number : ℕ) (lines : List (List ℕ)) (text : List ℕ)
-        → Replies PlaysLine stage lines text last
-        → (kept : List (List ℕ)) × (printed : List ℕ) × LeavesOut lines text kept printed × Means stage number kept printed finished }
+    ensures file { (no_memory : List ℕ) (stage : Stage) (number : ℕ) (lines : List (List ℕ)) (text : List ℕ)
+        → Means no_memory stage number lines text finished → All IsShort lines
+        → (last : Stage) × Replies (Answers no_memory) stage lines text last }
+    ensures session { (no_memory : List ℕ) (stage last : Stage) (number : ℕ) (lines : List (List ℕ)) (text : List ℕ)
+        → Replies (Answers no_memory) stage lines text last
+        → (kept : List (List ℕ)) × (printed : List ℕ) × LeavesOut no_memory lines text kept printed
+        × Means no_memory stage number kept printed finished }
 {}

@@ -1,16 +1,15 @@
 //! A pair that is played line by line.
 
-ghost use Rattle.std.specs.Prelude.{◌≡◌, ◌*◌, ◌≤◌, IfOk, IfSome, IfNone, OnErr, [], false, length};
+ghost use Rattle.std.specs.Prelude.{◌≡◌, ◌*◌, ◌≤◌, IfOk, IfSome, IfNone, OnErr, ℕ, List, [], false, length};
 ghost use Rattle.script_player.specs.Boot.{BootLine, IsBoot, IsInLimits, boot_line};
 ghost use Rattle.script_player.specs.Guests.{guest_image, named_guest};
 ghost use Rattle.script_player.specs.Limits.{page_bytes};
 ghost use Rattle.script_player.specs.Meaning.{IsReady, is_silent, unbooted, playing};
-ghost use Rattle.script_player.specs.internal.Playing.{IsStep, stage_of};
+ghost use Rattle.script_player.specs.internal.Playing.{IsStep, printed_by, stage_of};
 
 use crate::answers::answer;
 use crate::boot::{Boot, Guest, image_of, read_boot};
 use crate::lines::read_line;
-use crate::replies::write_refusal;
 use crate::text::{Text, add};
 use guest_kit::{beacon, disk_once, idle};
 use memory_wanted::{MemoryWanted, boxed};
@@ -18,7 +17,7 @@ use pair_core::{Refusal, Shape, World};
 use std::alloc::Global;
 
 /// What became of a line.
-#[derive(Clone, Copy, Debug, PartialEq, Eq)]
+#[derive(Debug, Drop, PartialEq, Eq)]
 pub enum Turn {
     /// It was the boot line, and the pair is booted.
     Booted,
@@ -26,8 +25,10 @@ pub enum Turn {
     Played,
     /// It is bad: it has no known form, or asks for a sector beyond the disk. Nothing changes.
     Bad,
-    /// It is the boot line, and there is no memory for what it asks for. There is no pair yet.
-    Refused,
+    /// It is the boot line, and there is no memory for what it asks for. There is no pair yet. That is to be printed, and no text.
+    Refused(MemoryWanted),
+    /// It was played, and there was no memory for it. That is to be printed, and no text.
+    NoMemory(MemoryWanted),
 }
 
 /// A pair that is played line by line, from before its boot line on.
@@ -35,7 +36,7 @@ pub enum Turn {
 pub struct Player {
     /// The pair, once it is booted. It stands in a box, so that no function holds a large value.
     pub world: Option<Box<World>>,
-    /// What the last line printed.
+    /// What the last line printed, if there was memory for it.
     pub text: Text,
 }
 
@@ -50,9 +51,10 @@ impl Player {
         }
     }
 
-    /// Plays one line. What it prints is the text.
+    /// Plays one line. What it prints is the text, or that there was no memory for it.
     pub fn step(&mut self, alloc: Global, line: &[u8]) -> Turn
-        ensures { IsStep (stage_of self.old.world) line.now result self.new.text.items (stage_of self.new.world) }
+        ensures { (no_memory : List ℕ) → IsStep no_memory (stage_of self.old.world) line.now result
+            (printed_by no_memory result self.new.text.items) (stage_of self.new.world) }
     {
         self.text.clear();
         if is_silent(line) {
@@ -69,7 +71,8 @@ impl Player {
         requires loud { is_silent line.now ≡ false }
         requires unbooted { stage_of self.old.world ≡ unbooted }
         requires empty { self.old.text.items ≡ [] }
-        ensures { IsStep unbooted line.now result self.new.text.items (stage_of self.new.world) }
+        ensures { (no_memory : List ℕ) → IsStep no_memory unbooted line.now result (printed_by no_memory result self.new.text.items)
+            (stage_of self.new.world) }
     {
         match booted(alloc, line) {
             Ok(Some(world)) => {
@@ -78,10 +81,7 @@ impl Player {
                 Turn::Booted
             }
             Ok(None) => Turn::Bad,
-            Err(wanted) => {
-                write_refusal(&mut self.text, &Refusal::NoMemory(wanted));
-                Turn::Refused
-            }
+            Err(wanted) => Turn::Refused(wanted),
         }
     }
 }
@@ -90,21 +90,13 @@ impl Player {
 fn play(alloc: Global, world: &mut Box<World>, line: &[u8], text: &mut Text) -> Turn
     requires loud { is_silent line.now ≡ false }
     requires empty { text.old.items ≡ [] }
-    ensures { IsStep (playing world.old.value) line.now result text.new.items (playing world.new.value) }
+    ensures { (no_memory : List ℕ) → IsStep no_memory (playing world.old.value) line.now result
+        (printed_by no_memory result text.new.items) (playing world.new.value) }
 {
     match read_line(alloc, line) {
-        Ok(Some(line)) => {
-            if answer(world.as_mut(), &line, text) {
-                Turn::Played
-            } else {
-                Turn::Bad
-            }
-        }
+        Ok(Some(line)) => answer(world.as_mut(), &line, text),
         Ok(None) => Turn::Bad,
-        Err(wanted) => {
-            write_refusal(text, &Refusal::NoMemory(wanted));
-            Turn::Played
-        }
+        Err(wanted) => Turn::NoMemory(wanted),
     }
 }
 

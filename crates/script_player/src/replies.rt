@@ -6,11 +6,9 @@ ghost use Rattle.pair_record.specs.declared.event.Reply.{Reply};
 ghost use Rattle.pair_core.specs.Words.{word_of};
 ghost use Rattle.script_player.specs.Printed.{IsPlain, line, refusal_line, reply_line, sector_line, show_line};
 
+use crate::digits::add_digits;
 use crate::text::{Text, add, add_end, add_number, add_word};
 use pair_core::{Frame, Mode, Refusal, Reply, SECTOR_BYTES, Show};
-
-/// The bytes of the longest frame.
-const MOST_BYTES: usize = 1514;
 
 /// Prints a reply as its line.
 pub fn write_reply(text: &mut Text, reply: &Reply)
@@ -110,12 +108,10 @@ pub fn write_sector(text: &mut Text, sector: u64, bytes: &[u8; SECTOR_BYTES])
     requires { text.old.items ≡ [] }
     ensures { text.new.items ≡ sector_line sector bytes.now }
 {
-    let mut digits = [0; 2 * SECTOR_BYTES];
-    hex::encode_to_slice(bytes.as_slice(), &mut digits).unwrap();
     add(text, b"sector");
     add_number(text, sector);
     add(text, b" ");
-    add(text, &digits);
+    add_digits(text, bytes.as_slice());
     add_end(text);
 }
 
@@ -186,10 +182,7 @@ pub fn write_frame(text: &mut Text, frame: &Frame)
     ensures printed { text.new.items ≡ line (codes "frame" ∷ encode_lower frame.now.items ∷ []) }
 {
     let bytes = frame.as_slice();
-    let mut digits = [0; 2 * MOST_BYTES];
-    let hex = &mut digits[..2 * bytes.len()];
-    hex::encode_to_slice(bytes, hex).unwrap();
     add(text, b"frame ");
-    add(text, hex);
+    add_digits(text, bytes);
     add_end(text);
 }

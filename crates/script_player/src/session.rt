@@ -1,9 +1,9 @@
 //! A session: lines are played as they come, and each is answered before more is read.
 
-ghost use Rattle.std.specs.Prelude.{◌++◌, ◌<◌, ℕ, List, [], length};
-ghost use Rattle.script_player.specs.Session.{IsAnswered, IsServed, memory_answer};
+ghost use Rattle.std.specs.Prelude.{◌≡◌, ◌++◌, ◌<◌, ℕ, List, [], length};
+ghost use Rattle.script_player.specs.Session.{IsAnswered, IsReply, IsServed, memory_answer};
 ghost use Rattle.script_player.specs.Streams.{IsPut};
-ghost use Rattle.script_player.specs.internal.Serving.{IsAnswerTo, IsFed, IsKept, Holds, status_of};
+ghost use Rattle.script_player.specs.internal.Serving.{IsAnswerTo, IsFed, IsKept, IsReplyTo, Holds, status_of};
 
 use crate::limits::MOST_LINE_BYTES;
 use crate::replies::write_refusal;
@@ -16,7 +16,10 @@ use std::alloc::Global;
 use std::mem;
 
 /// Bytes that are read at once, at most.
-const PIECE_BYTES: usize = 8192;
+const PIECE_BYTES: usize = 65_536;
+
+/// Bytes that a line's memory may have to be kept for the next line.
+const MOST_ROOM_KEPT: usize = 4_194_304;
 
 /// What a bad line prints.
 pub const BAD: &[u8] = b"bad\n";
@@ -25,8 +28,9 @@ pub const BAD: &[u8] = b"bad\n";
 pub trait LinePlayer {
     ghost use Rattle.std.specs.Prelude.{ℕ, List};
 
-    /// How a line is answered that is kept: the player, the line, what is printed, and the player after it.
-    ghost plays: { Self → List ℕ → List ℕ → Self → Type 0 };
+    /// How a line is answered that is kept: what is printed where memory was wanted, the player, the line, what is printed, and the player
+    /// after it.
+    ghost plays: { List ℕ → Self → List ℕ → List ℕ → Self → Type 0 };
 
     /// Plays a line, and prints the answer on `out`.
     ///
@@ -34,7 +38,7 @@ pub trait LinePlayer {
     ///
     /// Where a write fails.
     fn play<O: Sink>(&mut self, line: &[u8], out: &mut O) -> Result<(), Failed>
-        ensures { IsAnswered (plays self.old line.now) (O.written out.old) (O.written out.new) result self.new };
+        ensures { IsAnswered (plays O.no_memory self.old line.now) (O.written out.old) (O.written out.new) result self.new };
 }
 
 /// Plays the lines of `input` as they come, and prints the answers on `out`: each is written out before more is read. Answers the exit
@@ -45,7 +49,7 @@ pub fn serve<S: Source, P: LinePlayer, O: Sink>(
     player: &mut P,
     out: &mut O,
 ) -> u8
-    ensures { IsServed P.plays player.old (S.reading input.old) (S.reading input.new) (O.written out.old) (O.written out.new) result }
+    ensures { IsServed (IsReply O.no_memory (P.plays O.no_memory)) player.old (S.reading input.old) (S.reading input.new) (O.written out.old) (O.written out.new) result }
 {
     match serve_all(alloc, input, player, out) {
         Ok(()) => 0,
@@ -64,7 +68,7 @@ fn serve_all<S: Source, P: LinePlayer, O: Sink>(
     player: &mut P,
     out: &mut O,
 ) -> Result<(), Failed>
-    ensures { IsServed P.plays player.old (S.reading input.old) (S.reading input.new) (O.written out.old) (O.written out.new)
+    ensures { IsServed (IsReply O.no_memory (P.plays O.no_memory)) player.old (S.reading input.old) (S.reading input.new) (O.written out.old) (O.written out.new)
         (status_of result) }
 {
     let mut line = OpenLine::new(alloc);
@@ -90,7 +94,7 @@ fn feed<P: LinePlayer, O: Sink>(
     bytes: &[u8],
     out: &mut O,
 ) -> Result<(), Failed>
-    ensures { IsFed P.plays player.old line.old bytes.now player.new line.new (O.written out.old) (O.written out.new) result }
+    ensures { IsFed (IsReply O.no_memory (P.plays O.no_memory)) player.old line.old bytes.now player.new line.new (O.written out.old) (O.written out.new) result }
 {
     let mut left = Some(bytes);
     while let Some(text) = left {
@@ -116,26 +120,32 @@ fn answer<P: LinePlayer, O: Sink>(
     out: &mut O,
 ) -> Result<(), Failed>
     ensures begins { Holds line.new [] }
-    ensures answers { IsAnswerTo P.plays line.old player.old player.new (O.written out.old) (O.written out.new) result }
+    ensures answers { IsAnswerTo (IsReply O.no_memory (P.plays O.no_memory)) line.old player.old player.new (O.written out.old) (O.written out.new) result }
 {
-    let whole = mem::replace(line, OpenLine::new(alloc));
-    reply(player, whole, out)?;
+    let fate = mem::replace(&mut line.fate, Fate::Kept);
+    let replied = reply(player, line.bytes.as_slice(), fate, out);
+    empty(alloc, &mut line.bytes);
+    replied?;
     out.show()
 }
 
-/// Plays a line.
+/// Plays a line, of which these bytes are kept.
 ///
 /// # Errors
 ///
 /// Where a write fails.
-fn reply<P: LinePlayer, O: Sink>(player: &mut P, line: OpenLine, out: &mut O) -> Result<(), Failed>
-    ensures { IsAnswerTo P.plays line player.old player.new (O.written out.old) (O.written out.new) result }
+fn reply<P: LinePlayer, O: Sink>(
+    player: &mut P,
+    bytes: &[u8],
+    fate: Fate,
+    out: &mut O,
+) -> Result<(), Failed>
+    ensures { IsReplyTo (IsReply O.no_memory (P.plays O.no_memory)) bytes.now fate player.old player.new (O.written out.old) (O.written out.new) result }
 {
-    let OpenLine { bytes, fate } = line;
     match fate {
-        Fate::Kept => player.play(bytes.as_slice(), out),
+        Fate::Kept => player.play(bytes, out),
         Fate::TooLong => out.put(BAD),
-        Fate::NoMemory(wanted) => put_refusal(wanted, out),
+        Fate::NoMemory(wanted) => out.refuse(wanted),
     }
 }
 
@@ -150,6 +160,17 @@ pub fn put_refusal<O: Sink>(wanted: MemoryWanted, out: &mut O) -> Result<(), Fai
     let mut text = Text::new();
     write_refusal(&mut text, &Refusal::NoMemory(wanted));
     out.put(text.as_slice())
+}
+
+/// Empties a line. Its room stays, unless that is much.
+fn empty(alloc: Global, line: &mut Vec<u8>)
+    ensures { line.new.items ≡ [] }
+{
+    if line.capacity() > MOST_ROOM_KEPT {
+        *line = Vec::new(alloc);
+    } else {
+        line.clear();
+    }
 }
 
 /// What became of the bytes of a line.

@@ -4,7 +4,7 @@ ghost use Rattle.std.specs.Prelude.{◌≡◌, ◌∷◌, [], Some, None, IfSome
 ghost use Rattle.memchr.specs.Find.{IsFirstByte, is_byte};
 ghost use Rattle.script_player.specs.Meaning.{lines_of, bad_line, IsPlayed};
 ghost use Rattle.script_player.specs.Streams.{IsPrinted, IsPut};
-ghost use Rattle.script_player.specs.internal.Playing.{IsEnded, IsPlayedTo, stop_of};
+ghost use Rattle.script_player.specs.internal.Playing.{IsEnded, IsPlayedTo, printed_by, stop_of};
 ghost use Rattle.script_player.specs.declared.sim.Stop.TheVariants.{Unwritten};
 
 use crate::fields::numbered;
@@ -21,7 +21,7 @@ const STEPS_UNSHOWN: u64 = 100_000;
 /// a refused boot line or a write that failed. What was printed is written out after the boot line, before a line that steps the guest
 /// for long, and at the end.
 pub fn sim<O: Sink, E: Sink>(alloc: Global, source: &[u8], out: &mut O, err: &mut E) -> u8
-    ensures { IsPlayed source.now (O.written out.old) (O.written out.new) (E.written err.old) (E.written err.new) result }
+    ensures { IsPlayed O.no_memory source.now (O.written out.old) (O.written out.new) (E.written err.old) (E.written err.new) result }
 {
     let played = play(alloc, source, out);
     match out.show() {
@@ -77,7 +77,7 @@ pub fn tell_bad_line<E: Sink>(number: u64, err: &mut E) -> Result<(), Failed>
 
 /// Plays the lines in turn, up to the first that ends the script.
 fn play<O: Sink>(alloc: Global, source: &[u8], out: &mut O) -> Result<(), Stop>
-    ensures { IsPlayedTo source.now result (O.written out.old) (O.written out.new) }
+    ensures { IsPlayedTo O.no_memory source.now result (O.written out.old) (O.written out.new) }
 {
     let mut player = Player::new();
     let mut unshown = 0;
@@ -89,8 +89,9 @@ fn play<O: Sink>(alloc: Global, source: &[u8], out: &mut O) -> Result<(), Stop>
         number += 1;
         show_before(line, &mut unshown, out)?;
         let turn = player.step(alloc, line);
+        let goes_on = stop_after(&turn, number);
         print(player.text.as_slice(), turn, out)?;
-        stop_after(turn, number)?;
+        goes_on?;
     }
     Ok(())
 }
@@ -100,29 +101,33 @@ fn play<O: Sink>(alloc: Global, source: &[u8], out: &mut O) -> Result<(), Stop>
 /// # Errors
 ///
 /// Why it ends.
-fn stop_after(turn: Turn, number: u64) -> Result<(), Stop>
-    ensures ok { OnOk result (stop_of turn number ≡ None) }
-    ensures err { IfErr result (λ stop. stop_of turn number ≡ Some stop) }
+fn stop_after(turn: &Turn, number: u64) -> Result<(), Stop>
+    ensures ok { OnOk result (stop_of turn.now number ≡ None) }
+    ensures err { IfErr result (λ stop. stop_of turn.now number ≡ Some stop) }
 {
     match turn {
-        Turn::Booted | Turn::Played => Ok(()),
+        Turn::Booted | Turn::Played | Turn::NoMemory(_) => Ok(()),
         Turn::Bad => Err(Stop::Bad(number)),
-        Turn::Refused => Err(Stop::Refused),
+        Turn::Refused(_) => Err(Stop::Refused),
     }
 }
 
-/// Prints what a line printed, and writes it out after the boot line.
+/// Prints what a line printed, its text or that there was no memory for it, and writes it out after the boot line.
 ///
 /// # Errors
 ///
 /// Where a write fails.
 fn print<O: Sink>(text: &[u8], turn: Turn, out: &mut O) -> Result<(), Failed>
-    ensures { IsPrinted (O.written out.old) (O.written out.new) result text.now }
+    ensures { IsPrinted (O.written out.old) (O.written out.new) result (printed_by O.no_memory turn text.now) }
 {
-    out.put(text)?;
     match turn {
-        Turn::Booted => out.show(),
-        Turn::Played | Turn::Bad | Turn::Refused => Ok(()),
+        Turn::Booted => {
+            out.put(text)?;
+            out.show()
+        }
+        Turn::Played | Turn::Bad => out.put(text),
+        Turn::Refused(wanted) => out.refuse(wanted),
+        Turn::NoMemory(wanted) => out.refuse(wanted),
     }
 }
 

@@ -1,11 +1,16 @@
 //! What the program reads from and writes to, and whether that failed.
 
-ghost use Rattle.std.specs.Prelude.{[]};
+ghost use Rattle.std.specs.Prelude.{[], List, ℕ};
 ghost use Rattle.std.specs.Io.{ReadsAtMost};
 ghost use Rattle.std.specs.Io.KnownBytes.{ReadConsumes};
+ghost use Rattle.script_player.specs.Session.{memory_answer};
 ghost use Rattle.script_player.specs.Streams.{Reading, Writing, IsPut, IsRead};
 
 use crate::output::put;
+use crate::replies::write_refusal;
+use crate::text::Text;
+use memory_wanted::MemoryWanted;
+use pair_core::Refusal;
 use std::io;
 use std::io::{ErrorKind, Read, Write};
 
@@ -21,6 +26,10 @@ pub trait Sink {
     /// What was written, where that is known, and whether a write failed.
     ghost written: { Self → Writing };
 
+    /// What it prints where memory was wanted. That is its own: who writes to any sink knows nothing of it, and so has only
+    /// [`refuse`](Sink::refuse), and a want of memory, to print it.
+    ghost no_memory: { List ℕ };
+
     /// Writes all the bytes.
     ///
     /// # Errors
@@ -28,6 +37,14 @@ pub trait Sink {
     /// Where a write failed, this one or an earlier one. The first of the bytes were written then, or none.
     fn put(&mut self, bytes: &[u8]) -> Result<(), Failed>
         ensures { IsPut (written self.old) (written self.new) result bytes.now };
+
+    /// Writes that memory was wanted.
+    ///
+    /// # Errors
+    ///
+    /// Where a write failed, this one or an earlier one. The first of the bytes were written then, or none.
+    fn refuse(&mut self, wanted: MemoryWanted) -> Result<(), Failed>
+        ensures { IsPut (written self.old) (written self.new) result no_memory };
 
     /// Writes out what was written.
     ///
@@ -58,6 +75,8 @@ impl<W> CheckedWriter<W> {
 impl<W: Write> Sink for CheckedWriter<W> {
     ghost written = { λ w. record { bytes = W.contents w.inner; failed = w.has_failed } };
 
+    ghost no_memory = { memory_answer };
+
     fn put(&mut self, bytes: &[u8]) -> Result<(), Failed> {
         if self.has_failed {
             return Err(Failed);
@@ -67,6 +86,12 @@ impl<W: Write> Sink for CheckedWriter<W> {
             return Err(Failed);
         }
         Ok(())
+    }
+
+    fn refuse(&mut self, wanted: MemoryWanted) -> Result<(), Failed> {
+        let mut text = Text::new();
+        write_refusal(&mut text, &Refusal::NoMemory(wanted));
+        self.put(text.as_slice())
     }
 
     fn show(&mut self) -> Result<(), Failed> {

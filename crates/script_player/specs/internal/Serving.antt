@@ -6,7 +6,7 @@ use Rattle.script_player.specs.declared.session.Fate.TheVariants as fates
 use Rattle.script_player.specs.declared.session.OpenLine.{OpenLine}
 use Rattle.script_player.specs.Limits.{most_line_bytes}
 use Rattle.script_player.specs.Meaning.{lines_of}
-use Rattle.script_player.specs.Session.{IsReply, Replies}
+use Rattle.script_player.specs.Session.{Replies}
 use Rattle.script_player.specs.Streams.{Writing, WritesFront, IsPut}
 
 -- These are the bytes of a line, or what became of them.
@@ -19,42 +19,47 @@ IsKept text bytes (fates.NoMemory _) = 0 < length text
 abbrev pub Holds : OpenLine → List ℕ → Type 0
 Holds line text = IsKept text line.bytes.items line.fate
 
--- A player answers this line, which is then printed, if no write failed.
-abbrev pub IsAnswerTo : {S T E : Type 0} → (S → List ℕ → List ℕ → S → Type 0) → OpenLine → S → S → Writing → Writing → Result T E → Type 0
-IsAnswerTo Plays line old new out out' result =
+-- A player answers the line that has these bytes, or this fate, and the answer is printed, if no write failed.
+abbrev pub IsReplyTo : {S T E : Type 0} → (S → List ℕ → List ℕ → S → Type 0) → List ℕ → Fate → S → S → Writing → Writing → Result T E
+    → Type 0
+IsReplyTo Answers bytes fate old new out out' result =
     (printed : List ℕ) × IsPut out out' result printed
-    × ((text : List ℕ) → Holds line text → IsReply Plays old text printed new)
+    × ((text : List ℕ) → IsKept text bytes fate → Answers old text printed new)
+
+-- the same of an open line
+abbrev pub IsAnswerTo : {S T E : Type 0} → (S → List ℕ → List ℕ → S → Type 0) → OpenLine → S → S → Writing → Writing → Result T E → Type 0
+IsAnswerTo Answers line old new out out' result = IsReplyTo Answers line.bytes.items line.fate old new out out' result
 
 -- These bytes have come, this was printed, and player and line are so: each line was answered of which the newline has come.
-pub record HasAnswered {S : Type 0} (Plays : S → List ℕ → List ℕ → S → Type 0) (first : S) (given printed : List ℕ) (player : S)
+pub record HasAnswered {S : Type 0} (Answers : S → List ℕ → List ℕ → S → Type 0) (first : S) (given printed : List ℕ) (player : S)
     (line : OpenLine) : Type 0 where
   pub lines : List (List ℕ)
   pub begun : List ℕ
   pub split : lines_of given ≡ lines ++ begun ∷ []
   pub whole : lines_of begun ≡ begun ∷ []
-  pub replies : Replies Plays first lines printed player
+  pub replies : Replies Answers first lines printed player
   pub held : Holds line begun
 
 -- Of these bytes the first lines print this, and a write failed before all of it was written.
-pub record IsCutShort {S : Type 0} (Plays : S → List ℕ → List ℕ → S → Type 0) (first : S) (given printed : List ℕ) (out out' : Writing)
+pub record IsCutShort {S : Type 0} (Answers : S → List ℕ → List ℕ → S → Type 0) (first : S) (given printed : List ℕ) (out out' : Writing)
     : Type 0 where
   pub lines : List (List ℕ)
   pub rest : List (List ℕ)
   pub text : List ℕ
   pub last : S
   pub split : lines_of given ≡ lines ++ rest
-  pub replies : Replies Plays first lines (printed ++ text) last
+  pub replies : Replies Answers first lines (printed ++ text) last
   pub front : WritesFront out out' text
 
 -- More bytes came.
 abbrev pub IsFed : {S E : Type 0} → (S → List ℕ → List ℕ → S → Type 0) → S → OpenLine → List ℕ → S → OpenLine → Writing → Writing
     → Result Unit E → Type 0
-IsFed {S} Plays old line bytes new line' out out' (Ok done) =
-    (first : S) (given printed : List ℕ) → HasAnswered Plays first given printed old line
-    → (text : List ℕ) × Appends out.bytes out'.bytes text × HasAnswered Plays first (given ++ bytes) (printed ++ text) new line'
-IsFed {S} Plays old line bytes new line' out out' (Err e) =
-    (first : S) (given printed : List ℕ) → HasAnswered Plays first given printed old line
-    → IsCutShort Plays first (given ++ bytes) printed out out'
+IsFed {S} Answers old line bytes new line' out out' (Ok done) =
+    (first : S) (given printed : List ℕ) → HasAnswered Answers first given printed old line
+    → (text : List ℕ) × Appends out.bytes out'.bytes text × HasAnswered Answers first (given ++ bytes) (printed ++ text) new line'
+IsFed {S} Answers old line bytes new line' out out' (Err e) =
+    (first : S) (given printed : List ℕ) → HasAnswered Answers first given printed old line
+    → IsCutShort Answers first (given ++ bytes) printed out out'
 
 -- the exit status
 abbrev pub status_of : {T E : Type 0} → Result T E → ℕ

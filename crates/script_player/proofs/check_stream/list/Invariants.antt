@@ -7,8 +7,8 @@ use Rattle.script_player.proofs.check_stream.list.Given as goal
 abbrev pub invariant-loop-rest : goal.invariant-loop-rest
 invariant-loop-rest g l =
     (is_closed l.reader.place ≡ false)
-    × ((printed : List ℕ) × Appends (g.O.Write.contents l.initial.out) (g.O.Write.contents l.out) printed
-    × Follows (begun l.fn.shape 0) l.bytes l.reader l.rest printed)
+    × ((printed : List ℕ) × Appends (g.O.Sink.written l.initial.out).bytes (g.O.Sink.written l.out).bytes printed
+    × Follows g.O.Sink.no_memory (begun l.fn.shape 0) l.bytes l.reader l.rest printed)
 
 abbrev pub decreases-loop-rest : goal.decreases-loop-rest
 decreases-loop-rest g l = length l.rest

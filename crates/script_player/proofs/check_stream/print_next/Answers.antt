@@ -3,25 +3,27 @@ use Rattle.std.proofs.Common.{None}
 use Rattle.script_player.{specs.Listing.IsPrinted, proofs.{ListingLemmas.no_memory-last, OptionLemmas.failed}}
 use Rattle.script_player.proofs.check_stream.print_next.Goals as goal
 
-pub returns-in_err-put-clause-printed : goal.returns-in_err-put-clause-printed
-returns-in_err-put-clause-printed g c =
-    let r = c.args.reader.now in
-    let rest = c.args.rest.now in
-    let o = g.O.Write.contents c.args.out.now in
-    let o' = g.O.Write.contents c.put.new.out in
-    failed _ (λ x. IsPrinted c.args.file_bytes r rest x c.spell_next.new.reader o o') c.from_residual.result c.from_residual.ensures.1
-    (λ e is. (_, None, r, no_memory-last c.args.file_bytes r rest, c.in_err-put.ensures.err))
-
-pub returns-in_default-clause-printed : goal.returns-in_default-clause-printed
-returns-in_default-clause-printed g c =
-    (_, no_memory-last c.args.file_bytes c.args.reader.now c.args.rest.now, c.in_ok-put.ensures.ok)
-
-pub returns-in_err-put-2-clause-printed : goal.returns-in_err-put-2-clause-printed
-returns-in_err-put-2-clause-printed g c =
+pub returns-in_err-put-in-Ok-clause-printed : goal.returns-in_err-put-in-Ok-clause-printed
+returns-in_err-put-in-Ok-clause-printed g c =
+    let no_memory = g.O.Sink.no_memory in
     let r = c.args.reader.now in
     let new = c.spell_next.new.reader in
-    let o = g.O.Write.contents c.args.out.now in
-    let o' = g.O.Write.contents c.put-2.new.out in
-    failed _ (λ x. IsPrinted c.args.file_bytes r c.args.rest.now x new o o') c.from_residual-in_err-put-2.result
-    c.from_residual-in_err-put-2.ensures.1
-    (λ e is. (_, c.in-Ok.found, new, c.in-Ok.ensures.spelled, rw c.as_slice.ensures.value at c.in_err-put-2.ensures.err))
+    let o = g.O.Sink.written c.args.out.now in
+    let o' = g.O.Sink.written c.put.new.self in
+    failed _ (λ x. IsPrinted no_memory c.args.file_bytes r c.args.rest.now x new o o') c.from_residual.result c.from_residual.ensures.1
+    (λ e is. (_, c.in-Ok.found, new, c.in-Ok.ensures.spelled no_memory, rw c.as_slice.ensures.value at c.in_err-put-in-Ok.ensures))
+
+pub returns-in_err-refuse-in-Err-clause-printed : goal.returns-in_err-refuse-in-Err-clause-printed
+returns-in_err-refuse-in-Err-clause-printed g c =
+    let no_memory = g.O.Sink.no_memory in
+    let r = c.args.reader.now in
+    let rest = c.args.rest.now in
+    let o = g.O.Sink.written c.args.out.now in
+    let o' = g.O.Sink.written c.refuse.new.self in
+    failed _ (λ x. IsPrinted no_memory c.args.file_bytes r rest x c.spell_next.new.reader o o') c.from_residual-in_err-refuse-in-Err.result
+    c.from_residual-in_err-refuse-in-Err.ensures.1
+    (λ e is. (_, None, r, no_memory-last no_memory c.args.file_bytes r rest, c.in_err-refuse-in-Err.ensures))
+
+pub returns-in_ok-refuse-in-Err-clause-printed : goal.returns-in_ok-refuse-in-Err-clause-printed
+returns-in_ok-refuse-in-Err-clause-printed g c =
+    (_, no_memory-last g.O.Sink.no_memory c.args.file_bytes c.args.reader.now c.args.rest.now, c.in_ok-refuse-in-Err.ensures.0.all)

@@ -1,28 +1,18 @@
--- what is decoded is what the digits write
-use Rattle.std.proofs.{Common.{◌≡◌, ◌∙◌, sym, ap, arith, true, List, ℕ, Some, Ok, length, take, ◌++◌, subst}, Math.Seq.take-append_seam}
-use Rattle.script_player.{specs.Delivery.IsHex, proofs.DeliveryLemmas.{decoded-same, they-are}}
+use Rattle.std.proofs.Common.{◌<◌, length, arith}
+use Rattle.script_player.proofs.DeliveryLemmas.{read-hex, read-only, they-are}
 use Rattle.script_player.proofs.delivery.read_bytes.Goals as goal
 
--- all places are filled
-all-put : (n : ℕ) (put rest : List ℕ) → length put ≡ n → take n (put ++ rest) ≡ put
-all-put n put rest long = subst (λ k. take k (put ++ rest) ≡ put) long (take-append_seam put rest)
+pub returns-then-is_empty-clause-only : goal.returns-then-is_empty-clause-only
+returns-then-is_empty-clause-only c = λ bytes h. let some = (they-are c.args.digits.now bytes h).some in absurd (grind (arith, some))
 
-pub put_decoded-requires-clause-room : goal.put_decoded-requires-clause-room
-put_decoded-requires-clause-room c =
-    let is : c.are_lower_hex.result ≡ true = grind arith in
-    let hex = c.are_lower_hex.ensures.some is in
-    let even = (they-are c.args.digits.now hex.0 hex.1).even in
-    grind arith
+pub returns-then-digits-eq1-clause-only : goal.returns-then-digits-eq1-clause-only
+returns-then-digits-eq1-clause-only c = λ bytes h. let even = (they-are c.args.digits.now bytes h).even in absurd (omega (arith, even))
 
-pub returns-clause-found : goal.returns-clause-found
-returns-clause-found c =
-    let is : c.are_lower_hex.result ≡ true = grind arith in
-    let written = c.are_lower_hex.ensures.some is in
-    let all = all-put _ c.put_decoded.new.bytes _ (grind arith) in
-    let same = decoded-same c.args.digits.now _ written.0 (c.put_decoded.ensures.value ∙ ap (λ bs. Ok bs) (sym all)) written.1 in
-    subst (λ bs. IsHex c.args.digits.now bs) (sym same) written.1
+pub returns-in-Ok-clause-found : goal.returns-in-Ok-clause-found
+returns-in-Ok-clause-found c =
+    let some : 0 < length c.args.digits.now = grind arith in
+    read-hex c.args.digits.now (λ v. v.items) c.read_into.result c.read_into.ensures.found some
 
-pub returns-clause-only : goal.returns-clause-only
-returns-clause-only c = λ bytes h.
-    let all = all-put _ c.put_decoded.new.bytes _ (grind arith) in
-    ap (λ bs. Some bs) (decoded-same c.args.digits.now _ bytes (c.put_decoded.ensures.value ∙ ap (λ bs. Ok bs) (sym all)) h)
+pub returns-in-Ok-clause-only : goal.returns-in-Ok-clause-only
+returns-in-Ok-clause-only c = λ bytes h.
+    read-only c.args.digits.now bytes (λ v. v.items) c.read_into.result c.read_into.ensures.found c.read_into.ensures.none h

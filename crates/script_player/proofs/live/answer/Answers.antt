@@ -1,8 +1,7 @@
-use Rattle.script_player.proofs.LiveLemmas.{played-so, played-badly}
+use Rattle.script_player.{specs.internal.Playing.stage_of, proofs.LiveLemmas.played-so}
 use Rattle.script_player.proofs.live.answer.Goals as goal
 
-pub returns-in-Bad : goal.returns-in-Bad
-returns-in-Bad c = played-badly _ c.args.line.now _ _ c.in-Bad.ensures _ c.add.ensures
-
-pub returns-in_default : goal.returns-in_default
-returns-in_default c = played-so _ c.args.line.now _ _ c.step.result c.step.ensures c.in_default.not-Bad
+pub returns : goal.returns
+returns c = λ no_memory.
+    played-so no_memory (stage_of c.args.player.now.world) c.args.line.now c.step.new.self.text.items (stage_of c.step.new.self.world)
+    c.step.result (c.step.ensures no_memory)

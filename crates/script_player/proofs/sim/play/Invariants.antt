@@ -6,7 +6,7 @@ use Rattle.script_player.proofs.sim.play.Given as goal
 abbrev pub invariant-loop-left : goal.invariant-loop-left
 invariant-loop-left g l =
     (l.number + most_lines (texts l.left) ≤ length l.source + 1)
-    × ArePlayed l.source (g.O.Sink.written l.initial.out) (g.O.Sink.written l.out) (lines_left (texts l.left)) (stage_of l.player.world)
+    × ArePlayed g.O.Sink.no_memory l.source (g.O.Sink.written l.initial.out) (g.O.Sink.written l.out) (lines_left (texts l.left)) (stage_of l.player.world)
     (l.number + 1)
 
 abbrev pub decreases-loop-left : goal.decreases-loop-left
