@@ -13,7 +13,8 @@ use Rattle.pair_nodes.specs.Sites.{alone_site, hear_site, live_site, lone_site, 
 use Rattle.pair_nodes.specs.Sites.{restart_site, run_site, whole_site}
 use Rattle.pair_nodes.specs.StandbyCalls.{commit_outcome, live_rows}
 use Rattle.node_player.specs.{AtPrimary.{AtPrimary, IsStepsAnswer, after_steps}, AtStandby.{AtStandby, IsFed}}
-use Rattle.node_player.specs.Halves.{IsBetween, IsPrimarysHalf, stays, happens, arrives, IsStandbysHalf}
+use Rattle.node_player.proofs.BetweenLemmas.{IsBetween}
+use Rattle.node_player.specs.Halves.{IsPrimarysHalf, stays, happens, arrives, IsStandbysHalf}
 use Rattle.node_player.specs.Halves.{stays_standby, happens_there, becomes_live}
 use Rattle.node_player.specs.Lines.{Line, boot, order, arrive, piece}
 use Rattle.node_player.specs.Nodes.{Node, primary, standby}

@@ -2,4 +2,5 @@ mod OrderLemmas
 mod LineLemmas
 mod PutLemmas
 mod RoleLemmas
+mod BetweenLemmas
 mod HalfLemmas

@@ -1,11 +1,11 @@
 -- An answer that is written in parts.
 use Rattle.std.proofs.Common.{◌≡◌, ℕ, List, [], ◌++◌, Result, Ok, Err, false, append_assoc, ◌∙◌, ap, refl, ◌∷◌, ◌/◌, ◌%◌}
-use Rattle.std.proofs.Common.{◌+◌, ◌<◌, length, suc, sym, take, drop, get_or, add-one}
+use Rattle.std.proofs.Common.{◌+◌, ◌<◌, length, suc, sym, take, drop, get_or, add-one, append-nil}
 use Rattle.std.proofs.{lemmas.{List.take-append-drop, Grind.flat_map-append}, Math.Seq.drop-cons}
 use Rattle.pair_history.specs.Entries.{Frame}
 use Rattle.node_player.specs.Printed.{frame_line, frame_lines}
 use Rattle.std.specs.Prelude.{slice_index}
-use Rattle.hex.specs.Hex.{encode_with}
+use Rattle.hex.specs.Hex.{encode_lower, encode_with, lower_digits}
 use Rattle.std.proofs.KnownBytes.{Appends-nil, Appends-trans}
 use Rattle.script_player.specs.Streams.{Writing, Writes, WritesFront, IsPut}
 use Rattle.script_player.proofs.ScriptLemmas.{front-after}
@@ -53,6 +53,32 @@ unfolding encode_with
 digits-append digits [] ys = refl
 digits-append digits (x ∷ xs) ys =
     ap (λ t. slice_index digits (x / 16) ∷ slice_index digits (x % 16) ∷ t) (digits-append digits xs ys)
+
+-- a line whose word and first digits were written or stand in a piece, with the digits of a chunk put last into that piece
+module _ (done piece word front : List ℕ) (before : done ++ piece ≡ word ++ encode_lower front) where
+  -- what is written then is the same, up to what comes later
+  pub line-goes-on : (chunk others bytes tail : List ℕ) → bytes ≡ front ++ (chunk ++ others)
+      → word ++ (encode_lower bytes ++ tail) ≡ done ++ ((piece ++ encode_lower chunk) ++ (encode_lower others ++ tail))
+  line-goes-on chunk others bytes tail e =
+      let first = encode_lower front in
+      let own = encode_lower chunk in
+      let rest = encode_lower others in
+      let all : encode_lower bytes ≡ first ++ (own ++ rest) =
+      ap encode_lower e ∙ digits-append lower_digits front (chunk ++ others)
+      ∙ ap (λ t. first ++ t) (digits-append lower_digits chunk others) in
+      ap (λ t. word ++ (t ++ tail)) all
+      ∙ ap (λ t. word ++ t) (append_assoc first (own ++ rest) tail ∙ ap (λ t. first ++ t) (append_assoc own rest tail))
+      ∙ sym (append_assoc word first (own ++ (rest ++ tail)))
+      ∙ ap (λ t. t ++ (own ++ (rest ++ tail))) (sym before)
+      ∙ append_assoc done piece (own ++ (rest ++ tail))
+      ∙ ap (λ t. done ++ t) (sym (append_assoc piece own (rest ++ tail)))
+
+  -- the piece is written, and is empty again
+  pub piece-written : (chunk : List ℕ) → (done ++ (piece ++ encode_lower chunk)) ++ [] ≡ word ++ encode_lower (front ++ chunk)
+  piece-written chunk =
+      let own = encode_lower chunk in
+      append-nil (done ++ (piece ++ own)) ∙ sym (append_assoc done piece own) ∙ ap (λ t. t ++ own) before
+      ∙ append_assoc word (encode_lower front) own ∙ ap (λ t. word ++ t) (sym (digits-append lower_digits front chunk))
 
 -- frames up to one, that one, and those after it
 pub lines-from : (frames : List Frame) (i : ℕ) (frame : Frame) → i < length frames → get_or frames i frame ≡ frame

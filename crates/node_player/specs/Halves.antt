@@ -1,14 +1,17 @@
 -- What a node's lines do, beside what may happen at two nodes with a bag of messages between them.
-use Rattle.std.specs.Prelude.{◌≡◌, ◌≤◌, ℕ, false, List, [], length}
+use Rattle.std.specs.Prelude.{◌≡◌, ℕ, List}
 use Rattle.pair_nodes.specs.Sides.{Primary, after_arrival}
 use Rattle.pair_nodes.specs.Sites.{Site, Happening, Happens, goes_live}
+use Rattle.script_player.specs.Session.{IsReply, Replies}
 use Rattle.node_player.specs.Lines.{Line, arrive}
-use Rattle.node_player.specs.Nodes.{Node, primary, standby}
+use Rattle.node_player.specs.Meaning.{PlaysLine}
+use Rattle.node_player.specs.Nodes.{Node, nothing, primary, standby}
 
--- what is so of a primary between two lines: its outbox has 256 frames at most, and none where it is alone
-pub record IsBetween (p : Primary) : Type 0 where
-  pub few : length p.live.outbox ≤ 256
-  pub lone : p.backed ≡ false → p.live.outbox ≡ []
+-- what a node may be in a session: what lines lead to, from nothing on, each answered as its meaning says, or by `no_memory` where there is
+-- no memory to keep it
+abbrev pub IsReached : Node → Type 0
+IsReached node =
+    (no_memory : List ℕ) × (lines : List (List ℕ)) × (printed : List ℕ) × Replies (IsReply no_memory PlaysLine) nothing lines printed node
 
 -- A line of the primary of a site leads to q: nothing changes; or this happens, and leaves it so; or the line's frame arrives.
 pub data IsPrimarysHalf (s : Site) (line : Line) (q : Primary) : Type 0 where

@@ -1,7 +1,7 @@
 -- What the lines of a node mean: how each is answered, and what the node is after it (docs/NODES.md, "Lines").
 use Rattle.std.specs.Prelude.{◌≡◌, ℕ, true, false, List, [], Option, None}
 use Rattle.script_player.specs.Meaning.{is_silent}
-use Rattle.script_player.specs.Session.{bad_answer, memory_answer, IsServed}
+use Rattle.script_player.specs.Session.{bad_answer, memory_answer, IsReply, IsServed}
 use Rattle.script_player.specs.Streams.{Reading, Writing}
 use Rattle.pair_nodes.specs.Sides.{Primary}
 use Rattle.node_player.specs.AtNothing.{AtNothing}
@@ -35,6 +35,7 @@ pub data PlaysLine (node : Node) (text printed : List ℕ) (next : Node) : Type 
   finds_no_memory : (line : Line) → is_silent text ≡ false → IsLine text line → WantsMemory line → printed ≡ memory_answer → next ≡ node
       → PlaysLine node text printed next
 
--- What a node has read and printed when it ends, and its exit status: each line was answered as it came.
-abbrev pub IsNode : Reading → Reading → Writing → Writing → ℕ → Type 0
-IsNode input input' out out' status = IsServed PlaysLine nothing input input' out out' status
+-- What a node has read and printed when it ends, and its exit status: each line was answered as it came. That there is no memory to keep a
+-- line prints `no_memory`.
+abbrev pub IsNode : List ℕ → Reading → Reading → Writing → Writing → ℕ → Type 0
+IsNode no_memory input input' out out' status = IsServed (IsReply no_memory PlaysLine) nothing input input' out out' status

@@ -14,7 +14,7 @@ use std::marker::Model;
 /// Plays the lines of `input` as they come, and prints the answers on `out`: each is written out before more is read. Answers the exit
 /// status: 0 at the end of the input, or 1 where a read or a write failed.
 pub fn serve<S: Source, O: Sink>(alloc: Global, input: &mut S, out: &mut O) -> u8
-    ensures { IsNode (S.reading input.old) (S.reading input.new) (O.written out.old) (O.written out.new) result }
+    ensures { IsNode O.no_memory (S.reading input.old) (S.reading input.new) (O.written out.old) (O.written out.new) result }
 {
     let mut host = Host::new(alloc);
     serve_lines(alloc, input, &mut host, out)
@@ -50,7 +50,7 @@ impl Host {
 }
 
 impl LinePlayer for Host {
-    ghost plays = { PlaysLine };
+    ghost plays = { λ _. PlaysLine };
 
     fn play<O: Sink>(&mut self, line: &[u8], out: &mut O) -> Result<(), Failed> {
         play(self.alloc, &mut self.role, line, out)

@@ -2,9 +2,9 @@
 ghost use Rattle.std.specs.Prelude.{ℕ, List};
 ghost use Rattle.node_player.specs.AtPrimary.{AtPrimary};
 ghost use Rattle.node_player.specs.AtStandby.{AtStandby};
-ghost use Rattle.node_player.specs.Halves.{IsBetween, IsPrimarysHalf, IsStandbysHalf};
+ghost use Rattle.node_player.specs.Halves.{IsReached, IsPrimarysHalf, IsStandbysHalf};
 ghost use Rattle.node_player.specs.Lines.{Line};
-ghost use Rattle.node_player.specs.Nodes.{Node};
+ghost use Rattle.node_player.specs.Nodes.{Node, primary};
 ghost use Rattle.pair_nodes.specs.Sides.{Primary};
 ghost use Rattle.pair_nodes.specs.Sites.{Site};
 
@@ -14,10 +14,10 @@ use pair_nodes::{what_a_primary_does_may_happen, what_a_standby_does_may_happen}
 /// or late. So the lines and answers of two nodes, and of whatever carries their messages, are a run of which pair_nodes' laws speak
 /// ([`two_nodes_serve_as_one_guest`](pair_nodes::two_nodes_serve_as_one_guest)).
 ///
-/// [`serve`](crate::host::serve) says that each line is answered so.
+/// [`serve`](crate::host::serve) says that each line is answered so, and that a session's node is what its lines so far lead to.
 pub fn lines_are_a_nodes_half_of_a_run()
-    ensures primary { (s : Site) (line : Line) (printed : List ℕ) (q : Primary) → IsBetween s.primary → AtPrimary s.primary line printed q
-        → IsPrimarysHalf s line q }
+    ensures primary { (s : Site) (line : Line) (printed : List ℕ) (q : Primary) → IsReached (primary s.primary)
+        → AtPrimary s.primary line printed q → IsPrimarysHalf s line q }
     ensures standby { (s : Site) (line : Line) (printed : List ℕ) (new : Node) → AtStandby s.standby line printed new
         → IsStandbysHalf s new }
 {

@@ -1,18 +1,22 @@
 //! What a node prints that a script doesn't: answers with frames or with a part of a checkpoint's text, and lines of its own.
 
-ghost use Rattle.std.specs.Prelude.{◌≡◌, ◌≤◌, ◌*◌, ◌∷◌, [], length, codes, decimal};
-ghost use Rattle.hex.specs.Hex.{encode_lower};
+ghost use Rattle.std.specs.Prelude.{◌≡◌, ◌≤◌, ◌∷◌, [], length, codes, decimal};
 ghost use Rattle.node_player.specs.Printed.{cut_line, frame_line, frame_lines, malformed_line, show_line, text_line};
 ghost use Rattle.script_player.specs.Printed.{line, refusal_line};
 ghost use Rattle.script_player.specs.Streams.{IsPut};
 
+use arrayvec::ArrayVec;
 use pair_core::{Frame, Refusal};
+use script_player::digits::{add_digits, put_last};
 use script_player::replies::{write_frame, write_number, write_refusal, write_words};
 use script_player::streams::{Failed, Sink};
 use script_player::text::{Text, add, add_end, add_number, add_word};
 
-/// Bytes that are turned into digits at once, at most.
+/// Bytes of a checkpoint's text whose digits are written out at once, at most.
 const CHUNK_BYTES: usize = 16384;
+
+/// What is written out at once, at most: the digits of so many bytes, after the line's word or before its end.
+const PIECE_BYTES: usize = 32784;
 
 /// Prints why a line is refused.
 ///
@@ -90,41 +94,19 @@ fn put_frame<O: Sink>(out: &mut O, frame: &Frame) -> Result<(), Failed>
 pub fn put_text<O: Sink>(out: &mut O, bytes: &[u8]) -> Result<(), Failed>
     ensures { IsPut (O.written out.old) (O.written out.new) result (text_line bytes.now) }
 {
-    out.put(b"text ")?;
-    put_hex(out, bytes)?;
-    out.put(b"\n")
-}
-
-/// Prints bytes, each as two digits.
-///
-/// # Errors
-///
-/// Where a write fails.
-fn put_hex<O: Sink>(out: &mut O, bytes: &[u8]) -> Result<(), Failed>
-    ensures { IsPut (O.written out.old) (O.written out.new) result (encode_lower bytes.now) }
-{
+    let mut piece: ArrayVec<u8, PIECE_BYTES> = ArrayVec::new();
+    put_last(&mut piece, b"text ");
     let mut rest = bytes;
     while rest.len() > CHUNK_BYTES {
         let (chunk, others) = rest.split_at(CHUNK_BYTES);
-        put_digits(out, chunk)?;
+        add_digits(&mut piece, chunk);
+        out.put(piece.as_slice())?;
+        piece.clear();
         rest = others;
     }
-    put_digits(out, rest)
-}
-
-/// Prints a chunk of bytes, each as two digits.
-///
-/// # Errors
-///
-/// Where a write fails.
-fn put_digits<O: Sink>(out: &mut O, chunk: &[u8]) -> Result<(), Failed>
-    requires { length chunk.now ≤ 16384 }
-    ensures { IsPut (O.written out.old) (O.written out.new) result (encode_lower chunk.now) }
-{
-    let mut digits = [0; 2 * CHUNK_BYTES];
-    let hex = &mut digits[..2 * chunk.len()];
-    hex::encode_to_slice(chunk, hex).unwrap();
-    out.put(hex)
+    add_digits(&mut piece, rest);
+    put_last(&mut piece, b"\n");
+    out.put(piece.as_slice())
 }
 
 /// Prints up to which checkpoint all are acknowledged, and how many frames are let out.

@@ -1,8 +1,9 @@
+use Rattle.node_player.proofs.BetweenLemmas.{reached-between}
 use Rattle.node_player.proofs.HalfLemmas.{primarys-half, standbys-half}
 use Rattle.node_player.proofs.laws.lines_are_a_nodes_half_of_a_run.Goals as goal
 
 pub returns-clause-primary : goal.returns-clause-primary
-returns-clause-primary c = λ s line printed q between h.
+returns-clause-primary c = λ s line printed q reached h.
     let laws = c.what_a_primary_does_may_happen.ensures in
     primarys-half s (record {
       cut = laws.cut s;
@@ -12,7 +13,7 @@ returns-clause-primary c = λ s line printed q between h.
       step = laws.step s;
       full = laws.full s;
       lone = laws.lone s;
-    }) line printed q between h
+    }) line printed q (reached-between s.primary reached) h
 
 pub returns-clause-standby : goal.returns-clause-standby
 returns-clause-standby c = λ s line printed new h.

@@ -1,31 +1,54 @@
-use Rattle.std.proofs.Common.{codes, ◌++◌, append_assoc}
+use Rattle.std.proofs.Common.{◌++◌, [], take, codes, length, refl, sym, ap, ap₂, ◌∙◌, arith, append_assoc, append-nil}
+use Rattle.std.proofs.lemmas.List.{take-append-drop}
 use Rattle.hex.specs.Hex.{encode_lower}
 use Rattle.script_player.{specs.Streams.IsPut, proofs.OptionLemmas.failed}
-use Rattle.node_player.{specs.Printed.text_line, proofs.PutLemmas.{front-longer, put-none, put-more, put-last, put-failed}}
+use Rattle.node_player.{specs.Printed.text_line, proofs.PutLemmas.{put-none, put-more, put-last, put-failed, line-goes-on, piece-written}}
 use Rattle.node_player.proofs.printing.put_text.Goals as goal
+
+pub loop-rest-init : goal.loop-rest-init
+unfolding Rattle.hex.specs.Hex.encode_with
+loop-rest-init g c =
+    let word = c.put_last.ensures.items ∙ ap (λ t. t ++ codes "text ") c.new-piece.ensures in
+    (omega (arith, ap length word), ([], [], refl, word, put-none (g.O.Sink.written c.args.out.now)))
 
 pub returns-in_err-put : goal.returns-in_err-put
 returns-in_err-put g c =
     let o = g.O.Sink.written c.args.out.now in
     let o' = g.O.Sink.written c.put.new.self in
+    let before = c.loop-rest.invariant.1 in
+    let chunk = c.split_at.result.0.now in
+    let others = c.split_at.result.1.now in
+    let split = sym (ap₂ ◌++◌ c.split_at.ensures.front c.split_at.ensures.back ∙ take-append-drop 16384 c.loop-rest.rest.now) in
+    let piece = c.as_slice.ensures.value ∙ c.add_digits.ensures.items in
+    let all = line-goes-on before.1 c.loop-rest.piece.items (codes "text ") before.0 before.3 chunk others c.args.bytes.now (codes "\n") (before.2 ∙ ap (λ t. before.0 ++ t) split)
+    ∙ ap (λ p. before.1 ++ (p ++ (encode_lower others ++ codes "\n"))) (sym piece) in
     failed _ (λ r. IsPut o o' r (text_line c.args.bytes.now)) c.from_residual.result c.from_residual.ensures.1
-    (λ e is. front-longer o o' (codes "text ") (encode_lower c.args.bytes.now ++ codes "\n") c.in_err-put.ensures)
+    (λ e is. rw all (put-failed before.4 o' c.as_slice.result.now (encode_lower others ++ codes "\n") c.in_err-put.ensures))
 
-pub returns-in_err-put_hex : goal.returns-in_err-put_hex
-returns-in_err-put_hex g c =
-    let o = g.O.Sink.written c.args.out.now in
-    let m = g.O.Sink.written c.put.new.self in
-    let o' = g.O.Sink.written c.put_hex.new.out in
-    failed _ (λ r. IsPut o o' r (text_line c.args.bytes.now)) c.from_residual-in_err-put_hex.result
-    c.from_residual-in_err-put_hex.ensures.1
-    (λ e is. put-failed (put-more (put-none o) m (codes "text ") c.in_ok-put.ensures) o' (encode_lower c.args.bytes.now) (codes "\n")
-    c.in_err-put_hex.ensures)
+pub loop-rest-preserved : goal.loop-rest-preserved
+loop-rest-preserved g c =
+    let o' = g.O.Sink.written c.put.new.self in
+    let before = c.loop-rest.invariant.1 in
+    let chunk = c.split_at.result.0.now in
+    let others = c.split_at.result.1.now in
+    let split = sym (ap₂ ◌++◌ c.split_at.ensures.front c.split_at.ensures.back ∙ take-append-drop 16384 c.loop-rest.rest.now) in
+    let piece = c.as_slice.ensures.value ∙ c.add_digits.ensures.items in (
+      omega (arith, ap length c.clear.ensures),
+      (
+        before.0 ++ chunk,
+        before.1 ++ c.as_slice.result.now,
+        before.2 ∙ ap (λ t. before.0 ++ t) split ∙ sym (append_assoc before.0 chunk others),
+        ap₂ (λ p q. (before.1 ++ p) ++ q) piece c.clear.ensures ∙ piece-written before.1 c.loop-rest.piece.items (codes "text ") before.0 before.3 chunk,
+        put-more before.4 o' c.as_slice.result.now c.in_ok-put.ensures,
+      ),
+    )
 
 pub returns : goal.returns
+unfolding Rattle.hex.specs.Hex.encode_with
 returns g c =
-    let o = g.O.Sink.written c.args.out.now in
-    let m = g.O.Sink.written c.put.new.self in
-    let n = g.O.Sink.written c.put_hex.new.out in
-    let front = put-more (put-more (put-none o) m (codes "text ") c.in_ok-put.ensures) n (encode_lower c.args.bytes.now)
-    c.in_ok-put_hex.ensures in
-    rw append_assoc at (put-last front (g.O.Sink.written c.put-2.new.self) (codes "\n") c.put-2.result c.put-2.ensures)
+    let before = c.loop-rest.invariant.1 in
+    let rest = c.loop-rest.rest.now in
+    let piece = c.as_slice-2.ensures.value ∙ c.put_last-2.ensures.items ∙ ap (λ t. t ++ codes "\n") c.add_digits-2.ensures.items in
+    let all = line-goes-on before.1 c.loop-rest.piece.items (codes "text ") before.0 before.3 rest [] c.args.bytes.now (codes "\n")
+    (before.2 ∙ ap (λ t. before.0 ++ t) (sym (append-nil rest))) ∙ ap (λ p. before.1 ++ p) (sym piece) in
+    rw all (put-last before.4 (g.O.Sink.written c.put-2.new.self) c.as_slice-2.result.now c.put-2.result c.put-2.ensures)

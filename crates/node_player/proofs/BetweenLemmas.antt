@@ -1,0 +1,106 @@
+-- Between two lines of a session a primary's outbox has 256 frames at most, and none where it is alone.
+use Rattle.std.proofs.Common.{◌≡◌, ◌≤◌, ℕ, Bool, true, false, cond, List, [], ◌∷◌, length, Result, Ok, Err, inl, inr, refl, sym, ap, ◌∙◌, subst, arith}
+use Rattle.pair_record.specs.declared.event.Refusal.{Refusal}
+use Rattle.pair_record.specs.declared.event.Refusal.TheVariants.{CutNeeded}
+use Rattle.pair_nodes.specs.PrimaryCalls.{IsSteps, after_release}
+use Rattle.pair_nodes.specs.Sides.{Primary, Standby as StandbyNode, after_ack, after_alone, after_arrival, after_cut, after_protect, live_of}
+use Rattle.script_player.specs.Session.{IsReply, is_played, is_too_long, is_not_kept, Replies}
+use Rattle.node_player.specs.{AtNothing.AtNothing, AtPrimary.{AtPrimary, IsStepsAnswer}, AtStandby.AtStandby, Halves.IsReached}
+use Rattle.node_player.specs.Lines.{Line, boot, order, arrive, piece}
+use Rattle.node_player.specs.Meaning.{Answers, PlaysLine, is_silence, answers, is_bad, finds_no_memory}
+use Rattle.node_player.specs.Nodes.{Node, nothing, primary, standby}
+use Rattle.node_player.specs.declared.orders.Order.TheVariants.{Standby, Step, Cut, Ack, Alone, Protect, GoLive, Show, Sector}
+
+pub record IsBetween (p : Primary) : Type 0 where
+  pub few : length p.live.outbox ≤ 256
+  pub lone : p.backed ≡ false → p.live.outbox ≡ []
+
+abbrev IsBetweenAt : Node → Type 0
+IsBetweenAt nothing = Unit {0}
+IsBetweenAt (primary p) = IsBetween p
+IsBetweenAt (standby b) = Unit {0}
+
+none-between : (p : Primary) → p.live.outbox ≡ [] → IsBetween p
+none-between p none = record { few = omega (arith, ap (λ l. length l) none); lone = λ _. none }
+
+backed-between : (p : Primary) → p.backed ≡ true → length p.live.outbox ≤ 256 → IsBetween p
+backed-between p backed few = record { few = few; lone = λ (alone : p.backed ≡ false). cc }
+
+-- steps
+left-between : (q : Primary) (b : Bool) → q.backed ≡ b → length q.live.outbox ≤ 256 → IsBetween (cond b q (after_release q))
+left-between q true backed few = backed-between q backed few
+left-between q false alone few = none-between (after_release q) refl
+
+stepped : (count : ℕ) (result : Result ℕ Refusal) (p q : Primary) (printed : List ℕ) (new : Primary) → IsBetween p
+    → IsSteps count p result q → IsStepsAnswer q result printed new → IsBetween new
+stepped count (Ok made) p q printed new h is answer =
+    subst IsBetween (sym answer.1) (left-between q q.backed refl is.2.few)
+stepped count (Err CutNeeded) p q printed new h is answer =
+    let run = is.1.2 in
+    subst IsBetween (sym answer.1) (backed-between q (ap (λ (r : Primary). r.backed) run.left ∙ is.0) run.few)
+stepped count (Err why) p q printed new h is answer = subst IsBetween (sym (answer.1 ∙ is.1)) h
+
+at-primary : (p : Primary) (line : Line) (printed : List ℕ) (q : Primary) → IsBetween p → AtPrimary p line printed q → IsBetween q
+at-primary p (boot b) printed q h a = subst IsBetween (sym a.1) h
+at-primary p (arrive bytes) printed q h (inl done) =
+    subst IsBetween (sym done.1.1) (record { few = h.few; lone = h.lone })
+at-primary p (arrive bytes) printed q h (inr denied) = subst IsBetween (sym denied.2.1) h
+at-primary p (piece bytes) printed q h a = subst IsBetween (sym a.1) h
+at-primary p (order (Step count)) printed q h a = stepped count a.0 p a.1 printed q h a.2 a.3
+at-primary p (order Cut) printed q h (inl done) =
+    let sealed = done.1.1 in subst IsBetween (sym sealed.cut.left) (none-between (after_cut p sealed.text) refl)
+at-primary p (order Cut) printed q h (inr denied) = subst IsBetween (sym denied.2.1) h
+at-primary p (order (Ack generation number)) printed q h (inl done) =
+    subst IsBetween (sym done.1.1) (record { few = h.few; lone = h.lone })
+at-primary p (order (Ack generation number)) printed q h (inr denied) = subst IsBetween (sym denied.2.1) h
+at-primary p (order Alone) printed q h (inl done) = subst IsBetween (sym done.1.1) (none-between (after_alone p) refl)
+at-primary p (order Alone) printed q h (inr denied) = subst IsBetween (sym denied.2.1) h
+at-primary p (order Protect) printed q h (inl done) =
+    let made = done.1.1 in subst IsBetween (sym made.left) (none-between (after_protect p made.text) refl)
+at-primary p (order Protect) printed q h (inr denied) = subst IsBetween (sym denied.2.1) h
+at-primary p (order other) printed q h a = subst IsBetween (sym a.1) h
+
+at-standby : (b : StandbyNode) (line : Line) (printed : List ℕ) (new : Node) → AtStandby b line printed new → IsBetweenAt new
+at-standby b (boot line) printed new a = subst IsBetweenAt (sym a.1) tt
+at-standby b (arrive bytes) printed new a = subst IsBetweenAt (sym a.1) tt
+at-standby b (piece bytes) printed new (c, fed, left) = subst IsBetweenAt (sym left) tt
+at-standby b (order GoLive) printed new (inl done) = subst IsBetweenAt (sym done.1.1) (none-between (live_of b) refl)
+at-standby b (order GoLive) printed new (inr denied) = subst IsBetweenAt (sym denied.2.1) tt
+at-standby b (order other) printed new a = subst IsBetweenAt (sym a.1) tt
+
+at-nothing : (line : Line) (printed : List ℕ) (new : Node) → AtNothing line printed new → IsBetweenAt new
+at-nothing (boot b) printed new (inl done) =
+    let p = done.1.0 in
+    let booted = done.1.1 in
+    subst IsBetweenAt (sym done.1.2) (none-between p (ap (λ (r : Primary). r.live.outbox) booted.primary_is))
+at-nothing (boot b) printed new (inr denied) = subst IsBetweenAt (sym denied.1) tt
+at-nothing (order (Standby pages sectors generation)) printed new (inl done) = subst IsBetweenAt (sym done.1.2) tt
+at-nothing (order (Standby pages sectors generation)) printed new (inr denied) = subst IsBetweenAt (sym denied.1) tt
+at-nothing other printed new a = subst IsBetweenAt (sym a.1) tt
+
+-- a line, and lines one after another
+answered : (node : Node) (line : Line) (printed : List ℕ) (new : Node) → IsBetweenAt node → Answers node line printed new → IsBetweenAt new
+answered nothing line printed new h a = at-nothing line printed new a
+answered (primary p) line printed new h a = subst IsBetweenAt (sym a.2) (at-primary p line printed a.0 h a.1)
+answered (standby b) line printed new h a = at-standby b line printed new a
+
+played : (node : Node) (text printed : List ℕ) (next : Node) → IsBetweenAt node → PlaysLine node text printed next → IsBetweenAt next
+played node text printed next h (is_silence silent none same) = subst IsBetweenAt (sym same) h
+played node text printed next h (answers line loud spelled a) = answered node line printed next h a
+played node text printed next h (is_bad loud none said same) = subst IsBetweenAt (sym same) h
+played node text printed next h (finds_no_memory line loud spelled wants said same) = subst IsBetweenAt (sym same) h
+
+replied : {no_memory : List ℕ} (node : Node) (line printed : List ℕ) (next : Node) → IsBetweenAt node
+    → IsReply no_memory PlaysLine node line printed next → IsBetweenAt next
+replied node line printed next h (is_played short plays) = played node line printed next h plays
+replied node line printed next h (is_too_long long said same) = subst IsBetweenAt (sym same) h
+replied node line printed next h (is_not_kept some said same) = subst IsBetweenAt (sym same) h
+
+replies-between : (no_memory : List ℕ) (lines : List (List ℕ)) (text : List ℕ) (node last : Node) → IsBetweenAt node
+    → Replies (IsReply no_memory PlaysLine) node lines text last → IsBetweenAt last
+replies-between no_memory [] text node last h r = subst IsBetweenAt (sym r.1) h
+replies-between no_memory (line ∷ lines) text node last h r =
+    replies-between no_memory lines r.1 r.2 last (replied node line r.0 r.2 h r.4) r.5
+
+pub reached-between : (p : Primary) → IsReached (primary p) → IsBetween p
+reached-between p r = replies-between r.0 r.1 r.2 nothing (primary p) tt r.3
