@@ -1,6 +1,8 @@
 -- What a client's call makes of what the client has seen. The laws of growing_history come as premises, since its functions promise them.
-use Rattle.std.proofs.Common.{◌≡◌, ℕ, ◌≤◌, List, [], ◌∷◌, ◌++◌, refl, sym, ap, ◌∙◌, subst, arith, Ok, Err, Result, Bool}
+use Rattle.std.proofs.Common.{◌≡◌, ℕ, ◌≤◌, List, [], ◌∷◌, ◌++◌, length, refl, sym, ap, ◌∙◌, subst, arith, Ok, Err, Result, Bool}
 use Rattle.std.specs.Prelude.{IfOk, IfErr}
+use Rattle.frame_ports.specs.Limits.{inbox_frames}
+use Rattle.frame_ports.specs.Ports as ports
 use Rattle.pair_history.specs.Entries.{Entry, Frame, Delivered, Refused, Took}
 use Rattle.pair_history.specs.HistoryState.{HistoryState}
 use Rattle.pair_record.specs.declared.event.Refusal.{Refusal}
@@ -8,15 +10,18 @@ use Rattle.pair_record.specs.declared.event.Refusal.TheVariants.{Full, BadFrame,
 use Rattle.pair_record.specs.declared.event.Refusal.TheVariants.{NoImage, Stale, Gap, NoMemory, CutNeeded, Exhausted, OldVersion}
 use Rattle.growing_history.specs.Entries.{own_entries, IsCall}
 use Rattle.growing_history.specs.Steps.{Added, Step, step, Begins, steps_by}
-use Rattle.growing_history.specs.LogState.{Legal, history_of, client_seat}
+use Rattle.growing_history.specs.LogState.{Legal, state_at, history_of, client_seat}
 use Rattle.growing_history.specs.Views.{Member}
-use Rattle.pair_book.specs.Books.{BookState}
+use Rattle.pair_book.specs.Books.{BookState, inbox_at}
+use Rattle.pair_record.specs.Protocol.{first_refusal}
 use Rattle.pair_record.specs.Record.{given}
-use Rattle.pair_book.specs.Calls.{IsClientSeat, client_of, Makes, IsAsBefore}
+use Rattle.pair_book.specs.Calls.{IsClientSeat, client_of, Makes, Shows, IsAsBefore, deliver_rows}
+use Rattle.pair_book.specs.Calls.{IsWhyDelivery as WhyAtBook}
 use Rattle.pair_book.specs.Calls.{AfterRefusedDelivery as AtBook}
 use Rattle.hypervisor.specs.Seats.{MakesStep}
 use Rattle.hypervisor.specs.Clients.{client_state, Calls, AfterRefusedDelivery, Learns}
-use Rattle.hypervisor.proofs.Steps.{makes-step}
+use Rattle.hypervisor.specs.Looking.{SeesAll}
+use Rattle.hypervisor.proofs.{Steps.makes-at, Whys.deliver-full}
 
 -- a client's call is a point of one history
 abbrev pub CallLaw : Type 0
@@ -49,17 +54,23 @@ called start c old new e low m law =
 
 module _ (start : HistoryState) (b b' : BookState) (seat seat' : Member) (is : IsClientSeat start seat.number)
     (legal : Legal start seat'.steps) (law : CallLaw) where
-  told : (e : Entry) → Makes (Added (e ∷ [])) b b' seat seat' → Calls start e (client_state seat) (client_state seat')
-  told e m =
+  told-at : (e : Entry) → Makes (Added (e ∷ [])) b b' seat seat'
+      → (calls : Calls start e (client_state seat) (client_state seat')) × (seat.steps ++ calls.step.seen.0 ≡ b.steps)
+  told-at e m =
       let c = client_of seat.number in
-      let made : MakesStep start (client_seat c) (Added (e ∷ [])) seat.steps seat'.steps =
-      subst (λ (n : ℕ). MakesStep start n (Added (e ∷ [])) seat.steps seat'.steps) (sym (seat-of start seat.number is))
-      (makes-step start (Added (e ∷ [])) b b' seat seat' m legal) in
-      record {
-        number = ap (λ (s : Member). client_of s.number) m.sees;
-        step = made;
-        entry = called start c seat.steps seat'.steps e (from-one start seat.number is) made law;
-      }
+      let at = subst
+      (λ (n : ℕ). (made : MakesStep start n (Added (e ∷ [])) seat.steps seat'.steps) × (seat.steps ++ made.seen.0 ≡ b.steps))
+      (sym (seat-of start seat.number is)) (makes-at start (Added (e ∷ [])) b b' seat seat' m legal) in (
+        record {
+          number = ap (λ (s : Member). client_of s.number) m.sees;
+          step = at.0;
+          entry = called start c seat.steps seat'.steps e (from-one start seat.number is) at.0 law;
+        },
+        at.1,
+      )
+
+  told : (e : Entry) → Makes (Added (e ∷ [])) b b' seat seat' → Calls start e (client_state seat) (client_state seat')
+  told e m = (told-at e m).0
 
   pub delivered : (bytes : List ℕ) (r : Result ℕ Refusal)
       → IfOk r (λ n. Makes (Added (Delivered (client_of seat.number) (record { items = bytes }) n ∷ [])) b b' seat seat')
@@ -77,28 +88,43 @@ module _ (start : HistoryState) (b b' : BookState) (seat seat' : Member) (is : I
   same : IsAsBefore b b' seat seat' → client_state seat' ≡ client_state seat
   same a = ap client_state a.1
 
-  refused-so : (f : Frame) (why : Refusal) → AtBook (client_of seat.number) f why b b' seat seat'
+  -- where its inbox holds that many frames, it does so where the steps lead to
+  refused-so : (f : Frame) (why : Refusal) → (why ≡ Full → inbox_frames ≤ length (inbox_at (state_at start b.steps) (client_of seat.number)))
+      → AtBook (client_of seat.number) f why b b' seat seat'
       → AfterRefusedDelivery start f why (client_state seat) (client_state seat')
-  refused-so f Full a = told (Refused (client_of seat.number) f) a.0
-  refused-so f BadFrame a = same a
-  refused-so f NoClient a = same a
-  refused-so f Stopped a = same a
-  refused-so f Behind a = same a
-  refused-so f NotPaired a = same a
-  refused-so f AlreadyPaired a = same a
-  refused-so f NoImage a = same a
-  refused-so f Stale a = same a
-  refused-so f Gap a = same a
-  refused-so f (NoMemory m) a = same a
-  refused-so f CutNeeded a = same a
-  refused-so f Exhausted a = same a
-  refused-so f OldVersion a = same a
+  refused-so f Full many a =
+      let at = told-at (Refused (client_of seat.number) f) a.0 in (
+        at.0,
+        subst (λ (xs : List Step). inbox_frames ≤ length (inbox_at (state_at start xs) (client_of seat.number))) (sym at.1) (many refl),
+      )
+  refused-so f BadFrame many a = same a
+  refused-so f NoClient many a = same a
+  refused-so f Stopped many a = same a
+  refused-so f Behind many a = same a
+  refused-so f NotPaired many a = same a
+  refused-so f AlreadyPaired many a = same a
+  refused-so f NoImage many a = same a
+  refused-so f Stale many a = same a
+  refused-so f Gap many a = same a
+  refused-so f (NoMemory m) many a = same a
+  refused-so f CutNeeded many a = same a
+  refused-so f Exhausted many a = same a
+  refused-so f OldVersion many a = same a
 
-  pub not-delivered : (f : Frame) (r : Result ℕ Refusal)
-      → IfErr r (λ why. AtBook (client_of seat.number) f why b b' seat seat')
-      → IfErr r (λ why. AfterRefusedDelivery start f why (client_state seat) (client_state seat'))
-  not-delivered f (Ok n) a = tt
-  not-delivered f (Err why) a = refused-so f why a
+  pub not-delivered : (bytes : List ℕ) (r : Result ℕ Refusal) → length b.ports.boxes ≡ length start.boxes
+      → ((d : ℕ) → 1 ≤ d → d ≤ length b.ports.boxes → ports.inbox_of b.ports d ≡ inbox_at (state_at start b.steps) d)
+      → IfErr r (λ why. WhyAtBook (first_refusal (deliver_rows b (client_of seat.number) bytes)) why)
+      → IfErr r (λ why. AtBook (client_of seat.number) (record { items = bytes }) why b b' seat seat')
+      → IfErr r (λ why. AfterRefusedDelivery start (record { items = bytes }) why (client_state seat) (client_state seat'))
+  not-delivered bytes (Ok n) count inboxes row a = tt
+  not-delivered bytes (Err why) count inboxes row a =
+      let c = client_of seat.number in
+      let low = from-one start seat.number is in
+      let high : c ≤ length b.ports.boxes = let most = is.1 in omega (arith, most, count) in
+      let full : why ≡ Full → inbox_frames ≤ length (inbox_at (state_at start b.steps) c) = λ e.
+      subst (λ (xs : List (ℕ × Frame)). inbox_frames ≤ length xs) (inboxes c low high)
+      (deliver-full b c bytes (subst (λ (r : Refusal). WhyAtBook (first_refusal (deliver_rows b c bytes)) r) e row)) in
+      refused-so (record { items = bytes }) why full a
 
   pub not-taken : (frame frame' : Frame) (r : Result Bool Refusal)
       → IfErr r (λ _. IsAsBefore b b' seat seat' × (frame' ≡ frame))
@@ -121,4 +147,17 @@ learned start seat seat' told is number seen heard own legal law =
       told = heard;
       own = ap (λ (n : ℕ). own_entries (client_of n) (history_of start seat'.steps)) number
           ∙ law start c seat.steps seat'.steps (from-one start seat.number is) seen legal kept;
+    }
+
+pub seen-all : (start : HistoryState) (b : BookState) (seat seat' : Member) → IsClientSeat start seat.number → Shows b seat seat'
+    → Legal start b.steps → LookLaw → SeesAll start b.steps (client_state seat) (client_state seat')
+seen-all start b seat seat' is shows legal law =
+    let c = client_of seat.number in
+    let kept : steps_by (client_seat c) b.steps ≡ steps_by (client_seat c) seat.steps =
+    subst (λ (n : ℕ). steps_by n b.steps ≡ steps_by n seat.steps) (sym (seat-of start seat.number is)) shows.own in
+    record {
+      number = ap (λ (s : Member). client_of s.number) shows.sees;
+      sees = ap (λ (s : Member). s.steps) shows.sees;
+      begins = shows.saw;
+      own = law start c seat.steps b.steps (from-one start seat.number is) shows.saw legal kept;
     }

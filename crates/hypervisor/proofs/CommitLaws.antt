@@ -19,13 +19,13 @@ use Rattle.pair_book.specs.Books.{BookState}
 use Rattle.pair_book.specs.Calls.{IsWhy, is_word_full}
 use Rattle.pair_book.specs.declared.failures.Ack.{Ack}
 use Rattle.pair_book.specs.Commits.{commit_of, may_commit, is_old_delta, is_next, is_earlier, commit_why, AfterAgainOrNext, Acknowledges}
-use Rattle.pair_book.specs.Commits.{WasRead, StandsBy}
+use Rattle.pair_book.specs.Commits.{WasRead, StandsBy, StandsAgain}
 use Rattle.pair_book.specs.Made.{IsShape}
 use Rattle.hypervisor.specs.Backups.{backup_state, new_backup, StandsWith, IsBackup}
-use Rattle.hypervisor.specs.Commits.{AtBook, commit_refusals, IsWhyCommit, or_unnumbered, why_not}
+use Rattle.hypervisor.specs.Commits.{AtBook, image_after, commit_refusals, IsWhyCommit, or_unnumbered, why_not}
 use Rattle.hypervisor.specs.Refusals.{IsWhyUnless}
 use Rattle.hypervisor.proofs.ReadsOnLaws.{nothing-came}
-use Rattle.hypervisor.proofs.{StandLaws.{stage-new, stands-applied}, Steps.makes-step, Whys.{first, later}}
+use Rattle.hypervisor.proofs.{StandLaws.{stage-new, stage-again, stands-applied}, Steps.{makes-step, looks-at}, Whys.{first, later}}
 
 -- WHICH REFUSALS
 
@@ -103,7 +103,8 @@ module _ (start : HistoryState) (b : BookState) (number : ℕ) where
       let same : why ≡ Exhausted = cc in unless-old (is_old_delta c) why (is_young c is) (is_exhausted why same)
   at-last c None false why is e = absurd (cc)
 
-  pub refused-why : (i : ImageState) (c : Change) (why : Refusal) → why_not start b number i c ≡ Some why → IsWhyCommit (Some c) why
+  pub refused-why : (i : ImageState) (c : Change) (why : Refusal) → why_not start b number i (Some c) ≡ Some why
+      → IsWhyCommit (Some c) why
   refused-why i c why e =
       at-last c (commit_why start b number (Some c)) (not (is_earlier b c) && not (nat_lt (images.sent_with c i.sent) number_limit)) why
       refl e
@@ -118,7 +119,8 @@ free-of None false e = (refl, refl)
 
 -- where nothing refuses it, it is refused for want of memory alone
 pub row-of : (start : HistoryState) (b : BookState) (number : ℕ) (i : ImageState) (c : Change) (why : Refusal)
-    → why_not start b number i c ≡ None → IsWhy (commit_why start b number (Some c)) why → IsWhy (why_not start b number i c) why
+    → why_not start b number i (Some c) ≡ None → IsWhy (commit_why start b number (Some c)) why
+    → IsWhy (why_not start b number i (Some c)) why
 row-of start b number i c why none is =
     let both = free-of (commit_why start b number (Some c))
     (not (is_earlier b c) && not (nat_lt (images.sent_with c i.sent) number_limit)) none in
@@ -129,15 +131,28 @@ is-numbered true e = refl
 is-numbered false e = absurd (cc)
 
 module _ (start : HistoryState) (b b' : BookState) (seat seat' : Member) (c : Change) (ack : Ack) (i : ImageState)
-    (free : why_not start b seat.number i c ≡ None) (number : seat'.number ≡ seat.number) (legal : Legal start b'.steps)
+    (free : why_not start b seat.number i (Some c) ≡ None) (number : seat'.number ≡ seat.number) (legal : Legal start b'.steps)
     (read : WasRead c) (shape : IsShape start i.shape) (same : c.shape ≡ i.shape) (stands : StandsWith start seat i) where
   abbrev numbered : Bool
   numbered = nat_lt (images.sent_with c i.sent) number_limit
 
   by-test : (t : Bool) → is_earlier b c ≡ t → AfterAgainOrNext t c ack b b' seat seat' → Acknowledges t c ack
-      → (t ≡ false → StandsBy start c ack seat seat') → AtBook (not t) start c ack i seat seat'
-  by-test true is after acknowledged by = (acknowledged, after.1.1)
-  by-test false is after acknowledged by =
+      → (t ≡ false → StandsBy start c ack seat seat') → (t ≡ true → StandsAgain start ack seat seat')
+      → AtBook (not t) start c ack i seat seat'
+  by-test true is after acknowledged by again =
+      let both = free-of (commit_why start b seat.number (Some c)) (not (is_earlier b c) && not numbered) free in
+      let stood = again refl i.guest _ i.sent _ i.kept stands in
+      record {
+        acknowledged = acknowledged;
+        last = stood.0;
+        again = stage-again i c ack (is_young start b seat.number c both.0) stood.0 acknowledged;
+        number = number;
+        looks =
+            looks-at start b seat seat' after.2
+            (subst (λ (m : Member). Legal start m.steps) (sym after.2.sees) (subst (λ (x : BookState). Legal start x.steps) after.1 legal));
+        stands = stood.1;
+      }
+  by-test false is after acknowledged by again =
       let both = free-of (commit_why start b seat.number (Some c)) (not (is_earlier b c) && not numbered) free in
       let stood = by refl read (subst (λ (s : Shape). IsShape start s) (sym same) shape) i.guest _ i.sent _ i.kept stands in
       record {
@@ -153,8 +168,19 @@ module _ (start : HistoryState) (b b' : BookState) (seat seat' : Member) (c : Ch
       }
 
   pub at-book : AfterAgainOrNext (is_earlier b c) c ack b b' seat seat' → Acknowledges (is_earlier b c) c ack
-      → (is_earlier b c ≡ false → StandsBy start c ack seat seat') → AtBook (not (is_earlier b c)) start c ack i seat seat'
-  at-book after acknowledged by = by-test (is_earlier b c) refl after acknowledged by
+      → (is_earlier b c ≡ false → StandsBy start c ack seat seat') → (is_earlier b c ≡ true → StandsAgain start ack seat seat')
+      → AtBook (not (is_earlier b c)) start c ack i seat seat'
+  at-book after acknowledged by again = by-test (is_earlier b c) refl after acknowledged by again
+
+pub stands-after : (start : HistoryState) (c : Change) (ack : Ack) (i : ImageState) (seat seat' : Member) (is_next : Bool)
+    → AtBook is_next start c ack i seat seat' → StandsWith start seat' (image_after is_next i (Some c))
+stands-after start c ack i seat seat' true at = at.stands
+stands-after start c ack i seat seat' false at = at.stands
+
+pub stands-applied-then : (start : HistoryState) (i : ImageState) (seat : Member) (is_next : Bool) (read : Option Change) (c : Change)
+    → is_next ≡ true → read ≡ Some c → StandsWith start seat (image_after is_next i read) → StandsWith start seat (applied i (Some c))
+stands-applied-then start i seat is_next read c next is stands =
+    subst (λ (x : Bool × Option Change). StandsWith start seat (image_after x.0 i x.1)) (λ k. (next k, is k)) stands
 
 -- IT IS A BACKUP, and stays one
 

@@ -20,3 +20,4 @@ pub mod StandLaws
 pub mod CommitLaws
 pub mod GoLiveLaws
 pub mod OpeningLaws
+pub mod LookLaws

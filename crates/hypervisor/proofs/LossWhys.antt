@@ -1,14 +1,15 @@
 -- Which refusals the first row of a loss's table may be.
-use Rattle.std.proofs.Common.{◌≡◌, ℕ, [], ◌∷◌, length, Bool, true, false, subst, Ok, Err, Result, Option, Some, None}
+use Rattle.std.proofs.Common.{◌≡◌, ℕ, ◌≤◌, List, [], ◌∷◌, length, Bool, true, false, subst, refl, arith, Ok, Err, Result, Option, Some, None}
+use Rattle.std.proofs.lemmas.Bool.Decides.{nat_tests}
 use Rattle.std.specs.Prelude.{IfErr, not}
 use Rattle.pair_history.specs.Entries.{Entry}
 use Rattle.pair_history.specs.HistoryState.{HistoryState}
 use Rattle.pair_record.specs.declared.event.Refusal.{Refusal}
 use Rattle.pair_record.specs.declared.event.Refusal.TheVariants.{NoClient, Exhausted}
-use Rattle.pair_record.specs.Protocol.{first_refusal, exhausts, is_among}
+use Rattle.pair_record.specs.Protocol.{Row, first_refusal, exhausts, is_among}
 use Rattle.pair_book.specs.declared.losses.Loss.{Loss}
 use Rattle.pair_book.specs.Books.{BookState}
-use Rattle.pair_book.specs.Calls.{is_word_full}
+use Rattle.pair_book.specs.Calls.{is_word_full, entry_rows}
 use Rattle.pair_book.specs.Losses.{loss_rows}
 use Rattle.pair_book.specs.Losses.{IsWhyLoss as AtBook}
 use Rattle.hypervisor.specs.Refusals.{IsWhyUnless, IsWhyLoss, entry_refusals}
@@ -39,3 +40,21 @@ pub loss-why : (start : HistoryState) (b : BookState) (c : ℕ) (entry : Option 
 loss-why start b c entry (Ok l) count is = tt
 loss-why start b c entry (Err why) count is =
     subst (λ (n : ℕ). IsWhyUnless (not (is_among c n)) NoClient entry_refusals why) count (by-entry b c entry why is)
+
+-- where no row holds the number is a client's
+among : (c count : ℕ) (t : Bool) → is_among c count ≡ t → not t ≡ false → (1 ≤ c) × (c ≤ count)
+among c count true is e = grind (arith, nat_tests)
+among c count false is e = absurd (cc)
+
+free-of : (other : Bool) (rows : List Row) → first_refusal ((other, NoClient) ∷ rows) ≡ None → other ≡ false
+free-of true rows e = absurd (cc)
+free-of false rows e = refl
+
+pub is-client : (b : BookState) (c : ℕ) (entry : Option Entry) → first_refusal (loss_rows b c entry) ≡ None
+    → (1 ≤ c) × (c ≤ length b.ports.boxes)
+is-client b c None e =
+    let count = length b.ports.boxes in
+    among c count (is_among c count) refl (free-of (not (is_among c count)) [] e)
+is-client b c (Some entry) e =
+    let count = length b.ports.boxes in
+    among c count (is_among c count) refl (free-of (not (is_among c count)) (entry_rows b) e)

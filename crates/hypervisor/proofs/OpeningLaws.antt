@@ -3,10 +3,11 @@ use Rattle.std.proofs.Common.{◌≡◌, ℕ, ◌*◌, List, [], ◌∷◌, ◌+
 use Rattle.std.specs.List.{Contains}
 use Rattle.backup_image.specs.Images.{ImageState, empty_image, settled_machine}
 use Rattle.guest_machine.specs.declared.shapes.Shape.{Shape}
-use Rattle.guest_machine.specs.Guest.{Guest, State}
+use Rattle.guest_machine.specs.Guest.{Guest, State, boot_guest}
 use Rattle.growing_history.specs.LogState.{first_runner, first_backup}
 use Rattle.growing_history.specs.Steps.{Protected, Step, step}
 use Rattle.growing_history.specs.Views.{Member}
+use Rattle.pair_book.specs.Books.{BookState, start_book}
 use Rattle.pair_book.specs.Made.{IsShape}
 use Rattle.pair_book.specs.Opening.{IsBoot, Unnamed}
 use Rattle.pair_book.specs.Settled.{Runs, just_settled}
@@ -15,7 +16,7 @@ use Rattle.pair_history.specs.HistoryState.{HistoryState, start_state}
 use Rattle.pair_history.specs.Reached.{IsReached}
 use Rattle.pair_record.specs.declared.event.Refusal.TheVariants.{Exhausted}
 use Rattle.hypervisor.specs.Backups.{StandsWith}
-use Rattle.hypervisor.specs.Opening.{start_with, first_image, unseen, IsUnnamed}
+use Rattle.hypervisor.specs.Opening.{start_with, first_image, unseen, IsUnnamed, IsStarted}
 use Rattle.hypervisor.specs.Refusals.{protect_refusals}
 use Rattle.hypervisor.specs.Runners.{IsSized}
 use Rattle.hypervisor.specs.Seats.{SeesLast}
@@ -89,3 +90,28 @@ module _ (start : HistoryState) (clients : ℕ) (book : Unnamed) (machine : Stat
     ram = ap (λ (g : Guest). length g.ram) guest-is ∙ ram;
     sectors = ap (λ (g : Guest). length g.sectors) guest-is ∙ sectors;
   }
+
+-- NOTHING HAS HAPPENED, whoever got a seat
+pub opened : (b now : BookState) (enrolled : ℕ) → now ≡ record b { enrolled = enrolled } → IsStarted b → IsStarted now
+opened b now enrolled is started = (
+  started.0,
+  is
+      ∙ ap (λ (x : BookState). record x { enrolled = enrolled }) started.1
+      ∙ ap (start_book started.0) (sym (ap (λ (x : BookState). x.enrolled) is)),
+)
+
+-- machine and image at boot are those of a pair without a name
+pub boots-unnamed : (shape : Shape) (bytes : List ℕ) (clients : ℕ) (book : Unnamed) (machine : State) (image : ImageState)
+    → book.clients ≡ clients → machine ≡ settled_machine shape (boot_guest shape.pages shape.sectors bytes)
+    → image ≡ first_image shape (boot_guest shape.pages shape.sectors bytes) → IsUnnamed clients book machine image
+boots-unnamed shape bytes clients book machine image count settled first =
+    let at : settled_machine shape (boot_guest shape.pages shape.sectors bytes) ≡ settled_machine image.shape image.guest =
+    λ i. settled_machine (sym first i).shape (sym first i).guest in
+    record {
+      count = sym count;
+      settled = settled ∙ at;
+      first = first ∙ λ i. first_image (sym first i).shape (sym first i).guest;
+      bytes = bytes;
+      boot = ap (λ (x : ImageState). x.guest) first
+          ∙ λ i. boot_guest (sym first i).shape.pages (sym first i).shape.sectors bytes;
+    }

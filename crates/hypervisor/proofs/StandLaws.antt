@@ -1,11 +1,11 @@
 -- What a backup stands with, and how its image takes a checkpoint in.
-use Rattle.std.proofs.Common.{◌≡◌, ℕ, zero, suc, ◌+◌, ◌-◌, List, [], ◌∷◌, length, refl, sym, ap, ◌∙◌, subst, arith, true, false}
+use Rattle.std.proofs.Common.{◌≡◌, ℕ, zero, suc, ◌+◌, ◌-◌, ◌≤◌, List, [], ◌∷◌, length, refl, sym, ap, ◌∙◌, subst, arith, true, false}
 use Rattle.std.proofs.Common.{Option, Some, None}
-use Rattle.std.proofs.lemmas.Bool.{eq-eqb, le-ltb}
+use Rattle.std.proofs.lemmas.Bool.{eq-eqb, le-ltb, ne_eqb}
 use Rattle.std.proofs.lemmas.List.{length-append, length-map, Sums.sum_by-cons, get_or-map}
 use Rattle.std.specs.Prelude.{All, map, ◌==◌, nat_lt, option_map, IsSome, Ok}
 use Rattle.backup_image.specs.declared.standing.Standing.{Standing}
-use Rattle.backup_image.specs.declared.standing.Staged.TheVariants.{New}
+use Rattle.backup_image.specs.declared.standing.Staged.TheVariants.{New, Again}
 use Rattle.backup_image.specs.Images.{ImageState, answer_at, stage_answer, applied}
 use Rattle.backup_image.specs.Kept as images
 use Rattle.backup_image.specs.Kept.{count_kept, first_kept}
@@ -59,6 +59,25 @@ pub stage-new : (i : ImageState) (c : Change) → is_old_delta c ≡ false → l
 stage-new i c old last numbered =
     let new : answer_at i.stands_at c.generation c.number ≡ Ok New = turn i.stands_at c.generation c.number last in
     rw old (rw new (rw numbered refl))
+
+-- or is there already
+there : (at : Option Standing) (g n : ℕ) (ack : Ack) → option_map ack_of at ≡ Some ack → ack.generation ≡ g → n ≤ ack.number
+    → answer_at at g n ≡ Ok Again
+there None g n ack e generation low = absurd (cc)
+there (Some at) g n ack e generation low =
+    let same : ack_of at ≡ ack = cc in
+    let here : at.generation ≡ g = ap (λ (a : Ack). a.generation) same ∙ generation in
+    let number : at.number ≡ ack.number = ap (λ (a : Ack). a.number) same in
+    let own : (g == at.generation) ≡ true = eq-eqb g at.generation (sym here) in
+    let near : nat_lt (at.number + 1) n ≡ false = le-ltb (at.number + 1) n (omega (arith, number, low)) in
+    let other : (n == at.number + 1) ≡ false = ne_eqb n (at.number + 1) (λ (x : n ≡ at.number + 1). omega (arith, number, low, x)) in
+    rw own (rw near (rw other refl))
+
+pub stage-again : (i : ImageState) (c : Change) (ack : Ack) → is_old_delta c ≡ false → last_of i ≡ Some ack → Acknowledges true c ack
+    → stage_answer i c ≡ Ok Again
+stage-again i c ack old last is =
+    let again : answer_at i.stands_at c.generation c.number ≡ Ok Again = there i.stands_at c.generation c.number ack last is.0 is.1 in
+    rw old (rw again refl)
 
 -- AND ONCE IT HAS TAKEN IT IN
 pub stands-applied : (start : HistoryState) (c : Change) (ack : Ack) (seat seat' : Member) (i : ImageState) → Acknowledges false c ack

@@ -1,6 +1,7 @@
 -- Which refusals the first row of a client's or of the sender's table may be.
 use Rattle.std.proofs.Common.{◌≡◌, ℕ, suc, List, [], ◌∷◌, length, Bool, true, false, refl, sym, arith, Ok, Err, Result}
-use Rattle.std.proofs.Common.{None, inl, inr}
+use Rattle.std.proofs.Common.{None, inl, inr, ◌≤◌}
+use Rattle.std.proofs.lemmas.Bool.{leb-true}
 use Rattle.std.specs.Prelude.{IfErr, OnOk, nat_le, nat_lt, not, ◌&&◌, ◌==◌, ◌⊎◌}
 use Rattle.frame_ports.specs.Limits.{inbox_frames, number_limit}
 use Rattle.frame_ports.specs.Ports.{inbox_of}
@@ -64,6 +65,15 @@ delivery-why false false false true last why e = full-or-wanted why e
 delivery-why false false false false true why e = is_exhausted why e
 delivery-why false false false false false why e = is_wanted why e
 
+-- the row of a full inbox is the only one that is so refused
+is-full : (bad out word full last : Bool) → AtBook (first_refusal (rows bad out word full last)) Full → full ≡ true
+is-full true out word full last e = absurd (cc)
+is-full false true word full last e = absurd (cc)
+is-full false false true full last e = absurd (cc)
+is-full false false false true last e = refl
+is-full false false false false true e = absurd (cc)
+is-full false false false false false e = absurd (cc)
+
 good : (bad out word full last : Bool) → first_refusal (rows bad out word full last) ≡ None → bad ≡ false
 good true out word full last e = absurd (cc)
 good false out word full last e = refl
@@ -85,6 +95,10 @@ module _ (b : BookState) (c : ℕ) (bytes : List ℕ) where
       → IfErr r (IsWhyDelivery bytes)
   deliver-why (Ok n) e = tt
   deliver-why (Err why) e = delivery-why is_bad no_room (is_word_full b) is_full no_number why e
+
+  pub deliver-full : AtBook (first_refusal (deliver_rows b c bytes)) Full → inbox_frames ≤ length (inbox_of b.ports c)
+  deliver-full e =
+      leb-true inbox_frames (length (inbox_of b.ports c)) (is-full is_bad no_room (is_word_full b) is_full no_number e)
 
   pub deliver-good : (r : Result ℕ Refusal) → OnOk r (first_refusal (deliver_rows b c bytes) ≡ None) → OnOk r (is_bad ≡ false)
   deliver-good (Ok n) e = good is_bad no_room (is_word_full b) is_full no_number e

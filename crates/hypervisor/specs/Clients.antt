@@ -1,13 +1,15 @@
 -- What contracts see of a client, and what its calls make of that.
-use Rattle.std.specs.Prelude.{◌≡◌, ℕ, List, [], ◌∷◌}
+use Rattle.std.specs.Prelude.{◌≡◌, ℕ, ◌≤◌, List, [], ◌∷◌, ◌++◌, length}
+use Rattle.frame_ports.specs.Limits.{inbox_frames}
 use Rattle.pair_history.specs.Entries.{Entry, Frame, Refused}
 use Rattle.pair_history.specs.HistoryState.{HistoryState}
 use Rattle.pair_record.specs.declared.event.Refusal.{Refusal}
 use Rattle.pair_record.specs.declared.event.Refusal.TheVariants.{Full}
 use Rattle.growing_history.specs.Entries.{own_entries, IsCall}
 use Rattle.growing_history.specs.Steps.{Added, Step, Begins}
-use Rattle.growing_history.specs.LogState.{Legal, history_of, client_seat}
+use Rattle.growing_history.specs.LogState.{Legal, state_at, history_of, client_seat}
 use Rattle.growing_history.specs.Views.{Member}
+use Rattle.pair_book.specs.Books.{inbox_at}
 use Rattle.pair_book.specs.Calls.{client_of}
 use Rattle.hypervisor.specs.Seats.{MakesStep}
 
@@ -33,9 +35,12 @@ pub record Calls (start : HistoryState) (e : Entry) (old new : ClientState) : Ty
   pub step : MakesStep start (client_seat old.number) (Added (e ∷ [])) old.seen new.seen
   pub entry : IsCall start old.number old.seen new.seen (e ∷ [])
 
--- after a refused delivery of that frame: an entry tells of a full inbox; after another refusal everything is as before
+-- after a refused delivery of that frame: an entry tells of a full inbox, and 64 frames of the client's are in it; after another refusal
+-- everything is as before
 abbrev pub AfterRefusedDelivery : HistoryState → Frame → Refusal → ClientState → ClientState → Type 0
-AfterRefusedDelivery start f Full old new = Calls start (Refused old.number f) old new
+AfterRefusedDelivery start f Full old new =
+    (calls : Calls start (Refused old.number f) old new)
+    × (inbox_frames ≤ length (inbox_at (state_at start (old.seen ++ calls.step.seen.0)) old.number))
 AfterRefusedDelivery start f why old new = new ≡ old
 
 -- The client was told what another had seen: what it has seen then is a legal list, which begins with what it had seen, and with what it

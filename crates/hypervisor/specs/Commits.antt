@@ -5,7 +5,7 @@ use Rattle.memory_wanted.specs.Wanted.{wanted}
 use Rattle.backup_image.specs.Images.{ImageState, applied, stage_answer}
 use Rattle.backup_image.specs.Kept.{sent_with}
 use Rattle.backup_image.specs.Limits.{number_limit}
-use Rattle.backup_image.specs.declared.standing.Staged.TheVariants.{New}
+use Rattle.backup_image.specs.declared.standing.Staged.TheVariants.{New, Again}
 use Rattle.epoch_snapshot.specs.Checkpoints.{Change}
 use Rattle.growing_history.specs.Views.{Member}
 use Rattle.pair_history.specs.HistoryState.{HistoryState}
@@ -14,9 +14,9 @@ use Rattle.pair_record.specs.declared.event.Refusal.TheVariants.{Stopped, Stale,
 use Rattle.pair_book.specs.declared.failures.Ack.{Ack}
 use Rattle.pair_book.specs.Books.{BookState}
 use Rattle.pair_book.specs.Commits.{commit_of, is_old_delta, is_earlier, commit_why, Acknowledges}
-use Rattle.hypervisor.specs.Backups.{BackupState, StandsWith}
+use Rattle.hypervisor.specs.Backups.{BackupState, StandsWith, last_of}
 use Rattle.hypervisor.specs.Refusals.{IsWhyUnless}
-use Rattle.hypervisor.specs.Seats.{MakesStep}
+use Rattle.hypervisor.specs.Seats.{MakesStep, Looks}
 
 -- The next one, by what the image stands at: it is acknowledged; the image is the checkpoint read over the image before, and keeps its
 -- frames; what was read is given up; and the seat has made the step that names the text that was read.
@@ -27,13 +27,18 @@ pub record CommitsNext (start : HistoryState) (c : Change) (ack : Ack) (old new 
   pub number : new.seat.number ≡ old.seat.number
   pub step : MakesStep start old.seat.number (commit_of c) old.seat.steps new.seat.steps
 
--- An earlier one: it is acknowledged, or a later one is; what was read is given up, and all else is as before.
-pub record CommitsAgain (c : Change) (ack : Ack) (old new : BackupState) : Type 0 where
+-- An earlier one, by what the image stands at, which is the last one committed and is acknowledged: what was read is given up, the seat
+-- has looked, and all else is as before.
+pub record CommitsAgain (start : HistoryState) (c : Change) (ack : Ack) (old new : BackupState) : Type 0 where
   pub acknowledged : Acknowledges true c ack
-  pub is : new ≡ record old { read = None }
+  pub last : last_of old.image ≡ Some ack
+  pub again : stage_answer old.image c ≡ Ok Again
+  pub is : new ≡ record old { read = None; seat = new.seat }
+  pub number : new.seat.number ≡ old.seat.number
+  pub looks : Looks start old.seat.number old.seat.steps new.seat.steps
 
 abbrev pub Commits : HistoryState → Change → Ack → BackupState → BackupState → Type 0
-Commits start c ack old new = CommitsNext start c ack old new ⊎ CommitsAgain c ack old new
+Commits start c ack old new = CommitsNext start c ack old new ⊎ CommitsAgain start c ack old new
 
 -- AT THE BOOK, whether it was the next one
 
@@ -45,9 +50,23 @@ pub record CommitsAtBook (start : HistoryState) (c : Change) (ack : Ack) (image 
   pub new : stage_answer image c ≡ Ok New
   pub stands : StandsWith start seat' (applied image (Some c))
 
+pub record AgainAtBook (start : HistoryState) (c : Change) (ack : Ack) (image : ImageState) (seat seat' : Member) : Type 0 where
+  pub acknowledged : Acknowledges true c ack
+  -- the image stands at the last one committed, and the backup stands on
+  pub last : last_of image ≡ Some ack
+  pub again : stage_answer image c ≡ Ok Again
+  pub number : seat'.number ≡ seat.number
+  pub looks : Looks start seat.number seat.steps seat'.steps
+  pub stands : StandsWith start seat' image
+
 abbrev pub AtBook : Bool → HistoryState → Change → Ack → ImageState → Member → Member → Type 0
 AtBook true start c ack image seat seat' = CommitsAtBook start c ack image seat seat'
-AtBook false start c ack image seat seat' = Acknowledges true c ack × (seat' ≡ seat)
+AtBook false start c ack image seat seat' = AgainAtBook start c ack image seat seat'
+
+-- the image once it has taken in what was committed: the next one, or none
+abbrev pub image_after : Bool → ImageState → Option Change → ImageState
+image_after true i read = applied i read
+image_after false i read = i
 
 -- why it is refused there: as the book says; and then, where it is the next one, if the image has no numbers for its frames
 
@@ -58,8 +77,9 @@ abbrev pub or_unnumbered : Option Refusal → Bool → Option Refusal
 or_unnumbered (Some why) unnumbered = Some why
 or_unnumbered None unnumbered = if unnumbered then Some Exhausted else None
 
-abbrev pub why_not : HistoryState → BookState → ℕ → ImageState → Change → Option Refusal
-why_not start b number i c = or_unnumbered (commit_why start b number (Some c)) (is_unnumbered b i c)
+abbrev pub why_not : HistoryState → BookState → ℕ → ImageState → Option Change → Option Refusal
+why_not start b number i (Some c) = or_unnumbered (commit_why start b number (Some c)) (is_unnumbered b i c)
+why_not start b number i None = commit_why start b number None
 
 -- WHICH REFUSALS it may answer: first what is known of what was read
 

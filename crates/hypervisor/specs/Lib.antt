@@ -14,3 +14,4 @@ pub mod Feeding
 pub mod Commits
 pub mod GoingLive
 pub mod AtBook
+pub mod Looking

@@ -5,6 +5,7 @@ use Rattle.backup_image.specs.Images.{ImageState, booted, settled_machine}
 use Rattle.growing_history.specs.Views.{Member}
 use Rattle.guest_machine.specs.declared.shapes.Shape.{Shape}
 use Rattle.guest_machine.specs.Guest.{Guest, State, boot_guest}
+use Rattle.pair_book.specs.Books.{BookState, start_book}
 use Rattle.pair_book.specs.Opening.{Unnamed}
 use Rattle.pair_history.specs.HistoryState.{HistoryState, start_state}
 use Rattle.growing_history.specs.LogState.{history_of}
@@ -38,6 +39,10 @@ pub record IsUnnamed (clients : ℕ) (book : Unnamed) (machine : State) (image :
   pub first : image ≡ first_image image.shape image.guest
   pub bytes : List ℕ
   pub boot : image.guest ≡ boot_guest image.shape.pages image.shape.sectors bytes
+
+-- a book of which nothing has happened, of a pair of so many clients
+abbrev pub IsStarted : BookState → Type 0
+IsStarted b = (clients : ℕ) × (b ≡ start_book clients b.enrolled)
 
 -- THE MEMBERS: who has seen nothing
 

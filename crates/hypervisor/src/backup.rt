@@ -116,9 +116,9 @@ impl<P: Pair> Backup<P> {
     }
 
     /// Commits the checkpoint that was read whole. Where it is the next one its epoch enters the history, and then the image takes it in,
-    /// with no lock held: the image then is the checkpoint read over the image before. An earlier one changes nothing. In both cases what
-    /// was read is given up. Answers the acknowledgement: of the next one, or of the last one that was committed. It takes no memory but
-    /// room in the history.
+    /// with no lock held: the image then is the checkpoint read over the image before. An earlier one changes nothing, but its seat has seen
+    /// all steps. In both cases what was read is given up. Answers the acknowledgement: of the next one, or of the last one that was
+    /// committed, at which the image stands. It takes no memory but room in the history.
     ///
     /// # Errors
     ///

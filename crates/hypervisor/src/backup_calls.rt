@@ -13,7 +13,7 @@ ghost use Rattle.pair_book.specs.GoingLive.{GoesLive, go_live_why};
 ghost use Rattle.pair_book.specs.Packets.{no_texts};
 ghost use Rattle.pair_book.specs.Made.{IsShape};
 ghost use Rattle.hypervisor.specs.Backups.{StandsWith, kept_of};
-ghost use Rattle.hypervisor.specs.Commits.{why_not, AtBook, IsWhyCommit};
+ghost use Rattle.hypervisor.specs.Commits.{why_not, image_after, AtBook, IsWhyCommit};
 ghost use Rattle.hypervisor.specs.GoingLive.{GoesLiveWith, live_refusals};
 
 use backup_image::{Image, NUMBER_LIMIT, Staged};
@@ -47,7 +47,7 @@ fn refusal<P: Pair>(
     image: &Image,
     checkpoint: &Checkpoint,
 ) -> Option<Refusal>
-    ensures { result ≡ why_not P.start book.now seat.now.number image.now checkpoint.now }
+    ensures { result ≡ why_not P.start book.now seat.now.number image.now (Some checkpoint.now) }
 {
     if let Some(why) = book.commit_refusal(seat, Some(checkpoint)) {
         return Some(why);
@@ -76,9 +76,12 @@ pub(crate) fn commit<P: Pair>(
     ensures which { IfOk result (λ done. IfSome read.entry (λ c. done.is_next ≡ not (is_earlier book.old c.now))) }
     ensures book { IfOk result (λ done. IfSome read.entry (λ c. AfterCommit c.now done.ack book.old book.new seat.old seat.new)) }
     ensures texts { book.new.texts ≡ book.old.texts }
-    ensures row { IfErr result (λ why. IfSome read.entry (λ c. IsWhy (why_not P.start book.old seat.old.number image.now c.now) why)) }
+    ensures row { IfErr result (IsWhy (why_not P.start book.old seat.old.number image.now (option_map (λ c. c.now) read.entry))) }
     ensures kept { OnErr result (book.new ≡ book.old) }
     ensures done { IfOk result (λ done. IfSome read.entry (λ c. AtBook done.is_next P.start c.now done.ack image.now seat.old seat.new)) }
+    // The backup stands, once its image has taken that in.
+    ensures stands { IfOk result (λ done.
+        StandsWith P.start seat.new (image_after done.is_next image.now (option_map (λ c. c.now) read.entry))) }
     ensures why { IfErr result (IsWhyCommit (option_map (λ c. c.now) read.entry)) }
     ensures refused { OnErr result (seat.new ≡ seat.old) }
 {

@@ -10,7 +10,7 @@ ghost use Rattle.pair_book.specs.Made.{IsShape};
 ghost use Rattle.pair_book.specs.Opening.{IsBoot};
 ghost use Rattle.pair_history.specs.Reached.{IsReached};
 ghost use Rattle.hypervisor.specs.Backups.{new_backup};
-ghost use Rattle.hypervisor.specs.Opening.{new_clients, AreNew, start_with, first_image, unseen};
+ghost use Rattle.hypervisor.specs.Opening.{new_clients, AreNew, IsStarted, start_with, first_image, unseen};
 ghost use Rattle.hypervisor.specs.Runners.{new_runner};
 
 use crate::backup::Backup;
@@ -124,7 +124,9 @@ fn client_seats<P: Pair>(
     clients: u64,
 ) -> Result<Vec<CallerSeat<P>>, AllocError>
     requires start { book.old ≡ start_book clients line_seat }
-    ensures { IfOk result (λ seats. seats.items ≡ new_clients clients) }
+    ensures seats { IfOk result (λ seats. seats.items ≡ new_clients clients) }
+    // No client's seat was given out otherwise, and nothing else happened.
+    ensures started { book.new ≡ start_book clients book.new.enrolled }
 {
     let mut seats = Vec::with_capacity(alloc, clients as usize)?;
     for _ in 0..clients {
@@ -186,6 +188,7 @@ fn shared_book<P: Pair>(
     book: NewBook<P>,
 ) -> Result<Arc<Shared<P>>, AllocError>
     requires reached { IsReached P.start }
+    requires started { IsStarted book }
 {
     let book = book.open(&clock);
     let shared = Arc::new(alloc, Shared::new(clock, book))?;

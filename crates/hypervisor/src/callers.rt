@@ -10,6 +10,7 @@ ghost use Rattle.pair_record.specs.Record.{given, ports_after_take};
 ghost use Rattle.pair_book.specs.Calls.{IsClientSeat, IsWhy, entry_rows, deliver_rows, IsWhyDelivery as IsWhyAtBook};
 ghost use Rattle.hypervisor.specs.Clients.{client_state, Calls, AfterRefusedDelivery, Learns};
 ghost use Rattle.hypervisor.specs.AtBook.{KeepsBookUnlessFull};
+ghost use Rattle.hypervisor.specs.Looking.{SeesAll};
 ghost use Rattle.hypervisor.specs.Refusals.{IsWhyDelivery, entry_refusals};
 
 use growing_history::{Badge, ClientSeat, Clock, Pair, a_call_is_a_point_of_one_history};
@@ -74,6 +75,7 @@ impl<P: Pair> CallerSeat<P> {
         ensures kept { IfErr result (KeepsBookUnlessFull self.old.number (record { items = bytes.now }) book.old book.new) }
     {
         a_call_is_a_point_of_one_history();
+        book.entries();
         let delivered = book.deliver(clock, &mut self.seat, bytes);
         self.seat.number();
         delivered
@@ -103,6 +105,15 @@ impl<P: Pair> CallerSeat<P> {
         let taken = book.take(clock, &mut self.seat, into);
         self.seat.number();
         taken
+    }
+
+    /// Sees all the steps that were made.
+    pub(crate) fn look(&mut self, book: &mut Book<P>, clock: &Clock<P>)
+        ensures same { book.new ≡ book.old }
+        ensures sees { SeesAll P.start book.old.steps self.old self.new }
+    {
+        a_call_is_a_point_of_one_history();
+        book.show(clock, &mut self.seat);
     }
 
     /// What another may be told.

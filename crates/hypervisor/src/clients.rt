@@ -6,12 +6,13 @@ ghost use Rattle.growing_history.specs.LogState.{Legal};
 ghost use Rattle.std.specs.List.{Contains};
 ghost use Rattle.pair_record.specs.Record.{given};
 ghost use Rattle.hypervisor.specs.Clients.{Calls, AfterRefusedDelivery, Learns};
+ghost use Rattle.hypervisor.specs.Looking.{SeesAll};
 ghost use Rattle.hypervisor.specs.Refusals.{IsWhyDelivery, entry_refusals};
 
 use crate::callers::CallerSeat;
 use crate::shared::Shared;
-use growing_history::{Badge, Pair};
-use pair_book::Refusal;
+use growing_history::{Badge, Clock, Pair};
+use pair_book::{Book, Refusal};
 use pair_history::Frame;
 use std::marker::Model;
 use std::sync::{Arc, Wait};
@@ -107,6 +108,14 @@ impl<P: Pair> Client<P> {
         let shared = &*self.shared;
         let mut held = shared.hold(rt);
         self.seat.take(&mut *held, shared.clock(), into)
+    }
+
+    /// Sees all the steps that were made, at the book, which is lent to it.
+    pub(crate) fn look(&mut self, book: &mut Book<P>, clock: &Clock<P>)
+        ensures same { book.new ≡ book.old }
+        ensures sees { SeesAll P.start book.old.steps self.old self.new }
+    {
+        self.seat.look(book, clock);
     }
 
     /// What another client may be told: all that this one has seen. No lock is taken.

@@ -39,7 +39,7 @@ fn lose_in<P: Pair>(
     place: u64,
 ) -> Result<Lost, Refusal>
     ensures number { line.new.number ≡ line.old.number }
-    ensures done { IfOk result (λ lost. AfterLossIn P.start lost line.old.steps line.new.steps) }
+    ensures done { IfOk result (λ lost. AfterLossIn P.start client place lost line.old.steps line.new.steps) }
     ensures why { IfErr result (IsWhyLoss P.start client) }
     ensures refused { IfErr result (λ _. line.new ≡ line.old) }
     // And what it does at the book.
@@ -93,14 +93,14 @@ impl<P: Pair> Loss<P> {
     }
 
     /// Drops the frame at this place, from 0, of this client's inbox. Where one is there, what the line's seat has seen then ends with the
-    /// step that tells of its loss; where none is, nothing happened.
+    /// step that tells of its loss, under its number; where none is, the seat has looked, and nothing else happened.
     ///
     /// # Errors
     ///
     /// [`Refusal::NoClient`] for a number that is no client's; where a frame is there [`Refusal::Exhausted`] if the history or the word
     /// would reach 2^62, and [`Refusal::NoMemory`] if the room for its entry can't be had. What the line's seat has seen is as before.
     pub fn lose_in<R: Wait>(&mut self, rt: &R, client: u64, place: u64) -> Result<Lost, Refusal>
-        ensures done { IfOk result (λ lost. AfterLossIn P.start lost self.old self.new) }
+        ensures done { IfOk result (λ lost. AfterLossIn P.start client place lost self.old self.new) }
         ensures why { IfErr result (IsWhyLoss P.start client) }
         ensures refused { IfErr result (λ _. self.new ≡ self.old) }
     {

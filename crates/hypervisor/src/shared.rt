@@ -1,5 +1,6 @@
 //! What the members of a pair share.
 ghost use Rattle.pair_history.specs.Reached.{IsReached};
+ghost use Rattle.hypervisor.specs.Opening.{IsStarted};
 
 use growing_history::{Clock, Pair};
 use pair_book::Book;
@@ -34,9 +35,10 @@ impl<P: Pair> Model for Shared<P> {
 }
 
 impl<P: Pair> Shared<P> {
-    /// The history starts in a state that one can reach, as the caller knows.
+    /// The history starts in a state that one can reach, and nothing has happened, as the caller knows.
     pub(crate) fn new(clock: Clock<P>, book: Book<P>) -> Shared<P>
-        requires { IsReached P.start }
+        requires reached { IsReached P.start }
+        requires started { IsStarted book }
     {
         Shared {
             clock,

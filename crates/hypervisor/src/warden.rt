@@ -11,12 +11,16 @@ ghost use Rattle.pair_book.specs.Failures.{MakesAlone, fail_primary_why, fail_ba
 ghost use Rattle.pair_book.specs.Packets.{no_texts};
 ghost use Rattle.hypervisor.specs.Failures.{IsProtected};
 ghost use Rattle.hypervisor.specs.GoingLive.{BecomesLive, live_refusals};
+ghost use Rattle.hypervisor.specs.Looking.{HaveLooked};
+ghost use Rattle.hypervisor.specs.declared.looking.Found.{Found};
 ghost use Rattle.hypervisor.specs.Refusals.{fail_refusals, protect_refusals};
 ghost use Rattle.hypervisor.specs.Seats.{SeesLast};
 ghost use Rattle.growing_history.specs.Steps.{PrimaryFailed, BackupFailed, Protected, step};
 ghost use Rattle.pair_book.specs.Made.{IsShape};
 
 use crate::backup::Backup;
+use crate::clients::Client;
+use crate::looking::{Found, look};
 use crate::runner::Runner;
 use crate::shared::Shared;
 use backup_image::{Image, ImageError};
@@ -36,7 +40,7 @@ pub enum Node {
 }
 
 /// Who says which node has failed, makes a backup go live, and gives a node that is alone a new one. It has no seat: what else its calls
-/// do is said at the book, by [`Book::fail_primary`], [`Book::fail_backup`], [`Book::go_live`], [`Book::protect`] and [`Book::entries`].
+/// do is said at the book, by [`Book::fail_primary`], [`Book::fail_backup`], [`Book::go_live`] and [`Book::protect`].
 /// Contracts see the pair's shape.
 #[derive(Drop)]
 pub struct Warden<P: Pair> {
@@ -219,10 +223,20 @@ impl<P: Pair> Warden<P> {
         }
     }
 
-    /// The length of the history.
-    pub fn entries<R: Wait>(&self, rt: &R) -> u64 {
+    /// How far the pair has come. These clients look: each of them has then seen the one list of all the steps that were made, whose history
+    /// has the length that is answered, and in which its own entries are as before.
+    pub fn look<R: Wait>(&self, rt: &R, clients: &mut Vec<Client<P>>) -> Found
+        ensures looked { HaveLooked P.start result clients.old.items clients.new.items }
+    {
         let shared = &*self.shared;
-        let held = shared.lock(rt);
-        held.entries()
+        let mut held = shared.lock(rt);
+        look(&mut *held, shared.clock(), clients)
+    }
+
+    /// The length of the history.
+    pub fn entries<R: Wait>(&self, rt: &R) -> u64
+        ensures { (found : Found) × HaveLooked P.start found [] [] × (result ≡ found.entries) }
+    {
+        self.look(rt, &mut Vec::new(self.alloc)).entries
     }
 }

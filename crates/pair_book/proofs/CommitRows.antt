@@ -1,6 +1,6 @@
 -- The table of refusals of commits.
 use Rattle.std.proofs.Common.{◌≡◌, ℕ, ◌<◌, [], ◌∷◌, length, Bool, true, false, refl, Some, None, arith}
-use Rattle.std.proofs.{lemmas.Bool.{eqb-true, eq-eqb, ltb-false}}
+use Rattle.std.proofs.{lemmas.Bool.{eqb-true, eq-eqb, ltb-false, ltb-true}}
 use Rattle.std.specs.Prelude.{nat_le, nat_lt, not, ◌==◌, ◌&&◌}
 use Rattle.epoch_snapshot.specs.Checkpoints.{Change}
 use Rattle.frame_ports.specs.Limits.{number_limit}
@@ -69,3 +69,19 @@ commit_may start b by c e later =
       some = is_below w.to_cut w.to_commit (second-false (is_next b c) (nat_le w.to_cut w.to_commit) next rows.3);
       room = word_room b (second-false (is_next b c) (is_word_full b) next rows.4);
     }
+
+-- and whether it is an earlier one or not: the backup is the live one's, and no node is alone
+pub commit-live : (start : HistoryState) (b : BookState) (by : ℕ) (c : Change) → commit_why start b by (Some c) ≡ None
+    → (by ≡ (state_at start b.steps).backup) × (is_alone b.protocol.mode ≡ false)
+commit-live start b by c e =
+    let w = b.protocol.window in
+    let rows =
+    five (is_old_delta c) (may_commit start b by) (c.generation == b.protocol.generation) (nat_lt w.to_commit c.number)
+    (is_next b c && nat_le w.to_cut w.to_commit) (is_next b c && is_word_full b) e in
+    let may = both-true (by == (state_at start b.steps).backup) (is_alone b.protocol.mode) rows.0 in (
+      eqb-true by (state_at start b.steps).backup may.0,
+      may.1,
+    )
+
+pub some-committed : (b : BookState) (c : Change) → is_earlier b c ≡ true → 0 < b.protocol.window.to_commit
+some-committed b c e = let low = ltb-true c.number b.protocol.window.to_commit e in omega (arith, low)

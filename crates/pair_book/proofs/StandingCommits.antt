@@ -23,7 +23,7 @@ use Rattle.pair_record.specs.Kept.{all_frames}
 use Rattle.pair_record.specs.Modes.{is_alone}
 use Rattle.pair_record.specs.declared.event.Reply.{Reply}
 use Rattle.pair_record.specs.declared.event.Reply.TheVariants as replies
-use Rattle.pair_record.specs.Protocol.{Record, commit_done}
+use Rattle.pair_record.specs.Protocol.{Record, again_done, commit_done}
 use Rattle.pair_record.specs.Record.{IsRecord, SuitsMode}
 use Rattle.growing_history.specs.Steps.{Step, step, Begins, steps_by}
 use Rattle.growing_history.specs.LogState.{LogState, Epoch, state_at, entries_of, after, mark_of, is_filling, IsAlone, IsFirstSealed}
@@ -31,7 +31,7 @@ use Rattle.growing_history.specs.SealedTexts.{Makes, MakeInTurn}
 use Rattle.growing_history.specs.Views.{Member}
 use Rattle.growing_history.proofs.{LogLaws.state-snoc, SealedNumbers.first-sealed, Prefixes.steps_by-own}
 use Rattle.pair_book.specs.declared.failures.Ack.{Ack}
-use Rattle.pair_book.specs.Commits.{commit_of, kept_with, sent_with, first_with, WasRead, StandsBy}
+use Rattle.pair_book.specs.Commits.{commit_of, kept_with, sent_with, first_with, WasRead, StandsBy, StandsAgain}
 use Rattle.pair_book.specs.Made.{IsShape, Reads}
 use Rattle.pair_book.specs.Standing.{first_sent, commits_of, KeepsLast, ack_before, last_ack, IsLive, Stands}
 use Rattle.pair_book.specs.internal.{Committed.KeepsCommitted, Tie.IsTied}
@@ -96,10 +96,12 @@ next_ack r = record { generation = r.generation; number = r.window.to_commit }
 -- is what is answered
 generation_of : Reply → ℕ
 generation_of (replies.Committed g n) = g
+generation_of (replies.Again g n) = g
 generation_of other = 0
 
 number_of : Reply → ℕ
 number_of (replies.Committed g n) = n
+number_of (replies.Again g n) = n
 number_of other = 0
 
 pub answered : (ack : Ack) (r after : Record) → (replies.Committed ack.generation ack.number, after) ≡ commit_done r → ack ≡ next_ack r
@@ -234,4 +236,40 @@ stands-by start steps r p t keeps k seat after c mine pair generation number som
           (sym is)
           (stands-then start steps r p t keeps k seat.number c mine pair number some turn read shape image last sent first kept stood-on
           ack ack-is),
+    )
+
+-- AN EARLIER ONE again: it has looked, and stands at the last one that is committed
+
+last-number : (g n : ℕ) → 1 ≤ n → ack_before g n ≡ Some (record { generation = g; number = n - 1 })
+last-number g zero low = absurd (omega (arith, low))
+last-number g (suc n) low =
+    let before : n ≡ suc n - 1 = omega arith in ap (λ (k : ℕ). Some (record { generation = g; number = k })) before
+
+-- the acknowledgement of the last commit is what is answered
+abbrev before_ack : Record → Ack
+before_ack r = record { generation = r.generation; number = r.window.to_commit - 1 }
+
+pub answered-again : (ack : Ack) (r after : Record) → (replies.Again ack.generation ack.number, after) ≡ again_done r
+    → ack ≡ before_ack r
+unfolding generation_of number_of
+answered-again ack r after e = λ i. record { generation = generation_of (e i).0; number = number_of (e i).0 }
+
+pub stands-again : (start : HistoryState) (steps : List Step) (r : Record) (p : PortsState) → IsTied start steps r p → IsRecord r
+    → (seat after : Member) → seat.number ≡ (state_at start steps).backup → is_alone r.mode ≡ false → 0 < r.window.to_commit
+    → Begins seat.steps steps → steps_by seat.number steps ≡ steps_by seat.number seat.steps
+    → after ≡ record { number = seat.number; steps = steps } → (ack : Ack) → ack ≡ before_ack r → StandsAgain start ack seat after
+stands-again start steps r p t k seat after mine pair low begins own is ack ack-is image last sent first kept stood =
+    let s = state_at start steps in
+    let on = stands-on start seat steps image last sent first kept begins t.legal own stood in
+    let live : IsLive start (record { number = seat.number; steps = steps }) =
+    (mine, subst (λ (m : Mode). IsAlone m → ⊥) t.mode (not-alone r.mode pair)) in
+    let long : length r.journal.sealed ≡ length s.sealed =
+    ap (λ (l : List (List Entry)). length l) t.sealed ∙ length-map s.sealed (λ (e : Epoch). e.entries) in
+    let place : s.next - length s.sealed ≡ r.window.to_commit = omega (arith, long, k.sealed, t.next) in
+    let there : last_ack s ≡ Some (before_ack r) =
+    ap (λ (g : ℕ). ack_before g (s.next - length s.sealed)) (sym t.generation)
+    ∙ ap (ack_before r.generation) place
+    ∙ last-number r.generation r.window.to_commit (omega (arith, low)) in (
+      on.committed live ∙ there ∙ ap Some (sym ack-is),
+      subst (λ (m : Member). Stands start m image last sent first kept) (sym is) on,
     )

@@ -32,6 +32,12 @@ pub record Makes (what : What) (old new : BookState) (seat seat' : Member) : Typ
   pub saw : Begins seat.steps old.steps
   pub own : steps_by seat.number new.steps ≡ steps_by seat.number seat.steps ++ step seat.number what ∷ []
 
+-- It makes no step, and shows the lent seat all that were made: what the seat had seen begins that, and its own steps are those before.
+pub record Shows (b : BookState) (seat seat' : Member) : Type 0 where
+  pub sees : seat' ≡ record { number = seat.number; steps = b.steps }
+  pub saw : Begins seat.steps b.steps
+  pub own : steps_by seat.number b.steps ≡ steps_by seat.number seat.steps
+
 -- nothing has changed, the seat included
 abbrev pub IsAsBefore : BookState → BookState → Member → Member → Type 0
 IsAsBefore old new seat seat' = (new ≡ old) × (seat' ≡ seat)

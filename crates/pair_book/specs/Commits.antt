@@ -20,7 +20,7 @@ use Rattle.growing_history.specs.LogState.{state_at}
 use Rattle.growing_history.specs.Views.{Member}
 use Rattle.pair_book.specs.declared.failures.Ack.{Ack}
 use Rattle.pair_book.specs.Books.{BookState}
-use Rattle.pair_book.specs.Calls.{Makes, IsAsBefore, is_word_full}
+use Rattle.pair_book.specs.Calls.{Makes, Shows, is_word_full}
 use Rattle.pair_book.specs.Made.{IsShape}
 use Rattle.pair_book.specs.Standing.{last_four, ack_before, Stands}
 
@@ -59,11 +59,11 @@ abbrev pub commit_why : HistoryState → BookState → ℕ → Option Change →
 commit_why start b number (Some c) = first_refusal (commit_rows start b number c)
 commit_why start b number None = first_refusal ((not (may_commit start b number), Stopped) ∷ (true, Stale) ∷ [])
 
--- WHAT ONE LEAVES that was answered so. An earlier one: the last committed checkpoint's acknowledgement again, and all is as before. The
--- next one: the protocol's commit, and the step that names the text that was read.
+-- WHAT ONE LEAVES that was answered so. An earlier one: the last committed checkpoint's acknowledgement again; the book is as before, and
+-- the seat has seen all of it. The next one: the protocol's commit, and the step that names the text that was read.
 abbrev pub AfterAgainOrNext : Bool → Change → Ack → BookState → BookState → Member → Member → Type 0
 AfterAgainOrNext true c ack old new seat seat' =
-    ((replies.Again ack.generation ack.number, new.protocol) ≡ again_done old.protocol) × IsAsBefore old new seat seat'
+    ((replies.Again ack.generation ack.number, new.protocol) ≡ again_done old.protocol) × (new ≡ old) × Shows old seat seat'
 AfterAgainOrNext false c ack old new seat seat' =
     ((replies.Committed ack.generation ack.number, new.protocol) ≡ commit_done old.protocol)
     × (new.ports ≡ old.ports)
@@ -104,3 +104,10 @@ StandsBy start c ack seat seat' =
     → Stands start seat image last sent first kept
     → (last ≡ ack_before c.generation c.number)
     × Stands start seat' (image_of c image) (Some ack) (sent_with c sent) (first_with c sent kept) (kept_with c kept)
+
+-- Where an earlier one was read, a backup that stood did so at the last committed one, which is acknowledged; and it stands on.
+abbrev pub StandsAgain : HistoryState → Ack → Member → Member → Type 0
+StandsAgain start ack seat seat' =
+    (image : Guest) (last : Option Ack) (sent first : ℕ) (kept : List (List Frame))
+    → Stands start seat image last sent first kept
+    → (last ≡ Some ack) × Stands start seat' image last sent first kept

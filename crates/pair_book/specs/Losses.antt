@@ -11,7 +11,7 @@ use Rattle.growing_history.specs.Views.{Member}
 use Rattle.pair_book.specs.declared.losses.Loss.{Loss}
 use Rattle.pair_book.specs.declared.losses.Loss.TheVariants.{Dropped, Empty}
 use Rattle.pair_book.specs.Books.{BookState}
-use Rattle.pair_book.specs.Calls.{Makes, IsAsBefore, entry_rows}
+use Rattle.pair_book.specs.Calls.{Makes, Shows, entry_rows}
 
 -- a loss of client c's, whose entry is that one where a frame is there
 abbrev pub loss_rows : BookState → ℕ → Option Entry → List Row
@@ -24,10 +24,10 @@ IsWhyLoss entry (Some first) why = why ≡ first
 IsWhyLoss (Some e) None why = why ≡ NoMemory wanted
 IsWhyLoss None None why = ⊥
 
--- What a loss leaves that was answered so: everything as before where no frame was there; else the step adds that entry, and the frame
--- has left.
+-- What a loss leaves that was answered so. Where no frame was there the book is as before, and the seat has seen all of it; else the step
+-- adds that entry, and the frame has left.
 abbrev pub AfterLoss : Option Entry → PortsState → Loss → BookState → BookState → Member → Member → Type 0
-AfterLoss entry ports Empty old new seat seat' = (entry ≡ None) × IsAsBefore old new seat seat'
+AfterLoss entry ports Empty old new seat seat' = (entry ≡ None) × (new ≡ old) × Shows old seat seat'
 AfterLoss entry ports Dropped old new seat seat' =
     (e : Entry)
     × (entry ≡ Some e)

@@ -1,15 +1,16 @@
 //! The book.
-ghost use Rattle.std.specs.Prelude.{◌≡◌, ◌+◌, length, map};
-ghost use Rattle.frame_ports.specs.Ports.{IsClient};
+ghost use Rattle.std.specs.Prelude.{◌≡◌, ℕ, ◌+◌, ◌≤◌, [], length, map};
+ghost use Rattle.frame_ports.specs.Ports.{IsClient, inbox_of};
 ghost use Rattle.growing_history.specs.LogState.{Legal, state_at, history_of};
 ghost use Rattle.pair_history.specs.Entries.{Arrive};
-ghost use Rattle.pair_book.specs.Calls.{IsClientSeat, client_of, is_word_full};
+ghost use Rattle.pair_book.specs.Books.{inbox_at};
+ghost use Rattle.pair_book.specs.Calls.{IsClientSeat, Shows, client_of, is_word_full};
 ghost use Rattle.pair_book.specs.Made.{AreMade};
 
 use crate::seats::Seats;
 use crate::texts::Texts;
 use frame_ports::NUMBER_LIMIT;
-use growing_history::{ClientSeat, Pair};
+use growing_history::{ClientSeat, Clock, MemberSeat, Pair};
 use pair_record::PairRecord;
 use std::marker::Model;
 
@@ -59,9 +60,46 @@ impl<P: Pair> Book<P> {
         ensures next { self.now.protocol.window.to_cut ≡ (state_at P.start self.now.steps).next }
         ensures sealed { self.now.protocol.journal.sealed ≡ map (λ e. e.entries) (state_at P.start self.now.steps).sealed }
         ensures running { self.now.protocol.journal.running ≡ map Arrive (state_at P.start self.now.steps).handed }
+        ensures inboxes { (c : ℕ) → 1 ≤ c → c ≤ length self.now.ports.boxes
+            → inbox_of self.now.ports c ≡ inbox_at (state_at P.start self.now.steps) c }
+        ensures boxes { (state_at P.start self.now.steps).marked ≡ 0
+            → self.now.ports.boxes ≡ (state_at P.start self.now.steps).history.boxes }
     {
         self.seats.count();
         self.record.history().len()
+    }
+
+    /// The pair's generation, from 1.
+    pub fn generation(&self) -> u64
+        ensures { result ≡ self.now.protocol.generation }
+    {
+        self.record.generation()
+    }
+
+    /// The number that the next checkpoint gets in it.
+    pub fn next_number(&self) -> u64
+        ensures { result ≡ self.now.protocol.window.to_cut }
+    {
+        self.record.to_cut()
+    }
+
+    /// How many checkpoints are pending.
+    pub fn pending(&self) -> u64
+        ensures pending { result ≡ length self.now.protocol.pending }
+        // Where none is, each that was sealed is committed.
+        ensures sealed { result ≡ 0 → self.now.protocol.journal.sealed ≡ [] }
+    {
+        self.record.keep();
+        self.record.pending()
+    }
+
+    /// Shows a member all the steps that were made. Nothing is done.
+    pub fn show(&mut self, clock: &Clock<P>, seat: &mut MemberSeat<P>)
+        ensures same { self.new ≡ self.old }
+        ensures shows { Shows self.old seat.old seat.new }
+        ensures legal { Legal P.start self.old.steps }
+    {
+        self.seats.meet(clock, seat);
     }
 
     /// Whether the word, which counts the steps, would reach 2^62 by one step more.

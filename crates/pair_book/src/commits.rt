@@ -1,9 +1,10 @@
 //! What the backup calls.
-ghost use Rattle.std.specs.Prelude.{◌≡◌, ◌<◌, false, None, IfOk, OnOk, IfErr, OnErr, IfSome, option_map};
+ghost use Rattle.std.specs.Prelude.{◌≡◌, ◌<◌, true, false, None, IfOk, OnOk, IfErr, OnErr, IfSome, option_map};
 ghost use Rattle.pair_record.specs.declared.event.Reply.TheVariants as replies;
 ghost use Rattle.pair_record.specs.Protocol.{again_done};
 ghost use Rattle.pair_book.specs.Calls.{IsWhy, IsAsBefore};
 ghost use Rattle.pair_book.specs.Commits.{may_commit, is_old_delta, is_earlier, commit_why, AfterCommit, Acknowledges, StandsBy};
+ghost use Rattle.pair_book.specs.Commits.{StandsAgain};
 
 use crate::book::Book;
 use crate::failures::Ack;
@@ -103,10 +104,11 @@ impl<P: Pair> Book<P> {
 
     /// The backup commits the checkpoint that it has read, none where it read none: where it is the next one, its epoch enters the
     /// history, and a new backup's first one makes a pair. Answers the acknowledgement; where it is an earlier one, that of the last
-    /// committed checkpoint again, and nothing else happens.
+    /// committed checkpoint again, and nothing else happens but that the seat has seen all steps.
     ///
     /// A backup that stood (`Stands` of the specs) stands after it where the checkpoint was read and is of the pair's shape: its image then
-    /// is the checkpoint applied to the one before. So it has to apply it before it calls the book again.
+    /// is the checkpoint applied to the one before. So it has to apply it before it calls the book again. Where the checkpoint is an earlier
+    /// one it stands on, at the one that is acknowledged.
     ///
     /// # Errors
     ///
@@ -127,6 +129,8 @@ impl<P: Pair> Book<P> {
         // A backup that stood at the image before stands after the next one, by what it read.
         ensures stands { IfOk result (λ ack. IfSome read.entry (λ c. is_earlier self.old c.now ≡ false
             → StandsBy P.start c.now ack seat.old seat.new)) }
+        ensures again { IfOk result (λ ack. IfSome read.entry (λ c. is_earlier self.old c.now ≡ true
+            → StandsAgain P.start ack seat.old seat.new)) }
         ensures free { OnOk result (commit_why P.start self.old seat.old.number (option_map (λ c. c.now) read.entry) ≡ None) }
         ensures why { IfErr result (IsWhy (commit_why P.start self.old seat.old.number (option_map (λ c. c.now) read.entry))) }
         ensures refused { OnErr result (IsAsBefore self.old self.new seat.old seat.new) }
@@ -137,10 +141,11 @@ impl<P: Pair> Book<P> {
         let Some(checkpoint) = read else {
             unreachable!();
         };
+        self.record.keep();
         if self.is_earlier(checkpoint) {
+            self.seats.meet(clock, seat);
             return Ok(self.last_ack());
         }
-        self.record.keep();
         sealed_texts_make_their_guests::<Book<P>>();
         let reply = self.record.commit()?;
         let Reply::Committed { generation, number } = reply else {

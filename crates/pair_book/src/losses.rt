@@ -18,7 +18,7 @@ use std::marker::Model;
 pub enum Loss {
     /// The frame that was there is dropped.
     Dropped,
-    /// No frame was there: nothing happened.
+    /// No frame was there: nothing happened, but that the seat has seen all steps.
     Empty,
 }
 
@@ -99,6 +99,7 @@ impl<P: Pair> Book<P> {
             return Err(why);
         }
         if place >= self.record.inbox_len(client) as u64 {
+            self.seats.meet(clock, &mut seat.member);
             return Ok(Loss::Empty);
         }
         if let Some(why) = self.loss_refusal() {
@@ -142,6 +143,7 @@ impl<P: Pair> Book<P> {
             return Err(why);
         }
         if place >= self.record.box_len(client) as u64 {
+            self.seats.meet(clock, &mut seat.member);
             return Ok(Loss::Empty);
         }
         if let Some(why) = self.loss_refusal() {

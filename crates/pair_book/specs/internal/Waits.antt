@@ -1,16 +1,12 @@
 -- Who waits, whatever is marked.
-use Rattle.std.specs.Prelude.{◌≡◌, List, length}
+use Rattle.std.specs.Prelude.{◌≡◌, length}
 use Rattle.frame_ports.specs.Ports.{PortsState}
-use Rattle.pair_history.specs.HistoryState.{Waiting, at}
 use Rattle.pair_history.specs.Failures.{arrived_numbers}
 use Rattle.pair_history.specs.Reached.{AreRising}
 use Rattle.pair_history.specs.internal.Waits.{AllWait}
 use Rattle.pair_record.specs.internal.Accords.{AreInboxes}
 use Rattle.growing_history.specs.LogState.{LogState, under_way}
-
--- what still waits once all that is under way has arrived
-abbrev pub waits_at_last : LogState → List Waiting
-waits_at_last s = (at s.history (under_way s)).waiting
+pub use Rattle.pair_book.specs.Books.{waits_at_last}
 
 -- The ports' next number is the state's; the numbers of what waits rise, below it; each frame that is sealed or was handed out waits under
 -- its number; and the inboxes are what waits after all that is under way.

@@ -11,8 +11,8 @@ returns-clause-done g c =
     let p = c.args.book.now.ports in
     lost-in g.P.Pair.start c.args.book.now c.lose_in-lost.new.self c.args.line.now c.lose_in-lost.new.seat
     (sym c.lose_in-lost.ensures.number ∙ c.number.ensures.line) c.number.ensures.legal
-    (ports_after_lose_in p c.args.client c.args.place) (inbox_of p c.args.client) c.args.place
-    c.lose_in-lost.result c.lose_in-lost.ensures.done
+    (ports_after_lose_in p c.args.client c.args.place) c.args.client c.args.place c.lose_in-lost.result c.entries.ensures.inboxes
+    c.lose_in-lost.ensures.free c.lose_in-lost.ensures.done
 
 pub returns-clause-why : goal.returns-clause-why
 returns-clause-why g c =

@@ -11,8 +11,8 @@ returns-clause-done g c =
     let p = c.args.book.now.ports in
     lost-out g.P.Pair.start c.args.book.now c.lose_out-lost.new.self c.args.line.now c.lose_out-lost.new.seat
     (sym c.lose_out-lost.ensures.number ∙ c.number.ensures.line) c.number.ensures.legal
-    (ports_after_lose_out p c.args.client c.args.place) c.args.client (box_of p c.args.client) c.args.place
-    c.lose_out-lost.result c.lose_out-lost.ensures.done
+    (ports_after_lose_out p c.args.client c.args.place) c.args.client c.args.place c.lose_out-lost.result c.entries.ensures.boxes
+    c.lose_out-lost.ensures.done
 
 pub returns-clause-why : goal.returns-clause-why
 returns-clause-why g c =

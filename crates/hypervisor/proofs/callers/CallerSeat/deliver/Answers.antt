@@ -23,4 +23,5 @@ pub returns-clause-refused : goal.returns-clause-refused
 returns-clause-refused g c =
     rw (← c.self.view_is) (not-delivered g.P.Pair.start c.args.book.now c.deliver-delivered.new.self c.self.inside.seat
     c.deliver-delivered.new.seat c.self.invariant c.number.ensures.legal c.a_call_is_a_point_of_one_history.ensures.call
-    (record { items = c.args.bytes.now }) c.deliver-delivered.result c.deliver-delivered.ensures.refused)
+    c.args.bytes.now c.deliver-delivered.result c.entries.ensures.clients c.entries.ensures.inboxes c.deliver-delivered.ensures.why
+    c.deliver-delivered.ensures.refused)

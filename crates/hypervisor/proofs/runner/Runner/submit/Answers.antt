@@ -2,7 +2,6 @@ use Rattle.std.proofs.Common.{rules, ℕ, List, All, sym, subst}
 use Rattle.std.proofs.lemmas.List.Elements.{All-append}
 use Rattle.frame_ports.specs.Addresses.{IsFrame}
 use Rattle.pair_history.specs.Entries.{Frame}
-use Rattle.hypervisor.specs.Runners.{IsRunner}
 use Rattle.hypervisor.proofs.runner.Runner.submit.Goals as goal
 
 pub invariant_of-self-2 : goal.invariant_of-self-2

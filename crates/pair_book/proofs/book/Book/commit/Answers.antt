@@ -1,15 +1,15 @@
-use Rattle.std.proofs.Common.{rules, ◌≡◌, [], ◌∷◌, ◌++◌, ap, ◌∙◌, subst, refl, false}
+use Rattle.std.proofs.Common.{rules, ◌≡◌, [], ◌∷◌, ◌++◌, ap, ◌∙◌, subst, refl, true, false}
 use Rattle.pair_record.specs.declared.event.Reply.TheVariants as replies
-use Rattle.pair_record.specs.Protocol.{Outcome, Record, commit_done}
+use Rattle.pair_record.specs.Protocol.{Outcome, Record, again_done, commit_done}
 use Rattle.checkpoint_stream.specs.Text.{text}
 use Rattle.growing_history.specs.Steps.{step, steps_by}
 use Rattle.growing_history.specs.Views.{Member, Keeper}
 use Rattle.pair_book.specs.declared.failures.Ack.{Ack}
 use Rattle.pair_book.specs.Commits.{commit_of, is_earlier, StandsBy}
 use Rattle.pair_book.specs.internal.Tie.{book_state}
-use Rattle.pair_book.proofs.{CommitRows.commit_may, CommitTies.committed-tied}
+use Rattle.pair_book.proofs.{CommitRows.{commit_may, commit-live, some-committed}, CommitTies.committed-tied}
 use Rattle.pair_book.proofs.CommittedTies.{committed-keeps}
-use Rattle.pair_book.proofs.StandingCommits.{answered, stands-by}
+use Rattle.pair_book.proofs.StandingCommits.{answered, answered-again, stands-again, stands-by}
 use Rattle.pair_book.proofs.TextLaws.{texts-once-committed}
 use Rattle.pair_book.proofs.book.Book.commit.Goals as goal
 
@@ -82,3 +82,20 @@ returns-clause-stands g c =
     stands-by start steps r.protocol r.ports c.self.invariant.0 c.self.invariant.1 c.keep.ensures.record seat c.step.new.member change
     may.mine may.pair may.generation may.number may.some turn c.step.ensures.before own sees ack (answered ack r.protocol now.protocol told) in
     rw c.in-Some-read.is stands
+
+pub returns-then-is_earlier-clause-again : goal.returns-then-is_earlier-clause-again
+returns-then-is_earlier-clause-again g c =
+    let start = g.P.Pair.start in
+    let r = c.self.inside.record in
+    let seat = c.args.seat.now in
+    let change = c.in-Some-read.checkpoint.now in
+    let book = book_state c.self.inside.seats r c.self.inside.texts in
+    let earlier : is_earlier book change ≡ true = search rules in
+    let live = commit-live start book seat.number change (search rules) in
+    let ack = c.last_ack.result in
+    let told : (replies.Again ack.generation ack.number, r.protocol) ≡ again_done r.protocol = search rules in
+    rw c.in-Some-read.is
+    (λ e.
+    stands-again start c.self.inside.seats.steps r.protocol r.ports c.self.invariant.0 c.keep.ensures.record seat c.meet.new.member live.0
+    live.1 (some-committed book change earlier) c.meet.ensures.before c.meet.ensures.own c.meet.ensures.member ack
+    (answered-again ack r.protocol r.protocol told))
