@@ -1,15 +1,20 @@
 -- The lines of a file, answered.
-use Rattle.std.proofs.Common.{◌≡◌, ℕ, suc, ◌-◌, ◌≤◌, ◌<◌, List, [], ◌∷◌, ◌++◌, map, length, Option, None, set, slice_index_or, refl, sym}
+use Rattle.std.proofs.Common.{◌≡◌, ℕ, suc, ◌-◌, ◌≤◌, ◌<◌, List, [], ◌∷◌, ◌++◌, map, length, Option, None, set, get_or, slice_index_or, refl, sym}
 use Rattle.std.proofs.Common.{ap, subst, ◌∙◌, arith, append_assoc, append-nil}
 use Rattle.pair_history.specs.HistoryState.{HistoryState}
+use Rattle.pair_run.specs.declared.run_file.Action.{Action}
 use Rattle.pair_run.specs.declared.run_file.ClientLine.{ClientLine}
+use Rattle.growing_history.specs.Entries.{own_entries}
+use Rattle.growing_history.specs.LogState.{history_of}
+use Rattle.growing_history.specs.Steps.{Step}
 use Rattle.hypervisor.specs.Clients.{ClientState, own}
+use Rattle.hypervisor.specs.Looking.{SeeAll}
 use Rattle.hypervisor.specs.Opening.{new_client}
 use Rattle.pair_threads.specs.Lines.{clients_of}
 use Rattle.pair_threads.specs.Seats.{AreSeated, sits}
 use Rattle.pair_threads.specs.Served.{AreServed}
-use Rattle.pair_threads.specs.Told.{AreAnswered, IsAnswered, HasMade, told_by}
-use Rattle.pair_threads.specs.internal.Scripts.{ScriptState, IsPlayed, IsScript, AreScripts, answered_of}
+use Rattle.pair_threads.specs.Told.{AreAnswered, IsAnswered, HasMade, MayAnswerAll, told_by}
+use Rattle.pair_threads.specs.internal.Scripts.{ScriptState, IsPlayed, IsScript, AreScripts, answered_of, client_of}
 use Rattle.pair_threads.proofs.SeatLemmas.{taken}
 
 -- one script more
@@ -20,10 +25,17 @@ more-scripts [] (s ∷ ss) line script are is = absurd are
 more-scripts (l ∷ ls) [] line script are is = absurd are
 more-scripts (l ∷ ls) (s ∷ ss) line script are is = (are.0, more-scripts ls ss line script are.1 is)
 
-module _ (start : HistoryState) (unseen : (c : ℕ) → own start (new_client c) ≡ []) where
+module _ (start : HistoryState) (unseen : (c : ℕ) → own start (new_client c) ≡ []) (all : List Step) where
+  -- a client's own entries are all that it called, in this history too
+  abbrev Keeps : ClientState → Type 0
+  Keeps c = own_entries c.number (history_of start all) ≡ own start c
+
+  abbrev AllKeep : List ClientState → Type 0
+  AllKeep cs = (i : ℕ) (c : ClientState) → i < length cs → Keeps (get_or cs i c)
+
   one-answered : (line : ClientLine) (script ended : ScriptState) → IsScript line script → IsPlayed start script ended
-      → IsAnswered start line (answered_of ended)
-  one-answered line script ended is played =
+      → Keeps ended.client → IsAnswered (history_of start all) line (answered_of ended)
+  one-answered line script ended is played keeps =
       let same : ended.line ≡ line = played.0 ∙ is.line in
       let made = played.1 is.room in
       let first : script.client.number ≡ line.client = ap (λ c. c.number) is.client in
@@ -32,28 +44,35 @@ module _ (start : HistoryState) (unseen : (c : ℕ) → own start (new_client c)
       let nothing : own start script.client ≡ [] = ap (own start) is.client ∙ unseen line.client in
       record {
         client = ap (λ l. l.client) same;
-        all = made.all ∙ ap length does;
-        seen = ended.client.seen;
-        own = ap (λ n. own start (record { number = n; seen = ended.client.seen })) (sym number)
+        may = subst (λ (acts : List Action). MayAnswerAll acts ended.replies.items) does made.may;
+        own = ap (λ n. own_entries n (history_of start all)) (sym number)
+            ∙ (keeps
             ∙ (made.own
             ∙ (ap (λ es. es ++ told_by script.client.number script.line.actions.items ended.replies.items) nothing
             ∙ (ap (λ n. told_by n script.line.actions.items ended.replies.items) first
-            ∙ ap (λ acts. told_by line.client acts ended.replies.items) does)));
-        legal = made.legal;
-        guest = made.guest;
+            ∙ ap (λ acts. told_by line.client acts ended.replies.items) does))));
       }
 
-  pub answered-all : (lines : List ClientLine) (scripts ended : List ScriptState) → AreScripts lines scripts
-      → AreServed (IsPlayed start) scripts ended → AreAnswered start lines (map answered_of ended)
-  answered-all [] [] [] are served = tt
-  answered-all [] [] (e ∷ es) are served = absurd (omega (arith, served.0))
-  answered-all [] (s ∷ ss) ended are served = absurd are
-  answered-all (l ∷ ls) [] ended are served = absurd are
-  answered-all (l ∷ ls) (s ∷ ss) [] are served = absurd (omega (arith, served.0))
-  answered-all (l ∷ ls) (s ∷ ss) (e ∷ es) are served = (
-    one-answered l s e are.0 (served.1 0 s (omega arith)),
-    answered-all ls ss es are.1 (omega (arith, served.0), λ i x low. served.1 (suc i) x (omega arith)),
+  answered-all : (lines : List ClientLine) (scripts ended : List ScriptState) → AreScripts lines scripts
+      → AreServed (IsPlayed start) scripts ended → AllKeep (map client_of ended)
+      → AreAnswered (history_of start all) lines (map answered_of ended)
+  answered-all [] [] [] are served keep = tt
+  answered-all [] [] (e ∷ es) are served keep = absurd (omega (arith, served.0))
+  answered-all [] (s ∷ ss) ended are served keep = absurd are
+  answered-all (l ∷ ls) [] ended are served keep = absurd are
+  answered-all (l ∷ ls) (s ∷ ss) [] are served keep = absurd (omega (arith, served.0))
+  answered-all (l ∷ ls) (s ∷ ss) (e ∷ es) are served keep = (
+    one-answered l s e are.0 (served.1 0 s (omega arith)) (keep 0 e.client (omega arith)),
+    answered-all ls ss es are.1 (omega (arith, served.0), λ i x low. served.1 (suc i) x (omega arith))
+        (λ i x low. keep (suc i) x (omega arith)),
   )
+
+  -- they have looked
+  pub all-answered : (lines : List ClientLine) (scripts ended : List ScriptState) (looked : List ClientState) → AreScripts lines scripts
+      → AreServed (IsPlayed start) scripts ended → SeeAll start all (map client_of ended) looked
+      → AreAnswered (history_of start all) lines (map answered_of ended)
+  all-answered lines scripts ended looked are served see =
+      answered-all lines scripts ended are served (λ i x low. (see.each i x low).own)
 
 -- ---- a line more
 

@@ -1,12 +1,17 @@
 -- What was printed of a run.
-use Rattle.std.proofs.Common.{◌≡◌, ℕ, ◌⊎◌, inl, inr, List, [], ◌++◌, Result, Ok, Err, subst, sym, ap, ◌∙◌, append_assoc, append-nil}
+use Rattle.std.proofs.Common.{◌≡◌, ℕ, ◌+◌, ◌⊎◌, inl, inr, Bool, List, [], ◌++◌, Result, Ok, Err, subst, sym, ap, ◌∙◌, append_assoc, append-nil}
 use Rattle.std.specs.Io.KnownBytes.{Appends}
 use Rattle.std.proofs.KnownBytes.{Appends-trans}
+use Rattle.pair_history.specs.HistoryState.{HistoryState}
+use Rattle.growing_history.specs.LogState.{state_at}
+use Rattle.growing_history.specs.Steps.{Step}
+use Rattle.hypervisor.specs.Looking.{HasFound}
+use Rattle.hypervisor.specs.declared.looking.Found.{Found}
 use Rattle.script_player.specs.Streams.{Writing, Writes, WritesFront, IsPut}
 use Rattle.pair_run.specs.RunPrinted.{IsWritten, run_text}
 use Rattle.pair_run.specs.declared.printing.Answered.{Answered}
 use Rattle.pair_run.specs.declared.run_file.RunFile.{RunFile}
-use Rattle.pair_threads.specs.Runs.{IsPlayed, IsRun, IsRunOf, IsSaid, whole, cut_short, is_bad, unread}
+use Rattle.pair_threads.specs.Runs.{IsPlayed, IsRun, IsRunOf, IsSaid, IsWhole, printed, cut_short, is_bad, unread}
 use Rattle.pair_threads.specs.internal.Shown.{IsShown, IsTold}
 use Rattle.pair_run.specs.Views.{IsReadAs}
 use Rattle.pair_run.specs.declared.run_file.Unread.{Unread}
@@ -40,10 +45,19 @@ put-shown old mid new (Err e) bytes w p =
       badly = p.badly;
     }
 
-pub shown-played : (file : RunFile) (clients : List Answered) (entries : ℕ) (old new : Writing) (status : ℕ) → IsRunOf file clients
-    → IsShown (run_text clients entries) old new status → IsPlayed file old new status
-shown-played file clients entries old new status is (inl shown) = whole clients entries is shown.0 shown.1
-shown-played file clients entries old new status is (inr shown) = cut_short clients entries is shown.0 shown.1
+pub shown-played : (file : RunFile) (clients : List Answered) (entries : ℕ) (is_whole : Bool) (old new : Writing) (status : ℕ)
+    → IsRunOf file clients entries is_whole → IsShown (run_text clients entries) is_whole old new status → IsPlayed file old new status
+shown-played file clients entries is_whole old new status is (inl shown) = printed clients entries is_whole is shown.0 shown.1
+shown-played file clients entries is_whole old new status is (inr shown) = cut_short clients entries is_whole is shown.0 shown.1
+
+-- what was found says whether the run is whole
+pub whole-found : (start : HistoryState) (all : List Step) (epochs : ℕ) (found : Found) → HasFound start all found
+    → (found.generation ≡ 1) × (found.next ≡ epochs + 1) × (found.pending ≡ 0) → IsWhole epochs (state_at start all)
+whole-found start all epochs found has is = record {
+  generation = sym has.generation ∙ is.0;
+  next = sym has.next ∙ is.1;
+  sealed = has.sealed is.2;
+}
 
 pub told-run : (source : List ℕ) (why : Unread) (out out' err err' : Writing) (status : ℕ) → IsReadAs source (Err why)
     → IsTold why out out' err err' status → IsRun source out out' err err' status

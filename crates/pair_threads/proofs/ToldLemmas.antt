@@ -16,7 +16,8 @@ use Rattle.pair_run.specs.declared.run_file.Action.TheVariants as actions
 use Rattle.growing_history.specs.Entries.{own_entries}
 use Rattle.growing_history.specs.LogState.{history_of}
 use Rattle.hypervisor.specs.Clients.{ClientState, own, Calls, AfterRefusedDelivery}
-use Rattle.pair_threads.specs.Told.{told, told_by}
+use Rattle.hypervisor.specs.Refusals.{IsWhyDelivery}
+use Rattle.pair_threads.specs.Told.{told, told_by, MayAnswer, MayAnswerAll}
 use Rattle.pair_threads.specs.internal.Scripts.{Tells}
 
 -- a call's entry is one more of the client's own
@@ -28,26 +29,37 @@ pub uncalled : (start : HistoryState) (old new : ClientState) → new ≡ old �
 uncalled start old new same = ap (own start) same ∙ sym (append-nil (own start old))
 
 module _ (start : HistoryState) (old new : ClientState) where
-  as-before : new ≡ old → (new.number ≡ old.number) × (own start new ≡ own start old ++ [])
-  as-before same = (ap (λ c. c.number) same, uncalled start old new same)
+  module _ (bytes : Vec ℕ Global) (why : Refusal) (may : IsWhyDelivery bytes.items why) where
+    as-before : told old.number (actions.Deliver bytes) (replies.Refused why) ≡ [] → new ≡ old
+        → Tells start (actions.Deliver bytes) (replies.Refused why) old new
+    as-before none same = record {
+      number = ap (λ (c : ClientState). c.number) same;
+      may = may;
+      own = uncalled start old new same ∙ ap (λ (es : List Entry). own start old ++ es) (sym none);
+    }
 
   -- of a delivery that was refused
-  pub not-delivered : (bytes : Vec ℕ Global) (why : Refusal) → AfterRefusedDelivery start (record { items = bytes.items }) why old new
+  pub not-delivered : (bytes : Vec ℕ Global) (why : Refusal) → IsWhyDelivery bytes.items why
+      → AfterRefusedDelivery start (record { items = bytes.items }) why old new
       → Tells start (actions.Deliver bytes) (replies.Refused why) old new
-  not-delivered bytes Full a = (a.number, called start (entries.Refused old.number (record { items = bytes.items })) old new a)
-  not-delivered bytes BadFrame a = as-before a
-  not-delivered bytes NoClient a = as-before a
-  not-delivered bytes Stopped a = as-before a
-  not-delivered bytes Behind a = as-before a
-  not-delivered bytes NotPaired a = as-before a
-  not-delivered bytes AlreadyPaired a = as-before a
-  not-delivered bytes NoImage a = as-before a
-  not-delivered bytes Stale a = as-before a
-  not-delivered bytes Gap a = as-before a
-  not-delivered bytes (NoMemory m) a = as-before a
-  not-delivered bytes CutNeeded a = as-before a
-  not-delivered bytes Exhausted a = as-before a
-  not-delivered bytes OldVersion a = as-before a
+  not-delivered bytes Full may a = record {
+    number = a.0.number;
+    may = may;
+    own = called start (entries.Refused old.number (record { items = bytes.items })) old new a.0;
+  }
+  not-delivered bytes BadFrame may a = as-before bytes BadFrame may refl a
+  not-delivered bytes NoClient may a = as-before bytes NoClient may refl a
+  not-delivered bytes Stopped may a = as-before bytes Stopped may refl a
+  not-delivered bytes Behind may a = as-before bytes Behind may refl a
+  not-delivered bytes NotPaired may a = as-before bytes NotPaired may refl a
+  not-delivered bytes AlreadyPaired may a = as-before bytes AlreadyPaired may refl a
+  not-delivered bytes NoImage may a = as-before bytes NoImage may refl a
+  not-delivered bytes Stale may a = as-before bytes Stale may refl a
+  not-delivered bytes Gap may a = as-before bytes Gap may refl a
+  not-delivered bytes (NoMemory m) may a = as-before bytes (NoMemory m) may refl a
+  not-delivered bytes CutNeeded may a = as-before bytes CutNeeded may refl a
+  not-delivered bytes Exhausted may a = as-before bytes Exhausted may refl a
+  not-delivered bytes OldVersion may a = as-before bytes OldVersion may refl a
 
 -- one action more
 told-more : (c : ℕ) (does : List Action) (action : Action) (answers : List Reply) (reply : Reply) → length answers ≡ length does
@@ -59,10 +71,19 @@ told-more c (d ∷ ds) action (r ∷ rs) reply same =
     ap (λ es. told c d r ++ es) (told-more c ds action rs reply (omega (arith, same)))
     ∙ sym (append_assoc (told c d r) (told_by c ds rs) (told c action reply))
 
+-- each answer is one that the action may get, and one more
+may-more : (does : List Action) (action : Action) (answers : List Reply) (reply : Reply) → MayAnswerAll does answers → MayAnswer action reply
+    → MayAnswerAll (does ++ action ∷ []) (answers ++ reply ∷ [])
+may-more [] action [] reply may one = (one, tt)
+may-more [] action (r ∷ rs) reply may one = absurd may
+may-more (d ∷ ds) action [] reply may one = absurd may
+may-more (d ∷ ds) action (r ∷ rs) reply may one = (may.0, may-more ds action rs reply may.1 one)
+
 -- So many actions were made, and this is what the answers to them tell.
 pub record HasMadeSome (start : HistoryState) (does : List Action) (count : ℕ) (answers : List Reply) (old new : ClientState) : Type 0 where
   pub number : new.number ≡ old.number
   pub some : length answers ≡ count
+  pub may : MayAnswerAll (take count does) answers
   pub own : own start new ≡ own start old ++ told_by old.number (take count does) answers
 
 pub none-made : (start : HistoryState) (does : List Action) (answers : List Reply) (client : ClientState) → answers ≡ []
@@ -70,6 +91,7 @@ pub none-made : (start : HistoryState) (does : List Action) (answers : List Repl
 none-made start does answers client none = record {
   number = refl;
   some = ap length none;
+  may = subst (λ (rs : List Reply). MayAnswerAll [] rs) (sym none) tt;
   own = sym (append-nil (own start client));
 }
 
@@ -87,9 +109,12 @@ one-more-made start does count answers old now new action reply made low is tell
     ∙ told-more old.number before action answers reply (some ∙ sym (length-take-le count does (omega arith))) in
     let here : told now.number action reply ≡ told old.number action reply = ap (λ n. told n action reply) made.number in
     record {
-      number = tells.0 ∙ made.number;
+      number = tells.number ∙ made.number;
       some = omega (arith, length-append answers (reply ∷ []));
-      own = tells.1
+      may =
+          subst (λ (xs : List Action). MayAnswerAll xs (answers ++ reply ∷ [])) (sym (ap (λ k. take k does) (add-one count) ∙ all))
+          (may-more before action answers reply made.may tells.may);
+      own = tells.own
           ∙ (ap (λ es. own start now ++ es) here
           ∙ (ap (λ es. es ++ told old.number action reply) made.own
           ∙ (append_assoc (own start old) (told_by old.number before answers) (told old.number action reply)

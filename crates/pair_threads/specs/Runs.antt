@@ -1,22 +1,52 @@
 -- What is printed of a file that is run in threads, and the exit status (docs/SCRIPTS.md, "A pair in threads").
-use Rattle.std.specs.Prelude.{◌≡◌, ℕ, ◌⊎◌, List, codes}
+use Rattle.std.specs.Prelude.{◌≡◌, ℕ, ◌+◌, ◌⊎◌, Bool, true, false, List, [], length, codes}
 use Rattle.guest_machine.specs.Guest.{boot_guest}
+use Rattle.pair_history.specs.HistoryState.{HistoryState}
+use Rattle.growing_history.specs.Steps.{Step}
+use Rattle.growing_history.specs.LogState.{LogState, Legal, state_at, history_of}
 use Rattle.hypervisor.specs.Opening.{start_with}
+use Rattle.hypervisor.specs.Service.{AreOfOneGuest}
 use Rattle.pair_run.specs.RunFile.{Means, unbooted, says, bad}
 use Rattle.pair_run.specs.RunPrinted.{run_text}
 use Rattle.pair_run.specs.Views.{run_file}
 use Rattle.pair_run.specs.declared.printing.Answered.{Answered}
+use Rattle.pair_run.specs.declared.run_file.ClientLine.{ClientLine}
 use Rattle.pair_run.specs.declared.run_file.RunFile.{RunFile}
 use Rattle.script_player.specs.Guests.{guest_image, named_guest}
 use Rattle.script_player.specs.Meaning.{bad_line, lines_of}
 use Rattle.script_player.specs.Streams.{Writing, Writes, WritesFront}
 use Rattle.pair_threads.specs.Told.{AreAnswered}
 
--- The lines' answers are those of a pair that starts with the guest at boot which the file names.
-abbrev pub IsRunOf : RunFile → List Answered → Type 0
-IsRunOf file clients =
-    AreAnswered (start_with (boot_guest file.boot.pages file.boot.sectors (guest_image (named_guest file.boot.guest))) file.boot.clients)
-    file.clients.items clients
+-- All epochs of a run were sealed, so many of the first generation, and each is committed.
+pub record IsWhole (epochs : ℕ) (s : LogState) : Type 0 where
+  pub generation : s.generation ≡ 1
+  pub next : s.next ≡ epochs + 1
+  pub sealed : s.sealed ≡ []
+
+-- A run of these lines and so many epochs, of a pair that starts there. There is one legal list of steps: all lines' answers are told by its
+-- history, which has so many entries, and where the run is said to be whole, it is. Unless a commit is marked among them, that is the
+-- history of one guest that never fails, and has that length.
+pub record IsRunFrom (start : HistoryState) (lines : List ClientLine) (epochs : ℕ) (clients : List Answered) (entries : ℕ) (is_whole : Bool) :
+    Type 0 where
+  pub all : List Step
+  pub legal : Legal start all
+  pub guest : AreOfOneGuest start all
+  pub answered : AreAnswered (history_of start all) lines clients
+  pub count : (state_at start all).marked ≡ 0 → entries ≡ length (history_of start all)
+  pub whole : is_whole ≡ true → IsWhole epochs (state_at start all)
+
+-- a pair starts with the guest at boot which the file names
+abbrev pub start_of : RunFile → HistoryState
+start_of file =
+    start_with (boot_guest file.boot.pages file.boot.sectors (guest_image (named_guest file.boot.guest))) file.boot.clients
+
+abbrev pub IsRunOf : RunFile → List Answered → ℕ → Bool → Type 0
+IsRunOf file clients count is_whole = IsRunFrom (start_of file) file.clients.items file.epochs clients count is_whole
+
+-- the status of a run that is printed
+abbrev pub status_of : Bool → ℕ
+status_of true = 0
+status_of false = 1
 
 -- all of it was written, or the first of it where a write failed
 abbrev pub IsSaid : Writing → Writing → List ℕ → Type 0
@@ -24,12 +54,12 @@ IsSaid old new bytes = Writes old new bytes ⊎ WritesFront old new bytes
 
 -- Of a file that was read: what standard output gets, and the status.
 pub data IsPlayed (file : RunFile) (out out' : Writing) (status : ℕ) : Type 0 where
-  -- the pair ran, and all is printed; the status says whether the run ended early
-  whole : (clients : List Answered) (entries : ℕ) → IsRunOf file clients → Writes out out' (run_text clients entries)
-      → (status ≡ 0) ⊎ (status ≡ 1) → IsPlayed file out out' status
+  -- the pair ran, and all is printed; the status says whether the run is whole
+  printed : (clients : List Answered) (count : ℕ) (is_whole : Bool) → IsRunOf file clients count is_whole
+      → Writes out out' (run_text clients count) → status ≡ status_of is_whole → IsPlayed file out out' status
   -- it ran, and a write failed
-  cut_short : (clients : List Answered) (entries : ℕ) → IsRunOf file clients → WritesFront out out' (run_text clients entries)
-      → status ≡ 1 → IsPlayed file out out' status
+  cut_short : (clients : List Answered) (count : ℕ) (is_whole : Bool) → IsRunOf file clients count is_whole
+      → WritesFront out out' (run_text clients count) → status ≡ 1 → IsPlayed file out out' status
   -- it is refused, for want of memory
   refused : IsSaid out out' (codes "refused 12 NoMemory\n") → status ≡ 1 → IsPlayed file out out' status
 

@@ -1,17 +1,16 @@
 //! `remus run FILE`.
-ghost use Rattle.std.specs.Prelude.{◌≡◌, ◌⊎◌, IfOk, codes};
+ghost use Rattle.std.specs.Prelude.{◌≡◌, ◌+◌, true, IfOk, codes};
 ghost use Rattle.hypervisor.specs.Opening.{start_with};
 ghost use Rattle.pair_run.specs.RunPrinted.{IsWritten, run_text};
 ghost use Rattle.pair_threads.specs.Lines.{AreClients, clients_of};
-ghost use Rattle.pair_threads.specs.Told.{AreAnswered};
-ghost use Rattle.pair_threads.specs.Runs.{IsPlayed, IsRun, IsRunOf, IsSaid};
+ghost use Rattle.pair_threads.specs.Runs.{IsPlayed, IsRun, IsRunFrom, IsRunOf, IsSaid, status_of};
 ghost use Rattle.pair_threads.specs.internal.Shown.{IsShown, IsTold};
 ghost use Rattle.script_player.specs.Boot.{IsInLimits, boot_line};
 
 use crate::booting::boot_pair;
 use crate::scripts::{answered, scripts_of};
 use crate::threads::{members_of, run_members};
-use hypervisor::{Pair, UnnamedPair};
+use hypervisor::{Found, Pair, UnnamedPair};
 use memory_wanted::{MemoryWanted, with_capacity};
 use pair_run::{Answered, ClientLine, RunFile, Unread, read_run, write_run};
 use script_player::sim::tell_bad_line;
@@ -94,7 +93,8 @@ fn run_file<R: Threads + Wait + Sync, O: Sink>(
 
 /// Prints what came of a run. Answers the exit status.
 fn print<O: Sink>(played: &Played, out: &mut O) -> u8
-    ensures { IsShown (run_text played.now.clients.items played.now.entries) (O.written out.old) (O.written out.new) result }
+    ensures { IsShown (run_text played.now.clients.items played.now.entries) played.now.is_whole (O.written out.old) (O.written out.new)
+        result }
 {
     match write_run(played.clients.as_slice(), played.entries, out) {
         Ok(()) => status_of(played.is_whole),
@@ -104,7 +104,7 @@ fn print<O: Sink>(played: &Played, out: &mut O) -> u8
 
 /// The exit status of a run that is printed.
 fn status_of(is_whole: bool) -> u8
-    ensures { (result ≡ 0) ⊎ (result ≡ 1) }
+    ensures { result ≡ status_of is_whole }
 {
     if is_whole { 0 } else { 1 }
 }
@@ -138,7 +138,7 @@ fn write_refused<O: Sink>(out: &mut O) -> Result<(), Failed>
 fn play<R: Threads + Wait + Sync>(rt: &R, alloc: Global, file: RunFile) -> Result<Played, Unplayed>
     requires limits { IsInLimits (boot_line file.boot) }
     requires clients { AreClients file.boot.clients (clients_of file.clients.items) }
-    ensures { IfOk result (λ played. IsRunOf file played.clients.items) }
+    ensures { IfOk result (λ played. IsRunOf file played.clients.items played.entries played.is_whole) }
 {
     let pair = boot_pair(alloc, &file.boot)?;
     play_named::<Brand, _>(rt, alloc, pair, file.epochs, file.steps, file.clients)
@@ -160,16 +160,26 @@ fn play_named<P: Pair + Send + Sync, R: Threads + Wait + Sync>(
     requires word { pair.word ≡ P.word }
     requires start { P.start ≡ start_with pair.guest pair.clients }
     requires clients { AreClients pair.clients (clients_of lines.items) }
-    ensures { IfOk result (λ played. AreAnswered P.start lines.items played.clients.items) }
+    ensures { IfOk result (λ played. IsRunFrom P.start lines.items epochs played.clients.items played.entries played.is_whole) }
 {
     let mut list = with_capacity(alloc, lines.len())?;
+    let mut seen_by = with_capacity(alloc, lines.len())?;
     let (clients, members) = members_of::<P>(alloc, pair)?;
     let scripts = scripts_of(alloc, clients, lines)?;
     let ended = run_members(rt, alloc, members, epochs, steps, scripts)?;
-    answered(ended.sessions, &mut list)?;
+    answered(ended.sessions, &mut list, &mut seen_by)?;
+    // All threads have ended, so this is all that happened.
+    let found = ended.warden.look(rt, &mut seen_by);
     Ok(Played {
         clients: list,
-        entries: ended.entries,
-        is_whole: ended.is_whole,
+        entries: found.entries,
+        is_whole: ended.is_whole && is_whole(found, epochs),
     })
+}
+
+/// Whether all these epochs were sealed, and each is committed and acknowledged.
+fn is_whole(found: Found, epochs: u64) -> bool
+    ensures { result ≡ true → (found.generation ≡ 1) × (found.next ≡ epochs + 1) × (found.pending ≡ 0) }
+{
+    found.generation == 1 && found.next > 0 && found.next - 1 == epochs && found.pending == 0
 }

@@ -5,10 +5,10 @@ ghost use Rattle.pair_run.specs.declared.run_file.Action.TheVariants.{Deliver, T
 ghost use Rattle.pair_threads.specs.Lines.{clients_of};
 ghost use Rattle.pair_threads.specs.Seats.{AreSeated, sits};
 ghost use Rattle.pair_threads.specs.Told.{HasMade};
-ghost use Rattle.pair_threads.specs.internal.Scripts.{AreScripts, Tells, answered_of};
+ghost use Rattle.pair_threads.specs.internal.Scripts.{AreScripts, Tells, answered_of, client_of};
 
 use crate::sessions::Session;
-use hypervisor::{Client, Pair, answers_are_of_one_guest};
+use hypervisor::{Client, Pair};
 use memory_wanted::{MemoryWanted, push, with_capacity};
 use pair_record::Reply;
 use pair_run::{Action, Answered, ClientLine};
@@ -64,8 +64,6 @@ fn play<P: Pair, R: Wait>(
             return false;
         };
     }
-    client.number();
-    answers_are_of_one_guest(client);
     true
 }
 
@@ -159,7 +157,7 @@ pub(crate) fn scripts_of<P: Pair>(
     Ok(scripts)
 }
 
-/// What they were answered. There is room for all of it in the list.
+/// What they were answered, and their clients. There is room for all of it in the lists.
 ///
 /// # Errors
 ///
@@ -167,9 +165,12 @@ pub(crate) fn scripts_of<P: Pair>(
 pub(crate) fn answered<P: Pair>(
     scripts: Vec<Script<P>>,
     list: &mut Vec<Answered>,
+    clients: &mut Vec<Client<P>>,
 ) -> Result<(), MemoryWanted>
-    requires { list.old.items ≡ [] }
-    ensures { OnOk result (list.new.items ≡ map answered_of scripts.items) }
+    requires list { list.old.items ≡ [] }
+    requires clients { clients.old.items ≡ [] }
+    ensures list { OnOk result (list.new.items ≡ map answered_of scripts.items) }
+    ensures clients { OnOk result (clients.new.items ≡ map client_of scripts.items) }
 {
     for script in scripts {
         push(
@@ -179,6 +180,7 @@ pub(crate) fn answered<P: Pair>(
                 replies: script.replies,
             },
         )?;
+        push(clients, script.client)?;
     }
     Ok(())
 }

@@ -28,12 +28,12 @@ pub struct Members<P: Pair> {
 
 /// A run that has ended.
 #[derive(Drop)]
-pub struct Ended<S> {
+pub struct Ended<P: Pair, S> {
     /// The clients' sessions, in the order in which they were handed in.
     pub sessions: Vec<S>,
-    /// The length of the history.
-    pub entries: u64,
-    /// Whether all epochs were submitted, all checkpoints acknowledged, and no session ended the run early.
+    /// Who says how far the pair has come, and goes on with it.
+    pub warden: Warden<P>,
+    /// Whether no member and no session ended the run early.
     pub is_whole: bool,
 }
 
@@ -82,7 +82,7 @@ pub fn run_members<P: Pair + Send + Sync, S: Session, R: Threads + Wait + Sync>(
     epochs: u64,
     steps: u64,
     sessions: Vec<S>,
-) -> Result<Ended<S>, AllocError>
+) -> Result<Ended<P, S>, AllocError>
     ensures { IfOk result (λ ended. AreServed S.served sessions.items ended.sessions.items) }
 {
     let Members {
@@ -134,7 +134,7 @@ pub fn run_members<P: Pair + Send + Sync, S: Session, R: Threads + Wait + Sync>(
     )?;
     Ok(Ended {
         sessions: served,
-        entries: warden.entries(rt),
+        warden,
         is_whole: !signals.is_stopped(),
     })
 }

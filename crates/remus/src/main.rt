@@ -94,11 +94,11 @@ fn list_stream(rt: &HostRuntime, file: &str, shape: Shape) -> io::Result<u8> {
     let Ok(source) = fs::read(rt, file) else {
         return refuse_file(rt, file);
     };
-    let Ok(mut out) = BufWriter::new(alloc, rt.stdout()) else {
+    let Ok(out) = BufWriter::new(alloc, rt.stdout()) else {
         return refuse_memory(rt);
     };
-    let mut err = rt.stderr();
-    Ok(check_stream(alloc, source.as_slice(), shape, &mut out, &mut err))
+    let mut out = CheckedWriter::new(out);
+    Ok(check_stream(alloc, source.as_slice(), shape, &mut out))
 }
 
 /// Answers the status of a file that can't be read, and says that it can't.

@@ -318,8 +318,8 @@ fn loses_out<P: Pair, R: Wait + Abort>(rt: &R, hand: &mut Hand<P>, place: u64) {
 }
 
 /// The history has so many entries.
-pub(super) fn has_entries<P: Pair, R: Wait + Abort>(rt: &R, hand: &Hand<P>, count: u64) {
-    assert_eq!(rt; hand.warden.entries(rt), count);
+pub(super) fn has_entries<P: Pair, R: Wait + Abort>(rt: &R, hand: &mut Hand<P>, count: u64) {
+    assert_eq!(rt; hand.warden.look(rt, &mut hand.clients).entries, count);
 }
 
 /// This node fails, and so many frames land.

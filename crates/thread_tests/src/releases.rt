@@ -66,14 +66,14 @@ struct Outcome {
 }
 
 /// What came of this one, and whether its first client has the frame.
-fn outcome_of<P: Pair>(ended: &Ended<Taking<P>>) -> Outcome {
+fn outcome_of<P: Pair, R: Wait>(rt: &R, alloc: Global, ended: &Ended<P, Taking<P>>) -> Outcome {
     let has_frame = match ended.sessions.as_slice() {
         [session, ..] => session.has_frame,
         [] => false,
     };
     Outcome {
         is_whole: ended.is_whole,
-        entries: ended.entries,
+        entries: ended.warden.look(rt, &mut Vec::new(alloc)).entries,
         has_frame,
     }
 }
@@ -106,7 +106,7 @@ fn run<P: Pair + Send + Sync, R: Threads + Wait + Abort + Sync>(
     let (clients, members) = members_of::<P>(alloc, pair).expect(rt, "memory");
     let sessions = session_of(rt, alloc, clients, plan.tries);
     let ended = run_members(rt, alloc, members, plan.epochs, plan.steps, sessions);
-    outcome_of(&ended.expect(rt, "threads"))
+    outcome_of(rt, alloc, &ended.expect(rt, "threads"))
 }
 
 /// The same with a pair of one client and this guest.

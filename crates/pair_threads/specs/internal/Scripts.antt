@@ -8,7 +8,7 @@ use Rattle.pair_run.specs.declared.run_file.Action.{Action}
 use Rattle.pair_run.specs.declared.run_file.ClientLine.{ClientLine}
 use Rattle.hypervisor.specs.Clients.{ClientState, own}
 use Rattle.hypervisor.specs.Opening.{new_client}
-use Rattle.pair_threads.specs.Told.{HasMade, told}
+use Rattle.pair_threads.specs.Told.{HasMade, MayAnswer, told}
 
 pub record ScriptState : Type 0 where
   pub client : ClientState
@@ -24,10 +24,11 @@ pub record HasRoom (script : ScriptState) : Type 0 where
   pub none : script.replies.items ≡ []
   pub enough : length script.line.actions.items ≤ vec_capacity script.replies
 
--- one action was answered so: the client's own entries are those before and what the answer tells
-abbrev pub Tells : HistoryState → Action → Reply → ClientState → ClientState → Type 0
-Tells start action reply old new =
-    (new.number ≡ old.number) × (own start new ≡ own start old ++ told old.number action reply)
+-- one action was answered so, as it may be: the client's own entries are those before and what the answer tells
+pub record Tells (start : HistoryState) (action : Action) (reply : Reply) (old new : ClientState) : Type 0 where
+  pub number : new.number ≡ old.number
+  pub may : MayAnswer action reply
+  pub own : own start new ≡ own start old ++ told old.number action reply
 
 -- the thread has made all actions, where there was room for the answers
 abbrev pub IsPlayed : HistoryState → ScriptState → ScriptState → Type 0
@@ -49,3 +50,6 @@ AreScripts (line ∷ lines) (script ∷ scripts) = IsScript line script × AreSc
 
 abbrev pub answered_of : ScriptState → Answered
 answered_of script = record { client = script.line.client; replies = script.replies }
+
+abbrev pub client_of : ScriptState → ClientState
+client_of script = script.client

@@ -1,15 +1,15 @@
 -- What is printed of a run that has ended, and of a file that isn't read.
-use Rattle.std.specs.Prelude.{◌≡◌, ℕ, ◌⊎◌, List, codes}
+use Rattle.std.specs.Prelude.{◌≡◌, ℕ, ◌⊎◌, Bool, List, codes}
 use Rattle.pair_run.specs.declared.run_file.Unread.{Unread}
 use Rattle.pair_run.specs.declared.run_file.Unread.TheVariants.{Bad, NoMemory}
 use Rattle.script_player.specs.Meaning.{bad_line}
 use Rattle.script_player.specs.Streams.{Writing, Writes, WritesFront}
-use Rattle.pair_threads.specs.Runs.{IsSaid}
+use Rattle.pair_threads.specs.Runs.{IsSaid, status_of}
 
--- all of this was written, and the status says whether the run ended early; or a write failed
-abbrev pub IsShown : List ℕ → Writing → Writing → ℕ → Type 0
-IsShown bytes old new status =
-    (Writes old new bytes × ((status ≡ 0) ⊎ (status ≡ 1)))
+-- all of this was written, and the status says whether the run is whole; or a write failed
+abbrev pub IsShown : List ℕ → Bool → Writing → Writing → ℕ → Type 0
+IsShown bytes is_whole old new status =
+    (Writes old new bytes × (status ≡ status_of is_whole))
     ⊎ (WritesFront old new bytes × (status ≡ 1))
 
 -- why a file isn't read: a bad line is told on standard error, and want of memory on standard output

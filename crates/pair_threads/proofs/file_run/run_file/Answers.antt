@@ -4,7 +4,7 @@ use Rattle.pair_threads.proofs.file_run.run_file.Goals as goal
 
 pub returns-in-Ok : goal.returns-in-Ok
 returns-in-Ok g c =
-    shown-played c.args.file c.in-Ok.played.clients.items c.in-Ok.played.entries (g.O.Sink.written c.args.out.now)
+    shown-played c.args.file c.in-Ok.played.clients.items c.in-Ok.played.entries c.in-Ok.played.is_whole (g.O.Sink.written c.args.out.now)
     (g.O.Sink.written c.print.new.out) c.print.result c.in-Ok.ensures c.print.ensures
 
 pub returns-in-Err : goal.returns-in-Err

@@ -1,4 +1,6 @@
-use Rattle.std.proofs.Common.{ℕ, List, subst}
+use Rattle.std.proofs.Common.{◌≡◌, ℕ, List, length, false, subst}
+use Rattle.pair_record.specs.Protocol.{is_bad_length}
+use Rattle.hypervisor.specs.Refusals.{IsWhyDelivery}
 use Rattle.pair_history.specs.Entries as entries
 use Rattle.hypervisor.specs.Clients.{Calls, AfterRefusedDelivery}
 use Rattle.pair_threads.proofs.ToldLemmas.{called, not-delivered}
@@ -12,7 +14,11 @@ returns-in-Ok g c =
     let call =
     subst (λ (bytes : List ℕ). Calls start (entries.Delivered old.number (record { items = bytes }) c.in-Ok.number) old new)
     c.as_slice.ensures.value c.in-Ok.ensures.done in
-    (call.number, called start (entries.Delivered old.number (record { items = c.args.bytes.now.items }) c.in-Ok.number) old new call)
+    record {
+      number = call.number;
+      may = subst (λ (bytes : List ℕ). is_bad_length (length bytes) ≡ false) c.as_slice.ensures.value c.in-Ok.ensures.frame;
+      own = called start (entries.Delivered old.number (record { items = c.args.bytes.now.items }) c.in-Ok.number) old new call;
+    }
 
 pub returns-in-Err : goal.returns-in-Err
 returns-in-Err g c =
@@ -20,5 +26,6 @@ returns-in-Err g c =
     let old = c.args.client.now in
     let new = c.deliver.new.self in
     not-delivered start old new c.args.bytes.now c.in-Err.why
+    (subst (λ (bytes : List ℕ). IsWhyDelivery bytes c.in-Err.why) c.as_slice.ensures.value c.in-Err.ensures.why)
     (subst (λ (bytes : List ℕ). AfterRefusedDelivery start (record { items = bytes }) c.in-Err.why old new) c.as_slice.ensures.value
     c.in-Err.ensures.refused)

@@ -7,9 +7,17 @@ pub returns-in-Ok : goal.returns-in-Ok
 returns-in-Ok g c =
     let old = c.args.client.now in
     let call = c.in-Ok.ensures.done in
-    (call.number, called g.P.Pair.start (entries.Took old.number c.in-Ok.frame) old c.take.new.self call)
+    record {
+      number = call.number;
+      may = tt;
+      own = called g.P.Pair.start (entries.Took old.number c.in-Ok.frame) old c.take.new.self call;
+    }
 
 pub returns-in-Err : goal.returns-in-Err
 returns-in-Err g c =
     let same = c.in-Err.ensures.refused in
-    (ap (λ x. x.number) same, uncalled g.P.Pair.start c.args.client.now c.take.new.self same)
+    record {
+      number = ap (λ x. x.number) same;
+      may = c.in-Err.ensures.why;
+      own = uncalled g.P.Pair.start c.args.client.now c.take.new.self same;
+    }
