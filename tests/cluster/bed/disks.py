@@ -50,7 +50,8 @@ def corosync(token):
 
 
 def configuration(delay, switch):
-    """The recommended configuration of the pair, with the test's own switch as fence device, and no long waits for nodes that boot."""
+    """The recommended configuration of the pair, with the test's own switch as fence device, the delay that it needs, and no long waits for
+    nodes that boot."""
     root = xml.fromstring((ROOT / "cluster/remus.xml").read_text())
     for device in root.findall("./resources/primitive[@class='stonith']"):
         device.set("type", "fence_bed")
