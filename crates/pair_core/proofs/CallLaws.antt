@@ -67,7 +67,7 @@ some_there f (x ∷ xs) (suc place) y e = let l = some_there f xs place y e in o
 
 module _ (start : HistoryState) (r : Record) (g : Guest) where
   abbrev m : Moment
-  m = record { history = r.journal.history; ahead = kept_entries r.journal; guest = g }
+  m = record { history = r.journal.history; sealed = r.journal.sealed; running = r.journal.running; guest = g }
 
   abbrev clients : ℕ
   clients = length (shown_at start r).boxes

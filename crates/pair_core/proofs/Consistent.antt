@@ -19,6 +19,7 @@ use Rattle.pair_record.specs.Record.{IsRecord, AreNumbered, SuitsMode}
 use Rattle.pair_core.specs.Texts.{IsText, AreTexts}
 use Rattle.pair_record.proofs.AccordLaws.{kept_now, left_now, sealed_now, live_guest, live_waiting as waits, sent_is, all_owed, kept_is}
 use Rattle.pair_record.proofs.AccordLaws.{sealed_state}
+use Rattle.pair_core.{specs.Kept.kept_targets, proofs.OnTheirWay.on_its_way}
 
 -- the texts of epochs of moves are those of their entries
 texts_are : (shape : Shape) (generation n : ℕ) (s : HistoryState) (mss : List (List Move)) (rest : List Move) (texts : List (List ℕ))
@@ -121,7 +122,9 @@ module _ (w : Pair) (h : Holds w) where
 
   pub consistent : IsRecord w.protocol.state → AreNumbered w.protocol.state w.ports → IsConsistent w
   consistent k numbered =
-      search (arith, rules, Legal-moves, in_mode, kept_entries_are, live_is, live_waiting, of_guest, outbox_is, owed_is)
+      let way : is_alone w.protocol.state.mode ≡ false → (shown_state w).out ≡ kept_targets w.ports w.nodes.image =
+      λ two. on_its_way w.start w.protocol.state w.ports w.nodes.image h.accords.owed numbered (h.kept two) in
+      search (arith, rules, Legal-moves, in_mode, kept_entries_are, live_is, live_waiting, of_guest, outbox_is, owed_is, way)
 
   -- a backup's first checkpoint was cut
   pub some_cut : IsRecord w.protocol.state → is_alone w.protocol.state.mode ≡ false → 1 ≤ w.protocol.state.window.to_cut

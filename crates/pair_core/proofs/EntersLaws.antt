@@ -10,7 +10,8 @@ use Rattle.pair_record.specs.declared.event.Refusal.{Refusal}
 use Rattle.pair_record.specs.{Journal.{joined, first_of, rest_of, kept_entries, sealed_off, with_moves}, Modes.is_alone}
 use Rattle.pair_record.specs.Protocol.{Record, live_at, shown_at, outbox_of, step_entries, all_held, let_go, live_entries}
 use Rattle.pair_core.specs.Pair.{is_of_guest}
-use Rattle.pair_core.specs.Service.{Enters, guest_entries}
+use Rattle.guest_machine.specs.Guest.{Guest}
+use Rattle.pair_core.specs.{Calls.Moment, Service.{Enters, guest_entries}}
 use Rattle.pair_record.proofs.JournalLaws.{joined-push}
 use Rattle.pair_core.specs.Lines.{Lines}
 use Rattle.pair_core.proofs.{Ends.{Ends, at_once}, Tells.{OfGuest, first_of-guest, live_all}}
@@ -47,7 +48,7 @@ landings-none boxes (p ∷ ps) =
 landed-none : (boxes : List (List Frame)) (ps : List (ℕ × Frame)) → guest_entries (landings boxes ps) ≡ []
 landed-none boxes ps = guest-none (landings boxes ps) (landings-none boxes ps)
 
-module _ (start : HistoryState) (r : Record) (kept : All OfGuest (kept_entries r.journal))
+module _ (start : HistoryState) (r : Record) (g g' : Guest) (kept : All OfGuest (kept_entries r.journal))
     (lone : is_alone r.mode ≡ true → kept_entries r.journal ≡ []) where
   abbrev boxes : List (List Frame)
   boxes = (shown_at start r).boxes
@@ -55,72 +56,63 @@ module _ (start : HistoryState) (r : Record) (kept : All OfGuest (kept_entries r
   abbrev ahead : List Entry
   ahead = kept_entries r.journal
 
-  refused-enters : (event : Event) (why : Refusal) → Enters event (replies.Refused why) ahead [] ahead
-  refused-enters Step why = (refl, refl)
-  refused-enters other why = (refl, refl)
+  -- a moment, as a record says it
+  abbrev then : Guest → Record → Moment
+  then guest r = record { history = r.journal.history; sealed = r.journal.sealed; running = r.journal.running; guest = guest }
 
-  -- the epoch that is committed was the first of what was ahead
-  committed-enters : (ess : List (List Entry)) (running : List Entry)
-      → first_of ess ++ (joined (rest_of ess) ++ running) ≡ joined ess ++ running
-  committed-enters [] running = refl
-  committed-enters (es ∷ ess) running = sym (append_assoc es (joined ess) running)
+  abbrev old : Moment
+  old = then g r
 
-  sealed-stays : kept_entries (sealed_off r.journal) ≡ ahead
-  sealed-stays = append-nil (joined (r.journal.sealed ++ r.journal.running ∷ [])) ∙ joined-push r.journal.sealed r.journal.running
+  refused-enters : (event : Event) (why : Refusal) → Enters event (replies.Refused why) old [] (then g' r)
+  refused-enters Step why = (refl, (refl, refl))
+  refused-enters other why = (refl, (refl, refl))
 
-  -- an empty epoch adds nothing
-  empty-stays : joined (r.journal.sealed ++ [] ∷ []) ++ r.journal.running ≡ ahead
-  empty-stays = ap (λ t. t ++ r.journal.running) (joined-push r.journal.sealed [] ∙ append-nil (joined r.journal.sealed))
-
-  runs-on : (es : List Entry) → joined r.journal.sealed ++ (r.journal.running ++ es) ≡ ahead ++ es
-  runs-on es = sym (append_assoc (joined r.journal.sealed) r.journal.running es)
-
-  pub enters_all : (l : Lines) → Ends start r l (λ event es o. Enters event o.0 ahead (guest_entries es) (kept_entries o.1.journal))
+  pub enters_all : (l : Lines) → Ends start r l (λ event es o. Enters event o.0 old (guest_entries es) (then g' o.1))
   enters_all l = record {
     refuses = λ event why plain. refused-enters event why;
     step = step-enters;
-    cut = (refl, sealed-stays);
-    send = (refl, refl);
-    lost = λ k. ((refl, refl), (refl, refl));
-    again = λ k. (refl, refl);
+    cut = (refl, (refl, refl));
+    send = (refl, (refl, refl));
+    lost = λ k. ((refl, (refl, refl)), (refl, (refl, refl)));
+    again = λ k. (refl, (refl, refl));
     commit = λ k goes.
-        let sealed = r.journal.sealed in
-        ap (λ t. t ++ (joined (rest_of sealed) ++ r.journal.running))
-        (guest-all (first_of sealed) (first_of-guest sealed r.journal.running kept))
-        ∙ committed-enters sealed r.journal.running;
-    acknowledge = λ k p is same. (landed-none boxes (let_go boxes r p.number), refl);
-    empty = λ c place. ((refl, refl), (refl, refl), (refl, refl));
+        (guest-all (first_of r.journal.sealed) (first_of-guest r.journal.sealed r.journal.running kept), (refl, refl));
+    acknowledge = λ k p is same. (landed-none boxes (let_go boxes r p.number), (refl, refl));
+    empty = λ c place. ((refl, (refl, refl)), (refl, (refl, refl)), (refl, (refl, refl)));
     admit = admit-enters;
-    full = λ c bytes. (refl, refl);
-    deliver = λ c bytes. (refl, refl);
-    take = λ c. (refl, refl);
-    lose_in = λ c place x is. (refl, refl);
-    lose_out = λ c place f is. (refl, refl);
-    fail_primary = λ goes. (refl, refl);
+    full = λ c bytes. (refl, (refl, refl));
+    deliver = λ c bytes. (refl, (refl, refl));
+    take = λ c. (refl, (refl, refl));
+    lose_in = λ c place x is. (refl, (refl, refl));
+    lose_out = λ c place f is. (refl, (refl, refl));
+    fail_primary = λ goes. (refl, (refl, refl));
     fail_backup =
         let held = all_held boxes (outbox_of start r) r in (
           filter-append is_of_guest ahead (landings boxes held)
               ∙ (λ i. guest-all ahead kept i ++ landed-none boxes held i)
               ∙ append-nil ahead,
-          refl,
+          (refl, refl),
         );
     go_live = (
       guest-none (live_entries boxes (shown_at start r).out r.journal)
           (live_all NotOfGuest (λ n. refl) (λ c. refl) (λ c place. refl) boxes (shown_at start r).out r.journal),
-      refl,
+      (refl, refl),
     );
-    protect = (refl, empty-stays);
+    protect = (refl, (refl, refl));
   }
     where
       step-enters : (alone : Bool) → is_alone r.mode ≡ alone
-          → Enters Step (replies.Steps (next (live_at start r).guest).steps) ahead
+          → Enters Step (replies.Steps (next (live_at start r).guest).steps) old
           (guest_entries (at_once alone (step_entries true boxes (sent (live_at start r).guest))))
-          (kept_entries (with_moves (is_alone r.mode) r.journal (step_entries (is_alone r.mode) boxes (sent (live_at start r).guest))))
-      step-enters false is = rw is (inl (refl, runs-on (Ran ∷ [])))
+          (then g' (record r {
+            journal = with_moves (is_alone r.mode) r.journal
+                (step_entries (is_alone r.mode) boxes (sent (live_at start r).guest));
+          }))
+      step-enters false is = rw is (inl (refl, (refl, refl)))
       step-enters true is = rw is (inr (lone is, ap (λ t. Ran ∷ t) (landed-none boxes _), lone is))
 
       admit-enters : (c n : ℕ) (alone : Bool) → is_alone r.mode ≡ alone
-          → Enters (Admit c) (replies.Admitted n) ahead (guest_entries (at_once alone (Arrive n ∷ [])))
-          (kept_entries (with_moves (is_alone r.mode) r.journal (Arrive n ∷ [])))
-      admit-enters c n false is = rw is (inl (refl, runs-on (Arrive n ∷ [])))
+          → Enters (Admit c) (replies.Admitted n) old (guest_entries (at_once alone (Arrive n ∷ [])))
+          (then g' (record r { journal = with_moves (is_alone r.mode) r.journal (Arrive n ∷ []) }))
+      admit-enters c n false is = rw is (inl (refl, (refl, refl)))
       admit-enters c n true is = rw is (inr (lone is, refl, lone is))

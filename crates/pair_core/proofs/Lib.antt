@@ -7,6 +7,7 @@ pub mod Ends
 pub mod ModeRows
 pub mod Events
 pub mod ClientEvents
+pub mod OnTheirWay
 pub mod Consistent
 pub mod AllLands
 pub mod GoneLive

@@ -31,7 +31,7 @@ drops_guest s (e ∷ es) p = drops_guest (after s e) es (All-tail Keeps e es p) 
 
 -- a moment, as a record says it
 abbrev pub moment_of : Record → Guest → Moment
-moment_of r g = record { history = r.journal.history; ahead = kept_entries r.journal; guest = g }
+moment_of r g = record { history = r.journal.history; sealed = r.journal.sealed; running = r.journal.running; guest = g }
 
 -- A backup that goes live goes on with the guest of the history, as its reply says.
 module _ (start : HistoryState) (r new : Record) (g : Guest) (live : g ≡ (live_at start new).guest) where
@@ -81,7 +81,7 @@ serves_at start old end g g' event reply d kept lone legal moves live =
     let new = end.state in
     let l = old.lines in
     let told = answers_end start r l _ (tells_all start r kept l) event reply new d.answers.0 in
-    let entered = answers_end start r l _ (enters_all start r kept lone l) event reply new d.answers.0 in
+    let entered = answers_end start r l _ (enters_all start r g g' kept lone l) event reply new d.answers.0 in
     let h = r.journal.history in
     let same : told.0 ≡ d.entries = append_cancel_left h told.0 d.entries (sym told.1 ∙ d.grows) in
     let alike : entered.0 ≡ d.entries = append_cancel_left h entered.0 d.entries (sym entered.1 ∙ d.grows) in
@@ -90,7 +90,7 @@ serves_at start old end g g' event reply d kept lone legal moves live =
       grows = d.grows;
       legal = legal;
       moves = moves;
-      enters = subst (λ es. Enters event reply (kept_entries r.journal) (guest_entries es) (kept_entries new.journal)) alike entered.2;
+      enters = subst (λ es. Enters event reply (moment_of r g) (guest_entries es) (moment_of new g')) alike entered.2;
       guest = live;
       resumes = answers_resume start r new g' live l event reply d.answers.0;
       answered = answers_call start r g l event reply new d.answers.0;

@@ -4,7 +4,7 @@ use Rattle.std.proofs.lemmas.List.{append-nil}
 use Rattle.std.specs.Prelude.{drop}
 use Rattle.pair_history.specs.{Entries.{Frame, Entry, Delivered, Refused, Took, Begins}, HistoryState.{HistoryState, after, at, Legal}}
 use Rattle.pair_record.specs.{declared.event.Event.Event, declared.event.Event.TheVariants.{Deliver, Take, GoLive}}
-use Rattle.pair_core.specs.Calls.{Moment}
+use Rattle.pair_core.specs.Calls.{Moment, ahead_of}
 use Rattle.pair_record.specs.{declared.event.Refusal.TheVariants.Full, declared.event.Reply.Reply}
 use Rattle.pair_core.specs.Service.{Serves, HasServed, LetsIn, HasEntered, IsDelivery, Point, IsTold, IsResumed}
 use Rattle.pair_core.proofs.{AlongLaws.{along-keeps, along-tells}, PublicLaws.Begins-trans}
@@ -35,7 +35,7 @@ module _ (start : HistoryState) (old new : Moment) (events : List Event) (answer
       → p.here.added ≡ x ∷ [] → IsTold start p.before p.done new x
   told k event reply x p e =
       let es = p.before.history in
-      let ahead = p.done.ahead in
+      let ahead = ahead_of p.done in
       let grows : p.done.history ≡ es ++ x ∷ [] = p.here.grows ∙ ap (λ t. es ++ t) e in
       let legal : Legal start (es ++ x ∷ ahead) =
       subst (Legal start) (ap (λ t. t ++ ahead) grows ∙ append_assoc es (x ∷ []) ahead) p.here.legal in

@@ -31,7 +31,7 @@ module _ (start : HistoryState) where
   bare r = record { state = r; lines = no_packets }
 
   abbrev moment_at : Record → Moment
-  moment_at r = record { history = r.journal.history; ahead = kept_entries r.journal; guest = (live_at start r).guest }
+  moment_at r = record { history = r.journal.history; sealed = r.journal.sealed; running = r.journal.running; guest = (live_at start r).guest }
 
   -- what a step keeps true of a record
   record IsGood (r : Record) : Type 0 where
@@ -312,14 +312,16 @@ module _ (w v : Pair) (count : ℕ) (reply : Reply) (start : v.start ≡ w.start
   old_moment : moment_at w.start w.protocol.state ≡ moment w
   old_moment = λ i. record {
     history = w.protocol.state.journal.history;
-    ahead = kept_entries w.protocol.state.journal;
+    sealed = w.protocol.state.journal.sealed;
+    running = w.protocol.state.journal.running;
     guest = sym old.live i;
   }
 
   new_moment : moment_at w.start v.protocol.state ≡ moment v
   new_moment = λ i. record {
     history = v.protocol.state.journal.history;
-    ahead = kept_entries v.protocol.state.journal;
+    sealed = v.protocol.state.journal.sealed;
+    running = v.protocol.state.journal.running;
     guest = (ap (λ (s : HistoryState). (live_at s v.protocol.state).guest) (sym start) ∙ sym new.live) i;
   }
 

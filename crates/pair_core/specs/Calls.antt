@@ -12,19 +12,26 @@ use Rattle.pair_record.specs.declared.event.Event.TheVariants.{Deliver, Take, Lo
 use Rattle.pair_record.specs.declared.event.Refusal.TheVariants.{Full, BadFrame, NoClient, NoMemory, Exhausted}
 use Rattle.pair_record.specs.declared.event.Reply.{Reply}
 use Rattle.pair_record.specs.declared.event.Reply.TheVariants as replies
+use Rattle.pair_record.specs.Journal.{joined}
 
--- A moment of a run: the history, what the guest did that the history doesn't have yet, and the guest.
+-- A moment of a run: the history, what the guest did that the history doesn't have yet, and the guest. Of what it did the epochs that are
+-- sealed stand first, the oldest before the others, and then the epoch that runs.
 pub record Moment : Type 0 where
   pub history : List Entry
-  pub ahead : List Entry
+  pub sealed : List (List Entry)
+  pub running : List Entry
   pub guest : Guest
+
+-- all that the guest did ahead of the history
+abbrev pub ahead_of : Moment → List Entry
+ahead_of m = joined m.sealed ++ m.running
 
 -- the state that clients see at a moment, and the one after what the guest did ahead of it
 abbrev pub shown_then : HistoryState → Moment → HistoryState
 shown_then start m = at start m.history
 
 abbrev pub live_then : HistoryState → Moment → HistoryState
-live_then start m = at start (m.history ++ m.ahead)
+live_then start m = at start (m.history ++ ahead_of m)
 
 -- no client has that number
 abbrev pub IsNobody : HistoryState → ℕ → Type 0
@@ -32,10 +39,10 @@ IsNobody s c = (c < 1) ⊎ (length s.boxes < c)
 
 -- the history has a place for one entry more, and for what the guest did ahead of it; or it hasn't: entries are counted below 2^62
 abbrev pub HasPlace : Moment → Type 0
-HasPlace m = length (m.history ++ m.ahead) + 1 < number_limit
+HasPlace m = length (m.history ++ ahead_of m) + 1 < number_limit
 
 abbrev pub IsExhausted : Moment → Type 0
-IsExhausted m = number_limit ≤ length (m.history ++ m.ahead) + 1
+IsExhausted m = number_limit ≤ length (m.history ++ ahead_of m) + 1
 
 -- Take by client c
 abbrev pub AnswersTake : HistoryState → Moment → ℕ → Reply → Type 0

@@ -17,7 +17,7 @@ use Rattle.pair_record.specs.declared.event.Reply.TheVariants as replies
 use Rattle.pair_record.specs.Journal.{joined, first_of, kept_entries}
 use Rattle.pair_record.specs.Modes.{is_alone}
 use Rattle.pair_record.specs.Record.{AreNumbered}
-use Rattle.pair_core.specs.Kept.{KeepsFrames}
+use Rattle.pair_core.specs.Kept.{KeepsFrames, kept_targets}
 use Rattle.pair_core.specs.Lines.{Protocol}
 use Rattle.pair_core.specs.Nodes.{Nodes, Fills, machine_of}
 use Rattle.pair_record.specs.Protocol.{outbox_of, shown_at, live_at}
@@ -100,6 +100,9 @@ pub record IsConsistent (w : Pair) : Type 0 where
   -- while there is a backup, its image keeps what the gate holds of committed checkpoints under the same numbers, and before it frames that
   -- have come for each of their clients
   pub backed_up : is_alone w.protocol.state.mode ≡ false → KeepsFrames w.protocol.state w.ports w.nodes.image
+  -- so what is on its way to them, as the history says it, is what the image keeps that has not come for its clients: where the primary has
+  -- stopped, too
+  pub on_its_way : is_alone w.protocol.state.mode ≡ false → (shown_state w).out ≡ kept_targets w.ports w.nodes.image
   -- the live machine is the guest of the history followed by what is kept
   pub live : w.nodes.live.guest ≡ (live_state w).guest
   -- there is a backup, unless a node is alone

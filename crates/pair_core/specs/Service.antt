@@ -5,20 +5,25 @@ use Rattle.std.specs.List.{filter}
 use Rattle.pair_history.specs.Entries.{Entry, Ran, Arrive, Delivered, Refused, Took, Begins}
 use Rattle.pair_history.specs.HistoryState.{HistoryState, Legal, Allows, at}
 use Rattle.pair_record.specs.declared.event.Event.{Event}
-use Rattle.pair_record.specs.declared.event.Event.TheVariants.{Step, BackupGet, Admit, Deliver, Take, FailBackup, GoLive}
+use Rattle.pair_record.specs.declared.event.Event.TheVariants.{Step, Cut, BackupGet, Admit, Deliver, Take, FailBackup, GoLive, Protect}
 use Rattle.pair_record.specs.declared.event.Refusal.{Refusal}
 use Rattle.pair_record.specs.declared.event.Refusal.TheVariants.{Full}
 use Rattle.pair_record.specs.declared.event.Reply.{Reply}
 use Rattle.pair_record.specs.declared.event.Reply.TheVariants as replies
 use Rattle.pair_core.specs.Along.{Along, PointAlong}
-use Rattle.pair_core.specs.Calls.{Moment, AnswersCall}
+use Rattle.pair_core.specs.Calls.{Moment, ahead_of, AnswersCall}
 use Rattle.pair_core.specs.Drops.{Loses}
-use Rattle.pair_record.specs.Journal.{kept_entries}
+use Rattle.pair_record.specs.Journal.{first_of, rest_of}
 use Rattle.pair_core.specs.Pair.{Pair, is_of_guest}
 
 -- a pair's: its live guest, where the primary has stopped the one that it stopped with
 abbrev pub moment : Pair → Moment
-moment w = record { history = w.protocol.state.journal.history; ahead = kept_entries w.protocol.state.journal; guest = w.nodes.live.guest }
+moment w = record {
+  history = w.protocol.state.journal.history;
+  sealed = w.protocol.state.journal.sealed;
+  running = w.protocol.state.journal.running;
+  guest = w.nodes.live.guest;
+}
 
 -- the event is that client c delivers these bytes
 abbrev pub IsDelivery : ℕ → List ℕ → Event → Type 0
@@ -47,28 +52,36 @@ Tells event reply es = All (λ e. is_call e ≡ false) es
 
 -- a backup that goes live, answered so, goes on with the guest of the history, after so many steps
 abbrev pub Resumes : Event → Reply → Moment → Type 0
-Resumes GoLive (replies.Live generation steps) new = (new.ahead ≡ []) × (new.guest.steps ≡ steps)
+Resumes GoLive (replies.Live generation steps) new = (ahead_of new ≡ []) × (new.guest.steps ≡ steps)
 Resumes event reply new = Unit {0}
 
 -- what the guest did, of some entries: its steps, and the arrivals of frames
 abbrev pub guest_entries : List Entry → List Entry
 guest_entries es = filter is_of_guest es
 
--- the guest does one thing more: ahead of the history, or, where a node is alone, in it at once
-abbrev pub OneMore : Entry → List Entry → List Entry → List Entry → Type 0
-OneMore e old entered new =
-    ((entered ≡ []) × (new ≡ old ++ e ∷ [])) ⊎ ((old ≡ []) × (entered ≡ e ∷ []) × (new ≡ []))
+-- these are the epochs ahead of the history: the sealed ones, and the one that runs
+abbrev pub AreAhead : List (List Entry) → List Entry → Moment → Type 0
+AreAhead sealed running m = (m.sealed ≡ sealed) × (m.running ≡ running)
 
--- Which of the guest's entries an event lets into the history, where these were ahead of it before and those are after it: what is
--- committed, in the order in which it was done; all, where the backup fails; what a node that is alone does, at once; and no others.
--- Where a backup goes live, what was ahead is given up.
-abbrev pub Enters : Event → Reply → List Entry → List Entry → List Entry → Type 0
+-- the guest does one thing more: in the epoch that runs, or, where a node is alone, in the history at once
+abbrev pub OneMore : Entry → Moment → List Entry → Moment → Type 0
+OneMore e old entered new =
+    ((entered ≡ []) × AreAhead old.sealed (old.running ++ e ∷ []) new)
+    ⊎ ((ahead_of old ≡ []) × (entered ≡ e ∷ []) × (ahead_of new ≡ []))
+
+-- Which of the guest's entries an event lets into the history, and what is ahead of it then. A cut seals the epoch that runs, and the full
+-- checkpoint of a new backup seals one in which nothing was done. A commit lets the oldest sealed epoch in. All enters where the backup
+-- fails, and what a node that is alone does enters at once; nothing else does. Where a backup goes live, what was ahead is given up.
+abbrev pub Enters : Event → Reply → Moment → List Entry → Moment → Type 0
 Enters Step (replies.Steps count) old entered new = OneMore Ran old entered new
 Enters (Admit c) (replies.Admitted n) old entered new = OneMore (Arrive n) old entered new
-Enters (BackupGet k) (replies.Committed generation number) old entered new = entered ++ new ≡ old
-Enters FailBackup (replies.Alone generation landed) old entered new = (entered ≡ old) × (new ≡ [])
-Enters GoLive (replies.Live generation steps) old entered new = (entered ≡ []) × (new ≡ [])
-Enters event reply old entered new = (entered ≡ []) × (new ≡ old)
+Enters Cut (replies.Cut generation number) old entered new = (entered ≡ []) × AreAhead (old.sealed ++ old.running ∷ []) [] new
+Enters Protect (replies.Protecting generation) old entered new = (entered ≡ []) × AreAhead (old.sealed ++ [] ∷ []) old.running new
+Enters (BackupGet k) (replies.Committed generation number) old entered new =
+    (entered ≡ first_of old.sealed) × AreAhead (rest_of old.sealed) old.running new
+Enters FailBackup (replies.Alone generation landed) old entered new = (entered ≡ ahead_of old) × AreAhead [] [] new
+Enters GoLive (replies.Live generation steps) old entered new = (entered ≡ []) × AreAhead [] [] new
+Enters event reply old entered new = (entered ≡ []) × AreAhead old.sealed old.running new
 
 -- One event, answered so, leads from a moment to the next.
 pub record Serves (start : HistoryState) (old : Moment) (event : Event) (reply : Reply) (new : Moment) : Type 0 where
@@ -76,18 +89,18 @@ pub record Serves (start : HistoryState) (old : Moment) (event : Event) (reply :
   -- the history only grows, so that what was released stays
   pub grows : new.history ≡ old.history ++ added
   -- it is one of a guest that never fails, and goes on by what that guest does
-  pub legal : Legal start (new.history ++ new.ahead)
-  pub moves : All (λ e. is_of_guest e ≡ true) new.ahead
+  pub legal : Legal start (new.history ++ ahead_of new)
+  pub moves : All (λ e. is_of_guest e ≡ true) (ahead_of new)
   -- what the guest did enters it when it is committed, and no other entries of the guest do
-  pub enters : Enters event reply old.ahead (guest_entries added) new.ahead
+  pub enters : Enters event reply old (guest_entries added) new
   -- the guest is the one of both, memory, disk and devices; a resumed guest is the history's
-  pub guest : new.guest ≡ (at start (new.history ++ new.ahead)).guest
+  pub guest : new.guest ≡ (at start (new.history ++ ahead_of new)).guest
   pub resumes : Resumes event reply new
   -- a client's call is answered in one of its own ways, and told as it was answered
   pub answered : AnswersCall start old event reply
   pub tells : Tells event reply added
   -- and what they drop, the event may drop
-  pub loses : Loses start old.history old.ahead event reply added
+  pub loses : Loses start old.history (ahead_of old) event reply added
 
 -- These events, one after another, answered so, lead from the moment old to new.
 abbrev pub HasServed : HistoryState → Moment → List Event → List Reply → Moment → Type 0
@@ -97,7 +110,7 @@ HasServed start old events replies new = Along (Serves start) old events replies
 pub record LetsIn (old : Moment) (event : Event) (reply : Reply) (new : Moment) : Type 0 where
   pub added : List Entry
   pub grows : new.history ≡ old.history ++ added
-  pub enters : Enters event reply old.ahead (guest_entries added) new.ahead
+  pub enters : Enters event reply old (guest_entries added) new
 
 -- the same of a run, event by event
 abbrev pub HasEntered : Moment → List Event → List Reply → Moment → Type 0

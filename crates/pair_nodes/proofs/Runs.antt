@@ -9,7 +9,7 @@ use Rattle.frame_ports.specs.{Limits.number_limit}
 use Rattle.guest_machine.specs.{declared.shapes.Shape.Shape}
 use Rattle.pair_history.specs.{HistoryState.{HistoryState, at, start_state}}
 use Rattle.pair_record.specs.{Modes.{is_alone}}
-use Rattle.pair_core.specs.{Pair.{Pair, InMode, IsConsistent, shown_state}, Service.{HasServed, moment}}
+use Rattle.pair_core.specs.{Calls.ahead_of, Pair.{Pair, InMode, IsConsistent, shown_state}, Service.{HasServed, moment}}
 use Rattle.pair_core.proofs.{Consistent.{consistent, lone}, Events.{start_pair, start_holds}, ServiceRuns.served_grows}
 use Rattle.pair_nodes.specs.Matching.{HasRoom, IsServed, Kept, Matches, held_of, site_of}
 use Rattle.pair_nodes.specs.Networks.{frames_in}
@@ -139,7 +139,7 @@ one_guest w n calls t a =
       run = a.run;
       told = a.told;
       live = λ e. ap (λ (s : Site). s.primary.live.guest) a.matches.is ∙ all.live
-          ∙ ap (λ (s : HistoryState). (at s (end.history ++ end.ahead)).guest) a.start;
+          ∙ ap (λ (s : HistoryState). (at s (end.history ++ ahead_of end)).guest) a.start;
       alone = λ e. (lone v.protocol.state.mode v (sym (ap is_alone mode) ∙ e) all.mode).kept;
       image =
           subst (λ (s : HistoryState). ImageIs t.mode (at s end.history).guest t) a.start

@@ -3,7 +3,7 @@ use Rattle.std.specs.Prelude.{◌≡◌, ◌≤◌, ℕ, List, [], ◌∷◌, �
 use Rattle.output_gate.specs.Epochs.{frames_of, frames_to}
 use Rattle.pair_history.specs.Entries.{Frame}
 use Rattle.pair_history.specs.HistoryState.{HistoryState, sent_along}
-use Rattle.pair_core.specs.Calls.{Moment}
+use Rattle.pair_core.specs.Calls.{Moment, ahead_of}
 use Rattle.pair_nodes.specs.Networks.{Output, frames_in}
 use Rattle.pair_nodes.specs.Sites.{Site, Happening, hears, goes_live, goes_alone, lone_steps, protects}
 
@@ -18,7 +18,7 @@ pub record AreLetOut (start : HistoryState) (end : Moment) (t : Site) : Type 0 w
   -- of the checkpoints that the gate holds, so many are in the history
   pub committed : ℕ
   pub history : AreOut t.out (frames_of (take committed t.primary.pending)) (sent_along start end.history)
-  pub all : AreOut t.out (frames_of t.primary.pending ++ t.primary.live.outbox) (sent_along start (end.history ++ end.ahead))
+  pub all : AreOut t.out (frames_of t.primary.pending ++ t.primary.live.outbox) (sent_along start (end.history ++ ahead_of end))
 
 -- all that the live node's guest sent since the last failure; and of it what is out, or held for checkpoints up to that number
 abbrev pub sent_since : Site → List Frame

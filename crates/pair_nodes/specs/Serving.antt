@@ -14,7 +14,7 @@ use Rattle.pair_history.specs.HistoryState.{HistoryState, at}
 use Rattle.pair_record.specs.declared.event.Event.{Event}
 use Rattle.pair_record.specs.declared.event.Reply.{Reply}
 use Rattle.pair_record.specs.Modes.{is_alone, is_stopped}
-use Rattle.pair_core.specs.Calls.{Moment}
+use Rattle.pair_core.specs.Calls.{Moment, ahead_of}
 use Rattle.pair_core.specs.Nodes.{just_settled}
 use Rattle.pair_core.specs.Service.{HasServed}
 use Rattle.pair_nodes.specs.Frames.{AreLetOut}
@@ -68,7 +68,7 @@ pub record Reach (shape : Shape) (image : List ℕ) (clients : ℕ) (calls : Lis
   pub run : Run begin happenings entries calls t
 
 abbrev pub start_moment : Shape → List ℕ → ℕ → Moment
-start_moment shape image clients = record { history = []; ahead = []; guest = boot_guest shape.pages shape.sectors image }
+start_moment shape image clients = record { history = []; sealed = []; running = []; guest = boot_guest shape.pages shape.sectors image }
 
 -- The standby's image is that guest, but for a new standby that has not got its full checkpoint.
 abbrev pub ImageIs : Mode → Guest → Site → Type 0
@@ -84,8 +84,8 @@ pub record AreOneGuest (start : HistoryState) (begun : Moment) (calls : List Cal
   pub end : Moment
   pub run : HasServed start begun events replies end
   pub told : calls_in events replies ≡ calls
-  pub live : is_stopped t.mode ≡ false → t.primary.live.guest ≡ (at start (end.history ++ end.ahead)).guest
-  pub alone : is_alone t.mode ≡ true → end.ahead ≡ []
+  pub live : is_stopped t.mode ≡ false → t.primary.live.guest ≡ (at start (end.history ++ ahead_of end)).guest
+  pub alone : is_alone t.mode ≡ true → ahead_of end ≡ []
   pub image : ImageIs t.mode (at start end.history).guest t
   pub frames : AreLetOut start end t
 
