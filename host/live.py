@@ -38,6 +38,7 @@ class Live:
         self.session, self.standby = None, None  # the attachment's name, and who is attached: its name and instance
         self.pending, self.cut, self.acked = OrderedDict(), None, None
         self.sending, self.sent = 0, 0  # the checkpoint that is being sent, and how many of its bytes are
+        self.is_fetched = False  # whether the node was asked for all of the full checkpoint's text
         self.late_ack = None  # the number of an acknowledgement that the node is told with its next lines
         self.has_arrived = False  # whether frames came since the guest's last steps
         self.is_full = False  # the outbox: the guest goes on after the next cut
@@ -74,10 +75,10 @@ class Live:
         return True
 
     def may_cut(self):
-        """While the full checkpoint is on its way, the running epoch goes on as long as the outbox has room."""
+        """While the full checkpoint's text is fetched, the running epoch goes on as long as the outbox has room."""
         if self.mode == ALONE or len(self.pending) >= MOST_PENDING:
             return False
-        return self.mode == PAIRED or self.is_full or not self.is_linked
+        return self.mode == PAIRED or self.is_fetched or self.is_full
 
     def due(self, now):
         """When there is something to do, if nothing comes before; None where there is nothing."""
@@ -241,7 +242,7 @@ class Live:
             one.is_silent = frames == 0
         self.sent += len(data)
         if self.sent >= total:
-            self.sending, self.sent = number + 1, 0
+            self.sending, self.sent, self.is_fetched = number + 1, 0, True
         self.link.send(messages.text(self.session, self.generation, number, begin, total, data), now)
 
     def acknowledge(self, generation, number, now):
@@ -283,7 +284,7 @@ class Live:
         self.generation, self.mode = answer.number(1), FILLING
         self.pending = OrderedDict({0: Pending(answer.number(2), now)})
         self.counts.checkpoint_bytes += answer.number(2)
-        self.cut, self.acked, self.sending, self.sent = 0, None, 0, 0
+        self.cut, self.acked, self.sending, self.sent, self.is_fetched = 0, None, 0, 0, False
         self.acked_at = self.epoch_begun = now
         self.watch = Watch()
 
