@@ -12,8 +12,9 @@ MOST_PENDING = 4  # checkpoints
 PIECE = 1 << 16  # bytes of a text that are asked for at a time
 QUICK = 100_000  # steps that take the node a fraction of a millisecond
 LATE = 0.1  # a guest that is so many seconds late isn't hurried any more
-QUIET = 0.1  # after so many seconds without a frame a guest that is alone runs in slices of SLOW
+QUIET = 0.1  # after so many seconds without a frame a guest that is alone runs in slices of SLOW, and one that is paired in epochs
 SLOW = 0.005
+LONG = 2  # times as long as others, for whose end nothing waits
 CUT_NEEDED = b"13"  # the refusal of a step where the outbox is full
 
 
@@ -33,7 +34,7 @@ class Live:
         self.epoch, self.rate = host.settings.epoch_ms, host.settings.steps_per_ms * 1000
         self.slice, self.epoch_steps = host.settings.steps_per_ms, self.epoch * self.rate
         self.most_at_once = max(self.slice, QUICK)
-        self.is_slow = self.most_at_once >= self.epoch_steps  # whether the guest makes all its steps of an epoch at its end
+        self.is_slow = self.most_at_once >= LONG * self.epoch_steps  # whether the guest makes all its steps of an epoch at its end
         self.generation, self.steps, self.mode = generation, steps, ALONE
         self.session, self.standby = None, None  # the attachment's name, and who is attached: its name and instance
         self.pending, self.cut, self.acked = OrderedDict(), None, None
@@ -74,6 +75,11 @@ class Live:
                 return False
         return True
 
+    @property
+    def span(self):
+        """How long the running epoch is to be."""
+        return LONG * self.epoch if self.mode == PAIRED and self.epoch_begun - self.moved_at >= QUIET else self.epoch
+
     def may_cut(self):
         """While the full checkpoint's text is fetched, the running epoch goes on as long as the outbox has room."""
         if self.mode == ALONE or len(self.pending) >= MOST_PENDING:
@@ -86,7 +92,7 @@ class Live:
             return now
         if self.is_stopped or self.waits:
             return None
-        ends = self.epoch_begun + self.epoch if self.may_cut() else None
+        ends = self.epoch_begun + self.span if self.may_cut() else None
         if self.is_full or ends is not None and self.is_slow:
             return ends
         return self.runs_at(now) if ends is None else min(self.runs_at(now), ends)
@@ -117,6 +123,8 @@ class Live:
 
     def run(self, now):
         """The steps that are due by now, and the epoch's end where that is due."""
+        if self.has_arrived:
+            self.moved_at = now
         if self.waits:
             self.waited_since = self.waited_since or now
             return
@@ -142,7 +150,7 @@ class Live:
     def quiet_epoch(self, now):
         """What `turn` does of a patient host, with less ado where an epoch ends and its checkpoint is the next that is sent."""
         number, steps = self.cut + 1, self.steps_due(now)
-        is_other = now - self.epoch_begun < self.epoch or steps <= 0 or self.is_full or self.waited_since is not None
+        is_other = now - self.epoch_begun < self.span or steps <= 0 or self.is_full or self.waited_since is not None
         if is_other or self.sending != number or not self.link.has_room():
             self.turn(now)
             return
@@ -190,7 +198,7 @@ class Live:
     # Epochs.
 
     def epoch_ends(self, now):
-        return (now - self.epoch_begun >= self.epoch or self.is_full) and self.may_cut()
+        return (now - self.epoch_begun >= self.span or self.is_full) and self.may_cut()
 
     def cut_lines(self):
         """A cut, and the first bytes of its text where they are the next that are sent."""
@@ -211,7 +219,7 @@ class Live:
         self.counts.checkpoint_bytes += cut.number(3)
         length = now - self.epoch_begun
         # The next one ends in its turn, unless this machine is much too late.
-        self.epoch_begun = max(self.epoch_begun + min(length, self.epoch), now - self.epoch)
+        self.epoch_begun = max(self.epoch_begun + min(length, self.span), now - self.epoch)
         if text is not None and not text.is_refused:
             self.send_text(unhexlify(text.words[1]), now)
 
@@ -240,6 +248,8 @@ class Live:
             pages, frames = pages_and_frames(data, total)
             self.counts.checkpoint_pages += pages
             one.is_silent = frames == 0
+            if not one.is_silent:
+                self.moved_at = now
         self.sent += len(data)
         if self.sent >= total:
             self.sending, self.sent, self.is_fetched = number + 1, 0, True
