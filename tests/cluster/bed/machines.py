@@ -224,9 +224,14 @@ class Clients:
         self.began = time.time()
         command = [*priority.before(), "ip", "netns", "exec", network.CLIENT, sys.executable, HERE / "client.py"]
         self.running = {kind: subprocess.Popen([*command, kind], stdout=subprocess.PIPE, text=True) for kind in self.kinds}
-        for process in self.running.values():
-            process.stdout.readline()  # its first answer has come
-        time.sleep(0.5)
+        try:
+            for process in self.running.values():
+                process.stdout.readline()  # its first answer has come
+            time.sleep(0.5)
+        except BaseException:
+            for process in self.running.values():
+                process.kill()
+            raise
         return self
 
     def __exit__(self, kind, *_):
