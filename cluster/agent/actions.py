@@ -171,7 +171,9 @@ class Pair:
     def notify(self) -> int:
         what = meta("notify_type"), meta("notify_operation")
         others = [node for node in meta(f"notify_{what[1]}_uname").split() if node != self.cluster.node]
-        if what == ("post", "stop") and others:
+        if what == ("pre", "demote") and self.cluster.node in meta("notify_demote_uname").split():
+            self.cluster.publish(None)
+        elif what == ("post", "stop") and others:
             self.standby_has_stopped()
         elif what == ("post", "promote") and others:
             self.other_is_live()
