@@ -1,5 +1,6 @@
 mod GateLemmas
 mod EpochLemmas
+mod Receivers
 mod StepLemmas
 pub mod EpochLaws
 pub mod KeptLaws

@@ -37,7 +37,9 @@ use Rattle.frame_ports.proofs.NumberLaws.{
   number_at_most,
   ports-after_landing,
 }
+use Rattle.frame_ports.specs.declared.landing.Landing.{Landing}
 use Rattle.output_gate.specs.Landings.{clients_for, landed_for, ports_after, landed_of, dropped_of, landed_count, dropped_count, HaveRisen}
+use Rattle.output_gate.specs.Landings.{told_of, told_after}
 
 module _ (n : ℕ) (f : ArrayVec ℕ) where
   -- one list of clients after another
@@ -204,3 +206,12 @@ dropped_count-append p first (f ∷ fs) gs =
       dropped_count-append (after_frame p first f) (first + 1) fs gs,
       ap (λ n. dropped_count (ports_after (after_frame p first f) (first + 1) fs) n gs) (one_sent first f fs),
     )
+
+pub told_after-append : {X : Type 0} (told : X → ℕ → Landing → X) (x : X) (p : PortsState) (first : ℕ) (fs gs : List (ArrayVec ℕ)) →
+    told_after told x p first (fs ++ gs) ≡ told_after told (told_after told x p first fs) (ports_after p first fs) (first + length fs) gs
+told_after-append told x p first [] gs = ap (λ n. told_after told x p n gs) (none_sent first)
+told_after-append told x p first (f ∷ fs) gs =
+    let q = after_frame p first f in
+    let y = told_of told x p (clients_for p f) first f in
+    told_after-append told y q (first + 1) fs gs
+    ∙ ap (λ n. told_after told (told_after told y q (first + 1) fs) (ports_after q (first + 1) fs) n gs) (one_sent first f fs)

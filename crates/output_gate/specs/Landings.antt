@@ -52,6 +52,18 @@ dropped_count p first [] = 0
 dropped_count p first (f ∷ fs) =
     dropped_of p (clients_for p f) first f + dropped_count (landed_for p (clients_for p f) first f) (first + 1) fs
 
+-- what a listener knows, which adds what it hears so, once frame n, which is f, has come for each of these clients in turn; and once these
+-- frames have, the first of them under that number
+module _ {X : Type 0} (told : X → ℕ → Landing → X) where
+  abbrev pub told_of : X → PortsState → List ℕ → ℕ → ArrayVec ℕ → X
+  told_of x p [] n f = x
+  told_of x p (c ∷ cs) n f = told_of (told x c (landing p c n)) (after_landing p c n f) cs n f
+
+  abbrev pub told_after : X → PortsState → ℕ → List (ArrayVec ℕ) → X
+  told_after x p first [] = x
+  told_after x p first (f ∷ fs) =
+      told_after (told_of x p (clients_for p f) first f) (landed_for p (clients_for p f) first f) (first + 1) fs
+
 -- every client's number is below n: frame n came for none of them, nor did one after it
 pub record AreBelow (p : PortsState) (n : ℕ) : Type 0 where
   pub below : (c : ℕ) → 1 ≤ c → c ≤ length p.boxes → number_of p c < n

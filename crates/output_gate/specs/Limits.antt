@@ -13,3 +13,7 @@ max_frames = 256
 -- what a gate holds at most: 5 epochs of 256 frames
 abbrev pub max_held : ℕ
 max_held = 1280
+
+-- each of them lands for at most 16 clients
+abbrev pub most_landings : ℕ
+most_landings = 20480

@@ -13,11 +13,15 @@ mod gate;
 mod landing;
 mod laws;
 mod limits;
+mod listener;
 mod marks;
 mod room;
+mod routes;
 
 pub use errors::GateError;
 pub use gate::Gate;
-pub use landing::{Landed, land_numbered};
+pub use landing::{Landed, land_frame, land_numbered, land_telling};
 pub use laws::{landings_go_in_parts, new_frames_land, old_frames_stay};
 pub use limits::{Frame, MAX_EPOCHS, MAX_FRAMES, MAX_HELD, limits_are_the_rules};
+pub use listener::Listener;
+pub use routes::{Receivers, receivers_of};

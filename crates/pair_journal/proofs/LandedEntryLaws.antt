@@ -3,19 +3,21 @@
 use Rattle.std.proofs.Common.{◌≡◌, ℕ, zero, suc, ◌+◌, ◌-◌, ◌<◌, ◌≤◌, List, [], ◌∷◌, ◌++◌, length}
 use Rattle.std.proofs.Common.{take, drop, get_or, refl, sym, ap, ◌∙◌, arith, append_assoc}
 use Rattle.std.proofs.Math.Seq.{drop-cons}
-use Rattle.std.proofs.{Common.{Bool, true, false, cond}, lemmas.List.{length-take}}
+use Rattle.std.proofs.{Common.{Bool, true, false, cond}, lemmas.List.{append-nil, length-append, length-map, length-take, length-take-le, get_or-map}}
 use Rattle.std.proofs.lemmas.List.Elements.{All-head, All-tail}
-use Rattle.std.specs.Prelude.{All}
+use Rattle.std.specs.Prelude.{All, map}
 use Rattle.frame_ports.specs.Addresses.{paired_with, targets_of}
 use Rattle.frame_ports.specs.Lands.{has_room, landed_at, lands}
 use Rattle.frame_ports.specs.{Limits.box_frames, Numbers.{number_of, landing, after_landing}, Ports.PortsState}
-use Rattle.frame_ports.specs.declared.landing.Landing.TheVariants.{In, Dropped}
+use Rattle.frame_ports.specs.declared.landing.{Landing.{Landing}, Landing.TheVariants.{In, Dropped, Old}}
 use Rattle.frame_ports.proofs.NumberLaws.{landing-new, landing-old, new_from, old_from}
-use Rattle.output_gate.specs.Landings.{clients_for, landed_for, ports_after, AreBelow, AreOld}
+use Rattle.output_gate.specs.Landings.{clients_for, landed_for, ports_after, puts, drops, landed_of, dropped_of, landed_count, dropped_count}
+use Rattle.output_gate.specs.Landings.{told_of, told_after, AreBelow, AreOld}
 use Rattle.output_gate.proofs.LandedLaws.{AreRising, same_after, new_here, new_later, rising, new, boxes-frame, count-frame, below-frame}
 use Rattle.output_gate.proofs.PortsAfterLaws.{after_frame}
 use Rattle.pair_history.specs.{Entries.{Frame, Land, DropOut}, Landings.landings}
-use Rattle.pair_journal.specs.LandedEntries.{all_frames, entries_of_landing, entries_for, entries_after}
+use Rattle.pair_journal.specs.{Journal.{with_history}, LandedEntries.{all_frames, entries_of_landing, entries_for, entries_after, Heard, written}}
+use Rattle.frame_list.specs.Listed.{Listed}
 
 landings-append : (b : List (List Frame)) (ps qs : List (ℕ × Frame)) → landings b (ps ++ qs) ≡ landings b ps ++ landings (lands b ps) qs
 landings-append b [] qs = refl
@@ -79,6 +81,53 @@ entries-new p first (f ∷ fs) below =
     ∙ ap (λ (b : List (List Frame)). landings b (targets_of (length p.boxes) fs)) (boxes-frame p first f below))
     ∙ sym (landings-append p.boxes ps (targets_of (length p.boxes) fs))
 
+-- WHAT A JOURNAL HEARS of them is what they add
+
+module _ (n : ℕ) (f : Frame) where
+  one_heard : (c : ℕ) (l : Landing) → length (entries_of_landing c l) ≡ puts l + drops l
+  one_heard c In = refl
+  one_heard c Dropped = refl
+  one_heard c Old = refl
+
+  count_for : (p : PortsState) (cs : List ℕ) → length (entries_for p cs n f) ≡ landed_of p cs n f + dropped_of p cs n f
+  count_for p [] = refl
+  count_for p (c ∷ cs) =
+      let l = landing p c n in
+      let q = after_landing p c n f in
+      omega (arith, one_heard c l, count_for q cs, length-append (entries_of_landing c l) (entries_for q cs n f))
+
+  heard_for : (h : Heard) (p : PortsState) (cs : List ℕ)
+      → told_of written h p cs n f ≡ (with_history h.0 (entries_for p cs n f), h.1)
+  heard_for h p [] = ap (λ es. (record h.0 { history = es }, h.1)) (sym (append-nil h.0.history))
+  heard_for h p (c ∷ cs) =
+      let l = landing p c n in
+      let q = after_landing p c n f in
+      heard_for (written h c l) q cs
+      ∙ ap (λ es. (record h.0 { history = es }, h.1)) (append_assoc h.0.history (entries_of_landing c l) (entries_for q cs n f))
+
+pub entries_count : (p : PortsState) (first : ℕ) (fs : List Frame)
+    → length (entries_after p first fs) ≡ landed_count p first fs + dropped_count p first fs
+entries_count p first [] = refl
+entries_count p first (f ∷ fs) =
+    let cs = clients_for p f in
+    let q = landed_for p cs first f in
+    omega (
+      arith,
+      count_for first f p cs,
+      entries_count q (first + 1) fs,
+      length-append (entries_for p cs first f) (entries_after q (first + 1) fs),
+    )
+
+pub heard_after : (h : Heard) (p : PortsState) (first : ℕ) (fs : List Frame)
+    → told_after written h p first fs ≡ (with_history h.0 (entries_after p first fs), h.1)
+heard_after h p first [] = ap (λ es. (record h.0 { history = es }, h.1)) (sym (append-nil h.0.history))
+heard_after h p first (f ∷ fs) =
+    let es = entries_for p (clients_for p f) first f in
+    let q = landed_for p (clients_for p f) first f in
+    ap (λ x. told_after written x q (first + 1) fs) (heard_for first f h p (clients_for p f))
+    ∙ heard_after (with_history h.0 es, h.1) q (first + 1) fs
+    ∙ ap (λ t. (record h.0 { history = t }, h.1)) (append_assoc h.0.history es (entries_after q (first + 1) fs))
+
 -- IN PARTS
 
 pub entries-append : (p : PortsState) (first next : ℕ) (fs gs : List Frame) → next ≡ first + length fs
@@ -96,7 +145,7 @@ pub all_frames-append : (xs ys : List (List Frame)) → all_frames (xs ++ ys) �
 all_frames-append [] ys = refl
 all_frames-append (x ∷ xs) ys = ap (λ t. x ++ t) (all_frames-append xs ys) ∙ sym (append_assoc x (all_frames xs) (all_frames ys))
 
-pub list_more : (fss : List (List Frame)) (i : ℕ) (fs : List Frame) → i < length fss → fs ≡ get_or fss i fs
+list_more : (fss : List (List Frame)) (i : ℕ) (fs : List Frame) → i < length fss → fs ≡ get_or fss i fs
     → all_frames (drop i fss) ≡ fs ++ all_frames (drop (i + 1) fss)
 list_more fss i fs within is =
     let e : suc i ≡ i + 1 = omega arith in
@@ -111,10 +160,26 @@ take-parts (suc n) (f ∷ fs) gs =
     let same : n - length fs ≡ suc n - length (f ∷ fs) = omega arith in
     ap (λ (hs : List Frame). f ∷ hs) (take-parts n fs gs) ∙ ap (λ m. f ∷ (take n fs ++ take m gs)) same
 
-pub cut-parts : (end number : ℕ) (fs gs : List Frame)
+cut-parts : (end number : ℕ) (fs gs : List Frame)
     → take (end - number) (fs ++ gs)
     ≡ take (end - number) fs ++ take (end - (number + length (take (end - number) fs))) gs
 cut-parts end number fs gs =
     let long = length-take (end - number) fs in
     let rest : (end - number) - length fs ≡ end - (number + length (take (end - number) fs)) = omega arith in
     take-parts (end - number) fs gs ∙ ap (λ n. take (end - number) fs ++ take n gs) rest
+
+-- from one list on, so many of its frames come first, and then those of the later lists
+pub next_list : (end number : ℕ) (vs : List Listed) (i : ℕ) (v : Listed) (k : ℕ) → i < length vs → v ≡ get_or vs i v
+    → take k v.items ≡ take (end - number) v.items → k ≤ length v.items
+    → take (end - number) (all_frames (drop i (map (λ x. x.items) vs)))
+    ≡ take k v.items ++ take (end - (number + k)) (all_frames (drop (i + 1) (map (λ x. x.items) vs)))
+next_list end number vs i v k within is known there =
+    let fss = map (λ x. x.items) vs in
+    let later = all_frames (drop (i + 1) fss) in
+    let long = length-take-le k v.items there in
+    let all = length-map vs (λ x. x.items) in
+    ap (take (end - number))
+    (list_more fss i v.items (omega arith) (ap (λ x. x.items) is ∙ sym (get_or-map (λ x. x.items) vs i v v.items within)))
+    ∙ cut-parts end number v.items later
+    ∙ ap (λ (fs : List Frame). fs ++ take (end - (number + length fs)) later) (sym known)
+    ∙ ap (λ m. take k v.items ++ take (end - (number + m)) later) long

@@ -2,6 +2,5 @@ pub mod JournalLaws
 pub mod EpochLaws
 pub mod ArrivedLaws
 pub mod LengthLaws
-pub mod Receivers
 pub mod LandedEntryLaws
 pub mod NewFrameLaws

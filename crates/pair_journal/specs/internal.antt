@@ -1,6 +1,5 @@
 -- what only models, private functions and proofs cite
 pub mod Arrivals
 pub mod JournalFields
-pub mod Lengths
 pub mod NewFrames
 pub mod Places

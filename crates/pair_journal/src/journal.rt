@@ -4,7 +4,8 @@ ghost use Rattle.std.specs.Prelude.{replicate, OnOk, OnErr, IfOk, ◌⊎◌};
 ghost use Rattle.frame_ports.specs.Addresses.{IsFrame, targets_of};
 ghost use Rattle.frame_ports.specs.Limits.{number_limit};
 ghost use Rattle.pair_history.specs.Entries.{Ran, Arrive};
-ghost use Rattle.output_gate.specs.Landings.{ports_after};
+ghost use Rattle.output_gate.specs.Landings.{ports_after, landed_count, AreBelow};
+ghost use Rattle.output_gate.specs.Limits.{max_held};
 ghost use Rattle.pair_history.specs.Failures.{arrived_numbers, drops_of_taken_in};
 ghost use Rattle.pair_history.specs.Landings.{landings};
 ghost use Rattle.pair_history.specs.Log.{expanded, frame_bytes};
@@ -15,10 +16,11 @@ ghost use Rattle.pair_journal.specs.LandedEntries.{all_frames, entries_after};
 
 use crate::discards::{add_drops_in, count_arrivals, sorted_numbers};
 use crate::epochs::{Arrival, RunningEpoch, add_epoch, add_epochs, places_with};
-use crate::landings::{add_landings, land_lists};
+use crate::landings::land_lists;
 use frame_list::FrameList;
-use frame_ports::{NUMBER_LIMIT, Ports};
+use frame_ports::{BOX_FRAMES, Landing, NUMBER_LIMIT, Ports};
 use memory_wanted::{MemoryWanted, reserve, with_capacity};
+use output_gate::{Landed, Listener, land_telling};
 use pair_history::{Entry, Frame, History};
 use std::alloc::Global;
 use std::marker::Model;
@@ -43,6 +45,30 @@ impl Model for Journal {
     ghost view = { stored };
 
     ghost invariant = { AreFields };
+}
+
+/// Writes what becomes of each frame into the history.
+impl Listener for Journal {
+    ghost use Rattle.pair_journal.specs.LandedEntries.{Heard, heard, written, entries_left};
+
+    ghost Known = { Heard };
+
+    ghost known = { heard };
+
+    ghost told = { written };
+
+    ghost room = { entries_left };
+
+    fn hear(&mut self, client: u64, landing: Landing) {
+        match landing {
+            Landing::In => self.history.add(Entry::Land(client)),
+            Landing::Dropped => self.history.add(Entry::DropOut {
+                client,
+                place: BOX_FRAMES as u64,
+            }),
+            Landing::Old => {}
+        }
+    }
 }
 
 impl Journal {
@@ -283,29 +309,32 @@ impl Journal {
         self.history.add(entry);
     }
 
-    /// Adds what becomes of the frames once they land in these ports, in the room that was reserved.
-    pub fn land(&mut self, ports: &Ports, frames: &[Frame])
-        requires room { length (targets_of (length ports.now.boxes) frames.now) ≤ self.old.room }
-        requires fits { length (all_entries self.old.journal) + length (targets_of (length ports.now.boxes) frames.now) < number_limit }
+    /// Lands these frames, none of which came for a client before, in these ports, the first of them under that number, and adds what becomes
+    /// of each, in the room that was reserved.
+    pub fn land(&mut self, ports: &mut Ports, first: u64, frames: &[Frame]) -> Landed
+        requires new { AreBelow ports.old first }
+        requires frames { All IsFrame frames.now }
+        requires few { length frames.now ≤ max_held }
+        requires numbers { first + length frames.now ≤ number_limit }
+        requires room { length (targets_of (length ports.old.boxes) frames.now) ≤ self.old.room }
+        requires fits { length (all_entries self.old.journal) + length (targets_of (length ports.old.boxes) frames.now) < number_limit }
         ensures journal { self.new.journal
-            ≡ with_history self.old.journal (landings ports.now.boxes (targets_of (length ports.now.boxes) frames.now)) }
+            ≡ with_history self.old.journal (landings ports.old.boxes (targets_of (length ports.old.boxes) frames.now)) }
         ensures arrival_room { self.new.arrival_room ≡ self.old.arrival_room }
+        ensures ports { ports.new ≡ ports_after ports.old first frames.now }
+        ensures landed { result.landed ≡ landed_count ports.old first frames.now }
     {
-        add_landings(&mut self.history, ports, frames);
+        land_telling(ports, first, frames, self)
     }
 
-    /// The guest of a node that is alone made so many steps, the last of which sent these frames, and they land in these ports: that goes
-    /// into the history, in the room that was reserved.
-    pub fn run_alone(&mut self, steps: u64, ports: &Ports, frames: &[Frame])
-        requires room { length (targets_of (length ports.now.boxes) frames.now) < self.old.room }
-        requires fits { length (all_entries self.old.journal) + (steps + length (targets_of (length ports.now.boxes) frames.now))
-            < number_limit }
-        ensures { self.new.journal
-            ≡ with_history self.old.journal
-            (replicate steps Ran ++ landings ports.now.boxes (targets_of (length ports.now.boxes) frames.now)) }
+    /// The guest of a node that is alone made so many steps: that goes into the history, in the room that was reserved.
+    pub fn run_alone(&mut self, steps: u64)
+        requires room { 0 < self.old.room }
+        requires fits { length (all_entries self.old.journal) + steps < number_limit }
+        ensures journal { self.new.journal ≡ with_history self.old.journal (replicate steps Ran) }
+        ensures room { self.old.room ≤ self.new.room + 1 }
     {
         self.history.run(steps);
-        add_landings(&mut self.history, ports, frames);
     }
 
     /// How many frames arrived in the epoch that runs.
@@ -354,6 +383,6 @@ impl Journal {
             (entries_after ports.old first (take (end - first) (all_frames (map (λ v. v.items) lists.now)))) }
         ensures ports { ports.new ≡ ports_after ports.old first (take (end - first) (all_frames (map (λ v. v.items) lists.now))) }
     {
-        land_lists(&mut self.history, ports, first, end, lists);
+        land_lists(ports, first, end, lists, self);
     }
 }

@@ -17,7 +17,7 @@ use Rattle.pair_journal.specs.Journal.{Journal}
 use Rattle.pair_record.specs.Limits.{last_frame, most_pending}
 use Rattle.pair_record.specs.Window.{committed_of, uncommitted_of, committed_count}
 use Rattle.pair_record.specs.{FailureActs.{first_uncommitted, live_done}, Protocol.{Record, first_refusal, cut_refusals, frames_run_out}}
-use Rattle.pair_record.specs.Protocol.{all_held, seal_done, commit_done, ack_done, failure_done, begin_done, full_done, protect_done}
+use Rattle.pair_record.specs.Protocol.{seal_done, commit_done, ack_done, failure_done, begin_done, full_done, protect_done}
 use Rattle.pair_record.specs.Record.{AreNumbered, first_held, ports_landed, ports_after_ack, ports_after_all}
 use Rattle.pair_record.proofs.{AccordLaws.{frames_of-append, first_lone}, AloneLaws.frames_of-push}
 use Rattle.pair_record.proofs.{ModeLaws.filled_alone, RecordLaws.passed}
@@ -139,28 +139,38 @@ module _ (r : Record) (p : PortsState) (h : AreNumbered r p) where
       let next = passed (nat_le number_limit r.window.to_cut) Exhausted others row.1 in
       (passed (frames_run_out r) Exhausted None next.1).0
 
-  -- what the gate lets go where it opens, with these frames held behind the others
-  module _ (n : ℕ) (fs : List Frame) (g : GateState)
-      (is : g ≡ record { next = r.next_frame + length fs; epochs = r.pending ++ epoch_of n fs ∷ [] }) where
-    held_so : frames_of g.epochs ≡ frames_of r.pending ++ fs
-    held_so = ap (λ (x : GateState). frames_of x.epochs) is ∙ frames_of-push r.pending (epoch_of n fs)
+  -- no frame from that number on has come, and what the gate lets go lands so
+  module _ (first : ℕ) (is : first ≡ first_held r) where
+    pub none_came : AreBelow p first
+    none_came = subst (AreBelow p) (sym is) (each_below p (first_held r) first_positive h.new)
 
-    first_so : gate_first g ≡ first_held r
-    first_so =
-        let next = ap (λ (x : GateState). x.next) is in
-        let all = ap (λ (gs : List Frame). length gs) held_so ∙ length-append (frames_of r.pending) fs in
-        let some = h.held in
-        omega arith
+    module _ (held fs : List Frame) (are : held ≡ fs) where
+      pub let_go_ports : ports_after p first held ≡ ports_landed p (first_held r) fs
+      let_go_ports = (λ i. ports_after p (is i) (are i)) ∙ landed_ports fs
 
-    pub opened_ports : ports_after p (gate_first g) (frames_of g.epochs) ≡ ports_after_all p fs r
-    opened_ports = (λ i. ports_after p (first_so i) (held_so i)) ∙ landed_ports (frames_of r.pending ++ fs)
+      pub let_go_count : landed_count p first held ≡ put_count p.boxes (targets_of (length p.boxes) fs)
+      let_go_count = (λ i. landed_count p (is i) (are i)) ∙ landed_counted fs
 
-    pub opened_count : landed_count p (gate_first g) (frames_of g.epochs) ≡ put_count p.boxes (all_held p.boxes fs r)
-    opened_count = (λ i. landed_count p (first_so i) (held_so i)) ∙ landed_counted (frames_of r.pending ++ fs)
+  -- also where frames are held behind the others
+  pub first_same : (n : ℕ) (fs : List Frame) (g : GateState) → g ≡ record { next = r.next_frame + length fs; epochs = r.pending ++ epoch_of n fs ∷ [] }
+      → gate_first g ≡ first_held r
+  first_same n fs g is =
+      let next = ap (λ (x : GateState). x.next) is in
+      let all = ap (λ (x : GateState). length (frames_of x.epochs)) is
+      ∙ ap (λ (gs : List Frame). length gs) (frames_of-push r.pending (epoch_of n fs)) ∙ length-append (frames_of r.pending) fs in
+      let some = h.held in
+      omega arith
 
-    pub opened_lone : r.pending ≡ [] → ports_after p (gate_first g) (frames_of g.epochs) ≡ ports_landed p r.next_frame fs
-    opened_lone none =
-        opened_ports ∙ (λ i. ports_landed p (first_lone r none i) (frames_of (none i) ++ fs))
+  -- where nothing is pending these are the next
+  module _ (first : ℕ) (fs : List Frame) (is : first ≡ r.next_frame) (none : r.pending ≡ []) where
+    first_next : first ≡ first_held r
+    first_next = is ∙ sym (first_lone r none)
+
+    pub lone_came : AreBelow p first
+    lone_came = none_came first first_next
+
+    pub lone_ports : ports_after p first fs ≡ ports_landed p r.next_frame fs
+    lone_ports = let_go_ports first first_next fs fs refl ∙ ap (λ n. ports_landed p n fs) (first_lone r none)
 
   -- an epoch is sealed
   module _ (epoch rest : List Entry) (fs : List Frame) where

@@ -342,8 +342,10 @@ impl PairRecord {
         let number = packet.number;
         let count = self.leaving(number);
         self.journal.reserve(count as usize)?;
-        self.journal.land(&self.ports, self.gate.held(number));
-        let landed = self.gate.ack(number, &mut self.ports);
+        let landed = self
+            .journal
+            .land(&mut self.ports, self.gate.first(), self.gate.held(number));
+        self.gate.let_go(number);
         self.window.acknowledge(number);
         Ok(Reply::Acked {
             generation: self.generation,

@@ -58,8 +58,10 @@ impl PairRecord {
         let count = self.count_all(outbox);
         self.journal.commit_all(count as usize)?;
         self.gate.hold(number, outbox);
-        self.journal.land(&self.ports, self.gate.held(number));
-        let landed = self.gate.open_all(&mut self.ports);
+        let landed = self
+            .journal
+            .land(&mut self.ports, self.gate.first(), self.gate.held(number));
+        self.gate.discard();
         self.window = Window::none_pending(number);
         self.mode = Mode::Alone;
         Ok(Reply::Alone {
@@ -80,8 +82,10 @@ impl PairRecord {
         let number = self.window.to_cut;
         let count = self.count_all(&[]);
         self.journal.commit_sealed(count as usize)?;
-        self.journal.land(&self.ports, self.gate.held(number));
-        let landed = self.gate.open_all(&mut self.ports);
+        let landed = self
+            .journal
+            .land(&mut self.ports, self.gate.first(), self.gate.held(number));
+        self.gate.discard();
         self.window = Window::none_pending(number);
         self.mode = Mode::Alone;
         Ok(Reply::Alone {
@@ -121,9 +125,10 @@ impl PairRecord {
         } }
         ensures ports { self.new.ports ≡ ports_landed self.old.ports self.old.protocol.next_frame sent.now }
     {
-        self.journal.run_alone(steps, &self.ports, sent);
-        self.gate.hold(self.window.to_cut, sent);
-        let _landed = self.gate.open_all(&mut self.ports);
+        self.journal.run_alone(steps);
+        let first = self.gate.next();
+        let _landed = self.journal.land(&mut self.ports, first, sent);
+        self.gate.begin(first - 1 + sent.len() as u64);
     }
 
     /// How many of these steps a node that is alone may begin, where none but the last sends a frame.

@@ -121,9 +121,9 @@ impl PairRecord {
     {
         let count = count_landings(&self.ports, frames);
         self.journal.enter_epoch(arrivals, steps, count as usize)?;
-        self.journal.land(&self.ports, frames);
-        self.gate.hold(self.window.to_cut, frames);
-        let _landed = self.gate.open_all(&mut self.ports);
+        let first = self.gate.next();
+        let _landed = self.journal.land(&mut self.ports, first, frames);
+        self.gate.begin(first - 1 + frames.len() as u64);
         Ok(())
     }
 

@@ -40,9 +40,7 @@ impl PairRecord {
         let count = count_landings(&self.ports, frames);
         self.journal
             .enter_epoch_and_seal_empty(arrivals, steps, count as usize)?;
-        self.journal.land(&self.ports, frames);
-        self.gate.hold(number, frames);
-        let _landed = self.gate.open_all(&mut self.ports);
+        let _landed = self.journal.land(&mut self.ports, self.gate.next(), frames);
         self.gate.begin(0);
         self.ports.mark();
         self.gate.hold(number, &[]);

@@ -1,7 +1,36 @@
-use Rattle.std.proofs.{Common.{rules, arith}, lemmas.List.length-append}
-use Rattle.pair_journal.proofs.JournalLaws.{length-all, length-kept}
+use Rattle.std.proofs.Common.{◌≡◌, length, ap, ◌∙◌, arith, List}
+use Rattle.frame_ports.specs.Addresses.{targets_of}
+use Rattle.pair_history.specs.{Entries.Entry}
+use Rattle.pair_journal.specs.Journal.{with_history}
+use Rattle.pair_journal.specs.LandedEntries.{Heard, heard, entries_after}
+use Rattle.pair_journal.proofs.LandedEntryLaws.{entries_count, entries-new, heard_after}
 use Rattle.pair_journal.proofs.LengthLaws.{length-landings}
+use Rattle.pair_journal.proofs.journal.Journal.land.Goals.{After-land_telling}
 use Rattle.pair_journal.proofs.journal.Journal.land.Goals as goal
 
-pub invariant_of-self : goal.invariant_of-self
-invariant_of-self c = search (arith, rules, length-all, length-append, length-kept, length-landings)
+pub land_telling-requires-clause-room : goal.land_telling-requires-clause-room
+land_telling-requires-clause-room c =
+    let p = c.args.ports.now in
+    let fs = c.args.frames.now in
+    let new = ap (λ (es : List Entry). length es) (entries-new p c.args.first fs c.requires.new) in
+    omega (
+      arith,
+      new,
+      entries_count p c.args.first fs,
+      length-landings p.boxes (targets_of (length p.boxes) fs),
+      c.requires.room,
+      c.requires.fits,
+    )
+
+-- what it has heard
+heard-is : (c : After-land_telling) → heard c.land_telling.new.listener
+    ≡ (with_history c.args.self.now.journal (entries_after c.args.ports.now c.args.first c.args.frames.now), c.args.self.now.arrival_room)
+heard-is c = c.land_telling.ensures.known ∙ heard_after (heard c.args.self.now) c.args.ports.now c.args.first c.args.frames.now
+
+pub returns-clause-journal : goal.returns-clause-journal
+returns-clause-journal c =
+    ap (λ (h : Heard). h.0) (heard-is (goal.at.returns-clause-journal c).After-land_telling)
+    ∙ ap (with_history c.args.self.now.journal) (entries-new c.args.ports.now c.args.first c.args.frames.now c.requires.new)
+
+pub returns-clause-arrival_room : goal.returns-clause-arrival_room
+returns-clause-arrival_room c = ap (λ (h : Heard). h.1) (heard-is (goal.at.returns-clause-arrival_room c).After-land_telling)

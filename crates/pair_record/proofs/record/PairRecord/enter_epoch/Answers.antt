@@ -1,23 +1,29 @@
-use Rattle.std.proofs.Common.{rules, arith, ◌≡◌, ◌∙◌, ◌+◌, length, ap, sym}
+use Rattle.std.proofs.Common.{rules, arith, ◌≡◌, ◌∙◌, ◌+◌, ◌-◌, length, ap, sym}
 use Rattle.frame_ports.specs.Addresses.{targets_of}
 use Rattle.pair_journal.specs.Epochs.{behind, guest_epoch}
 use Rattle.pair_journal.specs.Journal.{Journal, all_entries}
 use Rattle.pair_record.specs.Protocol.{landed_after}
 use Rattle.pair_record.specs.Record.{ports_landed}
 use Rattle.pair_record.specs.internal.RecordFields.{record_state}
-use Rattle.pair_record.proofs.NumberLaws.{lone_numbers, opened_lone, same_numbers}
+use Rattle.pair_record.proofs.NumberLaws.{lone_came, lone_numbers, lone_ports, same_numbers}
 use Rattle.pair_journal.proofs.EpochLaws.{all-entered}
 use Rattle.pair_record.proofs.RecordLaws.{entered_record, passed, has_room_for, same_record}
 use Rattle.pair_record.proofs.record.PairRecord.enter_epoch.Goals as goal
 
-pub land-requires-clause-fits : goal.land-requires-clause-fits
-land-requires-clause-fits c =
+pub land-landed-requires-clause-fits : goal.land-landed-requires-clause-fits
+land-landed-requires-clause-fits c =
     let s = record_state c.self.inside in
     let free = rw (← c.self.view_is) at c.requires.free in
     let room = has_room_for s.protocol _ (passed _ _ _ free).0 in
     let entered = ap (λ (j : Journal). length (all_entries j)) c.in_ok-enter_epoch.ensures.ok
     ∙ all-entered c.args.arrivals c.args.steps s.protocol.journal in
     omega arith
+
+pub land-landed-requires-clause-new : goal.land-landed-requires-clause-new
+land-landed-requires-clause-new c =
+    let s = record_state c.self.inside in
+    let lone = rw (← c.self.view_is) at c.requires.lone in
+    lone_came s.protocol s.ports c.self.invariant.numbers c.next-first.result c.args.frames.now c.next-first.ensures.next lone.1
 
 pub invariant_of-self-2 : goal.invariant_of-self-2
 invariant_of-self-2 c =
@@ -34,18 +40,19 @@ invariant_of-self-2 c =
     let epoch = guest_epoch n steps r.journal.running in
     let rest = behind n r.journal.running in
     let j = landed_after epoch rest s.ports.boxes ps r.journal in
-    let journal : c.land.new.self.journal ≡ j = search (arith, rules) in
-    let gate : c.open_all-landed.new.self ≡ record { next = r.next_frame + length fs; epochs = r.pending } =
-    c.open_all-landed.ensures.gate ∙ (λ i. record { next = (c.hold.ensures i).next; epochs = sym lone.1 i }) in
+    let journal : c.land-landed.new.self.journal ≡ j = search (arith, rules) in
+    let first = c.next-first.ensures in
+    let next : c.next-first.result - 1 + length fs + 1 ≡ r.next_frame + length fs = omega (arith, first.next, first.bound) in
+    let gate : c.begin.new.self ≡ record { next = r.next_frame + length fs; epochs = r.pending } =
+    c.begin.ensures ∙ (λ i. record { next = next i; epochs = sym lone.1 i }) in
     let after : record r {
-      journal = c.land.new.self.journal;
-      pending = c.open_all-landed.new.self.epochs;
-      next_frame = c.open_all-landed.new.self.next;
+      journal = c.land-landed.new.self.journal;
+      pending = c.begin.new.self.epochs;
+      next_frame = c.begin.new.self.next;
     } ≡ record r { journal = j; next_frame = r.next_frame + length fs } =
     λ i. record r { journal = journal i; pending = (gate i).epochs; next_frame = (gate i).next } in
-    let ports : c.open_all-landed.new.ports ≡ ports_landed s.ports r.next_frame fs =
-    c.open_all-landed.ensures.ports
-    ∙ opened_lone r s.ports h.numbers c.self.inside.window.to_cut fs c.hold.new.self c.hold.ensures lone.1 in
+    let ports : c.land-landed.new.ports ≡ ports_landed s.ports r.next_frame fs =
+    c.land-landed.ensures.ports ∙ lone_ports r s.ports h.numbers c.next-first.result fs first.next lone.1 in
     record {
       is = same_record (record r { journal = j; next_frame = r.next_frame + length fs }) _ after
           (entered_record r h.is lone epoch rest s.ports.boxes ps (r.next_frame + length fs));
@@ -59,6 +66,5 @@ pub returns-clause-ports : goal.returns-clause-ports
 returns-clause-ports c =
     let s = record_state c.self.inside in
     let lone = rw (← c.self.view_is) at c.requires.lone in
-    rw (← c.self.view_is) (c.open_all-landed.ensures.ports
-    ∙ opened_lone s.protocol s.ports c.self.invariant.numbers c.self.inside.window.to_cut c.args.frames.now c.hold.new.self c.hold.ensures
-    lone.1)
+    rw (← c.self.view_is) (c.land-landed.ensures.ports
+    ∙ lone_ports s.protocol s.ports c.self.invariant.numbers c.next-first.result c.args.frames.now c.next-first.ensures.next lone.1)

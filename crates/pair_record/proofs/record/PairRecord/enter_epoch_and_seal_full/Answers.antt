@@ -3,13 +3,14 @@ use Rattle.frame_ports.specs.Numbers.{marked}
 use Rattle.pair_journal.specs.Journal.{Journal, all_entries}
 use Rattle.pair_record.specs.internal.RecordFields.{record_state}
 use Rattle.pair_journal.proofs.EpochLaws.{all-entered}
-use Rattle.pair_record.proofs.NumberLaws.{opened_lone}
+use Rattle.pair_record.proofs.NumberLaws.{lone_came, lone_ports}
 use Rattle.pair_record.proofs.ProtectLaws.{none_yet}
 use Rattle.pair_record.proofs.RecordLaws.{passed, has_room_for}
+use Rattle.pair_record.proofs.record.PairRecord.enter_epoch_and_seal_full.Goals.{After-next}
 use Rattle.pair_record.proofs.record.PairRecord.enter_epoch_and_seal_full.Goals as goal
 
-pub land-requires-clause-fits : goal.land-requires-clause-fits
-land-requires-clause-fits c =
+pub land-landed-requires-clause-fits : goal.land-landed-requires-clause-fits
+land-landed-requires-clause-fits c =
     let s = record_state c.self.inside in
     let free = rw (← c.self.view_is) at c.requires.free in
     let room = has_room_for s.protocol _ (passed _ _ _ free).0 in
@@ -17,14 +18,22 @@ land-requires-clause-fits c =
     ∙ all-entered c.args.arrivals c.args.steps s.protocol.journal in
     omega arith
 
+-- nothing is pending
+none : (c : After-next) → c.self.inside.gate.epochs ≡ []
+none c =
+    none_yet (record_state c.self.inside).protocol c.self.invariant.is (rw (← c.self.view_is) at c.requires.filling)
+    (rw (← c.self.view_is) at c.requires.first)
+
+pub land-landed-requires-clause-new : goal.land-landed-requires-clause-new
+land-landed-requires-clause-new c =
+    let s = record_state c.self.inside in
+    lone_came s.protocol s.ports c.self.invariant.numbers c.next.result c.args.frames.now c.next.ensures.next
+    (none (goal.at.land-landed-requires-clause-new c).After-next)
+
 pub returns-clause-ports : goal.returns-clause-ports
 returns-clause-ports c =
     let s = record_state c.self.inside in
-    let filling = rw (← c.self.view_is) at c.requires.filling in
-    let first = rw (← c.self.view_is) at c.requires.first in
-    let none : s.protocol.pending ≡ [] = none_yet s.protocol c.self.invariant.is filling first in
-    let landed =
-    c.open_all-landed.ensures.ports
-    ∙ opened_lone s.protocol s.ports c.self.invariant.numbers c.self.inside.window.to_cut c.args.frames.now c.hold.new.self c.hold.ensures
-    none in
+    let landed = c.land-landed.ensures.ports
+    ∙ lone_ports s.protocol s.ports c.self.invariant.numbers c.next.result c.args.frames.now c.next.ensures.next
+    (none (goal.at.returns-clause-ports c).After-next) in
     rw (← c.self.view_is) (c.mark.ensures ∙ ap marked landed)

@@ -1,12 +1,11 @@
-use Rattle.std.proofs.{Common.{rules, ◌≡◌, ◌∙◌, ◌+◌, List, [], ◌++◌, length, sym, ap, arith}, lemmas.List.{append-nil, length-append}}
+use Rattle.std.proofs.{Common.{rules, ◌≡◌, ◌∙◌, ◌+◌, [], ◌++◌, length, sym, arith}, lemmas.List.{append-nil, length-append}}
 use Rattle.output_gate.specs.{Epochs.frames_of}
 use Rattle.frame_ports.specs.Lands.{put_count}
-use Rattle.pair_history.specs.Entries.{Frame}
 use Rattle.pair_record.specs.EpochActs.{fail_within_done}
 use Rattle.pair_record.specs.Protocol.{all_held, landed_after}
-use Rattle.pair_record.specs.{Record.{first_held, ports_landed, ports_after_all}, internal.RecordFields.record_state}
+use Rattle.pair_record.specs.{Record.{ports_after_all}, internal.RecordFields.record_state}
 use Rattle.pair_record.proofs.AloneLaws.{held_are, failure_record}
-use Rattle.pair_record.proofs.NumberLaws.{failure_numbers, landed_counted, landed_ports, same_numbers}
+use Rattle.pair_record.proofs.NumberLaws.{failure_numbers, let_go_count, let_go_ports, none_came, same_numbers}
 use Rattle.pair_record.proofs.RecordLaws.{passed, has_room_for, same_record}
 use Rattle.pair_record.proofs.record.PairRecord.fail_backup_within.Goals.{After-held, After-none_pending-self-inside}
 use Rattle.frame_ports.specs.Addresses.{targets_of}
@@ -25,7 +24,7 @@ count_is c = search (arith, rules, held_is)
 
 journal_is : (c : After-none_pending-self-inside)
     → c.held.result.now ≡ frames_of c.self.inside.gate.epochs ++ []
-    → c.land.new.self.journal
+    → c.land-landed.new.self.journal
     ≡ landed_after [] c.self.inside.journal.journal.running c.self.inside.ports.boxes
     (all_held c.self.inside.ports.boxes [] (record_state c.self.inside).protocol) c.self.inside.journal.journal
 journal_is c held = search (arith, rules)
@@ -35,17 +34,17 @@ record_is : (c : After-none_pending-self-inside)
     → c.held.result.now ≡ frames_of c.self.inside.gate.epochs ++ []
     → record (record_state c.self.inside).protocol {
       mode = modes.Alone;
-      journal = c.land.new.self.journal;
+      journal = c.land-landed.new.self.journal;
       window = c.none_pending-self-inside.result;
-      pending = c.open_all-landed.new.self.epochs;
-      next_frame = c.open_all-landed.new.self.next;
+      pending = c.discard.new.self.epochs;
+      next_frame = c.discard.new.self.next;
     } ≡ (fail_within_done c.self.inside.ports.boxes (record_state c.self.inside).protocol).1
 record_is c held =
     let r = (record_state c.self.inside).protocol in
     let journal = journal_is c held in
     let same : r.next_frame ≡ r.next_frame + 0 = omega arith in
-    let gate : c.open_all-landed.new.self ≡ record { next = r.next_frame + 0; epochs = [] } =
-    c.open_all-landed.ensures.gate ∙ (λ i. record { next = same i; epochs = [] }) in
+    let gate : c.discard.new.self ≡ record { next = r.next_frame + 0; epochs = [] } =
+    c.discard.ensures ∙ (λ i. record { next = same i; epochs = [] }) in
     λ i. record r {
       mode = modes.Alone;
       journal = journal i;
@@ -55,27 +54,31 @@ record_is c held =
     }
 
 -- the ports, and how many frames were put into boxes
-ports_are : (c : After-none_pending-self-inside) → c.open_all-landed.new.ports
-    ≡ ports_after_all c.self.inside.ports [] (record_state c.self.inside).protocol
-ports_are c =
+ports_are : (c : After-none_pending-self-inside) → c.held.result.now ≡ frames_of c.self.inside.gate.epochs ++ []
+    → c.land-landed.new.ports ≡ ports_after_all c.self.inside.ports [] (record_state c.self.inside).protocol
+ports_are c held =
     let s = record_state c.self.inside in
-    let fs = frames_of s.protocol.pending in
-    c.open_all-landed.ensures.ports ∙ landed_ports s.protocol s.ports c.self.invariant.numbers fs
-    ∙ ap (ports_landed s.ports (first_held s.protocol)) (sym (append-nil fs))
+    c.land-landed.ensures.ports
+    ∙ let_go_ports s.protocol s.ports c.self.invariant.numbers c.first.result c.first.ensures.first c.held.result.now _ held
 
-put_is : (c : After-none_pending-self-inside) → c.open_all-landed.result.landed
+put_is : (c : After-none_pending-self-inside) → c.held.result.now ≡ frames_of c.self.inside.gate.epochs ++ []
+    → c.land-landed.result.landed
     ≡ put_count c.self.inside.ports.boxes (all_held c.self.inside.ports.boxes [] (record_state c.self.inside).protocol)
-put_is c =
+put_is c held =
     let s = record_state c.self.inside in
-    let fs = frames_of s.protocol.pending in
-    c.open_all-landed.ensures.landed ∙ landed_counted s.protocol s.ports c.self.invariant.numbers fs
-    ∙ ap (λ (gs : List Frame). put_count s.ports.boxes (targets_of (length s.ports.boxes) gs)) (sym (append-nil fs))
+    c.land-landed.ensures.landed
+    ∙ let_go_count s.protocol s.ports c.self.invariant.numbers c.first.result c.first.ensures.first c.held.result.now _ held
 
-pub land-requires-clause-room : goal.land-requires-clause-room
-land-requires-clause-room c = search (arith, rules, After-held, count_is)
+pub land-landed-requires-clause-room : goal.land-landed-requires-clause-room
+land-landed-requires-clause-room c = search (arith, rules, After-held, count_is)
 
-pub land-requires-clause-fits : goal.land-requires-clause-fits
-land-requires-clause-fits c = search (arith, rules, After-held, append-nil, count_is, has_room_for, length-append, passed)
+pub land-landed-requires-clause-fits : goal.land-landed-requires-clause-fits
+land-landed-requires-clause-fits c = search (arith, rules, After-held, append-nil, count_is, has_room_for, length-append, passed)
+
+pub land-landed-requires-clause-new : goal.land-landed-requires-clause-new
+land-landed-requires-clause-new c =
+    let s = record_state c.self.inside in
+    none_came s.protocol s.ports c.self.invariant.numbers c.first.result c.first.ensures.first
 
 pub invariant_of-self-2 : goal.invariant_of-self-2
 invariant_of-self-2 c =
@@ -87,7 +90,7 @@ invariant_of-self-2 c =
       is = same_record (fail_within_done s.ports.boxes r).1 _ after (failure_record r c.self.invariant.is [] r.journal.running s.ports.boxes []);
       numbers =
           same_numbers (fail_within_done s.ports.boxes r).1 _ (ports_after_all s.ports [] r) _ after
-          (ports_are at.After-none_pending-self-inside)
+          (ports_are at.After-none_pending-self-inside (held_is at.After-held))
           (let left = c.self.invariant.numbers.left in
           failure_numbers r s.ports c.self.invariant.numbers [] r.journal.running [] (omega arith));
     }
@@ -96,8 +99,8 @@ pub returns-clause-ok : goal.returns-clause-ok
 returns-clause-ok c =
     let at = goal.at.returns-clause-ok c in
     let after = record_is at.After-none_pending-self-inside (held_is at.After-held) in
-    let put = put_is at.After-none_pending-self-inside in
+    let put = put_is at.After-none_pending-self-inside (held_is at.After-held) in
     rw (← c.self.view_is) (λ i. (replies.Alone c.self.inside.generation (put i), after i))
 
 pub returns-clause-ports : goal.returns-clause-ports
-returns-clause-ports c = rw (← c.self.view_is) (ports_are (goal.at.returns-clause-ports c).After-none_pending-self-inside)
+returns-clause-ports c = let at = goal.at.returns-clause-ports c in rw (← c.self.view_is) (ports_are at.After-none_pending-self-inside (held_is at.After-held))

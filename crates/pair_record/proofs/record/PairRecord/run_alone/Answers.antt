@@ -1,18 +1,39 @@
-use Rattle.std.proofs.Common.{rules, ◌≡◌, ◌∙◌, ◌+◌, ◌++◌, length, replicate, sym, arith}
+use Rattle.std.proofs.{Common.{rules, ◌≡◌, ◌∙◌, ◌+◌, ◌-◌, ◌++◌, length, replicate, sym, ap, arith}, lemmas.List.{length-append, length-replicate}}
 use Rattle.frame_ports.specs.Addresses.{targets_of}
 use Rattle.pair_history.specs.{Entries.Ran, Landings.landings}
-use Rattle.pair_journal.specs.Journal.{with_history}
+use Rattle.pair_journal.specs.Journal.{Journal, all_entries, with_history}
+use Rattle.pair_record.proofs.JournalLaws.{length-all}
 use Rattle.pair_record.specs.Record.{ports_landed}
 use Rattle.pair_record.specs.internal.RecordFields.{record_state}
-use Rattle.pair_record.proofs.{AloneLaws.few_targets, NumberLaws.{lone_numbers, opened_lone, same_numbers}}
+use Rattle.pair_record.proofs.{AloneLaws.few_targets, LiveLaws.goes_on_twice, NumberLaws.{lone_came, lone_numbers, lone_ports, same_numbers}}
 use Rattle.pair_record.proofs.RecordLaws.{history_record, same_record}
 use Rattle.pair_record.proofs.record.PairRecord.run_alone.Goals as goal
 
-pub run_alone-requires-clause-room : goal.run_alone-requires-clause-room
-run_alone-requires-clause-room c = search (arith, rules, few_targets)
+pub land-landed-requires-clause-room : goal.land-landed-requires-clause-room
+land-landed-requires-clause-room c = search (arith, rules, few_targets)
 
-pub run_alone-requires-clause-fits : goal.run_alone-requires-clause-fits
-run_alone-requires-clause-fits c = search (arith, rules, few_targets)
+pub land-landed-requires-clause-fits : goal.land-landed-requires-clause-fits
+land-landed-requires-clause-fits c =
+    let s = record_state c.self.inside in
+    let fits = rw (← c.self.view_is) at c.requires.fits in
+    let ran = ap (λ (j : Journal). length (all_entries j)) c.run_alone.ensures.journal
+    ∙ length-all (with_history s.protocol.journal (replicate c.args.steps Ran)) in
+    omega (
+      arith,
+      fits,
+      ran,
+      length-all s.protocol.journal,
+      length-append s.protocol.journal.history (replicate c.args.steps Ran),
+      length-replicate c.args.steps Ran,
+      few_targets (length s.ports.boxes) c.args.sent.now c.requires.few,
+    )
+
+pub land-landed-requires-clause-new : goal.land-landed-requires-clause-new
+land-landed-requires-clause-new c =
+    let s = record_state c.self.inside in
+    let alone = rw (← c.self.view_is) at c.requires.alone in
+    lone_came s.protocol s.ports c.self.invariant.numbers c.next-first.result c.args.sent.now c.next-first.ensures.next
+    (c.self.invariant.is.alone alone).1
 
 pub invariant_of-self : goal.invariant_of-self
 invariant_of-self c =
@@ -25,17 +46,22 @@ invariant_of-self c =
     let free = rw (← c.self.view_is) at c.requires.numbers in
     let none = (h.is.alone alone).1 in
     let es = replicate c.args.steps Ran ++ landings s.ports.boxes (targets_of n fs) in
-    let gate : c.open_all-landed.new.self ≡ record { next = r.next_frame + length fs; epochs = r.pending } =
-    c.open_all-landed.ensures.gate ∙ (λ i. record { next = (c.hold.ensures i).next; epochs = sym none i }) in
+    let first = c.next-first.ensures in
+    let next : c.next-first.result - 1 + length fs + 1 ≡ r.next_frame + length fs = omega (arith, first.next, first.bound) in
+    let gate : c.begin.new.self ≡ record { next = r.next_frame + length fs; epochs = r.pending } =
+    c.begin.ensures ∙ (λ i. record { next = next i; epochs = sym none i }) in
+    let journal : c.land-landed.new.self.journal ≡ with_history r.journal es =
+    c.land-landed.ensures.journal
+    ∙ ap (λ (j : Journal). with_history j (landings s.ports.boxes (targets_of n fs))) c.run_alone.ensures.journal
+    ∙ goes_on_twice r.journal (replicate c.args.steps Ran) (landings s.ports.boxes (targets_of n fs)) in
     let after : record r {
-      journal = c.run_alone.new.self.journal;
-      pending = c.open_all-landed.new.self.epochs;
-      next_frame = c.open_all-landed.new.self.next;
+      journal = c.land-landed.new.self.journal;
+      pending = c.begin.new.self.epochs;
+      next_frame = c.begin.new.self.next;
     } ≡ record r { journal = with_history r.journal es; next_frame = r.next_frame + length fs } =
-    λ i. record r { journal = c.run_alone.ensures i; pending = (gate i).epochs; next_frame = (gate i).next } in
-    let ports : c.open_all-landed.new.ports ≡ ports_landed s.ports r.next_frame fs =
-    c.open_all-landed.ensures.ports
-    ∙ opened_lone r s.ports h.numbers c.self.inside.window.to_cut fs c.hold.new.self c.hold.ensures none in
+    λ i. record r { journal = journal i; pending = (gate i).epochs; next_frame = (gate i).next } in
+    let ports : c.land-landed.new.ports ≡ ports_landed s.ports r.next_frame fs =
+    c.land-landed.ensures.ports ∙ lone_ports r s.ports h.numbers c.next-first.result fs first.next none in
     record {
       is = same_record (record r { journal = with_history r.journal es; next_frame = r.next_frame + length fs }) _ after
           (history_record r h.is es (r.next_frame + length fs));
@@ -51,5 +77,5 @@ returns-clause-ports c =
     let r = s.protocol in
     let h = c.self.invariant in
     let alone = rw (← c.self.view_is) at c.requires.alone in
-    rw (← c.self.view_is) (c.open_all-landed.ensures.ports
-    ∙ opened_lone r s.ports h.numbers c.self.inside.window.to_cut c.args.sent.now c.hold.new.self c.hold.ensures (h.is.alone alone).1)
+    rw (← c.self.view_is) (c.land-landed.ensures.ports
+    ∙ lone_ports r s.ports h.numbers c.next-first.result c.args.sent.now c.next-first.ensures.next (h.is.alone alone).1)

@@ -7,10 +7,10 @@ use arrayvec::ArrayVec;
 use frame_ports::Ports;
 
 /// Clients, of whom there are at most 16.
-pub(crate) type Receivers = ArrayVec<u64, 16>;
+pub type Receivers = ArrayVec<u64, 16>;
 
 /// The clients to whom the frame of these bytes goes, rising.
-pub(crate) fn receivers_of(ports: &Ports, frame: &[u8]) -> Receivers
+pub fn receivers_of(ports: &Ports, frame: &[u8]) -> Receivers
     ensures clients { result.items ≡ clients_for ports.now (record { items = frame.now }) }
     ensures known { All (IsClient ports.now) result.items }
     ensures few { length result.items ≤ 16 }

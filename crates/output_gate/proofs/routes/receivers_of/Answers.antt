@@ -5,9 +5,9 @@ use Rattle.arrayvec.specs.ArrayVec.{ArrayVec}
 use Rattle.frame_ports.specs.{Addresses.clients_of, Ports.IsClient, Targets.AreTargets}
 use Rattle.frame_ports.proofs.AddressLaws.{clients_from-range}
 use Rattle.output_gate.specs.Landings.{clients_for}
-use Rattle.pair_journal.proofs.Receivers.{from_on, next_yes, next_no, span_starts, span_ends}
-use Rattle.pair_journal.proofs.routes.receivers_of.Goals.{then-contains, else-contains, After-span-first}
-use Rattle.pair_journal.proofs.routes.receivers_of.Goals as goal
+use Rattle.output_gate.proofs.Receivers.{from_on, next_yes, next_no, span_starts, span_ends}
+use Rattle.output_gate.proofs.routes.receivers_of.Goals.{then-contains, else-contains, After-span-first}
+use Rattle.output_gate.proofs.routes.receivers_of.Goals as goal
 
 few : (c : After-span-first) → c.clients-clients.result ≤ 16
 few c = let p = c.clients-clients.ensures.ports in let q = p.clients.1 in let e = c.clients-clients.ensures.count in omega arith

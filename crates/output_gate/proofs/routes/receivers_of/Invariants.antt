@@ -1,8 +1,8 @@
 -- Those found so far, and then those from this client on.
 use Rattle.std.proofs.Common.{◌≡◌, ◌+◌, ◌≤◌, ◌++◌, length}
 use Rattle.frame_ports.specs.Addresses.{clients_of}
-use Rattle.pair_journal.proofs.Receivers.{from_on}
-use Rattle.pair_journal.proofs.routes.receivers_of.Given as goal
+use Rattle.output_gate.proofs.Receivers.{from_on}
+use Rattle.output_gate.proofs.routes.receivers_of.Given as goal
 
 abbrev pub invariant-loop-client : goal.invariant-loop-client
 invariant-loop-client l = record {
