@@ -132,3 +132,27 @@ pub(crate) fn extend(value: u64, width: Width, signed: bool) -> u64
         value
     }
 }
+
+/// A byte, sign extended.
+#[inline(always)]
+pub(crate) fn extend_byte(value: u8) -> u64
+    ensures { result ≡ extended true 1 value }
+{
+    i64::from(value.cast_signed()).cast_unsigned()
+}
+
+/// Two bytes, sign extended.
+#[inline(always)]
+pub(crate) fn extend_half(value: u16) -> u64
+    ensures { result ≡ extended true 2 value }
+{
+    i64::from(value.cast_signed()).cast_unsigned()
+}
+
+/// Four bytes, sign extended.
+#[inline(always)]
+pub(crate) fn extend_word(value: u32) -> u64
+    ensures { result ≡ extended true 4 value }
+{
+    i64::from(value.cast_signed()).cast_unsigned()
+}

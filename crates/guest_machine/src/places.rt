@@ -1,7 +1,12 @@
 //! Where addresses lie in the guest's memory.
-ghost use Rattle.std.specs.Prelude.{◌≡◌, ◌≤◌, ◌^◌};
+ghost use Rattle.std.specs.Prelude.{◌≡◌, ◌+◌, ◌%◌, ◌≤◌, ◌^◌, ◌==◌, true, IfSome};
+ghost use Rattle.rv64_core.specs.Widths.{width_bytes};
+ghost use Rattle.bus_map.specs.AddressMap.{place_of};
 ghost use Rattle.bus_map.specs.Limits.{ram_base};
 ghost use Rattle.guest_machine.specs.Places.{in_ram, ram_place};
+
+use bus_map::Place;
+use rv64_core::Width;
 
 /// The address of the first byte of memory.
 pub(crate) const RAM_BASE: u64 = bus_map::RAM_BASE;
@@ -23,4 +28,54 @@ pub(crate) fn ram_place(address: u64) -> usize
     ensures { result ≡ ram_place address }
 {
     (address - RAM_BASE) as usize
+}
+
+/// Where an aligned access of this width at an address stands in a memory of so many bytes, if it is aligned and all of it does. One
+/// test tells both: the address is divided by the width, and a remainder turned to the highest bits, which makes it far too large.
+#[inline(always)]
+pub(crate) fn aligned_place(size: usize, address: u64, width: Width) -> Option<usize>
+    requires bounded { size ≤ 2 ^ 32 }
+    ensures place { IfSome result (λ at. place_of address (width_bytes width) ≡ Place.Ram at) }
+    ensures aligned { IfSome result (λ at. (address % width_bytes width == 0) ≡ true) }
+    ensures within { IfSome result (λ at. at + width_bytes width ≤ size) }
+    ensures even { IfSome result (λ at. at % width_bytes width ≡ 0) }
+{
+    // An address below memory wraps, and is far beyond it. Places have 32 bits, which the compiler is told so.
+    match width {
+        Width::Byte => {
+            let number = address.wrapping_sub(RAM_BASE);
+            if number < size as u64 {
+                Some(number as u32 as usize)
+            } else {
+                None
+            }
+        }
+        Width::Half => {
+            let turned = address / 2 + address % 2 * (1 << 63);
+            let number = turned.wrapping_sub(RAM_BASE / 2);
+            if number < (size / 2) as u64 {
+                Some(number as u32 as usize * 2)
+            } else {
+                None
+            }
+        }
+        Width::Word => {
+            let turned = address / 4 + address % 4 * (1 << 62);
+            let number = turned.wrapping_sub(RAM_BASE / 4);
+            if number < (size / 4) as u64 {
+                Some(number as u32 as usize * 4)
+            } else {
+                None
+            }
+        }
+        Width::Double => {
+            let turned = address / 8 + address % 8 * (1 << 61);
+            let number = turned.wrapping_sub(RAM_BASE / 8);
+            if number < (size / 8) as u64 {
+                Some(number as u32 as usize * 8)
+            } else {
+                None
+            }
+        }
+    }
 }

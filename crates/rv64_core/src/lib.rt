@@ -21,7 +21,7 @@ mod register;
 mod width;
 
 pub use decoding::decode;
-pub use deeds::Deed;
+pub use deeds::{Deed, Parts};
 pub use encoding::encode;
 pub use instruction::Instr;
 pub use kind::Kind;

@@ -100,14 +100,12 @@ impl Regs {
         self.values[which.number() as usize]
     }
 
-    /// Gives a register a value. x0 stays 0.
+    /// Gives a register a value. x0 stays 0: it is written again, which takes less than to test for it.
     #[inline]
     pub fn set(&mut self, which: Register, value: u64)
         ensures { self.new ≡ with_register self.old which value }
     {
-        let number = which.number() as usize;
-        if number != 0 {
-            self.values[number] = value;
-        }
+        self.values[which.number() as usize] = value;
+        self.values[0] = 0;
     }
 }
