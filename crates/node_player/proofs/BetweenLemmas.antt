@@ -3,13 +3,13 @@ use Rattle.std.proofs.Common.{◌≡◌, ◌≤◌, ℕ, Bool, true, false, cond
 use Rattle.pair_record.specs.declared.event.Refusal.{Refusal}
 use Rattle.pair_record.specs.declared.event.Refusal.TheVariants.{CutNeeded}
 use Rattle.pair_nodes.specs.PrimaryCalls.{IsSteps, after_release}
-use Rattle.pair_nodes.specs.Sides.{Primary, Standby as StandbyNode, after_ack, after_alone, after_arrival, after_cut, after_protect, live_of}
+use Rattle.pair_nodes.specs.Sides.{Primary, Standby as StandbyNode, after_alone, after_cut, after_protect, live_of}
 use Rattle.script_player.specs.Session.{IsReply, is_played, is_too_long, is_not_kept, Replies}
 use Rattle.node_player.specs.{AtNothing.AtNothing, AtPrimary.{AtPrimary, IsStepsAnswer}, AtStandby.AtStandby, Halves.IsReached}
 use Rattle.node_player.specs.Lines.{Line, boot, order, arrive, piece}
 use Rattle.node_player.specs.Meaning.{Answers, PlaysLine, is_silence, answers, is_bad, finds_no_memory}
 use Rattle.node_player.specs.Nodes.{Node, nothing, primary, standby}
-use Rattle.node_player.specs.declared.orders.Order.TheVariants.{Standby, Step, Cut, Ack, Alone, Protect, GoLive, Show, Sector}
+use Rattle.node_player.specs.declared.orders.Order.TheVariants.{Standby, Step, Cut, Ack, Alone, Protect, GoLive}
 
 pub record IsBetween (p : Primary) : Type 0 where
   pub few : length p.live.outbox ≤ 256
@@ -31,76 +31,80 @@ left-between : (q : Primary) (b : Bool) → q.backed ≡ b → length q.live.out
 left-between q true backed few = backed-between q backed few
 left-between q false alone few = none-between (after_release q) refl
 
-stepped : (count : ℕ) (result : Result ℕ Refusal) (p q : Primary) (printed : List ℕ) (new : Primary) → IsBetween p
-    → IsSteps count p result q → IsStepsAnswer q result printed new → IsBetween new
-stepped count (Ok made) p q printed new h is answer =
+stepped : (no_memory : List ℕ) (count : ℕ) (result : Result ℕ Refusal) (p q : Primary) (printed : List ℕ) (new : Primary) → IsBetween p
+    → IsSteps count p result q → IsStepsAnswer no_memory q result printed new → IsBetween new
+stepped no_memory count (Ok made) p q printed new h is answer =
     subst IsBetween (sym answer.1) (left-between q q.backed refl is.2.few)
-stepped count (Err CutNeeded) p q printed new h is answer =
+stepped no_memory count (Err CutNeeded) p q printed new h is answer =
     let run = is.1.2 in
     subst IsBetween (sym answer.1) (backed-between q (ap (λ (r : Primary). r.backed) run.left ∙ is.0) run.few)
-stepped count (Err why) p q printed new h is answer = subst IsBetween (sym (answer.1 ∙ is.1)) h
+stepped no_memory count (Err why) p q printed new h is answer = subst IsBetween (sym (answer.1 ∙ is.1)) h
 
-at-primary : (p : Primary) (line : Line) (printed : List ℕ) (q : Primary) → IsBetween p → AtPrimary p line printed q → IsBetween q
-at-primary p (boot b) printed q h a = subst IsBetween (sym a.1) h
-at-primary p (arrive bytes) printed q h (inl done) =
+at-primary : (no_memory : List ℕ) (p : Primary) (line : Line) (printed : List ℕ) (q : Primary) → IsBetween p
+    → AtPrimary no_memory p line printed q → IsBetween q
+at-primary no_memory p (boot b) printed q h a = subst IsBetween (sym a.1) h
+at-primary no_memory p (arrive bytes) printed q h (inl done) =
     subst IsBetween (sym done.1.1) (record { few = h.few; lone = h.lone })
-at-primary p (arrive bytes) printed q h (inr denied) = subst IsBetween (sym denied.2.1) h
-at-primary p (piece bytes) printed q h a = subst IsBetween (sym a.1) h
-at-primary p (order (Step count)) printed q h a = stepped count a.0 p a.1 printed q h a.2 a.3
-at-primary p (order Cut) printed q h (inl done) =
+at-primary no_memory p (arrive bytes) printed q h (inr denied) = subst IsBetween (sym denied.2.1) h
+at-primary no_memory p (piece bytes) printed q h a = subst IsBetween (sym a.1) h
+at-primary no_memory p (order (Step count)) printed q h a = stepped no_memory count a.0 p a.1 printed q h a.2 a.3
+at-primary no_memory p (order Cut) printed q h (inl done) =
     let sealed = done.1.1 in subst IsBetween (sym sealed.cut.left) (none-between (after_cut p sealed.text) refl)
-at-primary p (order Cut) printed q h (inr denied) = subst IsBetween (sym denied.2.1) h
-at-primary p (order (Ack generation number)) printed q h (inl done) =
+at-primary no_memory p (order Cut) printed q h (inr denied) = subst IsBetween (sym denied.2.1) h
+at-primary no_memory p (order (Ack generation number)) printed q h (inl done) =
     subst IsBetween (sym done.1.1) (record { few = h.few; lone = h.lone })
-at-primary p (order (Ack generation number)) printed q h (inr denied) = subst IsBetween (sym denied.2.1) h
-at-primary p (order Alone) printed q h (inl done) = subst IsBetween (sym done.1.1) (none-between (after_alone p) refl)
-at-primary p (order Alone) printed q h (inr denied) = subst IsBetween (sym denied.2.1) h
-at-primary p (order Protect) printed q h (inl done) =
+at-primary no_memory p (order (Ack generation number)) printed q h (inr denied) = subst IsBetween (sym denied.2.1) h
+at-primary no_memory p (order Alone) printed q h (inl done) = subst IsBetween (sym done.1.1) (none-between (after_alone p) refl)
+at-primary no_memory p (order Alone) printed q h (inr denied) = subst IsBetween (sym denied.2.1) h
+at-primary no_memory p (order Protect) printed q h (inl done) =
     let made = done.1.1 in subst IsBetween (sym made.left) (none-between (after_protect p made.text) refl)
-at-primary p (order Protect) printed q h (inr denied) = subst IsBetween (sym denied.2.1) h
-at-primary p (order other) printed q h a = subst IsBetween (sym a.1) h
+at-primary no_memory p (order Protect) printed q h (inr denied) = subst IsBetween (sym denied.2.1) h
+at-primary no_memory p (order other) printed q h a = subst IsBetween (sym a.1) h
 
-at-standby : (b : StandbyNode) (line : Line) (printed : List ℕ) (new : Node) → AtStandby b line printed new → IsBetweenAt new
-at-standby b (boot line) printed new a = subst IsBetweenAt (sym a.1) tt
-at-standby b (arrive bytes) printed new a = subst IsBetweenAt (sym a.1) tt
-at-standby b (piece bytes) printed new (c, fed, left) = subst IsBetweenAt (sym left) tt
-at-standby b (order GoLive) printed new (inl done) = subst IsBetweenAt (sym done.1.1) (none-between (live_of b) refl)
-at-standby b (order GoLive) printed new (inr denied) = subst IsBetweenAt (sym denied.2.1) tt
-at-standby b (order other) printed new a = subst IsBetweenAt (sym a.1) tt
+at-standby : (no_memory : List ℕ) (b : StandbyNode) (line : Line) (printed : List ℕ) (new : Node)
+    → AtStandby no_memory b line printed new → IsBetweenAt new
+at-standby no_memory b (boot line) printed new a = subst IsBetweenAt (sym a.1) tt
+at-standby no_memory b (arrive bytes) printed new a = subst IsBetweenAt (sym a.1) tt
+at-standby no_memory b (piece bytes) printed new (c, fed, left) = subst IsBetweenAt (sym left) tt
+at-standby no_memory b (order GoLive) printed new (inl done) = subst IsBetweenAt (sym done.1.1) (none-between (live_of b) refl)
+at-standby no_memory b (order GoLive) printed new (inr denied) = subst IsBetweenAt (sym denied.2.1) tt
+at-standby no_memory b (order other) printed new a = subst IsBetweenAt (sym a.1) tt
 
-at-nothing : (line : Line) (printed : List ℕ) (new : Node) → AtNothing line printed new → IsBetweenAt new
-at-nothing (boot b) printed new (inl done) =
+at-nothing : (no_memory : List ℕ) (line : Line) (printed : List ℕ) (new : Node) → AtNothing no_memory line printed new → IsBetweenAt new
+at-nothing no_memory (boot b) printed new (inl done) =
     let p = done.1.0 in
     let booted = done.1.1 in
     subst IsBetweenAt (sym done.1.2) (none-between p (ap (λ (r : Primary). r.live.outbox) booted.primary_is))
-at-nothing (boot b) printed new (inr denied) = subst IsBetweenAt (sym denied.1) tt
-at-nothing (order (Standby pages sectors generation)) printed new (inl done) = subst IsBetweenAt (sym done.1.2) tt
-at-nothing (order (Standby pages sectors generation)) printed new (inr denied) = subst IsBetweenAt (sym denied.1) tt
-at-nothing other printed new a = subst IsBetweenAt (sym a.1) tt
+at-nothing no_memory (boot b) printed new (inr denied) = subst IsBetweenAt (sym denied.1) tt
+at-nothing no_memory (order (Standby pages sectors generation)) printed new (inl done) = subst IsBetweenAt (sym done.1.2) tt
+at-nothing no_memory (order (Standby pages sectors generation)) printed new (inr denied) = subst IsBetweenAt (sym denied.1) tt
+at-nothing no_memory other printed new a = subst IsBetweenAt (sym a.1) tt
 
 -- a line, and lines one after another
-answered : (node : Node) (line : Line) (printed : List ℕ) (new : Node) → IsBetweenAt node → Answers node line printed new → IsBetweenAt new
-answered nothing line printed new h a = at-nothing line printed new a
-answered (primary p) line printed new h a = subst IsBetweenAt (sym a.2) (at-primary p line printed a.0 h a.1)
-answered (standby b) line printed new h a = at-standby b line printed new a
+answered : (no_memory : List ℕ) (node : Node) (line : Line) (printed : List ℕ) (new : Node) → IsBetweenAt node
+    → Answers no_memory node line printed new → IsBetweenAt new
+answered no_memory nothing line printed new h a = at-nothing no_memory line printed new a
+answered no_memory (primary p) line printed new h a = subst IsBetweenAt (sym a.2) (at-primary no_memory p line printed a.0 h a.1)
+answered no_memory (standby b) line printed new h a = at-standby no_memory b line printed new a
 
-played : (node : Node) (text printed : List ℕ) (next : Node) → IsBetweenAt node → PlaysLine node text printed next → IsBetweenAt next
-played node text printed next h (is_silence silent none same) = subst IsBetweenAt (sym same) h
-played node text printed next h (answers line loud spelled a) = answered node line printed next h a
-played node text printed next h (is_bad loud none said same) = subst IsBetweenAt (sym same) h
-played node text printed next h (finds_no_memory line loud spelled wants said same) = subst IsBetweenAt (sym same) h
+played : (no_memory : List ℕ) (node : Node) (text printed : List ℕ) (next : Node) → IsBetweenAt node
+    → PlaysLine no_memory node text printed next → IsBetweenAt next
+played no_memory node text printed next h (is_silence silent none same) = subst IsBetweenAt (sym same) h
+played no_memory node text printed next h (answers line loud spelled a) = answered no_memory node line printed next h a
+played no_memory node text printed next h (is_bad loud none said same) = subst IsBetweenAt (sym same) h
+played no_memory node text printed next h (finds_no_memory line loud spelled wants said same) = subst IsBetweenAt (sym same) h
 
-replied : {no_memory : List ℕ} (node : Node) (line printed : List ℕ) (next : Node) → IsBetweenAt node
-    → IsReply no_memory PlaysLine node line printed next → IsBetweenAt next
-replied node line printed next h (is_played short plays) = played node line printed next h plays
-replied node line printed next h (is_too_long long said same) = subst IsBetweenAt (sym same) h
-replied node line printed next h (is_not_kept some said same) = subst IsBetweenAt (sym same) h
+replied : (no_memory : List ℕ) (node : Node) (line printed : List ℕ) (next : Node) → IsBetweenAt node
+    → IsReply no_memory (PlaysLine no_memory) node line printed next → IsBetweenAt next
+replied no_memory node line printed next h (is_played short plays) = played no_memory node line printed next h plays
+replied no_memory node line printed next h (is_too_long long said same) = subst IsBetweenAt (sym same) h
+replied no_memory node line printed next h (is_not_kept some said same) = subst IsBetweenAt (sym same) h
 
 replies-between : (no_memory : List ℕ) (lines : List (List ℕ)) (text : List ℕ) (node last : Node) → IsBetweenAt node
-    → Replies (IsReply no_memory PlaysLine) node lines text last → IsBetweenAt last
+    → Replies (IsReply no_memory (PlaysLine no_memory)) node lines text last → IsBetweenAt last
 replies-between no_memory [] text node last h r = subst IsBetweenAt (sym r.1) h
 replies-between no_memory (line ∷ lines) text node last h r =
-    replies-between no_memory lines r.1 r.2 last (replied node line r.0 r.2 h r.4) r.5
+    replies-between no_memory lines r.1 r.2 last (replied no_memory node line r.0 r.2 h r.4) r.5
 
 pub reached-between : (p : Primary) → IsReached (primary p) → IsBetween p
 reached-between p r = replies-between r.0 r.1 r.2 nothing (primary p) tt r.3

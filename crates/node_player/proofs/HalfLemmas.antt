@@ -58,33 +58,33 @@ module _ (s : Site) (laws : PrimaryLaws s) (line : Line) where
       happens (steps made-so.0) (run_site made-so.0 s) made-so.2 (made-so.3 ∙ sym left)
   refused count why q new is left = stays (left ∙ is.1)
 
-  answered : (count : ℕ) (result : Result ℕ Refusal) (q : Primary) (printed : List ℕ) (new : Primary) → IsBetween s.primary
-      → IsSteps count s.primary result q → IsStepsAnswer q result printed new → IsPrimarysHalf s line new
-  answered count (Ok made) q printed new between is answer = stepped count made q new between is answer.1 s.primary.backed refl
-  answered count (Err why) q printed new between is answer = refused count why q new is answer.1
+  answered : (no_memory : List ℕ) (count : ℕ) (result : Result ℕ Refusal) (q : Primary) (printed : List ℕ) (new : Primary)
+      → IsBetween s.primary → IsSteps count s.primary result q → IsStepsAnswer no_memory q result printed new → IsPrimarysHalf s line new
+  answered no_memory count (Ok made) q printed new between is answer = stepped count made q new between is answer.1 s.primary.backed refl
+  answered no_memory count (Err why) q printed new between is answer = refused count why q new is answer.1
 
-pub primarys-half : (s : Site) → PrimaryLaws s → (line : Line) (printed : List ℕ) (q : Primary) → IsBetween s.primary
-    → AtPrimary s.primary line printed q → IsPrimarysHalf s line q
-primarys-half s laws (boot b) printed q between h = stays h.1
-primarys-half s laws (arrive bytes) printed q between (inl done) = arrives bytes refl done.1.1
-primarys-half s laws (arrive bytes) printed q between (inr denied) = stays denied.2.1
-primarys-half s laws (piece bytes) printed q between h = stays h.1
-primarys-half s laws (order (Step count)) printed q between h =
-    answered s laws (order (Step count)) count h.0 h.1 printed q between h.2 h.3
-primarys-half s laws (order Cut) printed q between (inl done) =
+pub primarys-half : (no_memory : List ℕ) (s : Site) → PrimaryLaws s → (line : Line) (printed : List ℕ) (q : Primary) → IsBetween s.primary
+    → AtPrimary no_memory s.primary line printed q → IsPrimarysHalf s line q
+primarys-half no_memory s laws (boot b) printed q between h = stays h.1
+primarys-half no_memory s laws (arrive bytes) printed q between (inl done) = arrives bytes refl done.1.1
+primarys-half no_memory s laws (arrive bytes) printed q between (inr denied) = stays denied.2.1
+primarys-half no_memory s laws (piece bytes) printed q between h = stays h.1
+primarys-half no_memory s laws (order (Step count)) printed q between h =
+    answered s laws (order (Step count)) no_memory count h.0 h.1 printed q between h.2 h.3
+primarys-half no_memory s laws (order Cut) printed q between (inl done) =
     let made = laws.cut done.1.0 q done.1.1 in happens (cuts made.0) (record s { primary = q }) made.2 refl
-primarys-half s laws (order Cut) printed q between (inr denied) = stays denied.2.1
-primarys-half s laws (order (Ack generation number)) printed q between (inl done) =
+primarys-half no_memory s laws (order Cut) printed q between (inr denied) = stays denied.2.1
+primarys-half no_memory s laws (order (Ack generation number)) printed q between (inl done) =
     let made = laws.acknowledge (packet generation number) done.0 in
     happens (hears (packet generation number)) (hear_site s number) made.0 (made.1 ∙ sym done.1.1)
-primarys-half s laws (order (Ack generation number)) printed q between (inr denied) = stays denied.2.1
-primarys-half s laws (order Alone) printed q between (inl done) =
+primarys-half no_memory s laws (order (Ack generation number)) printed q between (inr denied) = stays denied.2.1
+primarys-half no_memory s laws (order Alone) printed q between (inl done) =
     let made = laws.alone done.0 between.few in happens goes_alone (alone_site s) made.0 (made.1 ∙ sym done.1.1)
-primarys-half s laws (order Alone) printed q between (inr denied) = stays denied.2.1
-primarys-half s laws (order Protect) printed q between (inl done) =
+primarys-half no_memory s laws (order Alone) printed q between (inr denied) = stays denied.2.1
+primarys-half no_memory s laws (order Protect) printed q between (inl done) =
     let made = laws.protect done.1.0 q done.1.1 in happens (protects made.0) (protect_site s made.0) made.2 made.3
-primarys-half s laws (order Protect) printed q between (inr denied) = stays denied.2.1
-primarys-half s laws (order other) printed q between h = stays h.1
+primarys-half no_memory s laws (order Protect) printed q between (inr denied) = stays denied.2.1
+primarys-half no_memory s laws (order other) printed q between h = stays h.1
 
 -- what the laws of a standby's calls say at a site
 pub record StandbyLaws (s : Site) : Type 0 where
@@ -96,7 +96,8 @@ pub record StandbyLaws (s : Site) : Type 0 where
   pub go_live : IsFree (live_rows s.standby) → Happens s goes_live (live_site s) × ((live_site s).primary ≡ live_of s.standby)
 
 module _ (s : Site) (laws : StandbyLaws s) where
-  fed-half : (bytes printed : List ℕ) (c : StandbyNode) → IsFed s.standby bytes printed c → IsStandbysHalf s (standby c)
+  fed-half : {no_memory : List ℕ} (bytes printed : List ℕ) (c : StandbyNode) → IsFed no_memory s.standby bytes printed c
+      → IsStandbysHalf s (standby c)
   fed-half bytes printed c (Ok count, answers, same, said) =
       let made = laws.piece_comes bytes in
       happens_there (gets bytes) (piece_site s bytes) made.0
@@ -116,16 +117,17 @@ module _ (s : Site) (laws : StandbyLaws s) where
       happens_there commits (whole_site s) made.0 (left ∙ ap (λ (b : StandbyNode). standby b) (sym made.1))
   committed-half new left p open-still = stays_standby (left ∙ ap (λ (b : StandbyNode). standby b) (rw open-still refl))
 
-pub standbys-half : (s : Site) → StandbyLaws s → (line : Line) (printed : List ℕ) (new : Node) → AtStandby s.standby line printed new
+pub standbys-half : (no_memory : List ℕ) (s : Site) → StandbyLaws s → (line : Line) (printed : List ℕ) (new : Node)
+    → AtStandby no_memory s.standby line printed new
     → IsStandbysHalf s new
-standbys-half s laws (boot b) printed new h = stays_standby h.1
-standbys-half s laws (arrive bytes) printed new h = stays_standby h.1
-standbys-half s laws (piece bytes) printed new (c, fed, left) = rw left (fed-half s laws bytes printed c fed)
-standbys-half s laws (order Commit) printed new h = committed-half s laws new h.1 s.standby.reading.place refl
-standbys-half s laws (order Restart) printed new h =
+standbys-half no_memory s laws (boot b) printed new h = stays_standby h.1
+standbys-half no_memory s laws (arrive bytes) printed new h = stays_standby h.1
+standbys-half no_memory s laws (piece bytes) printed new (c, fed, left) = rw left (fed-half s laws bytes printed c fed)
+standbys-half no_memory s laws (order Commit) printed new h = committed-half s laws new h.1 s.standby.reading.place refl
+standbys-half no_memory s laws (order Restart) printed new h =
     happens_there restarts (restart_site s) laws.restart.0 (h.1 ∙ ap (λ (b : StandbyNode). standby b) (sym laws.restart.1))
-standbys-half s laws (order GoLive) printed new (inl done) =
+standbys-half no_memory s laws (order GoLive) printed new (inl done) =
     let made = laws.go_live done.0 in
     becomes_live (live_site s) made.0 (done.1.1 ∙ ap (λ (p : Primary). primary p) (sym made.1))
-standbys-half s laws (order GoLive) printed new (inr denied) = stays_standby denied.2.1
-standbys-half s laws (order other) printed new h = stays_standby h.1
+standbys-half no_memory s laws (order GoLive) printed new (inr denied) = stays_standby denied.2.1
+standbys-half no_memory s laws (order other) printed new h = stays_standby h.1

@@ -11,17 +11,17 @@ use Rattle.node_player.specs.declared.role.Role.TheVariants as roles
 use Rattle.node_player.specs.declared.orders.Order.TheVariants.{Standby, Sector}
 
 -- a node that is something already doesn't begin
-pub boots-once : (role : Role) (line : BootLine) → (role ≡ roles.Nothing → ⊥)
-    → Answers (node_of role) (boot line) (refusal_line AlreadyPaired) (node_of role)
-boots-once roles.Nothing line some = absurd (some refl)
-boots-once (roles.Primary p) line some = (p, (refl, refl), refl)
-boots-once (roles.Standby b) line some = (refl, refl)
+pub boots-once : (no_memory : List ℕ) (role : Role) (line : BootLine) → (role ≡ roles.Nothing → ⊥)
+    → Answers no_memory (node_of role) (boot line) (refusal_line AlreadyPaired) (node_of role)
+boots-once no_memory roles.Nothing line some = absurd (some refl)
+boots-once no_memory (roles.Primary p) line some = (p, (refl, refl), refl)
+boots-once no_memory (roles.Standby b) line some = (refl, refl)
 
-pub waits-once : (role : Role) (pages sectors generation : ℕ) → (role ≡ roles.Nothing → ⊥)
-    → Answers (node_of role) (order (Standby pages sectors generation)) (refusal_line AlreadyPaired) (node_of role)
-waits-once roles.Nothing pages sectors generation some = absurd (some refl)
-waits-once (roles.Primary p) pages sectors generation some = (p, (refl, refl), refl)
-waits-once (roles.Standby b) pages sectors generation some = (refl, refl)
+pub waits-once : (no_memory : List ℕ) (role : Role) (pages sectors generation : ℕ) → (role ≡ roles.Nothing → ⊥)
+    → Answers no_memory (node_of role) (order (Standby pages sectors generation)) (refusal_line AlreadyPaired) (node_of role)
+waits-once no_memory roles.Nothing pages sectors generation some = absurd (some refl)
+waits-once no_memory (roles.Primary p) pages sectors generation some = (p, (refl, refl), refl)
+waits-once no_memory (roles.Standby b) pages sectors generation some = (refl, refl)
 
 pub booted-so : {E : Type 0} (r : Result Primary E) (line : BootLine) (shape : Shape) (image : List ℕ)
     → shape.pages ≡ line.pages → shape.sectors ≡ line.sectors → image ≡ guest_image line.guest
@@ -31,8 +31,8 @@ booted-so (Ok p) line shape image pages sectors bytes is =
 booted-so (Err e) line shape image pages sectors bytes is = tt
 
 -- a sector is printed, or a bad line's answer
-pub sector-so : (node : Node) (sector : ℕ) (found : Option (List ℕ)) → found ≡ node_sector node sector
-    → Answers node (order (Sector sector)) (sector_answer sector found) node
-sector-so nothing sector found e = (ap (sector_answer sector) e, refl)
-sector-so (primary p) sector found e = (p, (ap (sector_answer sector) e, refl), refl)
-sector-so (standby b) sector found e = (ap (sector_answer sector) e, refl)
+pub sector-so : (no_memory : List ℕ) (node : Node) (sector : ℕ) (found : Option (List ℕ)) → found ≡ node_sector node sector
+    → Answers no_memory node (order (Sector sector)) (sector_answer sector found) node
+sector-so no_memory nothing sector found e = (ap (sector_answer sector) e, refl)
+sector-so no_memory (primary p) sector found e = (p, (ap (sector_answer sector) e, refl), refl)
+sector-so no_memory (standby b) sector found e = (ap (sector_answer sector) e, refl)

@@ -28,13 +28,13 @@ pub record IsWaiting (pages sectors generation : ℕ) (b : StandbyNode) : Type 0
   pub sectors_are : shape.sectors ≡ sectors
   pub standby_is : b ≡ new_standby shape generation
 
-abbrev pub AtNothing : Line → List ℕ → Node → Type 0
-AtNothing (boot b) printed new =
-    InMemory nothing printed new ((printed ≡ line (codes "booted" ∷ [])) × ((p : Primary) × IsBooted b p × (new ≡ primary p)))
-AtNothing (order (Standby pages sectors generation)) printed new =
-    InMemory nothing printed new
+abbrev pub AtNothing : List ℕ → Line → List ℕ → Node → Type 0
+AtNothing no_memory (boot b) printed new =
+    InMemory no_memory nothing printed new ((printed ≡ line (codes "booted" ∷ [])) × ((p : Primary) × IsBooted b p × (new ≡ primary p)))
+AtNothing no_memory (order (Standby pages sectors generation)) printed new =
+    InMemory no_memory nothing printed new
     ((printed ≡ line (codes "waiting" ∷ decimal generation ∷ []))
     × ((b : StandbyNode) × IsWaiting pages sectors generation b × (new ≡ standby b)))
-AtNothing (order Show) printed new = (printed ≡ show_line (codes "empty") 0 0 0) × (new ≡ nothing)
-AtNothing (order (Sector sector)) printed new = (printed ≡ bad_answer) × (new ≡ nothing)
-AtNothing line printed new = Refuses NoImage nothing printed new
+AtNothing no_memory (order Show) printed new = (printed ≡ show_line (codes "empty") 0 0 0) × (new ≡ nothing)
+AtNothing no_memory (order (Sector sector)) printed new = (printed ≡ bad_answer) × (new ≡ nothing)
+AtNothing no_memory line printed new = Refuses no_memory NoImage nothing printed new

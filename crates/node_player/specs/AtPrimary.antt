@@ -9,7 +9,7 @@ use Rattle.pair_record.specs.declared.event.Refusal.TheVariants.{AlreadyPaired}
 use Rattle.pair_nodes.specs.Sides.{Primary, after_arrival, let_out, after_ack, all_out, after_alone}
 use Rattle.pair_nodes.specs.PrimaryCalls.{mode_of, arrive_rows, IsSteps, after_release, cut_refusals, IsSealed, text_part, ack_rows}
 use Rattle.pair_nodes.specs.PrimaryCalls.{alone_rows, protect_rows, IsProtected}
-use Rattle.script_player.specs.Printed.{line, refusal_line}
+use Rattle.script_player.specs.Printed.{line, told_refusal}
 use Rattle.node_player.specs.declared.orders.Order.TheVariants.{Standby, Step, Cut, Text, Ack, Alone, Protect, Commit, Restart, GoLive}
 use Rattle.node_player.specs.declared.orders.Order.TheVariants.{Show, Sector}
 use Rattle.node_player.specs.Lines.{Line, boot, order, arrive, piece}
@@ -24,14 +24,14 @@ abbrev pub after_steps : Primary → Primary
 after_steps q = if q.backed then q else after_release q
 
 -- steps, which left q, are answered
-abbrev pub IsStepsAnswer : Primary → Result ℕ Refusal → List ℕ → Primary → Type 0
-IsStepsAnswer q (Ok made) printed new = (printed ≡ steps_lines q.live.guest.steps (let_out_now q)) × (new ≡ after_steps q)
-IsStepsAnswer q (Err why) printed new = Refuses why q printed new
+abbrev pub IsStepsAnswer : List ℕ → Primary → Result ℕ Refusal → List ℕ → Primary → Type 0
+IsStepsAnswer no_memory q (Ok made) printed new = (printed ≡ steps_lines q.live.guest.steps (let_out_now q)) × (new ≡ after_steps q)
+IsStepsAnswer no_memory q (Err why) printed new = Refuses no_memory why q printed new
 
 -- a part of a text, or why there is none
-abbrev pub text_answer : Result (List ℕ) Refusal → List ℕ
-text_answer (Ok bytes) = text_line bytes
-text_answer (Err why) = refusal_line why
+abbrev pub text_answer : List ℕ → Result (List ℕ) Refusal → List ℕ
+text_answer no_memory (Ok bytes) = text_line bytes
+text_answer no_memory (Err why) = told_refusal no_memory why
 
 abbrev pub mode_word : Mode → List ℕ
 mode_word modes.Paired = codes "paired"
@@ -39,31 +39,32 @@ mode_word modes.Filling = codes "filling"
 mode_word modes.Alone = codes "alone"
 mode_word modes.Stopped = codes "stopped"
 
-abbrev pub AtPrimary : Primary → Line → List ℕ → Primary → Type 0
-AtPrimary p (boot b) printed new = Refuses AlreadyPaired p printed new
-AtPrimary p (order (Standby pages sectors generation)) printed new = Refuses AlreadyPaired p printed new
-AtPrimary p (arrive bytes) printed new =
-    Does (arrive_rows (length bytes)) p printed new
+abbrev pub AtPrimary : List ℕ → Primary → Line → List ℕ → Primary → Type 0
+AtPrimary no_memory p (boot b) printed new = Refuses no_memory AlreadyPaired p printed new
+AtPrimary no_memory p (order (Standby pages sectors generation)) printed new = Refuses no_memory AlreadyPaired p printed new
+AtPrimary no_memory p (arrive bytes) printed new =
+    Does no_memory (arrive_rows (length bytes)) p printed new
     ((printed ≡ line (codes "arrived" ∷ [])) × (new ≡ after_arrival (record { items = bytes }) p))
-AtPrimary p (order (Step count)) printed new =
-    (result : Result ℕ Refusal) × (q : Primary) × IsSteps count p result q × IsStepsAnswer q result printed new
-AtPrimary p (order Cut) printed new =
-    DoesInMemory (cut_refusals p) p printed new
+AtPrimary no_memory p (order (Step count)) printed new =
+    (result : Result ℕ Refusal) × (q : Primary) × IsSteps count p result q × IsStepsAnswer no_memory q result printed new
+AtPrimary no_memory p (order Cut) printed new =
+    DoesInMemory no_memory (cut_refusals p) p printed new
     ((bytes : ℕ) × IsSealed p bytes new × (printed ≡ cut_line p.generation p.to_cut bytes))
-AtPrimary p (order (Text number from count)) printed new = (printed ≡ text_answer (text_part p number from count)) × (new ≡ p)
-AtPrimary p (order (Ack generation number)) printed new =
-    Does (ack_rows p (packet generation number)) p printed new
+AtPrimary no_memory p (order (Text number from count)) printed new =
+    (printed ≡ text_answer no_memory (text_part p number from count)) × (new ≡ p)
+AtPrimary no_memory p (order (Ack generation number)) printed new =
+    Does no_memory (ack_rows p (packet generation number)) p printed new
     ((printed ≡ acked_lines generation number (let_out p number)) × (new ≡ after_ack p number))
-AtPrimary p (order Alone) printed new =
-    Does (alone_rows p) p printed new ((printed ≡ alone_lines p.generation (all_out p)) × (new ≡ after_alone p))
-AtPrimary p (order Protect) printed new =
-    DoesInMemory (protect_rows p) p printed new
+AtPrimary no_memory p (order Alone) printed new =
+    Does no_memory (alone_rows p) p printed new ((printed ≡ alone_lines p.generation (all_out p)) × (new ≡ after_alone p))
+AtPrimary no_memory p (order Protect) printed new =
+    DoesInMemory no_memory (protect_rows p) p printed new
     ((bytes : ℕ) × IsProtected p bytes new × (printed ≡ line (codes "protecting" ∷ decimal new.generation ∷ decimal bytes ∷ [])))
-AtPrimary p (piece bytes) printed new = Refuses AlreadyPaired p printed new
-AtPrimary p (order Commit) printed new = Refuses AlreadyPaired p printed new
-AtPrimary p (order Restart) printed new = Refuses AlreadyPaired p printed new
-AtPrimary p (order GoLive) printed new = Refuses AlreadyPaired p printed new
-AtPrimary p (order Show) printed new =
+AtPrimary no_memory p (piece bytes) printed new = Refuses no_memory AlreadyPaired p printed new
+AtPrimary no_memory p (order Commit) printed new = Refuses no_memory AlreadyPaired p printed new
+AtPrimary no_memory p (order Restart) printed new = Refuses no_memory AlreadyPaired p printed new
+AtPrimary no_memory p (order GoLive) printed new = Refuses no_memory AlreadyPaired p printed new
+AtPrimary no_memory p (order Show) printed new =
     (printed ≡ show_line (mode_word (mode_of p)) p.generation (length p.pending) p.live.guest.steps) × (new ≡ p)
-AtPrimary p (order (Sector sector)) printed new =
+AtPrimary no_memory p (order (Sector sector)) printed new =
     (printed ≡ sector_answer sector (sector_named p.live.guest.sectors sector)) × (new ≡ p)

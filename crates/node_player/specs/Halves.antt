@@ -7,11 +7,12 @@ use Rattle.node_player.specs.Lines.{Line, arrive}
 use Rattle.node_player.specs.Meaning.{PlaysLine}
 use Rattle.node_player.specs.Nodes.{Node, nothing, primary, standby}
 
--- what a node may be in a session: what lines lead to, from nothing on, each answered as its meaning says, or by `no_memory` where there is
--- no memory to keep it
+-- what a node may be in a session: what lines lead to, from nothing on, each answered as its meaning says, with `no_memory` where
+-- memory was wanted
 abbrev pub IsReached : Node → Type 0
 IsReached node =
-    (no_memory : List ℕ) × (lines : List (List ℕ)) × (printed : List ℕ) × Replies (IsReply no_memory PlaysLine) nothing lines printed node
+    (no_memory : List ℕ) × (lines : List (List ℕ)) × (printed : List ℕ)
+    × Replies (IsReply no_memory (PlaysLine no_memory)) nothing lines printed node
 
 -- A line of the primary of a site leads to q: nothing changes; or this happens, and leaves it so; or the line's frame arrives.
 pub data IsPrimarysHalf (s : Site) (line : Line) (q : Primary) : Type 0 where

@@ -1,7 +1,7 @@
 -- What the lines of a node mean: how each is answered, and what the node is after it (docs/NODES.md, "Lines").
 use Rattle.std.specs.Prelude.{◌≡◌, ℕ, true, false, List, [], Option, None}
 use Rattle.script_player.specs.Meaning.{is_silent}
-use Rattle.script_player.specs.Session.{bad_answer, memory_answer, IsReply, IsServed}
+use Rattle.script_player.specs.Session.{bad_answer, IsReply, IsServed}
 use Rattle.script_player.specs.Streams.{Reading, Writing}
 use Rattle.pair_nodes.specs.Sides.{Primary}
 use Rattle.node_player.specs.AtNothing.{AtNothing}
@@ -17,25 +17,26 @@ node_sector nothing sector = None
 node_sector (primary p) sector = sector_named p.live.guest.sectors sector
 node_sector (standby b) sector = image_sector b sector
 
--- A line is answered so.
-abbrev pub Answers : Node → Line → List ℕ → Node → Type 0
-Answers nothing line printed new = AtNothing line printed new
-Answers (primary p) line printed new = (q : Primary) × AtPrimary p line printed q × (new ≡ primary q)
-Answers (standby b) line printed new = AtStandby b line printed new
+-- A line is answered so. That memory was wanted prints `no_memory`.
+abbrev pub Answers : List ℕ → Node → Line → List ℕ → Node → Type 0
+Answers no_memory nothing line printed new = AtNothing no_memory line printed new
+Answers no_memory (primary p) line printed new = (q : Primary) × AtPrimary no_memory p line printed q × (new ≡ primary q)
+Answers no_memory (standby b) line printed new = AtStandby no_memory b line printed new
 
 -- How a line is answered that a session keeps, and the node after it.
-pub data PlaysLine (node : Node) (text printed : List ℕ) (next : Node) : Type 0 where
+pub data PlaysLine (no_memory : List ℕ) (node : Node) (text printed : List ℕ) (next : Node) : Type 0 where
   -- an empty line, or a comment
-  is_silence : is_silent text ≡ true → printed ≡ [] → next ≡ node → PlaysLine node text printed next
-  answers : (line : Line) → is_silent text ≡ false → IsLine text line → Answers node line printed next → PlaysLine node text printed next
+  is_silence : is_silent text ≡ true → printed ≡ [] → next ≡ node → PlaysLine no_memory node text printed next
+  answers : (line : Line) → is_silent text ≡ false → IsLine text line → Answers no_memory node line printed next
+      → PlaysLine no_memory node text printed next
   -- it spells no line, and changes nothing
   is_bad : is_silent text ≡ false → ((line : Line) → IsLine text line → ⊥) → printed ≡ bad_answer → next ≡ node
-      → PlaysLine node text printed next
+      → PlaysLine no_memory node text printed next
   -- its program or its bytes find no memory, which changes nothing
-  finds_no_memory : (line : Line) → is_silent text ≡ false → IsLine text line → WantsMemory line → printed ≡ memory_answer → next ≡ node
-      → PlaysLine node text printed next
+  finds_no_memory : (line : Line) → is_silent text ≡ false → IsLine text line → WantsMemory line → printed ≡ no_memory → next ≡ node
+      → PlaysLine no_memory node text printed next
 
--- What a node has read and printed when it ends, and its exit status: each line was answered as it came. That there is no memory to keep a
--- line prints `no_memory`.
+-- What a node has read and printed when it ends, and its exit status: each line was answered as it came. That memory was
+-- wanted prints `no_memory`, which is the writer's.
 abbrev pub IsNode : List ℕ → Reading → Reading → Writing → Writing → ℕ → Type 0
-IsNode no_memory input input' out out' status = IsServed (IsReply no_memory PlaysLine) nothing input input' out out' status
+IsNode no_memory input input' out out' status = IsServed (IsReply no_memory (PlaysLine no_memory)) nothing input input' out out' status

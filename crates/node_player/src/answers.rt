@@ -15,7 +15,7 @@ use crate::shows::{show, show_sector};
 use crate::waits::{commit, go_live, restart, take_piece};
 use pair_core::{Packet, Shape};
 use script_player::player::is_silent;
-use script_player::session::{BAD, put_refusal};
+use script_player::session::BAD;
 use script_player::streams::{Failed, Sink};
 use std::alloc::Global;
 
@@ -25,7 +25,8 @@ use std::alloc::Global;
 ///
 /// Where a write fails.
 pub fn play<O: Sink>(alloc: Global, role: &mut Role, line: &[u8], out: &mut O) -> Result<(), Failed>
-    ensures { IsAnswered (PlaysLine (node_of role.old) line.now) (O.written out.old) (O.written out.new) result (node_of role.new) }
+    ensures { IsAnswered (PlaysLine O.no_memory (node_of role.old) line.now)
+        (O.written out.old) (O.written out.new) result (node_of role.new) }
 {
     if is_silent(line) {
         return out.put(b"");
@@ -33,7 +34,7 @@ pub fn play<O: Sink>(alloc: Global, role: &mut Role, line: &[u8], out: &mut O) -
     match read_line(alloc, line) {
         Ok(Some(line)) => answer(alloc, role, &line, out),
         Ok(None) => out.put(BAD),
-        Err(wanted) => put_refusal(wanted, out),
+        Err(wanted) => out.refuse(wanted),
     }
 }
 
@@ -44,8 +45,8 @@ pub fn play<O: Sink>(alloc: Global, role: &mut Role, line: &[u8], out: &mut O) -
 /// Where a write fails.
 fn answer<O: Sink>(alloc: Global, role: &mut Role, line: &Line, out: &mut O) -> Result<(), Failed>
     requires { IsLimited line.now }
-    ensures { IsAnswered (Answers (node_of role.old) (line_of line.now)) (O.written out.old) (O.written out.new) result
-        (node_of role.new) }
+    ensures { IsAnswered (Answers O.no_memory (node_of role.old) (line_of line.now))
+        (O.written out.old) (O.written out.new) result (node_of role.new) }
 {
     match line {
         Line::Boot(boot_line) => boot(alloc, role, boot_line, out),
@@ -62,7 +63,8 @@ fn answer<O: Sink>(alloc: Global, role: &mut Role, line: &Line, out: &mut O) -> 
 /// Where a write fails.
 fn obey<O: Sink>(alloc: Global, role: &mut Role, command: Order, out: &mut O) -> Result<(), Failed>
     requires { IsLimitedOrder command }
-    ensures { IsAnswered (Answers (node_of role.old) (order command)) (O.written out.old) (O.written out.new) result (node_of role.new) }
+    ensures { IsAnswered (Answers O.no_memory (node_of role.old) (order command))
+        (O.written out.old) (O.written out.new) result (node_of role.new) }
 {
     match command {
         Order::Standby {

@@ -17,7 +17,6 @@ use pair_core::{Refusal, Shape};
 use pair_nodes::{PrimaryNode, StandbyNode};
 use script_player::boot::Boot;
 use script_player::player::image;
-use script_player::session::put_refusal;
 use script_player::streams::{Failed, Sink};
 use std::alloc::Global;
 
@@ -28,8 +27,8 @@ use std::alloc::Global;
 /// Where a write fails.
 pub fn boot<O: Sink>(alloc: Global, role: &mut Role, line: &Boot, out: &mut O) -> Result<(), Failed>
     requires { IsInLimits (boot_line line.now) }
-    ensures { IsAnswered (Answers (node_of role.old) (boot (boot_line line.now))) (O.written out.old) (O.written out.new) result
-        (node_of role.new) }
+    ensures { IsAnswered (Answers O.no_memory (node_of role.old) (boot (boot_line line.now)))
+        (O.written out.old) (O.written out.new) result (node_of role.new) }
 {
     let Role::Nothing = role else {
         return refuse(Refusal::AlreadyPaired, out);
@@ -39,7 +38,7 @@ pub fn boot<O: Sink>(alloc: Global, role: &mut Role, line: &Boot, out: &mut O) -
             *role = Role::Primary(primary);
             tell(out, "booted")
         }
-        Err(wanted) => put_refusal(wanted, out),
+        Err(wanted) => out.refuse(wanted),
     }
 }
 
@@ -74,8 +73,8 @@ pub fn wait<O: Sink>(
 ) -> Result<(), Failed>
     requires first { 1 ≤ generation }
     requires last { generation ≤ last_generation }
-    ensures { IsAnswered (Answers (node_of role.old) (order (Standby shape.pages shape.sectors generation))) (O.written out.old)
-        (O.written out.new) result (node_of role.new) }
+    ensures { IsAnswered (Answers O.no_memory (node_of role.old) (order (Standby shape.pages shape.sectors generation)))
+        (O.written out.old) (O.written out.new) result (node_of role.new) }
 {
     let Role::Nothing = role else {
         return refuse(Refusal::AlreadyPaired, out);
@@ -85,6 +84,6 @@ pub fn wait<O: Sink>(
             *role = Role::Standby(standby);
             tell_number(out, "waiting", generation)
         }
-        Err(wanted) => put_refusal(wanted, out),
+        Err(wanted) => out.refuse(wanted),
     }
 }

@@ -50,7 +50,7 @@ impl Host {
 }
 
 impl LinePlayer for Host {
-    ghost plays = { λ _. PlaysLine };
+    ghost plays = { PlaysLine };
 
     fn play<O: Sink>(&mut self, line: &[u8], out: &mut O) -> Result<(), Failed> {
         play(self.alloc, &mut self.role, line, out)

@@ -16,10 +16,10 @@ use pair_nodes::{what_a_primary_does_may_happen, what_a_standby_does_may_happen}
 ///
 /// [`serve`](crate::host::serve) says that each line is answered so, and that a session's node is what its lines so far lead to.
 pub fn lines_are_a_nodes_half_of_a_run()
-    ensures primary { (s : Site) (line : Line) (printed : List ℕ) (q : Primary) → IsReached (primary s.primary)
-        → AtPrimary s.primary line printed q → IsPrimarysHalf s line q }
-    ensures standby { (s : Site) (line : Line) (printed : List ℕ) (new : Node) → AtStandby s.standby line printed new
-        → IsStandbysHalf s new }
+    ensures primary { (no_memory : List ℕ) (s : Site) (line : Line) (printed : List ℕ) (q : Primary) → IsReached (primary s.primary)
+        → AtPrimary no_memory s.primary line printed q → IsPrimarysHalf s line q }
+    ensures standby { (no_memory : List ℕ) (s : Site) (line : Line) (printed : List ℕ) (new : Node)
+        → AtStandby no_memory s.standby line printed new → IsStandbysHalf s new }
 {
     what_a_primary_does_may_happen();
     what_a_standby_does_may_happen();

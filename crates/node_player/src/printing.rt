@@ -2,7 +2,7 @@
 
 ghost use Rattle.std.specs.Prelude.{◌≡◌, ◌≤◌, ◌∷◌, [], length, codes, decimal};
 ghost use Rattle.node_player.specs.Printed.{cut_line, frame_line, frame_lines, malformed_line, show_line, text_line};
-ghost use Rattle.script_player.specs.Printed.{line, refusal_line};
+ghost use Rattle.script_player.specs.Printed.{line, refusal_line, told_refusal};
 ghost use Rattle.script_player.specs.Streams.{IsPut};
 
 use arrayvec::ArrayVec;
@@ -18,16 +18,26 @@ const CHUNK_BYTES: usize = 16384;
 /// What is written out at once, at most: the digits of so many bytes, after the line's word or before its end.
 const PIECE_BYTES: usize = 32784;
 
-/// Prints why a line is refused.
+/// Prints why a line is refused. Want of memory is the writer's to print.
 ///
 /// # Errors
 ///
 /// Where a write fails.
 pub fn refuse<O: Sink>(why: Refusal, out: &mut O) -> Result<(), Failed>
-    ensures { IsPut (O.written out.old) (O.written out.new) result (refusal_line why) }
+    ensures { IsPut (O.written out.old) (O.written out.new) result (told_refusal O.no_memory why) }
+{
+    match why {
+        Refusal::NoMemory(wanted) => out.refuse(wanted),
+        other => put_refusal(&other, out),
+    }
+}
+
+/// Prints a refusal that is no want of memory.
+fn put_refusal<O: Sink>(why: &Refusal, out: &mut O) -> Result<(), Failed>
+    ensures { IsPut (O.written out.old) (O.written out.new) result (refusal_line why.now) }
 {
     let mut text = Text::new();
-    write_refusal(&mut text, &why);
+    write_refusal(&mut text, why);
     out.put(text.as_slice())
 }
 

@@ -15,7 +15,7 @@ use crate::printing::{put_frames, put_text, refuse, tell, write_acked, write_cut
 use crate::role::Role;
 use pair_core::{Frame, Packet, Refusal};
 use pair_nodes::PrimaryNode;
-use script_player::replies::{write_checkpoint, write_generation, write_refusal};
+use script_player::replies::{write_checkpoint, write_generation};
 use script_player::streams::{Failed, Sink};
 use script_player::text::Text;
 use std::mem;
@@ -26,8 +26,8 @@ use std::mem;
 ///
 /// Where a write fails.
 pub fn arrive<O: Sink>(role: &mut Role, bytes: &[u8], out: &mut O) -> Result<(), Failed>
-    ensures { IsAnswered (Answers (node_of role.old) (arrive bytes.now)) (O.written out.old) (O.written out.new) result
-        (node_of role.new) }
+    ensures { IsAnswered (Answers O.no_memory (node_of role.old) (arrive bytes.now))
+        (O.written out.old) (O.written out.new) result (node_of role.new) }
 {
     match role {
         Role::Nothing => refuse(Refusal::NoImage, out),
@@ -45,8 +45,8 @@ pub fn arrive<O: Sink>(role: &mut Role, bytes: &[u8], out: &mut O) -> Result<(),
 ///
 /// Where a write fails.
 pub fn step<O: Sink>(role: &mut Role, count: u64, out: &mut O) -> Result<(), Failed>
-    ensures { IsAnswered (Answers (node_of role.old) (order (Step count))) (O.written out.old) (O.written out.new) result
-        (node_of role.new) }
+    ensures { IsAnswered (Answers O.no_memory (node_of role.old) (order (Step count)))
+        (O.written out.old) (O.written out.new) result (node_of role.new) }
 {
     match role {
         Role::Nothing => refuse(Refusal::NoImage, out),
@@ -57,7 +57,8 @@ pub fn step<O: Sink>(role: &mut Role, count: u64, out: &mut O) -> Result<(), Fai
 
 /// The guest makes so many steps. What it sends is held, or, if the primary is alone, let out at once.
 fn step_guest<O: Sink>(primary: &mut PrimaryNode, count: u64, out: &mut O) -> Result<(), Failed>
-    ensures { IsAnswered (AtPrimary primary.old (order (Step count))) (O.written out.old) (O.written out.new) result primary.new }
+    ensures { IsAnswered (AtPrimary O.no_memory primary.old (order (Step count)))
+        (O.written out.old) (O.written out.new) result primary.new }
 {
     if let Err(why) = primary.step(count) {
         return refuse(why, out);
@@ -86,7 +87,8 @@ fn put_steps<O: Sink>(out: &mut O, steps: u64, frames: &[Frame]) -> Result<(), F
 ///
 /// Where a write fails.
 pub fn cut<O: Sink>(role: &mut Role, out: &mut O) -> Result<(), Failed>
-    ensures { IsAnswered (Answers (node_of role.old) (order Cut)) (O.written out.old) (O.written out.new) result (node_of role.new) }
+    ensures { IsAnswered (Answers O.no_memory (node_of role.old) (order Cut))
+        (O.written out.old) (O.written out.new) result (node_of role.new) }
 {
     match role {
         Role::Nothing => refuse(Refusal::NoImage, out),
@@ -97,14 +99,14 @@ pub fn cut<O: Sink>(role: &mut Role, out: &mut O) -> Result<(), Failed>
 
 /// The epoch of a primary ends.
 fn cut_epoch<O: Sink>(primary: &mut PrimaryNode, out: &mut O) -> Result<(), Failed>
-    ensures { IsAnswered (AtPrimary primary.old (order Cut)) (O.written out.old) (O.written out.new) result primary.new }
+    ensures { IsAnswered (AtPrimary O.no_memory primary.old (order Cut)) (O.written out.old) (O.written out.new) result primary.new }
 {
     let mut text = Text::new();
     let generation = primary.generation();
     let number = primary.to_cut();
     match primary.cut() {
         Ok(bytes) => write_cut(&mut text, generation, number, bytes as u64),
-        Err(why) => write_refusal(&mut text, &why),
+        Err(why) => return refuse(why, out),
     }
     out.put(text.as_slice())
 }
@@ -121,16 +123,30 @@ pub fn put_part<O: Sink>(
     count: u64,
     out: &mut O,
 ) -> Result<(), Failed>
-    ensures { IsAnswered (Answers (node_of role.old) (order (Text number from count))) (O.written out.old) (O.written out.new) result
-        (node_of role.new) }
+    ensures { IsAnswered (Answers O.no_memory (node_of role.old) (order (Text number from count)))
+        (O.written out.old) (O.written out.new) result (node_of role.new) }
 {
     match role {
         Role::Nothing => refuse(Refusal::NoImage, out),
         Role::Standby(_) => refuse(Refusal::NotPaired, out),
-        Role::Primary(primary) => match primary.text(number, from, count) {
-            Ok(part) => put_text(out, part),
-            Err(why) => refuse(why, out),
-        },
+        Role::Primary(primary) => put_part_of(primary, number, from, count, out),
+    }
+}
+
+/// Prints a part of a text that is pending at a primary.
+fn put_part_of<O: Sink>(
+    primary: &mut PrimaryNode,
+    number: u64,
+    from: u64,
+    count: u64,
+    out: &mut O,
+) -> Result<(), Failed>
+    ensures { IsAnswered (AtPrimary O.no_memory primary.old (order (Text number from count))) (O.written out.old) (O.written out.new)
+        result primary.new }
+{
+    match primary.text(number, from, count) {
+        Ok(part) => put_text(out, part),
+        Err(why) => refuse(why, out),
     }
 }
 
@@ -140,8 +156,8 @@ pub fn put_part<O: Sink>(
 ///
 /// Where a write fails.
 pub fn acknowledge<O: Sink>(role: &mut Role, ack: Packet, out: &mut O) -> Result<(), Failed>
-    ensures { IsAnswered (Answers (node_of role.old) (order (Ack ack.generation ack.number))) (O.written out.old) (O.written out.new)
-        result (node_of role.new) }
+    ensures { IsAnswered (Answers O.no_memory (node_of role.old) (order (Ack ack.generation ack.number)))
+        (O.written out.old) (O.written out.new) result (node_of role.new) }
 {
     match role {
         Role::Nothing => refuse(Refusal::NoImage, out),
@@ -152,8 +168,8 @@ pub fn acknowledge<O: Sink>(role: &mut Role, ack: Packet, out: &mut O) -> Result
 
 /// The standby has committed all checkpoints up to one: their frames are let out.
 fn hear<O: Sink>(primary: &mut PrimaryNode, ack: Packet, out: &mut O) -> Result<(), Failed>
-    ensures { IsAnswered (AtPrimary primary.old (order (Ack ack.generation ack.number))) (O.written out.old) (O.written out.new) result
-        primary.new }
+    ensures { IsAnswered (AtPrimary O.no_memory primary.old (order (Ack ack.generation ack.number)))
+        (O.written out.old) (O.written out.new) result primary.new }
 {
     let written = match primary.let_out(ack) {
         Ok(frames) => put_acked(out, ack, frames),
@@ -181,7 +197,8 @@ fn put_acked<O: Sink>(out: &mut O, ack: Packet, frames: &[Frame]) -> Result<(), 
 ///
 /// Where a write fails.
 pub fn go_alone<O: Sink>(role: &mut Role, out: &mut O) -> Result<(), Failed>
-    ensures { IsAnswered (Answers (node_of role.old) (order Alone)) (O.written out.old) (O.written out.new) result (node_of role.new) }
+    ensures { IsAnswered (Answers O.no_memory (node_of role.old) (order Alone))
+        (O.written out.old) (O.written out.new) result (node_of role.new) }
 {
     match mem::replace(role, Role::Nothing) {
         Role::Nothing => refuse(Refusal::NoImage, out),
@@ -199,7 +216,7 @@ pub fn go_alone<O: Sink>(role: &mut Role, out: &mut O) -> Result<(), Failed>
 
 /// The standby of a primary has stopped: all that was held is let out, and what the running epoch has sent.
 fn left_alone<O: Sink>(primary: PrimaryNode, out: &mut O) -> (PrimaryNode, Result<(), Failed>)
-    ensures { IsAnswered (AtPrimary primary (order Alone)) (O.written out.old) (O.written out.new) result.1 result.0 }
+    ensures { IsAnswered (AtPrimary O.no_memory primary (order Alone)) (O.written out.old) (O.written out.new) result.1 result.0 }
 {
     if !primary.is_backed() {
         return (primary, refuse(Refusal::NotPaired, out));
@@ -236,7 +253,8 @@ fn put_alone<O: Sink>(
 ///
 /// Where a write fails.
 pub fn protect<O: Sink>(role: &mut Role, out: &mut O) -> Result<(), Failed>
-    ensures { IsAnswered (Answers (node_of role.old) (order Protect)) (O.written out.old) (O.written out.new) result (node_of role.new) }
+    ensures { IsAnswered (Answers O.no_memory (node_of role.old) (order Protect))
+        (O.written out.old) (O.written out.new) result (node_of role.new) }
 {
     match mem::replace(role, Role::Nothing) {
         Role::Nothing => refuse(Refusal::NoImage, out),
@@ -254,7 +272,7 @@ pub fn protect<O: Sink>(role: &mut Role, out: &mut O) -> Result<(), Failed>
 
 /// A new standby of a primary is to come, in the next generation.
 fn protected<O: Sink>(primary: PrimaryNode, out: &mut O) -> (PrimaryNode, Result<(), Failed>)
-    ensures { IsAnswered (AtPrimary primary (order Protect)) (O.written out.old) (O.written out.new) result.1 result.0 }
+    ensures { IsAnswered (AtPrimary O.no_memory primary (order Protect)) (O.written out.old) (O.written out.new) result.1 result.0 }
 {
     match primary.protect() {
         Ok((next, bytes)) => {

@@ -1,6 +1,6 @@
 //! The lines that show a node.
 
-ghost use Rattle.std.specs.Prelude.{◌≡◌, ◌≤◌, [], length, option_map};
+ghost use Rattle.std.specs.Prelude.{◌≡◌, ◌≤◌, ℕ, List, [], length, option_map};
 ghost use Rattle.node_player.specs.AtPrimary.{AtPrimary, mode_word};
 ghost use Rattle.node_player.specs.AtStandby.{AtStandby, standby_word};
 ghost use Rattle.node_player.specs.Lines.{order};
@@ -26,7 +26,8 @@ use script_player::text::Text;
 ///
 /// Where a write fails.
 pub fn show<O: Sink>(role: &Role, out: &mut O) -> Result<(), Failed>
-    ensures { IsAnswered (Answers (node_of role.now) (order Show)) (O.written out.old) (O.written out.new) result (node_of role.now) }
+    ensures { IsAnswered (Answers O.no_memory (node_of role.now) (order Show))
+        (O.written out.old) (O.written out.new) result (node_of role.now) }
 {
     let mut text = Text::new();
     write_role(&mut text, role);
@@ -36,7 +37,7 @@ pub fn show<O: Sink>(role: &Role, out: &mut O) -> Result<(), Failed>
 /// Writes the state of a node.
 fn write_role(text: &mut Text, role: &Role)
     requires { text.old.items ≡ [] }
-    ensures { Answers (node_of role.now) (order Show) text.new.items (node_of role.now) }
+    ensures { (no_memory : List ℕ) → Answers no_memory (node_of role.now) (order Show) text.new.items (node_of role.now) }
 {
     match role {
         Role::Nothing => write_state(text, "empty", 0, 0, 0),
@@ -48,7 +49,7 @@ fn write_role(text: &mut Text, role: &Role)
 /// Writes the state of a primary.
 fn write_primary(text: &mut Text, primary: &PrimaryNode)
     requires { text.old.items ≡ [] }
-    ensures { AtPrimary primary.now (order Show) text.new.items primary.now }
+    ensures { (no_memory : List ℕ) → AtPrimary no_memory primary.now (order Show) text.new.items primary.now }
 {
     let word = mode_word(primary.mode());
     let pending = primary.pending() as u64;
@@ -58,7 +59,7 @@ fn write_primary(text: &mut Text, primary: &PrimaryNode)
 /// Writes the state of a standby.
 fn write_standby(text: &mut Text, standby: &StandbyNode)
     requires { text.old.items ≡ [] }
-    ensures { AtStandby standby.now (order Show) text.new.items (standby_node standby.now) }
+    ensures { (no_memory : List ℕ) → AtStandby no_memory standby.now (order Show) text.new.items (standby_node standby.now) }
 {
     let word = standby_word(standby);
     write_state(text, word, standby.generation(), 0, standby.steps());
@@ -95,8 +96,8 @@ fn standby_word(standby: &StandbyNode) -> &'static str
 ///
 /// Where a write fails.
 pub fn show_sector<O: Sink>(role: &Role, sector: u64, out: &mut O) -> Result<(), Failed>
-    ensures { IsAnswered (Answers (node_of role.now) (order (Sector sector))) (O.written out.old) (O.written out.new) result
-        (node_of role.now) }
+    ensures { IsAnswered (Answers O.no_memory (node_of role.now) (order (Sector sector)))
+        (O.written out.old) (O.written out.new) result (node_of role.now) }
 {
     match sector_of(role, sector) {
         Some(bytes) => put_sector(out, sector, bytes),

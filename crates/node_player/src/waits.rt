@@ -16,7 +16,7 @@ use crate::role::Role;
 use checkpoint_stream::StreamError;
 use pair_core::Refusal;
 use pair_nodes::{Commit, PrimaryNode, StandbyNode};
-use script_player::replies::{write_checkpoint, write_generation, write_number, write_refusal};
+use script_player::replies::{write_checkpoint, write_generation, write_number};
 use script_player::streams::{Failed, Sink};
 use script_player::text::Text;
 use std::mem;
@@ -27,8 +27,8 @@ use std::mem;
 ///
 /// Where a write fails.
 pub fn take_piece<O: Sink>(role: &mut Role, bytes: &[u8], out: &mut O) -> Result<(), Failed>
-    ensures { IsAnswered (Answers (node_of role.old) (piece bytes.now)) (O.written out.old) (O.written out.new) result
-        (node_of role.new) }
+    ensures { IsAnswered (Answers O.no_memory (node_of role.old) (piece bytes.now))
+        (O.written out.old) (O.written out.new) result (node_of role.new) }
 {
     match role {
         Role::Nothing => refuse(Refusal::NoImage, out),
@@ -39,15 +39,13 @@ pub fn take_piece<O: Sink>(role: &mut Role, bytes: &[u8], out: &mut O) -> Result
 
 /// The next bytes of a text come to a standby.
 fn feed<O: Sink>(standby: &mut StandbyNode, bytes: &[u8], out: &mut O) -> Result<(), Failed>
-    ensures { IsAnswered (IsFed standby.old bytes.now) (O.written out.old) (O.written out.new) result standby.new }
+    ensures { IsAnswered (IsFed O.no_memory standby.old bytes.now) (O.written out.old) (O.written out.new) result standby.new }
 {
     let mut text = Text::new();
     match standby.piece(bytes) {
         Ok(count) => write_taken(&mut text, standby, count, bytes.len()),
         Err(StreamError::Malformed(offset)) => write_malformed(&mut text, offset),
-        Err(StreamError::NoMemory(wanted)) => {
-            write_refusal(&mut text, &Refusal::NoMemory(wanted));
-        }
+        Err(StreamError::NoMemory(wanted)) => return out.refuse(wanted),
     }
     out.put(text.as_slice())
 }
@@ -71,8 +69,8 @@ fn write_taken(text: &mut Text, standby: &StandbyNode, count: usize, bytes: usiz
 ///
 /// Where a write fails.
 pub fn commit<O: Sink>(role: &mut Role, out: &mut O) -> Result<(), Failed>
-    ensures { IsAnswered (Answers (node_of role.old) (order orders.Commit)) (O.written out.old) (O.written out.new) result
-        (node_of role.new) }
+    ensures { IsAnswered (Answers O.no_memory (node_of role.old) (order orders.Commit))
+        (O.written out.old) (O.written out.new) result (node_of role.new) }
 {
     match role {
         Role::Nothing => refuse(Refusal::NoImage, out),
@@ -83,7 +81,7 @@ pub fn commit<O: Sink>(role: &mut Role, out: &mut O) -> Result<(), Failed>
 
 /// A standby takes the complete checkpoint into its image.
 fn take_in<O: Sink>(standby: &mut StandbyNode, out: &mut O) -> Result<(), Failed>
-    ensures answer { IsPut (O.written out.old) (O.written out.new) result (commit_answer (commit_outcome standby.old).0) }
+    ensures answer { IsPut (O.written out.old) (O.written out.new) result (commit_answer O.no_memory (commit_outcome standby.old).0) }
     ensures left { standby.new ≡ (commit_outcome standby.old).1 }
 {
     let mut text = Text::new();
@@ -92,7 +90,7 @@ fn take_in<O: Sink>(standby: &mut StandbyNode, out: &mut O) -> Result<(), Failed
             write_checkpoint(&mut text, "committed", ack.generation, ack.number);
         }
         Ok(Commit::Again(ack)) => write_checkpoint(&mut text, "again", ack.generation, ack.number),
-        Err(why) => write_refusal(&mut text, &why),
+        Err(why) => return refuse(why, out),
     }
     out.put(text.as_slice())
 }
@@ -103,8 +101,8 @@ fn take_in<O: Sink>(standby: &mut StandbyNode, out: &mut O) -> Result<(), Failed
 ///
 /// Where a write fails.
 pub fn restart<O: Sink>(role: &mut Role, out: &mut O) -> Result<(), Failed>
-    ensures { IsAnswered (Answers (node_of role.old) (order orders.Restart)) (O.written out.old) (O.written out.new) result
-        (node_of role.new) }
+    ensures { IsAnswered (Answers O.no_memory (node_of role.old) (order orders.Restart))
+        (O.written out.old) (O.written out.new) result (node_of role.new) }
 {
     match role {
         Role::Nothing => refuse(Refusal::NoImage, out),
@@ -122,8 +120,8 @@ pub fn restart<O: Sink>(role: &mut Role, out: &mut O) -> Result<(), Failed>
 ///
 /// Where a write fails.
 pub fn go_live<O: Sink>(role: &mut Role, out: &mut O) -> Result<(), Failed>
-    ensures { IsAnswered (Answers (node_of role.old) (order orders.GoLive)) (O.written out.old) (O.written out.new) result
-        (node_of role.new) }
+    ensures { IsAnswered (Answers O.no_memory (node_of role.old) (order orders.GoLive))
+        (O.written out.old) (O.written out.new) result (node_of role.new) }
 {
     match mem::replace(role, Role::Nothing) {
         Role::Nothing => refuse(Refusal::NoImage, out),

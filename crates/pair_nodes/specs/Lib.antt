@@ -3,6 +3,7 @@ pub mod Refusing
 pub mod Sides
 pub mod Bounds
 pub mod PrimaryCalls
+pub mod Lending
 pub mod StandbyCalls
 pub mod Networks
 pub mod Sites

@@ -10,6 +10,7 @@ ghost use Rattle.pair_record.specs.Limits.{most_pending, last_frame};
 ghost use Rattle.pair_record.specs.Modes.{is_alone};
 ghost use Rattle.pair_core.specs.Nodes.{HasShape, node_of};
 ghost use Rattle.checkpoint_stream.specs.Bounds.{most_text};
+ghost use Rattle.full_text.specs.Full.{AreIn, size, whole};
 ghost use Rattle.pair_nodes.specs.Bounds.{IsBoundedPrimary, primary_bytes, most_primary_bytes};
 ghost use Rattle.pair_nodes.specs.PrimaryCalls.{booted_primary, mode_of, arrive_rows, cut_refusals, ack_rows, alone_rows, protect_rows};
 ghost use Rattle.pair_nodes.specs.PrimaryCalls.{IsRun, IsSteps, IsSealed, IsProtected, after_release, text_part};
@@ -17,10 +18,11 @@ ghost use Rattle.pair_nodes.specs.Refusing.{IsFree, IsWhy, IsWhyOrMemory};
 ghost use Rattle.pair_nodes.specs.Sides.{after_arrival, after_cut, IsDelta, IsFull, after_ack, let_out, after_alone, after_protect};
 
 use crate::generations::{end_filling, first_alone, left_alone, protected};
-use crate::texts::{MOST_PENDING, drop_first, part_of, put_last, room, text_of};
+use crate::texts::{MOST_PENDING, room, text_of};
 use arrayvec::ArrayVec;
-use epoch_snapshot::{SnapshotError, cut_delta, cut_full};
+use epoch_snapshot::{SnapshotError, cut_delta};
 use failover::{GENERATION_LIMIT, Generation, Mode};
+use full_text::{FullText, MachineTexts};
 use guest_machine::{Machine, MachineError, SECTOR_BYTES, Shape};
 use memory_wanted::MemoryWanted;
 use output_gate::{Gate, GateError};
@@ -48,11 +50,10 @@ const MOST_FRAME: usize = 1514;
 pub struct PrimaryNode {
     alloc: Global,
     shape: Shape,
-    machine: Machine,
+    kept: MachineTexts,
     generation: Generation,
     to_cut: u64,
     gate: Gate,
-    texts: Vec<Vec<u8>>,
 }
 
 impl Model for PrimaryNode {
@@ -73,20 +74,21 @@ impl Drop for PrimaryNode {
         let PrimaryNode {
             alloc: _,
             shape: _,
-            machine,
+            kept,
             generation,
             to_cut: _,
             gate,
-            texts,
         } = self;
-        drop(machine);
+        drop(kept);
         drop(gate);
-        drop(texts);
         generation.end();
     }
 }
 
 impl PrimaryNode {
+    ghost use Rattle.std.specs.Borrow.{sem};
+    ghost use Rattle.pair_nodes.specs.Lending.{IsAsItWas};
+
     /// The guest boots from this image, which fits in its memory, as the caller knows: a primary that is alone, in generation 1.
     ///
     /// # Errors
@@ -148,11 +150,10 @@ impl PrimaryNode {
         PrimaryNode {
             alloc,
             shape,
-            machine,
+            kept: MachineTexts::new(machine, texts),
             generation,
             to_cut,
             gate,
-            texts,
         }
     }
 
@@ -189,22 +190,22 @@ impl PrimaryNode {
         ensures value { result ≡ length self.now.pending }
         ensures few { result ≤ 4 }
     {
-        self.texts.len()
+        self.kept.count()
     }
 
     /// How many steps the guest has made since boot, modulo 2^64.
     pub fn steps(&self) -> u64
         ensures { result ≡ self.now.live.guest.steps }
     {
-        self.machine.steps()
+        self.kept.machine().steps()
     }
 
     /// The bytes of a sector of the guest's disk, none beyond the disk.
     pub fn sector(&self, sector: u32) -> Option<&[u8; SECTOR_BYTES]>
         ensures { option_map (λ bytes. bytes.now) result ≡ sector_in self.now.live.guest.sectors sector }
     {
-        if sector < self.machine.sectors() {
-            Some(self.machine.sector(sector))
+        if sector < self.kept.machine().sectors() {
+            Some(self.kept.machine().sector(sector))
         } else {
             None
         }
@@ -216,8 +217,8 @@ impl PrimaryNode {
         ensures lists { IsBoundedPrimary self.now }
         ensures bytes { primary_bytes self.now ≤ most_primary_bytes self.now.shape }
     {
-        let _shape = self.machine.shape();
-        let _written = self.machine.dirty_sectors();
+        let _shape = self.kept.machine().shape();
+        let _written = self.kept.machine().dirty_sectors();
         let _sent = self.outbox();
         let _held = self.held();
     }
@@ -228,7 +229,7 @@ impl PrimaryNode {
         ensures frames { All IsFrame result.now }
         ensures few { length result.now ≤ 256 }
     {
-        self.machine.outbox()
+        self.kept.machine().outbox()
     }
 
     /// What the guest sent along the epochs of the pending checkpoints, in the order sent.
@@ -254,7 +255,7 @@ impl PrimaryNode {
             return Err(Refusal::BadFrame);
         }
         let frame = frame_of(bytes);
-        let _taken = self.machine.arrive(&frame);
+        let _taken = self.kept.arrive(&frame);
         Ok(())
     }
 
@@ -284,8 +285,8 @@ impl PrimaryNode {
         requires { self.old.next_frame ≤ last_frame + 256 }
         ensures { IsRun count result self.old self.new }
     {
-        let made = self.machine.run(count);
-        few_frames(&self.machine);
+        let made = self.kept.run(count);
+        few_frames(self.kept.machine());
         made
     }
 
@@ -295,9 +296,9 @@ impl PrimaryNode {
         requires { self.old.backed ≡ false }
         ensures { self.new ≡ after_release self.old }
     {
-        let sent = self.gate.next() - 1 + self.machine.outbox().len() as u64;
+        let sent = self.gate.next() - 1 + self.kept.machine().outbox().len() as u64;
         self.gate.begin(sent);
-        self.machine.clear_outbox();
+        self.kept.clear_outbox();
     }
 
     /// The epoch ends: its checkpoint's text is kept until it is acknowledged, and its frames are held. Answers how many bytes the text has.
@@ -313,7 +314,7 @@ impl PrimaryNode {
         if !self.is_backed() {
             return Err(Refusal::NotPaired);
         }
-        if self.texts.len() >= MOST_PENDING {
+        if self.kept.count() >= MOST_PENDING {
             return Err(Refusal::Behind);
         }
         if self.to_cut >= NUMBER_LIMIT || self.gate.next() > LAST_FRAME {
@@ -324,7 +325,7 @@ impl PrimaryNode {
             Err(wanted) => return Err(Refusal::NoMemory(wanted)),
         };
         let count = text.len();
-        few_frames(&self.machine);
+        few_frames(self.kept.machine());
         self.seal(text);
         Ok(count)
     }
@@ -338,9 +339,8 @@ impl PrimaryNode {
         requires short { length text.items ≤ most_text self.old.shape }
         ensures { self.new ≡ after_cut self.old text.items }
     {
-        self.gate.hold(self.to_cut, self.machine.outbox());
-        put_last(&mut self.texts, text);
-        self.machine.settle();
+        self.gate.hold(self.to_cut, self.kept.machine().outbox());
+        self.kept.settle_with(text);
         self.to_cut += 1;
     }
 
@@ -351,7 +351,7 @@ impl PrimaryNode {
         ensures short { IfOk result (λ text. length text.items ≤ most_text self.now.shape) }
     {
         let generation = self.generation.number();
-        let checkpoint = match cut_delta(self.alloc, &self.machine, generation, self.to_cut) {
+        let checkpoint = match cut_delta(self.alloc, self.kept.machine(), generation, self.to_cut) {
             Ok(checkpoint) => checkpoint,
             Err(SnapshotError::NoMemory(wanted)) => return Err(wanted),
         };
@@ -360,22 +360,25 @@ impl PrimaryNode {
         text
     }
 
-    /// Of the pending checkpoint's text the bytes from place `from` on, `count` of them or as many as there are.
+    /// Of the pending checkpoint's text the bytes from place `from` on, `count` of them or as many as there are. Where it is a full checkpoint's,
+    /// they are made now, unless they were made before. It takes no memory.
     ///
     /// # Errors
     /// [`Refusal::NotPaired`] where it is alone; [`Refusal::Gap`] where no checkpoint of that number is pending.
-    pub fn text(&self, number: u64, from: u64, count: u64) -> Result<&[u8], Refusal>
-        ensures part { IfOk result (λ part. text_part self.now number from count ≡ Ok part.now) }
-        ensures why { IfErr result (λ why. text_part self.now number from count ≡ Err why) }
+    pub fn text(&mut self, number: u64, from: u64, count: u64) -> Result<&[u8], Refusal>
+        ensures* same { sem 𝓛 (IsAsItWas self.entry) }
+        ensures part { IfOk result (λ part. text_part self.old number from count ≡ Ok part.now) }
+        ensures why { IfErr result (λ why. text_part self.old number from count ≡ Err why) }
     {
         if !self.is_backed() {
             return Err(Refusal::NotPaired);
         }
-        let first = self.to_cut - self.texts.len() as u64;
+        let first = self.to_cut - self.kept.count() as u64;
         if number < first || number >= self.to_cut {
             return Err(Refusal::Gap);
         }
-        Ok(part_of(&self.texts[(number - first) as usize], from, count))
+        self.kept.make(from, count);
+        Ok(self.kept.part((number - first) as usize, from, count))
     }
 
     /// The frames that this acknowledgement lets out, in the order sent: those of the pending checkpoints up to its number.
@@ -427,10 +430,10 @@ impl PrimaryNode {
         requires cut { number < self.old.to_cut }
         ensures { self.new ≡ after_ack self.old number }
     {
-        let first = self.to_cut - self.texts.len() as u64;
+        let first = self.to_cut - self.kept.count() as u64;
         let count = (number + 1).saturating_sub(first);
         let _frames = self.gate.let_go(number);
-        drop_first(&mut self.texts, count as usize);
+        self.kept.drop_first(count as usize);
         end_filling(&mut self.generation);
     }
 
@@ -451,18 +454,24 @@ impl PrimaryNode {
         let PrimaryNode {
             alloc,
             shape,
-            mut machine,
+            mut kept,
             generation,
             to_cut,
             mut gate,
-            mut texts,
         } = self;
-        texts.clear();
-        let sent = gate.next() - 1 + machine.outbox().len() as u64;
+        kept.clear();
+        let sent = gate.next() - 1 + kept.machine().outbox().len() as u64;
         gate.begin(sent);
-        machine.clear_outbox();
+        kept.clear_outbox();
         let generation = left_alone(generation);
-        Ok(PrimaryNode::lone(alloc, shape, machine, generation, to_cut, gate, texts))
+        Ok(PrimaryNode {
+            alloc,
+            shape,
+            kept,
+            generation,
+            to_cut,
+            gate,
+        })
     }
 
     /// A new standby is to come, in the next generation, whose full checkpoint is number 0, and pending. The guest's frames are numbered
@@ -478,18 +487,20 @@ impl PrimaryNode {
     {
         match self.full() {
             Err(why) => Err((self, why)),
-            Ok(text) => {
-                let count = text.len();
-                Ok((self.protected(text), count))
+            Ok(full) => {
+                let count = full.size();
+                Ok((self.protected(full), count))
             }
         }
     }
 
-    /// The text of the full checkpoint of its guest, in the next generation.
-    fn full(&self) -> Result<Vec<u8>, Refusal>
+    /// The text of the full checkpoint of its guest, in the next generation. Of memory it is only found what isn't all zero.
+    fn full(&self) -> Result<FullText, Refusal>
         ensures free { OnOk result (IsFree (protect_rows self.now)) }
-        ensures text { IfOk result (λ text. IsFull self.now text.items) }
-        ensures short { IfOk result (λ text. length text.items ≤ most_text self.now.shape) }
+        ensures text { IfOk result (λ full. IsFull self.now (whole self.now.live.guest.ram full)) }
+        ensures short { IfOk result (λ full. length (whole self.now.live.guest.ram full) ≤ most_text self.now.shape) }
+        ensures size { IfOk result (λ full. length (whole self.now.live.guest.ram full) ≡ size full) }
+        ensures pages { IfOk result (λ full. AreIn (length self.now.live.guest.ram) full.pages) }
         ensures why { IfErr result (IsWhyOrMemory (protect_rows self.now)) }
     {
         if self.is_backed() {
@@ -500,56 +511,49 @@ impl PrimaryNode {
             return Err(Refusal::Exhausted);
         }
         match self.full_text() {
-            Ok(text) => Ok(text),
+            Ok(full) => Ok(full),
             Err(wanted) => Err(Refusal::NoMemory(wanted)),
         }
     }
 
     /// That text, where there is a next generation.
-    fn full_text(&self) -> Result<Vec<u8>, MemoryWanted>
+    fn full_text(&self) -> Result<FullText, MemoryWanted>
         requires { self.now.generation + 1 < generation_limit }
-        ensures text { IfOk result (λ text. IsFull self.now text.items) }
-        ensures short { IfOk result (λ text. length text.items ≤ most_text self.now.shape) }
+        ensures text { IfOk result (λ full. IsFull self.now (whole self.now.live.guest.ram full)) }
+        ensures short { IfOk result (λ full. length (whole self.now.live.guest.ram full) ≤ most_text self.now.shape) }
+        ensures size { IfOk result (λ full. length (whole self.now.live.guest.ram full) ≡ size full) }
+        ensures pages { IfOk result (λ full. AreIn (length self.now.live.guest.ram) full.pages) }
     {
         let generation = self.generation.number();
-        let checkpoint = match cut_full(self.alloc, &self.machine, generation + 1) {
-            Ok(checkpoint) => checkpoint,
-            Err(SnapshotError::NoMemory(wanted)) => return Err(wanted),
-        };
-        let text = text_of(self.alloc, &checkpoint);
-        drop(checkpoint);
-        text
+        FullText::new(self.alloc, self.kept.machine(), generation + 1)
     }
 
     /// Its standby is to be filled by the full checkpoint of this text, which is pending.
-    fn protected(self, full: Vec<u8>) -> PrimaryNode
+    fn protected(self, full: FullText) -> PrimaryNode
         requires free { IsFree (protect_rows self) }
-        requires short { length full.items ≤ most_text self.shape }
-        ensures { result ≡ after_protect self full.items }
+        requires short { length (whole self.live.guest.ram full) ≤ most_text self.shape }
+        requires pages { AreIn (length self.live.guest.ram) full.pages }
+        ensures { result ≡ after_protect self (whole self.live.guest.ram full) }
     {
         let PrimaryNode {
             alloc,
             shape,
-            mut machine,
+            mut kept,
             generation,
             to_cut: _,
             mut gate,
-            mut texts,
         } = self;
         let generation = protected(generation);
-        machine.settle();
+        kept.settle_at(full);
         gate.begin(0);
         gate.hold(0, &[]);
-        texts.clear();
-        put_last(&mut texts, full);
         PrimaryNode {
             alloc,
             shape,
-            machine,
+            kept,
             generation,
             to_cut: 1,
             gate,
-            texts,
         }
     }
 }

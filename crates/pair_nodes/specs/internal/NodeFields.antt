@@ -16,31 +16,30 @@ use Rattle.pair_nodes.specs.StandbyCalls.{is_empty}
 
 abbrev pub primary_state : PrimaryFields → Primary
 primary_state a = record {
-  live = node_of a.machine;
+  live = node_of a.kept.machine;
   shape = a.shape;
   generation = a.generation.number;
   backed = not (is_alone a.generation.mode);
   to_cut = a.to_cut;
   pending = a.gate.epochs;
-  texts = map (λ text. text.items) a.texts.items;
+  texts = a.kept.texts;
   next_frame = a.gate.next;
 }
 
 -- The guest has its shape; what is pending has consecutive numbers up to the last one cut, is at most four checkpoints, each with its text, and none where it is
 -- alone; the mode is what that says; and the frames that it may still let out have numbers.
 pub record IsPrimary (a : PrimaryFields) : Type 0 where
-  pub sized : HasShape a.shape a.machine.guest
+  pub sized : HasShape a.shape a.kept.machine.guest
   pub numbered : NumberedFrom (a.to_cut - length a.gate.epochs) a.gate.epochs
   pub most : length a.gate.epochs ≤ a.to_cut
   pub few : length a.gate.epochs ≤ most_pending
-  pub texts : length a.texts.items ≡ length a.gate.epochs
-  pub short : All (λ text. length text.items ≤ most_text a.shape) a.texts.items
-  pub places : most_pending ≤ vec_capacity a.texts
+  pub texts : length a.kept.texts ≡ length a.gate.epochs
+  pub short : All (λ text. length text ≤ most_text a.shape) a.kept.texts
   pub mode : a.generation.mode ≡ mode_of (primary_state a)
   pub alone : a.generation.mode ≡ modes.Alone → a.gate.epochs ≡ []
   pub to_cut : 1 ≤ a.to_cut
   pub last_cut : a.to_cut ≤ number_limit
-  pub numbers : a.gate.next + length a.machine.outbox ≤ number_limit
+  pub numbers : a.gate.next + length a.kept.machine.outbox ≤ number_limit
   pub room : is_alone a.generation.mode ≡ false → a.gate.next ≤ last_frame + 256
 
 abbrev pub standby_state : StandbyFields → Standby

@@ -12,4 +12,4 @@ pub returns-in-Err : goal.returns-in-Err
 returns-in-Err g c =
     let said = c.in-Err.ensures.err in
     let loud = sym c.is_silent.ensures ∙ c.if-is_silent.false in
-    (_, c.put_refusal.ensures, finds_no_memory said.0 loud said.1 said.2 refl refl)
+    (_, c.refuse.ensures, finds_no_memory said.0 loud said.1 said.2 refl refl)

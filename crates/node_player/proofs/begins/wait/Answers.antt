@@ -4,7 +4,9 @@ use Rattle.node_player.proofs.begins.wait.Goals as goal
 
 pub returns-in_default : goal.returns-in_default
 returns-in_default g c =
-    (_, c.refuse.ensures, waits-once c.args.role.now c.args.shape.pages c.args.shape.sectors c.args.generation c.in_default.not-Nothing)
+    let shape = c.args.shape in
+    let once = waits-once g.O.Sink.no_memory c.args.role.now shape.pages shape.sectors c.args.generation c.in_default.not-Nothing in
+    (_, c.refuse.ensures, once)
 
 pub returns-in-Ok : goal.returns-in-Ok
 returns-in-Ok g c =

@@ -3,9 +3,9 @@ use Rattle.node_player.proofs.HalfLemmas.{primarys-half, standbys-half}
 use Rattle.node_player.proofs.laws.lines_are_a_nodes_half_of_a_run.Goals as goal
 
 pub returns-clause-primary : goal.returns-clause-primary
-returns-clause-primary c = λ s line printed q reached h.
+returns-clause-primary c = λ no_memory s line printed q reached h.
     let laws = c.what_a_primary_does_may_happen.ensures in
-    primarys-half s (record {
+    primarys-half no_memory s (record {
       cut = laws.cut s;
       acknowledge = laws.acknowledge s;
       alone = laws.alone s;
@@ -16,9 +16,9 @@ returns-clause-primary c = λ s line printed q reached h.
     }) line printed q (reached-between s.primary reached) h
 
 pub returns-clause-standby : goal.returns-clause-standby
-returns-clause-standby c = λ s line printed new h.
+returns-clause-standby c = λ no_memory s line printed new h.
     let laws = c.what_a_standby_does_may_happen.ensures in
-    standbys-half s (record {
+    standbys-half no_memory s (record {
       piece_comes = laws.piece s;
       restart = laws.restart s;
       commit = λ whole. let made = laws.commit s whole in (made.0, made.1);

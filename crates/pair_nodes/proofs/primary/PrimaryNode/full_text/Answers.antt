@@ -1,19 +1,42 @@
--- What a full checkpoint's text reads back as.
-use Rattle.std.proofs.Common.{[], ◌+◌, length, replicate, subst}
+-- What a full checkpoint's text reads back as, and how long it is.
+use Rattle.std.proofs.Common.{[], ◌≡◌, ◌≤◌, ◌+◌, ℕ, List, length, sym, ap, subst, arith}
 use Rattle.std.proofs.lemmas.Result.{IfOk-weaker}
-use Rattle.guest_machine.specs.Guest.{sector_count}
+use Rattle.checkpoint_stream.specs.Bounds.{most_text}
 use Rattle.epoch_snapshot.specs.Cuts.{used_sectors}
+use Rattle.full_text.specs.Full.{IsFullText, Making, whole, zeros}
+use Rattle.guest_machine.specs.Guest.{Guest, State, sector_count}
+use Rattle.guest_machine.specs.declared.shapes.Shape.{Shape}
+use Rattle.pair_core.specs.Nodes.{HasShape}
 use Rattle.pair_core.specs.Texts.{IsText}
 use Rattle.pair_core.proofs.NodesLaws.{delta-text}
 use Rattle.pair_nodes.proofs.primary.PrimaryNode.full_text.Goals as goal
 
+-- it is the text of a full checkpoint of this machine
+abbrev IsOf : Shape → ℕ → Making → State → Type 0
+IsOf shape generation f m =
+    (before : Guest) → HasShape shape m.guest → IsText shape generation 0 before m.guest [] (whole m.guest.ram f)
+
+is-of : (shape : Shape) (generation : ℕ) (f : Making) (m : State) → IsFullText m generation (whole m.guest.ram f) → IsOf shape generation f m
+is-of shape generation f m h before sized =
+    delta-text (zeros m.guest.ram) (used_sectors m.guest.sectors (sector_count m.guest.sectors)) [] m generation 0 h.change shape
+    (whole m.guest.ram f) before h.cut h.reads (h.image before) sized
+
+short-of : (shape : Shape) (generation : ℕ) (f : Making) (m : State) → IsFullText m generation (whole m.guest.ram f) → HasShape shape m.guest
+    → length (whole m.guest.ram f) ≤ most_text shape
+short-of shape generation f m h sized = omega (arith, h.short, h.cut.pages_size, h.cut.sectors_size, sized.ram, sized.sectors)
+
 pub returns-clause-text : goal.returns-clause-text
 returns-clause-text c =
-    let m = c.self.inside.machine in
     let shape = c.self.inside.shape in
-    IfOk-weaker c.text_of-text.result _ _
-    (λ text reads. rw (← c.self.view_is) (λ before sized.
-    subst (λ n. IsText shape (n + 1) 0 before m.guest [] text.items) c.number-generation.ensures.number
-    (delta-text (replicate (length m.guest.ram) 0) (used_sectors m.guest.sectors (sector_count m.guest.sectors)) [] m
-    (c.number-generation.result + 1) 0 c.in-Ok.checkpoint shape text.items before c.in-Ok.ensures.parts reads (c.in-Ok.ensures.image before)
-    sized))) c.text_of-text.ensures.read
+    IfOk-weaker c.new.result _ _
+    (λ f h. rw (← c.self.view_is) (subst (IsOf shape (c.self.inside.generation.number + 1) f) c.machine.ensures
+    (subst (λ n. IsOf shape (n + 1) f c.machine.result.now) c.number-generation.ensures.number
+    (is-of shape (c.number-generation.result + 1) f c.machine.result.now h)))) c.new.ensures.text
+
+pub returns-clause-short : goal.returns-clause-short
+returns-clause-short c =
+    let shape = c.self.inside.shape in
+    IfOk-weaker c.new.result _ _
+    (λ f h. rw (← c.self.view_is) (subst (λ (m : State). length (whole m.guest.ram f) ≤ most_text shape) c.machine.ensures
+    (short-of shape (c.number-generation.result + 1) f c.machine.result.now h
+    (subst (λ (m : State). HasShape shape m.guest) (sym c.machine.ensures) c.self.invariant.sized)))) c.new.ensures.text

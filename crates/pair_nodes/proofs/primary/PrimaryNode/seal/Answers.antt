@@ -9,6 +9,7 @@ use Rattle.output_gate.specs.Epochs.{Epoch, epoch}
 use Rattle.output_gate.specs.Gate.{GateState}
 use Rattle.pair_record.proofs.WindowLaws.{NumberedFrom-push}
 use Rattle.pair_record.specs.Modes.{is_alone}
+use Rattle.pair_core.specs.Nodes.{HasShape}
 use Rattle.pair_record.specs.Window.{NumberedFrom}
 use Rattle.checkpoint_stream.specs.Bounds.{most_text}
 use Rattle.pair_nodes.specs.PrimaryCalls.{has_full}
@@ -32,20 +33,19 @@ invariant_of-self c =
     let more : length (es ++ e ∷ []) ≡ length es + 1 = length-append es (e ∷ []) in
     let first : a.to_cut - length es ≡ (a.to_cut + 1) - length c.hold.new.self.epochs = omega (arith, long, more, inv.most) in
     let place : e.number ≡ (a.to_cut - length es) + length es = omega (arith, inv.most) in
-    let out : length c.settle.new.self.outbox ≡ 0 = ap (λ (m : State). length m.outbox) c.settle.ensures in
+    let out : length c.settle_with.new.self.machine.outbox ≡ 0 = ap (λ (m : State). length m.outbox) c.settle_with.ensures.machine in
     let short = ap (λ (p : Primary). most_text p.shape) c.self.view_is in
     record {
-      sized = search (inv.sized, ap (λ (m : State). m.guest) c.settle.ensures);
+      sized = subst (λ (m : State). HasShape a.shape m.guest) (sym c.settle_with.ensures.machine) inv.sized;
       numbered = subst (λ n. NumberedFrom n c.hold.new.self.epochs) first
           (subst (NumberedFrom (a.to_cut - length es)) (sym epochs) (NumberedFrom-push (a.to_cut - length es) es e inv.numbered place));
       most = omega (arith, long, more, inv.most);
       few = omega (arith, long, more, few, c.requires.few);
-      texts = omega (arith, ap (λ ts. length ts) c.put_last.ensures.items, length-append a.texts.items (c.args.text ∷ []), inv.texts, long, more);
-      short = subst (All (λ t. length t.items ≤ most_text a.shape)) (sym c.put_last.ensures.items)
-          (All-append (λ t. length t.items ≤ most_text a.shape) a.texts.items (c.args.text ∷ []) inv.short
-          (All-cons (λ t. length t.items ≤ most_text a.shape) c.args.text [] (omega (arith, short, c.requires.short))
-          (All-nil (λ t. length t.items ≤ most_text a.shape))));
-      places = omega (arith, inv.places, c.put_last.ensures.room);
+      texts = omega (arith, ap (λ ts. length ts) c.settle_with.ensures.texts, length-append a.kept.texts (c.args.text.items ∷ []), inv.texts, long, more);
+      short = subst (All (λ t. length t ≤ most_text a.shape)) (sym c.settle_with.ensures.texts)
+          (All-append (λ t. length t ≤ most_text a.shape) a.kept.texts (c.args.text.items ∷ []) inv.short
+          (All-cons (λ t. length t ≤ most_text a.shape) c.args.text.items [] (omega (arith, short, c.requires.short))
+          (All-nil (λ t. length t ≤ most_text a.shape))));
       mode = inv.mode ∙ ap (λ b. if not (is_alone a.generation.mode) then (if b then modes.Filling else modes.Paired) else modes.Alone)
           (sym (ap has_full epochs ∙ full-append es e inv.to_cut));
       alone = search (arith, rules, backed);

@@ -1,0 +1,10 @@
+pub mod RangeLemmas
+pub mod CutLemmas
+pub mod CanonicalLemmas
+pub mod PageLemmas
+pub mod SectorLemmas
+pub mod ImageLemmas
+pub mod RecordLemmas
+pub mod TextLemmas
+pub mod FullLemmas
+pub mod PartLemmas

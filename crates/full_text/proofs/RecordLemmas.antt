@@ -1,0 +1,141 @@
+-- A page's record is made of its bytes, and how long it is.
+use Rattle.std.proofs.Common.{◌≡◌, ◌≢◌, ℕ, zero, suc, ◌+◌, ◌-◌, ◌*◌, ◌^◌, ◌<◌, ◌≤◌, ◌==◌, Bool, true, false, List, [], ◌∷◌, ◌++◌, cond, length, map, drop}
+use Rattle.std.proofs.Common.{replicate, get_or, refl, sym, ap, ◌∙◌, arith, append_assoc}
+use Rattle.std.proofs.lemmas.List.{append-nil, length-append, map-append, length-take-le, length-drop}
+use Rattle.std.proofs.lemmas.Bool.{eq-eqb, ne_eqb}
+use Rattle.std.proofs.lemmas.Simd.{map-map}
+use Rattle.std.proofs.lemmas.List.Sums.{sum_by-cons}
+use Rattle.std.specs.Prelude.{count_ones}
+use Rattle.std.specs.Int.{bit_at}
+use Rattle.std.specs.Int.Bits.{xor_zero_l}
+use Rattle.std.specs.List.{range_with_len, filter}
+use Rattle.guest_machine.specs.Pages.{page_of}
+use Rattle.epoch_snapshot.specs.declared.changes.PageChange.{PageChange}
+use Rattle.epoch_snapshot.specs.Blocks.{block_in, set_blocks, xored}
+use Rattle.epoch_snapshot.specs.Cuts.{block_change, changed_blocks}
+use Rattle.epoch_snapshot.proofs.MaskLemmas.{length-set_blocks}
+use Rattle.checkpoint_stream.specs.HeadTable.{bytes_of}
+use Rattle.checkpoint_stream.specs.Text.{joined}
+use Rattle.checkpoint_stream.specs.declared.rules.Width.TheVariants.{Four, Eight}
+use Rattle.checkpoint_stream.proofs.Spelling.{joined-append, next}
+use Rattle.full_text.specs.Full.{zeros, record_of, records, record_size, records_size}
+use Rattle.full_text.proofs.PageLemmas.{filter_last, fewer_blocks, map_agree_in, block_in-page, zero_block, one_page}
+
+-- the blocks below one that a mask names
+abbrev pub named_below : ℕ → ℕ → List ℕ
+named_below m n = filter (λ i. bit_at m i == 1) (range_with_len 0 n)
+
+joined-one : (b : List ℕ) → joined (b ∷ []) ≡ b
+unfolding joined
+joined-one b = append-nil b
+
+-- one block more, where the mask names it
+pub blocks-put : (f : ℕ → List ℕ) (m n : ℕ) (xs ys b : List ℕ) → bit_at m n ≡ 1 → b ≡ f n → ys ≡ xs ++ joined (map f (named_below m n))
+    → ys ++ b ≡ xs ++ joined (map f (named_below m (n + 1)))
+blocks-put f m n xs ys b set e so_far =
+    (λ k. so_far k ++ e k)
+    ∙ append_assoc xs (joined (map f (named_below m n))) (f n)
+    ∙ ap (λ l. xs ++ l) (ap (λ l. joined (map f (named_below m n)) ++ l) (sym (joined-one (f n)))
+    ∙ sym (joined-append (map f (named_below m n)) (f n ∷ []))
+    ∙ ap joined (sym (map-append f (named_below m n) (n ∷ []))
+    ∙ ap (λ c. map f (named_below m n ++ cond c (n ∷ []) [])) (sym (eq-eqb (bit_at m n) 1 set))
+    ∙ ap (map f) (sym (filter_last (λ i. bit_at m i == 1) n))))
+
+-- and none, where it doesn't
+pub blocks-pass : (m n : ℕ) → bit_at m n ≢ 1 → named_below m (n + 1) ≡ named_below m n
+blocks-pass m n clear =
+    filter_last (λ i. bit_at m i == 1) n
+    ∙ ap (λ b. named_below m n ++ cond b (n ∷ []) []) (ne_eqb (bit_at m n) 1 clear)
+    ∙ append-nil (named_below m n)
+
+-- blocks of 64 bytes
+size-step : (f : ℕ → List ℕ) (b : Bool) (s : ℕ) (is : List ℕ) → length (f s) ≡ 64 → length (joined (map f is)) ≡ 64 * length is
+    → length (joined (map f (cond b (s ∷ is) is))) ≡ 64 * length (cond b (s ∷ is) is)
+unfolding joined
+size-step f true s is here later = omega (arith, later, length-append (f s) (joined (map f is)), here)
+size-step f false s is here later = later
+
+blocks-size : (f : ℕ → List ℕ) (p : ℕ → Bool) (s n : ℕ) → ((i : ℕ) → s ≤ i → i < s + n → length (f i) ≡ 64)
+    → length (joined (map f (filter p (range_with_len s n)))) ≡ 64 * length (filter p (range_with_len s n))
+unfolding joined
+blocks-size f p s zero long = refl
+blocks-size f p s (suc n) long =
+    size-step f (p s) s (filter p (range_with_len (s + 1) n)) (long s (omega arith) (omega arith))
+    (blocks-size f p (s + 1) n (λ i low high. long i (omega arith) (omega arith)))
+
+pub length-block : (xs : List ℕ) (n : ℕ) → 64 * n + 64 ≤ length xs → length (block_in xs n) ≡ 64
+length-block xs n within = length-take-le 64 (drop (64 * n) xs) (omega (arith, length-drop (64 * n) xs))
+
+pub length-page : (ram : List ℕ) (page : ℕ) → 4096 * page + 4096 ≤ length ram → length (page_of ram page) ≡ 4096
+length-page ram page within =
+    length-take-le ((4096 * page + 4096) - 4096 * page) (drop (4096 * page) ram) (omega (arith, length-drop (4096 * page) ram, within)) ∙ omega arith
+
+-- the blocks of a page so far take fewer bytes than all that the mask names, where it names another one
+pub room-left : (page : List ℕ) (m n : ℕ) → m < 2 ^ 64 → length page ≡ 4096 → n < 64 → bit_at m n ≡ 1
+    → length (joined (map (λ i. block_in page i) (named_below m n))) + 64 ≤ 64 * count_ones m
+room-left page m n fits long below set =
+    omega (
+      arith,
+      blocks-size (λ i. block_in page i) (λ i. bit_at m i == 1) 0 n (λ i low high. length-block page i (omega (arith, long))),
+      fewer_blocks m n below set,
+      length-set_blocks m fits,
+    )
+
+-- ---- over a memory that is all zero a block is recorded as it is
+
+xored-zeros : (n : ℕ) (b : List ℕ) → length b ≡ n → xored (replicate n 0) b ≡ b
+xored-zeros zero [] e = refl
+xored-zeros zero (x ∷ xs) e = absurd (omega arith)
+xored-zeros (suc n) [] e = absurd (omega arith)
+xored-zeros (suc n) (x ∷ xs) e = λ i. xor_zero_l x i ∷ xored-zeros n xs (omega arith) i
+
+pub plain-block : (ram : List ℕ) (n : ℕ) → 64 * n + 64 ≤ length ram → block_change (zeros ram) ram n ≡ block_in ram n
+plain-block ram n within =
+    ap (λ z. xored z (block_in ram n)) (zero_block (length ram) n within) ∙ xored-zeros 64 (block_in ram n) (length-block ram n within)
+
+-- the blocks of a page of the machine are those of its record
+pub page-plain : (ram : List ℕ) (p : PageChange) → 4096 * p.page + 4096 ≤ length ram
+    → map (λ i. block_in (page_of ram p.page) i) (set_blocks p.mask) ≡ changed_blocks (zeros ram) ram (p ∷ [])
+unfolding set_blocks
+page-plain ram p within =
+    map_agree_in (λ i. block_in (page_of ram p.page) i) (λ i. block_change (zeros ram) ram (64 * p.page + i)) (λ i. bit_at p.mask i == 1) 0 64
+    (λ i low high. block_in-page ram p.page i (omega (arith, high)) ∙ sym (plain-block ram (64 * p.page + i) (omega (arith, high, within))))
+    ∙ sym (map-map (block_change (zeros ram) ram) (λ i. 64 * p.page + i) (set_blocks p.mask))
+    ∙ ap (map (block_change (zeros ram) ram)) (sym (one_page p))
+
+pub record-put : (ram xs ys zs out : List ℕ) (p : PageChange) → 4096 * p.page + 4096 ≤ length ram → ys ≡ xs ++ bytes_of Four p.page
+    → zs ≡ ys ++ bytes_of Eight p.mask → out ≡ zs ++ joined (map (λ i. block_in (page_of ram p.page) i) (set_blocks p.mask))
+    → out ≡ xs ++ record_of ram p
+record-put ram xs ys zs out p within e f g =
+    let blocks = joined (changed_blocks (zeros ram) ram (p ∷ [])) in
+    g
+    ∙ (λ k. (f ∙ ap (λ l. l ++ bytes_of Eight p.mask) e) k ++ joined (page-plain ram p within k))
+    ∙ ap (λ l. l ++ blocks) (append_assoc xs (bytes_of Four p.page) (bytes_of Eight p.mask))
+    ∙ append_assoc xs (bytes_of Four p.page ++ bytes_of Eight p.mask) blocks
+
+pub blocks-length : (page : List ℕ) (m : ℕ) → m < 2 ^ 64 → length page ≡ 4096
+    → length (joined (map (λ i. block_in page i) (set_blocks m))) ≡ 64 * count_ones m
+unfolding set_blocks
+blocks-length page m fits long =
+    omega (
+      arith,
+      blocks-size (λ i. block_in page i) (λ i. bit_at m i == 1) 0 64 (λ i low high. length-block page i (omega (arith, long, high))),
+      length-set_blocks m fits,
+    )
+
+-- ---- the records of several pages
+
+pub records-cons : (ram : List ℕ) (p : PageChange) (ps : List PageChange) → records ram (p ∷ ps) ≡ record_of ram p ++ records ram ps
+unfolding records
+records-cons ram p ps = refl
+
+pub records-next : (ram xs ys : List ℕ) (ps : List PageChange) (i : ℕ) (d : PageChange) → i < length ps → ys ≡ xs ++ record_of ram (get_or ps i d)
+    → ys ++ records ram (drop (i + 1) ps) ≡ xs ++ records ram (drop i ps)
+records-next ram xs ys ps i d within e =
+    ap (λ l. l ++ records ram (drop (i + 1) ps)) e
+    ∙ append_assoc xs (record_of ram (get_or ps i d)) (records ram (drop (i + 1) ps))
+    ∙ ap (λ l. xs ++ l) (sym (records-cons ram (get_or ps i d) (drop (i + 1) ps)) ∙ ap (records ram) (sym (next ps i d within)))
+
+pub sizes-next : (ps : List PageChange) (i : ℕ) (d : PageChange) → i < length ps
+    → records_size (drop i ps) ≡ record_size (get_or ps i d) + records_size (drop (i + 1) ps)
+sizes-next ps i d within = ap records_size (next ps i d within) ∙ sum_by-cons record_size (get_or ps i d) (drop (i + 1) ps)

@@ -1,0 +1,73 @@
+-- The text of a full checkpoint, of which a part is made, and the rest is made later from the memory that the machine had.
+use Rattle.std.specs.Prelude.{◌≡◌, ◌≤◌, ◌<◌, ℕ, ◌+◌, ◌*◌, List, [], ◌∷◌, ◌++◌, length, take, drop, replicate, count_ones, All}
+use Rattle.std.specs.List.{sum_by}
+use Rattle.guest_machine.specs.Guest.{Guest, State, sector_count}
+use Rattle.guest_machine.specs.Limits.{page_bytes}
+use Rattle.guest_machine.specs.MachineStates.{state_of}
+use Rattle.guest_machine.specs.declared.shapes.Shape.{Shape}
+use Rattle.epoch_snapshot.specs.declared.changes.PageChange.{PageChange}
+use Rattle.epoch_snapshot.specs.Bases.{IsCut}
+use Rattle.epoch_snapshot.specs.Checkpoints.{Change, change_of}
+use Rattle.epoch_snapshot.specs.Cuts.{changed_blocks, used_sectors}
+use Rattle.epoch_snapshot.specs.Images.{image_of}
+use Rattle.checkpoint_stream.specs.Bounds.{most_text}
+use Rattle.checkpoint_stream.specs.HeadTable.{bytes_of}
+use Rattle.checkpoint_stream.specs.ReadBack.{ReadsBack}
+use Rattle.checkpoint_stream.specs.Text.{joined}
+use Rattle.checkpoint_stream.specs.declared.rules.Width.TheVariants.{Four, Eight}
+
+-- a memory of that size that is all zero, over which a full checkpoint is cut
+abbrev pub zeros : List ℕ → List ℕ
+zeros ram = replicate (length ram) 0
+
+-- THE RECORD of a page: its index, its mask, and the blocks that the mask names; and those of several, in turn
+abbrev pub record_of : List ℕ → PageChange → List ℕ
+record_of ram p = bytes_of Four p.page ++ bytes_of Eight p.mask ++ joined (changed_blocks (zeros ram) ram (p ∷ []))
+
+unfoldable pub records : List ℕ → List PageChange → List ℕ
+records ram [] = []
+records ram (p ∷ ps) = record_of ram p ++ records ram ps
+
+-- how many bytes they have
+abbrev pub record_size : PageChange → ℕ
+record_size p = 12 + 64 * count_ones p.mask
+
+abbrev pub records_size : List PageChange → ℕ
+records_size ps = sum_by record_size ps
+
+-- each of the pages is one of a memory of so many bytes
+abbrev pub AreIn : ℕ → List PageChange → Type 0
+AreIn bytes ps = All (λ p. page_bytes * p.page + page_bytes ≤ bytes) ps
+
+-- A TEXT IN THE MAKING: the bytes that are made, the pages whose records come next, in order, and what stands behind them
+pub record Making : Type 0 where
+  pub made : List ℕ
+  pub pages : List PageChange
+  pub tail : List ℕ
+
+-- the whole text, over the memory that the records are made from, and how many bytes it has
+abbrev pub whole : List ℕ → Making → List ℕ
+whole ram f = f.made ++ (records ram f.pages ++ f.tail)
+
+abbrev pub size : Making → ℕ
+size f = length f.made + (records_size f.pages + length f.tail)
+
+-- so many bytes of it are made, or all
+abbrev pub IsMadeTo : ℕ → Making → Type 0
+IsMadeTo count f = length f.made < count → (f.pages ≡ []) × (f.tail ≡ [])
+
+-- a text that reads back as the full checkpoint of a machine, number 0 of this generation, which makes its guest of any
+pub record IsFullText (m : State) (generation : ℕ) (text : List ℕ) : Type 0 where
+  pub change : Change
+  pub cut : IsCut (zeros m.guest.ram) (used_sectors m.guest.sectors (sector_count m.guest.sectors)) [] m generation 0 change
+  pub image : (base : Guest) → image_of change base ≡ m.guest
+  pub reads : ReadsBack change text
+  pub short : length text ≤ most_text change.shape
+
+-- a full checkpoint of a guest, but without its memory and its disk: it has the head of the whole one
+abbrev pub blank : Shape → Guest → ℕ → Change
+blank shape g generation = change_of 2 shape generation 0 (state_of g) [] [] [] []
+
+-- of a text the bytes from there on, so many or as many as there are
+abbrev pub part_of : ℕ → ℕ → List ℕ → List ℕ
+part_of from count text = take count (drop from text)

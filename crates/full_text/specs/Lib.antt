@@ -1,0 +1,3 @@
+pub mod internal
+pub mod Full
+pub mod MachineTexts

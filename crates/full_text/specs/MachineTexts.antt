@@ -1,0 +1,19 @@
+-- A machine, and the texts of its checkpoints that are pending.
+use Rattle.std.specs.Prelude.{ℕ, List, [], Option, length, replicate, false}
+use Rattle.guest_machine.specs.Guest.{State}
+use Rattle.full_text.specs.Full.{Making}
+
+-- so many texts have room
+abbrev pub most_texts : ℕ
+most_texts = 4
+
+pub record Texts : Type 0 where
+  pub machine : State
+  -- each of them whole
+  pub texts : List (List ℕ)
+  -- the one that is made in part, if one is: it is the only one
+  pub full : Option Making
+
+-- a machine that is settled
+abbrev pub settled_at : State → State
+settled_at m = record m { outbox = []; dirty = []; settled = m.guest.ram; written = replicate (length m.written) false }

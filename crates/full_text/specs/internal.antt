@@ -1,0 +1,3 @@
+-- what only models, private functions and proofs cite
+pub mod Fields
+pub mod TextFields

@@ -1,0 +1,15 @@
+//! The text of a full checkpoint, made in parts while its machine goes on.
+//!
+//! A full checkpoint states all that a machine holds, and its text is about as long as the machine's memory. [`FullText::new`] looks at the
+//! whole machine and makes what doesn't stand in its memory; the records of the pages are made later, of the memory that the machine had when
+//! it was last settled. So the machine may be settled then, and go on, and is settled again only once the text is whole.
+#![tactic(auto)]
+
+mod found;
+mod machine_texts;
+mod records;
+mod rows;
+mod text;
+
+pub use machine_texts::MachineTexts;
+pub use text::FullText;

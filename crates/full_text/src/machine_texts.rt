@@ -1,0 +1,230 @@
+//! A machine, and the texts of its checkpoints that are pending.
+ghost use Rattle.std.specs.Prelude.{◌≡◌, ◌≤◌, ◌<◌, ◌+◌, ◌==◌, ◌∷◌, ◌++◌, if◌then◌else◌, ℕ, List, [], None, Some, IfSome, drop, length, map, slice_index_or, vec_capacity};
+ghost use Rattle.guest_machine.specs.Limits.{stepping_frames};
+ghost use Rattle.guest_machine.specs.Runs.{HaveRoom, after_steps, marked_in, sent_in};
+ghost use Rattle.guest_machine.specs.Step.{arrived};
+ghost use Rattle.full_text.specs.Full.{AreIn, IsMadeTo, part_of, whole};
+ghost use Rattle.full_text.specs.MachineTexts.{most_texts, settled_at};
+ghost use Rattle.full_text.specs.internal.TextFields.{FullFits, texts_of};
+
+use crate::rows::{drop_first, part_of, put_last};
+use crate::text::FullText;
+use guest_machine::{Frame, Machine};
+use std::marker::Model;
+
+/// So many bytes more of a full text are made where a part of it is asked for. So one that is fetched in small parts is whole long before it
+/// is fetched, and little of it is left to make at once where the machine is to be settled.
+const AHEAD: u64 = 1 << 20;
+
+/// A machine, and at most four texts of its checkpoints. Contracts see each text whole. That of a full checkpoint may be made in part: the rest
+/// is made of the memory that the machine had at its last settle, as it is asked for, and all of it before the next settle.
+#[derive(Drop)]
+pub struct MachineTexts {
+    machine: Machine,
+    texts: Vec<Vec<u8>>,
+    full: Option<FullText>,
+}
+
+impl Model for MachineTexts {
+    ghost use Rattle.full_text.specs.MachineTexts.{Texts};
+
+    ghost Value = { Texts };
+
+    ghost use Rattle.full_text.specs.internal.TextFields.{texts_state, AreTexts};
+
+    ghost view = { texts_state };
+
+    ghost invariant = { AreTexts };
+}
+
+impl MachineTexts {
+    /// A machine, and no text, with room for four of them.
+    pub fn new(machine: Machine, texts: Vec<Vec<u8>>) -> MachineTexts
+        requires none { texts.items ≡ [] }
+        requires room { most_texts ≤ vec_capacity texts }
+        ensures { result ≡ record { machine = machine; texts = []; full = None } }
+    {
+        MachineTexts {
+            machine,
+            texts,
+            full: None,
+        }
+    }
+
+    /// The machine.
+    pub fn machine(&self) -> &Machine
+        ensures { result.now ≡ self.now.machine }
+    {
+        &self.machine
+    }
+
+    /// How many texts there are.
+    pub fn count(&self) -> usize
+        ensures { result ≡ length self.now.texts }
+    {
+        match &self.full {
+            None => self.texts.len(),
+            Some(_) => 1,
+        }
+    }
+
+    /// The guest makes steps, as `run` of the machine has it.
+    pub fn run(&mut self, count: u64) -> u64
+        ensures most { result ≤ count }
+        ensures guest { self.new.machine.guest ≡ after_steps result self.old.machine.guest }
+        ensures outbox { self.new.machine.outbox ≡ self.old.machine.outbox ++ sent_in result self.old.machine.guest }
+        ensures dirty { self.new.machine.dirty ≡ marked_in result self.old.machine.guest self.old.machine.dirty }
+        ensures settled { self.new.machine.settled ≡ self.old.machine.settled }
+        ensures room { HaveRoom result self.old.machine.guest self.old.machine.outbox }
+        ensures cut_needed { result < count → stepping_frames < length self.new.machine.outbox }
+        ensures texts { self.new.texts ≡ self.old.texts }
+    {
+        self.machine.run(count)
+    }
+
+    /// A frame arrives, as `arrive` of the machine has it.
+    pub fn arrive(&mut self, frame: &Frame) -> bool
+        requires long { 14 ≤ length frame.now.items }
+        ensures guest { self.new.machine.guest ≡ arrived self.old.machine.guest frame.now }
+        ensures outbox { self.new.machine.outbox ≡ self.old.machine.outbox }
+        ensures dirty { self.new.machine.dirty ≡ self.old.machine.dirty }
+        ensures settled { self.new.machine.settled ≡ self.old.machine.settled }
+        ensures texts { self.new.texts ≡ self.old.texts }
+    {
+        self.machine.arrive(frame)
+    }
+
+    /// Empties the machine's outbox.
+    pub fn clear_outbox(&mut self)
+        ensures machine { self.new.machine ≡ record self.old.machine { outbox = [] } }
+        ensures texts { self.new.texts ≡ self.old.texts }
+    {
+        self.machine.clear_outbox();
+    }
+
+    /// The machine is settled, and this text is the last one. What is left of a full text is made before that.
+    pub fn settle_with(&mut self, text: Vec<u8>)
+        requires { length self.old.texts < most_texts }
+        ensures machine { self.new.machine ≡ settled_at self.old.machine }
+        ensures texts { self.new.texts ≡ self.old.texts ++ text.items ∷ [] }
+    {
+        finish(&self.machine, &mut self.full, &mut self.texts);
+        self.machine.settle();
+        put_last(&mut self.texts, text);
+    }
+
+    /// The machine is settled, and the text of its full checkpoint, of the memory that it has now, is the only one.
+    pub fn settle_at(&mut self, full: FullText)
+        requires pages { AreIn (length self.old.machine.guest.ram) full.pages }
+        ensures machine { self.new.machine ≡ settled_at self.old.machine }
+        ensures texts { self.new.texts ≡ whole self.old.machine.guest.ram full ∷ [] }
+    {
+        self.texts.clear();
+        self.machine.settle();
+        self.full = Some(full);
+    }
+
+    /// Lets go of the first `count` texts.
+    pub fn drop_first(&mut self, count: usize)
+        requires { count ≤ length self.old.texts }
+        ensures machine { self.new.machine ≡ self.old.machine }
+        ensures texts { self.new.texts ≡ drop count self.old.texts }
+    {
+        match self.full.take() {
+            None => drop_first(&mut self.texts, count),
+            Some(full) => self.full = without(full, count),
+        }
+    }
+
+    /// Lets go of all texts.
+    pub fn clear(&mut self)
+        ensures machine { self.new.machine ≡ self.old.machine }
+        ensures texts { self.new.texts ≡ [] }
+    {
+        self.full = None;
+        self.texts.clear();
+    }
+
+    /// Makes more of the full text, if one is made in part: up to `count` bytes from place `from` on at least, or all of it. It takes no memory.
+    pub fn make(&mut self, from: u64, count: u64)
+        ensures machine { self.new.machine ≡ self.old.machine }
+        ensures texts { self.new.texts ≡ self.old.texts }
+        ensures made { IfSome self.new.full (IsMadeTo (from + count)) }
+    {
+        make_ahead(&self.machine, &mut self.full);
+        make_to(&self.machine, &mut self.full, from, count);
+    }
+
+    /// Of the text at a place the bytes from place `from` on, `count` of them or as many as there are. A full text is made as far, as the
+    /// caller knows.
+    pub fn part(&self, place: usize, from: u64, count: u64) -> &[u8]
+        requires place { place < length self.now.texts }
+        requires made { IfSome self.now.full (IsMadeTo (from + count)) }
+        ensures { result.now ≡ part_of from count (slice_index_or self.now.texts place []) }
+    {
+        match &self.full {
+            None => part_of(&self.texts[place], from, count),
+            Some(full) => made_part(full, from, count),
+        }
+    }
+}
+
+/// A full text, unless so many texts are let go.
+fn without(full: FullText, count: usize) -> Option<FullText>
+    ensures { result ≡ (if count == 0 then Some full else None) }
+{
+    if count == 0 { Some(full) } else { None }
+}
+
+/// Of a full text, which is made as far, the bytes from place `from` on, `count` of them or as many as there are.
+fn made_part(full: &FullText, from: u64, count: u64) -> &[u8]
+    requires { IsMadeTo (from + count) full.now }
+    ensures { (settled : List ℕ) → result.now ≡ part_of from count (whole settled full.now) }
+{
+    part_of(full.made(), from, count)
+}
+
+/// Makes what is left of the full text, which is the only one, and puts it into the row.
+fn finish(machine: &Machine, full: &mut Option<FullText>, texts: &mut Vec<Vec<u8>>)
+    requires fits { FullFits machine.now full.old (map (λ t. t.items) texts.old.items) }
+    requires room { most_texts ≤ vec_capacity texts.old }
+    ensures none { full.new ≡ None }
+    ensures texts { map (λ t. t.items) texts.new.items ≡ texts_of machine.now.settled full.old (map (λ t. t.items) texts.old.items) }
+    ensures room { vec_capacity texts.old ≤ vec_capacity texts.new }
+{
+    let _shape = machine.shape();
+    match full.take() {
+        None => {}
+        Some(full) => put_last(texts, full.into_whole(machine)),
+    }
+}
+
+/// Makes the next bytes of the full text.
+fn make_ahead(machine: &Machine, full: &mut Option<FullText>)
+    requires { FullFits machine.now full.old [] }
+    ensures fits { FullFits machine.now full.new [] }
+    ensures same { texts_of machine.now.settled full.new [] ≡ texts_of machine.now.settled full.old [] }
+{
+    let _shape = machine.shape();
+    match full {
+        None => {}
+        Some(full) => {
+            let made = full.made().len() as u64;
+            full.make_to(machine, made, AHEAD);
+        }
+    }
+}
+
+/// Makes the full text up to `count` bytes from place `from` on, or all of it.
+fn make_to(machine: &Machine, full: &mut Option<FullText>, from: u64, count: u64)
+    requires { FullFits machine.now full.old [] }
+    ensures fits { FullFits machine.now full.new [] }
+    ensures same { texts_of machine.now.settled full.new [] ≡ texts_of machine.now.settled full.old [] }
+    ensures made { IfSome full.new (IsMadeTo (from + count)) }
+{
+    let _shape = machine.shape();
+    match full {
+        None => {}
+        Some(full) => full.make_to(machine, from, count),
+    }
+}

@@ -1,0 +1,220 @@
+//! The text of a full checkpoint, of which a part is made.
+ghost use Rattle.std.specs.Prelude.{◌≡◌, ◌≤◌, ◌<◌, ◌*◌, ◌+◌, ◌^◌, ◌++◌, [], All, length, IfOk};
+ghost use Rattle.epoch_snapshot.specs.Cuts.{changed_sectors};
+ghost use Rattle.checkpoint_stream.specs.Bounds.{most_text};
+ghost use Rattle.checkpoint_stream.specs.HeadTable.{bytes_of, head_table};
+ghost use Rattle.checkpoint_stream.specs.Text.{head_numbers, joined, number_units, sector_units};
+ghost use Rattle.checkpoint_stream.specs.Widths.{HasWidths};
+ghost use Rattle.checkpoint_stream.specs.declared.rules.Width.TheVariants.{Four};
+ghost use Rattle.guest_machine.specs.Guest.{sector_count};
+ghost use Rattle.full_text.specs.Full.{AreIn, IsFullText, IsMadeTo, blank, record_size, records_size, size, whole};
+
+use crate::found::{used_pages, used_sectors};
+use crate::records::{put, put_four, put_records};
+use checkpoint_stream::{StreamError, encode, text_is_read_back};
+use epoch_snapshot::{BLOCK_BYTES, Checkpoint, PageChange};
+use frame_list::FrameList;
+use guest_machine::{Machine, SECTOR_BYTES, Shape};
+use memory_wanted::{MemoryWanted, with_capacity};
+use std::alloc::Global;
+use std::marker::Model;
+
+/// The form in which checkpoints are written.
+const VERSION: u32 = 2;
+
+/// The bytes of a count.
+const COUNT_BYTES: usize = 4;
+
+/// The bytes of a page's record beside its blocks.
+const RECORD_BYTES: usize = 12;
+
+/// The text of a machine's full checkpoint, of which a part is made. It has room for all of it from the start. The rest is made of the memory
+/// that the machine had at its last settle: the machine is settled once after [`FullText::new`], and then not until the text is whole.
+#[derive(Drop)]
+pub struct FullText {
+    made: Vec<u8>,
+    pages: Vec<PageChange>,
+    next: usize,
+    tail: Vec<u8>,
+}
+
+impl Model for FullText {
+    ghost use Rattle.full_text.specs.Full.{Making};
+
+    ghost Value = { Making };
+
+    ghost use Rattle.full_text.specs.internal.Fields.{making, IsMaking};
+
+    ghost view = { making };
+
+    ghost invariant = { IsMaking };
+}
+
+impl FullText {
+    /// The text of the full checkpoint of what the machine holds now, number 0 of this generation, which is 1 to 2^62 - 1, as the caller knows.
+    /// Its head and its sectors are made, and of memory it is only found which blocks aren't all zero. The machine stays as it is.
+    ///
+    /// # Errors
+    /// The growth that was really refused.
+    pub fn new(alloc: Global, machine: &Machine, generation: u64) -> Result<FullText, MemoryWanted>
+        requires first { 1 ≤ generation }
+        requires last { generation < 2 ^ 62 }
+        ensures text { IfOk result (λ f. IsFullText machine.now generation (whole machine.now.guest.ram f)) }
+        ensures size { IfOk result (λ f. length (whole machine.now.guest.ram f) ≡ size f) }
+        ensures pages { IfOk result (λ f. AreIn (length machine.now.guest.ram) f.pages) }
+    {
+        let shape = machine.shape();
+        let _state = machine.state();
+        let mut pages = Vec::new(alloc);
+        let mut used = Vec::new(alloc);
+        used_pages(machine, shape.pages, &mut pages)?;
+        used_sectors(machine, shape.sectors, &mut used)?;
+        let head = head_of(alloc, machine, shape, generation)?;
+        let tail = tail_of(alloc, machine, used.as_slice())?;
+        let room = head.len() + COUNT_BYTES + size_of_records(pages.as_slice()) + tail.len();
+        let mut made = with_capacity(alloc, room)?;
+        put(&mut made, head.as_slice());
+        put_four(&mut made, pages.len() as u32);
+        text_is_read_back();
+        Ok(FullText {
+            made,
+            pages,
+            next: 0,
+            tail,
+        })
+    }
+
+    /// How many bytes the whole text has.
+    pub fn size(&self) -> usize
+        ensures { result ≡ size self.now }
+    {
+        self.made.len() + size_of_records(&self.pages[self.next..]) + self.tail.len()
+    }
+
+    /// The bytes that are made, from the first on.
+    pub fn made(&self) -> &[u8]
+        ensures { result.now ≡ self.now.made }
+    {
+        self.made.as_slice()
+    }
+
+    /// Makes the text up to `count` bytes from place `from` on at least, or all of it, of the memory that this machine, whose text it is, had at
+    /// its last settle. It takes no memory beside what was reserved.
+    pub fn make_to(&mut self, machine: &Machine, from: u64, count: u64)
+        requires { AreIn (length machine.now.guest.ram) self.old.pages }
+        ensures same { whole machine.now.settled self.new ≡ whole machine.now.settled self.old }
+        ensures size { size self.new ≡ size self.old }
+        ensures made { IsMadeTo (from + count) self.new }
+        ensures pages { AreIn (length machine.now.guest.ram) self.new.pages }
+    {
+        self.next += put_records(
+            &mut self.made,
+            machine,
+            &self.pages[self.next..],
+            from,
+            count,
+        );
+        if self.next >= self.pages.len() {
+            put(&mut self.made, self.tail.as_slice());
+            self.tail.clear();
+        }
+    }
+
+    /// The whole text. What is left of it is made as by [`make_to`](FullText::make_to).
+    pub fn into_whole(self, machine: &Machine) -> Vec<u8>
+        requires { AreIn (length machine.now.guest.ram) self.pages }
+        ensures { result.items ≡ whole machine.now.settled self }
+    {
+        let mut full = self;
+        let size = full.size();
+        full.make_to(machine, 0, size as u64);
+        full.into_made()
+    }
+
+    /// The text, of which nothing is left to make, as the caller knows.
+    fn into_made(self) -> Vec<u8>
+        requires pages { self.pages ≡ [] }
+        requires tail { self.tail ≡ [] }
+        ensures { result.items ≡ self.made }
+    {
+        self.made
+    }
+}
+
+/// How many bytes the record of a page has.
+fn size_of_record(page: PageChange) -> usize
+    ensures value { result ≡ record_size page }
+    ensures most { result ≤ 4108 }
+{
+    RECORD_BYTES + BLOCK_BYTES * page.mask.count_ones() as usize
+}
+
+/// How many bytes the records of these pages have.
+fn size_of_records(pages: &[PageChange]) -> usize
+    requires { length pages.now < 2 ^ 32 }
+    ensures value { result ≡ records_size pages.now }
+    ensures most { result ≤ 4108 * length pages.now }
+{
+    let mut size = 0;
+    for page in pages {
+        size += size_of_record(*page);
+    }
+    size
+}
+
+/// The head of a full checkpoint's text.
+fn head_of(
+    alloc: Global,
+    machine: &Machine,
+    shape: Shape,
+    generation: u64,
+) -> Result<Vec<u8>, MemoryWanted>
+    requires first { 1 ≤ generation }
+    requires last { generation < 2 ^ 62 }
+    ensures head { IfOk result (λ head. head.items ≡ joined (number_units head_table (head_numbers (blank shape machine.now.guest generation)))) }
+    ensures short { IfOk result (λ head. length head.items ≤ most_text shape) }
+    ensures widths { IfOk result (λ head. HasWidths (blank shape machine.now.guest generation)) }
+{
+    let checkpoint = Checkpoint::from_parts(
+        VERSION,
+        shape,
+        generation,
+        0,
+        machine.state(),
+        Vec::new(alloc),
+        Vec::new(alloc),
+        Vec::new(alloc),
+        FrameList::new(alloc),
+    );
+    let encoded = encode(alloc, &checkpoint);
+    drop(checkpoint);
+    let mut text = match encoded {
+        Ok(text) => text,
+        Err(StreamError::NoMemory(wanted)) => return Err(wanted),
+        Err(StreamError::Malformed(_)) => unreachable!(),
+    };
+    let head = text.len() - 3 * COUNT_BYTES;
+    text.truncate(head);
+    Ok(text)
+}
+
+/// What stands behind the page records of a full checkpoint's text: the count of these sectors, their records, and the count of no frames.
+fn tail_of(alloc: Global, machine: &Machine, used: &[u32]) -> Result<Vec<u8>, MemoryWanted>
+    requires few { length used.now < 2 ^ 32 }
+    requires sectors { All (λ s. s < sector_count machine.now.guest.sectors) used.now }
+    ensures size { IfOk result (λ tail. length tail.items ≡ 8 + 516 * length used.now) }
+    ensures tail { IfOk result (λ tail. tail.items
+        ≡ (bytes_of Four (length used.now) ++ joined (sector_units (changed_sectors machine.now.guest.sectors used.now))) ++ bytes_of Four 0) }
+{
+    let mut tail = with_capacity(
+        alloc,
+        2 * COUNT_BYTES + (COUNT_BYTES + SECTOR_BYTES) * used.len(),
+    )?;
+    put_four(&mut tail, used.len() as u32);
+    for sector in used {
+        put_four(&mut tail, *sector);
+        put(&mut tail, machine.sector(*sector));
+    }
+    put_four(&mut tail, 0);
+    Ok(tail)
+}
