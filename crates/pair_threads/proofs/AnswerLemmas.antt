@@ -1,5 +1,5 @@
 -- The lines of a file, answered.
-use Rattle.std.proofs.Common.{◌≡◌, ℕ, suc, ◌-◌, ◌≤◌, ◌<◌, List, [], ◌∷◌, ◌++◌, map, length, Option, None, set, get_or, slice_index_or, refl, sym}
+use Rattle.std.proofs.Common.{◌≡◌, ℕ, suc, ◌-◌, ◌≤◌, ◌<◌, List, [], ◌∷◌, ◌++◌, map, length, Option, None, set, get_or, sym}
 use Rattle.std.proofs.Common.{ap, subst, ◌∙◌, arith, append_assoc, append-nil}
 use Rattle.pair_history.specs.HistoryState.{HistoryState}
 use Rattle.pair_run.specs.declared.run_file.Action.{Action}
@@ -13,8 +13,8 @@ use Rattle.hypervisor.specs.Opening.{new_client}
 use Rattle.pair_threads.specs.Lines.{clients_of}
 use Rattle.pair_threads.specs.Seats.{AreSeated, sits}
 use Rattle.pair_threads.specs.Served.{AreServed}
-use Rattle.pair_threads.specs.Told.{AreAnswered, IsAnswered, HasMade, MayAnswerAll, told_by}
-use Rattle.pair_threads.specs.internal.Scripts.{ScriptState, IsPlayed, IsScript, AreScripts, answered_of, client_of}
+use Rattle.pair_threads.specs.Told.{AreAnswered, IsAnswered, MayAnswerAll, told_by}
+use Rattle.pair_threads.specs.internal.Scripts.{ScriptState, HasPlayed, IsScript, AreScripts, answered_of, client_of}
 use Rattle.pair_threads.proofs.SeatLemmas.{taken}
 
 -- one script more
@@ -33,7 +33,7 @@ module _ (start : HistoryState) (unseen : (c : ℕ) → own start (new_client c)
   abbrev AllKeep : List ClientState → Type 0
   AllKeep cs = (i : ℕ) (c : ClientState) → i < length cs → Keeps (get_or cs i c)
 
-  one-answered : (line : ClientLine) (script ended : ScriptState) → IsScript line script → IsPlayed start script ended
+  one-answered : (line : ClientLine) (script ended : ScriptState) → IsScript line script → HasPlayed start script ended
       → Keeps ended.client → IsAnswered (history_of start all) line (answered_of ended)
   one-answered line script ended is played keeps =
       let same : ended.line ≡ line = played.0 ∙ is.line in
@@ -54,7 +54,7 @@ module _ (start : HistoryState) (unseen : (c : ℕ) → own start (new_client c)
       }
 
   answered-all : (lines : List ClientLine) (scripts ended : List ScriptState) → AreScripts lines scripts
-      → AreServed (IsPlayed start) scripts ended → AllKeep (map client_of ended)
+      → AreServed (HasPlayed start) scripts ended → AllKeep (map client_of ended)
       → AreAnswered (history_of start all) lines (map answered_of ended)
   answered-all [] [] [] are served keep = tt
   answered-all [] [] (e ∷ es) are served keep = absurd (omega (arith, served.0))
@@ -69,7 +69,7 @@ module _ (start : HistoryState) (unseen : (c : ℕ) → own start (new_client c)
 
   -- they have looked
   pub all-answered : (lines : List ClientLine) (scripts ended : List ScriptState) (looked : List ClientState) → AreScripts lines scripts
-      → AreServed (IsPlayed start) scripts ended → SeeAll start all (map client_of ended) looked
+      → AreServed (HasPlayed start) scripts ended → SeeAll start all (map client_of ended) looked
       → AreAnswered (history_of start all) lines (map answered_of ended)
   all-answered lines scripts ended looked are served see =
       answered-all lines scripts ended are served (λ i x low. (see.each i x low).own)

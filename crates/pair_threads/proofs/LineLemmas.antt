@@ -2,10 +2,9 @@
 use Rattle.std.proofs.Common.{◌≡◌, ℕ, ◌+◌, ◌==◌, ◌≤◌, Bool, true, false, ◌||◌, List, [], ◌∷◌, ◌++◌, map, refl, sym, ap, subst, ◌∙◌, arith}
 use Rattle.std.proofs.lemmas.List.{map-append}
 use Rattle.std.specs.List.{list_any}
-use Rattle.script_player.specs.Boot.{boot_line}
 use Rattle.script_player.specs.Meaning.{lines_of}
 use Rattle.pair_run.specs.RunFile.{ClientLine, RunFile, Stage, unbooted, booted, told, GoesOn, is_silence, boots, tells, adds, has_line}
-use Rattle.pair_run.specs.RunFile.{IsFree, Outcome, says, bad, refused, Means, ends, lacks_boot, lacks_epochs, goes_on, ends_badly}
+use Rattle.pair_run.specs.RunFile.{IsFree, Outcome, says, Means, ends, lacks_boot, lacks_epochs, goes_on, ends_badly}
 use Rattle.pair_run.specs.RunFile.{ends_refused, with_client}
 use Rattle.pair_run.specs.Views.{client_line, run_file}
 use Rattle.pair_run.specs.declared.run_file.ClientLine.{ClientLine as ReadClientLine}

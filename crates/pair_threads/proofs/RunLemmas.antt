@@ -1,18 +1,25 @@
 -- What was printed of a run.
-use Rattle.std.proofs.Common.{◌≡◌, ℕ, ◌+◌, ◌⊎◌, inl, inr, Bool, List, [], ◌++◌, Result, Ok, Err, subst, sym, ap, ◌∙◌, append_assoc, append-nil}
+use Rattle.std.proofs.Common.{◌≡◌, ℕ, ◌+◌, inl, inr, Bool, List, [], ◌++◌, Result, Ok, Err, IfOk, subst, sym, ap, ◌∙◌, append_assoc, append-nil}
 use Rattle.std.specs.Io.KnownBytes.{Appends}
 use Rattle.std.proofs.KnownBytes.{Appends-trans}
 use Rattle.pair_history.specs.HistoryState.{HistoryState}
-use Rattle.growing_history.specs.LogState.{state_at}
+use Rattle.growing_history.specs.LogState.{state_at, history_of}
 use Rattle.growing_history.specs.Steps.{Step}
+use Rattle.hypervisor.specs.Clients.{own}
 use Rattle.hypervisor.specs.Looking.{HasFound}
+use Rattle.hypervisor.specs.Opening.{new_client}
 use Rattle.hypervisor.specs.declared.looking.Found.{Found}
-use Rattle.script_player.specs.Streams.{Writing, Writes, WritesFront, IsPut}
+use Rattle.script_player.specs.Streams.{Writing, Writes, IsPut}
 use Rattle.pair_run.specs.RunPrinted.{IsWritten, run_text}
 use Rattle.pair_run.specs.declared.printing.Answered.{Answered}
+use Rattle.pair_run.specs.declared.run_file.ClientLine.{ClientLine}
 use Rattle.pair_run.specs.declared.run_file.RunFile.{RunFile}
-use Rattle.pair_threads.specs.Runs.{IsPlayed, IsRun, IsRunOf, IsSaid, IsWhole, printed, cut_short, is_bad, unread}
+use Rattle.pair_threads.specs.Runs.{IsPlayed, IsRun, IsRunFrom, IsRunOf, IsSaid, IsWhole, printed, cut_short, is_bad, unread}
+use Rattle.pair_threads.specs.Served.{AreServed}
+use Rattle.pair_threads.specs.Told.{AreAnswered}
+use Rattle.pair_threads.specs.internal.Scripts.{ScriptState, AreScripts, HasEnded, HasPlayed}
 use Rattle.pair_threads.specs.internal.Shown.{IsShown, IsTold}
+use Rattle.pair_threads.proofs.AnswerLemmas.{all-answered}
 use Rattle.pair_run.specs.Views.{IsReadAs}
 use Rattle.pair_run.specs.declared.run_file.Unread.{Unread}
 use Rattle.pair_run.specs.declared.run_file.Unread.TheVariants.{Bad, NoMemory}
@@ -57,6 +64,31 @@ whole-found start all epochs found has is = record {
   generation = sym has.generation ∙ is.0;
   next = sym has.next ∙ is.1;
   sealed = has.sealed is.2;
+}
+
+-- of a value that was had
+pub of-had : {T E : Type 0} (r : Result T E) (x : T) (P : T → Type 0) → r ≡ Ok x → IfOk r P → P x
+of-had {T} {E} r x P is has = subst (λ (s : Result T E). IfOk s P) is has
+
+-- of one that may have been had
+pub if-had : {T E : Type 0} (r : Result T E) (P Q : T → Type 0) → ((x : T) → P x → Q x) → IfOk r P → IfOk r Q
+if-had (Ok x) P Q so has = so x has
+if-had (Err e) P Q so has = tt
+
+-- all that is told of a run that has ended, by the lines of its scripts
+pub ended-run : (start : HistoryState) → ((c : ℕ) → own start (new_client c) ≡ []) → (lines : List ClientLine) (scripts ended : List ScriptState)
+    (epochs : ℕ) (clients : List Answered) (entries : ℕ) (is_whole : Bool) → AreScripts lines scripts
+    → AreServed (HasPlayed start) scripts ended → HasEnded start ended epochs clients entries is_whole
+    → IsRunFrom start lines epochs clients entries is_whole
+ended-run start unseen lines scripts ended epochs clients entries is_whole are served e = record {
+  all = e.all;
+  legal = e.has.legal;
+  guest = e.has.guest;
+  answered =
+      subst (AreAnswered (history_of start e.all) lines) (sym e.answered)
+      (all-answered start unseen e.all lines scripts ended e.looked are served e.see);
+  count = λ none. e.count ∙ e.has.entries none;
+  whole = λ is. whole-found start e.all epochs e.found e.has (e.whole is);
 }
 
 pub told-run : (source : List ℕ) (why : Unread) (out out' err err' : Writing) (status : ℕ) → IsReadAs source (Err why)

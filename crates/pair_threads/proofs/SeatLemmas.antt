@@ -1,13 +1,13 @@
 -- Clients that sit at their places until their lines take them.
-use Rattle.std.proofs.Common.{◌≡◌, ◌≢◌, ℕ, zero, suc, ◌+◌, ◌-◌, ◌==◌, ◌≤◌, ◌<◌, Bool, true, false, ◌||◌, ◌⊎◌, inl, inr, List, [], ◌∷◌, ◌++◌, map, length}
+use Rattle.std.proofs.Common.{◌≡◌, ◌≢◌, ℕ, zero, suc, ◌+◌, ◌-◌, ◌==◌, ◌≤◌, ◌<◌, false, ◌⊎◌, inl, inr, List, [], ◌∷◌, map, length}
 use Rattle.std.proofs.Common.{Option, Some, None, get_or, set, refl, sym, ap, subst, ◌∙◌, arith, length-append, add-one}
 use Rattle.std.proofs.lemmas.Bool.{cases_lt}
-use Rattle.std.proofs.lemmas.List.{get_or-set_other, get_or_append_left, get_or-append_right, get_or-map, length-map}
+use Rattle.std.proofs.lemmas.List.{get_or-set_other, get_or_append_left, get_or-append_right, get_or-map}
 use Rattle.std.specs.List.{list_any}
 use Rattle.hypervisor.specs.Clients.{ClientState}
 use Rattle.hypervisor.specs.Opening.{new_client, new_clients}
 use Rattle.pair_threads.specs.Lines.{AreClients}
-use Rattle.pair_threads.specs.Seats.{AreSeated, sits}
+use Rattle.pair_threads.specs.Seats.{AreSeated}
 use Rattle.pair_threads.proofs.LineLemmas.{neither}
 
 differs : (c d : ℕ) → (d == c) ≡ false → 1 ≤ c → 1 ≤ d → d - 1 ≢ c - 1

@@ -13,25 +13,40 @@ pub(crate) struct BackupEnds {
     pub(crate) answers: channel::Sender<Answer>,
 }
 
+/// What the backup's thread has. The backup stands in a box.
+#[derive(Drop)]
+pub(crate) struct Committing<P: Pair> {
+    pub(crate) backup: Box<Backup<P>>,
+    pub(crate) ends: BackupEnds,
+}
+
 /// Reads and commits what comes, and answers to each packet, until the sender has ended. Where it can't go on, the run is to end.
 pub(crate) fn commit_all<P: Pair, R: Wait>(
     rt: &R,
-    backup: &mut Backup<P>,
-    ends: BackupEnds,
+    mut committing: Committing<P>,
     signals: &Signals,
 ) {
     for _ in rt.forever() {
-        let Ok(packet) = ends.packets.recv(rt) else {
-            return;
-        };
-        let Some(answer) = answer_to(rt, backup, &packet) else {
-            signals.stop();
-            return;
-        };
-        if ends.answers.send(rt, answer).is_err() {
+        if !commit_next(rt, &mut committing, signals) {
             return;
         }
     }
+}
+
+/// Reads and commits the packet that comes next, and answers to it. Answers whether more may come.
+fn commit_next<P: Pair, R: Wait>(
+    rt: &R,
+    committing: &mut Committing<P>,
+    signals: &Signals,
+) -> bool {
+    let Ok(packet) = committing.ends.packets.recv(rt) else {
+        return false;
+    };
+    let Some(answer) = answer_to(rt, committing.backup.as_mut(), &packet) else {
+        signals.stop();
+        return false;
+    };
+    committing.ends.answers.send(rt, answer).is_ok()
 }
 
 /// Reads a packet and commits it. Answers what is to be answered to it; none where the backup can't go on.

@@ -6,21 +6,29 @@ use hypervisor::{Pair, Refusal, Runner};
 use std::sync::Wait;
 use std::thread;
 
+/// What the runner's thread has. The runner stands in a box.
+#[derive(Drop)]
+pub(crate) struct Running<P: Pair> {
+    pub(crate) runner: Box<Runner<P>>,
+    pub(crate) epochs: u64,
+    pub(crate) steps: u64,
+    pub(crate) pace: UntilStopped,
+}
+
 /// Runs so many epochs of at most so many steps, at this pace, and submits each. Where one can't be, the run is to end.
-pub(crate) fn run_epochs<P: Pair, R: Wait>(
-    rt: &R,
-    runner: &mut Runner<P>,
-    epochs: u64,
-    steps: u64,
-    mut pace: UntilStopped,
-) {
-    for _ in 0..epochs {
-        if !run_epoch(rt, runner, steps, &mut pace) {
-            pace.signals.stop();
+pub(crate) fn run_epochs<P: Pair, R: Wait>(rt: &R, mut running: Running<P>) {
+    for _ in 0..running.epochs {
+        if !run_epoch(
+            rt,
+            running.runner.as_mut(),
+            running.steps,
+            &mut running.pace,
+        ) {
+            running.pace.signals.stop();
             break;
         }
     }
-    pace.signals.end_runner();
+    running.pace.signals.end_runner();
 }
 
 /// Runs one epoch and submits it. Answers whether it was submitted.

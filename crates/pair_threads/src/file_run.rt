@@ -1,17 +1,20 @@
 //! `remus run FILE`.
-ghost use Rattle.std.specs.Prelude.{◌≡◌, ◌+◌, true, IfOk, codes};
-ghost use Rattle.hypervisor.specs.Opening.{start_with};
+ghost use Rattle.std.specs.Prelude.{◌≡◌, ℕ, ◌+◌, true, [], IfOk, codes};
+ghost use Rattle.hypervisor.specs.Clients.{own};
+ghost use Rattle.hypervisor.specs.Opening.{new_client, start_with};
 ghost use Rattle.pair_run.specs.RunPrinted.{IsWritten, run_text};
 ghost use Rattle.pair_threads.specs.Lines.{AreClients, clients_of};
 ghost use Rattle.pair_threads.specs.Runs.{IsPlayed, IsRun, IsRunFrom, IsRunOf, IsSaid, status_of};
+ghost use Rattle.pair_threads.specs.internal.Scripts.{AreScripts, HasEnded};
 ghost use Rattle.pair_threads.specs.internal.Shown.{IsShown, IsTold};
 ghost use Rattle.script_player.specs.Boot.{IsInLimits, boot_line};
 
 use crate::booting::boot_pair;
-use crate::scripts::{answered, scripts_of};
-use crate::threads::{members_of, run_members};
+use crate::both::both;
+use crate::scripts::{Lists, Script, listed, room_for, scripts_of};
+use crate::threads::{Ended, Members, members_of, run_members};
 use hypervisor::{Found, Pair, UnnamedPair};
-use memory_wanted::{MemoryWanted, with_capacity};
+use memory_wanted::MemoryWanted;
 use pair_run::{Answered, ClientLine, RunFile, Unread, read_run, write_run};
 use script_player::sim::tell_bad_line;
 use script_player::streams::{Failed, Sink};
@@ -26,6 +29,13 @@ struct Played {
     clients: Vec<Answered>,
     entries: u64,
     is_whole: bool,
+}
+
+/// The scripts of a file, each with its client, and the pair's other members.
+#[derive(Drop)]
+struct Assigned<P: Pair> {
+    scripts: Vec<Script<P>>,
+    members: Members<P>,
 }
 
 /// There is no memory for a run, or no thread can be made.
@@ -162,24 +172,78 @@ fn play_named<P: Pair + Send + Sync, R: Threads + Wait + Sync>(
     requires clients { AreClients pair.clients (clients_of lines.items) }
     ensures { IfOk result (λ played. IsRunFrom P.start lines.items epochs played.clients.items played.entries played.is_whole) }
 {
-    let mut list = with_capacity(alloc, lines.len())?;
-    let mut seen_by = with_capacity(alloc, lines.len())?;
+    let lists = room_for(alloc, lines.len());
+    let Some((lists, assigned)) = both(lists, assign::<P>(alloc, pair, lines)) else {
+        return Err(Unplayed);
+    };
+    let Ok(ended) = run_members(rt, alloc, assigned.members, epochs, steps, assigned.scripts) else {
+        return Err(Unplayed);
+    };
+    told(rt, ended, lists, epochs)
+}
+
+/// Gives each line its client.
+///
+/// # Errors
+///
+/// [`Unplayed`] where there is no memory for it.
+fn assign<P: Pair>(
+    alloc: Global,
+    pair: UnnamedPair,
+    lines: Vec<ClientLine>,
+) -> Result<Assigned<P>, Unplayed>
+    requires word { pair.word ≡ P.word }
+    requires start { P.start ≡ start_with pair.guest pair.clients }
+    requires clients { AreClients pair.clients (clients_of lines.items) }
+    ensures scripts { IfOk result (λ assigned. AreScripts lines.items assigned.scripts.items) }
+    ensures unseen { IfOk result (λ _. (c : ℕ) → own P.start (new_client c) ≡ []) }
+{
     let (clients, members) = members_of::<P>(alloc, pair)?;
     let scripts = scripts_of(alloc, clients, lines)?;
-    let ended = run_members(rt, alloc, members, epochs, steps, scripts)?;
-    answered(ended.sessions, &mut list, &mut seen_by)?;
+    Ok(Assigned { scripts, members })
+}
+
+/// What came of a run that has ended. There is room for all of it in the lists.
+///
+/// # Errors
+///
+/// [`Unplayed`] where there isn't.
+fn told<P: Pair, R: Wait>(
+    rt: &R,
+    ended: Ended<P, Script<P>>,
+    lists: Lists<P>,
+    epochs: u64,
+) -> Result<Played, Unplayed>
+    requires answered { lists.answered.items ≡ [] }
+    requires clients { lists.clients.items ≡ [] }
+    ensures { IfOk result (λ played.
+        HasEnded P.start ended.sessions.items epochs played.clients.items played.entries played.is_whole) }
+{
+    let Ended {
+        sessions,
+        warden,
+        is_whole,
+    } = ended;
+    let Lists {
+        answered,
+        mut clients,
+    } = listed(sessions, lists)?;
     // All threads have ended, so this is all that happened.
-    let found = ended.warden.look(rt, &mut seen_by);
+    let found = warden.look(rt, &mut clients);
     Ok(Played {
-        clients: list,
+        clients: answered,
         entries: found.entries,
-        is_whole: ended.is_whole && is_whole(found, epochs),
+        is_whole: is_whole_by(found, is_whole, epochs),
     })
 }
 
-/// Whether all these epochs were sealed, and each is committed and acknowledged.
-fn is_whole(found: Found, epochs: u64) -> bool
+/// Whether all these epochs were sealed, and each is committed and acknowledged, in a run that nothing ended early.
+fn is_whole_by(found: Found, is_whole: bool, epochs: u64) -> bool
     ensures { result ≡ true → (found.generation ≡ 1) × (found.next ≡ epochs + 1) × (found.pending ≡ 0) }
 {
-    found.generation == 1 && found.next > 0 && found.next - 1 == epochs && found.pending == 0
+    is_whole
+        && found.generation == 1
+        && found.next > 0
+        && found.next - 1 == epochs
+        && found.pending == 0
 }

@@ -5,6 +5,7 @@
 #![tactic(auto)]
 
 mod booting;
+mod both;
 mod committing;
 mod epochs;
 mod file_run;

@@ -1,11 +1,11 @@
 //! What the clients of a file do.
-ghost use Rattle.std.specs.Prelude.{◌≡◌, ◌≤◌, ◌-◌, [], IfOk, OnOk, None, Some, length, map, set, vec_capacity};
+ghost use Rattle.std.specs.Prelude.{◌≡◌, ◌≤◌, ◌-◌, [], ◌∷◌, ◌++◌, IfOk, OnOk, None, Some, length, map, set, vec_capacity};
 ghost use Rattle.hypervisor.specs.Opening.{new_client};
 ghost use Rattle.pair_run.specs.declared.run_file.Action.TheVariants.{Deliver, Take};
 ghost use Rattle.pair_threads.specs.Lines.{clients_of};
 ghost use Rattle.pair_threads.specs.Seats.{AreSeated, sits};
 ghost use Rattle.pair_threads.specs.Told.{HasMade};
-ghost use Rattle.pair_threads.specs.internal.Scripts.{AreScripts, Tells, answered_of, client_of};
+ghost use Rattle.pair_threads.specs.internal.Scripts.{AddsScript, AreScripts, Tells, answered_of, client_of};
 
 use crate::sessions::Session;
 use hypervisor::{Client, Pair};
@@ -33,9 +33,9 @@ impl<P: Pair> Model for Script<P> {
 }
 
 impl<P: Pair + Send + Sync> Session for Script<P> {
-    ghost use Rattle.pair_threads.specs.internal.Scripts.{IsPlayed};
+    ghost use Rattle.pair_threads.specs.internal.Scripts.{HasPlayed};
 
-    ghost served = { IsPlayed P.start };
+    ghost served = { HasPlayed P.start };
 
     /// Makes the line's actions in their order.
     fn serve<R: Wait>(&mut self, rt: &R) -> bool {
@@ -129,6 +129,33 @@ fn take_client<P: Pair>(seats: &mut Vec<Option<Client<P>>>, number: u64) -> Clie
     client
 }
 
+/// The script of this line, with room for all answers, goes last into the list. Its client leaves its place.
+///
+/// # Errors
+///
+/// [`MemoryWanted`] where that room can't be had.
+fn add_script<P: Pair>(
+    alloc: Global,
+    seats: &mut Vec<Option<Client<P>>>,
+    scripts: &mut Vec<Script<P>>,
+    line: ClientLine,
+) -> Result<(), MemoryWanted>
+    requires one { 1 ≤ line.client }
+    requires sits { sits seats.old.items line.client }
+    ensures seats { OnOk result (seats.new.items ≡ set seats.old.items (line.client - 1) None) }
+    ensures added { OnOk result (AddsScript line scripts.old.items scripts.new.items) }
+{
+    let replies = with_capacity(alloc, line.actions.len())?;
+    let client = take_client(seats, line.client);
+    let script = Script {
+        client,
+        line,
+        replies,
+    };
+    push(scripts, script)?;
+    Ok(())
+}
+
 /// The scripts of these lines, in their order, with room for all answers.
 ///
 /// # Errors
@@ -142,45 +169,76 @@ pub(crate) fn scripts_of<P: Pair>(
     requires { AreSeated (map Some clients.items) (clients_of lines.items) }
     ensures { IfOk result (λ scripts. AreScripts lines.items scripts.items) }
 {
-    let mut seats = seats_of(alloc, clients)?;
     let mut scripts = with_capacity(alloc, lines.len())?;
+    let mut seats = seats_of(alloc, clients)?;
     for line in lines {
-        let replies = with_capacity(alloc, line.actions.len())?;
-        let client = take_client(&mut seats, line.client);
-        let script = Script {
-            client,
-            line,
-            replies,
-        };
-        push(&mut scripts, script)?;
+        add_script(alloc, &mut seats, &mut scripts, line)?;
     }
     Ok(scripts)
 }
 
-/// What they were answered, and their clients. There is room for all of it in the lists.
+/// What is told of scripts that have ended, in their order: what each was answered, and its client.
+#[derive(Drop)]
+pub(crate) struct Lists<P: Pair> {
+    pub(crate) answered: Vec<Answered>,
+    pub(crate) clients: Vec<Client<P>>,
+}
+
+/// Room for so many.
+///
+/// # Errors
+///
+/// [`MemoryWanted`] where it can't be had.
+pub(crate) fn room_for<P: Pair>(alloc: Global, count: usize) -> Result<Lists<P>, MemoryWanted>
+    ensures answered { IfOk result (λ lists. lists.answered.items ≡ []) }
+    ensures clients { IfOk result (λ lists. lists.clients.items ≡ []) }
+{
+    let answered = with_capacity(alloc, count)?;
+    let clients = with_capacity(alloc, count)?;
+    Ok(Lists { answered, clients })
+}
+
+/// Puts what is told of these into the lists, where there is room for it.
 ///
 /// # Errors
 ///
 /// [`MemoryWanted`] where there isn't.
-pub(crate) fn answered<P: Pair>(
+pub(crate) fn listed<P: Pair>(
     scripts: Vec<Script<P>>,
-    list: &mut Vec<Answered>,
-    clients: &mut Vec<Client<P>>,
-) -> Result<(), MemoryWanted>
-    requires list { list.old.items ≡ [] }
-    requires clients { clients.old.items ≡ [] }
-    ensures list { OnOk result (list.new.items ≡ map answered_of scripts.items) }
-    ensures clients { OnOk result (clients.new.items ≡ map client_of scripts.items) }
+    mut lists: Lists<P>,
+) -> Result<Lists<P>, MemoryWanted>
+    requires answered { lists.answered.items ≡ [] }
+    requires clients { lists.clients.items ≡ [] }
+    ensures answered { IfOk result (λ lists. lists.answered.items ≡ map answered_of scripts.items) }
+    ensures clients { IfOk result (λ lists. lists.clients.items ≡ map client_of scripts.items) }
 {
     for script in scripts {
-        push(
-            list,
-            Answered {
-                client: script.line.client,
-                replies: script.replies,
-            },
-        )?;
-        push(clients, script.client)?;
+        list(script, &mut lists)?;
     }
+    Ok(lists)
+}
+
+/// Puts what is told of this one last into the lists.
+///
+/// # Errors
+///
+/// [`MemoryWanted`] where there is no room for it.
+fn list<P: Pair>(script: Script<P>, lists: &mut Lists<P>) -> Result<(), MemoryWanted>
+    ensures answered { OnOk result (lists.new.answered.items ≡ lists.old.answered.items ++ answered_of script ∷ []) }
+    ensures clients { OnOk result (lists.new.clients.items ≡ lists.old.clients.items ++ client_of script ∷ []) }
+{
+    let Script {
+        client,
+        line,
+        replies,
+    } = script;
+    push(&mut lists.clients, client)?;
+    push(
+        &mut lists.answered,
+        Answered {
+            client: line.client,
+            replies,
+        },
+    )?;
     Ok(())
 }

@@ -14,39 +14,41 @@ pub(crate) struct SenderEnds {
     pub(crate) answers: channel::Receiver<Answer>,
 }
 
+/// What the sender's thread has.
+#[derive(Drop)]
+pub(crate) struct Sending<P: Pair> {
+    pub(crate) sender: Sender<P>,
+    pub(crate) ends: SenderEnds,
+}
+
 /// Sends each checkpoint that is pending, and hands in what is acknowledged, until the runner has ended and none is pending. Where it
 /// can't go on, the run is to end.
-pub(crate) fn send_all<P: Pair, R: Wait>(
-    rt: &R,
-    sender: &mut Sender<P>,
-    ends: SenderEnds,
-    signals: &Signals,
-) {
+pub(crate) fn send_all<P: Pair, R: Wait>(rt: &R, mut sending: Sending<P>, signals: &Signals) {
     for _ in rt.forever() {
-        if signals.is_stopped() {
+        if signals.is_stopped() || !send_next(rt, &mut sending, signals) {
             return;
         }
-        // Asked for first: what was submitted before the runner ended is then pending.
-        let has_runner_ended = signals.has_runner_ended();
-        match sender.next(rt) {
-            Ok(Some(packet)) => {
-                if !send(rt, sender, &ends, packet) {
-                    signals.stop();
-                    return;
-                }
-            }
-            Ok(None) => {
-                if has_runner_ended {
-                    return;
-                }
+    }
+}
+
+/// Sends the checkpoint that is next, where one is pending. Answers whether there may be more to send.
+fn send_next<P: Pair, R: Wait>(rt: &R, sending: &mut Sending<P>, signals: &Signals) -> bool {
+    // Asked for first: what was submitted before the runner ended is then pending.
+    let has_runner_ended = signals.has_runner_ended();
+    let goes_on = match sending.sender.next(rt) {
+        Ok(Some(packet)) => send(rt, &mut sending.sender, &sending.ends, packet),
+        Ok(None) => {
+            if !has_runner_ended {
                 thread::yield_now();
             }
-            Err(_) => {
-                signals.stop();
-                return;
-            }
+            return !has_runner_ended;
         }
+        Err(_) => false,
+    };
+    if !goes_on {
+        signals.stop();
     }
+    goes_on
 }
 
 /// Sends a packet, and waits for what is answered to it. Answers whether the sender can go on: not where a channel's other end is gone.

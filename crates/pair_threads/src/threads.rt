@@ -3,11 +3,12 @@ ghost use Rattle.std.specs.Prelude.{◌≡◌, IfOk};
 ghost use Rattle.hypervisor.specs.Opening.{AreNew, start_with};
 ghost use Rattle.pair_threads.specs.Served.{AreServed};
 
-use crate::committing::{BackupEnds, commit_all};
-use crate::epochs::run_epochs;
+use crate::both::both;
+use crate::committing::{BackupEnds, Committing, commit_all};
+use crate::epochs::{Running, run_epochs};
 use crate::messages::{MOST_ANSWERS, MOST_PACKETS};
 use crate::pace::UntilStopped;
-use crate::sending::{SenderEnds, send_all};
+use crate::sending::{SenderEnds, Sending, send_all};
 use crate::sessions::{Session, serve};
 use crate::signals::Signals;
 use crossbeam_channel as channel;
@@ -56,15 +57,51 @@ pub fn members_of<P: Pair>(
         sender,
         backup,
         warden,
-        loss: _,
+        loss,
     } = pair.named::<P>()?;
+    drop(loss);
+    let Some((runner, backup)) = both(Box::new(alloc, runner), Box::new(alloc, backup)) else {
+        return Err(AllocError);
+    };
     let members = Members {
-        runner: Box::new(alloc, runner)?,
+        runner,
         sender,
-        backup: Box::new(alloc, backup)?,
+        backup,
         warden,
     };
     Ok((clients, members))
+}
+
+/// The sender's ends of the two channels, and the backup's.
+///
+/// # Errors
+///
+/// [`AllocError`] where the memory for the channels can't be had.
+fn channels(alloc: Global) -> Result<(SenderEnds, BackupEnds), AllocError> {
+    let (to_backup, from_sender) = channel::bounded(alloc, MOST_PACKETS)?;
+    let (to_sender, from_backup) = channel::bounded(alloc, MOST_ANSWERS)?;
+    let sender = SenderEnds {
+        packets: to_backup,
+        answers: from_backup,
+    };
+    let backup = BackupEnds {
+        packets: from_sender,
+        answers: to_sender,
+    };
+    Ok((sender, backup))
+}
+
+/// The signals of a run, and the pace that looks at them.
+///
+/// # Errors
+///
+/// [`AllocError`] where the memory for them can't be had.
+fn new_signals(alloc: Global) -> Result<(Arc<Signals>, UntilStopped), AllocError> {
+    let signals = Arc::new(alloc, Signals::new())?;
+    let pace = UntilStopped {
+        signals: Arc::try_clone(&signals)?,
+    };
+    Ok((signals, pace))
 }
 
 /// Runs so many epochs of at most so many steps. Runner, sender, backup and each session have a thread of their own, as far as these can be
@@ -85,58 +122,76 @@ pub fn run_members<P: Pair + Send + Sync, S: Session, R: Threads + Wait + Sync>(
 ) -> Result<Ended<P, S>, AllocError>
     ensures { IfOk result (λ ended. AreServed S.served sessions.items ended.sessions.items) }
 {
+    let Some((channels, signals)) = both(channels(alloc), new_signals(alloc)) else {
+        return Err(AllocError);
+    };
+    let (sender_ends, backup_ends) = channels;
+    let (signals, pace) = signals;
     let Members {
-        mut runner,
-        mut sender,
-        mut backup,
+        runner,
+        sender,
+        backup,
         warden,
     } = members;
-    let (to_backup, from_sender) = channel::bounded(alloc, MOST_PACKETS)?;
-    let (to_sender, from_backup) = channel::bounded(alloc, MOST_ANSWERS)?;
-    let sender_ends = SenderEnds {
-        packets: to_backup,
-        answers: from_backup,
+    let running = Running {
+        runner,
+        epochs,
+        steps,
+        pace,
     };
-    let backup_ends = BackupEnds {
-        packets: from_sender,
-        answers: to_sender,
+    let sending = Sending {
+        sender,
+        ends: sender_ends,
     };
-    let signals = Arc::new(alloc, Signals::new())?;
-    let pace = UntilStopped {
-        signals: Arc::try_clone(&signals)?,
+    let committing = Committing {
+        backup,
+        ends: backup_ends,
     };
-    let shared = &*signals;
-    let served = thread::scope(
-        thread::scope_env(),
-        rt,
-        move |scope| -> Result<Vec<S>, AllocError>
-            ensures { IfOk result (λ done. AreServed S.served sessions.items done.items) }
-        {
-            let has_runner = scope
-                .spawn(move || run_epochs(rt, runner.as_mut(), epochs, steps, pace))
-                .is_ok();
-            let has_sender = scope
-                .spawn(move || send_all(rt, &mut sender, sender_ends, shared))
-                .is_ok();
-            let has_backup = scope
-                .spawn(move || commit_all(rt, backup.as_mut(), backup_ends, shared))
-                .is_ok();
-            if !(has_runner && has_sender && has_backup) {
-                shared.stop();
-                return Err(AllocError);
-            }
-            let served = serve_all(rt, sessions, shared);
-            if served.is_err() {
-                shared.stop();
-            }
-            served
-        },
-    )?;
+    let served = run_threads(rt, running, sending, committing, sessions, &signals)?;
     Ok(Ended {
         sessions: served,
         warden,
         is_whole: !signals.is_stopped(),
     })
+}
+
+/// Runs the three in threads of their own, and serves the sessions. Answers once all threads have ended.
+///
+/// # Errors
+///
+/// [`AllocError`] where the memory for the lists of sessions can't be had, or one of the three has no thread.
+fn run_threads<P: Pair + Send + Sync, S: Session, R: Threads + Wait + Sync>(
+    rt: &R,
+    running: Running<P>,
+    sending: Sending<P>,
+    committing: Committing<P>,
+    sessions: Vec<S>,
+    signals: &Signals,
+) -> Result<Vec<S>, AllocError>
+    ensures { IfOk result (λ done. AreServed S.served sessions.items done.items) }
+{
+    thread::scope(
+        thread::scope_env(),
+        rt,
+        move |scope| -> Result<Vec<S>, AllocError>
+            ensures { IfOk result (λ done. AreServed S.served sessions.items done.items) }
+        {
+            let has_runner = scope.spawn(move || run_epochs(rt, running)).is_ok();
+            let has_sender = scope.spawn(move || send_all(rt, sending, signals)).is_ok();
+            let has_backup = scope
+                .spawn(move || commit_all(rt, committing, signals))
+                .is_ok();
+            if !(has_runner && has_sender && has_backup) {
+                signals.stop();
+                return Err(AllocError);
+            }
+            let served = serve_all(rt, sessions, signals);
+            if served.is_err() {
+                signals.stop();
+            }
+            served
+        },
+    )
 }
 
 /// Serves each session, in a thread of its own where one can be made.

@@ -1,13 +1,16 @@
 -- What a client's thread has.
-use Rattle.std.specs.Prelude.{◌≡◌, ◌≤◌, List, [], ◌∷◌, ◌++◌, length, Vec, vec_capacity}
+use Rattle.std.specs.Prelude.{◌≡◌, ℕ, ◌+◌, ◌≤◌, Bool, true, List, [], ◌∷◌, ◌++◌, length, map, Vec, vec_capacity}
 use Rattle.std.specs.Global.{Global}
 use Rattle.pair_history.specs.HistoryState.{HistoryState}
 use Rattle.pair_record.specs.declared.event.Reply.{Reply}
 use Rattle.pair_run.specs.declared.printing.Answered.{Answered}
 use Rattle.pair_run.specs.declared.run_file.Action.{Action}
 use Rattle.pair_run.specs.declared.run_file.ClientLine.{ClientLine}
+use Rattle.growing_history.specs.Steps.{Step}
 use Rattle.hypervisor.specs.Clients.{ClientState, own}
+use Rattle.hypervisor.specs.Looking.{HasFound, SeeAll}
 use Rattle.hypervisor.specs.Opening.{new_client}
+use Rattle.hypervisor.specs.declared.looking.Found.{Found}
 use Rattle.pair_threads.specs.Told.{HasMade, MayAnswer, told}
 
 pub record ScriptState : Type 0 where
@@ -31,8 +34,8 @@ pub record Tells (start : HistoryState) (action : Action) (reply : Reply) (old n
   pub own : own start new ≡ own start old ++ told old.number action reply
 
 -- the thread has made all actions, where there was room for the answers
-abbrev pub IsPlayed : HistoryState → ScriptState → ScriptState → Type 0
-IsPlayed start old new =
+abbrev pub HasPlayed : HistoryState → ScriptState → ScriptState → Type 0
+HasPlayed start old new =
     (new.line ≡ old.line)
     × (HasRoom old → HasMade start old.line.actions.items new.replies.items old.client new.client)
 
@@ -48,8 +51,25 @@ AreScripts [] (script ∷ scripts) = ⊥
 AreScripts (line ∷ lines) [] = ⊥
 AreScripts (line ∷ lines) (script ∷ scripts) = IsScript line script × AreScripts lines scripts
 
+-- the script of a line goes last into the list
+abbrev pub AddsScript : ClientLine → List ScriptState → List ScriptState → Type 0
+AddsScript line old new = (script : ScriptState) × IsScript line script × (new ≡ old ++ script ∷ [])
+
 abbrev pub answered_of : ScriptState → Answered
 answered_of script = record { client = script.line.client; replies = script.replies }
 
 abbrev pub client_of : ScriptState → ClientState
 client_of script = script.client
+
+-- A run has ended, and these are its scripts: there is one list of all steps, which their clients have seen; it has so many entries, as far
+-- as was found; what is told is what each script was answered; and where the run is said to be whole, it is as far as was found.
+pub record HasEnded (start : HistoryState) (ended : List ScriptState) (epochs : ℕ) (clients : List Answered) (entries : ℕ) (is_whole : Bool) :
+    Type 0 where
+  pub all : List Step
+  pub found : Found
+  pub has : HasFound start all found
+  pub looked : List ClientState
+  pub see : SeeAll start all (map client_of ended) looked
+  pub answered : clients ≡ map answered_of ended
+  pub count : entries ≡ found.entries
+  pub whole : is_whole ≡ true → (found.generation ≡ 1) × (found.next ≡ epochs + 1) × (found.pending ≡ 0)
