@@ -1,7 +1,8 @@
 """Edits of a crate's sources, as `must-fail/*.edit` has them: a line 'file: PATH', then pairs of lines 'old: TEXT' and 'new: TEXT', where
 each old text stands once in that file, as the pairs before left it; further files follow in the same way. `applied` makes such changes,
-and `check` proves a crate with them in place, over what was proved before."""
+and `check` proves a crate with them in place, over what was proved before. `functions` says which functions an edit changes."""
 import os
+import re
 import subprocess
 from pathlib import Path
 
@@ -47,6 +48,22 @@ def applied(crate, edits):
                 raise Stale(f"{edit.stem}: {old!r} stands {after[path].count(old)} times in {path}")
             after[path] = after[path].replace(old, new)
     return before, after
+
+
+def functions(crate, edit):
+    """The functions that an edit changes, by the folders below `proofs/` in which their proofs by hand stand, where they have some."""
+    found = set()
+    for path, old, _ in changes(edit):
+        before, there, _ = (ROOT / "crates" / crate / path).read_text().partition(old)
+        heads = re.findall(r"(?m)^( *)(?:pub(?:\(\w+\))? )?(?:const )?(?:unsafe )?fn (\w+)", before + there)
+        if not there or not heads:
+            continue
+        indent, name = heads[-1]
+        owners = re.findall(r"(?m)^impl(?:<[^\n{]*?>)? (?:(\w+)(?:<[^\n{]*>)? for )?(\w+)", before) if indent else []
+        owner = [owners[-1][1] + owners[-1][0]] if owners else []
+        modules = [part for part in Path(path).with_suffix("").parts[1:] if part not in ("lib", "main")]
+        found.add(Path(*modules, *owner, name))
+    return found
 
 
 def check(crate, edits):
