@@ -1,12 +1,12 @@
 //! Checkpoints that are cut of the small guests, and what is read of one.
 
+use crate::asserts::{boxed, holds, holds_at, made};
 use crate::guests::{Guest, machine_after};
 use epoch_snapshot::{Checkpoint, cut_delta, cut_full};
 use frame_list::FrameList;
 use guest_machine::Machine;
 use std::alloc::Global;
 use std::process::Abort;
-use std::test::Fail;
 
 /// Which checkpoint is cut.
 #[derive(Clone, Copy)]
@@ -23,22 +23,19 @@ fn delta(
     machine: &Machine,
     generation: u64,
     number: u64,
-) -> Result<Box<Checkpoint>, Fail> {
-    assert!(rt; 1 <= generation && generation < 1 << 62);
-    assert!(rt; 1 <= number && number < 1 << 62);
-    let checkpoint = cut_delta(alloc, machine, generation, number)?;
-    Ok(Box::new(alloc, checkpoint)?)
+) -> Box<Checkpoint> {
+    holds(rt, "a generation", 1 <= generation && generation < 1 << 62);
+    holds(rt, "a number", 1 <= number && number < 1 << 62);
+    boxed(
+        rt,
+        alloc,
+        made(rt, cut_delta(alloc, machine, generation, number)),
+    )
 }
 
-fn full(
-    rt: &impl Abort,
-    alloc: Global,
-    machine: &Machine,
-    generation: u64,
-) -> Result<Box<Checkpoint>, Fail> {
-    assert!(rt; 1 <= generation && generation < 1 << 62);
-    let checkpoint = cut_full(alloc, machine, generation)?;
-    Ok(Box::new(alloc, checkpoint)?)
+fn full(rt: &impl Abort, alloc: Global, machine: &Machine, generation: u64) -> Box<Checkpoint> {
+    holds(rt, "a generation", 1 <= generation && generation < 1 << 62);
+    boxed(rt, alloc, made(rt, cut_full(alloc, machine, generation)))
 }
 
 /// The machine's checkpoint.
@@ -47,7 +44,7 @@ pub(super) fn cut_of(
     alloc: Global,
     machine: &Machine,
     which: Cut,
-) -> Result<Box<Checkpoint>, Fail> {
+) -> Box<Checkpoint> {
     match which {
         Cut::Delta(generation, number) => delta(rt, alloc, machine, generation, number),
         Cut::Full(generation) => full(rt, alloc, machine, generation),
@@ -123,18 +120,18 @@ pub(super) fn are_all(bytes: &[u8], count: usize, byte: u8) -> bool {
 /// Byte 2 of the first block is 1, and the others are 0.
 fn assert_block(rt: &impl Abort, checkpoint: &Checkpoint) {
     let blocks = checkpoint.blocks();
-    assert!(rt; 0 < blocks.len());
+    holds(rt, "a block", 0 < blocks.len());
     for (i, byte) in blocks[0].iter().enumerate() {
-        assert!(rt; *byte == u8::from(i == 2));
+        holds_at(rt, "byte", i, *byte == u8::from(i == 2));
     }
 }
 
 /// The first sector record is of this sector, and each byte is this one.
 fn assert_sector(rt: &impl Abort, checkpoint: &Checkpoint, sector: u32, byte: u8) {
     let sectors = checkpoint.sectors();
-    assert!(rt; 0 < sectors.len());
-    assert!(rt; sectors[0].sector == sector);
-    assert!(rt; are_all(&sectors[0].bytes, 512, byte));
+    holds(rt, "a sector record", 0 < sectors.len());
+    holds(rt, "its sector", sectors[0].sector == sector);
+    holds(rt, "its bytes", are_all(&sectors[0].bytes, 512, byte));
 }
 
 /// The frame that the beacon sends: a header to client 1, from the guest, of a type for experiments.
@@ -143,7 +140,7 @@ const FRAME: [u8; 14] = [2, 0, 0, 0, 1, 1, 2, 0, 0, 0, 0, 1, 0x88, 0xb5];
 /// Each frame is the beacon's.
 pub(super) fn assert_frames(rt: &impl Abort, frames: &FrameList) {
     for at in 0..frames.len() {
-        assert!(rt; frames.bytes(at) == FRAME.as_slice());
+        holds_at(rt, "frame", at, frames.bytes(at) == FRAME.as_slice());
     }
 }
 
@@ -152,7 +149,14 @@ fn assert_row(rt: &impl Abort, checkpoint: &Checkpoint, row: &Row) {
         Row::Head(wanted) => assert_numbers(rt, "the head", head(checkpoint), wanted),
         Row::State(wanted) => assert_numbers(rt, "the state", state(checkpoint), wanted),
         Row::Counts(wanted) => assert_numbers(rt, "the counts", counts(checkpoint), wanted),
-        Row::Page(at, wanted) => assert!(rt; page(checkpoint, *at) == Some(*wanted)),
+        Row::Page(at, wanted) => {
+            holds_at(
+                rt,
+                "page record",
+                *at,
+                page(checkpoint, *at) == Some(*wanted),
+            );
+        }
         Row::Block => assert_block(rt, checkpoint),
         Row::Sector(sector, byte) => assert_sector(rt, checkpoint, *sector, *byte),
         Row::Frames => assert_frames(rt, checkpoint.frames()),
@@ -173,9 +177,8 @@ pub(super) fn assert_cut(
     (guest, steps): (Guest, u64),
     which: Cut,
     rows: &[Row],
-) -> Result<(), Fail> {
-    let machine = machine_after(rt, alloc, guest, steps)?;
-    let checkpoint = cut_of(rt, alloc, &machine, which)?;
+) {
+    let machine = machine_after(rt, alloc, guest, steps);
+    let checkpoint = cut_of(rt, alloc, &machine, which);
     assert_rows(rt, &checkpoint, rows);
-    Ok(())
 }

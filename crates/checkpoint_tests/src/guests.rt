@@ -1,10 +1,10 @@
 //! Small guests, whose checkpoints are known byte by byte.
 
+use crate::asserts::{boxed, holds, made};
 use guest_kit::{beacon, disk_once};
 use guest_machine::{Machine, PAGE_BYTES, Shape};
 use std::alloc::Global;
 use std::process::Abort;
-use std::test::Fail;
 
 /// AUIPC x5, 1; SW x0, 0(x5); JAL x0, 0: it writes four zeros at the start of the second page, where zeros stand.
 const SAME: [u8; 12] = [0x97, 0x12, 0, 0, 0x23, 0xa0, 0x02, 0, 0x6f, 0, 0, 0];
@@ -30,29 +30,27 @@ pub(super) fn shape(guest: Guest) -> Shape {
 }
 
 /// What stands in its memory at boot.
-pub(super) fn bytes(alloc: Global, guest: Guest) -> Result<Vec<u8>, Fail> {
+pub(super) fn bytes(rt: &impl Abort, alloc: Global, guest: Guest) -> Vec<u8> {
     match guest {
-        Guest::Beacon => Ok(beacon(alloc)?),
-        Guest::Disk => Ok(disk_once(alloc, 3, 0xab)?),
-        Guest::Same => Ok(Vec::from_slice(alloc, &SAME)?),
+        Guest::Beacon => made(rt, beacon(alloc)),
+        Guest::Disk => made(rt, disk_once(alloc, 3, 0xab)),
+        Guest::Same => made(rt, Vec::from_slice(alloc, &SAME)),
     }
 }
 
 /// The machine at boot, in a box: it's large, and a test that holds it by value is slow to prove.
-fn booted(
-    rt: &impl Abort,
-    alloc: Global,
-    shape: Shape,
-    bytes: &[u8],
-) -> Result<Box<Machine>, Fail> {
-    assert!(rt; bytes.len() <= PAGE_BYTES * shape.pages as usize);
-    let machine = Machine::boot(alloc, shape, bytes)?;
-    Ok(Box::new(alloc, machine)?)
+fn booted(rt: &impl Abort, alloc: Global, shape: Shape, bytes: &[u8]) -> Box<Machine> {
+    holds(
+        rt,
+        "bytes that fit",
+        bytes.len() <= PAGE_BYTES * shape.pages as usize,
+    );
+    boxed(rt, alloc, made(rt, Machine::boot(alloc, shape, bytes)))
 }
 
 /// So many steps, none of which is refused.
 pub(super) fn run(rt: &impl Abort, machine: &mut Machine, steps: u64) {
-    assert!(rt; machine.run(steps) == steps);
+    holds(rt, "the steps", machine.run(steps) == steps);
 }
 
 /// The guest's machine after so many steps.
@@ -61,9 +59,9 @@ pub(super) fn machine_after(
     alloc: Global,
     guest: Guest,
     steps: u64,
-) -> Result<Box<Machine>, Fail> {
-    let bytes = bytes(alloc, guest)?;
-    let mut machine = booted(rt, alloc, shape(guest), bytes.as_slice())?;
+) -> Box<Machine> {
+    let bytes = bytes(rt, alloc, guest);
+    let mut machine = booted(rt, alloc, shape(guest), bytes.as_slice());
     run(rt, &mut machine, steps);
-    Ok(machine)
+    machine
 }

@@ -5,6 +5,7 @@ mod rows;
 mod stops;
 mod versions;
 
+use crate::asserts::holds;
 use crate::checkpoints::Cut;
 use crate::guests::Guest;
 use crate::refusals::{assert_named, refused};
@@ -14,18 +15,17 @@ use epoch_snapshot::Checkpoint;
 use rows::{End, Handed, Row, Start, assert_image, at, begun, plays};
 use std::alloc::Global;
 use std::process::Abort;
-use std::test::Fail;
 use stops::{delta_text, follow};
 
 /// What an image answers to a checkpoint, which has its shape.
 fn stage(rt: &impl Abort, image: &mut Image, checkpoint: Checkpoint) -> Result<Staged, ImageError> {
-    assert!(rt; image.shape() == checkpoint.shape());
+    holds(rt, "the shape", image.shape() == checkpoint.shape());
     image.stage(checkpoint)
 }
 
 /// The disk guest's delta is in the image from its commit on, not from its staging on. What comes out of turn is answered otherwise.
 #[test]
-fn a_delta_counts_from_its_commit_on(rt: HostRuntime) -> Result<(), Fail> {
+fn a_delta_counts_from_its_commit_on(rt: HostRuntime) {
     static ROWS: [Row; 13] = [
         Row::Given(Handed::Cut(Cut::Delta(1, 2)), Err(ImageError::Gap)),
         Row::Stands((1, 0), 0, (3, 0)),
@@ -48,12 +48,12 @@ fn a_delta_counts_from_its_commit_on(rt: HostRuntime) -> Result<(), Fail> {
         Start::Boot,
         &ROWS,
         &End::Left,
-    )
+    );
 }
 
 /// An empty image takes a full checkpoint only, and gives no machine before. The machine that it then gives goes on where the other was.
 #[test]
-fn an_empty_image_is_filled(rt: HostRuntime) -> Result<(), Fail> {
+fn an_empty_image_is_filled(rt: HostRuntime) {
     static ROWS: [Row; 5] = [
         Row::Empty(3),
         Row::Given(Handed::Cut(Cut::Delta(2, 1)), Err(ImageError::NoImage)),
@@ -68,46 +68,35 @@ fn an_empty_image_is_filled(rt: HostRuntime) -> Result<(), Fail> {
         Start::HandedBack,
         &ROWS,
         &End::GoesOn,
-    )
+    );
 }
 
 /// Each part of the beacon's checkpoint of 630 bytes leaves the image at boot, and the whole takes it on.
-fn assert_parts(
-    rt: &impl Abort,
-    alloc: Global,
-    image: &mut Image,
-    text: &[u8],
-) -> Result<(), Fail> {
+fn assert_parts(rt: &impl Abort, alloc: Global, image: &mut Image, text: &[u8]) {
     for count in 0..631usize {
-        follow(rt, alloc, image, front(text, count), &Ok(Staged::New))?;
+        follow(rt, alloc, image, front(text, count), &Ok(Staged::New));
         let whole = u64::from(count == 630);
         assert_image(rt, image, at(1, whole), 22 * whole, (0, 0));
     }
-    Ok(())
 }
 
 /// The beacon's checkpoint, stopped after each of its bytes but the last, leaves the image at boot.
 #[test]
-fn part_of_a_checkpoint_leaves_the_image(rt: HostRuntime) -> Result<(), Fail> {
-    let text = delta_text(&rt, rt.alloc())?;
-    assert!(rt; text.len() == 630);
-    let mut image = begun(&rt, rt.alloc(), Guest::Beacon, Start::Boot)?;
-    assert_parts(&rt, rt.alloc(), &mut image, text.as_slice())
+fn part_of_a_checkpoint_leaves_the_image(rt: HostRuntime) {
+    let text = delta_text(&rt, rt.alloc());
+    holds(&rt, "630 bytes", text.len() == 630);
+    let mut image = begun(&rt, rt.alloc(), Guest::Beacon, Start::Boot);
+    assert_parts(&rt, rt.alloc(), &mut image, text.as_slice());
 }
 
 /// The refusal has this number and this name.
-fn assert_refusal(
-    rt: &impl Abort,
-    alloc: Global,
-    refusal: &ImageError,
-    wanted: (u32, &str),
-) -> Result<(), Fail> {
+fn assert_refusal(rt: &impl Abort, alloc: Global, refusal: &ImageError, wanted: (u32, &str)) {
     let found = (refusal.number(), refusal.name());
-    assert_named(rt, alloc, refusal, found, wanted)
+    assert_named(rt, alloc, refusal, found, wanted);
 }
 
 #[test]
-fn refusals_have_numbers_and_names(rt: HostRuntime) -> Result<(), Fail> {
+fn refusals_have_numbers_and_names(rt: HostRuntime) {
     static REFUSALS: [(ImageError, (u32, &str)); 5] = [
         (ImageError::NoImage, (8, "NoImage")),
         (ImageError::Stale, (9, "Stale")),
@@ -116,8 +105,8 @@ fn refusals_have_numbers_and_names(rt: HostRuntime) -> Result<(), Fail> {
         (ImageError::OldVersion, (15, "OldVersion")),
     ];
     for (refusal, wanted) in &REFUSALS {
-        assert_refusal(&rt, rt.alloc(), refusal, *wanted)?;
+        assert_refusal(&rt, rt.alloc(), refusal, *wanted);
     }
-    let refusal = ImageError::from(refused(rt.alloc())?);
-    assert_refusal(&rt, rt.alloc(), &refusal, (12, "NoMemory"))
+    let refusal = ImageError::from(refused(&rt, rt.alloc()));
+    assert_refusal(&rt, rt.alloc(), &refusal, (12, "NoMemory"));
 }

@@ -1,22 +1,23 @@
 //! What a refusal is called: its number, its name, and its text, which is its name.
 
+use crate::asserts::{holds, made};
 use memory_wanted::{MemoryWanted, reserve};
 use std::alloc::Global;
 use std::fmt::Display;
 use std::process::Abort;
-use std::test::Fail;
 
 /// A refused wish for memory.
-pub(super) fn refused(alloc: Global) -> Result<MemoryWanted, Fail> {
+pub(super) fn refused(rt: &impl Abort, alloc: Global) -> MemoryWanted {
     match reserve(&mut Vec::<u64>::new(alloc), usize::MAX) {
-        Ok(()) => Err("no machine has that much".into()),
-        Err(wanted) => Ok(wanted),
+        Ok(()) => panic!(rt; "no machine has that much"),
+        Err(wanted) => wanted,
     }
 }
 
 /// What was found is this number and this name.
 pub(super) fn assert_called(rt: &impl Abort, found: (u32, &str), wanted: (u32, &str)) {
-    assert!(rt; found.0 == wanted.0 && found.1 == wanted.1);
+    holds(rt, "the number", found.0 == wanted.0);
+    holds(rt, "the name", found.1 == wanted.1);
 }
 
 /// And so is the refusal's text.
@@ -26,9 +27,8 @@ pub(super) fn assert_named(
     refusal: &impl Display,
     found: (u32, &str),
     wanted: (u32, &str),
-) -> Result<(), Fail> {
+) {
     assert_called(rt, found, wanted);
-    let text = format!(in alloc; "{refusal}")?;
-    assert!(rt; text.as_str() == wanted.1);
-    Ok(())
+    let text = made(rt, format!(in alloc; "{refusal}"));
+    holds(rt, "the text", text.as_str() == wanted.1);
 }

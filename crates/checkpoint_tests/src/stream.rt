@@ -3,14 +3,14 @@
 mod hostile;
 mod versions;
 
+use crate::asserts::{holds, holds_at, made};
 use crate::checkpoints::{Row, assert_rows};
 use crate::refusals::{assert_called, refused};
 use crate::texts::{next, set, stands, takes};
 use checkpoint_stream::{Reader, StreamError};
 use guest_machine::Shape;
-use std::alloc::{AllocError, Global};
+use std::alloc::Global;
 use std::process::Abort;
-use std::test::Fail;
 
 /// The checkpoint of the beacon after 22 steps, on 2 pages and 1 sector, of version 1.
 #[rattlefmt::skip]
@@ -69,7 +69,7 @@ fn read_piece(
     let mut rest = piece;
     for _ in 0..3u8 {
         let count = reader.feed(rest)?;
-        assert!(rt; count <= rest.len());
+        holds(rt, "no more", count <= rest.len());
         rest = &rest[count..];
         *found = found.saturating_add(u64::from(stands(reader)));
     }
@@ -96,21 +96,16 @@ fn refuses(reader: &mut Reader, piece: &[u8], at: u64) -> bool {
 }
 
 /// Feeds bytes in pieces of so many. Answers how many checkpoints came, and the offset of a malformation, which stays.
-fn read(
-    rt: &impl Abort,
-    alloc: Global,
-    bytes: &[u8],
-    size: usize,
-) -> Result<(u64, Option<u64>), Fail> {
+fn read(rt: &impl Abort, alloc: Global, bytes: &[u8], size: usize) -> (u64, Option<u64>) {
     let mut reader = Reader::new(alloc, shape());
     let mut found = 0;
     match read_pieces(rt, &mut reader, bytes, size, &mut found) {
-        Ok(()) => Ok((found, None)),
+        Ok(()) => (found, None),
         Err(StreamError::Malformed(at)) => {
-            assert!(rt; refuses(&mut reader, &[], at));
-            Ok((found, Some(at)))
+            holds(rt, "it stays refused", refuses(&mut reader, &[], at));
+            (found, Some(at))
         }
-        Err(StreamError::NoMemory(_)) => Err("there is memory".into()),
+        Err(StreamError::NoMemory(_)) => panic!(rt; "there is memory"),
     }
 }
 
@@ -121,25 +116,25 @@ fn assert_reads(
     bytes: &[u8],
     sizes: &[usize],
     wanted: (u64, Option<u64>),
-) -> Result<(), Fail> {
+) {
     for size in sizes {
-        let found = read(rt, alloc, bytes, *size)?;
-        assert!(rt; found == wanted, "in pieces of {size}");
+        let found = read(rt, alloc, bytes, *size);
+        holds_at(rt, "in pieces of", *size, found == wanted);
     }
-    Ok(())
 }
 
 /// A text after another, with a byte set otherwise.
 fn changed(
+    rt: &impl Abort,
     alloc: Global,
     before: &[u8],
     text: &[u8],
     (place, value): (usize, u8),
-) -> Result<Vec<u8>, AllocError> {
-    let mut bytes = Vec::from_slice(alloc, before)?;
-    bytes.extend_from_slice(text)?;
+) -> Vec<u8> {
+    let mut bytes = made(rt, Vec::from_slice(alloc, before));
+    made(rt, bytes.extend_from_slice(text));
     set(&mut bytes, before.len().saturating_add(place), value);
-    Ok(bytes)
+    bytes
 }
 
 /// So it's read.
@@ -150,37 +145,35 @@ fn assert_changed(
     change: (usize, u8),
     sizes: &[usize],
     wanted: (u64, Option<u64>),
-) -> Result<(), Fail> {
-    let bytes = changed(alloc, before, text, change)?;
-    assert_reads(rt, alloc, bytes.as_slice(), sizes, wanted)
+) {
+    let bytes = changed(rt, alloc, before, text, change);
+    assert_reads(rt, alloc, bytes.as_slice(), sizes, wanted);
 }
 
 /// Each malformation of a text is met at its unit, also after a whole checkpoint.
-fn assert_malformations(
-    rt: &impl Abort,
-    alloc: Global,
-    text: &[u8],
-    sizes: &[usize],
-) -> Result<(), Fail> {
+fn assert_malformations(rt: &impl Abort, alloc: Global, text: &[u8], sizes: &[usize]) {
     for (place, value, wanted) in &MALFORMATIONS {
         let change = (*place, *value);
         let second = wanted.saturating_add(text.len() as u64);
-        assert_changed(rt, alloc, (&[], text), change, sizes, (0, Some(*wanted)))?;
-        assert_changed(rt, alloc, (text, text), change, sizes, (1, Some(second)))?;
+        assert_changed(rt, alloc, (&[], text), change, sizes, (0, Some(*wanted)));
+        assert_changed(rt, alloc, (text, text), change, sizes, (1, Some(second)));
     }
-    Ok(())
 }
 
 /// The old beacon's text but its last byte, then that one, and then what isn't taken while a checkpoint stands.
 fn feed_old_beacon(rt: &impl Abort, reader: &mut Reader) {
-    assert!(rt; takes(reader, &BEACON[..607]));
-    assert!(rt; !stands(reader));
-    assert!(rt; takes(reader, &BEACON[607..]));
-    assert!(rt; matches!(reader.feed(&[1, 2, 3]), Ok(0)));
+    holds(rt, "it takes all but one", takes(reader, &BEACON[..607]));
+    holds(rt, "none stands", !stands(reader));
+    holds(rt, "it takes the last", takes(reader, &BEACON[607..]));
+    holds(
+        rt,
+        "it takes no more",
+        matches!(reader.feed(&[1, 2, 3]), Ok(0)),
+    );
 }
 
 #[test]
-fn the_old_beacon_is_read(rt: HostRuntime) -> Result<(), Fail> {
+fn the_old_beacon_is_read(rt: HostRuntime) {
     static ROWS: [Row; 3] = [
         Row::Head([1, 1, 1, 0]),
         Row::State([2, 22, 0x8000_0058, 15]),
@@ -188,38 +181,36 @@ fn the_old_beacon_is_read(rt: HostRuntime) -> Result<(), Fail> {
     ];
     let mut reader = Reader::new(rt.alloc(), shape());
     feed_old_beacon(&rt, &mut reader);
-    let checkpoint = next(rt.alloc(), &mut reader)?;
-    assert!(rt; !stands(&mut reader));
+    let checkpoint = next(&rt, rt.alloc(), &mut reader);
+    holds(&rt, "none stands any more", !stands(&mut reader));
     assert_rows(&rt, &checkpoint, &ROWS);
-    Ok(())
 }
 
 #[test]
-fn each_malformation_is_met_at_its_unit(rt: HostRuntime) -> Result<(), Fail> {
-    assert_malformations(&rt, rt.alloc(), &BEACON, &[1, 7, 64, 512, 2000])
+fn each_malformation_is_met_at_its_unit(rt: HostRuntime) {
+    assert_malformations(&rt, rt.alloc(), &BEACON, &[1, 7, 64, 512, 2000]);
 }
 
 #[test]
-fn a_stream_comes_in_any_pieces(rt: HostRuntime) -> Result<(), Fail> {
+fn a_stream_comes_in_any_pieces(rt: HostRuntime) {
     static SIZES: [usize; 10] = [1, 2, 3, 63, 64, 65, 607, 608, 609, 1216];
-    let mut two = Vec::from_slice(rt.alloc(), &BEACON)?;
-    two.extend_from_slice(&BEACON)?;
-    assert_reads(&rt, rt.alloc(), two.as_slice(), &SIZES, (2, None))
+    let mut two = made(&rt, Vec::from_slice(rt.alloc(), &BEACON));
+    made(&rt, two.extend_from_slice(&BEACON));
+    assert_reads(&rt, rt.alloc(), two.as_slice(), &SIZES, (2, None));
 }
 
 #[test]
-fn refusals_have_numbers_and_names(rt: HostRuntime) -> Result<(), Fail> {
+fn refusals_have_numbers_and_names(rt: HostRuntime) {
     let malformed = StreamError::Malformed(7);
     assert_called(
         &rt,
         (u32::from(malformed.number()), malformed.name()),
         (11, "Malformed"),
     );
-    let refused = StreamError::from(refused(rt.alloc())?);
+    let refused = StreamError::from(refused(&rt, rt.alloc()));
     assert_called(
         &rt,
         (u32::from(refused.number()), refused.name()),
         (12, "NoMemory"),
     );
-    Ok(())
 }

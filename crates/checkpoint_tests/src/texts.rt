@@ -1,41 +1,29 @@
 //! Checkpoints as bytes.
 
+use crate::asserts::{boxed, holds, made};
 use crate::checkpoints::{Cut, cut_of};
 use crate::guests::{Guest, machine_after};
 use checkpoint_stream::{Reader, encode};
 use epoch_snapshot::Checkpoint;
 use guest_machine::{Machine, Shape};
-use std::alloc::{AllocError, Global};
+use std::alloc::Global;
 use std::process::Abort;
-use std::test::Fail;
 
 /// The text of a checkpoint that was cut here, or of one that was read in version 2.
-pub(super) fn text_of(alloc: Global, checkpoint: &Checkpoint) -> Result<Vec<u8>, Fail> {
-    if checkpoint.version() != 2 {
-        return Err("it is of version 2".into());
-    }
-    Ok(encode(alloc, checkpoint)?)
+pub(super) fn text_of(rt: &impl Abort, alloc: Global, checkpoint: &Checkpoint) -> Vec<u8> {
+    holds(rt, "version 2", checkpoint.version() == 2);
+    made(rt, encode(alloc, checkpoint))
 }
 
 /// The text of a machine's checkpoint.
-pub(super) fn cut_text(
-    rt: &impl Abort,
-    alloc: Global,
-    machine: &Machine,
-    which: Cut,
-) -> Result<Vec<u8>, Fail> {
-    let checkpoint = cut_of(rt, alloc, machine, which)?;
-    text_of(alloc, &checkpoint)
+pub(super) fn cut_text(rt: &impl Abort, alloc: Global, machine: &Machine, which: Cut) -> Vec<u8> {
+    let checkpoint = cut_of(rt, alloc, machine, which);
+    text_of(rt, alloc, &checkpoint)
 }
 
 /// The text of the beacon's checkpoint after so many steps.
-pub(super) fn beacon_text(
-    rt: &impl Abort,
-    alloc: Global,
-    steps: u64,
-    which: Cut,
-) -> Result<Vec<u8>, Fail> {
-    let machine = machine_after(rt, alloc, Guest::Beacon, steps)?;
+pub(super) fn beacon_text(rt: &impl Abort, alloc: Global, steps: u64, which: Cut) -> Vec<u8> {
+    let machine = machine_after(rt, alloc, Guest::Beacon, steps);
     cut_text(rt, alloc, &machine, which)
 }
 
@@ -54,27 +42,26 @@ pub(super) fn put_version_1(text: &mut Vec<u8>, count: usize) {
 
 /// Adds so many frames of so many bytes each. Those of the first are this one, and those of each further one are one more, or the same.
 pub(super) fn push_frames(
+    rt: &impl Abort,
     text: &mut Vec<u8>,
     (count, length): (u32, u32),
     first: u8,
     more: u8,
-) -> Result<(), AllocError> {
+) {
     let mut value = first;
-    text.extend_from_slice(&count.to_le_bytes())?;
+    made(rt, text.extend_from_slice(&count.to_le_bytes()));
     for _ in 0..count {
-        push_frame(text, length, value)?;
+        push_frame(rt, text, length, value);
         value = value.wrapping_add(more);
     }
-    Ok(())
 }
 
 /// Adds a frame of so many of this byte.
-fn push_frame(text: &mut Vec<u8>, length: u32, value: u8) -> Result<(), AllocError> {
-    text.extend_from_slice(&length.to_le_bytes())?;
+fn push_frame(rt: &impl Abort, text: &mut Vec<u8>, length: u32, value: u8) {
+    made(rt, text.extend_from_slice(&length.to_le_bytes()));
     for _ in 0..length {
-        text.push(value)?;
+        made(rt, text.push(value));
     }
-    Ok(())
 }
 
 /// The first bytes of a text, and what follows them.
@@ -98,32 +85,29 @@ pub(super) fn stands(reader: &mut Reader) -> bool {
 
 /// The checkpoint that stands whole in a reader, if one does, in a box.
 pub(super) fn next_if_any(
+    rt: &impl Abort,
     alloc: Global,
     reader: &mut Reader,
-) -> Result<Option<Box<Checkpoint>>, Fail> {
+) -> Option<Box<Checkpoint>> {
     match reader.next() {
-        Some(checkpoint) => Ok(Some(Box::new(alloc, checkpoint)?)),
-        None => Ok(None),
+        Some(checkpoint) => Some(boxed(rt, alloc, checkpoint)),
+        None => None,
     }
 }
 
 /// The checkpoint that stands whole in a reader.
-pub(super) fn next(alloc: Global, reader: &mut Reader) -> Result<Box<Checkpoint>, Fail> {
-    match next_if_any(alloc, reader)? {
-        Some(checkpoint) => Ok(checkpoint),
-        None => Err("a checkpoint stands".into()),
-    }
+pub(super) fn next(rt: &impl Abort, alloc: Global, reader: &mut Reader) -> Box<Checkpoint> {
+    next_if_any(rt, alloc, reader).expect(rt, "a checkpoint stands")
 }
 
 /// The checkpoint of a text.
 pub(super) fn read_whole(
+    rt: &impl Abort,
     alloc: Global,
     shape: Shape,
     text: &[u8],
-) -> Result<Box<Checkpoint>, Fail> {
+) -> Box<Checkpoint> {
     let mut reader = Reader::new(alloc, shape);
-    if !takes(&mut reader, text) {
-        return Err("it is read whole".into());
-    }
-    next(alloc, &mut reader)
+    holds(rt, "it is read whole", takes(&mut reader, text));
+    next(rt, alloc, &mut reader)
 }

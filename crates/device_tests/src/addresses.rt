@@ -1,11 +1,12 @@
 //! The address map, at both ends of each part.
 
+use crate::asserts::holds_at;
 use bus_map::{Place, TimerRegister, place};
 use std::process::Abort;
 
 /// Where an access of so many bytes at an address goes.
 fn assert_place(rt: &impl Abort, addr: u64, width: u8, wanted: Place) {
-    assert!(rt; place(addr, width) == wanted, "at {addr:x}, {width} bytes");
+    holds_at(rt, "address", addr as usize, place(addr, width) == wanted);
 }
 
 #[test]

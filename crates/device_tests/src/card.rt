@@ -2,6 +2,7 @@
 //! and the used ring at 0x80000080 of the queue that is tried; buffers from 0x80000100 on. A test is a list of lines, which one function
 //! plays, since a long test is slow to prove.
 
+use crate::asserts::{holds, holds_at};
 use memory_wanted::reserve;
 use net_device::{Frame, NetDevice, Outbox, OutboxError};
 use std::alloc::Global;
@@ -105,7 +106,7 @@ fn play_line(
     line: &Line,
     at: usize,
 ) {
-    assert!(rt; does(net, ram, outbox, line), "line {at}");
+    holds_at(rt, "line", at, does(net, ram, outbox, line));
 }
 
 /// Does what a line says, or compares. Says whether it is as the line says.
@@ -238,13 +239,18 @@ fn a_readable_buffer_takes_no_frame(rt: HostRuntime) {
 
 /// Puts a frame into an outbox that has room for it.
 fn push(rt: &impl Abort, outbox: &mut Outbox, bytes: &[u8]) {
-    assert!(rt; outbox.len() <= 192);
-    assert!(rt; 14 <= bytes.len() && bytes.len() <= 1514);
+    holds(rt, "room", outbox.len() <= 192);
+    holds(rt, "a frame", 14 <= bytes.len());
+    holds(rt, "no longer", bytes.len() <= 1514);
     outbox.push(bytes);
 }
 
 fn assert_frames(rt: &impl Abort, outbox: &Outbox, count: usize) {
-    assert!(rt; outbox.len() == count);
+    holds(rt, "frames", outbox.len() == count);
+}
+
+fn assert_frame(rt: &impl Abort, outbox: &Outbox, at: usize, bytes: &[u8]) {
+    holds(rt, "the frame", has_frame(outbox, at, bytes));
 }
 
 #[test]
@@ -253,8 +259,8 @@ fn an_outbox_keeps_frames_in_order(rt: HostRuntime) {
     push(&rt, &mut outbox, &[1; 14]);
     push(&rt, &mut outbox, &[2; 1514]);
     assert_frames(&rt, &outbox, 2);
-    assert!(rt; has_frame(&outbox, 0, &[1; 14]));
-    assert!(rt; has_frame(&outbox, 1, &[2; 1514]));
+    assert_frame(&rt, &outbox, 0, &[1; 14]);
+    assert_frame(&rt, &outbox, 1, &[2; 1514]);
     outbox.clear();
     assert_frames(&rt, &outbox, 0);
 }
@@ -266,12 +272,12 @@ fn a_refusal_has_its_number_and_name(rt: HostRuntime) {
         "no machine has that much",
     );
     let error = OutboxError::from(wanted);
-    assert!(rt; error.number() == 12);
-    assert!(rt; error.name() == "NoMemory");
+    holds(&rt, "the number", error.number() == 12);
+    holds(&rt, "the name", error.name() == "NoMemory");
     assert_text(&rt, rt.alloc(), &error, "NoMemory");
 }
 
 fn assert_text(rt: &impl Abort, alloc: Global, error: &OutboxError, wanted: &str) {
     let text = format!(in alloc; "{error}").expect(rt, "memory for the text");
-    assert!(rt; text.as_str() == wanted);
+    holds(rt, "the text", text.as_str() == wanted);
 }

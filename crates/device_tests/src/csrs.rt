@@ -1,5 +1,6 @@
 //! The CSRs at boot, what a write leaves, and a trap and its return.
 
+use crate::asserts::{holds, holds_at};
 use mtraps::interrupts::{EXTERNAL, INTERRUPT, SOFTWARE, TIMER};
 use mtraps::{Csrs, numbers};
 use std::process::Abort;
@@ -19,12 +20,12 @@ fn with_timer() -> Csrs {
 
 /// What the CSR of this number reads, where there is one.
 fn assert_read(rt: &impl Abort, csrs: &Csrs, number: u16, value: Option<u64>) {
-    assert!(rt; csrs.read(number) == value, "at {number:x}");
+    holds_at(rt, "CSR", number.into(), csrs.read(number) == value);
 }
 
 /// The interrupt that is taken where these are pending.
 fn assert_taken(rt: &impl Abort, csrs: &Csrs, pending: u64, cause: Option<u64>) {
-    assert!(rt; csrs.pending(pending) == cause);
+    holds(rt, "the cause", csrs.pending(pending) == cause);
 }
 
 #[test]
@@ -46,7 +47,12 @@ fn boot_values(rt: HostRuntime) {
 
 /// A write to the CSR of this number is made.
 fn assert_writes(rt: &impl Abort, csrs: &mut Csrs, number: u16, value: u64) {
-    assert!(rt; csrs.write(number, value).is_some(), "at {number:x}");
+    holds_at(
+        rt,
+        "CSR",
+        number.into(),
+        csrs.write(number, value).is_some(),
+    );
 }
 
 /// A write of all ones leaves this of a CSR.
@@ -59,8 +65,8 @@ fn assert_kept(rt: &impl Abort, number: u16, kept: u64) {
 /// A write to the CSR of this number is refused, and changes nothing.
 fn assert_refused(rt: &impl Abort, number: u16) {
     let mut csrs = with_timer();
-    assert!(rt; csrs.write(number, u64::MAX).is_none(), "at {number:x}");
-    assert!(rt; csrs == with_timer(), "at {number:x}");
+    let refused = csrs.write(number, u64::MAX).is_none();
+    holds_at(rt, "CSR", number.into(), refused && csrs == with_timer());
 }
 
 #[test]
@@ -85,12 +91,12 @@ fn writes_of_all_ones(rt: HostRuntime) {
 
 /// A trap of this cause and value, at this pc, goes on at a handler.
 fn assert_enters(rt: &impl Abort, csrs: &mut Csrs, (cause, value, pc): (u64, u64, u64), to: u64) {
-    assert!(rt; csrs.enter(cause, value, pc) == to);
+    holds(rt, "the handler", csrs.enter(cause, value, pc) == to);
 }
 
 /// MRET goes back to this pc.
 fn assert_returns(rt: &impl Abort, csrs: &mut Csrs, pc: u64) {
-    assert!(rt; csrs.mret() == pc);
+    holds(rt, "the pc", csrs.mret() == pc);
 }
 
 #[test]

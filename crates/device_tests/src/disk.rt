@@ -4,6 +4,7 @@
 
 ghost use Rattle.std.specs.Prelude.{◌<◌};
 
+use crate::asserts::{holds, holds_at};
 use block_device::{Disk, DiskError};
 use memory_wanted::reserve;
 use std::alloc::Global;
@@ -145,7 +146,7 @@ fn play(rt: &impl Abort, disk: &mut Disk, ram: &mut PlainRam, lines: &[Line]) {
 }
 
 fn play_line(rt: &impl Abort, disk: &mut Disk, ram: &mut PlainRam, line: &Line, at: usize) {
-    assert!(rt; does(rt, disk, ram, line), "line {at}");
+    holds_at(rt, "line", at, does(rt, disk, ram, line));
 }
 
 /// Does what a line says, or compares. Says whether it is as the line says.
@@ -384,12 +385,12 @@ fn a_refusal_has_its_number_and_name(rt: HostRuntime) {
         "no machine has that much",
     );
     let error = DiskError::from(wanted);
-    assert!(rt; error.number() == 12);
-    assert!(rt; error.name() == "NoMemory");
+    holds(&rt, "the number", error.number() == 12);
+    holds(&rt, "the name", error.name() == "NoMemory");
     assert_text(&rt, rt.alloc(), &error, "NoMemory");
 }
 
 fn assert_text(rt: &impl Abort, alloc: Global, error: &DiskError, wanted: &str) {
     let text = format!(in alloc; "{error}").expect(rt, "memory for the text");
-    assert!(rt; text.as_str() == wanted);
+    holds(rt, "the text", text.as_str() == wanted);
 }

@@ -1,17 +1,19 @@
 //! The images of the guests of [`guest_kit`], with the bytes that their words and data have.
 
+use crate::asserts::{holds, holds_at};
 use guest_kit::{beacon, counter, disk_once, echo, idle};
 use std::process::Abort;
 
 /// An image has so many bytes.
 fn assert_len(rt: &impl Abort, image: &[u8], len: usize) {
-    assert!(rt; image.len() == len);
+    holds(rt, "bytes", image.len() == len);
 }
 
 /// An image has these bytes at a place.
 fn assert_bytes(rt: &impl Abort, image: &[u8], at: usize, bytes: &[u8]) {
-    assert!(rt; at <= image.len() && bytes.len() <= image.len() - at);
-    assert!(rt; &image[at..at + bytes.len()] == bytes);
+    holds(rt, "a place", at <= image.len());
+    holds(rt, "in the image", bytes.len() <= image.len() - at);
+    holds_at(rt, "bytes", at, &image[at..at + bytes.len()] == bytes);
 }
 
 #[test]
@@ -52,7 +54,7 @@ fn wanted(at: usize) -> u8 {
 /// Behind its words the image has the bytes of the data, and else 0.
 fn assert_data(rt: &impl Abort, image: &[u8]) {
     for (at, byte) in image.iter().enumerate() {
-        assert!(rt; at < 92 || *byte == wanted(at), "at {at:x}");
+        holds_at(rt, "byte", at, at < 92 || *byte == wanted(at));
     }
 }
 

@@ -1,6 +1,7 @@
 //! What no clause of [`page_lanes`] says: each kernel at lengths round a block's, with answers counted by hand.
 ghost use Rattle.std.specs.Prelude.{◌≤◌};
 
+use crate::asserts::{holds, holds_at};
 use page_lanes::{
     BLOCK_SIZE, PAGE_SIZE, Page, count_differing, equal, is_zero, mask, xor_blocks, xor_into,
 };
@@ -21,8 +22,8 @@ fn said(len: usize, a: &Page, b: &Page) -> (bool, usize, bool)
 }
 
 fn assert_said(rt: &impl Abort, len: usize, a: &Page, b: &Page, wanted: (bool, usize, bool)) {
-    assert!(rt; len <= PAGE_SIZE);
-    assert!(rt; said(len, a, b) == wanted, "{len} bytes");
+    holds(rt, "in a page", len <= PAGE_SIZE);
+    holds_at(rt, "bytes", len, said(len, a, b) == wanted);
 }
 
 /// A page that has these bytes, each at its place, and else 0.
@@ -72,7 +73,7 @@ const MASKS: [(&[(usize, u8)], u64); 4] = [
 ];
 
 fn assert_mask(rt: &impl Abort, a: &Page, b: &Page, wanted: u64) {
-    assert!(rt; mask(a, b) == wanted);
+    holds(rt, "the mask", mask(a, b) == wanted);
 }
 
 #[test]
@@ -91,7 +92,7 @@ fn the_exclusive_or_of_two_blocks(rt: HostRuntime) {
     let mut a = [0x0f; BLOCK_SIZE];
     a[63] = 0x55;
     let joined = xor_blocks(&a, &[0x3c; BLOCK_SIZE]);
-    assert!(rt; joined[0] == 0x33);
-    assert!(rt; joined[62] == 0x33);
-    assert!(rt; joined[63] == 0x69);
+    holds(&rt, "byte 0", joined[0] == 0x33);
+    holds(&rt, "byte 62", joined[62] == 0x33);
+    holds(&rt, "byte 63", joined[63] == 0x69);
 }

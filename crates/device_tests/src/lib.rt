@@ -5,6 +5,8 @@
 #[cfg(test)]
 mod addresses;
 #[cfg(test)]
+mod asserts;
+#[cfg(test)]
 mod card;
 #[cfg(test)]
 mod csrs;

@@ -3,6 +3,7 @@
 
 ghost use Rattle.std.specs.Prelude.{◌≤◌, ◌+◌, length};
 
+use crate::asserts::{holds, holds_at, same_at};
 use paged_memory::{BLOCK_BYTES, Memory, PAGE_BYTES};
 use std::alloc::Global;
 use std::process::Abort;
@@ -53,7 +54,7 @@ enum Line {
 
 /// A memory of three pages with these bytes at its start, in a box.
 fn booted(rt: &impl Abort, alloc: Global, image: &[u8]) -> Box<Memory> {
-    assert!(rt; image.len() <= BYTES);
+    holds(rt, "three pages", image.len() <= BYTES);
     let memory = Memory::boot(alloc, 3, image).expect(rt, "memory for three pages");
     Box::new(alloc, memory)
         .ok()
@@ -75,9 +76,9 @@ fn play(rt: &impl Abort, memory: &mut Memory, lines: &[Line]) {
 
 fn play_line(rt: &impl Abort, memory: &mut Memory, line: &Line, at: usize) {
     if let Line::Is(reading, number) = *line {
-        assert_eq!(rt; read(rt, memory, reading), number, "line {at}");
+        same_at(rt, "line", at, read(rt, memory, reading), number);
     } else {
-        assert!(rt; does(rt, memory, line), "line {at}");
+        holds_at(rt, "line", at, does(rt, memory, line));
     }
 }
 
@@ -101,9 +102,9 @@ fn does(rt: &impl Abort, memory: &mut Memory, line: &Line) -> bool {
 fn assert_inside(rt: &impl Abort, memory: &Memory, at: usize, len: usize)
     ensures { at + len ≤ length memory.now.bytes }
 {
-    assert!(rt; at <= BYTES);
-    assert!(rt; len <= BYTES);
-    assert!(rt; at + len <= memory.size());
+    holds(rt, "a place", at <= BYTES);
+    holds(rt, "no longer", len <= BYTES);
+    holds(rt, "in memory", at + len <= memory.size());
 }
 
 fn write(rt: &impl Abort, memory: &mut Memory, at: usize, bytes: &[u8]) -> bool {
@@ -199,13 +200,13 @@ fn read_u64(rt: &impl Abort, memory: &Memory, at: usize) -> u64 {
 }
 
 fn first_byte(rt: &impl Abort, memory: &Memory, page: u32) -> u8 {
-    assert!(rt; page < memory.pages());
+    holds(rt, "a page", page < memory.pages());
     memory.page(page)[0]
 }
 
 fn original(rt: &impl Abort, memory: &Memory, page: u32, at: usize) -> u8 {
-    assert!(rt; page < memory.pages());
-    assert!(rt; at < PAGE_BYTES);
+    holds(rt, "a page", page < memory.pages());
+    holds(rt, "in the page", at < PAGE_BYTES);
     memory.original(page)[at]
 }
 

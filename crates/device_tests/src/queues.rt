@@ -5,6 +5,7 @@
 ghost use Rattle.std.specs.Prelude.{◌≡◌, ◌≤◌, length, take, drop};
 ghost use Rattle.virtqueue.specs.Areas.{IsSized};
 
+use crate::asserts::holds;
 use std::alloc::Global;
 use std::process::Abort;
 use std::test::Fail;
@@ -50,21 +51,22 @@ const EMPTY: [u8; 16] = [0; 16];
 
 /// A chain has so many parts, and so many readable and writable bytes.
 fn assert_lengths(rt: &impl Abort, chain: &Chain, parts: usize, readable: u64, writable: u64) {
-    assert!(rt; chain.parts().len() == parts);
-    assert!(rt; chain.readable_len() == readable);
-    assert!(rt; chain.writable_len() == writable);
+    holds(rt, "parts", chain.parts().len() == parts);
+    holds(rt, "readable bytes", chain.readable_len() == readable);
+    holds(rt, "writable bytes", chain.writable_len() == writable);
 }
 
 /// Whether all of a chain is readable, and whether all of it is writable.
 fn assert_directions(rt: &impl Abort, chain: &Chain, readable: bool, writable: bool) {
-    assert!(rt; chain.is_all_readable() == readable);
-    assert!(rt; chain.is_all_writable() == writable);
+    holds(rt, "all readable", chain.is_all_readable() == readable);
+    holds(rt, "all writable", chain.is_all_writable() == writable);
 }
 
 /// RAM has these bytes from a place on.
 fn assert_bytes(rt: &impl Abort, ram: &PlainRam, at: usize, bytes: &[u8]) {
-    assert!(rt; at <= 4096 && bytes.len() <= 4096 - at);
-    assert!(rt; &ram.bytes[at..at + bytes.len()] == bytes);
+    holds(rt, "a place", at <= 4096);
+    holds(rt, "in RAM", bytes.len() <= 4096 - at);
+    holds(rt, "the bytes", &ram.bytes[at..at + bytes.len()] == bytes);
 }
 
 #[test]
@@ -72,7 +74,7 @@ fn one_readable_buffer(rt: HostRuntime) -> Result<(), Fail> {
     let mut ram = ram_with(&READABLE, &EMPTY);
     ram.write(0x100, &[7, 8, 9]);
     let chain = four().next_chain(&ram)?.ok_or("no chain")?;
-    assert!(rt; chain.head() == 0);
+    holds(&rt, "the head", chain.head() == 0);
     assert_directions(&rt, &chain, true, false);
     assert_lengths(&rt, &chain, 1, 26, 0);
     assert_gathered(&rt, &ram, [8, 9])
@@ -81,10 +83,10 @@ fn one_readable_buffer(rt: HostRuntime) -> Result<(), Fail> {
 /// The second and the third byte of the next chain.
 fn assert_gathered(rt: &impl Abort, ram: &PlainRam, bytes: [u8; 2]) -> Result<(), Fail> {
     let chain = four().next_chain(ram)?.ok_or("no chain")?;
-    assert!(rt; chain.readable_len() >= 3);
+    holds(rt, "three bytes", chain.readable_len() >= 3);
     let mut two = [0; 2];
     Queue::gather(&chain, ram, 1, &mut two);
-    assert!(rt; two == bytes);
+    holds(rt, "two bytes", two == bytes);
     Ok(())
 }
 
@@ -92,8 +94,8 @@ fn assert_gathered(rt: &impl Abort, ram: &PlainRam, bytes: [u8; 2]) -> Result<()
 fn later_writes_stand(rt: HostRuntime) -> Result<(), Fail> {
     let mut ram = ram_with(&WRITABLE_THEN, &WRITABLE);
     let chain = four().next_chain(&ram)?.ok_or("no chain")?;
-    assert!(rt; chain.is_all_writable());
-    assert!(rt; chain.writable_len() == 5);
+    holds(&rt, "all writable", chain.is_all_writable());
+    holds(&rt, "writable bytes", chain.writable_len() == 5);
     Queue::scatter(&chain, &mut ram, 1, &[1, 2, 3, 4]);
     assert_bytes(&rt, &ram, 0x200, &[0, 1, 3, 4]);
     Ok(())
@@ -105,10 +107,10 @@ fn a_used_chain_stands_in_the_ring(rt: HostRuntime) -> Result<(), Fail> {
     let mut queue = four();
     queue.next_used = 0xffff;
     queue.next_available = 0xffff;
-    assert!(rt; queue.available(&ram)? == 2);
+    holds(&rt, "available", queue.available(&ram)? == 2);
     queue.put_used(&mut ram, 2, 0x0304);
-    assert!(rt; queue.next_used == 0);
-    assert!(rt; queue.next_available == 0);
+    holds(&rt, "used", queue.next_used == 0);
+    holds(&rt, "taken", queue.next_available == 0);
     assert_bytes(&rt, &ram, 0x80, &[0, 0, 0, 0]);
     assert_bytes(&rt, &ram, 0x9c, &[2, 0, 0, 0, 4, 3, 0, 0]);
     Ok(())
@@ -118,12 +120,13 @@ fn a_used_chain_stands_in_the_ring(rt: HostRuntime) -> Result<(), Fail> {
 fn assert_found(rt: &impl Abort, queue: Queue, ram: &PlainRam, found: Option<Broken>)
     requires { IsSized queue }
 {
-    assert!(rt; queue.next_chain(ram).err() == found);
+    holds(rt, "what is wrong", queue.next_chain(ram).err() == found);
 }
 
 /// What is wrong where RAM with one readable buffer has these bytes at a place.
 fn assert_found_with(rt: &impl Abort, at: usize, bytes: &[u8], found: Option<Broken>) {
-    assert!(rt; at <= 4096 && bytes.len() <= 4096 - at);
+    holds(rt, "a place", at <= 4096);
+    holds(rt, "in RAM", bytes.len() <= 4096 - at);
     let mut ram = ram_with(&READABLE, &EMPTY);
     ram.write(at, bytes);
     assert_found(rt, four(), &ram, found);
@@ -164,14 +167,14 @@ fn each_malformation_has_its_name(rt: HostRuntime) -> Result<(), Fail> {
     let mut empty = ram_with(&EMPTY, &EMPTY);
     assert_found(&rt, four(), &empty, None);
     empty.write(0x42, &[0]);
-    assert!(rt; four().next_chain(&empty)?.is_none());
+    holds(&rt, "no chain", four().next_chain(&empty)?.is_none());
     Ok(())
 }
 
 /// A malformation prints this name.
 fn assert_name(rt: &impl Abort, alloc: Global, broken: Broken, name: &str) {
     let text = format!(in alloc; "{broken}").expect(rt, "memory for the text");
-    assert!(rt; text.as_str() == name);
+    holds(rt, "the name", text.as_str() == name);
 }
 
 #[test]

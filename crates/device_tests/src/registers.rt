@@ -5,6 +5,7 @@ ghost use Rattle.std.specs.Prelude.{◌≡◌, ℕ, ◌+◌, ◌-◌, ◌^◌, �
 ghost use Rattle.virtqueue.specs.Parts.{all_readable};
 ghost use Rattle.virtqueue.specs.declared.broken.Broken.TheVariants.{Direction};
 
+use crate::asserts::holds_at;
 use std::process::Abort;
 use virtio_mmio::{Action, ChainHandler, DeviceKind, Transport};
 use virtqueue::{Broken, Chain, GuestRam, PlainRam};
@@ -57,7 +58,7 @@ fn play(rt: &impl Abort, device: &mut Transport, ram: &mut PlainRam, lines: &[Li
 }
 
 fn play_line(rt: &impl Abort, device: &mut Transport, ram: &mut PlainRam, line: &Line, at: usize) {
-    assert!(rt; does(device, ram, line), "line {at}");
+    holds_at(rt, "line", at, does(device, ram, line));
 }
 
 /// Does what a line says, or compares. Says whether it is as the line says.

@@ -1,5 +1,6 @@
 //! What no clause of [`memory_wanted`] says: each call at a concrete type, with room and without.
 
+use crate::asserts::holds;
 use circular_buffer::HeapCircularBuffer;
 use memory_wanted::{
     MemoryWanted, boxed, extend_from_slice, from_slice, push, reserve, resize, ring, with_capacity,
@@ -13,29 +14,33 @@ fn what_can_be_had_is_given(rt: HostRuntime) -> Result<(), Fail> {
     push(&mut list, 7)?;
     extend_from_slice(&mut list, &[8, 9])?;
     resize(&mut list, 5, 1)?;
-    assert!(rt; list.as_slice() == [7, 8, 9, 1, 1].as_slice());
+    holds(
+        &rt,
+        "the list",
+        list.as_slice() == [7, 8, 9, 1, 1].as_slice(),
+    );
     Ok(())
 }
 
 #[test]
 fn so_are_a_copy_a_box_and_a_ring(rt: HostRuntime) -> Result<(), Fail> {
     let copy = from_slice(rt.alloc(), &[7u64, 8])?;
-    assert!(rt; copy.as_slice() == [7, 8].as_slice());
+    holds(&rt, "the copy", copy.as_slice() == [7, 8].as_slice());
     let own = boxed(rt.alloc(), 6u64)?;
-    assert!(rt; *own == 6);
+    holds(&rt, "the box", *own == 6);
     let mut ring: HeapCircularBuffer<u64> = ring(rt.alloc(), 1)?;
-    assert!(rt; ring.try_push_back(3).is_ok());
-    assert!(rt; ring.try_push_back(4).is_err());
+    holds(&rt, "room", ring.try_push_back(3).is_ok());
+    holds(&rt, "no more room", ring.try_push_back(4).is_err());
     Ok(())
 }
 
 #[test]
 fn what_no_machine_has_is_refused(rt: HostRuntime) -> Result<(), Fail> {
     let all: Result<Vec<u64>, MemoryWanted> = with_capacity(rt.alloc(), usize::MAX);
-    assert!(rt; all.is_err());
+    holds(&rt, "no list", all.is_err());
     let mut list: Vec<u64> = Vec::new(rt.alloc());
-    assert!(rt; reserve(&mut list, usize::MAX).is_err());
-    assert!(rt; resize(&mut list, usize::MAX, 0).is_err());
-    assert!(rt; list.len() == 0);
+    holds(&rt, "no room", reserve(&mut list, usize::MAX).is_err());
+    holds(&rt, "no size", resize(&mut list, usize::MAX, 0).is_err());
+    holds(&rt, "as before", list.len() == 0);
     Ok(())
 }

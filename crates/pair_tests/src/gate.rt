@@ -2,14 +2,13 @@
 //! a small function, since a long test is slow to prove: a test is a table of rows.
 ghost use Rattle.frame_ports.specs.Addresses.{IsFrame};
 
-use crate::asserts::{as_many, same};
+use crate::asserts::{as_many, holds, made, same};
 use crate::refusals::{assert_named, refused};
 use arrayvec::ArrayVec;
 use frame_ports::{Frame, Ports};
 use output_gate::{Gate, GateError, Landed, land_numbered};
 use std::alloc::Global;
 use std::process::Abort;
-use std::test::Fail;
 
 /// A frame of 14 bytes from the guest to `client`, whose last byte is `mark`.
 fn frame_to(client: u8, mark: u8) -> Frame
@@ -42,18 +41,17 @@ enum Row {
 }
 
 /// The last byte of the frame that the client takes, 0 where its box is empty.
-fn taken(ports: &mut Ports, client: u64) -> Result<u8, Fail> {
-    match ports.take(client)? {
-        Some(frame) => Ok(frame.as_slice()[13]),
-        None => Ok(0),
+fn taken(rt: &impl Abort, ports: &mut Ports, client: u64) -> u8 {
+    match made(rt, ports.take(client)) {
+        Some(frame) => frame.as_slice()[13],
+        None => 0,
     }
 }
 
 /// The client takes the frame with this last byte; 0 where its box is empty.
-fn assert_taken(rt: &impl Abort, ports: &mut Ports, client: u64, mark: u8) -> Result<(), Fail> {
-    let found = taken(ports, client)?;
+fn assert_taken(rt: &impl Abort, ports: &mut Ports, client: u64, mark: u8) {
+    let found = taken(rt, ports, client);
     same(rt, "the last byte", u64::from(found), u64::from(mark));
-    Ok(())
 }
 
 /// So many frames are held of checkpoints up to this one.
@@ -88,16 +86,16 @@ fn assert_next(rt: &impl Abort, gate: &Gate, number: u64) {
 fn hold_anew(rt: &impl Abort, gate: &mut Gate, sent: u64, number: u64, frame: Frame)
     requires { IsFrame frame }
 {
-    assert!(rt; sent < 1000);
+    holds(rt, "few frames", sent < 1000);
     gate.begin(sent);
     assert_next(rt, gate, sent + 1);
     gate.hold(number, &[frame]);
 }
 
 /// Plays one row.
-fn play(rt: &impl Abort, gate: &mut Gate, ports: &mut Ports, row: &Row) -> Result<(), Fail> {
+fn play(rt: &impl Abort, gate: &mut Gate, ports: &mut Ports, row: &Row) {
     match row {
-        Row::Taken(client, mark) => return assert_taken(rt, ports, *client, *mark),
+        Row::Taken(client, mark) => assert_taken(rt, ports, *client, *mark),
         Row::Held(number, count) => assert_held(rt, gate, *number, *count),
         Row::Acked(number, landed, dropped) => {
             assert_counts(rt, acked(gate, ports, *number), (*landed, *dropped));
@@ -109,30 +107,28 @@ fn play(rt: &impl Abort, gate: &mut Gate, ports: &mut Ports, row: &Row) -> Resul
             hold_anew(rt, gate, *sent, *number, frame_to(*client, *mark));
         }
     }
-    Ok(())
 }
 
 /// Plays the rows, one after the other, with the ports of two clients.
-fn plays(rt: &impl Abort, alloc: Global, gate: &mut Gate, rows: &[Row]) -> Result<(), Fail> {
-    let mut ports = Ports::new(alloc, 2)?;
+fn plays(rt: &impl Abort, alloc: Global, gate: &mut Gate, rows: &[Row]) {
+    let mut ports = made(rt, Ports::new(alloc, 2));
     for row in rows {
-        play(rt, gate, &mut ports, row)?;
+        play(rt, gate, &mut ports, row);
     }
-    Ok(())
 }
 
 /// A gate that holds four epochs: one with a frame for each of two clients, one with none, and two with a frame for client 1.
-fn four_epochs(alloc: Global) -> Result<Gate, GateError> {
-    let mut gate = Gate::new(alloc)?;
+fn four_epochs(rt: &impl Abort, alloc: Global) -> Gate {
+    let mut gate = made(rt, Gate::new(alloc));
     gate.hold(1, &[frame_to(1, 1), frame_to(2, 2)]);
     gate.hold(2, &[]);
     gate.hold(3, &[frame_to(1, 3)]);
     gate.hold(4, &[frame_to(1, 4)]);
-    Ok(gate)
+    gate
 }
 
 #[test]
-fn frames_land_at_their_acknowledgement(rt: HostRuntime) -> Result<(), Fail> {
+fn frames_land_at_their_acknowledgement(rt: HostRuntime) {
     static ROWS: [Row; 13] = [
         Row::Taken(1, 0),
         Row::Held(0, 0),
@@ -148,12 +144,12 @@ fn frames_land_at_their_acknowledgement(rt: HostRuntime) -> Result<(), Fail> {
         Row::Taken(1, 4),
         Row::Held(9, 0),
     ];
-    let mut gate = four_epochs(rt.alloc())?;
-    plays(&rt, rt.alloc(), &mut gate, &ROWS)
+    let mut gate = four_epochs(&rt, rt.alloc());
+    plays(&rt, rt.alloc(), &mut gate, &ROWS);
 }
 
 #[test]
-fn what_is_discarded_never_lands(rt: HostRuntime) -> Result<(), Fail> {
+fn what_is_discarded_never_lands(rt: HostRuntime) {
     static ROWS: [Row; 6] = [
         Row::Anew(4, 1, 1, 5),
         Row::Next(6),
@@ -162,8 +158,8 @@ fn what_is_discarded_never_lands(rt: HostRuntime) -> Result<(), Fail> {
         Row::Opened(0),
         Row::Taken(1, 0),
     ];
-    let mut gate = Gate::new(rt.alloc())?;
-    plays(&rt, rt.alloc(), &mut gate, &ROWS)
+    let mut gate = made(&rt, Gate::new(rt.alloc()));
+    plays(&rt, rt.alloc(), &mut gate, &ROWS);
 }
 
 /// A frame of 14 bytes from the guest to every client.
@@ -178,15 +174,15 @@ fn frame_to_all() -> Frame
 }
 
 /// A gate that holds the frames 1 to 4 of two epochs, of which the third goes nowhere.
-fn two_epochs(alloc: Global) -> Result<Gate, GateError> {
-    let mut gate = Gate::new(alloc)?;
+fn two_epochs(rt: &impl Abort, alloc: Global) -> Gate {
+    let mut gate = made(rt, Gate::new(alloc));
     gate.hold(1, &[frame_to(1, 1), frame_to(2, 2)]);
     gate.hold(2, &[frame_to(9, 3), frame_to(1, 4)]);
-    Ok(gate)
+    gate
 }
 
 #[test]
-fn a_rolled_back_number_is_given_anew(rt: HostRuntime) -> Result<(), Fail> {
+fn a_rolled_back_number_is_given_anew(rt: HostRuntime) {
     static ROWS: [Row; 7] = [
         Row::Next(5),
         // The first two land.
@@ -198,13 +194,13 @@ fn a_rolled_back_number_is_given_anew(rt: HostRuntime) -> Result<(), Fail> {
         Row::Taken(1, 5),
         Row::Taken(1, 0),
     ];
-    let mut gate = two_epochs(rt.alloc())?;
-    plays(&rt, rt.alloc(), &mut gate, &ROWS)
+    let mut gate = two_epochs(&rt, rt.alloc());
+    plays(&rt, rt.alloc(), &mut gate, &ROWS);
 }
 
 #[test]
-fn a_frame_lands_only_where_it_has_not_come_before(rt: HostRuntime) -> Result<(), Fail> {
-    let mut ports = Ports::new(rt.alloc(), 2)?;
+fn a_frame_lands_only_where_it_has_not_come_before(rt: HostRuntime) {
+    let mut ports = made(&rt, Ports::new(rt.alloc(), 2));
     // Frame 7 comes for client 2 alone, then for client 1, frame 6 for neither, and frame 8 for both.
     for (number, frame, landed) in [
         (7, frame_to(2, 7), 1),
@@ -217,7 +213,6 @@ fn a_frame_lands_only_where_it_has_not_come_before(rt: HostRuntime) -> Result<()
         let counts = land_numbered(&mut ports, number, &frames);
         assert_eq!(rt; counts, Landed { landed, dropped: 0 });
     }
-    Ok(())
 }
 
 /// Two frames of the first checkpoint are held after so many sent ones, for client 1 and for this one. What lands of them, and what is
@@ -229,28 +224,27 @@ fn landed_of_two(
     sent: u64,
     client: u8,
 ) -> (u64, u64) {
-    assert!(rt; sent < 1000);
+    holds(rt, "few frames", sent < 1000);
     gate.begin(sent);
     gate.hold(1, &[frame_to(1, 1), frame_to(client, 2)]);
     acked(gate, ports, 1)
 }
 
 #[test]
-fn a_full_box_drops_and_a_frame_for_no_client_doesnt_count(rt: HostRuntime) -> Result<(), Fail> {
-    let mut ports = Ports::new(rt.alloc(), 1)?;
-    let mut gate = Gate::new(rt.alloc())?;
+fn a_full_box_drops_and_a_frame_for_no_client_doesnt_count(rt: HostRuntime) {
+    let mut ports = made(&rt, Ports::new(rt.alloc(), 1));
+    let mut gate = made(&rt, Gate::new(rt.alloc()));
     for sent in 0..256 {
         let counts = landed_of_two(&rt, &mut gate, &mut ports, 2 * sent, 9);
         assert_counts(&rt, counts, (1, 0));
     }
     let counts = landed_of_two(&rt, &mut gate, &mut ports, 512, 1);
     assert_counts(&rt, counts, (0, 2));
-    Ok(())
 }
 
 #[test]
-fn the_refusal_is_that_of_the_table(rt: HostRuntime) -> Result<(), Fail> {
-    let error = GateError::from(refused(rt.alloc())?);
+fn the_refusal_is_that_of_the_table(rt: HostRuntime) {
+    let error = GateError::from(refused(&rt, rt.alloc()));
     let found = (error.number(), error.name());
-    assert_named(&rt, rt.alloc(), &error, found, (12, "NoMemory"))
+    assert_named(&rt, rt.alloc(), &error, found, (12, "NoMemory"));
 }

@@ -1,15 +1,14 @@
 //! What no clause of [`pair_history`] says: that calls succeed where there is memory, and that a reservation that can't be met is refused.
 
-use crate::asserts::{as_many, holds, same};
+use crate::asserts::{as_many, holds, made, same};
 use pair_history::{Entries, Entry, History};
 use std::alloc::Global;
 use std::process::Abort;
-use std::test::Fail;
 
 /// A history of 21 steps, an arrival, no step, and a frame that a full box dropped.
-fn steps_and_more(alloc: Global) -> Result<History, Fail> {
+fn steps_and_more(rt: &impl Abort, alloc: Global) -> History {
     let mut history = History::new(alloc);
-    history.reserve(4)?;
+    made(rt, history.reserve(4));
     history.add(Entry::Ran(21));
     history.add(Entry::Arrive(1));
     history.add(Entry::Ran(0));
@@ -17,7 +16,7 @@ fn steps_and_more(alloc: Global) -> Result<History, Fail> {
         client: 1,
         place: 256,
     });
-    Ok(history)
+    history
 }
 
 /// The history has so many entries, of which so many are stored.
@@ -27,12 +26,11 @@ fn assert_counts(rt: &impl Abort, history: &History, entries: u64, stored: usize
 }
 
 #[test]
-fn a_history_counts_each_step(rt: HostRuntime) -> Result<(), Fail> {
+fn a_history_counts_each_step(rt: HostRuntime) {
     holds(&rt, "empty", History::new(rt.alloc()).is_empty());
-    let history = steps_and_more(rt.alloc())?;
+    let history = steps_and_more(&rt, rt.alloc());
     assert_counts(&rt, &history, 23, 4);
     holds(&rt, "not empty", !history.is_empty());
-    Ok(())
 }
 
 const SHORT: &[u8] = b"fourteen bytes";
@@ -43,17 +41,17 @@ const OTHER: &[u8] = b"and one byte mo";
 const LONG: &[u8] = &[7; 1514];
 
 /// A history with three frames of three lengths.
-fn frames(alloc: Global) -> Result<History, Fail> {
+fn frames(rt: &impl Abort, alloc: Global) -> History {
     let mut history = History::new(alloc);
-    history.reserve_frame(14)?;
+    made(rt, history.reserve_frame(14));
     history.add(Entry::Delivered(1, SHORT, 1));
-    history.reserve_frame(1514)?;
+    made(rt, history.reserve_frame(1514));
     history.add(Entry::Refused(2, LONG));
-    history.reserve(1)?;
+    made(rt, history.reserve(1));
     history.add(Entry::Took(3, None));
-    history.reserve_frame(15)?;
+    made(rt, history.reserve_frame(15));
     history.add(Entry::Took(4, Some(OTHER)));
-    Ok(history)
+    history
 }
 
 /// The next entry is a delivery by client 1 of this frame, which got number 1.
@@ -91,21 +89,19 @@ fn assert_took(rt: &impl Abort, entries: &mut Entries<'_>, frame: &[u8]) {
 }
 
 #[test]
-fn frames_come_back_as_they_were_added(rt: HostRuntime) -> Result<(), Fail> {
-    let history = frames(rt.alloc())?;
+fn frames_come_back_as_they_were_added(rt: HostRuntime) {
+    let history = frames(&rt, rt.alloc());
     let mut entries = history.entries();
     assert_delivered(&rt, &mut entries, SHORT);
     assert_refused(&rt, &mut entries, LONG);
     assert_took_nothing(&rt, &mut entries);
     assert_took(&rt, &mut entries, OTHER);
     holds(&rt, "the end", entries.next().is_none());
-    Ok(())
 }
 
 #[test]
-fn no_memory_for_that_many(rt: HostRuntime) -> Result<(), Fail> {
+fn no_memory_for_that_many(rt: HostRuntime) {
     let mut history = History::new(rt.alloc());
     holds(&rt, "refused", history.reserve(usize::MAX).is_err());
     holds(&rt, "empty", history.is_empty());
-    Ok(())
 }

@@ -1,11 +1,10 @@
 //! What no clause of [`lossy_line`] says: a line at concrete types, through its bound, and a refusal of memory.
 
-use crate::asserts::{holds, same};
+use crate::asserts::{holds, made, same};
 use crate::refusals::assert_named;
 use lossy_line::Line;
 use std::alloc::Global;
 use std::process::Abort;
-use std::test::Fail;
 
 /// What is done to a line, and what comes of it.
 enum Row {
@@ -20,10 +19,9 @@ enum Row {
 }
 
 /// This packet is sent, and given this number.
-fn assert_sent(rt: &impl Abort, line: &mut Line<u8>, packet: u8, number: u64) -> Result<(), Fail> {
-    let given = line.send(packet)?;
+fn assert_sent(rt: &impl Abort, line: &mut Line<u8>, packet: u8, number: u64) {
+    let given = made(rt, line.send(packet));
     same(rt, "the number", given, number);
-    Ok(())
 }
 
 /// The packet of a number, where it is to be had.
@@ -45,34 +43,31 @@ fn assert_count(rt: &impl Abort, line: &Line<u8>, count: u64) {
 }
 
 /// Plays one row.
-fn play(rt: &impl Abort, line: &mut Line<u8>, row: &Row) -> Result<(), Fail> {
+fn play(rt: &impl Abort, line: &mut Line<u8>, row: &Row) {
     match row {
-        Row::Sent(packet, number) => return assert_sent(rt, line, *packet, *number),
+        Row::Sent(packet, number) => assert_sent(rt, line, *packet, *number),
         Row::Got(number, packet) => assert_got(rt, line, *number, *packet),
         Row::Dropped(number) => line.drop(*number),
         Row::Count(count) => assert_count(rt, line, *count),
     }
-    Ok(())
 }
 
 /// Plays the rows on a line, one after the other.
-fn plays(rt: &impl Abort, line: &mut Line<u8>, rows: &[Row]) -> Result<(), Fail> {
+fn plays(rt: &impl Abort, line: &mut Line<u8>, rows: &[Row]) {
     for row in rows {
-        play(rt, line, row)?;
+        play(rt, line, row);
     }
-    Ok(())
 }
 
 /// Plays them a hundred times.
-fn plays_often(rt: &impl Abort, line: &mut Line<u8>, rows: &[Row]) -> Result<(), Fail> {
+fn plays_often(rt: &impl Abort, line: &mut Line<u8>, rows: &[Row]) {
     for _ in 0..100u8 {
-        plays(rt, line, rows)?;
+        plays(rt, line, rows);
     }
-    Ok(())
 }
 
 #[test]
-fn a_packet_comes_as_it_was_sent_however_often(rt: HostRuntime) -> Result<(), Fail> {
+fn a_packet_comes_as_it_was_sent_however_often(rt: HostRuntime) {
     static ROWS: [Row; 11] = [
         Row::Sent(70, 0),
         Row::Sent(71, 1),
@@ -86,11 +81,11 @@ fn a_packet_comes_as_it_was_sent_however_often(rt: HostRuntime) -> Result<(), Fa
         Row::Sent(73, 3),
         Row::Got(3, Some(73)),
     ];
-    plays(&rt, &mut Line::new(rt.alloc()), &ROWS)
+    plays(&rt, &mut Line::new(rt.alloc()), &ROWS);
 }
 
 #[test]
-fn a_dropped_packet_never_comes(rt: HostRuntime) -> Result<(), Fail> {
+fn a_dropped_packet_never_comes(rt: HostRuntime) {
     static ROWS: [Row; 12] = [
         Row::Sent(70, 0),
         Row::Sent(71, 1),
@@ -105,7 +100,7 @@ fn a_dropped_packet_never_comes(rt: HostRuntime) -> Result<(), Fail> {
         Row::Sent(73, 3),
         Row::Got(3, Some(73)),
     ];
-    plays(&rt, &mut Line::new(rt.alloc()), &ROWS)
+    plays(&rt, &mut Line::new(rt.alloc()), &ROWS);
 }
 
 /// These bytes are sent, and given this number.
@@ -115,11 +110,10 @@ fn assert_bytes_sent(
     line: &mut Line<Vec<u8>>,
     bytes: &[u8],
     number: u64,
-) -> Result<(), Fail> {
-    let packet = Vec::from_slice(alloc, bytes)?;
-    let given = line.send(packet)?;
+) {
+    let packet = made(rt, Vec::from_slice(alloc, bytes));
+    let given = made(rt, line.send(packet));
     same(rt, "the number", given, number);
-    Ok(())
 }
 
 /// The bytes of a number are these, where they are to be had.
@@ -133,42 +127,40 @@ fn assert_bytes(rt: &impl Abort, line: &Line<Vec<u8>>, number: u64, wanted: Opti
 }
 
 #[test]
-fn a_packet_may_own_memory(rt: HostRuntime) -> Result<(), Fail> {
+fn a_packet_may_own_memory(rt: HostRuntime) {
     let mut line = Line::new(rt.alloc());
     holds(&rt, "empty", line.is_empty());
-    assert_bytes_sent(&rt, rt.alloc(), &mut line, &[1, 2], 0)?;
-    assert_bytes_sent(&rt, rt.alloc(), &mut line, &[3], 1)?;
+    assert_bytes_sent(&rt, rt.alloc(), &mut line, &[1, 2], 0);
+    assert_bytes_sent(&rt, rt.alloc(), &mut line, &[3], 1);
     holds(&rt, "not empty", !line.is_empty());
     line.drop(0);
     assert_bytes(&rt, &line, 0, None);
     assert_bytes(&rt, &line, 1, Some(&[3]));
-    Ok(())
 }
 
 #[test]
-fn room_for_as_many_sends_as_were_reserved(rt: HostRuntime) -> Result<(), Fail> {
+fn room_for_as_many_sends_as_were_reserved(rt: HostRuntime) {
     let mut line = Line::new(rt.alloc());
-    line.reserve(100)?;
+    made(&rt, line.reserve(100));
     for i in 0..100u8 {
-        assert_sent(&rt, &mut line, i, u64::from(i))?;
+        assert_sent(&rt, &mut line, i, u64::from(i));
     }
     assert_got(&rt, &line, 99, Some(99));
-    Ok(())
 }
 
 #[test]
-fn the_refusal_is_that_of_the_table(rt: HostRuntime) -> Result<(), Fail> {
+fn the_refusal_is_that_of_the_table(rt: HostRuntime) {
     let mut line: Line<u64> = Line::new(rt.alloc());
     let Err(error) = line.reserve(usize::MAX) else {
-        return Err("no machine has that much".into());
+        panic!(&rt; "no machine has that much");
     };
     same(&rt, "packets", line.len(), 0);
     let found = (error.number(), error.name());
-    assert_named(&rt, rt.alloc(), &error, found, (12, "NoMemory"))
+    assert_named(&rt, rt.alloc(), &error, found, (12, "NoMemory"));
 }
 
 #[test]
-fn four_packets_come_a_hundred_times_each_in_either_order(rt: HostRuntime) -> Result<(), Fail> {
+fn four_packets_come_a_hundred_times_each_in_either_order(rt: HostRuntime) {
     static SENT: [Row; 4] = [
         Row::Sent(70, 0),
         Row::Sent(71, 1),
@@ -188,7 +180,7 @@ fn four_packets_come_a_hundred_times_each_in_either_order(rt: HostRuntime) -> Re
         Row::Got(0, Some(70)),
     ];
     let mut line = Line::new(rt.alloc());
-    plays(&rt, &mut line, &SENT)?;
-    plays_often(&rt, &mut line, &RISING)?;
-    plays_often(&rt, &mut line, &REVERSED)
+    plays(&rt, &mut line, &SENT);
+    plays_often(&rt, &mut line, &RISING);
+    plays_often(&rt, &mut line, &REVERSED);
 }

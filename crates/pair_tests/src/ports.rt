@@ -1,13 +1,12 @@
 //! What no clause of [`frame_ports`] says: worked cases, and each call once with ample memory. Each reading stands with its comparison in
 //! a small function, since a long test is slow to prove: a test is a table of rows.
 
-use crate::asserts::{as_many, holds, same, same_bytes};
+use crate::asserts::{as_many, holds, made, same, same_bytes};
 use crate::refusals::{assert_named, refused};
 use arrayvec::ArrayVec;
 use frame_ports::{Frame, Landing, PortError, Ports, Targets};
 use std::alloc::Global;
 use std::process::Abort;
-use std::test::Fail;
 
 /// A frame of 14 bytes from the guest to client 1, 3 and 4, to none, and to all.
 const TO_1: [u8; 14] = [2, 0, 0, 0, 1, 1, 2, 0, 0, 0, 0, 1, 0x88, 0xb5];
@@ -50,11 +49,11 @@ enum Row {
     Marked,
 }
 
-fn frame(bytes: &[u8]) -> Result<Frame, Fail> {
+fn frame(rt: &impl Abort, bytes: &[u8]) -> Frame {
     let mut frame = ArrayVec::new();
     match frame.try_extend_from_slice(bytes) {
-        Ok(()) => Ok(frame),
-        Err(_) => Err("too long".into()),
+        Ok(()) => frame,
+        Err(_) => panic!(rt; "too long"),
     }
 }
 
@@ -84,11 +83,10 @@ fn assert_length(
     ports: &mut Ports,
     (client, count): (u64, usize),
     answer: Result<u64, u8>,
-) -> Result<(), Fail> {
+) {
     let mut bytes = Vec::new(alloc);
-    bytes.resize(count, 7)?;
+    made(rt, bytes.resize(count, 7));
     assert_delivered(rt, ports, client, bytes.as_slice(), answer);
-    Ok(())
 }
 
 /// The deliveries of a frame are given the numbers from 1 on, before this one.
@@ -100,15 +98,14 @@ fn assert_numbered(rt: &impl Abort, ports: &mut Ports, end: u64) {
 
 /// So many frames wait for the client.
 fn assert_waiting(rt: &impl Abort, ports: &Ports, client: u64, count: usize) {
-    assert!(rt; 1 <= client && client <= ports.clients());
+    holds(rt, "a client", 1 <= client && client <= ports.clients());
     as_many(rt, "waiting", ports.inbox_len(client), count);
 }
 
 /// Whether the client takes a frame.
-fn assert_taken(rt: &impl Abort, ports: &mut Ports, client: u64, some: bool) -> Result<(), Fail> {
-    let taken = ports.take(client)?;
+fn assert_taken(rt: &impl Abort, ports: &mut Ports, client: u64, some: bool) {
+    let taken = made(rt, ports.take(client));
     holds(rt, "taken", taken.is_some() == some);
-    Ok(())
 }
 
 /// There is no such client to take a frame.
@@ -136,10 +133,10 @@ fn assert_lost_in(
 }
 
 /// The client's first frame, which is admitted, with its number.
-fn admitted(ports: &mut Ports, client: u64) -> Result<(u64, Frame), Fail> {
-    match ports.admit(client)? {
-        Some(admitted) => Ok(admitted),
-        None => Err("a frame waits".into()),
+fn admitted(rt: &impl Abort, ports: &mut Ports, client: u64) -> (u64, Frame) {
+    match made(rt, ports.admit(client)) {
+        Some(admitted) => admitted,
+        None => panic!(rt; "a frame waits"),
     }
 }
 
@@ -149,17 +146,10 @@ fn assert_frame(rt: &impl Abort, frame: &Frame, bytes: &[u8]) {
 }
 
 /// The client's first frame is admitted, with this number and these bytes.
-fn assert_admitted(
-    rt: &impl Abort,
-    ports: &mut Ports,
-    client: u64,
-    number: u64,
-    bytes: &[u8],
-) -> Result<(), Fail> {
-    let (found, frame) = admitted(ports, client)?;
+fn assert_admitted(rt: &impl Abort, ports: &mut Ports, client: u64, number: u64, bytes: &[u8]) {
+    let (found, frame) = admitted(rt, ports, client);
     same(rt, "the number", found, number);
     assert_frame(rt, &frame, bytes);
-    Ok(())
 }
 
 /// What becomes of a frame of that number at the client.
@@ -171,9 +161,9 @@ fn assert_lands(
     frame: &Frame,
     landing: Landing,
 ) {
-    assert!(rt; 1 <= client && client <= ports.clients());
+    holds(rt, "a client", 1 <= client && client <= ports.clients());
     let bytes = frame.as_slice();
-    assert!(rt; bytes.len() >= 14);
+    holds(rt, "a frame", bytes.len() >= 14);
     assert_eq!(rt; ports.land(client, number, bytes), landing);
 }
 
@@ -186,7 +176,7 @@ fn assert_all_land(rt: &impl Abort, ports: &mut Ports, end: u64, frame: &Frame) 
 
 /// So many frames lie in the client's box.
 fn assert_box(rt: &impl Abort, ports: &Ports, client: u64, count: usize) {
-    assert!(rt; 1 <= client && client <= ports.clients());
+    holds(rt, "a client", 1 <= client && client <= ports.clients());
     as_many(rt, "in the box", ports.box_len(client), count);
 }
 
@@ -204,27 +194,21 @@ fn assert_lost_landed(rt: &impl Abort, ports: &mut Ports, client: u64, place: u6
 }
 
 /// Plays one row. The sent frame is this one.
-fn play(
-    rt: &impl Abort,
-    alloc: Global,
-    ports: &mut Ports,
-    sent: &Frame,
-    row: &Row,
-) -> Result<(), Fail> {
+fn play(rt: &impl Abort, alloc: Global, ports: &mut Ports, sent: &Frame, row: &Row) {
     match row {
         Row::Delivered(client, bytes, answer) => {
             assert_delivered(rt, ports, *client, bytes, *answer);
         }
         Row::Length(client, count, answer) => {
-            return assert_length(rt, alloc, ports, (*client, *count), *answer);
+            assert_length(rt, alloc, ports, (*client, *count), *answer);
         }
         Row::Numbered(end) => assert_numbered(rt, ports, *end),
         Row::Waiting(client, count) => assert_waiting(rt, ports, *client, *count),
-        Row::Taken(client, some) => return assert_taken(rt, ports, *client, *some),
+        Row::Taken(client, some) => assert_taken(rt, ports, *client, *some),
         Row::Unknown(client) => assert_unknown(rt, ports, *client),
         Row::LostIn(client, place, answer) => assert_lost_in(rt, ports, *client, *place, *answer),
         Row::Admitted(client, number, bytes) => {
-            return assert_admitted(rt, ports, *client, *number, bytes);
+            assert_admitted(rt, ports, *client, *number, bytes);
         }
         Row::Lands(client, number, landing) => {
             assert_lands(rt, ports, *client, *number, sent, *landing);
@@ -236,53 +220,43 @@ fn play(
         }
         Row::Marked => ports.mark(),
     }
-    Ok(())
 }
 
 /// Plays the rows with the ports of so many clients, one after the other. The sent frame has these bytes.
-fn plays(
-    rt: &impl Abort,
-    alloc: Global,
-    clients: u64,
-    sent: &[u8],
-    rows: &[Row],
-) -> Result<(), Fail> {
-    if clients < 1 || clients > 16 {
-        return Err("there are no such ports".into());
-    }
-    let sent = frame(sent)?;
+fn plays(rt: &impl Abort, alloc: Global, clients: u64, sent: &[u8], rows: &[Row]) {
+    holds(rt, "such ports", 1 <= clients && clients <= 16);
+    let sent = frame(rt, sent);
     as_many(rt, "bytes", sent.len(), 14);
-    let mut ports = Ports::new(alloc, clients)?;
+    let mut ports = made(rt, Ports::new(alloc, clients));
     same(rt, "clients", ports.clients(), clients);
     for row in rows {
-        play(rt, alloc, &mut ports, &sent, row)?;
+        play(rt, alloc, &mut ports, &sent, row);
     }
-    Ok(())
 }
 
 #[test]
-fn frames_of_too_few_or_too_many_bytes_are_refused(rt: HostRuntime) -> Result<(), Fail> {
+fn frames_of_too_few_or_too_many_bytes_are_refused(rt: HostRuntime) {
     static ROWS: [Row; 3] = [
         Row::Length(1, 13, Err(2)),
         Row::Length(1, 1515, Err(2)),
         Row::Length(1, 1514, Ok(1)),
     ];
-    plays(&rt, rt.alloc(), 1, &TO_1, &ROWS)
+    plays(&rt, rt.alloc(), 1, &TO_1, &ROWS);
 }
 
 #[test]
-fn an_inbox_is_full_at_64(rt: HostRuntime) -> Result<(), Fail> {
+fn an_inbox_is_full_at_64(rt: HostRuntime) {
     static ROWS: [Row; 4] = [
         Row::Numbered(65),
         Row::Delivered(1, &TO_1, Err(1)),
         Row::Waiting(1, 64),
         Row::Taken(1, false),
     ];
-    plays(&rt, rt.alloc(), 1, &TO_1, &ROWS)
+    plays(&rt, rt.alloc(), 1, &TO_1, &ROWS);
 }
 
 #[test]
-fn a_frame_waits_and_is_lost(rt: HostRuntime) -> Result<(), Fail> {
+fn a_frame_waits_and_is_lost(rt: HostRuntime) {
     static ROWS: [Row; 7] = [
         Row::Delivered(2, &[9; 14], Ok(1)),
         Row::Delivered(2, &[8; 15], Ok(2)),
@@ -292,11 +266,11 @@ fn a_frame_waits_and_is_lost(rt: HostRuntime) -> Result<(), Fail> {
         Row::Admitted(2, 1, &[9; 14]),
         Row::Waiting(2, 1),
     ];
-    plays(&rt, rt.alloc(), 3, &TO_1, &ROWS)
+    plays(&rt, rt.alloc(), 3, &TO_1, &ROWS);
 }
 
 #[test]
-fn a_frame_lands_and_is_lost(rt: HostRuntime) -> Result<(), Fail> {
+fn a_frame_lands_and_is_lost(rt: HostRuntime) {
     static ROWS: [Row; 6] = [
         Row::Unknown(4),
         Row::Lands(3, 1, Landing::In),
@@ -305,11 +279,11 @@ fn a_frame_lands_and_is_lost(rt: HostRuntime) -> Result<(), Fail> {
         Row::LostLanded(3, 0, true),
         Row::Taken(3, false),
     ];
-    plays(&rt, rt.alloc(), 3, &TO_ALL, &ROWS)
+    plays(&rt, rt.alloc(), 3, &TO_ALL, &ROWS);
 }
 
 #[test]
-fn a_frame_lands_once_until_the_ports_are_marked(rt: HostRuntime) -> Result<(), Fail> {
+fn a_frame_lands_once_until_the_ports_are_marked(rt: HostRuntime) {
     static ROWS: [Row; 14] = [
         // No frame has the number 0.
         Row::Lands(1, 0, Landing::Old),
@@ -328,11 +302,11 @@ fn a_frame_lands_once_until_the_ports_are_marked(rt: HostRuntime) -> Result<(), 
         Row::Lands(1, 1, Landing::In),
         Row::Lands(2, 1, Landing::In),
     ];
-    plays(&rt, rt.alloc(), 2, &TO_ALL, &ROWS)
+    plays(&rt, rt.alloc(), 2, &TO_ALL, &ROWS);
 }
 
 #[test]
-fn the_number_of_a_dropped_frame_counts(rt: HostRuntime) -> Result<(), Fail> {
+fn the_number_of_a_dropped_frame_counts(rt: HostRuntime) {
     static ROWS: [Row; 5] = [
         Row::LandsUpTo(257),
         Row::Lands(1, 257, Landing::Dropped),
@@ -341,7 +315,7 @@ fn the_number_of_a_dropped_frame_counts(rt: HostRuntime) -> Result<(), Fail> {
         Row::Lands(1, 257, Landing::Old),
         Row::Lands(1, 258, Landing::In),
     ];
-    plays(&rt, rt.alloc(), 1, &TO_1, &ROWS)
+    plays(&rt, rt.alloc(), 1, &TO_1, &ROWS);
 }
 
 /// Whether the client is one of the targets.
@@ -358,14 +332,13 @@ fn assert_targets(rt: &impl Abort, targets: Targets, bits: u16) {
 }
 
 /// A frame of these bytes goes to the clients of these bits.
-fn assert_route(rt: &impl Abort, ports: &Ports, bytes: &[u8], bits: u16) -> Result<(), Fail> {
-    let frame = frame(bytes)?;
+fn assert_route(rt: &impl Abort, ports: &Ports, bytes: &[u8], bits: u16) {
+    let frame = frame(rt, bytes);
     assert_targets(rt, ports.route(frame.as_slice()), bits);
-    Ok(())
 }
 
 #[test]
-fn frames_go_where_their_address_says(rt: HostRuntime) -> Result<(), Fail> {
+fn frames_go_where_their_address_says(rt: HostRuntime) {
     static ROUTES: [(&[u8], u16); 8] = [
         (&TO_1, 0b001),
         (&TO_3, 0b100),
@@ -377,32 +350,25 @@ fn frames_go_where_their_address_says(rt: HostRuntime) -> Result<(), Fail> {
         (&[2, 0, 0, 0, 0, 1, 2, 0, 0, 0, 1, 1, 0x88, 0xb5], 0),
         (&[1, 0, 0x5e, 0, 0, 1, 2, 0, 0, 0, 1, 1, 0x88, 0xb5], 0),
     ];
-    let ports = Ports::new(rt.alloc(), 3)?;
+    let ports = made(&rt, Ports::new(rt.alloc(), 3));
     for (bytes, bits) in &ROUTES {
-        assert_route(&rt, &ports, bytes, *bits)?;
+        assert_route(&rt, &ports, bytes, *bits);
     }
-    Ok(())
 }
 
 /// The refusal has this number and this name.
-fn assert_refusal(
-    rt: &impl Abort,
-    alloc: Global,
-    error: &PortError,
-    number: u8,
-    name: &str,
-) -> Result<(), Fail> {
+fn assert_refusal(rt: &impl Abort, alloc: Global, error: &PortError, number: u8, name: &str) {
     assert_named(
         rt,
         alloc,
         error,
         (error.number(), error.name()),
         (number, name),
-    )
+    );
 }
 
 #[test]
-fn refusals_are_those_of_the_table(rt: HostRuntime) -> Result<(), Fail> {
+fn refusals_are_those_of_the_table(rt: HostRuntime) {
     static ERRORS: [(PortError, u8, &str); 4] = [
         (PortError::Full, 1, "Full"),
         (PortError::BadFrame, 2, "BadFrame"),
@@ -410,8 +376,8 @@ fn refusals_are_those_of_the_table(rt: HostRuntime) -> Result<(), Fail> {
         (PortError::Exhausted, 14, "Exhausted"),
     ];
     for (error, number, name) in &ERRORS {
-        assert_refusal(&rt, rt.alloc(), error, *number, name)?;
+        assert_refusal(&rt, rt.alloc(), error, *number, name);
     }
-    let error = PortError::NoMemory(refused(rt.alloc())?);
-    assert_refusal(&rt, rt.alloc(), &error, 12, "NoMemory")
+    let error = PortError::NoMemory(refused(&rt, rt.alloc()));
+    assert_refusal(&rt, rt.alloc(), &error, 12, "NoMemory");
 }

@@ -1,29 +1,23 @@
 //! What a refusal is called: its number, its name, and its text, which is its name.
 
+use crate::asserts::made;
 use memory_wanted::{MemoryWanted, reserve};
 use std::alloc::Global;
 use std::fmt::Display;
 use std::process::Abort;
-use std::test::Fail;
 
 /// A refused wish for memory.
-pub(crate) fn refused(alloc: Global) -> Result<MemoryWanted, Fail> {
+pub(crate) fn refused(rt: &impl Abort, alloc: Global) -> MemoryWanted {
     match reserve(&mut Vec::<u64>::new(alloc), usize::MAX) {
-        Ok(()) => Err("no machine has that much".into()),
-        Err(wanted) => Ok(wanted),
+        Ok(()) => panic!(rt; "no machine has that much"),
+        Err(wanted) => wanted,
     }
 }
 
 /// It prints so.
-pub(crate) fn assert_text(
-    rt: &impl Abort,
-    alloc: Global,
-    it: &impl Display,
-    wanted: &str,
-) -> Result<(), Fail> {
-    let text = format!(in alloc; "{it}")?;
+pub(crate) fn assert_text(rt: &impl Abort, alloc: Global, it: &impl Display, wanted: &str) {
+    let text = made(rt, format!(in alloc; "{it}"));
     assert_eq!(rt; text.as_str(), wanted);
-    Ok(())
 }
 
 /// The refusal, whose number and name were found to be these, has this number and this name.
@@ -33,7 +27,7 @@ pub(crate) fn assert_named(
     refusal: &impl Display,
     found: (u8, &str),
     wanted: (u8, &str),
-) -> Result<(), Fail> {
+) {
     assert_eq!(rt; found, wanted);
-    assert_text(rt, alloc, refusal, wanted.1)
+    assert_text(rt, alloc, refusal, wanted.1);
 }

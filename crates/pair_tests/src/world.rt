@@ -8,12 +8,9 @@ mod texts;
 
 use pair_core::{Event, Mode};
 use rows::{FRAME, Guest, Row, plays, plays_with};
-use std::test::Fail;
 
 #[test]
-fn the_beacons_frame_reaches_client_1_after_its_acknowledgement(
-    rt: HostRuntime,
-) -> Result<(), Fail> {
+fn the_beacons_frame_reaches_client_1_after_its_acknowledgement(rt: HostRuntime) {
     static ROWS: [Row; 3] = [
         Row::Counted(0, 22),
         Row::Told(
@@ -33,11 +30,11 @@ fn the_beacons_frame_reaches_client_1_after_its_acknowledgement(
         ),
         Row::Shows(Mode::Paired, 1, 0, 22, 27),
     ];
-    plays(&rt, rt.alloc(), Guest::Beacon, &ROWS)
+    plays(&rt, rt.alloc(), Guest::Beacon, &ROWS);
 }
 
 #[test]
-fn packets_out_of_order_and_a_fifth_checkpoint(rt: HostRuntime) -> Result<(), Fail> {
+fn packets_out_of_order_and_a_fifth_checkpoint(rt: HostRuntime) {
     static ROWS: [Row; 1] = [Row::Told(
         &[
             Event::Cut,
@@ -61,11 +58,11 @@ fn packets_out_of_order_and_a_fifth_checkpoint(rt: HostRuntime) -> Result<(), Fa
         Acked { generation: 1, number: 1, landed: 0 }\nCut { generation: 1, number: 5 }\n\
         Refused(NoClient)\nRefused(NoClient)\n",
     )];
-    plays(&rt, rt.alloc(), Guest::Idle, &ROWS)
+    plays(&rt, rt.alloc(), Guest::Idle, &ROWS);
 }
 
 #[test]
-fn a_delivered_frame_arrives_at_the_guest(rt: HostRuntime) -> Result<(), Fail> {
+fn a_delivered_frame_arrives_at_the_guest(rt: HostRuntime) {
     static ROWS: [Row; 2] = [
         Row::Told(
             &[Event::Deliver(1, &FRAME), Event::Admit(1), Event::Admit(1)],
@@ -73,11 +70,11 @@ fn a_delivered_frame_arrives_at_the_guest(rt: HostRuntime) -> Result<(), Fail> {
         ),
         Row::Shows(Mode::Paired, 1, 0, 0, 1),
     ];
-    plays(&rt, rt.alloc(), Guest::Idle, &ROWS)
+    plays(&rt, rt.alloc(), Guest::Idle, &ROWS);
 }
 
 #[test]
-fn the_second_of_two_deliveries_is_lost(rt: HostRuntime) -> Result<(), Fail> {
+fn the_second_of_two_deliveries_is_lost(rt: HostRuntime) {
     static ROWS: [Row; 2] = [
         Row::Told(
             &[
@@ -93,11 +90,11 @@ fn the_second_of_two_deliveries_is_lost(rt: HostRuntime) -> Result<(), Fail> {
         ),
         Row::Shows(Mode::Paired, 1, 0, 0, 3),
     ];
-    plays(&rt, rt.alloc(), Guest::Idle, &ROWS)
+    plays(&rt, rt.alloc(), Guest::Idle, &ROWS);
 }
 
 #[test]
-fn an_inbox_holds_64_frames(rt: HostRuntime) -> Result<(), Fail> {
+fn an_inbox_holds_64_frames(rt: HostRuntime) {
     static ROWS: [Row; 3] = [
         Row::Delivered(64),
         Row::Told(
@@ -106,22 +103,22 @@ fn an_inbox_holds_64_frames(rt: HostRuntime) -> Result<(), Fail> {
         ),
         Row::Shows(Mode::Paired, 1, 0, 0, 66),
     ];
-    plays(&rt, rt.alloc(), Guest::Idle, &ROWS)
+    plays(&rt, rt.alloc(), Guest::Idle, &ROWS);
 }
 
 #[test]
-fn frames_have_14_to_1514_bytes(rt: HostRuntime) -> Result<(), Fail> {
+fn frames_have_14_to_1514_bytes(rt: HostRuntime) {
     static ROWS: [Row; 4] = [
         Row::Length(1, 13, "Refused(BadFrame)\n"),
         Row::Length(1, 1515, "Refused(BadFrame)\n"),
         Row::Length(1, 1514, "Delivered(1)\n"),
         Row::Length(1, 14, "Delivered(2)\n"),
     ];
-    plays(&rt, rt.alloc(), Guest::Idle, &ROWS)
+    plays(&rt, rt.alloc(), Guest::Idle, &ROWS);
 }
 
 #[test]
-fn clients_have_the_numbers_from_1(rt: HostRuntime) -> Result<(), Fail> {
+fn clients_have_the_numbers_from_1(rt: HostRuntime) {
     static ROWS: [Row; 1] = [Row::Told(
         &[
             Event::Deliver(0, &[2; 13]),
@@ -132,11 +129,11 @@ fn clients_have_the_numbers_from_1(rt: HostRuntime) -> Result<(), Fail> {
         ],
         "Refused(NoClient)\nRefused(NoClient)\nDelivered(1)\nRefused(NoClient)\nRefused(NoClient)\n",
     )];
-    plays(&rt, rt.alloc(), Guest::Idle, &ROWS)
+    plays(&rt, rt.alloc(), Guest::Idle, &ROWS);
 }
 
 #[test]
-fn many_steps_are_made_in_one_call(rt: HostRuntime) -> Result<(), Fail> {
+fn many_steps_are_made_in_one_call(rt: HostRuntime) {
     static ROWS: [Row; 5] = [
         Row::Steps(22, 22),
         Row::Steps(1000, 1022),
@@ -144,11 +141,11 @@ fn many_steps_are_made_in_one_call(rt: HostRuntime) -> Result<(), Fail> {
         Row::Single(1022, 1023),
         Row::Shows(Mode::Paired, 1, 0, 1023, 0),
     ];
-    plays(&rt, rt.alloc(), Guest::Beacon, &ROWS)
+    plays(&rt, rt.alloc(), Guest::Beacon, &ROWS);
 }
 
 #[test]
-fn the_last_of_16_clients_delivers_and_takes(rt: HostRuntime) -> Result<(), Fail> {
+fn the_last_of_16_clients_delivers_and_takes(rt: HostRuntime) {
     static ROWS: [Row; 2] = [
         Row::Length(16, 600, "Delivered(1)\n"),
         Row::Told(
@@ -156,17 +153,17 @@ fn the_last_of_16_clients_delivers_and_takes(rt: HostRuntime) -> Result<(), Fail
             "Admitted(1)\nTook(None)\nRefused(NoClient)\n",
         ),
     ];
-    plays_with(&rt, rt.alloc(), Guest::Idle, 16, &ROWS)
+    plays_with(&rt, rt.alloc(), Guest::Idle, 16, &ROWS);
 }
 
 #[test]
-fn a_list_of_10001_events_is_answered_to_its_end(rt: HostRuntime) -> Result<(), Fail> {
+fn a_list_of_10001_events_is_answered_to_its_end(rt: HostRuntime) {
     static ROWS: [Row; 2] = [Row::List(10_000), Row::Shows(Mode::Paired, 1, 1, 10_000, 0)];
-    plays(&rt, rt.alloc(), Guest::Idle, &ROWS)
+    plays(&rt, rt.alloc(), Guest::Idle, &ROWS);
 }
 
 #[test]
-fn a_sector_is_the_live_guests(rt: HostRuntime) -> Result<(), Fail> {
+fn a_sector_is_the_live_guests(rt: HostRuntime) {
     static ROWS: [Row; 6] = [
         Row::Steps(22, 22),
         Row::Filled(7, 0),
@@ -175,5 +172,5 @@ fn a_sector_is_the_live_guests(rt: HostRuntime) -> Result<(), Fail> {
         Row::Filled(6, 0),
         Row::Sectors(8),
     ];
-    plays(&rt, rt.alloc(), Guest::Writer, &ROWS)
+    plays(&rt, rt.alloc(), Guest::Writer, &ROWS);
 }

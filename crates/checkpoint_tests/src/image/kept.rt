@@ -4,11 +4,10 @@ use super::rows::{End, Handed, Row, Start, plays};
 use crate::checkpoints::Cut;
 use crate::guests::Guest;
 use backup_image::Staged;
-use std::test::Fail;
 
 /// Of six commits, with 1, 2, 0, 3, 1 and 2 frames, the last four are kept.
 #[test]
-fn six_commits_leave_the_last_four(rt: HostRuntime) -> Result<(), Fail> {
+fn six_commits_leave_the_last_four(rt: HostRuntime) {
     static ROWS: [Row; 14] = [
         Row::Kept(1, 0, &[]),
         Row::Given(Handed::Framed(1, 1, 1), Ok(Staged::New)),
@@ -33,12 +32,12 @@ fn six_commits_leave_the_last_four(rt: HostRuntime) -> Result<(), Fail> {
         Start::Boot,
         &ROWS,
         &LAST,
-    )
+    );
 }
 
 /// The commit of a full checkpoint counts as one without frames, and frames count from 1 after it.
 #[test]
-fn a_full_checkpoint_begins_anew(rt: HostRuntime) -> Result<(), Fail> {
+fn a_full_checkpoint_begins_anew(rt: HostRuntime) {
     static ROWS: [Row; 7] = [
         Row::Kept(1, 0, &[]),
         Row::Given(Handed::Cut(Cut::Full(1)), Ok(Staged::New)),
@@ -55,12 +54,12 @@ fn a_full_checkpoint_begins_anew(rt: HostRuntime) -> Result<(), Fail> {
         Start::Empty,
         &ROWS,
         &End::Left,
-    )
+    );
 }
 
 /// What is staged isn't kept yet, and a node that goes on doesn't get it.
 #[test]
-fn staged_frames_are_not_kept(rt: HostRuntime) -> Result<(), Fail> {
+fn staged_frames_are_not_kept(rt: HostRuntime) {
     static ROWS: [Row; 4] = [
         Row::Given(Handed::Framed(1, 1, 1), Ok(Staged::New)),
         Row::Commit,
@@ -75,5 +74,5 @@ fn staged_frames_are_not_kept(rt: HostRuntime) -> Result<(), Fail> {
         Start::Boot,
         &ROWS,
         &LAST,
-    )
+    );
 }

@@ -1,6 +1,7 @@
 //! What is done to an image, row by row, and what has to come of it.
 
 use super::stage;
+use crate::asserts::{boxed, holds, made};
 use crate::checkpoints::{Cut, are_all, cut_of};
 use crate::guests::{Guest, bytes, machine_after, run, shape};
 use crate::texts::{cut_text, push_frames, put_version_1, read_whole, set};
@@ -10,7 +11,6 @@ use frame_list::FrameList;
 use guest_machine::{Machine, PAGE_BYTES, Shape};
 use std::alloc::Global;
 use std::process::Abort;
-use std::test::Fail;
 
 /// What an image answers to a checkpoint.
 pub(super) type Answer = Result<Staged, ImageError>;
@@ -59,10 +59,14 @@ pub(super) enum End {
 
 /// These frames are so many, and have the numbers from this one on. Answers the next number.
 fn assert_epoch(rt: &impl Abort, epoch: &FrameList, count: usize, first: u8) -> u8 {
-    assert!(rt; epoch.len() == count);
+    holds(rt, "frames of an epoch", epoch.len() == count);
     let mut number = first;
     for at in 0..epoch.len() {
-        assert!(rt; are_all(epoch.bytes(at), 14, number));
+        holds(
+            rt,
+            "a frame of its number",
+            are_all(epoch.bytes(at), 14, number),
+        );
         number = number.wrapping_add(1);
     }
     number
@@ -70,92 +74,90 @@ fn assert_epoch(rt: &impl Abort, epoch: &FrameList, count: usize, first: u8) -> 
 
 /// So many frames are kept of each commit, and their bytes are their numbers.
 fn assert_kept(rt: &impl Abort, kept: &KeptFrames, first: u8, sent: u64, counts: &[usize]) {
-    assert!(rt; kept.first() == u64::from(first) && kept.sent() == sent);
-    assert!(rt; kept.epochs().len() == counts.len());
+    holds(rt, "the first frame", kept.first() == u64::from(first));
+    holds(rt, "frames sent", kept.sent() == sent);
+    holds(rt, "epochs", kept.epochs().len() == counts.len());
     let mut number = first;
     for (epoch, count) in kept.epochs().iter().zip(counts.iter()) {
         number = assert_epoch(rt, epoch, *count, number);
     }
 }
 
-fn booted(rt: &impl Abort, alloc: Global, shape: Shape, bytes: &[u8]) -> Result<Box<Image>, Fail> {
-    assert!(rt; bytes.len() <= PAGE_BYTES * shape.pages as usize);
-    let image = Image::boot(alloc, shape, bytes)?;
-    Ok(Box::new(alloc, image)?)
+fn booted(rt: &impl Abort, alloc: Global, shape: Shape, bytes: &[u8]) -> Box<Image> {
+    holds(
+        rt,
+        "bytes that fit",
+        bytes.len() <= PAGE_BYTES * shape.pages as usize,
+    );
+    boxed(rt, alloc, made(rt, Image::boot(alloc, shape, bytes)))
 }
 
-fn boot(rt: &impl Abort, alloc: Global, guest: Guest) -> Result<Box<Image>, Fail> {
-    let bytes = bytes(alloc, guest)?;
+fn boot(rt: &impl Abort, alloc: Global, guest: Guest) -> Box<Image> {
+    let bytes = bytes(rt, alloc, guest);
     booted(rt, alloc, shape(guest), bytes.as_slice())
 }
 
-fn empty(alloc: Global, guest: Guest) -> Result<Box<Image>, Fail> {
-    let image = Image::empty(alloc, shape(guest))?;
-    Ok(Box::new(alloc, image)?)
+fn empty(rt: &impl Abort, alloc: Global, guest: Guest) -> Box<Image> {
+    boxed(rt, alloc, made(rt, Image::empty(alloc, shape(guest))))
 }
 
 /// An empty image has no machine, and is handed back.
-fn handed_back(rt: &impl Abort, alloc: Global, image: Box<Image>) -> Result<Box<Image>, Fail> {
+fn handed_back(rt: &impl Abort, alloc: Global, image: Box<Image>) -> Box<Image> {
     match Box::into_inner(image).resume() {
-        Ok(_) => Err("an empty image has no machine".into()),
+        Ok(_) => panic!(rt; "an empty image has no machine"),
         Err((image, refusal)) => {
-            assert!(rt; refusal == ImageError::NoImage);
-            Ok(Box::new(alloc, image)?)
+            holds(rt, "no image", refusal == ImageError::NoImage);
+            boxed(rt, alloc, image)
         }
     }
 }
 
 /// The image that rows begin with.
-pub(super) fn begun(
-    rt: &impl Abort,
-    alloc: Global,
-    guest: Guest,
-    start: Start,
-) -> Result<Box<Image>, Fail> {
+pub(super) fn begun(rt: &impl Abort, alloc: Global, guest: Guest, start: Start) -> Box<Image> {
     match start {
         Start::Boot => boot(rt, alloc, guest),
-        Start::Empty => empty(alloc, guest),
-        Start::HandedBack => handed_back(rt, alloc, empty(alloc, guest)?),
+        Start::Empty => empty(rt, alloc, guest),
+        Start::HandedBack => handed_back(rt, alloc, empty(rt, alloc, guest)),
     }
 }
 
 /// The machine that an image resumes to.
-pub(super) fn resumed(alloc: Global, image: Box<Image>) -> Result<Box<Machine>, Fail> {
+pub(super) fn resumed(rt: &impl Abort, alloc: Global, image: Box<Image>) -> Box<Machine> {
     match Box::into_inner(image).resume() {
-        Ok(resumed) => Ok(Box::new(alloc, resumed.machine)?),
-        Err(_) => Err("the image has a machine".into()),
+        Ok(resumed) => boxed(rt, alloc, resumed.machine),
+        Err(_) => panic!(rt; "the image has a machine"),
     }
 }
 
 /// What a node that goes on with an image's guest gets of its frames.
-fn resumed_kept(image: Box<Image>) -> Result<KeptFrames, Fail> {
+fn resumed_kept(rt: &impl Abort, image: Box<Image>) -> KeptFrames {
     match Box::into_inner(image).resume() {
-        Ok(resumed) => Ok(resumed.kept),
-        Err(_) => Err("the image has a machine".into()),
+        Ok(resumed) => resumed.kept,
+        Err(_) => panic!(rt; "the image has a machine"),
     }
 }
 
 /// The disk guest goes on where it was after 23 steps, with nothing in its outbox.
 fn assert_goes_on(rt: &impl Abort, machine: &mut Machine) {
-    assert!(rt; machine.outbox().is_empty());
+    holds(rt, "no frame", machine.outbox().is_empty());
     run(rt, machine, 5);
-    assert!(rt; machine.steps() == 28 && machine.pc() == 0x8000_005c);
+    holds(rt, "28 steps", machine.steps() == 28);
+    holds(rt, "the pc", machine.pc() == 0x8000_005c);
 }
 
 /// What becomes of the image.
-fn finish(rt: &impl Abort, alloc: Global, image: Box<Image>, end: &End) -> Result<(), Fail> {
+fn finish(rt: &impl Abort, alloc: Global, image: Box<Image>, end: &End) {
     match end {
         End::Left => {}
         End::GoesOn => {
-            let mut machine = resumed(alloc, image)?;
+            let mut machine = resumed(rt, alloc, image);
             assert_goes_on(rt, &mut machine);
         }
         End::Kept(first, sent, counts) => {
-            let kept = resumed_kept(image)?;
+            let kept = resumed_kept(rt, image);
             assert_kept(rt, &kept, *first, *sent, counts);
         }
     }
-    Ok(())
 }
 
 /// The machine's checkpoint in version 1.
@@ -165,13 +167,13 @@ fn old(
     machine: &Machine,
     which: Cut,
     tail: usize,
-) -> Result<Box<Checkpoint>, Fail> {
-    let mut text = cut_text(rt, alloc, machine, which)?;
+) -> Box<Checkpoint> {
+    let mut text = cut_text(rt, alloc, machine, which);
     let count = text.len().saturating_sub(tail);
     put_version_1(&mut text, count);
-    let checkpoint = read_whole(alloc, machine.shape(), text.as_slice())?;
-    assert!(rt; checkpoint.version() == 1);
-    Ok(checkpoint)
+    let checkpoint = read_whole(rt, alloc, machine.shape(), text.as_slice());
+    holds(rt, "version 1", checkpoint.version() == 1);
+    checkpoint
 }
 
 /// The beacon's delta with so many frames, the bytes of which are their numbers.
@@ -180,12 +182,12 @@ fn framed(
     alloc: Global,
     machine: &Machine,
     (number, first, count): (u8, u8, u8),
-) -> Result<Box<Checkpoint>, Fail> {
-    let mut text = cut_text(rt, alloc, machine, Cut::Delta(1, 1))?;
+) -> Box<Checkpoint> {
+    let mut text = cut_text(rt, alloc, machine, Cut::Delta(1, 1));
     text.truncate(608);
     set(&mut text, 20, number);
-    push_frames(&mut text, (u32::from(count), 14), first, 1)?;
-    read_whole(alloc, machine.shape(), text.as_slice())
+    push_frames(rt, &mut text, (u32::from(count), 14), first, 1);
+    read_whole(rt, alloc, machine.shape(), text.as_slice())
 }
 
 /// The machine's checkpoint that is handed over.
@@ -194,7 +196,7 @@ fn checkpoint_of(
     alloc: Global,
     machine: &Machine,
     handed: &Handed,
-) -> Result<Box<Checkpoint>, Fail> {
+) -> Box<Checkpoint> {
     match handed {
         Handed::Cut(which) => cut_of(rt, alloc, machine, *which),
         Handed::Old(which, tail) => old(rt, alloc, machine, *which, *tail),
@@ -212,7 +214,7 @@ pub(super) fn assert_answer(
     answer: &Answer,
 ) {
     let given = stage(rt, image, Box::into_inner(checkpoint));
-    assert!(rt; given == *answer);
+    holds(rt, "the answer", given == *answer);
 }
 
 pub(super) fn at(generation: u64, number: u64) -> Option<Standing> {
@@ -227,22 +229,16 @@ pub(super) fn assert_image(
     steps: u64,
     (sector, byte): (u32, u8),
 ) {
-    assert!(rt; image.standing() == standing);
-    assert!(rt; image.steps() == steps);
-    assert!(rt; sector < image.shape().sectors);
-    assert!(rt; are_all(image.sector(sector), 512, byte));
+    holds(rt, "where it stands", image.standing() == standing);
+    holds(rt, "its steps", image.steps() == steps);
+    holds(rt, "a sector", sector < image.shape().sectors);
+    holds(rt, "its bytes", are_all(image.sector(sector), 512, byte));
 }
 
-fn play(
-    rt: &impl Abort,
-    alloc: Global,
-    machine: &Machine,
-    image: &mut Image,
-    row: &Row,
-) -> Result<(), Fail> {
+fn play(rt: &impl Abort, alloc: Global, machine: &Machine, image: &mut Image, row: &Row) {
     match row {
         Row::Given(handed, answer) => {
-            let checkpoint = checkpoint_of(rt, alloc, machine, handed)?;
+            let checkpoint = checkpoint_of(rt, alloc, machine, handed);
             assert_answer(rt, image, checkpoint, answer);
         }
         Row::Commit => image.commit(),
@@ -252,7 +248,6 @@ fn play(
         Row::Empty(sector) => assert_image(rt, image, None, 0, (*sector, 0)),
         Row::Kept(first, sent, counts) => assert_kept(rt, image.kept(), *first, *sent, counts),
     }
-    Ok(())
 }
 
 fn play_all(
@@ -261,12 +256,11 @@ fn play_all(
     (guest, steps): (Guest, u64),
     image: &mut Image,
     rows: &[Row],
-) -> Result<(), Fail> {
-    let machine = machine_after(rt, alloc, guest, steps)?;
+) {
+    let machine = machine_after(rt, alloc, guest, steps);
     for row in rows {
-        play(rt, alloc, &machine, image, row)?;
+        play(rt, alloc, &machine, image, row);
     }
-    Ok(())
 }
 
 /// Plays rows with an image of the guest, and with its machine after so many steps.
@@ -277,8 +271,8 @@ pub(super) fn plays(
     start: Start,
     rows: &[Row],
     last: &End,
-) -> Result<(), Fail> {
-    let mut image = begun(rt, alloc, guest, start)?;
-    play_all(rt, alloc, (guest, steps), &mut image, rows)?;
-    finish(rt, alloc, image, last)
+) {
+    let mut image = begun(rt, alloc, guest, start);
+    play_all(rt, alloc, (guest, steps), &mut image, rows);
+    finish(rt, alloc, image, last);
 }

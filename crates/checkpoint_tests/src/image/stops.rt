@@ -1,6 +1,7 @@
 //! A stream that stops inside a checkpoint leaves the guest of boot: memory, disk and devices.
 
 use super::rows::{Answer, Start, assert_answer, assert_image, at, begun, resumed};
+use crate::asserts::{holds, holds_at};
 use crate::checkpoints::Cut;
 use crate::guests::Guest;
 use crate::texts::{beacon_text, cut_text, front, next_if_any, put_version_1, takes};
@@ -8,10 +9,9 @@ use backup_image::{Image, ImageError, Staged};
 use checkpoint_stream::Reader;
 use std::alloc::Global;
 use std::process::Abort;
-use std::test::Fail;
 
 /// The beacon's first checkpoint, in which it sends its frame.
-pub(super) fn delta_text(rt: &impl Abort, alloc: Global) -> Result<Vec<u8>, Fail> {
+pub(super) fn delta_text(rt: &impl Abort, alloc: Global) -> Vec<u8> {
     beacon_text(rt, alloc, 22, Cut::Delta(1, 1))
 }
 
@@ -22,28 +22,20 @@ pub(super) fn follow(
     image: &mut Image,
     bytes: &[u8],
     answer: &Answer,
-) -> Result<(), Fail> {
+) {
     let mut reader = Reader::new(alloc, image.shape());
-    assert!(rt; takes(&mut reader, bytes));
-    if let Some(checkpoint) = next_if_any(alloc, &mut reader)? {
+    holds(rt, "it takes all", takes(&mut reader, bytes));
+    if let Some(checkpoint) = next_if_any(rt, alloc, &mut reader) {
         assert_answer(rt, image, checkpoint, answer);
     }
     image.commit();
-    Ok(())
 }
 
 /// An image resumes to this guest: the text of its machine's full checkpoint, of generation 2.
-fn assert_resumes(
-    rt: &impl Abort,
-    alloc: Global,
-    image: Box<Image>,
-    guest: &[u8],
-    after: usize,
-) -> Result<(), Fail> {
-    let machine = resumed(alloc, image)?;
-    let text = cut_text(rt, alloc, &machine, Cut::Full(2))?;
-    assert!(rt; text.as_slice() == guest, "after {after} bytes");
-    Ok(())
+fn assert_resumes(rt: &impl Abort, alloc: Global, image: Box<Image>, guest: &[u8], after: usize) {
+    let machine = resumed(rt, alloc, image);
+    let text = cut_text(rt, alloc, &machine, Cut::Full(2));
+    holds_at(rt, "after bytes", after, text.as_slice() == guest);
 }
 
 /// After these bytes of a stream the beacon's image has this number and so many steps, and resumes to this guest.
@@ -54,11 +46,11 @@ fn assert_comes_to(
     answer: &Answer,
     (number, steps): (u64, u64),
     guest: &[u8],
-) -> Result<(), Fail> {
-    let mut image = begun(rt, alloc, Guest::Beacon, Start::Boot)?;
-    follow(rt, alloc, &mut image, bytes, answer)?;
+) {
+    let mut image = begun(rt, alloc, Guest::Beacon, Start::Boot);
+    follow(rt, alloc, &mut image, bytes, answer);
     assert_image(rt, &image, at(1, number), steps, (0, 0));
-    assert_resumes(rt, alloc, image, guest, bytes.len())
+    assert_resumes(rt, alloc, image, guest, bytes.len());
 }
 
 /// After the whole text it resumes to the primary's guest after so many steps.
@@ -68,36 +60,35 @@ fn assert_whole(
     text: &[u8],
     answer: &Answer,
     (number, steps): (u64, u64),
-) -> Result<(), Fail> {
-    let guest = beacon_text(rt, alloc, steps, Cut::Full(2))?;
-    assert_comes_to(rt, alloc, text, answer, (number, steps), guest.as_slice())
+) {
+    let guest = beacon_text(rt, alloc, steps, Cut::Full(2));
+    assert_comes_to(rt, alloc, text, answer, (number, steps), guest.as_slice());
 }
 
 /// Each beginning of a text leaves the guest of boot.
-fn assert_stops_leave(rt: &impl Abort, alloc: Global, text: &[u8]) -> Result<(), Fail> {
-    let guest = beacon_text(rt, alloc, 0, Cut::Full(2))?;
+fn assert_stops_leave(rt: &impl Abort, alloc: Global, text: &[u8]) {
+    let guest = beacon_text(rt, alloc, 0, Cut::Full(2));
     for count in 0..text.len() {
         let part = front(text, count);
-        assert_comes_to(rt, alloc, part, &Ok(Staged::New), (0, 0), guest.as_slice())?;
+        assert_comes_to(rt, alloc, part, &Ok(Staged::New), (0, 0), guest.as_slice());
     }
-    Ok(())
 }
 
 #[test]
-fn a_stop_leaves_the_guest_of_boot(rt: HostRuntime) -> Result<(), Fail> {
-    let text = delta_text(&rt, rt.alloc())?;
-    assert!(rt; text.len() == 630);
-    assert_stops_leave(&rt, rt.alloc(), text.as_slice())?;
+fn a_stop_leaves_the_guest_of_boot(rt: HostRuntime) {
+    let text = delta_text(&rt, rt.alloc());
+    holds(&rt, "630 bytes", text.len() == 630);
+    assert_stops_leave(&rt, rt.alloc(), text.as_slice());
     // and the last byte takes it on
-    assert_whole(&rt, rt.alloc(), text.as_slice(), &Ok(Staged::New), (1, 22))
+    assert_whole(&rt, rt.alloc(), text.as_slice(), &Ok(Staged::New), (1, 22));
 }
 
 /// A whole delta of version 1, which carries no frames, is refused, so that leaves it too.
 #[test]
-fn an_old_delta_leaves_the_guest_of_boot(rt: HostRuntime) -> Result<(), Fail> {
+fn an_old_delta_leaves_the_guest_of_boot(rt: HostRuntime) {
     static REFUSED: Answer = Err(ImageError::OldVersion);
-    let mut text = delta_text(&rt, rt.alloc())?;
+    let mut text = delta_text(&rt, rt.alloc());
     put_version_1(&mut text, 608);
-    assert_stops_leave(&rt, rt.alloc(), text.as_slice())?;
-    assert_whole(&rt, rt.alloc(), text.as_slice(), &REFUSED, (0, 0))
+    assert_stops_leave(&rt, rt.alloc(), text.as_slice());
+    assert_whole(&rt, rt.alloc(), text.as_slice(), &REFUSED, (0, 0));
 }

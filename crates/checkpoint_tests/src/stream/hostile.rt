@@ -1,19 +1,17 @@
 //! Streams cut in two at each place, and what comes after a malformation.
 
 use super::{BEACON, MALFORMATIONS, changed, refuses, shape};
+use crate::asserts::{holds, holds_at, made};
 use crate::texts::{back, front, next, set, stands, takes, text_of};
 use checkpoint_stream::Reader;
 use guest_machine::Shape;
-use std::alloc::{AllocError, Global};
+use std::alloc::Global;
 use std::process::Abort;
-use std::test::Fail;
 
 /// What one more piece is answered by a reader that refused a stream at this offset: the same, and no checkpoint.
 fn assert_refuses(rt: &impl Abort, reader: &mut Reader, piece: &[u8], at: u64) {
-    assert!(rt;
-        refuses(reader, piece, at) && !stands(reader),
-        "malformed at {at}"
-    );
+    holds_at(rt, "malformed at", at as usize, refuses(reader, piece, at));
+    holds_at(rt, "nothing stands at", at as usize, !stands(reader));
 }
 
 /// It answers so whatever comes: nothing, one byte, a good checkpoint; and again.
@@ -35,37 +33,30 @@ fn assert_refused_in_two(rt: &impl Abort, alloc: Global, bytes: &[u8], cut: usiz
 }
 
 /// So it is wherever it is cut.
-fn assert_refused(
-    rt: &impl Abort,
-    alloc: Global,
-    change: (usize, u8),
-    at: u64,
-) -> Result<(), Fail> {
-    let bytes = changed(alloc, &[], &BEACON, change)?;
+fn assert_refused(rt: &impl Abort, alloc: Global, change: (usize, u8), at: u64) {
+    let bytes = changed(rt, alloc, &[], &BEACON, change);
     for cut in 0..609usize {
         assert_refused_in_two(rt, alloc, bytes.as_slice(), cut, at);
     }
-    Ok(())
 }
 
 #[test]
-fn a_malformed_stream_is_refused_for_good_wherever_it_is_cut(rt: HostRuntime) -> Result<(), Fail> {
+fn a_malformed_stream_is_refused_for_good_wherever_it_is_cut(rt: HostRuntime) {
     for (place, value, wanted) in &MALFORMATIONS {
-        assert_refused(&rt, rt.alloc(), (*place, *value), *wanted)?;
+        assert_refused(&rt, rt.alloc(), (*place, *value), *wanted);
     }
-    Ok(())
 }
 
 /// The checkpoint of the guest that writes sector 3, as examples/sector.stream has it.
-fn sector_stream(alloc: Global) -> Result<Vec<u8>, AllocError> {
-    let mut bytes = Vec::with_capacity(alloc, SECTOR_STREAM_BYTES)?;
+fn sector_stream(rt: &impl Abort, alloc: Global) -> Vec<u8> {
+    let mut bytes = made(rt, Vec::with_capacity(alloc, SECTOR_STREAM_BYTES));
     for (place, part) in &SECTOR_STREAM {
-        bytes.resize(*place, 0)?;
-        bytes.extend_from_slice(part)?;
+        made(rt, bytes.resize(*place, 0));
+        made(rt, bytes.extend_from_slice(part));
     }
-    bytes.resize(SECTOR_STREAM_BYTES - 512, 0)?;
-    bytes.resize(SECTOR_STREAM_BYTES, 0xab)?;
-    Ok(bytes)
+    made(rt, bytes.resize(SECTOR_STREAM_BYTES - 512, 0));
+    made(rt, bytes.resize(SECTOR_STREAM_BYTES, 0xab));
+    bytes
 }
 
 const SECTOR_STREAM_BYTES: usize = 1188;
@@ -104,11 +95,11 @@ static SECTOR_STREAM: [(usize, &[u8]); 29] = [
 ];
 
 /// The same checkpoint in version 2: another first number, and no frames at the end.
-fn in_version_2(alloc: Global, text: &[u8]) -> Result<Vec<u8>, AllocError> {
-    let mut bytes = Vec::from_slice(alloc, text)?;
+fn in_version_2(rt: &impl Abort, alloc: Global, text: &[u8]) -> Vec<u8> {
+    let mut bytes = made(rt, Vec::from_slice(alloc, text));
     set(&mut bytes, 3, 0x32);
-    bytes.extend_from_slice(&[0; 4])?;
-    Ok(bytes)
+    made(rt, bytes.extend_from_slice(&[0; 4]));
+    bytes
 }
 
 /// The checkpoint that stands whole in a reader is the one whose text this is.
@@ -118,58 +109,55 @@ pub(super) fn assert_next(
     reader: &mut Reader,
     text: &[u8],
     cut: usize,
-) -> Result<(), Fail> {
-    let checkpoint = next(alloc, reader)?;
-    let read = text_of(alloc, &checkpoint)?;
-    assert!(rt; read.as_slice() == text, "cut at {cut}");
-    Ok(())
+) {
+    let checkpoint = next(rt, alloc, reader);
+    let read = text_of(rt, alloc, &checkpoint);
+    holds_at(rt, "cut at", cut, read.as_slice() == text);
 }
 
 /// A text that comes in two pieces, cut at this place, gives the checkpoint whose text it is.
-fn reads_in_two(
-    rt: &impl Abort,
-    alloc: Global,
-    shape: Shape,
-    text: &[u8],
-    cut: usize,
-) -> Result<(), Fail> {
+fn reads_in_two(rt: &impl Abort, alloc: Global, shape: Shape, text: &[u8], cut: usize) {
     let mut reader = Reader::new(alloc, shape);
-    assert!(rt; takes(&mut reader, front(text, cut)) && takes(&mut reader, back(text, cut)));
-    assert_next(rt, alloc, &mut reader, text, cut)
+    holds(
+        rt,
+        "it takes the front",
+        takes(&mut reader, front(text, cut)),
+    );
+    holds(rt, "it takes the back", takes(&mut reader, back(text, cut)));
+    assert_next(rt, alloc, &mut reader, text, cut);
 }
 
 /// Feeds bytes one by one, before each of which no checkpoint stands.
 fn feed_bytes(rt: &impl Abort, reader: &mut Reader, text: &[u8]) {
     for byte in text.chunks(1) {
-        assert!(rt; !stands(reader));
-        assert!(rt; takes(reader, byte));
+        holds(rt, "none stands", !stands(reader));
+        holds(rt, "it takes the byte", takes(reader, byte));
     }
 }
 
 /// So does one that comes byte by byte.
-fn reads_by_bytes(rt: &impl Abort, alloc: Global, shape: Shape, text: &[u8]) -> Result<(), Fail> {
+fn reads_by_bytes(rt: &impl Abort, alloc: Global, shape: Shape, text: &[u8]) {
     let mut reader = Reader::new(alloc, shape);
     feed_bytes(rt, &mut reader, text);
-    assert_next(rt, alloc, &mut reader, text, 0)
+    assert_next(rt, alloc, &mut reader, text, 0);
 }
 
 /// The text of a version-1 checkpoint, in version 2, is read in any pieces.
-fn reads_in_pieces(rt: &impl Abort, alloc: Global, shape: Shape, text: &[u8]) -> Result<(), Fail> {
-    let text = in_version_2(alloc, text)?;
-    reads_by_bytes(rt, alloc, shape, text.as_slice())?;
+fn reads_in_pieces(rt: &impl Abort, alloc: Global, shape: Shape, text: &[u8]) {
+    let text = in_version_2(rt, alloc, text);
+    reads_by_bytes(rt, alloc, shape, text.as_slice());
     for cut in 1..text.len() {
-        reads_in_two(rt, alloc, shape, text.as_slice(), cut)?;
+        reads_in_two(rt, alloc, shape, text.as_slice(), cut);
     }
-    Ok(())
 }
 
 #[test]
-fn a_text_in_pieces_is_the_checkpoint_of_the_whole(rt: HostRuntime) -> Result<(), Fail> {
+fn a_text_in_pieces_is_the_checkpoint_of_the_whole(rt: HostRuntime) {
     let eight = Shape {
         pages: 2,
         sectors: 8,
     };
-    reads_in_pieces(&rt, rt.alloc(), shape(), &BEACON)?;
-    let sector = sector_stream(rt.alloc())?;
-    reads_in_pieces(&rt, rt.alloc(), eight, sector.as_slice())
+    reads_in_pieces(&rt, rt.alloc(), shape(), &BEACON);
+    let sector = sector_stream(&rt, rt.alloc());
+    reads_in_pieces(&rt, rt.alloc(), eight, sector.as_slice());
 }

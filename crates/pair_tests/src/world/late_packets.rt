@@ -4,7 +4,6 @@ use super::rows::{Guest, Row, pair, plays, plays_on};
 use crate::asserts::{holds, same};
 use pair_core::{Event, Mode, Refusal, Reply, World};
 use std::process::Abort;
-use std::test::Fail;
 
 /// How often packets were answered Committed, Again and Gap.
 #[derive(Drop)]
@@ -69,7 +68,7 @@ fn assert_counted(rt: &impl Abort, world: &mut World) {
 }
 
 #[test]
-fn packets_that_come_again_do_nothing(rt: HostRuntime) -> Result<(), Fail> {
+fn packets_that_come_again_do_nothing(rt: HostRuntime) {
     // Four checkpoints are under way, a step before each cut.
     static CUTS: [Row; 1] = [Row::Told(
         &[
@@ -91,14 +90,14 @@ fn packets_that_come_again_do_nothing(rt: HostRuntime) -> Result<(), Fail> {
         Row::Told(&[Event::FailPrimary], "Stopped\n"),
         Row::Shows(Mode::Stopped, 1, 4, 4, 4),
     ];
-    let mut world = pair(rt.alloc(), Guest::Idle, 2)?;
-    plays_on(&rt, rt.alloc(), &mut world, &CUTS)?;
+    let mut world = pair(&rt, rt.alloc(), Guest::Idle, 2);
+    plays_on(&rt, rt.alloc(), &mut world, &CUTS);
     assert_counted(&rt, &mut world);
-    plays_on(&rt, rt.alloc(), &mut world, &IMAGE)
+    plays_on(&rt, rt.alloc(), &mut world, &IMAGE);
 }
 
 #[test]
-fn an_acknowledgement_of_an_old_generation_is_stale(rt: HostRuntime) -> Result<(), Fail> {
+fn an_acknowledgement_of_an_old_generation_is_stale(rt: HostRuntime) {
     static ROWS: [Row; 2] = [
         Row::Counted(0, 22),
         Row::Told(
@@ -122,5 +121,5 @@ fn an_acknowledgement_of_an_old_generation_is_stale(rt: HostRuntime) -> Result<(
         Took(Some([2, 0, 0, 0, 1, 1, 2, 0, 0, 0, 0, 1, 136, 181]))\nTook(None)\n",
         ),
     ];
-    plays(&rt, rt.alloc(), Guest::Beacon, &ROWS)
+    plays(&rt, rt.alloc(), Guest::Beacon, &ROWS);
 }

@@ -2,10 +2,9 @@
 use super::failures::TOOK_FRAME;
 use super::rows::{FRAME, Guest, Row, plays};
 use pair_core::{Event, Mode};
-use std::test::Fail;
 
 #[test]
-fn a_new_backup_takes_the_full_checkpoint_first(rt: HostRuntime) -> Result<(), Fail> {
+fn a_new_backup_takes_the_full_checkpoint_first(rt: HostRuntime) {
     static ROWS: [Row; 8] = [
         Row::Told(
             &[Event::FailBackup, Event::Protect],
@@ -36,11 +35,11 @@ fn a_new_backup_takes_the_full_checkpoint_first(rt: HostRuntime) -> Result<(), F
         Row::Told(&[Event::Take(1)], TOOK_FRAME),
         Row::Shows(Mode::Paired, 2, 0, 22, 25),
     ];
-    plays(&rt, rt.alloc(), Guest::Beacon, &ROWS)
+    plays(&rt, rt.alloc(), Guest::Beacon, &ROWS);
 }
 
 #[test]
-fn messages_of_the_generation_before_are_stale(rt: HostRuntime) -> Result<(), Fail> {
+fn messages_of_the_generation_before_are_stale(rt: HostRuntime) {
     static ROWS: [Row; 1] = [Row::Told(
         &[
             Event::Cut,
@@ -61,11 +60,11 @@ fn messages_of_the_generation_before_are_stale(rt: HostRuntime) -> Result<(), Fa
         Committed { generation: 2, number: 0 }\nRefused(Stale)\n\
         Acked { generation: 2, number: 0, landed: 0 }\nRefused(Stale)\n",
     )];
-    plays(&rt, rt.alloc(), Guest::Idle, &ROWS)
+    plays(&rt, rt.alloc(), Guest::Idle, &ROWS);
 }
 
 #[test]
-fn what_a_filling_pair_took_in_stays_where_its_backup_fails(rt: HostRuntime) -> Result<(), Fail> {
+fn what_a_filling_pair_took_in_stays_where_its_backup_fails(rt: HostRuntime) {
     static ROWS: [Row; 4] = [
         Row::Told(
             &[
@@ -87,11 +86,11 @@ fn what_a_filling_pair_took_in_stays_where_its_backup_fails(rt: HostRuntime) -> 
         ),
         Row::Shows(Mode::Alone, 2, 0, 0, 2),
     ];
-    plays(&rt, rt.alloc(), Guest::Idle, &ROWS)
+    plays(&rt, rt.alloc(), Guest::Idle, &ROWS);
 }
 
 #[test]
-fn a_new_backup_goes_on_with_the_disk(rt: HostRuntime) -> Result<(), Fail> {
+fn a_new_backup_goes_on_with_the_disk(rt: HostRuntime) {
     static ROWS: [Row; 6] = [
         Row::Steps(23, 23),
         Row::Told(
@@ -113,5 +112,5 @@ fn a_new_backup_goes_on_with_the_disk(rt: HostRuntime) -> Result<(), Fail> {
         ),
         Row::Filled(7, 0xab),
     ];
-    plays(&rt, rt.alloc(), Guest::Writer, &ROWS)
+    plays(&rt, rt.alloc(), Guest::Writer, &ROWS);
 }

@@ -1,13 +1,12 @@
 //! What is done to a pair, row by row, and what has to come of it. Each reading stands with its comparison in a small function, since a
 //! long test is slow to prove: a test is a table of rows.
 
-use crate::asserts::{as_many, holds, same};
+use crate::asserts::{as_many, boxed, holds, made, same};
 use guest_kit::{beacon, disk_once};
 use pair_core::{Event, Mode, Refusal, Reply, Shape, Show, World};
 use std::alloc::Global;
 use std::fmt::Write;
 use std::process::Abort;
-use std::test::Fail;
 
 /// The frame that the beacon sends.
 pub(super) const FRAME: [u8; 14] = [2, 0, 0, 0, 1, 1, 2, 0, 0, 0, 0, 1, 0x88, 0xb5];
@@ -56,62 +55,61 @@ pub(super) enum Row {
     Sectors(u32),
 }
 
-fn beacon_image(alloc: Global) -> Result<Vec<u8>, Fail> {
-    Ok(beacon(alloc)?)
+fn beacon_image(rt: &impl Abort, alloc: Global) -> Vec<u8> {
+    made(rt, beacon(alloc))
 }
 
-fn writer_image(alloc: Global) -> Result<Vec<u8>, Fail> {
-    Ok(disk_once(alloc, 7, 0xab)?)
+fn writer_image(rt: &impl Abort, alloc: Global) -> Vec<u8> {
+    made(rt, disk_once(alloc, 7, 0xab))
 }
 
-fn idle_image(alloc: Global) -> Result<Vec<u8>, Fail> {
-    Ok(Vec::from_slice(alloc, &[0x6f, 0, 0, 0])?)
+fn idle_image(rt: &impl Abort, alloc: Global) -> Vec<u8> {
+    made(rt, Vec::from_slice(alloc, &[0x6f, 0, 0, 0]))
 }
 
 /// The image of a guest.
-fn image(alloc: Global, guest: Guest) -> Result<Vec<u8>, Fail> {
+fn image(rt: &impl Abort, alloc: Global, guest: Guest) -> Vec<u8> {
     match guest {
-        Guest::Idle => idle_image(alloc),
-        Guest::Beacon => beacon_image(alloc),
-        Guest::Writer => writer_image(alloc),
+        Guest::Idle => idle_image(rt, alloc),
+        Guest::Beacon => beacon_image(rt, alloc),
+        Guest::Writer => writer_image(rt, alloc),
     }
 }
 
 /// A pair with so many clients whose guest has this image. It stands in a box, so that a test holds no large value.
-fn booted(alloc: Global, image: &[u8], clients: u64) -> Result<Box<World>, Fail> {
+fn booted(rt: &impl Abort, alloc: Global, image: &[u8], clients: u64) -> Box<World> {
     let (pages, sectors) = SHAPE;
     if image.len() > 4096 * 2 || clients < 1 || clients > 16 {
-        return Err("there is no such pair".into());
+        panic!(rt; "there is no such pair");
     }
-    let world = World::boot(alloc, Shape { pages, sectors }, clients, image)?;
-    Ok(Box::new(alloc, world)?)
+    let world = World::boot(alloc, Shape { pages, sectors }, clients, image);
+    boxed(rt, alloc, made(rt, world))
 }
 
 /// A pair with so many clients and this guest.
-pub(super) fn pair(alloc: Global, guest: Guest, clients: u64) -> Result<Box<World>, Fail> {
-    let image = image(alloc, guest)?;
-    booted(alloc, image.as_slice(), clients)
+pub(super) fn pair(rt: &impl Abort, alloc: Global, guest: Guest, clients: u64) -> Box<World> {
+    let image = image(rt, alloc, guest);
+    booted(rt, alloc, image.as_slice(), clients)
 }
 
 /// Prints a reply on a line of its own.
-fn push(text: &mut String, reply: &Reply) -> Result<(), Fail> {
-    writeln!(text, "{reply:?}")?;
-    Ok(())
+fn push(rt: &impl Abort, text: &mut String, reply: &Reply) {
+    made(rt, writeln!(text, "{reply:?}"));
 }
 
 /// The replies as they print, one a line.
-fn lines_of(alloc: Global, replies: &[Reply]) -> Result<String, Fail> {
+fn lines_of(rt: &impl Abort, alloc: Global, replies: &[Reply]) -> String {
     let mut text = String::new(alloc);
     for reply in replies {
-        push(&mut text, reply)?;
+        push(rt, &mut text, reply);
     }
-    Ok(text)
+    text
 }
 
 /// The printed replies to these events.
-fn printed(alloc: Global, world: &mut World, events: &[Event<'_>]) -> Result<String, Fail> {
-    let replies = world.run(events)?;
-    lines_of(alloc, replies.as_slice())
+fn printed(rt: &impl Abort, alloc: Global, world: &mut World, events: &[Event<'_>]) -> String {
+    let replies = made(rt, world.run(events));
+    lines_of(rt, alloc, replies.as_slice())
 }
 
 /// The replies to these events print so.
@@ -121,10 +119,9 @@ fn assert_answers(
     world: &mut World,
     events: &[Event<'_>],
     wanted: &str,
-) -> Result<(), Fail> {
-    let text = printed(alloc, world, events)?;
+) {
+    let text = printed(rt, alloc, world, events);
     assert_eq!(rt; text.as_str(), wanted);
-    Ok(())
 }
 
 /// The event Step is answered by this count.
@@ -161,44 +158,37 @@ fn assert_steps(rt: &impl Abort, world: &mut World, count: u64, steps: u64) {
 }
 
 /// So many events Step, and a Cut.
-fn steps_and_a_cut(alloc: Global, count: usize) -> Result<Vec<Event<'static>>, Fail> {
+fn steps_and_a_cut(rt: &impl Abort, alloc: Global, count: usize) -> Vec<Event<'static>> {
     let mut events = Vec::new(alloc);
-    events.resize(count, Event::Step)?;
-    events.push(Event::Cut)?;
-    Ok(events)
+    made(rt, events.resize(count, Event::Step));
+    made(rt, events.push(Event::Cut));
+    events
 }
 
 /// A list of so many events Step and a Cut is answered to its end.
-fn assert_list(
-    rt: &impl Abort,
-    alloc: Global,
-    world: &mut World,
-    count: usize,
-) -> Result<(), Fail> {
-    let events = steps_and_a_cut(alloc, count)?;
-    let replies = world.run(events.as_slice())?;
+fn assert_list(rt: &impl Abort, alloc: Global, world: &mut World, count: usize) {
+    let events = steps_and_a_cut(rt, alloc, count);
+    let replies = made(rt, world.run(events.as_slice()));
     as_many(rt, "replies", replies.len(), events.len());
-    Ok(())
 }
 
 /// One epoch of one step, of which packet and acknowledgement have this number.
-fn make_epoch(world: &mut World, number: u64) -> Result<(), Fail> {
-    world.run(&[
+fn make_epoch(rt: &impl Abort, world: &mut World, number: u64) {
+    let epoch = world.run(&[
         Event::Step,
         Event::Cut,
         Event::Send,
         Event::BackupGet(number),
         Event::AckGet(number),
-    ])?;
-    Ok(())
+    ]);
+    made(rt, epoch);
 }
 
 /// So many of them.
-fn make_epochs(world: &mut World, count: u64) -> Result<(), Fail> {
+fn make_epochs(rt: &impl Abort, world: &mut World, count: u64) {
     for number in 0..count {
-        make_epoch(world, number)?;
+        make_epoch(rt, world, number);
     }
-    Ok(())
 }
 
 /// Neither a step nor many are made, since the primary has stopped.
@@ -223,10 +213,10 @@ fn assert_all_delivered(rt: &impl Abort, world: &mut World, count: u64) {
 }
 
 /// So many bytes 2.
-fn repeated(alloc: Global, count: usize) -> Result<Vec<u8>, Fail> {
-    let mut bytes = Vec::with_capacity(alloc, count)?;
-    bytes.resize(count, 2)?;
-    Ok(bytes)
+fn repeated(rt: &impl Abort, alloc: Global, count: usize) -> Vec<u8> {
+    let mut bytes = made(rt, Vec::with_capacity(alloc, count));
+    made(rt, bytes.resize(count, 2));
+    bytes
 }
 
 /// A client that delivers a frame of so many bytes 2 is answered by what prints so.
@@ -236,15 +226,15 @@ fn assert_length(
     world: &mut World,
     (client, count): (u64, usize),
     wanted: &str,
-) -> Result<(), Fail> {
-    let bytes = repeated(alloc, count)?;
+) {
+    let bytes = repeated(rt, alloc, count);
     assert_answers(
         rt,
         alloc,
         world,
         &[Event::Deliver(client, bytes.as_slice())],
         wanted,
-    )
+    );
 }
 
 /// The world shows this.
@@ -283,14 +273,14 @@ fn assert_sectors(rt: &impl Abort, world: &World, count: u32) {
 }
 
 /// Plays one row.
-fn play(rt: &impl Abort, alloc: Global, world: &mut World, row: &Row) -> Result<(), Fail> {
+fn play(rt: &impl Abort, alloc: Global, world: &mut World, row: &Row) {
     match row {
-        Row::Told(events, wanted) => return assert_answers(rt, alloc, world, events, wanted),
+        Row::Told(events, wanted) => assert_answers(rt, alloc, world, events, wanted),
         Row::Length(client, count, wanted) => {
-            return assert_length(rt, alloc, world, (*client, *count), wanted);
+            assert_length(rt, alloc, world, (*client, *count), wanted);
         }
-        Row::List(count) => return assert_list(rt, alloc, world, *count),
-        Row::Epochs(count) => return make_epochs(world, *count),
+        Row::List(count) => assert_list(rt, alloc, world, *count),
+        Row::Epochs(count) => make_epochs(rt, world, *count),
         Row::Counted(from, to) => assert_counts_from(rt, world, *from, *to),
         Row::Single(from, to) => assert_steps_from(rt, world, *from, *to),
         Row::Delivered(count) => assert_all_delivered(rt, world, *count),
@@ -310,40 +300,22 @@ fn play(rt: &impl Abort, alloc: Global, world: &mut World, row: &Row) -> Result<
         Row::Filled(sector, byte) => assert_filled(rt, world, *sector, *byte),
         Row::Sectors(count) => assert_sectors(rt, world, *count),
     }
-    Ok(())
 }
 
 /// Plays the rows, one after the other.
-pub(super) fn plays_on(
-    rt: &impl Abort,
-    alloc: Global,
-    world: &mut World,
-    rows: &[Row],
-) -> Result<(), Fail> {
+pub(super) fn plays_on(rt: &impl Abort, alloc: Global, world: &mut World, rows: &[Row]) {
     for row in rows {
-        play(rt, alloc, world, row)?;
+        play(rt, alloc, world, row);
     }
-    Ok(())
 }
 
 /// Plays them with a pair of so many clients.
-pub(super) fn plays_with(
-    rt: &impl Abort,
-    alloc: Global,
-    guest: Guest,
-    clients: u64,
-    rows: &[Row],
-) -> Result<(), Fail> {
-    let mut world = pair(alloc, guest, clients)?;
-    plays_on(rt, alloc, &mut world, rows)
+pub(super) fn plays_with(rt: &impl Abort, alloc: Global, guest: Guest, clients: u64, rows: &[Row]) {
+    let mut world = pair(rt, alloc, guest, clients);
+    plays_on(rt, alloc, &mut world, rows);
 }
 
 /// Plays them with a pair of two clients.
-pub(super) fn plays(
-    rt: &impl Abort,
-    alloc: Global,
-    guest: Guest,
-    rows: &[Row],
-) -> Result<(), Fail> {
-    plays_with(rt, alloc, guest, 2, rows)
+pub(super) fn plays(rt: &impl Abort, alloc: Global, guest: Guest, rows: &[Row]) {
+    plays_with(rt, alloc, guest, 2, rows);
 }

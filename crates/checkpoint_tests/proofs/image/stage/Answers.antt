@@ -1,5 +1,5 @@
 -- Shapes that compare equal are the same.
-use Rattle.std.proofs.{Common.{rules, ◌≡◌, ℕ, ◌≤◌, ◌==◌, true, sym, ◌∙◌, subst}, Math.Bridge.le_prop, lemmas.Bool.{and_parts, eqb-true}}
+use Rattle.std.proofs.{Common.{◌≡◌, ℕ, ◌≤◌, ◌==◌, true, sym, ◌∙◌, subst}, Math.Bridge.le_prop, lemmas.Bool.{and_parts, eqb-true}}
 use Rattle.guest_machine.specs.{declared.shapes.Shape.Shape, Limits.most_pages}
 use Rattle.checkpoint_tests.proofs.image.stage.Goals as goal
 
@@ -29,7 +29,7 @@ same_shape s t e f =
 
 pub stage-requires : goal.stage-requires
 stage-requires g c =
-    let equal : c.eq.result ≡ true = search rules in
+    let equal : c.eq.result ≡ true = c.holds.ensures in
     let parts = and_parts (c.shape.result.pages == c.shape-2.result.pages) (c.shape.result.sectors == c.shape-2.result.sectors)
     (sym c.eq.ensures ∙ equal) in
     sym c.shape-2.ensures
