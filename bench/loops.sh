@@ -1,9 +1,10 @@
 #!/usr/bin/env bash
-# How many guest steps a second `remus sim` does in three tight loops (bench/loops/*.s) and in guests/sha256.c, whose last jump leads back
-# to its start (bench/loops/sha256.words), and what part that is of what the interpreter in plain Rust does (oracle/interpreter). Each runs
-# COUNT steps (50000000 if left out) nine times, in turn, and the best time counts, of the processor and not of the clock. Where valgrind is
-# there, it also counts the processor's instructions that a step takes in either, which other work beside doesn't change. REMUS names
-# another program to measure in the place of the repository's own.
+# How many guest steps a second `remus sim` does in five tight loops (bench/loops/*.s) and in two guests in C that begin again and again:
+# guests/sha256.c, and guests/deflate.c, which deflates a text and inflates it. Beside it, what part that is of what the interpreter in plain
+# Rust does (oracle/interpreter). Each runs COUNT steps (50000000 if left out) nine times, in turn, and the best time counts, of the
+# processor and not of the clock. Where valgrind is there, it also counts the processor's instructions that a step takes in either, which
+# other work beside doesn't change. REMUS names another program to measure in the place of the repository's own, and LOOPS some of the
+# loops. It needs no cross compiler: guests/build.sh writes the words.
 set -eu
 cd "$(dirname "$0")/.."
 count=${1:-50000000}
@@ -29,23 +30,23 @@ instructions() {
 # The script of so many steps of these words.
 script_of() { printf 'boot 64 1 1 words ' && cat "$1" && printf 'step %s\n' "$2"; }
 
-# The instructions that a step takes both programs, from runs of one million and of two.
+# The instructions that a step takes both programs, from runs of one million and of four: deflate begins again after three.
 counted() {
     command -v valgrind >/dev/null || return 0
     local proved=() plain=()
-    for steps in 1000000 2000000; do
+    for steps in 1000000 4000000; do
         script_of "$1" "$steps" >"$script"
         proved+=("$(instructions "$program" sim "$script")")
         plain+=("$(instructions "$interpreter" run "$1" "$steps")")
     done
     awk -v a="${proved[0]}" -v b="${proved[1]}" -v c="${plain[0]}" -v d="${plain[1]}" \
-        'BEGIN { printf ", %.1f and %.1f instructions a step", (b - a) / 1e6, (d - c) / 1e6 }'
+        'BEGIN { printf ", %.1f and %.1f instructions a step", (b - a) / 3e6, (d - c) / 3e6 }'
 }
 
 # The smaller of two numbers.
 least() { awk -v a="$1" -v b="$2" 'BEGIN { print (a < b) ? a : b }'; }
 
-for loop in arithmetic memory branches sha256; do
+for loop in ${LOOPS:-arithmetic memory branches sha256 memcpy memset deflate}; do
     words=bench/loops/$loop.words
     script_of "$words" "$count" >"$script"
     proved=1e9 plain=1e9

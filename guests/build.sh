@@ -45,6 +45,7 @@ for name in account tally disk counter stream; do
     compile $name
 done
 compile caller --pages 3
+compile deflate --pages 16 --data 0x80001000
 compile ping lib/interrupts.s
 
 # Compiled as a guest of one's own is.
@@ -60,6 +61,12 @@ for source in ../bench/loops/*.s; do
     riscv64-unknown-elf-ld -Ttext 0x80000000 -e 0x80000000 -o "$target/$name.elf" "$target/$name.o"
     riscv64-unknown-elf-objcopy -O binary -j .text "$target/$name.elf" "$target/$name.bin"
     od -An -v -tx4 -w4 --endian=little "$target/$name.bin" | tr -d ' ' | paste -sd' ' >"$target/words"
+    keep "../bench/loops/$name.words"
+done
+
+# Two guests that begin again are loops too: the jump behind the call of main, which stays where it is, leads back to the start.
+for name in sha256 deflate; do
+    sed 's/ 0000006f / ff1ff06f /' "words/$name.words" >"$target/words"
     keep "../bench/loops/$name.words"
 done
 exit "$differ"

@@ -10,12 +10,17 @@ def signed(x, bits=64):
     return x - 2**bits if x >> bits - 1 else x
 
 
+def shifted(x):
+    """The number after this one in a sequence of random ones, by three shifts."""
+    x ^= x << 13 & MASK
+    x ^= x >> 7
+    return x ^ x << 17 & MASK
+
+
 def sort():
     numbers, x = [], 88172645463325252
     for _ in range(100):
-        x ^= x << 13 & MASK
-        x ^= x >> 7
-        x ^= x << 17 & MASK
+        x = shifted(x)
         numbers.append(signed(x))
     return sum(n * (i + 1) for i, n in enumerate(sorted(numbers))) & MASK
 
@@ -66,5 +71,20 @@ def disk():
     return total
 
 
-for guest in (sort, crc32, sha256, division, disk):
-    print(f"{guest.__name__} {guest():016x}")
+def deflate_text():
+    """The text that guests/deflate.c deflates."""
+    text, x = bytearray(), 88172645463325252
+    while len(text) < 8192:
+        x = shifted(x)
+        word = x >> 58
+        text += bytes(ord("a") + (7 * word + 5 * i * i + word * i) % 26 for i in range(2 + word % 8)) + b" "
+    return bytes(text[:8192])
+
+
+def deflate():
+    return zlib.adler32(deflate_text())
+
+
+if __name__ == "__main__":
+    for guest in (sort, crc32, sha256, division, disk, deflate):
+        print(f"{guest.__name__} {guest():016x}")
