@@ -9,7 +9,7 @@ ghost use Rattle.epoch_snapshot.specs.Checkpoints.{block_count};
 ghost use Rattle.epoch_snapshot.specs.Images.{base_ram, base_sectors, image_of, with_blocks, with_sectors};
 ghost use Rattle.backup_image.specs.Images.{settled_machine};
 
-use epoch_snapshot::{Block, Checkpoint, PageChange, SectorChange};
+use epoch_snapshot::{Block, Checkpoint, PageChange, SectorChange, masks_name_blocks};
 use guest_machine::{Machine, SECTOR_BYTES};
 
 /// How many blocks a page has.
@@ -28,6 +28,7 @@ fn put_page(machine: &mut Machine, page: u32, mask: u64, blocks: &[Block])
     ensures size { length machine.new.guest.ram ≡ length machine.old.guest.ram }
     ensures flags { machine.new.written ≡ machine.old.written }
 {
+    masks_name_blocks();
     let mut next = 0;
     for block in 0..PAGE_BLOCKS {
         if (mask >> block) % 2 == 1 {

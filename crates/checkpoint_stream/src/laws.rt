@@ -1,12 +1,16 @@
 //! Laws of reading.
 
-ghost use Rattle.std.specs.Prelude.{◌≡◌, ◌≢◌, ◌<◌, ℕ, true, List, [], ◌++◌, All, take};
+ghost use Rattle.std.specs.Prelude.{◌≡◌, ◌≢◌, ◌<◌, ◌≤◌, ℕ, true, List, [], ◌∷◌, ◌++◌, All, length, take, count_ones};
 ghost use Rattle.guest_machine.specs.declared.shapes.Shape.{Shape};
+ghost use Rattle.epoch_snapshot.specs.declared.changes.PageChange.{PageChange};
 ghost use Rattle.epoch_snapshot.specs.Checkpoints.{Change, IsCanonical};
 ghost use Rattle.checkpoint_stream.specs.declared.place.Place.TheVariants.{Whole, Failed};
+ghost use Rattle.checkpoint_stream.specs.declared.rules.Width.TheVariants.{Four, Eight};
+ghost use Rattle.checkpoint_stream.specs.Bounds.{most_text};
+ghost use Rattle.checkpoint_stream.specs.HeadTable.{bytes_of, head_table};
 ghost use Rattle.checkpoint_stream.specs.Readings.{Reading, begun, fed, taken, is_closed};
 ghost use Rattle.checkpoint_stream.specs.Sound.{change_in};
-ghost use Rattle.checkpoint_stream.specs.Text.{joined, text};
+ghost use Rattle.checkpoint_stream.specs.Text.{head_numbers, number_units, page_units, sector_units, frame_units, joined, text};
 ghost use Rattle.checkpoint_stream.specs.Units.{judged_all, AreUnits};
 ghost use Rattle.checkpoint_stream.specs.Widths.{HasWidths};
 ghost use Rattle.checkpoint_stream.specs.ReadBack.{ReadsBack};
@@ -30,6 +34,20 @@ pub fn read_is_canonical()
 /// Bytes that are whole units, one after another, are read as these units.
 pub fn units_are_read()
     ensures { (r : Reading) (units : List (List ℕ)) → AreUnits r units → fed r (joined units) ≡ judged_all r units }
+{}
+
+/// The text of a checkpoint of version 2 is its parts, one after another: the numbers of its head, and the records of its pages, of its
+/// sectors and of its frames, each behind their count. It is no longer than the format allows.
+pub fn texts_are_their_parts()
+    ensures parts { (c : Change) → c.version ≡ 2 → text c ≡ joined (number_units head_table (head_numbers c))
+        ++ ((bytes_of Four (length c.pages) ++ joined (page_units c.pages c.blocks))
+        ++ ((bytes_of Four (length c.sectors) ++ joined (sector_units c.sectors))
+        ++ (bytes_of Four (length c.frames) ++ joined (frame_units c.frames)))) }
+    ensures page { (p : PageChange) (ps : List PageChange) (own later : List (List ℕ)) → length own ≡ count_ones p.mask
+        → joined (page_units (p ∷ ps) (own ++ later))
+        ≡ (bytes_of Four p.page ++ bytes_of Eight p.mask ++ joined own) ++ joined (page_units ps later) }
+    ensures joined { (us vs : List (List ℕ)) → joined (us ++ vs) ≡ joined us ++ joined vs }
+    ensures short { (c : Change) → c.version ≡ 2 → IsCanonical c → HasWidths c → length (text c) ≤ most_text c.shape }
 {}
 
 /// A checkpoint's text is taken whole, and read as this checkpoint.

@@ -22,6 +22,7 @@ pub use encoding::encode;
 pub use errors::StreamError;
 pub use laws::{
     any_pieces, closed_takes_nothing, each_byte_is_needed, malformed_begins_no_text,
-    no_text_begins_another, read_is_canonical, read_is_its_text, text_is_read_back, units_are_read,
+    no_text_begins_another, read_is_canonical, read_is_its_text, text_is_read_back,
+    texts_are_their_parts, units_are_read,
 };
 pub use reader::Reader;

@@ -1,13 +1,9 @@
 -- The blocks that a mask names, found one set bit after another.
-use Rattle.std.proofs.Common.{◌≡◌, ℕ, zero, suc, ◌+◌, ◌-◌, ◌/◌, ◌%◌, ◌^◌, ◌<◌, ◌≤◌, ◌==◌, List, [], ◌∷◌, ◌++◌, w64, cond, sym, ap, ◌∙◌}
+use Rattle.std.proofs.Common.{◌≡◌, ℕ, zero, suc, ◌+◌, ◌-◌, ◌/◌, ◌%◌, ◌^◌, ◌<◌, ◌≤◌, ◌==◌, [], ◌∷◌, ◌++◌, w64, cond, sym, ap, ◌∙◌}
 use Rattle.std.proofs.{Common.{arith, inl, inr, shr-shr}, lemmas.{Bool.{ne_eqb, cases_order}, List.append-nil, Nat.Bits.bit_at-zero}}
 use Rattle.std.proofs.lemmas.Nat.Bits.{bit_at_above, bit_at-trailing_zeros}
-use Rattle.std.specs.{Int.{bit_at, trailing_zeros}, List.{range_with_len, filter}}
-use Rattle.epoch_snapshot.{specs.Blocks.set_blocks, proofs.PageLemmas.filter_last}
-
--- the blocks below one that a mask names
-abbrev pub named_below : ℕ → ℕ → List ℕ
-named_below m n = filter (λ i. bit_at m i == 1) (range_with_len 0 n)
+use Rattle.std.specs.Int.{bit_at, trailing_zeros}
+use Rattle.epoch_snapshot.{specs.Blocks.{named_below, set_blocks}, proofs.PageLemmas.filter_last}
 
 shifted_bit : (m s i : ℕ) → bit_at (m / 2 ^ s) i ≡ bit_at m (s + i)
 shifted_bit m s i = ap (λ x. x % 2) (shr-shr m s i)

@@ -42,6 +42,9 @@ same-bytes (x ∷ xs) (y ∷ ys) e f =
 drop_past : (n : ℕ) (xs : List ℕ) → length xs ≤ n → drop n xs ≡ []
 drop_past n xs past = nil_from_length (drop n xs) (omega (arith, length-drop n xs))
 
+pub length-block : (xs : List ℕ) (n : ℕ) → 64 * n + 64 ≤ length xs → length (block_in xs n) ≡ 64
+length-block xs n within = length-take-le 64 (drop (64 * n) xs) (omega (arith, length-drop (64 * n) xs))
+
 -- ---- one memory turned into another, block by block
 
 -- the new memory up to a block, and the old one from it on
@@ -60,9 +63,6 @@ module _ (old new : List ℕ) (long : length old ≡ length new) where
 
   here : (n : ℕ) → 64 * n ≤ length new → block_in (mixed old new n) n ≡ block_in old n
   here n within = ap (take 64) (drop_at (take (64 * n) new) (drop (64 * n) old) (64 * n) (fronts n within))
-
-  length-block : (xs : List ℕ) (n : ℕ) → 64 * n + 64 ≤ length xs → length (block_in xs n) ≡ 64
-  length-block xs n within = length-take-le 64 (drop (64 * n) xs) (omega (arith, length-drop (64 * n) xs))
 
   next : (n : ℕ) → 64 * n + 64 ≤ length new → take (64 * n) new ++ (block_in new n ++ drop (64 * n + 64) old) ≡ mixed old new (n + 1)
   next n within =

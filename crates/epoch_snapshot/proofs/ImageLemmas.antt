@@ -65,7 +65,7 @@ image_over old listed sent m generation number c base cut same ram size rises ag
 not_full : (c : Change) (number : ℕ) → c.number ≡ number → 1 ≤ number → (c.number == 0) ≡ false
 not_full c number e some = ne_eqb c.number 0 (λ z. omega (arith, e, z))
 
-count_is : (bytes : List ℕ) (n : ℕ) → length bytes ≡ 512 * n → sector_count bytes ≡ n
+pub count_is : (bytes : List ℕ) (n : ℕ) → length bytes ≡ 512 * n → sector_count bytes ≡ n
 count_is bytes n e = omega (arith, e)
 
 -- a delta over its base

@@ -8,3 +8,4 @@ mod PageLemmas
 mod BitLemmas
 mod SectorLemmas
 mod ImageLemmas
+mod FullLemmas

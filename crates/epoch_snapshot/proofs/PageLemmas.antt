@@ -63,19 +63,29 @@ pub changed_pages-more : (old new : List ℕ) (n : ℕ) → changed_pages old ne
 unfolding changed_pages
 changed_pages-more old new n = let e : 0 + n ≡ n = omega arith in filter_of_map_range_with_len_more is_changed (page_change old new) 0 n n e
 
+unless : (b : Bool) (ps : List PageChange) → cond (not b) ps [] ≡ cond b [] ps
+unless true ps = refl
+unless false ps = refl
+
+pub changed_pages-next : (old new : List ℕ) (n m : ℕ) → m ≡ changed_mask old new n →
+    changed_pages old new (n + 1) ≡ changed_pages old new n ++ cond (m == 0) [] (record { page = n; mask = m } ∷ [])
+changed_pages-next old new n m e =
+    changed_pages-more old new n
+    ∙ ap (λ k. changed_pages old new n ++ cond (not (k == 0)) (record { page = n; mask = k } ∷ []) []) (sym e)
+    ∙ ap (λ ps. changed_pages old new n ++ ps) (unless (m == 0) (record { page = n; mask = m } ∷ []))
+
 -- one that changes is added, and one that doesn't isn't
 pub changed_pages-push : (old new : List ℕ) (n m : ℕ) → m ≡ changed_mask old new n → (m ≡ 0 → ⊥) →
     changed_pages old new (n + 1) ≡ changed_pages old new n ++ record { page = n; mask = m } ∷ []
 changed_pages-push old new n m e some =
-    changed_pages-more old new n
-    ∙ ap (λ k. changed_pages old new n ++ cond (not (k == 0)) (record { page = n; mask = k } ∷ []) []) (sym e)
-    ∙ ap (λ b. changed_pages old new n ++ cond (not b) (record { page = n; mask = m } ∷ []) []) (ne_eqb m 0 some)
+    changed_pages-next old new n m e
+    ∙ ap (λ b. changed_pages old new n ++ cond b [] (record { page = n; mask = m } ∷ [])) (ne_eqb m 0 some)
 
 pub changed_pages-skip : (old new : List ℕ) (n m : ℕ) → m ≡ changed_mask old new n → m ≡ 0 →
     changed_pages old new (n + 1) ≡ changed_pages old new n
 changed_pages-skip old new n m e none =
-    changed_pages-more old new n
-    ∙ ap (λ k. changed_pages old new n ++ cond (not (k == 0)) (record { page = n; mask = k } ∷ []) []) (sym e ∙ none)
+    changed_pages-next old new n m e
+    ∙ ap (λ b. changed_pages old new n ++ cond b [] (record { page = n; mask = m } ∷ [])) (eq-eqb m 0 none)
     ∙ append-nil (changed_pages old new n)
 
 -- a page that is the same isn't added
@@ -163,7 +173,7 @@ agree_by : (f g : ℕ → List ℕ) (b : Bool) (i : ℕ) (is : List ℕ) → f i
 agree_by f g true i is e rest = λ k. e k ∷ rest k
 agree_by f g false i is e rest = rest
 
-map_agree_in : (f g : ℕ → List ℕ) (p : ℕ → Bool) (s n : ℕ) → ((i : ℕ) → s ≤ i → i < s + n → f i ≡ g i) →
+pub map_agree_in : (f g : ℕ → List ℕ) (p : ℕ → Bool) (s n : ℕ) → ((i : ℕ) → s ≤ i → i < s + n → f i ≡ g i) →
     map f (filter p (range_with_len s n)) ≡ map g (filter p (range_with_len s n))
 map_agree_in f g p s zero agree = refl
 map_agree_in f g p s (suc n) agree =

@@ -2,7 +2,7 @@
 use Rattle.std.proofs.Common.{◌≡◌, ℕ, zero, suc, ◌+◌, ◌-◌, ◌*◌, ◌<◌, ◌≤◌, ◌==◌, ◌&&◌, ◌||◌, not, Bool, true, false, cond, List, [], ◌∷◌}
 use Rattle.std.proofs.Common.{◌++◌, length, take, drop, replicate, map, get_or, refl, sym, ap, ◌∙◌, arith, subst, inl, inr}
 use Rattle.std.proofs.lemmas.{Bool.{eqb-true, eqb-false, eq-eqb, true≢false, cases_order, cases_eq, and_parts}, List.length-take-le}
-use Rattle.std.proofs.lemmas.List.{length-drop, length-replicate, append-nil, Elements.filter_passes}
+use Rattle.std.proofs.lemmas.List.{length-drop, length-replicate, Elements.filter_passes}
 use Rattle.std.specs.{Prelude.{All, IsTrue, ◌↔◌, slice_range}, List.{range_with_len, filter}}
 use Rattle.guest_machine.specs.{Dirty.{Rises, is_in}, Bytes.with_bytes}
 use Rattle.epoch_snapshot.specs.{declared.changes.SectorChange.SectorChange, Blocks.is_zero, Cuts.{sector_of, sector_change}}
@@ -15,7 +15,7 @@ use Rattle.guest_machine.specs.Guest.{sector_count, sector_of as sector_in_place
 unfoldable pub AgreesOff : ℕ → List ℕ → List ℕ → List ℕ → Type 0
 AgreesOff count listed base now = (i : ℕ) → i < count → is_in i listed ≡ false → sector_of base i ≡ sector_of now i
 
-length-sector_of : (bytes : List ℕ) (i count : ℕ) → i < count → length bytes ≡ 512 * count → length (sector_of bytes i) ≡ 512
+pub length-sector_of : (bytes : List ℕ) (i count : ℕ) → i < count → length bytes ≡ 512 * count → length (sector_of bytes i) ≡ 512
 length-sector_of bytes i count within long = length-take-le 512 (drop (512 * i) bytes) (omega (arith, length-drop (512 * i) bytes))
 
 module _ (count : ℕ) (now : List ℕ) (long : length now ≡ 512 * count) where
@@ -156,27 +156,24 @@ flag_by false true f g = g refl
 flag_by false false f g = refl
 
 -- what the test for zeros answers of a sector
-pub zero-flag : (r : Bool) (bytes : List ℕ) (i : ℕ) → IsTrue r ↔ All (λ (b : ℕ). b ≡ 0) (sector_in_place bytes i) →
+zero-flag : (r : Bool) (bytes : List ℕ) (i : ℕ) → IsTrue r ↔ All (λ (b : ℕ). b ≡ 0) (sector_in_place bytes i) →
     r ≡ is_zero (sector_of bytes i)
 zero-flag r bytes i says =
     let xs : List ℕ = sector_in_place bytes i in
     flag_by r (is_zero xs) (λ h. all_zeros xs (says.0 h)) (λ h. says.1 (zeros_all xs h)) ∙ ap is_zero (sector-slice bytes i)
 
--- one sector more is used, or isn't
-pub used-push : (bytes : List ℕ) (n : ℕ) (r : Bool) → r ≡ is_zero (sector_of bytes n) → r ≡ false →
-    used_sectors bytes (n + 1) ≡ used_sectors bytes n ++ n ∷ []
-unfolding used_sectors
-used-push bytes n r e some =
-    filter_last (λ i. not (is_zero (sector_of bytes i))) n
-    ∙ ap (λ b. used_sectors bytes n ++ cond b (n ∷ []) []) (ap not (sym e ∙ some))
+unless : (b : Bool) (is : List ℕ) → cond (not b) is [] ≡ cond b [] is
+unless true is = refl
+unless false is = refl
 
-pub used-skip : (bytes : List ℕ) (n : ℕ) (r : Bool) → r ≡ is_zero (sector_of bytes n) → r ≡ true →
-    used_sectors bytes (n + 1) ≡ used_sectors bytes n
+-- one sector more is used, or isn't
+pub used-next : (bytes : List ℕ) (n : ℕ) (r : Bool) → IsTrue r ↔ All (λ (b : ℕ). b ≡ 0) (sector_in_place bytes n) →
+    used_sectors bytes (n + 1) ≡ used_sectors bytes n ++ cond r [] (n ∷ [])
 unfolding used_sectors
-used-skip bytes n r e none =
+used-next bytes n r says =
     filter_last (λ i. not (is_zero (sector_of bytes i))) n
-    ∙ ap (λ b. used_sectors bytes n ++ cond b (n ∷ []) []) (ap not (sym e ∙ none))
-    ∙ append-nil (used_sectors bytes n)
+    ∙ ap (λ b. used_sectors bytes n ++ cond (not b) (n ∷ []) []) (sym (zero-flag r bytes n says))
+    ∙ ap (λ is. used_sectors bytes n ++ is) (unless r (n ∷ []))
 
 pub no_sectors : (bytes : List ℕ) → [] ≡ used_sectors bytes 0
 unfolding used_sectors

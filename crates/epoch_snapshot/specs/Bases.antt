@@ -1,5 +1,5 @@
 -- What checkpoints are cut over, and what a cut records.
-use Rattle.std.specs.Prelude.{◌≡◌, ℕ, ◌*◌, ◌<◌, false, List, length, replicate}
+use Rattle.std.specs.Prelude.{◌≡◌, ℕ, ◌*◌, ◌<◌, false, List, [], length, replicate}
 use Rattle.guest_machine.specs.Dirty.{is_in}
 use Rattle.guest_machine.specs.Guest.{Guest, sector_count}
 use Rattle.guest_machine.specs.MachineStates.{state_of}
@@ -9,7 +9,7 @@ use Rattle.epoch_snapshot.specs.declared.memory.Over.{Over}
 use Rattle.epoch_snapshot.specs.declared.memory.Over.TheVariants.{Settled, Zero}
 use Rattle.arrayvec.specs.ArrayVec.{ArrayVec}
 use Rattle.epoch_snapshot.specs.Checkpoints.{Change}
-use Rattle.epoch_snapshot.specs.Cuts.{sector_of, changed_pages, changed_blocks, changed_sectors}
+use Rattle.epoch_snapshot.specs.Cuts.{sector_of, changed_pages, changed_blocks, changed_sectors, used_sectors}
 
 -- the memory that a machine's checkpoint is cut over
 abbrev pub old_ram : Over → State → List ℕ
@@ -29,6 +29,10 @@ pub record IsCut (old : List ℕ) (listed : List ℕ) (sent : List (ArrayVec ℕ
   pub blocks : c.blocks ≡ changed_blocks old m.guest.ram c.pages
   pub sectors : c.sectors ≡ changed_sectors m.guest.sectors listed
   pub frames : c.frames ≡ sent
+
+-- a full checkpoint of a machine, of this generation: all of it that isn't zero
+abbrev pub IsFullCut : State → ℕ → Change → Type 0
+IsFullCut m g c = IsCut (replicate (length m.guest.ram) 0) (used_sectors m.guest.sectors (sector_count m.guest.sectors)) [] m g 0 c
 
 -- a guest that a machine's delta stands over: its memory is the machine's at the last settle, and its disk has as many bytes as
 -- the machine's, and the same ones at each sector that isn't listed as written

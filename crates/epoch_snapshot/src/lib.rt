@@ -9,6 +9,7 @@ mod changes;
 mod checkpoint;
 mod cut;
 mod errors;
+mod laws;
 mod limits;
 mod memory;
 mod sectors;
@@ -17,4 +18,7 @@ pub use changes::{BLOCK_BYTES, Block, PageChange, SectorChange};
 pub use checkpoint::{Checkpoint, MOST_OLD_PAGES};
 pub use cut::{cut_delta, cut_full};
 pub use errors::SnapshotError;
+pub use laws::{
+    changes_are_found_in_turn, full_cuts_are_whole, masks_name_blocks, pages_are_their_blocks,
+};
 pub use limits::limits_are_the_rules;

@@ -1,7 +1,7 @@
 //! What a cut records of memory.
 ghost use Rattle.std.specs.Prelude.{◌≡◌, ℕ, ◌+◌, ◌*◌, ◌<◌, ◌≤◌, ◌^◌, false, length, [], ◌∷◌, ◌++◌, map, vec_capacity, OnOk};
 ghost use Rattle.guest_machine.specs.Limits.{page_bytes};
-ghost use Rattle.epoch_snapshot.specs.Blocks.{set_blocks, xored, block_in, changed_mask};
+ghost use Rattle.epoch_snapshot.specs.Blocks.{IsPageIn, set_blocks, xored, block_in, changed_mask};
 ghost use Rattle.epoch_snapshot.specs.Cuts.{changed_pages, changed_blocks};
 ghost use Rattle.epoch_snapshot.specs.Bases.{old_ram};
 
@@ -34,7 +34,7 @@ pub(crate) enum Over {
 /// A page of what the checkpoint is cut over.
 fn old_page(machine: &Machine, over: Over, page: u32) -> &Page
     requires { page_bytes * page + page_bytes ≤ length machine.now.guest.ram }
-    ensures { (i : ℕ) → i < 64 → block_in result.now i ≡ block_in (old_ram over machine.now) (64 * page + i) }
+    ensures { IsPageIn (old_ram over machine.now) page result.now }
 {
     match over {
         Over::Settled => machine.original(page),

@@ -1,9 +1,3 @@
-pub mod RangeLemmas
-pub mod CutLemmas
-pub mod CanonicalLemmas
-pub mod PageLemmas
-pub mod SectorLemmas
-pub mod ImageLemmas
 pub mod RecordLemmas
 pub mod TextLemmas
 pub mod FullLemmas

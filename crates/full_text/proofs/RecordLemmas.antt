@@ -1,50 +1,62 @@
 -- A page's record is made of its bytes, and how long it is.
 use Rattle.std.proofs.Common.{◌≡◌, ◌≢◌, ℕ, zero, suc, ◌+◌, ◌-◌, ◌*◌, ◌^◌, ◌<◌, ◌≤◌, ◌==◌, Bool, true, false, List, [], ◌∷◌, ◌++◌, cond, length, map, drop}
-use Rattle.std.proofs.Common.{replicate, get_or, refl, sym, ap, ◌∙◌, arith, append_assoc}
+use Rattle.std.proofs.Common.{get_or, refl, ap, ◌∙◌, sym, arith, append_assoc, add-one}
 use Rattle.std.proofs.lemmas.List.{append-nil, length-append, map-append, length-take-le, length-drop}
 use Rattle.std.proofs.lemmas.Bool.{eq-eqb, ne_eqb}
-use Rattle.std.proofs.lemmas.Simd.{map-map}
 use Rattle.std.proofs.lemmas.List.Sums.{sum_by-cons}
+use Rattle.std.proofs.Math.Seq.{drop-cons}
 use Rattle.std.specs.Prelude.{count_ones}
 use Rattle.std.specs.Int.{bit_at}
-use Rattle.std.specs.Int.Bits.{xor_zero_l}
 use Rattle.std.specs.List.{range_with_len, filter}
 use Rattle.guest_machine.specs.Pages.{page_of}
 use Rattle.epoch_snapshot.specs.declared.changes.PageChange.{PageChange}
-use Rattle.epoch_snapshot.specs.Blocks.{block_in, set_blocks, xored}
-use Rattle.epoch_snapshot.specs.Cuts.{block_change, changed_blocks}
-use Rattle.epoch_snapshot.proofs.MaskLemmas.{length-set_blocks}
+use Rattle.epoch_snapshot.specs.Blocks.{block_in, named_below, set_blocks}
+use Rattle.epoch_snapshot.specs.Cuts.{changed_blocks}
 use Rattle.checkpoint_stream.specs.HeadTable.{bytes_of}
 use Rattle.checkpoint_stream.specs.Text.{joined}
 use Rattle.checkpoint_stream.specs.declared.rules.Width.TheVariants.{Four, Eight}
-use Rattle.checkpoint_stream.proofs.Spelling.{joined-append, next}
 use Rattle.full_text.specs.Full.{zeros, record_of, records, record_size, records_size}
-use Rattle.full_text.proofs.PageLemmas.{filter_last, fewer_blocks, map_agree_in, block_in-page, zero_block, one_page}
 
--- the blocks below one that a mask names
-abbrev pub named_below : ℕ → ℕ → List ℕ
-named_below m n = filter (λ i. bit_at m i == 1) (range_with_len 0 n)
+-- what the laws `masks_name_blocks`, `pages_are_their_blocks` and `texts_are_their_parts` say, as the lemmas here take it
+abbrev pub NextIsNamed : Type 0
+NextIsNamed = (m n : ℕ) → named_below m (n + 1) ≡ named_below m n ++ cond (bit_at m n == 1) (n ∷ []) []
+
+abbrev pub FewerAreBelow : Type 0
+FewerAreBelow = (m n : ℕ) → m < 2 ^ 64 → n < 64 → bit_at m n ≡ 1 → length (named_below m n) < count_ones m
+
+abbrev pub OnesAreNamed : Type 0
+OnesAreNamed = (m : ℕ) → m < 2 ^ 64 → length (set_blocks m) ≡ count_ones m
+
+abbrev pub OwnAreRecorded : Type 0
+OwnAreRecorded = (ram : List ℕ) (p : PageChange) → 4096 * p.page + 4096 ≤ length ram
+    → map (λ i. block_in (page_of ram p.page) i) (set_blocks p.mask) ≡ changed_blocks (zeros ram) ram (p ∷ [])
+
+abbrev pub JoinsInTwo : Type 0
+JoinsInTwo = (us vs : List (List ℕ)) → joined (us ++ vs) ≡ joined us ++ joined vs
+
+pub next : {X : Type 0} (xs : List X) (i : ℕ) (d : X) → i < length xs → drop i xs ≡ get_or xs i d ∷ drop (i + 1) xs
+next xs i d h = rw (add-one) (drop-cons xs i d h)
 
 joined-one : (b : List ℕ) → joined (b ∷ []) ≡ b
 unfolding joined
 joined-one b = append-nil b
 
 -- one block more, where the mask names it
-pub blocks-put : (f : ℕ → List ℕ) (m n : ℕ) (xs ys b : List ℕ) → bit_at m n ≡ 1 → b ≡ f n → ys ≡ xs ++ joined (map f (named_below m n))
+pub blocks-put : NextIsNamed → JoinsInTwo → (f : ℕ → List ℕ) (m n : ℕ) (xs ys b : List ℕ) → bit_at m n ≡ 1 → b ≡ f n → ys ≡ xs ++ joined (map f (named_below m n))
     → ys ++ b ≡ xs ++ joined (map f (named_below m (n + 1)))
-blocks-put f m n xs ys b set e so_far =
+blocks-put then joins f m n xs ys b set e so_far =
     (λ k. so_far k ++ e k)
     ∙ append_assoc xs (joined (map f (named_below m n))) (f n)
     ∙ ap (λ l. xs ++ l) (ap (λ l. joined (map f (named_below m n)) ++ l) (sym (joined-one (f n)))
-    ∙ sym (joined-append (map f (named_below m n)) (f n ∷ []))
+    ∙ sym (joins (map f (named_below m n)) (f n ∷ []))
     ∙ ap joined (sym (map-append f (named_below m n) (n ∷ []))
     ∙ ap (λ c. map f (named_below m n ++ cond c (n ∷ []) [])) (sym (eq-eqb (bit_at m n) 1 set))
-    ∙ ap (map f) (sym (filter_last (λ i. bit_at m i == 1) n))))
+    ∙ ap (map f) (sym (then m n))))
 
 -- and none, where it doesn't
-pub blocks-pass : (m n : ℕ) → bit_at m n ≢ 1 → named_below m (n + 1) ≡ named_below m n
-blocks-pass m n clear =
-    filter_last (λ i. bit_at m i == 1) n
+pub blocks-pass : NextIsNamed → (m n : ℕ) → bit_at m n ≢ 1 → named_below m (n + 1) ≡ named_below m n
+blocks-pass then m n clear =
+    then m n
     ∙ ap (λ b. named_below m n ++ cond b (n ∷ []) []) (ne_eqb (bit_at m n) 1 clear)
     ∙ append-nil (named_below m n)
 
@@ -71,56 +83,33 @@ length-page ram page within =
     length-take-le ((4096 * page + 4096) - 4096 * page) (drop (4096 * page) ram) (omega (arith, length-drop (4096 * page) ram, within)) ∙ omega arith
 
 -- the blocks of a page so far take fewer bytes than all that the mask names, where it names another one
-pub room-left : (page : List ℕ) (m n : ℕ) → m < 2 ^ 64 → length page ≡ 4096 → n < 64 → bit_at m n ≡ 1
+pub room-left : FewerAreBelow → (page : List ℕ) (m n : ℕ) → m < 2 ^ 64 → length page ≡ 4096 → n < 64 → bit_at m n ≡ 1
     → length (joined (map (λ i. block_in page i) (named_below m n))) + 64 ≤ 64 * count_ones m
-room-left page m n fits long below set =
+room-left fewer page m n fits long below set =
     omega (
       arith,
       blocks-size (λ i. block_in page i) (λ i. bit_at m i == 1) 0 n (λ i low high. length-block page i (omega (arith, long))),
-      fewer_blocks m n below set,
-      length-set_blocks m fits,
+      fewer m n fits below set,
     )
 
--- ---- over a memory that is all zero a block is recorded as it is
-
-xored-zeros : (n : ℕ) (b : List ℕ) → length b ≡ n → xored (replicate n 0) b ≡ b
-xored-zeros zero [] e = refl
-xored-zeros zero (x ∷ xs) e = absurd (omega arith)
-xored-zeros (suc n) [] e = absurd (omega arith)
-xored-zeros (suc n) (x ∷ xs) e = λ i. xor_zero_l x i ∷ xored-zeros n xs (omega arith) i
-
-pub plain-block : (ram : List ℕ) (n : ℕ) → 64 * n + 64 ≤ length ram → block_change (zeros ram) ram n ≡ block_in ram n
-plain-block ram n within =
-    ap (λ z. xored z (block_in ram n)) (zero_block (length ram) n within) ∙ xored-zeros 64 (block_in ram n) (length-block ram n within)
-
--- the blocks of a page of the machine are those of its record
-pub page-plain : (ram : List ℕ) (p : PageChange) → 4096 * p.page + 4096 ≤ length ram
-    → map (λ i. block_in (page_of ram p.page) i) (set_blocks p.mask) ≡ changed_blocks (zeros ram) ram (p ∷ [])
-unfolding set_blocks
-page-plain ram p within =
-    map_agree_in (λ i. block_in (page_of ram p.page) i) (λ i. block_change (zeros ram) ram (64 * p.page + i)) (λ i. bit_at p.mask i == 1) 0 64
-    (λ i low high. block_in-page ram p.page i (omega (arith, high)) ∙ sym (plain-block ram (64 * p.page + i) (omega (arith, high, within))))
-    ∙ sym (map-map (block_change (zeros ram) ram) (λ i. 64 * p.page + i) (set_blocks p.mask))
-    ∙ ap (map (block_change (zeros ram) ram)) (sym (one_page p))
-
-pub record-put : (ram xs ys zs out : List ℕ) (p : PageChange) → 4096 * p.page + 4096 ≤ length ram → ys ≡ xs ++ bytes_of Four p.page
+pub record-put : OwnAreRecorded → (ram xs ys zs out : List ℕ) (p : PageChange) → 4096 * p.page + 4096 ≤ length ram → ys ≡ xs ++ bytes_of Four p.page
     → zs ≡ ys ++ bytes_of Eight p.mask → out ≡ zs ++ joined (map (λ i. block_in (page_of ram p.page) i) (set_blocks p.mask))
     → out ≡ xs ++ record_of ram p
-record-put ram xs ys zs out p within e f g =
+record-put own ram xs ys zs out p within e f g =
     let blocks = joined (changed_blocks (zeros ram) ram (p ∷ [])) in
     g
-    ∙ (λ k. (f ∙ ap (λ l. l ++ bytes_of Eight p.mask) e) k ++ joined (page-plain ram p within k))
+    ∙ (λ k. (f ∙ ap (λ l. l ++ bytes_of Eight p.mask) e) k ++ joined (own ram p within k))
     ∙ ap (λ l. l ++ blocks) (append_assoc xs (bytes_of Four p.page) (bytes_of Eight p.mask))
     ∙ append_assoc xs (bytes_of Four p.page ++ bytes_of Eight p.mask) blocks
 
-pub blocks-length : (page : List ℕ) (m : ℕ) → m < 2 ^ 64 → length page ≡ 4096
+pub blocks-length : OnesAreNamed → (page : List ℕ) (m : ℕ) → m < 2 ^ 64 → length page ≡ 4096
     → length (joined (map (λ i. block_in page i) (set_blocks m))) ≡ 64 * count_ones m
 unfolding set_blocks
-blocks-length page m fits long =
+blocks-length ones page m fits long =
     omega (
       arith,
       blocks-size (λ i. block_in page i) (λ i. bit_at m i == 1) 0 64 (λ i low high. length-block page i (omega (arith, long, high))),
-      length-set_blocks m fits,
+      ones m fits,
     )
 
 -- ---- the records of several pages

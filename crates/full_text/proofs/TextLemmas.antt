@@ -1,24 +1,36 @@
 -- What is put of a full checkpoint is its text.
-use Rattle.std.proofs.Common.{◌≡◌, ℕ, ◌+◌, ◌*◌, ◌^◌, ◌<◌, ◌≤◌, List, [], ◌∷◌, ◌++◌, length, map, take, drop, get_or, refl, sym}
+use Rattle.std.proofs.Common.{◌≡◌, ℕ, ◌+◌, ◌-◌, ◌*◌, ◌^◌, ◌<◌, ◌≤◌, List, [], ◌∷◌, ◌++◌, length, map, take, drop, get_or, refl, sym}
 use Rattle.std.proofs.Common.{ap, ◌∙◌, arith, append_assoc, All}
-use Rattle.std.proofs.lemmas.List.{append-nil, length-append, length-map, map-append, take_at, drop_at, drop_all, drop-drop}
+use Rattle.std.proofs.lemmas.List.{append-nil, length-append, length-map, map-append, take_at, drop_all, drop-drop}
 use Rattle.std.proofs.lemmas.List.Elements.{All-head, All-tail}
-use Rattle.std.specs.Prelude.{count_ones}
+use Rattle.std.proofs.lemmas.List.Sums.{sum_by-cons}
+use Rattle.std.specs.Prelude.{count_ones, slice_range}
 use Rattle.epoch_snapshot.specs.declared.changes.PageChange.{PageChange}
+use Rattle.epoch_snapshot.specs.declared.changes.SectorChange.{SectorChange}
 use Rattle.epoch_snapshot.specs.Blocks.{block_numbers, set_blocks}
 use Rattle.epoch_snapshot.specs.Checkpoints.{Change}
 use Rattle.epoch_snapshot.specs.Cuts.{block_change, changed_blocks, changed_sectors, sector_change, sector_of}
 use Rattle.guest_machine.specs.Guest.{Guest}
 use Rattle.guest_machine.specs.declared.shapes.Shape.{Shape}
-use Rattle.epoch_snapshot.proofs.MaskLemmas.{length-set_blocks}
 use Rattle.checkpoint_stream.specs.HeadTable.{bytes_of, head_table}
-use Rattle.checkpoint_stream.specs.Text.{head_numbers, number_units, page_units, sector_units, frame_units, units_of_frames, joined, text}
-use Rattle.checkpoint_stream.specs.declared.rules.Width.TheVariants.{Four}
-use Rattle.checkpoint_stream.proofs.Spelling.{page_units-split, text-spelled, frames-spelled, next, sector-at}
-use Rattle.std.proofs.lemmas.List.Sums.{sum_by-cons}
+use Rattle.checkpoint_stream.specs.Text.{head_numbers, number_units, page_units, sector_units, frame_units, joined, text}
+use Rattle.checkpoint_stream.specs.declared.rules.Width.TheVariants.{Four, Eight}
 use Rattle.full_text.specs.Full.{zeros, record_of, records, record_size, records_size, Making, whole, size, blank}
-use Rattle.full_text.proofs.PageLemmas.{one_page}
-use Rattle.full_text.proofs.RecordLemmas.{records-cons}
+use Rattle.full_text.proofs.RecordLemmas.{OnesAreNamed, next, records-cons}
+
+-- what the law `texts_are_their_parts` says, as the lemmas here take it
+abbrev pub HasParts : Type 0
+HasParts = (c : Change) → c.version ≡ 2 → text c ≡ joined (number_units head_table (head_numbers c))
+    ++ ((bytes_of Four (length c.pages) ++ joined (page_units c.pages c.blocks))
+    ++ ((bytes_of Four (length c.sectors) ++ joined (sector_units c.sectors)) ++ (bytes_of Four (length c.frames) ++ joined (frame_units c.frames))))
+
+abbrev pub PageIsSpelled : Type 0
+PageIsSpelled = (p : PageChange) (ps : List PageChange) (own later : List (List ℕ)) → length own ≡ count_ones p.mask
+    → joined (page_units (p ∷ ps) (own ++ later)) ≡ (bytes_of Four p.page ++ bytes_of Eight p.mask ++ joined own) ++ joined (page_units ps later)
+
+own-numbers : (p : PageChange) → block_numbers (p ∷ []) ≡ map (λ i. 64 * p.page + i) (set_blocks p.mask)
+unfolding block_numbers
+own-numbers p = append-nil (map (λ i. 64 * p.page + i) (set_blocks p.mask))
 
 numbers-cons : (p : PageChange) (ps : List PageChange) → block_numbers (p ∷ ps) ≡ block_numbers (p ∷ []) ++ block_numbers ps
 unfolding block_numbers
@@ -30,61 +42,55 @@ blocks-cons ram p ps =
     ap (map (block_change (zeros ram) ram)) (numbers-cons p ps)
     ∙ map-append (block_change (zeros ram) ram) (block_numbers (p ∷ [])) (block_numbers ps)
 
-length-own : (ram : List ℕ) (p : PageChange) → p.mask < 2 ^ 64 → length (changed_blocks (zeros ram) ram (p ∷ [])) ≡ count_ones p.mask
-length-own ram p fits =
+length-own : OnesAreNamed → (ram : List ℕ) (p : PageChange) → p.mask < 2 ^ 64 → length (changed_blocks (zeros ram) ram (p ∷ [])) ≡ count_ones p.mask
+length-own ones ram p fits =
     length-map (block_numbers (p ∷ [])) (block_change (zeros ram) ram)
-    ∙ ap (λ l. length l) (one_page p)
+    ∙ ap (λ l. length l) (own-numbers p)
     ∙ length-map (set_blocks p.mask) (λ i. 64 * p.page + i)
-    ∙ length-set_blocks p.mask fits
+    ∙ ones p.mask fits
 
 -- the records of pages are the units of a checkpoint that has their blocks
-pub records-text : (ram : List ℕ) (ps : List PageChange) → All (λ (p : PageChange). p.mask < 2 ^ 64) ps
+pub records-text : OnesAreNamed → PageIsSpelled → (ram : List ℕ) (ps : List PageChange) → All (λ (p : PageChange). p.mask < 2 ^ 64) ps
     → records ram ps ≡ joined (page_units ps (changed_blocks (zeros ram) ram ps))
 unfolding records page_units joined
-records-text ram [] fits = refl
-records-text ram (p ∷ ps) fits =
-    let own = changed_blocks (zeros ram) ram (p ∷ []) in
-    let later = changed_blocks (zeros ram) ram ps in
-    let long = length-own ram p (All-head (λ (p : PageChange). p.mask < 2 ^ 64) p ps fits) in
-    let all = blocks-cons ram p ps in
-    let front : own ≡ take (count_ones p.mask) (changed_blocks (zeros ram) ram (p ∷ ps)) =
-    sym (ap (take (count_ones p.mask)) all ∙ take_at own later (count_ones p.mask) long) in
-    let back : later ≡ drop (count_ones p.mask) (changed_blocks (zeros ram) ram (p ∷ ps)) =
-    sym (ap (drop (count_ones p.mask)) all ∙ drop_at own later (count_ones p.mask) long) in
+records-text ones spelled ram [] fits = refl
+records-text ones spelled ram (p ∷ ps) fits =
     records-cons ram p ps
-    ∙ ap (λ l. record_of ram p ++ l) (records-text ram ps (All-tail (λ (p : PageChange). p.mask < 2 ^ 64) p ps fits))
-    ∙ sym (page_units-split (p ∷ ps) (changed_blocks (zeros ram) ram (p ∷ ps)) own later 0 p (omega arith) front back)
+    ∙ ap (λ l. record_of ram p ++ l) (records-text ones spelled ram ps (All-tail (λ (p : PageChange). p.mask < 2 ^ 64) p ps fits))
+    ∙ sym (spelled p ps (changed_blocks (zeros ram) ram (p ∷ [])) (changed_blocks (zeros ram) ram ps)
+    (length-own ones ram p (All-head (λ (p : PageChange). p.mask < 2 ^ 64) p ps fits)))
+    ∙ ap (λ bs. joined (page_units (p ∷ ps) bs)) (sym (blocks-cons ram p ps))
 
 -- a full checkpoint's text: its head, its page records with their count, and its sectors, after which it counts no frames
-pub text-whole : (c : Change) (ram head pages tail : List ℕ) → c.version ≡ 2 → c.frames ≡ [] → All (λ (p : PageChange). p.mask < 2 ^ 64) c.pages
+pub text-whole : HasParts → OnesAreNamed → PageIsSpelled → (c : Change) (ram head pages tail : List ℕ) → c.version ≡ 2 → c.frames ≡ []
+    → All (λ (p : PageChange). p.mask < 2 ^ 64) c.pages
     → c.blocks ≡ changed_blocks (zeros ram) ram c.pages → head ≡ joined (number_units head_table (head_numbers c))
     → pages ≡ bytes_of Four (length c.pages)
     → tail ≡ (bytes_of Four (length c.sectors) ++ joined (sector_units c.sectors)) ++ bytes_of Four 0
     → (head ++ pages) ++ (records ram c.pages ++ tail) ≡ text c
 unfolding frame_units joined
-text-whole c ram head pages tail second none fits blocks h p t =
-    let last : joined (units_of_frames c.version c.frames) ≡ bytes_of Four 0 =
-    frames-spelled c.version c.frames second
-    ∙ ap (λ fs. bytes_of Four (length fs) ++ joined (frame_units fs)) none
-    ∙ append-nil (bytes_of Four 0) in
+text-whole parts ones spelled c ram head pages tail second none fits blocks h p t =
+    let last : bytes_of Four (length c.frames) ++ joined (frame_units c.frames) ≡ bytes_of Four 0 =
+    ap (λ fs. bytes_of Four (length fs) ++ joined (frame_units fs)) none ∙ append-nil (bytes_of Four 0) in
     let same : records ram c.pages ≡ joined (page_units c.pages c.blocks) =
-    records-text ram c.pages fits ∙ ap (λ bs. joined (page_units c.pages bs)) (sym blocks) in
+    records-text ones spelled ram c.pages fits ∙ ap (λ bs. joined (page_units c.pages bs)) (sym blocks) in
     append_assoc head pages (records ram c.pages ++ tail)
     ∙ (λ i. h i ++ (p i ++ (same i ++ t i)))
     ∙ ap (λ l. joined (number_units head_table (head_numbers c)) ++ l) (sym (append_assoc (bytes_of Four (length c.pages))
     (joined (page_units c.pages c.blocks)) _))
     ∙ ap (λ l. joined (number_units head_table (head_numbers c)) ++ ((bytes_of Four (length c.pages) ++ joined (page_units c.pages c.blocks))
     ++ ((bytes_of Four (length c.sectors) ++ joined (sector_units c.sectors)) ++ l))) (sym last)
-    ∙ sym (text-spelled c)
+    ∙ sym (parts c second)
 
 -- ---- a checkpoint of no pages and no sectors: three counts of nothing stand behind its head
 
 abbrev pub nothing : List ℕ
-nothing = (bytes_of Four 0 ++ joined (page_units [] [])) ++ ((bytes_of Four 0 ++ joined (sector_units [])) ++ joined (units_of_frames 2 []))
+nothing = (bytes_of Four 0 ++ joined (page_units [] []))
+    ++ ((bytes_of Four 0 ++ joined (sector_units [])) ++ (bytes_of Four 0 ++ joined (frame_units [])))
 
-pub blank-spelled : (shape : Shape) (g : Guest) (generation : ℕ)
+pub blank-spelled : HasParts → (shape : Shape) (g : Guest) (generation : ℕ)
     → text (blank shape g generation) ≡ joined (number_units head_table (head_numbers (blank shape g generation))) ++ nothing
-blank-spelled shape g generation = text-spelled (blank shape g generation)
+blank-spelled parts shape g generation = parts (blank shape g generation) refl
 
 pub length-nothing : length nothing ≡ 12
 unfolding joined page_units sector_units frame_units bytes_of
@@ -94,14 +100,27 @@ pub front-of : (out head rest : List ℕ) (n : ℕ) → out ≡ head ++ rest →
 front-of out head rest n e long count =
     ap (take n) e ∙ take_at head rest n (omega (arith, ap (λ (l : List ℕ). length l) e, length-append head rest, long, count))
 
--- one sector's record more
-pub sectors-next : (disk used : List ℕ) (i : ℕ) → i < length used
-    → joined (sector_units (changed_sectors disk (drop i used)))
-    ≡ (bytes_of Four (get_or used i 0) ++ sector_of disk (get_or used i 0)) ++ joined (sector_units (changed_sectors disk (drop (i + 1) used)))
-sectors-next disk used i within =
-    ap (λ l. joined (sector_units (changed_sectors disk l))) (next used i 0 within)
-    ∙ sector-at (sector_change disk (get_or used i 0)) (changed_sectors disk (drop (i + 1) used))
-    ∙ sym (append_assoc (bytes_of Four (get_or used i 0)) (sector_of disk (get_or used i 0)) _)
+-- one sector's record more is put
+sector-first : (s : SectorChange) (ss : List SectorChange)
+    → joined (sector_units (s ∷ ss)) ≡ bytes_of Four s.sector ++ (s.bytes ++ joined (sector_units ss))
+unfolding joined sector_units
+sector-first s ss = refl
+
+pub sector-slice : (bytes : List ℕ) (i : ℕ) → slice_range bytes (512 * i) (512 * i + 512) ≡ sector_of bytes i
+sector-slice bytes i = let e : (512 * i + 512) - 512 * i ≡ 512 = omega arith in ap (λ n. take n (drop (512 * i) bytes)) e
+
+pub sectors-put : (disk used xs ys : List ℕ) (i : ℕ) → i < length used
+    → ys ≡ xs ++ (bytes_of Four (get_or used i 0) ++ sector_of disk (get_or used i 0))
+    → ys ++ joined (sector_units (changed_sectors disk (drop (i + 1) used))) ≡ xs ++ joined (sector_units (changed_sectors disk (drop i used)))
+sectors-put disk used xs ys i within e =
+    let n = bytes_of Four (get_or used i 0) in
+    let bytes = sector_of disk (get_or used i 0) in
+    let rest = joined (sector_units (changed_sectors disk (drop (i + 1) used))) in
+    ap (λ l. l ++ rest) e
+    ∙ append_assoc xs (n ++ bytes) rest
+    ∙ ap (λ l. xs ++ l) (append_assoc n bytes rest
+    ∙ sym (ap (λ l. joined (sector_units (changed_sectors disk l))) (next used i 0 within)
+    ∙ sector-first (sector_change disk (get_or used i 0)) (changed_sectors disk (drop (i + 1) used))))
 
 pub no-more-sectors : (disk used : List ℕ) (i : ℕ) → length used ≤ i → joined (sector_units (changed_sectors disk (drop i used))) ≡ []
 unfolding joined sector_units

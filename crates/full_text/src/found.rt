@@ -5,7 +5,7 @@ ghost use Rattle.epoch_snapshot.specs.Blocks.{changed_mask};
 ghost use Rattle.epoch_snapshot.specs.Cuts.{changed_pages, used_sectors};
 ghost use Rattle.full_text.specs.Full.{zeros};
 
-use epoch_snapshot::PageChange;
+use epoch_snapshot::{PageChange, changes_are_found_in_turn, pages_are_their_blocks};
 use guest_machine::Machine;
 use memory_wanted::{MemoryWanted, push};
 use page_lanes::{PAGE_SIZE, Page, mask};
@@ -18,6 +18,7 @@ fn page_mask(machine: &Machine, page: u32) -> u64
     requires { page_bytes * page + page_bytes ≤ length machine.now.guest.ram }
     ensures { result ≡ changed_mask (zeros machine.now.guest.ram) machine.now.guest.ram page }
 {
+    pages_are_their_blocks();
     mask(&ZERO_PAGE, machine.page(page))
 }
 
@@ -33,6 +34,7 @@ pub(crate) fn used_pages(
     ensures few { OnOk result (length pages.new.items ≤ count) }
     ensures pages { OnOk result (pages.new.items ≡ changed_pages (zeros machine.now.guest.ram) machine.now.guest.ram count) }
 {
+    changes_are_found_in_turn();
     for page in 0..count {
         let mask = page_mask(machine, page);
         if mask != 0 {
@@ -53,6 +55,7 @@ pub(crate) fn used_sectors(
     ensures few { OnOk result (length list.new.items ≤ count) }
     ensures sectors { OnOk result (list.new.items ≡ used_sectors machine.now.guest.sectors count) }
 {
+    changes_are_found_in_turn();
     for sector in 0..count {
         if !machine.blank(sector) {
             push(list, sector)?;

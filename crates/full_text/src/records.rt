@@ -7,7 +7,8 @@ ghost use Rattle.checkpoint_stream.specs.Text.{joined};
 ghost use Rattle.checkpoint_stream.specs.declared.rules.Width.TheVariants.{Four, Eight};
 ghost use Rattle.full_text.specs.Full.{AreIn, record_of, record_size, records, records_size};
 
-use epoch_snapshot::{BLOCK_BYTES, PageChange};
+use checkpoint_stream::texts_are_their_parts;
+use epoch_snapshot::{BLOCK_BYTES, PageChange, masks_name_blocks, pages_are_their_blocks};
 use guest_machine::Machine;
 use memory_wanted::extend_from_slice;
 use page_lanes::Page;
@@ -62,6 +63,8 @@ fn put_blocks(text: &mut Vec<u8>, page: &Page, mask: u64)
     ensures items { text.new.items ≡ text.old.items ++ joined (map (λ i. block_in page.now i) (set_blocks mask)) }
     ensures room { vec_capacity text.old ≤ vec_capacity text.new }
 {
+    masks_name_blocks();
+    texts_are_their_parts();
     for number in 0..64 {
         if (mask >> number) % 2 == 1 {
             put(text, block(page, number));
@@ -80,6 +83,8 @@ fn put_record(text: &mut Vec<u8>, machine: &Machine, change: PageChange)
     put_four(text, change.page);
     put_eight(text, change.mask);
     put_blocks(text, machine.original(change.page), change.mask);
+    masks_name_blocks();
+    pages_are_their_blocks();
 }
 
 /// Whether a text of so many bytes ends before `count` bytes from place `from` on.

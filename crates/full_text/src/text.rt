@@ -11,8 +11,11 @@ ghost use Rattle.full_text.specs.Full.{AreIn, IsFullText, IsMadeTo, blank, recor
 
 use crate::found::{used_pages, used_sectors};
 use crate::records::{put, put_four, put_records};
-use checkpoint_stream::{StreamError, encode, text_is_read_back};
-use epoch_snapshot::{BLOCK_BYTES, Checkpoint, PageChange};
+use checkpoint_stream::{StreamError, encode, text_is_read_back, texts_are_their_parts};
+use epoch_snapshot::{
+    BLOCK_BYTES, Checkpoint, PageChange, full_cuts_are_whole, masks_name_blocks,
+    pages_are_their_blocks,
+};
 use frame_list::FrameList;
 use guest_machine::{Machine, SECTOR_BYTES, Shape};
 use memory_wanted::{MemoryWanted, with_capacity};
@@ -65,6 +68,7 @@ impl FullText {
     {
         let shape = machine.shape();
         let _state = machine.state();
+        full_cuts_are_whole();
         let mut pages = Vec::new(alloc);
         let mut used = Vec::new(alloc);
         used_pages(machine, shape.pages, &mut pages)?;
@@ -75,6 +79,9 @@ impl FullText {
         let mut made = with_capacity(alloc, room)?;
         put(&mut made, head.as_slice());
         put_four(&mut made, pages.len() as u32);
+        masks_name_blocks();
+        pages_are_their_blocks();
+        texts_are_their_parts();
         text_is_read_back();
         Ok(FullText {
             made,
@@ -193,6 +200,7 @@ fn head_of(
         Err(StreamError::NoMemory(wanted)) => return Err(wanted),
         Err(StreamError::Malformed(_)) => unreachable!(),
     };
+    texts_are_their_parts();
     let head = text.len() - 3 * COUNT_BYTES;
     text.truncate(head);
     Ok(text)

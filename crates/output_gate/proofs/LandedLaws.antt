@@ -1,10 +1,11 @@
 -- Laws of frames that came before and of frames that are new, for the crates above.
-use Rattle.std.proofs.Common.{◌≡◌, ℕ, zero, suc, ◌+◌, ◌-◌, ◌<◌, ◌≤◌, Bool, true, false, if◌then◌else◌, List, [], ◌∷◌, ◌++◌, length, slice_index_or, refl, sym, ◌∙◌, ap, subst, arith, All}
+use Rattle.std.proofs.Common.{◌≡◌, ◌≢◌, ℕ, zero, suc, ◌+◌, ◌-◌, ◌<◌, ◌≤◌, Bool, true, false, if◌then◌else◌, List, [], ◌∷◌, ◌++◌, length, slice_index_or, refl, sym, ◌∙◌, ap, subst, arith, All}
+use Rattle.std.proofs.{Common.{inl, inr}, lemmas.Bool.{cases_lt, lt-ltb, le-ltb}}
 use Rattle.std.proofs.lemmas.List.Elements.{All-head, All-tail}
 use Rattle.arrayvec.specs.ArrayVec.{ArrayVec}
 use Rattle.frame_ports.specs.Addresses.{addressed, clients_from, clients_of, paired_with, targets_of}
 use Rattle.frame_ports.specs.Lands.{has_room, landed_at, lands, put_count, drop_count}
-use Rattle.frame_ports.specs.Numbers.{number_of, landing, after_landing}
+use Rattle.frame_ports.specs.Numbers.{number_of, is_new, landing, after_landing}
 use Rattle.frame_ports.specs.Ports.{PortsState}
 use Rattle.frame_ports.specs.declared.landing.Landing.TheVariants.{In, Dropped}
 use Rattle.frame_ports.proofs.AddressLaws.{clients_from-range, clients_from-add}
@@ -31,6 +32,7 @@ use Rattle.output_gate.specs.Landings.{
   dropped_count,
   AreBelow,
   AreOld,
+  AreRising,
   HaveRisen,
   last_number,
 }
@@ -41,6 +43,7 @@ use Rattle.output_gate.proofs.PortsAfterLaws.{
   numbers_count-for,
   number_at_most-for,
   number_reaches-for,
+  number_rises-for,
   number_other-for,
   boxes_count-after,
   number_rises-after,
@@ -156,10 +159,6 @@ old-back p first (f ∷ fs) gs old =
     subst (λ n. AreOld p n gs) same (old-back p (first + 1) fs gs old.1)
 
 -- the clients of a frame are rising
-abbrev pub AreRising : List ℕ → Type 0
-AreRising [] = Unit {0}
-AreRising (c ∷ cs) = (1 ≤ c) × All (λ d. c < d) cs × AreRising cs
-
 rising-from : (k first : ℕ) (bytes : List ℕ) → 1 ≤ first → AreRising (clients_from k first bytes)
 rising-from zero first bytes pos = tt
 rising-from (suc k) first bytes pos = by_test (addressed bytes first) (rising-from k (first + 1) bytes (omega arith))
@@ -171,6 +170,27 @@ rising-from (suc k) first bytes pos = by_test (addressed bytes first) (rising-fr
         AreRising (if b then first ∷ clients_from k (first + 1) bytes else clients_from k (first + 1) bytes)
     by_test true rest = (pos, later, rest)
     by_test false rest = rest
+
+pub clients_rise : (p : PortsState) (f : ArrayVec ℕ) → AreRising (clients_for p f)
+clients_rise p f = rising-from (length p.boxes) 1 f.items (omega arith)
+
+-- the others keep their numbers, where a frame comes for one client
+pub others_stay : (p : PortsState) (c n : ℕ) (f : ArrayVec ℕ) (d : ℕ) → 1 ≤ c → 1 ≤ d → d ≢ c →
+    number_of (after_landing p c n f) d ≡ number_of p d
+others_stay p c n f d = number_other p c n f d
+
+-- a later frame is as new as before, once this one has come for these clients
+pub same_new : (p : PortsState) (cs : List ℕ) (n : ℕ) (f : ArrayVec ℕ) (d m : ℕ) → n < m → is_new (landed_for p cs n f) d m ≡ is_new p d m
+same_new p cs n f d m later =
+    let q = landed_for p cs n f in
+    elim (cases_lt (number_of p d) m) [
+      | inl low ↦
+          let below = number_at_most-for n f p cs d (m - 1) (omega (arith, low)) (omega (arith, later)) in
+          lt-ltb (number_of q d) m (omega (arith, below, low)) ∙ sym (lt-ltb (number_of p d) m low)
+      | inr high ↦
+          let above = number_rises-for n f p cs d in
+          le-ltb (number_of q d) m (omega (arith, above, high)) ∙ sym (le-ltb (number_of p d) m high)
+    ]
 
 -- one frame that is new for each of these clients
 module _ (n : ℕ) (f : ArrayVec ℕ) where
@@ -235,7 +255,7 @@ module _ (n : ℕ) (f : ArrayVec ℕ) where
 -- one frame that is new for every client
 module _ (p : PortsState) (n : ℕ) (f : ArrayVec ℕ) (below : AreBelow p n) where
   pub rising : AreRising (clients_for p f)
-  rising = rising-from (length p.boxes) 1 f.items (omega arith)
+  rising = clients_rise p f
 
   pub new : All (λ c. number_of p c < n) (clients_for p f)
   new = λ k d inside. let at = clients_for-range p f k d inside in below.below (slice_index_or (clients_for p f) k d) at.0 at.1

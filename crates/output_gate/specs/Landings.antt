@@ -64,6 +64,11 @@ module _ {X : Type 0} (told : X → ℕ → Landing → X) where
   told_after x p first (f ∷ fs) =
       told_after (told_of x p (clients_for p f) first f) (landed_for p (clients_for p f) first f) (first + 1) fs
 
+-- clients in rising order, each once
+abbrev pub AreRising : List ℕ → Type 0
+AreRising [] = Unit {0}
+AreRising (c ∷ cs) = (1 ≤ c) × All (λ d. c < d) cs × AreRising cs
+
 -- every client's number is below n: frame n came for none of them, nor did one after it
 pub record AreBelow (p : PortsState) (n : ℕ) : Type 0 where
   pub below : (c : ℕ) → 1 ≤ c → c ≤ length p.boxes → number_of p c < n

@@ -1,11 +1,14 @@
 //! What landings under numbers come to.
-ghost use Rattle.std.specs.Prelude.{◌≡◌, ℕ, ◌+◌, ◌≤◌, List, ◌++◌, length};
+ghost use Rattle.std.specs.Prelude.{◌≡◌, ◌≢◌, ℕ, ◌+◌, ◌<◌, ◌≤◌, List, ◌++◌, length};
 ghost use Rattle.arrayvec.specs.ArrayVec.{ArrayVec};
 ghost use Rattle.frame_ports.specs.Addresses.{targets_of};
 ghost use Rattle.frame_ports.specs.Lands.{lands, put_count, drop_count};
-ghost use Rattle.frame_ports.specs.Numbers.{number_of};
+ghost use Rattle.frame_ports.specs.Numbers.{after_landing, is_new, number_of};
 ghost use Rattle.frame_ports.specs.Ports.{PortsState};
-ghost use Rattle.output_gate.specs.Landings.{ports_after, landed_count, dropped_count, AreBelow, AreOld, HaveRisen, last_number};
+ghost use Rattle.output_gate.specs.Landings.{clients_for, landed_for, ports_after, landed_count, dropped_count, told_after};
+ghost use Rattle.output_gate.specs.Landings.{AreBelow, AreOld, AreRising, HaveRisen, last_number};
+
+use crate::listener::Listener;
 
 /// Frames whose numbers are above every client's land as if they had none: each in the boxes of its clients, in order. They change
 /// the boxes and the numbers only. Then the number of a client is that of the last frame that goes to it, and every client's is
@@ -39,6 +42,17 @@ pub fn old_frames_stay()
     ensures rise { (p : PortsState) (first : ℕ) (fs : List (ArrayVec ℕ)) → HaveRisen p (ports_after p first fs) }
 {}
 
+/// A frame lands for its clients in rising order, for each once. Where it comes for a client, the others' numbers stay; the clients stay as
+/// many, and later frames as new as before.
+pub fn one_frame_lands()
+    ensures rise { (p : PortsState) (f : ArrayVec ℕ) → AreRising (clients_for p f) }
+    ensures others { (p : PortsState) (c n : ℕ) (f : ArrayVec ℕ) (d : ℕ) → 1 ≤ c → 1 ≤ d → d ≢ c
+        → number_of (after_landing p c n f) d ≡ number_of p d }
+    ensures clients { (p : PortsState) (cs : List ℕ) (n : ℕ) (f : ArrayVec ℕ) → length (landed_for p cs n f).boxes ≡ length p.boxes }
+    ensures later { (p : PortsState) (cs : List ℕ) (n : ℕ) (f : ArrayVec ℕ) (d m : ℕ) → n < m
+        → is_new (landed_for p cs n f) d m ≡ is_new p d m }
+{}
+
 /// Frames that land in two parts, the numbers of the second going on from the first, land as in one.
 #[tactic(auto, using(crate::proofs::LandedLaws::in_parts))]
 pub fn landings_go_in_parts()
@@ -48,4 +62,10 @@ pub fn landings_go_in_parts()
         ≡ landed_count p first fs + landed_count (ports_after p first fs) (first + length fs) gs }
     ensures dropped { (p : PortsState) (first : ℕ) (fs gs : List (ArrayVec ℕ)) → dropped_count p first (fs ++ gs)
         ≡ dropped_count p first fs + dropped_count (ports_after p first fs) (first + length fs) gs }
+{}
+
+/// A listener hears the same of frames that land in two parts as of them in one.
+pub fn listeners_hear_in_parts<L: Listener>()
+    ensures { (x : L.Known) (p : PortsState) (first : ℕ) (fs gs : List (ArrayVec ℕ)) → told_after L.told x p first (fs ++ gs)
+        ≡ told_after L.told (told_after L.told x p first fs) (ports_after p first fs) (first + length fs) gs }
 {}

@@ -21,7 +21,10 @@ mod routes;
 pub use errors::GateError;
 pub use gate::Gate;
 pub use landing::{Landed, land_frame, land_numbered, land_telling};
-pub use laws::{landings_go_in_parts, new_frames_land, old_frames_stay};
+pub use laws::{
+    landings_go_in_parts, listeners_hear_in_parts, new_frames_land, old_frames_stay,
+    one_frame_lands,
+};
 pub use limits::{Frame, MAX_EPOCHS, MAX_FRAMES, MAX_HELD, limits_are_the_rules};
 pub use listener::Listener;
 pub use routes::{Receivers, receivers_of};

@@ -12,8 +12,8 @@ use Rattle.frame_ports.specs.{Limits.box_frames, Numbers.{number_of, landing, af
 use Rattle.frame_ports.specs.declared.landing.{Landing.{Landing}, Landing.TheVariants.{In, Dropped, Old}}
 use Rattle.frame_ports.proofs.NumberLaws.{landing-new, landing-old, new_from, old_from}
 use Rattle.output_gate.specs.Landings.{clients_for, landed_for, ports_after, puts, drops, landed_of, dropped_of, landed_count, dropped_count}
-use Rattle.output_gate.specs.Landings.{told_of, told_after, AreBelow, AreOld}
-use Rattle.output_gate.proofs.LandedLaws.{AreRising, same_after, new_here, new_later, rising, new, boxes-frame, count-frame, below-frame}
+use Rattle.output_gate.specs.Landings.{told_of, told_after, AreBelow, AreOld, AreRising}
+use Rattle.output_gate.proofs.LandedLaws.{same_after, new_here, new_later, rising, new, boxes-frame, count-frame, below-frame}
 use Rattle.output_gate.proofs.PortsAfterLaws.{after_frame}
 use Rattle.pair_history.specs.{Entries.{Frame, Land, DropOut}, Landings.landings}
 use Rattle.pair_journal.specs.{Journal.{with_history}, LandedEntries.{all_frames, entries_of_landing, entries_for, entries_after, Heard, written}}

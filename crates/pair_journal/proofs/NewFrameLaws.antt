@@ -1,18 +1,22 @@
 -- A frame is new for a client at the ports before others land just where it is new when its turn comes.
-use Rattle.std.proofs.Common.{◌≡◌, ℕ, suc, ◌+◌, ◌-◌, ◌<◌, ◌≤◌, List, [], ◌∷◌, ◌++◌, length, drop, get_or, refl, sym, ap, ◌∙◌}
-use Rattle.std.proofs.{Common.{arith, Bool, true, false, cond, inl, inr}, lemmas.List.length-append, Math.Seq.drop-cons}
-use Rattle.std.proofs.lemmas.{Bool.{cases_lt, lt-ltb, le-ltb}, List.Elements.{All-head, All-tail}}
+use Rattle.std.proofs.Common.{◌≡◌, ◌≢◌, ℕ, suc, ◌+◌, ◌<◌, ◌≤◌, List, [], ◌∷◌, ◌++◌, length, drop, get_or, refl, sym, ap, ◌∙◌}
+use Rattle.std.proofs.{Common.{arith, Bool, true, false, cond}, lemmas.List.length-append, Math.Seq.drop-cons}
+use Rattle.std.proofs.lemmas.List.Elements.{All-head, All-tail}
 use Rattle.std.specs.Prelude.{All, nat_lt}
 use Rattle.frame_ports.specs.{Addresses.clients_of, Numbers.{number_of, is_new, landing, after_landing}, Ports.PortsState}
 use Rattle.frame_ports.specs.Lands.{has_room}
 use Rattle.frame_ports.specs.declared.landing.Landing.TheVariants.{In, Dropped, Old}
-use Rattle.frame_ports.proofs.NumberLaws.{number_other}
-use Rattle.output_gate.specs.Landings.{clients_for, landed_for}
-use Rattle.output_gate.proofs.LandedLaws.{AreRising, rising}
-use Rattle.output_gate.proofs.PortsAfterLaws.{boxes_count-for, number_at_most-for, number_rises-for}
+use Rattle.output_gate.specs.Landings.{clients_for, landed_for, AreRising}
 use Rattle.pair_history.specs.Entries.{Frame}
 use Rattle.pair_journal.specs.LandedEntries.{entries_of_landing, entries_for, entries_after}
 use Rattle.pair_journal.specs.internal.NewFrames.{new_one, new_for, new_after}
+
+-- what the law `one_frame_lands` says
+pub record FrameLands : Type 0 where
+  pub rise : (p : PortsState) (f : Frame) → AreRising (clients_for p f)
+  pub others : (p : PortsState) (c n : ℕ) (f : Frame) (d : ℕ) → 1 ≤ c → 1 ≤ d → d ≢ c → number_of (after_landing p c n f) d ≡ number_of p d
+  pub clients : (p : PortsState) (cs : List ℕ) (n : ℕ) (f : Frame) → length (landed_for p cs n f).boxes ≡ length p.boxes
+  pub later : (p : PortsState) (cs : List ℕ) (n : ℕ) (f : Frame) (d m : ℕ) → n < m → is_new (landed_for p cs n f) d m ≡ is_new p d m
 
 -- ONE FRAME
 
@@ -32,7 +36,7 @@ alike_for p q n (c ∷ cs) same =
     let others = alike_for p q n cs (All-tail (λ d. is_new q d n ≡ is_new p d n) c cs same) in
     λ i. one i + others i
 
-module _ (n : ℕ) (f : Frame) where
+module _ (law : FrameLands) (n : ℕ) (f : Frame) where
   for_count : (p : PortsState) (cs : List ℕ) → AreRising cs → length (entries_for p cs n f) ≡ new_for p cs n
   for_count p [] rise = refl
   for_count p (c ∷ cs) rise =
@@ -41,27 +45,10 @@ module _ (n : ℕ) (f : Frame) where
       let e : ℕ = get_or cs k d in
       let later : c < e = rise.1 k d inside in
       let low = rise.0 in
-      ap (λ m. nat_lt m n) (number_other p c n f e low (omega arith) (λ (same : e ≡ c). absurd (omega arith))) in
+      ap (λ m. nat_lt m n) (law.others p c n f e low (omega arith) (λ (same : e ≡ c). absurd (omega arith))) in
       let one = one_count p c n in
       let rest = for_count q cs rise.2 ∙ alike_for p q n cs others in
       length-append (entries_of_landing c (landing p c n)) (entries_for q cs n f) ∙ (λ i. one i + rest i)
-
-  -- a later frame is as new as it was
-  same_new : (p : PortsState) (cs : List ℕ) (d m : ℕ) → n < m → is_new (landed_for p cs n f) d m ≡ is_new p d m
-  same_new p cs d m later =
-      let q = landed_for p cs n f in
-      elim (cases_lt (number_of p d) m) [
-        | inl low ↦
-            let below = number_at_most-for n f p cs d (m - 1) (omega arith) (omega arith) in
-            lt-ltb (number_of q d) m (omega arith) ∙ sym (lt-ltb (number_of p d) m low)
-        | inr high ↦
-            let above = number_rises-for n f p cs d in
-            le-ltb (number_of q d) m (omega arith) ∙ sym (le-ltb (number_of p d) m high)
-      ]
-
--- the clients of a frame rise, whatever their numbers are
-clients_rise : (p : PortsState) (f : Frame) → AreRising (clients_for p f)
-clients_rise p f = rising (record p { numbers = [] }) 1 f (record { below = λ c low high. omega arith })
 
 -- MORE FRAMES
 
@@ -70,24 +57,24 @@ record Alike (p q : PortsState) (m : ℕ) : Type 0 where
   pub clients : length q.boxes ≡ length p.boxes
   pub new : (d n : ℕ) → m ≤ n → is_new q d n ≡ is_new p d n
 
-after_count : (p q : PortsState) (first : ℕ) (fs : List Frame) → Alike p q first → length (entries_after q first fs) ≡ new_after p first fs
-after_count p q first [] a = refl
-after_count p q first (f ∷ fs) a =
+after_count : FrameLands → (p q : PortsState) (first : ℕ) (fs : List Frame) → Alike p q first → length (entries_after q first fs) ≡ new_after p first fs
+after_count law p q first [] a = refl
+after_count law p q first (f ∷ fs) a =
     let cs = clients_for q f in
     let next = landed_for q cs first f in
     let here : length (entries_for q cs first f) ≡ new_for p (clients_for p f) first =
-    for_count first f q cs (clients_rise q f)
+    for_count law first f q cs (law.rise q f)
     ∙ alike_for p q first cs (λ k d inside. a.new (get_or cs k d) first (omega arith))
     ∙ ap (λ k. new_for p (clients_of k f.items) first) a.clients in
     let later : Alike p next (first + 1) = record {
-      clients = boxes_count-for first f q cs ∙ a.clients;
-      new = λ d n l. same_new first f q cs d n (omega arith) ∙ a.new d n (omega arith);
+      clients = law.clients q cs first f ∙ a.clients;
+      new = λ d n l. law.later q cs first f d n (omega arith) ∙ a.new d n (omega arith);
     } in
-    let rest = after_count p next (first + 1) fs later in
+    let rest = after_count law p next (first + 1) fs later in
     length-append (entries_for q cs first f) (entries_after next (first + 1) fs) ∙ (λ i. here i + rest i)
 
-pub new_is : (p : PortsState) (first : ℕ) (fs : List Frame) → length (entries_after p first fs) ≡ new_after p first fs
-new_is p first fs = after_count p p first fs (record { clients = refl; new = λ d n l. refl })
+pub new_is : FrameLands → (p : PortsState) (first : ℕ) (fs : List Frame) → length (entries_after p first fs) ≡ new_after p first fs
+new_is law p first fs = after_count law p p first fs (record { clients = refl; new = λ d n l. refl })
 
 -- IN PARTS
 

@@ -9,7 +9,10 @@ ghost use Rattle.pair_journal.specs.LandedEntries.{all_frames, entries_after};
 
 use frame_list::FrameList;
 use frame_ports::{NUMBER_LIMIT, Ports};
-use output_gate::{Listener, land_frame, receivers_of};
+use output_gate::{
+    Listener, land_frame, landings_go_in_parts, listeners_hear_in_parts, one_frame_lands,
+    receivers_of,
+};
 use pair_history::Frame;
 
 /// Lands the first `count` of these frames in order, the first of them under that number, and tells the listener.
@@ -67,6 +70,8 @@ pub(crate) fn land_lists<L: Listener>(
     ensures known { L.known listener.new
         ≡ told_after L.told (L.known listener.old) ports.old first (take (end - first) (all_frames (map (λ v. v.items) lists.now))) }
 {
+    landings_go_in_parts();
+    listeners_hear_in_parts::<L>();
     let mut number = first;
     for frames in lists {
         let known = up_to(frames, number, end);
@@ -139,6 +144,7 @@ pub fn count_lists(ports: &Ports, first: u64, end: u64, lists: &[FrameList]) -> 
     ensures exact { result < number_limit
         → result ≡ length (entries_after ports.now first (take (end - first) (all_frames (map (λ v. v.items) lists.now)))) }
 {
+    one_frame_lands();
     let mut number = first;
     let mut count = 0;
     for frames in lists {

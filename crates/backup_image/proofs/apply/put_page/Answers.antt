@@ -1,13 +1,12 @@
 -- One block more.
 use Rattle.std.proofs.Common.{[], ◌∙◌, arith}
-use Rattle.epoch_snapshot.proofs.MaskLemmas.{length-set_blocks}
 use Rattle.backup_image.proofs.PutLemmas.{page-begins, enough-at, page-put, page-skip, page-done}
 use Rattle.backup_image.proofs.apply.put_page.Goals as goal
 use Rattle.backup_image.proofs.apply.put_page.Goals.{then-mask-block-eq1, else-mask-block-eq1}
 
 pub loop-block-init : goal.loop-block-init
 loop-block-init c = page-begins c.args.machine.now c.args.page c.args.mask c.args.blocks.now
-    (omega (arith, length-set_blocks c.args.mask c.ranges.mask.fits, c.requires.enough))
+    (omega (arith, c.masks_name_blocks.ensures.all c.args.mask c.ranges.mask.fits, c.requires.enough))
 
 pub loop-block-preserved : goal.loop-block-preserved
 loop-block-preserved c =
@@ -32,4 +31,4 @@ returns-clause-guest c =
     c.loop-block.invariant (omega arith)
 
 pub returns-clause-count : goal.returns-clause-count
-returns-clause-count c = length-set_blocks c.args.mask c.ranges.mask.fits
+returns-clause-count c = c.masks_name_blocks.ensures.all c.args.mask c.ranges.mask.fits

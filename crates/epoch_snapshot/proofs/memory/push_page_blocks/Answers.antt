@@ -1,8 +1,8 @@
 -- A block that the mask names is added.
 use Rattle.std.proofs.{Common.{ℕ, List, ◌+◌, ◌++◌, length, map, ap, sym, ◌∙◌, arith, length-append, w64}, lemmas.List.length-map}
 use Rattle.std.{proofs.lemmas.Nat.shr-shr, specs.Int.trailing_zeros}
-use Rattle.epoch_snapshot.specs.Blocks.{block_in, xored}
-use Rattle.epoch_snapshot.proofs.{BitLemmas.{named_below, next_set, all_below}, PageLemmas.{blocks-push, fewer_blocks}}
+use Rattle.epoch_snapshot.specs.Blocks.{block_in, named_below, xored}
+use Rattle.epoch_snapshot.proofs.{BitLemmas.{next_set, all_below}, PageLemmas.{blocks-push, fewer_blocks}}
 use Rattle.epoch_snapshot.proofs.memory.push_page_blocks.Goals as goal
 
 pub block-requires : goal.block-requires

@@ -1,6 +1,6 @@
 -- The list ends with the named ones among the blocks so far, and the bits that are left are those from the next block on.
 use Rattle.std.proofs.Common.{◌≡◌, ◌-◌, ◌/◌, ◌^◌, ◌≤◌, ◌++◌, map, vec_capacity}
-use Rattle.epoch_snapshot.{specs.Blocks.{block_in, xored}, proofs.BitLemmas.named_below}
+use Rattle.epoch_snapshot.specs.Blocks.{block_in, named_below, xored}
 use Rattle.epoch_snapshot.proofs.memory.push_page_blocks.Given as goal
 
 abbrev pub invariant-loop-rest : goal.invariant-loop-rest

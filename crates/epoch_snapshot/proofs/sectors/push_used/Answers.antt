@@ -1,7 +1,7 @@
 -- A sector is added where it isn't all zero.
-use Rattle.std.proofs.{Common.{◌++◌, ◌∷◌, [], ap, sym, ◌∙◌}, lemmas.List.map-append}
-use Rattle.epoch_snapshot.{specs.Cuts.{sector_change, changed_sectors, used_sectors}, proofs.SectorLemmas.{zero-flag, used-push, used-skip}}
-use Rattle.epoch_snapshot.proofs.{SectorLemmas.no_sectors, sectors.push_used.Goals.{then-not-blank+in_ok-push, else-not-blank}}
+use Rattle.std.proofs.{Common.{◌++◌, ◌∷◌, [], cond, ap, sym, ◌∙◌}, lemmas.List.{append-nil, map-append}}
+use Rattle.epoch_snapshot.specs.Cuts.{sector_change, changed_sectors, used_sectors}
+use Rattle.epoch_snapshot.proofs.{SectorLemmas.{no_sectors, used-next}, sectors.push_used.Goals.{then-not-blank+in_ok-push, else-not-blank}}
 use Rattle.epoch_snapshot.proofs.sectors.push_used.Goals as goal
 
 pub loop-sector-init : goal.loop-sector-init
@@ -12,13 +12,15 @@ pub loop-sector-preserved : goal.loop-sector-preserved
 loop-sector-preserved c =
     let bytes = c.args.machine.now.guest.sectors in
     let n = c.loop-sector.sector in
-    let flag = zero-flag c.blank.result bytes n c.blank.ensures in
+    let more = used-next bytes n c.blank.result c.blank.ensures in
     elim c.if-not-blank.branch [
       | then-not-blank+in_ok-push w ↦
           rw w.list-is (w.in_ok-push.ensures.items
           ∙ (λ j. c.loop-sector.invariant j ++ w.record.ensures j ∷ [])
           ∙ sym (map-append (sector_change bytes) (used_sectors bytes n) (n ∷ []))
-          ∙ ap (changed_sectors bytes) (sym (used-push bytes n c.blank.result flag w.if-not-blank.true)))
+          ∙ ap (changed_sectors bytes) (sym (more ∙ ap (λ b. used_sectors bytes n ++ cond b [] (n ∷ [])) w.if-not-blank.true)))
       | else-not-blank w ↦
-          rw w.list-is (c.loop-sector.invariant ∙ ap (changed_sectors bytes) (sym (used-skip bytes n c.blank.result flag w.if-not-blank.false)))
+          rw w.list-is (c.loop-sector.invariant
+          ∙ ap (changed_sectors bytes) (sym (more ∙ ap (λ b. used_sectors bytes n ++ cond b [] (n ∷ [])) w.if-not-blank.false
+          ∙ append-nil (used_sectors bytes n))))
     ]

@@ -1,9 +1,9 @@
 -- A block that the mask names is put.
 use Rattle.std.proofs.Common.{◌≡◌, ℕ, ◌++◌, List, length, map, sym, ap, ◌∙◌, arith, length-append}
 use Rattle.std.proofs.lemmas.List.{append-nil}
-use Rattle.epoch_snapshot.specs.Blocks.{block_in, set_blocks}
+use Rattle.epoch_snapshot.specs.Blocks.{block_in, named_below, set_blocks}
 use Rattle.checkpoint_stream.specs.Text.{joined}
-use Rattle.full_text.proofs.RecordLemmas.{named_below, blocks-put, blocks-pass, room-left, length-block}
+use Rattle.full_text.proofs.RecordLemmas.{blocks-put, blocks-pass, room-left, length-block}
 use Rattle.full_text.proofs.records.put_blocks.Goals.{then-mask-number-eq1, else-mask-number-eq1}
 use Rattle.full_text.proofs.records.put_blocks.Goals as goal
 
@@ -22,7 +22,7 @@ put-requires c =
       c.loop-number.invariant.room,
       ap (λ (l : List ℕ). length l) c.loop-number.invariant.items,
       length-append c.args.text.now.items (joined (map (λ i. block_in page i) (named_below m n))),
-      room-left page m n (omega arith) c.requires.long c.loop-number-test.true c.if-mask-number-eq1.true,
+      room-left c.masks_name_blocks.ensures.fewer page m n (omega arith) c.requires.long c.loop-number-test.true c.if-mask-number-eq1.true,
       ap (λ (l : List ℕ). length l) c.block.ensures,
       length-block page n (omega (arith, c.requires.long, c.loop-number-test.true)),
     )
@@ -37,14 +37,14 @@ loop-number-preserved c =
       | then-mask-number-eq1 w ↦
           rw w.text-is (record {
             items = w.put.ensures.items
-                ∙ blocks-put (λ i. block_in page i) m n xs c.loop-number.text.items w.block.result.now w.if-mask-number-eq1.true
+                ∙ blocks-put c.masks_name_blocks.ensures.next c.texts_are_their_parts.ensures.joined (λ i. block_in page i) m n xs c.loop-number.text.items w.block.result.now w.if-mask-number-eq1.true
                 w.block.ensures c.loop-number.invariant.items;
             room = omega (arith, c.loop-number.invariant.room, w.put.ensures.room);
           })
       | else-mask-number-eq1 w ↦
           rw w.text-is (record {
             items = c.loop-number.invariant.items
-                ∙ ap (λ (is : List ℕ). xs ++ joined (map (λ i. block_in page i) is)) (sym (blocks-pass m n w.if-mask-number-eq1.false));
+                ∙ ap (λ (is : List ℕ). xs ++ joined (map (λ i. block_in page i) is)) (sym (blocks-pass c.masks_name_blocks.ensures.next m n w.if-mask-number-eq1.false));
             room = c.loop-number.invariant.room;
           })
     ]

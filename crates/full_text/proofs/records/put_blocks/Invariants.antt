@@ -1,8 +1,7 @@
 -- The text ends with the named ones among the blocks so far.
 use Rattle.std.proofs.Common.{◌≡◌, ◌≤◌, ◌++◌, map, vec_capacity}
-use Rattle.epoch_snapshot.specs.Blocks.{block_in}
+use Rattle.epoch_snapshot.specs.Blocks.{block_in, named_below}
 use Rattle.checkpoint_stream.specs.Text.{joined}
-use Rattle.full_text.proofs.RecordLemmas.{named_below}
 use Rattle.full_text.proofs.records.put_blocks.Given as goal
 
 abbrev pub invariant-loop-number : goal.invariant-loop-number

@@ -12,7 +12,7 @@ put_blocks-requires-clause-long c =
 
 pub returns-clause-items : goal.returns-clause-items
 returns-clause-items c =
-    record-put c.args.machine.now.settled c.args.text.now.items c.put_four.new.text.items c.put_eight.new.text.items
+    record-put c.pages_are_their_blocks.ensures.own c.args.machine.now.settled c.args.text.now.items c.put_four.new.text.items c.put_eight.new.text.items
     c.put_blocks.new.text.items c.args.change (omega (arith, c.requires.page, c.original.ensures.size)) c.put_four.ensures.items
     c.put_eight.ensures.items
     (c.put_blocks.ensures.items
@@ -24,7 +24,7 @@ returns-clause-size c =
       arith,
       ap (λ (l : List ℕ). length l) c.put_blocks.ensures.items,
       length-append c.put_eight.new.text.items (joined (map (λ i. block_in c.original.result.now i) (set_blocks c.args.change.mask))),
-      blocks-length c.original.result.now c.args.change.mask (omega arith)
+      blocks-length c.masks_name_blocks.ensures.all c.original.result.now c.args.change.mask (omega arith)
           (ap (λ (l : List ℕ). length l) c.original.ensures.value
           ∙ length-page c.args.machine.now.settled c.args.change.page (omega (arith, c.requires.page, c.original.ensures.size))),
       c.put_four.ensures.size,

@@ -16,7 +16,7 @@ overflow_sub-head c =
     ∙ ap text (c.from_parts-checkpoint.ensures
     ∙ (λ i. change_of 2 c.args.shape c.args.generation 0 (c.state.ensures.value i) (c.new.ensures.items i) (c.new-2.ensures.items i)
     (c.new-3.ensures.items i) (c.new-4.ensures i)))
-    ∙ blank-spelled c.args.shape c.args.machine.now.guest c.args.generation in
+    ∙ blank-spelled c.texts_are_their_parts.ensures.parts c.args.shape c.args.machine.now.guest c.args.generation in
     omega (arith, c.len.ensures, ap (λ (l : List ℕ). length l) spelled, length-append head nothing, length-nothing)
 
 pub returns-clause-head : goal.returns-clause-head
@@ -27,7 +27,7 @@ returns-clause-head c =
     ∙ ap text (c.from_parts-checkpoint.ensures
     ∙ (λ i. change_of 2 c.args.shape c.args.generation 0 (c.state.ensures.value i) (c.new.ensures.items i) (c.new-2.ensures.items i)
     (c.new-3.ensures.items i) (c.new-4.ensures i)))
-    ∙ blank-spelled c.args.shape c.args.machine.now.guest c.args.generation in
+    ∙ blank-spelled c.texts_are_their_parts.ensures.parts c.args.shape c.args.machine.now.guest c.args.generation in
     c.truncate.ensures.items
     ∙ front-of c.in-Ok.text.items head nothing (c.len.result - 12) spelled length-nothing
     (omega (arith, c.len.ensures, ap (λ (l : List ℕ). length l) spelled, length-append head nothing, length-nothing))
@@ -40,7 +40,7 @@ returns-clause-short c =
     ∙ ap text (c.from_parts-checkpoint.ensures
     ∙ (λ i. change_of 2 c.args.shape c.args.generation 0 (c.state.ensures.value i) (c.new.ensures.items i) (c.new-2.ensures.items i)
     (c.new-3.ensures.items i) (c.new-4.ensures i)))
-    ∙ blank-spelled c.args.shape c.args.machine.now.guest c.args.generation in
+    ∙ blank-spelled c.texts_are_their_parts.ensures.parts c.args.shape c.args.machine.now.guest c.args.generation in
     omega (
       arith,
       c.in-Ok.ensures.short,

@@ -1,12 +1,11 @@
 -- A sector's record is its number and its bytes.
-use Rattle.std.proofs.Common.{◌≡◌, ◌++◌, List, ℕ, length, get_or, ap, ◌∙◌, arith, append_assoc, length-append}
+use Rattle.std.proofs.Common.{◌≡◌, ◌++◌, List, ℕ, length, get_or, sym, ap, ◌∙◌, arith, append_assoc, length-append}
+use Rattle.std.proofs.lemmas.List.{append-nil}
 use Rattle.epoch_snapshot.specs.Cuts.{sector_of, changed_sectors}
 use Rattle.checkpoint_stream.specs.HeadTable.{bytes_of}
 use Rattle.checkpoint_stream.specs.Text.{joined, sector_units}
 use Rattle.checkpoint_stream.specs.declared.rules.Width.TheVariants.{Four}
-use Rattle.checkpoint_stream.proofs.Spelling.{advance, finish}
-use Rattle.full_text.proofs.SectorLemmas.{sector-slice}
-use Rattle.full_text.proofs.TextLemmas.{sectors-next, no-more-sectors}
+use Rattle.full_text.proofs.TextLemmas.{sector-slice, sectors-put, no-more-sectors}
 use Rattle.full_text.proofs.text.tail_of.Goals as goal
 
 pub loop-sector-preserved : goal.loop-sector-preserved
@@ -15,11 +14,11 @@ loop-sector-preserved c =
     let s = get_or c.args.used.now c.loop-sector.sector-index 0 in
     let bytes : c.sector.result.now ≡ sector_of disk s = c.sector.ensures ∙ sector-slice disk s in
     record {
-      put = advance c.loop-sector.tail.items (bytes_of Four s ++ sector_of disk s) c.put.new.text.items _ _ _ c.loop-sector.invariant.put
-          (sectors-next disk c.args.used.now c.loop-sector.sector-index c.loop-sector-test.true)
+      put = sectors-put disk c.args.used.now c.loop-sector.tail.items c.put.new.text.items c.loop-sector.sector-index c.loop-sector-test.true
           (c.put.ensures.items
           ∙ (λ i. c.put_four-in-loop-sector.ensures.items i ++ bytes i)
-          ∙ append_assoc c.loop-sector.tail.items (bytes_of Four s) (sector_of disk s));
+          ∙ append_assoc c.loop-sector.tail.items (bytes_of Four s) (sector_of disk s))
+          ∙ c.loop-sector.invariant.put;
       size = omega (
         arith,
         ap (λ (l : List ℕ). length l) c.put.ensures.items,
@@ -45,8 +44,10 @@ returns-clause-tail c =
     let disk = c.args.machine.now.guest.sectors in
     let used = c.args.used.now in
     let all : c.loop-sector.tail.items ≡ c.put_four.new.text.items ++ joined (sector_units (changed_sectors disk used)) =
-    finish c.loop-sector.tail.items _ _ c.loop-sector.invariant.put
-    (no-more-sectors disk used c.loop-sector.sector-index (omega (arith, c.loop-sector-test.false))) in
+    sym (append-nil c.loop-sector.tail.items)
+    ∙ ap (λ (l : List ℕ). c.loop-sector.tail.items ++ l)
+    (sym (no-more-sectors disk used c.loop-sector.sector-index (omega (arith, c.loop-sector-test.false))))
+    ∙ c.loop-sector.invariant.put in
     let start : c.put_four.new.text.items ≡ bytes_of Four (length used) =
     c.put_four.ensures.items ∙ ap (λ (l : List ℕ). l ++ bytes_of Four (length used)) c.in_ok-tail.ensures.items in
     c.put_four-2.ensures.items

@@ -5,7 +5,7 @@ use Rattle.pair_history.specs.Entries.{Frame}
 use Rattle.pair_journal.specs.internal.NewFrames.{new_after}
 use Rattle.pair_journal.specs.LandedEntries.{all_frames}
 use Rattle.pair_journal.proofs.LandedEntryLaws.{next_list}
-use Rattle.pair_journal.proofs.NewFrameLaws.{new_is, new-append}
+use Rattle.pair_journal.proofs.NewFrameLaws.{FrameLands, new_is, new-append}
 use Rattle.pair_journal.proofs.landings.count_lists.Goals.{After-up_to-known}
 use Rattle.pair_journal.proofs.landings.count_lists.Goals as goal
 
@@ -35,7 +35,9 @@ loop-frames-preserved c =
 pub returns-clause-most : goal.returns-clause-most
 returns-clause-most c =
     let all = all_frames (map (λ v. v.items) c.args.lists.now) in
-    let is = new_is c.args.ports.now c.args.first (take (c.args.end - c.args.first) all) in
+    let said = c.one_frame_lands.ensures in
+    let law : FrameLands = record { rise = said.rise; others = said.others; clients = said.clients; later = said.later } in
+    let is = new_is law c.args.ports.now c.args.first (take (c.args.end - c.args.first) all) in
     let most = c.loop-frames.invariant.most in
     omega arith
 
@@ -44,7 +46,9 @@ returns-clause-exact c = λ below.
     let p = c.args.ports.now in
     let n = c.loop-frames.number in
     let fss = map (λ v. v.items) c.args.lists.now in
-    let is = new_is p c.args.first (take (c.args.end - c.args.first) (all_frames fss)) in
+    let said = c.one_frame_lands.ensures in
+    let law : FrameLands = record { rise = said.rise; others = said.others; clients = said.clients; later = said.later } in
+    let is = new_is law p c.args.first (take (c.args.end - c.args.first) (all_frames fss)) in
     let exact = c.loop-frames.invariant.exact below in
     let long = length-map c.args.lists.now (λ v. v.items) in
     let none = ap (λ (l : List (List Frame)). new_after p n (take (c.args.end - n) (all_frames l)))

@@ -1,0 +1,8 @@
+use Rattle.epoch_snapshot.proofs.{PageLemmas.changed_pages-next, SectorLemmas.used-next}
+use Rattle.epoch_snapshot.proofs.laws.changes_are_found_in_turn.Goals as goal
+
+pub returns-clause-pages : goal.returns-clause-pages
+returns-clause-pages c = changed_pages-next
+
+pub returns-clause-sectors : goal.returns-clause-sectors
+returns-clause-sectors c = used-next

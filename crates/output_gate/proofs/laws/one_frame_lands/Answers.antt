@@ -1,0 +1,14 @@
+use Rattle.output_gate.proofs.{LandedLaws.{clients_rise, others_stay, same_new}, PortsAfterLaws.boxes_count-for}
+use Rattle.output_gate.proofs.laws.one_frame_lands.Goals as goal
+
+pub returns-clause-rise : goal.returns-clause-rise
+returns-clause-rise c = clients_rise
+
+pub returns-clause-others : goal.returns-clause-others
+returns-clause-others c = others_stay
+
+pub returns-clause-clients : goal.returns-clause-clients
+returns-clause-clients c = λ p cs n f. boxes_count-for n f p cs
+
+pub returns-clause-later : goal.returns-clause-later
+returns-clause-later c = same_new
