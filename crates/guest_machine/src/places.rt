@@ -40,12 +40,12 @@ pub(crate) fn aligned_place(size: usize, address: u64, width: Width) -> Option<u
     ensures within { IfSome result (λ at. at + width_bytes width ≤ size) }
     ensures even { IfSome result (λ at. at % width_bytes width ≡ 0) }
 {
-    // An address below memory wraps, and is far beyond it. Places have 32 bits, which the compiler is told so.
+    // An address below memory wraps, and is far beyond it.
     match width {
         Width::Byte => {
             let number = address.wrapping_sub(RAM_BASE);
             if number < size as u64 {
-                Some(number as u32 as usize)
+                Some(number as usize)
             } else {
                 None
             }
@@ -54,7 +54,7 @@ pub(crate) fn aligned_place(size: usize, address: u64, width: Width) -> Option<u
             let turned = address / 2 + address % 2 * (1 << 63);
             let number = turned.wrapping_sub(RAM_BASE / 2);
             if number < (size / 2) as u64 {
-                Some(number as u32 as usize * 2)
+                Some(number as usize * 2)
             } else {
                 None
             }
@@ -63,7 +63,7 @@ pub(crate) fn aligned_place(size: usize, address: u64, width: Width) -> Option<u
             let turned = address / 4 + address % 4 * (1 << 62);
             let number = turned.wrapping_sub(RAM_BASE / 4);
             if number < (size / 4) as u64 {
-                Some(number as u32 as usize * 4)
+                Some(number as usize * 4)
             } else {
                 None
             }
@@ -72,7 +72,7 @@ pub(crate) fn aligned_place(size: usize, address: u64, width: Width) -> Option<u
             let turned = address / 8 + address % 8 * (1 << 61);
             let number = turned.wrapping_sub(RAM_BASE / 8);
             if number < (size / 8) as u64 {
-                Some(number as u32 as usize * 8)
+                Some(number as usize * 8)
             } else {
                 None
             }
