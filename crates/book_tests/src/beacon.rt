@@ -14,6 +14,7 @@ ghost use Rattle.pair_book.specs.Settled.{IsSettled, Runs, RunsOn, just_settled}
 ghost use Rattle.pair_book.specs.Standing.{KeepsFrames};
 ghost use Rattle.book_tests.specs.Machines.{IsLike};
 
+use crate::asserts::{holds, same};
 use crate::hosts::{Host, Seated, host_of, seat_all};
 use crate::prepared::SettledMachine;
 use crate::rows::{Answer, Call, Row, play, unnamed};
@@ -281,8 +282,8 @@ fn assert_unchanged<P: Pair, R: Abort>(
     runner: &RunnerSeat<P>,
     (entries, want): (u64, Option<Want>),
 ) {
-    assert!(rt; book.entries() == entries);
-    assert!(rt; book.ask(runner).ok() == want);
+    same(rt, "entries", book.entries(), entries);
+    holds(rt, "what is wanted", book.ask(runner).ok() == want);
 }
 
 /// The epoch of so many steps ends at the book, with what was prepared. Where memory is refused nothing has changed, and it is tried once
@@ -409,7 +410,7 @@ fn commit<P: Pair, R: Abort>(
         Err(Refusal::NoMemory(_)) => {}
         Err(_) => return Err("the checkpoint is committed".into()),
     }
-    assert!(rt; book.entries() == before);
+    same(rt, "entries", book.entries(), before);
     match book.commit(clock, backup, Some(checkpoint)) {
         Ok(ack) => Ok(ack),
         Err(_) => Err("the checkpoint is committed at the second time".into()),
@@ -485,7 +486,8 @@ fn commit_epoch<P: Pair, R: Abort>(
         &mut seated.backup,
         &*sealed.checkpoint,
     )?;
-    assert!(rt; ack.generation == 1 && ack.number == 1);
+    same(rt, "the generation", ack.generation, 1);
+    same(rt, "the number", ack.number, 1);
     let kept = frames_alone(alloc, sealed.checkpoint)?;
     Ok(Committed {
         machine: sealed.machine,

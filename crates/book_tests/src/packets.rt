@@ -1,11 +1,13 @@
 //! What no clause says: that packets are made where there is memory, and that one is read back as its checkpoint.
 ghost use Rattle.std.specs.Prelude.{◌≡◌, IfOk};
 
+use crate::asserts::{holds, same};
 use crate::prepared::{SHAPE, read_back};
 use epoch_snapshot::{Checkpoint, cut_full};
 use guest_machine::Machine;
 use pair_book::Packet;
 use std::alloc::Global;
+use std::process::Abort;
 use std::test::*;
 
 /// Its generation, its number, the version that it was read of, and how many pages it has.
@@ -33,16 +35,28 @@ fn read_parts(alloc: Global, packet: &Packet) -> Result<(u64, u64, u32, usize), 
     Ok(parts(&read))
 }
 
+/// This packet is read back as the full checkpoint of generation 5, which has so many pages.
+fn assert_reads_back(
+    rt: &impl Abort,
+    alloc: Global,
+    packet: &Packet,
+    pages: usize,
+) -> Result<(), Fail> {
+    let found = read_parts(alloc, packet)?;
+    holds(rt, "what is read back", found == (5, 0, 2, pages));
+    Ok(())
+}
+
 #[test]
 fn a_packet_reads_back(rt: HostRuntime) -> Result<(), Fail> {
     let checkpoint = full(rt.alloc())?;
     let pages = checkpoint.pages().len();
     let packet = Packet::new(rt.alloc(), &*checkpoint)?;
-    assert_eq!(rt; (packet.generation(), packet.number()), (5, 0));
+    same(&rt, "the generation", packet.generation(), 5);
+    same(&rt, "the number", packet.number(), 0);
     let other = packet.share()?;
-    assert_eq!(rt; read_parts(rt.alloc(), &packet)?, (5, 0, 2, pages));
+    assert_reads_back(&rt, rt.alloc(), &packet, pages)?;
     drop(packet);
-    assert_eq!(rt; other.generation(), 5);
-    assert_eq!(rt; read_parts(rt.alloc(), &other)?, (5, 0, 2, pages));
-    Ok(())
+    same(&rt, "the other's generation", other.generation(), 5);
+    assert_reads_back(&rt, rt.alloc(), &other, pages)
 }

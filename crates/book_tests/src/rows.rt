@@ -2,6 +2,7 @@
 ghost use Rattle.std.specs.Prelude.{◌≡◌, []};
 ghost use Rattle.pair_history.specs.HistoryState.{start_state};
 
+use crate::asserts::holds;
 use crate::hosts::{Host, opened};
 use growing_history::Pair;
 use pair_book::{Kind, Loss, Refusal, UnnamedBook, Want};
@@ -102,7 +103,7 @@ fn is_refused(answer: &Result<Answer, Refusal>) -> bool {
 }
 
 /// What can be seen of a book by calls that change nothing.
-#[derive(Clone, Copy, Debug, PartialEq, Eq)]
+#[derive(Clone, Copy, PartialEq, Eq)]
 pub(crate) struct Shown {
     /// The length of the history.
     pub(crate) entries: u64,
@@ -116,7 +117,11 @@ pub(crate) struct Shown {
 
 /// The book shows what it showed before.
 fn assert_unchanged<R: Abort>(rt: &R, found: Shown, before: Shown) {
-    assert!(rt; found == before, "what was refused memory changed the book");
+    holds(
+        rt,
+        "what was refused memory changes nothing",
+        found == before,
+    );
 }
 
 /// A call was answered as the row at this place says.

@@ -4,6 +4,7 @@ ghost use Rattle.pair_history.specs.Entries as entries;
 ghost use Rattle.growing_history.specs.Steps.{Added, Begins};
 ghost use Rattle.growing_history.specs.Examples.{two_clients, found_empty};
 
+use crate::asserts::same;
 use growing_history::{
     BackupSeat, Badge, ClientSeat, Clock, KeeperSeat, MemberSeat, Opened, Pair, RunnerSeat, Tells,
     Texts, What, sealed_texts_make_their_guests,
@@ -111,15 +112,15 @@ fn tell_each_other<P: Pair, R: Abort>(
     requires clients { (first.old.number ≡ 4) × (second.old.number ≡ 5) }
 {
     call_first(clock, keeper, first);
-    assert_eq!(rt; first.look(clock), 1);
+    same(rt, "steps of one call", first.look(clock), 1);
     let mut badge = first.tell(clock);
     second.learn(clock, &mut badge);
     call_second(clock, keeper, second);
-    assert_eq!(rt; keeper.count(), 2);
+    same(rt, "steps of two calls", keeper.count(), 2);
     let mut badge = second.tell(clock);
     first.learn(clock, &mut badge);
     keeper.meet(clock, first);
-    assert_eq!(rt; first.look(clock), 2);
+    same(rt, "as many for the first client", first.look(clock), 2);
 }
 
 fn in_one_thread<P: Pair, R: Abort>(rt: &R, opened: Opened) -> Result<(), Fail>
@@ -134,12 +135,13 @@ fn in_one_thread<P: Pair, R: Abort>(rt: &R, opened: Opened) -> Result<(), Fail>
         mut first,
         mut second,
     } = enrolled(&clock, keeper);
-    assert_eq!(rt; (keeper.count(), keeper.enrolled()), (0, 5));
-    assert_eq!(rt;
-        (runner.number(), backup.number(), line.number()),
-        (1, 2, 3)
-    );
-    assert_eq!(rt; (first.number(), second.number()), (4, 5));
+    same(rt, "steps", keeper.count(), 0);
+    same(rt, "seats", keeper.enrolled(), 5);
+    same(rt, "the runner", runner.number(), 1);
+    same(rt, "the backup", backup.number(), 2);
+    same(rt, "the line", line.number(), 3);
+    same(rt, "the first client", first.number(), 4);
+    same(rt, "the second client", second.number(), 5);
     tell_each_other(rt, &clock, &mut keeper, &mut first, &mut second);
     Ok(())
 }
@@ -206,6 +208,6 @@ fn in_two_threads<P: Pair + Send + Sync, R: Threads + Abort + Sync>(
         second,
     } = enrolled(&clock, keeper);
     let mut second = told_by_another(rt, &clock, keeper, first, second);
-    assert_eq!(rt; second.look(&clock), 1);
+    same(rt, "steps", second.look(&clock), 1);
     Ok(())
 }

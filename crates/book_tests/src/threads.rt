@@ -3,6 +3,7 @@ ghost use Rattle.std.specs.Prelude.{◌≡◌, []};
 ghost use Rattle.pair_history.specs.HistoryState.{start_state};
 ghost use Rattle.pair_book.specs.Calls.{IsClientSeat};
 
+use crate::asserts::{holds, same};
 use crate::hosts::FRAME;
 use crate::members::next_client;
 use crate::rows::unnamed;
@@ -69,11 +70,12 @@ fn call_in_threads<P: Pair + Send + Sync, R: Threads + Wait + Abort + Sync>(
             ensures { IsClientSeat P.start result.1.number }
         { take_once(rt, clock, &book, second) },
     );
-    assert_eq!(rt; (delivered, taken), (Ok(1), Ok(false)));
+    holds(rt, "delivered", delivered == Ok(1));
+    holds(rt, "nothing taken", taken == Ok(false));
     second.learn(clock, &mut badge);
     let (taken, mut second) = take_once(rt, clock, &book, second);
-    assert_eq!(rt; taken, Ok(false));
-    assert_eq!(rt; second.look(clock), 3);
+    holds(rt, "again nothing taken", taken == Ok(false));
+    same(rt, "steps", second.look(clock), 3);
 }
 
 fn share<P: Pair + Send + Sync, R: Threads + Wait + Abort + Sync>(

@@ -155,7 +155,7 @@ fn a_queue_that_does_not_fit_has_its_name(rt: HostRuntime) {
 }
 
 #[test]
-fn each_malformation_has_its_name(rt: HostRuntime) -> Result<(), Fail> {
+fn each_malformation_has_its_name(rt: HostRuntime) {
     assert_found_with(&rt, 0x44, &[4], Some(Broken::BadIndex));
     assert_found_with(&rt, 12, &[4], Some(Broken::Indirect));
     assert_found_with(&rt, 0, &[0xe7, 0x0f], Some(Broken::Outside));
@@ -167,8 +167,8 @@ fn each_malformation_has_its_name(rt: HostRuntime) -> Result<(), Fail> {
     let mut empty = ram_with(&EMPTY, &EMPTY);
     assert_found(&rt, four(), &empty, None);
     empty.write(0x42, &[0]);
-    holds(&rt, "no chain", four().next_chain(&empty)?.is_none());
-    Ok(())
+    let next = four().next_chain(&empty);
+    holds(&rt, "no chain", matches!(next, Ok(None)));
 }
 
 /// A malformation prints this name.

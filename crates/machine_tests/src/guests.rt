@@ -16,6 +16,7 @@ mod programs;
 mod refusals;
 mod traps;
 
+use crate::asserts::holds;
 use guest_machine::{Machine, PAGE_BYTES, Shape};
 use play::{Guest, Part};
 use std::alloc::Global;
@@ -63,7 +64,11 @@ static PROGRAM: Guest = Guest {
 
 /// The machine of this shape with this image, in a box: it's large, and a test that holds it by value is slow to prove.
 fn boot_shape(rt: &impl Abort, alloc: Global, shape: Shape, image: &[u8]) -> Box<Machine> {
-    assert!(rt; image.len() <= PAGE_BYTES * shape.pages as usize);
+    holds(
+        rt,
+        "an image that fits",
+        image.len() <= PAGE_BYTES * shape.pages as usize,
+    );
     let machine = Machine::boot(alloc, shape, image).expect(rt, "memory for the machine");
     in_box(rt, alloc, machine)
 }

@@ -4,6 +4,7 @@ mod disassembly;
 mod kinds;
 mod walk;
 
+use crate::asserts::{holds, holds_of};
 use rv64_core::{
     CsrOp, Division, Instr, Multiplication, Operation, Plan, Register, Regs, Width, WordOperation,
     decode, encode, plan,
@@ -60,11 +61,11 @@ fn says(rt: &impl Abort, word: u32, instr: Instr) {
 }
 
 fn assert_read(rt: &impl Abort, word: u32, instr: Instr) {
-    assert!(rt; decode(word) == Some(instr), "{word:x}");
+    holds_of(rt, word, decode(word) == Some(instr));
 }
 
 fn assert_written(rt: &impl Abort, word: u32, instr: Instr) {
-    assert!(rt; encode(instr) == word);
+    holds_of(rt, word, encode(instr) == word);
 }
 
 #[test]
@@ -132,7 +133,7 @@ fn says_of_the_system(rt: &impl Abort) {
 }
 
 fn assert_says_nothing(rt: &impl Abort, word: u32) {
-    assert!(rt; decode(word).is_none(), "{word:x}");
+    holds_of(rt, word, decode(word).is_none());
 }
 
 #[test]
@@ -191,7 +192,7 @@ const CORNERS: [(Computation, u64, u64, u64); 12] = [
 ];
 
 fn assert_value(rt: &impl Abort, instr: Instr, a: u64, b: u64, wanted: u64) {
-    assert!(rt; value(instr, a, b) == wanted);
+    holds(rt, "the value", value(instr, a, b) == wanted);
 }
 
 #[test]
@@ -205,7 +206,7 @@ fn arithmetic_at_its_corners(rt: HostRuntime) {
 fn assert_plan(rt: &impl Abort, pc: u64, instr: Instr, wanted: Plan) {
     let mut regs = Regs::new();
     regs.set(x(1), 0x8000_0001);
-    assert!(rt; plan(&regs, pc, instr) == wanted);
+    holds(rt, "the plan", plan(&regs, pc, instr) == wanted);
 }
 
 /// What a word does.
@@ -241,15 +242,15 @@ fn jumps_and_traps(rt: HostRuntime) {
 
 /// A register by its number has this value.
 fn assert_register(rt: &impl Abort, regs: &Regs, number: u32, value: u64) {
-    assert!(rt; regs.get(x(number)) == value);
+    holds(rt, "the register", regs.get(x(number)) == value);
 }
 
 /// Register numbers: 31 is one, 32 isn't, and of 37 the low bits are 5.
 fn assert_numbers(rt: &impl Abort) {
-    assert!(rt; Register::new(31) == Some(x(31)));
-    assert!(rt; Register::new(32).is_none());
-    assert!(rt; x(37).number() == 5);
-    assert!(rt; Width::Half.bytes() == 2);
+    holds(rt, "31 is one", Register::new(31) == Some(x(31)));
+    holds(rt, "32 is none", Register::new(32).is_none());
+    holds(rt, "the low bits", x(37).number() == 5);
+    holds(rt, "two bytes", Width::Half.bytes() == 2);
 }
 
 #[test]

@@ -9,7 +9,7 @@ use std::fmt;
 use thiserror::Error;
 
 /// What may happen next to the pair.
-#[derive(Clone, Copy, Debug, PartialEq, Eq)]
+#[derive(Clone, Copy)]
 pub enum Event<'a> {
     /// The guest makes one step.
     Step,
@@ -45,46 +45,32 @@ pub enum Event<'a> {
 #[derive(Debug, Drop, PartialEq, Eq, Error)]
 pub enum Refusal {
     /// The client's inbox holds 64 frames.
-    #[error("Full")]
     Full,
     /// The frame has fewer than 14 or more than 1514 bytes.
-    #[error("BadFrame")]
     BadFrame,
     /// The client number is 0 or above the count.
-    #[error("NoClient")]
     NoClient,
     /// The node that would act has stopped.
-    #[error("Stopped")]
     Stopped,
     /// Four checkpoints are pending.
-    #[error("Behind")]
     Behind,
     /// The event needs a pair, and one node is alone.
-    #[error("NotPaired")]
     NotPaired,
     /// The event needs a node that is alone or stopped.
-    #[error("AlreadyPaired")]
     AlreadyPaired,
     /// No backup holds an image that could go on.
-    #[error("NoImage")]
     NoImage,
     /// The message is of another generation.
-    #[error("Stale")]
     Stale,
     /// The checkpoint's number is beyond the next one.
-    #[error("Gap")]
     Gap,
     /// A growth was refused.
-    #[error("NoMemory")]
     NoMemory(MemoryWanted),
     /// Fewer than 64 places of the outbox are free.
-    #[error("CutNeeded")]
     CutNeeded,
     /// A number would reach 2^62.
-    #[error("Exhausted")]
     Exhausted,
     /// A delta of version 1, which carries no frames, was to be committed.
-    #[error("OldVersion")]
     OldVersion,
 }
 
@@ -133,6 +119,13 @@ impl Refusal {
             Refusal::Exhausted => "Exhausted",
             Refusal::OldVersion => "OldVersion",
         }
+    }
+}
+
+/// Its name.
+impl fmt::Display for Refusal {
+    fn fmt<W: fmt::Write>(&self, f: &mut fmt::Formatter<W>) -> fmt::Result {
+        write!(f, "{}", self.name())
     }
 }
 

@@ -1,8 +1,6 @@
 //! The programs of the pair.
 #![tactic(auto)]
 
-mod command_line;
-
 use command_line::Invocation;
 use node_player::host::serve as serve_node;
 use pair_core::Shape;
@@ -36,12 +34,12 @@ fn run<T: Threads + Wait + Sync>(rt: &HostRuntime, threads: &T) -> io::Result<u8
         return refuse_command_line(rt);
     };
     match command_line::read(rt.alloc(), words.as_slice()) {
-        Ok(Some(Invocation::Sim(file))) => play_script(rt, file),
-        Ok(Some(Invocation::Run(file))) => run_file(rt, threads, file),
-        Ok(Some(Invocation::CheckStream(file, shape))) => list_stream(rt, file, shape),
-        Ok(Some(Invocation::Live)) => Ok(play_lines(rt)),
-        Ok(Some(Invocation::Node)) => Ok(play_node(rt)),
-        _ => refuse_command_line(rt),
+        Some(Invocation::Sim(file)) => play_script(rt, file),
+        Some(Invocation::Run(file)) => run_file(rt, threads, file),
+        Some(Invocation::CheckStream(file, shape)) => list_stream(rt, file, shape),
+        Some(Invocation::Live) => Ok(play_lines(rt)),
+        Some(Invocation::Node) => Ok(play_node(rt)),
+        None => refuse_command_line(rt),
     }
 }
 

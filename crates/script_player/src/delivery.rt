@@ -11,7 +11,7 @@ use memory_wanted::{MemoryWanted, with_capacity};
 use std::alloc::Global;
 
 /// What such a line says.
-#[derive(Debug, Drop)]
+#[derive(Drop)]
 pub struct Delivery {
     /// The client's number.
     pub client: u64,

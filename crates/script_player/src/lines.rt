@@ -11,7 +11,7 @@ use memory_wanted::MemoryWanted;
 use std::alloc::Global;
 
 /// A line after the boot line.
-#[derive(Debug, Drop)]
+#[derive(Drop)]
 pub enum Line {
     /// A command.
     Order(Command),

@@ -17,7 +17,7 @@ use pair_core::{Refusal, Shape, World};
 use std::alloc::Global;
 
 /// What became of a line.
-#[derive(Debug, Drop, PartialEq, Eq)]
+#[derive(Drop)]
 pub enum Turn {
     /// It was the boot line, and the pair is booted.
     Booted,

@@ -7,7 +7,7 @@ ghost use Rattle.script_player.specs.declared.script.Command.{Command};
 use crate::fields::{numbered, numbers};
 
 /// A line after the boot line.
-#[derive(Clone, Copy, Debug, PartialEq, Eq)]
+#[derive(Clone, Copy)]
 pub enum Command {
     /// `step N`: so many guest steps, at least 1.
     Step(u64),

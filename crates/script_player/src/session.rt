@@ -174,7 +174,7 @@ fn empty(alloc: Global, line: &mut Vec<u8>)
 }
 
 /// What became of the bytes of a line.
-#[derive(Debug, Drop, PartialEq, Eq)]
+#[derive(Drop)]
 enum Fate {
     /// They are kept.
     Kept,

@@ -46,7 +46,7 @@ fn tell<E: Sink>(played: Result<(), Stop>, err: &mut E) -> u8
 }
 
 /// Why a script ends early.
-#[derive(Clone, Copy, Debug, Drop)]
+#[derive(Clone, Copy, Drop)]
 pub enum Stop {
     /// The line of this number is bad.
     Bad(u64),

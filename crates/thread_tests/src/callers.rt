@@ -2,6 +2,7 @@
 ghost use Rattle.std.specs.Prelude.{◌≡◌};
 ghost use Rattle.growing_history.specs.Steps.{Begins};
 
+use super::asserts::{holds, is_number, is_refusal, same};
 use super::courses::{Course, plays};
 use super::hands::{FRAME, Hand, cuts, finds_none, has_entries, pass, runs, take_client};
 use super::pairs::Guest;
@@ -23,7 +24,7 @@ fn deliver_and_tell<P: Pair, R: Wait + Abort>(
     ensures { result.0 ≡ result.1.seen }
 {
     let delivered = client.deliver(rt, &FRAME);
-    assert_eq!(rt; delivered, Ok(1));
+    is_number(rt, &delivered, &Ok(1));
     (client.tell(), client)
 }
 
@@ -66,8 +67,8 @@ pub(super) fn tell_and_learn<P: Pair + Send + Sync, R: Threads + Wait + Abort + 
 }
 
 #[test]
-fn a_call_is_told_across_threads(rt: HostRuntime) -> Result<(), Fail> {
-    plays(&rt, rt.alloc(), Guest::Idle, 2, Course::Told)
+fn a_call_is_told_across_threads(rt: HostRuntime) {
+    plays(&rt, rt.alloc(), Guest::Idle, 2, Course::Told);
 }
 
 /// How many clients there are.
@@ -144,7 +145,7 @@ fn keep(rt: &impl Abort, answers: &mut Answers, delivered: Result<u64, Refusal>)
             true
         }
         Err(why) => {
-            assert_eq!(rt; why, Refusal::Full);
+            is_refusal(rt, &why, &Refusal::Full);
             false
         }
     }
@@ -201,7 +202,7 @@ fn take_back<P: Pair, R: Wait + Abort>(
     for _ in 0..MOST_TURNS {
         let epoch = turns.epochs.load(SeqCst);
         if let Some(frame) = take(rt, client, answers) {
-            assert_eq!(rt; frame.as_slice(), wanted.as_slice());
+            holds(rt, "what came back", frame.as_slice() == wanted.as_slice());
             return;
         }
         wait_for_epoch(turns, epoch);
@@ -234,7 +235,7 @@ fn call<P: Pair, R: Wait + Abort>(
     match task {
         Task::Deliver => {
             deliver(rt, turns, client, answers, place);
-            assert_eq!(rt; take(rt, client, answers), None);
+            holds(rt, "an empty box", take(rt, client, answers).is_none());
         }
         Task::Exchange => {
             wait_for_turn(rt, turns);
@@ -288,10 +289,10 @@ fn run_epochs<P: Pair, R: Wait + Abort>(rt: &R, turns: &Turns, hand: &mut Hand<P
 fn see(rt: &impl Abort, seen: &mut Vec<bool>, numbers: &[u64]) {
     let mut last = 0;
     for number in numbers {
-        assert!(rt; *number > last);
+        holds(rt, "a number that rises", *number > last);
         last = *number;
         let place = seen.get_mut(last as usize).expect(rt, "no such number");
-        assert!(rt; !*place);
+        holds(rt, "a number of its own", !*place);
         *place = true;
     }
 }
@@ -303,7 +304,7 @@ fn see_all(rt: &impl Abort, alloc: Global, answers: &[Answers], count: u16) -> u
         .expect(rt, "memory");
     let mut calls = 0u64;
     for client in answers {
-        assert_eq!(rt; client.numbers.len(), usize::from(count));
+        same(rt, "frames", client.numbers.len() as u64, count.into());
         see(rt, &mut seen, client.numbers.as_slice());
         calls = calls.wrapping_add(client.calls);
     }
@@ -346,19 +347,19 @@ pub(super) fn call_all<P: Pair + Send + Sync, R: Threads + Wait + Abort + Sync>(
     frames: u16,
 ) {
     let (entries, answers) = call_in_threads(rt, alloc, hand, task, count);
-    assert_eq!(rt; answers.len() as u64, CLIENTS);
+    same(rt, "clients", answers.len() as u64, CLIENTS);
     let calls = see_all(rt, alloc, answers.as_slice(), frames);
     has_entries(rt, hand, entries.wrapping_add(calls));
 }
 
 #[test]
-fn eight_clients_deliver_10000_frames(rt: HostRuntime) -> Result<(), Fail> {
+fn eight_clients_deliver_10000_frames(rt: HostRuntime) {
     let course = Course::Called(Task::Deliver, 1250, 1250);
-    plays(&rt, rt.alloc(), Guest::Idle, CLIENTS, course)
+    plays(&rt, rt.alloc(), Guest::Idle, CLIENTS, course);
 }
 
 #[test]
-fn eight_clients_frames_come_back(rt: HostRuntime) -> Result<(), Fail> {
+fn eight_clients_frames_come_back(rt: HostRuntime) {
     let course = Course::Called(Task::Exchange, 25, 50);
-    plays(&rt, rt.alloc(), Guest::Echo, CLIENTS, course)
+    plays(&rt, rt.alloc(), Guest::Echo, CLIENTS, course);
 }

@@ -13,7 +13,6 @@ use std::alloc::Global;
 use std::marker::Brand;
 use std::process::Abort;
 use std::sync::Wait;
-use std::test::Fail;
 use std::thread::Threads;
 
 /// What is done.
@@ -70,8 +69,7 @@ pub(super) fn plays<R: Threads + Wait + Abort + Sync>(
     guest: Guest,
     clients: u64,
     course: Course,
-) -> Result<(), Fail> {
-    let pair = pair(alloc, guest, clients)?;
+) {
+    let pair = pair(rt, alloc, guest, clients);
     name_and_go::<Brand, R>(rt, alloc, pair, course);
-    Ok(())
 }

@@ -1,5 +1,6 @@
 //! What is printed of files that are run.
 
+use super::asserts::same;
 use pair_threads::run;
 use script_player::streams::CheckedWriter;
 use std::process::Abort;
@@ -25,7 +26,7 @@ fn runs<R: Threads + Wait + Abort + AllocGlobal + Sync>(
     let came = run(rt, rt.alloc(), source, &mut out, &mut err);
     is_text(rt, out.inner.as_slice(), printed);
     is_text(rt, err.inner.as_slice(), said);
-    assert_eq!(rt; came, status);
+    same(rt, "the status", came.into(), status.into());
 }
 
 #[test]

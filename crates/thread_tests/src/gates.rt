@@ -1,5 +1,6 @@
 //! A gate where a guest is held at one of its steps until others have come to it.
 
+use super::asserts::same;
 use super::hands::{Hand, take_runner};
 use super::holds::call_both;
 use super::zombies::take_over;
@@ -103,7 +104,7 @@ fn run_held<P: Pair, R: Wait + Abort>(
     mut pace: HeldAt,
 ) -> Box<Runner<P>> {
     let want = runner.ask(rt).expect(rt, "what is wanted");
-    assert_eq!(rt; runner.run(22, &mut pace), 22);
+    same(rt, "steps", runner.run(22, &mut pace), 22);
     runner.prepare(want).expect(rt, "memory");
     runner
 }

@@ -3,6 +3,7 @@
 ghost use Rattle.std.specs.Prelude.{◌≡◌};
 ghost use Rattle.hypervisor.specs.Opening.{start_with};
 
+use super::asserts::{holds, is_ack, is_number, is_refusal, same};
 use guest_machine::Unpaced;
 use hypervisor::{
     Ack, Backup, Client, Frame, Landed, Loss, Lost, Node, Packet, Pair, Parts, Refusal, Runner,
@@ -142,7 +143,8 @@ pub(super) fn take_runner<P: Pair>(
 
 /// What the runner at this place holds arrives, and its guest makes so many steps.
 pub(super) fn runs<P: Pair>(rt: &impl Abort, hand: &mut Hand<P>, at: usize, steps: u64) {
-    assert_eq!(rt; runner(rt, hand, at).run(steps, &mut Unpaced), steps);
+    let made = runner(rt, hand, at).run(steps, &mut Unpaced);
+    same(rt, "steps", made, steps);
 }
 
 /// What is wanted is asked for, prepared and submitted. Answers how many frames are handed out.
@@ -166,12 +168,17 @@ fn runs_epoch<P: Pair, R: Wait + Abort>(
     handed: usize,
 ) {
     runs(rt, hand, at, steps);
-    assert_eq!(rt; cuts(rt, hand, at), handed);
+    same(
+        rt,
+        "frames handed out",
+        cuts(rt, hand, at) as u64,
+        handed as u64,
+    );
 }
 
 /// The answer is that the runner isn't live.
 fn is_refused<T: Drop>(rt: &impl Abort, answer: Result<T, Refusal>) {
-    assert_eq!(rt; answer.err(), Some(Refusal::Stopped));
+    holds(rt, "it is stopped", answer.err() == Some(Refusal::Stopped));
 }
 
 /// The runner is told that it isn't live.
@@ -190,7 +197,8 @@ fn next_packet<P: Pair, R: Wait + Abort>(rt: &R, sender: &mut Sender<P>) -> Pack
 
 fn gives_next<P: Pair, R: Wait + Abort>(rt: &R, hand: &mut Hand<P>, wanted: (u64, u64)) {
     let packet = next_packet(rt, &mut hand.sender);
-    assert_eq!(rt; (packet.generation(), packet.number()), wanted);
+    same(rt, "the generation", packet.generation(), wanted.0);
+    same(rt, "the number", packet.number(), wanted.1);
     hand.packets.push(packet).expect(rt, "memory");
 }
 
@@ -210,7 +218,7 @@ fn backup<'a, P: Pair>(
 fn reads<P: Pair>(rt: &impl Abort, backup: &mut Backup<P>, packet: &Packet) {
     let bytes = packet.bytes();
     let count = backup.feed(bytes).expect(rt, "no refusal");
-    assert!(rt; count == bytes.len() || count == 0);
+    holds(rt, "all or nothing", count == bytes.len() || count == 0);
 }
 
 /// What the backup answers to its commit.
@@ -227,7 +235,7 @@ fn commit<P: Pair, R: Wait + Abort>(
     wanted: &Result<(u64, u64), Refusal>,
 ) {
     reads(rt, backup, packet);
-    assert_eq!(rt; &committed(rt, backup), wanted);
+    is_ack(rt, &committed(rt, backup), wanted);
 }
 
 fn commits<P: Pair, R: Wait + Abort>(
@@ -257,7 +265,7 @@ fn is_acked<P: Pair, R: Wait + Abort>(
     named: (u64, u64),
     wanted: &Result<u64, Refusal>,
 ) {
-    assert_eq!(rt; &landed(rt, &mut hand.sender, named), wanted);
+    is_number(rt, &landed(rt, &mut hand.sender, named), wanted);
 }
 
 /// The first backup reads this packet, and commits this number of generation 1.
@@ -288,7 +296,8 @@ pub(super) fn take_client<P: Pair>(rt: &impl Abort, hand: &mut Hand<P>) -> Clien
 }
 
 fn delivers<P: Pair, R: Wait + Abort>(rt: &R, hand: &mut Hand<P>, bytes: &[u8], number: u64) {
-    assert_eq!(rt; client(rt, hand).deliver(rt, bytes), Ok(number));
+    let delivered = client(rt, hand).deliver(rt, bytes);
+    is_number(rt, &delivered, &Ok(number));
 }
 
 /// What the client takes.
@@ -301,30 +310,39 @@ fn taken<P: Pair, R: Wait + Abort>(rt: &R, client: &mut Client<P>) -> Frame {
 
 fn takes<P: Pair, R: Wait + Abort>(rt: &R, hand: &mut Hand<P>) {
     let frame = taken(rt, client(rt, hand));
-    assert_eq!(rt; frame.as_slice(), FRAME.as_slice());
+    holds(
+        rt,
+        "the beacon's frame",
+        frame.as_slice() == FRAME.as_slice(),
+    );
 }
 
 /// The client finds its box empty.
 pub(super) fn finds_none<P: Pair, R: Wait + Abort>(rt: &R, client: &mut Client<P>) {
-    assert_eq!(rt; client.take(rt), Ok(None));
+    let taken = client.take(rt);
+    holds(rt, "an empty box", matches!(taken, Ok(None)));
 }
 
 fn loses_in<P: Pair, R: Wait + Abort>(rt: &R, hand: &mut Hand<P>, place: u64) {
-    assert_eq!(rt; hand.loss.lose_in(rt, 1, place), Ok(Lost::Dropped));
+    let lost = hand.loss.lose_in(rt, 1, place);
+    holds(rt, "a frame is lost", lost == Ok(Lost::Dropped));
 }
 
 fn loses_out<P: Pair, R: Wait + Abort>(rt: &R, hand: &mut Hand<P>, place: u64) {
-    assert_eq!(rt; hand.loss.lose_out(rt, 1, place), Ok(Lost::Dropped));
+    let lost = hand.loss.lose_out(rt, 1, place);
+    holds(rt, "a frame is lost", lost == Ok(Lost::Dropped));
 }
 
 /// The history has so many entries.
 pub(super) fn has_entries<P: Pair, R: Wait + Abort>(rt: &R, hand: &mut Hand<P>, count: u64) {
-    assert_eq!(rt; hand.warden.look(rt, &mut hand.clients).entries, count);
+    let found = hand.warden.look(rt, &mut hand.clients);
+    same(rt, "entries", found.entries, count);
 }
 
 /// This node fails, and so many frames land.
 pub(super) fn fails<P: Pair, R: Wait + Abort>(rt: &R, hand: &mut Hand<P>, node: Node, count: u64) {
-    assert_eq!(rt; hand.warden.fail(rt, node), Ok(Landed { count }));
+    let landed = hand.warden.fail(rt, node);
+    holds(rt, "frames land", landed == Ok(Landed { count }));
 }
 
 fn protects<P: Pair, R: Wait + Abort>(rt: &R, hand: &mut Hand<P>) {
@@ -350,7 +368,7 @@ pub(super) fn goes_live<P: Pair, R: Wait + Abort>(rt: &R, hand: &mut Hand<P>, at
 
 /// The backup, which is kept, has what it has read.
 fn keeps<P: Pair>(rt: &impl Abort, hand: &mut Hand<P>, backup: Backup<P>) {
-    assert!(rt; backup.read().is_some());
+    holds(rt, "what it has read", backup.read().is_some());
     hand.backups.push(Some(backup)).expect(rt, "memory");
 }
 
@@ -358,6 +376,6 @@ fn stays_backup<P: Pair, R: Wait + Abort>(rt: &R, hand: &mut Hand<P>, at: usize,
     let backup = take_backup(rt, hand, at);
     let came = hand.warden.go_live(rt, backup).err();
     let (back, why) = came.expect(rt, "the backup doesn't go live");
-    assert_eq!(rt; &why, wanted);
+    is_refusal(rt, &why, wanted);
     keeps(rt, hand, back);
 }

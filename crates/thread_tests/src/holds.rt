@@ -1,5 +1,6 @@
 //! A runner whose guest is held in mid-epoch while two clients call, each from a thread of its own.
 
+use super::asserts::{holds, same};
 use super::courses::{Course, plays};
 use super::gates::{Deed, Gate, hold};
 use super::hands::{FRAME, Hand, fails, finds_none, has_entries, is_stopped, take_client};
@@ -13,7 +14,7 @@ use std::thread::{Threads, join};
 
 /// Once the guest is held the client delivers, and takes. Answers its frame's number.
 fn deliver_and_take<P: Pair, R: Wait + Abort>(rt: &R, gate: &Gate, mut client: Client<P>) -> u64 {
-    assert!(rt; gate.is_held());
+    holds(rt, "the guest is held", gate.is_held());
     let number = client.deliver(rt, &FRAME).expect(rt, "a number");
     finds_none(rt, &mut client);
     gate.come();
@@ -33,7 +34,8 @@ pub(super) fn call_both<P: Pair + Send + Sync, R: Threads + Wait + Abort + Sync>
         || deliver_and_take(rt, gate, first),
         || deliver_and_take(rt, gate, second),
     );
-    assert_eq!(rt; (one.min(other), one.max(other)), (1, 2));
+    same(rt, "the first number", one.min(other), 1);
+    same(rt, "the second number", one.max(other), 2);
 }
 
 /// Step 10 of the guest is held until both clients have called. Then the primary fails, and its epoch changes nothing any more.
@@ -50,6 +52,6 @@ pub(super) fn serve_in_mid_epoch<P: Pair + Send + Sync, R: Threads + Wait + Abor
 }
 
 #[test]
-fn two_clients_are_served_in_mid_epoch(rt: HostRuntime) -> Result<(), Fail> {
-    plays(&rt, rt.alloc(), Guest::Idle, 2, Course::Held)
+fn two_clients_are_served_in_mid_epoch(rt: HostRuntime) {
+    plays(&rt, rt.alloc(), Guest::Idle, 2, Course::Held);
 }

@@ -10,7 +10,7 @@ use hypervisor::{Node, Refusal};
 use std::test::*;
 
 #[test]
-fn a_failed_backup_commits_nothing(rt: HostRuntime) -> Result<(), Fail> {
+fn a_failed_backup_commits_nothing(rt: HostRuntime) {
     static ROWS: [Row; 18] = [
         Epoch(0, 22),
         Next(1, 1),
@@ -32,11 +32,11 @@ fn a_failed_backup_commits_nothing(rt: HostRuntime) -> Result<(), Fail> {
         TakesNone,
         Entries(25),
     ];
-    plays(&rt, rt.alloc(), Guest::Beacon, 1, Course::Rows(&ROWS))
+    plays(&rt, rt.alloc(), Guest::Beacon, 1, Course::Rows(&ROWS));
 }
 
 #[test]
-fn an_old_acknowledgement_lands_nothing(rt: HostRuntime) -> Result<(), Fail> {
+fn an_old_acknowledgement_lands_nothing(rt: HostRuntime) {
     static ROWS: [Row; 19] = [
         Epoch(0, 5),
         Epoch(0, 5),
@@ -59,11 +59,11 @@ fn an_old_acknowledgement_lands_nothing(rt: HostRuntime) -> Result<(), Fail> {
         Takes,
         Entries(25),
     ];
-    plays(&rt, rt.alloc(), Guest::Beacon, 1, Course::Rows(&ROWS))
+    plays(&rt, rt.alloc(), Guest::Beacon, 1, Course::Rows(&ROWS));
 }
 
 #[test]
-fn each_number_is_committed_once(rt: HostRuntime) -> Result<(), Fail> {
+fn each_number_is_committed_once(rt: HostRuntime) {
     static ROWS: [Row; 23] = [
         Epoch(0, 22),
         Epoch(0, 22),
@@ -89,5 +89,5 @@ fn each_number_is_committed_once(rt: HostRuntime) -> Result<(), Fail> {
         TakesNone,
         Entries(69),
     ];
-    plays(&rt, rt.alloc(), Guest::Beacon, 1, Course::Rows(&ROWS))
+    plays(&rt, rt.alloc(), Guest::Beacon, 1, Course::Rows(&ROWS));
 }

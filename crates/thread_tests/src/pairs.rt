@@ -4,7 +4,7 @@ use guest_kit::{beacon, echo, idle};
 use guest_machine::Shape;
 use hypervisor::UnnamedPair;
 use std::alloc::Global;
-use std::test::Fail;
+use std::process::Abort;
 
 /// The guest of a pair.
 #[derive(Clone, Copy)]
@@ -29,29 +29,29 @@ const MOST_BYTES: usize = 4096 * 4;
 const COUNTS: [u8; 8] = [0x93, 0x80, 0x10, 0, 0x6f, 0xf0, 0xdf, 0xff];
 
 /// The image of a guest.
-fn image(alloc: Global, guest: Guest) -> Result<Vec<u8>, Fail> {
+fn image(rt: &impl Abort, alloc: Global, guest: Guest) -> Vec<u8> {
     match guest {
-        Guest::Idle => Ok(idle(alloc)?),
-        Guest::Beacon => Ok(beacon(alloc)?),
-        Guest::Echo => Ok(echo(alloc)?),
-        Guest::Counts => Ok(Vec::from_slice(alloc, &COUNTS)?),
+        Guest::Idle => idle(alloc).expect(rt, "memory"),
+        Guest::Beacon => beacon(alloc).expect(rt, "memory"),
+        Guest::Echo => echo(alloc).expect(rt, "memory"),
+        Guest::Counts => Vec::from_slice(alloc, &COUNTS).expect(rt, "memory"),
     }
 }
 
 /// A pair of so many clients, whose guest has this image.
-fn pair_of(alloc: Global, image: &[u8], clients: u64) -> Result<UnnamedPair, Fail> {
+fn pair_of(rt: &impl Abort, alloc: Global, image: &[u8], clients: u64) -> UnnamedPair {
     if image.len() > MOST_BYTES || clients < 1 || clients > MOST_CLIENTS {
-        return Err("there is no such pair".into());
+        panic!(rt; "there is no such pair");
     }
     let shape = Shape {
         pages: 4,
         sectors: 1,
     };
-    Ok(UnnamedPair::new(alloc, shape, clients, image)?)
+    UnnamedPair::new(alloc, shape, clients, image).expect(rt, "memory")
 }
 
 /// A pair of so many clients with this guest.
-pub(super) fn pair(alloc: Global, guest: Guest, clients: u64) -> Result<UnnamedPair, Fail> {
-    let image = image(alloc, guest)?;
-    pair_of(alloc, image.as_slice(), clients)
+pub(super) fn pair(rt: &impl Abort, alloc: Global, guest: Guest, clients: u64) -> UnnamedPair {
+    let image = image(rt, alloc, guest);
+    pair_of(rt, alloc, image.as_slice(), clients)
 }

@@ -3,6 +3,7 @@
 ghost use Rattle.std.specs.Prelude.{◌≡◌};
 ghost use Rattle.hypervisor.specs.Opening.{start_with};
 
+use super::asserts::{holds, same};
 use super::courses::{Course, plays};
 use super::hands::{FRAME, Hand, Row, list_of, play, take_client};
 use super::pairs::{Guest, pair};
@@ -115,36 +116,34 @@ fn runs<R: Threads + Wait + Abort + Sync>(
     alloc: Global,
     guest: Guest,
     plan: Plan,
-) -> Result<Outcome, Fail> {
-    let pair = pair(alloc, guest, 1)?;
-    Ok(run::<Brand, R>(rt, alloc, pair, plan))
+) -> Outcome {
+    let pair = pair(rt, alloc, guest, 1);
+    run::<Brand, R>(rt, alloc, pair, plan)
 }
 
 #[test]
-fn a_run_releases(rt: HostRuntime) -> Result<(), Fail> {
+fn a_run_releases(rt: HostRuntime) {
     let plan = Plan {
         epochs: 4,
         steps: 22,
         tries: MOST_TRIES,
     };
-    let outcome = runs(&rt, rt.alloc(), Guest::Beacon, plan)?;
-    assert!(rt; outcome.is_whole);
-    assert!(rt; outcome.has_frame);
-    Ok(())
+    let outcome = runs(&rt, rt.alloc(), Guest::Beacon, plan);
+    holds(&rt, "it is whole", outcome.is_whole);
+    holds(&rt, "the frame came", outcome.has_frame);
 }
 
 /// One epoch that goes on for years, whose client takes all the same, and then ends it.
 #[test]
-fn a_client_is_served_in_mid_epoch(rt: HostRuntime) -> Result<(), Fail> {
+fn a_client_is_served_in_mid_epoch(rt: HostRuntime) {
     let plan = Plan {
         epochs: 1,
         steps: 1 << 60,
         tries: 1000,
     };
-    let outcome = runs(&rt, rt.alloc(), Guest::Counts, plan)?;
-    assert!(rt; !outcome.is_whole);
-    assert_eq!(rt; outcome.entries, 1000);
-    Ok(())
+    let outcome = runs(&rt, rt.alloc(), Guest::Counts, plan);
+    holds(&rt, "it isn't whole", !outcome.is_whole);
+    same(&rt, "entries", outcome.entries, 1000);
 }
 
 /// Four epochs of 22 steps, each passed by hand: the frame lands with the first.
@@ -178,10 +177,10 @@ pub(super) fn release_by_hand<P: Pair + Send + Sync, R: Threads + Wait + Abort +
         || take_frame(rt, &mut client, MOST_TRIES),
         || play(rt, hand, &FOUR_EPOCHS),
     );
-    assert!(rt; has_frame);
+    holds(rt, "the frame came", has_frame);
 }
 
 #[test]
-fn calls_by_hand_release(rt: HostRuntime) -> Result<(), Fail> {
-    plays(&rt, rt.alloc(), Guest::Beacon, 1, Course::Released)
+fn calls_by_hand_release(rt: HostRuntime) {
+    plays(&rt, rt.alloc(), Guest::Beacon, 1, Course::Released);
 }

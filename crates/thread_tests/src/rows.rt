@@ -12,7 +12,7 @@ use hypervisor::Node;
 use std::test::*;
 
 #[test]
-fn the_beacons_frame_reaches_client_1(rt: HostRuntime) -> Result<(), Fail> {
+fn the_beacons_frame_reaches_client_1(rt: HostRuntime) {
     static ROWS: [Row; 9] = [
         Epoch(0, 22),
         TakesNone,
@@ -25,11 +25,11 @@ fn the_beacons_frame_reaches_client_1(rt: HostRuntime) -> Result<(), Fail> {
         // 22 steps, the frame that lands, and four takes.
         Entries(27),
     ];
-    plays(&rt, rt.alloc(), Guest::Beacon, 1, Course::Rows(&ROWS))
+    plays(&rt, rt.alloc(), Guest::Beacon, 1, Course::Rows(&ROWS));
 }
 
 #[test]
-fn a_committed_frame_is_handed_over(rt: HostRuntime) -> Result<(), Fail> {
+fn a_committed_frame_is_handed_over(rt: HostRuntime) {
     static ROWS: [Row; 7] = [
         Epoch(0, 22),
         Next(1, 1),
@@ -39,11 +39,11 @@ fn a_committed_frame_is_handed_over(rt: HostRuntime) -> Result<(), Fail> {
         Takes,
         Entries(24),
     ];
-    plays(&rt, rt.alloc(), Guest::Beacon, 1, Course::Rows(&ROWS))
+    plays(&rt, rt.alloc(), Guest::Beacon, 1, Course::Rows(&ROWS));
 }
 
 #[test]
-fn a_new_backup_runs_the_steps_again(rt: HostRuntime) -> Result<(), Fail> {
+fn a_new_backup_runs_the_steps_again(rt: HostRuntime) {
     static ROWS: [Row; 14] = [
         Fails(Node::Backup, 0),
         Protects,
@@ -61,11 +61,11 @@ fn a_new_backup_runs_the_steps_again(rt: HostRuntime) -> Result<(), Fail> {
         Takes,
         Entries(26),
     ];
-    plays(&rt, rt.alloc(), Guest::Beacon, 1, Course::Rows(&ROWS))
+    plays(&rt, rt.alloc(), Guest::Beacon, 1, Course::Rows(&ROWS));
 }
 
 #[test]
-fn the_line_loses_frames(rt: HostRuntime) -> Result<(), Fail> {
+fn the_line_loses_frames(rt: HostRuntime) {
     static ROWS: [Row; 12] = [
         Epoch(0, 22),
         TakesNone,
@@ -80,11 +80,11 @@ fn the_line_loses_frames(rt: HostRuntime) -> Result<(), Fail> {
         LosesIn(0),
         Entries(29),
     ];
-    plays(&rt, rt.alloc(), Guest::Beacon, 1, Course::Rows(&ROWS))
+    plays(&rt, rt.alloc(), Guest::Beacon, 1, Course::Rows(&ROWS));
 }
 
 #[test]
-fn a_frame_comes_back(rt: HostRuntime) -> Result<(), Fail> {
+fn a_frame_comes_back(rt: HostRuntime) {
     static ROWS: [Row; 12] = [
         Delivers(TO_GUEST, 1),
         // The guest sets its card up, and waits.
@@ -101,5 +101,5 @@ fn a_frame_comes_back(rt: HostRuntime) -> Result<(), Fail> {
         // 300 steps, the delivery, the arrival, the frame that lands, and two takes.
         Entries(305),
     ];
-    plays(&rt, rt.alloc(), Guest::Echo, 1, Course::Rows(&ROWS))
+    plays(&rt, rt.alloc(), Guest::Echo, 1, Course::Rows(&ROWS));
 }

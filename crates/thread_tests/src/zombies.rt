@@ -1,5 +1,6 @@
 //! A runner that is held in the midst of an epoch while the primary fails and the backup goes live: it changes nothing any more.
 
+use super::asserts::holds;
 use super::courses::{Course, plays};
 use super::gates::{Deed, Gate, hold};
 use super::hands::{Hand, Row, fails, goes_live, is_stopped, play};
@@ -13,7 +14,7 @@ use std::thread::Threads;
 
 /// Once the guest is held the primary fails, and the backup goes live.
 pub(super) fn take_over<P: Pair, R: Wait + Abort>(rt: &R, gate: &Gate, hand: &mut Hand<P>) {
-    assert!(rt; gate.is_held());
+    holds(rt, "the guest is held", gate.is_held());
     fails(rt, hand, Node::Primary, 0);
     goes_live(rt, hand, 0);
     gate.come();
@@ -42,16 +43,16 @@ pub(super) fn outlive<P: Pair + Send + Sync, R: Threads + Wait + Abort + Sync>(
 }
 
 #[test]
-fn a_runner_held_at_step_0_is_stopped(rt: HostRuntime) -> Result<(), Fail> {
-    plays(&rt, rt.alloc(), Guest::Beacon, 1, Course::Outlived(0))
+fn a_runner_held_at_step_0_is_stopped(rt: HostRuntime) {
+    plays(&rt, rt.alloc(), Guest::Beacon, 1, Course::Outlived(0));
 }
 
 #[test]
-fn a_runner_held_at_step_10_is_stopped(rt: HostRuntime) -> Result<(), Fail> {
-    plays(&rt, rt.alloc(), Guest::Beacon, 1, Course::Outlived(10))
+fn a_runner_held_at_step_10_is_stopped(rt: HostRuntime) {
+    plays(&rt, rt.alloc(), Guest::Beacon, 1, Course::Outlived(10));
 }
 
 #[test]
-fn a_runner_held_at_step_21_is_stopped(rt: HostRuntime) -> Result<(), Fail> {
-    plays(&rt, rt.alloc(), Guest::Beacon, 1, Course::Outlived(21))
+fn a_runner_held_at_step_21_is_stopped(rt: HostRuntime) {
+    plays(&rt, rt.alloc(), Guest::Beacon, 1, Course::Outlived(21));
 }

@@ -4,6 +4,7 @@ use super::disk::{CHAIN, DATA, HEAD, ONE_REQUEST, REQUEST, WRITE};
 use super::network::FROM_CLIENT;
 use super::play::{Guest, Line, Part, Reading, booted, play_named};
 use super::{AVAILABLE, BEACON, BEACON_GUEST, BUFFER, DESCRIPTOR, FRAME, USED};
+use crate::asserts::holds;
 use guest_machine::{DeviceState, Machine, PAGE_BYTES};
 use std::alloc::Global;
 use std::process::Abort;
@@ -111,7 +112,7 @@ fn assert_record(
     record: &DeviceState,
     name: &str,
 ) {
-    assert!(rt; device.record(machine) == *record, "{name}");
+    holds(rt, name, device.record(machine) == *record);
 }
 
 /// The step after so many breaks the device. What the other one keeps is as in the step before.

@@ -2,6 +2,7 @@
 
 use super::play::{Line, Part, Reading, booted, number, play, plays};
 use super::{BEACON_GUEST, PROGRAM};
+use crate::asserts::holds;
 use std::alloc::Global;
 use std::process::Abort;
 
@@ -101,5 +102,5 @@ fn the_counter_counts_timer_interrupts(rt: HostRuntime) {
     let mut machine = booted(&rt, rt.alloc(), &PROGRAM, &COUNTER);
     play(&rt, &mut machine, &COUNTED);
     let count = number(&rt, &machine, 0x1000);
-    assert!(rt; 50 <= count && count <= 100);
+    holds(&rt, "50 to 100", 50 <= count && count <= 100);
 }

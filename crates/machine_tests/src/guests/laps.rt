@@ -5,6 +5,7 @@ use super::disk::{BEHIND, DATA, DATA_FLAGS, HEAD, READ, REQUEST};
 use super::network::RECEIVER;
 use super::play::{Guest, Line, Part, Reading, booted, play, plays, put, put_words};
 use super::{DESCRIPTOR, PROGRAM, boot_shape};
+use crate::asserts::holds;
 use guest_machine::{Machine, PAGE_BYTES, SECTOR_BYTES, Shape};
 use std::alloc::{AllocError, Global};
 use std::process::Abort;
@@ -25,7 +26,7 @@ const STAY: u32 = 0x0000_006f;
 
 /// The word of a jump back by so many words.
 fn jump_back(rt: &impl Abort, words: usize) -> u32 {
-    assert!(rt; words < 512);
+    holds(rt, "a jump", words < 512);
     if words == 0 {
         return STAY;
     }
@@ -34,7 +35,7 @@ fn jump_back(rt: &impl Abort, words: usize) -> u32 {
 
 /// A lap of so many steps that leaves everything as it was: it turns a bit of x11 as often as makes an even number.
 fn lap(rt: &impl Abort, alloc: Global, length: usize) -> Result<Vec<u8>, AllocError> {
-    assert!(rt; 1 <= length && length <= 130);
+    holds(rt, "a lap", 1 <= length && length <= 130);
     let mut image = vec![in alloc; 0u8; PAGE_BYTES]?;
     for i in 0..length - 1 {
         put(&mut image, 4 * i, &TURN.to_le_bytes());
@@ -91,21 +92,21 @@ fn put_count(machine: &mut Machine, count: u64) {
 
 /// Two machines of two pages are the same guest.
 fn assert_same(rt: &impl Abort, one: &Machine, other: &Machine) {
-    assert!(rt; one.state() == other.state());
+    holds(rt, "the state", one.state() == other.state());
     assert_same_page(rt, one, other, 0);
     assert_same_page(rt, one, other, 1);
 }
 
 fn assert_same_page(rt: &impl Abort, one: &Machine, other: &Machine, page: u32) {
-    assert!(rt; page < 2);
-    assert!(rt; one.ram_size() >= 8192);
-    assert!(rt; other.ram_size() >= 8192);
-    assert!(rt; one.page(page) == other.page(page));
+    holds(rt, "the first or the second", page < 2);
+    holds(rt, "two pages", one.ram_size() >= 8192);
+    holds(rt, "as many", other.ram_size() >= 8192);
+    holds(rt, "the page", one.page(page) == other.page(page));
 }
 
 /// So many steps, none of which is refused.
 fn run(rt: &impl Abort, machine: &mut Machine, steps: u64) {
-    assert!(rt; machine.run(steps) == steps);
+    holds(rt, "the steps", machine.run(steps) == steps);
 }
 
 /// Steps one by one.
@@ -244,7 +245,7 @@ const CODE: [u8; 8] = [0x13, 0x06, 0x06, 0x01, 0x6f, 0, 0, 0];
 fn put_code(rt: &impl Abort, machine: &mut Machine) {
     let mut bytes = [0; SECTOR_BYTES];
     put(&mut bytes, 0, &CODE);
-    assert!(rt; 7 < machine.sectors());
+    holds(rt, "eight sectors", 7 < machine.sectors());
     machine.put_sector(7, &bytes);
 }
 

@@ -2,6 +2,7 @@
 
 use super::PROGRAM;
 use super::play::{Part, booted};
+use crate::asserts::holds;
 use guest_machine::{Machine, Pace, Unpaced};
 use std::process::Abort;
 
@@ -36,12 +37,16 @@ fn assert_paced<P: Pace + Drop>(
     mut pace: P,
     made: u64,
 ) {
-    assert!(rt; machine.run_paced(count, &mut pace) == made);
+    holds(
+        rt,
+        "the steps of a run",
+        machine.run_paced(count, &mut pace) == made,
+    );
 }
 
 /// So many steps were made.
 fn assert_steps(rt: &impl Abort, machine: &Machine, steps: u64) {
-    assert!(rt; machine.steps() == steps);
+    holds(rt, "all steps", machine.steps() == steps);
 }
 
 #[test]

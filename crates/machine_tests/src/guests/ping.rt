@@ -3,6 +3,7 @@
 
 use super::play::{Guest, Line, Part, Reading, booted, play, plays};
 use super::program_words::PING;
+use crate::asserts::{holds, holds_of};
 use guest_machine::{Machine, PAGE_BYTES};
 use std::process::Abort;
 
@@ -90,7 +91,7 @@ fn plays_and_goes_back(rt: &impl Abort, machine: &mut Machine, lines: &[Line]) {
     let state = machine.state();
     play(rt, machine, lines);
     machine.put_state(&state);
-    assert!(rt; machine.state() == state);
+    holds(rt, "the state", machine.state() == state);
 }
 
 /// The guest only waits, so its memory stays as it is.
@@ -114,13 +115,14 @@ fn a_state_is_put_back(rt: HostRuntime) {
 
 /// Turns each bit of the second block of the first page.
 fn turn_block(rt: &impl Abort, machine: &mut Machine) {
-    assert!(rt; machine.ram_size() >= 8192);
+    holds(rt, "two pages", machine.ram_size() >= 8192);
     machine.xor_block(0, 1, &[0xff; 64]);
 }
 
 /// The word at a place of memory.
 fn word_at(rt: &impl Abort, machine: &Machine, at: usize) -> u32 {
-    assert!(rt; at < 4096 && machine.ram_size() >= 8192);
+    holds(rt, "in the first page", at < 4096);
+    holds(rt, "two pages", machine.ram_size() >= 8192);
     u32::from_le_bytes([
         machine.byte(at),
         machine.byte(at + 1),
@@ -133,7 +135,7 @@ fn word_at(rt: &impl Abort, machine: &Machine, at: usize) -> u32 {
 fn assert_words(rt: &impl Abort, machine: &Machine, turned: bool) {
     for (i, word) in PING.iter().enumerate() {
         let want = if turned && i / 16 == 1 { !*word } else { *word };
-        assert!(rt; word_at(rt, machine, 4 * i) == want);
+        holds_of(rt, want, word_at(rt, machine, 4 * i) == want);
     }
 }
 
@@ -156,7 +158,7 @@ fn a_block_is_turned_and_turned_back(rt: HostRuntime) {
 
 /// Turns each bit of the second block of the first page, where nothing counts as written.
 fn turn_settled_block(rt: &impl Abort, machine: &mut Machine) {
-    assert!(rt; machine.ram_size() >= 8192);
+    holds(rt, "two pages", machine.ram_size() >= 8192);
     machine.settle();
     machine.xor_settled(0, 1, &[0xff; 64]);
 }
@@ -177,7 +179,7 @@ fn a_block_is_turned_in_an_image(rt: HostRuntime) {
 
 /// Puts 512 times a byte in the place of a sector's.
 fn put_sector(rt: &impl Abort, machine: &mut Machine, sector: u32, byte: u8) {
-    assert!(rt; sector < machine.sectors());
+    holds(rt, "a sector", sector < machine.sectors());
     machine.put_sector(sector, &[byte; 512]);
 }
 

@@ -2,6 +2,7 @@
 //! One function plays all of them, since a test that does and compares each thing itself is slow to prove.
 
 use super::{USED, boot_shape};
+use crate::asserts::{holds, holds_in, same_in};
 use guest_machine::{DeviceState, Frame, Machine, MachineError, Shape};
 use rv64_core::Register;
 use std::alloc::{AllocError, Global};
@@ -149,8 +150,8 @@ fn image(alloc: Global, guest: &Guest, changes: &[Part]) -> Result<Vec<u8>, Allo
 /// The shape of the guest's machine.
 fn shape(rt: &impl Abort, guest: &Guest) -> Shape {
     let (pages, sectors) = (guest.pages, guest.sectors);
-    assert!(rt; 1 <= pages && pages <= 16_384);
-    assert!(rt; 1 <= sectors && sectors <= 32_768);
+    holds(rt, "pages", 1 <= pages && pages <= 16_384);
+    holds(rt, "sectors", 1 <= sectors && sectors <= 32_768);
     Shape { pages, sectors }
 }
 
@@ -191,9 +192,9 @@ pub(super) fn play_named(rt: &impl Abort, machine: &mut Machine, lines: &[Line],
 
 fn play_line(rt: &impl Abort, machine: &mut Machine, line: &Line, name: &str, at: usize) {
     if let Line::Is(reading, number) = *line {
-        assert_eq!(rt; read(rt, machine, reading), number, "{name}: line {at}");
+        same_in(rt, name, at, read(rt, machine, reading), number);
     } else {
-        assert!(rt; does(rt, machine, line), "{name}: line {at}");
+        holds_in(rt, name, at, does(rt, machine, line));
     }
 }
 
@@ -224,8 +225,8 @@ fn runs_to_frame(machine: &mut Machine, count: u64, made: u64) -> bool {
 /// A frame of these bytes arrives. Says whether the guest has it.
 pub(super) fn arrives(rt: &impl Abort, machine: &mut Machine, bytes: &[u8]) -> bool {
     let mut frame = Frame::new();
-    assert!(rt; frame.try_extend_from_slice(bytes).is_ok());
-    assert!(rt; frame.len() >= 14);
+    holds(rt, "a frame", frame.try_extend_from_slice(bytes).is_ok());
+    holds(rt, "no shorter", frame.len() >= 14);
     machine.arrive(&frame)
 }
 
@@ -379,20 +380,20 @@ pub(super) fn number(rt: &impl Abort, machine: &Machine, at: usize) -> u16 {
 }
 
 fn page_size(rt: &impl Abort, machine: &Machine) -> u64 {
-    assert!(rt; machine.ram_size() >= 4096);
+    holds(rt, "a page", machine.ram_size() >= 4096);
     machine.page(0).len() as u64
 }
 
 fn original(rt: &impl Abort, machine: &Machine, at: usize) -> u32 {
-    assert!(rt; machine.ram_size() >= 8192);
-    assert!(rt; at < 4092);
+    holds(rt, "two pages", machine.ram_size() >= 8192);
+    holds(rt, "in the first", at < 4092);
     let page = machine.original(0);
     u32::from_le_bytes([page[at], page[at + 1], page[at + 2], page[at + 3]])
 }
 
 /// Whether a page, which is one of the first two, counts as written.
 fn dirty(rt: &impl Abort, machine: &Machine, page: u32) -> bool {
-    assert!(rt; page < 2);
-    assert!(rt; machine.ram_size() >= 8192);
+    holds(rt, "the first or the second", page < 2);
+    holds(rt, "two pages", machine.ram_size() >= 8192);
     machine.dirty(page)
 }

@@ -4,6 +4,7 @@
 use super::PROGRAM;
 use super::play::{Guest, Line, Part, Reading, booted, play, plays};
 use super::program_words::{CRC32, DISK, DIVISION, SHA256, SORT};
+use crate::asserts::holds;
 use guest_machine::{Machine, PAGE_BYTES};
 use std::process::Abort;
 
@@ -125,9 +126,9 @@ impl Places {
 
 /// A sector has the next bytes.
 fn assert_next(rt: &impl Abort, machine: &Machine, sector: u32, places: &mut Places) {
-    assert!(rt; sector < machine.sectors());
+    holds(rt, "a sector", sector < machine.sectors());
     for byte in machine.sector(sector) {
-        assert!(rt; *byte == places.next());
+        holds(rt, "its byte", *byte == places.next());
     }
 }
 
@@ -135,7 +136,7 @@ fn assert_next(rt: &impl Abort, machine: &Machine, sector: u32, places: &mut Pla
 fn writes_200_sectors_and_reads_them_back(rt: HostRuntime) {
     let mut machine = booted(&rt, rt.alloc(), &DISK_GUEST, &[]);
     play(&rt, &mut machine, &WRITTEN_AND_READ);
-    assert!(rt; machine.dirty_sectors().len() == 200);
+    holds(&rt, "200 sectors", machine.dirty_sectors().len() == 200);
     let mut places = Places { factor: 0 };
     for sector in 0..200 {
         assert_next(&rt, &machine, sector, &mut places);

@@ -2,6 +2,7 @@
 
 use super::play::{Line, Part, Reading, plays};
 use super::{AVAILABLE, BEACON_GUEST, USED};
+use crate::asserts::holds;
 use guest_machine::MachineError;
 use memory_wanted::reserve;
 use std::alloc::Global;
@@ -82,14 +83,14 @@ fn a_run_stops_after_a_step_that_sent_frames(rt: HostRuntime) {
 
 /// A refusal has this number, this name, and this text.
 fn assert_name(rt: &impl Abort, alloc: Global, error: MachineError, number: u32, name: &str) {
-    assert!(rt; error.number() == number);
-    assert!(rt; error.name() == name);
+    holds(rt, "the number", error.number() == number);
+    holds(rt, "the name", error.name() == name);
     assert_text(rt, alloc, &error, name);
 }
 
 fn assert_text(rt: &impl Abort, alloc: Global, error: &MachineError, name: &str) {
     let text = format!(in alloc; "{error}").expect(rt, "memory for the text");
-    assert!(rt; text.as_str() == name);
+    holds(rt, "the text", text.as_str() == name);
 }
 
 #[test]

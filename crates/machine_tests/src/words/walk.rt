@@ -2,6 +2,7 @@
 
 use super::disassembly::text;
 use super::kinds::{COMPUTATIONS, ILLEGAL, JUMPS, MEMORY, SYSTEM, UPPER};
+use crate::asserts::{holds, holds_of};
 use rv64_core::{Instr, decode, encode};
 use std::alloc::Global;
 use std::process::Abort;
@@ -19,7 +20,7 @@ fn assert_text(rt: &impl Abort, alloc: Global, instr: Instr, said: &str, digits:
 
 /// An instruction is written as this word.
 fn assert_written(rt: &impl Abort, instr: Instr, word: u32) {
-    assert!(rt; encode(instr) == word);
+    holds_of(rt, word, encode(instr) == word);
 }
 
 /// What a line says of a word, by its digits: it is read so, and written again.
@@ -48,13 +49,13 @@ fn each_word_says_what_objdump_reads(rt: HostRuntime) {
     for part in [UPPER, JUMPS, MEMORY, COMPUTATIONS, SYSTEM] {
         count = count.saturating_add(assert_lines(&rt, rt.alloc(), part));
     }
-    assert!(rt; count > 800);
+    holds(&rt, "more than 800 words", count > 800);
 }
 
 /// A word, by its digits, is no instruction.
 fn assert_illegal(rt: &impl Abort, digits: &str) {
     let word = word_of(rt, digits);
-    assert!(rt; decode(word).is_none(), "{digits}");
+    holds(rt, digits, decode(word).is_none());
 }
 
 /// So are all words of a line. Answers how many there are.
@@ -73,5 +74,5 @@ fn what_objdump_does_not_read_is_illegal(rt: HostRuntime) {
     for line in ILLEGAL.lines() {
         count = count.saturating_add(assert_illegal_line(&rt, line));
     }
-    assert!(rt; count > 3000);
+    holds(&rt, "more than 3000 words", count > 3000);
 }
