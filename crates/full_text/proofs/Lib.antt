@@ -4,6 +4,7 @@ pub mod CanonicalLemmas
 pub mod PageLemmas
 pub mod SectorLemmas
 pub mod ImageLemmas
+pub mod ZeroBlocks
 pub mod RecordLemmas
 pub mod TextLemmas
 pub mod FullLemmas

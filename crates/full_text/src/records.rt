@@ -47,7 +47,7 @@ fn put_eight(text: &mut Vec<u8>, n: u64)
 }
 
 /// A block of a page.
-fn block(page: &Page, number: u32) -> &[u8]
+pub(crate) fn block(page: &Page, number: u32) -> &[u8]
     requires { number < 64 }
     ensures { result.now ≡ block_in page.now number }
 {
