@@ -1,6 +1,6 @@
 -- A full checkpoint of a machine: it is canonical, fits its widths, reads back, and makes the machine's guest.
 use Rattle.std.proofs.Common.{◌≡◌, ℕ, zero, suc, ◌+◌, ◌*◌, ◌^◌, ◌<◌, ◌≤◌, Bool, true, false, cond, List, [], ◌∷◌, ◌++◌, length, map}
-use Rattle.std.proofs.Common.{refl, sym, ap, ◌∙◌, arith, subst, All, lit<}
+use Rattle.std.proofs.Common.{refl, sym, ap, ◌∙◌, arith, subst, All, Option, lit<}
 use Rattle.std.proofs.lemmas.List.{length-append, length-map}
 use Rattle.std.proofs.lemmas.List.Elements.{All-nil, All-cons, All-head, All-tail}
 use Rattle.std.proofs.lemmas.List.Sums.{sum_by-cons}
@@ -27,10 +27,12 @@ use Rattle.checkpoint_stream.specs.Widths.{HasWidths}
 use Rattle.checkpoint_stream.specs.declared.rules.Width.TheVariants.{Four, Eight}
 use Rattle.checkpoint_stream.proofs.Numbers.{length-bytes_of}
 use Rattle.checkpoint_stream.proofs.TextSizes.{text_size}
-use Rattle.full_text.specs.Full.{zeros, records, record_size, records_size, AreIn, Making, whole, IsFullText, blank}
+use Rattle.full_text.specs.Full.{zeros, page_at, page_records, record_size, records_size, AreIn, Making, whole, IsFullText, blank}
+use Rattle.full_text.specs.internal.CutRecords.{records}
 use Rattle.full_text.proofs.CutLemmas.{block_numbers-changed}
 use Rattle.full_text.proofs.ImageLemmas.{IsCanonical-cut, image-full}
 use Rattle.full_text.proofs.SectorLemmas.{Rises-at, Rises-used, used-nonzero, length-sector_of}
+use Rattle.full_text.proofs.KeptLemmas.{records-plain}
 use Rattle.full_text.proofs.TextLemmas.{text-whole}
 use Rattle.full_text.proofs.RecordLemmas.{blocks-length, page-plain, length-block, plain-block, length-page}
 
@@ -169,32 +171,36 @@ head-same shape m g = refl
 
 module _ (shape : Shape) (m : State) (g : ℕ) (size : length m.guest.ram ≡ 4096 * shape.pages) (sectors : length m.guest.sectors ≡ 512 * shape.sectors) where
   -- what is put of it at first, with the records that come later, is the text
-  pub full-whole : (f : Making) (head count used : List ℕ) → f.made ≡ head ++ count
+  pub full-whole : (f : Making) (head count used : List ℕ) → f.made ≡ head ++ count → f.kept ≡ []
       → f.pages ≡ changed_pages (zeros m.guest.ram) m.guest.ram shape.pages
       → head ≡ joined (number_units head_table (head_numbers (blank shape m.guest g))) → count ≡ bytes_of Four (length f.pages)
       → used ≡ used_sectors m.guest.sectors shape.sectors
       → f.tail ≡ (bytes_of Four (length used) ++ joined (sector_units (changed_sectors m.guest.sectors used))) ++ bytes_of Four 0
       → whole m.guest.ram f ≡ text (full_change shape m g)
-  full-whole f head count used made pages is_head is_count is_used tail =
+  full-whole f head count used made kept pages is_head is_count is_used tail =
       let ram = m.guest.ram in
+      let changed = changed_pages (zeros ram) ram shape.pages in
       let long : length used ≡ length (changed_sectors m.guest.sectors (used_sectors m.guest.sectors shape.sectors)) =
       ap (λ (l : List ℕ). length l) is_used ∙ sym (length-map (used_sectors m.guest.sectors shape.sectors) (sector_change m.guest.sectors)) in
-      (λ i. made i ++ (records ram (pages i) ++ f.tail))
+      (λ i. made i ++ (page_records (page_at ram (kept i)) (pages i) ++ f.tail))
+      ∙ ap (λ l. (head ++ count) ++ (l ++ f.tail)) (records-plain ram changed (pages-in (zeros ram) ram shape.pages (length ram) size))
       ∙ text-whole (full_change shape m g) ram head count f.tail refl refl (masks-fit (zeros ram) ram shape.pages) refl
       (is_head ∙ ap (λ ns. joined (number_units head_table ns)) (head-same shape m g))
       (is_count ∙ ap (λ (l : List PageChange). bytes_of Four (length l)) pages)
       (tail ∙ (λ i. (bytes_of Four (long i) ++ joined (sector_units (changed_sectors m.guest.sectors (is_used i)))) ++ bytes_of Four 0))
 
-  pub full-size : (f : Making) → f.pages ≡ changed_pages (zeros m.guest.ram) m.guest.ram shape.pages
+  pub full-size : (f : Making) → f.kept ≡ [] → f.pages ≡ changed_pages (zeros m.guest.ram) m.guest.ram shape.pages
       → length (whole m.guest.ram f) ≡ length f.made + (records_size f.pages + length f.tail)
-  full-size f pages =
+  full-size f kept pages =
       let ram = m.guest.ram in
       let fits = subst (All (λ (p : PageChange). p.mask < 2 ^ 64)) (sym pages) (masks-fit (zeros ram) ram shape.pages) in
       let within = subst (AreIn (length ram)) (sym pages) (pages-in (zeros ram) ram shape.pages (length ram) size) in
       omega (
         arith,
-        length-append f.made (records ram f.pages ++ f.tail),
-        length-append (records ram f.pages) f.tail,
+        length-append f.made (page_records (page_at ram f.kept) f.pages ++ f.tail),
+        length-append (page_records (page_at ram f.kept) f.pages) f.tail,
+        ap (λ (k : List (Option (List ℕ))). length (page_records (page_at ram k) f.pages)) kept,
+        ap (λ (l : List ℕ). length l) (records-plain ram f.pages within),
         records-length ram f.pages fits within,
       )
 

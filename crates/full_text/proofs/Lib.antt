@@ -6,6 +6,7 @@ pub mod SectorLemmas
 pub mod ImageLemmas
 pub mod ZeroBlocks
 pub mod RecordLemmas
+pub mod KeptLemmas
 pub mod TextLemmas
 pub mod FullLemmas
 pub mod PartLemmas

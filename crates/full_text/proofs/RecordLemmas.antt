@@ -14,11 +14,10 @@ use Rattle.epoch_snapshot.specs.declared.changes.PageChange.{PageChange}
 use Rattle.epoch_snapshot.specs.Blocks.{block_in, set_blocks, xored}
 use Rattle.epoch_snapshot.specs.Cuts.{block_change, changed_blocks}
 use Rattle.epoch_snapshot.proofs.MaskLemmas.{length-set_blocks}
-use Rattle.checkpoint_stream.specs.HeadTable.{bytes_of}
 use Rattle.checkpoint_stream.specs.Text.{joined}
-use Rattle.checkpoint_stream.specs.declared.rules.Width.TheVariants.{Four, Eight}
 use Rattle.checkpoint_stream.proofs.Spelling.{joined-append, next}
-use Rattle.full_text.specs.Full.{zeros, record_of, records, record_size, records_size}
+use Rattle.full_text.specs.Full.{zeros, record_size, records_size}
+use Rattle.full_text.specs.internal.CutRecords.{records, record_of}
 use Rattle.full_text.proofs.PageLemmas.{filter_last, fewer_blocks, map_agree_in, block_in-page, zero_block, one_page}
 
 -- the blocks below one that a mask names
@@ -103,16 +102,6 @@ page-plain ram p within =
     ∙ sym (map-map (block_change (zeros ram) ram) (λ i. 64 * p.page + i) (set_blocks p.mask))
     ∙ ap (map (block_change (zeros ram) ram)) (sym (one_page p))
 
-pub record-put : (ram xs ys zs out : List ℕ) (p : PageChange) → 4096 * p.page + 4096 ≤ length ram → ys ≡ xs ++ bytes_of Four p.page
-    → zs ≡ ys ++ bytes_of Eight p.mask → out ≡ zs ++ joined (map (λ i. block_in (page_of ram p.page) i) (set_blocks p.mask))
-    → out ≡ xs ++ record_of ram p
-record-put ram xs ys zs out p within e f g =
-    let blocks = joined (changed_blocks (zeros ram) ram (p ∷ [])) in
-    g
-    ∙ (λ k. (f ∙ ap (λ l. l ++ bytes_of Eight p.mask) e) k ++ joined (page-plain ram p within k))
-    ∙ ap (λ l. l ++ blocks) (append_assoc xs (bytes_of Four p.page) (bytes_of Eight p.mask))
-    ∙ append_assoc xs (bytes_of Four p.page ++ bytes_of Eight p.mask) blocks
-
 pub blocks-length : (page : List ℕ) (m : ℕ) → m < 2 ^ 64 → length page ≡ 4096
     → length (joined (map (λ i. block_in page i) (set_blocks m))) ≡ 64 * count_ones m
 unfolding set_blocks
@@ -128,13 +117,6 @@ blocks-length page m fits long =
 pub records-cons : (ram : List ℕ) (p : PageChange) (ps : List PageChange) → records ram (p ∷ ps) ≡ record_of ram p ++ records ram ps
 unfolding records
 records-cons ram p ps = refl
-
-pub records-next : (ram xs ys : List ℕ) (ps : List PageChange) (i : ℕ) (d : PageChange) → i < length ps → ys ≡ xs ++ record_of ram (get_or ps i d)
-    → ys ++ records ram (drop (i + 1) ps) ≡ xs ++ records ram (drop i ps)
-records-next ram xs ys ps i d within e =
-    ap (λ l. l ++ records ram (drop (i + 1) ps)) e
-    ∙ append_assoc xs (record_of ram (get_or ps i d)) (records ram (drop (i + 1) ps))
-    ∙ ap (λ l. xs ++ l) (sym (records-cons ram (get_or ps i d) (drop (i + 1) ps)) ∙ ap (records ram) (sym (next ps i d within)))
 
 pub sizes-next : (ps : List PageChange) (i : ℕ) (d : PageChange) → i < length ps
     → records_size (drop i ps) ≡ record_size (get_or ps i d) + records_size (drop (i + 1) ps)

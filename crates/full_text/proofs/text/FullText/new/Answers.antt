@@ -41,7 +41,7 @@ returns-clause-text c =
     let g = c.args.generation in
     let size = c.shape-shape.ensures.pages in
     let sectors = c.shape-shape.ensures.sectors in
-    let f : Making = record { made = c.put_four.new.text.items; pages = c.used_pages.new.pages.items; tail = c.in_ok-tail.tail.items } in
+    let f : Making = record { made = c.put_four.new.text.items; pages = c.used_pages.new.pages.items; kept = c.new.result; tail = c.in_ok-tail.tail.items } in
     let rules : IsMachineState (state_of m.guest) = subst IsMachineState c.state-state.ensures.value c.state-state.ensures.rules in
     let all : with_state m.guest (state_of m.guest) ≡ m.guest =
     ap (with_state m.guest) (sym c.state-state.ensures.value) ∙ c.state-state.ensures.whole in
@@ -54,7 +54,7 @@ returns-clause-text c =
     ∙ ap (λ (l : List ℕ). l ++ bytes_of Four c.len-3.result) (c.put.ensures.items
     ∙ (λ i. c.in_ok-made.ensures.items i ++ c.as_slice-3.ensures.value i)) in
     full-text shape m g size sectors (whole m.guest.ram f)
-    (full-whole shape m g size sectors f c.in_ok-head.head.items (bytes_of Four c.len-3.result) c.as_slice.result.now made
+    (full-whole shape m g size sectors f c.in_ok-head.head.items (bytes_of Four c.len-3.result) c.as_slice.result.now made c.new.ensures
     c.in_ok-used_pages.ensures.pages c.in_ok-head.ensures.head (ap (bytes_of Four) count)
     (c.as_slice.ensures.value ∙ c.in_ok-used_sectors.ensures.sectors) c.in_ok-tail.ensures.tail)
     reads widths c.requires.first c.requires.last rules all
@@ -62,8 +62,8 @@ returns-clause-text c =
 pub returns-clause-size : goal.returns-clause-size
 returns-clause-size c =
     full-size c.shape-shape.result c.args.machine.now c.args.generation c.shape-shape.ensures.pages c.shape-shape.ensures.sectors
-    (record { made = c.put_four.new.text.items; pages = c.used_pages.new.pages.items; tail = c.in_ok-tail.tail.items })
-    c.in_ok-used_pages.ensures.pages
+    (record { made = c.put_four.new.text.items; pages = c.used_pages.new.pages.items; kept = c.new.result; tail = c.in_ok-tail.tail.items })
+    c.new.ensures c.in_ok-used_pages.ensures.pages
 
 pub returns-clause-pages : goal.returns-clause-pages
 returns-clause-pages c =
