@@ -94,7 +94,7 @@ class Daemon:
         self.counts.attachments += 1
         self.log.info(f"this host is a standby of {offer['name']}, for generation {offer['generation']}")
 
-    def boot(self, now):
+    def boot(self):
         """Raises Refused."""
         line = boot_line(self.settings.guest)
         pages, sectors = line.split()[1:3]
@@ -102,7 +102,7 @@ class Daemon:
         self.state.keep(life, 1, "booted")
         self.node.ask(line)
         self.life, self.shape = life, (int(pages), int(sectors))
-        self.start(Live(self, 1, 0, now))
+        self.start(Live(self, 1, 0, self.link.now()))  # the guest isn't late by the time in which it was booted
         self.log.info(f"booted {self.settings.guest}: life {self.life}")
 
     def go_live(self, now):

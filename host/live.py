@@ -46,7 +46,7 @@ class Live:
         self.is_stopped = self.is_frozen = False  # for a drain, or since the host is frozen
         self.held = 0
         self.late, self.acked_at, self.waited_since = 0.0, now, None
-        self.longest = 0.0  # seconds in which the guest made no step, though it didn't wait
+        self.longest = 0.0  # seconds from steps of the guest to the next, though it didn't wait
         self.watch = Watch()
         self.start_clock(now)
 
@@ -136,13 +136,14 @@ class Live:
             return
         self.has_arrived, steps = False, self.steps_due(now)
         if steps > 0:
-            self.longest, self.ran_at = max(self.longest, now - self.ran_at), now
+            self.longest = max(self.longest, now - self.ran_at)
         lines = [b"step %d" % steps] if steps > 0 and not self.is_full else []
         lines += self.cut_lines() if ends else []
         if not lines:
             return
         answers = self.tell(*lines)
         if lines[0].startswith(b"step"):
+            self.ran_at = now if ends else self.link.now()  # a cut behind the steps counts, and these with it
             self.stepped(answers.pop(0), now)
         if ends:
             self.was_cut(now, *answers)

@@ -16,16 +16,16 @@ class NotASnapshot(Exception):
     """The file isn't the text of a full checkpoint."""
 
 
-def load(host, path, now):
+def load(host, path):
     """Makes the guest of a snapshot live. Where it can't, the host is empty. Raises OSError, Refused, NotASnapshot."""
     with open(path, "rb") as file:
         head = head_of(file.read(HEAD.size))
         file.seek(0)
-        take(host, head, iter(lambda: file.read(PIECE), b""), f"from {path}", now)
+        take(host, head, iter(lambda: file.read(PIECE), b""), f"from {path}")
     host.log.info(f"live with the guest of {path}, in generation {host.generation}: life {host.life}")
 
 
-def boot_over(host, path, now):
+def boot_over(host, path):
     """Boots the configured guest over the disk of a snapshot. Where it can't, the host is empty. Raises OSError, Refused, NotASnapshot."""
     disk = Path(path).read_bytes()
     sectors, records = head_of(disk[:HEAD.size])[1], sectors_of(disk)
@@ -34,7 +34,7 @@ def boot_over(host, path, now):
     if sectors > head[1]:
         raise NotASnapshot(f"its disk has {sectors} sectors, and the configured guest's {head[1]}")
     text = text[:sectors_at(text)] + records + bytes(4)
-    take(host, head, (text[at:at + PIECE] for at in range(0, len(text), PIECE)), f"booted over the disk of {path}", now)
+    take(host, head, (text[at:at + PIECE] for at in range(0, len(text), PIECE)), f"booted over the disk of {path}")
     host.log.info(f"booted {host.settings.guest} over the disk of {path}: life {host.life}")
 
 
@@ -73,7 +73,7 @@ def booted(settings):
         node.close()
 
 
-def take(host, head, data, how, now):
+def take(host, head, data, how):
     """A new life, that of the guest of a full checkpoint's text."""
     pages, sectors, generation = head
     try:
@@ -89,7 +89,7 @@ def take(host, head, data, how, now):
         host.become_empty()
         raise
     host.life, host.shape = life, (pages, sectors)
-    host.start(Live(host, answer.number(1), answer.number(3), now))
+    host.start(Live(host, answer.number(1), answer.number(3), host.link.now()))
 
 
 def feed(node, data):

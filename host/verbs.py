@@ -71,7 +71,7 @@ class Verbs:
         if host.role == "live" and not (source or disk or new):
             return self.did("this host is live already")
         if boot or source is not None:
-            return self.begin(new, source, disk, now)
+            return self.begin(new, source, disk)
         if host.role == "frozen":
             host.thaw(now)
         elif not host.full:
@@ -80,7 +80,7 @@ class Verbs:
             host.go_live(now)
         return self.did("this host is live")
 
-    def begin(self, new, source, disk, now):
+    def begin(self, new, source, disk):
         """A new life, booted, over a snapshot's disk where one is given, or from a snapshot."""
         host = self.host
         if host.role != "empty":
@@ -90,19 +90,19 @@ class Verbs:
         if source is None and host.state.booted_before and not new:
             return refusal("BootedBefore", "a guest was booted or held here before; 'new' boots another one all the same")
         try:
-            return self.did(self.begun(source, disk, now))
+            return self.did(self.begun(source, disk))
         except (OSError, NotASnapshot) as error:
             return refusal("File", f"{source or disk or host.settings.state}: {getattr(error, 'strerror', None) or error}")
 
-    def begun(self, source, disk, now):
+    def begun(self, source, disk):
         """What was done, as a sentence. Raises OSError, Refused, NotASnapshot."""
         if source is not None:
-            load(self.host, source, now)
+            load(self.host, source)
             return f"this host is live with the guest of {source}"
         if disk is not None:
-            boot_over(self.host, disk, now)
+            boot_over(self.host, disk)
             return f"the guest is booted over the disk of {disk}, and this host is live"
-        self.host.boot(now)
+        self.host.boot()
         return "the guest is booted, and this host is live"
 
     def alone(self, answer, standby=None):

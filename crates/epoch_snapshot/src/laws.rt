@@ -8,7 +8,7 @@ ghost use Rattle.guest_machine.specs.MachineStates.{IsMachineState, state_of, wi
 ghost use Rattle.guest_machine.specs.Pages.{page_of};
 ghost use Rattle.epoch_snapshot.specs.declared.changes.PageChange.{PageChange};
 ghost use Rattle.epoch_snapshot.specs.Bases.{IsFullCut};
-ghost use Rattle.epoch_snapshot.specs.Blocks.{IsPageIn, block_in, changed_mask, differ, named_below, set_blocks};
+ghost use Rattle.epoch_snapshot.specs.Blocks.{IsPageIn, block_in, changed_mask, named_below, set_blocks};
 ghost use Rattle.epoch_snapshot.specs.Checkpoints.{Change, IsCanonical};
 ghost use Rattle.epoch_snapshot.specs.Cuts.{changed_blocks, changed_pages, used_sectors};
 ghost use Rattle.epoch_snapshot.specs.Images.{image_of};
@@ -20,13 +20,9 @@ pub fn masks_name_blocks()
     ensures all { (mask : ℕ) → mask < 2 ^ 64 → length (set_blocks mask) ≡ count_ones mask }
 {}
 
-/// A page of a memory is its blocks, and its mask says which of them differ from another memory's. Over a memory that is all zero the blocks
-/// that are recorded are the page's own.
+/// A page of a memory is its blocks. Over a memory that is all zero the blocks that are recorded are the page's own.
 pub fn pages_are_their_blocks()
     ensures page { (ram : List ℕ) (page : ℕ) → IsPageIn ram page (page_of ram page) }
-    ensures zero { (bytes page : ℕ) → page_bytes * page + page_bytes ≤ bytes → IsPageIn (replicate bytes 0) page (replicate page_bytes 0) }
-    ensures mask { (old new : List ℕ) (page mask : ℕ) (p q : List ℕ) → mask < 2 ^ 64 → IsPageIn old page p → IsPageIn new page q
-        → ((i : ℕ) → i < 64 → (bit_at mask i ≡ 1) ↔ IsTrue (differ (block_in p i) (block_in q i))) → mask ≡ changed_mask old new page }
     ensures own { (ram : List ℕ) (p : PageChange) → page_bytes * p.page + page_bytes ≤ length ram
         → map (λ i. block_in (page_of ram p.page) i) (set_blocks p.mask) ≡ changed_blocks (replicate (length ram) 0) ram (p ∷ []) }
 {}

@@ -1,6 +1,6 @@
 -- A full checkpoint of a machine: it fits its widths, and its text is what is made first, and then the records and what stands behind them.
 use Rattle.std.proofs.Common.{◌≡◌, ℕ, ◌+◌, ◌*◌, ◌^◌, ◌<◌, ◌≤◌, List, [], ◌∷◌, ◌++◌, length, map}
-use Rattle.std.proofs.Common.{refl, sym, ap, ◌∙◌, arith, subst, All}
+use Rattle.std.proofs.Common.{refl, sym, ap, ◌∙◌, arith, subst, All, Option}
 use Rattle.std.proofs.lemmas.List.{length-append, length-map}
 use Rattle.std.proofs.lemmas.List.Elements.{All-nil, All-cons, All-head, All-tail}
 use Rattle.std.proofs.lemmas.List.Sums.{sum_by-cons}
@@ -20,7 +20,9 @@ use Rattle.checkpoint_stream.specs.ReadBack.{ReadsBack}
 use Rattle.checkpoint_stream.specs.Text.{head_numbers, number_units, sector_units, joined, text}
 use Rattle.checkpoint_stream.specs.Widths.{HasWidths}
 use Rattle.checkpoint_stream.specs.declared.rules.Width.TheVariants.{Four, Eight}
-use Rattle.full_text.specs.Full.{zeros, records, record_size, records_size, AreIn, Making, whole, IsFullText, blank}
+use Rattle.full_text.specs.Full.{zeros, page_at, page_records, record_size, records_size, AreIn, Making, whole, IsFullText, blank}
+use Rattle.full_text.specs.internal.CutRecords.{records}
+use Rattle.full_text.proofs.KeptLemmas.{records-plain}
 use Rattle.full_text.proofs.TextLemmas.{HasParts, PageIsSpelled, text-whole}
 use Rattle.full_text.proofs.RecordLemmas.{OnesAreNamed, OwnAreRecorded, blocks-length, length-page}
 
@@ -114,34 +116,38 @@ head-same : (shape : Shape) (m : State) (g : ℕ) → head_numbers (blank shape 
 unfolding head_numbers
 head-same shape m g = refl
 
-module _ (shape : Shape) (m : State) (g : ℕ) (f : Making)
+module _ (ones : OnesAreNamed) (own : OwnAreRecorded) (shape : Shape) (m : State) (g : ℕ) (f : Making) (kept : f.kept ≡ [])
     (pages : f.pages ≡ changed_pages (zeros m.guest.ram) m.guest.ram shape.pages)
-    (masks : All (λ (p : PageChange). p.mask < 2 ^ 64) (changed_pages (zeros m.guest.ram) m.guest.ram shape.pages)) where
+    (masks : All (λ (p : PageChange). p.mask < 2 ^ 64) (changed_pages (zeros m.guest.ram) m.guest.ram shape.pages))
+    (within : AreIn (length m.guest.ram) f.pages) where
   -- what is put of it at first, with the records that come later, is the text
-  pub full-whole : HasParts → OnesAreNamed → PageIsSpelled → (head count used : List ℕ) → f.made ≡ head ++ count
+  pub full-whole : HasParts → PageIsSpelled → (head count used : List ℕ) → f.made ≡ head ++ count
       → head ≡ joined (number_units head_table (head_numbers (blank shape m.guest g))) → count ≡ bytes_of Four (length f.pages)
       → used ≡ used_sectors m.guest.sectors shape.sectors
       → f.tail ≡ (bytes_of Four (length used) ++ joined (sector_units (changed_sectors m.guest.sectors used))) ++ bytes_of Four 0
       → whole m.guest.ram f ≡ text (full_change shape m g)
-  full-whole parts ones spelled head count used made is_head is_count is_used tail =
+  full-whole parts spelled head count used made is_head is_count is_used tail =
       let ram = m.guest.ram in
       let long : length used ≡ length (changed_sectors m.guest.sectors (used_sectors m.guest.sectors shape.sectors)) =
       ap (λ (l : List ℕ). length l) is_used ∙ sym (length-map (used_sectors m.guest.sectors shape.sectors) (sector_change m.guest.sectors)) in
-      (λ i. made i ++ (records ram (pages i) ++ f.tail))
+      (λ i. made i ++ (page_records (page_at ram (kept i)) f.pages ++ f.tail))
+      ∙ ap (λ l. (head ++ count) ++ (l ++ f.tail)) (records-plain own ram f.pages within)
+      ∙ (λ i. (head ++ count) ++ (records ram (pages i) ++ f.tail))
       ∙ text-whole parts ones spelled (full_change shape m g) ram head count f.tail refl refl masks refl
       (is_head ∙ ap (λ ns. joined (number_units head_table ns)) (head-same shape m g))
       (is_count ∙ ap (λ (l : List PageChange). bytes_of Four (length l)) pages)
       (tail ∙ (λ i. (bytes_of Four (long i) ++ joined (sector_units (changed_sectors m.guest.sectors (is_used i)))) ++ bytes_of Four 0))
 
-  pub full-size : OnesAreNamed → OwnAreRecorded → AreIn (length m.guest.ram) f.pages
-      → length (whole m.guest.ram f) ≡ length f.made + (records_size f.pages + length f.tail)
-  full-size ones own within =
+  pub full-size : length (whole m.guest.ram f) ≡ length f.made + (records_size f.pages + length f.tail)
+  full-size =
       let ram = m.guest.ram in
       let fits = subst (All (λ (p : PageChange). p.mask < 2 ^ 64)) (sym pages) masks in
       omega (
         arith,
-        length-append f.made (records ram f.pages ++ f.tail),
-        length-append (records ram f.pages) f.tail,
+        length-append f.made (page_records (page_at ram f.kept) f.pages ++ f.tail),
+        length-append (page_records (page_at ram f.kept) f.pages) f.tail,
+        ap (λ (k : List (Option (List ℕ))). length (page_records (page_at ram k) f.pages)) kept,
+        ap (λ (l : List ℕ). length l) (records-plain own ram f.pages within),
         records-length ones own ram f.pages fits within,
       )
 

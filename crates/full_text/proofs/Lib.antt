@@ -1,4 +1,6 @@
+pub mod ZeroBlocks
 pub mod RecordLemmas
+pub mod KeptLemmas
 pub mod TextLemmas
 pub mod FullLemmas
 pub mod PartLemmas

@@ -12,10 +12,9 @@ use Rattle.guest_machine.specs.Pages.{page_of}
 use Rattle.epoch_snapshot.specs.declared.changes.PageChange.{PageChange}
 use Rattle.epoch_snapshot.specs.Blocks.{block_in, named_below, set_blocks}
 use Rattle.epoch_snapshot.specs.Cuts.{changed_blocks}
-use Rattle.checkpoint_stream.specs.HeadTable.{bytes_of}
 use Rattle.checkpoint_stream.specs.Text.{joined}
-use Rattle.checkpoint_stream.specs.declared.rules.Width.TheVariants.{Four, Eight}
-use Rattle.full_text.specs.Full.{zeros, record_of, records, record_size, records_size}
+use Rattle.full_text.specs.Full.{zeros, record_size, records_size}
+use Rattle.full_text.specs.internal.CutRecords.{records, record_of}
 
 -- what the laws `masks_name_blocks`, `pages_are_their_blocks` and `texts_are_their_parts` say, as the lemmas here take it
 abbrev pub NextIsNamed : Type 0
@@ -92,16 +91,6 @@ room-left fewer page m n fits long below set =
       fewer m n fits below set,
     )
 
-pub record-put : OwnAreRecorded → (ram xs ys zs out : List ℕ) (p : PageChange) → 4096 * p.page + 4096 ≤ length ram → ys ≡ xs ++ bytes_of Four p.page
-    → zs ≡ ys ++ bytes_of Eight p.mask → out ≡ zs ++ joined (map (λ i. block_in (page_of ram p.page) i) (set_blocks p.mask))
-    → out ≡ xs ++ record_of ram p
-record-put own ram xs ys zs out p within e f g =
-    let blocks = joined (changed_blocks (zeros ram) ram (p ∷ [])) in
-    g
-    ∙ (λ k. (f ∙ ap (λ l. l ++ bytes_of Eight p.mask) e) k ++ joined (own ram p within k))
-    ∙ ap (λ l. l ++ blocks) (append_assoc xs (bytes_of Four p.page) (bytes_of Eight p.mask))
-    ∙ append_assoc xs (bytes_of Four p.page ++ bytes_of Eight p.mask) blocks
-
 pub blocks-length : OnesAreNamed → (page : List ℕ) (m : ℕ) → m < 2 ^ 64 → length page ≡ 4096
     → length (joined (map (λ i. block_in page i) (set_blocks m))) ≡ 64 * count_ones m
 unfolding set_blocks
@@ -117,13 +106,6 @@ blocks-length ones page m fits long =
 pub records-cons : (ram : List ℕ) (p : PageChange) (ps : List PageChange) → records ram (p ∷ ps) ≡ record_of ram p ++ records ram ps
 unfolding records
 records-cons ram p ps = refl
-
-pub records-next : (ram xs ys : List ℕ) (ps : List PageChange) (i : ℕ) (d : PageChange) → i < length ps → ys ≡ xs ++ record_of ram (get_or ps i d)
-    → ys ++ records ram (drop (i + 1) ps) ≡ xs ++ records ram (drop i ps)
-records-next ram xs ys ps i d within e =
-    ap (λ l. l ++ records ram (drop (i + 1) ps)) e
-    ∙ append_assoc xs (record_of ram (get_or ps i d)) (records ram (drop (i + 1) ps))
-    ∙ ap (λ l. xs ++ l) (sym (records-cons ram (get_or ps i d) (drop (i + 1) ps)) ∙ ap (records ram) (sym (next ps i d within)))
 
 pub sizes-next : (ps : List PageChange) (i : ℕ) (d : PageChange) → i < length ps
     → records_size (drop i ps) ≡ record_size (get_or ps i d) + records_size (drop (i + 1) ps)

@@ -1,9 +1,8 @@
 -- What is put of a full checkpoint is its text.
 use Rattle.std.proofs.Common.{◌≡◌, ℕ, ◌+◌, ◌-◌, ◌*◌, ◌^◌, ◌<◌, ◌≤◌, List, [], ◌∷◌, ◌++◌, length, map, take, drop, get_or, refl, sym}
 use Rattle.std.proofs.Common.{ap, ◌∙◌, arith, append_assoc, All}
-use Rattle.std.proofs.lemmas.List.{append-nil, length-append, length-map, map-append, take_at, drop_all, drop-drop}
+use Rattle.std.proofs.lemmas.List.{append-nil, length-append, length-map, map-append, take_at, drop_all}
 use Rattle.std.proofs.lemmas.List.Elements.{All-head, All-tail}
-use Rattle.std.proofs.lemmas.List.Sums.{sum_by-cons}
 use Rattle.std.specs.Prelude.{count_ones, slice_range}
 use Rattle.epoch_snapshot.specs.declared.changes.PageChange.{PageChange}
 use Rattle.epoch_snapshot.specs.declared.changes.SectorChange.{SectorChange}
@@ -15,7 +14,8 @@ use Rattle.guest_machine.specs.declared.shapes.Shape.{Shape}
 use Rattle.checkpoint_stream.specs.HeadTable.{bytes_of, head_table}
 use Rattle.checkpoint_stream.specs.Text.{head_numbers, number_units, page_units, sector_units, frame_units, joined, text}
 use Rattle.checkpoint_stream.specs.declared.rules.Width.TheVariants.{Four, Eight}
-use Rattle.full_text.specs.Full.{zeros, record_of, records, record_size, records_size, Making, whole, size, blank}
+use Rattle.full_text.specs.Full.{zeros, blank}
+use Rattle.full_text.specs.internal.CutRecords.{record_of, records}
 use Rattle.full_text.proofs.RecordLemmas.{OnesAreNamed, next, records-cons}
 
 -- what the law `texts_are_their_parts` says, as the lemmas here take it
@@ -125,33 +125,3 @@ sectors-put disk used xs ys i within e =
 pub no-more-sectors : (disk used : List ℕ) (i : ℕ) → length used ≤ i → joined (sector_units (changed_sectors disk (drop i used))) ≡ []
 unfolding joined sector_units
 no-more-sectors disk used i past = ap (λ l. joined (sector_units (changed_sectors disk l))) (drop_all i used past)
-
--- ---- the last records are made, and the tail behind them
-
-pub make-end : (ram made out tail : List ℕ) (pages slice : List PageChange) (next r : ℕ)
-    → out ++ records ram (drop r slice) ≡ made ++ records ram slice → slice ≡ drop next pages → length pages ≤ next + r
-    → (out ++ tail) ++ (records ram (drop (next + r) pages) ++ []) ≡ made ++ (records ram (drop next pages) ++ tail)
-unfolding records
-make-end ram made out tail pages slice next r e is past =
-    let none : drop (next + r) pages ≡ [] = drop_all (next + r) pages past in
-    let gone : drop r slice ≡ [] = ap (drop r) is ∙ drop-drop r next pages ∙ none in
-    let all : out ≡ made ++ records ram slice = sym (append-nil out) ∙ ap (λ ps. out ++ records ram ps) (sym gone) ∙ e in
-    ap (λ ps. (out ++ tail) ++ (records ram ps ++ [])) none
-    ∙ append-nil (out ++ tail)
-    ∙ ap (λ l. l ++ tail) all
-    ∙ append_assoc made (records ram slice) tail
-    ∙ ap (λ ps. made ++ (records ram ps ++ tail)) is
-
--- where as many bytes are made as the text has, nothing is left
-pub size-done : (f : Making) → (length f.made < size f → (f.pages ≡ []) × (f.tail ≡ [])) → (f.pages ≡ []) × (f.tail ≡ [])
-size-done f h = by_parts f.made f.pages f.tail h
-  where
-    by_parts : (made : List ℕ) (pages : List PageChange) (tail : List ℕ)
-        → (length made < length made + (records_size pages + length tail) → (pages ≡ []) × (tail ≡ [])) → (pages ≡ []) × (tail ≡ [])
-    by_parts made [] [] g = (refl, refl)
-    by_parts made [] (b ∷ bs) g = g (omega arith)
-    by_parts made (p ∷ ps) tail g = g (omega (arith, sum_by-cons record_size p ps))
-
-pub whole-made : (ram : List ℕ) (f : Making) → f.pages ≡ [] → f.tail ≡ [] → whole ram f ≡ f.made
-unfolding records
-whole-made ram f pages tail = (λ i. f.made ++ (records ram (pages i) ++ tail i)) ∙ append-nil f.made

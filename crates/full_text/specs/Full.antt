@@ -1,14 +1,17 @@
 -- The text of a full checkpoint, of which a part is made, and the rest is made later from the memory that the machine had.
-use Rattle.std.specs.Prelude.{◌≡◌, ◌≤◌, ◌<◌, ℕ, ◌+◌, ◌*◌, List, [], ◌∷◌, ◌++◌, length, take, drop, replicate, count_ones, All}
+use Rattle.std.specs.Prelude.{◌≡◌, ◌≤◌, ◌<◌, ℕ, ◌+◌, ◌*◌, List, [], ◌∷◌, ◌++◌, length, map, take, drop, replicate, count_ones, All}
+use Rattle.std.specs.Prelude.{Option, None, Some, slice_index_or}
 use Rattle.std.specs.List.{sum_by}
 use Rattle.guest_machine.specs.Guest.{Guest, State, sector_count}
 use Rattle.guest_machine.specs.Limits.{page_bytes}
 use Rattle.guest_machine.specs.MachineStates.{state_of}
+use Rattle.guest_machine.specs.Pages.{page_of}
 use Rattle.guest_machine.specs.declared.shapes.Shape.{Shape}
 use Rattle.epoch_snapshot.specs.declared.changes.PageChange.{PageChange}
 use Rattle.epoch_snapshot.specs.Bases.{IsCut}
+use Rattle.epoch_snapshot.specs.Blocks.{block_in, set_blocks}
 use Rattle.epoch_snapshot.specs.Checkpoints.{Change, change_of}
-use Rattle.epoch_snapshot.specs.Cuts.{changed_blocks, used_sectors}
+use Rattle.epoch_snapshot.specs.Cuts.{used_sectors}
 use Rattle.epoch_snapshot.specs.Images.{image_of}
 use Rattle.checkpoint_stream.specs.Bounds.{most_text}
 use Rattle.checkpoint_stream.specs.HeadTable.{bytes_of}
@@ -20,13 +23,14 @@ use Rattle.checkpoint_stream.specs.declared.rules.Width.TheVariants.{Four, Eight
 abbrev pub zeros : List ℕ → List ℕ
 zeros ram = replicate (length ram) 0
 
--- THE RECORD of a page: its index, its mask, and the blocks that the mask names; and those of several, in turn
-abbrev pub record_of : List ℕ → PageChange → List ℕ
-record_of ram p = bytes_of Four p.page ++ bytes_of Eight p.mask ++ joined (changed_blocks (zeros ram) ram (p ∷ []))
+-- THE RECORD of a page of these bytes: its index, its mask, and the blocks that the mask names; and those of several, in turn, whose bytes a
+-- function of the index gives
+abbrev pub page_record : List ℕ → PageChange → List ℕ
+page_record bytes p = bytes_of Four p.page ++ bytes_of Eight p.mask ++ joined (map (λ i. block_in bytes i) (set_blocks p.mask))
 
-unfoldable pub records : List ℕ → List PageChange → List ℕ
-records ram [] = []
-records ram (p ∷ ps) = record_of ram p ++ records ram ps
+unfoldable pub page_records : (ℕ → List ℕ) → List PageChange → List ℕ
+page_records bytes [] = []
+page_records bytes (p ∷ ps) = page_record (bytes p.page) p ++ page_records bytes ps
 
 -- how many bytes they have
 abbrev pub record_size : PageChange → ℕ
@@ -39,15 +43,29 @@ records_size ps = sum_by record_size ps
 abbrev pub AreIn : ℕ → List PageChange → Type 0
 AreIn bytes ps = All (λ p. page_bytes * p.page + page_bytes ≤ bytes) ps
 
--- A TEXT IN THE MAKING: the bytes that are made, the pages whose records come next, in order, and what stands behind them
+-- What a page has: what is kept of it, or, where nothing is, what stands in memory
+abbrev pub kept_or : List ℕ → Option (List ℕ) → List ℕ
+kept_or stands None = stands
+kept_or stands (Some bytes) = bytes
+
+abbrev pub page_at : List ℕ → List (Option (List ℕ)) → ℕ → List ℕ
+page_at ram kept page = kept_or (page_of ram page) (slice_index_or kept page None)
+
+-- it is the same of what a machine had at its last settle and of what it has now
+abbrev pub IsSameIn : State → List (Option (List ℕ)) → ℕ → Type 0
+IsSameIn m kept page = page_at m.guest.ram kept page ≡ page_at m.settled kept page
+
+-- A TEXT IN THE MAKING: the bytes that are made, the pages whose records come next, in order, what is kept of pages by their indices, and what
+-- stands behind the records
 pub record Making : Type 0 where
   pub made : List ℕ
   pub pages : List PageChange
+  pub kept : List (Option (List ℕ))
   pub tail : List ℕ
 
--- the whole text, over the memory that the records are made from, and how many bytes it has
+-- the whole text, over the memory that has what isn't kept, and how many bytes it has
 abbrev pub whole : List ℕ → Making → List ℕ
-whole ram f = f.made ++ (records ram f.pages ++ f.tail)
+whole ram f = f.made ++ (page_records (page_at ram f.kept) f.pages ++ f.tail)
 
 abbrev pub size : Making → ℕ
 size f = length f.made + (records_size f.pages + length f.tail)

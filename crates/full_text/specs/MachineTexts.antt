@@ -1,7 +1,7 @@
 -- A machine, and the texts of its checkpoints that are pending.
-use Rattle.std.specs.Prelude.{ℕ, List, [], Option, length, replicate, false}
+use Rattle.std.specs.Prelude.{◌≡◌, ℕ, List, [], Option, length, replicate, false}
 use Rattle.guest_machine.specs.Guest.{State}
-use Rattle.full_text.specs.Full.{Making}
+use Rattle.full_text.specs.Full.{Making, whole}
 
 -- so many texts have room
 abbrev pub most_texts : ℕ
@@ -11,9 +11,13 @@ pub record Texts : Type 0 where
   pub machine : State
   -- each of them whole
   pub texts : List (List ℕ)
-  -- the one that is made in part, if one is: it is the only one
+  -- the first one, where it is a full checkpoint's, which may be made in part
   pub full : Option Making
 
 -- a machine that is settled
 abbrev pub settled_at : State → State
 settled_at m = record m { outbox = []; dirty = []; settled = m.guest.ram; written = replicate (length m.written) false }
+
+-- what is left of the full text is the same of what memory has now: the machine may be settled
+abbrev pub IsKept : State → Making → Type 0
+IsKept m f = whole m.guest.ram f ≡ whole m.settled f

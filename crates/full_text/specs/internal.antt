@@ -1,3 +1,5 @@
 -- what only models, private functions and proofs cite
+pub mod CutRecords
 pub mod Fields
+pub mod KeptFields
 pub mod TextFields

@@ -5,21 +5,24 @@ ghost use Rattle.epoch_snapshot.specs.Blocks.{changed_mask};
 ghost use Rattle.epoch_snapshot.specs.Cuts.{changed_pages, used_sectors};
 ghost use Rattle.full_text.specs.Full.{zeros};
 
+use crate::records::block;
 use epoch_snapshot::{PageChange, changes_are_found_in_turn, pages_are_their_blocks};
 use guest_machine::Machine;
 use memory_wanted::{MemoryWanted, push};
-use page_lanes::{PAGE_SIZE, Page, mask};
+use page_lanes::is_zero;
 
-/// A page of zeros.
-static ZERO_PAGE: Page = [0; PAGE_SIZE];
-
-/// Which blocks of a page aren't all zero.
+/// Which blocks of a page aren't all zero. It goes over memory in the order in which it stands there, and looks at nothing beside it.
 fn page_mask(machine: &Machine, page: u32) -> u64
     requires { page_bytes * page + page_bytes ≤ length machine.now.guest.ram }
     ensures { result ≡ changed_mask (zeros machine.now.guest.ram) machine.now.guest.ram page }
 {
     pages_are_their_blocks();
-    mask(&ZERO_PAGE, machine.page(page))
+    let bytes = machine.page(page);
+    let mut mask = 0;
+    for number in 0..64 {
+        mask += u64::from(!is_zero(block(bytes, number))) << number;
+    }
+    mask
 }
 
 /// Puts those of the first `count` pages that aren't all zero into an empty list, each with the mask of its blocks that aren't. After an

@@ -1,28 +1,30 @@
 //! A machine, and the texts of its checkpoints that are pending.
-ghost use Rattle.std.specs.Prelude.{◌≡◌, ◌≤◌, ◌<◌, ◌+◌, ◌==◌, ◌∷◌, ◌++◌, if◌then◌else◌, ℕ, List, [], None, Some, IfSome, drop, length, map, slice_index_or, vec_capacity};
+ghost use Rattle.std.specs.Prelude.{◌≡◌, ◌≤◌, ◌<◌, ◌+◌, ◌∷◌, ◌++◌, ℕ, List, [], None, IfSome, OnOk, drop, length, slice_index_or, vec_capacity};
 ghost use Rattle.guest_machine.specs.Limits.{stepping_frames};
 ghost use Rattle.guest_machine.specs.Runs.{HaveRoom, after_steps, marked_in, sent_in};
 ghost use Rattle.guest_machine.specs.Step.{arrived};
 ghost use Rattle.full_text.specs.Full.{AreIn, IsMadeTo, part_of, whole};
-ghost use Rattle.full_text.specs.MachineTexts.{most_texts, settled_at};
-ghost use Rattle.full_text.specs.internal.TextFields.{FullFits, texts_of};
+ghost use Rattle.full_text.specs.MachineTexts.{IsKept, most_texts, settled_at};
+ghost use Rattle.full_text.specs.internal.TextFields.{FullFits, full_count, texts_of};
 
 use crate::rows::{drop_first, part_of, put_last};
 use crate::text::FullText;
 use guest_machine::{Frame, Machine};
+use memory_wanted::MemoryWanted;
 use std::marker::Model;
 
 /// So many bytes more of a full text are made where a part of it is asked for. So one that is fetched in small parts is whole long before it
-/// is fetched, and little of it is left to make at once where the machine is to be settled.
+/// is fetched, and few of its pages have to be kept where the machine is settled.
 const AHEAD: u64 = 1 << 20;
 
-/// A machine, and at most four texts of its checkpoints. Contracts see each text whole. That of a full checkpoint may be made in part: the rest
-/// is made of the memory that the machine had at its last settle, as it is asked for, and all of it before the next settle.
+/// A machine, and at most four texts of its checkpoints. Contracts see each text whole. The first may be that of a full checkpoint, which is made
+/// as it is asked for: of the memory that the machine had at its last settle, and of what is kept of what it had before.
 #[derive(Drop)]
 pub struct MachineTexts {
     machine: Machine,
-    texts: Vec<Vec<u8>>,
     full: Option<FullText>,
+    /// The texts behind the full one.
+    texts: Vec<Vec<u8>>,
 }
 
 impl Model for MachineTexts {
@@ -46,8 +48,8 @@ impl MachineTexts {
     {
         MachineTexts {
             machine,
-            texts,
             full: None,
+            texts,
         }
     }
 
@@ -64,7 +66,7 @@ impl MachineTexts {
     {
         match &self.full {
             None => self.texts.len(),
-            Some(_) => 1,
+            Some(_) => 1 + self.texts.len(),
         }
     }
 
@@ -102,13 +104,27 @@ impl MachineTexts {
         self.machine.clear_outbox();
     }
 
-    /// The machine is settled, and this text is the last one. What is left of a full text is made before that.
+    /// Keeps what of the full text is still to be made and the machine gives up where it is settled: the pages that were written since its last
+    /// settle, if their records aren't made.
+    ///
+    /// # Errors
+    /// The growth that was really refused. The machine and the texts are the same.
+    pub fn keep(&mut self) -> Result<(), MemoryWanted>
+        ensures machine { self.new.machine ≡ self.old.machine }
+        ensures texts { self.new.texts ≡ self.old.texts }
+        ensures kept { OnOk result (IfSome self.new.full (IsKept self.new.machine)) }
+    {
+        keep(&self.machine, &mut self.full)
+    }
+
+    /// The machine is settled, and this text is the last one. What is left of a full text is [kept](MachineTexts::keep), as the caller knows.
     pub fn settle_with(&mut self, text: Vec<u8>)
-        requires { length self.old.texts < most_texts }
+        requires room { length self.old.texts < most_texts }
+        requires kept { IfSome self.old.full (IsKept self.old.machine) }
         ensures machine { self.new.machine ≡ settled_at self.old.machine }
         ensures texts { self.new.texts ≡ self.old.texts ++ text.items ∷ [] }
     {
-        finish(&self.machine, &mut self.full, &mut self.texts);
+        let _shape = self.machine.shape();
         self.machine.settle();
         put_last(&mut self.texts, text);
     }
@@ -130,9 +146,9 @@ impl MachineTexts {
         ensures machine { self.new.machine ≡ self.old.machine }
         ensures texts { self.new.texts ≡ drop count self.old.texts }
     {
-        match self.full.take() {
-            None => drop_first(&mut self.texts, count),
-            Some(full) => self.full = without(full, count),
+        if count > 0 {
+            let behind = count - take_full(&mut self.full);
+            drop_first(&mut self.texts, behind);
         }
     }
 
@@ -164,16 +180,21 @@ impl MachineTexts {
     {
         match &self.full {
             None => part_of(&self.texts[place], from, count),
-            Some(full) => made_part(full, from, count),
+            Some(full) if place == 0 => made_part(full, from, count),
+            Some(_) => part_of(&self.texts[place - 1], from, count),
         }
     }
 }
 
-/// A full text, unless so many texts are let go.
-fn without(full: FullText, count: usize) -> Option<FullText>
-    ensures { result ≡ (if count == 0 then Some full else None) }
+/// Lets go of the full text, if there is one. Answers how many that is.
+fn take_full(full: &mut Option<FullText>) -> usize
+    ensures none { full.new ≡ None }
+    ensures value { result ≡ full_count full.old }
 {
-    if count == 0 { Some(full) } else { None }
+    match full.take() {
+        None => 0,
+        Some(_) => 1,
+    }
 }
 
 /// Of a full text, which is made as far, the bytes from place `from` on, `count` of them or as many as there are.
@@ -184,26 +205,25 @@ fn made_part(full: &FullText, from: u64, count: u64) -> &[u8]
     part_of(full.made(), from, count)
 }
 
-/// Makes what is left of the full text, which is the only one, and puts it into the row.
-fn finish(machine: &Machine, full: &mut Option<FullText>, texts: &mut Vec<Vec<u8>>)
-    requires fits { FullFits machine.now full.old (map (λ t. t.items) texts.old.items) }
-    requires room { most_texts ≤ vec_capacity texts.old }
-    ensures none { full.new ≡ None }
-    ensures texts { map (λ t. t.items) texts.new.items ≡ texts_of machine.now.settled full.old (map (λ t. t.items) texts.old.items) }
-    ensures room { vec_capacity texts.old ≤ vec_capacity texts.new }
+/// Keeps what of the full text is still to be made and the machine gives up where it is settled.
+fn keep(machine: &Machine, full: &mut Option<FullText>) -> Result<(), MemoryWanted>
+    requires { FullFits machine.now full.old }
+    ensures fits { FullFits machine.now full.new }
+    ensures same { (texts : List (List ℕ)) → texts_of machine.now.settled full.new texts ≡ texts_of machine.now.settled full.old texts }
+    ensures kept { OnOk result (IfSome full.new (IsKept machine.now)) }
 {
     let _shape = machine.shape();
-    match full.take() {
-        None => {}
-        Some(full) => put_last(texts, full.into_whole(machine)),
+    match full {
+        None => Ok(()),
+        Some(full) => full.keep(machine),
     }
 }
 
 /// Makes the next bytes of the full text.
 fn make_ahead(machine: &Machine, full: &mut Option<FullText>)
-    requires { FullFits machine.now full.old [] }
-    ensures fits { FullFits machine.now full.new [] }
-    ensures same { texts_of machine.now.settled full.new [] ≡ texts_of machine.now.settled full.old [] }
+    requires { FullFits machine.now full.old }
+    ensures fits { FullFits machine.now full.new }
+    ensures same { (texts : List (List ℕ)) → texts_of machine.now.settled full.new texts ≡ texts_of machine.now.settled full.old texts }
 {
     let _shape = machine.shape();
     match full {
@@ -217,9 +237,9 @@ fn make_ahead(machine: &Machine, full: &mut Option<FullText>)
 
 /// Makes the full text up to `count` bytes from place `from` on, or all of it.
 fn make_to(machine: &Machine, full: &mut Option<FullText>, from: u64, count: u64)
-    requires { FullFits machine.now full.old [] }
-    ensures fits { FullFits machine.now full.new [] }
-    ensures same { texts_of machine.now.settled full.new [] ≡ texts_of machine.now.settled full.old [] }
+    requires { FullFits machine.now full.old }
+    ensures fits { FullFits machine.now full.new }
+    ensures same { (texts : List (List ℕ)) → texts_of machine.now.settled full.new texts ≡ texts_of machine.now.settled full.old texts }
     ensures made { IfSome full.new (IsMadeTo (from + count)) }
 {
     let _shape = machine.shape();

@@ -1,5 +1,5 @@
 //! The text of a full checkpoint, of which a part is made.
-ghost use Rattle.std.specs.Prelude.{◌≡◌, ◌≤◌, ◌<◌, ◌*◌, ◌+◌, ◌^◌, ◌++◌, [], All, length, IfOk};
+ghost use Rattle.std.specs.Prelude.{◌≡◌, ◌≤◌, ◌<◌, ◌*◌, ◌+◌, ◌^◌, ◌++◌, All, length, IfOk, OnOk};
 ghost use Rattle.epoch_snapshot.specs.Cuts.{changed_sectors};
 ghost use Rattle.checkpoint_stream.specs.Bounds.{most_text};
 ghost use Rattle.checkpoint_stream.specs.HeadTable.{bytes_of, head_table};
@@ -8,9 +8,11 @@ ghost use Rattle.checkpoint_stream.specs.Widths.{HasWidths};
 ghost use Rattle.checkpoint_stream.specs.declared.rules.Width.TheVariants.{Four};
 ghost use Rattle.guest_machine.specs.Guest.{sector_count};
 ghost use Rattle.full_text.specs.Full.{AreIn, IsFullText, IsMadeTo, blank, record_size, records_size, size, whole};
+ghost use Rattle.full_text.specs.MachineTexts.{IsKept};
 
 use crate::found::{used_pages, used_sectors};
-use crate::records::{put, put_four, put_records};
+use crate::kept::KeptPages;
+use crate::records::{keep_pages, put, put_four, put_records};
 use checkpoint_stream::{StreamError, encode, text_is_read_back, texts_are_their_parts};
 use epoch_snapshot::{
     BLOCK_BYTES, Checkpoint, PageChange, full_cuts_are_whole, masks_name_blocks,
@@ -32,12 +34,14 @@ const COUNT_BYTES: usize = 4;
 const RECORD_BYTES: usize = 12;
 
 /// The text of a machine's full checkpoint, of which a part is made. It has room for all of it from the start. The rest is made of the memory
-/// that the machine had at its last settle: the machine is settled once after [`FullText::new`], and then not until the text is whole.
+/// that the machine had when it was settled right after [`FullText::new`]: before it is settled again, [`keep`](FullText::keep) keeps what of
+/// that the machine gives up then.
 #[derive(Drop)]
 pub struct FullText {
     made: Vec<u8>,
     pages: Vec<PageChange>,
     next: usize,
+    kept: KeptPages,
     tail: Vec<u8>,
 }
 
@@ -87,6 +91,7 @@ impl FullText {
             made,
             pages,
             next: 0,
+            kept: KeptPages::new(alloc),
             tail,
         })
     }
@@ -105,8 +110,8 @@ impl FullText {
         self.made.as_slice()
     }
 
-    /// Makes the text up to `count` bytes from place `from` on at least, or all of it, of the memory that this machine, whose text it is, had at
-    /// its last settle. It takes no memory beside what was reserved.
+    /// Makes the text up to `count` bytes from place `from` on at least, or all of it, of what is kept, and of the memory that this machine, whose
+    /// text it is, had at its last settle. It takes no memory beside what was reserved.
     pub fn make_to(&mut self, machine: &Machine, from: u64, count: u64)
         requires { AreIn (length machine.now.guest.ram) self.old.pages }
         ensures same { whole machine.now.settled self.new ≡ whole machine.now.settled self.old }
@@ -117,6 +122,7 @@ impl FullText {
         self.next += put_records(
             &mut self.made,
             machine,
+            &self.kept,
             &self.pages[self.next..],
             from,
             count,
@@ -127,24 +133,25 @@ impl FullText {
         }
     }
 
-    /// The whole text. What is left of it is made as by [`make_to`](FullText::make_to).
-    pub fn into_whole(self, machine: &Machine) -> Vec<u8>
-        requires { AreIn (length machine.now.guest.ram) self.pages }
-        ensures { result.items ≡ whole machine.now.settled self }
+    /// Keeps what the pages had at this machine's last settle whose records aren't made, of those that were written since. So the text is the same
+    /// of what memory has now, and the machine may be settled. It copies no more pages than were written.
+    ///
+    /// # Errors
+    /// The growth that was really refused. The text is the same.
+    pub fn keep(&mut self, machine: &Machine) -> Result<(), MemoryWanted>
+        requires { AreIn (length machine.now.guest.ram) self.old.pages }
+        ensures same { whole machine.now.settled self.new ≡ whole machine.now.settled self.old }
+        ensures kept { OnOk result (IsKept machine.now self.new) }
+        ensures rest { self.new ≡ record self.old { kept = self.new.kept } }
     {
-        let mut full = self;
-        let size = full.size();
-        full.make_to(machine, 0, size as u64);
-        full.into_made()
-    }
-
-    /// The text, of which nothing is left to make, as the caller knows.
-    fn into_made(self) -> Vec<u8>
-        requires pages { self.pages ≡ [] }
-        requires tail { self.tail ≡ [] }
-        ensures { result.items ≡ self.made }
-    {
-        self.made
+        if self.next >= self.pages.len() {
+            return Ok(());
+        }
+        let left = &self.pages[self.next..];
+        let pages = machine.shape().pages;
+        self.kept
+            .reserve(pages, machine.dirty_count().min(left.len()) as u32)?;
+        keep_pages(&mut self.kept, machine, left)
     }
 }
 

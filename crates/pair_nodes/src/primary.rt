@@ -212,7 +212,7 @@ impl PrimaryNode {
     }
 
     /// However long it runs, it holds no more than its shape says: the guest's memory twice, its disk, and of at most four checkpoints the
-    /// texts and the frames.
+    /// texts and the frames. What it takes beside these lists while it makes a full checkpoint's text isn't counted: docs/LIMITS.md tells it.
     pub fn what_it_holds_is_bounded(&self)
         ensures lists { IsBoundedPrimary self.now }
         ensures bytes { primary_bytes self.now ≤ most_primary_bytes self.now.shape }
@@ -326,22 +326,31 @@ impl PrimaryNode {
         };
         let count = text.len();
         few_frames(self.kept.machine());
-        self.seal(text);
-        Ok(count)
+        match self.seal(text) {
+            Ok(()) => Ok(count),
+            Err(wanted) => Err(Refusal::NoMemory(wanted)),
+        }
     }
 
-    /// The epoch ends with a checkpoint of this text.
-    fn seal(&mut self, text: Vec<u8>)
+    /// The epoch ends with a checkpoint of this text. What of a full checkpoint's text is still to be made of the memory that the machine gives up
+    /// now is kept.
+    ///
+    /// # Errors
+    /// The growth that was really refused. Nothing changes then.
+    fn seal(&mut self, text: Vec<u8>) -> Result<(), MemoryWanted>
         requires backed { self.old.backed ≡ true }
         requires few { length self.old.pending < most_pending }
         requires number { self.old.to_cut < number_limit }
         requires frames { self.old.next_frame ≤ last_frame }
         requires short { length text.items ≤ most_text self.old.shape }
-        ensures { self.new ≡ after_cut self.old text.items }
+        ensures done { OnOk result (self.new ≡ after_cut self.old text.items) }
+        ensures err { OnErr result (self.new ≡ self.old) }
     {
+        self.kept.keep()?;
         self.gate.hold(self.to_cut, self.kept.machine().outbox());
         self.kept.settle_with(text);
         self.to_cut += 1;
+        Ok(())
     }
 
     /// The text of the checkpoint that a cut would make.

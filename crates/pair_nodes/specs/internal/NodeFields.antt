@@ -1,5 +1,5 @@
 -- How the fields of the nodes stand for what contracts see.
-use Rattle.std.specs.Prelude.{◌≡◌, ◌+◌, ◌-◌, ◌≤◌, false, not, [], All, length, map, None, Some, if◌then◌else◌, vec_capacity}
+use Rattle.std.specs.Prelude.{◌≡◌, ◌+◌, ◌-◌, ◌≤◌, false, not, [], All, length, None, Some, if◌then◌else◌}
 use Rattle.failover.specs.declared.mode.Mode.TheVariants as modes
 use Rattle.frame_ports.specs.Limits.{number_limit}
 use Rattle.backup_image.specs.declared.standing.Standing.{Standing}

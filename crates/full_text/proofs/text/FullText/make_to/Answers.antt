@@ -3,8 +3,8 @@ use Rattle.std.proofs.Common.{◌≡◌, ℕ, ◌+◌, ◌-◌, ◌*◌, ◌≤�
 use Rattle.std.proofs.lemmas.List.{drop-drop, length-drop, take_all}
 use Rattle.std.proofs.lemmas.List.Elements.{All-drop}
 use Rattle.epoch_snapshot.specs.declared.changes.PageChange.{PageChange}
-use Rattle.full_text.specs.Full.{AreIn, Making, records, whole}
-use Rattle.full_text.proofs.TextLemmas.{make-end}
+use Rattle.full_text.specs.Full.{AreIn, Making, page_at, page_records, whole}
+use Rattle.full_text.proofs.KeptLemmas.{make-end}
 use Rattle.full_text.proofs.text.FullText.make_to.Goals as goal
 
 pub returns-then-self-len-clause-same : goal.returns-then-self-len-clause-same
@@ -16,8 +16,8 @@ returns-then-self-len-clause-same c =
     let is : _ ≡ drop a.next a.pages.items =
     take_all (length c.deref.result.now - a.next) (drop a.next c.deref.result.now) (omega (arith, length-drop a.next c.deref.result.now))
     ∙ ap (drop a.next) c.deref.ensures.value in
-    (λ i. put i ++ (records settled (drop (a.next + c.put_records.result) a.pages.items) ++ c.clear.ensures.items i))
-    ∙ make-end settled a.made.items c.put_records.new.text.items a.tail.items a.pages.items _ a.next c.put_records.result
+    (λ i. put i ++ (page_records (page_at settled a.kept) (drop (a.next + c.put_records.result) a.pages.items) ++ c.clear.ensures.items i))
+    ∙ make-end (page_at settled a.kept) a.made.items c.put_records.new.text.items a.tail.items a.pages.items _ a.next c.put_records.result
     c.put_records.ensures.items is (omega (arith, c.if-self-len.true, c.len.ensures))
     ∙ ap (whole settled) c.self.view_is
 

@@ -62,7 +62,7 @@ returns-clause-text c =
     let m = c.args.machine.now in
     let shape = c.shape-shape.result in
     let g = c.args.generation in
-    let f : Making = record { made = c.put_four.new.text.items; pages = c.used_pages.new.pages.items; tail = c.in_ok-tail.tail.items } in
+    let f : Making = record { made = c.put_four.new.text.items; pages = c.used_pages.new.pages.items; kept = c.new.result; tail = c.in_ok-tail.tail.items } in
     let all : with_state m.guest (state_of m.guest) ≡ m.guest =
     ap (with_state m.guest) (sym c.state-state.ensures.value) ∙ c.state-state.ensures.whole in
     let checkpoint = full_change shape m g in
@@ -80,8 +80,10 @@ returns-clause-text c =
     c.put_four.ensures.items
     ∙ ap (λ (l : List ℕ). l ++ bytes_of Four c.len-3.result) (c.put.ensures.items
     ∙ (λ i. c.in_ok-made.ensures.items i ++ c.as_slice-3.ensures.value i)) in
+    let within = found-in m shape g c.used_pages.new.pages.items c.shape-shape.ensures.pages rules c.in_ok-used_pages.ensures.pages in
     full-text shape m g (whole m.guest.ram f) cut
-    (full-whole shape m g f c.in_ok-used_pages.ensures.pages masks texts.parts c.masks_name_blocks.ensures.all texts.page
+    (full-whole c.masks_name_blocks.ensures.all c.pages_are_their_blocks.ensures.own shape m g f c.new.ensures
+    c.in_ok-used_pages.ensures.pages masks within texts.parts texts.page
     c.in_ok-head.head.items (bytes_of Four c.len-3.result) c.as_slice.result.now made c.in_ok-head.ensures.head (ap (bytes_of Four) count)
     (c.as_slice.ensures.value ∙ c.in_ok-used_sectors.ensures.sectors) c.in_ok-tail.ensures.tail)
     (λ base. cuts.image m g checkpoint base cut all) (c.text_is_read_back.ensures checkpoint rules widths)
@@ -96,10 +98,9 @@ returns-clause-size c =
     let rules =
     canonical m shape g c.shape-shape.ensures.pages c.shape-shape.ensures.sectors c.full_cuts_are_whole.ensures.canonical c.requires.first
     c.requires.last c.state-state.ensures.value c.state-state.ensures.rules in
-    full-size shape m g
-    (record { made = c.put_four.new.text.items; pages = c.used_pages.new.pages.items; tail = c.in_ok-tail.tail.items })
-    c.in_ok-used_pages.ensures.pages (c.full_cuts_are_whole.ensures.masks m g (full_change shape m g) cut) c.masks_name_blocks.ensures.all
-    c.pages_are_their_blocks.ensures.own
+    full-size c.masks_name_blocks.ensures.all c.pages_are_their_blocks.ensures.own shape m g
+    (record { made = c.put_four.new.text.items; pages = c.used_pages.new.pages.items; kept = c.new.result; tail = c.in_ok-tail.tail.items })
+    c.new.ensures c.in_ok-used_pages.ensures.pages (c.full_cuts_are_whole.ensures.masks m g (full_change shape m g) cut)
     (found-in m shape g c.used_pages.new.pages.items c.shape-shape.ensures.pages rules c.in_ok-used_pages.ensures.pages)
 
 pub returns-clause-pages : goal.returns-clause-pages

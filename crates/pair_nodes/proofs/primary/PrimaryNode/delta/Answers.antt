@@ -1,5 +1,5 @@
 -- What a delta's text reads back as.
-use Rattle.std.proofs.Common.{List, ℕ, sym, subst}
+use Rattle.std.proofs.Common.{List, ℕ, subst}
 use Rattle.std.proofs.lemmas.Result.{IfOk-weaker}
 use Rattle.epoch_snapshot.specs.Bases.{IsBase}
 use Rattle.guest_machine.specs.Guest.{Guest, State}

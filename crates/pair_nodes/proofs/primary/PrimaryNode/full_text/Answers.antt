@@ -1,5 +1,5 @@
 -- What a full checkpoint's text reads back as, and how long it is.
-use Rattle.std.proofs.Common.{[], ◌≡◌, ◌≤◌, ◌+◌, ℕ, List, length, sym, ap, subst, arith}
+use Rattle.std.proofs.Common.{[], ◌≤◌, ◌+◌, ℕ, length, sym, subst, arith}
 use Rattle.std.proofs.lemmas.Result.{IfOk-weaker}
 use Rattle.checkpoint_stream.specs.Bounds.{most_text}
 use Rattle.epoch_snapshot.specs.Cuts.{used_sectors}

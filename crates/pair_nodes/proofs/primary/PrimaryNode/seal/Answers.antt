@@ -1,4 +1,4 @@
--- A cut's epoch is pending last, under its own number.
+-- What is kept of a full text changes nothing that is seen; and a cut's epoch is pending last, under its own number.
 use Rattle.std.proofs.Common.{rules, ◌≡◌, ◌+◌, ◌-◌, ◌++◌, ◌∷◌, [], List, length, sym, ap, ◌∙◌, subst, arith, All, ◌≤◌}
 use Rattle.std.specs.Prelude.{not, if◌then◌else◌}
 use Rattle.std.proofs.lemmas.List.{length-append}
@@ -21,6 +21,27 @@ pub invariant_of-self : goal.invariant_of-self
 invariant_of-self c =
     let a = c.self.inside in
     let inv = c.self.invariant in
+    let kept = c.keep.ensures in
+    record {
+      sized = subst (λ (m : State). HasShape a.shape m.guest) (sym kept.machine) inv.sized;
+      numbered = inv.numbered;
+      most = inv.most;
+      few = inv.few;
+      texts = ap (λ ts. length ts) kept.texts ∙ inv.texts;
+      short = subst (All (λ t. length t ≤ most_text a.shape)) (sym kept.texts) inv.short;
+      mode = inv.mode;
+      alone = inv.alone;
+      to_cut = inv.to_cut;
+      last_cut = inv.last_cut;
+      numbers = omega (arith, inv.numbers, ap (λ (m : State). length m.outbox) kept.machine);
+      room = inv.room;
+    }
+
+pub invariant_of-self-2 : goal.invariant_of-self-2
+invariant_of-self-2 c =
+    let a = c.self.inside in
+    let inv = c.self.invariant in
+    let kept = c.keep.ensures in
     let es = a.gate.epochs in
     let e : Epoch = epoch a.to_cut c.outbox.result.now in
     let few = ap (λ (p : Primary). length p.pending) c.self.view_is in
@@ -35,15 +56,26 @@ invariant_of-self c =
     let place : e.number ≡ (a.to_cut - length es) + length es = omega (arith, inv.most) in
     let out : length c.settle_with.new.self.machine.outbox ≡ 0 = ap (λ (m : State). length m.outbox) c.settle_with.ensures.machine in
     let short = ap (λ (p : Primary). most_text p.shape) c.self.view_is in
+    let before = c.keep.new.self.texts in
     record {
-      sized = subst (λ (m : State). HasShape a.shape m.guest) (sym c.settle_with.ensures.machine) inv.sized;
+      sized = subst (λ (m : State). HasShape a.shape m.guest) (sym c.settle_with.ensures.machine)
+          (subst (λ (m : State). HasShape a.shape m.guest) (sym kept.machine) inv.sized);
       numbered = subst (λ n. NumberedFrom n c.hold.new.self.epochs) first
           (subst (NumberedFrom (a.to_cut - length es)) (sym epochs) (NumberedFrom-push (a.to_cut - length es) es e inv.numbered place));
       most = omega (arith, long, more, inv.most);
       few = omega (arith, long, more, few, c.requires.few);
-      texts = omega (arith, ap (λ ts. length ts) c.settle_with.ensures.texts, length-append a.kept.texts (c.args.text.items ∷ []), inv.texts, long, more);
+      texts = omega (
+        arith,
+        ap (λ ts. length ts) c.settle_with.ensures.texts,
+        length-append before (c.args.text.items ∷ []),
+        ap (λ ts. length ts) kept.texts,
+        inv.texts,
+        long,
+        more,
+      );
       short = subst (All (λ t. length t ≤ most_text a.shape)) (sym c.settle_with.ensures.texts)
-          (All-append (λ t. length t ≤ most_text a.shape) a.kept.texts (c.args.text.items ∷ []) inv.short
+          (All-append (λ t. length t ≤ most_text a.shape) before (c.args.text.items ∷ [])
+          (subst (All (λ t. length t ≤ most_text a.shape)) (sym kept.texts) inv.short)
           (All-cons (λ t. length t ≤ most_text a.shape) c.args.text.items [] (omega (arith, short, c.requires.short))
           (All-nil (λ t. length t ≤ most_text a.shape))));
       mode = inv.mode ∙ ap (λ b. if not (is_alone a.generation.mode) then (if b then modes.Filling else modes.Paired) else modes.Alone)
