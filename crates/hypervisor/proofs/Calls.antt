@@ -16,10 +16,10 @@ use Rattle.pair_book.specs.Books.{BookState, inbox_at}
 use Rattle.pair_record.specs.Protocol.{first_refusal}
 use Rattle.pair_record.specs.Record.{given}
 use Rattle.pair_book.specs.Calls.{IsClientSeat, client_of, Makes, Shows, IsAsBefore, deliver_rows}
-use Rattle.pair_book.specs.Calls.{IsWhyDelivery as WhyAtBook}
-use Rattle.pair_book.specs.Calls.{AfterRefusedDelivery as AtBook}
+use Rattle.pair_book.specs.Calls.{IsWhyDelivery}
+use Rattle.pair_book.specs.Calls.{AfterRefusedDelivery}
 use Rattle.hypervisor.specs.Seats.{MakesStep}
-use Rattle.hypervisor.specs.Clients.{client_state, Calls, AfterRefusedDelivery, Learns}
+use Rattle.hypervisor.specs.Clients.{client_state, Calls, RefusesDelivery, Learns}
 use Rattle.hypervisor.specs.Looking.{SeesAll}
 use Rattle.hypervisor.proofs.{Steps.makes-at, Whys.deliver-full}
 
@@ -90,8 +90,8 @@ module _ (start : HistoryState) (b b' : BookState) (seat seat' : Member) (is : I
 
   -- where its inbox holds that many frames, it does so where the steps lead to
   refused-so : (f : Frame) (why : Refusal) → (why ≡ Full → inbox_frames ≤ length (inbox_at (state_at start b.steps) (client_of seat.number)))
-      → AtBook (client_of seat.number) f why b b' seat seat'
-      → AfterRefusedDelivery start f why (client_state seat) (client_state seat')
+      → AfterRefusedDelivery (client_of seat.number) f why b b' seat seat'
+      → RefusesDelivery start f why (client_state seat) (client_state seat')
   refused-so f Full many a =
       let at = told-at (Refused (client_of seat.number) f) a.0 in (
         at.0,
@@ -113,9 +113,9 @@ module _ (start : HistoryState) (b b' : BookState) (seat seat' : Member) (is : I
 
   pub not-delivered : (bytes : List ℕ) (r : Result ℕ Refusal) → length b.ports.boxes ≡ length start.boxes
       → ((d : ℕ) → 1 ≤ d → d ≤ length b.ports.boxes → ports.inbox_of b.ports d ≡ inbox_at (state_at start b.steps) d)
-      → IfErr r (λ why. WhyAtBook (first_refusal (deliver_rows b (client_of seat.number) bytes)) why)
-      → IfErr r (λ why. AtBook (client_of seat.number) (record { items = bytes }) why b b' seat seat')
-      → IfErr r (λ why. AfterRefusedDelivery start (record { items = bytes }) why (client_state seat) (client_state seat'))
+      → IfErr r (λ why. IsWhyDelivery (first_refusal (deliver_rows b (client_of seat.number) bytes)) why)
+      → IfErr r (λ why. AfterRefusedDelivery (client_of seat.number) (record { items = bytes }) why b b' seat seat')
+      → IfErr r (λ why. RefusesDelivery start (record { items = bytes }) why (client_state seat) (client_state seat'))
   not-delivered bytes (Ok n) count inboxes row a = tt
   not-delivered bytes (Err why) count inboxes row a =
       let c = client_of seat.number in
@@ -123,7 +123,7 @@ module _ (start : HistoryState) (b b' : BookState) (seat seat' : Member) (is : I
       let high : c ≤ length b.ports.boxes = let most = is.1 in omega (arith, most, count) in
       let full : why ≡ Full → inbox_frames ≤ length (inbox_at (state_at start b.steps) c) = λ e.
       subst (λ (xs : List (ℕ × Frame)). inbox_frames ≤ length xs) (inboxes c low high)
-      (deliver-full b c bytes (subst (λ (r : Refusal). WhyAtBook (first_refusal (deliver_rows b c bytes)) r) e row)) in
+      (deliver-full b c bytes (subst (λ (r : Refusal). IsWhyDelivery (first_refusal (deliver_rows b c bytes)) r) e row)) in
       refused-so (record { items = bytes }) why full a
 
   pub not-taken : (frame frame' : Frame) (r : Result Bool Refusal)

@@ -22,8 +22,8 @@ use Rattle.pair_book.specs.Commits.{commit_of, may_commit, is_old_delta, is_next
 use Rattle.pair_book.specs.Commits.{WasRead, StandsBy, StandsAgain}
 use Rattle.pair_book.specs.Made.{IsShape}
 use Rattle.hypervisor.specs.Backups.{backup_state, new_backup, StandsWith, IsBackup}
-use Rattle.hypervisor.specs.Commits.{AtBook, image_after, commit_refusals, IsWhyCommit, or_unnumbered, why_not}
-use Rattle.hypervisor.specs.Refusals.{IsWhyUnless}
+use Rattle.hypervisor.specs.Commits.{AtBook, image_after, commit_refusals, MayRefuseCommit, or_unnumbered, why_not}
+use Rattle.hypervisor.specs.Refusals.{MayRefuseUnless}
 use Rattle.hypervisor.proofs.ReadsOnLaws.{nothing-came}
 use Rattle.hypervisor.proofs.{StandLaws.{stage-new, stage-again, stands-applied}, Steps.{makes-step, looks-at}, Whys.{first, later}}
 
@@ -58,7 +58,7 @@ is_exhausted why e =
     (later why (NoMemory wanted) (Exhausted ∷ []) (first why Exhausted [] e)))
 
 by-rows : (old may own far empty full : Bool) (why : Refusal) → IsWhy (first_refusal (rows old may own far empty full)) why
-    → IsWhyUnless old OldVersion commit_refusals why
+    → MayRefuseUnless old OldVersion commit_refusals why
 by-rows true may own far empty full why e = e
 by-rows false false own far empty full why e = is_stopped why e
 by-rows false true false far empty full why e = is_stale why e
@@ -77,7 +77,7 @@ by-may true why e = later why Stopped (Stale ∷ []) (first why Stale [] e)
 by-may false why e = first why Stopped (Stale ∷ []) e
 
 module _ (start : HistoryState) (b : BookState) (number : ℕ) where
-  pub commit-why : (read : Option Change) (why : Refusal) → IsWhy (commit_why start b number read) why → IsWhyCommit read why
+  pub commit-why : (read : Option Change) (why : Refusal) → IsWhy (commit_why start b number read) why → MayRefuseCommit read why
   commit-why None why e = by-may (may_commit start b number) why e
   commit-why (Some c) why e =
       let w = b.protocol.window in
@@ -91,12 +91,12 @@ module _ (start : HistoryState) (b : BookState) (number : ℕ) where
       (is_next b c && nat_le w.to_cut w.to_commit) (is_next b c && is_word_full b) e
 
   -- or for want of numbers, after all that
-  unless-old : (old : Bool) (why : Refusal) → old ≡ false → Contains commit_refusals why → IsWhyUnless old OldVersion commit_refusals why
+  unless-old : (old : Bool) (why : Refusal) → old ≡ false → Contains commit_refusals why → MayRefuseUnless old OldVersion commit_refusals why
   unless-old true why e h = absurd (cc)
   unless-old false why e h = h
 
   at-last : (c : Change) (at-book : Option Refusal) (unnumbered : Bool) (why : Refusal) → commit_why start b number (Some c) ≡ at-book
-      → or_unnumbered at-book unnumbered ≡ Some why → IsWhyCommit (Some c) why
+      → or_unnumbered at-book unnumbered ≡ Some why → MayRefuseCommit (Some c) why
   at-last c (Some at) unnumbered why is e =
       commit-why (Some c) why (subst (λ (o : Option Refusal). IsWhy o why) (sym is) (let same : why ≡ at = cc in same))
   at-last c None true why is e =
@@ -104,7 +104,7 @@ module _ (start : HistoryState) (b : BookState) (number : ℕ) where
   at-last c None false why is e = absurd (cc)
 
   pub refused-why : (i : ImageState) (c : Change) (why : Refusal) → why_not start b number i (Some c) ≡ Some why
-      → IsWhyCommit (Some c) why
+      → MayRefuseCommit (Some c) why
   refused-why i c why e =
       at-last c (commit_why start b number (Some c)) (not (is_earlier b c) && not (nat_lt (images.sent_with c i.sent) number_limit)) why
       refl e

@@ -11,35 +11,35 @@ use Rattle.pair_book.specs.declared.losses.Loss.{Loss}
 use Rattle.pair_book.specs.Books.{BookState}
 use Rattle.pair_book.specs.Calls.{is_word_full, entry_rows}
 use Rattle.pair_book.specs.Losses.{loss_rows}
-use Rattle.pair_book.specs.Losses.{IsWhyLoss as AtBook}
-use Rattle.hypervisor.specs.Refusals.{IsWhyUnless, IsWhyLoss, entry_refusals}
+use Rattle.pair_book.specs.Losses.{IsWhyLoss}
+use Rattle.hypervisor.specs.Refusals.{MayRefuseUnless, MayRefuseLoss, entry_refusals}
 use Rattle.hypervisor.proofs.Whys.{entry-why}
 
 of-some : (other out word : Bool) (e : Entry) (why : Refusal)
-    → AtBook (Some e) (first_refusal ((other, NoClient) ∷ (out, Exhausted) ∷ (word, Exhausted) ∷ [])) why
-    → IsWhyUnless other NoClient entry_refusals why
+    → IsWhyLoss (Some e) (first_refusal ((other, NoClient) ∷ (out, Exhausted) ∷ (word, Exhausted) ∷ [])) why
+    → MayRefuseUnless other NoClient entry_refusals why
 of-some true out word e why is = is
 of-some false true word e why is = entry-why true word why is
 of-some false false true e why is = entry-why false true why is
 of-some false false false e why is = entry-why false false why is
 
-of-none : (other : Bool) (why : Refusal) → AtBook None (first_refusal ((other, NoClient) ∷ [])) why
-    → IsWhyUnless other NoClient entry_refusals why
+of-none : (other : Bool) (why : Refusal) → IsWhyLoss None (first_refusal ((other, NoClient) ∷ [])) why
+    → MayRefuseUnless other NoClient entry_refusals why
 of-none true why is = is
 of-none false why is = absurd is
 
-by-entry : (b : BookState) (c : ℕ) (entry : Option Entry) (why : Refusal) → AtBook entry (first_refusal (loss_rows b c entry)) why
-    → IsWhyUnless (not (is_among c (length b.ports.boxes))) NoClient entry_refusals why
+by-entry : (b : BookState) (c : ℕ) (entry : Option Entry) (why : Refusal) → IsWhyLoss entry (first_refusal (loss_rows b c entry)) why
+    → MayRefuseUnless (not (is_among c (length b.ports.boxes))) NoClient entry_refusals why
 by-entry b c None why is = of-none (not (is_among c (length b.ports.boxes))) why is
 by-entry b c (Some e) why is =
     of-some (not (is_among c (length b.ports.boxes))) (exhausts b.protocol 1) (is_word_full b) e why is
 
 pub loss-why : (start : HistoryState) (b : BookState) (c : ℕ) (entry : Option Entry) (r : Result Loss Refusal)
-    → length b.ports.boxes ≡ length start.boxes → IfErr r (AtBook entry (first_refusal (loss_rows b c entry)))
-    → IfErr r (IsWhyLoss start c)
+    → length b.ports.boxes ≡ length start.boxes → IfErr r (IsWhyLoss entry (first_refusal (loss_rows b c entry)))
+    → IfErr r (MayRefuseLoss start c)
 loss-why start b c entry (Ok l) count is = tt
 loss-why start b c entry (Err why) count is =
-    subst (λ (n : ℕ). IsWhyUnless (not (is_among c n)) NoClient entry_refusals why) count (by-entry b c entry why is)
+    subst (λ (n : ℕ). MayRefuseUnless (not (is_among c n)) NoClient entry_refusals why) count (by-entry b c entry why is)
 
 -- where no row holds the number is a client's
 among : (c count : ℕ) (t : Bool) → is_among c count ≡ t → not t ≡ false → (1 ≤ c) × (c ≤ count)

@@ -15,11 +15,11 @@ use Rattle.pair_record.specs.Modes.{primary_refusal}
 use Rattle.pair_record.specs.Protocol.{Row, first_refusal, is_bad_length, exhausts}
 use Rattle.pair_book.specs.Books.{BookState}
 use Rattle.pair_book.specs.Calls.{IsWhy, entry_rows, deliver_rows, is_word_full}
-use Rattle.pair_book.specs.Calls.{IsWhyDelivery as AtBook}
+use Rattle.pair_book.specs.Calls.{IsWhyDelivery}
 use Rattle.pair_book.specs.declared.failures.Ack.{Ack}
 use Rattle.pair_book.specs.Failures.{first_of, ack_why, leaving_at}
 use Rattle.pair_book.specs.Texts.{next_why}
-use Rattle.hypervisor.specs.Refusals.{delivery_refusals, entry_refusals, next_refusals, ack_refusals, IsWhyUnless, IsWhyDelivery}
+use Rattle.hypervisor.specs.Refusals.{delivery_refusals, entry_refusals, next_refusals, ack_refusals, MayRefuseUnless, MayRefuseDelivery}
 
 pub first : {X : Type 0} (x y : X) (xs : List X) → x ≡ y → Contains (y ∷ xs) x
 first x y xs e = (0, omega arith, sym e)
@@ -56,8 +56,8 @@ full-or-wanted : (why : Refusal) → (why ≡ Full) ⊎ (why ≡ NoMemory wanted
 full-or-wanted why (inl e) = first why Full (Exhausted ∷ NoMemory wanted ∷ []) e
 full-or-wanted why (inr e) = is_wanted why e
 
-delivery-why : (bad out word full last : Bool) (why : Refusal) → AtBook (first_refusal (rows bad out word full last)) why
-    → IsWhyUnless bad BadFrame delivery_refusals why
+delivery-why : (bad out word full last : Bool) (why : Refusal) → IsWhyDelivery (first_refusal (rows bad out word full last)) why
+    → MayRefuseUnless bad BadFrame delivery_refusals why
 delivery-why true out word full last why e = e
 delivery-why false true word full last why e = is_exhausted why e
 delivery-why false false true full last why e = is_exhausted why e
@@ -66,7 +66,7 @@ delivery-why false false false false true why e = is_exhausted why e
 delivery-why false false false false false why e = is_wanted why e
 
 -- the row of a full inbox is the only one that is so refused
-is-full : (bad out word full last : Bool) → AtBook (first_refusal (rows bad out word full last)) Full → full ≡ true
+is-full : (bad out word full last : Bool) → IsWhyDelivery (first_refusal (rows bad out word full last)) Full → full ≡ true
 is-full true out word full last e = absurd (cc)
 is-full false true word full last e = absurd (cc)
 is-full false false true full last e = absurd (cc)
@@ -91,12 +91,12 @@ module _ (b : BookState) (c : ℕ) (bytes : List ℕ) where
   abbrev no_number : Bool
   no_number = nat_le number_limit b.ports.next
 
-  pub deliver-why : (r : Result ℕ Refusal) → IfErr r (λ why. AtBook (first_refusal (deliver_rows b c bytes)) why)
-      → IfErr r (IsWhyDelivery bytes)
+  pub deliver-why : (r : Result ℕ Refusal) → IfErr r (λ why. IsWhyDelivery (first_refusal (deliver_rows b c bytes)) why)
+      → IfErr r (MayRefuseDelivery bytes)
   deliver-why (Ok n) e = tt
   deliver-why (Err why) e = delivery-why is_bad no_room (is_word_full b) is_full no_number why e
 
-  pub deliver-full : AtBook (first_refusal (deliver_rows b c bytes)) Full → inbox_frames ≤ length (inbox_of b.ports c)
+  pub deliver-full : IsWhyDelivery (first_refusal (deliver_rows b c bytes)) Full → inbox_frames ≤ length (inbox_of b.ports c)
   deliver-full e =
       leb-true inbox_frames (length (inbox_of b.ports c)) (is-full is_bad no_room (is_word_full b) is_full no_number e)
 

@@ -37,11 +37,11 @@ pub record Calls (start : HistoryState) (e : Entry) (old new : ClientState) : Ty
 
 -- after a refused delivery of that frame: an entry tells of a full inbox, and 64 frames of the client's are in it; after another refusal
 -- everything is as before
-abbrev pub AfterRefusedDelivery : HistoryState → Frame → Refusal → ClientState → ClientState → Type 0
-AfterRefusedDelivery start f Full old new =
+abbrev pub RefusesDelivery : HistoryState → Frame → Refusal → ClientState → ClientState → Type 0
+RefusesDelivery start f Full old new =
     (calls : Calls start (Refused old.number f) old new)
     × (inbox_frames ≤ length (inbox_at (state_at start (old.seen ++ calls.step.seen.0)) old.number))
-AfterRefusedDelivery start f why old new = new ≡ old
+RefusesDelivery start f why old new = new ≡ old
 
 -- The client was told what another had seen: what it has seen then is a legal list, which begins with what it had seen, and with what it
 -- was told; and its own entries are those before.

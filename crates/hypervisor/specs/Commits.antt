@@ -15,7 +15,7 @@ use Rattle.pair_book.specs.declared.failures.Ack.{Ack}
 use Rattle.pair_book.specs.Books.{BookState}
 use Rattle.pair_book.specs.Commits.{commit_of, is_old_delta, is_earlier, commit_why, Acknowledges}
 use Rattle.hypervisor.specs.Backups.{BackupState, StandsWith, last_of}
-use Rattle.hypervisor.specs.Refusals.{IsWhyUnless}
+use Rattle.hypervisor.specs.Refusals.{MayRefuseUnless}
 use Rattle.hypervisor.specs.Seats.{MakesStep, Looks}
 
 -- The next one, by what the image stands at: it is acknowledged; the image is the checkpoint read over the image before, and keeps its
@@ -86,9 +86,9 @@ why_not start b number i None = commit_why start b number None
 abbrev pub commit_refusals : List Refusal
 commit_refusals = Stopped ∷ Stale ∷ Gap ∷ NoMemory wanted ∷ Exhausted ∷ []
 
-abbrev pub IsWhyCommit : Option Change → Refusal → Type 0
-IsWhyCommit (Some c) why = IsWhyUnless (is_old_delta c) OldVersion commit_refusals why
-IsWhyCommit None why = Contains (Stopped ∷ Stale ∷ []) why
+abbrev pub MayRefuseCommit : Option Change → Refusal → Type 0
+MayRefuseCommit (Some c) why = MayRefuseUnless (is_old_delta c) OldVersion commit_refusals why
+MayRefuseCommit None why = Contains (Stopped ∷ Stale ∷ []) why
 
 -- whether what was read is given up then: it can't be committed any more
 abbrev pub gives_up : Refusal → Bool

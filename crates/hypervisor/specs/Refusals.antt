@@ -38,15 +38,15 @@ protect_refusals = NoMemory wanted ∷ Stopped ∷ AlreadyPaired ∷ Exhausted �
 
 -- What the caller can know comes first: bytes that are no frame, and a number that is no client's.
 
-abbrev pub IsWhyUnless : Bool → Refusal → List Refusal → Refusal → Type 0
-IsWhyUnless true first others why = why ≡ first
-IsWhyUnless false first others why = Contains others why
+abbrev pub MayRefuseUnless : Bool → Refusal → List Refusal → Refusal → Type 0
+MayRefuseUnless true first others why = why ≡ first
+MayRefuseUnless false first others why = Contains others why
 
-abbrev pub IsWhyDelivery : List ℕ → Refusal → Type 0
-IsWhyDelivery bytes why = IsWhyUnless (is_bad_length (length bytes)) BadFrame delivery_refusals why
+abbrev pub MayRefuseDelivery : List ℕ → Refusal → Type 0
+MayRefuseDelivery bytes why = MayRefuseUnless (is_bad_length (length bytes)) BadFrame delivery_refusals why
 
 abbrev pub is_no_client : HistoryState → ℕ → Bool
 is_no_client start c = not (is_among c (length start.boxes))
 
-abbrev pub IsWhyLoss : HistoryState → ℕ → Refusal → Type 0
-IsWhyLoss start c why = IsWhyUnless (is_no_client start c) NoClient entry_refusals why
+abbrev pub MayRefuseLoss : HistoryState → ℕ → Refusal → Type 0
+MayRefuseLoss start c why = MayRefuseUnless (is_no_client start c) NoClient entry_refusals why

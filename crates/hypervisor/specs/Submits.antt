@@ -38,13 +38,13 @@ pub record Submits (start : HistoryState) (r : RunnerState) (seat : Member) : Ty
   pub run : AddsRun start (state_at start (r.seat.steps ++ step.seen.0)) epoch r
 
 -- a machine whose guest goes on, just settled
-abbrev pub settled_now : State → State
-settled_now m = record m { outbox = []; dirty = []; settled = m.guest.ram; written = replicate (length m.written) false }
+abbrev pub after_settle : State → State
+after_settle m = record m { outbox = []; dirty = []; settled = m.guest.ram; written = replicate (length m.written) false }
 
 -- The next epoch: the machine is settled, nothing of the epoch has run, and nothing stands prepared. The runner holds so many frames more,
 -- none where it held some already; in all it holds what is handed out.
 pub record BeginsEpoch (start : HistoryState) (count : ℕ) (old new : RunnerState) : Type 0 where
-  pub machine : new.machine ≡ settled_now old.machine
+  pub machine : new.machine ≡ after_settle old.machine
   pub next : List (ℕ × Frame)
   pub held : new.held ≡ old.held ++ next
   pub many : length next ≡ count

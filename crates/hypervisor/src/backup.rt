@@ -7,7 +7,7 @@ ghost use Rattle.pair_book.specs.Commits.{WasRead};
 ghost use Rattle.pair_book.specs.Made.{IsShape};
 ghost use Rattle.pair_book.specs.Settled.{just_settled, Runs};
 ghost use Rattle.hypervisor.specs.Backups.{new_backup, StandsWith, HasHistorysGuest};
-ghost use Rattle.hypervisor.specs.Commits.{Commits, IsWhyCommit, AfterRefusedCommit, gives_up};
+ghost use Rattle.hypervisor.specs.Commits.{Commits, MayRefuseCommit, AfterRefusedCommit, gives_up};
 ghost use Rattle.hypervisor.specs.Feeding.{Feeds};
 ghost use Rattle.hypervisor.specs.GoingLive.{BecomesLive, GoesLiveWith, live_refusals};
 ghost use Rattle.hypervisor.specs.Runners.{new_runner};
@@ -131,7 +131,7 @@ impl<P: Pair> Backup<P> {
     pub fn commit<R: Wait>(&mut self, rt: &R) -> Result<Ack, Refusal>
         ensures some { OnOk result (IsSome self.old.read) }
         ensures done { IfOk result (λ ack. IfSome self.old.read (λ c. Commits P.start c ack self.old self.new)) }
-        ensures why { IfErr result (IsWhyCommit self.old.read) }
+        ensures why { IfErr result (MayRefuseCommit self.old.read) }
         ensures refused { IfErr result (λ why. AfterRefusedCommit why self.old self.new) }
     {
         let answer = {

@@ -13,7 +13,7 @@ ghost use Rattle.pair_book.specs.GoingLive.{GoesLive, go_live_why};
 ghost use Rattle.pair_book.specs.Packets.{no_texts};
 ghost use Rattle.pair_book.specs.Made.{IsShape};
 ghost use Rattle.hypervisor.specs.Backups.{StandsWith, kept_of};
-ghost use Rattle.hypervisor.specs.Commits.{why_not, image_after, AtBook, IsWhyCommit};
+ghost use Rattle.hypervisor.specs.Commits.{why_not, image_after, AtBook, MayRefuseCommit};
 ghost use Rattle.hypervisor.specs.GoingLive.{GoesLiveWith, live_refusals};
 
 use backup_image::{Image, NUMBER_LIMIT, Staged};
@@ -82,7 +82,7 @@ pub(crate) fn commit<P: Pair>(
     // The backup stands, once its image has taken that in.
     ensures stands { IfOk result (λ done.
         StandsWith P.start seat.new (image_after done.is_next image.now (option_map (λ c. c.now) read.entry))) }
-    ensures why { IfErr result (IsWhyCommit (option_map (λ c. c.now) read.entry)) }
+    ensures why { IfErr result (MayRefuseCommit (option_map (λ c. c.now) read.entry)) }
     ensures refused { OnErr result (seat.new ≡ seat.old) }
 {
     let Some(checkpoint) = read else {

@@ -7,11 +7,11 @@ ghost use Rattle.pair_record.specs.Protocol.{is_bad_length, first_refusal, deliv
 ghost use Rattle.growing_history.specs.LogState.{Legal};
 ghost use Rattle.std.specs.List.{Contains};
 ghost use Rattle.pair_record.specs.Record.{given, ports_after_take};
-ghost use Rattle.pair_book.specs.Calls.{IsClientSeat, IsWhy, entry_rows, deliver_rows, IsWhyDelivery as IsWhyAtBook};
-ghost use Rattle.hypervisor.specs.Clients.{client_state, Calls, AfterRefusedDelivery, Learns};
+ghost use Rattle.pair_book.specs.Calls.{IsClientSeat, IsWhy, entry_rows, deliver_rows, IsWhyDelivery};
+ghost use Rattle.hypervisor.specs.Clients.{client_state, Calls, RefusesDelivery, Learns};
 ghost use Rattle.hypervisor.specs.AtBook.{KeepsBookUnlessFull};
 ghost use Rattle.hypervisor.specs.Looking.{SeesAll};
-ghost use Rattle.hypervisor.specs.Refusals.{IsWhyDelivery, entry_refusals};
+ghost use Rattle.hypervisor.specs.Refusals.{MayRefuseDelivery, entry_refusals};
 
 use growing_history::{Badge, ClientSeat, Clock, Pair, a_call_is_a_point_of_one_history};
 use pair_book::{Book, LINE_SEAT, Refusal};
@@ -63,15 +63,15 @@ impl<P: Pair> CallerSeat<P> {
         ensures done { IfOk result (λ n.
             Calls P.start (Delivered self.old.number (record { items = bytes.now }) n) self.old self.new) }
         ensures frame { OnOk result (is_bad_length (length bytes.now) ≡ false) }
-        ensures why { IfErr result (IsWhyDelivery bytes.now) }
-        ensures refused { IfErr result (λ why. AfterRefusedDelivery P.start (record { items = bytes.now }) why self.old self.new) }
+        ensures why { IfErr result (MayRefuseDelivery bytes.now) }
+        ensures refused { IfErr result (λ why. RefusesDelivery P.start (record { items = bytes.now }) why self.old self.new) }
         // And what it does at the book.
         ensures protocol { IfOk result (λ n. (replies.Delivered n, book.new.protocol)
             ≡ deliver_done book.old.protocol self.old.number (record { items = bytes.now }) book.old.ports.next) }
         ensures ports { OnOk result (book.new.ports ≡ after_delivery book.old.ports self.old.number bytes.now) }
         ensures texts { book.new.texts ≡ book.old.texts }
         ensures free { OnOk result (first_refusal (deliver_rows book.old self.old.number bytes.now) ≡ None) }
-        ensures row { IfErr result (IsWhyAtBook (first_refusal (deliver_rows book.old self.old.number bytes.now))) }
+        ensures row { IfErr result (IsWhyDelivery (first_refusal (deliver_rows book.old self.old.number bytes.now))) }
         ensures kept { IfErr result (KeepsBookUnlessFull self.old.number (record { items = bytes.now }) book.old book.new) }
     {
         a_call_is_a_point_of_one_history();

@@ -5,9 +5,9 @@ ghost use Rattle.pair_record.specs.Protocol.{is_bad_length};
 ghost use Rattle.growing_history.specs.LogState.{Legal};
 ghost use Rattle.std.specs.List.{Contains};
 ghost use Rattle.pair_record.specs.Record.{given};
-ghost use Rattle.hypervisor.specs.Clients.{Calls, AfterRefusedDelivery, Learns};
+ghost use Rattle.hypervisor.specs.Clients.{Calls, RefusesDelivery, Learns};
 ghost use Rattle.hypervisor.specs.Looking.{SeesAll};
-ghost use Rattle.hypervisor.specs.Refusals.{IsWhyDelivery, entry_refusals};
+ghost use Rattle.hypervisor.specs.Refusals.{MayRefuseDelivery, entry_refusals};
 
 use crate::callers::CallerSeat;
 use crate::shared::Shared;
@@ -64,8 +64,8 @@ impl<P: Pair> Client<P> {
         ensures done { IfOk result (λ n.
             Calls P.start (Delivered self.old.number (record { items = bytes.now }) n) self.old self.new) }
         ensures frame { OnOk result (is_bad_length (length bytes.now) ≡ false) }
-        ensures why { IfErr result (IsWhyDelivery bytes.now) }
-        ensures refused { IfErr result (λ why. AfterRefusedDelivery P.start (record { items = bytes.now }) why self.old self.new) }
+        ensures why { IfErr result (MayRefuseDelivery bytes.now) }
+        ensures refused { IfErr result (λ why. RefusesDelivery P.start (record { items = bytes.now }) why self.old self.new) }
     {
         let shared = &*self.shared;
         let mut held = shared.hold(rt);

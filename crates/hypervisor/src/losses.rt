@@ -4,9 +4,9 @@ ghost use Rattle.frame_ports.specs.Ports.{inbox_of, box_of};
 ghost use Rattle.pair_record.specs.Protocol.{first_refusal, lost_in, lost_out};
 ghost use Rattle.pair_record.specs.Record.{ports_after_lose_in, ports_after_lose_out};
 ghost use Rattle.pair_book.specs.Calls.{IsAsBefore};
-ghost use Rattle.pair_book.specs.Losses.{loss_rows, AfterLoss, IsWhyLoss as IsWhyAtBook};
+ghost use Rattle.pair_book.specs.Losses.{loss_rows, AfterLoss, IsWhyLoss};
 ghost use Rattle.hypervisor.specs.Losses.{AfterLossIn, AfterLossOut};
-ghost use Rattle.hypervisor.specs.Refusals.{IsWhyLoss};
+ghost use Rattle.hypervisor.specs.Refusals.{MayRefuseLoss};
 
 use crate::shared::Shared;
 use growing_history::{Clock, Pair};
@@ -40,14 +40,14 @@ fn lose_in<P: Pair>(
 ) -> Result<Lost, Refusal>
     ensures number { line.new.number ≡ line.old.number }
     ensures done { IfOk result (λ lost. AfterLossIn P.start client place lost line.old.steps line.new.steps) }
-    ensures why { IfErr result (IsWhyLoss P.start client) }
+    ensures why { IfErr result (MayRefuseLoss P.start client) }
     ensures refused { IfErr result (λ _. line.new ≡ line.old) }
     // And what it does at the book.
     ensures texts { book.new.texts ≡ book.old.texts }
     ensures lost { IfOk result (λ loss. AfterLoss (lost_in (inbox_of book.old.ports client) place)
         (ports_after_lose_in book.old.ports client place) loss book.old book.new line.old line.new) }
     ensures free { OnOk result (first_refusal (loss_rows book.old client (lost_in (inbox_of book.old.ports client) place)) ≡ None) }
-    ensures row { IfErr result (IsWhyAtBook (lost_in (inbox_of book.old.ports client) place)
+    ensures row { IfErr result (IsWhyLoss (lost_in (inbox_of book.old.ports client) place)
         (first_refusal (loss_rows book.old client (lost_in (inbox_of book.old.ports client) place)))) }
     ensures kept { IfErr result (λ _. IsAsBefore book.old book.new line.old line.new) }
 {
@@ -67,7 +67,7 @@ fn lose_out<P: Pair>(
 ) -> Result<Lost, Refusal>
     ensures number { line.new.number ≡ line.old.number }
     ensures done { IfOk result (λ lost. AfterLossOut P.start client place lost line.old.steps line.new.steps) }
-    ensures why { IfErr result (IsWhyLoss P.start client) }
+    ensures why { IfErr result (MayRefuseLoss P.start client) }
     ensures refused { IfErr result (λ _. line.new ≡ line.old) }
     // And what it does at the book.
     ensures texts { book.new.texts ≡ book.old.texts }
@@ -75,7 +75,7 @@ fn lose_out<P: Pair>(
         (ports_after_lose_out book.old.ports client place) loss book.old book.new line.old line.new) }
     ensures free { OnOk result (first_refusal
         (loss_rows book.old client (lost_out client (box_of book.old.ports client) place)) ≡ None) }
-    ensures row { IfErr result (IsWhyAtBook (lost_out client (box_of book.old.ports client) place)
+    ensures row { IfErr result (IsWhyLoss (lost_out client (box_of book.old.ports client) place)
         (first_refusal (loss_rows book.old client (lost_out client (box_of book.old.ports client) place)))) }
     ensures kept { IfErr result (λ _. IsAsBefore book.old book.new line.old line.new) }
 {
@@ -101,7 +101,7 @@ impl<P: Pair> Loss<P> {
     /// would reach 2^62, and [`Refusal::NoMemory`] if the room for its entry can't be had. What the line's seat has seen is as before.
     pub fn lose_in<R: Wait>(&mut self, rt: &R, client: u64, place: u64) -> Result<Lost, Refusal>
         ensures done { IfOk result (λ lost. AfterLossIn P.start client place lost self.old self.new) }
-        ensures why { IfErr result (IsWhyLoss P.start client) }
+        ensures why { IfErr result (MayRefuseLoss P.start client) }
         ensures refused { IfErr result (λ _. self.new ≡ self.old) }
     {
         let shared = &*self.shared;
@@ -116,7 +116,7 @@ impl<P: Pair> Loss<P> {
     /// As those of [`Loss::lose_in`].
     pub fn lose_out<R: Wait>(&mut self, rt: &R, client: u64, place: u64) -> Result<Lost, Refusal>
         ensures done { IfOk result (λ lost. AfterLossOut P.start client place lost self.old self.new) }
-        ensures why { IfErr result (IsWhyLoss P.start client) }
+        ensures why { IfErr result (MayRefuseLoss P.start client) }
         ensures refused { IfErr result (λ _. self.new ≡ self.old) }
     {
         let shared = &*self.shared;

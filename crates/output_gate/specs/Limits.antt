@@ -2,7 +2,8 @@
 -- are they is the law `limits_are_the_rules`.
 use Rattle.std.specs.Prelude.{ℕ}
 
--- the pair's rules: at most 4 checkpoints are pending, each of which ends an epoch, and a failover holds one epoch more while they land
+-- the pair's rules: at most 4 checkpoints are pending, each of which ends an epoch; and where the backup fails, the epoch that runs is held
+-- too, until all of it lands
 abbrev pub max_epochs : ℕ
 max_epochs = 5
 

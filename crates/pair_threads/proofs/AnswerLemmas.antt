@@ -13,7 +13,7 @@ use Rattle.hypervisor.specs.Opening.{new_client}
 use Rattle.pair_threads.specs.Lines.{clients_of}
 use Rattle.pair_threads.specs.Seats.{AreSeated, sits}
 use Rattle.pair_threads.specs.Served.{AreServed}
-use Rattle.pair_threads.specs.Told.{AreAnswered, IsAnswered, MayAnswerAll, told_by}
+use Rattle.pair_threads.specs.Told.{AreAnswered, IsAnswered, MayAnswerAll, entries_told}
 use Rattle.pair_threads.specs.internal.Scripts.{ScriptState, HasPlayed, IsScript, AreScripts, answered_of, client_of}
 use Rattle.pair_threads.proofs.SeatLemmas.{taken}
 
@@ -48,9 +48,9 @@ module _ (start : HistoryState) (unseen : (c : ℕ) → own start (new_client c)
         own = ap (λ n. own_entries n (history_of start all)) (sym number)
             ∙ (keeps
             ∙ (made.own
-            ∙ (ap (λ es. es ++ told_by script.client.number script.line.actions.items ended.replies.items) nothing
-            ∙ (ap (λ n. told_by n script.line.actions.items ended.replies.items) first
-            ∙ ap (λ acts. told_by line.client acts ended.replies.items) does))));
+            ∙ (ap (λ es. es ++ entries_told script.client.number script.line.actions.items ended.replies.items) nothing
+            ∙ (ap (λ n. entries_told n script.line.actions.items ended.replies.items) first
+            ∙ ap (λ acts. entries_told line.client acts ended.replies.items) does))));
       }
 
   answered-all : (lines : List ClientLine) (scripts ended : List ScriptState) → AreScripts lines scripts

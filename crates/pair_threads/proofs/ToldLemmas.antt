@@ -15,9 +15,9 @@ use Rattle.pair_run.specs.declared.run_file.Action.{Action}
 use Rattle.pair_run.specs.declared.run_file.Action.TheVariants as actions
 use Rattle.growing_history.specs.Entries.{own_entries}
 use Rattle.growing_history.specs.LogState.{history_of}
-use Rattle.hypervisor.specs.Clients.{ClientState, own, Calls, AfterRefusedDelivery}
-use Rattle.hypervisor.specs.Refusals.{IsWhyDelivery}
-use Rattle.pair_threads.specs.Told.{told, told_by, MayAnswer, MayAnswerAll}
+use Rattle.hypervisor.specs.Clients.{ClientState, own, Calls, RefusesDelivery}
+use Rattle.hypervisor.specs.Refusals.{MayRefuseDelivery}
+use Rattle.pair_threads.specs.Told.{entry_told, entries_told, MayAnswer, MayAnswerAll}
 use Rattle.pair_threads.specs.internal.Scripts.{Tells}
 
 -- a call's entry is one more of the client's own
@@ -29,8 +29,8 @@ pub uncalled : (start : HistoryState) (old new : ClientState) → new ≡ old �
 uncalled start old new same = ap (own start) same ∙ sym (append-nil (own start old))
 
 module _ (start : HistoryState) (old new : ClientState) where
-  module _ (bytes : Vec ℕ Global) (why : Refusal) (may : IsWhyDelivery bytes.items why) where
-    as-before : told old.number (actions.Deliver bytes) (replies.Refused why) ≡ [] → new ≡ old
+  module _ (bytes : Vec ℕ Global) (why : Refusal) (may : MayRefuseDelivery bytes.items why) where
+    as-before : entry_told old.number (actions.Deliver bytes) (replies.Refused why) ≡ [] → new ≡ old
         → Tells start (actions.Deliver bytes) (replies.Refused why) old new
     as-before none same = record {
       number = ap (λ (c : ClientState). c.number) same;
@@ -39,8 +39,8 @@ module _ (start : HistoryState) (old new : ClientState) where
     }
 
   -- of a delivery that was refused
-  pub not-delivered : (bytes : Vec ℕ Global) (why : Refusal) → IsWhyDelivery bytes.items why
-      → AfterRefusedDelivery start (record { items = bytes.items }) why old new
+  pub not-delivered : (bytes : Vec ℕ Global) (why : Refusal) → MayRefuseDelivery bytes.items why
+      → RefusesDelivery start (record { items = bytes.items }) why old new
       → Tells start (actions.Deliver bytes) (replies.Refused why) old new
   not-delivered bytes Full may a = record {
     number = a.0.number;
@@ -63,13 +63,13 @@ module _ (start : HistoryState) (old new : ClientState) where
 
 -- one action more
 told-more : (c : ℕ) (does : List Action) (action : Action) (answers : List Reply) (reply : Reply) → length answers ≡ length does
-    → told_by c (does ++ action ∷ []) (answers ++ reply ∷ []) ≡ told_by c does answers ++ told c action reply
-told-more c [] action [] reply same = append-nil (told c action reply)
+    → entries_told c (does ++ action ∷ []) (answers ++ reply ∷ []) ≡ entries_told c does answers ++ entry_told c action reply
+told-more c [] action [] reply same = append-nil (entry_told c action reply)
 told-more c [] action (r ∷ rs) reply same = absurd (cc)
 told-more c (d ∷ ds) action [] reply same = absurd (cc)
 told-more c (d ∷ ds) action (r ∷ rs) reply same =
-    ap (λ es. told c d r ++ es) (told-more c ds action rs reply (omega (arith, same)))
-    ∙ sym (append_assoc (told c d r) (told_by c ds rs) (told c action reply))
+    ap (λ es. entry_told c d r ++ es) (told-more c ds action rs reply (omega (arith, same)))
+    ∙ sym (append_assoc (entry_told c d r) (entries_told c ds rs) (entry_told c action reply))
 
 -- each answer is one that the action may get, and one more
 may-more : (does : List Action) (action : Action) (answers : List Reply) (reply : Reply) → MayAnswerAll does answers → MayAnswer action reply
@@ -84,7 +84,7 @@ pub record HasMadeSome (start : HistoryState) (does : List Action) (count : ℕ)
   pub number : new.number ≡ old.number
   pub some : length answers ≡ count
   pub may : MayAnswerAll (take count does) answers
-  pub own : own start new ≡ own start old ++ told_by old.number (take count does) answers
+  pub own : own start new ≡ own start old ++ entries_told old.number (take count does) answers
 
 pub none-made : (start : HistoryState) (does : List Action) (answers : List Reply) (client : ClientState) → answers ≡ []
     → HasMadeSome start does 0 answers client client
@@ -104,10 +104,10 @@ one-more-made start does count answers old now new action reply made low is tell
     let before = take count does in
     let all : take (suc count) does ≡ before ++ action ∷ [] =
     take-suc does count action low ∙ ap (λ (x : Action). before ++ x ∷ []) (sym is) in
-    let more : told_by old.number (take (suc count) does) (answers ++ reply ∷ []) ≡ told_by old.number before answers ++ told old.number action reply =
-    ap (λ (xs : List Action). told_by old.number xs (answers ++ reply ∷ [])) all
+    let more : entries_told old.number (take (suc count) does) (answers ++ reply ∷ []) ≡ entries_told old.number before answers ++ entry_told old.number action reply =
+    ap (λ (xs : List Action). entries_told old.number xs (answers ++ reply ∷ [])) all
     ∙ told-more old.number before action answers reply (some ∙ sym (length-take-le count does (omega arith))) in
-    let here : told now.number action reply ≡ told old.number action reply = ap (λ n. told n action reply) made.number in
+    let here : entry_told now.number action reply ≡ entry_told old.number action reply = ap (λ n. entry_told n action reply) made.number in
     record {
       number = tells.number ∙ made.number;
       some = omega (arith, length-append answers (reply ∷ []));
@@ -116,7 +116,7 @@ one-more-made start does count answers old now new action reply made low is tell
           (may-more before action answers reply made.may tells.may);
       own = tells.own
           ∙ (ap (λ es. own start now ++ es) here
-          ∙ (ap (λ es. es ++ told old.number action reply) made.own
-          ∙ (append_assoc (own start old) (told_by old.number before answers) (told old.number action reply)
-          ∙ ap (λ es. own start old ++ es) (sym (ap (λ k. told_by old.number (take k does) (answers ++ reply ∷ [])) (add-one count) ∙ more)))));
+          ∙ (ap (λ es. es ++ entry_told old.number action reply) made.own
+          ∙ (append_assoc (own start old) (entries_told old.number before answers) (entry_told old.number action reply)
+          ∙ ap (λ es. own start old ++ es) (sym (ap (λ k. entries_told old.number (take k does) (answers ++ reply ∷ [])) (add-one count) ∙ more)))));
     }

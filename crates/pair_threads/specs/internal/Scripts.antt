@@ -11,7 +11,7 @@ use Rattle.hypervisor.specs.Clients.{ClientState, own}
 use Rattle.hypervisor.specs.Looking.{HasFound, SeeAll}
 use Rattle.hypervisor.specs.Opening.{new_client}
 use Rattle.hypervisor.specs.declared.looking.Found.{Found}
-use Rattle.pair_threads.specs.Told.{HasMade, MayAnswer, told}
+use Rattle.pair_threads.specs.Told.{HasMade, MayAnswer, entry_told}
 
 pub record ScriptState : Type 0 where
   pub client : ClientState
@@ -31,7 +31,7 @@ pub record HasRoom (script : ScriptState) : Type 0 where
 pub record Tells (start : HistoryState) (action : Action) (reply : Reply) (old new : ClientState) : Type 0 where
   pub number : new.number ≡ old.number
   pub may : MayAnswer action reply
-  pub own : own start new ≡ own start old ++ told old.number action reply
+  pub own : own start new ≡ own start old ++ entry_told old.number action reply
 
 -- the thread has made all actions, where there was room for the answers
 abbrev pub HasPlayed : HistoryState → ScriptState → ScriptState → Type 0

@@ -1,8 +1,8 @@
 use Rattle.std.proofs.Common.{◌≡◌, ℕ, List, length, false, subst}
 use Rattle.pair_record.specs.Protocol.{is_bad_length}
-use Rattle.hypervisor.specs.Refusals.{IsWhyDelivery}
+use Rattle.hypervisor.specs.Refusals.{MayRefuseDelivery}
 use Rattle.pair_history.specs.Entries as entries
-use Rattle.hypervisor.specs.Clients.{Calls, AfterRefusedDelivery}
+use Rattle.hypervisor.specs.Clients.{Calls, RefusesDelivery}
 use Rattle.pair_threads.proofs.ToldLemmas.{called, not-delivered}
 use Rattle.pair_threads.proofs.scripts.deliver.Goals as goal
 
@@ -26,6 +26,6 @@ returns-in-Err g c =
     let old = c.args.client.now in
     let new = c.deliver.new.self in
     not-delivered start old new c.args.bytes.now c.in-Err.why
-    (subst (λ (bytes : List ℕ). IsWhyDelivery bytes c.in-Err.why) c.as_slice.ensures.value c.in-Err.ensures.why)
-    (subst (λ (bytes : List ℕ). AfterRefusedDelivery start (record { items = bytes }) c.in-Err.why old new) c.as_slice.ensures.value
+    (subst (λ (bytes : List ℕ). MayRefuseDelivery bytes c.in-Err.why) c.as_slice.ensures.value c.in-Err.ensures.why)
+    (subst (λ (bytes : List ℕ). RefusesDelivery start (record { items = bytes }) c.in-Err.why old new) c.as_slice.ensures.value
     c.in-Err.ensures.refused)
