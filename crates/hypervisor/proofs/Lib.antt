@@ -21,3 +21,5 @@ pub mod CommitLaws
 pub mod GoLiveLaws
 pub mod OpeningLaws
 pub mod LookLaws
+pub mod Unmarked
+pub mod FirstBackups

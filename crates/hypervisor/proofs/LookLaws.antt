@@ -8,7 +8,7 @@ use Rattle.growing_history.specs.Steps.{Step}
 use Rattle.growing_history.specs.LogState.{Epoch, Legal, state_at, history_of}
 use Rattle.pair_book.specs.Books.{BookState}
 use Rattle.hypervisor.specs.Clients.{ClientState}
-use Rattle.hypervisor.specs.Looking.{SeesAll, HaveLooked, found_at}
+use Rattle.hypervisor.specs.Looking.{SeesAll, SeeAll, HasFound, found_at}
 use Rattle.hypervisor.specs.Service.{AreOfOneGuest}
 
 -- so many of them have seen all, and the others are as before
@@ -41,25 +41,27 @@ module _ (start : HistoryState) (all : List Step) (old : List ClientState) where
           subst (λ (s : ClientState). SeesAll start all (get_or old i c) s) (sym (get_or-set_other new some i seen c e))
           (h.first i c low (omega (arith, less, e)))
 
--- all have looked: what the book says of itself is what was found
-pub have-looked : (start : HistoryState) (b : BookState) (old new : List ClientState) (some : ℕ) → length old ≤ some → Legal start b.steps → AreOfOneGuest start b.steps
+-- all have looked
+pub all-see : (start : HistoryState) (all : List Step) (old new : List ClientState) (some : ℕ) → length old ≤ some
+    → SomeSee start all some old new → SeeAll start all old new
+all-see start all old new some many seen =
+    record { count = seen.count; each = λ i c low. seen.first i c low (omega (arith, low, many)) }
+
+-- what the book says of itself is what was found
+pub has-found : (start : HistoryState) (b : BookState) → Legal start b.steps → AreOfOneGuest start b.steps
     → ((state_at start b.steps).marked ≡ 0 → b.protocol.journal.history ≡ history_of start b.steps)
     → b.protocol.generation ≡ (state_at start b.steps).generation → b.protocol.window.to_cut ≡ (state_at start b.steps).next
     → b.protocol.journal.sealed ≡ map (λ (e : Epoch). e.entries) (state_at start b.steps).sealed
-    → (length b.protocol.pending ≡ 0 → b.protocol.journal.sealed ≡ []) → SomeSee start b.steps some old new
-    → HaveLooked start (found_at b) old new
-have-looked start b old new some all legal guest history generation next sealed pending seen =
-    let s = state_at start b.steps in (
-      b.steps,
-      record {
-        legal = legal;
-        guest = guest;
-        entries = λ none. ap (λ (es : List Entry). length es) (history none);
-        generation = generation;
-        next = next;
-        sealed = λ none.
-            nil_from_length s.sealed
-            (sym (length-map s.sealed (λ (e : Epoch). e.entries)) ∙ ap (λ (l : List (List Entry)). length l) (sym sealed ∙ pending none));
-      },
-      record { count = seen.count; each = λ i c low. seen.first i c low (omega (arith, low, all)) },
-    )
+    → (length b.protocol.pending ≡ 0 → b.protocol.journal.sealed ≡ []) → HasFound start b.steps (found_at b)
+has-found start b legal guest history generation next sealed pending =
+    let s = state_at start b.steps in
+    record {
+      legal = legal;
+      guest = guest;
+      entries = λ none. ap (λ (es : List Entry). length es) (history none);
+      generation = generation;
+      next = next;
+      sealed = λ none.
+          nil_from_length s.sealed
+          (sym (length-map s.sealed (λ (e : Epoch). e.entries)) ∙ ap (λ (l : List (List Entry)). length l) (sym sealed ∙ pending none));
+    }

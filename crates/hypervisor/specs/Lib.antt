@@ -11,6 +11,7 @@ pub mod Runs
 pub mod Submits
 pub mod Backups
 pub mod Feeding
+pub mod FirstBackups
 pub mod Commits
 pub mod GoingLive
 pub mod AtBook

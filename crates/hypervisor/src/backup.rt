@@ -1,5 +1,5 @@
 //! The backup: it reads the checkpoints that come, and has the image of the last commit.
-ghost use Rattle.std.specs.Prelude.{◌≡◌, ◌<◌, ◌≤◌, false, length, option_map, [], All, IfOk, OnOk, IfErr, OnErr, IsSome, IfSome, None};
+ghost use Rattle.std.specs.Prelude.{◌≡◌, ◌<◌, ◌≤◌, true, false, length, option_map, [], All, IfOk, OnOk, IfErr, OnErr, IsSome, IfSome, None};
 ghost use Rattle.std.specs.List.{Contains};
 ghost use Rattle.backup_image.specs.Images.{settled_machine};
 ghost use Rattle.checkpoint_stream.specs.Readings.{is_closed};
@@ -9,6 +9,7 @@ ghost use Rattle.pair_book.specs.Settled.{just_settled, Runs};
 ghost use Rattle.hypervisor.specs.Backups.{new_backup, StandsWith, HasHistorysGuest};
 ghost use Rattle.hypervisor.specs.Commits.{Commits, MayRefuseCommit, AfterRefusedCommit, gives_up};
 ghost use Rattle.hypervisor.specs.Feeding.{Feeds};
+ghost use Rattle.hypervisor.specs.FirstBackups.{HasSeen, Hears, IsReadOf, ReadsPacket};
 ghost use Rattle.hypervisor.specs.GoingLive.{BecomesLive, GoesLiveWith, live_refusals};
 ghost use Rattle.hypervisor.specs.Runners.{new_runner};
 
@@ -18,8 +19,9 @@ use crate::shared::Shared;
 use backup_image::{Image, Resumed};
 use checkpoint_stream::{Reader, StreamError, read_is_its_text};
 use epoch_snapshot::Checkpoint;
-use growing_history::{BackupSeat, Pair, RunnerSeat};
-use pair_book::{Ack, Refusal};
+use growing_history::{BackupSeat, Badge, Clock, Pair, RunnerSeat};
+use guest_machine::Shape;
+use pair_book::{Ack, Book, Packet, Refusal, members_go_on};
 use std::alloc::Global;
 use std::marker::Model;
 use std::sync::{Arc, Wait};
@@ -115,6 +117,45 @@ impl<P: Pair> Backup<P> {
         Ok(count)
     }
 
+    /// Sees all that the seat had seen which told it, beside all that its own had seen.
+    pub(crate) fn learn(&mut self, badge: &mut Badge<P>)
+        ensures hears { Hears P.start badge.old self.old self.new }
+        ensures badge { badge.new ≡ badge.old }
+    {
+        members_go_on();
+        let shared = &*self.shared;
+        self.seat.learn(shared.clock(), badge);
+    }
+
+    /// Sees all the steps that were made, at the book, which is lent to it.
+    pub(crate) fn look(&mut self, book: &mut Book<P>, clock: &Clock<P>)
+        ensures same { book.new ≡ book.old }
+        ensures seen { HasSeen P.start book.old.steps self.old self.new }
+    {
+        members_go_on();
+        book.show(clock, &mut self.seat);
+    }
+
+    /// Reads the checkpoint of this packet whole, in the place of what was read before; what came by [`feed`](Backup::feed) since stands.
+    /// Answers whether there is one: none where the text isn't of a checkpoint of the pair's shape.
+    ///
+    /// # Errors
+    ///
+    /// [`StreamError::NoMemory`] where a growth was really refused, and [`StreamError::Malformed`] where the text breaks a rule: the backup
+    /// is as before.
+    pub(crate) fn read_packet(
+        &mut self,
+        alloc: Global,
+        packet: &Packet,
+    ) -> Result<bool, StreamError>
+        ensures read { IfOk result (λ is_read. is_read ≡ true → ReadsPacket packet.now self.old self.new) }
+        ensures none { IfOk result (λ is_read. is_read ≡ false → self.new ≡ record self.old { read = None }) }
+        ensures refused { OnErr result (self.new ≡ self.old) }
+    {
+        self.read = read_whole(alloc, self.image.shape(), packet)?;
+        Ok(self.read.is_some())
+    }
+
     /// Commits the checkpoint that was read whole. Where it is the next one its epoch enters the history, and then the image takes it in,
     /// with no lock held: the image then is the checkpoint read over the image before. An earlier one changes nothing, but its seat has seen
     /// all steps. In both cases what was read is given up. Answers the acknowledgement: of the next one, or of the last one that was
@@ -201,6 +242,40 @@ impl<P: Pair> Backup<P> {
             )),
         }
     }
+}
+
+/// The checkpoint of this packet, of that shape; `None` where it isn't a checkpoint's.
+///
+/// # Errors
+///
+/// [`StreamError::NoMemory`] where a growth was really refused, and [`StreamError::Malformed`] where the text breaks a rule.
+fn read_whole(
+    alloc: Global,
+    shape: Shape,
+    packet: &Packet,
+) -> Result<Option<Checkpoint>, StreamError>
+    ensures { IfOk result (λ read. IfSome read (IsReadOf shape packet.now)) }
+{
+    read_is_its_text();
+    let bytes = packet.bytes();
+    byte_widths(bytes);
+    let mut reader = Reader::new(alloc, shape);
+    let count = reader.feed(bytes)?;
+    let Some(checkpoint) = reader.next() else {
+        return Ok(None);
+    };
+    if count < bytes.len() || !is_of(&checkpoint, packet) {
+        return Ok(None);
+    }
+    Ok(Some(checkpoint))
+}
+
+/// Whether this checkpoint has the packet's generation and number.
+fn is_of(checkpoint: &Checkpoint, packet: &Packet) -> bool
+    ensures generation { result ≡ true → checkpoint.now.generation ≡ packet.now.generation }
+    ensures number { result ≡ true → checkpoint.now.number ≡ packet.now.number }
+{
+    checkpoint.generation() == packet.generation() && checkpoint.number() == packet.number()
 }
 
 /// The backup of this seat and this image goes live at the book.

@@ -1,13 +1,17 @@
 //! The line's losses.
-ghost use Rattle.std.specs.Prelude.{◌≡◌, None, IfOk, OnOk, IfErr};
+ghost use Rattle.std.specs.Prelude.{◌≡◌, None, IfOk, OnOk, IfErr, OnErr, option_map};
+ghost use Rattle.std.specs.List.{Contains};
 ghost use Rattle.frame_ports.specs.Ports.{inbox_of, box_of};
 ghost use Rattle.pair_record.specs.Protocol.{first_refusal, lost_in, lost_out};
 ghost use Rattle.pair_record.specs.Record.{ports_after_lose_in, ports_after_lose_out};
-ghost use Rattle.pair_book.specs.Calls.{IsAsBefore};
+ghost use Rattle.pair_book.specs.Calls.{IsAsBefore, IsWhy};
 ghost use Rattle.pair_book.specs.Losses.{loss_rows, AfterLoss, IsWhyLoss};
+ghost use Rattle.pair_book.specs.Texts.{next_of, given_after, next_why};
 ghost use Rattle.hypervisor.specs.Losses.{AfterLossIn, AfterLossOut};
-ghost use Rattle.hypervisor.specs.Refusals.{MayRefuseLoss};
+ghost use Rattle.hypervisor.specs.Refusals.{MayRefuseLoss, next_refusals};
 
+use crate::sealed_packet::SealedPacket;
+use crate::sender::next;
 use crate::shared::Shared;
 use growing_history::{Clock, Pair};
 use pair_book::{Book, LineSeat, Loss as Lost, Refusal};
@@ -85,11 +89,48 @@ fn lose_out<P: Pair>(
     lost
 }
 
+/// What is to be sent, as [`Book::next`] says. The line's seat sees all the steps that were made, and so that it was sealed.
+fn next_over<P: Pair>(
+    book: &mut Book<P>,
+    clock: &Clock<P>,
+    line: &mut LineSeat<P>,
+) -> Result<Option<SealedPacket<P>>, Refusal>
+    ensures among { IfErr result (Contains next_refusals) }
+    ensures done { IfOk result (λ sealed. option_map (λ s. s.packet) sealed ≡ next_of book.old.texts) }
+    ensures given { OnOk result (book.new ≡ record book.old { texts = given_after (next_of book.old.texts) book.old.texts }) }
+    ensures free { OnOk result (next_why book.old ≡ None) }
+    ensures why { IfErr result (IsWhy (next_why book.old)) }
+    ensures refused { OnErr result (book.new ≡ book.old) }
+{
+    let Some(packet) = next(book)? else {
+        return Ok(None);
+    };
+    book.show_line(clock, line);
+    let badge = line.tell(clock);
+    Ok(Some(SealedPacket { packet, badge }))
+}
+
 impl<P: Pair> Loss<P> {
     pub(crate) fn of(shared: Arc<Shared<P>>, line: LineSeat<P>) -> Loss<P>
         ensures { result ≡ line.steps }
     {
         Loss { shared, line }
+    }
+
+    /// What is to be sent next, at the book, which is lent to it.
+    pub(crate) fn next(
+        &mut self,
+        book: &mut Book<P>,
+        clock: &Clock<P>,
+    ) -> Result<Option<SealedPacket<P>>, Refusal>
+        ensures among { IfErr result (Contains next_refusals) }
+        ensures done { IfOk result (λ sealed. option_map (λ s. s.packet) sealed ≡ next_of book.old.texts) }
+        ensures given { OnOk result (book.new ≡ record book.old { texts = given_after (next_of book.old.texts) book.old.texts }) }
+        ensures free { OnOk result (next_why book.old ≡ None) }
+        ensures why { IfErr result (IsWhy (next_why book.old)) }
+        ensures refused { OnErr result (book.new ≡ book.old) }
+    {
+        next_over(book, clock, &mut self.line)
     }
 
     /// Drops the frame at this place, from 0, of this client's inbox. Where one is there, what the line's seat has seen then ends with the

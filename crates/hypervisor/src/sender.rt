@@ -10,6 +10,8 @@ ghost use Rattle.pair_book.specs.Failures.{AddsAlone, ack_why, leaving_at};
 ghost use Rattle.pair_book.specs.Texts.{WasSealed, next_of, given_after, next_why, texts_above};
 ghost use Rattle.hypervisor.specs.Refusals.{next_refusals, ack_refusals};
 
+use crate::losses::Loss;
+use crate::sealed_packet::SealedPacket;
 use crate::shared::Shared;
 use growing_history::{Clock, Pair};
 use pair_book::{Ack, Book, Landed, Packet, Refusal};
@@ -23,7 +25,7 @@ pub struct Sender<P: Pair> {
 }
 
 /// As [`Book::next`] says.
-fn next<P: Pair>(book: &mut Book<P>) -> Result<Option<Packet>, Refusal>
+pub(crate) fn next<P: Pair>(book: &mut Book<P>) -> Result<Option<Packet>, Refusal>
     ensures among { IfErr result (Contains next_refusals) }
     ensures done { IfOk result (λ packet. packet ≡ next_of book.old.texts) }
     ensures given { OnOk result (book.new ≡ record book.old { texts = given_after (next_of book.old.texts) book.old.texts }) }
@@ -73,6 +75,24 @@ impl<P: Pair> Sender<P> {
         let shared = &*self.shared;
         let mut held = shared.lock(rt);
         next(&mut *held)
+    }
+
+    /// As [`next`](Sender::next), over the line whose seat this is: that has then seen all the steps that were made, and the packet carries
+    /// its badge.
+    ///
+    /// # Errors
+    ///
+    /// Those of `next`.
+    pub fn next_over<R: Wait>(
+        &mut self,
+        rt: &R,
+        line: &mut Loss<P>,
+    ) -> Result<Option<SealedPacket<P>>, Refusal>
+        ensures { IfErr result (Contains next_refusals) }
+    {
+        let shared = &*self.shared;
+        let mut held = shared.lock(rt);
+        line.next(&mut *held, shared.clock())
     }
 
     /// The backup has committed all checkpoints of the generation up to the acknowledged one: they are no longer pending, and their frames

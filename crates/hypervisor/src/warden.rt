@@ -11,6 +11,7 @@ ghost use Rattle.pair_book.specs.Failures.{MakesAlone, fail_primary_why, fail_ba
 ghost use Rattle.pair_book.specs.Packets.{no_texts};
 ghost use Rattle.hypervisor.specs.Failures.{IsProtected};
 ghost use Rattle.hypervisor.specs.GoingLive.{BecomesLive, live_refusals};
+ghost use Rattle.hypervisor.specs.FirstBackups.{HaveLookedBeside};
 ghost use Rattle.hypervisor.specs.Looking.{HaveLooked};
 ghost use Rattle.hypervisor.specs.declared.looking.Found.{Found};
 ghost use Rattle.hypervisor.specs.Refusals.{fail_refusals, protect_refusals};
@@ -20,7 +21,8 @@ ghost use Rattle.pair_book.specs.Made.{IsShape};
 
 use crate::backup::Backup;
 use crate::clients::Client;
-use crate::looking::{Found, look};
+use crate::first_backup::FirstBackup;
+use crate::looking::{Found, look, look_beside};
 use crate::runner::Runner;
 use crate::shared::Shared;
 use backup_image::{Image, ImageError};
@@ -231,6 +233,21 @@ impl<P: Pair> Warden<P> {
         let shared = &*self.shared;
         let mut held = shared.lock(rt);
         look(&mut *held, shared.clock(), clients)
+    }
+
+    /// As [`look`](Warden::look), and the first backup looks too. It has committed nothing but what was sealed: so in the first generation
+    /// no commit is marked, and the history is that of one guest that never fails.
+    pub fn look_beside<R: Wait>(
+        &self,
+        rt: &R,
+        clients: &mut Vec<Client<P>>,
+        backup: &mut FirstBackup<P>,
+    ) -> Found
+        ensures { HaveLookedBeside P.start result clients.old.items clients.new.items }
+    {
+        let shared = &*self.shared;
+        let mut held = shared.lock(rt);
+        look_beside(&mut *held, shared.clock(), clients, backup)
     }
 
     /// The length of the history.

@@ -4,12 +4,12 @@ ghost use Rattle.frame_ports.specs.Ports.{inbox_of, box_of};
 ghost use Rattle.pair_record.specs.Protocol.{first_refusal, lost_in, lost_out};
 ghost use Rattle.pair_record.specs.Record.{ports_after_lose_in, ports_after_lose_out};
 ghost use Rattle.growing_history.specs.LogState.{Legal, line_seat};
-ghost use Rattle.pair_book.specs.Calls.{IsAsBefore, entry_rows};
+ghost use Rattle.pair_book.specs.Calls.{IsAsBefore, Shows, entry_rows};
 ghost use Rattle.pair_book.specs.Losses.{loss_rows, IsWhyLoss, AfterLoss};
 
 use crate::book::Book;
 use crate::gained::tell;
-use growing_history::{Clock, MemberSeat, Pair};
+use growing_history::{Badge, Clock, MemberSeat, Pair};
 use pair_record::Refusal;
 use std::marker::Model;
 
@@ -59,9 +59,26 @@ impl<P: Pair> LineSeat<P> {
     {
         self.member.number()
     }
+
+    /// What another may be told: all that the line has seen.
+    pub fn tell(&mut self, clock: &Clock<P>) -> Badge<P>
+        ensures badge { result ≡ self.old.steps }
+        ensures same { self.new ≡ self.old }
+    {
+        self.member.tell(clock)
+    }
 }
 
 impl<P: Pair> Book<P> {
+    /// Shows the line all the steps that were made. Nothing is done.
+    pub fn show_line(&mut self, clock: &Clock<P>, line: &mut LineSeat<P>)
+        ensures same { self.new ≡ self.old }
+        ensures shows { Shows self.old line.old line.new }
+        ensures legal { Legal P.start self.old.steps }
+    {
+        self.show(clock, &mut line.member);
+    }
+
     /// Why a frame that is there isn't lost.
     fn loss_refusal(&self) -> Option<Refusal>
         ensures { result ≡ first_refusal (entry_rows self.now) }

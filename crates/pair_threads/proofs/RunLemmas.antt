@@ -83,11 +83,12 @@ pub ended-run : (start : HistoryState) → ((c : ℕ) → own start (new_client 
 ended-run start unseen lines scripts ended epochs clients entries is_whole are served e = record {
   all = e.all;
   legal = e.has.legal;
-  guest = e.has.guest;
+  unmarked = e.unmarked;
+  guest = e.has.guest e.unmarked;
   answered =
       subst (AreAnswered (history_of start e.all) lines) (sym e.answered)
       (all-answered start unseen e.all lines scripts ended e.looked are served e.see);
-  count = λ none. e.count ∙ e.has.entries none;
+  count = e.count ∙ e.has.entries e.unmarked;
   whole = λ is. whole-found start e.all epochs e.found e.has (e.whole is);
 }
 

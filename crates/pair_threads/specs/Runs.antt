@@ -5,7 +5,7 @@ use Rattle.pair_history.specs.HistoryState.{HistoryState}
 use Rattle.growing_history.specs.Steps.{Step}
 use Rattle.growing_history.specs.LogState.{LogState, Legal, state_at, history_of}
 use Rattle.hypervisor.specs.Opening.{start_with}
-use Rattle.hypervisor.specs.Service.{AreOfOneGuest}
+use Rattle.hypervisor.specs.Service.{HasOneGuest}
 use Rattle.pair_run.specs.RunFile.{Means, unbooted, says, bad}
 use Rattle.pair_run.specs.RunPrinted.{run_text}
 use Rattle.pair_run.specs.Views.{run_file}
@@ -23,16 +23,17 @@ pub record IsWhole (epochs : ℕ) (s : LogState) : Type 0 where
   pub next : s.next ≡ epochs + 1
   pub sealed : s.sealed ≡ []
 
--- A run of these lines and so many epochs, of a pair that starts there. There is one legal list of steps: all lines' answers are told by its
--- history, which has so many entries, and where the run is said to be whole, it is. Unless a commit is marked among them, that is the
--- history of one guest that never fails, and has that length.
+-- A run of these lines and so many epochs, of a pair that starts there. There is one legal list of steps, of which no commit is marked: its
+-- history is that of one guest that never fails, has so many entries, and tells all lines' answers; and where the run is said to be whole,
+-- it is.
 pub record IsRunFrom (start : HistoryState) (lines : List ClientLine) (epochs : ℕ) (clients : List Answered) (entries : ℕ) (is_whole : Bool) :
     Type 0 where
   pub all : List Step
   pub legal : Legal start all
-  pub guest : AreOfOneGuest start all
+  pub unmarked : (state_at start all).marked ≡ 0
+  pub guest : HasOneGuest start (history_of start all)
   pub answered : AreAnswered (history_of start all) lines clients
-  pub count : (state_at start all).marked ≡ 0 → entries ≡ length (history_of start all)
+  pub count : entries ≡ length (history_of start all)
   pub whole : is_whole ≡ true → IsWhole epochs (state_at start all)
 
 -- a pair starts with the guest at boot which the file names

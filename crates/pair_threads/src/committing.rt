@@ -3,34 +3,40 @@
 use crate::messages::{Answer, is_last};
 use crate::signals::Signals;
 use crossbeam_channel as channel;
-use hypervisor::{Backup, Packet, Pair};
+use hypervisor::{FirstBackup, Pair, SealedPacket};
+use std::alloc::Global;
 use std::sync::Wait;
 
 /// The backup's ends of the two channels.
 #[derive(Drop)]
-pub(crate) struct BackupEnds {
-    pub(crate) packets: channel::Receiver<Packet>,
+pub(crate) struct BackupEnds<P: Pair> {
+    pub(crate) packets: channel::Receiver<SealedPacket<P>>,
     pub(crate) answers: channel::Sender<Answer>,
 }
 
 /// What the backup's thread has. The backup stands in a box.
 #[derive(Drop)]
 pub(crate) struct Committing<P: Pair> {
-    pub(crate) backup: Box<Backup<P>>,
-    pub(crate) ends: BackupEnds,
+    pub(crate) alloc: Global,
+    pub(crate) backup: Box<FirstBackup<P>>,
+    pub(crate) ends: BackupEnds<P>,
 }
 
-/// Reads and commits what comes, and answers to each packet, until the sender has ended. Where it can't go on, the run is to end.
+/// Reads and commits what comes, and answers to each packet, until the sender has ended. Where it can't go on, the run is to end. Answers
+/// the backup.
 pub(crate) fn commit_all<P: Pair, R: Wait>(
     rt: &R,
     mut committing: Committing<P>,
     signals: &Signals,
-) {
+) -> Box<FirstBackup<P>> {
     for _ in rt.forever() {
         if !commit_next(rt, &mut committing, signals) {
-            return;
+            break;
         }
     }
+    let Committing { backup, ends, .. } = committing;
+    drop(ends);
+    backup
 }
 
 /// Reads and commits the packet that comes next, and answers to it. Answers whether more may come.
@@ -39,10 +45,11 @@ fn commit_next<P: Pair, R: Wait>(
     committing: &mut Committing<P>,
     signals: &Signals,
 ) -> bool {
-    let Ok(packet) = committing.ends.packets.recv(rt) else {
+    let Ok(mut packet) = committing.ends.packets.recv(rt) else {
         return false;
     };
-    let Some(answer) = answer_to(rt, committing.backup.as_mut(), &packet) else {
+    let alloc = committing.alloc;
+    let Some(answer) = answer_to(rt, alloc, committing.backup.as_mut(), &mut packet) else {
         signals.stop();
         return false;
     };
@@ -50,8 +57,13 @@ fn commit_next<P: Pair, R: Wait>(
 }
 
 /// Reads a packet and commits it. Answers what is to be answered to it; none where the backup can't go on.
-fn answer_to<P: Pair, R: Wait>(rt: &R, backup: &mut Backup<P>, packet: &Packet) -> Option<Answer> {
-    if backup.feed(packet.bytes()).is_err() {
+fn answer_to<P: Pair, R: Wait>(
+    rt: &R,
+    alloc: Global,
+    backup: &mut FirstBackup<P>,
+    packet: &mut SealedPacket<P>,
+) -> Option<Answer> {
+    if backup.read(alloc, packet).is_err() {
         return None;
     }
     match backup.commit(rt) {

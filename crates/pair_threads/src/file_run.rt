@@ -1,5 +1,5 @@
 //! `remus run FILE`.
-ghost use Rattle.std.specs.Prelude.{◌≡◌, ℕ, ◌+◌, true, [], IfOk, codes};
+ghost use Rattle.std.specs.Prelude.{◌≡◌, ◌≢◌, ℕ, ◌+◌, true, false, [], IfOk, codes};
 ghost use Rattle.hypervisor.specs.Clients.{own};
 ghost use Rattle.hypervisor.specs.Opening.{new_client, start_with};
 ghost use Rattle.pair_run.specs.RunPrinted.{IsWritten, run_text};
@@ -207,7 +207,7 @@ fn assign<P: Pair>(
 ///
 /// # Errors
 ///
-/// [`Unplayed`] where there isn't.
+/// [`Unplayed`] where there isn't, and where the pair isn't in its first generation.
 fn told<P: Pair, R: Wait>(
     rt: &R,
     ended: Ended<P, Script<P>>,
@@ -222,19 +222,37 @@ fn told<P: Pair, R: Wait>(
     let Ended {
         sessions,
         warden,
+        mut backup,
         is_whole,
     } = ended;
+    let Ok(lists) = listed(sessions, lists) else {
+        drop(backup);
+        return Err(Unplayed);
+    };
     let Lists {
         answered,
         mut clients,
-    } = listed(sessions, lists)?;
+    } = lists;
     // All threads have ended, so this is all that happened.
-    let found = warden.look(rt, &mut clients);
+    let found = warden.look_beside(rt, &mut clients, backup.as_mut());
+    drop(backup);
+    if !is_first(found) {
+        return Err(Unplayed);
+    }
     Ok(Played {
         clients: answered,
         entries: found.entries,
         is_whole: is_whole_by(found, is_whole, epochs),
     })
+}
+
+/// Whether the pair is in its first generation. It is: nobody here says that a node has failed. But no type says so, and of a later one
+/// nothing would be proved.
+fn is_first(found: Found) -> bool
+    ensures first { result ≡ true → found.generation ≡ 1 }
+    ensures later { result ≡ false → found.generation ≢ 1 }
+{
+    found.generation == 1
 }
 
 /// Whether all these epochs were sealed, and each is committed and acknowledged, in a run that nothing ended early.

@@ -3,22 +3,23 @@
 use crate::messages::{Answer, is_last};
 use crate::signals::Signals;
 use crossbeam_channel as channel;
-use hypervisor::{Ack, Packet, Pair, Sender};
+use hypervisor::{Ack, Loss, Pair, SealedPacket, Sender};
 use std::sync::Wait;
 use std::thread;
 
 /// The sender's ends of the two channels.
 #[derive(Drop)]
-pub(crate) struct SenderEnds {
-    pub(crate) packets: channel::Sender<Packet>,
+pub(crate) struct SenderEnds<P: Pair> {
+    pub(crate) packets: channel::Sender<SealedPacket<P>>,
     pub(crate) answers: channel::Receiver<Answer>,
 }
 
-/// What the sender's thread has.
+/// What the sender's thread has. It sends over the line whose seat it has.
 #[derive(Drop)]
 pub(crate) struct Sending<P: Pair> {
     pub(crate) sender: Sender<P>,
-    pub(crate) ends: SenderEnds,
+    pub(crate) line: Loss<P>,
+    pub(crate) ends: SenderEnds<P>,
 }
 
 /// Sends each checkpoint that is pending, and hands in what is acknowledged, until the runner has ended and none is pending. Where it
@@ -35,7 +36,7 @@ pub(crate) fn send_all<P: Pair, R: Wait>(rt: &R, mut sending: Sending<P>, signal
 fn send_next<P: Pair, R: Wait>(rt: &R, sending: &mut Sending<P>, signals: &Signals) -> bool {
     // Asked for first: what was submitted before the runner ended is then pending.
     let has_runner_ended = signals.has_runner_ended();
-    let goes_on = match sending.sender.next(rt) {
+    let goes_on = match sending.sender.next_over(rt, &mut sending.line) {
         Ok(Some(packet)) => send(rt, &mut sending.sender, &sending.ends, packet),
         Ok(None) => {
             if !has_runner_ended {
@@ -55,8 +56,8 @@ fn send_next<P: Pair, R: Wait>(rt: &R, sending: &mut Sending<P>, signals: &Signa
 fn send<P: Pair, R: Wait>(
     rt: &R,
     sender: &mut Sender<P>,
-    ends: &SenderEnds,
-    packet: Packet,
+    ends: &SenderEnds<P>,
+    packet: SealedPacket<P>,
 ) -> bool {
     if ends.packets.send(rt, packet).is_err() {
         return false;

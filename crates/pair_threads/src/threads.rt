@@ -12,7 +12,7 @@ use crate::sending::{SenderEnds, Sending, send_all};
 use crate::sessions::{Session, serve};
 use crate::signals::Signals;
 use crossbeam_channel as channel;
-use hypervisor::{Backup, Client, Pair, Parts, Runner, Sender, UnnamedPair, Warden};
+use hypervisor::{Client, FirstBackup, Loss, Pair, Parts, Runner, Sender, UnnamedPair, Warden};
 use std::alloc::{AllocError, Global};
 use std::sync::{Arc, Wait};
 use std::thread;
@@ -23,8 +23,9 @@ use std::thread::Threads;
 pub struct Members<P: Pair> {
     pub runner: Box<Runner<P>>,
     pub sender: Sender<P>,
-    pub backup: Box<Backup<P>>,
+    pub backup: Box<FirstBackup<P>>,
     pub warden: Warden<P>,
+    pub line: Loss<P>,
 }
 
 /// A run that has ended.
@@ -34,6 +35,8 @@ pub struct Ended<P: Pair, S> {
     pub sessions: Vec<S>,
     /// Who says how far the pair has come, and goes on with it.
     pub warden: Warden<P>,
+    /// The backup, which has committed nothing but what was sealed.
+    pub backup: Box<FirstBackup<P>>,
     /// Whether no member and no session ended the run early.
     pub is_whole: bool,
 }
@@ -59,7 +62,7 @@ pub fn members_of<P: Pair>(
         warden,
         loss,
     } = pair.named::<P>()?;
-    drop(loss);
+    let backup = FirstBackup::of(backup);
     let Some((runner, backup)) = both(Box::new(alloc, runner), Box::new(alloc, backup)) else {
         return Err(AllocError);
     };
@@ -68,6 +71,7 @@ pub fn members_of<P: Pair>(
         sender,
         backup,
         warden,
+        line: loss,
     };
     Ok((clients, members))
 }
@@ -77,7 +81,7 @@ pub fn members_of<P: Pair>(
 /// # Errors
 ///
 /// [`AllocError`] where the memory for the channels can't be had.
-fn channels(alloc: Global) -> Result<(SenderEnds, BackupEnds), AllocError> {
+fn channels<P: Pair>(alloc: Global) -> Result<(SenderEnds<P>, BackupEnds<P>), AllocError> {
     let (to_backup, from_sender) = channel::bounded(alloc, MOST_PACKETS)?;
     let (to_sender, from_backup) = channel::bounded(alloc, MOST_ANSWERS)?;
     let sender = SenderEnds {
@@ -122,7 +126,7 @@ pub fn run_members<P: Pair + Send + Sync, S: Session, R: Threads + Wait + Sync>(
 ) -> Result<Ended<P, S>, AllocError>
     ensures { IfOk result (λ ended. AreServed S.served sessions.items ended.sessions.items) }
 {
-    let Some((channels, signals)) = both(channels(alloc), new_signals(alloc)) else {
+    let Some((channels, signals)) = both(channels::<P>(alloc), new_signals(alloc)) else {
         return Err(AllocError);
     };
     let (sender_ends, backup_ends) = channels;
@@ -132,6 +136,7 @@ pub fn run_members<P: Pair + Send + Sync, S: Session, R: Threads + Wait + Sync>(
         sender,
         backup,
         warden,
+        line,
     } = members;
     let running = Running {
         runner,
@@ -141,21 +146,24 @@ pub fn run_members<P: Pair + Send + Sync, S: Session, R: Threads + Wait + Sync>(
     };
     let sending = Sending {
         sender,
+        line,
         ends: sender_ends,
     };
     let committing = Committing {
+        alloc,
         backup,
         ends: backup_ends,
     };
-    let served = run_threads(rt, running, sending, committing, sessions, &signals)?;
+    let (served, backup) = run_threads(rt, running, sending, committing, sessions, &signals)?;
     Ok(Ended {
         sessions: served,
         warden,
+        backup,
         is_whole: !signals.is_stopped(),
     })
 }
 
-/// Runs the three in threads of their own, and serves the sessions. Answers once all threads have ended.
+/// Runs the three in threads of their own, and serves the sessions. Answers the sessions and the backup, once all threads have ended.
 ///
 /// # Errors
 ///
@@ -167,21 +175,22 @@ fn run_threads<P: Pair + Send + Sync, S: Session, R: Threads + Wait + Sync>(
     committing: Committing<P>,
     sessions: Vec<S>,
     signals: &Signals,
-) -> Result<Vec<S>, AllocError>
-    ensures { IfOk result (λ done. AreServed S.served sessions.items done.items) }
+) -> Result<(Vec<S>, Box<FirstBackup<P>>), AllocError>
+    ensures { IfOk result (λ done. AreServed S.served sessions.items done.0.items) }
 {
     thread::scope(
         thread::scope_env(),
         rt,
-        move |scope| -> Result<Vec<S>, AllocError>
-            ensures { IfOk result (λ done. AreServed S.served sessions.items done.items) }
+        move |scope| -> Result<(Vec<S>, Box<FirstBackup<P>>), AllocError>
+            ensures { IfOk result (λ done. AreServed S.served sessions.items done.0.items) }
         {
             let has_runner = scope.spawn(move || run_epochs(rt, running)).is_ok();
             let has_sender = scope.spawn(move || send_all(rt, sending, signals)).is_ok();
-            let has_backup = scope
-                .spawn(move || commit_all(rt, committing, signals))
-                .is_ok();
-            if !(has_runner && has_sender && has_backup) {
+            let Ok(committing) = scope.spawn(move || commit_all(rt, committing, signals)) else {
+                signals.stop();
+                return Err(AllocError);
+            };
+            if !(has_runner && has_sender) {
                 signals.stop();
                 return Err(AllocError);
             }
@@ -189,7 +198,15 @@ fn run_threads<P: Pair + Send + Sync, S: Session, R: Threads + Wait + Sync>(
             if served.is_err() {
                 signals.stop();
             }
-            served
+            let backup = committing.join(rt);
+            match served {
+                Ok(sessions) => Ok((sessions, backup)),
+                Err(why) => {
+                    // By a call: else the proof would go over every part of it here.
+                    drop(backup);
+                    Err(why)
+                }
+            }
         },
     )
 }

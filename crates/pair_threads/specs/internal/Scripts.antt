@@ -6,6 +6,7 @@ use Rattle.pair_record.specs.declared.event.Reply.{Reply}
 use Rattle.pair_run.specs.declared.printing.Answered.{Answered}
 use Rattle.pair_run.specs.declared.run_file.Action.{Action}
 use Rattle.pair_run.specs.declared.run_file.ClientLine.{ClientLine}
+use Rattle.growing_history.specs.LogState.{state_at}
 use Rattle.growing_history.specs.Steps.{Step}
 use Rattle.hypervisor.specs.Clients.{ClientState, own}
 use Rattle.hypervisor.specs.Looking.{HasFound, SeeAll}
@@ -68,6 +69,7 @@ pub record HasEnded (start : HistoryState) (ended : List ScriptState) (epochs : 
   pub all : List Step
   pub found : Found
   pub has : HasFound start all found
+  pub unmarked : (state_at start all).marked ≡ 0
   pub looked : List ClientState
   pub see : SeeAll start all (map client_of ended) looked
   pub answered : clients ≡ map answered_of ended

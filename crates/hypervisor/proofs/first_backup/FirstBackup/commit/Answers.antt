@@ -1,0 +1,7 @@
+use Rattle.hypervisor.proofs.Unmarked.{commit-tried}
+use Rattle.hypervisor.proofs.first_backup.FirstBackup.commit.Goals as goal
+
+pub invariant_of-self : goal.invariant_of-self
+invariant_of-self g c =
+    let e = c.commit.ensures in
+    commit-tried g.P.Pair.start c.self.inside.backup c.commit.new.self c.commit.result c.self.invariant e.some e.done e.refused
