@@ -1,5 +1,6 @@
 //! A machine, and the texts of its checkpoints that are pending.
 ghost use Rattle.std.specs.Prelude.{◌≡◌, ◌≤◌, ◌<◌, ◌+◌, ◌∷◌, ◌++◌, ℕ, List, [], None, IfSome, OnOk, drop, length, slice_index_or, vec_capacity};
+ghost use Rattle.net_device.specs.Receive.{received};
 ghost use Rattle.guest_machine.specs.Limits.{stepping_frames};
 ghost use Rattle.guest_machine.specs.Runs.{HaveRoom, after_steps, marked_in, sent_in};
 ghost use Rattle.guest_machine.specs.Step.{arrived};
@@ -88,6 +89,7 @@ impl MachineTexts {
     pub fn arrive(&mut self, frame: &Frame) -> bool
         requires long { 14 ≤ length frame.now.items }
         ensures guest { self.new.machine.guest ≡ arrived self.old.machine.guest frame.now }
+        ensures taken { result ≡ (received self.old.machine.guest.ram self.old.machine.guest.net frame.now).taken }
         ensures outbox { self.new.machine.outbox ≡ self.old.machine.outbox }
         ensures dirty { self.new.machine.dirty ≡ self.old.machine.dirty }
         ensures settled { self.new.machine.settled ≡ self.old.machine.settled }
