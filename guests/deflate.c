@@ -1,4 +1,4 @@
-/* Deflates a text of 8 KiB, inflates it again, and answers the Adler-32 of what comes out, or 0 where that isn't the text. The code is
+/* Deflates a text of 8 KiB, and inflates it again: it answers the Adler-32 of what comes out, or 0 where that isn't the text. The code is
    fixed (RFC 1951, section 3.2.6), and matches are found by chains of hashes and read by tables, as zlib does. The deflated bytes stand
    at 0x80001000, behind their number in four bytes. */
 typedef unsigned char u8;

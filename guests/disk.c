@@ -1,5 +1,5 @@
-/* Writes 200 sectors of the virtio block device (virtio 1.1, section 5.2), reads them back, and sends one frame to client 1
-   with what it found: after the addresses and the type 0x88b5 stand the number of requests that failed, and the FNV-1a
+/* Writes 200 sectors of the disk and reads them back: by the virtio block device (virtio 1.1, section 5.2). It sends one frame to
+   client 1 with what it found, where after the addresses and the type 0x88b5 stand the number of requests that failed, and the FNV-1a
    hash of all bytes read, 8 bytes each, the highest first. Requests have 1 to 16 sectors, and their bytes lie in several
    descriptors. It asks the used ring for what is done, and takes no interrupt. Answers the hash. */
 #include "virtio.h"

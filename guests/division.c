@@ -1,5 +1,5 @@
-/* Compares DIV, DIVU, REM, REMU and the four word forms with long division by shifts, over 256 pairs of numbers,
-   and folds every quotient and remainder into the answer. It answers 0 where two disagree. */
+/* Compares the eight instructions of division with long division by shifts: DIV, DIVU, REM, REMU and the word forms over 256 pairs of
+   numbers. Every quotient and remainder is folded into the answer, which is 0 where two disagree. */
 typedef unsigned long u64;
 
 static const u64 numbers[] = {

@@ -1,4 +1,4 @@
-/* Sends 64 frames of 1514 bytes at each notify, to clients 1, 2 and 3 in turn, without end (virtio 1.1, section 5.1). */
+/* Sends 64 frames of 1514 bytes at each notify, without end: to clients 1, 2 and 3 in turn (virtio 1.1, section 5.1). */
 #include "virtio.h"
 
 #define TRANSMIT 1

@@ -1,5 +1,6 @@
-/* Writes the first and the last word of each of 16384 pages, its own among them, and then waits for a frame of type 88b7: it reads all these
-   words, and answers with their hash, the highest byte first. It polls its queues, and answers in the buffer that the frame came in.
+/* Writes the first and the last word of each of 16384 pages, and answers with their hash: its own pages are among them. Then it waits for a
+   frame of type 88b7, reads all these words, and answers with their hash, the highest byte first. It polls its queues, and answers in the
+   buffer that the frame came in.
 
    It is linked as for two pages: the program in the first, its queues and the stack in the second. Of the words that it writes, the first of
    all was the start's first instruction, the second page's first stands in no variable's place, and the second page's last is where `main`

@@ -1,5 +1,5 @@
-/* Answers ARP requests for 10.0.0.1 and ICMP echo requests to it (RFC 826, 791, 792), over the virtio network device
-   (virtio 1.1, section 5.1). The device's interrupt drives all of it. A frame is answered in the buffer that it came in:
+/* Answers ARP and pings at 10.0.0.1, driven by interrupts: ARP requests for it and ICMP echo requests to it (RFC 826, 791, 792), over the
+   virtio network device (virtio 1.1, section 5.1), whose interrupt drives all of it. A frame is answered in the buffer that it came in:
    the buffer goes from the receive queue to the transmit queue, and back once it is sent. */
 #include "virtio.h"
 

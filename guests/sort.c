@@ -1,5 +1,5 @@
-/* Sorts 100 numbers by heap sort, signed, and answers the sum of each number times its place, counted from 1, modulo
-   2^64. It answers 0 where they are out of order. */
+/* Sorts 100 numbers by heap sort, signed: it answers the sum of each number times its place, counted from 1, modulo 2^64, and 0 where they
+   are out of order. */
 #define COUNT 100
 
 static long numbers[COUNT];

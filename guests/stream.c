@@ -1,5 +1,5 @@
-/* Writes 64 MiB to the virtio block device (virtio 1.1, section 5.2) in requests of 8 KiB, one after the other and from the
-   front again at the end of the disk, and then reads as much. Answers the number of requests that failed. */
+/* Writes 64 MiB to the disk, and then reads as much: by the virtio block device (virtio 1.1, section 5.2), in requests of 8 KiB, one after
+   the other and from the front again at the end of the disk. Answers the number of requests that failed. */
 #include "virtio.h"
 
 #define SECTOR 512

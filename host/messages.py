@@ -1,4 +1,18 @@
-"""The messages of the link. Each is its length (4 bytes, big end first), its kind (1), its session's name (16), and its body."""
+"""The messages of the link. Each is its length (4 bytes, big end first, of what follows), its kind (1), the attachment's name (16, zero
+before there is one), and its body:
+
+    1 HELLO     who dials: JSON, what it is
+    2 OFFER     who is live: JSON, its guest's life, generation and shape; the message bears the new attachment's name
+    3 READY     the standby, whose node waits for that generation. Only now the full checkpoint is cut
+    4 RESUME    who is live, to its own standby that dialled again. What is pending comes again, text by text
+    5 NO        who is dialled: JSON, why. The dialler asks again later
+    6 OVER      who is live: JSON, why. That attachment is over: the dialler gives up what it holds, and comes anew
+    7 TEXT      who is live: generation, number, place, and length of the whole text (8 bytes each), and bytes of it
+    8 ACK       the standby: generation and number (8 bytes each) of the last commit
+    9 PING      both, where nothing else was said for a quarter of `link_ms`
+    10 GO_LIVE  who was live, and has drained and stopped: generation and number of the last checkpoint
+
+FIELDS has the fields of the JSON objects."""
 import json
 import struct
 

@@ -1,4 +1,4 @@
-"""What the control socket is asked to do: docs/OPERATE.md has the table of verbs, and of the fields of a status."""
+"""What the control socket is asked to do: docs/OPERATE.md has the table of verbs, remus-host(8) the fields of a status."""
 import json
 import time
 from pathlib import Path
