@@ -42,10 +42,11 @@ pub fn cut_delta(
     ensures err { OnErr result (result ≡ Err (SnapshotError.NoMemory wanted)) }
 {
     let shape = machine.shape();
-    let mut pages = Vec::new(alloc);
-    let mut blocks = Vec::new(alloc);
+    // The blocks come last, so that nothing lies behind them where their list has to grow.
+    let mut pages = with_capacity(alloc, machine.dirty_count())?;
     let mut sectors = with_capacity(alloc, machine.dirty_sectors().len())?;
     let frames = FrameList::copies(alloc, machine.outbox())?;
+    let mut blocks = Vec::new(alloc);
     push_pages(machine, Over::Settled, shape.pages, &mut pages, &mut blocks)?;
     push_written(machine, &mut sectors);
     Ok(Checkpoint::from_parts(
