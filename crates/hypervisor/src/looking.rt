@@ -9,7 +9,7 @@ use growing_history::{Clock, Pair, clients_have_one_guest_that_never_fails};
 use pair_book::Book;
 
 /// How far a pair has come.
-#[derive(Clone, Copy, Debug, PartialEq, Eq)]
+#[derive(Clone, Copy)]
 pub struct Found {
     /// The length of the history.
     pub entries: u64,

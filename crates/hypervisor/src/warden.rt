@@ -35,7 +35,7 @@ use std::marker::Model;
 use std::sync::{Arc, Wait};
 
 /// One of the two nodes of a pair.
-#[derive(Clone, Copy, Debug, PartialEq, Eq)]
+#[derive(Clone, Copy)]
 pub enum Node {
     Primary,
     Backup,

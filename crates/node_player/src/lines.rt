@@ -12,7 +12,7 @@ use script_player::fields::after;
 use std::alloc::Global;
 
 /// A line.
-#[derive(Debug, Drop)]
+#[derive(Drop)]
 pub enum Line {
     /// The boot line: the node is a primary that is alone.
     Boot(Boot),

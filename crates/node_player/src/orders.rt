@@ -13,7 +13,7 @@ use script_player::limits::{MOST_PAGES, MOST_SECTORS};
 pub const LAST_GENERATION: u64 = 4_611_686_018_427_387_903;
 
 /// A line that carries numbers alone.
-#[derive(Clone, Copy, Debug, PartialEq, Eq)]
+#[derive(Clone, Copy)]
 pub enum Order {
     /// `standby PAGES SECTORS G`: the node is a standby for a guest of that shape, and takes checkpoints of generation `G`.
     Standby {
