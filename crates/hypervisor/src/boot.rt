@@ -155,11 +155,14 @@ fn seated<P: Pair>(
 
 /// Gives each member that isn't a client its handle.
 fn handles_of<P: Pair>(shared: Arc<Shared<P>>) -> Result<Handles<P>, AllocError> {
+    let one = both(Arc::try_clone(&shared), Arc::try_clone(&shared));
+    let other = both(Arc::try_clone(&shared), Arc::try_clone(&shared));
+    let ((runner, sender), (backup, warden)) = both(one, other)?;
     Ok(Handles {
-        runner: Arc::try_clone(&shared)?,
-        sender: Arc::try_clone(&shared)?,
-        backup: Arc::try_clone(&shared)?,
-        warden: Arc::try_clone(&shared)?,
+        runner,
+        sender,
+        backup,
+        warden,
         loss: shared,
     })
 }

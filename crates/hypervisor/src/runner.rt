@@ -1,6 +1,8 @@
 //! The runner: it has the machine that runs, and the guest makes its steps with no lock held.
 ghost use Rattle.std.specs.Prelude.{◌≡◌, ℕ, ◌+◌, ◌<◌, ◌≤◌, ◌++◌, [], length, All, None, IfOk, OnOk, IfErr, OnErr};
 ghost use Rattle.std.specs.List.{Contains};
+ghost use Rattle.checkpoint_stream.specs.ReadBack.{ReadsBack};
+ghost use Rattle.checkpoint_stream.specs.Text.{text};
 ghost use Rattle.frame_ports.specs.Addresses.{IsFrame};
 ghost use Rattle.frame_ports.specs.Limits.{number_limit};
 ghost use Rattle.guest_machine.specs.Guest.{HasDeviceRecords};
@@ -22,7 +24,7 @@ ghost use Rattle.hypervisor.specs.Runs.{after_arrivals, frames_of, steps_asked, 
 ghost use Rattle.hypervisor.specs.Submits.{Submits, BeginsEpoch};
 
 use crate::shared::Shared;
-use epoch_snapshot::{SnapshotError, cut_delta, cut_full};
+use epoch_snapshot::{Checkpoint, SnapshotError, cut_delta, cut_full};
 use frame_ports::NUMBER_LIMIT;
 use growing_history::{Clock, Pair, RunnerSeat, steps_go_on, unmarked_histories_are_legal};
 use guest_machine::{
@@ -314,6 +316,20 @@ fn is_possible(number: u64) -> bool
     1 <= number && number < NUMBER_LIMIT
 }
 
+/// The packet of a checkpoint, as [`Packet::new`] says. The checkpoint is let go of by a call: else each proof of what makes one would go
+/// over every part of it.
+fn packet_of(alloc: Global, checkpoint: Checkpoint) -> Result<Packet, MemoryWanted>
+    requires { checkpoint.version ≡ 2 }
+    ensures generation { IfOk result (λ p. p.generation ≡ checkpoint.generation) }
+    ensures number { IfOk result (λ p. p.number ≡ checkpoint.number) }
+    ensures text { IfOk result (λ p. p.text ≡ text checkpoint) }
+    ensures read { IfOk result (λ p. ReadsBack checkpoint p.text) }
+{
+    let packet = Packet::new(alloc, &checkpoint);
+    drop(checkpoint);
+    packet
+}
+
 /// The machine's delta, as its text.
 fn delta(
     alloc: Global,
@@ -331,7 +347,7 @@ fn delta(
         Ok(checkpoint) => checkpoint,
         Err(SnapshotError::NoMemory(wanted)) => return Err(wanted),
     };
-    let packet = Packet::new(alloc, &checkpoint)?;
+    let packet = packet_of(alloc, checkpoint)?;
     Ok(packet)
 }
 
@@ -345,7 +361,7 @@ fn full(alloc: Global, machine: &Machine, generation: u64) -> Result<Packet, Mem
         Ok(checkpoint) => checkpoint,
         Err(SnapshotError::NoMemory(wanted)) => return Err(wanted),
     };
-    let packet = Packet::new(alloc, &checkpoint)?;
+    let packet = packet_of(alloc, checkpoint)?;
     Ok(packet)
 }
 
