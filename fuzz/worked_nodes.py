@@ -74,4 +74,21 @@ def disks():
     return worked
 
 
-RUNS = {"a guest that sends back": run, "a guest with a disk": disks}
+def early_cut():
+    """A guest that sends frames back writes its memory, and two epochs end, before any of the full checkpoint's text is asked for: so what
+    that text still needs has to be kept."""
+    worked = Worked()
+    ask, carry = worked.ask, worked.carry
+    ask("primary", f"boot {mirror.PAGES} 8 1 words {mirror.words().decode()}", "step 60", "protect")
+    ask("primary", FRAME, "step 40", "cut", FRAME, "step 40", "cut")
+    ask("standby", f"standby {mirror.PAGES} 8 2")
+    for number in 0, 1, 2:
+        carry(number, 2)
+        ask("standby", "commit", "show")
+    ask("primary", "ack 2 2", "show")
+    return worked
+
+
+RUNS = {"a guest that sends back": run, "a guest with a disk": disks, "a cut before the full text": early_cut}
+# Those between whose lines no text is asked for, since asking has it made.
+WITHOUT_TEXTS = {"a cut before the full text"}

@@ -11,3 +11,8 @@ pub(crate) fn same(rt: &impl Abort, what: &str, found: u64, wanted: u64) {
 pub(crate) fn holds(rt: &impl Abort, what: &str, fact: bool) {
     assert!(rt; fact, "{what}");
 }
+
+/// It is so at this place.
+pub(crate) fn holds_at(rt: &impl Abort, what: &str, place: usize, fact: bool) {
+    assert!(rt; fact, "{what} {place}");
+}

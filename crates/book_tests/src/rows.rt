@@ -2,7 +2,7 @@
 ghost use Rattle.std.specs.Prelude.{◌≡◌, []};
 ghost use Rattle.pair_history.specs.HistoryState.{start_state};
 
-use crate::asserts::holds;
+use crate::asserts::{holds, holds_at};
 use crate::hosts::{Host, opened};
 use growing_history::Pair;
 use pair_book::{Kind, Loss, Refusal, UnnamedBook, Want};
@@ -70,7 +70,7 @@ pub(crate) enum Call {
 }
 
 /// What is answered.
-#[derive(Clone, Copy, Debug, PartialEq, Eq)]
+#[derive(Clone, Copy, PartialEq, Eq)]
 pub(crate) enum Answer {
     /// Nothing is said, or there is none.
     None,
@@ -131,7 +131,7 @@ fn assert_answer<R: Abort>(
     wanted: &Result<Answer, Refusal>,
     place: usize,
 ) {
-    assert_eq!(rt; found, wanted, "row {place}");
+    holds_at(rt, "row", place, found == wanted);
 }
 
 /// What is answered to this call. One that is refused memory has changed nothing, and is made once more.

@@ -5,13 +5,13 @@ use bus_map::{Place, TimerRegister, place};
 use std::process::Abort;
 
 /// Where an access of so many bytes at an address goes.
-fn assert_place(rt: &impl Abort, addr: u64, width: u8, wanted: Place) {
-    holds_at(rt, "address", addr as usize, place(addr, width) == wanted);
+fn assert_place(rt: &impl Abort, addr: u64, width: u8, wanted: &Place) {
+    holds_at(rt, "address", addr as usize, place(addr, width) == *wanted);
 }
 
 #[test]
 fn each_part_and_what_lies_beside_it(rt: HostRuntime) {
-    let cases = [
+    static CASES: [(u64, u8, Place); 19] = [
         (0x0000_0000, 4, Place::Fault),
         (0x01ff_ffff, 1, Place::Fault),
         (0x0200_0000, 4, Place::Clint(TimerRegister::Msip)),
@@ -32,7 +32,7 @@ fn each_part_and_what_lies_beside_it(rt: HostRuntime) {
         (0x8000_0000, 8, Place::Ram(0)),
         (0xffff_ffff_ffff_ffff, 1, Place::Ram(0xffff_ffff_7fff_ffff)),
     ];
-    for (addr, width, want) in cases {
-        assert_place(&rt, addr, width, want);
+    for (addr, width, wanted) in &CASES {
+        assert_place(&rt, *addr, *width, wanted);
     }
 }

@@ -180,7 +180,7 @@ fn has_status(net: &NetDevice, status: u64, interrupt: u64) -> bool {
 /// Fourteen bytes, no two of them alike.
 const COUNTING: [u8; 14] = [1, 2, 3, 4, 5, 6, 7, 8, 9, 10, 11, 12, 13, 14];
 
-const SENT: [Line; 7] = [
+static SENT: [Line; 7] = [
     Line::Put(0x10c, &COUNTING),
     Line::Transmit,
     Line::Frames(2),
@@ -195,7 +195,7 @@ fn two_packets_are_sent(rt: HostRuntime) {
     plays(&rt, rt.alloc(), (1, &PACKET, &NEXT_PACKET, 2), &SENT);
 }
 
-const USED_AND_LOST: [Line; 4] = [
+static USED_AND_LOST: [Line; 4] = [
     Line::Transmit,
     Line::Frames(0),
     Line::UsedRing(&[1, 0, 0, 0, 0, 0, 0, 0, 0, 0, 0, 0, 0, 0, 0, 0, 0, 0]),
@@ -212,7 +212,7 @@ fn a_short_packet_is_used_and_lost(rt: HostRuntime) {
     );
 }
 
-const RECEIVED: [Line; 7] = [
+static RECEIVED: [Line; 7] = [
     Line::Put(0x100, &[0xff; 32]),
     Line::Received(&COUNTING),
     Line::Status(0x0f, 1),
@@ -230,7 +230,7 @@ fn a_frame_is_received(rt: HostRuntime) {
     plays(&rt, rt.alloc(), (0, &ROOM, &PACKET, 1), &RECEIVED);
 }
 
-const NOT_RECEIVED: [Line; 2] = [Line::Lost(&[]), Line::Status(0x4f, 2)];
+static NOT_RECEIVED: [Line; 2] = [Line::Lost(&[]), Line::Status(0x4f, 2)];
 
 #[test]
 fn a_readable_buffer_takes_no_frame(rt: HostRuntime) {

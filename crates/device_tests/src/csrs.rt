@@ -7,13 +7,14 @@ use std::process::Abort;
 
 /// A guest that takes timer interrupts in vectored mode, at the base 0x80000200.
 fn with_timer() -> Csrs {
-    let mut csrs = Csrs::boot();
-    for (number, value) in [
+    static WRITES: [(u16, u64); 3] = [
         (numbers::MSTATUS, 8),
         (numbers::MIE, 1 << 7),
         (numbers::MTVEC, 0x8000_0201),
-    ] {
-        let _ = csrs.write(number, value);
+    ];
+    let mut csrs = Csrs::boot();
+    for (number, value) in &WRITES {
+        let _ = csrs.write(*number, *value);
     }
     csrs
 }
@@ -30,18 +31,20 @@ fn assert_taken(rt: &impl Abort, csrs: &Csrs, pending: u64, cause: Option<u64>) 
 
 #[test]
 fn boot_values(rt: HostRuntime) {
+    static ZERO: [u16; 12] = [
+        0x304, 0x305, 0x340, 0x341, 0x342, 0x343, 0x344, 0xf11, 0xf12, 0xf13, 0xf14, 0xf15,
+    ];
+    static NONE: [u16; 11] = [
+        0x000, 0x302, 0x303, 0x306, 0x33f, 0x345, 0xb00, 0xc00, 0xf10, 0xf16, 0xffff,
+    ];
     let csrs = Csrs::boot();
     assert_read(&rt, &csrs, 0x300, Some(0x1800));
     assert_read(&rt, &csrs, 0x301, Some(0x8000_0000_0000_1100));
-    for number in [
-        0x304, 0x305, 0x340, 0x341, 0x342, 0x343, 0x344, 0xf11, 0xf12, 0xf13, 0xf14, 0xf15,
-    ] {
-        assert_read(&rt, &csrs, number, Some(0));
+    for number in &ZERO {
+        assert_read(&rt, &csrs, *number, Some(0));
     }
-    for number in [
-        0x000, 0x302, 0x303, 0x306, 0x33f, 0x345, 0xb00, 0xc00, 0xf10, 0xf16, 0xffff,
-    ] {
-        assert_read(&rt, &csrs, number, None);
+    for number in &NONE {
+        assert_read(&rt, &csrs, *number, None);
     }
 }
 
@@ -71,7 +74,7 @@ fn assert_refused(rt: &impl Abort, number: u16) {
 
 #[test]
 fn writes_of_all_ones(rt: HostRuntime) {
-    for (number, kept) in [
+    static KEPT: [(u16, u64); 9] = [
         (0x300, 0x1888),
         (0x301, 0x8000_0000_0000_1100),
         (0x304, 0x888),
@@ -81,11 +84,13 @@ fn writes_of_all_ones(rt: HostRuntime) {
         (0x342, u64::MAX),
         (0x343, u64::MAX),
         (0x344, 0),
-    ] {
-        assert_kept(&rt, number, kept);
+    ];
+    static REFUSED: [u16; 7] = [0x302, 0x345, 0xf11, 0xf12, 0xf13, 0xf14, 0xf15];
+    for (number, kept) in &KEPT {
+        assert_kept(&rt, *number, *kept);
     }
-    for number in [0x302, 0x345, 0xf11, 0xf12, 0xf13, 0xf14, 0xf15] {
-        assert_refused(&rt, number);
+    for number in &REFUSED {
+        assert_refused(&rt, *number);
     }
 }
 

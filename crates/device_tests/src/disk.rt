@@ -244,7 +244,7 @@ fn has_status(disk: &Disk, status: u64, interrupt: u64) -> bool {
         && u64::from(disk.interrupt_status()) == interrupt
 }
 
-const WRITTEN_AND_READ: [Line; 16] = [
+static WRITTEN_AND_READ: [Line; 16] = [
     Line::Request(512, 0, 0xab),
     Line::Served(1, WRITES, 7, 0),
     Line::Used(0, 1),
@@ -269,7 +269,7 @@ fn a_sector_is_written_and_read(rt: HostRuntime) {
     plays(&rt, rt.alloc(), &WRITTEN_AND_READ);
 }
 
-const OUT_OF_RANGE: [Line; 12] = [
+static OUT_OF_RANGE: [Line; 12] = [
     Line::Request(512, 0, 0xab),
     Line::Served(1, WRITES, 8, 1),
     Line::Used(0, 1),
@@ -289,7 +289,7 @@ fn requests_out_of_range_change_nothing(rt: HostRuntime) {
     plays(&rt, rt.alloc(), &OUT_OF_RANGE);
 }
 
-const NO_BYTES: [Line; 5] = [
+static NO_BYTES: [Line; 5] = [
     Line::Request(0, WRITE, 0),
     Line::Served(1, READS, 8, 0),
     Line::Used(0, 1),
@@ -302,7 +302,7 @@ fn no_bytes_can_be_read_at_the_end(rt: HostRuntime) {
     plays(&rt, rt.alloc(), &NO_BYTES);
 }
 
-const FAILED_READ: [Line; 4] = [
+static FAILED_READ: [Line; 4] = [
     Line::Request(513, WRITE, 0x55),
     Line::Served(1, READS, 0, 1),
     Line::Used(0, 0),
@@ -314,7 +314,7 @@ fn a_failed_read_writes_only_its_status(rt: HostRuntime) {
     plays(&rt, rt.alloc(), &FAILED_READ);
 }
 
-const RISING: [Line; 9] = [
+static RISING: [Line; 9] = [
     Line::Request(1024, 0, 1),
     Line::Served(1, WRITES, 5, 0),
     Line::Served(2, WRITES, 1, 0),
@@ -332,7 +332,7 @@ fn written_sectors_rise(rt: HostRuntime) {
 }
 
 /// The first request breaks the disk, and its status byte stays as it was.
-const SHORT: [Line; 5] = [
+static SHORT: [Line; 5] = [
     Line::Request(0, 0, 0),
     Line::Descriptor(0, 0x100, 15, NEXT, 1),
     Line::Served(1, WRITES, 0, 0xff),
@@ -340,7 +340,7 @@ const SHORT: [Line; 5] = [
     Line::UsedIndex(0),
 ];
 
-const NO_PLACE: [Line; 5] = [
+static NO_PLACE: [Line; 5] = [
     Line::Request(512, 0, 0),
     Line::Descriptor(2, 0x110, 0, WRITE, 0),
     Line::Served(1, WRITES, 0, 0xff),
@@ -348,7 +348,7 @@ const NO_PLACE: [Line; 5] = [
     Line::UsedIndex(0),
 ];
 
-const ORDER: [Line; 5] = [
+static ORDER: [Line; 5] = [
     Line::Request(512, WRITE, 0),
     Line::Descriptor(2, 0x110, 1, 0, 0),
     Line::Served(1, READS, 0, 0xff),
@@ -363,7 +363,7 @@ fn malformed_requests_break_the_disk(rt: HostRuntime) {
     plays(&rt, rt.alloc(), &ORDER);
 }
 
-const REGISTERS: [Line; 7] = [
+static REGISTERS: [Line; 7] = [
     Line::Load(0x008, 4, Some(2)),
     Line::Load(0x010, 4, Some(0x200)),
     Line::Load(0x100, 8, Some(8)),

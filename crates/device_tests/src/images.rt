@@ -24,7 +24,7 @@ fn a_jump_to_itself(rt: HostRuntime) {
 }
 
 /// The beacon's bytes behind its words that aren't 0, each with its place.
-const DATA: [(usize, u8); 11] = [
+static DATA: [(usize, u8); 11] = [
     // the descriptor 0011008000000000 1a000000 0000 0000
     (0x1001, 0x11),
     (0x1003, 0x80),

@@ -57,15 +57,16 @@ fn at_an_end(rt: &impl Abort, len: usize) {
 
 #[test]
 fn every_length_round_a_block(rt: HostRuntime) {
+    static LENGTHS: [usize; 6] = [1, 63, 64, 65, 127, 4096];
     at_length(&rt, 0);
-    for len in [1, 63, 64, 65, 127, 4096] {
-        at_length(&rt, len);
-        at_an_end(&rt, len);
+    for len in &LENGTHS {
+        at_length(&rt, *len);
+        at_an_end(&rt, *len);
     }
 }
 
 /// The bytes of a page that aren't 0, each with its place, and which blocks differ from those of a page of zeros.
-const MASKS: [(&[(usize, u8)], u64); 4] = [
+static MASKS: [(&[(usize, u8)], u64); 4] = [
     (&[], 0),
     (&[(4095, 1)], 0x8000_0000_0000_0000),
     (&[(4095, 1), (64, 0x80)], 0x8000_0000_0000_0002),
@@ -76,13 +77,17 @@ fn assert_mask(rt: &impl Abort, a: &Page, b: &Page, wanted: u64) {
     holds(rt, "the mask", mask(a, b) == wanted);
 }
 
+/// The mask of two pages, either first.
+fn assert_masks(rt: &impl Abort, a: &Page, b: &Page, wanted: u64) {
+    assert_mask(rt, a, b, wanted);
+    assert_mask(rt, b, a, wanted);
+}
+
 #[test]
 fn a_byte_sets_the_bit_of_its_block(rt: HostRuntime) {
     let zeros = [0; PAGE_SIZE];
-    for (bytes, wanted) in MASKS {
-        let page = page_with(bytes);
-        assert_mask(&rt, &zeros, &page, wanted);
-        assert_mask(&rt, &page, &zeros, wanted);
+    for (bytes, wanted) in &MASKS {
+        assert_masks(&rt, &zeros, &page_with(bytes), *wanted);
     }
     assert_mask(&rt, &zeros, &[0xff; PAGE_SIZE], u64::MAX);
 }

@@ -210,7 +210,7 @@ fn original(rt: &impl Abort, memory: &Memory, page: u32, at: usize) -> u8 {
     memory.original(page)[at]
 }
 
-const MARKS: [Line; 14] = [
+static MARKS: [Line; 14] = [
     Line::Is(Reading::Size, 3 * 4096),
     Line::Is(Reading::Byte(1), 8),
     Line::Is(Reading::U32(0), 0x0009_0807),
@@ -232,7 +232,7 @@ fn a_write_marks_the_pages_it_lies_in(rt: HostRuntime) {
     plays(&rt, rt.alloc(), &[7, 8, 9], &MARKS);
 }
 
-const ORIGINALS: [Line; 14] = [
+static ORIGINALS: [Line; 14] = [
     Line::WriteU8(0, 1),
     Line::WriteU32(4096, 2),
     Line::Is(Reading::Page(0), 1),
@@ -254,7 +254,7 @@ fn originals_are_those_of_the_last_settle(rt: HostRuntime) {
     plays(&rt, rt.alloc(), &[7], &ORIGINALS);
 }
 
-const ORDERS: [Line; 11] = [
+static ORDERS: [Line; 11] = [
     Line::WriteU8(8192, 3),
     Line::WriteU8(0, 1),
     Line::Is(Reading::Original(2, 0), 0),
@@ -274,7 +274,7 @@ fn each_page_has_its_own_original_in_whatever_order_they_are_written(rt: HostRun
     plays(&rt, rt.alloc(), &[7], &ORDERS);
 }
 
-const COPIES: [Line; 12] = [
+static COPIES: [Line; 12] = [
     Line::Is(Reading::Copies, 0),
     Line::WriteU64(4092, 1),
     Line::Is(Reading::Copies, 2),
@@ -304,7 +304,7 @@ fn taken_in(rt: &impl Abort, alloc: Global) -> Box<Memory> {
         .expect(rt, "memory for their box")
 }
 
-const TAKEN_IN: [Line; 8] = [
+static TAKEN_IN: [Line; 8] = [
     Line::Is(Reading::U32(0), 0x0108_0906),
     Line::Is(Reading::U64(4124), 0x0505_0505),
     Line::Flags([false, false, false]),

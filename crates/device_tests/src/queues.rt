@@ -172,14 +172,14 @@ fn each_malformation_has_its_name(rt: HostRuntime) {
 }
 
 /// A malformation prints this name.
-fn assert_name(rt: &impl Abort, alloc: Global, broken: Broken, name: &str) {
+fn assert_name(rt: &impl Abort, alloc: Global, broken: &Broken, name: &str) {
     let text = format!(in alloc; "{broken}").expect(rt, "memory for the text");
     holds(rt, "the name", text.as_str() == name);
 }
 
 #[test]
 fn a_malformation_prints_its_name(rt: HostRuntime) {
-    for (broken, name) in [
+    static NAMES: [(Broken, &str); 10] = [
         (Broken::Misaligned, "Misaligned"),
         (Broken::AreaOutside, "AreaOutside"),
         (Broken::TooMany, "TooMany"),
@@ -190,7 +190,8 @@ fn a_malformation_prints_its_name(rt: HostRuntime) {
         (Broken::Loop, "Loop"),
         (Broken::Direction, "Direction"),
         (Broken::Short, "Short"),
-    ] {
+    ];
+    for (broken, name) in &NAMES {
         assert_name(&rt, rt.alloc(), broken, name);
     }
 }

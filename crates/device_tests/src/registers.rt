@@ -174,7 +174,7 @@ fn has_used_ring(ram: &PlainRam, bytes: [u8; 18]) -> bool {
     found == bytes.as_slice()
 }
 
-const NAMES: [Line; 5] = [
+static NAMES: [Line; 5] = [
     Line::Register(0x000, 0x7472_6976),
     Line::Register(0x004, 2),
     Line::Register(0x008, 1),
@@ -187,12 +187,12 @@ fn the_device_names_itself(rt: HostRuntime) {
     plays(&rt, DeviceKind::Network, 0, &NAMES);
 }
 
-const WITHOUT_VERSION_1: [Line; 2] = [
+static WITHOUT_VERSION_1: [Line; 2] = [
     Line::Stores(&[(0x070, 3), (0x020, 0x20), (0x070, 11)]),
     Line::Register(0x070, 3),
 ];
 
-const WITH_VERSION_1: [Line; 3] = [
+static WITH_VERSION_1: [Line; 3] = [
     Line::Stores(&[
         (0x070, 3),
         (0x020, 0x20),
@@ -223,7 +223,7 @@ const START: [(u64, u64); 9] = [
     (0x070, 15),
 ];
 
-const STARTED: [Line; 7] = [
+static STARTED: [Line; 7] = [
     Line::Stores(&START),
     Line::CanServe(1, true),
     Line::CanServe(0, false),
@@ -238,7 +238,7 @@ fn a_started_queue_is_served(rt: HostRuntime) {
     plays(&rt, DeviceKind::Network, 0, &STARTED);
 }
 
-const SIGNALLED: [Line; 3] = [
+static SIGNALLED: [Line; 3] = [
     Line::Stores(&START),
     Line::SignalUsed,
     Line::Register(0x060, 1),
@@ -250,7 +250,7 @@ fn a_used_chain_is_signalled(rt: HostRuntime) {
 }
 
 /// A device whose driver was told of a used chain, and which then met a malformation.
-const BROKEN: [Line; 10] = [
+static BROKEN: [Line; 10] = [
     Line::Stores(&START),
     Line::SignalUsed,
     Line::NeedReset,
@@ -268,7 +268,7 @@ fn a_broken_device_waits_for_its_reset(rt: HostRuntime) {
     plays(&rt, DeviceKind::Network, 0, &BROKEN);
 }
 
-const WITHOUT_SIZE: [Line; 2] = [
+static WITHOUT_SIZE: [Line; 2] = [
     Line::Stores(&[(0x038, 3), (0x044, 1)]),
     Line::Register(0x044, 0),
 ];
@@ -278,7 +278,7 @@ fn a_queue_without_a_size_is_never_ready(rt: HostRuntime) {
     plays(&rt, DeviceKind::Network, 0, &WITHOUT_SIZE);
 }
 
-const NETWORK_SPACE: [Line; 6] = [
+static NETWORK_SPACE: [Line; 6] = [
     Line::Load(0x100, 1, Some(2)),
     Line::Load(0x105, 1, Some(1)),
     Line::Load(0x106, 1, Some(0)),
@@ -287,7 +287,7 @@ const NETWORK_SPACE: [Line; 6] = [
     Line::Load(0xff8, 8, Some(0)),
 ];
 
-const BLOCK_SPACE: [Line; 3] = [
+static BLOCK_SPACE: [Line; 3] = [
     Line::Load(0x100, 8, Some(0x1_0000_0008)),
     Line::Load(0x104, 4, Some(1)),
     Line::Load(0x108, 8, Some(0)),
@@ -302,7 +302,7 @@ fn the_configuration_space_is_bytes(rt: HostRuntime) {
     plays(&rt, block, 0, &BLOCK_SPACE);
 }
 
-const OTHER_WIDTHS: [Line; 8] = [
+static OTHER_WIDTHS: [Line; 8] = [
     Line::Load(0x0fc, 8, None),
     Line::Load(0x000, 1, None),
     Line::Load(0x100, 3, None),
@@ -332,7 +332,7 @@ const START_IN_RAM: [(u64, u64); 10] = [
     (0x070, 15),
 ];
 
-const SERVED: [Line; 5] = [
+static SERVED: [Line; 5] = [
     Line::Stores(&START_IN_RAM),
     Line::Serves(1),
     Line::UsedRing([1, 0, 0, 0, 0, 0, 5, 0, 0, 0, 0, 0, 0, 0, 0, 0, 0, 0]),
@@ -345,7 +345,7 @@ fn a_chain_is_served(rt: HostRuntime) {
     plays(&rt, DeviceKind::Block { capacity: 8 }, 1, &SERVED);
 }
 
-const MALFORMED: [Line; 7] = [
+static MALFORMED: [Line; 7] = [
     Line::Stores(&START_IN_RAM),
     Line::Serves(1),
     Line::UsedRing([1, 0, 0, 0, 0, 0, 5, 0, 0, 0, 0, 0, 0, 0, 0, 0, 0, 0]),
@@ -361,7 +361,7 @@ fn a_malformed_chain_ends_the_serving(rt: HostRuntime) {
     plays(&rt, DeviceKind::Block { capacity: 8 }, 2, &MALFORMED);
 }
 
-const TOLD: [Line; 4] = [
+static TOLD: [Line; 4] = [
     Line::Stores(&START_IN_RAM),
     Line::PutUsed,
     Line::UsedRing([1, 0, 1, 0, 0, 0, 3, 0, 0, 0, 0, 0, 0, 0, 0, 0, 0, 0]),

@@ -138,15 +138,16 @@ fn assert_says_nothing(rt: &impl Abort, word: u32) {
 
 #[test]
 fn other_words_say_nothing(rt: HostRuntime) {
-    for word in [
+    static WORDS: [u32; 6] = [
         0x0000_0000,
         0xffff_ffff,
         0x0000_100f,
         0x0200_101b,
         0x0000_7003,
         0x0000_4073,
-    ] {
-        assert_says_nothing(&rt, word);
+    ];
+    for word in &WORDS {
+        assert_says_nothing(&rt, *word);
     }
 }
 
@@ -156,7 +157,7 @@ const LEAST: u64 = 0x8000_0000_0000_0000;
 const ONES: u64 = 0xffff_ffff_ffff_ffff;
 
 /// Computations of two numbers, and what each gives.
-const CORNERS: [(Computation, u64, u64, u64); 12] = [
+static CORNERS: [(Computation, u64, u64, u64); 12] = [
     (Computation::Divide(Division::Div), LEAST, ONES, LEAST),
     (Computation::Divide(Division::Rem), LEAST, ONES, 0),
     (Computation::Divide(Division::Div), 7, 0, ONES),
@@ -197,8 +198,8 @@ fn assert_value(rt: &impl Abort, instr: Instr, a: u64, b: u64, wanted: u64) {
 
 #[test]
 fn arithmetic_at_its_corners(rt: HostRuntime) {
-    for (computation, a, b, wanted) in CORNERS {
-        assert_value(&rt, into_x3(computation), a, b, wanted);
+    for (computation, a, b, wanted) in &CORNERS {
+        assert_value(&rt, into_x3(*computation), *a, *b, *wanted);
     }
 }
 

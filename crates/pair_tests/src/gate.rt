@@ -6,7 +6,7 @@ use crate::asserts::{as_many, holds, made, same};
 use crate::refusals::{assert_named, refused};
 use arrayvec::ArrayVec;
 use frame_ports::{Frame, Ports};
-use output_gate::{Gate, GateError, Landed, land_numbered};
+use output_gate::{Gate, GateError, land_numbered};
 use std::alloc::Global;
 use std::process::Abort;
 
@@ -198,21 +198,29 @@ fn a_rolled_back_number_is_given_anew(rt: HostRuntime) {
     plays(&rt, rt.alloc(), &mut gate, &ROWS);
 }
 
+/// A frame to this client lands under this number for so many clients.
+fn assert_lands_one(rt: &impl Abort, ports: &mut Ports, number: u64, client: u8, landed: u64) {
+    holds(rt, "a number", number < 1000);
+    let counts = land_numbered(ports, number, &[frame_to(client, 0)]);
+    assert_counts(rt, (counts.landed, counts.dropped), (landed, 0));
+}
+
+/// A frame to every client does.
+fn assert_lands_all(rt: &impl Abort, ports: &mut Ports, number: u64, landed: u64) {
+    holds(rt, "a number", number < 1000);
+    let counts = land_numbered(ports, number, &[frame_to_all()]);
+    assert_counts(rt, (counts.landed, counts.dropped), (landed, 0));
+}
+
 #[test]
 fn a_frame_lands_only_where_it_has_not_come_before(rt: HostRuntime) {
     let mut ports = made(&rt, Ports::new(rt.alloc(), 2));
     // Frame 7 comes for client 2 alone, then for client 1, frame 6 for neither, and frame 8 for both.
-    for (number, frame, landed) in [
-        (7, frame_to(2, 7), 1),
-        (7, frame_to_all(), 1),
-        (6, frame_to_all(), 0),
-        (8, frame_to_all(), 2),
-        (8, frame_to(1, 8), 0),
-    ] {
-        let frames = [frame];
-        let counts = land_numbered(&mut ports, number, &frames);
-        assert_eq!(rt; counts, Landed { landed, dropped: 0 });
-    }
+    assert_lands_one(&rt, &mut ports, 7, 2, 1);
+    assert_lands_all(&rt, &mut ports, 7, 1);
+    assert_lands_all(&rt, &mut ports, 6, 0);
+    assert_lands_all(&rt, &mut ports, 8, 2);
+    assert_lands_one(&rt, &mut ports, 8, 1, 0);
 }
 
 /// Two frames of the first checkpoint are held after so many sent ones, for client 1 and for this one. What lands of them, and what is

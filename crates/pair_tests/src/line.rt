@@ -34,7 +34,7 @@ fn got(line: &Line<u8>, number: u64) -> Option<u8> {
 
 /// The packet of a number is this one, where it is to be had.
 fn assert_got(rt: &impl Abort, line: &Line<u8>, number: u64, packet: Option<u8>) {
-    assert_eq!(rt; got(line, number), packet, "packet {number}");
+    holds(rt, "the packet", got(line, number) == packet);
 }
 
 /// So many packets were sent.

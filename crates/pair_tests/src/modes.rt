@@ -1,5 +1,6 @@
 //! What no clause of [`failover`] says: printed words, a pair's life in order, and the table once more by its numbers.
 
+use crate::asserts::holds;
 use crate::refusals::{assert_named, assert_text};
 use failover::{Change, FailoverError, Mode};
 use std::process::Abort;
@@ -32,7 +33,7 @@ fn made((mode, number): (Mode, u64), change: Change) -> Option<(Mode, u64)> {
 
 /// A change leads from one mode and generation to another.
 fn assert_made(rt: &impl Abort, from: (Mode, u64), change: Change, to: (Mode, u64)) {
-    assert_eq!(rt; made(from, change), Some(to));
+    holds(rt, "the change", made(from, change) == Some(to));
 }
 
 #[test]
@@ -50,7 +51,7 @@ fn a_pair_fails_over_and_is_protected_again(rt: HostRuntime) {
 
 /// The changes are refused in this mode by these numbers.
 fn assert_told(rt: &impl Abort, mode: Mode, numbers: [u8; 4]) {
-    assert_eq!(rt; told(mode), numbers);
+    holds(rt, "the refusals", told(mode) == numbers);
 }
 
 #[test]

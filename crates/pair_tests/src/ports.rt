@@ -23,28 +23,16 @@ const TO_ALL: [u8; 14] = [0xff; 14];
 enum Row {
     /// What this client's delivery is answered: the frame's number, or the refusal's.
     Delivered(u64, &'static [u8], Result<u64, u8>),
-    /// What the delivery of so many bytes 7 is answered.
-    Length(u64, usize, Result<u64, u8>),
-    /// The deliveries of a frame are given the numbers from 1 on, before this one.
-    Numbered(u64),
     /// So many frames wait for the client.
     Waiting(u64, usize),
     /// Whether the client takes a frame.
     Taken(u64, bool),
-    /// There is no such client to take one.
-    Unknown(u64),
     /// What a loss at a place of an inbox is answered: the number of the frame that was lost, or the refusal's.
     LostIn(u64, u64, Result<Option<u64>, u8>),
     /// The client's first frame is admitted, with this number and these bytes.
     Admitted(u64, u64, &'static [u8]),
     /// What becomes of the sent frame at the client, under this number.
     Lands(u64, u64, Landing),
-    /// The sent frame lands at client 1 under the numbers from 1 on, before this one.
-    LandsUpTo(u64),
-    /// So many frames lie in the client's box.
-    Boxed(u64, usize),
-    /// A loss at a place of a client's box: whether there was a frame.
-    LostLanded(u64, u64, bool),
     /// The numbers are counted anew.
     Marked,
 }
@@ -73,27 +61,11 @@ fn assert_delivered(
     bytes: &[u8],
     answer: Result<u64, u8>,
 ) {
-    assert_eq!(rt; delivered(ports, client, bytes), answer);
-}
-
-/// The delivery of so many bytes 7 is answered so.
-fn assert_length(
-    rt: &impl Abort,
-    alloc: Global,
-    ports: &mut Ports,
-    (client, count): (u64, usize),
-    answer: Result<u64, u8>,
-) {
-    let mut bytes = Vec::new(alloc);
-    made(rt, bytes.resize(count, 7));
-    assert_delivered(rt, ports, client, bytes.as_slice(), answer);
-}
-
-/// The deliveries of a frame are given the numbers from 1 on, before this one.
-fn assert_numbered(rt: &impl Abort, ports: &mut Ports, end: u64) {
-    for number in 1..end {
-        assert_delivered(rt, ports, 1, &TO_1, Ok(number));
-    }
+    holds(
+        rt,
+        "the delivery",
+        delivered(ports, client, bytes) == answer,
+    );
 }
 
 /// So many frames wait for the client.
@@ -106,11 +78,6 @@ fn assert_waiting(rt: &impl Abort, ports: &Ports, client: u64, count: usize) {
 fn assert_taken(rt: &impl Abort, ports: &mut Ports, client: u64, some: bool) {
     let taken = made(rt, ports.take(client));
     holds(rt, "taken", taken.is_some() == some);
-}
-
-/// There is no such client to take a frame.
-fn assert_unknown(rt: &impl Abort, ports: &mut Ports, client: u64) {
-    holds(rt, "refused", ports.take(client).is_err());
 }
 
 /// What a loss in an inbox is answered: the number of the frame that was lost, or the refusal's.
@@ -129,7 +96,7 @@ fn assert_lost_in(
     place: u64,
     answer: Result<Option<u64>, u8>,
 ) {
-    assert_eq!(rt; lost_in(ports, client, place), answer);
+    holds(rt, "the loss", lost_in(ports, client, place) == answer);
 }
 
 /// The client's first frame, which is admitted, with its number.
@@ -164,59 +131,27 @@ fn assert_lands(
     holds(rt, "a client", 1 <= client && client <= ports.clients());
     let bytes = frame.as_slice();
     holds(rt, "a frame", bytes.len() >= 14);
-    assert_eq!(rt; ports.land(client, number, bytes), landing);
-}
-
-/// The frame lands at client 1 under the numbers from 1 on, before this one.
-fn assert_all_land(rt: &impl Abort, ports: &mut Ports, end: u64, frame: &Frame) {
-    for number in 1..end {
-        assert_lands(rt, ports, 1, number, frame, Landing::In);
-    }
-}
-
-/// So many frames lie in the client's box.
-fn assert_box(rt: &impl Abort, ports: &Ports, client: u64, count: usize) {
-    holds(rt, "a client", 1 <= client && client <= ports.clients());
-    as_many(rt, "in the box", ports.box_len(client), count);
-}
-
-/// Whether there was a frame at a place of a client's box, which is lost.
-fn lost_landed(ports: &mut Ports, client: u64, place: u64) -> Result<bool, u8> {
-    match ports.lose_landed(client, place) {
-        Ok(lost) => Ok(lost),
-        Err(error) => Err(error.number()),
-    }
-}
-
-/// A loss in a client's box: whether there was a frame at that place.
-fn assert_lost_landed(rt: &impl Abort, ports: &mut Ports, client: u64, place: u64, lost: bool) {
-    assert_eq!(rt; lost_landed(ports, client, place), Ok(lost));
+    holds(
+        rt,
+        "the landing",
+        ports.land(client, number, bytes) == landing,
+    );
 }
 
 /// Plays one row. The sent frame is this one.
-fn play(rt: &impl Abort, alloc: Global, ports: &mut Ports, sent: &Frame, row: &Row) {
+fn play(rt: &impl Abort, ports: &mut Ports, sent: &Frame, row: &Row) {
     match row {
         Row::Delivered(client, bytes, answer) => {
             assert_delivered(rt, ports, *client, bytes, *answer);
         }
-        Row::Length(client, count, answer) => {
-            assert_length(rt, alloc, ports, (*client, *count), *answer);
-        }
-        Row::Numbered(end) => assert_numbered(rt, ports, *end),
         Row::Waiting(client, count) => assert_waiting(rt, ports, *client, *count),
         Row::Taken(client, some) => assert_taken(rt, ports, *client, *some),
-        Row::Unknown(client) => assert_unknown(rt, ports, *client),
         Row::LostIn(client, place, answer) => assert_lost_in(rt, ports, *client, *place, *answer),
         Row::Admitted(client, number, bytes) => {
             assert_admitted(rt, ports, *client, *number, bytes);
         }
         Row::Lands(client, number, landing) => {
             assert_lands(rt, ports, *client, *number, sent, *landing);
-        }
-        Row::LandsUpTo(end) => assert_all_land(rt, ports, *end, sent),
-        Row::Boxed(client, count) => assert_box(rt, ports, *client, *count),
-        Row::LostLanded(client, place, lost) => {
-            assert_lost_landed(rt, ports, *client, *place, *lost);
         }
         Row::Marked => ports.mark(),
     }
@@ -230,29 +165,8 @@ fn plays(rt: &impl Abort, alloc: Global, clients: u64, sent: &[u8], rows: &[Row]
     let mut ports = made(rt, Ports::new(alloc, clients));
     same(rt, "clients", ports.clients(), clients);
     for row in rows {
-        play(rt, alloc, &mut ports, &sent, row);
+        play(rt, &mut ports, &sent, row);
     }
-}
-
-#[test]
-fn frames_of_too_few_or_too_many_bytes_are_refused(rt: HostRuntime) {
-    static ROWS: [Row; 3] = [
-        Row::Length(1, 13, Err(2)),
-        Row::Length(1, 1515, Err(2)),
-        Row::Length(1, 1514, Ok(1)),
-    ];
-    plays(&rt, rt.alloc(), 1, &TO_1, &ROWS);
-}
-
-#[test]
-fn an_inbox_is_full_at_64(rt: HostRuntime) {
-    static ROWS: [Row; 4] = [
-        Row::Numbered(65),
-        Row::Delivered(1, &TO_1, Err(1)),
-        Row::Waiting(1, 64),
-        Row::Taken(1, false),
-    ];
-    plays(&rt, rt.alloc(), 1, &TO_1, &ROWS);
 }
 
 #[test]
@@ -267,19 +181,6 @@ fn a_frame_waits_and_is_lost(rt: HostRuntime) {
         Row::Waiting(2, 1),
     ];
     plays(&rt, rt.alloc(), 3, &TO_1, &ROWS);
-}
-
-#[test]
-fn a_frame_lands_and_is_lost(rt: HostRuntime) {
-    static ROWS: [Row; 6] = [
-        Row::Unknown(4),
-        Row::Lands(3, 1, Landing::In),
-        Row::Boxed(3, 1),
-        Row::LostLanded(3, 1, false),
-        Row::LostLanded(3, 0, true),
-        Row::Taken(3, false),
-    ];
-    plays(&rt, rt.alloc(), 3, &TO_ALL, &ROWS);
 }
 
 #[test]
@@ -303,19 +204,6 @@ fn a_frame_lands_once_until_the_ports_are_marked(rt: HostRuntime) {
         Row::Lands(2, 1, Landing::In),
     ];
     plays(&rt, rt.alloc(), 2, &TO_ALL, &ROWS);
-}
-
-#[test]
-fn the_number_of_a_dropped_frame_counts(rt: HostRuntime) {
-    static ROWS: [Row; 5] = [
-        Row::LandsUpTo(257),
-        Row::Lands(1, 257, Landing::Dropped),
-        // There is room for it now, and still it doesn't land: the client's number is 257.
-        Row::Taken(1, true),
-        Row::Lands(1, 257, Landing::Old),
-        Row::Lands(1, 258, Landing::In),
-    ];
-    plays(&rt, rt.alloc(), 1, &TO_1, &ROWS);
 }
 
 /// Whether the client is one of the targets.

@@ -1,6 +1,6 @@
 //! What a refusal is called: its number, its name, and its text, which is its name.
 
-use crate::asserts::made;
+use crate::asserts::{holds, made};
 use memory_wanted::{MemoryWanted, reserve};
 use std::alloc::Global;
 use std::fmt::Display;
@@ -17,7 +17,7 @@ pub(crate) fn refused(rt: &impl Abort, alloc: Global) -> MemoryWanted {
 /// It prints so.
 pub(crate) fn assert_text(rt: &impl Abort, alloc: Global, it: &impl Display, wanted: &str) {
     let text = made(rt, format!(in alloc; "{it}"));
-    assert_eq!(rt; text.as_str(), wanted);
+    holds(rt, "the text", text.as_str() == wanted);
 }
 
 /// The refusal, whose number and name were found to be these, has this number and this name.
@@ -28,6 +28,7 @@ pub(crate) fn assert_named(
     found: (u8, &str),
     wanted: (u8, &str),
 ) {
-    assert_eq!(rt; found, wanted);
+    holds(rt, "the number", found.0 == wanted.0);
+    holds(rt, "the name", found.1 == wanted.1);
     assert_text(rt, alloc, refusal, wanted.1);
 }

@@ -1,13 +1,12 @@
-//! Whole runs with the expected replies of the beacon's worked example, and what no clause says: that calls succeed
-//! where there is memory. A run is a table of rows ([`rows`]).
-mod failures;
-mod late_packets;
-mod protection;
+//! What no clause says: that each call of a pair succeeds where there is memory, by whole runs. A run is a table of rows ([`rows`]).
+//! tests/gate/worked plays what is answered to the events in their modes.
 mod rows;
-mod texts;
 
-use pair_core::{Event, Mode};
-use rows::{FRAME, Guest, Row, plays, plays_with};
+use crate::refusals::{assert_named, refused};
+use pair_core::{Event, Mode, Refusal};
+use rows::{Guest, Row, Said, plays};
+use std::alloc::Global;
+use std::process::Abort;
 
 #[test]
 fn the_beacons_frame_reaches_client_1_after_its_acknowledgement(rt: HostRuntime) {
@@ -24,112 +23,20 @@ fn the_beacons_frame_reaches_client_1_after_its_acknowledgement(rt: HostRuntime)
                 Event::Take(1),
                 Event::Take(1),
             ],
-            "Cut { generation: 1, number: 1 }\nTook(None)\nSent(1)\nCommitted { generation: 1, number: 1 }\nTook(None)\n\
-            Acked { generation: 1, number: 1, landed: 1 }\n\
-            Took(Some([2, 0, 0, 0, 1, 1, 2, 0, 0, 0, 0, 1, 136, 181]))\nTook(None)\n",
+            &[
+                Said::Cut(1, 1),
+                Said::TookNone,
+                Said::Sent(1),
+                Said::Committed(1, 1),
+                Said::TookNone,
+                Said::Acked(1, 1, 1),
+                Said::TookFrame,
+                Said::TookNone,
+            ],
         ),
         Row::Shows(Mode::Paired, 1, 0, 22, 27),
     ];
     plays(&rt, rt.alloc(), Guest::Beacon, &ROWS);
-}
-
-#[test]
-fn packets_out_of_order_and_a_fifth_checkpoint(rt: HostRuntime) {
-    static ROWS: [Row; 1] = [Row::Told(
-        &[
-            Event::Cut,
-            Event::Cut,
-            Event::Cut,
-            Event::Cut,
-            Event::Cut,
-            Event::Send,
-            Event::BackupGet(1),
-            Event::BackupGet(0),
-            Event::BackupGet(0),
-            Event::BackupGet(9),
-            Event::AckGet(0),
-            Event::Cut,
-            Event::Take(0),
-            Event::Take(3),
-        ],
-        "Cut { generation: 1, number: 1 }\nCut { generation: 1, number: 2 }\n\
-        Cut { generation: 1, number: 3 }\nCut { generation: 1, number: 4 }\nRefused(Behind)\nSent(4)\nRefused(Gap)\n\
-        Committed { generation: 1, number: 1 }\nAgain { generation: 1, number: 1 }\nLost\n\
-        Acked { generation: 1, number: 1, landed: 0 }\nCut { generation: 1, number: 5 }\n\
-        Refused(NoClient)\nRefused(NoClient)\n",
-    )];
-    plays(&rt, rt.alloc(), Guest::Idle, &ROWS);
-}
-
-#[test]
-fn a_delivered_frame_arrives_at_the_guest(rt: HostRuntime) {
-    static ROWS: [Row; 2] = [
-        Row::Told(
-            &[Event::Deliver(1, &FRAME), Event::Admit(1), Event::Admit(1)],
-            "Delivered(1)\nAdmitted(1)\nEmpty\n",
-        ),
-        Row::Shows(Mode::Paired, 1, 0, 0, 1),
-    ];
-    plays(&rt, rt.alloc(), Guest::Idle, &ROWS);
-}
-
-#[test]
-fn the_second_of_two_deliveries_is_lost(rt: HostRuntime) {
-    static ROWS: [Row; 2] = [
-        Row::Told(
-            &[
-                Event::Deliver(1, &FRAME),
-                Event::Deliver(1, &FRAME),
-                Event::LoseIn(1, 1),
-                Event::LoseIn(1, 1),
-                Event::Admit(1),
-                Event::LoseOut(1, 0),
-                Event::LoseOut(3, 0),
-            ],
-            "Delivered(1)\nDelivered(2)\nDropped\nEmpty\nAdmitted(1)\nEmpty\nRefused(NoClient)\n",
-        ),
-        Row::Shows(Mode::Paired, 1, 0, 0, 3),
-    ];
-    plays(&rt, rt.alloc(), Guest::Idle, &ROWS);
-}
-
-#[test]
-fn an_inbox_holds_64_frames(rt: HostRuntime) {
-    static ROWS: [Row; 3] = [
-        Row::Delivered(64),
-        Row::Told(
-            &[Event::Deliver(1, &FRAME), Event::Take(1)],
-            "Refused(Full)\nTook(None)\n",
-        ),
-        Row::Shows(Mode::Paired, 1, 0, 0, 66),
-    ];
-    plays(&rt, rt.alloc(), Guest::Idle, &ROWS);
-}
-
-#[test]
-fn frames_have_14_to_1514_bytes(rt: HostRuntime) {
-    static ROWS: [Row; 4] = [
-        Row::Length(1, 13, "Refused(BadFrame)\n"),
-        Row::Length(1, 1515, "Refused(BadFrame)\n"),
-        Row::Length(1, 1514, "Delivered(1)\n"),
-        Row::Length(1, 14, "Delivered(2)\n"),
-    ];
-    plays(&rt, rt.alloc(), Guest::Idle, &ROWS);
-}
-
-#[test]
-fn clients_have_the_numbers_from_1(rt: HostRuntime) {
-    static ROWS: [Row; 1] = [Row::Told(
-        &[
-            Event::Deliver(0, &[2; 13]),
-            Event::Deliver(3, &FRAME),
-            Event::Deliver(2, &FRAME),
-            Event::Admit(0),
-            Event::Admit(3),
-        ],
-        "Refused(NoClient)\nRefused(NoClient)\nDelivered(1)\nRefused(NoClient)\nRefused(NoClient)\n",
-    )];
-    plays(&rt, rt.alloc(), Guest::Idle, &ROWS);
 }
 
 #[test]
@@ -142,18 +49,6 @@ fn many_steps_are_made_in_one_call(rt: HostRuntime) {
         Row::Shows(Mode::Paired, 1, 0, 1023, 0),
     ];
     plays(&rt, rt.alloc(), Guest::Beacon, &ROWS);
-}
-
-#[test]
-fn the_last_of_16_clients_delivers_and_takes(rt: HostRuntime) {
-    static ROWS: [Row; 2] = [
-        Row::Length(16, 600, "Delivered(1)\n"),
-        Row::Told(
-            &[Event::Admit(16), Event::Take(16), Event::Take(17)],
-            "Admitted(1)\nTook(None)\nRefused(NoClient)\n",
-        ),
-    ];
-    plays_with(&rt, rt.alloc(), Guest::Idle, 16, &ROWS);
 }
 
 #[test]
@@ -173,4 +68,75 @@ fn a_sector_is_the_live_guests(rt: HostRuntime) {
         Row::Sectors(8),
     ];
     plays(&rt, rt.alloc(), Guest::Writer, &ROWS);
+}
+
+#[test]
+fn what_a_node_alone_sends_lands_at_once(rt: HostRuntime) {
+    static ROWS: [Row; 5] = [
+        Row::Told(&[Event::FailBackup], &[Said::Alone(1, 0)]),
+        Row::Steps(21, 21),
+        Row::Told(
+            &[Event::Take(1), Event::Step],
+            &[Said::TookNone, Said::Steps(22)],
+        ),
+        Row::Told(&[Event::Take(1)], &[Said::TookFrame]),
+        Row::Shows(Mode::Alone, 1, 0, 22, 25),
+    ];
+    plays(&rt, rt.alloc(), Guest::Beacon, &ROWS);
+}
+
+#[test]
+fn many_steps_alone_are_few_stored_entries(rt: HostRuntime) {
+    static ROWS: [Row; 6] = [
+        Row::Steps(100, 100),
+        Row::Told(&[Event::FailBackup], &[Said::Alone(1, 0)]),
+        Row::Single(100, 200),
+        Row::Steps(100_000, 100_200),
+        Row::Shows(Mode::Alone, 1, 0, 100_200, 100_200),
+        Row::Stored(100_200, 1),
+    ];
+    plays(&rt, rt.alloc(), Guest::Idle, &ROWS);
+}
+
+#[test]
+fn many_steps_of_a_node_alone_are_made_in_one_call(rt: HostRuntime) {
+    static ROWS: [Row; 6] = [
+        Row::Told(&[Event::FailBackup], &[Said::Alone(1, 0)]),
+        Row::Steps(22, 22),
+        Row::Steps(12_000, 12_022),
+        Row::Steps(0, 12_022),
+        Row::Shows(Mode::Alone, 1, 0, 12_022, 12_023),
+        Row::Told(&[Event::Take(1)], &[Said::TookFrame]),
+    ];
+    plays(&rt, rt.alloc(), Guest::Beacon, &ROWS);
+}
+
+/// The refusal has this number and this name.
+fn assert_refusal(rt: &impl Abort, alloc: Global, refusal: &Refusal, number: u8, name: &str) {
+    let found = (refusal.number(), refusal.name());
+    assert_named(rt, alloc, refusal, found, (number, name));
+}
+
+#[test]
+fn refusals_print_their_names(rt: HostRuntime) {
+    static REFUSALS: [(Refusal, u8, &str); 13] = [
+        (Refusal::Full, 1, "Full"),
+        (Refusal::BadFrame, 2, "BadFrame"),
+        (Refusal::NoClient, 3, "NoClient"),
+        (Refusal::Stopped, 4, "Stopped"),
+        (Refusal::Behind, 5, "Behind"),
+        (Refusal::NotPaired, 6, "NotPaired"),
+        (Refusal::AlreadyPaired, 7, "AlreadyPaired"),
+        (Refusal::NoImage, 8, "NoImage"),
+        (Refusal::Stale, 9, "Stale"),
+        (Refusal::Gap, 10, "Gap"),
+        (Refusal::CutNeeded, 13, "CutNeeded"),
+        (Refusal::Exhausted, 14, "Exhausted"),
+        (Refusal::OldVersion, 15, "OldVersion"),
+    ];
+    for (refusal, number, name) in &REFUSALS {
+        assert_refusal(&rt, rt.alloc(), refusal, *number, name);
+    }
+    let refusal = Refusal::from(refused(&rt, rt.alloc()));
+    assert_refusal(&rt, rt.alloc(), &refusal, 12, "NoMemory");
 }

@@ -1,5 +1,5 @@
 -- A list that grows by what is made of each item of another.
-use Rattle.std.proofs.Common.{◌≡◌, List, [], ◌∷◌, ◌++◌, map, sym, ap, ◌∙◌, append_assoc, append-nil}
+use Rattle.std.proofs.Common.{◌≡◌, List, [], ◌∷◌, ◌++◌, map, sym, ap, ◌∙◌, append_assoc}
 
 module _ {A B : Type 0} (f : A → B) where
   -- one more
@@ -8,7 +8,3 @@ module _ {A B : Type 0} (f : A → B) where
   listed-on before after all left rest x is so more =
       ap (λ ys. ys ++ map f rest) more
       ∙ (append_assoc before (f x ∷ []) (map f rest) ∙ (ap (λ xs. before ++ map f xs) (sym is) ∙ so))
-
-  -- and all
-  pub listed-all : (listed all : List B) (left : List A) → left ≡ [] → listed ++ map f left ≡ all → listed ≡ all
-  listed-all listed all left none so = sym (append-nil listed) ∙ (ap (λ xs. listed ++ map f xs) (sym none) ∙ so)

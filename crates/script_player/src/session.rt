@@ -1,17 +1,13 @@
 //! A session: lines are played as they come, and each is answered before more is read.
 
 ghost use Rattle.std.specs.Prelude.{◌≡◌, ◌++◌, ◌<◌, ℕ, List, [], length};
-ghost use Rattle.script_player.specs.Session.{IsAnswered, IsReply, IsServed, memory_answer};
-ghost use Rattle.script_player.specs.Streams.{IsPut};
+ghost use Rattle.script_player.specs.Session.{IsAnswered, IsReply, IsServed};
 ghost use Rattle.script_player.specs.internal.Serving.{IsAnswerTo, IsFed, IsKept, IsReplyTo, Holds, status_of};
 
 use crate::limits::MOST_LINE_BYTES;
-use crate::replies::write_refusal;
 use crate::sim::first_line;
 use crate::streams::{Failed, Sink, Source};
-use crate::text::Text;
 use memory_wanted::{MemoryWanted, extend_from_slice};
-use pair_core::Refusal;
 use std::alloc::Global;
 use std::mem;
 
@@ -147,19 +143,6 @@ fn reply<P: LinePlayer, O: Sink>(
         Fate::TooLong => out.put(BAD),
         Fate::NoMemory(wanted) => out.refuse(wanted),
     }
-}
-
-/// Prints that there is no memory.
-///
-/// # Errors
-///
-/// Where a write fails.
-pub fn put_refusal<O: Sink>(wanted: MemoryWanted, out: &mut O) -> Result<(), Failed>
-    ensures { IsPut (O.written out.old) (O.written out.new) result memory_answer }
-{
-    let mut text = Text::new();
-    write_refusal(&mut text, &Refusal::NoMemory(wanted));
-    out.put(text.as_slice())
 }
 
 /// Empties a line. Its room stays, unless that is much.

@@ -19,7 +19,7 @@ pub(super) fn is_number(
     found: &Result<u64, Refusal>,
     wanted: &Result<u64, Refusal>,
 ) {
-    assert_eq!(rt; found, wanted);
+    holds(rt, "the number", found == wanted);
 }
 
 /// A commit was acknowledged by this generation and number, or refused so.
@@ -28,10 +28,15 @@ pub(super) fn is_ack(
     found: &Result<(u64, u64), Refusal>,
     wanted: &Result<(u64, u64), Refusal>,
 ) {
-    assert_eq!(rt; found, wanted);
+    holds(rt, "the acknowledgement", found == wanted);
 }
 
 /// It was refused so.
 pub(super) fn is_refusal(rt: &impl Abort, found: &Refusal, wanted: &Refusal) {
-    assert_eq!(rt; found, wanted);
+    holds(rt, "the refusal", found == wanted);
+}
+
+/// These bytes are this text.
+pub(super) fn is_text(rt: &impl Abort, bytes: &[u8], wanted: &str) {
+    holds(rt, "the text", bytes == wanted.as_bytes());
 }

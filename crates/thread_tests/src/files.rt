@@ -1,17 +1,12 @@
 //! What is printed of files that are run.
 
-use super::asserts::same;
+use super::asserts::{is_text, same};
 use pair_threads::run;
 use script_player::streams::CheckedWriter;
 use std::process::Abort;
 use std::sync::Wait;
 use std::test::*;
 use std::thread::Threads;
-
-/// These bytes are this text.
-fn is_text(rt: &impl Abort, bytes: &[u8], wanted: &str) {
-    assert_eq!(rt; str::from_utf8(bytes), Ok(wanted));
-}
 
 /// Runs a file, and compares all that is printed, and the status.
 fn runs<R: Threads + Wait + Abort + AllocGlobal + Sync>(

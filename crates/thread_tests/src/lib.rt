@@ -1,5 +1,5 @@
-//! Tests of a pair in threads, and of its members by hand. They stand in a crate of their own since a crate that has tests is proved once
-//! more with them.
+//! Tests of a pair in threads, and of its members by hand; and of writers and readers that fail, of live sessions and of the files of runs.
+//! They stand in a crate of their own since a crate that has tests is proved once more with them.
 #![tactic(auto)]
 
 #[cfg(test)]
@@ -19,10 +19,16 @@ mod holds;
 #[cfg(test)]
 mod late;
 #[cfg(test)]
+mod live;
+#[cfg(test)]
 mod pairs;
 #[cfg(test)]
 mod releases;
 #[cfg(test)]
 mod rows;
+#[cfg(test)]
+mod run_files;
+#[cfg(test)]
+mod writers;
 #[cfg(test)]
 mod zombies;

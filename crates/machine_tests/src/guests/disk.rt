@@ -109,7 +109,7 @@ fn answers(rt: &impl Abort, alloc: Global, changes: &[Part], status: u64, len: u
 }
 
 /// Requests by their type and sector, and the status byte that answers each.
-const REQUESTS: [(u32, u32, u64); 6] = [
+static REQUESTS: [(u32, u32, u64); 6] = [
     (WRITE, 8, 1),
     (WRITE, 0xffff_ffff, 1),
     (FLUSH, 7, 0),
@@ -120,14 +120,14 @@ const REQUESTS: [(u32, u32, u64); 6] = [
 
 #[test]
 fn requests_are_answered_by_type_and_sector(rt: HostRuntime) {
-    for (kind, sector, status) in REQUESTS {
-        let changes = [Part::Word(HEAD, kind), Part::Word(HEAD + 8, sector)];
-        answers(&rt, rt.alloc(), &changes, status, 1);
+    for (kind, sector, status) in &REQUESTS {
+        let changes = [Part::Word(HEAD, *kind), Part::Word(HEAD + 8, *sector)];
+        answers(&rt, rt.alloc(), &changes, *status, 1);
     }
 }
 
 /// Requests whose data has a wrong length, with the status byte and the used length that answer each.
-const WRONG_LENGTHS: [(&[Part], u64, u16); 4] = [
+static WRONG_LENGTHS: [(&[Part], u64, u16); 4] = [
     // a write of two sectors from the last on, from 2^64 - 1 on, where the sum wraps, and of 511 bytes
     (&[Part::Bytes(DATA_LEN, &[0, 4])], 1, 1),
     (
@@ -153,8 +153,8 @@ const WRONG_LENGTHS: [(&[Part], u64, u16); 4] = [
 
 #[test]
 fn data_of_wrong_lengths_are_refused(rt: HostRuntime) {
-    for (changes, status, len) in WRONG_LENGTHS {
-        answers(&rt, rt.alloc(), changes, status, len);
+    for (changes, status, len) in &WRONG_LENGTHS {
+        answers(&rt, rt.alloc(), changes, *status, *len);
     }
 }
 
@@ -220,7 +220,7 @@ static BREAKS: [Line; 9] = [
 ];
 
 /// Malformed rings.
-const RINGS: [&[Part]; 5] = [
+static RINGS: [&[Part]; 5] = [
     // ADDI x7, x7, 65 and back: the available ring's address is odd; ADDI x7, x7, 66: the used ring's isn't a multiple of 4
     &[
         Part::Word(TO_AVAILABLE, 0x04138393),
@@ -236,13 +236,13 @@ const RINGS: [&[Part]; 5] = [
 
 #[test]
 fn malformed_rings_break_the_disk(rt: HostRuntime) {
-    for changes in RINGS {
+    for changes in &RINGS {
         plays(&rt, rt.alloc(), &REQUEST, changes, &BREAKS);
     }
 }
 
 /// Malformed requests.
-const CHAINS: [&[Part]; 10] = [
+static CHAINS: [&[Part]; 10] = [
     // a next of 4, and INDIRECT
     &[Part::Word(HEAD_FLAGS, 0x00040001)],
     &[Part::Word(HEAD_FLAGS, 0x00010005)],
@@ -266,7 +266,7 @@ const CHAINS: [&[Part]; 10] = [
 
 #[test]
 fn malformed_requests_break_the_disk(rt: HostRuntime) {
-    for changes in CHAINS {
+    for changes in &CHAINS {
         plays(&rt, rt.alloc(), &REQUEST, changes, &BREAKS);
     }
 }

@@ -14,7 +14,7 @@ use std::process::Abort;
 type Row = (&'static str, usize, u32);
 
 /// Rows of the beacon. It has one descriptor, of 26 bytes.
-const CARD: [Row; 8] = [
+static CARD: [Row; 8] = [
     // ADDI x7, x7, 65: the available ring's address is odd
     ("Misaligned", 4 * 14, 0x04138393),
     // LUI x7, 0x80002: the rings lie behind memory
@@ -30,7 +30,7 @@ const CARD: [Row; 8] = [
 ];
 
 /// Rows of the guest of one request. It has four descriptors.
-const DISK: [Row; 2] = [
+static DISK: [Row; 2] = [
     // the head: NEXT and WRITE
     ("Order", 0x100c, 0x00010003),
     // no place for the status byte
@@ -38,7 +38,7 @@ const DISK: [Row; 2] = [
 ];
 
 /// Rows of a guest that receives. It has four descriptors, the first of 26 bytes that the card may write.
-const RECEIVING: [Row; 9] = [
+static RECEIVING: [Row; 9] = [
     ("Misaligned", 4 * 15, 0x04138393),
     ("AreaOutside", 4 * 13, 0x800023b7),
     ("TooMany", 0x1040, 65 << 16),
@@ -138,11 +138,11 @@ fn breaks_alone(
 
 #[test]
 fn malformed_rings_break_their_device(rt: HostRuntime) {
-    for row in CARD {
-        breaks_alone(&rt, rt.alloc(), &BEACON_GUEST, row, 21, Device::Card);
+    for row in &CARD {
+        breaks_alone(&rt, rt.alloc(), &BEACON_GUEST, *row, 21, Device::Card);
     }
-    for row in DISK {
-        breaks_alone(&rt, rt.alloc(), &REQUEST, row, 22, Device::Disk);
+    for row in &DISK {
+        breaks_alone(&rt, rt.alloc(), &REQUEST, *row, 22, Device::Disk);
     }
 }
 
@@ -254,11 +254,11 @@ fn disk_breaks_after_the_card(rt: &impl Abort, alloc: Global, (name, at, word): 
 
 #[test]
 fn a_malformed_ring_leaves_the_other_device(rt: HostRuntime) {
-    for row in CARD {
-        card_breaks_after_the_disk(&rt, rt.alloc(), row);
+    for row in &CARD {
+        card_breaks_after_the_disk(&rt, rt.alloc(), *row);
     }
-    for row in DISK {
-        disk_breaks_after_the_card(&rt, rt.alloc(), row);
+    for row in &DISK {
+        disk_breaks_after_the_card(&rt, rt.alloc(), *row);
     }
 }
 
@@ -304,7 +304,7 @@ fn breaks_at_a_frame(rt: &impl Abort, alloc: Global, (name, at, word): Row) {
 
 #[test]
 fn a_frame_that_meets_a_malformed_ring_is_lost(rt: HostRuntime) {
-    for row in RECEIVING {
-        breaks_at_a_frame(&rt, rt.alloc(), row);
+    for row in &RECEIVING {
+        breaks_at_a_frame(&rt, rt.alloc(), *row);
     }
 }

@@ -188,7 +188,7 @@ const WRITES_THE_NEXT: [u32; 7] = [
 ];
 
 /// This program, to which the first word jumps: JAL x0, 4; and JAL x0, 0xff4, to where the store is the last word of its page.
-const NEXT_WORDS: [&[Part]; 2] = [
+static NEXT_WORDS: [&[Part]; 2] = [
     &[Part::Word(0, 0x0040_006f), Part::Words(4, &WRITES_THE_NEXT)],
     &[
         Part::Word(0, 0x7f50_006f),
@@ -208,7 +208,7 @@ static COUNTED: [Line; 2] = [Line::Run(3 + 4 * 10), Line::Is(COUNTER, 1 + 9 * 16
 
 #[test]
 fn a_guest_writes_its_next_instruction(rt: HostRuntime) {
-    for program in NEXT_WORDS {
+    for program in &NEXT_WORDS {
         plays(&rt, rt.alloc(), &TWO_PAGES, program, &COUNTED);
     }
 }

@@ -3,16 +3,15 @@
 
 use crate::asserts::{as_many, boxed, holds, made, same};
 use guest_kit::{beacon, disk_once};
-use pair_core::{Event, Mode, Refusal, Reply, Shape, Show, World};
+use pair_core::{Event, Mode, Reply, Shape, Show, World};
 use std::alloc::Global;
-use std::fmt::Write;
 use std::process::Abort;
 
-/// The frame that the beacon sends.
-pub(super) const FRAME: [u8; 14] = [2, 0, 0, 0, 1, 1, 2, 0, 0, 0, 0, 1, 0x88, 0xb5];
-
-/// The pages and sectors of a guest.
-pub(super) const SHAPE: (u32, u32) = (2, 8);
+/// The shape of a guest's machine.
+const SHAPE: Shape = Shape {
+    pages: 2,
+    sectors: 8,
+};
 
 /// The guest of a pair.
 #[derive(Clone, Copy)]
@@ -27,8 +26,8 @@ pub(super) enum Guest {
 
 /// What is done to a pair, and what comes of it.
 pub(super) enum Row {
-    /// These events are answered by replies that print so, one a line.
-    Told(&'static [Event<'static>], &'static str),
+    /// These events, in one list, are answered so.
+    Told(&'static [Event<'static>], &'static [Said]),
     /// Events Step are answered by the counts after this one, up to that one.
     Counted(u64, u64),
     /// Calls of `step` are answered by the counts after this one, up to that one.
@@ -37,14 +36,6 @@ pub(super) enum Row {
     Steps(u64, u64),
     /// A list of so many events Step and a Cut is answered to its end.
     List(usize),
-    /// So many epochs of one step are cut, sent, committed and acknowledged, whatever is answered. The packets count from 0.
-    Epochs(u64),
-    /// Neither a step nor many are made, since the primary has stopped.
-    NoStep,
-    /// So many deliveries of the beacon's frame by client 1 are answered by the numbers from 1 on.
-    Delivered(u64),
-    /// This client delivers a frame of so many bytes 2, which is answered by what prints so.
-    Length(u64, usize, &'static str),
     /// The pair shows this mode, generation, and so many pending checkpoints, steps and entries.
     Shows(Mode, u64, u64, u64, u64),
     /// The history has so many entries, of which so many are stored.
@@ -54,6 +45,25 @@ pub(super) enum Row {
     /// The disk has only the sectors before this one.
     Sectors(u32),
 }
+
+/// What an event is answered.
+pub(super) enum Said {
+    Steps(u64),
+    /// Generation and number.
+    Cut(u64, u64),
+    Sent(u64),
+    Committed(u64, u64),
+    /// Generation and number, and how many frames landed.
+    Acked(u64, u64, u64),
+    /// The generation, and how many frames landed.
+    Alone(u64, u64),
+    /// The client takes the beacon's frame, or nothing.
+    TookFrame,
+    TookNone,
+}
+
+/// The frame that the beacon sends.
+static FRAME: [u8; 14] = [2, 0, 0, 0, 1, 1, 2, 0, 0, 0, 0, 1, 0x88, 0xb5];
 
 fn beacon_image(rt: &impl Abort, alloc: Global) -> Vec<u8> {
     made(rt, beacon(alloc))
@@ -76,52 +86,84 @@ fn image(rt: &impl Abort, alloc: Global, guest: Guest) -> Vec<u8> {
     }
 }
 
-/// A pair with so many clients whose guest has this image. It stands in a box, so that a test holds no large value.
-fn booted(rt: &impl Abort, alloc: Global, image: &[u8], clients: u64) -> Box<World> {
-    let (pages, sectors) = SHAPE;
-    if image.len() > 4096 * 2 || clients < 1 || clients > 16 {
-        panic!(rt; "there is no such pair");
-    }
-    let world = World::boot(alloc, Shape { pages, sectors }, clients, image);
+/// A pair with two clients whose guest has this image. It stands in a box, so that a test holds no large value.
+fn booted(rt: &impl Abort, alloc: Global, image: &[u8]) -> Box<World> {
+    holds(rt, "an image that fits", image.len() <= 4096 * 2);
+    let world = World::boot(alloc, SHAPE, 2, image);
     boxed(rt, alloc, made(rt, world))
 }
 
-/// A pair with so many clients and this guest.
-pub(super) fn pair(rt: &impl Abort, alloc: Global, guest: Guest, clients: u64) -> Box<World> {
+/// A pair with two clients and this guest.
+fn pair(rt: &impl Abort, alloc: Global, guest: Guest) -> Box<World> {
     let image = image(rt, alloc, guest);
-    booted(rt, alloc, image.as_slice(), clients)
+    booted(rt, alloc, image.as_slice())
 }
 
-/// Prints a reply on a line of its own.
-fn push(rt: &impl Abort, text: &mut String, reply: &Reply) {
-    made(rt, writeln!(text, "{reply:?}"));
-}
-
-/// The replies as they print, one a line.
-fn lines_of(rt: &impl Abort, alloc: Global, replies: &[Reply]) -> String {
-    let mut text = String::new(alloc);
-    for reply in replies {
-        push(rt, &mut text, reply);
+/// Whether it is the reply to a cut or a commit of this generation and number.
+fn is_checkpoint(reply: &Reply, is_cut: bool, wanted: (u64, u64)) -> bool {
+    match reply {
+        Reply::Cut { generation, number } => is_cut && (*generation, *number) == wanted,
+        Reply::Committed { generation, number } => !is_cut && (*generation, *number) == wanted,
+        _ => false,
     }
-    text
 }
 
-/// The printed replies to these events.
-fn printed(rt: &impl Abort, alloc: Global, world: &mut World, events: &[Event<'_>]) -> String {
+/// Whether it is the reply to an acknowledgement of this generation and number, which lets so many frames land.
+fn is_acked(reply: &Reply, wanted: (u64, u64, u64)) -> bool {
+    match reply {
+        Reply::Acked {
+            generation,
+            number,
+            landed,
+        } => (*generation, *number, *landed) == wanted,
+        _ => false,
+    }
+}
+
+/// Whether it is the reply to a failure of the backup in this generation, which lets so many frames land.
+fn is_alone(reply: &Reply, wanted: (u64, u64)) -> bool {
+    match reply {
+        Reply::Alone { generation, landed } => (*generation, *landed) == wanted,
+        _ => false,
+    }
+}
+
+/// Whether a client took the beacon's frame.
+fn took_frame(reply: &Reply) -> bool {
+    match reply {
+        Reply::Took(Some(frame)) => frame.as_slice() == FRAME.as_slice(),
+        _ => false,
+    }
+}
+
+/// Whether a reply is this one.
+fn is_said(reply: &Reply, said: &Said) -> bool {
+    match said {
+        Said::Steps(count) => matches!(reply, Reply::Steps(made) if made == count),
+        Said::Cut(generation, number) => is_checkpoint(reply, true, (*generation, *number)),
+        Said::Sent(count) => matches!(reply, Reply::Sent(sent) if sent == count),
+        Said::Committed(generation, number) => is_checkpoint(reply, false, (*generation, *number)),
+        Said::Acked(generation, number, landed) => {
+            is_acked(reply, (*generation, *number, *landed))
+        }
+        Said::Alone(generation, landed) => is_alone(reply, (*generation, *landed)),
+        Said::TookFrame => took_frame(reply),
+        Said::TookNone => matches!(reply, Reply::Took(None)),
+    }
+}
+
+/// These replies are so many, and each is the one that was wanted.
+fn assert_said(rt: &impl Abort, replies: &[Reply], wanted: &[Said]) {
+    as_many(rt, "replies", replies.len(), wanted.len());
+    for (reply, said) in replies.iter().zip(wanted.iter()) {
+        holds(rt, "the reply", is_said(reply, said));
+    }
+}
+
+/// These events are answered so.
+fn assert_answers(rt: &impl Abort, world: &mut World, events: &[Event<'_>], wanted: &[Said]) {
     let replies = made(rt, world.run(events));
-    lines_of(rt, alloc, replies.as_slice())
-}
-
-/// The replies to these events print so.
-fn assert_answers(
-    rt: &impl Abort,
-    alloc: Global,
-    world: &mut World,
-    events: &[Event<'_>],
-    wanted: &str,
-) {
-    let text = printed(rt, alloc, world, events);
-    assert_eq!(rt; text.as_str(), wanted);
+    assert_said(rt, replies.as_slice(), wanted);
 }
 
 /// The event Step is answered by this count.
@@ -172,74 +214,9 @@ fn assert_list(rt: &impl Abort, alloc: Global, world: &mut World, count: usize) 
     as_many(rt, "replies", replies.len(), events.len());
 }
 
-/// One epoch of one step, of which packet and acknowledgement have this number.
-fn make_epoch(rt: &impl Abort, world: &mut World, number: u64) {
-    let epoch = world.run(&[
-        Event::Step,
-        Event::Cut,
-        Event::Send,
-        Event::BackupGet(number),
-        Event::AckGet(number),
-    ]);
-    made(rt, epoch);
-}
-
-/// So many of them.
-fn make_epochs(rt: &impl Abort, world: &mut World, count: u64) {
-    for number in 0..count {
-        make_epoch(rt, world, number);
-    }
-}
-
-/// Neither a step nor many are made, since the primary has stopped.
-fn assert_makes_no_step(rt: &impl Abort, world: &mut World) {
-    let one = matches!(world.step(), Err(Refusal::Stopped));
-    let five = matches!(world.run_steps(5), Err(Refusal::Stopped));
-    holds(rt, "refused", one && five);
-}
-
-/// The delivery of the beacon's frame by client 1 is given this number.
-fn assert_delivered(rt: &impl Abort, world: &mut World, number: u64) {
-    let reply = world.apply(Event::Deliver(1, &FRAME));
-    let is_right = matches!(reply, Reply::Delivered(given) if given == number);
-    holds(rt, "the number", is_right);
-}
-
-/// So many are given the numbers from 1 on.
-fn assert_all_delivered(rt: &impl Abort, world: &mut World, count: u64) {
-    for number in 0..count {
-        assert_delivered(rt, world, number + 1);
-    }
-}
-
-/// So many bytes 2.
-fn repeated(rt: &impl Abort, alloc: Global, count: usize) -> Vec<u8> {
-    let mut bytes = made(rt, Vec::with_capacity(alloc, count));
-    made(rt, bytes.resize(count, 2));
-    bytes
-}
-
-/// A client that delivers a frame of so many bytes 2 is answered by what prints so.
-fn assert_length(
-    rt: &impl Abort,
-    alloc: Global,
-    world: &mut World,
-    (client, count): (u64, usize),
-    wanted: &str,
-) {
-    let bytes = repeated(rt, alloc, count);
-    assert_answers(
-        rt,
-        alloc,
-        world,
-        &[Event::Deliver(client, bytes.as_slice())],
-        wanted,
-    );
-}
-
 /// The world shows this.
 fn assert_shows(rt: &impl Abort, world: &World, show: Show) {
-    assert_eq!(rt; world.show(), show);
+    holds(rt, "what it shows", world.show() == show);
 }
 
 /// The history has so many entries, of which so many are stored.
@@ -275,17 +252,11 @@ fn assert_sectors(rt: &impl Abort, world: &World, count: u32) {
 /// Plays one row.
 fn play(rt: &impl Abort, alloc: Global, world: &mut World, row: &Row) {
     match row {
-        Row::Told(events, wanted) => assert_answers(rt, alloc, world, events, wanted),
-        Row::Length(client, count, wanted) => {
-            assert_length(rt, alloc, world, (*client, *count), wanted);
-        }
+        Row::Told(events, wanted) => assert_answers(rt, world, events, wanted),
         Row::List(count) => assert_list(rt, alloc, world, *count),
-        Row::Epochs(count) => make_epochs(rt, world, *count),
         Row::Counted(from, to) => assert_counts_from(rt, world, *from, *to),
         Row::Single(from, to) => assert_steps_from(rt, world, *from, *to),
-        Row::Delivered(count) => assert_all_delivered(rt, world, *count),
         Row::Steps(count, steps) => assert_steps(rt, world, *count, *steps),
-        Row::NoStep => assert_makes_no_step(rt, world),
         Row::Shows(mode, generation, pending, steps, entries) => {
             let show = Show {
                 mode: *mode,
@@ -302,20 +273,10 @@ fn play(rt: &impl Abort, alloc: Global, world: &mut World, row: &Row) {
     }
 }
 
-/// Plays the rows, one after the other.
-pub(super) fn plays_on(rt: &impl Abort, alloc: Global, world: &mut World, rows: &[Row]) {
-    for row in rows {
-        play(rt, alloc, world, row);
-    }
-}
-
-/// Plays them with a pair of so many clients.
-pub(super) fn plays_with(rt: &impl Abort, alloc: Global, guest: Guest, clients: u64, rows: &[Row]) {
-    let mut world = pair(rt, alloc, guest, clients);
-    plays_on(rt, alloc, &mut world, rows);
-}
-
-/// Plays them with a pair of two clients.
+/// Plays the rows, one after the other, with a pair of two clients.
 pub(super) fn plays(rt: &impl Abort, alloc: Global, guest: Guest, rows: &[Row]) {
-    plays_with(rt, alloc, guest, 2, rows);
+    let mut world = pair(rt, alloc, guest);
+    for row in rows {
+        play(rt, alloc, &mut world, row);
+    }
 }

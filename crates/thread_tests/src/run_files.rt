@@ -1,4 +1,5 @@
 //! What files of a run say, and what is printed of a run.
+use super::asserts::{holds, is_text};
 use pair_record::Reply;
 use pair_run::{Action, Answered, ClientLine, RunFile, Unread, read_run, write_run};
 use script_player::streams::CheckedWriter;
@@ -17,7 +18,7 @@ fn bad_line(alloc: Global, source: &[u8]) -> Option<u64> {
 
 /// The line of this number is the file's bad one.
 fn assert_bad(rt: &impl Abort, alloc: Global, source: &[u8], number: u64) {
-    assert_eq!(rt; bad_line(alloc, source), Some(number));
+    holds(rt, "the bad line", bad_line(alloc, source) == Some(number));
 }
 
 #[test]
@@ -85,7 +86,7 @@ fn a_file_of_two_clients(rt: HostRuntime) -> Result<(), Fail> {
         b"# two\nboot 2 1 2 idle\n\nepochs 2 022\nclient 2 deliver:ab00 take\n#\nclient 01 take";
     match read_run(rt.alloc(), source) {
         Ok(file) => {
-            assert!(rt; is_two_clients(&file));
+            holds(&rt, "two clients", is_two_clients(&file));
             Ok(())
         }
         Err(_) => Err("it isn't read".into()),
@@ -97,8 +98,12 @@ fn a_run_is_printed(rt: HostRuntime) -> Result<(), Fail> {
     let replies = Vec::from_array(rt.alloc(), [Reply::Delivered(1), Reply::Took(None)])?;
     let clients = [Answered { client: 1, replies }];
     let mut out = CheckedWriter::new(Vec::new(rt.alloc()));
-    assert!(rt; write_run(&clients, 2, &mut out).is_ok());
-    let printed = str::from_utf8(out.inner.as_slice());
-    assert_eq!(rt; printed, Ok("client 1\ndelivered 1\nnone\nentries 2\n"));
+    holds(
+        &rt,
+        "it is written",
+        write_run(&clients, 2, &mut out).is_ok(),
+    );
+    let wanted = "client 1\ndelivered 1\nnone\nentries 2\n";
+    is_text(&rt, out.inner.as_slice(), wanted);
     Ok(())
 }

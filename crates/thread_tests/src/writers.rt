@@ -1,4 +1,5 @@
 //! Writers that fail, and when answers are written out.
+use super::asserts::holds;
 use script_player::sim::sim;
 use script_player::streams::CheckedWriter;
 use std::alloc::Global;
@@ -7,7 +8,7 @@ use std::process::Abort;
 
 /// A writer that takes so many bytes, and then fails.
 #[derive(Drop)]
-struct Short(usize);
+pub(super) struct Short(pub(super) usize);
 
 impl Write for Short {
     fn write(&mut self, buf: &[u8]) -> IoResult<usize> {
@@ -28,15 +29,23 @@ fn assert_status(rt: &impl Abort, alloc: Global, script: &[u8], room: usize, nee
     let mut out = CheckedWriter::new(Short(room));
     let mut err = CheckedWriter::new(Vec::new(alloc));
     let status = sim(alloc, script, &mut out, &mut err);
-    assert_eq!(rt; status, if room < needs { 1 } else { 0 }, "room for {room}");
-    assert_eq!(rt; err.inner.len(), 0);
+    holds(
+        rt,
+        "the status",
+        (status == 1) == (room < needs) && status < 2,
+    );
+    holds(rt, "nothing is said", err.inner.is_empty());
 }
 
 /// A bad line that can't be named gives status 1 too.
 fn assert_unsaid(rt: &impl Abort, alloc: Global) {
     let mut out = CheckedWriter::new(Vec::new(alloc));
     let mut err = CheckedWriter::new(Short(0));
-    assert_eq!(rt; sim(alloc, b"cut", &mut out, &mut err), 1);
+    holds(
+        rt,
+        "the status",
+        sim(alloc, b"cut", &mut out, &mut err) == 1,
+    );
 }
 
 #[test]
@@ -88,8 +97,16 @@ fn flushes_to(rt: &impl Abort, alloc: Global, script: &[u8], at: &[usize], fails
     });
     let mut err = CheckedWriter::new(Vec::new(alloc));
     let status = sim(alloc, script, &mut out, &mut err);
-    assert_eq!(rt; Some(out.inner.at.as_slice()), at.get(..fails));
-    assert_eq!(rt; status, if fails < at.len() { 1 } else { 0 });
+    holds(
+        rt,
+        "the counts",
+        Some(out.inner.at.as_slice()) == at.get(..fails),
+    );
+    holds(
+        rt,
+        "the status",
+        (status == 1) == (fails < at.len()) && status < 2,
+    );
 }
 
 /// Plays it with each of them failing, and with none.

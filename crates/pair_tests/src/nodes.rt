@@ -1,5 +1,5 @@
-//! A pair of nodes, of which each call is made, with memory for it: the beacon's frame is let out once its checkpoint is acknowledged, and its
-//! standby goes on. What is wanted of lengths and counts comes from `oracle/nodes.py`.
+//! A pair of nodes, of which each call is made, with memory for it: the beacon's frame is let out once its checkpoint is acknowledged, and
+//! its standby goes on. What is wanted of lengths and counts comes from `oracle/nodes.py`.
 //!
 //! A node stands in a box, and is out of it only within the calls that take it by value.
 

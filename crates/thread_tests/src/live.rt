@@ -1,8 +1,10 @@
 //! What a live session prints, and how it ends.
+use super::asserts::{is_text, same};
+use super::writers::Short;
 use script_player::live::{live, live_prints_what_sim_prints};
 use script_player::streams::{CheckedReader, CheckedWriter};
 use std::alloc::Global;
-use std::io::{ErrorKind, Read, Result as IoResult, Write};
+use std::io::{ErrorKind, Read, Result as IoResult};
 use std::process::Abort;
 
 /// A reader that gives one piece after another, and then fails or ends.
@@ -27,24 +29,6 @@ impl<'a> Read for Pieces<'a> {
     }
 }
 
-/// A writer that takes so many bytes, and then fails.
-#[derive(Drop)]
-struct Short(usize);
-
-impl Write for Short {
-    fn write(&mut self, buf: &[u8]) -> IoResult<usize> {
-        if self.0 < buf.len() {
-            return Err(std::io::Error::from(ErrorKind::WriteZero));
-        }
-        self.0 -= buf.len();
-        Ok(buf.len())
-    }
-
-    fn flush(&mut self) -> IoResult<()> {
-        Ok(())
-    }
-}
-
 /// Plays these pieces, and compares the status and all that is printed.
 fn answers(rt: &impl Abort, alloc: Global, pieces: &[&[u8]], fails: bool, printed: &str) {
     let mut input = CheckedReader::new(Pieces {
@@ -54,12 +38,8 @@ fn answers(rt: &impl Abort, alloc: Global, pieces: &[&[u8]], fails: bool, printe
     });
     let mut out = CheckedWriter::new(Vec::new(alloc));
     let status = live(alloc, &mut input, &mut out);
-    assert_eq!(rt;
-        str::from_utf8(out.inner.as_slice()),
-        Ok(printed),
-        "printed"
-    );
-    assert_eq!(rt; status, if fails { 1 } else { 0 }, "status");
+    is_text(rt, out.inner.as_slice(), printed);
+    same(rt, "the status", status.into(), u64::from(fails));
     live_prints_what_sim_prints();
 }
 
@@ -111,6 +91,6 @@ fn a_failed_write_gives_status_1(rt: HostRuntime) {
     // `booted` and `cut 1 1`, each with its newline, are 15 bytes.
     for room in 0..17usize {
         let status = status_in(rt.alloc(), room);
-        assert_eq!(rt; status, if room < 15 { 1 } else { 0 }, "room for {room}");
+        same(&rt, "the status", status.into(), u64::from(room < 15));
     }
 }
