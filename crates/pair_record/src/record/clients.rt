@@ -7,8 +7,8 @@ ghost use Rattle.pair_record.specs.declared.event.Reply.TheVariants as replies;
 ghost use Rattle.pair_record.specs.Protocol.{first_refusal, Refuses, arrival_refusals, admit_refusals, admit_done, arrival_done};
 ghost use Rattle.pair_record.specs.Protocol.{deliver_refusals, RefusesDelivery, delivery_refused, deliver_done, take_refusals, take_done};
 ghost use Rattle.pair_record.specs.Protocol.{loss_refusals, loss_of, loss_reply, lost_in, lost_out};
-ghost use Rattle.pair_record.specs.Record.{IsAsBefore, given, ports_after_admit, ports_after_take, ports_after_lose_in, ports_after_lose_out};
-ghost use Rattle.pair_record.specs.Record.{ports_if_lost};
+ghost use Rattle.pair_record.specs.Record.{IsAsBefore, given, ports_after_admit, ports_after_take};
+ghost use Rattle.pair_record.specs.Record.{ports_after_lose_in, ports_after_lose_out, ports_if_lost};
 
 use super::PairRecord;
 use crate::event::Refusal;
@@ -144,8 +144,8 @@ impl PairRecord {
         Ok(number)
     }
 
-    /// The client takes the first frame of its box, which is put into `into`, or finds none. Answers whether there was one; else, and after a
-    /// refusal, `into` is as before.
+    /// The client takes the first frame of its box, which is put into `into`, or finds none. Answers whether there was one; else, and after
+    /// a refusal, `into` is as before.
     ///
     /// # Errors
     ///
@@ -182,7 +182,8 @@ impl PairRecord {
         }
     }
 
-    /// The line drops the frame at this place, from 0, of the client's inbox. Answers whether one was there; where none was, nothing happens.
+    /// The line drops the frame at this place, from 0, of the client's inbox. Answers whether one was there; where none was, nothing
+    /// happens.
     ///
     /// # Errors
     ///
