@@ -1,5 +1,4 @@
 pub mod Words
-pub mod Rows
 pub mod FailureRows
 pub mod CommitRows
 pub mod LiveLaws

@@ -1,7 +1,7 @@
 -- What each loss of the line keeps of the tie.
 use Rattle.std.proofs.Common.{◌≡◌, ◌≢◌, ℕ, ◌-◌, ◌<◌, ◌≤◌, List, [], ◌∷◌, ◌++◌, length, remove, refl, sym, ap, ◌∙◌, subst, arith}
-use Rattle.std.proofs.{Common.{true, false, cond, Some, None, Bool}, lemmas.{Bool.lt-ltb, Bool.Decides.nat_tests, List.length-set}}
-use Rattle.std.specs.Prelude.{slice_get, nat_lt, not}
+use Rattle.std.proofs.{Common.{true, false, cond, Some, None, Bool}, lemmas.{Bool.lt-ltb, List.length-set}}
+use Rattle.std.specs.Prelude.{slice_get, nat_lt}
 use Rattle.frame_ports.specs.{Lands.{list_of}, Ports.{PortsState}, Limits.{box_frames}}
 use Rattle.pair_history.specs.Entries.{Frame, DropIn, DropOut}
 use Rattle.pair_history.specs.HistoryState.{HistoryState, Waiting, frame_numbered, without_number}
@@ -9,25 +9,23 @@ use Rattle.pair_history.specs.{Order.NoneTakes, internal.Moves.{Move, Steps, Arr
 use Rattle.pair_history.proofs.Waiting.{StandsAt, Leaves, leaves-at, gone, found-without, AreRising-without}
 use Rattle.pair_history.proofs.Losses.{AreRising-left, LeavesBefore, leaves-before}
 use Rattle.pair_record.specs.Journal.{kept_entries}
-use Rattle.pair_record.specs.declared.event.Refusal.TheVariants.{NoClient}
-use Rattle.pair_record.specs.Protocol.{Record, shown_at, loss_done, first_refusal, client_refusals, is_among}
-use Rattle.pair_record.specs.Record.{ports_after_lose_in, ports_after_lose_out}
+use Rattle.pair_record.specs.Protocol.{Record, shown_at, loss_done}
+use Rattle.pair_record.specs.Record.{ports_after_lose_in, ports_after_lose_out, ports_if_lost}
 use Rattle.pair_record.specs.internal.Accords.{Accords}
 use Rattle.pair_record.proofs.AccordLaws.{kept_now, left_now, kept_is}
 use Rattle.pair_record.proofs.ClientAccords.{lose_in_accords, lose_out_accords}
-pub use Rattle.pair_record.proofs.ClientLaws.{frame_at, some_at}
+pub use Rattle.pair_record.proofs.ClientLaws.{lost_waiting, lost_landed, lost_none}
 use Rattle.growing_history.specs.Steps.{Step, step, Added}
 use Rattle.growing_history.specs.LogState.{line_seat, state_at, after, under_way, AreOwn, AreKnown}
 use Rattle.pair_book.specs.internal.{Tie.IsTied, Waits.AreWaiting}
 use Rattle.pair_book.proofs.{Ties.{added-tied, way-is, tied-guests, tied-still}, Waits.lost-waiting}
 
--- a client that no row refused
-pub client_range : (c count : ℕ) → first_refusal (client_refusals count c) ≡ None → (1 ≤ c) × (c ≤ count)
-client_range c count e = by_test (not (is_among c count)) refl e
-  where
-    by_test : (t : Bool) → not (is_among c count) ≡ t → first_refusal ((t, NoClient) ∷ []) ≡ None → (1 ≤ c) × (c ≤ count)
-    by_test true is e = absurd (cc)
-    by_test false is e = grind (arith, nat_tests)
+-- the ports where a frame was there, and where none was
+pub ports_there : (is_there : Bool) (q after p : PortsState) → is_there ≡ true → q ≡ ports_if_lost is_there after p → q ≡ after
+ports_there is_there q after p e is = is ∙ ap (λ t. ports_if_lost t after p) e
+
+pub ports_else : (is_there : Bool) (q after p : PortsState) → is_there ≡ false → q ≡ ports_if_lost is_there after p → q ≡ p
+ports_else is_there q after p e is = is ∙ ap (λ t. ports_if_lost t after p) e
 
 -- moves that can be made where the frame of that number doesn't wait don't take it in
 none-takes : (n first end : ℕ) (ws : List Waiting) (ms : List Move) → AreRising first end ws → AllCan ws ms → frame_numbered n ws ≡ None

@@ -7,7 +7,7 @@ use Rattle.pair_history.specs.Entries.{Frame, Refused}
 use Rattle.pair_history.specs.HistoryState.{HistoryState}
 use Rattle.pair_record.specs.declared.event.Refusal.{Refusal}
 use Rattle.pair_record.specs.declared.event.Refusal.TheVariants.{Full, BadFrame, Exhausted, NoMemory}
-use Rattle.pair_record.specs.Protocol.{Row, exhausts, is_bad_length, delivery_refused}
+use Rattle.pair_record.specs.Protocol.{Row, exhausts, entry_refusals, is_bad_length, delivery_refused}
 use Rattle.growing_history.specs.Steps.{What, Added, step, Begins, steps_by}
 use Rattle.growing_history.specs.LogState.{line_seat, client_seat}
 use Rattle.growing_history.specs.Views.{Member}
@@ -59,7 +59,7 @@ is_word_full b = nat_le number_limit (length b.steps + 1)
 
 -- a step that adds one entry
 abbrev pub entry_rows : BookState → List Row
-entry_rows b = (exhausts b.protocol 1, Exhausted) ∷ (is_word_full b, Exhausted) ∷ []
+entry_rows b = entry_refusals (is_word_full b) b.protocol
 
 -- a delivery by client c. A full inbox is told by an entry, so there must be room for one; the frame's number comes last
 abbrev pub deliver_rows : BookState → ℕ → List ℕ → List Row

@@ -1,22 +1,21 @@
 -- What the line's losses do, and why one is refused.
-use Rattle.std.specs.Prelude.{◌≡◌, ℕ, not, List, [], ◌∷◌, length, Option, None, Some}
+use Rattle.std.specs.Prelude.{◌≡◌, ℕ, List, [], ◌∷◌, length, Option, None, Some}
 use Rattle.memory_wanted.specs.Wanted.{wanted}
 use Rattle.frame_ports.specs.Ports.{PortsState}
 use Rattle.pair_history.specs.Entries.{Entry}
 use Rattle.pair_record.specs.declared.event.Refusal.{Refusal}
-use Rattle.pair_record.specs.declared.event.Refusal.TheVariants.{NoClient, NoMemory}
-use Rattle.pair_record.specs.Protocol.{Row, is_among, loss_done}
+use Rattle.pair_record.specs.declared.event.Refusal.TheVariants.{NoMemory}
+use Rattle.pair_record.specs.Protocol.{Row, loss_refusals, loss_done}
 use Rattle.growing_history.specs.Steps.{Added}
 use Rattle.growing_history.specs.Views.{Member}
 use Rattle.pair_book.specs.declared.losses.Loss.{Loss}
 use Rattle.pair_book.specs.declared.losses.Loss.TheVariants.{Dropped, Empty}
 use Rattle.pair_book.specs.Books.{BookState}
-use Rattle.pair_book.specs.Calls.{Makes, Shows, entry_rows}
+use Rattle.pair_book.specs.Calls.{Makes, Shows, is_word_full}
 
 -- a loss of client c's, whose entry is that one where a frame is there
 abbrev pub loss_rows : BookState → ℕ → Option Entry → List Row
-loss_rows b c None = (not (is_among c (length b.ports.boxes)), NoClient) ∷ []
-loss_rows b c (Some e) = (not (is_among c (length b.ports.boxes)), NoClient) ∷ entry_rows b
+loss_rows b c lost = loss_refusals (is_word_full b) (length b.ports.boxes) b.protocol c lost
 
 -- where no row holds, only for want of memory, and only where a frame is there
 abbrev pub IsWhyLoss : Option Entry → Option Refusal → Refusal → Type 0

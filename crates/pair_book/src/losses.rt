@@ -4,7 +4,7 @@ ghost use Rattle.frame_ports.specs.Ports.{inbox_of, box_of};
 ghost use Rattle.pair_record.specs.Protocol.{first_refusal, lost_in, lost_out};
 ghost use Rattle.pair_record.specs.Record.{ports_after_lose_in, ports_after_lose_out};
 ghost use Rattle.growing_history.specs.LogState.{Legal, line_seat};
-ghost use Rattle.pair_book.specs.Calls.{IsAsBefore, Shows, entry_rows};
+ghost use Rattle.pair_book.specs.Calls.{IsAsBefore, Shows};
 ghost use Rattle.pair_book.specs.Losses.{loss_rows, IsWhyLoss, AfterLoss};
 
 use crate::book::Book;
@@ -79,16 +79,6 @@ impl<P: Pair> Book<P> {
         self.show(clock, &mut line.member);
     }
 
-    /// Why a frame that is there isn't lost.
-    fn loss_refusal(&self) -> Option<Refusal>
-        ensures { result ≡ first_refusal (entry_rows self.now) }
-    {
-        match self.record.loss_refusal() {
-            None if self.is_word_full() => Some(Refusal::Exhausted),
-            other => other,
-        }
-    }
-
     /// The line drops the frame at this place, from 0, of this client's inbox.
     ///
     /// # Errors
@@ -112,26 +102,21 @@ impl<P: Pair> Book<P> {
             (first_refusal (loss_rows self.old client (lost_in (inbox_of self.old.ports client) place)))) }
         ensures refused { IfErr result (λ _. IsAsBefore self.old self.new seat.old seat.new) }
     {
-        if let Some(why) = self.record.client_refusal(client) {
-            return Err(why);
-        }
-        if place >= self.record.inbox_len(client) as u64 {
-            self.seats.meet(clock, &mut seat.member);
-            return Ok(Loss::Empty);
-        }
-        if let Some(why) = self.loss_refusal() {
-            return Err(why);
-        }
         let before = self.record.history().len();
-        self.record.lose_in(client, place)?;
-        tell(
-            &self.record,
-            before,
-            &mut self.seats,
-            clock,
-            &mut seat.member,
-        );
-        Ok(Loss::Dropped)
+        let word_full = self.is_word_full();
+        if self.record.lose_in(client, place, word_full)? {
+            tell(
+                &self.record,
+                before,
+                &mut self.seats,
+                clock,
+                &mut seat.member,
+            );
+            Ok(Loss::Dropped)
+        } else {
+            self.seats.meet(clock, &mut seat.member);
+            Ok(Loss::Empty)
+        }
     }
 
     /// The line drops the frame at this place, from 0, of this client's box.
@@ -156,25 +141,20 @@ impl<P: Pair> Book<P> {
             (first_refusal (loss_rows self.old client (lost_out client (box_of self.old.ports client) place)))) }
         ensures refused { IfErr result (λ _. IsAsBefore self.old self.new seat.old seat.new) }
     {
-        if let Some(why) = self.record.client_refusal(client) {
-            return Err(why);
-        }
-        if place >= self.record.box_len(client) as u64 {
-            self.seats.meet(clock, &mut seat.member);
-            return Ok(Loss::Empty);
-        }
-        if let Some(why) = self.loss_refusal() {
-            return Err(why);
-        }
         let before = self.record.history().len();
-        self.record.lose_out(client, place)?;
-        tell(
-            &self.record,
-            before,
-            &mut self.seats,
-            clock,
-            &mut seat.member,
-        );
-        Ok(Loss::Dropped)
+        let word_full = self.is_word_full();
+        if self.record.lose_out(client, place, word_full)? {
+            tell(
+                &self.record,
+                before,
+                &mut self.seats,
+                clock,
+                &mut seat.member,
+            );
+            Ok(Loss::Dropped)
+        } else {
+            self.seats.meet(clock, &mut seat.member);
+            Ok(Loss::Empty)
+        }
     }
 }

@@ -13,7 +13,7 @@ use Rattle.pair_record.specs.declared.event.Reply.{Reply}
 use Rattle.pair_core.specs.{Answering.{AnswersIn, MayWantMemory}, Calls.{Moment, AnswersCall, AnswersTake, AnswersDelivery, AnswersLoss}}
 use Rattle.pair_record.specs.Journal.{kept_entries}
 use Rattle.pair_record.specs.Protocol.{Record, Outcome, unless, or_else, first_refusal, exhausts, is_among, is_bad_length}
-use Rattle.pair_record.specs.Protocol.{Row, shown_at, live_at, take_done, deliver_done, delivery_refused, lost_in, lost_out, loss_of}
+use Rattle.pair_record.specs.Protocol.{Row, shown_at, live_at, take_done, deliver_done, delivery_refused, lost_in, lost_out, on_loss}
 use Rattle.pair_record.specs.Protocol.{loss_done, outcome}
 use Rattle.pair_core.specs.Lines.{Lines, got}
 use Rattle.pair_record.specs.declared.event.Reply.TheVariants as replies
@@ -92,28 +92,28 @@ module _ (start : HistoryState) (r : Record) (g : Guest) where
   -- a loss of the frame at that place of so many, where there is one
   module _ (c frames place : ℕ) (there : Option Entry) (reply : Reply)
       (none : there ≡ None → frames ≤ place) (some : (e : Entry) → there ≡ Some e → place < frames) where
-    loss_ways : Ways (unless r ((not (is_among c clients), NoClient) ∷ []) (loss_of r there)) reply
-        → AnswersLoss start m c frames place reply
-    loss_ways k = by_client (is_among c clients) refl k
+    loss_ways : Ways (on_loss clients r c there) reply → AnswersLoss start m c frames place reply
+    loss_ways k = by_frame there refl k
       where
-        by_room : (e : Entry) (u : Bool) → is_among c clients ≡ true → there ≡ Some e → exhausts r 1 ≡ u
-            → Ways (unless r ((u, Exhausted) ∷ []) (loss_done r e)) reply → AnswersLoss start m c frames place reply
-        by_room x true p is q (inl e) = rw e (is_client c clients p, from _ _ q, some x is)
-        by_room x true p is q (inr e) = absurd (cc)
-        by_room x false p is q (inl e) = rw e (is_client c clients p, below _ _ q, some x is)
-        by_room x false p is q (inr e) = rw e.1 (is_client c clients p, below _ _ q, some x is)
-
-        by_frame : (o : Option Entry) → is_among c clients ≡ true → there ≡ o → Ways (loss_of r o) reply
+        by_none : (t : Bool) → is_among c clients ≡ t → there ≡ None → Ways (unless r ((not t, NoClient) ∷ []) (replies.Empty, r)) reply
             → AnswersLoss start m c frames place reply
-        by_frame None p is (inl e) = rw e (is_client c clients p, none is)
-        by_frame None p is (inr e) = absurd e.0
-        by_frame (Some x) p is k = by_room x (exhausts r 1) p is refl k
+        by_none false p is (inl e) = rw e (is_nobody c clients p)
+        by_none true p is (inl e) = rw e (is_client c clients p, none is)
+        by_none false p is (inr e) = absurd (cc)
+        by_none true p is (inr e) = absurd e.0
 
-        by_client : (t : Bool) → is_among c clients ≡ t → Ways (unless r ((not t, NoClient) ∷ []) (loss_of r there)) reply
-            → AnswersLoss start m c frames place reply
-        by_client false p (inl e) = rw e (is_nobody c clients p)
-        by_client false p (inr e) = absurd (cc)
-        by_client true p k = by_frame there p refl k
+        by_tests : (x : Entry) (t u : Bool) → is_among c clients ≡ t → there ≡ Some x → exhausts r 1 ≡ u
+            → Ways (unless r ((not t, NoClient) ∷ (u, Exhausted) ∷ []) (loss_done r x)) reply → AnswersLoss start m c frames place reply
+        by_tests x false u p is q (inl e) = rw e (is_nobody c clients p)
+        by_tests x false u p is q (inr e) = absurd (cc)
+        by_tests x true true p is q (inl e) = rw e (is_client c clients p, from _ _ q, some x is)
+        by_tests x true true p is q (inr e) = absurd (cc)
+        by_tests x true false p is q (inl e) = rw e (is_client c clients p, below _ _ q, some x is)
+        by_tests x true false p is q (inr e) = rw e.1 (is_client c clients p, below _ _ q, some x is)
+
+        by_frame : (o : Option Entry) → there ≡ o → Ways (on_loss clients r c o) reply → AnswersLoss start m c frames place reply
+        by_frame None is k = by_none (is_among c clients) refl is k
+        by_frame (Some x) is k = by_tests x (is_among c clients) (exhausts r 1) refl is refl k
 
   module _ (c : ℕ) (bytes : Bor (List ℕ)) (reply : Reply) where
     abbrev f : Frame

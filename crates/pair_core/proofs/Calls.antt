@@ -1,9 +1,10 @@
 -- From what a call of the record ensures of its result, to the invariant of the world.
-use Rattle.std.proofs.Common.{◌≡◌, ◌∙◌, sym, ap, subst, Result, Ok, Err, OnErr}
+use Rattle.std.proofs.Common.{◌≡◌, ◌∙◌, refl, sym, ap, subst, List, Some, Result, Ok, Err, OnErr}
 use Rattle.std.specs.Prelude.{IfOk, OnOk}
 use Rattle.memory_wanted.specs.declared.MemoryWanted.{MemoryWanted}
 use Rattle.frame_ports.specs.Ports.{PortsState}
-use Rattle.pair_record.specs.{declared.event.Reply.Reply, Protocol.{Record, Outcome}, Record.RecordState}
+use Rattle.pair_record.specs.{declared.event.Reply.Reply, Protocol.{Record, Outcome, Row, first_refusal, Refuses, RefusesDelivery}, Record.RecordState}
+use Rattle.pair_record.specs.{declared.event.Refusal.Refusal, declared.event.Refusal.TheVariants.NoMemory}
 use Rattle.pair_core.specs.{internal.Invariant.Holds, Pair.Pair}
 
 -- on either result
@@ -18,6 +19,24 @@ on_err (Err e) P p = p
 pub on_err_so : {A : Type 0} (o : Result A MemoryWanted) (P Q : Type 0) → (P → Q) → OnErr o P → OnErr o Q
 on_err_so (Ok x) P Q f p = tt
 on_err_so (Err e) P Q f p = f p
+
+-- a refusal that isn't for want of memory is of the first row that holds
+pub named : (rows : List Row) (wants : Type 0) (why : Refusal) → ((m : MemoryWanted) → why ≡ NoMemory m → ⊥) → Refuses rows wants why
+    → first_refusal rows ≡ Some why
+named rows wants (NoMemory m) other h = absurd (other m refl)
+named rows wants why other h = h
+
+pub named_delivery : (rows : List Row) (why : Refusal) → ((m : MemoryWanted) → why ≡ NoMemory m → ⊥) → RefusesDelivery rows why
+    → first_refusal rows ≡ Some why
+named_delivery rows (NoMemory m) other h = absurd (other m refl)
+named_delivery rows why other h = h
+
+-- the invariant where record and ports are these
+pub moved_to : (w : Pair) (now r : Record) (q p : PortsState) → now ≡ r → q ≡ p
+    → Holds (record w { protocol = record w.protocol { state = r }; ports = p })
+    → Holds (record w { protocol = record w.protocol { state = now }; ports = q })
+moved_to w now r q p is ports h =
+    subst Holds (λ i. record w { protocol = record w.protocol { state = sym is i }; ports = sym ports i }) h
 
 -- it is answered and leaves what the protocol says
 pub answered_so : (o : Result Reply MemoryWanted) (r : Record) (done out : Outcome) → done ≡ out → IfOk o (λ reply. (reply, r) ≡ done)

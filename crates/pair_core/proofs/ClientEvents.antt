@@ -1,5 +1,5 @@
 -- What clients, their lines and acknowledgements do keeps the invariant: the record's part is its own law, and the nodes stay.
-use Rattle.std.proofs.Common.{◌≡◌, ℕ, ◌-◌, ◌<◌, ◌≤◌, false, List, [], ◌∷◌, ◌++◌, length, drop, remove, refl, sym, ap, ◌∙◌, Some, arith}
+use Rattle.std.proofs.Common.{◌≡◌, ℕ, ◌-◌, ◌<◌, ◌≤◌, Bool, true, false, List, [], ◌∷◌, ◌++◌, length, drop, remove, refl, sym, ap, ◌∙◌, Some, None, arith}
 use Rattle.std.proofs.{Math.Path.transport, lemmas.List.length-set}
 use Rattle.std.specs.Prelude.{slice_get}
 use Rattle.frame_ports.specs.{Addresses.IsFrame, Lands.list_of, Limits.inbox_frames, Ports.{PortsState, after_delivery}}
@@ -8,12 +8,16 @@ use Rattle.pair_history.specs.Entries.{Frame, Entry, Delivered, Refused, DropIn,
 use Rattle.pair_history.specs.{HistoryState.{HistoryState, at}, Landings.landings}
 use Rattle.pair_history.proofs.States.{at-append}
 use Rattle.pair_record.specs.{internal.Accords.Accords, Journal.with_history, declared.window.Window.Window, Modes.is_alone}
-use Rattle.pair_record.specs.Protocol.{Record, ack_done, deliver_done, take_done, loss_done, let_go}
+use Rattle.pair_record.specs.Protocol.{Record, Outcome, ack_done, deliver_done, delivery_refused, take_done, loss_done, loss_of, loss_reply}
+use Rattle.pair_record.specs.Protocol.{first_refusal, deliver_refusals, loss_refusals, lost_in, lost_out, let_go}
+use Rattle.pair_record.specs.{declared.event.Refusal.Refusal, Record.ports_if_lost}
+use Rattle.pair_record.specs.declared.event.Refusal.TheVariants as refusals
+use Rattle.pair_record.specs.declared.event.Reply.TheVariants as replies
 use Rattle.pair_record.specs.Record.{IsRecord, AreNumbered, ports_after_ack, ports_after_take, ports_after_lose_in, ports_after_lose_out}
 use Rattle.pair_record.proofs.ClientAccords.{ack_lands, ack_accords, take_accords, lose_in_accords, lose_out_accords, deliver_accords}
-use Rattle.pair_record.proofs.ClientAccords.{full_accords}
-use Rattle.pair_core.specs.{internal.Invariant.{AreNodes, Holds}, Kept.KeepsFrames, Pair.{Pair, shown_state}}
-use Rattle.pair_core.proofs.{KeptLaws.{keeps_ack, keeps_on, risen-same}, LineLaws.named-more}
+use Rattle.pair_record.proofs.{ClientAccords.full_accords, ClientLaws.{lost_waiting, lost_landed, lost_none, delivery_full}}
+use Rattle.pair_core.specs.{internal.Invariant.{AreNodes, Holds}, Kept.KeepsFrames, Pair.{Pair, AfterRefusal, shown_state}}
+use Rattle.pair_core.proofs.{Calls.moved_to, KeptLaws.{keeps_ack, keeps_on, risen-same}, LineLaws.named-more}
 
 -- A CLIENT'S EVENT goes into the history, before what is kept: the guest stays as it is
 
@@ -117,3 +121,56 @@ module _ (w : Pair) (h : Holds w) where
       full_holds full =
           history_holds w h (Refused c the_frame ∷ []) r.window r.pending w.ports refl refl refl
           (full_accords w.start r w.ports h.accords c low high bytes frame full) refl refl (keeps (Refused c the_frame ∷ []) w.ports refl refl)
+
+  -- A LOSS, where the frame was there or none was
+  module _ (c place : ℕ) (is_there : Bool) (now : Record) (q : PortsState) where
+    pub lost_in_holds :
+        first_refusal (loss_refusals false (length w.ports.boxes) w.protocol.state c (lost_in (list_of w.ports.inboxes c) place)) ≡ None
+        → (loss_reply is_there, now) ≡ loss_of w.protocol.state (lost_in (list_of w.ports.inboxes c) place)
+        → q ≡ ports_if_lost is_there (ports_after_lose_in w.ports c place) w.ports
+        → Holds (record w { protocol = record w.protocol { state = now }; ports = q })
+    lost_in_holds free is ports = by_test is_there refl
+      where
+        by_test : (b : Bool) → is_there ≡ b → Holds (record w { protocol = record w.protocol { state = now }; ports = q })
+        by_test true e =
+            let lost = lost_waiting false r now (length w.ports.boxes) c place is_there (list_of w.ports.inboxes c) e free is in
+            let after = ports_after_lose_in w.ports c place in
+            moved_to w now (loss_done r (DropIn lost.0)).1 q after lost.3 (ports ∙ ap (λ b. ports_if_lost b after w.ports) e)
+            (lose_in_holds c lost.4 lost.5 place lost.0 lost.1 lost.2)
+        by_test false e =
+            moved_to w now r q w.ports (lost_none r now is_there (lost_in (list_of w.ports.inboxes c) place) e is).1
+            (ports ∙ ap (λ b. ports_if_lost b (ports_after_lose_in w.ports c place) w.ports) e) h
+
+    pub lost_out_holds :
+        first_refusal (loss_refusals false (length w.ports.boxes) w.protocol.state c (lost_out c (list_of w.ports.boxes c) place)) ≡ None
+        → (loss_reply is_there, now) ≡ loss_of w.protocol.state (lost_out c (list_of w.ports.boxes c) place)
+        → q ≡ ports_if_lost is_there (ports_after_lose_out w.ports c place) w.ports
+        → Holds (record w { protocol = record w.protocol { state = now }; ports = q })
+    lost_out_holds free is ports = by_test is_there refl
+      where
+        by_test : (b : Bool) → is_there ≡ b → Holds (record w { protocol = record w.protocol { state = now }; ports = q })
+        by_test true e =
+            let lost = lost_landed false r now (length w.ports.boxes) c place is_there (list_of w.ports.boxes c) e free is in
+            let after = ports_after_lose_out w.ports c place in
+            moved_to w now (loss_done r (DropOut c place)).1 q after lost.2 (ports ∙ ap (λ b. ports_if_lost b after w.ports) e)
+            (lose_out_holds c lost.3 lost.4 place lost.1)
+        by_test false e =
+            moved_to w now r q w.ports (lost_none r now is_there (lost_out c (list_of w.ports.boxes c) place) e is).1
+            (ports ∙ ap (λ b. ports_if_lost b (ports_after_lose_out w.ports c place) w.ports) e) h
+
+  -- A DELIVERY THAT IS REFUSED: only a full inbox is told
+  module _ (c : ℕ) (bytes : List ℕ) (now : Record) (q : PortsState) (ports : q ≡ w.ports) where
+    pub refused_holds : (why : Refusal)
+        → first_refusal (deliver_refusals false (length w.ports.boxes) (list_of w.ports.inboxes c) w.ports.next w.protocol.state c bytes) ≡ Some why
+        → (replies.Refused why, now) ≡ delivery_refused w.protocol.state c (record { items = bytes }) why
+        → Holds (record w { protocol = record w.protocol { state = now }; ports = q })
+    refused_holds refusals.Full row is =
+        let found = delivery_full false (length w.ports.boxes) (list_of w.ports.inboxes c) w.ports.next r c bytes row in
+        moved_to w now (delivery_refused r c (record { items = bytes }) refusals.Full).1 q w.ports (ap (λ (o : Outcome). o.1) is) ports
+        (full_holds c found.0 found.1 bytes found.2 found.4)
+    refused_holds why row is = moved_to w now r q w.ports (ap (λ (o : Outcome). o.1) is) ports h
+
+    pub after_refusal : (why : Refusal) → (replies.Refused why, now) ≡ delivery_refused w.protocol.state c (record { items = bytes }) why
+        → AfterRefusal why w (record w { protocol = record w.protocol { state = now }; ports = q })
+    after_refusal refusals.Full is = λ i. record w { protocol = record w.protocol { state = now }; ports = ports i }
+    after_refusal why is = λ i. record w { protocol = record w.protocol { state = (ap (λ (o : Outcome). o.1) is) i }; ports = ports i }

@@ -1,6 +1,6 @@
 -- In which ways each event may end, by its table, and the entries by which the history grows: what holds of each way holds of whatever
 -- the event is answered.
-use Rattle.std.proofs.Common.{◌≡◌, ℕ, List, [], ◌∷◌, ◌++◌, refl, sym, ap, ◌∙◌, subst, append_assoc, Bool, true, false, cond, Option, None}
+use Rattle.std.proofs.Common.{length, ◌≡◌, ℕ, List, [], ◌∷◌, ◌++◌, refl, sym, ap, ◌∙◌, subst, append_assoc, Bool, true, false, cond, Option, None}
 use Rattle.std.proofs.{Common.{Some, inl, inr, Bor}, lemmas.List.append-nil}
 use Rattle.std.specs.Prelude.{slice_get, nat_lt, option_map}
 use Rattle.guest_machine.specs.Step.{next, sent}
@@ -19,7 +19,7 @@ use Rattle.pair_core.specs.Lines.{Lines, got}
 use Rattle.pair_record.specs.Modes.{is_alone, mode_refusal, backup_refusal, change_refusal}
 use Rattle.pair_record.specs.Protocol.{Record, Outcome, allowed, outcome, or_else, refused, shown_at, live_at, outbox_of, step_done}
 use Rattle.pair_record.specs.Protocol.{step_entries, cut_done, send_done, again_done, commit_done, backup_outcome, let_go, ack_done}
-use Rattle.pair_record.specs.Protocol.{ack_outcome, admit_first, admit_done, delivery_refused, deliver_done, take_done, loss_of, loss_done}
+use Rattle.pair_record.specs.Protocol.{ack_outcome, admit_first, admit_done, delivery_refused, deliver_done, take_done, on_loss, loss_done}
 use Rattle.pair_record.specs.Protocol.{fail_primary_done, all_held, fail_backup_done, live_entries, go_live_done, protect_done}
 use Rattle.pair_record.proofs.RecordLaws.{passed, generation_is}
 use Rattle.failover.specs.declared.change.Change.TheVariants as changes
@@ -147,18 +147,17 @@ module _ (start : HistoryState) (r : Record) (l : Lines) where
         refuses Full = (entries.Refused c (frame_of bytes) ∷ [], refl, e.full c bytes)
         refuses other = stays (Deliver c bytes) (refused r other) refl (e.refuses (Deliver c bytes) other tt)
     allowed_end (Take c) goes = by_rows (Take c) (λ why. tt) _ _ (λ none. (_, refl, e.take c))
-    allowed_end (LoseIn c place) goes = by_rows (LoseIn c place) (λ why. tt) _ _ (λ none. by_frame (slice_get (inbox c) place) refl)
+    allowed_end (LoseIn c place) goes = by_frame (slice_get (inbox c) place) refl
       where
         by_frame : (o : Option (ℕ × Frame)) → slice_get (inbox c) place ≡ o
-            → Ended (LoseIn c place) (loss_of r (option_map (λ (x : ℕ × Frame). DropIn x.0) o))
-        by_frame None is = stays (LoseIn c place) (replies.Empty, r) refl (e.empty c place).1
+            → Ended (LoseIn c place) (on_loss (length boxes) r c (option_map (λ (x : ℕ × Frame). DropIn x.0) o))
+        by_frame None is = by_rows (LoseIn c place) (λ why. tt) _ _ (λ none. stays (LoseIn c place) (replies.Empty, r) refl (e.empty c place).1)
         by_frame (Some x) is = by_rows (LoseIn c place) (λ why. tt) _ _ (λ none. (DropIn x.0 ∷ [], refl, e.lose_in c place x is))
-    allowed_end (LoseOut c place) goes =
-        by_rows (LoseOut c place) (λ why. tt) _ _ (λ none. by_frame (slice_get (list_of boxes c) place) refl)
+    allowed_end (LoseOut c place) goes = by_frame (slice_get (list_of boxes c) place) refl
       where
         by_frame : (o : Option Frame) → slice_get (list_of boxes c) place ≡ o
-            → Ended (LoseOut c place) (loss_of r (option_map (λ (f : Frame). DropOut c place) o))
-        by_frame None is = stays (LoseOut c place) (replies.Empty, r) refl (e.empty c place).2
+            → Ended (LoseOut c place) (on_loss (length boxes) r c (option_map (λ (f : Frame). DropOut c place) o))
+        by_frame None is = by_rows (LoseOut c place) (λ why. tt) _ _ (λ none. stays (LoseOut c place) (replies.Empty, r) refl (e.empty c place).2)
         by_frame (Some f) is = by_rows (LoseOut c place) (λ why. tt) _ _ (λ none. (DropOut c place ∷ [], refl, e.lose_out c place f is))
     allowed_end FailPrimary goes = stays FailPrimary (fail_primary_done r) refl (e.fail_primary goes)
     allowed_end FailBackup goes =

@@ -1,18 +1,15 @@
 -- What the protocol answers to a loss that is asked for.
-use Rattle.std.proofs.Common.{rules, ◌≡◌, ℕ, List, [], ◌∷◌, length, refl, sym, ap, ◌∙◌, arith, Bool, true, false}
-use Rattle.std.proofs.Common.{Option, None, Some}
-use Rattle.std.specs.Prelude.{not}
+use Rattle.std.proofs.Common.{◌≡◌, ℕ, List, ◌∷◌, length, refl, sym, ap, ◌∙◌, Bool, true, false, Option, None, Some}
+use Rattle.std.specs.Prelude.{not, IsSome}
 use Rattle.frame_ports.specs.Lands.{list_of}
 use Rattle.pair_history.specs.{Entries.{Frame, Entry}, HistoryState.inbox_of}
 use Rattle.pair_record.specs.{declared.event.Event.Event, declared.event.Event.TheVariants.{LoseIn, LoseOut}}
-use Rattle.pair_record.specs.declared.event.Refusal.{Refusal}
 use Rattle.pair_record.specs.declared.event.Refusal.TheVariants.{NoClient}
-use Rattle.pair_core.specs.{internal.Invariant.Holds, Pair.{Pair, live_state}}
-use Rattle.pair_record.specs.Protocol.{lost_in, on_lose_in, on_lose_out, sight, allowed, unless, refused, first_refusal, is_among}
-use Rattle.pair_record.specs.Protocol.{client_refusals, loss_refusals, loss_done, loss_of}
-use Rattle.pair_core.specs.Answering.{MayWantMemory}
-use Rattle.pair_core.proofs.Outcomes.{seen, stops, goes, client_range, inbox_is}
-use Rattle.pair_record.specs.declared.event.Reply.TheVariants as replies
+use Rattle.pair_record.specs.Protocol.{Outcome, lost_in, on_loss, on_lose_in, on_lose_out, sight, allowed, unless, first_refusal}
+use Rattle.pair_record.specs.Protocol.{is_among, entry_refusals, loss_refusals, loss_of}
+use Rattle.pair_record.specs.ClientActs.{if_there}
+use Rattle.pair_core.specs.{Answering.MayWantMemory, internal.Invariant.Holds, Pair.{Pair, live_state}}
+use Rattle.pair_core.proofs.Outcomes.{seen, goes, client_range, inbox_is}
 
 -- what it looks at
 
@@ -23,36 +20,36 @@ module _ (w : Pair) (h : Holds w) where
       ∙ ap (λ (b : List (List Frame)). on_lose_in (record (sight w.start w.protocol.state) { boxes = b }) w.protocol.state c place)
       h.accords.clients.boxes
     where
+      at_rows : Bool → List (ℕ × Frame) → Outcome
+      at_rows t inbox =
+          unless w.protocol.state ((t, NoClient) ∷ if_there (lost_in inbox place) (entry_refusals false w.protocol.state))
+          (loss_of w.protocol.state (lost_in inbox place))
+
       by_test : (t : Bool) → not (is_among c (length w.ports.boxes)) ≡ t
-          → unless w.protocol.state ((t, NoClient) ∷ []) (loss_of w.protocol.state (lost_in (list_of w.ports.inboxes c) place))
-          ≡ unless w.protocol.state ((t, NoClient) ∷ []) (loss_of w.protocol.state (lost_in (inbox_of c (live_state w).waiting) place))
+          → at_rows t (list_of w.ports.inboxes c) ≡ at_rows t (inbox_of c (live_state w).waiting)
       by_test true e = refl
-      by_test false e = search (arith, rules, client_range, inbox_is)
+      by_test false e =
+          let range = client_range c (length w.ports.boxes) e in
+          ap (at_rows false) (inbox_is w h c range.0 range.1)
 
   pub lose_out_sight : (c place : ℕ) → on_lose_out (seen w) w.protocol.state c place ≡ allowed w.start w.protocol.state None (LoseOut c place)
   lose_out_sight c place =
       ap (λ (b : List (List Frame)). on_lose_out (record (sight w.start w.protocol.state) { boxes = b }) w.protocol.state c place)
       h.accords.clients.boxes
 
--- step by step: the client, the place, the table
+-- a loss that no row refuses is done, and may want memory where a frame is there
 module _ (w : Pair) (event : Event) (c : ℕ) (lost : Option Entry)
-    (sight : unless w.protocol.state (client_refusals (length w.ports.boxes) c) (loss_of w.protocol.state lost) ≡ allowed w.start w.protocol.state None event)
-    (client : Option Refusal) (is : client ≡ first_refusal (client_refusals (length w.ports.boxes) c)) (none : client ≡ None) where
-  loses : (o : Option Entry) → lost ≡ o → loss_of w.protocol.state o ≡ allowed w.start w.protocol.state None event
-  loses o e =
-      ap (loss_of w.protocol.state) (sym e)
-      ∙ goes w.protocol.state (client_refusals (length w.ports.boxes) c) (loss_of w.protocol.state lost) client is none
+    (sight : on_loss (length w.ports.boxes) w.protocol.state c lost ≡ allowed w.start w.protocol.state None event)
+    (free : first_refusal (loss_refusals false (length w.ports.boxes) w.protocol.state c lost) ≡ None) where
+  pub loss_goes : loss_of w.protocol.state lost ≡ allowed w.start w.protocol.state None event
+  loss_goes =
+      goes w.protocol.state (loss_refusals false (length w.ports.boxes) w.protocol.state c lost) (loss_of w.protocol.state lost) None
+      (sym free) refl
       ∙ sight
 
-  pub loss_empty : lost ≡ None → (replies.Empty, w.protocol.state) ≡ allowed w.start w.protocol.state None event
-  loss_empty = loses None
-
-  module _ (e : Entry) (some : lost ≡ Some e) (o : Option Refusal) (row : o ≡ first_refusal (loss_refusals w.protocol.state)) where
-    pub loss_stops : (why : Refusal) → o ≡ Some why → refused w.protocol.state why ≡ allowed w.start w.protocol.state None event
-    loss_stops why k = stops w.protocol.state (loss_refusals w.protocol.state) (loss_done w.protocol.state e) o why row k ∙ loses (Some e) some
-
-    pub loss_goes : o ≡ None → loss_done w.protocol.state e ≡ allowed w.start w.protocol.state None event
-    loss_goes k = goes w.protocol.state (loss_refusals w.protocol.state) (loss_done w.protocol.state e) o row k ∙ loses (Some e) some
-
-    pub loss_wants : o ≡ None → MayWantMemory w.protocol.state (allowed w.start w.protocol.state None event)
-    loss_wants k = rw (← loss_goes k) tt
+  pub loss_wants : IsSome lost → MayWantMemory w.protocol.state (allowed w.start w.protocol.state None event)
+  loss_wants there = rw (← loss_goes) (wants lost there)
+    where
+      wants : (o : Option Entry) → IsSome o → MayWantMemory w.protocol.state (loss_of w.protocol.state o)
+      wants None there = absurd (cc)
+      wants (Some e) there = tt

@@ -1,5 +1,5 @@
 -- What the protocol answers: what an event looks at is what the world has, and its table of refusals decides.
-use Rattle.std.proofs.Common.{rules, ◌≡◌, ℕ, ◌≤◌, List, [], ◌∷◌, length, refl, sym, ap, ◌∙◌, arith, Bool, true, false, Option, None, Some}
+use Rattle.std.proofs.Common.{rules, ◌≡◌, ℕ, ◌≤◌, List, [], ◌∷◌, length, refl, sym, ap, ◌∙◌, arith, Bool, true, false, Option, None, Some, ◌⊎◌, inl, inr}
 use Rattle.std.proofs.lemmas.Bool.Decides.{nat_tests}
 use Rattle.std.specs.Prelude.{slice_get, IfSome, nat_le, not}
 use Rattle.guest_machine.specs.Step.{next, sent}
@@ -44,17 +44,6 @@ some_first (x ∷ xs) h = (x, refl)
 -- a client's number, by a table that didn't refuse it
 pub client_range : (c count : ℕ) → not (is_among c count) ≡ false → (1 ≤ c) × (c ≤ count)
 client_range c count e = grind (arith, nat_tests)
-
--- of a full inbox the rows before don't apply
-pub full_rows : (a b c d e : Bool)
-    → first_refusal ((a, NoClient) ∷ (b, BadFrame) ∷ (c, Exhausted) ∷ (d, Full) ∷ (e, Exhausted) ∷ []) ≡ Some Full
-    → (a ≡ false) × (b ≡ false) × (d ≡ true)
-full_rows true b c d e p = absurd (cc)
-full_rows false true c d e p = absurd (cc)
-full_rows false false true d e p = absurd (cc)
-full_rows false false false true e p = (refl, refl, refl)
-full_rows false false false false true p = absurd (cc)
-full_rows false false false false false p = absurd (cc)
 
 -- WHAT AN EVENT LOOKS AT, as the machines and the ports of a pair say it
 
@@ -151,30 +140,28 @@ module _ (w : Pair) (h : Holds w) where
             rw (← admit_goes first.0.0 first.0.1 first.1 e) tt
 
   -- DELIVER, by its table
-  module _ (c : ℕ) (bytes : List ℕ) (o : Option Refusal)
-      (row : o ≡ first_refusal (deliver_refusals (length w.ports.boxes) (list_of w.ports.inboxes c) w.ports.next w.protocol.state c bytes)) where
-    by_table : (x : Option Refusal) → o ≡ x
-        → or_else x (delivery_refused w.protocol.state c (record { items = bytes }))
+  module _ (c : ℕ) (bytes : List ℕ) where
+    abbrev pub rows : List Row
+    rows = deliver_refusals false (length w.ports.boxes) (list_of w.ports.inboxes c) w.ports.next w.protocol.state c bytes
+
+    by_table : (o : Option Refusal) → first_refusal rows ≡ o
+        → or_else o (delivery_refused w.protocol.state c (record { items = bytes }))
         (deliver_done w.protocol.state c (record { items = bytes }) w.ports.next)
         ≡ on_deliver (sight w.start w.protocol.state) w.protocol.state c bytes
-    by_table x e = search (arith, rules, deliver_sight)
+    by_table o e = search (arith, rules, deliver_sight)
 
-    pub deliver_goes : o ≡ None → deliver_done w.protocol.state c (record { items = bytes }) w.ports.next
+    pub deliver_goes : first_refusal rows ≡ None → deliver_done w.protocol.state c (record { items = bytes }) w.ports.next
         ≡ on_deliver (sight w.start w.protocol.state) w.protocol.state c bytes
     deliver_goes = by_table None
 
-    pub deliver_full : o ≡ Some Full → delivery_refused w.protocol.state c (record { items = bytes }) Full
+    pub deliver_stops : (why : Refusal) → first_refusal rows ≡ Some why → delivery_refused w.protocol.state c (record { items = bytes }) why
         ≡ on_deliver (sight w.start w.protocol.state) w.protocol.state c bytes
-    deliver_full = by_table (Some Full)
+    deliver_stops why = by_table (Some why)
 
-    pub deliver_stops : (why : Refusal) → (why ≡ Full → ⊥) → o ≡ Some why → refused w.protocol.state why
-        ≡ on_deliver (sight w.start w.protocol.state) w.protocol.state c bytes
-    deliver_stops why other e = other_refusal why other ∙ by_table (Some why) e
-      where
-        other_refusal : (why : Refusal) → (why ≡ Full → ⊥)
-            → refused w.protocol.state why ≡ delivery_refused w.protocol.state c (record { items = bytes }) why
-        other_refusal Full n = absurd (n refl)
-        other_refusal other n = refl
+    pub deliver_wants : (first_refusal rows ≡ None) ⊎ (first_refusal rows ≡ Some Full)
+        → MayWantMemory w.protocol.state (on_deliver (sight w.start w.protocol.state) w.protocol.state c bytes)
+    deliver_wants (inl none) = rw (← deliver_goes none) tt
+    deliver_wants (inr full) = rw (← deliver_stops Full full) refl
 
   -- a refusal that left all as it was
   pub after_none : (why : Refusal) → AfterRefusal why w w

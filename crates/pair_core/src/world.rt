@@ -15,6 +15,9 @@ use pair_record::{Event, History, PairRecord, Refusal, Reply, Show, is_stopped, 
 use std::alloc::Global;
 use std::marker::Model;
 
+/// No word counts what happens to a world: there is none that could be full.
+const WORD_FULL: bool = false;
+
 /// A protected pair: its record, the lines between its two nodes, and their machines. Contracts see it as a `Pair` of the specs.
 #[derive(Drop)]
 pub struct World {

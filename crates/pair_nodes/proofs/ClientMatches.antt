@@ -1,6 +1,6 @@
 -- What clients and their network do is what they do at the pair.
 use Rattle.std.proofs.Common.{◌≡◌, ℕ, ◌+◌, ◌-◌, ◌<◌, ◌≤◌, List, [], ◌∷◌, length, drop, remove, refl, sym, ap, ◌∙◌, subst, arith, true, false, inl}
-use Rattle.std.proofs.{Common.{None, Some, Bool, cond, Bor}, lemmas.{Bool.Decides.nat_tests, List.length-set}}
+use Rattle.std.proofs.{Common.{None, Some, Option, Bool, cond, Bor}, lemmas.{Bool.Decides.nat_tests, List.length-set}}
 use Rattle.std.specs.Prelude.{slice_get, nat_le, not, option_map}
 use Rattle.frame_ports.specs.{Addresses.IsFrame, Lands.list_of, Limits.{inbox_frames, number_limit}, Ports.{PortsState, after_delivery}}
 use Rattle.pair_history.specs.Entries.{Frame, Entry, Arrive, Delivered, DropIn, DropOut, Took}
@@ -12,13 +12,14 @@ use Rattle.pair_record.specs.declared.event.Refusal.TheVariants.{NoClient, Stopp
 use Rattle.pair_record.specs.{Modes.{is_alone, is_stopped}, Record.{IsRecord, AreNumbered, ports_after_admit, ports_after_take}}
 use Rattle.pair_record.specs.Record.{ports_after_lose_in, ports_after_lose_out}
 use Rattle.pair_record.specs.Protocol.{Record, Outcome, first_refusal, admit_done, take_done, loss_done, arrival_refusals, admit_refusals}
-use Rattle.pair_record.specs.Protocol.{take_refusals, client_refusals, loss_refusals, lost_in, lost_out, is_among, outcome}
+use Rattle.pair_record.specs.Protocol.{take_refusals, loss_refusals, loss_of, lost_in, lost_out, is_among, outcome}
 use Rattle.pair_record.specs.Protocol.{deliver_done, deliver_refusals, delivery_refused, is_bad_length, unless}
 use Rattle.pair_record.proofs.WindowLaws.{test_below, test_from}
 use Rattle.pair_record.proofs.ClientLaws.{some_at}
+use Rattle.pair_record.specs.ClientActs.{if_there}
 use Rattle.pair_core.specs.{internal.Invariant.Holds, Lines.{got, lines_after}, Nodes.with_arrival, Pair.Pair}
 use Rattle.pair_core.proofs.{AllLands.admitted_holds, ClientEvents.{take_holds, lose_in_holds, lose_out_holds, deliver_holds, full_holds}}
-use Rattle.pair_core.proofs.{LossOutcomes.{lose_in_sight, lose_out_sight, loss_goes}, Outcomes.{admit_goes, goes, deliver_goes, deliver_full}}
+use Rattle.pair_core.proofs.{LossOutcomes.{lose_in_sight, lose_out_sight, loss_goes}, Outcomes.{admit_goes, goes, deliver_goes, deliver_stops}}
 use Rattle.pair_nodes.specs.Matching.{Fits, HasRoom, Kept, Matches, IsServed, network_of, site_of}
 use Rattle.pair_history.specs.HistoryState.{HistoryState, sent_along}
 use Rattle.pair_nodes.proofs.Outs.{come-frames, quiet-frames}
@@ -126,14 +127,19 @@ module _ (w : Pair) (kept texts : List (List ℕ)) (acks : List Packet) (out : O
   take_served =
       let first = slice_get (list_of w.ports.boxes c) 0 in
       let done = take_done w.ports.boxes r c in
-      let free : first_refusal (take_refusals (length w.ports.boxes) r c) ≡ None =
+      let free : first_refusal (take_refusals false (length w.ports.boxes) r c) ≡ None =
       λ i. cond (client i) (Some NoClient) (cond (full i) (Some Exhausted) None) in
       told_served w kept texts acks out came h (Took c first ∷ []) (ports_after_take w.ports c) (λ s. refl) refl
       (length-set w.ports.boxes (c - 1) (drop 1 (list_of w.ports.boxes c))) (take_holds w h.pair.holds c low high) (Take c) done.0
       (in_mode w (Take c) None done refl
-      (goes r (take_refusals (length w.ports.boxes) r c) done None (sym free) refl
-      ∙ ap (λ b. unless r (take_refusals (length b) r c) (take_done b r c)) h.pair.holds.accords.clients.boxes))
+      (goes r (take_refusals false (length w.ports.boxes) r c) done None (sym free) refl
+      ∙ ap (λ b. unless r (take_refusals false (length b) r c) (take_done b r c)) h.pair.holds.accords.clients.boxes))
       refl refl
+
+  -- no row refuses the loss of a frame that is there
+  no_row : (lost : Option Entry) (e : Entry) → lost ≡ Some e → first_refusal (loss_refusals false (length w.ports.boxes) r c lost) ≡ None
+  no_row lost e some =
+      λ i. first_refusal ((client i, NoClient) ∷ if_there (some i) ((full i, Exhausted) ∷ (false, Exhausted) ∷ []))
 
   pub lose_out_served : (place : ℕ) → place < length (list_of w.ports.boxes c)
       → IsServed w 1 [] (record (site_of w kept texts acks out came) { network = network_of (ports_after_lose_out w.ports c place) })
@@ -142,14 +148,13 @@ module _ (w : Pair) (kept texts : List (List ℕ)) (acks : List Packet) (out : O
       let done = loss_done r e in
       let at = some_at (list_of w.ports.boxes c) place there in
       let some : lost_out c (list_of w.ports.boxes c) place ≡ Some e = ap (option_map (λ (f : Frame). DropOut c place)) at.1 in
-      let nobody : None ≡ first_refusal (client_refusals (length w.ports.boxes) c) = sym (λ i. cond (client i) (Some NoClient) None) in
-      let row : None ≡ first_refusal (loss_refusals r) = sym (λ i. cond (full i) (Some Exhausted) None) in
       told_served w kept texts acks out came h (e ∷ []) (ports_after_lose_out w.ports c place) (λ s. refl) refl
       (length-set w.ports.boxes (c - 1) (remove (list_of w.ports.boxes c) place)) (lose_out_holds w h.pair.holds c low high place there)
       (LoseOut c place) done.0
       (in_mode w (LoseOut c place) None done refl
-      (loss_goes w (LoseOut c place) c (lost_out c (list_of w.ports.boxes c) place) (lose_out_sight w h.pair.holds c place) None nobody refl e some
-      None row refl))
+      (ap (loss_of r) (sym some)
+      ∙ loss_goes w (LoseOut c place) c (lost_out c (list_of w.ports.boxes c) place) (lose_out_sight w h.pair.holds c place)
+      (no_row (lost_out c (list_of w.ports.boxes c) place) e some)))
       refl refl
 
   pub lose_in_served : (place : ℕ) → place < length (list_of w.ports.inboxes c)
@@ -159,14 +164,13 @@ module _ (w : Pair) (kept texts : List (List ℕ)) (acks : List Packet) (out : O
       let e = DropIn at.0.0 in
       let done = loss_done r e in
       let some : lost_in (list_of w.ports.inboxes c) place ≡ Some e = ap (option_map (λ (x : ℕ × Frame). DropIn x.0)) at.1 in
-      let nobody : None ≡ first_refusal (client_refusals (length w.ports.boxes) c) = sym (λ i. cond (client i) (Some NoClient) None) in
-      let row : None ≡ first_refusal (loss_refusals r) = sym (λ i. cond (full i) (Some Exhausted) None) in
       told_served w kept texts acks out came h (e ∷ []) (ports_after_lose_in w.ports c place) (λ s. refl) refl refl
       (lose_in_holds w h.pair.holds c low high place at.0.0 at.0.1 at.1)
       (LoseIn c place) done.0
       (in_mode w (LoseIn c place) None done refl
-      (loss_goes w (LoseIn c place) c (lost_in (list_of w.ports.inboxes c) place) (lose_in_sight w h.pair.holds c place) None nobody refl e some
-      None row refl))
+      (ap (loss_of r) (sym some)
+      ∙ loss_goes w (LoseIn c place) c (lost_in (list_of w.ports.inboxes c) place) (lose_in_sight w h.pair.holds c place)
+      (no_row (lost_in (list_of w.ports.inboxes c) place) e some)))
       refl refl
 
   -- A FRAME is delivered, or finds no room
@@ -183,12 +187,12 @@ module _ (w : Pair) (kept texts : List (List ℕ)) (acks : List Packet) (out : O
         let f : Frame = record { items = bytes } in
         let done = deliver_done r c f w.ports.next in
         let inbox = list_of w.ports.inboxes c in
-        let row : None ≡ first_refusal (deliver_refusals (length w.ports.boxes) inbox w.ports.next r c bytes) =
-        sym (λ i. cond (client i) (Some NoClient) (cond (good i) (Some BadFrame) (cond (full i) (Some Exhausted)
-        (cond (test_below inbox_frames (length inbox) few i) (Some Full) (cond (test_below number_limit w.ports.next last i) (Some Exhausted) None))))) in
+        let row : first_refusal (deliver_refusals false (length w.ports.boxes) inbox w.ports.next r c bytes) ≡ None =
+        λ i. cond (client i) (Some NoClient) (cond (good i) (Some BadFrame) (cond (full i) (Some Exhausted)
+        (cond (test_below inbox_frames (length inbox) few i) (Some Full) (cond (test_below number_limit w.ports.next last i) (Some Exhausted) None)))) in
         told_served w kept texts acks out came h (Delivered c f w.ports.next ∷ []) (after_delivery w.ports c bytes) (λ s. refl) refl refl
         (deliver_holds w h.pair.holds c low high bytes frame) (Deliver c given) done.0
-        (in_mode w (Deliver c given) None done refl (deliver_goes w h.pair.holds c bytes None row refl))
+        (in_mode w (Deliver c given) None done refl (deliver_goes w h.pair.holds c bytes row))
         refl refl
 
     pub overflow_served : inbox_frames ≤ length (list_of w.ports.inboxes c) → IsServed w 1 (calls_by (site_of w kept texts acks out came) (overflows c given)) (site_of w kept texts acks out came)
@@ -196,12 +200,12 @@ module _ (w : Pair) (kept texts : List (List ℕ)) (acks : List Packet) (out : O
         let f : Frame = record { items = bytes } in
         let done = delivery_refused r c f Full in
         let inbox = list_of w.ports.inboxes c in
-        let row : Some Full ≡ first_refusal (deliver_refusals (length w.ports.boxes) inbox w.ports.next r c bytes) =
-        sym (λ i. cond (client i) (Some NoClient) (cond (good i) (Some BadFrame) (cond (full i) (Some Exhausted)
-        (cond (test_from inbox_frames (length inbox) many i) (Some Full) (cond (nat_le number_limit w.ports.next) (Some Exhausted) None))))) in
+        let row : first_refusal (deliver_refusals false (length w.ports.boxes) inbox w.ports.next r c bytes) ≡ Some Full =
+        λ i. cond (client i) (Some NoClient) (cond (good i) (Some BadFrame) (cond (full i) (Some Exhausted)
+        (cond (test_from inbox_frames (length inbox) many i) (Some Full) (cond (nat_le number_limit w.ports.next) (Some Exhausted) None)))) in
         told_served w kept texts acks out came h (entries.Refused c f ∷ []) w.ports (λ s. refl) refl refl
         (full_holds w h.pair.holds c low high bytes frame many) (Deliver c given) done.0
-        (in_mode w (Deliver c given) None done refl (deliver_full w h.pair.holds c bytes (Some Full) row refl))
+        (in_mode w (Deliver c given) None done refl (deliver_stops w h.pair.holds c bytes Full row))
         refl refl
 
 -- AN ARRIVAL

@@ -1,10 +1,13 @@
 -- Laws of what clients deliver and lose: a frame's length, and what stands at a place.
-use Rattle.std.proofs.Common.{◌≡◌, ℕ, zero, suc, ◌<◌, List, [], ◌∷◌, length, refl, arith, false, Option, None, Some}
+use Rattle.std.proofs.Common.{◌≡◌, ℕ, zero, suc, ◌<◌, ◌≤◌, List, [], ◌∷◌, length, refl, ap, arith, Bool, true, false, Option, None, Some}
 use Rattle.std.proofs.lemmas.Bool.Decides.{nat_tests}
-use Rattle.std.specs.Prelude.{slice_get, option_map}
-use Rattle.frame_ports.specs.Addresses.{IsFrame}
-use Rattle.pair_history.specs.Entries.{Frame}
-use Rattle.pair_record.specs.Protocol.{is_bad_length}
+use Rattle.std.specs.Prelude.{slice_get, option_map, not, nat_le}
+use Rattle.frame_ports.specs.{Addresses.IsFrame, Limits.{inbox_frames, number_limit}}
+use Rattle.pair_history.specs.Entries.{Frame, Entry, DropIn, DropOut}
+use Rattle.pair_record.specs.declared.event.Refusal.TheVariants.{Full, BadFrame, NoClient, Exhausted}
+use Rattle.pair_record.specs.Protocol.{Record, Outcome, Row, first_refusal, exhausts, is_among, is_bad_length, deliver_refusals}
+use Rattle.pair_record.specs.Protocol.{take_refusals, loss_refusals, loss_of, loss_done, loss_reply, lost_in, lost_out}
+use Rattle.pair_record.proofs.{RecordLaws.passed, WindowLaws.is_from}
 
 -- a frame's length, by a table that didn't refuse it
 pub frame_range : (bytes : List ℕ) → is_bad_length (length bytes) ≡ false → IsFrame (record { items = bytes })
@@ -20,3 +23,102 @@ some_at (x ∷ xs) (suc place) l = some_at xs place (omega arith)
 pub frame_at : (o : Option (ℕ × Frame)) (n : ℕ) → option_map (λ (x : ℕ × Frame). x.0) o ≡ Some n → (f : Frame) × (o ≡ Some (n, f))
 frame_at None n e = absurd (cc)
 frame_at (Some x) n e = let is : x.0 ≡ n = cc in (x.1, λ i. Some (is i, x.1))
+
+-- a client's number, by a table that didn't refuse it
+pub client_range : (c count : ℕ) → not (is_among c count) ≡ false → (1 ≤ c) × (c ≤ count)
+client_range c count e = grind (arith, nat_tests)
+
+-- where something stands, there are more
+pub within : {A : Type 0} (xs : List A) (place : ℕ) (x : A) → slice_get xs place ≡ Some x → place < length xs
+within [] place x e = absurd (cc)
+within (y ∷ xs) zero x e = omega arith
+within (y ∷ xs) (suc place) x e = let more = within xs place x e in omega arith
+
+-- A DELIVERY: what its rows say where none holds, and where it finds a full inbox
+
+abbrev rows : Bool → Bool → Bool → Bool → Bool → Bool → List Row
+rows nobody bad out word full last =
+    (nobody, NoClient) ∷ (bad, BadFrame) ∷ (out, Exhausted) ∷ (word, Exhausted) ∷ (full, Full) ∷ (last, Exhausted) ∷ []
+
+full_rows : (a b c d e f : Bool) → first_refusal (rows a b c d e f) ≡ Some Full → (a ≡ false) × (b ≡ false) × (d ≡ false) × (e ≡ true)
+full_rows true b c d e f p = absurd (cc)
+full_rows false true c d e f p = absurd (cc)
+full_rows false false true d e f p = absurd (cc)
+full_rows false false false true e f p = absurd (cc)
+full_rows false false false false true f p = (refl, refl, refl, refl)
+full_rows false false false false false true p = absurd (cc)
+full_rows false false false false false false p = absurd (cc)
+
+module _ (word_full : Bool) (count : ℕ) (inbox : List (ℕ × Frame)) (number : ℕ) (r : Record) (c : ℕ) (bytes : List ℕ) where
+  pub delivery_free : first_refusal (deliver_refusals word_full count inbox number r c bytes) ≡ None
+      → (1 ≤ c) × (c ≤ count) × IsFrame (record { items = bytes }) × (word_full ≡ false)
+  delivery_free free =
+      let client = passed _ _ _ free in
+      let good = passed _ _ _ client.1 in
+      let range = client_range c count client.0 in
+      (range.0, range.1, frame_range bytes good.0, (passed _ _ _ (passed _ _ _ good.1).1).0)
+
+  pub delivery_full : first_refusal (deliver_refusals word_full count inbox number r c bytes) ≡ Some Full
+      → (1 ≤ c) × (c ≤ count) × IsFrame (record { items = bytes }) × (word_full ≡ false) × (inbox_frames ≤ length inbox)
+  delivery_full is =
+      let h = full_rows (not (is_among c count)) (is_bad_length (length bytes)) (exhausts r 1) word_full (nat_le inbox_frames (length inbox))
+      (nat_le number_limit number) is in
+      let range = client_range c count h.0 in
+      (range.0, range.1, frame_range bytes h.1, h.2, is_from inbox_frames (length inbox) h.3)
+
+-- A CALL OF A CLIENT'S that no row refuses
+
+pub entry_free : (word_full : Bool) (r : Record) (count c : ℕ) → first_refusal (take_refusals word_full count r c) ≡ None
+    → (1 ≤ c) × (c ≤ count) × (word_full ≡ false)
+entry_free word_full r count c free =
+    let client = passed _ _ _ free in
+    let range = client_range c count client.0 in
+    (range.0, range.1, (passed _ _ _ (passed _ _ _ client.1).1).0)
+
+-- A LOSS: which frame of an inbox and of a box was dropped, and that none was there
+
+module _ (word_full : Bool) (r now : Record) (count c place : ℕ) (is_there : Bool) where
+  pub lost_waiting : (inbox : List (ℕ × Frame)) → is_there ≡ true
+      → first_refusal (loss_refusals word_full count r c (lost_in inbox place)) ≡ None
+      → (loss_reply is_there, now) ≡ loss_of r (lost_in inbox place)
+      → (n : ℕ) × (f : Frame) × (slice_get inbox place ≡ Some (n, f)) × (now ≡ (loss_done r (DropIn n)).1) × (1 ≤ c) × (c ≤ count)
+      × (word_full ≡ false)
+  lost_waiting inbox there free is = by_frame (slice_get inbox place) is_there refl there free is
+    where
+      entry : ℕ × Frame → Entry
+      entry x = DropIn x.0
+
+      by_frame : (o : Option (ℕ × Frame)) (b : Bool) → slice_get inbox place ≡ o → b ≡ true
+          → first_refusal (loss_refusals word_full count r c (option_map entry o)) ≡ None → (loss_reply b, now) ≡ loss_of r (option_map entry o)
+          → (n : ℕ) × (f : Frame) × (slice_get inbox place ≡ Some (n, f)) × (now ≡ (loss_done r (DropIn n)).1) × (1 ≤ c) × (c ≤ count)
+          × (word_full ≡ false)
+      by_frame o false e t free is = absurd (cc)
+      by_frame None true e t free is = let k = ap (λ (o : Outcome). o.0) is in absurd (cc)
+      by_frame (Some x) true e t free is =
+          let k = entry_free word_full r count c free in
+          (x.0, x.1, e, ap (λ (o : Outcome). o.1) is, k.0, k.1, k.2)
+
+  pub lost_landed : (box : List Frame) → is_there ≡ true → first_refusal (loss_refusals word_full count r c (lost_out c box place)) ≡ None
+      → (loss_reply is_there, now) ≡ loss_of r (lost_out c box place)
+      → (lost_out c box place ≡ Some (DropOut c place)) × (place < length box) × (now ≡ (loss_done r (DropOut c place)).1) × (1 ≤ c)
+      × (c ≤ count) × (word_full ≡ false)
+  lost_landed box there free is = by_frame (slice_get box place) is_there refl there free is
+    where
+      entry : Frame → Entry
+      entry f = DropOut c place
+
+      by_frame : (o : Option Frame) (b : Bool) → slice_get box place ≡ o → b ≡ true
+          → first_refusal (loss_refusals word_full count r c (option_map entry o)) ≡ None → (loss_reply b, now) ≡ loss_of r (option_map entry o)
+          → (option_map entry (slice_get box place) ≡ Some (DropOut c place)) × (place < length box) × (now ≡ (loss_done r (DropOut c place)).1)
+          × (1 ≤ c) × (c ≤ count) × (word_full ≡ false)
+      by_frame o false e t free is = absurd (cc)
+      by_frame None true e t free is = let k = ap (λ (o : Outcome). o.0) is in absurd (cc)
+      by_frame (Some f) true e t free is =
+          let k = entry_free word_full r count c free in
+          (ap (option_map entry) e, within box place f e, ap (λ (o : Outcome). o.1) is, k.0, k.1, k.2)
+
+pub lost_none : (r now : Record) (is_there : Bool) (o : Option Entry) → is_there ≡ false → (loss_reply is_there, now) ≡ loss_of r o
+    → (o ≡ None) × (now ≡ r)
+lost_none r now true o there e = absurd (cc)
+lost_none r now false None there e = (refl, ap (λ (o : Outcome). o.1) e)
+lost_none r now false (Some x) there e = let k = ap (λ (o : Outcome). o.0) e in absurd (cc)

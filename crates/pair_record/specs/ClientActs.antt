@@ -1,22 +1,20 @@
 -- What clients and their lines do: a frame is delivered, arrives at the guest, is taken or lost. `X_done` is an event's reply, with the
 -- record after it, and the only place that spells them; `on_X` is the event, refused or done.
-use Rattle.std.specs.Prelude.{ℕ, ◌||◌, not, nat_lt, nat_le, Bool, List, [], ◌∷◌, length, option_map, slice_get, Option, None, Some}
+use Rattle.std.specs.Prelude.{◌≡◌, ◌⊎◌, ℕ, ◌||◌, not, nat_lt, nat_le, Bool, true, false, List, [], ◌∷◌, length, option_map, slice_get, Option, None, Some}
 use Rattle.frame_ports.specs.Lands.{list_of}
 use Rattle.frame_ports.specs.Limits.{min_frame, max_frame, inbox_frames, number_limit}
 use Rattle.pair_history.specs.Entries.{Frame, Entry, Arrive, Delivered, DropIn, DropOut, Took}
 use Rattle.pair_history.specs.Entries as entries
 use Rattle.pair_record.specs.declared.event.Refusal.{Refusal}
-use Rattle.pair_record.specs.declared.event.Refusal.TheVariants.{Full, BadFrame, NoClient, Stopped, Exhausted}
+use Rattle.pair_record.specs.declared.event.Refusal.TheVariants.{Full, BadFrame, NoClient, Stopped, Exhausted, NoMemory}
+use Rattle.pair_record.specs.declared.event.Reply.{Reply}
 use Rattle.pair_record.specs.declared.event.Reply.TheVariants as replies
 use Rattle.pair_journal.specs.Journal.{with_history, with_moves}
 use Rattle.pair_record.specs.Modes.{is_stopped, is_alone}
-use Rattle.pair_record.specs.Tables.{Record, Sight, Outcome, Row, first_refusal, refused, or_else, unless, exhausts, is_among}
+use Rattle.pair_record.specs.Tables.{Record, Sight, Outcome, Row, first_refusal, refused, or_else, unless, exhausts}
+use Rattle.pair_record.specs.Tables.{entry_refusals, is_among}
 
 -- ADMIT
-
--- what is refused where no client of so many has that number
-abbrev pub client_refusals : ℕ → ℕ → List Row
-client_refusals count c = (not (is_among c count), NoClient) ∷ []
 
 abbrev pub admit_refusals : Record → List Row
 admit_refusals r = (exhausts r 1, Exhausted) ∷ []
@@ -46,14 +44,20 @@ on_admit s r c = unless r (arrival_refusals (length s.boxes) r c) (admit_first r
 abbrev pub is_bad_length : ℕ → Bool
 is_bad_length n = nat_lt n min_frame || nat_lt max_frame n
 
-abbrev pub deliver_refusals : ℕ → List (ℕ × Frame) → ℕ → Record → ℕ → List ℕ → List Row
-deliver_refusals count inbox number r c bytes =
+abbrev pub deliver_refusals : Bool → ℕ → List (ℕ × Frame) → ℕ → Record → ℕ → List ℕ → List Row
+deliver_refusals word_full count inbox number r c bytes =
     (not (is_among c count), NoClient)
     ∷ (is_bad_length (length bytes), BadFrame)
     ∷ (exhausts r 1, Exhausted)
+    ∷ (word_full, Exhausted)
     ∷ (nat_le inbox_frames (length inbox), Full)
     ∷ (nat_le number_limit number, Exhausted)
     ∷ []
+
+-- It may be refused so: by the first row that holds. Memory is wanted where none does, and where the entry that tells of a full inbox is.
+abbrev pub RefusesDelivery : List Row → Refusal → Type 0
+RefusesDelivery rows (NoMemory w) = (first_refusal rows ≡ None) ⊎ (first_refusal rows ≡ Some Full)
+RefusesDelivery rows why = first_refusal rows ≡ Some why
 
 -- a full inbox: that is recorded, and that is all. The other refusals change nothing
 abbrev pub delivery_refused : Record → ℕ → Frame → Refusal → Outcome
@@ -67,13 +71,13 @@ deliver_done r c f n = (replies.Delivered n, record r { journal = with_history r
 abbrev pub on_deliver : Sight → Record → ℕ → List ℕ → Outcome
 on_deliver s r c bytes =
     let f : Frame = record { items = bytes } in
-    or_else (first_refusal (deliver_refusals (length s.boxes) (s.inbox c) s.number r c bytes)) (delivery_refused r c f)
+    or_else (first_refusal (deliver_refusals false (length s.boxes) (s.inbox c) s.number r c bytes)) (delivery_refused r c f)
     (deliver_done r c f s.number)
 
 -- TAKE
 
-abbrev pub take_refusals : ℕ → Record → ℕ → List Row
-take_refusals count r c = (not (is_among c count), NoClient) ∷ (exhausts r 1, Exhausted) ∷ []
+abbrev pub take_refusals : Bool → ℕ → Record → ℕ → List Row
+take_refusals word_full count r c = (not (is_among c count), NoClient) ∷ entry_refusals word_full r
 
 -- the first frame of the client's box, or none
 abbrev pub take_done : List (List Frame) → Record → ℕ → Outcome
@@ -82,12 +86,17 @@ take_done boxes r c =
     (replies.Took first, record r { journal = with_history r.journal (Took c first ∷ []) })
 
 abbrev pub on_take : Sight → Record → ℕ → Outcome
-on_take s r c = unless r (take_refusals (length s.boxes) r c) (take_done s.boxes r c)
+on_take s r c = unless r (take_refusals false (length s.boxes) r c) (take_done s.boxes r c)
 
 -- LOSEIN, LOSEOUT: the line drops a frame that a client delivered, or one that lies in its box
 
-abbrev pub loss_refusals : Record → List Row
-loss_refusals r = (exhausts r 1, Exhausted) ∷ []
+-- these rows, if a frame is there, whose loss this entry tells
+abbrev pub if_there : Option Entry → List Row → List Row
+if_there None rows = []
+if_there (Some e) rows = rows
+
+abbrev pub loss_refusals : Bool → ℕ → Record → ℕ → Option Entry → List Row
+loss_refusals word_full count r c lost = (not (is_among c count), NoClient) ∷ if_there lost (entry_refusals word_full r)
 
 -- a frame is dropped, as this entry says
 abbrev pub loss_done : Record → Entry → Outcome
@@ -96,7 +105,16 @@ loss_done r e = (replies.Dropped, record r { journal = with_history r.journal (e
 -- if there is one
 abbrev pub loss_of : Record → Option Entry → Outcome
 loss_of r None = (replies.Empty, r)
-loss_of r (Some e) = unless r (loss_refusals r) (loss_done r e)
+loss_of r (Some e) = loss_done r e
+
+-- what is answered where one was there, and where none was
+abbrev pub loss_reply : Bool → Reply
+loss_reply true = replies.Dropped
+loss_reply false = replies.Empty
+
+-- a loss of client c's, of so many
+abbrev pub on_loss : ℕ → Record → ℕ → Option Entry → Outcome
+on_loss count r c lost = unless r (loss_refusals false count r c lost) (loss_of r lost)
 
 -- the entry of the frame at that place of these inbox's frames, and of these in client c's box
 abbrev pub lost_in : List (ℕ × Frame) → ℕ → Option Entry
@@ -106,7 +124,7 @@ abbrev pub lost_out : ℕ → List Frame → ℕ → Option Entry
 lost_out c box place = option_map (λ (f : Frame). DropOut c place) (slice_get box place)
 
 abbrev pub on_lose_in : Sight → Record → ℕ → ℕ → Outcome
-on_lose_in s r c place = unless r (client_refusals (length s.boxes) c) (loss_of r (lost_in (s.inbox c) place))
+on_lose_in s r c place = on_loss (length s.boxes) r c (lost_in (s.inbox c) place)
 
 abbrev pub on_lose_out : Sight → Record → ℕ → ℕ → Outcome
-on_lose_out s r c place = unless r (client_refusals (length s.boxes) c) (loss_of r (lost_out c (list_of s.boxes c) place))
+on_lose_out s r c place = on_loss (length s.boxes) r c (lost_out c (list_of s.boxes c) place)

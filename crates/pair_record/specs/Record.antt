@@ -35,6 +35,11 @@ abbrev pub given : Bool → Frame → Option Frame
 given true frame = Some frame
 given false frame = None
 
+-- the ports after a loss: these, if the frame was there
+abbrev pub ports_if_lost : Bool → PortsState → PortsState → PortsState
+ports_if_lost true after p = after
+ports_if_lost false after p = p
+
 -- nothing happened yet
 abbrev pub start_record : Record
 start_record = record {

@@ -1,11 +1,12 @@
 -- The pair's record, which holds no machine, page or byte; what an event looks at beside it; and tables of refusals, in which the first
 -- row whose test holds decides.
-use Rattle.std.specs.Prelude.{ℕ, ◌+◌, ◌&&◌, nat_le, nat_lt, Bool, if◌then◌else◌, List, [], ◌∷◌, length, Option, None, Some}
+use Rattle.std.specs.Prelude.{◌≡◌, ℕ, ◌+◌, ◌&&◌, nat_le, nat_lt, Bool, if◌then◌else◌, List, [], ◌∷◌, length, Option, None, Some}
 use Rattle.frame_ports.specs.Limits.{number_limit}
 use Rattle.output_gate.specs.Epochs.{Epoch}
 use Rattle.failover.specs.declared.mode.Mode.{Mode}
 use Rattle.pair_history.specs.Entries.{Frame}
 use Rattle.pair_record.specs.declared.event.Refusal.{Refusal}
+use Rattle.pair_record.specs.declared.event.Refusal.TheVariants.{Exhausted, NoMemory}
 use Rattle.pair_record.specs.declared.event.Reply.{Reply}
 use Rattle.pair_record.specs.declared.event.Reply.TheVariants as replies
 use Rattle.pair_record.specs.declared.window.Window.{Window}
@@ -64,9 +65,19 @@ or_else (Some why) refuse done = refuse why
 abbrev pub unless : Record → List Row → Outcome → Outcome
 unless r rows done = or_else (first_refusal rows) (refused r) done
 
+-- An event of these rows may be refused so: by the first that holds. Memory is wanted only where none does, and where `wants` holds.
+abbrev pub Refuses : List Row → Type 0 → Refusal → Type 0
+Refuses rows wants (NoMemory w) = (first_refusal rows ≡ None) × wants
+Refuses rows wants why = first_refusal rows ≡ Some why
+
 -- that many more entries would be too many for the history
 abbrev pub exhausts : Record → ℕ → Bool
 exhausts r more = nat_le number_limit (length (all_entries r.journal) + more)
+
+-- What refuses one entry more: the history has no number for it, or the word that counts the caller's steps is full. A caller that has no
+-- such word says that it isn't.
+abbrev pub entry_refusals : Bool → Record → List Row
+entry_refusals word_full r = (exhausts r 1, Exhausted) ∷ (word_full, Exhausted) ∷ []
 
 -- too few numbers are left for the frames that the guest may send
 abbrev pub frames_run_out : Record → Bool

@@ -36,8 +36,8 @@ use std::marker::Model;
 /// The mode and the generation, the journal, the window of checkpoints, the gate and the clients' ports: no machine, page, image
 /// or packet. Contracts see it as a `RecordState` of the specs.
 ///
-/// Each event that may be refused has a `.._refusal`, which answers the first row of its table of refusals that applies; the event
-/// itself asks that none does.
+/// What a client or its line does is one call, refused by the first row of its table of refusals that applies, or done. Where a machine has
+/// its part in an event, a `.._refusal` answers that row, and the event itself asks that none applies.
 ///
 /// A call that answers a [`MemoryWanted`] was refused a growth; the record and the ports are as they were then.
 #[derive(Drop)]

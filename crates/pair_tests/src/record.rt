@@ -19,17 +19,14 @@ fn begun(rt: &impl Abort, alloc: Global) -> Box<PairRecord> {
     boxed(rt, alloc, made(rt, PairRecord::new(alloc, 1)))
 }
 
-/// Client 1 delivers its frame.
-fn deliver(rt: &impl Abort, record: &mut PairRecord) -> Reply {
-    if record.deliver_refusal(1, &FRAME).is_some() {
-        panic!(rt; "it can't be delivered");
-    }
-    made(rt, record.deliver(1, &FRAME))
+/// Client 1 delivers its frame: its number.
+fn deliver(rt: &impl Abort, record: &mut PairRecord) -> u64 {
+    made(rt, record.deliver(1, &FRAME, false))
 }
 
 /// The first frame of client 1's inbox, with its number.
 fn handed_out(rt: &impl Abort, record: &mut PairRecord) -> (u64, Frame) {
-    if record.client_refusal(1).is_some() {
+    if record.arrival_refusal(1).is_some() {
         panic!(rt; "there is no client");
     }
     if record.inbox_len(1) == 0 || record.admit_refusal().is_some() {
@@ -47,8 +44,8 @@ fn assert_frame(rt: &impl Abort, frame: &Frame) {
 #[test]
 fn a_delivered_frame_is_handed_out(rt: HostRuntime) {
     let mut record = begun(&rt, rt.alloc());
-    let reply = deliver(&rt, &mut record);
-    holds(&rt, "delivered", matches!(reply, Reply::Delivered(1)));
+    let delivered = deliver(&rt, &mut record);
+    same(&rt, "delivered", delivered, 1);
     let (number, frame) = handed_out(&rt, &mut record);
     same(&rt, "the number", number, 1);
     assert_frame(&rt, &frame);

@@ -2,12 +2,13 @@
 ghost use Rattle.std.specs.Prelude.{◌≡◌, IfOk, OnErr, None};
 ghost use Rattle.pair_record.specs.declared.event.Event.TheVariants as events;
 ghost use Rattle.pair_record.specs.Protocol.{allowed};
+ghost use Rattle.pair_record.specs.Record.{given};
 ghost use Rattle.pair_core.specs.Answering.{MayWantMemory};
 ghost use Rattle.pair_core.specs.Leaves.{Leaves};
 
-use super::World;
+use super::{WORD_FULL, World};
 use memory_wanted::MemoryWanted;
-use pair_record::{Refusal, Reply};
+use pair_record::{Frame, Refusal, Reply};
 
 impl World {
     /// The first frame of a client's inbox arrives at the guest.
@@ -43,13 +44,14 @@ impl World {
             (allowed self.old.start self.old.protocol.state None (events.Deliver client bytes.entry))) }
         ensures err { OnErr result (self.new ≡ self.old) }
     {
-        let Some(why) = self.record.deliver_refusal(client, bytes) else {
-            return self.record.deliver(client, bytes);
+        let why = match self.record.deliver(client, bytes, WORD_FULL) {
+            Ok(number) => return Ok(Reply::Delivered(number)),
+            Err(why) => why,
         };
-        match why {
-            Refusal::Full => self.record.refuse_delivery(client, bytes),
-            _ => Ok(Reply::Refused(why)),
-        }
+        let Refusal::NoMemory(wanted) = why else {
+            return Ok(Reply::Refused(why));
+        };
+        Err(wanted)
     }
 
     /// A client takes the first frame of its box.
@@ -61,9 +63,21 @@ impl World {
             (allowed self.old.start self.old.protocol.state None (events.Take client))) }
         ensures err { OnErr result (self.new ≡ self.old) }
     {
-        if let Some(why) = self.record.take_refusal(client) {
+        let mut frame = Frame::new();
+        let why = match self.record.take(client, &mut frame, WORD_FULL) {
+            Ok(is_some) => return Ok(Reply::Took(taken(is_some, frame))),
+            Err(why) => why,
+        };
+        let Refusal::NoMemory(wanted) = why else {
             return Ok(Reply::Refused(why));
-        }
-        self.record.take(client)
+        };
+        Err(wanted)
     }
+}
+
+/// The frame, if one was there.
+fn taken(is_some: bool, frame: Frame) -> Option<Frame>
+    ensures { result ≡ given is_some frame }
+{
+    if is_some { Some(frame) } else { None }
 }

@@ -1,13 +1,13 @@
 //! The losses that are asked for, at the world.
 ghost use Rattle.std.specs.Prelude.{◌≡◌, IfOk, OnErr, None};
 ghost use Rattle.pair_record.specs.declared.event.Event.TheVariants as events;
-ghost use Rattle.pair_record.specs.Protocol.{allowed};
+ghost use Rattle.pair_record.specs.Protocol.{allowed, loss_reply};
 ghost use Rattle.pair_core.specs.Answering.{MayWantMemory};
 ghost use Rattle.pair_core.specs.Leaves.{Leaves};
 
-use super::World;
+use super::{WORD_FULL, World};
 use memory_wanted::MemoryWanted;
-use pair_record::Reply;
+use pair_record::{Refusal, Reply};
 
 impl World {
     /// The line drops a frame of a client's inbox.
@@ -19,17 +19,14 @@ impl World {
             (allowed self.old.start self.old.protocol.state None (events.LoseIn client place))) }
         ensures err { OnErr result (self.new ≡ self.old) }
     {
-        if let Some(why) = self.record.client_refusal(client) {
+        let why = match self.record.lose_in(client, place, WORD_FULL) {
+            Ok(is_there) => return Ok(lost(is_there)),
+            Err(why) => why,
+        };
+        let Refusal::NoMemory(wanted) = why else {
             return Ok(Reply::Refused(why));
-        }
-        if place >= self.record.inbox_len(client) as u64 {
-            return Ok(Reply::Empty);
-        }
-        if let Some(why) = self.record.loss_refusal() {
-            return Ok(Reply::Refused(why));
-        }
-        let _number = self.record.lose_in(client, place)?;
-        Ok(Reply::Dropped)
+        };
+        Err(wanted)
     }
 
     /// The line drops a frame of a client's box.
@@ -41,16 +38,24 @@ impl World {
             (allowed self.old.start self.old.protocol.state None (events.LoseOut client place))) }
         ensures err { OnErr result (self.new ≡ self.old) }
     {
-        if let Some(why) = self.record.client_refusal(client) {
+        let why = match self.record.lose_out(client, place, WORD_FULL) {
+            Ok(is_there) => return Ok(lost(is_there)),
+            Err(why) => why,
+        };
+        let Refusal::NoMemory(wanted) = why else {
             return Ok(Reply::Refused(why));
-        }
-        if place >= self.record.box_len(client) as u64 {
-            return Ok(Reply::Empty);
-        }
-        if let Some(why) = self.record.loss_refusal() {
-            return Ok(Reply::Refused(why));
-        }
-        self.record.lose_out(client, place)?;
-        Ok(Reply::Dropped)
+        };
+        Err(wanted)
+    }
+}
+
+/// What is answered to a loss, where a frame was there or none was.
+fn lost(is_there: bool) -> Reply
+    ensures { result ≡ loss_reply is_there }
+{
+    if is_there {
+        Reply::Dropped
+    } else {
+        Reply::Empty
     }
 }

@@ -1,17 +1,17 @@
 //! What clients do, at the pair's record.
-ghost use Rattle.std.specs.Prelude.{◌≡◌, ◌<◌, ◌≤◌, ◌∷◌, [], length, IfOk, OnOk, OnErr, None, Some, false, slice_get, option_map};
+ghost use Rattle.std.specs.Prelude.{◌≡◌, ◌<◌, ◌≤◌, ◌∷◌, [], length, IfOk, OnOk, IfErr, OnErr, IsSome, ⊤, None, Some, false, slice_get};
 ghost use Rattle.frame_ports.specs.Addresses.{IsFrame};
 ghost use Rattle.frame_ports.specs.Limits.{box_frames, max_clients};
 ghost use Rattle.frame_ports.specs.Ports.{IsClient, inbox_of, box_of, after_delivery};
-ghost use Rattle.pair_history.specs.Entries.{DropIn, DropOut};
 ghost use Rattle.pair_record.specs.declared.event.Reply.TheVariants as replies;
-ghost use Rattle.pair_record.specs.Protocol.{first_refusal, client_refusals, arrival_refusals, admit_refusals, admit_done};
-ghost use Rattle.pair_record.specs.Protocol.{deliver_refusals, delivery_refused, deliver_done, take_refusals, take_done};
-ghost use Rattle.pair_record.specs.Protocol.{loss_refusals, loss_done, arrival_done};
-ghost use Rattle.pair_record.specs.Record.{IsAsBefore, given, ports_after_admit, ports_after_take, ports_after_lose_in, ports_after_lose_out};
+ghost use Rattle.pair_record.specs.Protocol.{first_refusal, Refuses, arrival_refusals, admit_refusals, admit_done, arrival_done};
+ghost use Rattle.pair_record.specs.Protocol.{deliver_refusals, RefusesDelivery, delivery_refused, deliver_done, take_refusals, take_done};
+ghost use Rattle.pair_record.specs.Protocol.{loss_refusals, loss_of, loss_reply, lost_in, lost_out};
+ghost use Rattle.pair_record.specs.Record.{IsAsBefore, given, ports_after_admit, ports_after_take};
+ghost use Rattle.pair_record.specs.Record.{ports_after_lose_in, ports_after_lose_out, ports_if_lost};
 
 use super::PairRecord;
-use crate::event::{Refusal, Reply};
+use crate::event::Refusal;
 use crate::modes::{is_alone, is_stopped};
 use frame_ports::{INBOX_FRAMES, MAX_FRAME, MIN_FRAME, NUMBER_LIMIT};
 use memory_wanted::MemoryWanted;
@@ -24,17 +24,6 @@ impl PairRecord {
         ensures few { result ≤ max_clients }
     {
         self.ports.clients()
-    }
-
-    /// Why an event of this client's is refused whatever it is.
-    pub fn client_refusal(&self, client: u64) -> Option<Refusal>
-        ensures { result ≡ first_refusal (client_refusals (length self.now.ports.boxes) client) }
-    {
-        if self.is_client(client) {
-            None
-        } else {
-            Some(Refusal::NoClient)
-        }
     }
 
     /// Why a frame of this client's can't arrive.
@@ -110,97 +99,74 @@ impl PairRecord {
         Ok((number, frame))
     }
 
-    /// Why a delivery is refused.
-    pub fn deliver_refusal(&self, client: u64, bytes: &[u8]) -> Option<Refusal>
-        ensures { result
-            ≡ first_refusal (deliver_refusals (length self.now.ports.boxes) (inbox_of self.now.ports client) self.now.ports.next
-            self.now.protocol client bytes.now) }
-    {
-        if !self.is_client(client) {
-            Some(Refusal::NoClient)
-        } else if bytes.len() < MIN_FRAME || bytes.len() > MAX_FRAME {
-            Some(Refusal::BadFrame)
-        } else if self.is_exhausted_by(1) {
-            Some(Refusal::Exhausted)
-        } else if self.ports.inbox_len(client) >= INBOX_FRAMES {
-            Some(Refusal::Full)
-        } else if self.ports.next_number() >= NUMBER_LIMIT {
-            Some(Refusal::Exhausted)
-        } else {
-            None
-        }
-    }
-
-    /// A delivery to a full inbox is recorded, and that is all.
-    pub fn refuse_delivery(&mut self, client: u64, bytes: &[u8]) -> Result<Reply, MemoryWanted>
-        requires { first_refusal (deliver_refusals (length self.old.ports.boxes) (inbox_of self.old.ports client) self.old.ports.next
-            self.old.protocol client bytes.now) ≡ Some Refusal.Full }
-        ensures ok { IfOk result (λ reply. (reply, self.new.protocol)
-            ≡ delivery_refused self.old.protocol client (record { items = bytes.now }) Refusal.Full) }
-        ensures ports { self.new.ports ≡ self.old.ports }
-        ensures err { OnErr result (IsAsBefore self.old self.new) }
-    {
-        self.journal.reserve_frame(bytes.len())?;
-        self.journal.add(Entry::Refused(client, bytes));
-        Ok(Reply::Refused(Refusal::Full))
-    }
-
-    /// The client delivers a frame of these bytes, which waits for the guest.
-    pub fn deliver(&mut self, client: u64, bytes: &[u8]) -> Result<Reply, MemoryWanted>
-        requires { first_refusal (deliver_refusals (length self.old.ports.boxes) (inbox_of self.old.ports client) self.old.ports.next
-            self.old.protocol client bytes.now) ≡ None }
-        ensures ok { IfOk result (λ reply. (reply, self.new.protocol)
+    /// The client delivers a frame of these bytes, which waits for the guest. Answers its number.
+    ///
+    /// # Errors
+    ///
+    /// In this order: [`Refusal::NoClient`]; [`Refusal::BadFrame`] for fewer than 14 or more than 1514 bytes; [`Refusal::Exhausted`] where
+    /// the history would reach 2^62, and where the word that counts the caller's steps is full; [`Refusal::Full`] where 64 frames of the
+    /// client wait, which an entry of the history tells; [`Refusal::Exhausted`] where the frame's number would reach 2^62.
+    /// [`Refusal::NoMemory`] where the room for the entry can't be had, in place of the number or of `Full`.
+    pub fn deliver(&mut self, client: u64, bytes: &[u8], word_full: bool) -> Result<u64, Refusal>
+        ensures done { IfOk result (λ n. (replies.Delivered n, self.new.protocol)
             ≡ deliver_done self.old.protocol client (record { items = bytes.now }) self.old.ports.next) }
         ensures ports { OnOk result (self.new.ports ≡ after_delivery self.old.ports client bytes.now) }
-        ensures err { OnErr result (IsAsBefore self.old self.new) }
+        ensures free { OnOk result (first_refusal (deliver_refusals word_full (length self.old.ports.boxes)
+            (inbox_of self.old.ports client) self.old.ports.next self.old.protocol client bytes.now) ≡ None) }
+        ensures why { IfErr result (RefusesDelivery (deliver_refusals word_full (length self.old.ports.boxes)
+            (inbox_of self.old.ports client) self.old.ports.next self.old.protocol client bytes.now)) }
+        ensures refused { IfErr result (λ why. (replies.Refused why, self.new.protocol)
+            ≡ delivery_refused self.old.protocol client (record { items = bytes.now }) why) }
+        ensures same { OnErr result (self.new.ports ≡ self.old.ports) }
     {
+        if !self.is_client(client) {
+            return Err(Refusal::NoClient);
+        }
+        if bytes.len() < MIN_FRAME || bytes.len() > MAX_FRAME {
+            return Err(Refusal::BadFrame);
+        }
+        if self.is_exhausted_by(1) || word_full {
+            return Err(Refusal::Exhausted);
+        }
+        if self.ports.inbox_len(client) >= INBOX_FRAMES {
+            self.journal.reserve_frame(bytes.len())?;
+            self.journal.add(Entry::Refused(client, bytes));
+            return Err(Refusal::Full);
+        }
+        if self.ports.next_number() >= NUMBER_LIMIT {
+            return Err(Refusal::Exhausted);
+        }
         self.journal.reserve_frame(bytes.len())?;
         let Ok(number) = self.ports.deliver(client, bytes) else {
             unreachable!();
         };
         self.journal.add(Entry::Delivered(client, bytes, number));
-        Ok(Reply::Delivered(number))
+        Ok(number)
     }
 
-    /// Why a client can't take a frame.
-    pub fn take_refusal(&self, client: u64) -> Option<Refusal>
-        ensures { result ≡ first_refusal (take_refusals (length self.now.ports.boxes) self.now.protocol client) }
-    {
-        if !self.is_client(client) {
-            Some(Refusal::NoClient)
-        } else if self.is_exhausted_by(1) {
-            Some(Refusal::Exhausted)
-        } else {
-            None
-        }
-    }
-
-    /// The client takes the first frame of its box, or finds none.
-    pub fn take(&mut self, client: u64) -> Result<Reply, MemoryWanted>
-        requires { first_refusal (take_refusals (length self.old.ports.boxes) self.old.protocol client) ≡ None }
-        ensures ok { IfOk result (λ reply. (reply, self.new.protocol) ≡ take_done self.old.ports.boxes self.old.protocol client) }
-        ensures ports { OnOk result (self.new.ports ≡ ports_after_take self.old.ports client) }
-        ensures err { OnErr result (IsAsBefore self.old self.new) }
-    {
-        let mut frame = Frame::new();
-        let taken = if self.take_into(client, &mut frame)? {
-            Some(frame)
-        } else {
-            None
-        };
-        Ok(Reply::Took(taken))
-    }
-
-    /// The same, for which no answer with a place for a frame is copied from call to call: the frame is put into `into`. Answers whether
-    /// there was one; else `into` is as before, as it is where memory is wanted.
-    pub fn take_into(&mut self, client: u64, into: &mut Frame) -> Result<bool, MemoryWanted>
-        requires { first_refusal (take_refusals (length self.old.ports.boxes) self.old.protocol client) ≡ None }
-        ensures ok { IfOk result (λ is_some. (replies.Took (given is_some into.new), self.new.protocol)
+    /// The client takes the first frame of its box, which is put into `into`, or finds none. Answers whether there was one; else, and after
+    /// a refusal, `into` is as before.
+    ///
+    /// # Errors
+    ///
+    /// In this order: [`Refusal::NoClient`]; [`Refusal::Exhausted`] where the history would reach 2^62, and where the word that counts the
+    /// caller's steps is full; [`Refusal::NoMemory`] where the room for the entry that tells the call can't be had.
+    pub fn take(&mut self, client: u64, into: &mut Frame, word_full: bool) -> Result<bool, Refusal>
+        ensures done { IfOk result (λ is_some. (replies.Took (given is_some into.new), self.new.protocol)
             ≡ take_done self.old.ports.boxes self.old.protocol client) }
         ensures ports { OnOk result (self.new.ports ≡ ports_after_take self.old.ports client) }
         ensures stays { IfOk result (λ is_some. is_some ≡ false → into.new ≡ into.old) }
-        ensures err { OnErr result (IsAsBefore self.old self.new × (into.new ≡ into.old)) }
+        ensures free { OnOk result (first_refusal (take_refusals word_full (length self.old.ports.boxes) self.old.protocol client) ≡ None) }
+        ensures why { IfErr result (Refuses (take_refusals word_full (length self.old.ports.boxes) self.old.protocol client) ⊤) }
+        ensures refused { OnErr result (IsAsBefore self.old self.new × (into.new ≡ into.old)) }
     {
+        if !self.is_client(client) {
+            return Err(Refusal::NoClient);
+        }
+        if self.is_exhausted_by(1) || word_full {
+            return Err(Refusal::Exhausted);
+        }
+        // An answer with a frame in it would have a place of 1.5 KB, also where there is none, and be copied from call to call.
         self.journal.reserve_frame(MAX_FRAME)?;
         match self.ports.take(client) {
             Ok(Some(frame)) => {
@@ -216,58 +182,71 @@ impl PairRecord {
         }
     }
 
-    /// How many frames lie in this client's box.
-    pub fn box_len(&self, client: u64) -> usize
-        requires { IsClient self.now.ports client }
-        ensures len { result ≡ length (box_of self.now.ports client) }
-        ensures bound { result ≤ box_frames }
+    /// The line drops the frame at this place, from 0, of the client's inbox. Answers whether one was there; where none was, nothing
+    /// happens.
+    ///
+    /// # Errors
+    ///
+    /// [`Refusal::NoClient`]; where a frame is there, as those of [`PairRecord::take`].
+    pub fn lose_in(&mut self, client: u64, place: u64, word_full: bool) -> Result<bool, Refusal>
+        ensures done { IfOk result (λ is_there. (loss_reply is_there, self.new.protocol)
+            ≡ loss_of self.old.protocol (lost_in (inbox_of self.old.ports client) place)) }
+        ensures ports { IfOk result (λ is_there. self.new.ports
+            ≡ ports_if_lost is_there (ports_after_lose_in self.old.ports client place) self.old.ports) }
+        ensures free { OnOk result (first_refusal (loss_refusals word_full (length self.old.ports.boxes) self.old.protocol client
+            (lost_in (inbox_of self.old.ports client) place)) ≡ None) }
+        ensures why { IfErr result (Refuses (loss_refusals word_full (length self.old.ports.boxes) self.old.protocol client
+            (lost_in (inbox_of self.old.ports client) place)) (IsSome (lost_in (inbox_of self.old.ports client) place))) }
+        ensures refused { OnErr result (IsAsBefore self.old self.new) }
     {
-        self.ports.box_len(client)
-    }
-
-    /// Why a frame that is there isn't lost.
-    pub fn loss_refusal(&self) -> Option<Refusal>
-        ensures { result ≡ first_refusal (loss_refusals self.now.protocol) }
-    {
-        if self.is_exhausted_by(1) {
-            Some(Refusal::Exhausted)
-        } else {
-            None
+        if !self.is_client(client) {
+            return Err(Refusal::NoClient);
         }
-    }
-
-    /// The frame at this place of the client's inbox is dropped. Answers its number.
-    pub fn lose_in(&mut self, client: u64, place: u64) -> Result<u64, MemoryWanted>
-        requires free { first_refusal (loss_refusals self.old.protocol) ≡ None }
-        requires client { IsClient self.old.ports client }
-        requires there { place < length (inbox_of self.old.ports client) }
-        ensures number { IfOk result (λ n. option_map (λ x. x.0) (slice_get (inbox_of self.old.ports client) place) ≡ Some n) }
-        ensures protocol { IfOk result (λ n. self.new.protocol ≡ (loss_done self.old.protocol (DropIn n)).1) }
-        ensures ports { OnOk result (self.new.ports ≡ ports_after_lose_in self.old.ports client place) }
-        ensures err { OnErr result (IsAsBefore self.old self.new) }
-    {
+        if place >= self.ports.inbox_len(client) as u64 {
+            return Ok(false);
+        }
+        if self.is_exhausted_by(1) || word_full {
+            return Err(Refusal::Exhausted);
+        }
         self.journal.reserve(1)?;
         let Ok(Some(number)) = self.ports.lose_in(client, place) else {
             unreachable!();
         };
         self.journal.add(Entry::DropIn(number));
-        Ok(number)
+        Ok(true)
     }
 
-    /// The frame at this place of the client's box is dropped.
-    pub fn lose_out(&mut self, client: u64, place: u64) -> Result<(), MemoryWanted>
-        requires free { first_refusal (loss_refusals self.old.protocol) ≡ None }
-        requires client { IsClient self.old.ports client }
-        requires there { place < length (box_of self.old.ports client) }
-        ensures protocol { OnOk result (self.new.protocol ≡ (loss_done self.old.protocol (DropOut client place)).1) }
-        ensures ports { OnOk result (self.new.ports ≡ ports_after_lose_out self.old.ports client place) }
-        ensures err { OnErr result (IsAsBefore self.old self.new) }
+    /// The line drops the frame at this place, from 0, of the client's box. Answers whether one was there; where none was, nothing happens.
+    ///
+    /// # Errors
+    ///
+    /// As those of [`PairRecord::lose_in`].
+    pub fn lose_out(&mut self, client: u64, place: u64, word_full: bool) -> Result<bool, Refusal>
+        ensures done { IfOk result (λ is_there. (loss_reply is_there, self.new.protocol)
+            ≡ loss_of self.old.protocol (lost_out client (box_of self.old.ports client) place)) }
+        ensures ports { IfOk result (λ is_there. self.new.ports
+            ≡ ports_if_lost is_there (ports_after_lose_out self.old.ports client place) self.old.ports) }
+        ensures free { OnOk result (first_refusal (loss_refusals word_full (length self.old.ports.boxes) self.old.protocol client
+            (lost_out client (box_of self.old.ports client) place)) ≡ None) }
+        ensures why { IfErr result (Refuses (loss_refusals word_full (length self.old.ports.boxes) self.old.protocol client
+            (lost_out client (box_of self.old.ports client) place)) (IsSome (lost_out client (box_of self.old.ports client) place))) }
+        ensures refused { OnErr result (IsAsBefore self.old self.new) }
+        ensures few { OnOk result (length (box_of self.old.ports client) ≤ box_frames) }
     {
+        if !self.is_client(client) {
+            return Err(Refusal::NoClient);
+        }
+        if place >= self.ports.box_len(client) as u64 {
+            return Ok(false);
+        }
+        if self.is_exhausted_by(1) || word_full {
+            return Err(Refusal::Exhausted);
+        }
         self.journal.reserve(1)?;
         let Ok(true) = self.ports.lose_landed(client, place) else {
             unreachable!();
         };
         self.journal.add(Entry::DropOut { client, place });
-        Ok(())
+        Ok(true)
     }
 }

@@ -1,72 +1,41 @@
-use Rattle.std.proofs.{Common.{◌∙◌, ◌<◌, ◌≤◌, sym, ap, subst, arith, length}, lemmas.Option.{slice_get_past}}
-use Rattle.std.specs.Prelude.{option_map}
+use Rattle.std.proofs.Common.{◌∙◌, refl, false, length}
 use Rattle.frame_ports.specs.Lands.{list_of}
-use Rattle.pair_history.specs.Entries.{Frame, DropOut}
-use Rattle.pair_record.specs.{declared.event.Event.TheVariants.LoseOut, Protocol.lost_out}
-use Rattle.pair_core.specs.internal.Invariant.{Holds}
-use Rattle.pair_core.specs.{internal.WorldFields.pair_of}
-use Rattle.pair_core.proofs.{Calls.on_err, ClientEvents.lose_out_holds, Outcomes.client_range}
-use Rattle.pair_core.proofs.LossOutcomes.{lose_out_sight, loss_empty, loss_stops, loss_goes, loss_wants}
-use Rattle.pair_record.proofs.{ClientLaws.some_at, RecordLaws.passed}
+use Rattle.pair_record.specs.{declared.event.Event.TheVariants.LoseOut, Protocol.{loss_of, loss_refusals, lost_out}}
 use Rattle.pair_record.specs.declared.event.Reply.TheVariants as replies
+use Rattle.pair_core.specs.internal.WorldFields.{pair_of}
+use Rattle.pair_core.proofs.{Calls.named, ClientEvents.lost_out_holds, Outcomes.stops}
+use Rattle.pair_core.proofs.LossOutcomes.{lose_out_sight, loss_goes, loss_wants}
 use Rattle.pair_core.proofs.world.World.lose_out.Goals as goal
 
-pub returns-then-place-box_len-clause-outcome : goal.returns-then-place-box_len-clause-outcome
-returns-then-place-box_len-clause-outcome c =
-    let w = pair_of c.self.inside in
-    let client = c.args.client in
-    let place = c.args.place in
-    let box = list_of w.ports.boxes client in
-    let beyond : length box ≤ place = let l = c.box_len.ensures.len in let k = c.if-place-box_len.true in omega arith in
-    rw (← c.self.view_is) (loss_empty w (LoseOut client place) client (lost_out client box place) (lose_out_sight w c.self.invariant
-    client place) c.client_refusal.result c.client_refusal.ensures c.in_default.is (ap (option_map (λ (f : Frame). DropOut client place))
-    (slice_get_past box place beyond)))
+pub invariant_of-self : goal.invariant_of-self
+invariant_of-self c =
+    lost_out_holds (pair_of c.self.inside) c.self.invariant c.args.client c.args.place c.in-Ok.is_there c.lose_out.new.self.protocol
+    c.lose_out.new.self.ports c.in-Ok.ensures.free c.in-Ok.ensures.done c.in-Ok.ensures.ports
 
-pub returns-in-Some-loss_refusal-clause-outcome : goal.returns-in-Some-loss_refusal-clause-outcome
-returns-in-Some-loss_refusal-clause-outcome c =
+pub returns-in-Ok-clause-outcome : goal.returns-in-Ok-clause-outcome
+returns-in-Ok-clause-outcome c =
     let w = pair_of c.self.inside in
     let client = c.args.client in
     let place = c.args.place in
-    let box = list_of w.ports.boxes client in
-    let within : place < length box = let l = c.box_len.ensures.len in let k = c.if-place-box_len.false in omega arith in
-    let there = some_at box place within in
-    rw (← c.self.view_is) (loss_stops w (LoseOut client place) client (lost_out client box place) (lose_out_sight w c.self.invariant
-    client place) c.client_refusal.result c.client_refusal.ensures c.in_default.is (DropOut client place) (ap (option_map (λ (f : Frame).
-    DropOut client place)) there.1) c.loss_refusal.result c.loss_refusal.ensures c.in-Some-loss_refusal.why c.in-Some-loss_refusal.is)
+    (λ i. (c.lost.ensures i, c.lose_out.new.self.protocol)) ∙ c.in-Ok.ensures.done
+    ∙ rw (← c.self.view_is) (loss_goes w (LoseOut client place) client (lost_out client (list_of w.ports.boxes client) place) (lose_out_sight w c.self.invariant client place)
+    c.in-Ok.ensures.free)
 
-pub returns-in_err-lose_out-clause-memory : goal.returns-in_err-lose_out-clause-memory
-returns-in_err-lose_out-clause-memory c =
+pub returns-clause-memory : goal.returns-clause-memory
+returns-clause-memory c =
     let w = pair_of c.self.inside in
     let client = c.args.client in
     let place = c.args.place in
-    let box = list_of w.ports.boxes client in
-    let within : place < length box = let l = c.box_len.ensures.len in let k = c.if-place-box_len.false in omega arith in
-    let there = some_at box place within in
-    on_err c.from_residual.result _
-    (rw (← c.self.view_is) (loss_wants w (LoseOut client place) client (lost_out client box place) (lose_out_sight w c.self.invariant
-    client place) c.client_refusal.result c.client_refusal.ensures c.in_default.is (DropOut client place) (ap (option_map (λ (f : Frame).
-    DropOut client place)) there.1) c.loss_refusal.result c.loss_refusal.ensures c.in_default-loss_refusal.is))
+    let why = rw c.in-NoMemory.is at c.in-Err.ensures.why in
+    rw (← c.self.view_is) (loss_wants w (LoseOut client place) client (lost_out client (list_of w.ports.boxes client) place) (lose_out_sight w c.self.invariant client place) why.0 why.1)
 
-pub invariant_of-self-2 : goal.invariant_of-self-2
-invariant_of-self-2 c =
+pub returns-in_default-clause-outcome : goal.returns-in_default-clause-outcome
+returns-in_default-clause-outcome c =
     let w = pair_of c.self.inside in
     let client = c.args.client in
     let place = c.args.place in
-    let range = client_range client (length w.ports.boxes) (passed _ _ _ (sym c.client_refusal.ensures ∙ c.in_default.is)).0 in
-    let box = list_of w.ports.boxes client in
-    let within : place < length box = let l = c.box_len.ensures.len in let k = c.if-place-box_len.false in omega arith in
-    subst Holds (λ i. record w { protocol = record w.protocol { state = sym c.in_ok-lose_out.ensures.protocol i }; ports = sym c.in_ok-lose_out.ensures.ports i })
-    (lose_out_holds w c.self.invariant client range.0 range.1 place within)
-
-pub returns-clause-outcome : goal.returns-clause-outcome
-returns-clause-outcome c =
-    let w = pair_of c.self.inside in
-    let client = c.args.client in
-    let place = c.args.place in
-    let box = list_of w.ports.boxes client in
-    let within : place < length box = let l = c.box_len.ensures.len in let k = c.if-place-box_len.false in omega arith in
-    let there = some_at box place within in
-    (λ i. (replies.Dropped, c.in_ok-lose_out.ensures.protocol i))
-    ∙ (rw (← c.self.view_is) (loss_goes w (LoseOut client place) client (lost_out client box place) (lose_out_sight w c.self.invariant
-    client place) c.client_refusal.result c.client_refusal.ensures c.in_default.is (DropOut client place) (ap (option_map (λ (f : Frame).
-    DropOut client place)) there.1) c.loss_refusal.result c.loss_refusal.ensures c.in_default-loss_refusal.is))
+    let lost = lost_out client (list_of w.ports.boxes client) place in
+    let rows = loss_refusals false (length w.ports.boxes) w.protocol.state client lost in
+    (λ i. (replies.Refused c.in-Err.why, c.in-Err.ensures.refused.0 i))
+    ∙ rw (← c.self.view_is) (stops w.protocol.state rows (loss_of w.protocol.state lost) _ c.in-Err.why refl
+    (named rows _ c.in-Err.why c.in_default.not-NoMemory c.in-Err.ensures.why) ∙ lose_out_sight w c.self.invariant client place)

@@ -5,14 +5,14 @@ use Rattle.growing_history.specs.Views.{Keeper}
 use Rattle.pair_book.proofs.TextLaws.{texts-added}
 use Rattle.pair_book.proofs.CommittedTies.{took-keeps}
 use Rattle.pair_book.specs.Calls.{client_of}
-use Rattle.pair_book.proofs.book.Book.take_first.Goals as goal
+use Rattle.pair_book.proofs.book.Book.take.Goals as goal
 
 pub tell-requires-clause-tied : goal.tell-requires-clause-tied
 tell-requires-clause-tied g c =
     let start = g.P.Pair.start in
     let steps = c.self.inside.seats.steps in
     let r = c.self.inside.record in
-    let now = c.take_into.new.self in
+    let now = c.take.new.self in
     let by = c.args.seat.now.number in
     let tied = c.self.invariant.0 in
     search (
@@ -26,7 +26,7 @@ tell-requires-clause-committed g c =
     let start = g.P.Pair.start in
     let steps = c.self.inside.seats.steps in
     let r = c.self.inside.record in
-    let now = c.take_into.new.self in
+    let now = c.take.new.self in
     let by = c.args.seat.now.number in
     let tied = c.self.invariant.0 in
     search (
@@ -37,9 +37,9 @@ tell-requires-clause-committed g c =
 
 pub invariant_of-self-2 : goal.invariant_of-self-2
 invariant_of-self-2 g c =
-    let now = c.take_into.new.self.protocol in
+    let now = c.take.new.self.protocol in
     let more = drop c.len-before.result now.journal.history in
-    let done = ap (λ (o : Outcome). o.1) c.in_ok-is_some.ensures.ok in (
+    let done = ap (λ (o : Outcome). o.1) c.in_ok-is_some.ensures.done in (
       c.tell.ensures.tied,
       c.tell.ensures.committed,
       texts-added g.P.Pair.start c.self.inside.seats.steps c.tell.new.seats.steps c.self.inside.record.protocol now
