@@ -1,7 +1,7 @@
 #!/usr/bin/env bash
 # Which instructions stand behind each other and run so most often, in the loops and guests of bench/loops.sh: how many of a thousand steps
-# begin such a pair, the COUNT most frequent of each (12 if left out), in STEPS steps (3000000). From this table the pairs of
-# crates/rv64_core/src/pairs.rt were chosen. Where pairs overlap, as three loads do, each counts. LOOPS names some of the loops.
+# begin such a pair, the COUNT most frequent of each (12 if left out), in STEPS steps (3000000). It says which pairs of ops would be worth a
+# kind of their own. Where pairs overlap, as three loads do, each counts. LOOPS names some of the loops.
 set -eu
 cd "$(dirname "$0")/.."
 count=${1:-12} steps=${2:-3000000}
