@@ -3,6 +3,7 @@
 //!
 //! `interpreter run WORDS STEPS` runs the words of a file for so many steps, and prints its registers and the speed.
 //! `interpreter until WORDS MOST` runs until the guest jumps to itself, and says after how many steps that is.
+//! `interpreter pairs WORDS STEPS COUNT` prints the COUNT pairs of instructions that follow each other most often in so many steps.
 //! `interpreter sim SCRIPT` plays a script of `remus sim`.
 //! `interpreter live [without-gate]` answers each line of a script on standard input as it comes, as `remus live` does; `without-gate`:
 //! what the guest sends is on its way at once, so that a failure loses what was told to clients.
@@ -30,6 +31,7 @@ mod images;
 mod lines;
 mod nodes;
 mod pair;
+mod pairs;
 mod protect;
 mod reader;
 mod states;
@@ -118,6 +120,11 @@ fn main() {
             &mut Machine::boot(PAGES, SECTORS, &words_of(&read(file))),
             parsed(runs, "a number of runs"),
             parsed(seed, "a number"),
+        ),
+        ["pairs", file, steps, count] => pairs::print(
+            &mut Machine::boot(PAGES, SECTORS, &words_of(&read(file))),
+            parsed(steps, "a number of steps"),
+            parsed(count, "a number of pairs"),
         ),
         ["images", count] => {
             println!("{:016x}", images::run(parsed(count, "a number of images")))

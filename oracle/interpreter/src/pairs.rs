@@ -1,0 +1,57 @@
+//! Which instructions follow each other most often, of all words that a guest runs.
+
+use crate::hart::{Machine, RAM_BASE};
+use std::collections::HashMap;
+
+/// Runs so many steps, and prints the pairs that stand behind each other in a page and run so, the most frequent first: how many of a
+/// thousand steps begin one, and what they are. Where pairs overlap, as three loads do, each counts.
+pub fn print(machine: &mut Machine, steps: u64, most: usize) {
+    let mut counts: HashMap<(&str, &str), u64> = HashMap::new();
+    let mut before: Option<(u64, &str)> = None;
+    for _ in 0..steps {
+        let at = machine.pc.wrapping_sub(RAM_BASE) as usize;
+        let name = machine.ram.get(at..at + 4).map_or("none", |bytes| {
+            name_of(u32::from_le_bytes(bytes.try_into().expect("4 bytes")))
+        });
+        if let Some((pc, first)) = before {
+            let is_next = machine.pc == pc + 4 && machine.pc % 4096 != 0;
+            if is_next {
+                *counts.entry((first, name)).or_default() += 1;
+            }
+        }
+        before = Some((machine.pc, name));
+        machine.run(1);
+    }
+    let mut rows: Vec<_> = counts.into_iter().collect();
+    rows.sort_by_key(|(pair, count)| (std::cmp::Reverse(*count), *pair));
+    for ((first, second), count) in rows.into_iter().take(most) {
+        println!("{:6.1} {first} {second}", count as f64 * 1e3 / steps as f64);
+    }
+}
+
+/// The instruction of a word, as the standard names it.
+fn name_of(word: u32) -> &'static str {
+    let funct3 = (word >> 12 & 7) as usize;
+    let funct7 = word >> 25;
+    match word & 0x7f {
+        0x37 => "lui",
+        0x17 => "auipc",
+        0x6f => "jal",
+        0x67 => "jalr",
+        0x63 => ["beq", "bne", "none", "none", "blt", "bge", "bltu", "bgeu"][funct3],
+        0x03 => ["lb", "lh", "lw", "ld", "lbu", "lhu", "lwu", "none"][funct3],
+        0x23 => ["sb", "sh", "sw", "sd", "none", "none", "none", "none"][funct3],
+        0x13 if funct3 == 5 && funct7 >> 1 != 0 => "srai",
+        0x13 => ["addi", "slli", "slti", "sltiu", "xori", "srli", "ori", "andi"][funct3],
+        0x1b if funct3 == 5 && funct7 != 0 => "sraiw",
+        0x1b => ["addiw", "slliw", "none", "none", "none", "srliw", "none", "none"][funct3],
+        0x33 if funct7 == 1 => ["mul", "mulh", "mulhsu", "mulhu", "div", "divu", "rem", "remu"][funct3],
+        0x33 if funct7 != 0 => ["sub", "none", "none", "none", "none", "sra", "none", "none"][funct3],
+        0x33 => ["add", "sll", "slt", "sltu", "xor", "srl", "or", "and"][funct3],
+        0x3b if funct7 == 1 => ["mulw", "none", "none", "none", "divw", "divuw", "remw", "remuw"][funct3],
+        0x3b if funct7 != 0 => ["subw", "none", "none", "none", "none", "sraw", "none", "none"][funct3],
+        0x3b => ["addw", "sllw", "none", "none", "none", "srlw", "none", "none"][funct3],
+        0x0f => "fence",
+        _ => "system",
+    }
+}
